@@ -1,0 +1,61 @@
+-- The forms of names and keys, over their bytes.
+use Rattle.std.specs.Prelude.{ℕ, ◌-◌, Bool, ◌&&◌, ◌||◌, ◌==◌, nat_le, List, length, IsTrue, not, slice_index}
+use Rattle.std.specs.List.{list_all}
+
+-- b is from low to high
+abbrev pub is_within : ℕ → ℕ → ℕ → Bool
+is_within low high b = nat_le low b && nat_le b high
+
+-- A-Z
+abbrev pub is_capital : ℕ → Bool
+is_capital = is_within 65 90
+
+-- 0-9
+abbrev pub is_digit : ℕ → Bool
+is_digit = is_within 48 57
+
+-- a capital or a digit
+abbrev pub is_code_byte : ℕ → Bool
+is_code_byte b = is_capital b || is_digit b
+
+-- a capital, a digit or a dash
+abbrev pub is_reference_byte : ℕ → Bool
+is_reference_byte b = is_capital b || is_digit b || (b == 45)
+
+-- a printable character
+abbrev pub is_name_byte : ℕ → Bool
+is_name_byte = is_within 32 126
+
+-- 0-9 or a-f
+abbrev pub is_key_byte : ℕ → Bool
+is_key_byte b = is_digit b || is_within 97 102 b
+
+-- a capital, then capitals and digits, 3 to 8 in all
+unfoldable pub is_code : List ℕ → Bool
+is_code bytes = is_within 3 8 (length bytes) && is_capital (slice_index bytes 0) && list_all is_code_byte bytes
+
+-- 1 to 16 capitals, digits and dashes
+unfoldable pub is_reference : List ℕ → Bool
+is_reference bytes = is_within 1 16 (length bytes) && list_all is_reference_byte bytes
+
+-- 1 to 40 printable characters, with no space first or last
+unfoldable pub is_name : List ℕ → Bool
+is_name bytes =
+    is_within 1 40 (length bytes) && list_all is_name_byte bytes
+    && not (slice_index bytes 0 == 32) && not (slice_index bytes (length bytes - 1) == 32)
+
+-- 32 digits 0-9 and a-f
+unfoldable pub is_key : List ℕ → Bool
+is_key bytes = (length bytes == 32) && list_all is_key_byte bytes
+
+abbrev pub IsCode : List ℕ → Type 0
+IsCode bytes = IsTrue (is_code bytes)
+
+abbrev pub IsReference : List ℕ → Type 0
+IsReference bytes = IsTrue (is_reference bytes)
+
+abbrev pub IsName : List ℕ → Type 0
+IsName bytes = IsTrue (is_name bytes)
+
+abbrev pub IsKey : List ℕ → Type 0
+IsKey bytes = IsTrue (is_key bytes)

@@ -1,0 +1,6 @@
+//! Values from outside, and proved uses of the clauses.
+mod amounts;
+mod dates;
+mod keys;
+mod texts;
+mod uses;
