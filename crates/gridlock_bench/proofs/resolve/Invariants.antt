@@ -1,0 +1,5 @@
+use Rattle.rtgs_gridlock.specs.Workspaces.{KeepsRoom}
+use Rattle.gridlock_bench.proofs.resolve.Given as goal
+
+abbrev pub invariant-loop : goal.invariant-loop
+invariant-loop g l = KeepsRoom l.initial.workspace l.workspace

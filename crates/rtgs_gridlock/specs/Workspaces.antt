@@ -1,0 +1,101 @@
+-- What a workspace holds, and what its steps do.
+use Rattle.std.specs.Prelude.{◌≡◌, ℕ, List, length, take, ◌+◌, ◌-◌, ◌*◌, ◌<◌, ◌≤◌, ◌==◌, slice_index, slice_index_or, vec_len, if◌then◌else◌}
+use Rattle.rtgs_gridlock.specs.declared.positions.Position.{Position}
+use Rattle.rtgs_gridlock.specs.declared.queues.Payment.{Payment}
+use Rattle.rtgs_gridlock.specs.declared.workspace.Workspace.{Workspace}
+use Rattle.rtgs_gridlock.specs.Choices.{sum_below, queue_of, amount_to}
+use Rattle.rtgs_gridlock.specs.Standings.{funds_of, owed_of, everything, AreStandings}
+use Rattle.rtgs_gridlock.specs.Listed.{IsOn, on_count}
+
+-- for how many participants there is room
+abbrev pub reserved_participants : Workspace → ℕ
+reserved_participants workspace = vec_len workspace.lengths
+
+-- for how many queued payments there is room
+abbrev pub reserved_payments : Workspace → ℕ
+reserved_payments workspace = workspace.payments
+
+-- of how many participants the last resolution was
+abbrev pub participants_of : Workspace → ℕ
+participants_of workspace = workspace.participants
+
+-- the lengths of the choice that the last resolution left
+abbrev pub lengths_of : Workspace → List ℕ
+lengths_of workspace = take workspace.participants workspace.lengths.items
+
+-- how many cover tests and removals the last resolution took
+abbrev pub steps_of : Workspace → ℕ
+steps_of workspace = workspace.steps
+
+-- the present choice
+abbrev pub choice_of : Workspace → ℕ → ℕ
+choice_of workspace = slice_index workspace.lengths.items
+
+-- a participant is still to be tested
+abbrev pub IsWaiting : Workspace → ℕ → Type 0
+IsWaiting workspace p = IsOn workspace.waiting p
+
+-- how many participants are still to be tested
+abbrev pub waiting_count : Workspace → ℕ
+waiting_count workspace = on_count workspace.waiting
+
+-- how many steps may still come: a test of each participant that waits, and for each chosen
+-- payment its removal and two more tests
+abbrev pub steps_left : List (List Payment) → Workspace → ℕ
+steps_left queues workspace = waiting_count workspace + 3 * sum_below (length queues) (choice_of workspace)
+
+-- a participant's newest chosen payment
+abbrev pub newest : List (List Payment) → (ℕ → ℕ) → ℕ → Payment
+newest queues choice p = slice_index_or (queue_of queues p) (choice p - 1) (record { receiver = 0; amount = 0 })
+
+-- a participant has a payment to take back: its newest chosen one goes to a participant, and is
+-- part of what it owes and of what the receiver has
+pub record CanTakeBack (queues : List (List Payment)) (index : ℕ) (workspace : Workspace) : Type 0 where
+  pub some : 0 < choice_of workspace index
+  pub within : choice_of workspace index ≤ length (queue_of queues index)
+  pub receiver : (newest queues (choice_of workspace) index).receiver < length queues
+  pub owed : (newest queues (choice_of workspace) index).amount ≤ owed_of workspace.standings index
+  pub funds : (newest queues (choice_of workspace) index).amount
+      ≤ funds_of workspace.standings (newest queues (choice_of workspace) index).receiver
+
+-- what was reserved stays
+pub record KeepsRoom (old new : Workspace) : Type 0 where
+  pub participants : reserved_participants new ≡ reserved_participants old
+  pub payments : reserved_payments new ≡ reserved_payments old
+
+-- all payments are chosen, and no step has been counted
+pub record IsFilled (positions : List Position) (queues : List (List Payment)) (old new : Workspace) : Type 0 where
+  pub participants : participants_of new ≡ length queues
+  pub choice : (p : ℕ) → p < length queues → choice_of new p ≡ everything queues p
+  pub standings : AreStandings positions queues (everything queues) new.standings
+  pub steps : steps_of new ≡ 0
+  pub room : KeepsRoom old new
+
+-- only the list of those still to be tested may differ
+pub record SameButWaiting (old new : Workspace) : Type 0 where
+  pub participants : participants_of new ≡ participants_of old
+  pub choice : new.lengths ≡ old.lengths
+  pub standings : new.standings ≡ old.standings
+  pub steps : steps_of new ≡ steps_of old
+  pub payments : reserved_payments new ≡ reserved_payments old
+
+-- a test counts, and changes nothing else
+pub record IsTested (old new : Workspace) : Type 0 where
+  pub participants : participants_of new ≡ participants_of old
+  pub choice : new.lengths ≡ old.lengths
+  pub standings : new.standings ≡ old.standings
+  pub waiting : new.waiting ≡ old.waiting
+  pub steps : steps_of new ≡ steps_of old + 1
+  pub payments : reserved_payments new ≡ reserved_payments old
+
+-- a participant's newest chosen payment is taken back, which counts
+pub record IsTakenBack (queues : List (List Payment)) (index : ℕ) (old new : Workspace) : Type 0 where
+  pub participants : participants_of new ≡ participants_of old
+  pub fewer : choice_of new index + 1 ≡ choice_of old index
+  pub others : (p : ℕ) → (p ≡ index → ⊥) → choice_of new p ≡ choice_of old p
+  pub funds : (p : ℕ) → funds_of new.standings p + amount_to p (newest queues (choice_of old) index) ≡ funds_of old.standings p
+  pub owed : (p : ℕ) →
+      owed_of new.standings p + (if p == index then (newest queues (choice_of old) index).amount else 0) ≡ owed_of old.standings p
+  pub waiting : new.waiting ≡ old.waiting
+  pub steps : steps_of new ≡ steps_of old + 1
+  pub room : KeepsRoom old new

@@ -1,0 +1,145 @@
+ghost use Rattle.std.specs.Prelude.{◌≡◌, ℕ, ◌+◌, ◌*◌, ◌^◌, ◌<◌, ◌≤◌, ◌↔◌, ◌==◌, ◌+ℤ◌, pos, All, IfOk, IsTrue, length, sum_by, if◌then◌else◌};
+ghost use Rattle.rtgs_gridlock.specs.Choices.{amount_to, position_of, queue_of, payment_count, received, AreFloored, AreInRange};
+ghost use Rattle.rtgs_gridlock.specs.Standings.{funds_of, owed_of, everything, HasEnough, AreStandings};
+
+use crate::positions::Positions;
+use crate::queues::{Payment, Queues};
+use std::alloc::{AllocError, Global};
+use std::marker::Model;
+
+/// What a participant may spend by the present choice, its balance above its floor with what it
+/// receives, and what it sends, both in cents. Its position is the difference.
+#[derive(Clone, Copy)]
+pub struct Standing {
+    funds: u128,
+    owed: u128,
+}
+
+/// Each participant's standing by the present choice, by its index.
+#[derive(Drop)]
+pub struct Standings {
+    list: Vec<Standing>,
+}
+
+impl Model for Standings {
+    ghost use Rattle.std.specs.Prelude.{List};
+    ghost use Rattle.rtgs_gridlock.specs.declared.standings.Standing.{Standing};
+
+    ghost Value = { List Standing };
+
+    ghost view = { λ standings. standings.list.items };
+}
+
+impl Standings {
+    /// Room for so many participants.
+    pub fn reserve(alloc: Global, participants: usize) -> Result<Standings, AllocError>
+        ensures { IfOk result (λ standings. length standings ≡ participants) }
+    {
+        let list = vec![in alloc; Standing { funds: 0, owed: 0 }; participants]?;
+        Ok(Standings { list })
+    }
+
+    /// Makes the standings those of the choice of all payments.
+    pub fn fill(&mut self, positions: &Positions, queues: &Queues)
+        requires positions { length positions.now ≡ length queues.now }
+        requires floored { AreFloored positions.now }
+        requires receivers { AreInRange queues.now }
+        requires few { payment_count queues.now < 2 ^ 64 }
+        requires room { length queues.now ≤ length self.old }
+        ensures standings { AreStandings positions.now queues.now (everything queues.now) self.new }
+        ensures room { length self.new ≡ length self.old }
+    {
+        open(&mut self.list, positions, queues);
+        credit_all(&mut self.list, queues);
+    }
+
+    /// Whether a participant has enough for what it sends: its position is at least its floor.
+    pub fn covers(&self, index: usize) -> bool
+        requires { index < length self.now }
+        ensures { IsTrue result ↔ HasEnough self.now index }
+    {
+        let Standing { funds, owed } = self.list[index];
+        owed <= funds
+    }
+
+    /// Takes a payment back: its sender owes less, and its receiver has fewer funds.
+    pub fn take_back(&mut self, sender: usize, payment: Payment)
+        requires sender { sender < length self.old }
+        requires receiver { payment.receiver < length self.old }
+        requires owed { payment.amount ≤ owed_of self.old sender }
+        requires funds { payment.amount ≤ funds_of self.old payment.receiver }
+        ensures funds { (p : ℕ) → funds_of self.new p + amount_to p payment ≡ funds_of self.old p }
+        ensures owed { (p : ℕ) →
+            owed_of self.new p + (if p == sender then payment.amount else 0) ≡ owed_of self.old p }
+        ensures room { length self.new ≡ length self.old }
+    {
+        let amount = u128::from(payment.amount);
+        let from = &mut self.list[sender];
+        from.owed -= amount;
+        let to = &mut self.list[payment.receiver];
+        to.funds -= amount;
+    }
+}
+
+/// Each participant's standing with all payments sent and none received.
+fn open(standings: &mut [Standing], positions: &Positions, queues: &Queues)
+    requires positions { length positions.now ≡ length queues.now }
+    requires floored { AreFloored positions.now }
+    requires standings { length queues.now ≤ length standings.old }
+    ensures funds { (p : ℕ) → p < length queues.now →
+        (position_of positions.now p).floor +ℤ pos (funds_of standings.new p) ≡ (position_of positions.now p).balance }
+    ensures small { (p : ℕ) → p < length queues.now → funds_of standings.new p < 2 ^ 64 }
+    ensures owed { (p : ℕ) → p < length queues.now →
+        owed_of standings.new p ≡ sum_by (λ payment. payment.amount) (queue_of queues.now p) }
+{
+    for index in 0..queues.len() {
+        let funds = positions.headroom(index);
+        let owed = total_of(queues.queue(index));
+        standings[index] = Standing { funds, owed };
+    }
+}
+
+/// The amounts of the payments together.
+fn total_of(payments: &[Payment]) -> u128
+    ensures { result ≡ sum_by (λ payment. payment.amount) payments.now }
+{
+    let _count = payments.len();
+    let mut total = 0u128;
+    for payment in payments {
+        total += u128::from(payment.amount);
+    }
+    total
+}
+
+/// Adds to each participant's funds what all queued payments bring to it.
+fn credit_all(standings: &mut [Standing], queues: &Queues)
+    requires standings { length queues.now ≤ length standings.old }
+    requires receivers { AreInRange queues.now }
+    requires few { payment_count queues.now < 2 ^ 64 }
+    requires small { (p : ℕ) → p < length queues.now → funds_of standings.old p < 2 ^ 64 }
+    ensures funds { (p : ℕ) → p < length queues.now →
+        funds_of standings.new p ≡ funds_of standings.old p + received queues.now (everything queues.now) p }
+    ensures owed { (p : ℕ) → owed_of standings.new p ≡ owed_of standings.old p }
+{
+    for index in 0..queues.len() {
+        credit(standings, queues.queue(index));
+    }
+}
+
+/// Adds to each receiver's funds what the payments bring to it.
+fn credit(standings: &mut [Standing], payments: &[Payment])
+    requires receivers { All (λ payment. payment.receiver < length standings.old) payments.now }
+    requires room { All
+        (λ payment. funds_of standings.old payment.receiver + length payments.now * 18446744073709551615 < 2 ^ 128)
+        payments.now }
+    ensures funds { (p : ℕ) → p < length standings.old →
+        funds_of standings.new p ≡ funds_of standings.old p + sum_by (amount_to p) payments.now }
+    ensures small { (p : ℕ) → p < length standings.old →
+        sum_by (amount_to p) payments.now ≤ length payments.now * 18446744073709551615 }
+    ensures owed { (p : ℕ) → owed_of standings.new p ≡ owed_of standings.old p }
+{
+    for payment in payments {
+        let standing = &mut standings[payment.receiver];
+        standing.funds += u128::from(payment.amount);
+    }
+}

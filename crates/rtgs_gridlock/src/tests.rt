@@ -1,0 +1,226 @@
+//! The greatest choice of small books that are worked out by hand, and of generated books beside
+//! the published procedure written plainly.
+mod books;
+mod plain;
+
+use crate::{OutOfMemory, Payment, Position, Workspace, greatest};
+use books::{Book, SMALL_BOOKS, chain, mixed, ring, small};
+use plain::greatest_plainly;
+use std::alloc::Global;
+use std::process::Abort;
+use std::test::Fail;
+
+/// A book of so many participants, with the balance, floor and queue of each.
+fn book(alloc: Global, rows: &[(i64, i64, &[(usize, u64)])]) -> Result<Book, Fail> {
+    let mut book = Book::new(alloc);
+    for (balance, floor, queue) in rows {
+        let mut payments = Vec::new(alloc);
+        for (receiver, amount) in *queue {
+            payments.push(Payment {
+                receiver: *receiver,
+                amount: *amount,
+            })?;
+        }
+        let position = Position {
+            balance: *balance,
+            floor: *floor,
+        };
+        book.add(position, payments)?;
+    }
+    Ok(book)
+}
+
+/// The lengths of a book's greatest choice, found in at most n + 3q steps.
+fn lengths(rt: &impl Abort, alloc: Global, book: &Book) -> Result<Vec<usize>, Fail> {
+    let Book { positions, queues } = book;
+    let participants = queues.len();
+    let payments = queues.payment_count().ok_or("too many payments")?;
+    let mut workspace = Workspace::reserve(alloc, participants, payments)?;
+    assert_eq!(rt; positions.len(), participants);
+    assert!(rt; positions.are_floored());
+    assert!(rt; queues.are_in_range());
+    assert!(rt; queues.payment_count() == Some(payments));
+    greatest(positions, queues, &mut workspace);
+    let bound = participants as u128 + 3 * payments as u128;
+    assert!(rt; workspace.steps() <= bound);
+    Ok(workspace.lengths().to_vec(alloc)?)
+}
+
+/// Compares the resolver with the plain procedure, and counts the payments that settle.
+fn compared(rt: &impl Abort, alloc: Global, book: &Book) -> Result<usize, Fail> {
+    let found = lengths(rt, alloc, book)?;
+    let plain = greatest_plainly(alloc, &book.positions, &book.queues)?;
+    assert_eq!(rt; found, plain);
+    let settled = found
+        .iter()
+        .try_fold(0usize, |sum, length| sum.checked_add(*length));
+    Ok(settled.ok_or("too many payments")?)
+}
+
+#[test]
+fn want_of_memory_is_printed(rt: HostRuntime) -> Result<(), Fail> {
+    let printed = format!(in rt.alloc(); "{OutOfMemory}")?;
+    assert_eq!(rt; printed.as_str(), "out of memory");
+    Ok(())
+}
+
+#[test]
+fn no_participants(rt: HostRuntime) -> Result<(), Fail> {
+    let book = Book::new(rt.alloc());
+    assert!(rt; book.positions.is_empty());
+    assert!(rt; book.queues.is_empty());
+    assert!(rt; lengths(&rt, rt.alloc(), &book)?.is_empty());
+    Ok(())
+}
+
+#[test]
+fn one_removal_leads_to_the_next(rt: HostRuntime) -> Result<(), Fail> {
+    let rows = [
+        (0, 0, [].as_slice()),
+        (0, 0, [(0, 50)].as_slice()),
+        (0, 0, [(1, 50)].as_slice()),
+    ];
+    let found = lengths(&rt, rt.alloc(), &book(rt.alloc(), &rows)?)?;
+    assert_eq!(rt; found.as_slice(), [0, 0, 0].as_slice());
+    Ok(())
+}
+
+#[test]
+fn floor_below_zero(rt: HostRuntime) -> Result<(), Fail> {
+    let rows = [
+        (0, -30, [(1, 20), (1, 20), (1, 20)].as_slice()),
+        (0, 0, [].as_slice()),
+    ];
+    let found = lengths(&rt, rt.alloc(), &book(rt.alloc(), &rows)?)?;
+    assert_eq!(rt; found.as_slice(), [1, 0].as_slice());
+    Ok(())
+}
+
+#[test]
+fn ring_settles_whole(rt: HostRuntime) -> Result<(), Fail> {
+    let rows = [
+        (0, 0, [(1, 100)].as_slice()),
+        (0, 0, [(2, 100)].as_slice()),
+        (0, 0, [(0, 100)].as_slice()),
+    ];
+    let found = lengths(&rt, rt.alloc(), &book(rt.alloc(), &rows)?)?;
+    assert_eq!(rt; found.as_slice(), [1, 1, 1].as_slice());
+    Ok(())
+}
+
+#[test]
+fn deadlock_settles_nothing(rt: HostRuntime) -> Result<(), Fail> {
+    let rows = [
+        (0, 0, [(1, 100)].as_slice()),
+        (0, 0, [(2, 90)].as_slice()),
+        (0, 0, [].as_slice()),
+    ];
+    let found = lengths(&rt, rt.alloc(), &book(rt.alloc(), &rows)?)?;
+    assert_eq!(rt; found.as_slice(), [0, 0, 0].as_slice());
+    Ok(())
+}
+
+#[test]
+fn part_of_a_queue_settles(rt: HostRuntime) -> Result<(), Fail> {
+    let rows = [
+        (0, 0, [(1, 100), (2, 50)].as_slice()),
+        (0, 0, [(0, 100)].as_slice()),
+        (0, 0, [].as_slice()),
+    ];
+    let found = lengths(&rt, rt.alloc(), &book(rt.alloc(), &rows)?)?;
+    assert_eq!(rt; found.as_slice(), [1, 1, 0].as_slice());
+    Ok(())
+}
+
+#[test]
+fn cascade_stops_where_all_have_cover(rt: HostRuntime) -> Result<(), Fail> {
+    let rows = [
+        (10, 0, [(1, 60), (2, 10)].as_slice()),
+        (0, 0, [(0, 50), (2, 20)].as_slice()),
+        (0, 0, [(0, 5)].as_slice()),
+    ];
+    let found = lengths(&rt, rt.alloc(), &book(rt.alloc(), &rows)?)?;
+    assert_eq!(rt; found.as_slice(), [1, 1, 0].as_slice());
+    Ok(())
+}
+
+/// A payment to oneself moves nothing.
+#[test]
+fn payment_to_oneself_settles(rt: HostRuntime) -> Result<(), Fail> {
+    let rows = [(0, 0, [(0, 100), (1, 1)].as_slice()), (0, 0, [].as_slice())];
+    let found = lengths(&rt, rt.alloc(), &book(rt.alloc(), &rows)?)?;
+    assert_eq!(rt; found.as_slice(), [1, 0].as_slice());
+    Ok(())
+}
+
+/// The largest amounts and balances that the types hold do not overflow.
+#[test]
+fn largest_amounts(rt: HostRuntime) -> Result<(), Fail> {
+    let rows = [
+        (
+            i64::MAX,
+            i64::MIN,
+            [(1, u64::MAX), (1, u64::MAX)].as_slice(),
+        ),
+        (i64::MIN, i64::MIN, [(0, u64::MAX)].as_slice()),
+    ];
+    let found = lengths(&rt, rt.alloc(), &book(rt.alloc(), &rows)?)?;
+    assert_eq!(rt; found.as_slice(), [2, 1].as_slice());
+    Ok(())
+}
+
+/// Every book of three participants with a cent or none each, and at most two payments in each
+/// queue, of one or two cents to either of the others. How many payments settle in all of them was counted by going through
+/// every choice of every book.
+#[test]
+fn all_small_books(rt: HostRuntime) -> Result<(), Fail> {
+    let mut settled = 0usize;
+    for number in 0..SMALL_BOOKS {
+        let here = compared(&rt, rt.alloc(), &small(rt.alloc(), number)?)?;
+        settled = settled.checked_add(here).ok_or("too many payments")?;
+    }
+    assert_eq!(rt; settled, 246294);
+    Ok(())
+}
+
+#[test]
+fn rings(rt: HostRuntime) -> Result<(), Fail> {
+    for (participants, each) in [(1, 1), (2, 3), (7, 20), (100, 500)] {
+        let settled = compared(&rt, rt.alloc(), &ring(rt.alloc(), participants, each)?)?;
+        assert_eq!(rt; settled, participants * each);
+    }
+    Ok(())
+}
+
+/// In a chain without money at its top each removal leads to the next, until nothing is left.
+#[test]
+fn chains_without_money(rt: HostRuntime) -> Result<(), Fail> {
+    for (participants, each) in [(2, 3), (10, 10), (100, 500)] {
+        let settled = compared(&rt, rt.alloc(), &chain(rt.alloc(), participants, each, 0)?)?;
+        assert_eq!(rt; settled, 0);
+    }
+    Ok(())
+}
+
+#[test]
+fn chains_with_money_at_the_top(rt: HostRuntime) -> Result<(), Fail> {
+    for (each, money, expected) in [(500, 500, 49500), (500, 498, 49302), (30, 7, 693)] {
+        let settled = compared(&rt, rt.alloc(), &chain(rt.alloc(), 100, each, money)?)?;
+        assert_eq!(rt; settled, expected);
+    }
+    Ok(())
+}
+
+/// How many payments settle was found by another program, which takes them back in another order.
+#[test]
+fn mixed_books(rt: HostRuntime) -> Result<(), Fail> {
+    let mut settled = 0usize;
+    for stride in 1..200 {
+        let here = compared(&rt, rt.alloc(), &mixed(rt.alloc(), 12, 15, stride, 20)?)?;
+        settled = settled.checked_add(here).ok_or("too many payments")?;
+    }
+    assert_eq!(rt; settled, 13057);
+    let large = mixed(rt.alloc(), 100, 500, 37, 300)?;
+    assert_eq!(rt; compared(&rt, rt.alloc(), &large)?, 47714);
+    Ok(())
+}

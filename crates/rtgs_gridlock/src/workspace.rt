@@ -1,0 +1,160 @@
+ghost use Rattle.std.specs.Prelude.{◌≡◌, ℕ, ◌+◌, ◌^◌, ◌<◌, ◌≤◌, ◌↔◌, IsTrue, IfOk, MatchOption, false, length, slice_set, slice_index, vec_len};
+ghost use Rattle.rtgs_gridlock.specs.Choices.{payment_count, AreFloored, AreInRange};
+ghost use Rattle.rtgs_gridlock.specs.Standings.{everything, HasEnough};
+
+use crate::out_of_memory::OutOfMemory;
+use crate::positions::Positions;
+use crate::queues::{Payment, Queues};
+use crate::standings::Standings;
+use crate::worklist::Worklist;
+use std::alloc::Global;
+
+/// The room that a resolution needs: the present choice, each participant's standing by it, and
+/// the participants that are still to be tested. Once they are filled in, `covered` and
+/// `take_back` alone see or change the standings, and each call of them counts as a step.
+#[derive(Drop)]
+pub struct Workspace {
+    participants: usize,
+    payments: usize,
+    lengths: Vec<usize>,
+    standings: Standings,
+    waiting: Worklist,
+    steps: u128,
+    ghost lengths_sized: { participants ≤ vec_len lengths },
+    ghost standings_sized: { length standings ≡ vec_len lengths },
+    ghost waiting_sized: { length waiting ≡ vec_len lengths },
+}
+
+impl Workspace {
+    ghost use Rattle.rtgs_gridlock.specs.Workspaces.{reserved_participants, reserved_payments, participants_of, lengths_of, choice_of, steps_of, waiting_count, newest, IsWaiting, IsFilled, IsTested, CanTakeBack, IsTakenBack, SameButWaiting};
+
+    /// Room for so many participants and so many queued payments.
+    pub fn reserve(
+        alloc: Global,
+        participants: usize,
+        payments: usize,
+    ) -> Result<Workspace, OutOfMemory>
+        ensures participants { IfOk result (λ workspace. reserved_participants workspace ≡ participants) }
+        ensures payments { IfOk result (λ workspace. reserved_payments workspace ≡ payments) }
+    {
+        let lengths = vec![in alloc; 0; participants]?;
+        let standings = Standings::reserve(alloc, participants)?;
+        let waiting = Worklist::reserve(alloc, participants)?;
+        Ok(Workspace {
+            participants: 0,
+            payments,
+            lengths,
+            standings,
+            waiting,
+            steps: 0,
+        })
+    }
+
+    /// The lengths of the choice that the last resolution left, one for each participant.
+    pub fn lengths(&self) -> &[usize]
+        ensures { result.now ≡ lengths_of self.now }
+    {
+        &self.lengths[..self.participants]
+    }
+
+    /// How many cover tests and removals the last resolution took.
+    pub fn steps(&self) -> u128
+        ensures { result ≡ steps_of self.now }
+    {
+        self.steps
+    }
+
+    /// Chooses all payments, and fills in each participant's standing by them.
+    pub(crate) fn fill(&mut self, positions: &Positions, queues: &Queues)
+        requires positions { length positions.now ≡ length queues.now }
+        requires floored { AreFloored positions.now }
+        requires receivers { AreInRange queues.now }
+        requires participants { length queues.now ≤ reserved_participants self.old }
+        requires payments { payment_count queues.now ≤ reserved_payments self.old }
+        ensures filled { IsFilled positions.now queues.now self.old self.new }
+        ensures few { payment_count queues.now < 2 ^ 64 }
+    {
+        let _payments = self.payments;
+        self.steps = 0;
+        self.participants = queues.len();
+        choose_all(&mut self.lengths, queues);
+        self.standings.fill(positions, queues);
+    }
+
+    /// Whether a participant's position is at least its floor. It counts as a step.
+    pub(crate) fn covered(&mut self, index: usize) -> bool
+        requires index { index < reserved_participants self.old }
+        requires steps { steps_of self.old < 2 ^ 100 }
+        ensures answer { IsTrue result ↔ HasEnough self.new.standings index }
+        ensures tested { IsTested self.old self.new }
+    {
+        self.steps += 1;
+        self.standings.covers(index)
+    }
+
+    /// Takes back the newest chosen payment of a participant, and says which it was: its sender's
+    /// position rises, and its receiver's falls. It counts as a step.
+    pub(crate) fn take_back(&mut self, index: usize, queues: &Queues) -> Payment
+        requires index { index < length queues.now }
+        requires room { length queues.now ≤ reserved_participants self.old }
+        requires payment { CanTakeBack queues.now index self.old }
+        requires steps { steps_of self.old < 2 ^ 100 }
+        ensures payment { result ≡ newest queues.now (choice_of self.old) index }
+        ensures taken_back { IsTakenBack queues.now index self.old self.new }
+    {
+        self.steps += 1;
+        let place = self.lengths[index] - 1;
+        let payment = queues.payment(index, place);
+        self.lengths[index] = place;
+        self.standings.take_back(index, payment);
+        payment
+    }
+
+    /// Takes a participant out of the list of those still to be tested.
+    pub(crate) fn next_waiting(&mut self) -> Option<usize>
+        ensures same { SameButWaiting self.old self.new }
+        ensures taken { MatchOption result
+            ((self.new.waiting ≡ self.old.waiting) × (waiting_count self.old ≡ 0))
+            (λ index. (index < reserved_participants self.old) × IsWaiting self.old index
+            × (self.new.waiting ≡ slice_set self.old.waiting index false)) }
+    {
+        self.waiting.take()
+    }
+
+    /// Puts every participant on the list of those still to be tested.
+    pub(crate) fn list_all(&mut self)
+        ensures same { SameButWaiting self.old self.new }
+        ensures all { (p : ℕ) → p < participants_of self.old → IsWaiting self.new p }
+        ensures inside { (p : ℕ) → IsWaiting self.new p → p < participants_of self.old }
+        ensures few { waiting_count self.new ≤ participants_of self.old }
+    {
+        self.waiting.fill(self.participants);
+    }
+
+    /// Puts both parties of a payment on the list of those still to be tested. Two more tests are
+    /// all that this may add.
+    pub(crate) fn list_parties(&mut self, sender: usize, receiver: usize)
+        requires sender { sender < participants_of self.old }
+        requires receiver { receiver < participants_of self.old }
+        requires inside { (p : ℕ) → IsWaiting self.old p → p < participants_of self.old }
+        ensures same { SameButWaiting self.old self.new }
+        ensures sender { IsWaiting self.new sender }
+        ensures receiver { IsWaiting self.new receiver }
+        ensures others { (p : ℕ) → IsWaiting self.old p → IsWaiting self.new p }
+        ensures inside { (p : ℕ) → IsWaiting self.new p → p < participants_of self.old }
+        ensures steps { steps_of self.new + waiting_count self.new ≤ steps_of self.old + waiting_count self.old + 2 }
+    {
+        self.waiting.put(sender);
+        self.waiting.put(receiver);
+    }
+}
+
+/// Chooses all payments of each queue.
+fn choose_all(lengths: &mut [usize], queues: &Queues)
+    requires { length queues.now ≤ length lengths.old }
+    ensures { (p : ℕ) → p < length queues.now → slice_index lengths.new p ≡ everything queues.now p }
+{
+    for index in 0..queues.len() {
+        lengths[index] = queues.queue(index).len();
+    }
+}
