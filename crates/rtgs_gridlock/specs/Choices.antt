@@ -51,7 +51,7 @@ pub record IsFeasible (positions : List Position) (queues : List (List Payment))
   pub within : IsWithin queues choice
   pub covered : (p : ℕ) → p < length queues → IsCovered positions queues choice p
 
--- a feasible choice such that each feasible choice is at most as large at every participant
+-- the feasible choice that no feasible choice exceeds at any participant
 pub record IsGreatest (positions : List Position) (queues : List (List Payment)) (choice : ℕ → ℕ) : Type 0 where
   pub feasible : IsFeasible positions queues choice
   pub largest : (other : ℕ → ℕ) → IsFeasible positions queues other → (p : ℕ) → p < length queues → other p ≤ choice p

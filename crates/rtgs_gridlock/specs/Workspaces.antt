@@ -11,7 +11,7 @@ use Rattle.rtgs_gridlock.specs.Listed.{IsOn, on_count}
 abbrev pub reserved_participants : Workspace → ℕ
 reserved_participants workspace = vec_len workspace.lengths
 
--- for how many queued payments there is room
+-- how many queued payments a resolution may have
 abbrev pub reserved_payments : Workspace → ℕ
 reserved_payments workspace = workspace.payments
 

@@ -170,8 +170,8 @@ fn largest_amounts(rt: HostRuntime) -> Result<(), Fail> {
 }
 
 /// Every book of three participants with a cent or none each, and at most two payments in each
-/// queue, of one or two cents to either of the others. How many payments settle in all of them was counted by going through
-/// every choice of every book.
+/// queue, of one or two cents to either of the others. How many payments settle in all of them
+/// was counted by going through every choice of every book.
 #[test]
 fn all_small_books(rt: HostRuntime) -> Result<(), Fail> {
     let mut settled = 0usize;

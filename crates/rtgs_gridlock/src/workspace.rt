@@ -1,4 +1,4 @@
-ghost use Rattle.std.specs.Prelude.{◌≡◌, ℕ, ◌+◌, ◌^◌, ◌<◌, ◌≤◌, ◌↔◌, IsTrue, IfOk, MatchOption, false, length, slice_set, slice_index, vec_len};
+ghost use Rattle.std.specs.Prelude.{◌≡◌, [], ℕ, ◌+◌, ◌^◌, ◌<◌, ◌≤◌, ◌↔◌, IsTrue, IfOk, MatchOption, false, length, slice_set, slice_index, vec_len};
 ghost use Rattle.rtgs_gridlock.specs.Choices.{payment_count, AreFloored, AreInRange};
 ghost use Rattle.rtgs_gridlock.specs.Standings.{everything, HasEnough};
 
@@ -10,8 +10,8 @@ use crate::worklist::Worklist;
 use std::alloc::Global;
 
 /// The room that a resolution needs: the present choice, each participant's standing by it, and
-/// the participants that are still to be tested. Once they are filled in, `covered` and
-/// `take_back` alone see or change the standings, and each call of them counts as a step.
+/// the participants that are still to be tested. After filling, a cover test (`covered`) and a
+/// removal (`take_back`) are the only ways to the standings, and each is a step.
 #[derive(Drop)]
 pub struct Workspace {
     participants: usize,
@@ -28,7 +28,8 @@ pub struct Workspace {
 impl Workspace {
     ghost use Rattle.rtgs_gridlock.specs.Workspaces.{reserved_participants, reserved_payments, participants_of, lengths_of, choice_of, steps_of, waiting_count, newest, IsWaiting, IsFilled, IsTested, CanTakeBack, IsTakenBack, SameButWaiting};
 
-    /// Room for so many participants and so many queued payments.
+    /// Room for so many participants. A resolution may then have so many queued payments, which
+    /// need no room of their own.
     pub fn reserve(
         alloc: Global,
         participants: usize,
@@ -36,6 +37,7 @@ impl Workspace {
     ) -> Result<Workspace, OutOfMemory>
         ensures participants { IfOk result (λ workspace. reserved_participants workspace ≡ participants) }
         ensures payments { IfOk result (λ workspace. reserved_payments workspace ≡ payments) }
+        ensures empty { IfOk result (λ workspace. lengths_of workspace ≡ []) }
     {
         let lengths = vec![in alloc; 0; participants]?;
         let standings = Standings::reserve(alloc, participants)?;

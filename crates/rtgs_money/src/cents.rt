@@ -11,7 +11,7 @@ pub struct Cents(i64);
 impl Model for Cents {
     ghost Value = { ℤ };
 
-    ghost view = { λ a. a.0 };
+    ghost view = { λ cents. cents.0 };
 
     ghost inverse = { λ n. record { 0 = n } };
 }

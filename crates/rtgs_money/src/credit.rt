@@ -17,9 +17,9 @@ pub struct Credit {
 impl Model for Credit {
     ghost Value = { ℕ };
 
-    ghost view = { λ a. a.cents };
+    ghost view = { λ credit. credit.cents };
 
-    ghost invariant = { λ a. IsCredit a.cents };
+    ghost invariant = { λ credit. IsCredit credit.cents };
 
     ghost inverse = { λ n. record { cents = n } };
 }

@@ -1,5 +1,5 @@
-//! Amounts of money, names, keys and business dates. Each type keeps its range, and is read from exactly the text
-//! that it displays.
+//! Amounts of money, names, keys and business dates. Each type keeps its range, and what is read is read from exactly
+//! the text that it displays.
 #![tactic(auto)]
 
 mod amount;

@@ -15,7 +15,7 @@ pub struct Units(i128);
 impl Model for Units {
     ghost Value = { ℤ };
 
-    ghost view = { λ a. a.0 };
+    ghost view = { λ units. units.0 };
 
     ghost inverse = { λ n. record { 0 = n } };
 }

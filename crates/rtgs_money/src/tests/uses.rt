@@ -87,7 +87,8 @@ fn date_again(
     Ok(BusinessDate::read(text.as_bytes()))
 }
 
-// A code on the left of eight columns, and a sum on the right of thirty.
+// A code on the left of eight columns, and a sum on the right of thirty. A format_spec has the fill (32, a space), the
+// side (1 left, 3 right), the flags, the width, and no precision.
 fn columns(alloc: Global, code: Code, sum: Units) -> Result<String, AllocError>
     ensures { IfOk result (λ line. string_bytes line
         ≡ padded (format_spec 32 1 0 8 (2 ^ 64 - 1)) code
