@@ -1,0 +1,223 @@
+-- What each command comes to. Its tests stand in their order; `choice` is the greatest one.
+use Rattle.std.specs.Prelude.{ℕ, ◌+◌, ◌^◌, ℤ, pos, neg_ℤ, ◌+ℤ◌, ◌-ℤ◌, int_lt, int_le, Bool, true, false, not, ◌&&◌, ◌==◌, nat_le, nat_lt, if◌then◌else◌, List, [], ◌∷◌, ◌++◌, length, map, filter, Option, Some, None, is_some, is_none, Ok, Err}
+use Rattle.std.specs.List.{list_any}
+use Rattle.std.specs.Str.{bytes_eq}
+use Rattle.std.specs.Ordering.{nat_cmp, is_lt, int_eq}
+use Rattle.std.specs.Cmp.Lexicographic.{slice_cmp}
+use Rattle.rtgs_money.specs.Date.{is_weekend}
+use Rattle.rtgs_book.specs.declared.answer.Answer.TheVariants as answer
+use Rattle.rtgs_book.specs.declared.answer.Known.TheVariants as known
+use Rattle.rtgs_book.specs.declared.refusal.Refusal.TheVariants.{UnknownParticipant, UnknownReceiver, SameParty, ReferenceUsed, NotOpen, NoCover, QueueFull, NumbersUsedUp, UnknownOrder, CodeTaken, KeyTaken, TooManyParticipants, TotalTooLarge, WrongPhase, WrongDate, Weekend, NotQueued, Resolvable, Overdrawn}
+use Rattle.rtgs_book.specs.Books.{Book, Day, Closed, Open, CutOff, Participant, Posting, Order, OrderState, Queued, Withdrawn, Rejected, is_closed, is_open, is_cut_off, is_queued, is_withdrawn_state, is_empty}
+use Rattle.rtgs_book.specs.Lookup.{has_code, accounts, participant_of, is_participant, order_named, posting_named}
+use Rattle.rtgs_book.specs.Balance.{balance, floor, total}
+use Rattle.rtgs_book.specs.Queue.{queue}
+use Rattle.rtgs_book.specs.Choice.{Choice, is_chosen, chosen}
+use Rattle.rtgs_book.specs.Settle.{restated, settle, mark_of, today, next_mark}
+use Rattle.rtgs_book.specs.Outcome.{Outcome, Reply, accepts, first_of}
+
+abbrev pub repeated : Reply
+repeated = Ok (answer.Repeated known.Nothing)
+
+-- ---- participants
+
+-- a comes before b
+abbrev pub is_before : List ℕ → List ℕ → Bool
+is_before a b = is_lt (slice_cmp nat_cmp a b)
+
+-- the participant, at its place in code order
+unfoldable pub with_participant : Book → Participant → Book
+with_participant book new = record book {
+  participants = filter (λ p. is_before p.code new.code) book.participants ++ new ∷ filter (λ p. not (is_before p.code new.code)) book.participants;
+}
+
+abbrev pub is_same_participant : Option Participant → List ℕ → List ℕ → Bool
+is_same_participant None name key = false
+is_same_participant (Some p) name key = bytes_eq p.name name && bytes_eq p.key key
+
+unfoldable pub add : Book → List ℕ → List ℕ → List ℕ → Outcome
+add book code name key =
+    let found = participant_of book code in
+    first_of book (
+    (is_same_participant found name key, repeated)
+    ∷ (is_some found, Err CodeTaken)
+    ∷ (list_any (λ p. bytes_eq p.key key) book.participants, Err KeyTaken)
+    ∷ (nat_le 100 (length book.participants), Err TooManyParticipants)
+    ∷ []
+    ) (accepts answer.Added (with_participant book (record { code = code; name = name; key = key; credit = 0 })))
+
+unfoldable pub with_credit : Book → List ℕ → ℕ → Book
+with_credit book code credit = record book {
+  participants = map (λ p. if has_code code p then record p { credit = credit } else p) book.participants;
+}
+
+unfoldable pub set_credit : Book → List ℕ → ℕ → Outcome
+set_credit book code credit =
+    first_of book (
+    (not (is_participant book code), Err UnknownParticipant)
+    ∷ (not (is_closed book.day.phase) && int_lt (balance book code) (neg_ℤ (pos credit)), Err NoCover)
+    ∷ []
+    ) (accepts answer.CreditSet (with_credit book code credit))
+
+-- ---- postings
+
+abbrev pub is_same_posting : Option Posting → List ℕ → ℤ → Bool
+is_same_posting None code cents = false
+is_same_posting (Some posting) code cents = bytes_eq posting.code code && int_eq posting.cents cents
+
+abbrev pub known_posting : Option Posting → Reply
+known_posting None = repeated
+known_posting (Some posting) = Ok (answer.Repeated (known.Posting posting.number))
+
+unfoldable pub post : Book → List ℕ → List ℕ → ℤ → Outcome
+post book code reference cents =
+    let found = posting_named book reference in
+    let number = length book.postings + 1 in
+    let posting : Posting = record { number = number; code = code; reference = reference; cents = cents; date = book.day.date } in
+    first_of book (
+    (not (is_participant book code), Err UnknownParticipant)
+    ∷ (is_same_posting found code cents, known_posting found)
+    ∷ (is_some found, Err ReferenceUsed)
+    ∷ (nat_le 999999999 (length book.postings), Err NumbersUsedUp)
+    ∷ (int_lt (pos 0) cents && int_lt (pos (10 ^ 15)) (total book +ℤ cents), Err TotalTooLarge)
+    ∷ (int_lt cents (pos 0) && int_lt (balance book code +ℤ cents) (floor book code), Err NoCover)
+    ∷ []
+    ) (accepts (answer.Posted number) (record book { postings = book.postings ++ posting ∷ [] }))
+
+-- ---- orders
+
+abbrev pub is_same_order : Option Order → List ℕ → ℕ → Bool
+is_same_order None receiver amount = false
+is_same_order (Some order) receiver amount = bytes_eq order.receiver receiver && (order.amount == amount)
+
+abbrev pub known_order : Option Order → Reply
+known_order None = repeated
+known_order (Some order) = Ok (answer.Repeated (known.Order order.number order.state))
+
+-- nothing is queued before it, and the sender has cover
+unfoldable pub settles_at_once : Book → List ℕ → ℕ → Bool
+settles_at_once book sender amount =
+    is_empty (queue book sender) && int_le (floor book sender) (balance book sender -ℤ pos amount)
+
+abbrev pub has_number : ℕ → Order → Bool
+has_number number order = order.number == number
+
+-- a new order, at the end of its sender's queue
+abbrev pub new_order : Book → List ℕ → List ℕ → List ℕ → ℕ → Order
+new_order book sender reference receiver amount = record { number = length book.orders + 1; sender = sender; reference = reference; receiver = receiver; amount = amount; date = today book; state = Queued }
+
+abbrev pub with_order : Book → Order → Book
+with_order book order = record book { orders = book.orders ++ order ∷ [] }
+
+-- the outcome of an order that is taken
+unfoldable pub takes : Book → Order → Outcome
+takes book order =
+    let queued = with_order book order in
+    if settles_at_once book order.sender order.amount
+    then accepts (answer.Settled order.number (next_mark book)) (settle queued (has_number order.number))
+    else accepts (answer.Queued order.number (length (queue queued order.sender))) queued
+
+unfoldable pub order : Book → List ℕ → List ℕ → List ℕ → ℕ → Outcome
+order book sender reference receiver amount =
+    let found = order_named book sender reference in
+    first_of book (
+    (not (is_participant book sender), Err UnknownParticipant)
+    ∷ (is_same_order found receiver amount, known_order found)
+    ∷ (is_some found, Err ReferenceUsed)
+    ∷ (not (is_open book.day.phase), Err NotOpen)
+    ∷ (not (is_participant book receiver), Err UnknownReceiver)
+    ∷ (bytes_eq sender receiver, Err SameParty)
+    ∷ (nat_le 999999999 (length book.orders), Err NumbersUsedUp)
+    ∷ (not (settles_at_once book sender amount) && nat_le 500 (length (queue book sender)), Err QueueFull)
+    ∷ []
+    ) (takes book (new_order book sender reference receiver amount))
+
+abbrev pub is_withdrawn_order : Option Order → Bool
+is_withdrawn_order None = false
+is_withdrawn_order (Some order) = is_withdrawn_state order.state
+
+abbrev pub is_queued_order : Option Order → Bool
+is_queued_order None = false
+is_queued_order (Some order) = is_queued order
+
+abbrev pub number_of : Option Order → ℕ
+number_of None = 0
+number_of (Some order) = order.number
+
+-- the orders that pass the test get this state
+unfoldable pub with_state : Book → (Order → Bool) → OrderState → Book
+with_state book is_in state = record book { orders = map (restated is_in state) book.orders }
+
+unfoldable pub withdraw : Book → List ℕ → List ℕ → Outcome
+withdraw book sender reference =
+    let found = order_named book sender reference in
+    first_of book (
+    (not (is_participant book sender), Err UnknownParticipant)
+    ∷ (is_none found, Err UnknownOrder)
+    ∷ (is_withdrawn_order found, known_order found)
+    ∷ (not (is_queued_order found), Err NotQueued)
+    ∷ []
+    ) (accepts (answer.Withdrawn (number_of found)) (with_state book (has_number (number_of found)) Withdrawn))
+
+-- ---- the day
+
+abbrev pub is_date : Option ℕ → ℕ → Bool
+is_date None date = false
+is_date (Some day) date = day == date
+
+-- the day's date is this one
+abbrev pub is_on : Book → ℕ → Bool
+is_on book date = is_date book.day.date date
+
+abbrev pub is_later : ℕ → Option ℕ → Bool
+is_later date None = true
+is_later date (Some last) = nat_lt last date
+
+abbrev pub with_day : Book → Day → Book
+with_day book day = record book { day = day }
+
+unfoldable pub open_day : Book → ℕ → Outcome
+open_day book date =
+    first_of book (
+    (is_open book.day.phase && is_on book date, repeated)
+    ∷ (not (is_closed book.day.phase), Err WrongPhase)
+    ∷ (not (is_later date book.day.date), Err WrongDate)
+    ∷ (is_weekend date, Err Weekend)
+    ∷ []
+    ) (accepts answer.Opened (with_day book (record { date = Some date; phase = Open })))
+
+unfoldable pub cut_off : Book → ℕ → Outcome
+cut_off book date =
+    first_of book (
+    (is_cut_off book.day.phase && is_on book date, repeated)
+    ∷ (not (is_open book.day.phase), Err WrongPhase)
+    ∷ (not (is_on book date), Err WrongDate)
+    ∷ []
+    ) (accepts answer.CutOffDone (with_day book (record book.day { phase = CutOff })))
+
+unfoldable pub resolve : Book → Choice → Outcome
+resolve book choice =
+    let mark = mark_of book (chosen book choice) in
+    first_of book ((is_closed book.day.phase, Err WrongPhase) ∷ []) (
+    if is_empty (chosen book choice) then accepts answer.Nothing book
+    else accepts (answer.Resolved mark.number mark.count mark.value) (settle book (is_chosen book choice))
+    )
+
+-- the participants below zero, in code order
+unfoldable pub overdrawn : Book → List (List ℕ)
+overdrawn book = filter (λ code. int_lt (balance book code) (pos 0)) (accounts book)
+
+abbrev pub first_code : List (List ℕ) → List ℕ
+first_code [] = []
+first_code (code ∷ codes) = code
+
+unfoldable pub close_day : Book → Choice → ℕ → Outcome
+close_day book choice date =
+    first_of book (
+    (is_closed book.day.phase && is_on book date, repeated)
+    ∷ (not (is_cut_off book.day.phase), Err WrongPhase)
+    ∷ (not (is_on book date), Err WrongDate)
+    ∷ (not (is_empty (chosen book choice)), Err Resolvable)
+    ∷ (not (is_empty (overdrawn book)), Err (Overdrawn (first_code (overdrawn book)) (length (overdrawn book))))
+    ∷ []
+    ) (accepts (answer.Closed (length (filter is_queued book.orders))) (with_day (with_state book is_queued Rejected) (record book.day { phase = Closed })))

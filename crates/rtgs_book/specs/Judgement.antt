@@ -1,0 +1,58 @@
+-- What a check says of a book.
+use Rattle.std.specs.Prelude.{ℕ, ◌<◌, ⊤}
+use Rattle.rtgs_book.specs.declared.rule.Rule.{Rule}
+use Rattle.rtgs_book.specs.declared.rule.Rule.TheVariants.{OrderNumbers, PostingNumbers, MarkNumbers, ParticipantCodes, Keys, OrderReferences, PostingReferences, Parties, Marks, Queues, Dates, Floors, Total, StoredBalances}
+use Rattle.rtgs_book.specs.declared.fault.Fault.{Fault}
+use Rattle.rtgs_book.specs.declared.fault.Fault.TheVariants.{OutOfMemory, StoreFault, NotADeskFile, Inconsistent}
+use Rattle.rtgs_book.specs.Books.{Book}
+use Rattle.rtgs_book.specs.Soundness.{OrdersAreNumbered, PostingsAreNumbered, MarksAreNumbered, CodesRise, KeysAreDistinct, OrderReferencesAreDistinct, PostingReferencesAreDistinct, PartiesAreKnown, MarksFitOrders, QueuesFit, DatesFit, FloorsHold, TotalFits}
+
+-- the number by which a rule is known
+abbrev pub number_of : Rule → ℕ
+number_of OrderNumbers = 1
+number_of PostingNumbers = 2
+number_of MarkNumbers = 3
+number_of ParticipantCodes = 4
+number_of Keys = 5
+number_of OrderReferences = 6
+number_of PostingReferences = 7
+number_of Parties = 8
+number_of Marks = 9
+number_of Queues = 10
+number_of Dates = 11
+number_of Floors = 12
+number_of Total = 13
+number_of StoredBalances = 14
+
+-- the book keeps the rule
+abbrev pub Keeps : Book → Rule → Type 0
+Keeps book OrderNumbers = OrdersAreNumbered book
+Keeps book PostingNumbers = PostingsAreNumbered book
+Keeps book MarkNumbers = MarksAreNumbered book
+Keeps book ParticipantCodes = CodesRise book
+Keeps book Keys = KeysAreDistinct book
+Keeps book OrderReferences = OrderReferencesAreDistinct book
+Keeps book PostingReferences = PostingReferencesAreDistinct book
+Keeps book Parties = PartiesAreKnown book
+Keeps book Marks = MarksFitOrders book
+Keeps book Queues = QueuesFit book
+Keeps book Dates = DatesFit book
+Keeps book Floors = FloorsHold book
+Keeps book Total = TotalFits book
+Keeps book StoredBalances = ⊤
+
+-- the book keeps each rule before this one
+abbrev pub KeepsBefore : Book → Rule → Type 0
+KeepsBefore book rule = (other : Rule) → number_of other < number_of rule → Keeps book other
+
+-- of the rules that the book breaks, this is the first
+pub record BreaksFirst (book : Book) (rule : Rule) : Type 0 where
+  pub broken : ¬ Keeps book rule
+  pub before : KeepsBefore book rule
+
+-- why a check finds no sound book: memory was refused, or it names the first rule that is broken
+abbrev pub Explains : Book → Fault → Type 0
+Explains book OutOfMemory = ⊤
+Explains book (Inconsistent rule) = BreaksFirst book rule
+Explains book StoreFault = ⊥
+Explains book NotADeskFile = ⊥

@@ -1,0 +1,33 @@
+-- What the laws of the definitions speak of.
+use Rattle.std.specs.Prelude.{◌≡◌, ◌^◌, ◌*◌, ℤ, pos, true, Ok, List, ◌++◌, ⊤}
+use Rattle.std.specs.List.{AllByRecursion}
+use Rattle.rtgs_money.specs.Amounts.{IsAmount, IsPostingAmount, IsCredit}
+use Rattle.rtgs_book.specs.declared.command.Command.TheVariants.{SetCredit, Post, Order as PlaceOrder}
+use Rattle.rtgs_book.specs.declared.answer.Answer.TheVariants.{Posted}
+use Rattle.rtgs_book.specs.Books.{Book, Order, Mark, is_settled}
+use Rattle.rtgs_book.specs.Lookup.{accounts}
+use Rattle.rtgs_book.specs.Balance.{balance}
+use Rattle.rtgs_book.specs.Outcome.{Command, Reply}
+use Rattle.rtgs_book.specs.Procedure.{Has}
+use Rattle.rtgs_book.specs.Totals.{Within}
+
+-- what an accepted posting adds to all balances together
+abbrev pub posted : Command → Reply → ℤ
+posted (Post code reference cents) (Ok (Posted number)) = cents
+posted command reply = pos 0
+
+-- the old marks stand, and so do the old orders that were settled
+pub record Stands (old new : Book) : Type 0 where
+  pub marks : (later : List Mark) × (new.marks ≡ old.marks ++ later)
+  pub orders : (o : Order) → Has old.orders o → is_settled o ≡ true → Has new.orders o
+
+-- the amount that a command bears is in its range
+abbrev pub CommandFits : Command → Type 0
+CommandFits (SetCredit code credit) = IsCredit credit
+CommandFits (Post code reference cents) = IsPostingAmount cents
+CommandFits (PlaceOrder sender reference receiver amount) = IsAmount amount
+CommandFits command = ⊤
+
+-- every balance is at most 1.09 times 10^16 cents in magnitude, which is far below 2^63
+abbrev pub BalancesFit : Book → Type 0
+BalancesFit book = AllByRecursion (λ code. Within (109 * 10 ^ 14) (balance book code)) (accounts book)

@@ -1,0 +1,10 @@
+//! The business day.
+use crate::phase::Phase;
+use rtgs_money::BusinessDate;
+
+/// The business day: its date, or the last one's while the desk is closed, if there ever was one, and the phase.
+#[derive(Clone, Copy, Debug, PartialEq, Eq)]
+pub struct Day {
+    pub date: Option<BusinessDate>,
+    pub phase: Phase,
+}

@@ -1,0 +1,119 @@
+//! Laws of the definitions. Each function does nothing: its contract is the law.
+ghost use Rattle.std.specs.Prelude.{◌≡◌, ◌≤◌, ◌+ℤ◌, Bool, true, ℕ, List, filter, length, take, drop};
+ghost use Rattle.std.specs.List.{AllByRecursion};
+ghost use Rattle.rtgs_book.specs.declared.book.Book.{Book};
+ghost use Rattle.rtgs_book.specs.declared.command.Command.{Command};
+ghost use Rattle.rtgs_book.specs.declared.order.Order.{Order};
+ghost use Rattle.std.specs.Str.{bytes_eq};
+ghost use Rattle.rtgs_book.specs.Books.{is_queued};
+ghost use Rattle.rtgs_book.specs.Laws.{posted, Stands, CommandFits, BalancesFit};
+ghost use Rattle.rtgs_book.specs.Outcome.{Reply};
+ghost use Rattle.rtgs_book.specs.Procedure.{Reaches};
+ghost use Rattle.rtgs_book.specs.Queue.{queue};
+ghost use Rattle.rtgs_book.specs.Balance.{balance, total, issued};
+ghost use Rattle.rtgs_book.specs.Settle.{settle};
+ghost use Rattle.rtgs_book.specs.Ranges.{Fits};
+ghost use Rattle.rtgs_book.specs.Run.{Run};
+ghost use Rattle.rtgs_book.specs.Step.{Step};
+ghost use Rattle.rtgs_book.specs.Choice.{Choice, nothing_chosen, larger, is_chosen, chosen, balance_after, IsFeasible, IsGreatest};
+ghost use Rattle.rtgs_book.specs.Soundness.{OrdersAreNumbered, FloorsHold, IsSound};
+
+/// To choose no order is feasible where no balance is below its floor.
+pub fn nothing_is_feasible()
+    ensures { (book : Book) → FloorsHold book → IsFeasible book nothing_chosen }
+{}
+
+/// The larger of two feasible choices, sender by sender, is feasible.
+pub fn larger_is_feasible()
+    ensures { (book : Book) (one other : Choice) → IsFeasible book one → IsFeasible book other → IsFeasible book (larger one other) }
+{}
+
+/// A book has one greatest choice at most.
+pub fn greatest_is_unique()
+    ensures { (book : Book) (one other : Choice) → IsGreatest book one → IsGreatest book other → one ≡ other }
+{}
+
+/// A book whose floors hold has a greatest choice.
+pub fn greatest_exists()
+    ensures { (book : Book) → FloorsHold book → (choice : Choice) × IsGreatest book choice }
+{}
+
+/// A command has one reply at most, and leaves one book.
+pub fn step_is_determined()
+    ensures { (old new last : Book) (command : Command) (reply other : Reply) → Step old command reply new → Step old command other last → (reply ≡ other) × (new ≡ last) }
+{}
+
+/// A command has a reply, where no balance is below its floor.
+pub fn step_exists()
+    ensures { (book : Book) (command : Command) → FloorsHold book → (reply : Reply) × (new : Book) × Step book command reply new }
+{}
+
+/// Each command leaves a sound book sound.
+pub fn step_keeps_soundness()
+    ensures { (old new : Book) (command : Command) (reply : Reply) → IsSound old → Step old command reply new → IsSound new }
+{}
+
+/// So does each list of commands.
+pub fn run_keeps_soundness()
+    ensures { (old new : Book) (commands : List Command) (replies : List Reply) → IsSound old → Run old commands replies new → IsSound new }
+{}
+
+/// Of each queue just the first orders are chosen, as many as the choice says.
+pub fn chosen_are_beginnings()
+    ensures { (book : Book) (choice : Choice) (code : List ℕ) → OrdersAreNumbered book → filter (λ (o : Order). bytes_eq o.sender code) (chosen book choice) ≡ take (choice code) (queue book code) }
+{}
+
+/// What was not chosen stays queued, in its order.
+pub fn rest_stays_queued()
+    ensures { (book : Book) (choice : Choice) (code : List ℕ) → OrdersAreNumbered book → queue (settle book (is_chosen book choice)) code ≡ drop (choice code) (queue book code) }
+{}
+
+/// Where the published procedure stops, its choice is the greatest.
+pub fn procedure_finds_the_greatest()
+    ensures { (book : Book) (choice : Choice) → Reaches book choice → IsFeasible book choice → IsGreatest book choice }
+{}
+
+/// In a sound book all balances together are what was posted.
+pub fn total_is_issued()
+    ensures { (book : Book) → IsSound book → total book ≡ issued book }
+{}
+
+/// Settling the chosen orders leaves the balances that the choice was judged by.
+pub fn settled_balances()
+    ensures { (book : Book) (choice : Choice) (code : List ℕ) → balance (settle book (is_chosen book choice)) code ≡ balance_after book choice code }
+{}
+
+/// A sound book has no more marks than orders, so that numbers of marks never run out before those of orders.
+pub fn marks_are_few()
+    ensures { (book : Book) → IsSound book → length book.marks ≤ length book.orders }
+{}
+
+/// To settle queued orders moves money, and makes none.
+pub fn settling_keeps_the_total()
+    ensures { (book : Book) (is_in : Order → Bool) → IsSound book → AllByRecursion (λ order. is_in order ≡ true → is_queued order ≡ true) book.orders → total (settle book is_in) ≡ total book }
+{}
+
+/// All balances together move by the cents of an accepted posting alone.
+pub fn total_moves_by_postings()
+    ensures { (old new : Book) (command : Command) (reply : Reply) → IsSound old → Step old command reply new → total new ≡ total old +ℤ posted command reply }
+{}
+
+/// A mark stands for good, and so does a settled order.
+pub fn step_keeps_what_is_final()
+    ensures { (old new : Book) (command : Command) (reply : Reply) → IsSound old → Step old command reply new → Stands old new }
+{}
+
+/// So they do over each list of commands.
+pub fn run_keeps_what_is_final()
+    ensures { (old new : Book) (commands : List Command) (replies : List Reply) → IsSound old → Run old commands replies new → Stands old new }
+{}
+
+/// Amounts stay in their ranges.
+pub fn step_keeps_ranges()
+    ensures { (old new : Book) (command : Command) (reply : Reply) → CommandFits command → Fits old → Step old command reply new → Fits new }
+{}
+
+/// In a sound book with amounts in their ranges no balance is large: each fits 64 bits with a sign.
+pub fn balances_are_small()
+    ensures { (book : Book) → IsSound book → Fits book → BalancesFit book }
+{}

@@ -1,0 +1,39 @@
+//! The settlement book: its records, the commands, what they mean, and the test of soundness.
+#![tactic(auto)]
+
+mod answer;
+mod book;
+mod change;
+mod command;
+mod day;
+mod fault;
+pub mod laws;
+mod mark;
+mod order;
+mod order_state;
+mod participant;
+mod phase;
+mod posting;
+mod recorded;
+mod refusal;
+mod rows;
+mod rule;
+mod rules;
+#[cfg(test)]
+mod tests;
+
+pub use crate::answer::{Answer, Known};
+pub use crate::book::Book;
+pub use crate::change::{Change, RowChange};
+pub use crate::command::Command;
+pub use crate::day::Day;
+pub use crate::fault::Fault;
+pub use crate::mark::Mark;
+pub use crate::order::Order;
+pub use crate::order_state::OrderState;
+pub use crate::participant::Participant;
+pub use crate::phase::Phase;
+pub use crate::posting::Posting;
+pub use crate::refusal::Refusal;
+pub use crate::rows::Rows;
+pub use crate::rule::Rule;

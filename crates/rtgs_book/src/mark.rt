@@ -1,0 +1,26 @@
+//! Settlement marks.
+use crate::recorded::Recorded;
+use rtgs_money::{BusinessDate, Cents};
+
+/// One settlement: how many orders it settled together, and their value. From then on they are final. Marks are numbered from 1.
+#[derive(Clone, Copy, Debug, PartialEq, Eq)]
+pub struct Mark {
+    pub number: u64,
+    pub date: BusinessDate,
+    pub count: u64,
+    pub value: Cents,
+}
+
+impl Recorded for Mark {
+    ghost number_of = { λ mark. mark.number };
+
+    ghost date_of = { λ mark. mark.date };
+
+    fn number(&self) -> u64 {
+        self.number
+    }
+
+    fn date_number(&self) -> u32 {
+        self.date.number()
+    }
+}

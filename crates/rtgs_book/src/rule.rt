@@ -1,0 +1,77 @@
+//! Rules of soundness.
+ghost use Rattle.std.specs.Prelude.{◌≡◌};
+ghost use Rattle.rtgs_book.specs.Judgement.{number_of};
+
+/// What a sound book keeps, in the order in which a check names what is broken.
+#[derive(Clone, Copy, Debug, PartialEq, Eq)]
+pub enum Rule {
+    /// Orders are numbered 1, 2, 3 and so on, up to 999999999.
+    OrderNumbers,
+    /// So are postings.
+    PostingNumbers,
+    /// So are marks.
+    MarkNumbers,
+    /// Codes rise strictly, and there are at most 100 participants.
+    ParticipantCodes,
+    /// No two participants have one key.
+    Keys,
+    /// No sender gives two orders one reference.
+    OrderReferences,
+    /// No two postings have one reference.
+    PostingReferences,
+    /// Each code in an order or a posting is a participant's, and no order is to its sender.
+    Parties,
+    /// Each settled order has a mark of its date, and each mark counts its orders, at least one, and their value.
+    Marks,
+    /// Nothing is queued while the desk is closed, a queue has at most 500 orders, and they are of the day.
+    Queues,
+    /// A day that is not closed has a date, no date is on a weekend, none falls along its list, and none is after the day's.
+    Dates,
+    /// Every balance is at least its floor.
+    Floors,
+    /// All balances together are at most 10^15 cents.
+    Total,
+    /// A stored balance is the sum of what is recorded. A book stores none.
+    StoredBalances,
+}
+
+impl Rule {
+    /// The rules about a book, by number. The last one is about stored balances, which a book has not.
+    pub const OF_A_BOOK: [Rule; 13] = [
+        Rule::OrderNumbers,
+        Rule::PostingNumbers,
+        Rule::MarkNumbers,
+        Rule::ParticipantCodes,
+        Rule::Keys,
+        Rule::OrderReferences,
+        Rule::PostingReferences,
+        Rule::Parties,
+        Rule::Marks,
+        Rule::Queues,
+        Rule::Dates,
+        Rule::Floors,
+        Rule::Total,
+    ];
+
+    /// The number by which the rule is known, from 1.
+    pub fn number(self) -> u8
+        ensures { result ≡ number_of self }
+    {
+        match self {
+            Rule::OrderNumbers => 1,
+            Rule::PostingNumbers => 2,
+            Rule::MarkNumbers => 3,
+            Rule::ParticipantCodes => 4,
+            Rule::Keys => 5,
+            Rule::OrderReferences => 6,
+            Rule::PostingReferences => 7,
+            Rule::Parties => 8,
+            Rule::Marks => 9,
+            Rule::Queues => 10,
+            Rule::Dates => 11,
+            Rule::Floors => 12,
+            Rule::Total => 13,
+            Rule::StoredBalances => 14,
+        }
+    }
+}

@@ -1,0 +1,398 @@
+-- The examples, computed.
+use Rattle.std.proofs.Common.{pos, negsuc, [], ◌∷◌, Ok, Err, codes, refl, inl, inr}
+use Rattle.rtgs_book.specs.declared.Command.TheVariants.{SetCredit, Post, OpenDay, Withdraw, Resolve, CutOff, CloseDay}
+use Rattle.rtgs_book.specs.declared.Answer.TheVariants as answer
+use Rattle.rtgs_book.specs.declared.Known.TheVariants as known
+use Rattle.rtgs_book.specs.declared.Refusal.TheVariants as refusal
+use Rattle.rtgs_book.specs.declared.OrderState.TheVariants as state
+use Rattle.jiff_core.specs.Calendar.{days_from_civil, weekday_number, day_count, days_of_years, days_of_months}
+use Rattle.rtgs_money.specs.Date.{is_weekend}
+use Rattle.rtgs_book.specs.declared.Book.{Book}
+use Rattle.rtgs_book.specs.Outcome.{first_of}
+use Rattle.rtgs_book.specs.Lookup.{participant_of, credit_of, accounts, is_participant, order_named, posting_named}
+use Rattle.rtgs_book.specs.Balance.{gain, balance, floor, total}
+use Rattle.rtgs_book.specs.Queue.{queue, orders_before}
+use Rattle.rtgs_book.specs.Choice.{Choice, is_chosen, chosen, balance_after, IsGreatest}
+use Rattle.rtgs_book.specs.Settle.{settle, mark_of}
+use Rattle.rtgs_book.specs.Commands.{order, takes, settles_at_once, resolve, set_credit, post, withdraw, open_day, cut_off, close_day, with_credit, with_state, overdrawn}
+use Rattle.rtgs_book.specs.Procedure.{everything, taken_back, All, Without_newest}
+use Rattle.rtgs_examples.specs.Examples.{alfa, beta, gama, zeta, monday, start, pays, Comes}
+use Rattle.rtgs_book.proofs.Choices.{reached_greatest}
+
+-- ---- ring
+
+abbrev ring_1 : Book
+ring_1 = (order start alfa (codes "A-1") beta 100).book
+
+abbrev ring_2 : Book
+ring_2 = (order ring_1 beta (codes "B-1") gama 100).book
+
+abbrev ring_3 : Book
+ring_3 = (order ring_2 gama (codes "G-1") alfa 100).book
+
+abbrev ring_4_choice : Choice
+ring_4_choice = (everything ring_3)
+
+ring_4_greatest : IsGreatest ring_3 ring_4_choice
+unfolding first_of order takes settles_at_once queue orders_before balance gain floor credit_of participant_of accounts is_participant order_named posting_named settle mark_of open_day is_weekend days_from_civil weekday_number day_count days_of_years days_of_months withdraw balance_after chosen is_chosen resolve set_credit with_credit post total cut_off close_day with_state overdrawn
+ring_4_greatest = reached_greatest ring_3 ring_4_choice All (record { le = tt }, (record { le = tt }, (record { le = tt }, tt)))
+
+abbrev ring_4 : Book
+ring_4 = (resolve ring_3 ring_4_choice).book
+
+abbrev ring_5_choice : Choice
+ring_5_choice = (everything ring_4)
+
+ring_5_greatest : IsGreatest ring_4 ring_5_choice
+unfolding first_of order takes settles_at_once queue orders_before balance gain floor credit_of participant_of accounts is_participant order_named posting_named settle mark_of open_day is_weekend days_from_civil weekday_number day_count days_of_years days_of_months withdraw balance_after chosen is_chosen resolve set_credit with_credit post total cut_off close_day with_state overdrawn
+ring_5_greatest = reached_greatest ring_4 ring_5_choice All (record { le = tt }, (record { le = tt }, (record { le = tt }, tt)))
+
+abbrev ring_5 : Book
+ring_5 = (resolve ring_4 ring_5_choice).book
+
+pub ring_comes : Comes
+    (pays alfa beta 100 (codes "A-1") ∷ pays beta gama 100 (codes "B-1") ∷ pays gama alfa 100 (codes "G-1") ∷ Resolve ∷ Resolve ∷ [])
+    (Ok (answer.Queued 1 1) ∷ Ok (answer.Queued 2 1) ∷ Ok (answer.Queued 3 1) ∷ Ok (answer.Resolved 1 3 (pos 300)) ∷ Ok answer.Nothing ∷ [])
+    (pos 0 ∷ pos 0 ∷ pos 0 ∷ [])
+unfolding first_of order takes settles_at_once queue orders_before balance gain floor credit_of participant_of accounts is_participant order_named posting_named settle mark_of open_day is_weekend days_from_civil weekday_number day_count days_of_years days_of_months withdraw balance_after chosen is_chosen resolve set_credit with_credit post total cut_off close_day with_state overdrawn
+ring_comes = (ring_5, (ring_1, refl, (ring_2, refl, (ring_3, refl, (ring_4, (ring_4_choice, ring_4_greatest, refl), (ring_5, (ring_5_choice, ring_5_greatest, refl), refl))))), refl)
+
+-- ---- deadlock
+
+abbrev deadlock_1 : Book
+deadlock_1 = (order start alfa (codes "A-1") beta 100).book
+
+abbrev deadlock_2 : Book
+deadlock_2 = (order deadlock_1 beta (codes "B-1") gama 90).book
+
+abbrev deadlock_3_choice : Choice
+deadlock_3_choice = (taken_back beta (taken_back alfa (everything deadlock_2)))
+
+deadlock_3_greatest : IsGreatest deadlock_2 deadlock_3_choice
+unfolding first_of order takes settles_at_once queue orders_before balance gain floor credit_of participant_of accounts is_participant order_named posting_named settle mark_of open_day is_weekend days_from_civil weekday_number day_count days_of_years days_of_months withdraw balance_after chosen is_chosen resolve set_credit with_credit post total cut_off close_day with_state overdrawn
+deadlock_3_greatest = reached_greatest deadlock_2 deadlock_3_choice (Without_newest (Without_newest All alfa (inl refl) (record { lt = tt })) beta (inr (inl refl)) (record { lt = tt })) (record { le = tt }, (record { le = tt }, (record { le = tt }, tt)))
+
+abbrev deadlock_3 : Book
+deadlock_3 = (resolve deadlock_2 deadlock_3_choice).book
+
+pub deadlock_comes : Comes
+    (pays alfa beta 100 (codes "A-1") ∷ pays beta gama 90 (codes "B-1") ∷ Resolve ∷ [])
+    (Ok (answer.Queued 1 1) ∷ Ok (answer.Queued 2 1) ∷ Ok answer.Nothing ∷ [])
+    (pos 0 ∷ pos 0 ∷ pos 0 ∷ [])
+unfolding first_of order takes settles_at_once queue orders_before balance gain floor credit_of participant_of accounts is_participant order_named posting_named settle mark_of open_day is_weekend days_from_civil weekday_number day_count days_of_years days_of_months withdraw balance_after chosen is_chosen resolve set_credit with_credit post total cut_off close_day with_state overdrawn
+deadlock_comes = (deadlock_3, (deadlock_1, refl, (deadlock_2, refl, (deadlock_3, (deadlock_3_choice, deadlock_3_greatest, refl), refl))), refl)
+
+-- ---- partial
+
+abbrev partial_1 : Book
+partial_1 = (order start alfa (codes "A-1") beta 100).book
+
+abbrev partial_2 : Book
+partial_2 = (order partial_1 alfa (codes "A-2") gama 50).book
+
+abbrev partial_3 : Book
+partial_3 = (order partial_2 beta (codes "B-1") alfa 100).book
+
+abbrev partial_4_choice : Choice
+partial_4_choice = (taken_back alfa (everything partial_3))
+
+partial_4_greatest : IsGreatest partial_3 partial_4_choice
+unfolding first_of order takes settles_at_once queue orders_before balance gain floor credit_of participant_of accounts is_participant order_named posting_named settle mark_of open_day is_weekend days_from_civil weekday_number day_count days_of_years days_of_months withdraw balance_after chosen is_chosen resolve set_credit with_credit post total cut_off close_day with_state overdrawn
+partial_4_greatest = reached_greatest partial_3 partial_4_choice (Without_newest All alfa (inl refl) (record { lt = tt })) (record { le = tt }, (record { le = tt }, (record { le = tt }, tt)))
+
+abbrev partial_4 : Book
+partial_4 = (resolve partial_3 partial_4_choice).book
+
+pub partial_comes : Comes
+    (pays alfa beta 100 (codes "A-1") ∷ pays alfa gama 50 (codes "A-2") ∷ pays beta alfa 100 (codes "B-1") ∷ Resolve ∷ [])
+    (Ok (answer.Queued 1 1) ∷ Ok (answer.Queued 2 2) ∷ Ok (answer.Queued 3 1) ∷ Ok (answer.Resolved 1 2 (pos 200)) ∷ [])
+    (pos 0 ∷ pos 0 ∷ pos 0 ∷ [])
+unfolding first_of order takes settles_at_once queue orders_before balance gain floor credit_of participant_of accounts is_participant order_named posting_named settle mark_of open_day is_weekend days_from_civil weekday_number day_count days_of_years days_of_months withdraw balance_after chosen is_chosen resolve set_credit with_credit post total cut_off close_day with_state overdrawn
+partial_comes = (partial_4, (partial_1, refl, (partial_2, refl, (partial_3, refl, (partial_4, (partial_4_choice, partial_4_greatest, refl), refl)))), refl)
+
+-- ---- cascade
+
+abbrev cascade_1 : Book
+cascade_1 = (post start alfa (codes "P-1") (pos 10)).book
+
+abbrev cascade_2 : Book
+cascade_2 = (order cascade_1 alfa (codes "A-1") beta 60).book
+
+abbrev cascade_3 : Book
+cascade_3 = (order cascade_2 alfa (codes "A-2") gama 10).book
+
+abbrev cascade_4 : Book
+cascade_4 = (order cascade_3 beta (codes "B-1") alfa 50).book
+
+abbrev cascade_5 : Book
+cascade_5 = (order cascade_4 beta (codes "B-2") gama 20).book
+
+abbrev cascade_6 : Book
+cascade_6 = (order cascade_5 gama (codes "G-1") alfa 5).book
+
+abbrev cascade_7_choice : Choice
+cascade_7_choice = (taken_back gama (taken_back beta (taken_back alfa (everything cascade_6))))
+
+cascade_7_greatest : IsGreatest cascade_6 cascade_7_choice
+unfolding first_of order takes settles_at_once queue orders_before balance gain floor credit_of participant_of accounts is_participant order_named posting_named settle mark_of open_day is_weekend days_from_civil weekday_number day_count days_of_years days_of_months withdraw balance_after chosen is_chosen resolve set_credit with_credit post total cut_off close_day with_state overdrawn
+cascade_7_greatest = reached_greatest cascade_6 cascade_7_choice (Without_newest (Without_newest (Without_newest All alfa (inl refl) (record { lt = tt })) beta (inr (inl refl)) (record { lt = tt })) gama (inr (inr (inl refl))) (record { lt = tt })) (record { le = tt }, (record { le = tt }, (record { le = tt }, tt)))
+
+abbrev cascade_7 : Book
+cascade_7 = (resolve cascade_6 cascade_7_choice).book
+
+pub cascade_comes : Comes
+    (Post alfa (codes "P-1") (pos 10) ∷ pays alfa beta 60 (codes "A-1") ∷ pays alfa gama 10 (codes "A-2") ∷ pays beta alfa 50 (codes "B-1") ∷ pays beta gama 20 (codes "B-2") ∷ pays gama alfa 5 (codes "G-1") ∷ Resolve ∷ [])
+    (Ok (answer.Posted 1) ∷ Ok (answer.Queued 1 1) ∷ Ok (answer.Queued 2 2) ∷ Ok (answer.Queued 3 1) ∷ Ok (answer.Queued 4 2) ∷ Ok (answer.Queued 5 1) ∷ Ok (answer.Resolved 1 2 (pos 110)) ∷ [])
+    (pos 0 ∷ pos 10 ∷ pos 0 ∷ [])
+unfolding first_of order takes settles_at_once queue orders_before balance gain floor credit_of participant_of accounts is_participant order_named posting_named settle mark_of open_day is_weekend days_from_civil weekday_number day_count days_of_years days_of_months withdraw balance_after chosen is_chosen resolve set_credit with_credit post total cut_off close_day with_state overdrawn
+cascade_comes = (cascade_7, (cascade_1, refl, (cascade_2, refl, (cascade_3, refl, (cascade_4, refl, (cascade_5, refl, (cascade_6, refl, (cascade_7, (cascade_7_choice, cascade_7_greatest, refl), refl))))))), refl)
+
+-- ---- boundary of credit
+
+abbrev boundary_of_credit_1 : Book
+boundary_of_credit_1 = (set_credit start alfa 100).book
+
+abbrev boundary_of_credit_2 : Book
+boundary_of_credit_2 = (order boundary_of_credit_1 alfa (codes "A-1") beta 100).book
+
+abbrev boundary_of_credit_3 : Book
+boundary_of_credit_3 = (order boundary_of_credit_2 alfa (codes "A-2") beta 1).book
+
+abbrev boundary_of_credit_4 : Book
+boundary_of_credit_4 = (order boundary_of_credit_3 alfa (codes "A-1") beta 100).book
+
+abbrev boundary_of_credit_5 : Book
+boundary_of_credit_5 = (order boundary_of_credit_4 alfa (codes "A-1") beta 99).book
+
+pub boundary_of_credit_comes : Comes
+    (SetCredit alfa 100 ∷ pays alfa beta 100 (codes "A-1") ∷ pays alfa beta 1 (codes "A-2") ∷ pays alfa beta 100 (codes "A-1") ∷ pays alfa beta 99 (codes "A-1") ∷ [])
+    (Ok answer.CreditSet ∷ Ok (answer.Settled 1 1) ∷ Ok (answer.Queued 2 1) ∷ Ok (answer.Repeated (known.Order 1 (state.Settled 1))) ∷ Err refusal.ReferenceUsed ∷ [])
+    (negsuc 99 ∷ pos 100 ∷ pos 0 ∷ [])
+unfolding first_of order takes settles_at_once queue orders_before balance gain floor credit_of participant_of accounts is_participant order_named posting_named settle mark_of open_day is_weekend days_from_civil weekday_number day_count days_of_years days_of_months withdraw balance_after chosen is_chosen resolve set_credit with_credit post total cut_off close_day with_state overdrawn
+boundary_of_credit_comes = (boundary_of_credit_5, (boundary_of_credit_1, refl, (boundary_of_credit_2, refl, (boundary_of_credit_3, refl, (boundary_of_credit_4, refl, (boundary_of_credit_5, refl, refl))))), refl)
+
+-- ---- no bypass
+
+abbrev no_bypass_1 : Book
+no_bypass_1 = (post start alfa (codes "P-1") (pos 100)).book
+
+abbrev no_bypass_2 : Book
+no_bypass_2 = (order no_bypass_1 alfa (codes "A-1") beta 150).book
+
+abbrev no_bypass_3 : Book
+no_bypass_3 = (order no_bypass_2 alfa (codes "A-2") beta 20).book
+
+abbrev no_bypass_4_choice : Choice
+no_bypass_4_choice = (taken_back alfa (taken_back alfa (everything no_bypass_3)))
+
+no_bypass_4_greatest : IsGreatest no_bypass_3 no_bypass_4_choice
+unfolding first_of order takes settles_at_once queue orders_before balance gain floor credit_of participant_of accounts is_participant order_named posting_named settle mark_of open_day is_weekend days_from_civil weekday_number day_count days_of_years days_of_months withdraw balance_after chosen is_chosen resolve set_credit with_credit post total cut_off close_day with_state overdrawn
+no_bypass_4_greatest = reached_greatest no_bypass_3 no_bypass_4_choice (Without_newest (Without_newest All alfa (inl refl) (record { lt = tt })) alfa (inl refl) (record { lt = tt })) (record { le = tt }, (record { le = tt }, (record { le = tt }, tt)))
+
+abbrev no_bypass_4 : Book
+no_bypass_4 = (resolve no_bypass_3 no_bypass_4_choice).book
+
+pub no_bypass_comes : Comes
+    (Post alfa (codes "P-1") (pos 100) ∷ pays alfa beta 150 (codes "A-1") ∷ pays alfa beta 20 (codes "A-2") ∷ Resolve ∷ [])
+    (Ok (answer.Posted 1) ∷ Ok (answer.Queued 1 1) ∷ Ok (answer.Queued 2 2) ∷ Ok answer.Nothing ∷ [])
+    (pos 100 ∷ pos 0 ∷ pos 0 ∷ [])
+unfolding first_of order takes settles_at_once queue orders_before balance gain floor credit_of participant_of accounts is_participant order_named posting_named settle mark_of open_day is_weekend days_from_civil weekday_number day_count days_of_years days_of_months withdraw balance_after chosen is_chosen resolve set_credit with_credit post total cut_off close_day with_state overdrawn
+no_bypass_comes = (no_bypass_4, (no_bypass_1, refl, (no_bypass_2, refl, (no_bypass_3, refl, (no_bypass_4, (no_bypass_4_choice, no_bypass_4_greatest, refl), refl)))), refl)
+
+-- ---- finality
+
+abbrev finality_1 : Book
+finality_1 = (set_credit start alfa 100).book
+
+abbrev finality_2 : Book
+finality_2 = (order finality_1 alfa (codes "A-1") beta 100).book
+
+abbrev finality_3 : Book
+finality_3 = (order finality_2 alfa (codes "A-2") beta 1).book
+
+abbrev finality_4 : Book
+finality_4 = (withdraw finality_3 alfa (codes "A-1")).book
+
+abbrev finality_5 : Book
+finality_5 = (withdraw finality_4 alfa (codes "A-2")).book
+
+abbrev finality_6 : Book
+finality_6 = (withdraw finality_5 alfa (codes "A-2")).book
+
+abbrev finality_7 : Book
+finality_7 = (withdraw finality_6 alfa (codes "A-3")).book
+
+pub finality_comes : Comes
+    (SetCredit alfa 100 ∷ pays alfa beta 100 (codes "A-1") ∷ pays alfa beta 1 (codes "A-2") ∷ Withdraw alfa (codes "A-1") ∷ Withdraw alfa (codes "A-2") ∷ Withdraw alfa (codes "A-2") ∷ Withdraw alfa (codes "A-3") ∷ [])
+    (Ok answer.CreditSet ∷ Ok (answer.Settled 1 1) ∷ Ok (answer.Queued 2 1) ∷ Err refusal.NotQueued ∷ Ok (answer.Withdrawn 2) ∷ Ok (answer.Repeated (known.Order 2 state.Withdrawn)) ∷ Err refusal.UnknownOrder ∷ [])
+    (negsuc 99 ∷ pos 100 ∷ pos 0 ∷ [])
+unfolding first_of order takes settles_at_once queue orders_before balance gain floor credit_of participant_of accounts is_participant order_named posting_named settle mark_of open_day is_weekend days_from_civil weekday_number day_count days_of_years days_of_months withdraw balance_after chosen is_chosen resolve set_credit with_credit post total cut_off close_day with_state overdrawn
+finality_comes = (finality_7, (finality_1, refl, (finality_2, refl, (finality_3, refl, (finality_4, refl, (finality_5, refl, (finality_6, refl, (finality_7, refl, refl))))))), refl)
+
+-- ---- largest posting
+
+abbrev largest_posting_1 : Book
+largest_posting_1 = (post start alfa (codes "P-1") (pos 1000000000000000)).book
+
+abbrev largest_posting_2 : Book
+largest_posting_2 = (post largest_posting_1 beta (codes "P-2") (pos 1)).book
+
+abbrev largest_posting_3 : Book
+largest_posting_3 = (post largest_posting_2 alfa (codes "P-3") (negsuc 0)).book
+
+pub largest_posting_comes : Comes
+    (Post alfa (codes "P-1") (pos 1000000000000000) ∷ Post beta (codes "P-2") (pos 1) ∷ Post alfa (codes "P-3") (negsuc 0) ∷ [])
+    (Ok (answer.Posted 1) ∷ Err refusal.TotalTooLarge ∷ Ok (answer.Posted 2) ∷ [])
+    (pos 999999999999999 ∷ pos 0 ∷ pos 0 ∷ [])
+unfolding first_of order takes settles_at_once queue orders_before balance gain floor credit_of participant_of accounts is_participant order_named posting_named settle mark_of open_day is_weekend days_from_civil weekday_number day_count days_of_years days_of_months withdraw balance_after chosen is_chosen resolve set_credit with_credit post total cut_off close_day with_state overdrawn
+largest_posting_comes = (largest_posting_3, (largest_posting_1, refl, (largest_posting_2, refl, (largest_posting_3, refl, refl))), refl)
+
+-- ---- cut off stops orders
+
+abbrev cut_off_stops_orders_1 : Book
+cut_off_stops_orders_1 = (order start alfa (codes "A-1") beta 100).book
+
+abbrev cut_off_stops_orders_2 : Book
+cut_off_stops_orders_2 = (order cut_off_stops_orders_1 beta (codes "B-1") alfa 100).book
+
+abbrev cut_off_stops_orders_3 : Book
+cut_off_stops_orders_3 = (order cut_off_stops_orders_2 gama (codes "G-1") alfa 1).book
+
+abbrev cut_off_stops_orders_4 : Book
+cut_off_stops_orders_4 = (cut_off cut_off_stops_orders_3 monday).book
+
+abbrev cut_off_stops_orders_5 : Book
+cut_off_stops_orders_5 = (order cut_off_stops_orders_4 alfa (codes "A-2") beta 5).book
+
+abbrev cut_off_stops_orders_6 : Book
+cut_off_stops_orders_6 = (order cut_off_stops_orders_5 alfa (codes "A-1") beta 100).book
+
+abbrev cut_off_stops_orders_7 : Book
+cut_off_stops_orders_7 = (withdraw cut_off_stops_orders_6 gama (codes "G-1")).book
+
+abbrev cut_off_stops_orders_8_choice : Choice
+cut_off_stops_orders_8_choice = (everything cut_off_stops_orders_7)
+
+cut_off_stops_orders_8_greatest : IsGreatest cut_off_stops_orders_7 cut_off_stops_orders_8_choice
+unfolding first_of order takes settles_at_once queue orders_before balance gain floor credit_of participant_of accounts is_participant order_named posting_named settle mark_of open_day is_weekend days_from_civil weekday_number day_count days_of_years days_of_months withdraw balance_after chosen is_chosen resolve set_credit with_credit post total cut_off close_day with_state overdrawn
+cut_off_stops_orders_8_greatest = reached_greatest cut_off_stops_orders_7 cut_off_stops_orders_8_choice All (record { le = tt }, (record { le = tt }, (record { le = tt }, tt)))
+
+abbrev cut_off_stops_orders_8 : Book
+cut_off_stops_orders_8 = (resolve cut_off_stops_orders_7 cut_off_stops_orders_8_choice).book
+
+pub cut_off_stops_orders_comes : Comes
+    (pays alfa beta 100 (codes "A-1") ∷ pays beta alfa 100 (codes "B-1") ∷ pays gama alfa 1 (codes "G-1") ∷ CutOff monday ∷ pays alfa beta 5 (codes "A-2") ∷ pays alfa beta 100 (codes "A-1") ∷ Withdraw gama (codes "G-1") ∷ Resolve ∷ [])
+    (Ok (answer.Queued 1 1) ∷ Ok (answer.Queued 2 1) ∷ Ok (answer.Queued 3 1) ∷ Ok answer.CutOffDone ∷ Err refusal.NotOpen ∷ Ok (answer.Repeated (known.Order 1 state.Queued)) ∷ Ok (answer.Withdrawn 3) ∷ Ok (answer.Resolved 1 2 (pos 200)) ∷ [])
+    (pos 0 ∷ pos 0 ∷ pos 0 ∷ [])
+unfolding first_of order takes settles_at_once queue orders_before balance gain floor credit_of participant_of accounts is_participant order_named posting_named settle mark_of open_day is_weekend days_from_civil weekday_number day_count days_of_years days_of_months withdraw balance_after chosen is_chosen resolve set_credit with_credit post total cut_off close_day with_state overdrawn
+cut_off_stops_orders_comes = (cut_off_stops_orders_8, (cut_off_stops_orders_1, refl, (cut_off_stops_orders_2, refl, (cut_off_stops_orders_3, refl, (cut_off_stops_orders_4, refl, (cut_off_stops_orders_5, refl, (cut_off_stops_orders_6, refl, (cut_off_stops_orders_7, refl, (cut_off_stops_orders_8, (cut_off_stops_orders_8_choice, cut_off_stops_orders_8_greatest, refl), refl)))))))), refl)
+
+-- ---- close with gridlock
+
+abbrev close_with_gridlock_1 : Book
+close_with_gridlock_1 = (order start alfa (codes "A-1") beta 100).book
+
+abbrev close_with_gridlock_2 : Book
+close_with_gridlock_2 = (order close_with_gridlock_1 beta (codes "B-1") gama 100).book
+
+abbrev close_with_gridlock_3 : Book
+close_with_gridlock_3 = (order close_with_gridlock_2 gama (codes "G-1") alfa 100).book
+
+abbrev close_with_gridlock_4_choice : Choice
+close_with_gridlock_4_choice = (everything close_with_gridlock_3)
+
+close_with_gridlock_4_greatest : IsGreatest close_with_gridlock_3 close_with_gridlock_4_choice
+unfolding first_of order takes settles_at_once queue orders_before balance gain floor credit_of participant_of accounts is_participant order_named posting_named settle mark_of open_day is_weekend days_from_civil weekday_number day_count days_of_years days_of_months withdraw balance_after chosen is_chosen resolve set_credit with_credit post total cut_off close_day with_state overdrawn
+close_with_gridlock_4_greatest = reached_greatest close_with_gridlock_3 close_with_gridlock_4_choice All (record { le = tt }, (record { le = tt }, (record { le = tt }, tt)))
+
+abbrev close_with_gridlock_4 : Book
+close_with_gridlock_4 = (close_day close_with_gridlock_3 close_with_gridlock_4_choice monday).book
+
+abbrev close_with_gridlock_5 : Book
+close_with_gridlock_5 = (cut_off close_with_gridlock_4 monday).book
+
+abbrev close_with_gridlock_6_choice : Choice
+close_with_gridlock_6_choice = (everything close_with_gridlock_5)
+
+close_with_gridlock_6_greatest : IsGreatest close_with_gridlock_5 close_with_gridlock_6_choice
+unfolding first_of order takes settles_at_once queue orders_before balance gain floor credit_of participant_of accounts is_participant order_named posting_named settle mark_of open_day is_weekend days_from_civil weekday_number day_count days_of_years days_of_months withdraw balance_after chosen is_chosen resolve set_credit with_credit post total cut_off close_day with_state overdrawn
+close_with_gridlock_6_greatest = reached_greatest close_with_gridlock_5 close_with_gridlock_6_choice All (record { le = tt }, (record { le = tt }, (record { le = tt }, tt)))
+
+abbrev close_with_gridlock_6 : Book
+close_with_gridlock_6 = (close_day close_with_gridlock_5 close_with_gridlock_6_choice monday).book
+
+pub close_with_gridlock_comes : Comes
+    (pays alfa beta 100 (codes "A-1") ∷ pays beta gama 100 (codes "B-1") ∷ pays gama alfa 100 (codes "G-1") ∷ CloseDay monday ∷ CutOff monday ∷ CloseDay monday ∷ [])
+    (Ok (answer.Queued 1 1) ∷ Ok (answer.Queued 2 1) ∷ Ok (answer.Queued 3 1) ∷ Err refusal.WrongPhase ∷ Ok answer.CutOffDone ∷ Err refusal.Resolvable ∷ [])
+    (pos 0 ∷ pos 0 ∷ pos 0 ∷ [])
+unfolding first_of order takes settles_at_once queue orders_before balance gain floor credit_of participant_of accounts is_participant order_named posting_named settle mark_of open_day is_weekend days_from_civil weekday_number day_count days_of_years days_of_months withdraw balance_after chosen is_chosen resolve set_credit with_credit post total cut_off close_day with_state overdrawn
+close_with_gridlock_comes = (close_with_gridlock_6, (close_with_gridlock_1, refl, (close_with_gridlock_2, refl, (close_with_gridlock_3, refl, (close_with_gridlock_4, (close_with_gridlock_4_choice, close_with_gridlock_4_greatest, refl), (close_with_gridlock_5, refl, (close_with_gridlock_6, (close_with_gridlock_6_choice, close_with_gridlock_6_greatest, refl), refl)))))), refl)
+
+-- ---- close with deadlock
+
+abbrev close_with_deadlock_1 : Book
+close_with_deadlock_1 = (order start alfa (codes "A-1") beta 100).book
+
+abbrev close_with_deadlock_2 : Book
+close_with_deadlock_2 = (order close_with_deadlock_1 beta (codes "B-1") gama 90).book
+
+abbrev close_with_deadlock_3 : Book
+close_with_deadlock_3 = (cut_off close_with_deadlock_2 monday).book
+
+abbrev close_with_deadlock_4_choice : Choice
+close_with_deadlock_4_choice = (taken_back beta (taken_back alfa (everything close_with_deadlock_3)))
+
+close_with_deadlock_4_greatest : IsGreatest close_with_deadlock_3 close_with_deadlock_4_choice
+unfolding first_of order takes settles_at_once queue orders_before balance gain floor credit_of participant_of accounts is_participant order_named posting_named settle mark_of open_day is_weekend days_from_civil weekday_number day_count days_of_years days_of_months withdraw balance_after chosen is_chosen resolve set_credit with_credit post total cut_off close_day with_state overdrawn
+close_with_deadlock_4_greatest = reached_greatest close_with_deadlock_3 close_with_deadlock_4_choice (Without_newest (Without_newest All alfa (inl refl) (record { lt = tt })) beta (inr (inl refl)) (record { lt = tt })) (record { le = tt }, (record { le = tt }, (record { le = tt }, tt)))
+
+abbrev close_with_deadlock_4 : Book
+close_with_deadlock_4 = (close_day close_with_deadlock_3 close_with_deadlock_4_choice monday).book
+
+abbrev close_with_deadlock_5_choice : Choice
+close_with_deadlock_5_choice = (everything close_with_deadlock_4)
+
+close_with_deadlock_5_greatest : IsGreatest close_with_deadlock_4 close_with_deadlock_5_choice
+unfolding first_of order takes settles_at_once queue orders_before balance gain floor credit_of participant_of accounts is_participant order_named posting_named settle mark_of open_day is_weekend days_from_civil weekday_number day_count days_of_years days_of_months withdraw balance_after chosen is_chosen resolve set_credit with_credit post total cut_off close_day with_state overdrawn
+close_with_deadlock_5_greatest = reached_greatest close_with_deadlock_4 close_with_deadlock_5_choice All (record { le = tt }, (record { le = tt }, (record { le = tt }, tt)))
+
+abbrev close_with_deadlock_5 : Book
+close_with_deadlock_5 = (close_day close_with_deadlock_4 close_with_deadlock_5_choice monday).book
+
+pub close_with_deadlock_comes : Comes
+    (pays alfa beta 100 (codes "A-1") ∷ pays beta gama 90 (codes "B-1") ∷ CutOff monday ∷ CloseDay monday ∷ CloseDay monday ∷ [])
+    (Ok (answer.Queued 1 1) ∷ Ok (answer.Queued 2 1) ∷ Ok answer.CutOffDone ∷ Ok (answer.Closed 2) ∷ Ok (answer.Repeated known.Nothing) ∷ [])
+    (pos 0 ∷ pos 0 ∷ pos 0 ∷ [])
+unfolding first_of order takes settles_at_once queue orders_before balance gain floor credit_of participant_of accounts is_participant order_named posting_named settle mark_of open_day is_weekend days_from_civil weekday_number day_count days_of_years days_of_months withdraw balance_after chosen is_chosen resolve set_credit with_credit post total cut_off close_day with_state overdrawn
+close_with_deadlock_comes = (close_with_deadlock_5, (close_with_deadlock_1, refl, (close_with_deadlock_2, refl, (close_with_deadlock_3, refl, (close_with_deadlock_4, (close_with_deadlock_4_choice, close_with_deadlock_4_greatest, refl), (close_with_deadlock_5, (close_with_deadlock_5_choice, close_with_deadlock_5_greatest, refl), refl))))), refl)
+
+-- ---- close with overdraft
+
+abbrev close_with_overdraft_1 : Book
+close_with_overdraft_1 = (set_credit start alfa 100).book
+
+abbrev close_with_overdraft_2 : Book
+close_with_overdraft_2 = (order close_with_overdraft_1 alfa (codes "A-1") beta 100).book
+
+abbrev close_with_overdraft_3 : Book
+close_with_overdraft_3 = (order close_with_overdraft_2 alfa (codes "A-2") beta 1).book
+
+abbrev close_with_overdraft_4 : Book
+close_with_overdraft_4 = (cut_off close_with_overdraft_3 monday).book
+
+abbrev close_with_overdraft_5_choice : Choice
+close_with_overdraft_5_choice = (taken_back alfa (everything close_with_overdraft_4))
+
+close_with_overdraft_5_greatest : IsGreatest close_with_overdraft_4 close_with_overdraft_5_choice
+unfolding first_of order takes settles_at_once queue orders_before balance gain floor credit_of participant_of accounts is_participant order_named posting_named settle mark_of open_day is_weekend days_from_civil weekday_number day_count days_of_years days_of_months withdraw balance_after chosen is_chosen resolve set_credit with_credit post total cut_off close_day with_state overdrawn
+close_with_overdraft_5_greatest = reached_greatest close_with_overdraft_4 close_with_overdraft_5_choice (Without_newest All alfa (inl refl) (record { lt = tt })) (record { le = tt }, (record { le = tt }, (record { le = tt }, tt)))
+
+abbrev close_with_overdraft_5 : Book
+close_with_overdraft_5 = (close_day close_with_overdraft_4 close_with_overdraft_5_choice monday).book
+
+pub close_with_overdraft_comes : Comes
+    (SetCredit alfa 100 ∷ pays alfa beta 100 (codes "A-1") ∷ pays alfa beta 1 (codes "A-2") ∷ CutOff monday ∷ CloseDay monday ∷ [])
+    (Ok answer.CreditSet ∷ Ok (answer.Settled 1 1) ∷ Ok (answer.Queued 2 1) ∷ Ok answer.CutOffDone ∷ Err (refusal.Overdrawn alfa 1) ∷ [])
+    (negsuc 99 ∷ pos 100 ∷ pos 0 ∷ [])
+unfolding first_of order takes settles_at_once queue orders_before balance gain floor credit_of participant_of accounts is_participant order_named posting_named settle mark_of open_day is_weekend days_from_civil weekday_number day_count days_of_years days_of_months withdraw balance_after chosen is_chosen resolve set_credit with_credit post total cut_off close_day with_state overdrawn
+close_with_overdraft_comes = (close_with_overdraft_5, (close_with_overdraft_1, refl, (close_with_overdraft_2, refl, (close_with_overdraft_3, refl, (close_with_overdraft_4, refl, (close_with_overdraft_5, (close_with_overdraft_5_choice, close_with_overdraft_5_greatest, refl), refl))))), refl)

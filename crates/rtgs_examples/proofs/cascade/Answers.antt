@@ -1,0 +1,5 @@
+use Rattle.rtgs_examples.proofs.Computed.{cascade_comes}
+use Rattle.rtgs_examples.proofs.cascade.Goals as goal
+
+pub returns : goal.returns
+returns c = cascade_comes

@@ -1,0 +1,5 @@
+use Rattle.rtgs_examples.proofs.Computed.{deadlock_comes}
+use Rattle.rtgs_examples.proofs.deadlock.Goals as goal
+
+pub returns : goal.returns
+returns c = deadlock_comes

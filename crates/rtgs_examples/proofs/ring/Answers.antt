@@ -1,0 +1,5 @@
+use Rattle.rtgs_examples.proofs.Computed.{ring_comes}
+use Rattle.rtgs_examples.proofs.ring.Goals as goal
+
+pub returns : goal.returns
+returns c = ring_comes

@@ -1,0 +1,49 @@
+-- Worked examples: three banks with no credit on Monday 2024-03-04.
+use Rattle.std.specs.Prelude.{◌≡◌, ℕ, ℤ, List, [], ◌∷◌, map, Some, replicate, codes}
+use Rattle.rtgs_book.specs.declared.Command.TheVariants.{Order}
+use Rattle.rtgs_book.specs.declared.Book.{Book}
+use Rattle.rtgs_book.specs.declared.Participant.{Participant}
+use Rattle.rtgs_book.specs.declared.Phase.TheVariants.{Open}
+use Rattle.rtgs_book.specs.Balance.{balance}
+use Rattle.rtgs_book.specs.Lookup.{accounts}
+use Rattle.rtgs_book.specs.declared.Command.{Command}
+use Rattle.rtgs_book.specs.Outcome.{Reply}
+use Rattle.rtgs_book.specs.Run.{Run}
+
+abbrev pub alfa : List ℕ
+alfa = codes "ALFA"
+
+abbrev pub beta : List ℕ
+beta = codes "BETA"
+
+abbrev pub gama : List ℕ
+gama = codes "GAMA"
+
+-- the code of no participant
+abbrev pub zeta : List ℕ
+zeta = codes "ZETA"
+
+-- 2024-03-04
+abbrev pub monday : ℕ
+monday = 20240304
+
+abbrev pub bank : List ℕ → List ℕ → ℕ → Participant
+bank code name key = record { code = code; name = name; key = replicate 32 key; credit = 0 }
+
+-- the three banks, and the day is open
+abbrev pub start : Book
+start = record {
+  participants = bank alfa (codes "Alfa Bank") 1 ∷ bank beta (codes "Beta Bank") 2 ∷ bank gama (codes "Gama Bank") 3 ∷ [];
+  postings = [];
+  orders = [];
+  marks = [];
+  day = record { date = Some monday; phase = Open };
+}
+
+abbrev pub pays : List ℕ → List ℕ → ℕ → List ℕ → Command
+pays sender receiver amount reference = Order sender reference receiver amount
+
+-- from the start, the commands get these replies and leave these balances
+abbrev pub Comes : List Command → List Reply → List ℤ → Type 0
+Comes commands replies balances =
+    (end : Book) × Run start commands replies end × (map (balance end) (accounts end) ≡ balances)
