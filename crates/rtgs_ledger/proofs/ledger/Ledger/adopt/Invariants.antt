@@ -1,0 +1,11 @@
+use Rattle.std.proofs.Common.{◌≡◌, drop}
+use Rattle.rtgs_ledger.specs.Records.{held_of}
+use Rattle.rtgs_ledger.specs.Held.{HasRoom, after}
+use Rattle.rtgs_ledger.proofs.ledger.Ledger.adopt.Given as goal
+
+-- the rows that are left find their room, and lead where all of them lead
+abbrev pub invariant-loop-row : goal.invariant-loop-row
+invariant-loop-row l = record {
+  room : HasRoom (held_of l.self-inside.records) (drop l.row-index l.row-items);
+  rest : after (held_of l.self-inside.records) (drop l.row-index l.row-items) ≡ after l.fn.self l.row-items;
+}

@@ -1,0 +1,59 @@
+-- Accounts, as contracts see them.
+use Rattle.std.specs.Prelude.{true, false, ◌≡◌, ℕ, ◌≤◌, ℤ, Bool, true, List, map, filter, not, ◌++◌, ◌∷◌, if◌then◌else◌, length, slice_index_or, ◌<◌}
+use Rattle.std.specs.List.{AllByRecursion}
+use Rattle.std.specs.List.Sorted.{IsStrictlySortedBy}
+use Rattle.std.specs.Ordering.{nat_cmp}
+use Rattle.std.specs.Cmp.Lexicographic.{slice_cmp}
+use Rattle.std.specs.Str.{bytes_eq}
+use Rattle.rtgs_book.specs.declared.participant.Participant.{Participant}
+use Rattle.rtgs_book.specs.Commands.{is_before}
+use Rattle.rtgs_ledger.specs.declared.account.Account.{Account}
+
+-- the accounts, and how many more can be added without memory
+pub record AccountList : Type 0 where
+  pub accounts : List Account
+  pub room : ℕ
+
+abbrev pub code_of : Account → List ℕ
+code_of a = a.participant.code
+
+abbrev pub participant_of : Account → Participant
+participant_of a = a.participant
+
+-- the account is that of the code
+abbrev pub is_of : List ℕ → Account → Bool
+is_of code a = bytes_eq a.participant.code code
+
+abbrev pub has_key : List ℕ → Account → Bool
+has_key key a = bytes_eq a.participant.key key
+
+abbrev pub balance_of : Account → ℤ
+balance_of a = a.balance
+
+-- codes rise strictly
+abbrev pub AreInCodeOrder : List Account → Type 0
+AreInCodeOrder accounts = IsStrictlySortedBy (slice_cmp nat_cmp) (map code_of accounts)
+
+-- the account, at its place in code order
+abbrev pub with_account : Account → List Account → List Account
+with_account new accounts =
+    filter (λ a. is_before (code_of a) (code_of new)) accounts ++ new ∷ filter (λ a. not (is_before (code_of a) (code_of new))) accounts
+
+abbrev pub rebalanced : List ℕ → ℤ → Account → Account
+rebalanced code balance a = if is_of code a then record a { balance = balance } else a
+
+-- the code's account with this balance
+abbrev pub with_balance : List ℕ → ℤ → List Account → List Account
+with_balance code balance = map (rebalanced code balance)
+
+-- the code's account stands at this index
+pub record IsAt (code : List ℕ) (accounts : List Account) (i : ℕ) : Type 0 where
+  pub in_range : i < length accounts
+  pub has_code : (d : Account) → code_of (slice_index_or accounts i d) ≡ code
+
+-- the codes before this index come before the code, and the others after it
+pub record IsGapFor (code : List ℕ) (accounts : List Account) (i : ℕ) : Type 0 where
+  pub in_range : i ≤ length accounts
+  pub before : (k : ℕ) (d : Account) → k < i → is_before (code_of (slice_index_or accounts k d)) code ≡ true
+  pub after : (k : ℕ) (d : Account) → i ≤ k → k < length accounts → is_before (code_of (slice_index_or accounts k d)) code ≡ false
+  pub apart : AllByRecursion (λ a. is_of code a ≡ false) accounts

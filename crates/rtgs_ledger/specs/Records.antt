@@ -1,0 +1,22 @@
+-- The records of a ledger as a book.
+use Rattle.std.specs.Prelude.{map}
+use Rattle.rtgs_book.specs.declared.book.Book.{Book}
+use Rattle.rtgs_ledger.specs.declared.records.Records.{Records}
+use Rattle.rtgs_ledger.specs.Accounts.{participant_of}
+use Rattle.rtgs_ledger.specs.Held.{Held}
+
+abbrev pub book_of : Records → Book
+book_of r = record {
+  participants = map participant_of r.accounts.accounts;
+  postings = r.postings.postings;
+  orders = r.orders;
+  marks = r.marks;
+  day = r.day;
+}
+
+abbrev pub held_of : Records → Held
+held_of r = record {
+  content = book_of r;
+  accounts = r.accounts.accounts;
+  room = record { participants = r.accounts.room; postings = r.postings.room; awaited = r.postings.awaited };
+}

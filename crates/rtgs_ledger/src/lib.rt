@@ -1,0 +1,18 @@
+//! The book in memory: accounts with their running balances, and postings by their references. A command is prepared,
+//! which makes every growth and changes nothing, and its change is adopted, which takes no memory.
+#![tactic(auto)]
+
+mod account;
+mod accounts;
+mod ledger;
+mod postings;
+mod records;
+
+pub use crate::account::Account;
+pub use crate::accounts::Accounts;
+pub use crate::ledger::Ledger;
+pub use crate::postings::Postings;
+pub use crate::records::Records;
+
+#[cfg(test)]
+mod tests;
