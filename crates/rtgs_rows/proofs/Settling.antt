@@ -1,0 +1,61 @@
+-- What a keeper over a connection holds, and what a stop may leave of it.
+use Rattle.std.proofs.Common.{◌≡◌, ◌⊎◌, inl, inr, List, IsTrue, sym, ap, subst, ◌∙◌, arith}
+use Rattle.sqlite_trees.specs.declared.store.Store.{Ghosts}
+use Rattle.sqlite.specs.Tree.{Trees}
+use Rattle.sqlite.specs.Effect.{Database}
+use Rattle.sqlite.specs.Held.{Held, state}
+use Rattle.sqlite.specs.State.{State, HasCleanDisk, Survives, IsUnchanged}
+use Rattle.rtgs_book.specs.declared.Book.{Book}
+use Rattle.rtgs_book.specs.declared.RowChange.{RowChange}
+use Rattle.rtgs_rows.specs.Content.{Content, tables_of, Holds, Rests, AreInOrder, with_changes}
+use Rattle.rtgs_rows.specs.Keeping.{IsChange, HoldsBook, MayLeave}
+use Rattle.rtgs_rows.proofs.Unique.{once}
+use Rattle.rtgs_rows.proofs.Changed.{in_order, changes}
+
+-- while the connection is open, the last commit is all that a stop leaves
+pub settled : {S : Type 0} (g : Ghosts S) (h : Held S) → ((db : Trees) → IsTrue (g.view h.store).is_open → g.recovers h.store db → db ≡ (g.view h.store).committed)
+    → (book other : Book) → HoldsBook g h book → MayLeave g h other → other ≡ book
+settled g h alone book other holds left =
+    let same : left.0 ≡ (state g h).committed.trees = alone left.0 holds.1.is_open left.1 in
+    once book other holds.0 left.2.0 holds.2 left.2.2 (sym holds.1.holds.rows ∙ ap tables_of (sym same) ∙ left.2.1.rows)
+
+pub stays : {S : Type 0} (g : Ghosts S) (h : Held S) → (IsTrue (g.view h.store).is_open → g.recovers h.store (g.view h.store).committed) → (book : Book) → HoldsBook g h book → MayLeave g h book
+stays g h there book holds = ((state g h).committed.trees, there holds.1.is_open, (holds.0, holds.1.holds, holds.2))
+
+-- what a stop may leave where nothing was committed
+pub leaves_less : {S : Type 0} (g : Ghosts S) (old new : Held S) → Survives (state g old) (state g new) (λ _. ⊥) → HasCleanDisk (state g new) → (other : Book) → MayLeave g new other → MayLeave g old other
+leaves_less g old new s clean other left = elim (s.crash clean left.0 left.1) [ inl was ↦ (left.0, was, left.2) | inr none ↦ absurd none ]
+
+abbrev pub Made : {S : Type 0} → Ghosts S → Held S → List RowChange → Trees → Type 0
+Made g old rows trees = (content : Content) → Rests content (state g old) → AreInOrder content rows → Holds (with_changes content rows) trees
+
+pub stops_at : {S : Type 0} (g : Ghosts S) (old new : Held S) (rows : List RowChange) → Survives (state g old) (state g new) (Made g old rows) → HasCleanDisk (state g new)
+    → (before after other : Book) → HoldsBook g old before → IsChange before rows after → MayLeave g new other → MayLeave g old other ⊎ (other ≡ after)
+stops_at g old new rows first clean before after other holds change left =
+    elim (first.crash clean left.0 left.1) [
+      | inl was ↦ inl (left.0, was, left.2)
+      | inr made ↦
+          let there = made holds.0 holds.1 (in_order before after rows holds.0 holds.2 change) in
+          inr (once after other (with_changes holds.0 rows) left.2.0 (changes before after rows holds.0 holds.2 change) left.2.2 (sym there.rows ∙ left.2.1.rows))
+    ]
+
+pub stops : {S : Type 0} (g : Ghosts S) (old mid new : Held S) (rows : List RowChange) → Survives (state g old) (state g mid) (Made g old rows) → Survives (state g mid) (state g new) (λ _. ⊥) → HasCleanDisk (state g new)
+    → (before after other : Book) → HoldsBook g old before → IsChange before rows after → MayLeave g new other → MayLeave g old other ⊎ (other ≡ after)
+stops g old mid new rows first second clean before after other holds change left =
+    stops_at g old mid rows first (omega (arith, second.clean)) before after other holds change (leaves_less g mid new second clean other left)
+
+pub done : {S : Type 0} (g : Ghosts S) (old new : Held S) (rows : List RowChange) → ((content : Content) → Rests content (state g old) → AreInOrder content rows → Rests (with_changes content rows) (state g new))
+    → (before after : Book) → HoldsBook g old before → IsChange before rows after → HoldsBook g new after
+done g old new rows made before after holds change =
+    (with_changes holds.0 rows, made holds.0 holds.1 (in_order before after rows holds.0 holds.2 change), changes before after rows holds.0 holds.2 change)
+
+pub rests_same : (content : Content) (old new : State) → Rests content old → IsUnchanged old new → Rests content new
+rests_same content old new rests same = record {
+  is_open = same.0.is_open;
+  schema = ap (λ (d : Database). d.schema) same.0.committed_is ∙ rests.schema;
+  holds = subst (λ (d : Database). Holds content d.trees) (sym same.0.committed_is) rests.holds;
+  clean = same.0.now_is ∙ rests.clean ∙ sym same.0.committed_is;
+}
+
+pub same_book : {S : Type 0} (g : Ghosts S) (old mid new : Held S) → ((content : Content) → Rests content (state g old) → IsTrue (state g mid).is_open → Rests content (state g mid)) → IsUnchanged (state g mid) (state g new) → (book : Book) → HoldsBook g old book → HoldsBook g new book
+same_book g old mid new undone same book holds = (holds.0, rests_same holds.0 (state g mid) (state g new) (undone holds.0 holds.1 same.0.was_open) same, holds.2)

@@ -1,0 +1,193 @@
+-- The tables hold one book at most.
+use Rattle.std.proofs.Common.{◌≡◌, ℕ, ◌/◌, ◌≤◌, pos, zero, suc, List, [], ◌∷◌, map, Option, Some, None, refl, sym, ap, ap₂, subst, ◌∙◌, arith, add-one}
+use Rattle.std.specs.List.{AllByRecursion}
+use Rattle.std.specs.List.Sorted.{IsPermutation, IsSorted, IsStrictlySortedBy}
+use Rattle.std.specs.Ordering.{nat_cmp, ordering_reverse, is_lt}
+use Rattle.std.specs.declared.cmp.Ordering.{Ordering}
+use Rattle.std.specs.declared.cmp.Ordering.TheVariants.{Less}
+use Rattle.std.specs.Cmp.{IsTotalOrder}
+use Rattle.std.specs.Cmp.Lexicographic.{slice_cmp}
+use Rattle.std.proofs.lemmas.Cmp.{nat_list_cmp_total}
+use Rattle.std.proofs.lemmas.List.Sorted.{IsPermutation-trans, IsPermutation-sym}
+use Rattle.sqlite.specs.declared.types.Value.{Value}
+use Rattle.sqlite.specs.declared.types.Value.TheVariants.{Null, Int, Text}
+use Rattle.sqlite.specs.Order.{Row}
+use Rattle.sqlite.specs.Tree.{IsAscending}
+use Rattle.sqlite_keyed.proofs.SortLemmas.{sorted_unique}
+use Rattle.sqlite_keyed.proofs.ListLemmas.{ascending_from_map}
+use Rattle.rtgs_money.specs.Date.{date_text, IsBusinessDate}
+use Rattle.rtgs_money.proofs.Dates.{date_text-injective}
+use Rattle.rtgs_book.specs.declared.Book.{Book}
+use Rattle.rtgs_book.specs.declared.Day.{Day}
+use Rattle.rtgs_book.specs.declared.Phase.{Phase}
+use Rattle.rtgs_book.specs.declared.Phase.TheVariants.{Closed, Open, CutOff}
+use Rattle.rtgs_book.specs.declared.Participant.{Participant}
+use Rattle.rtgs_book.specs.declared.Posting.{Posting}
+use Rattle.rtgs_book.specs.declared.Order.{Order}
+use Rattle.rtgs_book.specs.declared.Mark.{Mark}
+use Rattle.rtgs_book.specs.declared.OrderState.{OrderState}
+use Rattle.rtgs_book.specs.declared.OrderState.TheVariants.{Queued, Settled, Withdrawn, Rejected}
+use Rattle.rtgs_book.specs.Lookup.{accounts}
+use Rattle.rtgs_book.specs.Soundness.{CodesRise}
+use Rattle.rtgs_rows.specs.Rows.{date_value, phase_number, state_number, mark_value, day_row, posting_row, payment_row, mark_row}
+use Rattle.rtgs_rows.specs.Content.{Tables, Holding, Content, holding_row, tables_for}
+use Rattle.rtgs_rows.specs.Fitting.{FitsDate, FitsPosting, FitsOrder, FitsMark}
+use Rattle.rtgs_rows.specs.Keeping.{IsBookOf}
+
+-- ---- dates
+
+date_once : (a b : ℕ) → IsBusinessDate a → IsBusinessDate b → date_text a ≡ date_text b → a ≡ b
+date_once a b p q e =
+    let low : a / 10000 ≤ 2999 = p.to_year in
+    let high : b / 10000 ≤ 2999 = q.to_year in
+    date_text-injective a b (omega arith) (omega arith) e
+
+date_value_once : (a b : Option ℕ) → FitsDate a → FitsDate b → date_value a ≡ date_value b → a ≡ b
+date_value_once None None p q e = refl
+date_value_once None (Some b) p q e = absurd (let clash : ◌≡◌ {A = Value} Null (Text (date_text b)) = e in cc)
+date_value_once (Some a) None p q e = absurd (let clash : ◌≡◌ {A = Value} (Text (date_text a)) Null = e in cc)
+date_value_once (Some a) (Some b) p q e = ap Some (date_once a b p q (let texts : ◌≡◌ {A = Value} (Text (date_text a)) (Text (date_text b)) = e in cc))
+
+-- ---- rows
+
+phase_once : (a b : Phase) → phase_number a ≡ phase_number b → a ≡ b
+phase_once Closed Closed e = refl
+phase_once Closed Open e = absurd (omega arith)
+phase_once Closed CutOff e = absurd (omega arith)
+phase_once Open Closed e = absurd (omega arith)
+phase_once Open Open e = refl
+phase_once Open CutOff e = absurd (omega arith)
+phase_once CutOff Closed e = absurd (omega arith)
+phase_once CutOff Open e = absurd (omega arith)
+phase_once CutOff CutOff e = refl
+
+state_once : (a b : OrderState) → state_number a ≡ state_number b → mark_value a ≡ mark_value b → a ≡ b
+state_once Queued Queued e f = refl
+state_once Queued (Settled n) e f = absurd (omega arith)
+state_once Queued Withdrawn e f = absurd (omega arith)
+state_once Queued Rejected e f = absurd (omega arith)
+state_once (Settled m) Queued e f = absurd (omega arith)
+state_once (Settled m) (Settled n) e f = ap Settled (let marks : ◌≡◌ {A = Value} (Int (pos m)) (Int (pos n)) = f in cc)
+state_once (Settled m) Withdrawn e f = absurd (omega arith)
+state_once (Settled m) Rejected e f = absurd (omega arith)
+state_once Withdrawn Queued e f = absurd (omega arith)
+state_once Withdrawn (Settled n) e f = absurd (omega arith)
+state_once Withdrawn Withdrawn e f = refl
+state_once Withdrawn Rejected e f = absurd (omega arith)
+state_once Rejected Queued e f = absurd (omega arith)
+state_once Rejected (Settled n) e f = absurd (omega arith)
+state_once Rejected Withdrawn e f = absurd (omega arith)
+state_once Rejected Rejected e f = refl
+
+pub day_once : (a b : Day) → FitsDate a.date → FitsDate b.date → day_row a ≡ day_row b → a ≡ b
+day_once a b p q e =
+    let dates : date_value a.date ≡ date_value b.date = cc in
+    let phases : phase_number a.phase ≡ phase_number b.phase = cc in
+    let date = date_value_once a.date b.date p q dates in
+    let phase = phase_once a.phase b.phase phases in
+    λ i. record { date = date i; phase = phase i }
+
+holding_once : (a b : Holding) → holding_row a ≡ holding_row b → a ≡ b
+holding_once a b e =
+    let id : a.id ≡ b.id = cc in
+    let code : a.participant.code ≡ b.participant.code = cc in
+    let name : a.participant.name ≡ b.participant.name = cc in
+    let key : a.participant.key ≡ b.participant.key = cc in
+    let credit : a.participant.credit ≡ b.participant.credit = cc in
+    let balance : a.balance ≡ b.balance = cc in
+    λ i. record { id = id i; participant = record { code = code i; name = name i; key = key i; credit = credit i }; balance = balance i }
+
+pub posting_once : (a b : Posting) → FitsPosting a → FitsPosting b → posting_row a ≡ posting_row b → a ≡ b
+posting_once a b p q e =
+    let number : a.number ≡ b.number = cc in
+    let code : a.code ≡ b.code = cc in
+    let reference : a.reference ≡ b.reference = cc in
+    let cents : a.cents ≡ b.cents = cc in
+    let dates : date_value a.date ≡ date_value b.date = cc in
+    let date = date_value_once a.date b.date p.date q.date dates in
+    λ i. record { number = number i; code = code i; reference = reference i; cents = cents i; date = date i }
+
+pub order_once : (a b : Order) → FitsOrder a → FitsOrder b → payment_row a ≡ payment_row b → a ≡ b
+order_once a b p q e =
+    let number : a.number ≡ b.number = cc in
+    let sender : a.sender ≡ b.sender = cc in
+    let reference : a.reference ≡ b.reference = cc in
+    let receiver : a.receiver ≡ b.receiver = cc in
+    let amount : a.amount ≡ b.amount = cc in
+    let dates : date_text a.date ≡ date_text b.date = cc in
+    let states : state_number a.state ≡ state_number b.state = cc in
+    let marks : mark_value a.state ≡ mark_value b.state = cc in
+    let date = date_once a.date b.date p.date q.date dates in
+    let state = state_once a.state b.state states marks in
+    λ i. record { number = number i; sender = sender i; reference = reference i; receiver = receiver i; amount = amount i; date = date i; state = state i }
+
+pub mark_once : (a b : Mark) → FitsMark a → FitsMark b → mark_row a ≡ mark_row b → a ≡ b
+mark_once a b p q e =
+    let number : a.number ≡ b.number = cc in
+    let dates : date_text a.date ≡ date_text b.date = cc in
+    let count : a.count ≡ b.count = cc in
+    let value : a.value ≡ b.value = cc in
+    let date = date_once a.date b.date p.date q.date dates in
+    λ i. record { number = number i; date = date i; count = count i; value = value i }
+
+rows_once : {A : Type 0} (row : A → Row) (P : A → Type 0) → ((a b : A) → P a → P b → row a ≡ row b → a ≡ b) → (xs ys : List A) → AllByRecursion P xs → AllByRecursion P ys → map row xs ≡ map row ys → xs ≡ ys
+rows_once row P once [] [] p q e = refl
+rows_once row P once [] (y ∷ ys) p q e = absurd cc
+rows_once row P once (x ∷ xs) [] p q e = absurd cc
+rows_once row P once (x ∷ xs) (y ∷ ys) p q e =
+    let head : row x ≡ row y = cc in
+    let tail : map row xs ≡ map row ys = cc in
+    ap₂ ◌∷◌ (once x y p.0 q.0 head) (rows_once row P once xs ys p.1 q.1 tail)
+
+all_true : {A : Type 0} (xs : List A) → AllByRecursion (λ _. Unit {0}) xs
+all_true [] = tt
+all_true (x ∷ xs) = (tt, all_true xs)
+
+-- ---- participants in the order of their codes
+
+abbrev pub by_code : Participant → Participant → Ordering
+by_code p q = slice_cmp nat_cmp p.code q.code
+
+by_code_total : IsTotalOrder by_code
+by_code_total = record {
+  antisymm = λ x y. nat_list_cmp_total.antisymm x.code y.code;
+  trans = λ x y z. nat_list_cmp_total.trans x.code y.code z.code;
+  congr = λ x y z. nat_list_cmp_total.congr x.code y.code z.code;
+}
+
+sorted_from : (xs : List Participant) → IsAscending (λ a b. by_code a b ≡ Less) xs → IsSorted by_code xs
+sorted_from [] up k d p q = absurd (omega arith)
+sorted_from (x ∷ []) up k d p q = absurd (omega arith)
+sorted_from (x ∷ y ∷ ys) up zero d p q = ap is_lt (by_code_total.antisymm y x ∙ ap ordering_reverse up.0.0)
+sorted_from (x ∷ y ∷ ys) up (suc k) d p q = rw add-one (rw add-one at (sorted_from (y ∷ ys) up.1 k d (omega arith) (omega arith)))
+
+strict_codes : (xs : List (List ℕ)) → IsStrictlySortedBy (slice_cmp nat_cmp) xs → IsAscending (λ a b. slice_cmp nat_cmp a b ≡ Less) xs
+unfolding IsStrictlySortedBy
+strict_codes [] h = tt
+strict_codes (x ∷ xs) h = (h.0, strict_codes xs h.1)
+
+pub rising : (b : Book) → CodesRise b → IsAscending (λ (p q : Participant). by_code p q ≡ Less) b.participants
+unfolding accounts
+rising b rise = ascending_from_map (λ (x y : List ℕ). slice_cmp nat_cmp x y ≡ Less) (λ (p : Participant). p.code) b.participants (strict_codes _ rise.0)
+
+same_participants : (one other : Book) (ps : List Participant) → CodesRise one → CodesRise other → IsPermutation ps one.participants → IsPermutation ps other.participants → other.participants ≡ one.participants
+same_participants one other ps r s p q =
+    sorted_unique by_code by_code_total one.participants other.participants (rising one r) (IsPermutation-trans _ _ _ (IsPermutation-sym _ _ p) q) (sorted_from other.participants (rising other s))
+
+-- ---- books
+
+pub once : (one other : Book) (c d : Content) → IsBookOf one c → IsBookOf other d → tables_for c ≡ tables_for d → other ≡ one
+once one other c d h k e =
+    let holdings : d.holdings ≡ c.holdings = rows_once holding_row (λ _. Unit {0}) (λ a b _ _. holding_once a b) d.holdings c.holdings (all_true _) (all_true _) (sym (ap (λ (t : Tables). t.participants) e)) in
+    let participants = same_participants one other (map (λ (h : Holding). h.participant) c.holdings) h.sound.codes_rise k.sound.codes_rise h.records.participants
+    (subst (λ hs. IsPermutation (map (λ (h : Holding). h.participant) hs) other.participants) holdings k.records.participants) in
+    let postings = rows_once posting_row FitsPosting posting_once other.postings one.postings k.fits.postings h.fits.postings
+    (ap (map posting_row) (sym k.records.postings) ∙ sym (ap (λ (t : Tables). t.postings) e) ∙ ap (map posting_row) h.records.postings) in
+    let orders = rows_once payment_row FitsOrder order_once other.orders one.orders k.fits.orders h.fits.orders
+    (ap (map payment_row) (sym k.records.orders) ∙ sym (ap (λ (t : Tables). t.payments) e) ∙ ap (map payment_row) h.records.orders) in
+    let marks = rows_once mark_row FitsMark mark_once other.marks one.marks k.fits.marks h.fits.marks
+    (ap (map mark_row) (sym k.records.marks) ∙ sym (ap (λ (t : Tables). t.marks) e) ∙ ap (map mark_row) h.records.marks) in
+    let desks : day_row other.day ∷ [] ≡ day_row one.day ∷ [] = ap (λ day. day_row day ∷ []) (sym k.records.day) ∙ sym (ap (λ (t : Tables). t.desk) e) ∙ ap (λ day. day_row day ∷ []) h.records.day in
+    let rows : day_row other.day ≡ day_row one.day = cc in
+    let day = day_once other.day one.day k.fits.day h.fits.day rows in
+    λ i. record { participants = participants i; postings = postings i; orders = orders i; marks = marks i; day = day i }

@@ -1,0 +1,112 @@
+-- What the tables hold, record by record.
+use Rattle.std.specs.Prelude.{◌≡◌, ◌≢◌, ℕ, ℤ, pos, true, List, [], ◌∷◌, ◌++◌, map, if◌then◌else◌, IsTrue}
+use Rattle.std.specs.Ordering.{int_cmp}
+use Rattle.std.specs.Str.{bytes_eq}
+use Rattle.std.specs.declared.cmp.Ordering.TheVariants.{Less}
+use Rattle.sqlite.specs.Order.{Row}
+use Rattle.sqlite.specs.Tree.{Trees, IsAscending}
+use Rattle.sqlite.specs.Edit.{next_rowid}
+use Rattle.sqlite.specs.State.{State}
+use Rattle.sqlite.specs.Effect.{Database}
+use Rattle.sqlite_catalog.specs.Listing.{IsSound}
+use Rattle.rtgs_book.specs.declared.Day.{Day}
+use Rattle.rtgs_book.specs.declared.Participant.{Participant}
+use Rattle.rtgs_book.specs.declared.Posting.{Posting}
+use Rattle.rtgs_book.specs.declared.Order.{Order}
+use Rattle.rtgs_book.specs.declared.Mark.{Mark}
+use Rattle.rtgs_book.specs.declared.RowChange.{RowChange}
+use Rattle.rtgs_book.specs.declared.RowChange.TheVariants.{AddParticipant, AddPosting, AddOrder, AddMark, SetCredit, SetBalance, SetState, SetDay}
+use Rattle.rtgs_book.specs.Settle.{restated}
+use Rattle.rtgs_book.specs.Commands.{has_number}
+use Rattle.rtgs_rows.specs.Tables.{desk_schema}
+use Rattle.rtgs_rows.specs.Rows.{day_row, participant_row, posting_row, payment_row, mark_row}
+
+-- the rows of the five tables
+pub record Tables : Type 0 where
+  pub desk : List Row
+  pub participants : List Row
+  pub postings : List Row
+  pub payments : List Row
+  pub marks : List Row
+
+abbrev pub tables_of : Trees → Tables
+tables_of trees = record { desk = trees 0; participants = trees 1; postings = trees 4; payments = trees 6; marks = trees 8 }
+
+-- a participant with its stored balance, under its row number
+pub record Holding : Type 0 where
+  pub id : ℤ
+  pub participant : Participant
+  pub balance : ℤ
+
+abbrev pub holding_row : Holding → Row
+holding_row h = participant_row h.id h.participant h.balance
+
+-- The records of the five tables. The participants stand in the order in which they came.
+pub record Content : Type 0 where
+  pub day : Day
+  pub holdings : List Holding
+  pub postings : List Posting
+  pub orders : List Order
+  pub marks : List Mark
+
+abbrev pub tables_for : Content → Tables
+tables_for c = record { desk = day_row c.day ∷ []; participants = map holding_row c.holdings; postings = map posting_row c.postings; payments = map payment_row c.orders; marks = map mark_row c.marks }
+
+-- the trees are a database of the five tables, with these records
+pub record Holds (content : Content) (trees : Trees) : Type 0 where
+  pub sound : IsSound desk_schema trees
+  pub rows : tables_of trees ≡ tables_for content
+
+-- inside a transaction over the last commit
+pub record Stands (was : Database) (content : Content) (s : State) : Type 0 where
+  pub is_open : IsTrue s.is_open
+  pub inside : s.in_transaction ≡ true
+  pub schema : s.now.schema ≡ desk_schema
+  pub holds : Holds content s.now.trees
+  pub committed : s.committed ≡ was
+
+-- outside a transaction, with these records committed
+pub record Rests (content : Content) (s : State) : Type 0 where
+  pub is_open : IsTrue s.is_open
+  pub schema : s.committed.schema ≡ desk_schema
+  pub holds : Holds content s.committed.trees
+  pub clean : s.now ≡ s.committed
+
+-- ---- changes
+
+abbrev pub newcomer : Content → Participant → Holding
+newcomer c p = record { id = next_rowid (map holding_row c.holdings); participant = p; balance = pos 0 }
+
+abbrev pub with_credit_in : List ℕ → ℕ → Holding → Holding
+with_credit_in code credit h = if bytes_eq h.participant.code code then record h { participant = record h.participant { credit = credit } } else h
+
+abbrev pub with_balance_in : List ℕ → ℤ → Holding → Holding
+with_balance_in code balance h = if bytes_eq h.participant.code code then record h { balance = balance } else h
+
+-- the records after one row is added or set
+abbrev pub with_change : Content → RowChange → Content
+with_change c (AddParticipant p) = record c { holdings = c.holdings ++ newcomer c p ∷ [] }
+with_change c (AddPosting p) = record c { postings = c.postings ++ p ∷ [] }
+with_change c (AddOrder o) = record c { orders = c.orders ++ o ∷ [] }
+with_change c (AddMark m) = record c { marks = c.marks ++ m ∷ [] }
+with_change c (SetCredit code credit) = record c { holdings = map (with_credit_in code credit) c.holdings }
+with_change c (SetBalance code balance) = record c { holdings = map (with_balance_in code balance) c.holdings }
+with_change c (SetState number state) = record c { orders = map (restated (has_number number) state) c.orders }
+with_change c (SetDay day) = record c { day = day }
+
+abbrev pub with_changes : Content → List RowChange → Content
+with_changes c [] = c
+with_changes c (row ∷ rows) = with_changes (with_change c row) rows
+
+-- no key comes twice, and the lists stand in the order of their row numbers
+pub record IsInOrder (c : Content) : Type 0 where
+  pub ids : IsAscending (λ a b. int_cmp a.id b.id ≡ Less) c.holdings
+  pub codes : IsAscending (λ a b. a.participant.code ≢ b.participant.code) c.holdings
+  pub postings : IsAscending (λ a b. int_cmp (pos a.number) (pos b.number) ≡ Less) c.postings
+  pub orders : IsAscending (λ a b. int_cmp (pos a.number) (pos b.number) ≡ Less) c.orders
+  pub marks : IsAscending (λ a b. int_cmp (pos a.number) (pos b.number) ≡ Less) c.marks
+
+-- so before each change and after the last
+abbrev pub AreInOrder : Content → List RowChange → Type 0
+AreInOrder c [] = IsInOrder c
+AreInOrder c (row ∷ rows) = IsInOrder c × AreInOrder (with_change c row) rows

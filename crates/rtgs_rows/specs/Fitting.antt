@@ -1,0 +1,45 @@
+-- Values in their forms and ranges, as the types of the records keep them.
+use Rattle.std.specs.Prelude.{◌≡◌, ℕ, Option, Some, None, length, ⊤}
+use Rattle.std.specs.List.{AllByRecursion}
+use Rattle.rtgs_money.specs.Forms.{IsCode, IsReference, IsName}
+use Rattle.rtgs_money.specs.Amounts.{IsAmount, IsPostingAmount, IsCredit}
+use Rattle.rtgs_money.specs.Date.{IsBusinessDate}
+use Rattle.rtgs_book.specs.declared.Participant.{Participant}
+use Rattle.rtgs_book.specs.declared.Posting.{Posting}
+use Rattle.rtgs_book.specs.declared.Order.{Order}
+use Rattle.rtgs_book.specs.declared.Mark.{Mark}
+use Rattle.rtgs_book.specs.declared.Book.{Book}
+
+abbrev pub FitsDate : Option ℕ → Type 0
+FitsDate None = ⊤
+FitsDate (Some date) = IsBusinessDate date
+
+pub record FitsParticipant (p : Participant) : Type 0 where
+  pub code : IsCode p.code
+  pub name : IsName p.name
+  pub key : length p.key ≡ 32
+  pub credit : IsCredit p.credit
+
+pub record FitsPosting (p : Posting) : Type 0 where
+  pub code : IsCode p.code
+  pub reference : IsReference p.reference
+  pub cents : IsPostingAmount p.cents
+  pub date : FitsDate p.date
+
+pub record FitsOrder (o : Order) : Type 0 where
+  pub sender : IsCode o.sender
+  pub reference : IsReference o.reference
+  pub receiver : IsCode o.receiver
+  pub amount : IsAmount o.amount
+  pub date : IsBusinessDate o.date
+
+pub record FitsMark (m : Mark) : Type 0 where
+  pub date : IsBusinessDate m.date
+
+-- each value of the book is in its form and range
+pub record Fits (book : Book) : Type 0 where
+  pub participants : AllByRecursion FitsParticipant book.participants
+  pub postings : AllByRecursion FitsPosting book.postings
+  pub orders : AllByRecursion FitsOrder book.orders
+  pub marks : AllByRecursion FitsMark book.marks
+  pub day : FitsDate book.day.date

@@ -1,0 +1,52 @@
+-- The book that the tables hold.
+use Rattle.std.specs.Prelude.{◌≡◌, pos, None, List, map, ⊤, IsPermutation}
+use Rattle.std.specs.List.{AllByRecursion}
+use Rattle.std.specs.Ordering.{int_cmp}
+use Rattle.std.specs.declared.cmp.Ordering.TheVariants.{Less}
+use Rattle.sqlite_trees.specs.declared.store.Store.{Ghosts}
+use Rattle.sqlite.specs.Tree.{Trees, IsAscending}
+use Rattle.sqlite.specs.Held.{Held, state}
+use Rattle.rtgs_book.specs.declared.Book.{Book}
+use Rattle.rtgs_book.specs.declared.RowChange.{RowChange}
+use Rattle.rtgs_book.specs.declared.RowChange.TheVariants.{AddParticipant}
+use Rattle.rtgs_book.specs.Balance.{balance}
+use Rattle.rtgs_book.specs.Soundness.{IsSound}
+use Rattle.rtgs_book.specs.Changes.{Leads, balance_set}
+use Rattle.rtgs_rows.specs.Content.{Holding, Content, Holds, Rests}
+use Rattle.rtgs_rows.specs.Fitting.{Fits}
+
+-- The records are those of the book. A book has the participants in the order of their codes, and the tables have them in the order in which they came.
+pub record AreOf (book : Book) (content : Content) : Type 0 where
+  pub day : content.day ≡ book.day
+  pub participants : IsPermutation (map (λ (h : Holding). h.participant) content.holdings) book.participants
+  pub postings : content.postings ≡ book.postings
+  pub orders : content.orders ≡ book.orders
+  pub marks : content.marks ≡ book.marks
+
+-- The records are those of the sound book, with each stored balance the sum from scratch.
+pub record IsBookOf (book : Book) (content : Content) : Type 0 where
+  pub records : AreOf book content
+  pub balances : AllByRecursion (λ (h : Holding). h.balance ≡ balance book h.participant.code) content.holdings
+  pub ids : IsAscending (λ (a b : Holding). int_cmp a.id b.id ≡ Less) content.holdings
+  pub sound : IsSound book
+  pub fits : Fits book
+
+-- a participant that is added has no money yet
+abbrev pub StartsEmpty : Book → List RowChange → RowChange → Type 0
+StartsEmpty new rows (AddParticipant p) = (balance_set p.code rows ≡ None) × (balance new p.code ≡ pos 0)
+StartsEmpty new rows row = ⊤
+
+-- The rows lead from the old book to the new one, which is sound, and set just the balances that move.
+pub record IsChange (old : Book) (rows : List RowChange) (new : Book) : Type 0 where
+  pub leads : Leads old rows new
+  pub added : AllByRecursion (StartsEmpty new rows) rows
+  pub sound : IsSound new
+  pub fits : Fits new
+
+-- the tables of the connection hold the book
+abbrev pub HoldsBook : {S : Type 0} → Ghosts S → Held S → Book → Type 0
+HoldsBook g h book = (content : Content) × Rests content (state g h) × IsBookOf book content
+
+-- a stop may leave tables that hold the book
+abbrev pub MayLeave : {S : Type 0} → Ghosts S → Held S → Book → Type 0
+MayLeave g h book = (trees : Trees) × (state g h).may_leave trees × ((content : Content) × Holds content trees × IsBookOf book content)

@@ -1,0 +1,5 @@
+pub mod Tables
+pub mod Rows
+pub mod Content
+pub mod Fitting
+pub mod Keeping

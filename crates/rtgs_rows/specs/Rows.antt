@@ -1,0 +1,82 @@
+-- The rows that records have in the tables. A stored row begins with its row number; where a column is the row number, it is stored as null.
+use Rattle.std.specs.Prelude.{ℕ, ◌<◌, ◌^◌, ℤ, pos, Option, [], ◌∷◌, ⊤}
+use Rattle.sqlite.specs.declared.types.Value.{Value}
+use Rattle.sqlite.specs.declared.types.Value.TheVariants.{Null, Int, Text, Blob}
+use Rattle.sqlite.specs.Order.{Row}
+use Rattle.sqlite.specs.Values.{or_null}
+use Rattle.rtgs_money.specs.Date.{date_text}
+use Rattle.rtgs_book.specs.declared.Day.{Day}
+use Rattle.rtgs_book.specs.declared.Phase.{Phase}
+use Rattle.rtgs_book.specs.declared.Phase.TheVariants.{Closed, Open, CutOff}
+use Rattle.rtgs_book.specs.declared.Participant.{Participant}
+use Rattle.rtgs_book.specs.declared.Posting.{Posting}
+use Rattle.rtgs_book.specs.declared.Order.{Order}
+use Rattle.rtgs_book.specs.declared.Mark.{Mark}
+use Rattle.rtgs_book.specs.declared.OrderState.{OrderState}
+use Rattle.rtgs_book.specs.declared.OrderState.TheVariants.{Queued, Settled, Withdrawn, Rejected}
+
+abbrev pub phase_number : Phase → ℕ
+phase_number Closed = 0
+phase_number Open = 1
+phase_number CutOff = 2
+
+abbrev pub state_number : OrderState → ℕ
+state_number Queued = 0
+state_number (Settled mark) = 1
+state_number Withdrawn = 2
+state_number Rejected = 3
+
+-- a settled order has its mark, and no other order has one
+abbrev pub mark_value : OrderState → Value
+mark_value Queued = Null
+mark_value (Settled mark) = Int (pos mark)
+mark_value Withdrawn = Null
+mark_value Rejected = Null
+
+-- a column has room for the mark
+abbrev pub FitsColumn : OrderState → Type 0
+FitsColumn Queued = ⊤
+FitsColumn (Settled mark) = mark < 2 ^ 63
+FitsColumn Withdrawn = ⊤
+FitsColumn Rejected = ⊤
+
+-- no date is null
+abbrev pub date_value : Option ℕ → Value
+date_value = or_null (λ date. Text (date_text date))
+
+-- id 1, version 1, date, phase
+abbrev pub day_row : Day → Row
+day_row day = Int (pos 1) ∷ Null ∷ Int (pos 1) ∷ date_value day.date ∷ Int (pos (phase_number day.phase)) ∷ []
+
+-- code, name, key, credit, balance; the row numbers tell in which order the participants came
+abbrev pub participant_row : ℤ → Participant → ℤ → Row
+participant_row id p balance = Int id ∷ Text p.code ∷ Text p.name ∷ Blob p.key ∷ Int (pos p.credit) ∷ Int balance ∷ []
+
+-- number, code, reference, cents, date
+abbrev pub posting_row : Posting → Row
+posting_row p = Int (pos p.number) ∷ Null ∷ Text p.code ∷ Text p.reference ∷ Int p.cents ∷ date_value p.date ∷ []
+
+-- number, sender, reference, receiver, amount, date, state, mark
+abbrev pub payment_row : Order → Row
+payment_row o = Int (pos o.number) ∷ Null ∷ Text o.sender ∷ Text o.reference ∷ Text o.receiver ∷ Int (pos o.amount) ∷ Text (date_text o.date) ∷ Int (pos (state_number o.state)) ∷ mark_value o.state ∷ []
+
+-- number, date, many, value
+abbrev pub mark_row : Mark → Row
+mark_row m = Int (pos m.number) ∷ Null ∷ Text (date_text m.date) ∷ Int (pos m.count) ∷ Int m.value ∷ []
+
+-- ---- as the queries show them
+
+abbrev pub shown_day : Day → Row
+shown_day day = Int (pos 1) ∷ Int (pos 1) ∷ date_value day.date ∷ Int (pos (phase_number day.phase)) ∷ []
+
+abbrev pub shown_account : Participant → ℤ → Row
+shown_account p balance = Text p.code ∷ Text p.name ∷ Blob p.key ∷ Int (pos p.credit) ∷ Int balance ∷ []
+
+abbrev pub shown_posting : Posting → Row
+shown_posting p = Int (pos p.number) ∷ Text p.code ∷ Text p.reference ∷ Int p.cents ∷ date_value p.date ∷ []
+
+abbrev pub shown_order : Order → Row
+shown_order o = Int (pos o.number) ∷ Text o.sender ∷ Text o.reference ∷ Text o.receiver ∷ Int (pos o.amount) ∷ Text (date_text o.date) ∷ Int (pos (state_number o.state)) ∷ mark_value o.state ∷ []
+
+abbrev pub shown_mark : Mark → Row
+shown_mark m = Int (pos m.number) ∷ Text (date_text m.date) ∷ Int (pos m.count) ∷ Int m.value ∷ []

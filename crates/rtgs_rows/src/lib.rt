@@ -1,0 +1,4 @@
+//! The rows of a book: what the five tables of the desk hold, and how a change of the book changes them.
+#![tactic(auto)]
+
+pub mod laws;

@@ -1,0 +1,55 @@
+-- The book of a new desk.
+use Rattle.std.proofs.Common.{◌≡◌, ◌⊎◌, inl, inr, [], Bool, true, false, refl, sym, ◌∙◌, arith}
+use Rattle.std.proofs.lemmas.Int.{ints}
+use Rattle.std.proofs.lemmas.List.Sorted.{IsPermutation-refl}
+use Rattle.std.specs.List.{IsDistinct}
+use Rattle.std.specs.List.Sorted.{IsStrictlySortedBy}
+use Rattle.sqlite_trees.specs.declared.store.Store.{Ghosts}
+use Rattle.sqlite.specs.Held.{Held, state}
+use Rattle.sqlite.specs.State.{HasCleanDisk, Survives}
+use Rattle.rtgs_book.specs.declared.Book.{Book}
+use Rattle.rtgs_book.specs.Lookup.{accounts}
+use Rattle.rtgs_book.specs.Balance.{total}
+use Rattle.rtgs_book.specs.Soundness.{IsSound}
+use Rattle.rtgs_rows.specs.Content.{Holds, Rests}
+use Rattle.rtgs_rows.specs.Keeping.{IsBookOf, HoldsBook, MayLeave}
+use Rattle.rtgs_rows.proofs.Unique.{once}
+use Rattle.rtgs_tables.specs.Building.{IsBlank, first_content, new_book}
+
+sound : IsSound new_book
+unfolding accounts total IsDistinct IsStrictlySortedBy
+sound = record {
+  orders_numbered = (refl, omega arith);
+  postings_numbered = (refl, omega arith);
+  marks_numbered = (refl, omega arith);
+  codes_rise = (tt, omega arith);
+  keys_distinct = tt;
+  order_references = tt;
+  posting_references = tt;
+  parties = (tt, tt);
+  marks = (tt, tt);
+  queues = record { closed = λ _. refl; short = tt; of_the_day = tt };
+  dates = record { dated = λ e. absurd (let clash : ◌≡◌ {A = Bool} true false = e in cc); weekday = λ e. absurd (let clash : ◌≡◌ {A = Bool} false true = e in cc); order_weekdays = tt; mark_weekdays = tt; orders = tt; marks = tt; postings = tt };
+  floors = tt;
+  total_fits = omega (arith, ints);
+}
+
+is_new : IsBookOf new_book first_content
+is_new = record {
+  records = record { day = refl; participants = IsPermutation-refl []; postings = refl; orders = refl; marks = refl };
+  balances = tt;
+  ids = tt;
+  sound = sound;
+  fits = record { participants = tt; postings = tt; orders = tt; marks = tt; day = tt };
+}
+
+pub holds_new : {S : Type 0} (g : Ghosts S) (h : Held S) → Rests first_content (state g h) → HoldsBook g h new_book
+holds_new g h rests = (first_content, rests, is_new)
+
+-- a stop leaves what it could leave before, or the tables of the new book
+pub leaves_new : {S : Type 0} (g : Ghosts S) (old new : Held S) → Survives (state g old) (state g new) (λ trees. IsBlank (state g old) → Holds first_content trees) → HasCleanDisk (state g new) → IsBlank (state g old)
+    → (other : Book) → MayLeave g new other → MayLeave g old other ⊎ (other ≡ new_book)
+leaves_new g old new s clean blank other left = elim (s.crash clean left.0 left.1) [
+  | inl was ↦ inl (left.0, was, left.2)
+  | inr made ↦ inr (once new_book other first_content left.2.0 is_new left.2.2 (sym (made blank).rows ∙ left.2.1.rows))
+]

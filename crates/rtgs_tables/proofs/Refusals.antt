@@ -1,0 +1,80 @@
+-- Why a query that is understood fails.
+use Rattle.std.proofs.Common.{◌≡◌, ◌⊎◌, inl, inr, ℕ, List, length, Option, Ok, Err, Result, sym, ap, subst, ◌∙◌, arith}
+use Rattle.sqlite.specs.Order.{Row}
+use Rattle.sqlite.specs.Schema.{Schema}
+use Rattle.sqlite_trees.specs.declared.error.StoreError.{StoreError}
+use Rattle.sqlite_trees.specs.declared.error.StoreError.TheVariants.{OutOfMemory, Io, Corrupt, Full, Broken, Unstorable}
+use Rattle.sqlite_schema.specs.declared.program.Program.{Program}
+use Rattle.sqlite_schema.specs.declared.command.Command.{Command}
+use Rattle.sqlite.specs.Command.TheVariants.{Select}
+use Rattle.sqlite_resolve.specs.declared.compiled.Compiled.{Compiled}
+use Rattle.sqlite_resolve.specs.declared.error.CompileError.{CompileError}
+use Rattle.sqlite.specs.declared.error.Error.{Error}
+use Rattle.sqlite.specs.Listing.{understood}
+use Rattle.sqlite.specs.Effect.{Database, RefusesToRead}
+use Rattle.sqlite.specs.State.{State, Fails, IsUnchanged, IsRolledBack, IsNotRun, IsNoStatement, FailsToQuery, FailsToShow, store_error}
+use Rattle.sqlite.proofs.Callers.{IsPlain, command_of}
+use Rattle.rtgs_tables.specs.Faults.{IsOfStore}
+
+abbrev pub tail_of : Result Compiled CompileError → ℕ
+tail_of (Ok c) = c.tail
+tail_of (Err e) = 0
+
+abbrev pub count_of : Result Compiled CompileError → ℕ
+count_of (Ok c) = length c.names
+count_of (Err e) = 0
+
+-- the text is one query, with so many parameters
+pub record Asks (schema : Schema) (sql : List ℕ) (count : ℕ) (q : Program) (names : List (List ℕ)) : Type 0 where
+  pub command : command_of (understood schema sql) ≡ Select q names
+  pub plain : IsPlain (understood schema sql)
+  pub whole : tail_of (understood schema sql) ≡ length sql
+  pub given : count_of (understood schema sql) ≡ count
+
+told : (cause : StoreError) → IsOfStore (store_error cause)
+told OutOfMemory = tt
+told Io = tt
+told Corrupt = tt
+told Full = tt
+told Broken = tt
+told Unstorable = tt
+
+module _ (sql : List ℕ) (params : Row) (old new : State) (q : Program) (names : List (List ℕ)) (asks : Asks old.now.schema sql (length params) q names) (e : Error) where
+  fails : (U : Type 0) → Fails old new U e → IsOfStore e
+  fails U h = subst IsOfStore (sym h.1) (told h.0)
+
+  no_statement : ¬ IsNoStatement old sql params e
+  no_statement (inl bad) = subst IsPlain bad.1 asks.plain
+  no_statement (inr h) =
+      let known = sym (ap tail_of h.1) ∙ asks.whole in
+      let many = sym (ap count_of h.1) ∙ asks.given in
+      elim h.2 [
+        | inl part ↦ part.0 (omega (arith, known))
+        | inr (inl wrong) ↦ wrong.0 (sym many)
+        | inr (inr timed) ↦ timed.0 (subst IsPlain h.1 asks.plain).1
+      ]
+
+  refuses : (limit : Option ℕ) (command : Command) (db : Database) (all : Row) → command ≡ Select q names → RefusesToRead limit command db all e → IsOfStore e
+  refuses limit command db all is h = elim (subst (λ k. RefusesToRead limit k db all e) is h) [
+    | inl bad ↦ subst IsOfStore (sym bad.0) tt
+    | inr (inl bad) ↦ subst IsOfStore (sym bad.0) tt
+    | inr (inr bad) ↦ subst IsOfStore (sym bad.0) tt
+  ]
+
+  pub of_store : FailsToQuery sql params old new e → IsOfStore e
+  unfolding FailsToQuery IsNotRun
+  of_store (inl (inl h)) = absurd (no_statement h.0)
+  of_store (inl (inr h)) = fails _ h
+  of_store (inr h) =
+      let none = (subst IsPlain h.1.is asks.plain).0 in
+      let it = subst (FailsToShow old new sql h.0 _ e) none h.2 in
+      refuses old.step_limit h.0.command it.0 _ (sym (ap command_of h.1.is) ∙ asks.command) it.2
+
+  pub intact : FailsToQuery sql params old new e → IsUnchanged old new ⊎ IsRolledBack old new
+  unfolding FailsToQuery IsNotRun
+  intact (inl (inl h)) = inl h.1
+  intact (inl (inr h)) = inr h.3
+  intact (inr h) =
+      let none = (subst IsPlain h.1.is asks.plain).0 in
+      let it = subst (FailsToShow old new sql h.0 _ e) none h.2 in
+      inl it.3

@@ -1,0 +1,18 @@
+use Rattle.std.proofs.Common.{◌≡◌, [], ◌∷◌, Some, None, Option, ◌∙◌}
+use Rattle.rtgs_book.specs.declared.Day.{Day as DaySpec}
+use Rattle.rtgs_tables.proofs.reading.one_day.Goals as goal
+
+pub returns-in-Err-clause-right : goal.returns-in-Err-clause-right
+returns-in-Err-clause-right g day fits same e = g.decode.ensures.right (day ∷ []) (fits, tt) same (let is = g.in-Err.is in cc)
+
+pub returns-in-Some-clause-given : goal.returns-in-Some-clause-given
+returns-in-Some-clause-given c day fits same =
+    let items = c.in-Ok.ensures.given (day ∷ []) (fits, tt) same in
+    let one : ◌≡◌ {A = Option DaySpec} (Some c.in-Some.day) (Some day) = c.in-Some.ensures day (c.as_slice.ensures.value ∙ items) in
+    cc
+
+pub returns-clause-right : goal.returns-clause-right
+returns-clause-right c day fits same e =
+    let items = c.in-Ok.ensures.given (day ∷ []) (fits, tt) same in
+    let one : ◌≡◌ {A = Option DaySpec} None (Some day) = c.in-None.ensures day (c.as_slice.ensures.value ∙ items) in
+    cc

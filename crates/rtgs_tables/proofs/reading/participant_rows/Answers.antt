@@ -1,0 +1,20 @@
+use Rattle.sqlite.proofs.StateLemmas.{survives_weaker}
+use Rattle.sqlite.specs.Held.{state}
+use Rattle.rtgs_tables.proofs.Showing.{refused, intact_after, kept_after, nothing_commits}
+use Rattle.rtgs_tables.proofs.Selecting.{participants_text, participants_project, participants_order, participants_names, participants_selects, participants_shown}
+use Rattle.rtgs_tables.proofs.reading.participant_rows.Goals as goal
+
+pub returns-clause-rows : goal.returns-clause-rows
+returns-clause-rows g c clean content book rests of = participants_shown (state g.S.Store c.args.conn.now) (state g.S.Store c.query_all.new.self) content book rests of c.query_all.result (c.query_all.ensures.ok clean)
+
+pub returns-clause-kept : goal.returns-clause-kept
+returns-clause-kept g c clean content rests = kept_after participants_text 1 participants_project participants_order participants_names participants_selects (state g.S.Store c.args.conn.now) (state g.S.Store c.query_all.new.self) content rests c.query_all.result (c.query_all.ensures.ok clean)
+
+pub returns-clause-refused : goal.returns-clause-refused
+returns-clause-refused g c clean content rests = refused participants_text 1 participants_project participants_order participants_names participants_selects (state g.S.Store c.args.conn.now) (state g.S.Store c.query_all.new.self) content rests c.query_all.result (c.query_all.ensures.err clean)
+
+pub returns-clause-intact : goal.returns-clause-intact
+returns-clause-intact g c clean content rests alive = intact_after participants_text 1 participants_project participants_order participants_names participants_selects (state g.S.Store c.args.conn.now) (state g.S.Store c.query_all.new.self) content rests c.query_all.result (c.query_all.ensures.ok clean) (c.query_all.ensures.err clean) alive
+
+pub returns-clause-survives : goal.returns-clause-survives
+returns-clause-survives g c = survives_weaker (state g.S.Store c.args.conn.now) (state g.S.Store c.query_all.new.self) _ _ (λ _ db commits content rests. nothing_commits participants_text 1 participants_project participants_order participants_names participants_selects (state g.S.Store c.args.conn.now) (state g.S.Store c.query_all.new.self) content rests db commits) c.query_all.ensures.survives

@@ -1,0 +1,4 @@
+pub mod Stops
+pub mod Faults
+pub mod Building
+pub mod Accounts

@@ -1,0 +1,139 @@
+//! Values as the columns hold them.
+ghost use Rattle.std.specs.Prelude.{◌≡◌, ◌<◌, ◌^◌, pos, option_map, OnOk};
+ghost use Rattle.sqlite.specs.Values.{or_null};
+ghost use Rattle.sqlite.specs.declared.types.Value.TheVariants.{Int, Text as TextValue, Blob};
+ghost use Rattle.sqlite_value.specs.Value.{owned};
+ghost use Rattle.rtgs_money.specs.Date.{date_text};
+ghost use Rattle.rtgs_rows.specs.Rows.{phase_number, state_number, mark_value as value_of_mark, FitsColumn};
+
+use rtgs_book::{OrderState, Phase};
+use rtgs_money::{Amount, BusinessDate, Cents, Credit, PostingAmount, Text};
+use sqlite::types::ValueRef;
+use sqlite::{Error, ErrorCode};
+
+/// The greatest number that a column can hold.
+const GREATEST: u64 = 0x7fff_ffff_ffff_ffff;
+
+/// Refuses a number that no column can hold, as too big for the store.
+pub(crate) fn check_number(n: u64) -> Result<(), Error>
+    ensures { OnOk result (n < 2 ^ 63) }
+{
+    if n > GREATEST {
+        return Err(Error::SqliteFailure(ErrorCode::TooBig));
+    }
+    Ok(())
+}
+
+/// Refuses a mark that no column can hold.
+pub(crate) fn check_mark(state: OrderState) -> Result<(), Error>
+    ensures { OnOk result (FitsColumn state) }
+{
+    match state {
+        OrderState::Settled(mark) => check_number(mark),
+        _ => Ok(()),
+    }
+}
+
+/// A number.
+pub(crate) fn number_value(n: u64) -> ValueRef<'static>
+    requires { n < 2 ^ 63 }
+    ensures { owned result ≡ Int (pos n) }
+{
+    ValueRef::Int(n as i64)
+}
+
+/// The mark of a settled order, and null for any other.
+pub(crate) fn mark_value(state: OrderState) -> ValueRef<'static>
+    requires { FitsColumn state }
+    ensures { owned result ≡ value_of_mark state }
+{
+    match state {
+        OrderState::Settled(mark) => number_value(mark),
+        _ => ValueRef::Null,
+    }
+}
+
+/// 0 queued, 1 settled, 2 withdrawn, 3 rejected.
+pub(crate) fn state_value(state: OrderState) -> ValueRef<'static>
+    ensures { owned result ≡ Int (pos (state_number state)) }
+{
+    number_value(match state {
+        OrderState::Queued => 0,
+        OrderState::Settled(_) => 1,
+        OrderState::Withdrawn => 2,
+        OrderState::Rejected => 3,
+    })
+}
+
+/// 0 closed, 1 open, 2 cut off.
+pub(crate) fn phase_value(phase: Phase) -> ValueRef<'static>
+    ensures { owned result ≡ Int (pos (phase_number phase)) }
+{
+    number_value(match phase {
+        Phase::Closed => 0,
+        Phase::Open => 1,
+        Phase::CutOff => 2,
+    })
+}
+
+/// An amount in cents.
+pub(crate) fn amount_value(amount: Amount) -> ValueRef<'static>
+    ensures { owned result ≡ Int (pos amount) }
+{
+    number_value(amount.cents())
+}
+
+/// A credit limit in cents.
+pub(crate) fn credit_value(credit: Credit) -> ValueRef<'static>
+    ensures { owned result ≡ Int (pos credit) }
+{
+    number_value(credit.cents())
+}
+
+/// What a posting adds, in cents.
+pub(crate) fn posting_value(amount: PostingAmount) -> ValueRef<'static>
+    ensures { owned result ≡ Int amount }
+{
+    ValueRef::Int(amount.cents())
+}
+
+/// A balance or a value, in cents.
+pub(crate) fn cents_value(cents: Cents) -> ValueRef<'static>
+    ensures { owned result ≡ Int cents }
+{
+    ValueRef::Int(cents.cents())
+}
+
+/// The bytes of a text.
+pub(crate) fn text(bytes: &[u8]) -> ValueRef<'_>
+    ensures { owned result ≡ TextValue bytes.now }
+{
+    ValueRef::Text(bytes)
+}
+
+/// The bytes of a blob.
+pub(crate) fn blob(bytes: &[u8]) -> ValueRef<'_>
+    ensures { owned result ≡ Blob bytes.now }
+{
+    ValueRef::Blob(bytes)
+}
+
+/// The text of a date, if there is one.
+pub(crate) fn text_of(date: Option<BusinessDate>) -> Option<Text<10>>
+    ensures { result ≡ option_map date_text date }
+{
+    match date {
+        Some(date) => Some(date.text()),
+        None => None,
+    }
+}
+
+/// A text, or null.
+pub(crate) fn text_or_null(text: &Option<Text<10>>) -> ValueRef<'_>
+    ensures { owned result ≡ or_null TextValue text.now }
+{
+    match text {
+        Some(text) => ValueRef::Text(text.as_bytes()),
+        None => ValueRef::Null,
+    }
+}

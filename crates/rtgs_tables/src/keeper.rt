@@ -1,0 +1,62 @@
+//! What keeps a book.
+ghost use Rattle.std.specs.Prelude.{◌≡◌, ◌≢◌, ◌⊎◌, Bool, true, false, Err, IfOk, OnOk};
+ghost use Rattle.rtgs_book.specs.Soundness.{IsSound};
+ghost use Rattle.rtgs_book.specs.declared.Book.{Book};
+ghost use Rattle.rtgs_rows.specs.Keeping.{IsChange};
+
+use rtgs_book::{Book, Change, Fault};
+use std::alloc::Global;
+
+/// Why a change was not kept.
+#[derive(Clone, Copy, Debug, PartialEq, Eq)]
+pub enum StoreFault {
+    /// A growth was refused; nothing has changed.
+    OutOfMemory,
+    /// The store answered a fault, and the keeper has failed: the change is kept whole or not at all.
+    StoreFault,
+    /// The keeper had failed before; nothing was done.
+    Failed,
+}
+
+/// A store of one book. Between calls nothing moves.
+pub trait Keeper {
+    // The book that is kept, if it is a sound one.
+    ghost content: { Self → Book → Type 0 };
+
+    // The books that a stop at this moment may leave.
+    ghost leaves: { Self → Book → Type 0 };
+
+    // A call has met a fault of the store.
+    ghost has_failed: { Self → Bool };
+
+    // The store returned what was written to it, and nobody else wrote.
+    ghost is_honest: { Self → Type 0 };
+
+    /// Gives the book that is kept. On a keeper that has failed it is `StoreFault`, and nothing is done.
+    fn load(&mut self, alloc: Global) -> Result<Book, Fault>
+        ensures honest { is_honest self.new → is_honest self.old }
+        ensures given { is_honest self.new → (book : Book) → content self.old book → IfOk result (λ loaded. loaded ≡ book) }
+        ensures sound { IfOk result IsSound }
+        ensures same { is_honest self.new → (book : Book) → content self.old book → result ≢ Err Fault.StoreFault → content self.new book }
+        ensures stops { is_honest self.new → (book other : Book) → content self.old book → leaves self.new other → leaves self.old other }
+        ensures fault { result ≡ Err Fault.StoreFault → has_failed self.new ≡ true }
+        ensures only_fault { result ≢ Err Fault.StoreFault → has_failed self.new ≡ has_failed self.old }
+        ensures failed { has_failed self.old ≡ true → (result ≡ Err Fault.StoreFault) × (self.new ≡ self.old) };
+
+    /// Keeps the book after the change, whole or not at all.
+    fn commit(&mut self, change: &Change) -> Result<(), StoreFault>
+        ensures honest { is_honest self.new → is_honest self.old }
+        ensures done { is_honest self.new → (old new : Book) → content self.old old → IsChange old change.now new → OnOk result (content self.new new) }
+        ensures stops { is_honest self.new → (old new other : Book) → content self.old old → IsChange old change.now new → leaves self.new other → leaves self.old other ⊎ (other ≡ new) }
+        ensures memory { result ≡ Err StoreFault.OutOfMemory → is_honest self.new → (book : Book) → content self.old book → content self.new book }
+        ensures memory_stops { result ≡ Err StoreFault.OutOfMemory → is_honest self.new → (other : Book) → leaves self.new other → leaves self.old other }
+        ensures fault { result ≡ Err StoreFault.StoreFault → has_failed self.new ≡ true }
+        ensures only_fault { result ≢ Err StoreFault.StoreFault → has_failed self.new ≡ has_failed self.old }
+        ensures failed { has_failed self.old ≡ true → (result ≡ Err StoreFault.Failed) × (self.new ≡ self.old) }
+        ensures not_failed { result ≡ Err StoreFault.Failed → has_failed self.old ≡ true };
+
+    // A stop now leaves the content, and no other book.
+    ghost settled: { (k : Self) (book other : Book) → content k book → leaves k other → other ≡ book };
+
+    ghost stays: { (k : Self) (book : Book) → content k book → leaves k book };
+}

@@ -1,0 +1,93 @@
+//! The book that the tables hold.
+ghost use Rattle.std.specs.Prelude.{◌≡◌, ◌≢◌, false, map, Err, IfOk};
+ghost use Rattle.rtgs_book.specs.declared.Book.{Book};
+ghost use Rattle.rtgs_rows.specs.Keeping.{IsBookOf};
+ghost use Rattle.rtgs_tables.specs.declared.account.Account.{Account as AccountSpec};
+ghost use Rattle.rtgs_book.specs.Soundness.{IsSound};
+ghost use Rattle.rtgs_rows.specs.Content.{Content, Rests};
+ghost use Rattle.sqlite.specs.State.{HasCleanDisk, Survives};
+ghost use Rattle.sqlite.specs.Held.{state};
+
+use crate::account::Account;
+use crate::balances::balances_agree;
+use crate::reading::{read_accounts, read_day, read_marks, read_orders, read_postings};
+use rtgs_book::{Book, Fault, Participant, Rows, Rule};
+use sqlite::{Alter, Connection};
+use std::alloc::{AllocError, Global};
+
+/// A book as it stands in the tables, with the stored balances.
+#[derive(Drop)]
+struct Stored {
+    accounts: Vec<Account>,
+    book: Book,
+}
+
+/// Reads the five tables.
+fn read_tables<S: Alter>(alloc: Global, conn: &mut Connection<S>) -> Result<Stored, Fault>
+    ensures given { HasCleanDisk (state S.Store conn.new) → (content : Content) (book : Book) → Rests content (state S.Store conn.old) → IsBookOf book content → IfOk result (λ stored. stored.book ≡ book) }
+    ensures same { HasCleanDisk (state S.Store conn.new) → (content : Content) → Rests content (state S.Store conn.old) → result ≢ Err Fault.StoreFault → Rests content (state S.Store conn.new) }
+    ensures survives { Survives (state S.Store conn.old) (state S.Store conn.new) (λ _. (content : Content) → Rests content (state S.Store conn.old) → ⊥) }
+    ensures mode { conn.old.in_transaction ≡ false → conn.new.in_transaction ≡ false }
+    ensures honest { HasCleanDisk (state S.Store conn.new) → HasCleanDisk (state S.Store conn.old) }
+{
+    let day = read_day(alloc, conn)?;
+    let accounts = read_accounts(alloc, conn)?;
+    let postings = read_postings(alloc, conn)?;
+    let orders = read_orders(alloc, conn)?;
+    let marks = read_marks(alloc, conn)?;
+    let participants = participants_of(alloc, accounts.as_slice())?;
+    let book = Book {
+        participants: Rows::from_vec(participants),
+        postings: Rows::from_vec(postings),
+        orders: Rows::from_vec(orders),
+        marks: Rows::from_vec(marks),
+        day,
+    };
+    Ok(Stored { accounts, book })
+}
+
+/// The participants of the accounts.
+fn participants_of(alloc: Global, accounts: &[Account]) -> Result<Vec<Participant>, AllocError>
+    ensures { IfOk result (λ v. v.items ≡ map (λ (a : AccountSpec). a.participant) accounts.now) }
+{
+    accounts
+        .iter()
+        .map(|account| account.participant)
+        .collect(alloc)
+}
+
+/// The book of the tables, once it is seen to be sound, and the stored balances to be its balances.
+fn judged(alloc: Global, stored: Stored) -> Result<Book, Fault>
+    ensures given { IfOk result (λ book. book ≡ stored.book) }
+    ensures sound { IfOk result IsSound }
+    ensures fault { result ≢ Err Fault.StoreFault }
+{
+    let Stored { accounts, book } = stored;
+    book.check(alloc)?;
+    let agree = balances_agree(
+        alloc,
+        accounts.as_slice(),
+        book.postings.as_slice(),
+        book.orders.as_slice(),
+    )?;
+    if agree {
+        Ok(book)
+    } else {
+        Err(Fault::Inconsistent {
+            rule: Rule::StoredBalances,
+        })
+    }
+}
+
+/// Loads the book, and judges it.
+pub(crate) fn load_book<S: Alter>(alloc: Global, conn: &mut Connection<S>) -> Result<Book, Fault>
+    ensures given { HasCleanDisk (state S.Store conn.new) → (content : Content) (book : Book) → Rests content (state S.Store conn.old) → IsBookOf book content → IfOk result (λ loaded. loaded ≡ book) }
+    ensures same { HasCleanDisk (state S.Store conn.new) → (content : Content) → Rests content (state S.Store conn.old) → result ≢ Err Fault.StoreFault → Rests content (state S.Store conn.new) }
+    ensures survives { Survives (state S.Store conn.old) (state S.Store conn.new) (λ _. (content : Content) → Rests content (state S.Store conn.old) → ⊥) }
+    ensures sound { IfOk result IsSound }
+    ensures mode { conn.old.in_transaction ≡ false → conn.new.in_transaction ≡ false }
+    ensures honest { HasCleanDisk (state S.Store conn.new) → HasCleanDisk (state S.Store conn.old) }
+{
+    let stored = read_tables(alloc, conn)?;
+    judged(alloc, stored)
+}

@@ -1,0 +1,243 @@
+//! The queries of the five tables.
+ghost use Rattle.std.specs.Prelude.{◌≡◌, ◌≢◌, ◌⊎◌, false, Err, List, [], ◌∷◌, map, IsTrue, IfOk, IfErr, OnOk};
+ghost use Rattle.rtgs_book.specs.declared.Book.{Book};
+ghost use Rattle.rtgs_book.specs.declared.Rule.{Rule};
+ghost use Rattle.rtgs_book.specs.declared.Day.{Day as DaySpec};
+ghost use Rattle.rtgs_rows.specs.Fitting.{FitsDate};
+ghost use Rattle.rtgs_tables.specs.Accounts.{accounts_of};
+ghost use Rattle.rtgs_book.specs.declared.Participant.{Participant};
+ghost use Rattle.rtgs_book.specs.Balance.{balance};
+ghost use Rattle.rtgs_rows.specs.Rows.{shown_day, shown_account, shown_posting, shown_order, shown_mark};
+ghost use Rattle.rtgs_rows.specs.Content.{Content, Rests};
+ghost use Rattle.rtgs_rows.specs.Keeping.{IsBookOf};
+ghost use Rattle.rtgs_tables.specs.Faults.{IsOfStore};
+ghost use Rattle.sqlite.specs.State.{HasCleanDisk, IsUnchanged, Survives};
+ghost use Rattle.sqlite.specs.Held.{state};
+
+use crate::account::Account;
+use crate::table_row::decode;
+use rtgs_book::{Day, Fault, Mark, Order, Posting};
+use sqlite::{Alter, Connection, Error, ErrorCode, Row};
+use std::alloc::Global;
+
+/// The rows of the table `desk`.
+fn desk_rows<S: Alter>(conn: &mut Connection<S>) -> Result<Vec<Row>, Error>
+    ensures rows { HasCleanDisk (state S.Store conn.new) → (content : Content) (book : Book) → Rests content (state S.Store conn.old) → IsBookOf book content → IfOk result (λ rows. rows.items ≡ shown_day book.day ∷ []) }
+    ensures kept { HasCleanDisk (state S.Store conn.new) → (content : Content) → Rests content (state S.Store conn.old) → OnOk result (Rests content (state S.Store conn.new)) }
+    ensures refused { HasCleanDisk (state S.Store conn.new) → (content : Content) → Rests content (state S.Store conn.old) → IfErr result IsOfStore }
+    ensures intact { HasCleanDisk (state S.Store conn.new) → (content : Content) → Rests content (state S.Store conn.old) → IsTrue (state S.Store conn.new).is_open → Rests content (state S.Store conn.new) }
+    ensures survives { Survives (state S.Store conn.old) (state S.Store conn.new) (λ _. (content : Content) → Rests content (state S.Store conn.old) → ⊥) }
+    ensures mode { conn.old.in_transaction ≡ false → conn.new.in_transaction ≡ false }
+    ensures honest { HasCleanDisk (state S.Store conn.new) → HasCleanDisk (state S.Store conn.old) }
+{
+    conn.query_all("SELECT id, version, date, phase FROM desk ORDER BY id", &[])
+}
+
+/// The participants' rows in the order of their codes.
+fn participant_rows<S: Alter>(conn: &mut Connection<S>) -> Result<Vec<Row>, Error>
+    ensures rows { HasCleanDisk (state S.Store conn.new) → (content : Content) (book : Book) → Rests content (state S.Store conn.old) → IsBookOf book content → IfOk result (λ rows. rows.items ≡ map (λ (p : Participant). shown_account p (balance book p.code)) book.participants) }
+    ensures kept { HasCleanDisk (state S.Store conn.new) → (content : Content) → Rests content (state S.Store conn.old) → OnOk result (Rests content (state S.Store conn.new)) }
+    ensures refused { HasCleanDisk (state S.Store conn.new) → (content : Content) → Rests content (state S.Store conn.old) → IfErr result IsOfStore }
+    ensures intact { HasCleanDisk (state S.Store conn.new) → (content : Content) → Rests content (state S.Store conn.old) → IsTrue (state S.Store conn.new).is_open → Rests content (state S.Store conn.new) }
+    ensures survives { Survives (state S.Store conn.old) (state S.Store conn.new) (λ _. (content : Content) → Rests content (state S.Store conn.old) → ⊥) }
+    ensures mode { conn.old.in_transaction ≡ false → conn.new.in_transaction ≡ false }
+    ensures honest { HasCleanDisk (state S.Store conn.new) → HasCleanDisk (state S.Store conn.old) }
+{
+    conn.query_all(
+        "SELECT code, name, key, credit, balance FROM participant ORDER BY code",
+        &[],
+    )
+}
+
+/// The postings' rows in rising number.
+fn posting_rows<S: Alter>(conn: &mut Connection<S>) -> Result<Vec<Row>, Error>
+    ensures rows { HasCleanDisk (state S.Store conn.new) → (content : Content) (book : Book) → Rests content (state S.Store conn.old) → IsBookOf book content → IfOk result (λ rows. rows.items ≡ map shown_posting book.postings) }
+    ensures kept { HasCleanDisk (state S.Store conn.new) → (content : Content) → Rests content (state S.Store conn.old) → OnOk result (Rests content (state S.Store conn.new)) }
+    ensures refused { HasCleanDisk (state S.Store conn.new) → (content : Content) → Rests content (state S.Store conn.old) → IfErr result IsOfStore }
+    ensures intact { HasCleanDisk (state S.Store conn.new) → (content : Content) → Rests content (state S.Store conn.old) → IsTrue (state S.Store conn.new).is_open → Rests content (state S.Store conn.new) }
+    ensures survives { Survives (state S.Store conn.old) (state S.Store conn.new) (λ _. (content : Content) → Rests content (state S.Store conn.old) → ⊥) }
+    ensures mode { conn.old.in_transaction ≡ false → conn.new.in_transaction ≡ false }
+    ensures honest { HasCleanDisk (state S.Store conn.new) → HasCleanDisk (state S.Store conn.old) }
+{
+    conn.query_all(
+        "SELECT number, code, reference, cents, date FROM posting ORDER BY number",
+        &[],
+    )
+}
+
+/// The orders' rows in rising number.
+fn payment_rows<S: Alter>(conn: &mut Connection<S>) -> Result<Vec<Row>, Error>
+    ensures rows { HasCleanDisk (state S.Store conn.new) → (content : Content) (book : Book) → Rests content (state S.Store conn.old) → IsBookOf book content → IfOk result (λ rows. rows.items ≡ map shown_order book.orders) }
+    ensures kept { HasCleanDisk (state S.Store conn.new) → (content : Content) → Rests content (state S.Store conn.old) → OnOk result (Rests content (state S.Store conn.new)) }
+    ensures refused { HasCleanDisk (state S.Store conn.new) → (content : Content) → Rests content (state S.Store conn.old) → IfErr result IsOfStore }
+    ensures intact { HasCleanDisk (state S.Store conn.new) → (content : Content) → Rests content (state S.Store conn.old) → IsTrue (state S.Store conn.new).is_open → Rests content (state S.Store conn.new) }
+    ensures survives { Survives (state S.Store conn.old) (state S.Store conn.new) (λ _. (content : Content) → Rests content (state S.Store conn.old) → ⊥) }
+    ensures mode { conn.old.in_transaction ≡ false → conn.new.in_transaction ≡ false }
+    ensures honest { HasCleanDisk (state S.Store conn.new) → HasCleanDisk (state S.Store conn.old) }
+{
+    conn.query_all(
+        "SELECT number, sender, reference, receiver, amount, date, state, mark FROM payment ORDER BY number",
+        &[],
+    )
+}
+
+/// The marks' rows in rising number.
+fn mark_rows<S: Alter>(conn: &mut Connection<S>) -> Result<Vec<Row>, Error>
+    ensures rows { HasCleanDisk (state S.Store conn.new) → (content : Content) (book : Book) → Rests content (state S.Store conn.old) → IsBookOf book content → IfOk result (λ rows. rows.items ≡ map shown_mark book.marks) }
+    ensures kept { HasCleanDisk (state S.Store conn.new) → (content : Content) → Rests content (state S.Store conn.old) → OnOk result (Rests content (state S.Store conn.new)) }
+    ensures refused { HasCleanDisk (state S.Store conn.new) → (content : Content) → Rests content (state S.Store conn.old) → IfErr result IsOfStore }
+    ensures intact { HasCleanDisk (state S.Store conn.new) → (content : Content) → Rests content (state S.Store conn.old) → IsTrue (state S.Store conn.new).is_open → Rests content (state S.Store conn.new) }
+    ensures survives { Survives (state S.Store conn.old) (state S.Store conn.new) (λ _. (content : Content) → Rests content (state S.Store conn.old) → ⊥) }
+    ensures mode { conn.old.in_transaction ≡ false → conn.new.in_transaction ≡ false }
+    ensures honest { HasCleanDisk (state S.Store conn.new) → HasCleanDisk (state S.Store conn.old) }
+{
+    conn.query_all(
+        "SELECT number, date, many, value FROM mark ORDER BY number",
+        &[],
+    )
+}
+
+/// Whether the connection has stayed open.
+pub(crate) fn is_alive<S: Alter>(conn: &mut Connection<S>) -> bool
+    ensures mode { conn.old.in_transaction ≡ false → conn.new.in_transaction ≡ false }
+    ensures honest { HasCleanDisk (state S.Store conn.new) → HasCleanDisk (state S.Store conn.old) }
+    ensures alive { HasCleanDisk (state S.Store conn.new) → IsTrue result → IsUnchanged (state S.Store conn.old) (state S.Store conn.new) }
+    ensures survives { Survives (state S.Store conn.old) (state S.Store conn.new) (λ _. ⊥) }
+{
+    conn.prepare("SELECT 1").is_ok()
+}
+
+/// What the failure of a query says of the file: want of memory, where the connection is seen to be open still; else a
+/// fault of the store, where the store or its engine failed; else that the tables are not those of a desk.
+fn fault_of<S: Alter>(conn: &mut Connection<S>, error: &Error) -> Fault
+    ensures mode { conn.old.in_transaction ≡ false → conn.new.in_transaction ≡ false }
+    ensures honest { HasCleanDisk (state S.Store conn.new) → HasCleanDisk (state S.Store conn.old) }
+    ensures kinds { (rule : Rule) → result ≢ Fault.Inconsistent rule }
+    ensures right { IsOfStore error.now → (result ≡ Fault.OutOfMemory) ⊎ (result ≡ Fault.StoreFault) }
+    ensures same { result ≡ Fault.OutOfMemory → HasCleanDisk (state S.Store conn.new) → IsUnchanged (state S.Store conn.old) (state S.Store conn.new) }
+    ensures survives { Survives (state S.Store conn.old) (state S.Store conn.new) (λ _. ⊥) }
+{
+    match error {
+        Error::SqliteFailure(ErrorCode::OutOfMemory) if is_alive(conn) => Fault::OutOfMemory,
+        Error::SqliteFailure(_) => Fault::StoreFault,
+        _ => Fault::NotADeskFile,
+    }
+}
+
+/// The only one of the days.
+fn only(days: &[Day]) -> Option<Day>
+    ensures { (day : DaySpec) → days.now ≡ day ∷ [] → result ≡ Some day }
+{
+    match days {
+        [day] => Some(*day),
+        _ => None,
+    }
+}
+
+/// The business day of the only row.
+fn one_day(alloc: Global, rows: &[Row]) -> Result<Day, Fault>
+    ensures given { (day : DaySpec) → FitsDate day.date → rows.now ≡ shown_day day ∷ [] → IfOk result (λ it. it ≡ day) }
+    ensures right { (day : DaySpec) → FitsDate day.date → rows.now ≡ shown_day day ∷ [] → result ≢ Err Fault.NotADeskFile }
+    ensures kinds { (result ≢ Err Fault.StoreFault) × ((rule : Rule) → result ≢ Err (Fault.Inconsistent rule)) }
+{
+    let days = match decode::<Day>(alloc, rows) {
+        Ok(days) => days,
+        Err(fault) => return Err(fault),
+    };
+    match only(days.as_slice()) {
+        Some(day) => Ok(day),
+        None => Err(Fault::NotADeskFile),
+    }
+}
+
+/// The business day, of the one row of the table `desk`.
+pub(crate) fn read_day<S: Alter>(alloc: Global, conn: &mut Connection<S>) -> Result<Day, Fault>
+    ensures given { HasCleanDisk (state S.Store conn.new) → (content : Content) (book : Book) → Rests content (state S.Store conn.old) → IsBookOf book content → IfOk result (λ day. day ≡ book.day) }
+    ensures right { HasCleanDisk (state S.Store conn.new) → (content : Content) (book : Book) → Rests content (state S.Store conn.old) → IsBookOf book content → result ≢ Err Fault.NotADeskFile }
+    ensures kinds { (rule : Rule) → result ≢ Err (Fault.Inconsistent rule) }
+    ensures same { HasCleanDisk (state S.Store conn.new) → (content : Content) → Rests content (state S.Store conn.old) → result ≢ Err Fault.StoreFault → Rests content (state S.Store conn.new) }
+    ensures survives { Survives (state S.Store conn.old) (state S.Store conn.new) (λ _. (content : Content) → Rests content (state S.Store conn.old) → ⊥) }
+    ensures mode { conn.old.in_transaction ≡ false → conn.new.in_transaction ≡ false }
+    ensures honest { HasCleanDisk (state S.Store conn.new) → HasCleanDisk (state S.Store conn.old) }
+{
+    match desk_rows(conn) {
+        Ok(rows) => one_day(alloc, rows.as_slice()),
+        Err(error) => Err(fault_of(conn, &error)),
+    }
+}
+
+/// The participants with their stored balances, in the order of their codes.
+pub(crate) fn read_accounts<S: Alter>(
+    alloc: Global,
+    conn: &mut Connection<S>,
+) -> Result<Vec<Account>, Fault>
+    ensures given { HasCleanDisk (state S.Store conn.new) → (content : Content) (book : Book) → Rests content (state S.Store conn.old) → IsBookOf book content → IfOk result (λ v. v.items ≡ accounts_of book) }
+    ensures right { HasCleanDisk (state S.Store conn.new) → (content : Content) (book : Book) → Rests content (state S.Store conn.old) → IsBookOf book content → result ≢ Err Fault.NotADeskFile }
+    ensures kinds { (rule : Rule) → result ≢ Err (Fault.Inconsistent rule) }
+    ensures same { HasCleanDisk (state S.Store conn.new) → (content : Content) → Rests content (state S.Store conn.old) → result ≢ Err Fault.StoreFault → Rests content (state S.Store conn.new) }
+    ensures survives { Survives (state S.Store conn.old) (state S.Store conn.new) (λ _. (content : Content) → Rests content (state S.Store conn.old) → ⊥) }
+    ensures mode { conn.old.in_transaction ≡ false → conn.new.in_transaction ≡ false }
+    ensures honest { HasCleanDisk (state S.Store conn.new) → HasCleanDisk (state S.Store conn.old) }
+{
+    match participant_rows(conn) {
+        Ok(rows) => decode(alloc, rows.as_slice()),
+        Err(error) => Err(fault_of(conn, &error)),
+    }
+}
+
+/// The postings in rising number.
+pub(crate) fn read_postings<S: Alter>(
+    alloc: Global,
+    conn: &mut Connection<S>,
+) -> Result<Vec<Posting>, Fault>
+    ensures given { HasCleanDisk (state S.Store conn.new) → (content : Content) (book : Book) → Rests content (state S.Store conn.old) → IsBookOf book content → IfOk result (λ v. v.items ≡ book.postings) }
+    ensures right { HasCleanDisk (state S.Store conn.new) → (content : Content) (book : Book) → Rests content (state S.Store conn.old) → IsBookOf book content → result ≢ Err Fault.NotADeskFile }
+    ensures kinds { (rule : Rule) → result ≢ Err (Fault.Inconsistent rule) }
+    ensures same { HasCleanDisk (state S.Store conn.new) → (content : Content) → Rests content (state S.Store conn.old) → result ≢ Err Fault.StoreFault → Rests content (state S.Store conn.new) }
+    ensures survives { Survives (state S.Store conn.old) (state S.Store conn.new) (λ _. (content : Content) → Rests content (state S.Store conn.old) → ⊥) }
+    ensures mode { conn.old.in_transaction ≡ false → conn.new.in_transaction ≡ false }
+    ensures honest { HasCleanDisk (state S.Store conn.new) → HasCleanDisk (state S.Store conn.old) }
+{
+    match posting_rows(conn) {
+        Ok(rows) => decode(alloc, rows.as_slice()),
+        Err(error) => Err(fault_of(conn, &error)),
+    }
+}
+
+/// The orders in rising number.
+pub(crate) fn read_orders<S: Alter>(
+    alloc: Global,
+    conn: &mut Connection<S>,
+) -> Result<Vec<Order>, Fault>
+    ensures given { HasCleanDisk (state S.Store conn.new) → (content : Content) (book : Book) → Rests content (state S.Store conn.old) → IsBookOf book content → IfOk result (λ v. v.items ≡ book.orders) }
+    ensures right { HasCleanDisk (state S.Store conn.new) → (content : Content) (book : Book) → Rests content (state S.Store conn.old) → IsBookOf book content → result ≢ Err Fault.NotADeskFile }
+    ensures kinds { (rule : Rule) → result ≢ Err (Fault.Inconsistent rule) }
+    ensures same { HasCleanDisk (state S.Store conn.new) → (content : Content) → Rests content (state S.Store conn.old) → result ≢ Err Fault.StoreFault → Rests content (state S.Store conn.new) }
+    ensures survives { Survives (state S.Store conn.old) (state S.Store conn.new) (λ _. (content : Content) → Rests content (state S.Store conn.old) → ⊥) }
+    ensures mode { conn.old.in_transaction ≡ false → conn.new.in_transaction ≡ false }
+    ensures honest { HasCleanDisk (state S.Store conn.new) → HasCleanDisk (state S.Store conn.old) }
+{
+    match payment_rows(conn) {
+        Ok(rows) => decode(alloc, rows.as_slice()),
+        Err(error) => Err(fault_of(conn, &error)),
+    }
+}
+
+/// The marks in rising number.
+pub(crate) fn read_marks<S: Alter>(
+    alloc: Global,
+    conn: &mut Connection<S>,
+) -> Result<Vec<Mark>, Fault>
+    ensures given { HasCleanDisk (state S.Store conn.new) → (content : Content) (book : Book) → Rests content (state S.Store conn.old) → IsBookOf book content → IfOk result (λ v. v.items ≡ book.marks) }
+    ensures right { HasCleanDisk (state S.Store conn.new) → (content : Content) (book : Book) → Rests content (state S.Store conn.old) → IsBookOf book content → result ≢ Err Fault.NotADeskFile }
+    ensures kinds { (rule : Rule) → result ≢ Err (Fault.Inconsistent rule) }
+    ensures same { HasCleanDisk (state S.Store conn.new) → (content : Content) → Rests content (state S.Store conn.old) → result ≢ Err Fault.StoreFault → Rests content (state S.Store conn.new) }
+    ensures survives { Survives (state S.Store conn.old) (state S.Store conn.new) (λ _. (content : Content) → Rests content (state S.Store conn.old) → ⊥) }
+    ensures mode { conn.old.in_transaction ≡ false → conn.new.in_transaction ≡ false }
+    ensures honest { HasCleanDisk (state S.Store conn.new) → HasCleanDisk (state S.Store conn.old) }
+{
+    match mark_rows(conn) {
+        Ok(rows) => decode(alloc, rows.as_slice()),
+        Err(error) => Err(fault_of(conn, &error)),
+    }
+}

@@ -1,0 +1,131 @@
+//! The record of each table's row.
+ghost use Rattle.std.specs.Prelude.{◌≡◌, ◌<◌, pos, length, Some};
+ghost use Rattle.sqlite_value.specs.Order.{column};
+ghost use Rattle.sqlite.specs.declared.types.Value.TheVariants.{Int};
+ghost use Rattle.rtgs_book.specs.declared.Phase.{Phase as PhaseSpec};
+ghost use Rattle.rtgs_book.specs.declared.OrderState.{OrderState as StateSpec};
+ghost use Rattle.rtgs_rows.specs.Rows.{phase_number, state_number, mark_value, shown_day, shown_account, shown_posting, shown_order, shown_mark};
+ghost use Rattle.rtgs_rows.specs.Fitting.{FitsDate, FitsParticipant, FitsPosting, FitsOrder, FitsMark};
+
+use crate::account::Account;
+use crate::fields::{blob, cents, code, date, date_or_null, int, is_null, name, number, reference};
+use crate::table_row::TableRow;
+use rtgs_book::{Day, Mark, Order, OrderState, Participant, Phase, Posting};
+use rtgs_money::{Amount, Credit, KeyDigest, PostingAmount};
+use sqlite::Row;
+
+/// The number of the row of the table `desk`.
+const DESK_ID: i64 = 1;
+
+/// The version of the tables.
+const VERSION: i64 = 1;
+
+impl TableRow for Day {
+    ghost shown = { shown_day };
+
+    ghost fits = { λ day. FitsDate day.date };
+
+    fn from_row(row: &Row) -> Option<Day> {
+        if int(row, 0)? != DESK_ID || int(row, 1)? != VERSION {
+            return None;
+        }
+        Some(Day {
+            date: date_or_null(row, 2)?,
+            phase: phase_of(int(row, 3)?)?,
+        })
+    }
+}
+
+impl TableRow for Account {
+    ghost shown = { λ a. shown_account a.participant a.balance };
+
+    ghost fits = { λ a. FitsParticipant a.participant };
+
+    fn from_row(row: &Row) -> Option<Account> {
+        let participant = Participant {
+            code: code(row, 0)?,
+            name: name(row, 1)?,
+            key: KeyDigest::from_slice(blob(row, 2)?)?,
+            credit: Credit::from_cents(u64::try_from(int(row, 3)?).ok()?)?,
+        };
+        Some(Account {
+            participant,
+            balance: cents(row, 4)?,
+        })
+    }
+}
+
+impl TableRow for Posting {
+    ghost shown = { shown_posting };
+
+    ghost fits = { FitsPosting };
+
+    fn from_row(row: &Row) -> Option<Posting> {
+        Some(Posting {
+            number: number(row, 0)?,
+            code: code(row, 1)?,
+            reference: reference(row, 2)?,
+            cents: PostingAmount::from_cents(int(row, 3)?)?,
+            date: date_or_null(row, 4)?,
+        })
+    }
+}
+
+impl TableRow for Order {
+    ghost shown = { shown_order };
+
+    ghost fits = { FitsOrder };
+
+    fn from_row(row: &Row) -> Option<Order> {
+        Some(Order {
+            number: number(row, 0)?,
+            sender: code(row, 1)?,
+            reference: reference(row, 2)?,
+            receiver: code(row, 3)?,
+            amount: Amount::from_cents(u64::try_from(int(row, 4)?).ok()?)?,
+            date: date(row, 5)?,
+            state: state(row, 6, 7)?,
+        })
+    }
+}
+
+impl TableRow for Mark {
+    ghost shown = { shown_mark };
+
+    ghost fits = { FitsMark };
+
+    fn from_row(row: &Row) -> Option<Mark> {
+        Some(Mark {
+            number: number(row, 0)?,
+            date: date(row, 1)?,
+            count: number(row, 2)?,
+            value: cents(row, 3)?,
+        })
+    }
+}
+
+/// 0 closed, 1 open, 2 cut off.
+fn phase_of(number: i64) -> Option<Phase>
+    ensures { (phase : PhaseSpec) → number ≡ pos (phase_number phase) → result ≡ Some phase }
+{
+    match number {
+        0 => Some(Phase::Closed),
+        1 => Some(Phase::Open),
+        2 => Some(Phase::CutOff),
+        _ => None,
+    }
+}
+
+/// The state at one place, and at the other the mark of a settled order, which no other order has.
+fn state(row: &Row, at: usize, mark_at: usize) -> Option<OrderState>
+    ensures { (state : StateSpec) → at < length row.now → mark_at < length row.now → column row.now at ≡ Int (pos (state_number state)) → column row.now mark_at ≡ mark_value state → result ≡ Some state }
+{
+    let has_mark = !is_null(row, mark_at);
+    match (int(row, at)?, has_mark) {
+        (0, false) => Some(OrderState::Queued),
+        (1, true) => Some(OrderState::Settled(number(row, mark_at)?)),
+        (2, false) => Some(OrderState::Withdrawn),
+        (3, false) => Some(OrderState::Rejected),
+        _ => None,
+    }
+}

@@ -1,0 +1,127 @@
+//! A book in the tables of a connection.
+ghost use Rattle.std.specs.Prelude.{◌≡◌, ◌≢◌, ◌⊎◌, false, IfOk, IfErr};
+ghost use Rattle.rtgs_book.specs.declared.Book.{Book};
+ghost use Rattle.rtgs_rows.specs.Keeping.{HoldsBook, MayLeave};
+ghost use Rattle.rtgs_tables.specs.Building.{IsBlank, new_book};
+ghost use Rattle.sqlite.specs.State.{HasCleanDisk, IsUnchanged, Survives};
+ghost use Rattle.sqlite.specs.Held.{state};
+ghost use Rattle.rtgs_tables.specs.Stops.{IsBefore};
+
+use crate::create::create_tables;
+use crate::keeper::{Keeper, StoreFault};
+use crate::loading::load_book;
+use crate::reading::is_alive;
+use crate::staging::{Stopped, write};
+use rtgs_book::{Book, Change, Fault};
+use sqlite::{Alter, Connection, Error, ErrorCode};
+use std::alloc::Global;
+
+/// Keeps a book in five tables, over a connection of any store. It has failed once the store has answered a fault
+/// that may have lost a change.
+#[derive(Drop)]
+pub struct SqlKeeper<S: Alter + Drop> {
+    conn: Connection<S>,
+    failed: bool,
+    ghost idle: { conn.in_transaction ≡ false },
+}
+
+impl<S: Alter + Drop> SqlKeeper<S> {
+    /// Makes the tables of a new book in an empty database, in one transaction. On a fault the connection comes back.
+    pub fn create(conn: Connection<S>) -> Result<SqlKeeper<S>, (StoreFault, Connection<S>)>
+        requires { conn.in_transaction ≡ false }
+        ensures made { IfOk result (λ k. HasCleanDisk (state S.Store k.conn) → IsBlank (state S.Store conn) → HoldsBook S.Store k.conn new_book) }
+        ensures stops { IfOk result (λ k. HasCleanDisk (state S.Store k.conn) → IsBlank (state S.Store conn) → (other : Book) → MayLeave S.Store k.conn other → MayLeave S.Store conn other ⊎ (other ≡ new_book)) }
+        ensures left { IfErr result (λ e. HasCleanDisk (state S.Store e.1) → IsBlank (state S.Store conn) → (other : Book) → MayLeave S.Store e.1 other → MayLeave S.Store conn other ⊎ (other ≡ new_book)) }
+        ensures fresh { IfOk result (λ k. k.failed ≡ false) }
+        ensures idle { IfErr result (λ e. (e.1.in_transaction ≡ false) × (e.0 ≢ StoreFault.Failed)) }
+    {
+        let mut conn = conn;
+        match create_tables(&mut conn) {
+            Ok(()) => Ok(SqlKeeper::open(conn)),
+            Err(stopped) => {
+                let fault = fault_of(&mut conn, &stopped);
+                Err((fault, conn))
+            }
+        }
+    }
+
+    /// Over a connection whose tables are there already. `load` says whether they are.
+    pub fn open(conn: Connection<S>) -> SqlKeeper<S>
+        requires { conn.in_transaction ≡ false }
+        ensures { (result.conn ≡ conn) × (result.failed ≡ false) }
+    {
+        SqlKeeper {
+            conn,
+            failed: false,
+        }
+    }
+
+    /// The connection.
+    pub fn into_connection(self) -> Connection<S>
+        ensures { result ≡ self.conn }
+    {
+        let SqlKeeper { conn, failed: _ } = self;
+        conn
+    }
+}
+
+impl<S: Alter + Drop> Keeper for SqlKeeper<S> {
+    ghost use Rattle.rtgs_rows.specs.Keeping.{HoldsBook, MayLeave};
+    ghost use Rattle.rtgs_rows.proofs.Settling as settling;
+
+    ghost content = { λ k. HoldsBook S.Store k.conn };
+
+    ghost leaves = { λ k. MayLeave S.Store k.conn };
+
+    ghost has_failed = { λ k. k.failed };
+
+    ghost is_honest = { λ k. HasCleanDisk (state S.Store k.conn) };
+
+    ghost settled = { λ k. settling.settled (record { view = S.Store.view; faults = S.Store.faults; recovers = S.Store.recovers; is_shielded = S.Store.is_shielded; is_step = S.Store.is_step; blamed = S.Store.blamed; names = S.Store.names }) k.conn (S.Store.settled k.conn.store) };
+
+    ghost stays = { λ k. settling.stays (record { view = S.Store.view; faults = S.Store.faults; recovers = S.Store.recovers; is_shielded = S.Store.is_shielded; is_step = S.Store.is_step; blamed = S.Store.blamed; names = S.Store.names }) k.conn (S.Store.stays k.conn.store) };
+
+    fn load(&mut self, alloc: Global) -> Result<Book, Fault> {
+        if self.failed {
+            return Err(Fault::StoreFault);
+        }
+        let loaded = load_book(alloc, &mut self.conn);
+        if let Err(Fault::StoreFault) = loaded {
+            self.failed = true;
+        }
+        loaded
+    }
+
+    fn commit(&mut self, change: &Change) -> Result<(), StoreFault> {
+        if self.failed {
+            return Err(StoreFault::Failed);
+        }
+        let stopped = match write(&mut self.conn, change.as_slice()) {
+            Ok(()) => return Ok(()),
+            Err(stopped) => stopped,
+        };
+        let fault = fault_of(&mut self.conn, &stopped);
+        if fault == StoreFault::StoreFault {
+            self.failed = true;
+        }
+        Err(fault)
+    }
+}
+
+/// What a stopped transaction comes to: want of memory before the call that commits, where the connection is seen to
+/// be open still, and else a fault of the store.
+fn fault_of<S: Alter>(conn: &mut Connection<S>, stopped: &Stopped) -> StoreFault
+    requires { conn.old.in_transaction ≡ false }
+    ensures mode { conn.new.in_transaction ≡ false }
+    ensures kinds { result ≢ StoreFault.Failed }
+    ensures before { result ≡ StoreFault.OutOfMemory → IsBefore stopped.now }
+    ensures same { result ≡ StoreFault.OutOfMemory → HasCleanDisk (state S.Store conn.new) → IsUnchanged (state S.Store conn.old) (state S.Store conn.new) }
+    ensures survives { Survives (state S.Store conn.old) (state S.Store conn.new) (λ _. ⊥) }
+{
+    match stopped {
+        Stopped::Before(Error::SqliteFailure(ErrorCode::OutOfMemory)) if is_alive(conn) => {
+            StoreFault::OutOfMemory
+        }
+        _ => StoreFault::StoreFault,
+    }
+}
