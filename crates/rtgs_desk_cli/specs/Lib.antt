@@ -1,0 +1,4 @@
+pub mod Failures
+pub mod Lines
+pub mod Requests
+pub mod Words

@@ -1,0 +1,45 @@
+-- What the words of a run ask for.
+use Rattle.std.specs.Prelude.{◌≡◌, ◌⊎◌, ℕ, ℤ, Bool, List, [], ◌∷◌, if◌then◌else◌, Result, Ok, Err}
+use Rattle.std.specs.Fmt.{signed_decimal}
+use Rattle.sha2.specs.Sha256.{sha256}
+use Rattle.rtgs_money.specs.Amounts.{IsPostingAmount}
+use Rattle.rtgs_money.specs.Forms.{IsCode, IsReference, IsName, IsKey}
+use Rattle.rtgs_money.specs.declared.lexical.Lexical.{Lexical}
+use Rattle.rtgs_money.specs.declared.lexical.Lexical.TheVariants.{BadCode, BadReference, BadAmount, BadName, BadKey}
+use Rattle.rtgs_book.specs.declared.command.Command.{Command}
+use Rattle.rtgs_book.specs.declared.command.Command.TheVariants as command
+use Rattle.rtgs_desk_cli.specs.declared.word_fault.WordFault.{WordFault}
+use Rattle.rtgs_desk_cli.specs.declared.word_fault.WordFault.TheVariants.{Form, OutOfMemory}
+
+-- the first character is a dash
+abbrev pub IsSigned : List ℕ → Type 0
+IsSigned [] = ⊥
+IsSigned (byte ∷ bytes) = byte ≡ 45
+
+-- the word, after a dash where it is a debit, is this posting
+abbrev pub SpellsPosting : List ℕ → Bool → ℤ → Type 0
+SpellsPosting cents debit posting =
+    IsPostingAmount posting × (signed_decimal posting ≡ (if debit then 45 ∷ cents else cents))
+
+-- the words of an addition, judged from left to right
+pub record ReadsAdd (code name key : List ℕ) (result : Result Command Lexical) : Type 0 where
+  pub found : IsCode code → IsName name → IsKey key → result ≡ Ok (command.Add code name (sha256 key))
+  pub bad_code : ¬ IsCode code → result ≡ Err BadCode
+  pub bad_name : IsCode code → ¬ IsName name → result ≡ Err BadName
+  pub bad_key : IsCode code → IsName name → ¬ IsKey key → result ≡ Err BadKey
+
+-- the word of an amount; a debit wants memory for its sign
+pub record ReadsCents (cents : List ℕ) (debit : Bool) (result : Result ℤ WordFault) : Type 0 where
+  pub found : (posting : ℤ) → ¬ IsSigned cents → SpellsPosting cents debit posting → (result ≡ Ok posting) ⊎ (result ≡ Err OutOfMemory)
+  pub signed : IsSigned cents → result ≡ Err (Form BadAmount)
+  pub refused : ((posting : ℤ) → ¬ SpellsPosting cents debit posting) → (result ≡ Err (Form BadAmount)) ⊎ (result ≡ Err OutOfMemory)
+
+-- the words of a posting, judged from left to right
+pub record ReadsPost (code reference cents : List ℕ) (debit : Bool) (result : Result Command WordFault) : Type 0 where
+  pub found : (posting : ℤ) → IsCode code → IsReference reference → ¬ IsSigned cents → SpellsPosting cents debit posting
+      → (result ≡ Ok (command.Post code reference posting)) ⊎ (result ≡ Err OutOfMemory)
+  pub bad_code : ¬ IsCode code → result ≡ Err (Form BadCode)
+  pub bad_reference : IsCode code → ¬ IsReference reference → result ≡ Err (Form BadReference)
+  pub signed : IsCode code → IsReference reference → IsSigned cents → result ≡ Err (Form BadAmount)
+  pub bad_amount : IsCode code → IsReference reference → ((posting : ℤ) → ¬ SpellsPosting cents debit posting)
+      → (result ≡ Err (Form BadAmount)) ⊎ (result ≡ Err OutOfMemory)
