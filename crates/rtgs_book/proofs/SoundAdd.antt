@@ -1,5 +1,5 @@
 -- A new participant keeps a book sound.
-use Rattle.std.proofs.Common.{◌≡◌, ℕ, ◌≤◌, ◌<◌, ◌+◌, ℤ, pos, neg_ℤ, ◌+ℤ◌, ◌≤ℤ◌, Bool, true, false, cond, not, ◌&&◌, ◌||◌, List, [], ◌∷◌, ◌++◌, filter, length, Some, find, option_map, unwrap_or, refl, sym, ap, ◌∙◌, true≢false, arith}
+use Rattle.std.proofs.Common.{◌≡◌, ℕ, ◌≤◌, ◌<◌, ◌+◌, ℤ, pos, neg_ℤ, ◌+ℤ◌, ◌≤ℤ◌, Bool, true, false, cond, not, ◌&&◌, ◌||◌, List, [], ◌∷◌, ◌++◌, map, filter, length, Some, find, option_map, unwrap_or, refl, sym, ap, ◌∙◌, true≢false, arith}
 use Rattle.std.proofs.lemmas.Int.{ints}
 use Rattle.std.proofs.lemmas.List.{length-map, map-append}
 use Rattle.std.specs.List.{AllByRecursion, list_any}
@@ -221,6 +221,22 @@ module _ (book : Book) (code full key : List ℕ) (h : IsSound book) (free : All
             (rw (balance_same code, balance_none) floor_low));
         total_fits = rw total_same h.total_fits;
       }
+
+pub balance_of_unknown : (book : Book) (code : List ℕ) → IsSound book → is_participant book code ≡ false → balance book code ≡ pos 0
+unfolding is_participant accounts
+balance_of_unknown book code h unknown = balance_none book code [] [] h (free book.participants unknown)
+  where
+    here : (a b : Bool) → (a || b) ≡ false → a ≡ false
+    here true b e = absurd (true≢false e)
+    here false b e = refl
+
+    later : (a b : Bool) → (a || b) ≡ false → b ≡ false
+    later true b e = absurd (true≢false e)
+    later false b e = e
+
+    free : (ps : List Participant) → list_any (bytes_eq code) (map (λ (p : Participant). p.code) ps) ≡ false → AllByRecursion (λ (p : Participant). bytes_eq p.code code ≡ false) ps
+    free [] e = tt
+    free (p ∷ ps) e = (bytes_eq_comm p.code code ∙ here _ _ e, free ps (later _ _ e))
 
 pub sound_add : (book : Book) (code full key : List ℕ) → IsSound book → IsSound (add book code full key).book
 unfolding add participant_of

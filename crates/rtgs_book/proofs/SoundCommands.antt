@@ -1,5 +1,5 @@
 -- Each command keeps a book sound.
-use Rattle.std.proofs.Common.{◌≡◌, ℕ, ◌<◌, ◌+◌, ℤ, pos, ◌+ℤ◌, ◌-ℤ◌, ◌≤ℤ◌, int_le, nat_le, ◌==◌, Bool, true, false, cond, not, ◌&&◌, List, [], ◌∷◌, ◌++◌, map, filter, length, is_some, refl, sym, ◌∙◌, subst, true≢false, arith}
+use Rattle.std.proofs.Common.{◌≡◌, ℕ, ◌<◌, ◌+◌, pos, ◌+ℤ◌, ◌-ℤ◌, ◌≤ℤ◌, nat_le, ◌==◌, Bool, true, false, cond, not, ◌&&◌, List, [], ◌∷◌, ◌++◌, map, filter, length, is_some, refl, sym, ◌∙◌, subst, true≢false, arith}
 use Rattle.std.proofs.lemmas.Int.{ints}
 use Rattle.std.proofs.lemmas.Bool.Decides.{nat_tests}
 use Rattle.std.proofs.lemmas.List.Elements.{filter-append}
@@ -16,6 +16,7 @@ use Rattle.rtgs_book.specs.Outcome.{Outcome}
 use Rattle.rtgs_book.specs.Commands.{resolve, settles_at_once, new_order, with_order, has_number, takes, order}
 use Rattle.rtgs_book.specs.Soundness.{IsSound, has_parties}
 use Rattle.rtgs_book.proofs.Balances.{left_true}
+use Rattle.rtgs_book.proofs.Choices.{le_from_test}
 use Rattle.rtgs_book.proofs.Lists.{all_of, all_weaker, all_push}
 use Rattle.rtgs_book.proofs.Outcomes.{sound_first_of, not_false}
 use Rattle.rtgs_book.proofs.SoundDays.{open_not_closed}
@@ -60,9 +61,6 @@ other_number a n less = grind (arith, nat_tests)
 
 same_number : (n : ℕ) → (n == n) ≡ true
 same_number n = grind (arith, nat_tests)
-
-le_from_test : (a b : ℤ) → int_le a b ≡ true → a ≤ℤ b
-le_from_test a b e = grind (arith, ints)
 
 pub right_true : (a b : Bool) → (a && b) ≡ true → b ≡ true
 right_true true b e = e

@@ -22,12 +22,13 @@ use Rattle.rtgs_book.specs.Ranges.{Fits}
 use Rattle.rtgs_book.proofs.Balances.{queued_not_settled}
 use Rattle.rtgs_book.proofs.Batches.{all_filter, marks_le}
 use Rattle.rtgs_book.proofs.SoundSettle.{total-with_batch}
-use Rattle.rtgs_book.proofs.Lists.{all_of, all_weaker, all_map, all_push}
+use Rattle.rtgs_book.proofs.Lists.{all_of, all_weaker, all_map, all_append, all_push}
 use Rattle.rtgs_book.proofs.IntSums.{int_sum_by-append}
 use Rattle.rtgs_book.proofs.Outcomes.{NoneHolds, first_of_cases, not_false}
 use Rattle.rtgs_book.proofs.Settling.{with_batch, settle_cases, settle-postings}
 use Rattle.rtgs_book.proofs.Sound.{step_sound, total_is_issued}
 use Rattle.rtgs_book.proofs.SoundCommands.{chosen_queued, old_numbers}
+use Rattle.rtgs_book.proofs.SoundStates.{all_queued}
 use Rattle.rtgs_book.proofs.States.{found_by_number}
 
 -- what holds where a test is answered, and after what the command is for, holds of the outcome
@@ -39,10 +40,6 @@ holds_first_of P book (row ∷ rows) outcome h p = by row.0 (holds_first_of P bo
     by : (b : Bool) → P (first_of book rows outcome) → P (cond b (record { reply = row.1; book = book }) (first_of book rows outcome))
     by true rest = h.0
     by false rest = rest
-
-all_append : {X : Type 0} (P : X → Type 0) (xs ys : List X) → AllByRecursion P xs → AllByRecursion P ys → AllByRecursion P (xs ++ ys)
-all_append P [] ys h k = k
-all_append P (x ∷ xs) ys h k = (h.0, all_append P xs ys h.1 k)
 
 -- the same of the book alone
 pub book_first_of : (P : Book → Type 0) (book : Book) (rows : List (Bool × Reply)) (outcome : Outcome) → P book → P outcome.book → P (first_of book rows outcome).book
@@ -182,9 +179,6 @@ module _ (book : Book) (sender reference receiver : List ℕ) (amount : ℕ) (h 
 
 stays : (old new : Book) (reply : Reply) (outcome : Outcome) → record { reply = reply; book = new } ≡ outcome → Stands old outcome.book → Stands old new
 stays old new reply outcome e h = subst (λ (o : Outcome). Stands old o.book) (sym e) h
-
-all_queued : (os : List Order) → AllByRecursion (λ o. is_queued o ≡ true → is_queued o ≡ true) os
-all_queued os = all_of (λ o. is_queued o ≡ true → is_queued o ≡ true) (λ o e. e) os
 
 pub step_stands : (old new : Book) (command : Command) (reply : Reply) → IsSound old → Step old command reply new → Stands old new
 unfolding add with_participant set_credit with_credit post open_day order with_state cut_off resolve close_day

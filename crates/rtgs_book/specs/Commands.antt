@@ -27,9 +27,7 @@ is_before a b = is_lt (slice_cmp nat_cmp a b)
 
 -- the participant, at its place in code order
 unfoldable pub with_participant : Book → Participant → Book
-with_participant book new = record book {
-  participants = filter (λ p. is_before p.code new.code) book.participants ++ new ∷ filter (λ p. not (is_before p.code new.code)) book.participants;
-}
+with_participant book new = record book { participants = filter (λ p. is_before p.code new.code) book.participants ++ new ∷ filter (λ p. not (is_before p.code new.code)) book.participants }
 
 abbrev pub is_same_participant : Option Participant → List ℕ → List ℕ → Bool
 is_same_participant None name key = false
@@ -47,9 +45,7 @@ add book code name key =
     ) (accepts answer.Added (with_participant book (record { code = code; name = name; key = key; credit = 0 })))
 
 unfoldable pub with_credit : Book → List ℕ → ℕ → Book
-with_credit book code credit = record book {
-  participants = map (λ p. if has_code code p then record p { credit = credit } else p) book.participants;
-}
+with_credit book code credit = record book { participants = map (λ p. if has_code code p then record p { credit = credit } else p) book.participants }
 
 unfoldable pub set_credit : Book → List ℕ → ℕ → Outcome
 set_credit book code credit =

@@ -3,7 +3,7 @@ use Rattle.std.specs.Prelude.{ℕ, ◌<◌, ⊤}
 use Rattle.rtgs_book.specs.declared.rule.Rule.{Rule}
 use Rattle.rtgs_book.specs.declared.rule.Rule.TheVariants.{OrderNumbers, PostingNumbers, MarkNumbers, ParticipantCodes, Keys, OrderReferences, PostingReferences, Parties, Marks, Queues, Dates, Floors, Total, StoredBalances}
 use Rattle.rtgs_book.specs.declared.fault.Fault.{Fault}
-use Rattle.rtgs_book.specs.declared.fault.Fault.TheVariants.{OutOfMemory, StoreFault, NotADeskFile, Inconsistent}
+use Rattle.rtgs_book.specs.declared.fault.Fault.TheVariants.{OutOfMemory, Inconsistent}
 use Rattle.rtgs_book.specs.Books.{Book}
 use Rattle.rtgs_book.specs.Soundness.{OrdersAreNumbered, PostingsAreNumbered, MarksAreNumbered, CodesRise, KeysAreDistinct, OrderReferencesAreDistinct, PostingReferencesAreDistinct, PartiesAreKnown, MarksFitOrders, QueuesFit, DatesFit, FloorsHold, TotalFits}
 
@@ -54,5 +54,4 @@ pub record BreaksFirst (book : Book) (rule : Rule) : Type 0 where
 abbrev pub Explains : Book → Fault → Type 0
 Explains book OutOfMemory = ⊤
 Explains book (Inconsistent rule) = BreaksFirst book rule
-Explains book StoreFault = ⊥
-Explains book NotADeskFile = ⊥
+Explains book fault = ⊥

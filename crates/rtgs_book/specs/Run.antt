@@ -38,12 +38,11 @@ is_recorded book command = false
 
 -- The commands without each Order and Post that the book has, or that was accepted before it in the list. `accepted` has those that were accepted so far.
 unfoldable pub once_after : List Command → Book → List Command → List Reply → List Command
-once_after accepted book [] replies = []
-once_after accepted book (command ∷ commands) [] = []
 once_after accepted book (command ∷ commands) (reply ∷ replies) =
     if is_recorded book command || list_any (is_same_entry command) accepted
     then once_after accepted book commands replies
     else command ∷ once_after (if is_accepted reply then command ∷ accepted else accepted) book commands replies
+once_after accepted book commands replies = []
 
 abbrev pub once : Book → List Command → List Reply → List Command
 once book commands replies = once_after [] book commands replies

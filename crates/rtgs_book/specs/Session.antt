@@ -1,5 +1,5 @@
 -- A session with a desk, from its opening to the book that the next opening finds.
-use Rattle.std.specs.Prelude.{◌≡◌, ◌⊎◌, Bool, true, false, if◌then◌else◌, List, [], ◌∷◌, Option, Some, None, Err}
+use Rattle.std.specs.Prelude.{◌≡◌, ◌⊎◌, ◌+◌, ◌≤◌, Bool, true, false, if◌then◌else◌, List, [], ◌∷◌, filter, length, Option, Some, None, Err}
 use Rattle.rtgs_book.specs.declared.refusal.Refusal.TheVariants.{OutOfMemory, StoreFault, Failed}
 use Rattle.rtgs_book.specs.Books.{Book}
 use Rattle.rtgs_book.specs.Outcome.{Command, Reply}
@@ -24,13 +24,13 @@ answered commands replies = []
 
 -- their replies
 abbrev pub answers : List Reply → List Reply
-answers [] = []
-answers (reply ∷ replies) = if is_judged reply then reply ∷ answers replies else answers replies
+answers replies = filter is_judged replies
 
--- the command that met a fault of the store, so that it may have acted or not
+-- the command that may have acted or not: the one that met a fault of the store, and else the one that has no reply yet
 abbrev pub open_command : List Command → List Reply → Option Command
+open_command [] replies = None
+open_command (command ∷ commands) [] = Some command
 open_command (command ∷ commands) (reply ∷ replies) = if is_store_fault reply then Some command else open_command commands replies
-open_command commands replies = None
 
 -- a book that may be found: this one, or the one after the open command
 abbrev pub MayFind : Book → Option Command → Book → Type 0
@@ -44,8 +44,10 @@ pub record Session : Type 0 where
   -- what the next opening finds
   pub found : Book
 
--- the replies are those of a run, and what is found is its book or the one after the open command
+-- Each command has a reply, but perhaps the last, which is running. The replies are those of a run, and what is found is its book or the one after the open command.
 pub record IsSession (s : Session) : Type 0 where
+  pub replied : length s.replies ≤ length s.commands
+  pub running : length s.commands ≤ length s.replies + 1
   pub last : Book
   pub run : Run s.start (answered s.commands s.replies) (answers s.replies) last
   pub found : MayFind last (open_command s.commands s.replies) s.found

@@ -23,7 +23,4 @@ unfoldable pub settle : Book → (Order → Bool) → Book
 settle book is_in =
     let batch = filter is_in book.orders in
     if is_empty batch then book
-    else record book {
-      orders = map (restated is_in (Settled (next_mark book))) book.orders;
-      marks = book.marks ++ mark_of book batch ∷ [];
-    }
+    else record book { orders = map (restated is_in (Settled (next_mark book))) book.orders; marks = book.marks ++ mark_of book batch ∷ [] }

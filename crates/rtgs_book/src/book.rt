@@ -19,7 +19,7 @@ use crate::rules::numbers::are_numbered;
 use crate::rules::parties::parties_are_known;
 use crate::rules::queues::queues_fit;
 use rtgs_money::Code;
-use std::alloc::{AllocError, Global};
+use std::alloc::AllocError;
 use std::collections::BTreeMap;
 
 /// All that the desk has recorded: participants by code, the others by number, and the day. No balance and no queue is stored in it.
@@ -43,13 +43,13 @@ impl Book {
     ghost use Rattle.rtgs_book.specs.Soundness.{IsSound};
 
     /// Tests whether the book is sound. Else the fault names the first rule that it breaks, or memory was refused.
-    pub fn check(&self, alloc: Global) -> Result<(), Fault>
+    pub fn check(&self) -> Result<(), Fault>
         ensures sound { OnOk result (IsSound self.now) }
         ensures fits { OnOk result (Fits self.now) }
         ensures fault { IfErr result (Explains self.now) }
     {
         for rule in Rule::OF_A_BOOK {
-            if !self.keeps(alloc, rule)? {
+            if !self.keeps(rule)? {
                 return Err(Fault::Inconsistent { rule });
             }
         }
@@ -57,19 +57,20 @@ impl Book {
     }
 
     /// The balance of each participant of a sound book, in cents.
-    pub fn balances(&self, alloc: Global) -> Result<BTreeMap<Code, i128>, AllocError>
+    pub fn balances(&self) -> Result<BTreeMap<Code, i128>, AllocError>
         requires { IsSound self.now }
         ensures { IfOk result (Totals (slice_cmp nat_cmp) (accounts self.now) (balance self.now)) }
     {
-        balances(alloc, self)
+        balances(self.orders.allocator(), self)
     }
 
     // Whether the book keeps the rule, where it keeps those before it.
-    fn keeps(&self, alloc: Global, rule: Rule) -> Result<bool, AllocError>
+    fn keeps(&self, rule: Rule) -> Result<bool, AllocError>
         requires { KeepsBefore self.now rule }
         ensures kept { IfOk result (λ yes. IsTrue yes ↔ Keeps self.now rule) }
         ensures fits { rule ≡ Rule.Floors → IfOk result (λ yes. IsTrue yes → Fits self.now) }
     {
+        let alloc = self.orders.allocator();
         let participants = self.participants.as_slice();
         let postings = self.postings.as_slice();
         let orders = self.orders.as_slice();

@@ -1,16 +1,21 @@
 //! Laws of the definitions. Each function does nothing: its contract is the law.
-ghost use Rattle.std.specs.Prelude.{◌≡◌, ◌≤◌, ◌+ℤ◌, Bool, true, ℕ, List, filter, length, take, drop};
+ghost use Rattle.std.specs.Prelude.{◌≡◌, ◌≤◌, ◌+ℤ◌, ◌≤ℤ◌, pos, Bool, true, false, if◌then◌else◌, ℕ, List, [], ◌∷◌, ◌++◌, filter, length, take, drop};
 ghost use Rattle.std.specs.List.{AllByRecursion};
 ghost use Rattle.rtgs_book.specs.declared.book.Book.{Book};
 ghost use Rattle.rtgs_book.specs.declared.command.Command.{Command};
 ghost use Rattle.rtgs_book.specs.declared.order.Order.{Order};
+ghost use Rattle.rtgs_book.specs.declared.order_state.OrderState.{OrderState};
+ghost use Rattle.rtgs_book.specs.declared.posting.Posting.{Posting};
 ghost use Rattle.std.specs.Str.{bytes_eq};
-ghost use Rattle.rtgs_book.specs.Books.{is_queued};
+ghost use Rattle.rtgs_book.specs.Books.{is_queued, is_settled, is_settled_state};
+ghost use Rattle.rtgs_book.specs.Commands.{with_state};
+ghost use Rattle.rtgs_book.specs.IntSum.{int_sum_by};
+ghost use Rattle.rtgs_book.specs.Lookup.{accounts, is_participant};
 ghost use Rattle.rtgs_book.specs.Laws.{posted, Stands, CommandFits, BalancesFit};
 ghost use Rattle.rtgs_book.specs.Outcome.{Reply};
 ghost use Rattle.rtgs_book.specs.Procedure.{Reaches};
 ghost use Rattle.rtgs_book.specs.Queue.{queue};
-ghost use Rattle.rtgs_book.specs.Balance.{balance, total, issued};
+ghost use Rattle.rtgs_book.specs.Balance.{balance, floor, gain, total, issued};
 ghost use Rattle.rtgs_book.specs.Settle.{settle};
 ghost use Rattle.rtgs_book.specs.Ranges.{Fits};
 ghost use Rattle.rtgs_book.specs.Run.{Run};
@@ -68,9 +73,9 @@ pub fn rest_stays_queued()
     ensures { (book : Book) (choice : Choice) (code : List ℕ) → OrdersAreNumbered book → queue (settle book (is_chosen book choice)) code ≡ drop (choice code) (queue book code) }
 {}
 
-/// Where the published procedure stops, its choice is the greatest.
+/// Where the published procedure stops, as nobody is short, its choice is the greatest.
 pub fn procedure_finds_the_greatest()
-    ensures { (book : Book) (choice : Choice) → Reaches book choice → IsFeasible book choice → IsGreatest book choice }
+    ensures { (book : Book) (choice : Choice) → Reaches book choice → AllByRecursion (λ code. floor book code ≤ℤ balance_after book choice code) (accounts book) → IsGreatest book choice }
 {}
 
 /// In a sound book all balances together are what was posted.
@@ -116,4 +121,29 @@ pub fn step_keeps_ranges()
 /// In a sound book with amounts in their ranges no balance is large: each fits 64 bits with a sign.
 pub fn balances_are_small()
     ensures { (book : Book) → IsSound book → Fits book → BalancesFit book }
+{}
+
+/// A posting moves the balance of its account by its cents, and no other.
+pub fn balance_after_posting()
+    ensures { (book : Book) (posting : Posting) (code : List ℕ) → balance (record book { postings = book.postings ++ posting ∷ [] }) code ≡ balance book code +ℤ (if bytes_eq posting.code code then posting.cents else pos 0) }
+{}
+
+/// An order that is added moves the balances of its parties where it is settled, and else none.
+pub fn balance_after_order()
+    ensures { (book : Book) (order : Order) (code : List ℕ) → balance (record book { orders = book.orders ++ order ∷ [] }) code ≡ balance book code +ℤ (if is_settled order then gain code order else pos 0) }
+{}
+
+/// Settling queued orders moves each balance by what its account gains by them.
+pub fn balance_after_settling()
+    ensures { (book : Book) (is_in : Order → Bool) (code : List ℕ) → AllByRecursion (λ order. is_in order ≡ true → is_queued order ≡ true) book.orders → balance (settle book is_in) code ≡ balance book code +ℤ int_sum_by (gain code) (filter is_in book.orders) }
+{}
+
+/// Queued orders that get another state, but are not settled, move no balance.
+pub fn balance_after_restating()
+    ensures { (book : Book) (is_in : Order → Bool) (state : OrderState) (code : List ℕ) → AllByRecursion (λ order. is_in order ≡ true → is_queued order ≡ true) book.orders → is_settled_state state ≡ false → balance (with_state book is_in state) code ≡ balance book code }
+{}
+
+/// In a sound book a code that is no participant's has nothing.
+pub fn balance_of_unknown_code()
+    ensures { (book : Book) (code : List ℕ) → IsSound book → is_participant book code ≡ false → balance book code ≡ pos 0 }
 {}

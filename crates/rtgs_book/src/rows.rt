@@ -50,6 +50,11 @@ impl<T> Rows<T> {
         self.rows.as_slice()
     }
 
+    /// The allocator of the vector.
+    pub(crate) fn allocator(&self) -> Global {
+        *self.rows.allocator()
+    }
+
     /// How many records there are.
     pub fn len(&self) -> usize
         ensures { result ≡ length self.now }

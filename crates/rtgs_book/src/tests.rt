@@ -7,10 +7,13 @@ use crate::order::Order;
 use crate::order_state::OrderState;
 use crate::participant::Participant;
 use crate::phase::Phase;
+use crate::posting::Posting;
 use crate::refusal::Refusal;
 use crate::rows::Rows;
 use crate::rule::Rule;
-use rtgs_money::{Amount, BusinessDate, Cents, Code, Credit, KeyDigest, Name, Reference};
+use rtgs_money::{
+    Amount, BusinessDate, Cents, Code, Credit, KeyDigest, Name, PostingAmount, Reference,
+};
 use std::alloc::Global;
 use std::process::Abort;
 use std::test::Fail;
@@ -28,8 +31,23 @@ fn name_of(letter: u8, n: u32) -> [u8; 6] {
     ]
 }
 
+fn monday() -> Result<BusinessDate, Fail> {
+    Ok(BusinessDate::read(b"2024-03-04")?)
+}
+
+fn open_day() -> Result<Day, Fail> {
+    Ok(Day {
+        date: Some(monday()?),
+        phase: Phase::Open,
+    })
+}
+
 fn code_of(n: u32) -> Result<Code, Fail> {
     Ok(Code::read(&name_of(b'B', n))?)
+}
+
+fn reference_of(letter: u8, n: u32) -> Result<Reference, Fail> {
+    Ok(Reference::read(&name_of(letter, n))?)
 }
 
 fn bank(n: u32) -> Result<Participant, Fail> {
@@ -48,7 +66,7 @@ fn order(n: u32, banks: u32, date: BusinessDate) -> Result<Order, Fail> {
     Ok(Order {
         number,
         sender: code_of(n % banks)?,
-        reference: Reference::read(&name_of(b'R', n))?,
+        reference: reference_of(b'R', n)?,
         receiver: code_of((n % banks + 1) % banks)?,
         amount: Amount::read(b"1")?,
         date,
@@ -56,33 +74,43 @@ fn order(n: u32, banks: u32, date: BusinessDate) -> Result<Order, Fail> {
     })
 }
 
-// An open book in which each bank sent as much as it received.
-fn book_of(alloc: Global, banks: u32, orders: u32) -> Result<Book, Fail> {
-    let date = BusinessDate::read(b"2024-03-04")?;
+// The mark under which an order was settled alone.
+fn mark(order: &Order) -> Mark {
+    Mark {
+        number: order.number,
+        date: order.date,
+        count: 1,
+        value: Cents::new(1),
+    }
+}
+
+fn banks_of(alloc: Global, banks: u32) -> Result<Vec<Participant>, Fail> {
     let mut participants = Vec::new(alloc);
     for n in 0..banks {
         participants.push(bank(n)?)?;
     }
+    Ok(participants)
+}
+
+fn orders_of(alloc: Global, banks: u32, orders: u32) -> Result<Vec<Order>, Fail> {
+    let date = monday()?;
     let mut sent = Vec::new(alloc);
-    let mut marks = Vec::new(alloc);
     for n in 0..orders {
         sent.push(order(n, banks, date)?)?;
-        marks.push(Mark {
-            number: u64::from(n) + 1,
-            date,
-            count: 1,
-            value: Cents::new(1),
-        })?;
     }
+    Ok(sent)
+}
+
+// An open book in which each bank sent as much as it received.
+fn book_of(alloc: Global, banks: u32, orders: u32) -> Result<Book, Fail> {
+    let orders = orders_of(alloc, banks, orders)?;
+    let marks = orders.iter().map(mark).collect(alloc)?;
     Ok(Book {
-        participants: Rows::from_vec(participants),
+        participants: Rows::from_vec(banks_of(alloc, banks)?),
         postings: Rows::new(alloc),
-        orders: Rows::from_vec(sent),
+        orders: Rows::from_vec(orders),
         marks: Rows::from_vec(marks),
-        day: Day {
-            date: Some(date),
-            phase: Phase::Open,
-        },
+        day: open_day()?,
     })
 }
 
@@ -90,7 +118,7 @@ fn book_of(alloc: Global, banks: u32, orders: u32) -> Result<Book, Fail> {
 fn check_large(rt: &(impl Abort + AllocGlobal), orders: u32) -> Result<(), Fail> {
     let book = book_of(rt.alloc(), 100, orders)?;
     assert_eq!(rt; book.orders.len(), orders as usize);
-    assert_eq!(rt; book.check(rt.alloc()), Ok(()));
+    assert_eq!(rt; book.check(), Ok(()));
     Ok(())
 }
 
@@ -109,21 +137,93 @@ fn book_of_20000_orders_is_sound(rt: HostRuntime) -> Result<(), Fail> {
     check_large(&rt, 20_000)
 }
 
+// A sound book by its records, so that a test may break one: a ring of settled orders, one order that is queued, and two postings.
+#[derive(Drop)]
+struct Records {
+    participants: [Participant; 3],
+    postings: [Posting; 2],
+    orders: [Order; 4],
+    marks: [Mark; 3],
+    day: Day,
+}
+
+// The n-th posting, of 10 cents to the n-th bank.
+fn posting(n: u32) -> Result<Posting, Fail> {
+    Ok(Posting {
+        number: u64::from(n) + 1,
+        code: code_of(n)?,
+        reference: reference_of(b'P', n)?,
+        cents: PostingAmount::read(b"10")?,
+        date: Some(monday()?),
+    })
+}
+
+fn sound_records() -> Result<Records, Fail> {
+    let date = monday()?;
+    let ring = [order(0, 3, date)?, order(1, 3, date)?, order(2, 3, date)?];
+    let queued = Order {
+        state: OrderState::Queued,
+        ..order(3, 3, date)?
+    };
+    Ok(Records {
+        participants: [bank(0)?, bank(1)?, bank(2)?],
+        postings: [posting(0)?, posting(1)?],
+        orders: [ring[0], ring[1], ring[2], queued],
+        marks: [mark(&ring[0]), mark(&ring[1]), mark(&ring[2])],
+        day: open_day()?,
+    })
+}
+
+// Breaks the rule, and no other.
+fn break_rule(records: &mut Records, rule: Rule) -> Result<(), Fail> {
+    match rule {
+        Rule::OrderNumbers => records.orders[3].number = 5,
+        Rule::PostingNumbers => records.postings[1].number = 3,
+        Rule::MarkNumbers => {
+            records.marks[2].number = 4;
+            records.orders[2].state = OrderState::Settled(4);
+        }
+        Rule::ParticipantCodes => records.participants.reverse(),
+        Rule::Keys => records.participants[1].key = KeyDigest::from_bytes([0; 32]),
+        Rule::OrderReferences => records.orders[3].reference = reference_of(b'R', 0)?,
+        Rule::PostingReferences => records.postings[1].reference = reference_of(b'P', 0)?,
+        Rule::Parties => records.orders[3].receiver = code_of(0)?,
+        Rule::Marks => records.marks[0].count = 2,
+        Rule::Queues => records.day.phase = Phase::Closed,
+        Rule::Dates => records.postings[1].date = Some(BusinessDate::read(b"2024-03-05")?),
+        Rule::Floors => records.postings[1].cents = PostingAmount::read(b"-11")?,
+        Rule::Total => records.postings[1].cents = PostingAmount::read(b"1000000000000000")?,
+        Rule::StoredBalances => {}
+    }
+    Ok(())
+}
+
+// The book with these records.
+fn book_with(alloc: Global, records: &Records) -> Result<Book, Fail> {
+    Ok(Book {
+        participants: Rows::from_vec(records.participants.iter().copied().collect(alloc)?),
+        postings: Rows::from_vec(records.postings.iter().copied().collect(alloc)?),
+        orders: Rows::from_vec(records.orders.iter().copied().collect(alloc)?),
+        marks: Rows::from_vec(records.marks.iter().copied().collect(alloc)?),
+        day: records.day,
+    })
+}
+
+#[test]
+fn each_broken_rule_is_named(rt: HostRuntime) -> Result<(), Fail> {
+    let alloc = rt.alloc();
+    for rule in Rule::OF_A_BOOK {
+        let mut records = sound_records()?;
+        break_rule(&mut records, rule)?;
+        let book = book_with(alloc, &records)?;
+        assert_eq!(rt; book.check(), Err(Fault::Inconsistent { rule }));
+    }
+    Ok(())
+}
+
 #[test]
 fn first_broken_rule_is_named(rt: HostRuntime) -> Result<(), Fail> {
     let alloc = rt.alloc();
-
-    // The last order's number, and with it its mark, is one that comes before.
-    let book = book_of(alloc, 3, 3)?;
-    let mut orders = book.orders.into_vec();
-    if let Some(last) = orders.pop() {
-        orders.push(Order { number: 2, ..last })?;
-    }
-    let renumbered = Book {
-        orders: Rows::from_vec(orders),
-        ..book_of(alloc, 3, 3)?
-    };
-    assert_eq!(rt; number_of(renumbered.check(alloc)), Some(1));
 
     // Two banks have one code, and one key.
     let mut banks = Vec::new(alloc);
@@ -133,34 +233,54 @@ fn first_broken_rule_is_named(rt: HostRuntime) -> Result<(), Fail> {
         participants: Rows::from_vec(banks),
         ..book_of(alloc, 0, 0)?
     };
-    assert_eq!(rt; number_of(twins.check(alloc)), Some(4));
+    let rule = Rule::ParticipantCodes;
+    assert_eq!(rt; twins.check(), Err(Fault::Inconsistent { rule }));
 
-    // A bank is below zero when the desk is closed.
-    let closed = Day {
-        date: None,
-        phase: Phase::Closed,
-    };
+    // The day has no date, though there are orders, and a bank is below zero.
     let undated = Book {
-        day: closed,
-        ..book_of(alloc, 3, 3)?
-    };
-    assert_eq!(rt; number_of(undated.check(alloc)), Some(11));
-    let one_way = Book {
-        day: closed,
+        day: Day {
+            date: None,
+            phase: Phase::Closed,
+        },
         ..book_of(alloc, 3, 2)?
     };
-    assert_eq!(rt; number_of(one_way.check(alloc)), Some(11));
-    let overdrawn = book_of(alloc, 3, 2)?;
-    assert_eq!(rt; number_of(overdrawn.check(alloc)), Some(12));
+    let rule = Rule::Dates;
+    assert_eq!(rt; undated.check(), Err(Fault::Inconsistent { rule }));
     Ok(())
 }
 
-// The number of the rule that a check names.
-fn number_of(checked: Result<(), Fault>) -> Option<u8> {
-    match checked {
-        Err(Fault::Inconsistent { rule }) => Some(rule.number()),
-        _ => None,
+#[test]
+fn balances_are_summed(rt: HostRuntime) -> Result<(), Fail> {
+    let book = book_with(rt.alloc(), &sound_records()?)?;
+    book.check()?;
+    let balances = book.balances()?;
+    for (n, cents) in [(0, 10), (1, 10), (2, 0)] {
+        assert_eq!(rt; balances.get(&code_of(n)?), Some(&cents));
     }
+    assert_eq!(rt; balances.get(&code_of(3)?), None);
+    Ok(())
+}
+
+#[test]
+fn rows_are_lists(rt: HostRuntime) -> Result<(), Fail> {
+    let alloc = rt.alloc();
+    let numbers: Rows<u8> = Rows::new(alloc);
+    assert_eq!(rt; numbers.len(), 0);
+    assert_eq!(rt; numbers.is_empty(), true);
+    let numbers = Rows::from_vec([2, 3, 5].iter().copied().collect(alloc)?);
+    assert_eq!(rt; numbers.len(), 3);
+    assert_eq!(rt; numbers.is_empty(), false);
+    assert_eq!(rt; numbers.as_slice(), [2, 3, 5].as_slice());
+    assert_eq!(rt; numbers.into_vec().as_slice(), [2, 3, 5].as_slice());
+    Ok(())
+}
+
+#[test]
+fn rules_are_numbered(rt: HostRuntime) {
+    for (index, rule) in Rule::OF_A_BOOK.iter().enumerate() {
+        assert_eq!(rt; usize::from(rule.number()), index + 1);
+    }
+    assert_eq!(rt; Rule::StoredBalances.number(), 14);
 }
 
 #[test]

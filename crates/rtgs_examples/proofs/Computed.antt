@@ -1,5 +1,6 @@
 -- The examples, computed.
-use Rattle.std.proofs.Common.{pos, negsuc, [], ◌∷◌, Ok, Err, codes, refl, inl, inr}
+use Rattle.std.proofs.Common.{pos, ◌≤ℤ◌, negsuc, [], ◌∷◌, Ok, Err, codes, refl, inl, inr}
+use Rattle.std.specs.List.{AllByRecursion}
 use Rattle.rtgs_book.specs.declared.Command.TheVariants.{SetCredit, Post, OpenDay, Withdraw, Resolve, CutOff, CloseDay}
 use Rattle.rtgs_book.specs.declared.Answer.TheVariants as answer
 use Rattle.rtgs_book.specs.declared.Known.TheVariants as known
@@ -15,9 +16,12 @@ use Rattle.rtgs_book.specs.Queue.{queue, orders_before}
 use Rattle.rtgs_book.specs.Choice.{Choice, is_chosen, chosen, balance_after, IsGreatest}
 use Rattle.rtgs_book.specs.Settle.{settle, mark_of}
 use Rattle.rtgs_book.specs.Commands.{order, takes, settles_at_once, resolve, set_credit, post, withdraw, open_day, cut_off, close_day, with_credit, with_state, overdrawn}
-use Rattle.rtgs_book.specs.Procedure.{everything, taken_back, All, Without_newest}
-use Rattle.rtgs_examples.specs.Examples.{alfa, beta, gama, zeta, monday, start, pays, Comes}
-use Rattle.rtgs_book.proofs.Choices.{reached_greatest}
+use Rattle.rtgs_book.specs.Procedure.{everything, taken_back, Reaches, All, Without_newest}
+use Rattle.rtgs_examples.specs.Examples.{alfa, beta, gama, zeta, monday, start, unopened, pays, Comes, ComesFrom}
+
+-- where nobody is short any more, the procedure's choice is the greatest
+abbrev pub FindsGreatest : Type 0
+FindsGreatest = (book : Book) (choice : Choice) → Reaches book choice → AllByRecursion (λ code. floor book code ≤ℤ balance_after book choice code) (accounts book) → IsGreatest book choice
 
 -- ---- ring
 
@@ -33,9 +37,9 @@ ring_3 = (order ring_2 gama (codes "G-1") alfa 100).book
 abbrev ring_4_choice : Choice
 ring_4_choice = (everything ring_3)
 
-ring_4_greatest : IsGreatest ring_3 ring_4_choice
+ring_4_greatest : FindsGreatest → IsGreatest ring_3 ring_4_choice
 unfolding first_of order takes settles_at_once queue orders_before balance gain floor credit_of participant_of accounts is_participant order_named posting_named settle mark_of open_day is_weekend days_from_civil weekday_number day_count days_of_years days_of_months withdraw balance_after chosen is_chosen resolve set_credit with_credit post total cut_off close_day with_state overdrawn
-ring_4_greatest = reached_greatest ring_3 ring_4_choice All (record { le = tt }, (record { le = tt }, (record { le = tt }, tt)))
+ring_4_greatest law = law ring_3 ring_4_choice All (record { le = tt }, (record { le = tt }, (record { le = tt }, tt)))
 
 abbrev ring_4 : Book
 ring_4 = (resolve ring_3 ring_4_choice).book
@@ -43,19 +47,19 @@ ring_4 = (resolve ring_3 ring_4_choice).book
 abbrev ring_5_choice : Choice
 ring_5_choice = (everything ring_4)
 
-ring_5_greatest : IsGreatest ring_4 ring_5_choice
+ring_5_greatest : FindsGreatest → IsGreatest ring_4 ring_5_choice
 unfolding first_of order takes settles_at_once queue orders_before balance gain floor credit_of participant_of accounts is_participant order_named posting_named settle mark_of open_day is_weekend days_from_civil weekday_number day_count days_of_years days_of_months withdraw balance_after chosen is_chosen resolve set_credit with_credit post total cut_off close_day with_state overdrawn
-ring_5_greatest = reached_greatest ring_4 ring_5_choice All (record { le = tt }, (record { le = tt }, (record { le = tt }, tt)))
+ring_5_greatest law = law ring_4 ring_5_choice All (record { le = tt }, (record { le = tt }, (record { le = tt }, tt)))
 
 abbrev ring_5 : Book
 ring_5 = (resolve ring_4 ring_5_choice).book
 
-pub ring_comes : Comes
+pub ring_comes : FindsGreatest → Comes
     (pays alfa beta 100 (codes "A-1") ∷ pays beta gama 100 (codes "B-1") ∷ pays gama alfa 100 (codes "G-1") ∷ Resolve ∷ Resolve ∷ [])
     (Ok (answer.Queued 1 1) ∷ Ok (answer.Queued 2 1) ∷ Ok (answer.Queued 3 1) ∷ Ok (answer.Resolved 1 3 (pos 300)) ∷ Ok answer.Nothing ∷ [])
     (pos 0 ∷ pos 0 ∷ pos 0 ∷ [])
 unfolding first_of order takes settles_at_once queue orders_before balance gain floor credit_of participant_of accounts is_participant order_named posting_named settle mark_of open_day is_weekend days_from_civil weekday_number day_count days_of_years days_of_months withdraw balance_after chosen is_chosen resolve set_credit with_credit post total cut_off close_day with_state overdrawn
-ring_comes = (ring_5, (ring_1, refl, (ring_2, refl, (ring_3, refl, (ring_4, (ring_4_choice, ring_4_greatest, refl), (ring_5, (ring_5_choice, ring_5_greatest, refl), refl))))), refl)
+ring_comes law = (ring_5, (ring_1, refl, (ring_2, refl, (ring_3, refl, (ring_4, (ring_4_choice, ring_4_greatest law, refl), (ring_5, (ring_5_choice, ring_5_greatest law, refl), refl))))), refl)
 
 -- ---- deadlock
 
@@ -68,19 +72,54 @@ deadlock_2 = (order deadlock_1 beta (codes "B-1") gama 90).book
 abbrev deadlock_3_choice : Choice
 deadlock_3_choice = (taken_back beta (taken_back alfa (everything deadlock_2)))
 
-deadlock_3_greatest : IsGreatest deadlock_2 deadlock_3_choice
+deadlock_3_greatest : FindsGreatest → IsGreatest deadlock_2 deadlock_3_choice
 unfolding first_of order takes settles_at_once queue orders_before balance gain floor credit_of participant_of accounts is_participant order_named posting_named settle mark_of open_day is_weekend days_from_civil weekday_number day_count days_of_years days_of_months withdraw balance_after chosen is_chosen resolve set_credit with_credit post total cut_off close_day with_state overdrawn
-deadlock_3_greatest = reached_greatest deadlock_2 deadlock_3_choice (Without_newest (Without_newest All alfa (inl refl) (record { lt = tt })) beta (inr (inl refl)) (record { lt = tt })) (record { le = tt }, (record { le = tt }, (record { le = tt }, tt)))
+deadlock_3_greatest law = law deadlock_2 deadlock_3_choice (Without_newest (Without_newest All alfa (inl refl) (record { lt = tt })) beta (inr (inl refl)) (record { lt = tt })) (record { le = tt }, (record { le = tt }, (record { le = tt }, tt)))
 
 abbrev deadlock_3 : Book
 deadlock_3 = (resolve deadlock_2 deadlock_3_choice).book
 
-pub deadlock_comes : Comes
-    (pays alfa beta 100 (codes "A-1") ∷ pays beta gama 90 (codes "B-1") ∷ Resolve ∷ [])
-    (Ok (answer.Queued 1 1) ∷ Ok (answer.Queued 2 1) ∷ Ok answer.Nothing ∷ [])
+abbrev deadlock_4 : Book
+deadlock_4 = (cut_off deadlock_3 monday).book
+
+abbrev deadlock_5_choice : Choice
+deadlock_5_choice = (taken_back beta (taken_back alfa (everything deadlock_4)))
+
+deadlock_5_greatest : FindsGreatest → IsGreatest deadlock_4 deadlock_5_choice
+unfolding first_of order takes settles_at_once queue orders_before balance gain floor credit_of participant_of accounts is_participant order_named posting_named settle mark_of open_day is_weekend days_from_civil weekday_number day_count days_of_years days_of_months withdraw balance_after chosen is_chosen resolve set_credit with_credit post total cut_off close_day with_state overdrawn
+deadlock_5_greatest law = law deadlock_4 deadlock_5_choice (Without_newest (Without_newest All alfa (inl refl) (record { lt = tt })) beta (inr (inl refl)) (record { lt = tt })) (record { le = tt }, (record { le = tt }, (record { le = tt }, tt)))
+
+abbrev deadlock_5 : Book
+deadlock_5 = (close_day deadlock_4 deadlock_5_choice monday).book
+
+abbrev deadlock_6_choice : Choice
+deadlock_6_choice = (everything deadlock_5)
+
+deadlock_6_greatest : FindsGreatest → IsGreatest deadlock_5 deadlock_6_choice
+unfolding first_of order takes settles_at_once queue orders_before balance gain floor credit_of participant_of accounts is_participant order_named posting_named settle mark_of open_day is_weekend days_from_civil weekday_number day_count days_of_years days_of_months withdraw balance_after chosen is_chosen resolve set_credit with_credit post total cut_off close_day with_state overdrawn
+deadlock_6_greatest law = law deadlock_5 deadlock_6_choice All (record { le = tt }, (record { le = tt }, (record { le = tt }, tt)))
+
+abbrev deadlock_6 : Book
+deadlock_6 = (close_day deadlock_5 deadlock_6_choice monday).book
+
+abbrev deadlock_7 : Book
+deadlock_7 = (open_day deadlock_6 20240309).book
+
+abbrev deadlock_8 : Book
+deadlock_8 = (open_day deadlock_7 20240304).book
+
+abbrev deadlock_9 : Book
+deadlock_9 = (open_day deadlock_8 20240305).book
+
+abbrev deadlock_10 : Book
+deadlock_10 = (open_day deadlock_9 20240305).book
+
+pub deadlock_comes : FindsGreatest → Comes
+    (pays alfa beta 100 (codes "A-1") ∷ pays beta gama 90 (codes "B-1") ∷ Resolve ∷ CutOff monday ∷ CloseDay monday ∷ CloseDay monday ∷ OpenDay 20240309 ∷ OpenDay 20240304 ∷ OpenDay 20240305 ∷ OpenDay 20240305 ∷ [])
+    (Ok (answer.Queued 1 1) ∷ Ok (answer.Queued 2 1) ∷ Ok answer.Nothing ∷ Ok answer.CutOffDone ∷ Ok (answer.Closed 2) ∷ Ok (answer.Repeated known.Nothing) ∷ Err refusal.Weekend ∷ Err refusal.WrongDate ∷ Ok answer.Opened ∷ Ok (answer.Repeated known.Nothing) ∷ [])
     (pos 0 ∷ pos 0 ∷ pos 0 ∷ [])
 unfolding first_of order takes settles_at_once queue orders_before balance gain floor credit_of participant_of accounts is_participant order_named posting_named settle mark_of open_day is_weekend days_from_civil weekday_number day_count days_of_years days_of_months withdraw balance_after chosen is_chosen resolve set_credit with_credit post total cut_off close_day with_state overdrawn
-deadlock_comes = (deadlock_3, (deadlock_1, refl, (deadlock_2, refl, (deadlock_3, (deadlock_3_choice, deadlock_3_greatest, refl), refl))), refl)
+deadlock_comes law = (deadlock_10, (deadlock_1, refl, (deadlock_2, refl, (deadlock_3, (deadlock_3_choice, deadlock_3_greatest law, refl), (deadlock_4, refl, (deadlock_5, (deadlock_5_choice, deadlock_5_greatest law, refl), (deadlock_6, (deadlock_6_choice, deadlock_6_greatest law, refl), (deadlock_7, refl, (deadlock_8, refl, (deadlock_9, refl, (deadlock_10, refl, refl)))))))))), refl)
 
 -- ---- partial
 
@@ -96,19 +135,19 @@ partial_3 = (order partial_2 beta (codes "B-1") alfa 100).book
 abbrev partial_4_choice : Choice
 partial_4_choice = (taken_back alfa (everything partial_3))
 
-partial_4_greatest : IsGreatest partial_3 partial_4_choice
+partial_4_greatest : FindsGreatest → IsGreatest partial_3 partial_4_choice
 unfolding first_of order takes settles_at_once queue orders_before balance gain floor credit_of participant_of accounts is_participant order_named posting_named settle mark_of open_day is_weekend days_from_civil weekday_number day_count days_of_years days_of_months withdraw balance_after chosen is_chosen resolve set_credit with_credit post total cut_off close_day with_state overdrawn
-partial_4_greatest = reached_greatest partial_3 partial_4_choice (Without_newest All alfa (inl refl) (record { lt = tt })) (record { le = tt }, (record { le = tt }, (record { le = tt }, tt)))
+partial_4_greatest law = law partial_3 partial_4_choice (Without_newest All alfa (inl refl) (record { lt = tt })) (record { le = tt }, (record { le = tt }, (record { le = tt }, tt)))
 
 abbrev partial_4 : Book
 partial_4 = (resolve partial_3 partial_4_choice).book
 
-pub partial_comes : Comes
+pub partial_comes : FindsGreatest → Comes
     (pays alfa beta 100 (codes "A-1") ∷ pays alfa gama 50 (codes "A-2") ∷ pays beta alfa 100 (codes "B-1") ∷ Resolve ∷ [])
     (Ok (answer.Queued 1 1) ∷ Ok (answer.Queued 2 2) ∷ Ok (answer.Queued 3 1) ∷ Ok (answer.Resolved 1 2 (pos 200)) ∷ [])
     (pos 0 ∷ pos 0 ∷ pos 0 ∷ [])
 unfolding first_of order takes settles_at_once queue orders_before balance gain floor credit_of participant_of accounts is_participant order_named posting_named settle mark_of open_day is_weekend days_from_civil weekday_number day_count days_of_years days_of_months withdraw balance_after chosen is_chosen resolve set_credit with_credit post total cut_off close_day with_state overdrawn
-partial_comes = (partial_4, (partial_1, refl, (partial_2, refl, (partial_3, refl, (partial_4, (partial_4_choice, partial_4_greatest, refl), refl)))), refl)
+partial_comes law = (partial_4, (partial_1, refl, (partial_2, refl, (partial_3, refl, (partial_4, (partial_4_choice, partial_4_greatest law, refl), refl)))), refl)
 
 -- ---- cascade
 
@@ -133,19 +172,19 @@ cascade_6 = (order cascade_5 gama (codes "G-1") alfa 5).book
 abbrev cascade_7_choice : Choice
 cascade_7_choice = (taken_back gama (taken_back beta (taken_back alfa (everything cascade_6))))
 
-cascade_7_greatest : IsGreatest cascade_6 cascade_7_choice
+cascade_7_greatest : FindsGreatest → IsGreatest cascade_6 cascade_7_choice
 unfolding first_of order takes settles_at_once queue orders_before balance gain floor credit_of participant_of accounts is_participant order_named posting_named settle mark_of open_day is_weekend days_from_civil weekday_number day_count days_of_years days_of_months withdraw balance_after chosen is_chosen resolve set_credit with_credit post total cut_off close_day with_state overdrawn
-cascade_7_greatest = reached_greatest cascade_6 cascade_7_choice (Without_newest (Without_newest (Without_newest All alfa (inl refl) (record { lt = tt })) beta (inr (inl refl)) (record { lt = tt })) gama (inr (inr (inl refl))) (record { lt = tt })) (record { le = tt }, (record { le = tt }, (record { le = tt }, tt)))
+cascade_7_greatest law = law cascade_6 cascade_7_choice (Without_newest (Without_newest (Without_newest All alfa (inl refl) (record { lt = tt })) beta (inr (inl refl)) (record { lt = tt })) gama (inr (inr (inl refl))) (record { lt = tt })) (record { le = tt }, (record { le = tt }, (record { le = tt }, tt)))
 
 abbrev cascade_7 : Book
 cascade_7 = (resolve cascade_6 cascade_7_choice).book
 
-pub cascade_comes : Comes
+pub cascade_comes : FindsGreatest → Comes
     (Post alfa (codes "P-1") (pos 10) ∷ pays alfa beta 60 (codes "A-1") ∷ pays alfa gama 10 (codes "A-2") ∷ pays beta alfa 50 (codes "B-1") ∷ pays beta gama 20 (codes "B-2") ∷ pays gama alfa 5 (codes "G-1") ∷ Resolve ∷ [])
     (Ok (answer.Posted 1) ∷ Ok (answer.Queued 1 1) ∷ Ok (answer.Queued 2 2) ∷ Ok (answer.Queued 3 1) ∷ Ok (answer.Queued 4 2) ∷ Ok (answer.Queued 5 1) ∷ Ok (answer.Resolved 1 2 (pos 110)) ∷ [])
     (pos 0 ∷ pos 10 ∷ pos 0 ∷ [])
 unfolding first_of order takes settles_at_once queue orders_before balance gain floor credit_of participant_of accounts is_participant order_named posting_named settle mark_of open_day is_weekend days_from_civil weekday_number day_count days_of_years days_of_months withdraw balance_after chosen is_chosen resolve set_credit with_credit post total cut_off close_day with_state overdrawn
-cascade_comes = (cascade_7, (cascade_1, refl, (cascade_2, refl, (cascade_3, refl, (cascade_4, refl, (cascade_5, refl, (cascade_6, refl, (cascade_7, (cascade_7_choice, cascade_7_greatest, refl), refl))))))), refl)
+cascade_comes law = (cascade_7, (cascade_1, refl, (cascade_2, refl, (cascade_3, refl, (cascade_4, refl, (cascade_5, refl, (cascade_6, refl, (cascade_7, (cascade_7_choice, cascade_7_greatest law, refl), refl))))))), refl)
 
 -- ---- boundary of credit
 
@@ -164,12 +203,18 @@ boundary_of_credit_4 = (order boundary_of_credit_3 alfa (codes "A-1") beta 100).
 abbrev boundary_of_credit_5 : Book
 boundary_of_credit_5 = (order boundary_of_credit_4 alfa (codes "A-1") beta 99).book
 
+abbrev boundary_of_credit_6 : Book
+boundary_of_credit_6 = (set_credit boundary_of_credit_5 alfa 99).book
+
+abbrev boundary_of_credit_7 : Book
+boundary_of_credit_7 = (set_credit boundary_of_credit_6 alfa 100).book
+
 pub boundary_of_credit_comes : Comes
-    (SetCredit alfa 100 ∷ pays alfa beta 100 (codes "A-1") ∷ pays alfa beta 1 (codes "A-2") ∷ pays alfa beta 100 (codes "A-1") ∷ pays alfa beta 99 (codes "A-1") ∷ [])
-    (Ok answer.CreditSet ∷ Ok (answer.Settled 1 1) ∷ Ok (answer.Queued 2 1) ∷ Ok (answer.Repeated (known.Order 1 (state.Settled 1))) ∷ Err refusal.ReferenceUsed ∷ [])
+    (SetCredit alfa 100 ∷ pays alfa beta 100 (codes "A-1") ∷ pays alfa beta 1 (codes "A-2") ∷ pays alfa beta 100 (codes "A-1") ∷ pays alfa beta 99 (codes "A-1") ∷ SetCredit alfa 99 ∷ SetCredit alfa 100 ∷ [])
+    (Ok answer.CreditSet ∷ Ok (answer.Settled 1 1) ∷ Ok (answer.Queued 2 1) ∷ Ok (answer.Repeated (known.Order 1 (state.Settled 1))) ∷ Err refusal.ReferenceUsed ∷ Err refusal.NoCover ∷ Ok answer.CreditSet ∷ [])
     (negsuc 99 ∷ pos 100 ∷ pos 0 ∷ [])
 unfolding first_of order takes settles_at_once queue orders_before balance gain floor credit_of participant_of accounts is_participant order_named posting_named settle mark_of open_day is_weekend days_from_civil weekday_number day_count days_of_years days_of_months withdraw balance_after chosen is_chosen resolve set_credit with_credit post total cut_off close_day with_state overdrawn
-boundary_of_credit_comes = (boundary_of_credit_5, (boundary_of_credit_1, refl, (boundary_of_credit_2, refl, (boundary_of_credit_3, refl, (boundary_of_credit_4, refl, (boundary_of_credit_5, refl, refl))))), refl)
+boundary_of_credit_comes = (boundary_of_credit_7, (boundary_of_credit_1, refl, (boundary_of_credit_2, refl, (boundary_of_credit_3, refl, (boundary_of_credit_4, refl, (boundary_of_credit_5, refl, (boundary_of_credit_6, refl, (boundary_of_credit_7, refl, refl))))))), refl)
 
 -- ---- no bypass
 
@@ -185,19 +230,19 @@ no_bypass_3 = (order no_bypass_2 alfa (codes "A-2") beta 20).book
 abbrev no_bypass_4_choice : Choice
 no_bypass_4_choice = (taken_back alfa (taken_back alfa (everything no_bypass_3)))
 
-no_bypass_4_greatest : IsGreatest no_bypass_3 no_bypass_4_choice
+no_bypass_4_greatest : FindsGreatest → IsGreatest no_bypass_3 no_bypass_4_choice
 unfolding first_of order takes settles_at_once queue orders_before balance gain floor credit_of participant_of accounts is_participant order_named posting_named settle mark_of open_day is_weekend days_from_civil weekday_number day_count days_of_years days_of_months withdraw balance_after chosen is_chosen resolve set_credit with_credit post total cut_off close_day with_state overdrawn
-no_bypass_4_greatest = reached_greatest no_bypass_3 no_bypass_4_choice (Without_newest (Without_newest All alfa (inl refl) (record { lt = tt })) alfa (inl refl) (record { lt = tt })) (record { le = tt }, (record { le = tt }, (record { le = tt }, tt)))
+no_bypass_4_greatest law = law no_bypass_3 no_bypass_4_choice (Without_newest (Without_newest All alfa (inl refl) (record { lt = tt })) alfa (inl refl) (record { lt = tt })) (record { le = tt }, (record { le = tt }, (record { le = tt }, tt)))
 
 abbrev no_bypass_4 : Book
 no_bypass_4 = (resolve no_bypass_3 no_bypass_4_choice).book
 
-pub no_bypass_comes : Comes
+pub no_bypass_comes : FindsGreatest → Comes
     (Post alfa (codes "P-1") (pos 100) ∷ pays alfa beta 150 (codes "A-1") ∷ pays alfa beta 20 (codes "A-2") ∷ Resolve ∷ [])
     (Ok (answer.Posted 1) ∷ Ok (answer.Queued 1 1) ∷ Ok (answer.Queued 2 2) ∷ Ok answer.Nothing ∷ [])
     (pos 100 ∷ pos 0 ∷ pos 0 ∷ [])
 unfolding first_of order takes settles_at_once queue orders_before balance gain floor credit_of participant_of accounts is_participant order_named posting_named settle mark_of open_day is_weekend days_from_civil weekday_number day_count days_of_years days_of_months withdraw balance_after chosen is_chosen resolve set_credit with_credit post total cut_off close_day with_state overdrawn
-no_bypass_comes = (no_bypass_4, (no_bypass_1, refl, (no_bypass_2, refl, (no_bypass_3, refl, (no_bypass_4, (no_bypass_4_choice, no_bypass_4_greatest, refl), refl)))), refl)
+no_bypass_comes law = (no_bypass_4, (no_bypass_1, refl, (no_bypass_2, refl, (no_bypass_3, refl, (no_bypass_4, (no_bypass_4_choice, no_bypass_4_greatest law, refl), refl)))), refl)
 
 -- ---- finality
 
@@ -273,19 +318,19 @@ cut_off_stops_orders_7 = (withdraw cut_off_stops_orders_6 gama (codes "G-1")).bo
 abbrev cut_off_stops_orders_8_choice : Choice
 cut_off_stops_orders_8_choice = (everything cut_off_stops_orders_7)
 
-cut_off_stops_orders_8_greatest : IsGreatest cut_off_stops_orders_7 cut_off_stops_orders_8_choice
+cut_off_stops_orders_8_greatest : FindsGreatest → IsGreatest cut_off_stops_orders_7 cut_off_stops_orders_8_choice
 unfolding first_of order takes settles_at_once queue orders_before balance gain floor credit_of participant_of accounts is_participant order_named posting_named settle mark_of open_day is_weekend days_from_civil weekday_number day_count days_of_years days_of_months withdraw balance_after chosen is_chosen resolve set_credit with_credit post total cut_off close_day with_state overdrawn
-cut_off_stops_orders_8_greatest = reached_greatest cut_off_stops_orders_7 cut_off_stops_orders_8_choice All (record { le = tt }, (record { le = tt }, (record { le = tt }, tt)))
+cut_off_stops_orders_8_greatest law = law cut_off_stops_orders_7 cut_off_stops_orders_8_choice All (record { le = tt }, (record { le = tt }, (record { le = tt }, tt)))
 
 abbrev cut_off_stops_orders_8 : Book
 cut_off_stops_orders_8 = (resolve cut_off_stops_orders_7 cut_off_stops_orders_8_choice).book
 
-pub cut_off_stops_orders_comes : Comes
+pub cut_off_stops_orders_comes : FindsGreatest → Comes
     (pays alfa beta 100 (codes "A-1") ∷ pays beta alfa 100 (codes "B-1") ∷ pays gama alfa 1 (codes "G-1") ∷ CutOff monday ∷ pays alfa beta 5 (codes "A-2") ∷ pays alfa beta 100 (codes "A-1") ∷ Withdraw gama (codes "G-1") ∷ Resolve ∷ [])
     (Ok (answer.Queued 1 1) ∷ Ok (answer.Queued 2 1) ∷ Ok (answer.Queued 3 1) ∷ Ok answer.CutOffDone ∷ Err refusal.NotOpen ∷ Ok (answer.Repeated (known.Order 1 state.Queued)) ∷ Ok (answer.Withdrawn 3) ∷ Ok (answer.Resolved 1 2 (pos 200)) ∷ [])
     (pos 0 ∷ pos 0 ∷ pos 0 ∷ [])
 unfolding first_of order takes settles_at_once queue orders_before balance gain floor credit_of participant_of accounts is_participant order_named posting_named settle mark_of open_day is_weekend days_from_civil weekday_number day_count days_of_years days_of_months withdraw balance_after chosen is_chosen resolve set_credit with_credit post total cut_off close_day with_state overdrawn
-cut_off_stops_orders_comes = (cut_off_stops_orders_8, (cut_off_stops_orders_1, refl, (cut_off_stops_orders_2, refl, (cut_off_stops_orders_3, refl, (cut_off_stops_orders_4, refl, (cut_off_stops_orders_5, refl, (cut_off_stops_orders_6, refl, (cut_off_stops_orders_7, refl, (cut_off_stops_orders_8, (cut_off_stops_orders_8_choice, cut_off_stops_orders_8_greatest, refl), refl)))))))), refl)
+cut_off_stops_orders_comes law = (cut_off_stops_orders_8, (cut_off_stops_orders_1, refl, (cut_off_stops_orders_2, refl, (cut_off_stops_orders_3, refl, (cut_off_stops_orders_4, refl, (cut_off_stops_orders_5, refl, (cut_off_stops_orders_6, refl, (cut_off_stops_orders_7, refl, (cut_off_stops_orders_8, (cut_off_stops_orders_8_choice, cut_off_stops_orders_8_greatest law, refl), refl)))))))), refl)
 
 -- ---- close with gridlock
 
@@ -301,9 +346,9 @@ close_with_gridlock_3 = (order close_with_gridlock_2 gama (codes "G-1") alfa 100
 abbrev close_with_gridlock_4_choice : Choice
 close_with_gridlock_4_choice = (everything close_with_gridlock_3)
 
-close_with_gridlock_4_greatest : IsGreatest close_with_gridlock_3 close_with_gridlock_4_choice
+close_with_gridlock_4_greatest : FindsGreatest → IsGreatest close_with_gridlock_3 close_with_gridlock_4_choice
 unfolding first_of order takes settles_at_once queue orders_before balance gain floor credit_of participant_of accounts is_participant order_named posting_named settle mark_of open_day is_weekend days_from_civil weekday_number day_count days_of_years days_of_months withdraw balance_after chosen is_chosen resolve set_credit with_credit post total cut_off close_day with_state overdrawn
-close_with_gridlock_4_greatest = reached_greatest close_with_gridlock_3 close_with_gridlock_4_choice All (record { le = tt }, (record { le = tt }, (record { le = tt }, tt)))
+close_with_gridlock_4_greatest law = law close_with_gridlock_3 close_with_gridlock_4_choice All (record { le = tt }, (record { le = tt }, (record { le = tt }, tt)))
 
 abbrev close_with_gridlock_4 : Book
 close_with_gridlock_4 = (close_day close_with_gridlock_3 close_with_gridlock_4_choice monday).book
@@ -314,57 +359,19 @@ close_with_gridlock_5 = (cut_off close_with_gridlock_4 monday).book
 abbrev close_with_gridlock_6_choice : Choice
 close_with_gridlock_6_choice = (everything close_with_gridlock_5)
 
-close_with_gridlock_6_greatest : IsGreatest close_with_gridlock_5 close_with_gridlock_6_choice
+close_with_gridlock_6_greatest : FindsGreatest → IsGreatest close_with_gridlock_5 close_with_gridlock_6_choice
 unfolding first_of order takes settles_at_once queue orders_before balance gain floor credit_of participant_of accounts is_participant order_named posting_named settle mark_of open_day is_weekend days_from_civil weekday_number day_count days_of_years days_of_months withdraw balance_after chosen is_chosen resolve set_credit with_credit post total cut_off close_day with_state overdrawn
-close_with_gridlock_6_greatest = reached_greatest close_with_gridlock_5 close_with_gridlock_6_choice All (record { le = tt }, (record { le = tt }, (record { le = tt }, tt)))
+close_with_gridlock_6_greatest law = law close_with_gridlock_5 close_with_gridlock_6_choice All (record { le = tt }, (record { le = tt }, (record { le = tt }, tt)))
 
 abbrev close_with_gridlock_6 : Book
 close_with_gridlock_6 = (close_day close_with_gridlock_5 close_with_gridlock_6_choice monday).book
 
-pub close_with_gridlock_comes : Comes
+pub close_with_gridlock_comes : FindsGreatest → Comes
     (pays alfa beta 100 (codes "A-1") ∷ pays beta gama 100 (codes "B-1") ∷ pays gama alfa 100 (codes "G-1") ∷ CloseDay monday ∷ CutOff monday ∷ CloseDay monday ∷ [])
     (Ok (answer.Queued 1 1) ∷ Ok (answer.Queued 2 1) ∷ Ok (answer.Queued 3 1) ∷ Err refusal.WrongPhase ∷ Ok answer.CutOffDone ∷ Err refusal.Resolvable ∷ [])
     (pos 0 ∷ pos 0 ∷ pos 0 ∷ [])
 unfolding first_of order takes settles_at_once queue orders_before balance gain floor credit_of participant_of accounts is_participant order_named posting_named settle mark_of open_day is_weekend days_from_civil weekday_number day_count days_of_years days_of_months withdraw balance_after chosen is_chosen resolve set_credit with_credit post total cut_off close_day with_state overdrawn
-close_with_gridlock_comes = (close_with_gridlock_6, (close_with_gridlock_1, refl, (close_with_gridlock_2, refl, (close_with_gridlock_3, refl, (close_with_gridlock_4, (close_with_gridlock_4_choice, close_with_gridlock_4_greatest, refl), (close_with_gridlock_5, refl, (close_with_gridlock_6, (close_with_gridlock_6_choice, close_with_gridlock_6_greatest, refl), refl)))))), refl)
-
--- ---- close with deadlock
-
-abbrev close_with_deadlock_1 : Book
-close_with_deadlock_1 = (order start alfa (codes "A-1") beta 100).book
-
-abbrev close_with_deadlock_2 : Book
-close_with_deadlock_2 = (order close_with_deadlock_1 beta (codes "B-1") gama 90).book
-
-abbrev close_with_deadlock_3 : Book
-close_with_deadlock_3 = (cut_off close_with_deadlock_2 monday).book
-
-abbrev close_with_deadlock_4_choice : Choice
-close_with_deadlock_4_choice = (taken_back beta (taken_back alfa (everything close_with_deadlock_3)))
-
-close_with_deadlock_4_greatest : IsGreatest close_with_deadlock_3 close_with_deadlock_4_choice
-unfolding first_of order takes settles_at_once queue orders_before balance gain floor credit_of participant_of accounts is_participant order_named posting_named settle mark_of open_day is_weekend days_from_civil weekday_number day_count days_of_years days_of_months withdraw balance_after chosen is_chosen resolve set_credit with_credit post total cut_off close_day with_state overdrawn
-close_with_deadlock_4_greatest = reached_greatest close_with_deadlock_3 close_with_deadlock_4_choice (Without_newest (Without_newest All alfa (inl refl) (record { lt = tt })) beta (inr (inl refl)) (record { lt = tt })) (record { le = tt }, (record { le = tt }, (record { le = tt }, tt)))
-
-abbrev close_with_deadlock_4 : Book
-close_with_deadlock_4 = (close_day close_with_deadlock_3 close_with_deadlock_4_choice monday).book
-
-abbrev close_with_deadlock_5_choice : Choice
-close_with_deadlock_5_choice = (everything close_with_deadlock_4)
-
-close_with_deadlock_5_greatest : IsGreatest close_with_deadlock_4 close_with_deadlock_5_choice
-unfolding first_of order takes settles_at_once queue orders_before balance gain floor credit_of participant_of accounts is_participant order_named posting_named settle mark_of open_day is_weekend days_from_civil weekday_number day_count days_of_years days_of_months withdraw balance_after chosen is_chosen resolve set_credit with_credit post total cut_off close_day with_state overdrawn
-close_with_deadlock_5_greatest = reached_greatest close_with_deadlock_4 close_with_deadlock_5_choice All (record { le = tt }, (record { le = tt }, (record { le = tt }, tt)))
-
-abbrev close_with_deadlock_5 : Book
-close_with_deadlock_5 = (close_day close_with_deadlock_4 close_with_deadlock_5_choice monday).book
-
-pub close_with_deadlock_comes : Comes
-    (pays alfa beta 100 (codes "A-1") ∷ pays beta gama 90 (codes "B-1") ∷ CutOff monday ∷ CloseDay monday ∷ CloseDay monday ∷ [])
-    (Ok (answer.Queued 1 1) ∷ Ok (answer.Queued 2 1) ∷ Ok answer.CutOffDone ∷ Ok (answer.Closed 2) ∷ Ok (answer.Repeated known.Nothing) ∷ [])
-    (pos 0 ∷ pos 0 ∷ pos 0 ∷ [])
-unfolding first_of order takes settles_at_once queue orders_before balance gain floor credit_of participant_of accounts is_participant order_named posting_named settle mark_of open_day is_weekend days_from_civil weekday_number day_count days_of_years days_of_months withdraw balance_after chosen is_chosen resolve set_credit with_credit post total cut_off close_day with_state overdrawn
-close_with_deadlock_comes = (close_with_deadlock_5, (close_with_deadlock_1, refl, (close_with_deadlock_2, refl, (close_with_deadlock_3, refl, (close_with_deadlock_4, (close_with_deadlock_4_choice, close_with_deadlock_4_greatest, refl), (close_with_deadlock_5, (close_with_deadlock_5_choice, close_with_deadlock_5_greatest, refl), refl))))), refl)
+close_with_gridlock_comes law = (close_with_gridlock_6, (close_with_gridlock_1, refl, (close_with_gridlock_2, refl, (close_with_gridlock_3, refl, (close_with_gridlock_4, (close_with_gridlock_4_choice, close_with_gridlock_4_greatest law, refl), (close_with_gridlock_5, refl, (close_with_gridlock_6, (close_with_gridlock_6_choice, close_with_gridlock_6_greatest law, refl), refl)))))), refl)
 
 -- ---- close with overdraft
 
@@ -383,16 +390,60 @@ close_with_overdraft_4 = (cut_off close_with_overdraft_3 monday).book
 abbrev close_with_overdraft_5_choice : Choice
 close_with_overdraft_5_choice = (taken_back alfa (everything close_with_overdraft_4))
 
-close_with_overdraft_5_greatest : IsGreatest close_with_overdraft_4 close_with_overdraft_5_choice
+close_with_overdraft_5_greatest : FindsGreatest → IsGreatest close_with_overdraft_4 close_with_overdraft_5_choice
 unfolding first_of order takes settles_at_once queue orders_before balance gain floor credit_of participant_of accounts is_participant order_named posting_named settle mark_of open_day is_weekend days_from_civil weekday_number day_count days_of_years days_of_months withdraw balance_after chosen is_chosen resolve set_credit with_credit post total cut_off close_day with_state overdrawn
-close_with_overdraft_5_greatest = reached_greatest close_with_overdraft_4 close_with_overdraft_5_choice (Without_newest All alfa (inl refl) (record { lt = tt })) (record { le = tt }, (record { le = tt }, (record { le = tt }, tt)))
+close_with_overdraft_5_greatest law = law close_with_overdraft_4 close_with_overdraft_5_choice (Without_newest All alfa (inl refl) (record { lt = tt })) (record { le = tt }, (record { le = tt }, (record { le = tt }, tt)))
 
 abbrev close_with_overdraft_5 : Book
 close_with_overdraft_5 = (close_day close_with_overdraft_4 close_with_overdraft_5_choice monday).book
 
-pub close_with_overdraft_comes : Comes
+pub close_with_overdraft_comes : FindsGreatest → Comes
     (SetCredit alfa 100 ∷ pays alfa beta 100 (codes "A-1") ∷ pays alfa beta 1 (codes "A-2") ∷ CutOff monday ∷ CloseDay monday ∷ [])
     (Ok answer.CreditSet ∷ Ok (answer.Settled 1 1) ∷ Ok (answer.Queued 2 1) ∷ Ok answer.CutOffDone ∷ Err (refusal.Overdrawn alfa 1) ∷ [])
     (negsuc 99 ∷ pos 100 ∷ pos 0 ∷ [])
 unfolding first_of order takes settles_at_once queue orders_before balance gain floor credit_of participant_of accounts is_participant order_named posting_named settle mark_of open_day is_weekend days_from_civil weekday_number day_count days_of_years days_of_months withdraw balance_after chosen is_chosen resolve set_credit with_credit post total cut_off close_day with_state overdrawn
-close_with_overdraft_comes = (close_with_overdraft_5, (close_with_overdraft_1, refl, (close_with_overdraft_2, refl, (close_with_overdraft_3, refl, (close_with_overdraft_4, refl, (close_with_overdraft_5, (close_with_overdraft_5_choice, close_with_overdraft_5_greatest, refl), refl))))), refl)
+close_with_overdraft_comes law = (close_with_overdraft_5, (close_with_overdraft_1, refl, (close_with_overdraft_2, refl, (close_with_overdraft_3, refl, (close_with_overdraft_4, refl, (close_with_overdraft_5, (close_with_overdraft_5_choice, close_with_overdraft_5_greatest law, refl), refl))))), refl)
+
+-- ---- first day
+
+abbrev first_day_1_choice : Choice
+first_day_1_choice = (everything unopened)
+
+first_day_1_greatest : FindsGreatest → IsGreatest unopened first_day_1_choice
+unfolding first_of order takes settles_at_once queue orders_before balance gain floor credit_of participant_of accounts is_participant order_named posting_named settle mark_of open_day is_weekend days_from_civil weekday_number day_count days_of_years days_of_months withdraw balance_after chosen is_chosen resolve set_credit with_credit post total cut_off close_day with_state overdrawn
+first_day_1_greatest law = law unopened first_day_1_choice All (record { le = tt }, (record { le = tt }, (record { le = tt }, tt)))
+
+abbrev first_day_1 : Book
+first_day_1 = (close_day unopened first_day_1_choice monday).book
+
+abbrev first_day_2_choice : Choice
+first_day_2_choice = (everything first_day_1)
+
+first_day_2_greatest : FindsGreatest → IsGreatest first_day_1 first_day_2_choice
+unfolding first_of order takes settles_at_once queue orders_before balance gain floor credit_of participant_of accounts is_participant order_named posting_named settle mark_of open_day is_weekend days_from_civil weekday_number day_count days_of_years days_of_months withdraw balance_after chosen is_chosen resolve set_credit with_credit post total cut_off close_day with_state overdrawn
+first_day_2_greatest law = law first_day_1 first_day_2_choice All (record { le = tt }, (record { le = tt }, (record { le = tt }, tt)))
+
+abbrev first_day_2 : Book
+first_day_2 = (resolve first_day_1 first_day_2_choice).book
+
+abbrev first_day_3 : Book
+first_day_3 = (order first_day_2 alfa (codes "A-1") beta 1).book
+
+abbrev first_day_4 : Book
+first_day_4 = (open_day first_day_3 monday).book
+
+abbrev first_day_5 : Book
+first_day_5 = (order first_day_4 alfa (codes "A-1") alfa 1).book
+
+abbrev first_day_6 : Book
+first_day_6 = (order first_day_5 alfa (codes "A-1") zeta 1).book
+
+abbrev first_day_7 : Book
+first_day_7 = (order first_day_6 zeta (codes "Z-1") alfa 1).book
+
+pub first_day_comes : FindsGreatest → ComesFrom unopened
+    (CloseDay monday ∷ Resolve ∷ pays alfa beta 1 (codes "A-1") ∷ OpenDay monday ∷ pays alfa alfa 1 (codes "A-1") ∷ pays alfa zeta 1 (codes "A-1") ∷ pays zeta alfa 1 (codes "Z-1") ∷ [])
+    (Err refusal.WrongPhase ∷ Err refusal.WrongPhase ∷ Err refusal.NotOpen ∷ Ok answer.Opened ∷ Err refusal.SameParty ∷ Err refusal.UnknownReceiver ∷ Err refusal.UnknownParticipant ∷ [])
+    (pos 0 ∷ pos 0 ∷ pos 0 ∷ [])
+unfolding first_of order takes settles_at_once queue orders_before balance gain floor credit_of participant_of accounts is_participant order_named posting_named settle mark_of open_day is_weekend days_from_civil weekday_number day_count days_of_years days_of_months withdraw balance_after chosen is_chosen resolve set_credit with_credit post total cut_off close_day with_state overdrawn
+first_day_comes law = (first_day_7, (first_day_1, (first_day_1_choice, first_day_1_greatest law, refl), (first_day_2, (first_day_2_choice, first_day_2_greatest law, refl), (first_day_3, refl, (first_day_4, refl, (first_day_5, refl, (first_day_6, refl, (first_day_7, refl, refl))))))), refl)

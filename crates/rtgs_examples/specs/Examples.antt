@@ -1,9 +1,9 @@
 -- Worked examples: three banks with no credit on Monday 2024-03-04.
-use Rattle.std.specs.Prelude.{◌≡◌, ℕ, ℤ, List, [], ◌∷◌, map, Some, replicate, codes}
+use Rattle.std.specs.Prelude.{◌≡◌, ℕ, ℤ, List, [], ◌∷◌, map, Some, None, replicate, codes}
 use Rattle.rtgs_book.specs.declared.Command.TheVariants.{Order}
 use Rattle.rtgs_book.specs.declared.Book.{Book}
 use Rattle.rtgs_book.specs.declared.Participant.{Participant}
-use Rattle.rtgs_book.specs.declared.Phase.TheVariants.{Open}
+use Rattle.rtgs_book.specs.declared.Phase.TheVariants.{Open, Closed}
 use Rattle.rtgs_book.specs.Balance.{balance}
 use Rattle.rtgs_book.specs.Lookup.{accounts}
 use Rattle.rtgs_book.specs.declared.Command.{Command}
@@ -43,7 +43,14 @@ start = record {
 abbrev pub pays : List ℕ → List ℕ → ℕ → List ℕ → Command
 pays sender receiver amount reference = Order sender reference receiver amount
 
--- from the start, the commands get these replies and leave these balances
+-- the same before the first day
+abbrev pub unopened : Book
+unopened = record start { day = record { date = None; phase = Closed } }
+
+-- from the book, the commands get these replies and leave these balances
+abbrev pub ComesFrom : Book → List Command → List Reply → List ℤ → Type 0
+ComesFrom book commands replies balances =
+    (end : Book) × Run book commands replies end × (map (balance end) (accounts end) ≡ balances)
+
 abbrev pub Comes : List Command → List Reply → List ℤ → Type 0
-Comes commands replies balances =
-    (end : Book) × Run start commands replies end × (map (balance end) (accounts end) ≡ balances)
+Comes = ComesFrom start

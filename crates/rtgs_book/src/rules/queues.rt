@@ -41,7 +41,7 @@ pub fn queues_fit(alloc: Global, book: &Book) -> Result<bool, AllocError>
     Ok(are_queued_today(book))
 }
 
-// Whether a queued order is there at an open desk alone, and is of the day.
+// Whether nothing is queued while the desk is closed, and queued orders are of the day.
 fn are_queued_today(book: &Book) -> bool
     ensures { result ≡ list_all (λ (o : Order). not (is_queued o) || (not (is_closed book.now.day.phase) && (o.date == today book.now))) book.now.orders }
 {
@@ -56,12 +56,12 @@ fn are_queued_today(book: &Book) -> bool
     )
 }
 
-// Whether each queued order is at an open desk, and of this date.
-fn are_queued_on(orders: &[Order], is_open: bool, today: u32) -> bool
-    ensures { result ≡ list_all (λ (o : Order). not (is_queued o) || (is_open && (o.date == today))) orders.now }
+// Whether there is a day where an order is queued, and each is of this date.
+fn are_queued_on(orders: &[Order], has_day: bool, today: u32) -> bool
+    ensures { result ≡ list_all (λ (o : Order). not (is_queued o) || (has_day && (o.date == today))) orders.now }
 {
     orders.iter().all(|order| order.state != OrderState::Queued
-        || (is_open && order.date.number() == today))
+        || (has_day && order.date.number() == today))
 }
 
 // Whether each participant's queue is short.

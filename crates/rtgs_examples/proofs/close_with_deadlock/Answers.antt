@@ -1,5 +1,0 @@
-use Rattle.rtgs_examples.proofs.Computed.{close_with_deadlock_comes}
-use Rattle.rtgs_examples.proofs.close_with_deadlock.Goals as goal
-
-pub returns : goal.returns
-returns c = close_with_deadlock_comes
