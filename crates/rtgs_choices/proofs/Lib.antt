@@ -1,0 +1,9 @@
+pub mod Agree
+pub mod Chosen
+pub mod Greatest
+pub mod Indexes
+pub mod Resolution
+pub mod Rows
+pub mod Sums
+pub mod Taken
+pub mod Told

@@ -1,0 +1,49 @@
+-- The orders that a choice settles, by their numbers, and the rows that settle them.
+use Rattle.std.specs.Prelude.{ℕ, Bool, not, List, ◌∷◌, ◌++◌, map, filter, take, ⊤}
+use Rattle.std.specs.List.{flat_map, list_any}
+use Rattle.std.specs.Ordering.{int_eq}
+use Rattle.rtgs_book.specs.declared.book.Book.{Book}
+use Rattle.rtgs_book.specs.declared.change.RowChange.{RowChange}
+use Rattle.rtgs_book.specs.declared.change.RowChange.TheVariants.{AddMark, SetBalance, SetState}
+use Rattle.rtgs_book.specs.declared.mark.Mark.{Mark}
+use Rattle.rtgs_book.specs.declared.order.Order.{Order}
+use Rattle.rtgs_book.specs.declared.order_state.OrderState.{OrderState}
+use Rattle.rtgs_book.specs.declared.order_state.OrderState.TheVariants.{Settled}
+use Rattle.rtgs_book.specs.Lookup.{accounts}
+use Rattle.rtgs_book.specs.Balance.{balance}
+use Rattle.rtgs_book.specs.Queue.{queue}
+use Rattle.rtgs_book.specs.Choice.{Choice, balance_after}
+use Rattle.rtgs_book.specs.Commands.{has_number}
+
+-- the numbers of the sender's queued orders
+abbrev pub queued_numbers : Book → List ℕ → List ℕ
+queued_numbers book code = map (λ (order : Order). order.number) (queue book code)
+
+-- account by account the first numbers of the queue, as many as the choice says
+unfoldable pub numbers_taken : Book → Choice → List ℕ
+numbers_taken book choice = flat_map (λ code. take (choice code) (queued_numbers book code)) (accounts book)
+
+-- the order has one of the numbers
+abbrev pub is_numbered : List ℕ → Order → Bool
+is_numbered numbers order = list_any (λ number. has_number number order) numbers
+
+-- the orders with these numbers get this state
+abbrev pub state_rows : OrderState → List ℕ → List RowChange
+state_rows state numbers = map (λ number. SetState number state) numbers
+
+-- the row sets a balance
+abbrev pub IsOfBalance : RowChange → Type 0
+IsOfBalance (SetBalance code cents) = ⊤
+IsOfBalance row = ⊥
+
+-- the choice moves the balance
+abbrev pub moves : Book → Choice → List ℕ → Bool
+moves book choice code = not (int_eq (balance book code) (balance_after book choice code))
+
+-- each balance that the choice moves, in code order
+unfoldable pub balance_rows : Book → Choice → List RowChange
+balance_rows book choice = map (λ code. SetBalance code (balance_after book choice code)) (filter (moves book choice) (accounts book))
+
+-- the orders with these numbers are settled under the mark; then the mark, and the balances
+abbrev pub settling_rows : Book → Choice → List ℕ → Mark → List RowChange
+settling_rows book choice numbers mark = state_rows (Settled mark.number) numbers ++ AddMark mark ∷ balance_rows book choice

@@ -1,0 +1,102 @@
+//! Laws of choices by index, and of the rows that settle a choice. Each function does nothing: its
+//! contract is the law.
+ghost use Rattle.std.specs.Prelude.{◌≡◌, ℕ, ◌<◌, ◌≤◌, false, Ok, List, ◌∷◌, ◌++◌, filter, length, sum_by};
+ghost use Rattle.std.specs.List.{AllByRecursion, flat_map};
+ghost use Rattle.rtgs_gridlock.specs.Choices.{AreFloored, AreInRange, IsWithin, payment_count, after};
+ghost use Rattle.rtgs_gridlock.specs.Choices as resolver;
+ghost use Rattle.rtgs_gridlock.specs.Laws.{order_count, value_of};
+ghost use Rattle.rtgs_book.specs.declared.book.Book.{Book};
+ghost use Rattle.rtgs_book.specs.declared.mark.Mark.{Mark};
+ghost use Rattle.rtgs_book.specs.declared.order.Order.{Order};
+ghost use Rattle.rtgs_book.specs.declared.order_state.OrderState.{OrderState};
+ghost use Rattle.rtgs_book.specs.declared.order_state.OrderState.TheVariants.{Settled};
+ghost use Rattle.rtgs_book.specs.declared.change.RowChange.{RowChange};
+ghost use Rattle.rtgs_book.specs.declared.change.RowChange.TheVariants.{AddMark};
+ghost use Rattle.rtgs_book.specs.declared.command.Command.TheVariants.{Resolve};
+ghost use Rattle.rtgs_book.specs.declared.answer.Answer.TheVariants.{Resolved};
+ghost use Rattle.rtgs_book.specs.Books.{is_empty, is_queued};
+ghost use Rattle.rtgs_book.specs.Lookup.{accounts};
+ghost use Rattle.rtgs_book.specs.Choice.{Choice, is_chosen, chosen, balance_after, IsGreatest};
+ghost use Rattle.rtgs_book.specs.Commands.{with_state};
+ghost use Rattle.rtgs_book.specs.Settle.{settle, mark_of, next_mark};
+ghost use Rattle.rtgs_book.specs.Changes.{changed, SetsBalances, IsChange};
+ghost use Rattle.rtgs_book.specs.Soundness.{IsSound};
+ghost use Rattle.rtgs_book.specs.Step.{Step};
+ghost use Rattle.rtgs_choices.specs.ByIndex.{code_at, index_of, positions_of, queues_of, by_code};
+ghost use Rattle.rtgs_choices.specs.Settling.{queued_numbers, numbers_taken, is_numbered, state_rows, IsOfBalance, settling_rows};
+
+use rtgs_book::laws::{chosen_are_beginnings, settled_balances, step_keeps_soundness};
+
+/// What the resolver is told of a sound book meets its conditions, with 50000 payments at most.
+pub fn conditions_hold()
+    ensures positions { (book : Book) → length (positions_of book) ≡ length (accounts book) }
+    ensures queues { (book : Book) → length (queues_of book) ≡ length (accounts book) }
+    ensures floored { (book : Book) → IsSound book → AreFloored (positions_of book) }
+    ensures receivers { (book : Book) → IsSound book → AreInRange (queues_of book) }
+    ensures payments { (book : Book) → IsSound book → payment_count (queues_of book) ≤ 50000 }
+{}
+
+/// A choice by index and the choice by code that it means take as much of each participant's
+/// queue, leave it the same balance, and have the same count and value.
+pub fn choices_agree()
+    ensures indexes { (book : Book) (i : ℕ) → IsSound book → i < length (accounts book) → index_of book (code_at book i) ≡ i }
+    ensures lengths { (book : Book) (lengths : ℕ → ℕ) (i : ℕ) → IsSound book → i < length (accounts book) → by_code book lengths (code_at book i) ≡ lengths i }
+    ensures balances { (book : Book) (lengths : ℕ → ℕ) (i : ℕ) → IsSound book → i < length (accounts book) → balance_after book (by_code book lengths) (code_at book i) ≡ after (positions_of book) (queues_of book) lengths i }
+    ensures count { (book : Book) (lengths : ℕ → ℕ) → IsSound book → IsWithin (queues_of book) lengths → length (chosen book (by_code book lengths)) ≡ order_count (queues_of book) lengths }
+    ensures value { (book : Book) (lengths : ℕ → ℕ) → IsSound book → sum_by (λ (o : Order). o.amount) (chosen book (by_code book lengths)) ≡ value_of (queues_of book) lengths }
+{
+    chosen_are_beginnings();
+}
+
+/// The resolver's greatest choice by index is the book's greatest choice by code.
+pub fn greatest_means_greatest()
+    ensures { (book : Book) (lengths : ℕ → ℕ) → IsSound book → resolver.IsGreatest (positions_of book) (queues_of book) lengths → IsGreatest book (by_code book lengths) }
+{
+    chosen_are_beginnings();
+}
+
+/// An order is chosen where its number is among the first numbers of the queues, account by
+/// account, and there are as many of these as chosen orders.
+pub fn chosen_numbers()
+    ensures numbers { (book : Book) (choice : Choice) → IsSound book → AllByRecursion (λ order. is_chosen book choice order ≡ is_numbered (numbers_taken book choice) order) book.orders }
+    ensures count { (book : Book) (choice : Choice) → IsSound book → length (chosen book choice) ≡ length (numbers_taken book choice) }
+{
+    chosen_are_beginnings();
+}
+
+/// An order is queued where its number is in one of the queues, account by account, and there are as
+/// many of these as queued orders.
+pub fn queued_are_numbered()
+    ensures numbers { (book : Book) → IsSound book → AllByRecursion (λ order. is_queued order ≡ is_numbered (flat_map (queued_numbers book) (accounts book)) order) book.orders }
+    ensures count { (book : Book) → IsSound book → length (filter is_queued book.orders) ≡ length (flat_map (queued_numbers book) (accounts book)) }
+{}
+
+/// To set the state of one order after another is to set that of all of them. With the mark and
+/// the balances after them, the choice is settled.
+pub fn states_one_by_one()
+    ensures states { (book : Book) (state : OrderState) (numbers : List ℕ) → changed book (state_rows state numbers) ≡ with_state book (is_numbered numbers) state }
+    ensures settled { (book : Book) (choice : Choice) (numbers : List ℕ) (balances : List RowChange) →
+        AllByRecursion (λ order. is_chosen book choice order ≡ is_numbered numbers order) book.orders → is_empty (chosen book choice) ≡ false → AllByRecursion IsOfBalance balances →
+        changed book (state_rows (Settled (next_mark book)) numbers ++ AddMark (mark_of book (chosen book choice)) ∷ balances) ≡ settle book (is_chosen book choice) }
+{}
+
+/// The rows that settle a choice set the balances that move, and no others.
+pub fn balances_one_by_one()
+    ensures { (book : Book) (choice : Choice) (numbers : List ℕ) (mark : Mark) → SetsBalances book (settling_rows book choice numbers mark) (settle book (is_chosen book choice)) }
+{
+    settled_balances();
+}
+
+/// Where the greatest choice has orders, they are what a gridlock's resolution settles, and the
+/// rows that settle them make a change to that book.
+pub fn rows_settle()
+    ensures step { (book : Book) (choice : Choice) (mark : Mark) → IsSound book → IsGreatest book choice → is_empty (chosen book choice) ≡ false → mark ≡ mark_of book (chosen book choice) →
+        Step book Resolve (Ok (Resolved mark.number mark.count mark.value)) (settle book (is_chosen book choice)) }
+    ensures change { (book : Book) (choice : Choice) (mark : Mark) → IsSound book → IsGreatest book choice → is_empty (chosen book choice) ≡ false → mark ≡ mark_of book (chosen book choice) →
+        IsChange book (settling_rows book choice (numbers_taken book choice) mark) (settle book (is_chosen book choice)) }
+{
+    step_keeps_soundness();
+    chosen_numbers();
+    states_one_by_one();
+    balances_one_by_one();
+}
