@@ -1,5 +1,5 @@
 -- Accounts in code order: what a search finds, and what a write at its place does.
-use Rattle.std.proofs.Common.{◌≡◌, ℕ, zero, suc, ◌<◌, ◌≤◌, ℤ, Bool, true, false, not, cond, List, [], ◌∷◌, ◌++◌, map, filter, length, get_or, set, take, drop, find, Some, None, Result, Ok, Err, IfOk, IfErr, Less, Equal, Greater, is_lt, nat_cmp, refl, sym, ap, ◌∙◌, subst, inl, inr, add-one, arith}
+use Rattle.std.proofs.Common.{◌≡◌, ℕ, zero, suc, ◌<◌, ◌≤◌, ℤ, Bool, true, false, not, cond, if◌then◌else◌, List, [], ◌∷◌, ◌++◌, map, filter, length, get_or, set, take, drop, find, Some, None, Result, Ok, Err, IfOk, IfErr, Less, Equal, Greater, is_lt, nat_cmp, refl, sym, ap, ◌∙◌, subst, inl, inr, add-one, arith}
 use Rattle.std.proofs.lemmas.List.Sorted.{searchable_from_sorted}
 use Rattle.std.proofs.lemmas.List.{map-append}
 use Rattle.std.specs.List.{AllByRecursion, insert}
@@ -8,14 +8,14 @@ use Rattle.std.specs.Ordering.{ordering_reverse}
 use Rattle.std.specs.Str.{bytes_eq}
 use Rattle.std.specs.Cmp.Lexicographic.{slice_cmp, bytes_decides, nat_list_cmp_total}
 use Rattle.rtgs_book.specs.Commands.{is_before}
+use Rattle.rtgs_book.specs.Lookup.{has_code}
 use Rattle.std.specs.FinMap.{nat_cmp-IsAntisymmetric, slice_cmp-IsAntisymmetric}
 use Rattle.std.proofs.lemmas.List.Elements.{recursion_from_All}
 use Rattle.std.proofs.lemmas.Bool.{cases_lt}
-use Rattle.rtgs_book.proofs.SoundCredit.{bytes_eq_comm}
-use Rattle.rtgs_book.proofs.Insertions.{map-filter, sorted_put_in}
+use Rattle.rtgs_ledger.proofs.Lists.{bytes_eq_comm, find_none, map-filter, not_before, sorted_put_in}
 use Rattle.rtgs_book.specs.declared.participant.Participant.{Participant}
 use Rattle.rtgs_ledger.specs.declared.account.Account.{Account}
-use Rattle.rtgs_ledger.specs.Accounts.{code_of, participant_of, is_of, AreInCodeOrder, with_account, rebalanced, with_balance, IsAt, IsGapFor}
+use Rattle.rtgs_ledger.specs.Accounts.{code_of, participant_of, is_of, AreInCodeOrder, with_account, with_balance, with_limit, IsAt, IsGapFor}
 
 -- a code that comes before another is another
 pub apart_from_less : (a b : List ℕ) → slice_cmp nat_cmp a b ≡ Less → bytes_eq a b ≡ false
@@ -55,9 +55,6 @@ adjacent [] rise k d lt = absurd (omega arith)
 adjacent (x ∷ xs) rise zero d lt = at_index (λ c. slice_cmp nat_cmp (code_of x) c ≡ Less) xs rise.0 0 d (omega arith)
 adjacent (x ∷ xs) rise (suc k) d lt = adjacent xs rise.1 k d (omega arith)
 
-not_before : (a b : List ℕ) → slice_cmp nat_cmp a b ≡ Less → is_lt (slice_cmp nat_cmp b a) ≡ false
-not_before a b e = ap is_lt (nat_list_cmp_total.antisymm b a ∙ ap ordering_reverse e)
-
 -- an account by its index, and by its code
 pub find_at : (code : List ℕ) (xs : List Account) → AreInCodeOrder xs → (i : ℕ) → IsAt code xs i → (d : Account) → find (is_of code) xs ≡ Some (get_or xs i d)
 unfolding IsStrictlySortedBy
@@ -68,10 +65,6 @@ find_at code (x ∷ xs) rise (suc i) at d =
     let rest : IsAt code xs i = record { in_range = within; has_code = λ d. at.has_code d } in
     let less : slice_cmp nat_cmp (code_of x) code ≡ Less = subst (λ c. slice_cmp nat_cmp (code_of x) c ≡ Less) (at.has_code d) (at_index (λ c. slice_cmp nat_cmp (code_of x) c ≡ Less) xs rise.0 i d within) in
     rw (apart_from_less (code_of x) code less) (find_at code xs rise.1 i rest d)
-
-find_none : (p : Account → Bool) (xs : List Account) → AllByRecursion (λ a. p a ≡ false) xs → find p xs ≡ None
-find_none p [] h = refl
-find_none p (x ∷ xs) h = rw h.0 (find_none p xs h.1)
 
 -- a code that has a gap is not there
 pub find_in_gap : (code : List ℕ) (xs : List Account) (i : ℕ) → IsGapFor code xs i → find (is_of code) xs ≡ None
@@ -131,43 +124,46 @@ pub ordered_with_account : (new : Account) (xs : List Account) → AreInCodeOrde
 ordered_with_account new xs rise apart =
     rw (code_of-with_account new xs) (sorted_put_in (code_of new) (map code_of xs) rise (all_codes (λ c. bytes_eq c (code_of new) ≡ false) xs apart))
 
--- ---- a balance set
+-- ---- the account with a code changed, its code as it was
 
-untouched : (code : List ℕ) (balance : ℤ) (xs : List Account) → AllByRecursion (λ a. is_of code a ≡ false) xs → with_balance code balance xs ≡ xs
-untouched code balance [] h = refl
-untouched code balance (x ∷ xs) h = rw h.0 (ap (λ ys. x ∷ ys) (untouched code balance xs h.1))
+abbrev pub altered : (Account → Account) → List ℕ → Account → Account
+altered f code a = if is_of code a then f a else a
 
-pub with_balance_in_gap : (code : List ℕ) (balance : ℤ) (xs : List Account) (i : ℕ) → IsGapFor code xs i → with_balance code balance xs ≡ xs
-with_balance_in_gap code balance xs i gap = untouched code balance xs gap.apart
+module _ (f : Account → Account) (keeps : (a : Account) → code_of (f a) ≡ code_of a) (code : List ℕ) where
+  untouched : (xs : List Account) → AllByRecursion (λ a. is_of code a ≡ false) xs → map (altered f code) xs ≡ xs
+  untouched [] h = refl
+  untouched (x ∷ xs) h = rw h.0 (ap (λ ys. x ∷ ys) (untouched xs h.1))
 
-later_apart : (c code : List ℕ) → c ≡ code → (xs : List Account) → AllByRecursion (λ d. slice_cmp nat_cmp c d ≡ Less) (map code_of xs) → AllByRecursion (λ a. is_of code a ≡ false) xs
-later_apart c code e [] h = tt
-later_apart c code e (x ∷ xs) h = (bytes_eq_comm (code_of x) code ∙ subst (λ d. bytes_eq d (code_of x) ≡ false) e (apart_from_less c (code_of x) h.0), later_apart c code e xs h.1)
+  pub altered_in_gap : (xs : List Account) (i : ℕ) → IsGapFor code xs i → map (altered f code) xs ≡ xs
+  altered_in_gap xs i gap = untouched xs gap.apart
 
-pub with_balance_at : (code : List ℕ) (balance : ℤ) (xs : List Account) → AreInCodeOrder xs → (i : ℕ) → IsAt code xs i → (d : Account) → set xs i (record (get_or xs i d) { balance = balance }) ≡ with_balance code balance xs
-unfolding IsStrictlySortedBy
-with_balance_at code balance [] rise i at d = absurd (let h = at.in_range in omega arith)
-with_balance_at code balance (x ∷ xs) rise zero at d =
-    rw (equal_codes (code_of x) code (at.has_code d), untouched code balance xs (later_apart (code_of x) code (at.has_code d) xs rise.0)) refl
-with_balance_at code balance (x ∷ xs) rise (suc i) at d =
-    let within : i < length xs = let h = at.in_range in omega arith in
-    let rest : IsAt code xs i = record { in_range = within; has_code = λ d. at.has_code d } in
-    let less : slice_cmp nat_cmp (code_of x) code ≡ Less = subst (λ c. slice_cmp nat_cmp (code_of x) c ≡ Less) (at.has_code d) (at_index (λ c. slice_cmp nat_cmp (code_of x) c ≡ Less) xs rise.0 i d within) in
-    rw (apart_from_less (code_of x) code less) (ap (λ ys. x ∷ ys) (with_balance_at code balance xs rise.1 i rest d))
+  later_apart : (c : List ℕ) → c ≡ code → (xs : List Account) → AllByRecursion (λ d. slice_cmp nat_cmp c d ≡ Less) (map code_of xs) → AllByRecursion (λ a. is_of code a ≡ false) xs
+  later_apart c e [] h = tt
+  later_apart c e (x ∷ xs) h = (bytes_eq_comm (code_of x) code ∙ subst (λ d. bytes_eq d (code_of x) ≡ false) e (apart_from_less c (code_of x) h.0), later_apart c e xs h.1)
 
-code_of-rebalanced : (code : List ℕ) (balance : ℤ) (a : Account) → code_of (rebalanced code balance a) ≡ code_of a
-code_of-rebalanced code balance a = by (is_of code a)
-  where
-    by : (t : Bool) → code_of (cond t (record a { balance = balance }) a) ≡ code_of a
-    by true = refl
-    by false = refl
+  pub altered_at : (xs : List Account) → AreInCodeOrder xs → (i : ℕ) → IsAt code xs i → (d : Account) → set xs i (f (get_or xs i d)) ≡ map (altered f code) xs
+  unfolding IsStrictlySortedBy
+  altered_at [] rise i at d = absurd (let h = at.in_range in omega arith)
+  altered_at (x ∷ xs) rise zero at d = rw (equal_codes (code_of x) code (at.has_code d), untouched xs (later_apart (code_of x) (at.has_code d) xs rise.0)) refl
+  altered_at (x ∷ xs) rise (suc i) at d =
+      let within : i < length xs = let h = at.in_range in omega arith in
+      let rest : IsAt code xs i = record { in_range = within; has_code = λ d. at.has_code d } in
+      let less : slice_cmp nat_cmp (code_of x) code ≡ Less = subst (λ c. slice_cmp nat_cmp (code_of x) c ≡ Less) (at.has_code d) (at_index (λ c. slice_cmp nat_cmp (code_of x) c ≡ Less) xs rise.0 i d within) in
+      rw (apart_from_less (code_of x) code less) (ap (λ ys. x ∷ ys) (altered_at xs rise.1 i rest d))
 
-pub code_of-with_balance : (code : List ℕ) (balance : ℤ) (xs : List Account) → map code_of (with_balance code balance xs) ≡ map code_of xs
-code_of-with_balance code balance [] = refl
-code_of-with_balance code balance (x ∷ xs) = λ i. code_of-rebalanced code balance x i ∷ code_of-with_balance code balance xs i
+  same_code : (a : Account) → code_of (altered f code a) ≡ code_of a
+  same_code a = by (is_of code a)
+    where
+      by : (t : Bool) → code_of (cond t (f a) a) ≡ code_of a
+      by true = keeps a
+      by false = refl
 
-pub ordered_with_balance : (code : List ℕ) (balance : ℤ) (xs : List Account) → AreInCodeOrder xs → AreInCodeOrder (with_balance code balance xs)
-ordered_with_balance code balance xs rise = rw (code_of-with_balance code balance xs) rise
+  same_codes : (xs : List Account) → map code_of (map (altered f code) xs) ≡ map code_of xs
+  same_codes [] = refl
+  same_codes (x ∷ xs) = λ i. same_code x i ∷ same_codes xs i
+
+  pub ordered_altered : (xs : List Account) → AreInCodeOrder xs → AreInCodeOrder (map (altered f code) xs)
+  ordered_altered xs rise = rw (same_codes xs) rise
 
 -- ---- the participants
 
@@ -179,13 +175,18 @@ participant_of-with_account new xs =
       map-filter participant_of (λ (p : Participant). not (is_before p.code (code_of new))) xs,
     ) refl
 
-pub participant_of-rebalanced : (code : List ℕ) (balance : ℤ) (a : Account) → participant_of (rebalanced code balance a) ≡ participant_of a
-participant_of-rebalanced code balance a = by (is_of code a)
+pub participant_of-with_balance : (code : List ℕ) (balance : ℤ) (xs : List Account) → map participant_of (with_balance code balance xs) ≡ map participant_of xs
+participant_of-with_balance code balance [] = refl
+participant_of-with_balance code balance (x ∷ xs) = λ i. by (is_of code x) i ∷ participant_of-with_balance code balance xs i
   where
-    by : (t : Bool) → participant_of (cond t (record a { balance = balance }) a) ≡ participant_of a
+    by : (t : Bool) → participant_of (cond t (record x { balance = balance }) x) ≡ participant_of x
     by true = refl
     by false = refl
 
-pub participant_of-with_balance : (code : List ℕ) (balance : ℤ) (xs : List Account) → map participant_of (with_balance code balance xs) ≡ map participant_of xs
-participant_of-with_balance code balance [] = refl
-participant_of-with_balance code balance (x ∷ xs) = λ i. participant_of-rebalanced code balance x i ∷ participant_of-with_balance code balance xs i
+pub participant_of-with_limit : (code : List ℕ) (credit : ℕ) (xs : List Account) → map participant_of (with_limit code credit xs) ≡ map (λ (p : Participant). if has_code code p then record p { credit = credit } else p) (map participant_of xs)
+participant_of-with_limit code credit [] = refl
+participant_of-with_limit code credit (x ∷ xs) = λ i. by (is_of code x) i ∷ participant_of-with_limit code credit xs i
+  where
+    by : (t : Bool) → participant_of (cond t (record x { participant = record x.participant { credit = credit } }) x) ≡ cond t (record x.participant { credit = credit }) x.participant
+    by true = refl
+    by false = refl

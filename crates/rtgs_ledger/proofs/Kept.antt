@@ -1,62 +1,38 @@
 -- What the accounts of a kept ledger say of its book.
-use Rattle.std.proofs.Common.{◌≡◌, ℕ, ◌+◌, ◌≤◌, ◌^◌, ℤ, pos, neg_ℤ, ◌+ℤ◌, int_lt, Bool, true, false, ◌&&◌, ◌||◌, cond, nat_le, if◌then◌else◌, List, [], ◌∷◌, map, length, find, Ok, Some, None, option_map, refl, sym, ap, ◌∙◌, subst, get_or, ◌<◌, suc, zero, Ordering, Less, Equal, Greater, nat_cmp, rules, arith}
-use Rattle.std.proofs.lemmas.Int.{ints}
-use Rattle.std.proofs.lemmas.Bool.Decides.{Decides-int_eq}
+use Rattle.std.proofs.Common.{◌≡◌, ℕ, ◌*◌, ◌^◌, ℤ, pos, neg_ℤ, ◌+ℤ◌, Bool, true, false, ◌||◌, cond, if◌then◌else◌, List, [], ◌∷◌, map, length, find, Ok, Some, None, option_map, refl, sym, ap, ◌∙◌, subst, get_or, ◌<◌, suc, zero, Ordering, Less, Equal, Greater, nat_cmp, arith}
 use Rattle.std.proofs.lemmas.List.{length-map}
 use Rattle.std.specs.List.{list_any, AllByRecursion}
 use Rattle.std.specs.Str.{bytes_eq}
 use Rattle.std.specs.Ordering.{int_eq, is_eq, eq_by_cmp, ordering_reverse}
 use Rattle.std.specs.BTreeMap.{BTreeMap, get}
-use Rattle.rtgs_money.specs.Amounts.{IsCredit, IsPostingAmount}
-use Rattle.rtgs_book.specs.Laws.{CommandFits}
+use Rattle.rtgs_book.specs.Laws.{CommandFits, BalancesFit}
 use Rattle.rtgs_book.specs.Outcome.{Reply}
 use Rattle.rtgs_book.specs.Ranges.{Fits}
-use Rattle.rtgs_book.specs.Totals.{Totals}
-use Rattle.std.specs.Cmp.{int_eq_equiv}
+use Rattle.rtgs_book.specs.Totals.{Totals, Within}
 use Rattle.std.specs.Cmp.Lexicographic.{bytes_decides, slice_cmp, nat_list_cmp_total}
 use Rattle.rtgs_book.specs.declared.book.Book.{Book}
 use Rattle.rtgs_book.specs.declared.participant.Participant.{Participant}
-use Rattle.rtgs_book.specs.declared.posting.Posting.{Posting}
 use Rattle.rtgs_book.specs.declared.command.Command.{Command}
-use Rattle.rtgs_book.specs.declared.command.Command.TheVariants as command
-use Rattle.rtgs_book.specs.declared.answer.Answer.TheVariants.{Added, Posted, Repeated}
+use Rattle.rtgs_book.specs.declared.answer.Answer.{Answer}
+use Rattle.rtgs_book.specs.declared.answer.Answer.TheVariants.{Repeated}
 use Rattle.rtgs_book.specs.declared.answer.Known.{Known}
-use Rattle.rtgs_book.specs.declared.change.RowChange.TheVariants.{AddParticipant, AddPosting, SetBalance}
+use Rattle.rtgs_book.specs.declared.change.RowChange.{RowChange}
 use Rattle.rtgs_book.specs.Books.{is_closed}
 use Rattle.rtgs_book.specs.Balance.{balance, floor, total}
-use Rattle.rtgs_book.specs.Changes.{Leads, balance_set, SetsBalances}
-use Rattle.rtgs_book.specs.Commands.{with_participant, is_before}
+use Rattle.rtgs_book.specs.Changes.{Leads, StartsEmpty, balance_set, SetsBalances}
 use Rattle.rtgs_book.specs.IntSum.{int_sum_by}
 use Rattle.rtgs_book.specs.Lookup as lookup
 use Rattle.rtgs_book.specs.Lookup.{has_code, accounts, is_participant, credit_of}
 use Rattle.rtgs_book.specs.Soundness.{IsSound}
 use Rattle.rtgs_book.specs.Step.{Step}
-use Rattle.rtgs_book.proofs.Insertions.{all_put_in}
-use Rattle.rtgs_book.proofs.SoundAdd.{balance_none}
-use Rattle.rtgs_book.proofs.SoundCredit.{bytes_eq_comm}
-use Rattle.rtgs_book.proofs.SoundPost.{balance-with_posting}
+use Rattle.rtgs_ledger.proofs.Lists.{bytes_eq_comm, every}
+use Rattle.rtgs_ledger.proofs.Balances.{same_int}
 use Rattle.rtgs_ledger.specs.declared.account.Account.{Account}
 use Rattle.rtgs_ledger.specs.declared.records.Records.{Records}
-use Rattle.rtgs_ledger.specs.Accounts.{AccountList, AreInCodeOrder, code_of, participant_of, balance_of, is_of, has_key, with_account, with_balance, rebalanced}
-use Rattle.rtgs_ledger.specs.Postings.{PostingList}
-use Rattle.rtgs_ledger.specs.Held.{Held}
+use Rattle.rtgs_ledger.specs.Accounts.{AreInCodeOrder, code_of, participant_of, balance_of, is_of, has_key}
+use Rattle.rtgs_ledger.specs.Held.{Held, HasRoom, after}
 use Rattle.rtgs_ledger.specs.Kept.{AreBalanced, IsKept, IsPrepared}
 use Rattle.rtgs_ledger.specs.Records.{held_of, book_of}
-use Rattle.rtgs_ledger.proofs.Adding as adding
-use Rattle.rtgs_ledger.proofs.Posting as posting
-use Rattle.rtgs_ledger.proofs.Posting.{next_posting, with_posting}
-use Rattle.rtgs_ledger.proofs.Ranges.{IsSmall, balances_fit}
-
-same_int : (z : ℤ) → int_eq z z ≡ true
-same_int z = int_eq_equiv.refl z
-
-every : {X : Type 0} (P : X → Type 0) → ((x : X) → P x) → (xs : List X) → AllByRecursion P xs
-every P f [] = tt
-every P f (x ∷ xs) = (f x, every P f xs)
-
-weaker : {X : Type 0} (P Q : X → Type 0) → ((x : X) → P x → Q x) → (xs : List X) → AllByRecursion P xs → AllByRecursion Q xs
-weaker P Q f [] h = tt
-weaker P Q f (x ∷ xs) h = (f x h.0, weaker P Q f xs h.1)
 
 -- ---- the accounts and the participants
 
@@ -75,7 +51,7 @@ any-participants key (x ∷ xs) = ap (λ b. has_key key x || b) (any-participant
 pub length-participants : (xs : List Account) → length (map participant_of xs) ≡ length xs
 length-participants xs = length-map xs participant_of
 
-all_participants : (P : Participant → Type 0) (xs : List Account) → AllByRecursion (λ a. P (participant_of a)) xs → AllByRecursion P (map participant_of xs)
+pub all_participants : (P : Participant → Type 0) (xs : List Account) → AllByRecursion (λ a. P (participant_of a)) xs → AllByRecursion P (map participant_of xs)
 all_participants P [] h = tt
 all_participants P (x ∷ xs) h = (h.0, all_participants P xs h.1)
 
@@ -88,7 +64,15 @@ found_code P code (x ∷ xs) a e h = by (is_of code x) refl e (λ f. found_code 
     by true f g rest = subst P ((bytes_decides (code_of x) code).0 f) h.0
     by false f g rest = rest g
 
-found_balance : (book : Book) (code : List ℕ) (xs : List Account) (a : Account) → find (is_of code) xs ≡ Some a → AreBalanced book xs → a.balance ≡ balance book code
+pub found_is : (code : List ℕ) (xs : List Account) (a : Account) → find (is_of code) xs ≡ Some a → code_of a ≡ code
+found_is code [] a e = absurd (let f : None ≡ Some a = e in cc)
+found_is code (x ∷ xs) a e = by (is_of code x) refl e (λ f. found_is code xs a f)
+  where
+    by : (b : Bool) → is_of code x ≡ b → cond b (Some x) (find (is_of code) xs) ≡ Some a → (find (is_of code) xs ≡ Some a → code_of a ≡ code) → code_of a ≡ code
+    by true f g rest = let same : x ≡ a = cc in ap code_of (sym same) ∙ (bytes_decides (code_of x) code).0 f
+    by false f g rest = rest g
+
+pub found_balance : (book : Book) (code : List ℕ) (xs : List Account) (a : Account) → find (is_of code) xs ≡ Some a → AreBalanced book xs → a.balance ≡ balance book code
 found_balance book code [] a e h = absurd (let f : None ≡ Some a = e in cc)
 found_balance book code (x ∷ xs) a e h = by (is_of code x) refl e (λ f. found_balance book code xs a f h.1)
   where
@@ -104,7 +88,7 @@ found_any code (x ∷ xs) a e = by (is_of code x) refl e (λ f. found_any code x
     by true f g rest = rw (bytes_eq_comm code (code_of x), f) refl
     by false f g rest = rw (bytes_eq_comm code (code_of x), f) (rest g)
 
-none_of : (code : List ℕ) (xs : List Account) → find (is_of code) xs ≡ None → AllByRecursion (λ a. is_of code a ≡ false) xs
+pub none_of : (code : List ℕ) (xs : List Account) → find (is_of code) xs ≡ None → AllByRecursion (λ a. is_of code a ≡ false) xs
 none_of code [] e = tt
 none_of code (x ∷ xs) e = by (is_of code x) refl e (none_of code xs)
   where
@@ -127,7 +111,13 @@ no_balance_set book = every (λ code. balance_set code [] ≡ (if int_eq (balanc
 pub prepared_repeat : (held : Held) (c : Command) (k : Known) → IsKept held → Step held.content c (Ok (Repeated k)) held.content → IsPrepared held c (Repeated k) []
 prepared_repeat held c k kept step = record {
   book = held.content;
-  prepares = record { step = step; leads = record { book = refl; balances = no_balance_set held.content }; sound = kept.sound; fits = kept.fits; empty = tt; balanced = kept.balanced; room = tt };
+  prepares = record {
+    step = step;
+    change = record { leads = record { book = refl; balances = no_balance_set held.content }; added = tt; sound = kept.sound };
+    fits = kept.fits;
+    balanced = kept.balanced;
+    room = tt;
+  };
   repeated = λ _ _. refl;
 }
 
@@ -151,9 +141,10 @@ module _ (r : Records) (kept : IsKept (held_of r)) where
   pub balance_at : (code : List ℕ) (a : Account) → find (is_of code) r.accounts.accounts ≡ Some a → a.balance ≡ balance (book_of r) code
   balance_at code a e = found_balance (book_of r) code r.accounts.accounts a e kept.balanced
 
-  pub balance_fits : (code : List ℕ) (a : Account) → find (is_of code) r.accounts.accounts ≡ Some a → IsSmall a.balance
+  -- the balance is far from the ends of 64 bits
+  pub balance_fits : BalancesFit (book_of r) → (code : List ℕ) (a : Account) → find (is_of code) r.accounts.accounts ≡ Some a → Within (109 * 10 ^ 14) a.balance
   unfolding accounts
-  balance_fits code a e = subst IsSmall (sym (balance_at code a e)) (found_code (λ c. IsSmall (balance (book_of r) c)) code r.accounts.accounts a e (balances_fit (book_of r) kept.sound kept.fits.credits))
+  balance_fits small code a e = subst (Within (109 * 10 ^ 14)) (sym (balance_at code a e)) (found_code (λ c. Within (109 * 10 ^ 14) (balance (book_of r) c)) code r.accounts.accounts a e small)
 
   pub floor_at : (code : List ℕ) (a : Account) → find (is_of code) r.accounts.accounts ≡ Some a → floor (book_of r) code ≡ (if is_closed r.day.phase then pos 0 else neg_ℤ (pos a.participant.credit))
   unfolding floor credit_of
@@ -163,6 +154,10 @@ module _ (r : Records) (kept : IsKept (held_of r)) where
   unfolding total accounts
   total_at = sum_of_balances (book_of r) r.accounts.accounts kept.balanced
 
+-- room is no part of what is kept
+pub kept_same : (held new : Held) → new.content ≡ held.content → new.accounts ≡ held.accounts → IsKept held → IsKept new
+kept_same held new e f kept = record { sound = rw e kept.sound; balanced = rw (e, f) kept.balanced; fits = rw e kept.fits }
+
 -- the law that amounts stay in their ranges
 abbrev pub StepKeepsRanges : Type 0
 StepKeepsRanges = (old new : Book) (c : Command) (reply : Reply) → CommandFits c → Fits old → Step old c reply new → Fits new
@@ -171,118 +166,20 @@ StepKeepsRanges = (old new : Book) (c : Command) (reply : Reply) → CommandFits
 abbrev pub StepKeepsSoundness : Type 0
 StepKeepsSoundness = (old new : Book) (c : Command) (reply : Reply) → IsSound old → Step old c reply new → IsSound new
 
--- ---- a participant added
-
-module _ (r : Records) (kept : IsKept (held_of r)) (new : AccountList) (same : new.accounts ≡ r.accounts.accounts) where
-  pub kept_with_room : IsKept (held_of (record r { accounts = new }))
-  kept_with_room = record { sound = rw same kept.sound; balanced = rw same kept.balanced; fits = rw same kept.fits }
-
-newcomer : List ℕ → List ℕ → List ℕ → Participant
-newcomer code name key = record { code = code; name = name; key = key; credit = 0 }
-
-module _ (r : Records) (kept : IsKept (held_of r)) (code name key : List ℕ) (absent : find (is_of code) r.accounts.accounts ≡ None) where
-  abbrev p : Participant
-  p = record { code = code; name = name; key = key; credit = 0 }
-
-  balance_same : (c : List ℕ) → balance (with_participant (book_of r) p) c ≡ balance (book_of r) c
-  unfolding balance with_participant
-  balance_same c = refl
-
-  leads_to_it : Leads (book_of r) (AddParticipant p ∷ []) (with_participant (book_of r) p)
-  leads_to_it = record {
-    book = refl;
-    balances = every (λ c. balance_set c (AddParticipant p ∷ []) ≡ (if int_eq (balance (book_of r) c) (balance (with_participant (book_of r) p) c) then None else Some (balance (with_participant (book_of r) p) c))) (λ c. rw (balance_same c, same_int (balance (book_of r) c)) refl) (accounts (with_participant (book_of r) p));
-  }
-
-  no_balance : balance (book_of r) code ≡ pos 0
-  no_balance = balance_none (book_of r) code name key kept.sound (all_participants (λ (q : Participant). bytes_eq q.code code ≡ false) r.accounts.accounts (none_of code r.accounts.accounts absent))
-
-  stays_balanced : AreBalanced (with_participant (book_of r) p) (with_account (record { participant = p; balance = pos 0 }) r.accounts.accounts)
-  stays_balanced = all_put_in (λ a. a.balance ≡ balance (with_participant (book_of r) p) (code_of a)) (λ a. is_before (code_of a) code) (record { participant = p; balance = pos 0 }) r.accounts.accounts
-      (weaker (λ (a : Account). a.balance ≡ balance (book_of r) (code_of a)) (λ (a : Account). a.balance ≡ balance (with_participant (book_of r) p) (code_of a)) (λ a e. e ∙ sym (balance_same (code_of a))) r.accounts.accounts kept.balanced)
-      (sym (balance_same code ∙ no_balance))
-
-  pub prepared_add : StepKeepsRanges → StepKeepsSoundness → list_any (has_key key) r.accounts.accounts ≡ false → nat_le 100 (length r.accounts.accounts) ≡ false → 1 ≤ r.accounts.room → IsPrepared (held_of r) (command.Add code name key) Added (AddParticipant p ∷ [])
-  prepared_add law sound free few room =
-      let step = adding.adds (book_of r) code name key (participant_none r kept code absent) (any-participants key r.accounts.accounts ∙ free) (rw (length-participants r.accounts.accounts) few) in
-      record {
-        book = with_participant (book_of r) p;
-        prepares = record {
-          step = step;
-          leads = leads_to_it;
-          fits = law (book_of r) (with_participant (book_of r) p) (command.Add code name key) (Ok Added) tt kept.fits step;
-          sound = sound (book_of r) (with_participant (book_of r) p) (command.Add code name key) (Ok Added) kept.sound step;
-          empty = ((refl, balance_same code ∙ no_balance), tt);
-          balanced = stays_balanced;
-          room = ((absent, room), tt);
-        };
-        repeated = λ k e. absurd (cc);
-      }
-
--- ---- a posting added
-
-int_eq-same : (x y : ℤ) → int_eq x y ≡ true → x ≡ y
-int_eq-same x y e = search (rules, Decides-int_eq)
-
-moved_int : (z cents : ℤ) → (cents ≡ pos 0 → ⊥) → int_eq z (z +ℤ cents) ≡ false
-moved_int z cents apart = by (int_eq z (z +ℤ cents)) refl
-  where
-    by : (b : Bool) → int_eq z (z +ℤ cents) ≡ b → b ≡ false
-    by false e = refl
-    by true e = absurd (apart (let same : z ≡ z +ℤ cents = int_eq-same z (z +ℤ cents) e in omega (arith, ints)))
-
-module _ (r : Records) (kept : IsKept (held_of r)) (new : PostingList) (same : new.postings ≡ r.postings.postings) where
-  pub kept_with_postings : IsKept (held_of (record r { postings = new }))
-  kept_with_postings = record { sound = rw same kept.sound; balanced = rw same kept.balanced; fits = rw same kept.fits }
-
-module _ (r : Records) (kept : IsKept (held_of r)) (code reference : List ℕ) (cents : ℤ) (a : Account) (found : find (is_of code) r.accounts.accounts ≡ Some a) (b : ℤ) (sum : b ≡ a.balance +ℤ cents) where
-  abbrev q : Posting
-  q = next_posting (book_of r) code reference cents
-
-  balance_new : (c : List ℕ) (t : Bool) → bytes_eq code c ≡ t → balance (with_posting (book_of r) q) c ≡ balance (book_of r) c +ℤ (if t then cents else pos 0)
-  balance_new c t e = subst (λ t. balance (with_posting (book_of r) q) c ≡ balance (book_of r) c +ℤ (if t then cents else pos 0)) e (balance-with_posting (book_of r) q c)
-
-  balance_of_it : (c : List ℕ) → bytes_eq code c ≡ true → b ≡ balance (with_posting (book_of r) q) c
-  balance_of_it c e = sum ∙ ap (λ z. z +ℤ cents) (balance_at r kept code a found ∙ ap (balance (book_of r)) ((bytes_decides code c).0 e)) ∙ sym (balance_new c true e)
-
-  balance_of_other : (c : List ℕ) → bytes_eq code c ≡ false → balance (with_posting (book_of r) q) c ≡ balance (book_of r) c
-  balance_of_other c e = balance_new c false e ∙ omega (arith, ints)
-
-  sets_one : (cents ≡ pos 0 → ⊥) → (c : List ℕ) → balance_set c (AddPosting q ∷ SetBalance code b ∷ []) ≡ (if int_eq (balance (book_of r) c) (balance (with_posting (book_of r) q) c) then None else Some (balance (with_posting (book_of r) q) c))
-  sets_one apart c = by (bytes_eq code c) refl
-    where
-      by : (t : Bool) → bytes_eq code c ≡ t → (if t then Some b else None) ≡ (if int_eq (balance (book_of r) c) (balance (with_posting (book_of r) q) c) then None else Some (balance (with_posting (book_of r) q) c))
-      by true e = rw (balance_new c true e, moved_int (balance (book_of r) c) cents apart) (ap Some (balance_of_it c e ∙ balance_new c true e))
-      by false e = rw (balance_of_other c e, same_int (balance (book_of r) c)) refl
-
-  one_balanced : (x : Account) → x.balance ≡ balance (book_of r) (code_of x) → (rebalanced code b x).balance ≡ balance (with_posting (book_of r) q) (code_of (rebalanced code b x))
-  one_balanced x e = by (is_of code x) refl
-    where
-      by : (t : Bool) → is_of code x ≡ t → (if t then record x { balance = b } else x).balance ≡ balance (with_posting (book_of r) q) (code_of (if t then record x { balance = b } else x))
-      by true f = balance_of_it (code_of x) (bytes_eq_comm code (code_of x) ∙ f)
-      by false f = e ∙ sym (balance_of_other (code_of x) (bytes_eq_comm code (code_of x) ∙ f))
-
-  all_balanced : (xs : List Account) → AreBalanced (book_of r) xs → AreBalanced (with_posting (book_of r) q) (with_balance code b xs)
-  all_balanced [] h = tt
-  all_balanced (x ∷ xs) h = (one_balanced x h.0, all_balanced xs h.1)
-
-  pub prepared_post : StepKeepsRanges → StepKeepsSoundness → IsPostingAmount cents → lookup.posting_named (book_of r) reference ≡ None → nat_le 999999999 (length r.postings.postings) ≡ false → (int_lt (pos 0) cents && int_lt (pos (10 ^ 15)) (total (book_of r) +ℤ cents)) ≡ false → (int_lt cents (pos 0) && int_lt (balance (book_of r) code +ℤ cents) (floor (book_of r) code)) ≡ false
-      → 1 ≤ r.postings.room → r.postings.awaited ≡ Some reference → IsPrepared (held_of r) (command.Post code reference cents) (Posted (length r.postings.postings + 1)) (AddPosting q ∷ SetBalance code b ∷ [])
-  prepared_post law sound in_range absent few small covered room awaited =
-      let step = posting.posts (book_of r) code reference cents (is_known r kept code a found) absent few small covered in
-      record {
-        book = with_posting (book_of r) q;
-        prepares = record {
-          step = step;
-          fits = law (book_of r) (with_posting (book_of r) q) (command.Post code reference cents) (Ok (Posted (length r.postings.postings + 1))) in_range kept.fits step;
-          sound = sound (book_of r) (with_posting (book_of r) q) (command.Post code reference cents) (Ok (Posted (length r.postings.postings + 1))) kept.sound step;
-          empty = (tt, (tt, tt));
-          leads = record { book = refl; balances = every _ (sets_one in_range.0) (accounts (with_posting (book_of r) q)) };
-          balanced = all_balanced r.accounts.accounts kept.balanced;
-          room = ((room, awaited), (tt, tt));
-        };
-        repeated = λ k e. absurd (cc);
-      }
+-- a change that leads on, where the laws say that the book stays sound and in range
+pub prepared_done : (held : Held) (c : Command) (a : Answer) (rows : List RowChange) (book : Book) → IsKept held → StepKeepsRanges → StepKeepsSoundness → CommandFits c → Step held.content c (Ok a) book
+    → Leads held.content rows book → AllByRecursion (StartsEmpty book rows) rows → AreBalanced book (after held rows).accounts → HasRoom held rows → ((k : Known) → a ≡ Repeated k → ⊥) → IsPrepared held c a rows
+prepared_done held c a rows book kept ranges soundness in_range step leads added balanced room new = record {
+  book = book;
+  prepares = record {
+    step = step;
+    change = record { leads = leads; added = added; sound = soundness held.content book c (Ok a) kept.sound step };
+    fits = ranges held.content book c (Ok a) in_range kept.fits step;
+    balanced = balanced;
+    room = room;
+  };
+  repeated = λ k e. absurd (new k e);
+}
 
 -- ---- a book loaded
 
@@ -316,9 +213,9 @@ module _ (book : Book) (balances : BTreeMap (List ℕ) ℤ) (totals : Totals (sl
   unfolding accounts
   balance_there = rw (totals (code_at book.participants i d), member_at book.participants i d within) refl
 
-  pub balance_there_fits : IsSound book → AllByRecursion (λ (p : Participant). IsCredit p.credit) book.participants → IsSmall (balance book (code_at book.participants i d))
+  pub balance_there_fits : BalancesFit book → Within (109 * 10 ^ 14) (balance book (code_at book.participants i d))
   unfolding accounts
-  balance_there_fits sound credits = all_codes_at (λ c. IsSmall (balance book c)) book.participants i d within (balances_fit book sound credits)
+  balance_there_fits small = all_codes_at (λ c. Within (109 * 10 ^ 14) (balance book c)) book.participants i d within small
 
 codes-participants : (xs : List Account) → map code_of xs ≡ map (λ (p : Participant). p.code) (map participant_of xs)
 codes-participants [] = refl

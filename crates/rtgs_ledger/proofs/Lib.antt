@@ -1,7 +1,15 @@
 pub mod AccountLemmas
 pub mod Adding
+pub mod Balances
+pub mod Finding
 pub mod Kept
+pub mod Lists
+pub mod Opening
+pub mod OrderLemmas
+pub mod Ordering
+pub mod Places
 pub mod Posting
 pub mod PostingLemmas
-pub mod Ranges
+pub mod QueueLemmas
+pub mod Reading
 pub mod RecordLemmas

@@ -1,5 +1,7 @@
--- What a posting comes to, test by test.
-use Rattle.std.proofs.Common.{◌≡◌, ℕ, ◌+◌, ◌^◌, ℤ, pos, ◌+ℤ◌, true, false, ◌&&◌, nat_le, List, [], ◌∷◌, ◌++◌, length, Ok, Err, Some, None, refl}
+-- What a posting comes to, test by test, and its change.
+use Rattle.std.proofs.Common.{◌≡◌, ℕ, ◌+◌, ◌^◌, ◌≤◌, ℤ, pos, ◌+ℤ◌, Bool, true, false, ◌&&◌, if◌then◌else◌, nat_le, List, [], ◌∷◌, ◌++◌, length, find, Ok, Err, Some, None, refl, sym, ap, subst, ◌∙◌, arith}
+use Rattle.std.proofs.lemmas.Int.{ints}
+use Rattle.std.specs.Cmp.Lexicographic.{bytes_decides}
 use Rattle.std.specs.Prelude.{int_lt}
 use Rattle.std.specs.Str.{bytes_eq}
 use Rattle.std.specs.Ordering.{int_eq}
@@ -14,6 +16,19 @@ use Rattle.rtgs_book.specs.Lookup.{is_participant, posting_named}
 use Rattle.rtgs_book.specs.Outcome.{first_of}
 use Rattle.rtgs_book.specs.Commands.{post}
 use Rattle.rtgs_book.specs.Step.{Step}
+use Rattle.rtgs_money.specs.Amounts.{IsPostingAmount}
+use Rattle.rtgs_book.specs.declared.change.RowChange.TheVariants.{AddPosting, SetBalance}
+use Rattle.rtgs_book.specs.Changes.{Leads, balance_set}
+use Rattle.rtgs_book.specs.Lookup.{accounts}
+use Rattle.rtgs_ledger.specs.declared.account.Account.{Account}
+use Rattle.rtgs_ledger.specs.declared.records.Records.{Records}
+use Rattle.rtgs_ledger.specs.Accounts.{is_of, with_balance}
+use Rattle.rtgs_ledger.specs.Kept.{IsKept, IsPrepared}
+use Rattle.rtgs_ledger.specs.Postings.{PostingList}
+use Rattle.rtgs_ledger.specs.Records.{held_of, book_of}
+use Rattle.rtgs_ledger.proofs.Balances.{same_int, other_int, moved, all_moved, all_same, balance-with_posting}
+use Rattle.rtgs_ledger.proofs.Kept.{StepKeepsRanges, StepKeepsSoundness, is_known, balance_at, prepared_done}
+use Rattle.rtgs_ledger.proofs.Lists.{every}
 
 -- the posting that is added
 abbrev pub next_posting : Book → List ℕ → List ℕ → ℤ → Posting
@@ -51,3 +66,46 @@ module _ (book : Book) (code reference : List ℕ) (cents : ℤ) where
     pub posts : nat_le 999999999 (length book.postings) ≡ false → (int_lt (pos 0) cents && int_lt (pos (10 ^ 15)) (total book +ℤ cents)) ≡ false → (int_lt cents (pos 0) && int_lt (balance book code +ℤ cents) (floor book code)) ≡ false → Step book (command.Post code reference cents) (Ok (Posted (length book.postings + 1))) (with_posting book (next_posting book code reference cents))
     unfolding post first_of
     posts few small covered = rw (known, absent, few, small, covered) refl
+
+moved_int : (z cents : ℤ) → (cents ≡ pos 0 → ⊥) → int_eq z (z +ℤ cents) ≡ false
+moved_int z cents apart = other_int z (z +ℤ cents) (λ e. apart (omega (arith, ints)))
+
+module _ (r : Records) (kept : IsKept (held_of r)) (new : PostingList) (same : new.postings ≡ r.postings.postings) where
+  pub kept_with_postings : IsKept (held_of (record r { postings = new }))
+  kept_with_postings = record { sound = rw same kept.sound; balanced = rw same kept.balanced; fits = rw same kept.fits }
+
+module _ (r : Records) (kept : IsKept (held_of r)) (code reference : List ℕ) (cents : ℤ) (a : Account) (found : find (is_of code) r.accounts.accounts ≡ Some a) (b : ℤ) (sum : b ≡ a.balance +ℤ cents) where
+  abbrev q : Posting
+  q = next_posting (book_of r) code reference cents
+
+  balance_new : (c : List ℕ) (t : Bool) → bytes_eq code c ≡ t → balance (with_posting (book_of r) q) c ≡ balance (book_of r) c +ℤ (if t then cents else pos 0)
+  balance_new c t e = subst (λ t. balance (with_posting (book_of r) q) c ≡ balance (book_of r) c +ℤ (if t then cents else pos 0)) e (balance-with_posting (book_of r) q c)
+
+  balance_of_it : (c : List ℕ) → bytes_eq code c ≡ true → b ≡ balance (with_posting (book_of r) q) c
+  balance_of_it c e = sum ∙ ap (λ z. z +ℤ cents) (balance_at r kept code a found ∙ ap (balance (book_of r)) ((bytes_decides code c).0 e)) ∙ sym (balance_new c true e)
+
+  balance_of_other : (c : List ℕ) → bytes_eq code c ≡ false → balance (with_posting (book_of r) q) c ≡ balance (book_of r) c
+  balance_of_other c e = balance_new c false e ∙ omega (arith, ints)
+
+  sets_one : (cents ≡ pos 0 → ⊥) → (c : List ℕ) → balance_set c (AddPosting q ∷ SetBalance code b ∷ []) ≡ (if int_eq (balance (book_of r) c) (balance (with_posting (book_of r) q) c) then None else Some (balance (with_posting (book_of r) q) c))
+  sets_one apart c = by (bytes_eq code c) refl
+    where
+      by : (t : Bool) → bytes_eq code c ≡ t → (if t then Some b else None) ≡ (if int_eq (balance (book_of r) c) (balance (with_posting (book_of r) q) c) then None else Some (balance (with_posting (book_of r) q) c))
+      by true e = rw (balance_new c true e, moved_int (balance (book_of r) c) cents apart) (ap Some (balance_of_it c e ∙ balance_new c true e))
+      by false e = rw (balance_of_other c e, same_int (balance (book_of r) c)) refl
+
+  is_moved : (c : List ℕ) → moved code b (balance (book_of r)) c ≡ balance (with_posting (book_of r) q) c
+  is_moved c = by (bytes_eq code c) refl
+    where
+      by : (t : Bool) → bytes_eq code c ≡ t → (if t then b else balance (book_of r) c) ≡ balance (with_posting (book_of r) q) c
+      by true e = balance_of_it c e
+      by false e = sym (balance_of_other c e)
+
+  pub prepared_post : StepKeepsRanges → StepKeepsSoundness → IsPostingAmount cents → posting_named (book_of r) reference ≡ None → nat_le 999999999 (length r.postings.postings) ≡ false → (int_lt (pos 0) cents && int_lt (pos (10 ^ 15)) (total (book_of r) +ℤ cents)) ≡ false → (int_lt cents (pos 0) && int_lt (balance (book_of r) code +ℤ cents) (floor (book_of r) code)) ≡ false
+      → 1 ≤ r.postings.room → r.postings.awaited ≡ Some reference → IsPrepared (held_of r) (command.Post code reference cents) (Posted (length r.postings.postings + 1)) (AddPosting q ∷ SetBalance code b ∷ [])
+  prepared_post ranges soundness in_range absent few small covered room awaited =
+      let step = posts (book_of r) code reference cents (is_known r kept code a found) absent few small covered in
+      let leads : Leads (book_of r) (AddPosting q ∷ SetBalance code b ∷ []) (with_posting (book_of r) q) = record { book = refl; balances = every _ (sets_one in_range.0) (accounts (with_posting (book_of r) q)) } in
+      prepared_done (held_of r) (command.Post code reference cents) (Posted (length r.postings.postings + 1)) (AddPosting q ∷ SetBalance code b ∷ []) (with_posting (book_of r) q) kept ranges soundness in_range step leads (tt, (tt, tt))
+      (all_same (moved code b (balance (book_of r))) (balance (with_posting (book_of r) q)) is_moved (with_balance code b r.accounts.accounts) (all_moved code b (balance (book_of r)) r.accounts.accounts kept.balanced))
+      ((room, awaited), (tt, tt)) (λ k e. absurd (cc))

@@ -57,3 +57,10 @@ pub record IsGapFor (code : List ℕ) (accounts : List Account) (i : ℕ) : Type
   pub before : (k : ℕ) (d : Account) → k < i → is_before (code_of (slice_index_or accounts k d)) code ≡ true
   pub after : (k : ℕ) (d : Account) → i ≤ k → k < length accounts → is_before (code_of (slice_index_or accounts k d)) code ≡ false
   pub apart : AllByRecursion (λ a. is_of code a ≡ false) accounts
+
+abbrev pub limited : List ℕ → ℕ → Account → Account
+limited code credit a = if is_of code a then record a { participant = record a.participant { credit = credit } } else a
+
+-- the code's account with this credit limit
+abbrev pub with_limit : List ℕ → ℕ → List Account → List Account
+with_limit code credit = map (limited code credit)

@@ -7,8 +7,8 @@ abbrev pub is_carried_out : Command → Bool
 is_carried_out (Add code name key) = true
 is_carried_out (SetCredit code credit) = false
 is_carried_out (Post code reference cents) = true
-is_carried_out (OpenDay date) = false
-is_carried_out (Order sender reference receiver amount) = false
+is_carried_out (OpenDay date) = true
+is_carried_out (Order sender reference receiver amount) = true
 is_carried_out (Withdraw sender reference) = false
 is_carried_out Resolve = false
 is_carried_out (CutOff date) = false

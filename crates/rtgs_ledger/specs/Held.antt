@@ -1,18 +1,22 @@
 -- A ledger, as contracts see it, and the rows of a change one after another.
-use Rattle.std.specs.Prelude.{◌≡◌, ℕ, ◌-◌, ◌≤◌, pos, List, [], ◌∷◌, Option, Some, None, ⊤}
+use Rattle.std.specs.Prelude.{◌≡◌, ℕ, ◌+◌, ◌-◌, ◌≤◌, pos, false, List, [], ◌∷◌, length, Option, Some, None, ⊤}
 use Rattle.std.specs.List.{find}
 use Rattle.rtgs_book.specs.declared.book.Book.{Book}
 use Rattle.rtgs_book.specs.declared.change.RowChange.{RowChange}
 use Rattle.rtgs_book.specs.declared.change.RowChange.TheVariants.{AddParticipant, AddPosting, AddOrder, AddMark, SetCredit, SetBalance, SetState, SetDay}
+use Rattle.rtgs_book.specs.Books.{is_queued_state}
 use Rattle.rtgs_book.specs.Changes.{with_row}
 use Rattle.rtgs_ledger.specs.declared.account.Account.{Account}
-use Rattle.rtgs_ledger.specs.Accounts.{is_of, with_account, with_balance}
+use Rattle.rtgs_ledger.specs.Accounts.{is_of, with_account, with_balance, with_limit}
 
--- how many participants and postings can be added without memory, and the reference that the next posting has to bear
+-- how many records of each kind can be added without memory, the reference that the next posting has to bear, and the sender and reference of the next order
 pub record Room : Type 0 where
   pub participants : ℕ
   pub postings : ℕ
   pub awaited : Option (List ℕ)
+  pub orders : ℕ
+  pub awaited_order : Option (List ℕ × List ℕ)
+  pub marks : ℕ
 
 -- the book, the running balance of each participant, and the room for what comes next
 pub record Held : Type 0 where
@@ -20,36 +24,29 @@ pub record Held : Type 0 where
   pub accounts : List Account
   pub room : Room
 
--- The row can be made: what it adds is new, and finds its room. Rows that no command makes so far have none.
+-- The row can be made: what it adds is new, and finds its room. No order becomes queued again.
 abbrev pub FindsRoom : Held → RowChange → Type 0
 FindsRoom held (AddParticipant participant) = (find (is_of participant.code) held.accounts ≡ None) × (1 ≤ held.room.participants)
 FindsRoom held (AddPosting posting) = (1 ≤ held.room.postings) × (held.room.awaited ≡ Some posting.reference)
+FindsRoom held (AddOrder order) = (1 ≤ held.room.orders) × (held.room.awaited_order ≡ Some (order.sender, order.reference)) × (order.number ≡ length held.content.orders + 1)
+FindsRoom held (AddMark mark) = 1 ≤ held.room.marks
+FindsRoom held (SetCredit code credit) = ⊤
 FindsRoom held (SetBalance code balance) = ⊤
-FindsRoom held (AddOrder order) = ⊥
-FindsRoom held (AddMark mark) = ⊥
-FindsRoom held (SetCredit code credit) = ⊥
-FindsRoom held (SetState number state) = ⊥
-FindsRoom held (SetDay day) = ⊥
+FindsRoom held (SetState number state) = is_queued_state state ≡ false
+FindsRoom held (SetDay day) = ⊤
 
 abbrev pub accounts_after : List Account → RowChange → List Account
 accounts_after accounts (AddParticipant participant) = with_account (record { participant = participant; balance = pos 0 }) accounts
-accounts_after accounts (AddPosting posting) = accounts
-accounts_after accounts (AddOrder order) = accounts
-accounts_after accounts (AddMark mark) = accounts
-accounts_after accounts (SetCredit code credit) = accounts
+accounts_after accounts (SetCredit code credit) = with_limit code credit accounts
 accounts_after accounts (SetBalance code balance) = with_balance code balance accounts
-accounts_after accounts (SetState number state) = accounts
-accounts_after accounts (SetDay day) = accounts
+accounts_after accounts row = accounts
 
 abbrev pub room_after : Room → RowChange → Room
 room_after room (AddParticipant participant) = record room { participants = room.participants - 1 }
 room_after room (AddPosting posting) = record room { postings = room.postings - 1; awaited = None }
-room_after room (AddOrder order) = room
-room_after room (AddMark mark) = room
-room_after room (SetCredit code credit) = room
-room_after room (SetBalance code balance) = room
-room_after room (SetState number state) = room
-room_after room (SetDay day) = room
+room_after room (AddOrder order) = record room { orders = room.orders - 1; awaited_order = None }
+room_after room (AddMark mark) = record room { marks = room.marks - 1 }
+room_after room row = room
 
 abbrev pub after_row : Held → RowChange → Held
 after_row held row = record { content = with_row held.content row; accounts = accounts_after held.accounts row; room = room_after held.room row }

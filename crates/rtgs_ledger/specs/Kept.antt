@@ -1,9 +1,8 @@
 -- What a ledger keeps, and what makes it ready for a change.
-use Rattle.std.specs.Prelude.{true, ◌≡◌, ◌⊎◌, pos, List, [], None, Ok, Err, ⊤}
+use Rattle.std.specs.Prelude.{true, ◌≡◌, ◌⊎◌, List, [], Ok, Err}
 use Rattle.std.specs.List.{AllByRecursion}
 use Rattle.rtgs_book.specs.declared.book.Book.{Book}
 use Rattle.rtgs_book.specs.declared.change.RowChange.{RowChange}
-use Rattle.rtgs_book.specs.declared.change.RowChange.TheVariants.{AddParticipant}
 use Rattle.rtgs_book.specs.declared.command.Command.{Command}
 use Rattle.rtgs_book.specs.declared.answer.Answer.{Answer}
 use Rattle.rtgs_book.specs.declared.answer.Answer.TheVariants.{Repeated}
@@ -11,7 +10,7 @@ use Rattle.rtgs_book.specs.declared.answer.Known.{Known}
 use Rattle.rtgs_book.specs.declared.refusal.Refusal.{Refusal}
 use Rattle.rtgs_book.specs.declared.refusal.Refusal.TheVariants.{OutOfMemory}
 use Rattle.rtgs_book.specs.Balance.{balance}
-use Rattle.rtgs_book.specs.Changes.{Leads, balance_set}
+use Rattle.rtgs_book.specs.Changes.{IsChange}
 use Rattle.rtgs_book.specs.Ranges.{Fits}
 use Rattle.rtgs_book.specs.Session.{is_judged}
 use Rattle.rtgs_book.specs.Soundness.{IsSound}
@@ -24,11 +23,6 @@ use Rattle.rtgs_ledger.specs.Held.{Held, HasRoom, after}
 abbrev pub AreBalanced : Book → List Account → Type 0
 AreBalanced book accounts = AllByRecursion (λ a. a.balance ≡ balance book (code_of a)) accounts
 
--- a participant that is added has no money yet
-abbrev pub StartsEmpty : Book → List RowChange → RowChange → Type 0
-StartsEmpty new rows (AddParticipant p) = (balance_set p.code rows ≡ None) × (balance new p.code ≡ pos 0)
-StartsEmpty new rows row = ⊤
-
 -- the book is sound, with amounts in their ranges, and the running balances are its balances
 pub record IsKept (held : Held) : Type 0 where
   pub sound : IsSound held.content
@@ -37,14 +31,12 @@ pub record IsKept (held : Held) : Type 0 where
 
 -- The change leads from the held book to the book that the command leaves with this answer, its rows set the running balances right, and
 -- each of them finds its room.
-pub record Prepares (held : Held) (command : Command) (answer : Answer) (change : List RowChange) (book : Book) : Type 0 where
+pub record Prepares (held : Held) (command : Command) (answer : Answer) (rows : List RowChange) (book : Book) : Type 0 where
   pub step : Step held.content command (Ok answer) book
-  pub leads : Leads held.content change book
-  pub sound : IsSound book
+  pub change : IsChange held.content rows book
   pub fits : Fits book
-  pub empty : AllByRecursion (StartsEmpty book change) change
-  pub balanced : AreBalanced book (after held change).accounts
-  pub room : HasRoom held change
+  pub balanced : AreBalanced book (after held rows).accounts
+  pub room : HasRoom held rows
 
 -- so it is for some command
 pub record IsReady (held : Held) (change : List RowChange) : Type 0 where

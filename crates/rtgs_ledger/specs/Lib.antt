@@ -1,6 +1,10 @@
 pub mod Accounts
 pub mod Commands
 pub mod Held
+pub mod Ordering
+pub mod Orders
+pub mod Places
 pub mod Postings
+pub mod Queues
 pub mod Records
 pub mod Kept

@@ -1,9 +1,10 @@
 -- Postings, as contracts see them.
-use Rattle.std.specs.Prelude.{◌≡◌, ℕ, ◌<◌, List, Option, Some, length, slice_index_or}
-use Rattle.std.specs.BTreeMap.{get, BTreeMap}
+use Rattle.std.specs.Prelude.{ℕ, List, Option}
+use Rattle.std.specs.BTreeMap.{BTreeMap}
 use Rattle.std.specs.Ordering.{nat_cmp}
 use Rattle.std.specs.Cmp.Lexicographic.{slice_cmp}
 use Rattle.rtgs_book.specs.declared.posting.Posting.{Posting}
+use Rattle.rtgs_ledger.specs.Places as places
 
 -- the postings, how many more can be added without memory, and the reference that the next one has to bear
 pub record PostingList : Type 0 where
@@ -11,11 +12,10 @@ pub record PostingList : Type 0 where
   pub room : ℕ
   pub awaited : Option (List ℕ)
 
--- the reference of each posting leads to its place
-abbrev pub LeadsHome : List Posting → BTreeMap (List ℕ) ℕ → Type 0
-LeadsHome postings places = (k : ℕ) (d : Posting) → k < length postings → get (slice_cmp nat_cmp) places (slice_index_or postings k d).reference ≡ Some k
+-- what names a posting for good
+abbrev pub reference_of : Posting → List ℕ
+reference_of posting = posting.reference
 
--- and so does the awaited reference, to the next place
-pub record IsIndexed (postings : List Posting) (places : BTreeMap (List ℕ) ℕ) (awaited : Option (List ℕ)) : Type 0 where
-  pub home : LeadsHome postings places
-  pub next : (reference : List ℕ) → awaited ≡ Some reference → get (slice_cmp nat_cmp) places reference ≡ Some (length postings)
+-- the reference of each posting leads to its place, and the awaited reference to the next place
+abbrev pub IsIndexed : List Posting → BTreeMap (List ℕ) ℕ → Option (List ℕ) → Type 0
+IsIndexed = places.IsIndexed (slice_cmp nat_cmp) reference_of

@@ -9,11 +9,11 @@ ghost use Rattle.rtgs_book.specs.IntSum.{int_sum_by};
 ghost use Rattle.rtgs_book.specs.Ranges.{Fits};
 ghost use Rattle.rtgs_book.specs.Soundness.{IsSound};
 ghost use Rattle.rtgs_ledger.specs.Kept.{AreBalanced};
-ghost use Rattle.rtgs_ledger.specs.Accounts.{AreInCodeOrder, IsAt, IsGapFor, is_of, code_of, balance_of, participant_of, has_key, with_account, with_balance};
+ghost use Rattle.rtgs_ledger.specs.Accounts.{AreInCodeOrder, IsAt, IsGapFor, is_of, code_of, balance_of, participant_of, has_key, with_account, with_balance, with_limit};
 
 use crate::account::Account;
-use rtgs_book::{Book, Participant};
-use rtgs_money::{Cents, Code, KeyDigest};
+use rtgs_book::{Book, Participant, laws};
+use rtgs_money::{Cents, Code, Credit, KeyDigest};
 use std::alloc::{AllocError, Global};
 use std::collections::BTreeMap;
 use std::marker::Model;
@@ -44,7 +44,8 @@ impl Accounts {
         ensures participants { IfOk result (λ loaded. map participant_of loaded.accounts ≡ book.now.participants) }
         ensures balanced { IfOk result (λ loaded. AreBalanced book.now loaded.accounts) }
     {
-        let balances = book.balances(alloc)?;
+        laws::balances_are_small();
+        let balances = book.balances()?;
         let mut accounts = Vec::with_capacity(alloc, book.participants.len())?;
         for participant in book.participants.as_slice() {
             accounts.push_reserved(account_of(participant, &balances));
@@ -123,6 +124,17 @@ impl Accounts {
     {
         match self.search(code) {
             Ok(at) => self.accounts[at].balance = balance,
+            Err(_) => {}
+        }
+    }
+
+    /// Sets the credit limit of the account with this code.
+    pub fn set_credit(&mut self, code: &Code, credit: Credit)
+        ensures accounts { self.new.accounts ≡ with_limit code.now credit self.old.accounts }
+        ensures room { self.new.room ≡ self.old.room }
+    {
+        match self.search(code) {
+            Ok(at) => self.accounts[at].participant.credit = credit,
             Err(_) => {}
         }
     }

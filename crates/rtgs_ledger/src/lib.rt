@@ -1,16 +1,20 @@
-//! The book in memory: accounts with their running balances, and postings by their references. A command is prepared,
-//! which makes every growth and changes nothing, and its change is adopted, which takes no memory.
+//! The book in memory: accounts with their running balances, postings by their references, orders by their names and in
+//! the queues of their senders. A command is prepared, which makes every growth and changes nothing, and its change is
+//! adopted, which takes no memory.
 #![tactic(auto)]
 
 mod account;
 mod accounts;
 mod ledger;
+mod orders;
 mod postings;
+mod queues;
 mod records;
 
 pub use crate::account::Account;
 pub use crate::accounts::Accounts;
 pub use crate::ledger::Ledger;
+pub use crate::orders::Orders;
 pub use crate::postings::Postings;
 pub use crate::records::Records;
 

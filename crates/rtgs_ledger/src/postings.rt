@@ -107,6 +107,7 @@ impl Postings {
         ensures room { self.new.room ≡ self.old.room - 1 }
         ensures awaited { self.new.awaited ≡ None }
     {
+        // This kit proves the push only where the type of the date is named here.
         let date: Option<BusinessDate> = posting.date;
         self.awaited = None;
         self.postings.push_reserved(Posting { date, ..posting });

@@ -1,16 +1,21 @@
 //! The rows of a book in memory.
-ghost use Rattle.std.specs.Prelude.{◌≡◌, if◌then◌else◌, ◌&&◌, ◌^◌, pos, neg_ℤ, ◌+ℤ◌, int_lt};
+ghost use Rattle.std.specs.Prelude.{◌≡◌, ◌+◌, ◌<◌, length, if◌then◌else◌, ◌&&◌, ◌^◌, pos, neg_ℤ, ◌+ℤ◌, ◌-ℤ◌, int_lt, int_le, None};
+ghost use Rattle.rtgs_money.specs.Amounts.{IsAmount};
 ghost use Rattle.rtgs_book.specs.IntSum.{int_sum_by};
-ghost use Rattle.rtgs_ledger.specs.Accounts.{balance_of};
-ghost use Rattle.rtgs_book.specs.Books.{is_closed};
+ghost use Rattle.rtgs_ledger.specs.Accounts.{balance_of, code_of};
+ghost use Rattle.rtgs_ledger.specs.Orders.{queued_numbers};
+ghost use Rattle.rtgs_book.specs.Balance.{floor_at};
+ghost use Rattle.rtgs_book.specs.Books.{is_closed, is_open, is_empty};
+ghost use Rattle.rtgs_book.specs.Commands.{is_date, is_later};
 ghost use Rattle.rtgs_ledger.specs.Records.{held_of};
 ghost use Rattle.rtgs_ledger.specs.Held.{FindsRoom, after_row};
 
 use crate::account::Account;
 use crate::accounts::Accounts;
+use crate::orders::Orders;
 use crate::postings::Postings;
-use rtgs_book::{Day, Mark, Order, Phase, RowChange, Rows};
-use rtgs_money::{Cents, PostingAmount};
+use rtgs_book::{Day, Mark, Order, OrderState, Phase, RowChange};
+use rtgs_money::{Amount, BusinessDate, Cents, Code, PostingAmount, Reference};
 
 // The most that all balances together may be, in cents.
 const MAX_TOTAL: i128 = 1_000_000_000_000_000;
@@ -20,8 +25,8 @@ const MAX_TOTAL: i128 = 1_000_000_000_000_000;
 pub struct Records {
     pub accounts: Accounts,
     pub postings: Postings,
-    pub orders: Rows<Order>,
-    pub marks: Rows<Mark>,
+    pub orders: Orders,
+    pub marks: Vec<Mark>,
     pub day: Day,
 }
 
@@ -37,8 +42,49 @@ impl Records {
                 balance: Cents::new(0),
             }),
             RowChange::AddPosting(posting) => self.postings.push(*posting),
+            RowChange::AddOrder(order) => self.orders.push(*order),
+            RowChange::AddMark(mark) => self.marks.push_reserved(*mark),
+            RowChange::SetCredit { code, credit } => self.accounts.set_credit(code, *credit),
             RowChange::SetBalance { code, balance } => self.accounts.set_balance(code, *balance),
-            _ => unreachable!(),
+            RowChange::SetState { number, state } => self.orders.set_state(*number, *state),
+            RowChange::SetDay(day) => self.day = *day,
+        }
+    }
+
+    /// The day's date, if the desk takes orders.
+    pub fn open_date(&self) -> Option<BusinessDate>
+        ensures { result ≡ (if is_open self.now.day.phase then self.now.day.date else None) }
+    {
+        match self.day.phase {
+            Phase::Open => self.day.date,
+            Phase::Closed | Phase::CutOff => None,
+        }
+    }
+
+    /// Whether no day is open.
+    pub fn is_closed(&self) -> bool
+        ensures { result ≡ is_closed self.now.day.phase }
+    {
+        matches!(self.day.phase, Phase::Closed)
+    }
+
+    /// Whether the desk takes orders on this date.
+    pub fn is_open_on(&self, date: BusinessDate) -> bool
+        ensures { result ≡ (is_open self.now.day.phase && is_date self.now.day.date date) }
+    {
+        match self.open_date() {
+            Some(day) => day == date,
+            None => false,
+        }
+    }
+
+    /// Whether the day's date, or the last one while no day is open, comes before this one.
+    pub fn is_before(&self, date: BusinessDate) -> bool
+        ensures { result ≡ is_later date self.now.day.date }
+    {
+        match self.day.date {
+            Some(last) => last < date,
+            None => true,
         }
     }
 
@@ -65,5 +111,50 @@ impl Records {
         ensures { result ≡ (int_lt cents (pos 0) && int_lt balance (if is_closed self.now.day.phase then pos 0 else neg_ℤ (pos account.now.participant.credit))) }
     {
         cents.cents() < 0 && balance.cents() < self.floor(account)
+    }
+
+    /// Whether an order is settled at once: nothing of its sender is queued, and the balance stays at the floor or above.
+    pub fn settles_at_once(&self, sender: &Account, amount: Amount) -> bool
+        ensures value { result ≡ (is_empty (queued_numbers (code_of sender.now) self.now.orders.orders) && int_le (floor_at self.now.day.phase sender.now.participant.credit) (sender.now.balance -ℤ pos amount)) }
+        ensures fits { IsAmount amount }
+    {
+        let balance = i128::from(sender.balance.cents()) - i128::from(amount.cents());
+        self.orders.queue(&sender.participant.code).is_empty()
+            && balance >= i128::from(self.floor(sender))
+    }
+
+    /// The next order, at the end of its sender's queue.
+    pub fn next_order(
+        &self,
+        sender: Code,
+        reference: Reference,
+        receiver: Code,
+        amount: Amount,
+        date: BusinessDate,
+    ) -> Order
+        requires { length self.now.orders.orders < 999999999 }
+        ensures { result ≡ record { number = length self.now.orders.orders + 1; sender = sender; reference = reference; receiver = receiver; amount = amount; date = date; state = OrderState.Queued } }
+    {
+        Order {
+            number: self.orders.len() as u64 + 1,
+            sender,
+            reference,
+            receiver,
+            amount,
+            date,
+            state: OrderState::Queued,
+        }
+    }
+
+    /// The next mark, for one order of this amount.
+    pub fn next_mark(&self, amount: Amount, date: BusinessDate) -> Mark
+        ensures { result ≡ record { number = length self.now.marks.items + 1; date = date; count = 1; value = pos amount } }
+    {
+        Mark {
+            number: self.marks.len() as u64 + 1,
+            date,
+            count: 1,
+            value: Cents::new(amount.cents() as i64),
+        }
     }
 }

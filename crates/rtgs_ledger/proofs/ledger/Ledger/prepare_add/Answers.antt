@@ -1,24 +1,15 @@
-use Rattle.std.proofs.Common.{◌≡◌, ◌∙◌, sym, nat_le, length, Bool, true, false, ◌&&◌, inr, refl, arith}
+use Rattle.std.proofs.Common.{◌≡◌, ◌∙◌, sym, nat_le, length, true, false, ◌&&◌, inr, refl, arith}
 use Rattle.std.proofs.lemmas.Bool.Decides.{nat_tests}
 use Rattle.std.specs.Str.{bytes_eq}
 use Rattle.std.specs.List.{list_any}
 use Rattle.rtgs_book.specs.declared.answer.Known.TheVariants.{Nothing}
 use Rattle.rtgs_ledger.specs.Accounts.{has_key}
 use Rattle.rtgs_ledger.specs.Records.{held_of}
-use Rattle.rtgs_ledger.proofs.Adding.{repeats, code_taken, key_taken, too_many}
-use Rattle.rtgs_ledger.proofs.Kept.{participant_at, participant_none, prepared_repeat, prepared_add, any-participants, length-participants, kept_with_room}
+use Rattle.rtgs_ledger.proofs.Adding.{repeats, code_taken, key_taken, too_many, prepared_add, kept_with_room}
+use Rattle.rtgs_ledger.proofs.Kept.{participant_at, participant_none, prepared_repeat, any-participants, length-participants}
+use Rattle.rtgs_ledger.proofs.Lists.{and_true, and_left, and_right}
 use Rattle.rtgs_ledger.proofs.ledger.Ledger.prepare_add.Goals as goal
 use Rattle.rtgs_ledger.proofs.ledger.Ledger.prepare_add.Goals.{else-eq-via-then-eq+else-eq-2, else-eq-via-else-eq}
-
-and_true : (a b : Bool) → a ≡ true → b ≡ true → (a && b) ≡ true
-and_true a b e f = rw (e, f) refl
-
-and_left : (a b : Bool) → a ≡ false → (a && b) ≡ false
-and_left a b e = rw e refl
-
-and_right : (a b : Bool) → b ≡ false → (a && b) ≡ false
-and_right true b e = e
-and_right false b e = refl
 
 pub returns-then-eq-2-clause-prepared : goal.returns-then-eq-2-clause-prepared
 returns-then-eq-2-clause-prepared c =

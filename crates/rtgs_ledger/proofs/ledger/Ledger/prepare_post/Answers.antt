@@ -1,4 +1,4 @@
-use Rattle.std.proofs.Common.{◌≡◌, ◌∙◌, sym, ap, nat_le, length, Bool, true, false, ◌&&◌, inr, refl, arith}
+use Rattle.std.proofs.Common.{◌≡◌, ◌∙◌, sym, ap, nat_le, length, true, false, ◌&&◌, inr, refl, arith}
 use Rattle.std.proofs.lemmas.Int.{ints}
 use Rattle.std.proofs.lemmas.Bool.Decides.{nat_tests}
 use Rattle.std.specs.Str.{bytes_eq}
@@ -6,20 +6,11 @@ use Rattle.std.specs.Ordering.{int_eq}
 use Rattle.rtgs_book.specs.declared.answer.Known.TheVariants as known
 use Rattle.rtgs_book.specs.Lookup.{posting_named}
 use Rattle.rtgs_ledger.specs.Records.{held_of, book_of}
-use Rattle.rtgs_ledger.proofs.Posting.{unknown, repeats, reference_used, numbers_used_up, total_too_large, no_cover}
-use Rattle.rtgs_ledger.proofs.Kept.{is_known, is_unknown, balance_at, balance_fits, floor_at, total_at, prepared_repeat, prepared_post, kept_with_postings}
+use Rattle.rtgs_ledger.proofs.Posting.{unknown, repeats, reference_used, numbers_used_up, total_too_large, no_cover, prepared_post, kept_with_postings}
+use Rattle.rtgs_ledger.proofs.Kept.{is_known, is_unknown, balance_at, balance_fits, floor_at, total_at, prepared_repeat}
+use Rattle.rtgs_ledger.proofs.Lists.{and_true, and_left, and_right}
 use Rattle.rtgs_ledger.proofs.ledger.Ledger.prepare_post.Goals as goal
 use Rattle.rtgs_ledger.proofs.ledger.Ledger.prepare_post.Goals.{else-eq-via-then-eq+else-eq-2, else-eq-via-else-eq}
-
-and_true : (a b : Bool) → a ≡ true → b ≡ true → (a && b) ≡ true
-and_true a b e f = rw (e, f) refl
-
-and_left : (a b : Bool) → a ≡ false → (a && b) ≡ false
-and_left a b e = rw e refl
-
-and_right : (a b : Bool) → b ≡ false → (a && b) ≡ false
-and_right true b e = e
-and_right false b e = refl
 
 pub returns-in_default-clause-refused : goal.returns-in_default-clause-refused
 returns-in_default-clause-refused c =
@@ -65,7 +56,7 @@ returns-then-is_too_much-clause-refused c =
 pub balance_with-balance-requires : goal.balance_with-balance-requires
 balance_with-balance-requires c =
     let r = c.self.inside.records in
-    let fits = balance_fits r c.self.invariant c.args.code c.in-Some.account (sym c.get.ensures ∙ c.in-Some.is) in
+    let fits = balance_fits r c.self.invariant (c.balances_are_small.ensures (book_of r) (let k = c.self.invariant in k.sound) (let k = c.self.invariant in k.fits)) c.args.code c.in-Some.account (sym c.get.ensures ∙ c.in-Some.is) in
     let low = fits.0 in
     let high = fits.1 in
     let range = c.cents.ensures.in_range in

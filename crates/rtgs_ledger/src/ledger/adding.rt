@@ -1,0 +1,47 @@
+//! Adding a participant.
+ghost use Rattle.std.specs.Prelude.{◌≡◌, IfOk, IfErr};
+ghost use Rattle.rtgs_ledger.specs.Kept.{IsPrepared, IsRefused};
+
+use super::Ledger;
+use rtgs_book::{Answer, Change, Command, Known, Participant, Refusal, RowChange, Rows, laws};
+use rtgs_money::{Code, Credit, KeyDigest, Name};
+
+const MAX_PARTICIPANTS: usize = 100;
+
+impl Ledger {
+    /// A participant is added, in code order.
+    pub(super) fn prepare_add(
+        &mut self,
+        code: Code,
+        name: Name,
+        key: KeyDigest,
+    ) -> Result<(Answer, Change), Refusal>
+        ensures content { self.new.content ≡ self.old.content }
+        ensures prepared { IfOk result (λ (answer, change). IsPrepared self.new (Command.Add code name key) answer change) }
+        ensures refused { IfErr result (IsRefused self.old.content (Command.Add code name key)) }
+    {
+        if let Some(found) = self.records.accounts.get(&code) {
+            if found.participant.name == name && found.participant.key == key {
+                return Ok(self.repeated(Known::Nothing));
+            }
+            return Err(Refusal::CodeTaken);
+        }
+        if self.records.accounts.has_key(&key) {
+            return Err(Refusal::KeyTaken);
+        }
+        if self.records.accounts.len() >= MAX_PARTICIPANTS {
+            return Err(Refusal::TooManyParticipants);
+        }
+        let participant = Participant {
+            code,
+            name,
+            key,
+            credit: Credit::NONE,
+        };
+        laws::step_keeps_ranges();
+        laws::step_keeps_soundness();
+        let rows = vec![in self.alloc; RowChange::AddParticipant(participant)]?;
+        self.records.accounts.reserve()?;
+        Ok((Answer::Added, Rows::from_vec(rows)))
+    }
+}

@@ -1,0 +1,40 @@
+//! Opening a business day.
+ghost use Rattle.std.specs.Prelude.{◌≡◌, IfOk, IfErr};
+ghost use Rattle.rtgs_ledger.specs.Kept.{IsPrepared, IsRefused};
+
+use super::Ledger;
+use rtgs_book::{Answer, Change, Command, Day, Known, Phase, Refusal, RowChange, Rows, laws};
+use rtgs_money::BusinessDate;
+
+impl Ledger {
+    /// The day is opened, where the desk is closed and the date is later than the last one.
+    pub(super) fn prepare_open_day(
+        &mut self,
+        date: BusinessDate,
+    ) -> Result<(Answer, Change), Refusal>
+        ensures content { self.new.content ≡ self.old.content }
+        ensures prepared { IfOk result (λ (answer, change). IsPrepared self.new (Command.OpenDay date) answer change) }
+        ensures refused { IfErr result (IsRefused self.old.content (Command.OpenDay date)) }
+    {
+        if self.records.is_open_on(date) {
+            return Ok(self.repeated(Known::Nothing));
+        }
+        if !self.records.is_closed() {
+            return Err(Refusal::WrongPhase);
+        }
+        if !self.records.is_before(date) {
+            return Err(Refusal::WrongDate);
+        }
+        if date.is_weekend() {
+            return Err(Refusal::Weekend);
+        }
+        laws::step_keeps_ranges();
+        laws::step_keeps_soundness();
+        let day = Day {
+            date: Some(date),
+            phase: Phase::Open,
+        };
+        let rows = vec![in self.alloc; RowChange::SetDay(day)]?;
+        Ok((Answer::Opened, Rows::from_vec(rows)))
+    }
+}

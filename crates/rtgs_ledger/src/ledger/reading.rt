@@ -1,0 +1,51 @@
+//! What the desk reads.
+ghost use Rattle.std.specs.Prelude.{◌≡◌, IfOk, IfSome};
+ghost use Rattle.std.specs.Option.{option_map};
+ghost use Rattle.rtgs_book.specs.Balance.{balance};
+ghost use Rattle.rtgs_book.specs.Lookup.{order_named};
+ghost use Rattle.rtgs_book.specs.Lookup as lookup;
+ghost use Rattle.rtgs_book.specs.Queue.{queue};
+ghost use Rattle.rtgs_ledger.specs.Accounts.{participant_of};
+
+use super::Ledger;
+use crate::account::Account;
+use rtgs_book::{Day, Order};
+use rtgs_money::{Code, Reference};
+use std::alloc::AllocError;
+
+impl Ledger {
+    /// The participant with this code and its balance, if there is one.
+    pub fn account(&self, code: &Code) -> Option<Account>
+        ensures participant { option_map participant_of result ≡ lookup.participant_of self.now.content code.now }
+        ensures balance { IfSome result (λ account. account.balance ≡ balance self.now.content code.now) }
+    {
+        self.records.accounts.get(code)
+    }
+
+    /// The order that the sender gave this reference, if there is one.
+    #[tactic(auto, unfolding(rtgs_book::specs::Lookup::order_named))]
+    pub fn order(&self, sender: &Code, reference: &Reference) -> Option<Order>
+        ensures { result ≡ order_named self.now.content sender.now reference.now }
+    {
+        self.records.orders.get(sender, reference)
+    }
+
+    /// The queued orders of the sender, in their order. It answers want of memory.
+    pub fn queue(&self, sender: &Code) -> Result<Vec<Order>, AllocError>
+        ensures { IfOk result (λ orders. orders.items ≡ queue self.now.content sender.now) }
+    {
+        let numbers = self.records.orders.queue(sender);
+        let mut queue = Vec::with_capacity(self.alloc, numbers.len())?;
+        for number in numbers {
+            queue.push_reserved(self.records.orders.numbered(*number).unwrap());
+        }
+        Ok(queue)
+    }
+
+    /// The business day.
+    pub fn day(&self) -> Day
+        ensures { result ≡ self.now.content.day }
+    {
+        self.records.day
+    }
+}
