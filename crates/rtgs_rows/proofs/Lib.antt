@@ -3,6 +3,8 @@ pub mod Lists
 pub mod Matching
 pub mod Ordered
 pub mod Stored
+pub mod Formed
 pub mod Changed
 pub mod Unique
+pub mod Blank
 pub mod Settling

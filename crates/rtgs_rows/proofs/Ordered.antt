@@ -8,6 +8,7 @@ use Rattle.std.specs.Cmp.{int_cmp_is}
 use Rattle.std.specs.Cmp.Lexicographic.{slice_cmp}
 use Rattle.std.specs.Str.{bytes_eq}
 use Rattle.std.proofs.lemmas.Bool.{cases_Bool}
+use Rattle.std.proofs.lemmas.Bool.Decides.{same_from_decides, Decides-like}
 use Rattle.std.proofs.lemmas.Int.{ints}
 use Rattle.std.proofs.lemmas.List.Sorted.{IsPermutation-map, IsPermutation-sym}
 use Rattle.std.proofs.lemmas.Map.Keys.{IsDistinct-IsPermutation, IsDistinct-from_sorted}
@@ -27,7 +28,6 @@ use Rattle.rtgs_book.specs.Settle.{restated}
 use Rattle.rtgs_book.specs.Commands.{has_number}
 use Rattle.rtgs_book.specs.Lookup.{accounts}
 use Rattle.rtgs_book.specs.Soundness.{IsSound}
-use Rattle.rtgs_book.proofs.SoundCredit.{bytes_eq_comm}
 use Rattle.rtgs_rows.specs.Content.{Holding, Content, newcomer, with_credit_in, with_balance_in, with_change, with_changes, IsInOrder, AreInOrder}
 use Rattle.rtgs_rows.specs.Keeping.{AreOf}
 use Rattle.rtgs_rows.proofs.NextRow.{all_below}
@@ -152,6 +152,9 @@ same_test : {A : Type 0} (e f : A → A → Bool) → ((x y : A) → e x y ≡ f
 unfolding IsDistinct
 same_test e f same [] h = tt
 same_test e f same (x ∷ xs) h = (each_test e f same x xs h.0, same_test e f same xs h.1)
+
+pub bytes_eq_comm : (a b : List ℕ) → bytes_eq a b ≡ bytes_eq b a
+bytes_eq_comm a b = same_from_decides _ _ (bytes_eq-Decides a b) (Decides-like _ (λ e. sym e) (λ e. sym e) (bytes_eq-Decides b a))
 
 apart : (xs : List (List ℕ)) → IsDistinct bytes_eq xs → IsAscending (λ a b. a ≢ b) xs
 unfolding IsDistinct

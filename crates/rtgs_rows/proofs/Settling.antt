@@ -1,5 +1,6 @@
 -- What a keeper over a connection holds, and what a stop may leave of it.
 use Rattle.std.proofs.Common.{◌≡◌, ◌⊎◌, inl, inr, List, IsTrue, sym, ap, subst, ◌∙◌, arith}
+use Rattle.std.specs.List.{AllByRecursion}
 use Rattle.sqlite_trees.specs.declared.store.Store.{Ghosts}
 use Rattle.sqlite.specs.Tree.{Trees}
 use Rattle.sqlite.specs.Effect.{Database}
@@ -7,8 +8,10 @@ use Rattle.sqlite.specs.Held.{Held, state}
 use Rattle.sqlite.specs.State.{State, HasCleanDisk, Survives, IsUnchanged}
 use Rattle.rtgs_book.specs.declared.Book.{Book}
 use Rattle.rtgs_book.specs.declared.RowChange.{RowChange}
+use Rattle.rtgs_book.specs.Changes.{IsChange}
 use Rattle.rtgs_rows.specs.Content.{Content, tables_of, Holds, Rests, AreInOrder, with_changes}
-use Rattle.rtgs_rows.specs.Keeping.{IsChange, HoldsBook, MayLeave}
+use Rattle.rtgs_rows.specs.Fitting.{FitsRow}
+use Rattle.rtgs_rows.specs.Keeping.{HoldsBook, MayLeave}
 use Rattle.rtgs_rows.proofs.Unique.{once}
 use Rattle.rtgs_rows.proofs.Changed.{in_order, changes}
 
@@ -30,24 +33,24 @@ abbrev pub Made : {S : Type 0} → Ghosts S → Held S → List RowChange → Tr
 Made g old rows trees = (content : Content) → Rests content (state g old) → AreInOrder content rows → Holds (with_changes content rows) trees
 
 pub stops_at : {S : Type 0} (g : Ghosts S) (old new : Held S) (rows : List RowChange) → Survives (state g old) (state g new) (Made g old rows) → HasCleanDisk (state g new)
-    → (before after other : Book) → HoldsBook g old before → IsChange before rows after → MayLeave g new other → MayLeave g old other ⊎ (other ≡ after)
-stops_at g old new rows first clean before after other holds change left =
+    → (before after other : Book) → HoldsBook g old before → IsChange before rows after → AllByRecursion FitsRow rows → MayLeave g new other → MayLeave g old other ⊎ (other ≡ after)
+stops_at g old new rows first clean before after other holds change forms left =
     elim (first.crash clean left.0 left.1) [
       | inl was ↦ inl (left.0, was, left.2)
       | inr made ↦
           let there = made holds.0 holds.1 (in_order before after rows holds.0 holds.2 change) in
-          inr (once after other (with_changes holds.0 rows) left.2.0 (changes before after rows holds.0 holds.2 change) left.2.2 (sym there.rows ∙ left.2.1.rows))
+          inr (once after other (with_changes holds.0 rows) left.2.0 (changes before after rows holds.0 holds.2 change forms) left.2.2 (sym there.rows ∙ left.2.1.rows))
     ]
 
 pub stops : {S : Type 0} (g : Ghosts S) (old mid new : Held S) (rows : List RowChange) → Survives (state g old) (state g mid) (Made g old rows) → Survives (state g mid) (state g new) (λ _. ⊥) → HasCleanDisk (state g new)
-    → (before after other : Book) → HoldsBook g old before → IsChange before rows after → MayLeave g new other → MayLeave g old other ⊎ (other ≡ after)
-stops g old mid new rows first second clean before after other holds change left =
-    stops_at g old mid rows first (omega (arith, second.clean)) before after other holds change (leaves_less g mid new second clean other left)
+    → (before after other : Book) → HoldsBook g old before → IsChange before rows after → AllByRecursion FitsRow rows → MayLeave g new other → MayLeave g old other ⊎ (other ≡ after)
+stops g old mid new rows first second clean before after other holds change forms left =
+    stops_at g old mid rows first (omega (arith, second.clean)) before after other holds change forms (leaves_less g mid new second clean other left)
 
 pub done : {S : Type 0} (g : Ghosts S) (old new : Held S) (rows : List RowChange) → ((content : Content) → Rests content (state g old) → AreInOrder content rows → Rests (with_changes content rows) (state g new))
-    → (before after : Book) → HoldsBook g old before → IsChange before rows after → HoldsBook g new after
-done g old new rows made before after holds change =
-    (with_changes holds.0 rows, made holds.0 holds.1 (in_order before after rows holds.0 holds.2 change), changes before after rows holds.0 holds.2 change)
+    → (before after : Book) → HoldsBook g old before → IsChange before rows after → AllByRecursion FitsRow rows → HoldsBook g new after
+done g old new rows made before after holds change forms =
+    (with_changes holds.0 rows, made holds.0 holds.1 (in_order before after rows holds.0 holds.2 change), changes before after rows holds.0 holds.2 change forms)
 
 pub rests_same : (content : Content) (old new : State) → Rests content old → IsUnchanged old new → Rests content new
 rests_same content old new rests same = record {

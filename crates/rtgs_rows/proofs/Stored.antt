@@ -14,11 +14,10 @@ use Rattle.rtgs_book.specs.declared.RowChange.{RowChange}
 use Rattle.rtgs_book.specs.declared.RowChange.TheVariants.{AddParticipant, AddPosting, AddOrder, AddMark, SetCredit, SetBalance, SetState, SetDay}
 use Rattle.rtgs_book.specs.Balance.{balance}
 use Rattle.rtgs_book.specs.Lookup.{accounts}
-use Rattle.rtgs_book.specs.Changes.{balance_set, or_else, SetsBalances}
-use Rattle.rtgs_book.proofs.SoundCredit.{bytes_eq_comm}
+use Rattle.rtgs_book.specs.Changes.{balance_set, or_else, SetsBalances, StartsEmpty}
 use Rattle.rtgs_rows.specs.Content.{Holding, Content, newcomer, with_credit_in, with_balance_in, with_change, with_changes}
-use Rattle.rtgs_rows.specs.Keeping.{AreOf, StartsEmpty}
-use Rattle.rtgs_rows.proofs.Ordered.{all_codes_back}
+use Rattle.rtgs_rows.specs.Keeping.{AreOf}
+use Rattle.rtgs_rows.proofs.Ordered.{bytes_eq_comm, all_codes_back}
 
 -- the rows to come bring each stored balance to its target
 abbrev Come : (List ℕ → ℤ) → List RowChange → List Holding → Type 0

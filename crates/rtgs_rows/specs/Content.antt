@@ -18,7 +18,7 @@ use Rattle.rtgs_book.specs.declared.RowChange.{RowChange}
 use Rattle.rtgs_book.specs.declared.RowChange.TheVariants.{AddParticipant, AddPosting, AddOrder, AddMark, SetCredit, SetBalance, SetState, SetDay}
 use Rattle.rtgs_book.specs.Settle.{restated}
 use Rattle.rtgs_book.specs.Commands.{has_number}
-use Rattle.rtgs_rows.specs.Tables.{desk_schema}
+use Rattle.rtgs_rows.specs.Tables.{no_schema, desk_schema}
 use Rattle.rtgs_rows.specs.Rows.{day_row, participant_row, posting_row, payment_row, mark_row}
 
 -- the rows of the five tables
@@ -51,6 +51,10 @@ pub record Content : Type 0 where
 
 abbrev pub tables_for : Content → Tables
 tables_for c = record { desk = day_row c.day ∷ []; participants = map holding_row c.holdings; postings = map posting_row c.postings; payments = map payment_row c.orders; marks = map mark_row c.marks }
+
+-- the trees are a database that has no tables
+abbrev pub HasNoTables : Trees → Type 0
+HasNoTables = IsSound no_schema
 
 -- the trees are a database of the five tables, with these records
 pub record Holds (content : Content) (trees : Trees) : Type 0 where

@@ -9,6 +9,8 @@ use Rattle.rtgs_book.specs.declared.Posting.{Posting}
 use Rattle.rtgs_book.specs.declared.Order.{Order}
 use Rattle.rtgs_book.specs.declared.Mark.{Mark}
 use Rattle.rtgs_book.specs.declared.Book.{Book}
+use Rattle.rtgs_book.specs.declared.RowChange.{RowChange}
+use Rattle.rtgs_book.specs.declared.RowChange.TheVariants.{AddParticipant, AddPosting, AddOrder, AddMark, SetCredit, SetDay}
 
 abbrev pub FitsDate : Option ℕ → Type 0
 FitsDate None = ⊤
@@ -43,3 +45,13 @@ pub record Fits (book : Book) : Type 0 where
   pub orders : AllByRecursion FitsOrder book.orders
   pub marks : AllByRecursion FitsMark book.marks
   pub day : FitsDate book.day.date
+
+-- each value that a change of one row brings into the book is in its form and range
+abbrev pub FitsRow : RowChange → Type 0
+FitsRow (AddParticipant p) = FitsParticipant p
+FitsRow (AddPosting p) = FitsPosting p
+FitsRow (AddOrder o) = FitsOrder o
+FitsRow (AddMark m) = FitsMark m
+FitsRow (SetCredit code credit) = IsCredit credit
+FitsRow (SetDay day) = FitsDate day.date
+FitsRow row = ⊤

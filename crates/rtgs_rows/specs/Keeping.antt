@@ -1,5 +1,5 @@
 -- The book that the tables hold.
-use Rattle.std.specs.Prelude.{◌≡◌, pos, None, List, map, ⊤, IsPermutation}
+use Rattle.std.specs.Prelude.{◌≡◌, map, IsPermutation}
 use Rattle.std.specs.List.{AllByRecursion}
 use Rattle.std.specs.Ordering.{int_cmp}
 use Rattle.std.specs.declared.cmp.Ordering.TheVariants.{Less}
@@ -7,11 +7,8 @@ use Rattle.sqlite_trees.specs.declared.store.Store.{Ghosts}
 use Rattle.sqlite.specs.Tree.{Trees, IsAscending}
 use Rattle.sqlite.specs.Held.{Held, state}
 use Rattle.rtgs_book.specs.declared.Book.{Book}
-use Rattle.rtgs_book.specs.declared.RowChange.{RowChange}
-use Rattle.rtgs_book.specs.declared.RowChange.TheVariants.{AddParticipant}
 use Rattle.rtgs_book.specs.Balance.{balance}
 use Rattle.rtgs_book.specs.Soundness.{IsSound}
-use Rattle.rtgs_book.specs.Changes.{Leads, balance_set}
 use Rattle.rtgs_rows.specs.Content.{Holding, Content, Holds, Rests}
 use Rattle.rtgs_rows.specs.Fitting.{Fits}
 
@@ -30,18 +27,6 @@ pub record IsBookOf (book : Book) (content : Content) : Type 0 where
   pub ids : IsAscending (λ (a b : Holding). int_cmp a.id b.id ≡ Less) content.holdings
   pub sound : IsSound book
   pub fits : Fits book
-
--- a participant that is added has no money yet
-abbrev pub StartsEmpty : Book → List RowChange → RowChange → Type 0
-StartsEmpty new rows (AddParticipant p) = (balance_set p.code rows ≡ None) × (balance new p.code ≡ pos 0)
-StartsEmpty new rows row = ⊤
-
--- The rows lead from the old book to the new one, which is sound, and set just the balances that move.
-pub record IsChange (old : Book) (rows : List RowChange) (new : Book) : Type 0 where
-  pub leads : Leads old rows new
-  pub added : AllByRecursion (StartsEmpty new rows) rows
-  pub sound : IsSound new
-  pub fits : Fits new
 
 -- the tables of the connection hold the book
 abbrev pub HoldsBook : {S : Type 0} → Ghosts S → Held S → Book → Type 0

@@ -19,3 +19,10 @@ pub mod CreateTexts
 pub mod CreateLemmas
 pub mod NewBook
 pub mod Decoding
+pub mod Accounts
+pub mod Blank
+pub mod Judging
+pub mod CodeOrder
+pub mod OrderNumbers
+pub mod Credits
+pub mod Making

@@ -1,22 +1,25 @@
 -- The book of a new desk.
-use Rattle.std.proofs.Common.{◌≡◌, ◌⊎◌, inl, inr, [], Bool, true, false, refl, sym, ◌∙◌, arith}
+use Rattle.std.proofs.Common.{◌≡◌, inl, inr, [], Bool, true, false, refl, sym, ap, ◌∙◌, arith}
 use Rattle.std.proofs.lemmas.Int.{ints}
 use Rattle.std.proofs.lemmas.List.Sorted.{IsPermutation-refl}
 use Rattle.std.specs.List.{IsDistinct}
 use Rattle.std.specs.List.Sorted.{IsStrictlySortedBy}
 use Rattle.sqlite_trees.specs.declared.store.Store.{Ghosts}
+use Rattle.sqlite.specs.Effect.{Database}
+use Rattle.sqlite.specs.Tree.{Trees}
 use Rattle.sqlite.specs.Held.{Held, state}
-use Rattle.sqlite.specs.State.{HasCleanDisk, Survives}
+use Rattle.sqlite.specs.State.{State, HasCleanDisk, Survives, IsUnchanged}
 use Rattle.rtgs_book.specs.declared.Book.{Book}
 use Rattle.rtgs_book.specs.Lookup.{accounts}
 use Rattle.rtgs_book.specs.Balance.{total}
 use Rattle.rtgs_book.specs.Soundness.{IsSound}
-use Rattle.rtgs_rows.specs.Content.{Holds, Rests}
+use Rattle.rtgs_rows.specs.Content.{HasNoTables, Holds, Rests}
 use Rattle.rtgs_rows.specs.Keeping.{IsBookOf, HoldsBook, MayLeave}
+use Rattle.rtgs_rows.proofs.Blank.{no_book}
 use Rattle.rtgs_rows.proofs.Unique.{once}
-use Rattle.rtgs_tables.specs.Building.{IsBlank, first_content, new_book}
+use Rattle.rtgs_tables.specs.Building.{IsBlank, IsNoneOrNew, first_content, new_book}
 
-sound : IsSound new_book
+pub sound : IsSound new_book
 unfolding accounts total IsDistinct IsStrictlySortedBy
 sound = record {
   orders_numbered = (refl, omega arith);
@@ -46,10 +49,17 @@ is_new = record {
 pub holds_new : {S : Type 0} (g : Ghosts S) (h : Held S) → Rests first_content (state g h) → HoldsBook g h new_book
 holds_new g h rests = (first_content, rests, is_new)
 
--- a stop leaves what it could leave before, or the tables of the new book
+-- a stop leaves what it could leave before, which is no tables, or those of the new book
 pub leaves_new : {S : Type 0} (g : Ghosts S) (old new : Held S) → Survives (state g old) (state g new) (λ trees. IsBlank (state g old) → Holds first_content trees) → HasCleanDisk (state g new) → IsBlank (state g old)
-    → (other : Book) → MayLeave g new other → MayLeave g old other ⊎ (other ≡ new_book)
-leaves_new g old new s clean blank other left = elim (s.crash clean left.0 left.1) [
-  | inl was ↦ inl (left.0, was, left.2)
-  | inr made ↦ inr (once new_book other first_content left.2.0 is_new left.2.2 (sym (made blank).rows ∙ left.2.1.rows))
+    → ((trees : Trees) → (state g old).may_leave trees → HasNoTables trees) → (trees : Trees) → (state g new).may_leave trees → IsNoneOrNew trees
+leaves_new g old new s clean blank none trees left = elim (s.crash clean trees left) [ inl was ↦ inl (none trees was) | inr made ↦ inr (made blank) ]
+
+-- and so the new book, if any
+pub only_new : {S : Type 0} (g : Ghosts S) (h : Held S) → ((trees : Trees) → (state g h).may_leave trees → IsNoneOrNew trees) → (other : Book) → MayLeave g h other → other ≡ new_book
+only_new g h all other left = elim (all left.0 left.1) [
+  | inl none ↦ absurd (no_book left.0 left.2.0 none left.2.1)
+  | inr made ↦ once new_book other first_content left.2.0 is_new left.2.2 (sym made.rows ∙ left.2.1.rows)
 ]
+
+pub still_blank : (old new : State) → IsBlank old → IsUnchanged old new → IsBlank new
+still_blank old new blank same = record { is_open = same.0.is_open; schema = ap (λ (d : Database). d.schema) same.0.committed_is ∙ blank.schema; clean = same.0.now_is ∙ blank.clean ∙ sym same.0.committed_is }

@@ -1,6 +1,5 @@
 -- The five queries.
-use Rattle.std.proofs.Common.{◌≡◌, false, ℕ, pos, List, [], ◌∷◌, map, codes, Ok, Err, Result, IfOk, Vec, Global, refl, sym, ap, ap₂, subst, ◌∙◌}
-use Rattle.std.specs.List.{AllByRecursion}
+use Rattle.std.proofs.Common.{◌≡◌, false, ℕ, pos, List, [], ◌∷◌, map, codes, Ok, Err, Result, IfOk, Vec, Global, refl, sym, ap, subst, ◌∙◌}
 use Rattle.std.specs.List.Sorted.{IsPermutation}
 use Rattle.std.proofs.lemmas.List.Sorted.{IsPermutation-map, IsPermutation-sym}
 use Rattle.std.specs.declared.cmp.Ordering.TheVariants.{Less}
@@ -20,17 +19,14 @@ use Rattle.sqlite.specs.State.{State, Shown}
 use Rattle.sqlite_keyed.proofs.ListLemmas.{ascending-map, ascending_weaker, map-map, map_same}
 use Rattle.rtgs_book.specs.declared.Book.{Book}
 use Rattle.rtgs_book.specs.declared.Day.{Day}
-use Rattle.rtgs_book.specs.declared.Participant.{Participant}
 use Rattle.rtgs_book.specs.declared.Posting.{Posting}
 use Rattle.rtgs_book.specs.declared.Order.{Order}
 use Rattle.rtgs_book.specs.declared.Mark.{Mark}
-use Rattle.rtgs_book.specs.Balance.{balance}
 use Rattle.rtgs_rows.specs.Tables.{desk_schema}
 use Rattle.rtgs_rows.specs.Rows.{day_row, posting_row, payment_row, mark_row, shown_day, shown_account, shown_posting, shown_order, shown_mark}
 use Rattle.rtgs_rows.specs.Content.{Tables, Holding, Content, holding_row, Rests}
-use Rattle.rtgs_rows.specs.Keeping.{IsBookOf}
-use Rattle.rtgs_rows.proofs.Ordered.{keys_of}
-use Rattle.rtgs_rows.proofs.Unique.{rising}
+use Rattle.rtgs_tables.specs.declared.account.Account.{Account}
+use Rattle.rtgs_tables.specs.Accounts.{stored_account, AreRead}
 use Rattle.rtgs_tables.proofs.Queries.{simple}
 use Rattle.rtgs_tables.proofs.Showing.{Selects, first_up, numbered, shown_are}
 
@@ -114,31 +110,31 @@ pub marks_selects : Selects marks_text 8 marks_project marks_order marks_names
 unfolding understood everything desk_schema
 marks_selects = record { asks = record { command = refl; plain = (refl, refl); whole = refl; given = refl }; unlisted = refl }
 
-pub postings_shown : (old new : State) (content : Content) (book : Book) → Rests content old → IsBookOf book content → (r : Result (Vec Row Global) Error) → IfOk r (λ rows. Shown postings_text [] old new rows.items) → IfOk r (λ rows. rows.items ≡ map shown_posting book.postings)
-postings_shown old new content book rests of =
+pub postings_shown : (old new : State) (content : Content) (accounts : List Account) (book : Book) → Rests content old → AreRead content accounts book → (r : Result (Vec Row Global) Error) → IfOk r (λ rows. Shown postings_text [] old new rows.items) → IfOk r (λ rows. rows.items ≡ map shown_posting book.postings)
+postings_shown old new content accounts book rests are =
     let here : old.now.trees 4 ≡ map posting_row content.postings = ap (λ (d : Database). d.trees 4) rests.clean ∙ ap (λ (t : Tables). t.postings) rests.holds.rows in
-    let up = (keys_of book content of.records of.sound).postings in
-    subst (λ all. (r : Result (Vec Row Global) Error) → IfOk r (λ rows. Shown postings_text [] old new rows.items) → IfOk r (λ rows. rows.items ≡ map shown_posting all)) of.records.postings
+    let up = are.order.postings in
+    subst (λ all. (r : Result (Vec Row Global) Error) → IfOk r (λ rows. Shown postings_text [] old new rows.items) → IfOk r (λ rows. rows.items ≡ map shown_posting all)) are.postings
     (numbered posting_row shown_posting (λ (a : Posting). pos a.number) postings_text 4 postings_project postings_order postings_names postings_selects (λ a b low. then-Equal _ ∙ value_cmp-Int (pos a.number) (pos b.number) ∙ low) (λ a. refl) old new content rests content.postings up here)
 
-pub payments_shown : (old new : State) (content : Content) (book : Book) → Rests content old → IsBookOf book content → (r : Result (Vec Row Global) Error) → IfOk r (λ rows. Shown payments_text [] old new rows.items) → IfOk r (λ rows. rows.items ≡ map shown_order book.orders)
-payments_shown old new content book rests of =
+pub payments_shown : (old new : State) (content : Content) (accounts : List Account) (book : Book) → Rests content old → AreRead content accounts book → (r : Result (Vec Row Global) Error) → IfOk r (λ rows. Shown payments_text [] old new rows.items) → IfOk r (λ rows. rows.items ≡ map shown_order book.orders)
+payments_shown old new content accounts book rests are =
     let here : old.now.trees 6 ≡ map payment_row content.orders = ap (λ (d : Database). d.trees 6) rests.clean ∙ ap (λ (t : Tables). t.payments) rests.holds.rows in
-    let up = (keys_of book content of.records of.sound).orders in
-    subst (λ all. (r : Result (Vec Row Global) Error) → IfOk r (λ rows. Shown payments_text [] old new rows.items) → IfOk r (λ rows. rows.items ≡ map shown_order all)) of.records.orders
+    let up = are.order.orders in
+    subst (λ all. (r : Result (Vec Row Global) Error) → IfOk r (λ rows. Shown payments_text [] old new rows.items) → IfOk r (λ rows. rows.items ≡ map shown_order all)) are.orders
     (numbered payment_row shown_order (λ (a : Order). pos a.number) payments_text 6 payments_project payments_order payments_names payments_selects (λ a b low. then-Equal _ ∙ value_cmp-Int (pos a.number) (pos b.number) ∙ low) (λ a. refl) old new content rests content.orders up here)
 
-pub marks_shown : (old new : State) (content : Content) (book : Book) → Rests content old → IsBookOf book content → (r : Result (Vec Row Global) Error) → IfOk r (λ rows. Shown marks_text [] old new rows.items) → IfOk r (λ rows. rows.items ≡ map shown_mark book.marks)
-marks_shown old new content book rests of =
+pub marks_shown : (old new : State) (content : Content) (accounts : List Account) (book : Book) → Rests content old → AreRead content accounts book → (r : Result (Vec Row Global) Error) → IfOk r (λ rows. Shown marks_text [] old new rows.items) → IfOk r (λ rows. rows.items ≡ map shown_mark book.marks)
+marks_shown old new content accounts book rests are =
     let here : old.now.trees 8 ≡ map mark_row content.marks = ap (λ (d : Database). d.trees 8) rests.clean ∙ ap (λ (t : Tables). t.marks) rests.holds.rows in
-    let up = (keys_of book content of.records of.sound).marks in
-    subst (λ all. (r : Result (Vec Row Global) Error) → IfOk r (λ rows. Shown marks_text [] old new rows.items) → IfOk r (λ rows. rows.items ≡ map shown_mark all)) of.records.marks
+    let up = are.order.marks in
+    subst (λ all. (r : Result (Vec Row Global) Error) → IfOk r (λ rows. Shown marks_text [] old new rows.items) → IfOk r (λ rows. rows.items ≡ map shown_mark all)) are.marks
     (numbered mark_row shown_mark (λ (a : Mark). pos a.number) marks_text 8 marks_project marks_order marks_names marks_selects (λ a b low. then-Equal _ ∙ value_cmp-Int (pos a.number) (pos b.number) ∙ low) (λ a. refl) old new content rests content.marks up here)
 
-pub desk_shown : (old new : State) (content : Content) (book : Book) → Rests content old → IsBookOf book content → (r : Result (Vec Row Global) Error) → IfOk r (λ rows. Shown desk_text [] old new rows.items) → IfOk r (λ rows. rows.items ≡ shown_day book.day ∷ [])
-desk_shown old new content book rests of =
+pub desk_shown : (old new : State) (content : Content) (accounts : List Account) (book : Book) → Rests content old → AreRead content accounts book → (r : Result (Vec Row Global) Error) → IfOk r (λ rows. Shown desk_text [] old new rows.items) → IfOk r (λ rows. rows.items ≡ shown_day book.day ∷ [])
+desk_shown old new content accounts book rests are =
     let here : old.now.trees 0 ≡ map day_row (content.day ∷ []) = ap (λ (d : Database). d.trees 0) rests.clean ∙ ap (λ (t : Tables). t.desk) rests.holds.rows in
-    subst (λ (day : Day). (r : Result (Vec Row Global) Error) → IfOk r (λ rows. Shown desk_text [] old new rows.items) → IfOk r (λ rows. rows.items ≡ shown_day day ∷ [])) of.records.day
+    subst (λ (day : Day). (r : Result (Vec Row Global) Error) → IfOk r (λ rows. Shown desk_text [] old new rows.items) → IfOk r (λ rows. rows.items ≡ shown_day day ∷ [])) are.day
     (numbered day_row shown_day (λ (a : Day). pos 1) desk_text 0 desk_project desk_order desk_names desk_selects (λ a b low. then-Equal _ ∙ value_cmp-Int (pos 1) (pos 1) ∙ low) (λ a. refl) old new content rests (content.day ∷ []) (tt, tt) here)
 
 -- ---- the participants, in the order of their codes
@@ -149,21 +145,20 @@ participants_query = simple 1 [] participants_project (participants_order ∷ []
 abbrev out : Row → Output
 out shown = (column shown 0 ∷ [], shown)
 
-stored_outputs : (book : Book) (hs : List Holding) → AllByRecursion (λ (h : Holding). h.balance ≡ balance book h.participant.code) hs
-    → map (λ r. output participants_query ([] ∷ r ∷ [])) (map holding_row hs) ≡ map (λ (p : Participant). out (shown_account p (balance book p.code))) (map (λ (h : Holding). h.participant) hs)
-stored_outputs book [] stored = refl
-stored_outputs book (h ∷ hs) stored = ap₂ ◌∷◌ (ap (λ b. out (shown_account h.participant b)) stored.0) (stored_outputs book hs stored.1)
+stored_outputs : (hs : List Holding) → map (λ r. output participants_query ([] ∷ r ∷ [])) (map holding_row hs) ≡ map (λ (a : Account). out (shown_account a.participant a.balance)) (map stored_account hs)
+stored_outputs [] = refl
+stored_outputs (h ∷ hs) = ap (λ l. out (shown_account h.participant h.balance) ∷ l) (stored_outputs hs)
 
-pub participants_shown : (old new : State) (content : Content) (book : Book) → Rests content old → IsBookOf book content → (r : Result (Vec Row Global) Error) → IfOk r (λ rows. Shown participants_text [] old new rows.items)
-    → IfOk r (λ rows. rows.items ≡ map (λ (p : Participant). shown_account p (balance book p.code)) book.participants)
-participants_shown old new content book rests of (Err e) h = tt
-participants_shown old new content book rests of (Ok rows) h =
+pub participants_shown : (old new : State) (content : Content) (accounts : List Account) (book : Book) → Rests content old → AreRead content accounts book → (r : Result (Vec Row Global) Error) → IfOk r (λ rows. Shown participants_text [] old new rows.items)
+    → IfOk r (λ rows. rows.items ≡ map (λ (a : Account). shown_account a.participant a.balance) accounts)
+participants_shown old new content accounts book rests are (Err e) h = tt
+participants_shown old new content accounts book rests are (Ok rows) h =
     let here : old.now.trees 1 ≡ map holding_row content.holdings = ap (λ (d : Database). d.trees 1) rests.clean ∙ ap (λ (t : Tables). t.participants) rests.holds.rows in
-    let shown = λ (p : Participant). shown_account p (balance book p.code) in
-    let outs = λ (p : Participant). out (shown_account p (balance book p.code)) in
-    let up : IsAscending (λ a b. output_cmp participants_query a b ≡ Less) (map outs book.participants) =
-    ascending-map (λ (a b : Output). output_cmp participants_query a b ≡ Less) outs book.participants (ascending_weaker _ _ (λ p q low. then-Equal _ ∙ value_cmp-Text p.code q.code ∙ low) book.participants (rising book of.sound.codes_rise)) in
-    let same : IsPermutation (map outs book.participants) (map (λ r. output participants_query ([] ∷ r ∷ [])) (map holding_row content.holdings)) =
-    subst (λ l. IsPermutation (map outs book.participants) l) (sym (stored_outputs book content.holdings of.balances)) (IsPermutation-map outs _ _ (IsPermutation-sym _ _ of.records.participants)) in
-    shown_are participants_text 1 participants_project participants_order participants_names participants_selects old new content rests (map holding_row content.holdings) here (map outs book.participants) up same rows.items h
-    ∙ map-map (λ (o : Output). o.1) outs book.participants ∙ map_same (λ (p : Participant). (outs p).1) shown (λ p. refl) book.participants
+    let shown = λ (a : Account). shown_account a.participant a.balance in
+    let outs = λ (a : Account). out (shown_account a.participant a.balance) in
+    let up : IsAscending (λ a b. output_cmp participants_query a b ≡ Less) (map outs accounts) =
+    ascending-map (λ (a b : Output). output_cmp participants_query a b ≡ Less) outs accounts (ascending_weaker _ _ (λ a b low. then-Equal _ ∙ value_cmp-Text a.participant.code b.participant.code ∙ low) accounts are.rising) in
+    let same : IsPermutation (map outs accounts) (map (λ r. output participants_query ([] ∷ r ∷ [])) (map holding_row content.holdings)) =
+    subst (λ l. IsPermutation (map outs accounts) l) (sym (stored_outputs content.holdings)) (IsPermutation-map outs _ _ (IsPermutation-sym _ _ are.stored)) in
+    shown_are participants_text 1 participants_project participants_order participants_names participants_selects old new content rests (map holding_row content.holdings) here (map outs accounts) up same rows.items h
+    ∙ map-map (λ (o : Output). o.1) outs accounts ∙ map_same (λ (a : Account). (outs a).1) shown (λ a. refl) accounts

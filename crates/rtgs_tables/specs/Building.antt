@@ -1,5 +1,5 @@
 -- The tables as they are made.
-use Rattle.std.specs.Prelude.{◌≡◌, ℕ, true, false, List, [], None, Ok, IsTrue}
+use Rattle.std.specs.Prelude.{◌≡◌, ◌⊎◌, ℕ, true, false, List, [], None, Ok, IsTrue}
 use Rattle.std.specs.List.{AllByRecursion}
 use Rattle.sqlite.specs.Table.{Table}
 use Rattle.sqlite.specs.Schema.{Schema}
@@ -7,13 +7,14 @@ use Rattle.sqlite.specs.Command.TheVariants.{CreateTable}
 use Rattle.sqlite.specs.Compile.{table_defined_by}
 use Rattle.sqlite.specs.Change.{created}
 use Rattle.sqlite.specs.Effect.{Database}
+use Rattle.sqlite.specs.Tree.{Trees}
 use Rattle.sqlite.specs.State.{State}
 use Rattle.sqlite.specs.Does.{lacks_sequence}
 use Rattle.sqlite.specs.Listing.{understood}
 use Rattle.sqlite.specs.Given.{IsPlain}
 use Rattle.sqlite.proofs.Callers.{command_of, statement_of}
 use Rattle.rtgs_rows.specs.Tables.{no_schema}
-use Rattle.rtgs_rows.specs.Content.{Content}
+use Rattle.rtgs_rows.specs.Content.{Content, HasNoTables, Holds}
 use Rattle.rtgs_book.specs.declared.Book.{Book}
 use Rattle.rtgs_book.specs.declared.Phase.TheVariants.{Closed}
 
@@ -43,6 +44,10 @@ pub record IsBlank (s : State) : Type 0 where
 -- a new desk: no date, closed, and nothing recorded
 abbrev pub first_content : Content
 first_content = record { day = record { date = None; phase = Closed }; holdings = []; postings = []; orders = []; marks = [] }
+
+-- no tables at all, or those of a new desk
+abbrev pub IsNoneOrNew : Trees → Type 0
+IsNoneOrNew trees = HasNoTables trees ⊎ Holds first_content trees
 
 -- the book of a new desk
 abbrev pub new_book : Book

@@ -1,54 +1,39 @@
 //! Stored balances against the sums from scratch.
+ghost use Rattle.std.specs.Prelude.{◌≡◌, ◌↔◌, map, IfOk, IsTrue};
+ghost use Rattle.std.specs.List.{list_all};
+ghost use Rattle.rtgs_book.specs.Soundness.{IsSound};
+ghost use Rattle.rtgs_tables.specs.declared.account.Account.{Account as AccountSpec};
+ghost use Rattle.rtgs_tables.specs.Accounts.{AreBalances, is_stored as is_stored_in};
+
 use crate::account::Account;
-use rtgs_book::{Order, OrderState, Posting};
+use rtgs_book::Book;
 use rtgs_money::Code;
-use std::alloc::{AllocError, Global};
+use std::alloc::AllocError;
+use std::collections::BTreeMap;
 
-/// Whether each stored balance is the sum of the account's postings and settled orders. The accounts stand in the
-/// order of their codes.
-pub(crate) fn balances_agree(
-    alloc: Global,
-    accounts: &[Account],
-    postings: &[Posting],
-    orders: &[Order],
-) -> Result<bool, AllocError> {
-    let mut sums = vec![in alloc; 0i128; accounts.len()]?;
-    add_postings(accounts, postings, sums.as_mut_slice());
-    add_orders(accounts, orders, sums.as_mut_slice());
-    Ok(
-        accounts.iter().zip(sums.iter()).all(|(account, sum)| i128::from(account.balance.cents())
-            == *sum),
-    )
+/// Whether each stored balance is the sum of the account's postings and settled orders.
+pub(crate) fn balances_agree(accounts: &[Account], book: &Book) -> Result<bool, AllocError>
+    requires sound { IsSound book.now }
+    requires participants { book.now.participants ≡ map (λ (a : AccountSpec). a.participant) accounts.now }
+    ensures { IfOk result (λ yes. IsTrue yes ↔ AreBalances book.now accounts.now) }
+{
+    let balances = book.balances()?;
+    Ok(are_stored(&balances, accounts))
 }
 
-/// Adds each posting to its account's sum.
-fn add_postings(accounts: &[Account], postings: &[Posting], sums: &mut [i128]) {
-    for posting in postings {
-        add(
-            accounts,
-            sums,
-            &posting.code,
-            i128::from(posting.cents.cents()),
-        );
-    }
+/// Whether each account stores the balance that the map has under its code.
+fn are_stored(balances: &BTreeMap<Code, i128>, accounts: &[Account]) -> bool
+    ensures { result ≡ list_all (is_stored_in balances.now) accounts.now }
+{
+    accounts.iter().all(|account| is_stored(balances, account))
 }
 
-/// Takes each settled order's amount from its sender's sum, and adds it to its receiver's.
-fn add_orders(accounts: &[Account], orders: &[Order], sums: &mut [i128]) {
-    for order in orders {
-        if let OrderState::Settled(_) = order.state {
-            let amount = i128::from(order.amount.cents());
-            add(accounts, sums, &order.sender, -amount);
-            add(accounts, sums, &order.receiver, amount);
-        }
-    }
-}
-
-/// Adds to the sum of the account with this code.
-fn add(accounts: &[Account], sums: &mut [i128], code: &Code, cents: i128) {
-    if let Ok(at) = accounts.binary_search_by_key(code, |account| account.participant.code) {
-        if let Some(sum) = sums.get_mut(at) {
-            *sum = sum.saturating_add(cents);
-        }
+/// Whether the account stores the balance that the map has under its code.
+fn is_stored(balances: &BTreeMap<Code, i128>, account: &Account) -> bool
+    ensures { result ≡ is_stored_in balances.now account.now }
+{
+    match balances.get(&account.participant.code) {
+        Some(balance) => *balance == i128::from(account.balance.cents()),
+        None => false,
     }
 }

@@ -1,5 +1,5 @@
 //! The tables of a new book.
-ghost use Rattle.std.specs.Prelude.{◌≡◌, false, OnOk, IfErr};
+ghost use Rattle.std.specs.Prelude.{◌≡◌, false, IsTrue, OnOk, IfErr};
 ghost use Rattle.sqlite.specs.Effect.{Database};
 ghost use Rattle.sqlite.specs.Schema.{Schema};
 ghost use Rattle.sqlite.specs.Table.{Table};
@@ -75,6 +75,7 @@ pub(crate) fn create_tables<S: Alter>(conn: &mut Connection<S>) -> Result<(), St
     requires { conn.old.in_transaction ≡ false }
     ensures mode { conn.new.in_transaction ≡ false }
     ensures done { HasCleanDisk (state S.Store conn.new) → IsBlank (state S.Store conn.old) → OnOk result (Rests first_content (state S.Store conn.new)) }
+    ensures undone { HasCleanDisk (state S.Store conn.new) → IsBlank (state S.Store conn.old) → IsTrue (state S.Store conn.new).is_open → IfErr result (λ e. IsBefore e → IsBlank (state S.Store conn.new)) }
     ensures crash { Survives (state S.Store conn.old) (state S.Store conn.new) (λ trees. IsBlank (state S.Store conn.old) → Holds first_content trees) }
 {
     let mut tx = conn.transaction();

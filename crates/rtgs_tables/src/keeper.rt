@@ -1,8 +1,9 @@
 //! What keeps a book.
-ghost use Rattle.std.specs.Prelude.{◌≡◌, ◌≢◌, ◌⊎◌, Bool, true, false, Err, IfOk, OnOk};
+ghost use Rattle.std.specs.Prelude.{◌≡◌, ◌≢◌, ◌⊎◌, Bool, true, false, ⊤, Err, IfOk, IfErr, OnOk};
 ghost use Rattle.rtgs_book.specs.Soundness.{IsSound};
 ghost use Rattle.rtgs_book.specs.declared.Book.{Book};
-ghost use Rattle.rtgs_rows.specs.Keeping.{IsChange};
+ghost use Rattle.rtgs_book.specs.declared.Fault.{Fault};
+ghost use Rattle.rtgs_book.specs.Changes.{IsChange};
 
 use rtgs_book::{Book, Change, Fault};
 use std::alloc::Global;
@@ -32,10 +33,15 @@ pub trait Keeper {
     // The store returned what was written to it, and nobody else wrote.
     ghost is_honest: { Self → Type 0 };
 
+    // What a load may answer in place of a book, whatever is kept.
+    ghost explains: { Self → Fault → Type 0 } = { λ _ _. ⊤ };
+
     /// Gives the book that is kept. On a keeper that has failed it is `StoreFault`, and nothing is done.
     fn load(&mut self, alloc: Global) -> Result<Book, Fault>
         ensures honest { is_honest self.new → is_honest self.old }
         ensures given { is_honest self.new → (book : Book) → content self.old book → IfOk result (λ loaded. loaded ≡ book) }
+        ensures accepted { is_honest self.new → (book : Book) → content self.old book → IfErr result (λ fault. (fault ≡ Fault.OutOfMemory) ⊎ (fault ≡ Fault.StoreFault)) }
+        ensures explained { is_honest self.new → IfErr result (explains self.old) }
         ensures sound { IfOk result IsSound }
         ensures same { is_honest self.new → (book : Book) → content self.old book → result ≢ Err Fault.StoreFault → content self.new book }
         ensures stops { is_honest self.new → (book other : Book) → content self.old book → leaves self.new other → leaves self.old other }

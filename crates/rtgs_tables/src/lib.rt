@@ -6,8 +6,10 @@ mod balances;
 mod columns;
 mod create;
 mod fields;
+mod forms;
 mod keeper;
 mod loading;
+mod memory_keeper;
 mod reading;
 mod rows;
 mod sql_keeper;
@@ -16,6 +18,7 @@ mod statements;
 mod table_row;
 
 pub use crate::keeper::{Keeper, StoreFault};
+pub use crate::memory_keeper::MemoryKeeper;
 pub use crate::sql_keeper::SqlKeeper;
 
 #[cfg(test)]

@@ -1,8 +1,10 @@
 //! The book that the tables hold.
-ghost use Rattle.std.specs.Prelude.{◌≡◌, ◌≢◌, false, map, Err, IfOk};
+ghost use Rattle.std.specs.Prelude.{◌≡◌, ◌≢◌, false, map, List, Err, IfOk, IfErr, OnOk};
 ghost use Rattle.rtgs_book.specs.declared.Book.{Book};
-ghost use Rattle.rtgs_rows.specs.Keeping.{IsBookOf};
+ghost use Rattle.rtgs_book.specs.declared.Rule.{Rule};
 ghost use Rattle.rtgs_tables.specs.declared.account.Account.{Account as AccountSpec};
+ghost use Rattle.rtgs_tables.specs.Accounts.{HasRecords, AreBalances, ExplainsRead};
+ghost use Rattle.rtgs_tables.specs.Building.{IsBlank};
 ghost use Rattle.rtgs_book.specs.Soundness.{IsSound};
 ghost use Rattle.rtgs_rows.specs.Content.{Content, Rests};
 ghost use Rattle.sqlite.specs.State.{HasCleanDisk, Survives};
@@ -20,11 +22,15 @@ use std::alloc::{AllocError, Global};
 struct Stored {
     accounts: Vec<Account>,
     book: Book,
+    ghost participants: { book.participants ≡ map (λ (a : AccountSpec). a.participant) accounts.items },
 }
 
 /// Reads the five tables.
 fn read_tables<S: Alter>(alloc: Global, conn: &mut Connection<S>) -> Result<Stored, Fault>
-    ensures given { HasCleanDisk (state S.Store conn.new) → (content : Content) (book : Book) → Rests content (state S.Store conn.old) → IsBookOf book content → IfOk result (λ stored. stored.book ≡ book) }
+    ensures read { HasCleanDisk (state S.Store conn.new) → (accounts : List AccountSpec) (book : Book) → HasRecords accounts book (state S.Store conn.old) → IfOk result (λ stored. (stored.book ≡ book) × (stored.accounts.items ≡ accounts)) }
+    ensures right { HasCleanDisk (state S.Store conn.new) → (accounts : List AccountSpec) (book : Book) → HasRecords accounts book (state S.Store conn.old) → result ≢ Err Fault.NotADeskFile }
+    ensures kinds { (rule : Rule) → result ≢ Err (Fault.Inconsistent rule) }
+    ensures blank { HasCleanDisk (state S.Store conn.new) → IsBlank (state S.Store conn.old) → IfOk result (λ _. ⊥) }
     ensures same { HasCleanDisk (state S.Store conn.new) → (content : Content) → Rests content (state S.Store conn.old) → result ≢ Err Fault.StoreFault → Rests content (state S.Store conn.new) }
     ensures survives { Survives (state S.Store conn.old) (state S.Store conn.new) (λ _. (content : Content) → Rests content (state S.Store conn.old) → ⊥) }
     ensures mode { conn.old.in_transaction ≡ false → conn.new.in_transaction ≡ false }
@@ -56,21 +62,18 @@ fn participants_of(alloc: Global, accounts: &[Account]) -> Result<Vec<Participan
         .collect(alloc)
 }
 
-/// The book of the tables, once it is seen to be sound, and the stored balances to be its balances.
-fn judged(alloc: Global, stored: Stored) -> Result<Book, Fault>
+/// The book of the tables, once it is seen to be sound, and the stored balances to be its balances. Else the fault names
+/// the first rule that is broken, or memory was refused.
+fn judged(stored: Stored) -> Result<Book, Fault>
     ensures given { IfOk result (λ book. book ≡ stored.book) }
     ensures sound { IfOk result IsSound }
+    ensures balances { OnOk result (AreBalances stored.book stored.accounts.items) }
     ensures fault { result ≢ Err Fault.StoreFault }
+    ensures explained { IfErr result (ExplainsRead stored.accounts.items stored.book) }
 {
     let Stored { accounts, book } = stored;
-    book.check(alloc)?;
-    let agree = balances_agree(
-        alloc,
-        accounts.as_slice(),
-        book.postings.as_slice(),
-        book.orders.as_slice(),
-    )?;
-    if agree {
+    book.check()?;
+    if balances_agree(accounts.as_slice(), &book)? {
         Ok(book)
     } else {
         Err(Fault::Inconsistent {
@@ -79,9 +82,12 @@ fn judged(alloc: Global, stored: Stored) -> Result<Book, Fault>
     }
 }
 
-/// Loads the book, and judges it.
+/// Loads the book, and judges it. Records that break a rule are answered by the first one that they break, and what is no
+/// desk's tables by `NotADeskFile`.
 pub(crate) fn load_book<S: Alter>(alloc: Global, conn: &mut Connection<S>) -> Result<Book, Fault>
-    ensures given { HasCleanDisk (state S.Store conn.new) → (content : Content) (book : Book) → Rests content (state S.Store conn.old) → IsBookOf book content → IfOk result (λ loaded. loaded ≡ book) }
+    ensures read { HasCleanDisk (state S.Store conn.new) → (accounts : List AccountSpec) (book : Book) → HasRecords accounts book (state S.Store conn.old) → IfOk result (λ loaded. (loaded ≡ book) × AreBalances book accounts) }
+    ensures explained { HasCleanDisk (state S.Store conn.new) → (accounts : List AccountSpec) (book : Book) → HasRecords accounts book (state S.Store conn.old) → IfErr result (ExplainsRead accounts book) }
+    ensures blank { HasCleanDisk (state S.Store conn.new) → IsBlank (state S.Store conn.old) → IfOk result (λ _. ⊥) × ((rule : Rule) → result ≢ Err (Fault.Inconsistent rule)) }
     ensures same { HasCleanDisk (state S.Store conn.new) → (content : Content) → Rests content (state S.Store conn.old) → result ≢ Err Fault.StoreFault → Rests content (state S.Store conn.new) }
     ensures survives { Survives (state S.Store conn.old) (state S.Store conn.new) (λ _. (content : Content) → Rests content (state S.Store conn.old) → ⊥) }
     ensures sound { IfOk result IsSound }
@@ -89,5 +95,5 @@ pub(crate) fn load_book<S: Alter>(alloc: Global, conn: &mut Connection<S>) -> Re
     ensures honest { HasCleanDisk (state S.Store conn.new) → HasCleanDisk (state S.Store conn.old) }
 {
     let stored = read_tables(alloc, conn)?;
-    judged(alloc, stored)
+    judged(stored)
 }

@@ -4,12 +4,11 @@ ghost use Rattle.rtgs_book.specs.declared.Book.{Book};
 ghost use Rattle.rtgs_book.specs.declared.Rule.{Rule};
 ghost use Rattle.rtgs_book.specs.declared.Day.{Day as DaySpec};
 ghost use Rattle.rtgs_rows.specs.Fitting.{FitsDate};
-ghost use Rattle.rtgs_tables.specs.Accounts.{accounts_of};
-ghost use Rattle.rtgs_book.specs.declared.Participant.{Participant};
-ghost use Rattle.rtgs_book.specs.Balance.{balance};
+ghost use Rattle.rtgs_tables.specs.declared.account.Account.{Account as AccountSpec};
+ghost use Rattle.rtgs_tables.specs.Accounts.{HasRecords};
+ghost use Rattle.rtgs_tables.specs.Building.{IsBlank};
 ghost use Rattle.rtgs_rows.specs.Rows.{shown_day, shown_account, shown_posting, shown_order, shown_mark};
 ghost use Rattle.rtgs_rows.specs.Content.{Content, Rests};
-ghost use Rattle.rtgs_rows.specs.Keeping.{IsBookOf};
 ghost use Rattle.rtgs_tables.specs.Faults.{IsOfStore};
 ghost use Rattle.sqlite.specs.State.{HasCleanDisk, IsUnchanged, Survives};
 ghost use Rattle.sqlite.specs.Held.{state};
@@ -22,10 +21,11 @@ use std::alloc::Global;
 
 /// The rows of the table `desk`.
 fn desk_rows<S: Alter>(conn: &mut Connection<S>) -> Result<Vec<Row>, Error>
-    ensures rows { HasCleanDisk (state S.Store conn.new) → (content : Content) (book : Book) → Rests content (state S.Store conn.old) → IsBookOf book content → IfOk result (λ rows. rows.items ≡ shown_day book.day ∷ []) }
+    ensures rows { HasCleanDisk (state S.Store conn.new) → (accounts : List AccountSpec) (book : Book) → HasRecords accounts book (state S.Store conn.old) → IfOk result (λ rows. rows.items ≡ shown_day book.day ∷ []) }
     ensures kept { HasCleanDisk (state S.Store conn.new) → (content : Content) → Rests content (state S.Store conn.old) → OnOk result (Rests content (state S.Store conn.new)) }
     ensures refused { HasCleanDisk (state S.Store conn.new) → (content : Content) → Rests content (state S.Store conn.old) → IfErr result IsOfStore }
     ensures intact { HasCleanDisk (state S.Store conn.new) → (content : Content) → Rests content (state S.Store conn.old) → IsTrue (state S.Store conn.new).is_open → Rests content (state S.Store conn.new) }
+    ensures blank { HasCleanDisk (state S.Store conn.new) → IsBlank (state S.Store conn.old) → IfOk result (λ _. ⊥) }
     ensures survives { Survives (state S.Store conn.old) (state S.Store conn.new) (λ _. (content : Content) → Rests content (state S.Store conn.old) → ⊥) }
     ensures mode { conn.old.in_transaction ≡ false → conn.new.in_transaction ≡ false }
     ensures honest { HasCleanDisk (state S.Store conn.new) → HasCleanDisk (state S.Store conn.old) }
@@ -35,7 +35,7 @@ fn desk_rows<S: Alter>(conn: &mut Connection<S>) -> Result<Vec<Row>, Error>
 
 /// The participants' rows in the order of their codes.
 fn participant_rows<S: Alter>(conn: &mut Connection<S>) -> Result<Vec<Row>, Error>
-    ensures rows { HasCleanDisk (state S.Store conn.new) → (content : Content) (book : Book) → Rests content (state S.Store conn.old) → IsBookOf book content → IfOk result (λ rows. rows.items ≡ map (λ (p : Participant). shown_account p (balance book p.code)) book.participants) }
+    ensures rows { HasCleanDisk (state S.Store conn.new) → (accounts : List AccountSpec) (book : Book) → HasRecords accounts book (state S.Store conn.old) → IfOk result (λ rows. rows.items ≡ map (λ (a : AccountSpec). shown_account a.participant a.balance) accounts) }
     ensures kept { HasCleanDisk (state S.Store conn.new) → (content : Content) → Rests content (state S.Store conn.old) → OnOk result (Rests content (state S.Store conn.new)) }
     ensures refused { HasCleanDisk (state S.Store conn.new) → (content : Content) → Rests content (state S.Store conn.old) → IfErr result IsOfStore }
     ensures intact { HasCleanDisk (state S.Store conn.new) → (content : Content) → Rests content (state S.Store conn.old) → IsTrue (state S.Store conn.new).is_open → Rests content (state S.Store conn.new) }
@@ -51,7 +51,7 @@ fn participant_rows<S: Alter>(conn: &mut Connection<S>) -> Result<Vec<Row>, Erro
 
 /// The postings' rows in rising number.
 fn posting_rows<S: Alter>(conn: &mut Connection<S>) -> Result<Vec<Row>, Error>
-    ensures rows { HasCleanDisk (state S.Store conn.new) → (content : Content) (book : Book) → Rests content (state S.Store conn.old) → IsBookOf book content → IfOk result (λ rows. rows.items ≡ map shown_posting book.postings) }
+    ensures rows { HasCleanDisk (state S.Store conn.new) → (accounts : List AccountSpec) (book : Book) → HasRecords accounts book (state S.Store conn.old) → IfOk result (λ rows. rows.items ≡ map shown_posting book.postings) }
     ensures kept { HasCleanDisk (state S.Store conn.new) → (content : Content) → Rests content (state S.Store conn.old) → OnOk result (Rests content (state S.Store conn.new)) }
     ensures refused { HasCleanDisk (state S.Store conn.new) → (content : Content) → Rests content (state S.Store conn.old) → IfErr result IsOfStore }
     ensures intact { HasCleanDisk (state S.Store conn.new) → (content : Content) → Rests content (state S.Store conn.old) → IsTrue (state S.Store conn.new).is_open → Rests content (state S.Store conn.new) }
@@ -67,7 +67,7 @@ fn posting_rows<S: Alter>(conn: &mut Connection<S>) -> Result<Vec<Row>, Error>
 
 /// The orders' rows in rising number.
 fn payment_rows<S: Alter>(conn: &mut Connection<S>) -> Result<Vec<Row>, Error>
-    ensures rows { HasCleanDisk (state S.Store conn.new) → (content : Content) (book : Book) → Rests content (state S.Store conn.old) → IsBookOf book content → IfOk result (λ rows. rows.items ≡ map shown_order book.orders) }
+    ensures rows { HasCleanDisk (state S.Store conn.new) → (accounts : List AccountSpec) (book : Book) → HasRecords accounts book (state S.Store conn.old) → IfOk result (λ rows. rows.items ≡ map shown_order book.orders) }
     ensures kept { HasCleanDisk (state S.Store conn.new) → (content : Content) → Rests content (state S.Store conn.old) → OnOk result (Rests content (state S.Store conn.new)) }
     ensures refused { HasCleanDisk (state S.Store conn.new) → (content : Content) → Rests content (state S.Store conn.old) → IfErr result IsOfStore }
     ensures intact { HasCleanDisk (state S.Store conn.new) → (content : Content) → Rests content (state S.Store conn.old) → IsTrue (state S.Store conn.new).is_open → Rests content (state S.Store conn.new) }
@@ -83,7 +83,7 @@ fn payment_rows<S: Alter>(conn: &mut Connection<S>) -> Result<Vec<Row>, Error>
 
 /// The marks' rows in rising number.
 fn mark_rows<S: Alter>(conn: &mut Connection<S>) -> Result<Vec<Row>, Error>
-    ensures rows { HasCleanDisk (state S.Store conn.new) → (content : Content) (book : Book) → Rests content (state S.Store conn.old) → IsBookOf book content → IfOk result (λ rows. rows.items ≡ map shown_mark book.marks) }
+    ensures rows { HasCleanDisk (state S.Store conn.new) → (accounts : List AccountSpec) (book : Book) → HasRecords accounts book (state S.Store conn.old) → IfOk result (λ rows. rows.items ≡ map shown_mark book.marks) }
     ensures kept { HasCleanDisk (state S.Store conn.new) → (content : Content) → Rests content (state S.Store conn.old) → OnOk result (Rests content (state S.Store conn.new)) }
     ensures refused { HasCleanDisk (state S.Store conn.new) → (content : Content) → Rests content (state S.Store conn.old) → IfErr result IsOfStore }
     ensures intact { HasCleanDisk (state S.Store conn.new) → (content : Content) → Rests content (state S.Store conn.old) → IsTrue (state S.Store conn.new).is_open → Rests content (state S.Store conn.new) }
@@ -152,10 +152,11 @@ fn one_day(alloc: Global, rows: &[Row]) -> Result<Day, Fault>
 
 /// The business day, of the one row of the table `desk`.
 pub(crate) fn read_day<S: Alter>(alloc: Global, conn: &mut Connection<S>) -> Result<Day, Fault>
-    ensures given { HasCleanDisk (state S.Store conn.new) → (content : Content) (book : Book) → Rests content (state S.Store conn.old) → IsBookOf book content → IfOk result (λ day. day ≡ book.day) }
-    ensures right { HasCleanDisk (state S.Store conn.new) → (content : Content) (book : Book) → Rests content (state S.Store conn.old) → IsBookOf book content → result ≢ Err Fault.NotADeskFile }
+    ensures given { HasCleanDisk (state S.Store conn.new) → (accounts : List AccountSpec) (book : Book) → HasRecords accounts book (state S.Store conn.old) → IfOk result (λ day. day ≡ book.day) }
+    ensures right { HasCleanDisk (state S.Store conn.new) → (accounts : List AccountSpec) (book : Book) → HasRecords accounts book (state S.Store conn.old) → result ≢ Err Fault.NotADeskFile }
     ensures kinds { (rule : Rule) → result ≢ Err (Fault.Inconsistent rule) }
     ensures same { HasCleanDisk (state S.Store conn.new) → (content : Content) → Rests content (state S.Store conn.old) → result ≢ Err Fault.StoreFault → Rests content (state S.Store conn.new) }
+    ensures blank { HasCleanDisk (state S.Store conn.new) → IsBlank (state S.Store conn.old) → IfOk result (λ _. ⊥) }
     ensures survives { Survives (state S.Store conn.old) (state S.Store conn.new) (λ _. (content : Content) → Rests content (state S.Store conn.old) → ⊥) }
     ensures mode { conn.old.in_transaction ≡ false → conn.new.in_transaction ≡ false }
     ensures honest { HasCleanDisk (state S.Store conn.new) → HasCleanDisk (state S.Store conn.old) }
@@ -171,8 +172,8 @@ pub(crate) fn read_accounts<S: Alter>(
     alloc: Global,
     conn: &mut Connection<S>,
 ) -> Result<Vec<Account>, Fault>
-    ensures given { HasCleanDisk (state S.Store conn.new) → (content : Content) (book : Book) → Rests content (state S.Store conn.old) → IsBookOf book content → IfOk result (λ v. v.items ≡ accounts_of book) }
-    ensures right { HasCleanDisk (state S.Store conn.new) → (content : Content) (book : Book) → Rests content (state S.Store conn.old) → IsBookOf book content → result ≢ Err Fault.NotADeskFile }
+    ensures given { HasCleanDisk (state S.Store conn.new) → (accounts : List AccountSpec) (book : Book) → HasRecords accounts book (state S.Store conn.old) → IfOk result (λ v. v.items ≡ accounts) }
+    ensures right { HasCleanDisk (state S.Store conn.new) → (accounts : List AccountSpec) (book : Book) → HasRecords accounts book (state S.Store conn.old) → result ≢ Err Fault.NotADeskFile }
     ensures kinds { (rule : Rule) → result ≢ Err (Fault.Inconsistent rule) }
     ensures same { HasCleanDisk (state S.Store conn.new) → (content : Content) → Rests content (state S.Store conn.old) → result ≢ Err Fault.StoreFault → Rests content (state S.Store conn.new) }
     ensures survives { Survives (state S.Store conn.old) (state S.Store conn.new) (λ _. (content : Content) → Rests content (state S.Store conn.old) → ⊥) }
@@ -190,8 +191,8 @@ pub(crate) fn read_postings<S: Alter>(
     alloc: Global,
     conn: &mut Connection<S>,
 ) -> Result<Vec<Posting>, Fault>
-    ensures given { HasCleanDisk (state S.Store conn.new) → (content : Content) (book : Book) → Rests content (state S.Store conn.old) → IsBookOf book content → IfOk result (λ v. v.items ≡ book.postings) }
-    ensures right { HasCleanDisk (state S.Store conn.new) → (content : Content) (book : Book) → Rests content (state S.Store conn.old) → IsBookOf book content → result ≢ Err Fault.NotADeskFile }
+    ensures given { HasCleanDisk (state S.Store conn.new) → (accounts : List AccountSpec) (book : Book) → HasRecords accounts book (state S.Store conn.old) → IfOk result (λ v. v.items ≡ book.postings) }
+    ensures right { HasCleanDisk (state S.Store conn.new) → (accounts : List AccountSpec) (book : Book) → HasRecords accounts book (state S.Store conn.old) → result ≢ Err Fault.NotADeskFile }
     ensures kinds { (rule : Rule) → result ≢ Err (Fault.Inconsistent rule) }
     ensures same { HasCleanDisk (state S.Store conn.new) → (content : Content) → Rests content (state S.Store conn.old) → result ≢ Err Fault.StoreFault → Rests content (state S.Store conn.new) }
     ensures survives { Survives (state S.Store conn.old) (state S.Store conn.new) (λ _. (content : Content) → Rests content (state S.Store conn.old) → ⊥) }
@@ -209,8 +210,8 @@ pub(crate) fn read_orders<S: Alter>(
     alloc: Global,
     conn: &mut Connection<S>,
 ) -> Result<Vec<Order>, Fault>
-    ensures given { HasCleanDisk (state S.Store conn.new) → (content : Content) (book : Book) → Rests content (state S.Store conn.old) → IsBookOf book content → IfOk result (λ v. v.items ≡ book.orders) }
-    ensures right { HasCleanDisk (state S.Store conn.new) → (content : Content) (book : Book) → Rests content (state S.Store conn.old) → IsBookOf book content → result ≢ Err Fault.NotADeskFile }
+    ensures given { HasCleanDisk (state S.Store conn.new) → (accounts : List AccountSpec) (book : Book) → HasRecords accounts book (state S.Store conn.old) → IfOk result (λ v. v.items ≡ book.orders) }
+    ensures right { HasCleanDisk (state S.Store conn.new) → (accounts : List AccountSpec) (book : Book) → HasRecords accounts book (state S.Store conn.old) → result ≢ Err Fault.NotADeskFile }
     ensures kinds { (rule : Rule) → result ≢ Err (Fault.Inconsistent rule) }
     ensures same { HasCleanDisk (state S.Store conn.new) → (content : Content) → Rests content (state S.Store conn.old) → result ≢ Err Fault.StoreFault → Rests content (state S.Store conn.new) }
     ensures survives { Survives (state S.Store conn.old) (state S.Store conn.new) (λ _. (content : Content) → Rests content (state S.Store conn.old) → ⊥) }
@@ -228,8 +229,8 @@ pub(crate) fn read_marks<S: Alter>(
     alloc: Global,
     conn: &mut Connection<S>,
 ) -> Result<Vec<Mark>, Fault>
-    ensures given { HasCleanDisk (state S.Store conn.new) → (content : Content) (book : Book) → Rests content (state S.Store conn.old) → IsBookOf book content → IfOk result (λ v. v.items ≡ book.marks) }
-    ensures right { HasCleanDisk (state S.Store conn.new) → (content : Content) (book : Book) → Rests content (state S.Store conn.old) → IsBookOf book content → result ≢ Err Fault.NotADeskFile }
+    ensures given { HasCleanDisk (state S.Store conn.new) → (accounts : List AccountSpec) (book : Book) → HasRecords accounts book (state S.Store conn.old) → IfOk result (λ v. v.items ≡ book.marks) }
+    ensures right { HasCleanDisk (state S.Store conn.new) → (accounts : List AccountSpec) (book : Book) → HasRecords accounts book (state S.Store conn.old) → result ≢ Err Fault.NotADeskFile }
     ensures kinds { (rule : Rule) → result ≢ Err (Fault.Inconsistent rule) }
     ensures same { HasCleanDisk (state S.Store conn.new) → (content : Content) → Rests content (state S.Store conn.old) → result ≢ Err Fault.StoreFault → Rests content (state S.Store conn.new) }
     ensures survives { Survives (state S.Store conn.old) (state S.Store conn.new) (λ _. (content : Content) → Rests content (state S.Store conn.old) → ⊥) }

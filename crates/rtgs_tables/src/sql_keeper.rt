@@ -1,13 +1,16 @@
 //! A book in the tables of a connection.
-ghost use Rattle.std.specs.Prelude.{◌≡◌, ◌≢◌, ◌⊎◌, false, IfOk, IfErr};
+ghost use Rattle.std.specs.Prelude.{◌≡◌, ◌≢◌, false, IfOk, IfErr};
 ghost use Rattle.rtgs_book.specs.declared.Book.{Book};
 ghost use Rattle.rtgs_rows.specs.Keeping.{HoldsBook, MayLeave};
-ghost use Rattle.rtgs_tables.specs.Building.{IsBlank, new_book};
+ghost use Rattle.rtgs_tables.specs.Building.{IsBlank, IsNoneOrNew, new_book};
 ghost use Rattle.sqlite.specs.State.{HasCleanDisk, IsUnchanged, Survives};
 ghost use Rattle.sqlite.specs.Held.{state};
+ghost use Rattle.sqlite.specs.Tree.{Trees};
+ghost use Rattle.rtgs_rows.specs.Content.{HasNoTables};
 ghost use Rattle.rtgs_tables.specs.Stops.{IsBefore};
 
 use crate::create::create_tables;
+use crate::forms::rows_fit;
 use crate::keeper::{Keeper, StoreFault};
 use crate::loading::load_book;
 use crate::reading::is_alive;
@@ -26,16 +29,20 @@ pub struct SqlKeeper<S: Alter + Drop> {
 }
 
 impl<S: Alter + Drop> SqlKeeper<S> {
-    /// Makes the tables of a new book in an empty database, in one transaction. On a fault the connection comes back.
+    /// Makes the tables of a new book in an empty database, in one transaction. On a fault the connection comes back, and a stop
+    /// leaves no tables or those of the new book.
     pub fn create(conn: Connection<S>) -> Result<SqlKeeper<S>, (StoreFault, Connection<S>)>
         requires { conn.in_transaction ≡ false }
         ensures made { IfOk result (λ k. HasCleanDisk (state S.Store k.conn) → IsBlank (state S.Store conn) → HoldsBook S.Store k.conn new_book) }
-        ensures stops { IfOk result (λ k. HasCleanDisk (state S.Store k.conn) → IsBlank (state S.Store conn) → (other : Book) → MayLeave S.Store k.conn other → MayLeave S.Store conn other ⊎ (other ≡ new_book)) }
-        ensures left { IfErr result (λ e. HasCleanDisk (state S.Store e.1) → IsBlank (state S.Store conn) → (other : Book) → MayLeave S.Store e.1 other → MayLeave S.Store conn other ⊎ (other ≡ new_book)) }
+        ensures stops { IfOk result (λ k. HasCleanDisk (state S.Store k.conn) → IsBlank (state S.Store conn) → (other : Book) → MayLeave S.Store k.conn other → other ≡ new_book) }
+        ensures left { IfErr result (λ e. HasCleanDisk (state S.Store e.1) → IsBlank (state S.Store conn) → (other : Book) → MayLeave S.Store e.1 other → other ≡ new_book) }
+        ensures memory { IfErr result (λ e. e.0 ≡ StoreFault.OutOfMemory → HasCleanDisk (state S.Store e.1) → IsBlank (state S.Store conn) → IsBlank (state S.Store e.1)) }
+        ensures tables { IfErr result (λ e. HasCleanDisk (state S.Store e.1) → IsBlank (state S.Store conn) → (trees : Trees) → (state S.Store e.1).may_leave trees → IsNoneOrNew trees) }
         ensures fresh { IfOk result (λ k. k.failed ≡ false) }
         ensures idle { IfErr result (λ e. (e.1.in_transaction ≡ false) × (e.0 ≢ StoreFault.Failed)) }
     {
         let mut conn = conn;
+        leaves_no_tables(&conn);
         match create_tables(&mut conn) {
             Ok(()) => Ok(SqlKeeper::open(conn)),
             Err(stopped) => {
@@ -68,12 +75,17 @@ impl<S: Alter + Drop> SqlKeeper<S> {
 impl<S: Alter + Drop> Keeper for SqlKeeper<S> {
     ghost use Rattle.rtgs_rows.specs.Keeping.{HoldsBook, MayLeave};
     ghost use Rattle.rtgs_rows.proofs.Settling as settling;
+    ghost use Rattle.rtgs_tables.specs.declared.account.Account.{Account as AccountSpec};
+    ghost use Rattle.rtgs_tables.specs.Accounts.{HasRecords, ExplainsRead};
+    ghost use Rattle.std.specs.Prelude.{List};
 
     ghost content = { λ k. HoldsBook S.Store k.conn };
 
     ghost leaves = { λ k. MayLeave S.Store k.conn };
 
     ghost has_failed = { λ k. k.failed };
+
+    ghost explains = { λ k fault. (accounts : List AccountSpec) (book : Book) → HasRecords accounts book (state S.Store k.conn) → ExplainsRead accounts book fault };
 
     ghost is_honest = { λ k. HasCleanDisk (state S.Store k.conn) };
 
@@ -96,7 +108,9 @@ impl<S: Alter + Drop> Keeper for SqlKeeper<S> {
         if self.failed {
             return Err(StoreFault::Failed);
         }
-        let stopped = match write(&mut self.conn, change.as_slice()) {
+        let rows = change.as_slice();
+        rows_fit(rows);
+        let stopped = match write(&mut self.conn, rows) {
             Ok(()) => return Ok(()),
             Err(stopped) => stopped,
         };
@@ -106,6 +120,13 @@ impl<S: Alter + Drop> Keeper for SqlKeeper<S> {
         }
         Err(fault)
     }
+}
+
+/// While a database has no tables, a stop leaves none: the engine keeps its list of them true.
+fn leaves_no_tables<S: Alter>(conn: &Connection<S>)
+    ensures { IsBlank (state S.Store conn.now) → (trees : Trees) → (state S.Store conn.now).may_leave trees → HasNoTables trees }
+{
+    conn.schema();
 }
 
 /// What a stopped transaction comes to: want of memory before the call that commits, where the connection is seen to

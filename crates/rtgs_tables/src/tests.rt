@@ -195,6 +195,22 @@ fn the_first_broken_rule_is_named(rt: HostRuntime) -> Result<(), Fail> {
         ("UPDATE posting SET code = 'GAMA'", Rule::Parties),
         ("UPDATE desk SET phase = 1", Rule::Dates),
         ("UPDATE posting SET cents = -1000", Rule::Floors),
+        (
+            "INSERT INTO payment (number, sender, reference, receiver, amount, date, state, mark) VALUES (2, 'ALFA', 'A-1', 'BETA', 5, '2024-03-04', 0, NULL)",
+            Rule::OrderNumbers,
+        ),
+        (
+            "INSERT INTO payment (number, sender, reference, receiver, amount, date, state, mark) VALUES (1, 'ALFA', 'A-1', 'BETA', 5, '2024-03-04', 1, 1)",
+            Rule::Marks,
+        ),
+        (
+            "INSERT INTO payment (number, sender, reference, receiver, amount, date, state, mark) VALUES (1, 'ALFA', 'A-1', 'BETA', 5, '2024-03-04', 0, NULL)",
+            Rule::Queues,
+        ),
+        (
+            "UPDATE posting SET cents = 1000000000000000; INSERT INTO posting (number, code, reference, cents) VALUES (2, 'BETA', 'P-2', 1)",
+            Rule::Total,
+        ),
     ] {
         assert_eq!(rt;
             fault_after(alloc, sql)?,
@@ -202,5 +218,43 @@ fn the_first_broken_rule_is_named(rt: HostRuntime) -> Result<(), Fail> {
             "{sql}"
         );
     }
+    Ok(())
+}
+
+#[test]
+fn tables_without_keys_are_judged(rt: HostRuntime) -> Result<(), Fail> {
+    let alloc = rt.alloc();
+    for (sql, rule) in [
+        (
+            "CREATE TABLE other (code TEXT, name TEXT, key BLOB, credit INTEGER, balance INTEGER); INSERT INTO other SELECT code, name, key, credit, balance FROM participant; DROP TABLE participant; CREATE TABLE participant (code TEXT, name TEXT, key BLOB, credit INTEGER, balance INTEGER); INSERT INTO participant SELECT 'ALFA', name, key, credit, balance FROM other",
+            Rule::ParticipantCodes,
+        ),
+        (
+            "CREATE TABLE other (code TEXT, name TEXT, key BLOB, credit INTEGER, balance INTEGER); INSERT INTO other SELECT code, name, key, credit, balance FROM participant; DROP TABLE participant; CREATE TABLE participant (code TEXT, name TEXT, key BLOB, credit INTEGER, balance INTEGER); INSERT INTO participant SELECT code, name, (SELECT min(key) FROM other), credit, balance FROM other",
+            Rule::Keys,
+        ),
+        (
+            "DROP TABLE payment; CREATE TABLE payment (number INTEGER, sender TEXT, reference TEXT, receiver TEXT, amount INTEGER, date TEXT, state INTEGER, mark INTEGER); INSERT INTO payment (number, sender, reference, receiver, amount, date, state) VALUES (1, 'ALFA', 'A-1', 'BETA', 5, '2024-03-04', 2), (2, 'ALFA', 'A-1', 'BETA', 6, '2024-03-04', 2)",
+            Rule::OrderReferences,
+        ),
+        (
+            "DROP TABLE posting; CREATE TABLE posting (number INTEGER, code TEXT, reference TEXT, cents INTEGER, date TEXT); INSERT INTO posting (number, code, reference, cents) VALUES (1, 'ALFA', 'P-1', 1000), (2, 'ALFA', 'P-1', 5)",
+            Rule::PostingReferences,
+        ),
+    ] {
+        assert_eq!(rt;
+            fault_after(alloc, sql)?,
+            Some(Fault::Inconsistent { rule }),
+            "{sql}"
+        );
+    }
+    Ok(())
+}
+
+#[test]
+fn an_empty_file_is_no_desk(rt: HostRuntime) -> Result<(), Fail> {
+    let conn = Connection::open_in_memory(rt.alloc())?;
+    let mut keeper = SqlKeeper::open(conn);
+    assert_eq!(rt; keeper.load(rt.alloc()).err(), Some(Fault::NotADeskFile));
     Ok(())
 }

@@ -1,11 +1,12 @@
-use Rattle.std.proofs.Common.{arith, map, refl, ap, ◌∙◌}
-use Rattle.sqlite_keyed.proofs.ListLemmas.{map_back}
+use Rattle.std.proofs.Common.{arith, map, sym, ap, ◌∙◌}
 use Rattle.rtgs_tables.specs.declared.account.Account.{Account}
-use Rattle.rtgs_tables.specs.Accounts.{account_of}
 use Rattle.sqlite.specs.State.{HasCleanDisk}
 use Rattle.sqlite.specs.Held.{state}
 use Rattle.rtgs_rows.specs.Content.{Content, Rests}
 use Rattle.rtgs_tables.proofs.Keeps.{quiet_on}
+use Rattle.rtgs_book.specs.declared.Fault.TheVariants.{NotADeskFile}
+use Rattle.rtgs_tables.proofs.Accounts.{kept_on}
+use Rattle.rtgs_tables.proofs.Judging.{same_fault}
 use Rattle.rtgs_tables.proofs.loading.read_tables.Goals as goal
 
 pub returns-in_err-orders-clause-survives : goal.returns-in_err-orders-clause-survives
@@ -58,24 +59,64 @@ returns-clause-survives g c =
     let q4 = quiet_on (state g.S.Store c.args.conn.now) (state g.S.Store c.read_orders.new.conn) (state g.S.Store c.read_marks.new.conn) (λ clean content rests. k3 (omega (arith, c.read_marks.ensures.survives.clean)) content rests) q3 c.read_marks.ensures.survives in
     q4
 
-pub returns-clause-given : goal.returns-clause-given
-returns-clause-given g c clean content book rests of =
+pub returns-in_err-day-clause-right : goal.returns-in_err-day-clause-right
+returns-in_err-day-clause-right g c clean accounts book held e =
+    c.read_day.ensures.right clean accounts book held (same_fault c.read_day.result _ NotADeskFile c.from_residual.result c.in_err-day.was c.from_residual.ensures.1 e)
+
+pub returns-in_err-accounts-clause-right : goal.returns-in_err-accounts-clause-right
+returns-in_err-accounts-clause-right g c clean accounts book held e =
+    let c0 : HasCleanDisk (state g.S.Store c.read_day.new.conn) = omega (arith, c.read_accounts.ensures.survives.clean) in
+    let h0 = kept_on accounts book (state g.S.Store c.args.conn.now) (state g.S.Store c.read_day.new.conn) (λ content rests. c.read_day.ensures.same c0 content rests (λ e. let is = c.in_ok-day.was in cc)) held in
+    c.read_accounts.ensures.right clean accounts book h0 (same_fault c.read_accounts.result _ NotADeskFile c.from_residual-in_err-accounts.result c.in_err-accounts.was c.from_residual-in_err-accounts.ensures.1 e)
+
+pub returns-in_err-postings-clause-right : goal.returns-in_err-postings-clause-right
+returns-in_err-postings-clause-right g c clean accounts book held e =
+    let c1 : HasCleanDisk (state g.S.Store c.read_accounts.new.conn) = omega (arith, c.read_postings.ensures.survives.clean) in
+    let c0 : HasCleanDisk (state g.S.Store c.read_day.new.conn) = omega (arith, c.read_accounts.ensures.survives.clean) in
+    let h0 = kept_on accounts book (state g.S.Store c.args.conn.now) (state g.S.Store c.read_day.new.conn) (λ content rests. c.read_day.ensures.same c0 content rests (λ e. let is = c.in_ok-day.was in cc)) held in
+    let h1 = kept_on accounts book (state g.S.Store c.read_day.new.conn) (state g.S.Store c.read_accounts.new.conn) (λ content rests. c.read_accounts.ensures.same c1 content rests (λ e. let is = c.in_ok-accounts.was in cc)) h0 in
+    c.read_postings.ensures.right clean accounts book h1 (same_fault c.read_postings.result _ NotADeskFile c.from_residual-in_err-postings.result c.in_err-postings.was c.from_residual-in_err-postings.ensures.1 e)
+
+pub returns-in_err-orders-clause-right : goal.returns-in_err-orders-clause-right
+returns-in_err-orders-clause-right g c clean accounts book held e =
+    let c2 : HasCleanDisk (state g.S.Store c.read_postings.new.conn) = omega (arith, c.read_orders.ensures.survives.clean) in
+    let c1 : HasCleanDisk (state g.S.Store c.read_accounts.new.conn) = omega (arith, c.read_postings.ensures.survives.clean) in
+    let c0 : HasCleanDisk (state g.S.Store c.read_day.new.conn) = omega (arith, c.read_accounts.ensures.survives.clean) in
+    let h0 = kept_on accounts book (state g.S.Store c.args.conn.now) (state g.S.Store c.read_day.new.conn) (λ content rests. c.read_day.ensures.same c0 content rests (λ e. let is = c.in_ok-day.was in cc)) held in
+    let h1 = kept_on accounts book (state g.S.Store c.read_day.new.conn) (state g.S.Store c.read_accounts.new.conn) (λ content rests. c.read_accounts.ensures.same c1 content rests (λ e. let is = c.in_ok-accounts.was in cc)) h0 in
+    let h2 = kept_on accounts book (state g.S.Store c.read_accounts.new.conn) (state g.S.Store c.read_postings.new.conn) (λ content rests. c.read_postings.ensures.same c2 content rests (λ e. let is = c.in_ok-postings.was in cc)) h1 in
+    c.read_orders.ensures.right clean accounts book h2 (same_fault c.read_orders.result _ NotADeskFile c.from_residual-in_err-orders.result c.in_err-orders.was c.from_residual-in_err-orders.ensures.1 e)
+
+pub returns-in_err-marks-clause-right : goal.returns-in_err-marks-clause-right
+returns-in_err-marks-clause-right g c clean accounts book held e =
+    let c3 : HasCleanDisk (state g.S.Store c.read_orders.new.conn) = omega (arith, c.read_marks.ensures.survives.clean) in
+    let c2 : HasCleanDisk (state g.S.Store c.read_postings.new.conn) = omega (arith, c.read_orders.ensures.survives.clean) in
+    let c1 : HasCleanDisk (state g.S.Store c.read_accounts.new.conn) = omega (arith, c.read_postings.ensures.survives.clean) in
+    let c0 : HasCleanDisk (state g.S.Store c.read_day.new.conn) = omega (arith, c.read_accounts.ensures.survives.clean) in
+    let h0 = kept_on accounts book (state g.S.Store c.args.conn.now) (state g.S.Store c.read_day.new.conn) (λ content rests. c.read_day.ensures.same c0 content rests (λ e. let is = c.in_ok-day.was in cc)) held in
+    let h1 = kept_on accounts book (state g.S.Store c.read_day.new.conn) (state g.S.Store c.read_accounts.new.conn) (λ content rests. c.read_accounts.ensures.same c1 content rests (λ e. let is = c.in_ok-accounts.was in cc)) h0 in
+    let h2 = kept_on accounts book (state g.S.Store c.read_accounts.new.conn) (state g.S.Store c.read_postings.new.conn) (λ content rests. c.read_postings.ensures.same c2 content rests (λ e. let is = c.in_ok-postings.was in cc)) h1 in
+    let h3 = kept_on accounts book (state g.S.Store c.read_postings.new.conn) (state g.S.Store c.read_orders.new.conn) (λ content rests. c.read_orders.ensures.same c3 content rests (λ e. let is = c.in_ok-orders.was in cc)) h2 in
+    c.read_marks.ensures.right clean accounts book h3 (same_fault c.read_marks.result _ NotADeskFile c.from_residual-in_err-marks.result c.in_err-marks.was c.from_residual-in_err-marks.ensures.1 e)
+
+pub returns-clause-read : goal.returns-clause-read
+returns-clause-read g c clean accounts book held =
     let c4 : HasCleanDisk (state g.S.Store c.read_marks.new.conn) = clean in
     let c3 : HasCleanDisk (state g.S.Store c.read_orders.new.conn) = omega (arith, c.read_marks.ensures.survives.clean) in
     let c2 : HasCleanDisk (state g.S.Store c.read_postings.new.conn) = omega (arith, c.read_orders.ensures.survives.clean) in
     let c1 : HasCleanDisk (state g.S.Store c.read_accounts.new.conn) = omega (arith, c.read_postings.ensures.survives.clean) in
     let c0 : HasCleanDisk (state g.S.Store c.read_day.new.conn) = omega (arith, c.read_accounts.ensures.survives.clean) in
-    let v0 = c.in_ok-day.ensures.given c0 content book rests of in
-    let r0 : Rests content (state g.S.Store c.read_day.new.conn) = c.read_day.ensures.same c0 content rests (λ e. let is = c.in_ok-day.was in cc) in
-    let v1 = c.in_ok-accounts.ensures.given c1 content book r0 of in
-    let r1 : Rests content (state g.S.Store c.read_accounts.new.conn) = c.read_accounts.ensures.same c1 content r0 (λ e. let is = c.in_ok-accounts.was in cc) in
-    let v2 = c.in_ok-postings.ensures.given c2 content book r1 of in
-    let r2 : Rests content (state g.S.Store c.read_postings.new.conn) = c.read_postings.ensures.same c2 content r1 (λ e. let is = c.in_ok-postings.was in cc) in
-    let v3 = c.in_ok-orders.ensures.given c3 content book r2 of in
-    let r3 : Rests content (state g.S.Store c.read_orders.new.conn) = c.read_orders.ensures.same c3 content r2 (λ e. let is = c.in_ok-orders.was in cc) in
-    let v4 = c.in_ok-marks.ensures.given c4 content book r3 of in
-    let participants = c.from_vec.ensures ∙ c.in_ok-participants.ensures ∙ ap (map (λ (a : Account). a.participant)) (c.as_slice.ensures.value ∙ v1) ∙ map_back (account_of book) (λ (a : Account). a.participant) (λ p. refl) book.participants in
+    let h0 = kept_on accounts book (state g.S.Store c.args.conn.now) (state g.S.Store c.read_day.new.conn) (λ content rests. c.read_day.ensures.same c0 content rests (λ e. let is = c.in_ok-day.was in cc)) held in
+    let h1 = kept_on accounts book (state g.S.Store c.read_day.new.conn) (state g.S.Store c.read_accounts.new.conn) (λ content rests. c.read_accounts.ensures.same c1 content rests (λ e. let is = c.in_ok-accounts.was in cc)) h0 in
+    let h2 = kept_on accounts book (state g.S.Store c.read_accounts.new.conn) (state g.S.Store c.read_postings.new.conn) (λ content rests. c.read_postings.ensures.same c2 content rests (λ e. let is = c.in_ok-postings.was in cc)) h1 in
+    let h3 = kept_on accounts book (state g.S.Store c.read_postings.new.conn) (state g.S.Store c.read_orders.new.conn) (λ content rests. c.read_orders.ensures.same c3 content rests (λ e. let is = c.in_ok-orders.was in cc)) h2 in
+    let v0 = c.in_ok-day.ensures.given c0 accounts book held in
+    let v1 = c.in_ok-accounts.ensures.given c1 accounts book h0 in
+    let v2 = c.in_ok-postings.ensures.given c2 accounts book h1 in
+    let v3 = c.in_ok-orders.ensures.given c3 accounts book h2 in
+    let v4 = c.in_ok-marks.ensures.given c4 accounts book h3 in
+    let participants = c.from_vec.ensures ∙ c.in_ok-participants.ensures ∙ ap (map (λ (a : Account). a.participant)) (c.as_slice.ensures.value ∙ v1) ∙ sym held.2.participants in
     let postings = c.from_vec-2.ensures ∙ v2 in
     let orders = c.from_vec-3.ensures ∙ v3 in
     let marks = c.from_vec-4.ensures ∙ v4 in
-    λ i. record { participants = participants i; postings = postings i; orders = orders i; marks = marks i; day = v0 i }
+    (λ i. record { participants = participants i; postings = postings i; orders = orders i; marks = marks i; day = v0 i }, v1)

@@ -2,10 +2,11 @@ use Rattle.sqlite.proofs.StateLemmas.{survives_weaker}
 use Rattle.sqlite.specs.Held.{state}
 use Rattle.rtgs_tables.proofs.Showing.{refused, intact_after, kept_after, nothing_commits}
 use Rattle.rtgs_tables.proofs.Selecting.{desk_text, desk_project, desk_order, desk_names, desk_selects, desk_shown}
+use Rattle.rtgs_tables.proofs.Blank.{unshown}
 use Rattle.rtgs_tables.proofs.reading.desk_rows.Goals as goal
 
 pub returns-clause-rows : goal.returns-clause-rows
-returns-clause-rows g c clean content book rests of = desk_shown (state g.S.Store c.args.conn.now) (state g.S.Store c.query_all.new.self) content book rests of c.query_all.result (c.query_all.ensures.ok clean)
+returns-clause-rows g c clean accounts book held = desk_shown (state g.S.Store c.args.conn.now) (state g.S.Store c.query_all.new.self) held.0 accounts book held.1 held.2 c.query_all.result (c.query_all.ensures.ok clean)
 
 pub returns-clause-kept : goal.returns-clause-kept
 returns-clause-kept g c clean content rests = kept_after desk_text 0 desk_project desk_order desk_names desk_selects (state g.S.Store c.args.conn.now) (state g.S.Store c.query_all.new.self) content rests c.query_all.result (c.query_all.ensures.ok clean)
@@ -18,3 +19,6 @@ returns-clause-intact g c clean content rests alive = intact_after desk_text 0 d
 
 pub returns-clause-survives : goal.returns-clause-survives
 returns-clause-survives g c = survives_weaker (state g.S.Store c.args.conn.now) (state g.S.Store c.query_all.new.self) _ _ (λ _ db commits content rests. nothing_commits desk_text 0 desk_project desk_order desk_names desk_selects (state g.S.Store c.args.conn.now) (state g.S.Store c.query_all.new.self) content rests db commits) c.query_all.ensures.survives
+
+pub returns-clause-blank : goal.returns-clause-blank
+returns-clause-blank g c clean blank = unshown (state g.S.Store c.args.conn.now) (state g.S.Store c.query_all.new.self) blank c.query_all.result (c.query_all.ensures.ok clean)

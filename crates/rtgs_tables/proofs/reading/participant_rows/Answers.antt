@@ -5,7 +5,7 @@ use Rattle.rtgs_tables.proofs.Selecting.{participants_text, participants_project
 use Rattle.rtgs_tables.proofs.reading.participant_rows.Goals as goal
 
 pub returns-clause-rows : goal.returns-clause-rows
-returns-clause-rows g c clean content book rests of = participants_shown (state g.S.Store c.args.conn.now) (state g.S.Store c.query_all.new.self) content book rests of c.query_all.result (c.query_all.ensures.ok clean)
+returns-clause-rows g c clean accounts book held = participants_shown (state g.S.Store c.args.conn.now) (state g.S.Store c.query_all.new.self) held.0 accounts book held.1 held.2 c.query_all.result (c.query_all.ensures.ok clean)
 
 pub returns-clause-kept : goal.returns-clause-kept
 returns-clause-kept g c clean content rests = kept_after participants_text 1 participants_project participants_order participants_names participants_selects (state g.S.Store c.args.conn.now) (state g.S.Store c.query_all.new.self) content rests c.query_all.result (c.query_all.ensures.ok clean)

@@ -1,23 +1,23 @@
 use Rattle.std.proofs.Common.{sym, subst}
-use Rattle.rtgs_rows.specs.Keeping.{IsChange}
+use Rattle.rtgs_book.specs.Changes.{IsChange}
 use Rattle.rtgs_rows.proofs.Settling.{done, stops, stops_at}
 use Rattle.rtgs_tables.proofs.sql_keeper.SqlKeeperKeeper.commit.Goals as goal
 
 pub returns-in-Ok-clause-done : goal.returns-in-Ok-clause-done
 returns-in-Ok-clause-done g c clean before after holds change =
-    done g.S.Store c.args.self.now.conn c.write.new.conn c.as_slice.result.now (c.in-Ok.ensures.done clean) before after holds (subst (λ rows. IsChange before rows after) (sym c.as_slice.ensures) change)
+    done g.S.Store c.args.self.now.conn c.write.new.conn c.as_slice-rows.result.now (c.in-Ok.ensures.done clean) before after holds (subst (λ rows. IsChange before rows after) (sym c.as_slice-rows.ensures) change) c.rows_fit.ensures
 
 pub returns-in-Ok-clause-stops : goal.returns-in-Ok-clause-stops
 returns-in-Ok-clause-stops g c clean before after other holds change left =
-    stops_at g.S.Store c.args.self.now.conn c.write.new.conn c.as_slice.result.now c.write.ensures.crash clean before after other holds
-    (subst (λ rows. IsChange before rows after) (sym c.as_slice.ensures) change) left
+    stops_at g.S.Store c.args.self.now.conn c.write.new.conn c.as_slice-rows.result.now c.write.ensures.crash clean before after other holds
+    (subst (λ rows. IsChange before rows after) (sym c.as_slice-rows.ensures) change) c.rows_fit.ensures left
 
 pub returns-then-eq-clause-stops : goal.returns-then-eq-clause-stops
 returns-then-eq-clause-stops g c clean before after other holds change left =
-    stops g.S.Store c.args.self.now.conn c.write.new.conn c.fault_of-fault.new.conn c.as_slice.result.now c.write.ensures.crash c.fault_of-fault.ensures.survives clean before after other holds
-    (subst (λ rows. IsChange before rows after) (sym c.as_slice.ensures) change) left
+    stops g.S.Store c.args.self.now.conn c.write.new.conn c.fault_of-fault.new.conn c.as_slice-rows.result.now c.write.ensures.crash c.fault_of-fault.ensures.survives clean before after other holds
+    (subst (λ rows. IsChange before rows after) (sym c.as_slice-rows.ensures) change) c.rows_fit.ensures left
 
 pub returns-else-eq-clause-stops : goal.returns-else-eq-clause-stops
 returns-else-eq-clause-stops g c clean before after other holds change left =
-    stops g.S.Store c.args.self.now.conn c.write.new.conn c.fault_of-fault.new.conn c.as_slice.result.now c.write.ensures.crash c.fault_of-fault.ensures.survives clean before after other holds
-    (subst (λ rows. IsChange before rows after) (sym c.as_slice.ensures) change) left
+    stops g.S.Store c.args.self.now.conn c.write.new.conn c.fault_of-fault.new.conn c.as_slice-rows.result.now c.write.ensures.crash c.fault_of-fault.ensures.survives clean before after other holds
+    (subst (λ rows. IsChange before rows after) (sym c.as_slice-rows.ensures) change) c.rows_fit.ensures left

@@ -1,0 +1,58 @@
+-- The records as they are read.
+use Rattle.std.proofs.Common.{◌≡◌, List, [], ◌∷◌, map, IsPermutation, ap₂, refl, sym, subst}
+use Rattle.std.specs.List.{AllByRecursion}
+use Rattle.std.proofs.lemmas.List.Sorted.{IsPermutation-map}
+use Rattle.std.specs.declared.cmp.Ordering.TheVariants.{Less}
+use Rattle.sqlite.specs.State.{State}
+use Rattle.sqlite_keyed.proofs.ListLemmas.{ascending-map, map_back}
+use Rattle.rtgs_book.specs.declared.Book.{Book}
+use Rattle.rtgs_book.specs.Balance.{balance}
+use Rattle.rtgs_book.specs.declared.Participant.{Participant}
+use Rattle.rtgs_rows.specs.Content.{Holding, Content, Rests}
+use Rattle.rtgs_rows.specs.Fitting.{FitsParticipant}
+use Rattle.rtgs_tables.specs.declared.account.Account.{Account}
+use Rattle.rtgs_rows.specs.Keeping.{IsBookOf}
+use Rattle.rtgs_rows.proofs.Ordered.{keys_of}
+use Rattle.rtgs_rows.proofs.Unique.{by_code, rising}
+use Rattle.rtgs_tables.specs.Accounts.{account_of, accounts_of, stored_account, AreRead, HasRecords, AreBalances}
+
+all_from_map : {A B : Type 0} (P : B → Type 0) (f : A → B) (xs : List A) → AllByRecursion P (map f xs) → AllByRecursion (λ x. P (f x)) xs
+all_from_map P f [] all = tt
+all_from_map P f (x ∷ xs) all = (all.0, all_from_map P f xs all.1)
+
+pub accounts_fit : (content : Content) (accounts : List Account) (book : Book) → AreRead content accounts book → AllByRecursion (λ (a : Account). FitsParticipant a.participant) accounts
+accounts_fit content accounts book are = all_from_map FitsParticipant (λ (a : Account). a.participant) accounts (subst (AllByRecursion FitsParticipant) are.participants are.fits.participants)
+
+-- where the stored balances are those of the book, the accounts are those of its participants
+own_accounts : (book : Book) (hs : List Holding) → AllByRecursion (λ (h : Holding). h.balance ≡ balance book h.participant.code) hs → map stored_account hs ≡ map (account_of book) (map (λ (h : Holding). h.participant) hs)
+own_accounts book [] stored = refl
+own_accounts book (h ∷ hs) stored = ap₂ ◌∷◌ (λ i. record { participant = h.participant; balance = stored.0 i }) (own_accounts book hs stored.1)
+
+are_own : (content : Content) (book : Book) → IsBookOf book content → AreRead content (accounts_of book) book
+are_own content book of =
+    let keys = keys_of book content of.records of.sound in
+    record {
+      order = record { ids = of.ids; codes = keys.codes; postings = keys.postings; orders = keys.orders; marks = keys.marks };
+      stored = subst (λ l. IsPermutation l (accounts_of book)) (sym (own_accounts book content.holdings of.balances)) (IsPermutation-map (account_of book) _ _ of.records.participants);
+      rising = ascending-map (λ (a b : Account). by_code a.participant b.participant ≡ Less) (account_of book) book.participants (rising book of.sound.codes_rise);
+      participants = sym (map_back (account_of book) (λ (a : Account). a.participant) (λ p. refl) book.participants);
+      day = of.records.day;
+      postings = of.records.postings;
+      orders = of.records.orders;
+      marks = of.records.marks;
+      fits = of.fits;
+    }
+
+pub has_own : (s : State) (content : Content) (book : Book) → Rests content s → IsBookOf book content → HasRecords (accounts_of book) book s
+has_own s content book rests of = (content, rests, are_own content book of)
+
+balances_of : (book : Book) (ps : List Participant) → AreBalances book (map (account_of book) ps)
+balances_of book [] = tt
+balances_of book (p ∷ ps) = (refl, balances_of book ps)
+
+pub own_balances : (book : Book) → AreBalances book (accounts_of book)
+own_balances book = balances_of book book.participants
+
+-- the tables keep their records where they keep their content
+pub kept_on : (accounts : List Account) (book : Book) (old new : State) → ((content : Content) → Rests content old → Rests content new) → HasRecords accounts book old → HasRecords accounts book new
+kept_on accounts book old new kept held = (held.0, kept held.0 held.1, held.2)

@@ -1,0 +1,224 @@
+//! A book in memory.
+ghost use Rattle.std.specs.Prelude.{◌≡◌, ◌+◌, ◌<◌, ◌≤◌, false, not, List, [], ◌∷◌, ◌++◌, map, filter, count_by, IfOk, OnOk, if◌then◌else◌};
+ghost use Rattle.std.specs.Vec.{vec_len, vec_capacity};
+ghost use Rattle.rtgs_book.specs.declared.Order.{Order as OrderSpec};
+ghost use Rattle.rtgs_book.specs.declared.Participant.{Participant as ParticipantSpec};
+ghost use Rattle.rtgs_book.specs.declared.RowChange.{RowChange as RowChangeSpec};
+ghost use Rattle.rtgs_book.specs.Changes.{changed, with_row};
+ghost use Rattle.rtgs_book.specs.Commands.{has_number, is_before};
+ghost use Rattle.rtgs_book.specs.Lookup.{has_code};
+ghost use Rattle.rtgs_book.specs.Settle.{restated};
+ghost use Rattle.rtgs_book.specs.Soundness.{AreNumbered, OrdersAreNumbered, IsSound};
+ghost use Rattle.rtgs_tables.specs.Building.{new_book};
+ghost use Rattle.rtgs_tables.specs.Memory.{book_of, KeepsBook, AreInCodeOrder, HasRoom, adds_participant, adds_posting, adds_order, adds_mark};
+
+use crate::keeper::{Keeper, StoreFault};
+use rtgs_book::{
+    Book, Change, Day, Fault, Mark, Order, OrderState, Participant, Phase, Posting, RowChange, Rows,
+};
+use rtgs_money::{Code, Credit};
+use std::alloc::{AllocError, Global};
+
+#[cfg(test)]
+mod tests;
+
+/// Keeps a book in memory alone, so that nothing is left of it once the keeper is gone. It refuses where memory is
+/// refused, and never fails.
+#[derive(Debug, Drop)]
+pub struct MemoryKeeper {
+    participants: Vec<Participant>,
+    postings: Vec<Posting>,
+    orders: Vec<Order>,
+    marks: Vec<Mark>,
+    day: Day,
+}
+
+impl MemoryKeeper {
+    /// Keeps the book of a new desk: nothing recorded, and closed. Takes no memory yet.
+    pub fn new(alloc: Global) -> MemoryKeeper
+        ensures { KeepsBook result new_book }
+    {
+        MemoryKeeper {
+            participants: Vec::new(alloc),
+            postings: Vec::new(alloc),
+            orders: Vec::new(alloc),
+            marks: Vec::new(alloc),
+            day: Day {
+                date: None,
+                phase: Phase::Closed,
+            },
+        }
+    }
+
+    // A copy of the book.
+    fn copied(&self, alloc: Global) -> Result<Book, AllocError>
+        ensures { IfOk result (λ book. book ≡ book_of self.now) }
+    {
+        let participants = Vec::from_slice(alloc, self.participants.as_slice())?;
+        let postings = Vec::from_slice(alloc, self.postings.as_slice())?;
+        let orders = Vec::from_slice(alloc, self.orders.as_slice())?;
+        let marks = Vec::from_slice(alloc, self.marks.as_slice())?;
+        Ok(Book {
+            participants: Rows::from_vec(participants),
+            postings: Rows::from_vec(postings),
+            orders: Rows::from_vec(orders),
+            marks: Rows::from_vec(marks),
+            day: self.day,
+        })
+    }
+
+    // Makes room for the rows that are added. Nothing else changes.
+    fn reserve(&mut self, rows: &[RowChange]) -> Result<(), AllocError>
+        ensures room { OnOk result (HasRoom self.new rows.now) }
+        ensures same { book_of self.new ≡ book_of self.old }
+    {
+        self.participants.reserve(added_participants(rows))?;
+        self.postings.reserve(added_postings(rows))?;
+        self.orders.reserve(added_orders(rows))?;
+        self.marks.reserve(added_marks(rows))?;
+        Ok(())
+    }
+
+    // Makes the rows one after another, in the order in which they stand.
+    fn apply_all(&mut self, rows: &[RowChange])
+        requires { HasRoom self.old rows.now }
+        ensures { IsSound (book_of self.old) → IsSound (changed (book_of self.old) rows.now) → book_of self.new ≡ changed (book_of self.old) rows.now }
+    {
+        for row in rows {
+            self.apply(row);
+        }
+    }
+
+    // Makes one row.
+    #[tactic(auto, unfolding(rtgs_book::specs::Commands::with_participant, rtgs_book::specs::Commands::with_credit, rtgs_book::specs::Commands::with_state))]
+    fn apply(&mut self, row: &RowChange)
+        requires { HasRoom self.old (row.now ∷ []) }
+        ensures made { AreInCodeOrder self.old.participants.items → OrdersAreNumbered (book_of self.old) → book_of self.new ≡ with_row (book_of self.old) row.now }
+        ensures room { (rows : List RowChangeSpec) → HasRoom self.old (row.now ∷ rows) → HasRoom self.new rows }
+    {
+        match row {
+            RowChange::AddParticipant(participant) => {
+                insert_in_code_order(&mut self.participants, *participant);
+            }
+            RowChange::AddPosting(posting) => self.postings.push_reserved(*posting),
+            RowChange::AddOrder(order) => self.orders.push_reserved(*order),
+            RowChange::AddMark(mark) => self.marks.push_reserved(*mark),
+            RowChange::SetCredit { code, credit } => {
+                set_credit(self.participants.as_mut_slice(), code, *credit);
+            }
+            RowChange::SetBalance { .. } => {}
+            RowChange::SetState { number, state } => {
+                set_state(self.orders.as_mut_slice(), *number, *state);
+            }
+            RowChange::SetDay(Day { date, phase }) => {
+                self.day.date = *date;
+                self.day.phase = *phase;
+            }
+        }
+    }
+}
+
+impl Keeper for MemoryKeeper {
+    ghost use Rattle.std.proofs.Common.{sym, ◌∙◌};
+    ghost use Rattle.rtgs_book.specs.Judgement.{Explains};
+    ghost use Rattle.rtgs_tables.specs.Memory.{book_of};
+
+    ghost content = { KeepsBook };
+
+    ghost leaves = { KeepsBook };
+
+    ghost has_failed = { λ k. false };
+
+    ghost explains = { λ k. Explains (book_of k) };
+
+    ghost is_honest = { λ k. Unit {0} };
+
+    ghost settled = { λ k book other kept left. sym left.0 ∙ kept.0 };
+
+    ghost stays = { λ k book kept. kept };
+
+    fn load(&mut self, alloc: Global) -> Result<Book, Fault> {
+        let book = self.copied(alloc)?;
+        book.check()?;
+        Ok(book)
+    }
+
+    fn commit(&mut self, change: &Change) -> Result<(), StoreFault> {
+        let rows = change.as_slice();
+        if self.reserve(rows).is_err() {
+            return Err(StoreFault::OutOfMemory);
+        }
+        self.apply_all(rows);
+        Ok(())
+    }
+}
+
+// How many participants the rows add.
+fn added_participants(rows: &[RowChange]) -> usize
+    ensures { result ≡ count_by adds_participant rows.now }
+{
+    rows.iter()
+        .filter(|row| matches!(row, RowChange::AddParticipant(_)))
+        .count()
+}
+
+// How many postings the rows add.
+fn added_postings(rows: &[RowChange]) -> usize
+    ensures { result ≡ count_by adds_posting rows.now }
+{
+    rows.iter()
+        .filter(|row| matches!(row, RowChange::AddPosting(_)))
+        .count()
+}
+
+// How many orders the rows add.
+fn added_orders(rows: &[RowChange]) -> usize
+    ensures { result ≡ count_by adds_order rows.now }
+{
+    rows.iter()
+        .filter(|row| matches!(row, RowChange::AddOrder(_)))
+        .count()
+}
+
+// How many marks the rows add.
+fn added_marks(rows: &[RowChange]) -> usize
+    ensures { result ≡ count_by adds_mark rows.now }
+{
+    rows.iter()
+        .filter(|row| matches!(row, RowChange::AddMark(_)))
+        .count()
+}
+
+// Puts the participant at its place. There is room for it.
+fn insert_in_code_order(participants: &mut Vec<Participant>, new: Participant)
+    requires { vec_len participants.old < vec_capacity participants.old }
+    ensures items { AreInCodeOrder participants.old.items → participants.new.items ≡ filter (λ p. is_before p.code new.code) participants.old.items ++ new ∷ filter (λ p. not (is_before p.code new.code)) participants.old.items }
+    ensures len { vec_len participants.new ≡ vec_len participants.old + 1 }
+    ensures capacity { vec_capacity participants.old ≤ vec_capacity participants.new }
+{
+    let place = participants
+        .as_slice()
+        .partition_point(|participant| participant.code < new.code);
+    participants.insert(place, new).unwrap();
+}
+
+// Sets the credit of the participant with this code.
+fn set_credit(participants: &mut [Participant], code: &Code, credit: Credit)
+    ensures { participants.new ≡ map (λ (p : ParticipantSpec). if has_code code.now p then record p { credit = credit } else p) participants.old }
+{
+    for participant in participants.iter_mut() {
+        if participant.code == *code {
+            participant.credit = credit;
+        }
+    }
+}
+
+// Sets the state of the order with this number.
+fn set_state(orders: &mut [Order], number: u64, state: OrderState)
+    ensures { AreNumbered (map (λ (o : OrderSpec). o.number) orders.old) → orders.new ≡ map (restated (has_number number) state) orders.old }
+{
+    if (1..=orders.len() as u64).contains(&number) {
+        let order = &mut orders[number as usize - 1];
+        order.state = state;
+    }
+}
