@@ -1,2 +1,3 @@
-pub mod Forms
+pub mod Readings
+pub mod Replies
 pub mod Seen

@@ -1,5 +1,5 @@
 //! The desk.
-ghost use Rattle.std.specs.Prelude.{◌≡◌, ◌≢◌, ◌∷◌, [], true, false, Ok, Err, All, IfOk, IfErr, OnErr, length};
+ghost use Rattle.std.specs.Prelude.{◌≡◌, ◌≢◌, ◌⊎◌, ◌∷◌, [], true, false, if◌then◌else◌, Ok, Err, All, IfOk, IfErr, OnErr, length};
 ghost use Rattle.std.specs.List.{AllByRecursion};
 ghost use Rattle.rtgs_book.specs.declared.Book.{Book};
 ghost use Rattle.rtgs_book.specs.Run.{Run, is_accepted};
@@ -7,11 +7,13 @@ ghost use Rattle.rtgs_book.specs.Session.{is_judged, answered, answers, open_com
 ghost use Rattle.rtgs_book.specs.Soundness.{IsSound};
 ghost use Rattle.rtgs_book.specs.Step.{Step};
 ghost use Rattle.rtgs_ledger.specs.Commands.{IsCarriedOut};
-ghost use Rattle.rtgs_desk.specs.Seen.{IsOfAWorkingDesk};
-ghost use Rattle.rtgs_desk.specs.Forms.{KeepsForms};
+ghost use Rattle.rtgs_desk.specs.Readings.{Tells, account_known, account_told, queue_told, order_told};
+ghost use Rattle.rtgs_desk.specs.Replies.{IsOfAWorkingDesk, FailsOnce};
 
-use rtgs_book::{Answer, Command, Fault, Refusal};
-use rtgs_ledger::Ledger;
+use crate::reading::{AccountReading, value_of};
+use rtgs_book::{Answer, Command, Fault, Order, Refusal};
+use rtgs_ledger::{Account, Ledger};
+use rtgs_money::{Code, Reference};
 use rtgs_tables::{Keeper, StoreFault};
 use std::alloc::{AllocError, Global};
 use std::marker::Model;
@@ -43,9 +45,18 @@ impl<K: Keeper> Desk<K> {
         ensures found { IfOk result (λ desk. K.is_honest desk.keeper → (book : Book) → K.content keeper book → desk.book ≡ book) }
         ensures held { IfOk result (λ desk. K.is_honest desk.keeper → (book : Book) → K.content keeper book → K.content desk.keeper desk.book) }
         ensures sound { IfOk result (λ desk. IsSound desk.book) }
+        ensures stops { IfOk result (λ desk. K.is_honest desk.keeper → (book found : Book) → K.content keeper book → K.leaves desk.keeper found → found ≡ book) }
         ensures honest { IfOk result (λ desk. K.is_honest desk.keeper → K.is_honest keeper) }
+
+        // A book that is kept is refused for want of memory or a fault of the store alone, and what is kept stays the same.
+        ensures accepted { IfErr result (λ (fault, kept). K.is_honest kept → (book : Book) → K.content keeper book → (fault ≡ Fault.OutOfMemory) ⊎ (fault ≡ Fault.StoreFault)) }
+        ensures explained { IfErr result (λ (fault, kept). K.is_honest kept → (fault ≡ Fault.OutOfMemory) ⊎ K.explains keeper fault) }
+        ensures back_held { IfErr result (λ (fault, kept). K.is_honest kept → (book : Book) → K.content keeper book → fault ≢ Fault.StoreFault → K.content kept book) }
+        ensures back_stops { IfErr result (λ (fault, kept). K.is_honest kept → (book found : Book) → K.content keeper book → K.leaves kept found → found ≡ book) }
         ensures back { IfErr result (λ (fault, kept). K.is_honest kept → K.is_honest keeper) }
-        ensures fault { IfErr result (λ (fault, kept). K.has_failed keeper ≡ false → K.has_failed kept ≡ true → fault ≡ Fault.StoreFault) }
+        ensures fault { IfErr result (λ (fault, kept). fault ≡ Fault.StoreFault → K.has_failed kept ≡ true) }
+        ensures only_fault { IfErr result (λ (fault, kept). fault ≢ Fault.StoreFault → K.has_failed kept ≡ K.has_failed keeper) }
+        ensures failed { K.has_failed keeper ≡ true → result ≡ Err (Fault.StoreFault, keeper) }
     {
         let mut keeper = keeper;
         let book = match keeper.load(alloc) {
@@ -75,9 +86,9 @@ impl<K: Keeper> Desk<K> {
         // A keeper that held the desk's book goes on to hold it, and a stop leaves that book, or the one that the command
         // leads to where the store failed.
         ensures honest { K.is_honest self.new.keeper → K.is_honest self.old.keeper }
-        ensures held { K.has_failed self.new.keeper ≡ false → K.is_honest self.new.keeper → KeepsForms self.old.book command
+        ensures held { K.has_failed self.new.keeper ≡ false → K.is_honest self.new.keeper
             → K.content self.old.keeper self.old.book → K.content self.new.keeper self.new.book }
-        ensures stops { K.has_failed self.old.keeper ≡ false → K.is_honest self.new.keeper → KeepsForms self.old.book command
+        ensures stops { K.has_failed self.old.keeper ≡ false → K.is_honest self.new.keeper
             → K.content self.old.keeper self.old.book → (found : Book) → K.leaves self.new.keeper found
             → MayFind self.new.book (open_command (command ∷ []) (result ∷ [])) found }
         ensures nothing_kept { is_judged result ≡ true → is_accepted result ≡ false → self.new.keeper ≡ self.old.keeper }
@@ -116,9 +127,21 @@ impl<K: Keeper> Desk<K> {
         requires { All IsCarriedOut commands.now }
         ensures one_each { IfOk result (λ replies. length replies.items ≡ length commands.now) }
         ensures run { IfOk result (λ replies. Run self.old.book (answered commands.now replies.items) (answers replies.items) self.new.book) }
+
+        // A keeper that held the desk's book goes on to hold it, and a stop leaves that book, or the one that the open command leads to.
+        ensures held { K.has_failed self.new.keeper ≡ false → K.is_honest self.new.keeper → K.content self.old.keeper self.old.book → K.content self.new.keeper self.new.book }
+        ensures stops { IfOk result (λ replies. K.has_failed self.old.keeper ≡ false → K.is_honest self.new.keeper → K.content self.old.keeper self.old.book
+            → (found : Book) → K.leaves self.new.keeper found → MayFind self.new.book (open_command commands.now replies.items) found) }
+
+        // The store fails once at most: from then on each reply is `Failed`, and none is before it.
+        ensures faults { IfOk result (λ replies. FailsOnce (K.has_failed self.old.keeper) replies.items (K.has_failed self.new.keeper)) }
+        ensures failed { K.has_failed self.old.keeper ≡ true → (self.new ≡ self.old) × IfOk result (λ replies. AllByRecursion (λ reply. reply ≡ Err Refusal.Failed) replies.items) }
         ensures working { IfOk result (λ replies. K.has_failed self.new.keeper ≡ false → AllByRecursion IsOfAWorkingDesk replies.items) }
         ensures honest { K.is_honest self.new.keeper → K.is_honest self.old.keeper }
+
+        // Without memory for the replies nothing is done.
         ensures err { OnErr result (self.new ≡ self.old) }
+        ensures found_on_err { OnErr result (K.content self.old.keeper self.old.book → (found : Book) → K.leaves self.new.keeper found → found ≡ self.new.book) }
     {
         let mut replies = Vec::with_capacity(self.alloc, commands.len())?;
         for command in commands {
@@ -127,11 +150,60 @@ impl<K: Keeper> Desk<K> {
         Ok(replies)
     }
 
+    /// The participant with this code, its balance and its queue in short. It is `Failed` where the store has failed, and else
+    /// `UnknownParticipant` where nobody has the code.
+    pub fn account(&self, code: &Code) -> Result<AccountReading, Refusal>
+        ensures { Tells (K.has_failed self.now.keeper) (λ reading. reading) (account_told self.now.book code.now) result }
+    {
+        let Account {
+            participant,
+            balance,
+        } = self.known(code)?;
+        let queue = self.ledger.queue(code)?;
+        Ok(AccountReading {
+            participant,
+            balance,
+            day: self.ledger.day(),
+            queued: queue.len(),
+            queued_value: value_of(queue.as_slice()),
+        })
+    }
+
+    /// The queued orders of the participant with this code, first in, first out. It is `Failed` where the store has failed, and
+    /// else `UnknownParticipant` where nobody has the code.
+    pub fn queue_of(&self, code: &Code) -> Result<Vec<Order>, Refusal>
+        ensures { Tells (K.has_failed self.now.keeper) (λ orders. orders.items) (queue_told self.now.book code.now) result }
+    {
+        self.known(code)?;
+        Ok(self.ledger.queue(code)?)
+    }
+
+    /// The order that the participant with this code gave this reference. It is `Failed` where the store has failed, and else
+    /// `UnknownParticipant` where nobody has the code, and `UnknownOrder` where the participant has no such order.
+    pub fn order_of(&self, code: &Code, reference: &Reference) -> Result<Order, Refusal>
+        ensures { result ≡ (if K.has_failed self.now.keeper then Err Refusal.Failed else order_told self.now.book code.now reference.now) }
+    {
+        self.known(code)?;
+        self.ledger
+            .order(code, reference)
+            .ok_or(Refusal::UnknownOrder)
+    }
+
     /// Whether the store has failed. The desk then answers nothing until it is opened again.
     pub fn failed(&self) -> bool
         ensures { result ≡ K.has_failed self.now.keeper }
     {
         self.failed
+    }
+
+    // The account with this code, on a desk whose store has not failed.
+    fn known(&self, code: &Code) -> Result<Account, Refusal>
+        ensures { result ≡ (if K.has_failed self.now.keeper then Err Refusal.Failed else account_known self.now.book code.now) }
+    {
+        if self.failed {
+            return Err(Refusal::Failed);
+        }
+        self.ledger.account(code).ok_or(Refusal::UnknownParticipant)
     }
 
     /// Ends the desk. The keeper comes back.

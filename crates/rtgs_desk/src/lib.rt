@@ -2,8 +2,10 @@
 #![tactic(auto)]
 
 mod desk;
+mod reading;
 
 pub use crate::desk::Desk;
+pub use crate::reading::AccountReading;
 
 #[cfg(test)]
 mod tests;
