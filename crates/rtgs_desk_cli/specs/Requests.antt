@@ -7,10 +7,10 @@ use Rattle.rtgs_ledger.specs.Commands.{IsCarriedOut}
 use Rattle.rtgs_desk_cli.specs.declared.word_fault.WordFault.{WordFault}
 use Rattle.rtgs_desk_cli.specs.declared.word_fault.WordFault.TheVariants.{Form}
 use Rattle.rtgs_desk_cli.specs.declared.words.Words.{Words}
-use Rattle.rtgs_desk_cli.specs.declared.words.Words.TheVariants.{Init, Add, Post}
+use Rattle.rtgs_desk_cli.specs.declared.words.Words.TheVariants.{Init, Add, Post, Open}
 use Rattle.rtgs_desk_cli.specs.declared.request.Request.{Request}
 use Rattle.rtgs_desk_cli.specs.declared.request.Request.TheVariants.{Make, Submit}
-use Rattle.rtgs_desk_cli.specs.Words.{ReadsAdd, ReadsPost}
+use Rattle.rtgs_desk_cli.specs.Words.{ReadsAdd, ReadsPost, ReadsOpen}
 
 -- a command is one that the desk carries out
 abbrev pub IsServed : Request → Type 0
@@ -24,3 +24,5 @@ Reads (Add file code name key) result =
     (read : Result Command Lexical) × ReadsAdd code.now name.now key.now read × (result ≡ result_map_both (λ command. Submit file command) (λ form. Form form) read)
 Reads (Post file code reference cents debit) result =
     (read : Result Command WordFault) × ReadsPost code.now reference.now cents.now debit read × (result ≡ result_map_both (λ command. Submit file command) (λ fault. fault) read)
+Reads (Open file date) result =
+    (read : Result Command Lexical) × ReadsOpen date.now read × (result ≡ result_map_both (λ command. Submit file command) (λ form. Form form) read)

@@ -3,9 +3,10 @@ use Rattle.std.specs.Prelude.{◌≡◌, ◌⊎◌, ℕ, ℤ, Bool, List, [], �
 use Rattle.std.specs.Fmt.{signed_decimal}
 use Rattle.sha2.specs.Sha256.{sha256}
 use Rattle.rtgs_money.specs.Amounts.{IsPostingAmount}
+use Rattle.rtgs_money.specs.Date.{IsBusinessDate, date_text}
 use Rattle.rtgs_money.specs.Forms.{IsCode, IsReference, IsName, IsKey}
 use Rattle.rtgs_money.specs.declared.lexical.Lexical.{Lexical}
-use Rattle.rtgs_money.specs.declared.lexical.Lexical.TheVariants.{BadCode, BadReference, BadAmount, BadName, BadKey}
+use Rattle.rtgs_money.specs.declared.lexical.Lexical.TheVariants.{BadCode, BadReference, BadAmount, BadName, BadKey, BadDate}
 use Rattle.rtgs_book.specs.declared.command.Command.{Command}
 use Rattle.rtgs_book.specs.declared.command.Command.TheVariants as command
 use Rattle.rtgs_desk_cli.specs.declared.word_fault.WordFault.{WordFault}
@@ -43,3 +44,8 @@ pub record ReadsPost (code reference cents : List ℕ) (debit : Bool) (result : 
   pub signed : IsCode code → IsReference reference → IsSigned cents → result ≡ Err (Form BadAmount)
   pub bad_amount : IsCode code → IsReference reference → ((posting : ℤ) → ¬ SpellsPosting cents debit posting)
       → (result ≡ Err (Form BadAmount)) ⊎ (result ≡ Err OutOfMemory)
+
+-- the word of a day, weekends too
+pub record ReadsOpen (date : List ℕ) (result : Result Command Lexical) : Type 0 where
+  pub found : (day : ℕ) → IsBusinessDate day → date ≡ date_text day → result ≡ Ok (command.OpenDay day)
+  pub bad_date : ((day : ℕ) → ¬ (IsBusinessDate day × (date ≡ date_text day))) → result ≡ Err BadDate

@@ -1,12 +1,12 @@
 //! A run's request, each word in its form.
 ghost use Rattle.std.specs.Prelude.{◌≡◌, IfOk};
 ghost use Rattle.rtgs_ledger.specs.Commands.{IsCarriedOut};
-ghost use Rattle.rtgs_desk_cli.specs.Words.{ReadsAdd, ReadsPost, ReadsCents};
+ghost use Rattle.rtgs_desk_cli.specs.Words.{ReadsAdd, ReadsPost, ReadsCents, ReadsOpen};
 
 use crate::word_fault::WordFault;
 use crate::words::Words;
 use rtgs_book::Command;
-use rtgs_money::{Code, Key, Lexical, Name, PostingAmount, Reference};
+use rtgs_money::{BusinessDate, Code, Key, Lexical, Name, PostingAmount, Reference};
 use std::alloc::Global;
 
 /// What a run is to do with the book in a file.
@@ -47,6 +47,10 @@ impl<'a> Request<'a> {
                 Ok(command) => Ok(Request::Submit { file, command }),
                 Err(fault) => Err(fault),
             },
+            Words::Open { file, date } => match read_open(date) {
+                Ok(command) => Ok(Request::Submit { file, command }),
+                Err(form) => Err(WordFault::Form(form)),
+            },
         }
     }
 }
@@ -81,6 +85,15 @@ fn read_post(
         reference,
         cents,
     })
+}
+
+/// The opening of a day that the word spells.
+fn read_open(date: &str) -> Result<Command, Lexical>
+    ensures served { IfOk result IsCarriedOut }
+    ensures reads { ReadsOpen date.now result }
+{
+    let date = BusinessDate::read(date.as_bytes())?;
+    Ok(Command::OpenDay(date))
 }
 
 /// The amount of a posting from a word without a sign.

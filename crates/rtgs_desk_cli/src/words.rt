@@ -21,6 +21,10 @@ pub enum Words<'a> {
         cents: &'a str,
         debit: bool,
     },
+    Open {
+        file: &'a str,
+        date: &'a str,
+    },
 }
 
 /// The book's file, which each subcommand takes first.
@@ -92,6 +96,14 @@ fn post_command<'a>(alloc: Global) -> Result<Command<'a>, AllocError> {
         .arg(debit)
 }
 
+fn open_command<'a>(alloc: Global) -> Result<Command<'a>, AllocError> {
+    let date = word_argument(alloc, "date", "DATE", "The business date, as YYYY-MM-DD");
+    Command::new(alloc, "open")
+        .about("Opens a business day")
+        .arg(file_argument(alloc))?
+        .arg(date)
+}
+
 fn desk_command<'a>(alloc: Global) -> Result<Command<'a>, AllocError> {
     Command::new(alloc, "desk")
         .about("The settlement desk of a central bank")
@@ -100,7 +112,8 @@ fn desk_command<'a>(alloc: Global) -> Result<Command<'a>, AllocError> {
         .subcommand_required(true)
         .subcommand(init_command(alloc)?)?
         .subcommand(add_command(alloc)?)?
-        .subcommand(post_command(alloc)?)
+        .subcommand(post_command(alloc)?)?
+        .subcommand(open_command(alloc)?)
 }
 
 /// The word that was given for an argument. One that is missing reads as no characters, which no form takes.
@@ -125,6 +138,10 @@ fn words_of<'a>(matches: &ArgMatches<'a>) -> Option<Words<'a>> {
             reference: word(given, "reference"),
             cents: word(given, "cents"),
             debit: given.get_flag("debit"),
+        }),
+        Some(("open", given)) => Some(Words::Open {
+            file: word(given, "file"),
+            date: word(given, "date"),
         }),
         _ => None,
     }

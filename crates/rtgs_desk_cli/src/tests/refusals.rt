@@ -147,3 +147,40 @@ fn of_a_hundred_and_first_participant(rt: HostRuntime) -> Result<(), Fail> {
         1,
     )
 }
+
+#[test]
+fn of_opening_a_day(rt: HostRuntime) -> Result<(), Fail> {
+    begin(&rt, "days")?;
+    let date = "refused 35 BadDate\n";
+    let phase = "refused 14 WrongPhase\n";
+    let before: [(&str, &str, u8); 12] = [
+        ("", date, 1),
+        ("2024-02-30", date, 1),
+        ("2024-3-4", date, 1),
+        ("20240304", date, 1),
+        ("-024-03-04", date, 1),
+        ("1999-12-31", date, 1),
+        ("3000-01-01", date, 1),
+        ("2024-03-09", "refused 16 Weekend\n", 1),
+        ("2024-03-04", "opened\n", 0),
+        ("2024-03-04", "repeated\n", 0),
+        ("2024-03-05", phase, 1),
+        ("2024-03-01", phase, 1),
+    ];
+    for (day, text, status) in before {
+        prints(&rt, &["open", "days", day], text, status)?;
+    }
+    let mut conn = Connection::open(&rt, "days")?;
+    conn.execute_batch("UPDATE desk SET phase = 0")?;
+    conn.close()?;
+    let after: [(&str, &str, u8); 4] = [
+        ("2024-03-04", "refused 15 WrongDate\n", 1),
+        ("2024-03-01", "refused 15 WrongDate\n", 1),
+        ("2024-03-10", "refused 16 Weekend\n", 1),
+        ("2024-03-05", "opened\n", 0),
+    ];
+    for (day, text, status) in after {
+        prints(&rt, &["open", "days", day], text, status)?;
+    }
+    Ok(())
+}
