@@ -1,0 +1,68 @@
+//! Banks, and orders between them.
+ghost use Rattle.std.specs.Prelude.{IfOk};
+ghost use Rattle.rtgs_ledger.specs.Commands.{IsCarriedOut};
+
+use anyhow::{Context, Result};
+use rtgs_book::Command;
+use rtgs_money::{Amount, BusinessDate, Code, Key, Name, PostingAmount, Reference};
+use std::alloc::Global;
+
+/// How many banks there are.
+pub const BANKS: u64 = 100;
+
+/// The code of a bank.
+pub fn code_of(alloc: Global, bank: u64) -> Result<Code> {
+    let text = format!(in alloc; "BANK{bank}")?;
+    Code::read(text.as_bytes()).context("a code")
+}
+
+/// The reference of an order.
+pub fn reference_of(alloc: Global, number: u64) -> Result<Reference> {
+    let text = format!(in alloc; "R-{number}")?;
+    Reference::read(text.as_bytes()).context("a reference")
+}
+
+/// Adds a bank.
+pub fn addition(alloc: Global, bank: u64) -> Result<Command>
+    ensures { IfOk result IsCarriedOut }
+{
+    let key = format!(in alloc; "{bank:032}")?;
+    let key = Key::read(key.as_bytes()).context("a key")?.digest();
+    let code = code_of(alloc, bank)?;
+    let name = Name::read(b"A Bank").context("a name")?;
+    Ok(Command::Add { code, name, key })
+}
+
+/// Gives a bank a million cents.
+pub fn endowment(alloc: Global, bank: u64) -> Result<Command>
+    ensures { IfOk result IsCarriedOut }
+{
+    let code = code_of(alloc, bank)?;
+    let reference = reference_of(alloc, bank)?;
+    let cents = PostingAmount::from_cents(1_000_000).context("a posting")?;
+    Ok(Command::Post {
+        code,
+        reference,
+        cents,
+    })
+}
+
+/// Opens a Monday.
+pub fn opening() -> Result<Command>
+    ensures { IfOk result IsCarriedOut }
+{
+    let monday = BusinessDate::from_number(20240304).context("a date")?;
+    Ok(Command::OpenDay(monday))
+}
+
+/// One cent from a bank to the next one.
+pub fn payment(alloc: Global, number: u64) -> Result<Command>
+    ensures { IfOk result IsCarriedOut }
+{
+    Ok(Command::Order {
+        sender: code_of(alloc, number % BANKS)?,
+        reference: reference_of(alloc, number)?,
+        receiver: code_of(alloc, (number % BANKS + 1) % BANKS)?,
+        amount: Amount::from_cents(1).context("an amount")?,
+    })
+}
