@@ -1,5 +1,5 @@
 //! Commands, as chance would have them.
-ghost use Rattle.std.specs.Prelude.{IfOk};
+ghost use Rattle.std.specs.Prelude.{◌<◌, ◌≤◌, IfOk};
 ghost use Rattle.rtgs_ledger.specs.Commands.{IsCarriedOut};
 
 use rtgs_book::Command;
@@ -36,12 +36,15 @@ impl Business {
     }
 
     // A number below this one.
-    fn below(&mut self, bound: u64) -> u64 {
+    fn below(&mut self, bound: u64) -> u64
+        requires { 1 ≤ bound }
+        ensures { result < bound }
+    {
         self.state = self
             .state
             .wrapping_mul(6364136223846793005)
             .wrapping_add(1442695040888963407);
-        (self.state >> 33) % bound.max(1)
+        (self.state >> 33) % bound
     }
 
     fn code(&mut self) -> Result<Code, Fail> {
@@ -50,7 +53,9 @@ impl Business {
         Ok(Code::read(text.as_bytes())?)
     }
 
-    fn reference(&mut self, letter: char, bound: u64) -> Result<Reference, Fail> {
+    fn reference(&mut self, letter: char, bound: u64) -> Result<Reference, Fail>
+        requires { 1 ≤ bound }
+    {
         let number = self.below(bound);
         let text = format!(in self.alloc; "{letter}-{number}")?;
         Ok(Reference::read(text.as_bytes())?)
