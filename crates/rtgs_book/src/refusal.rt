@@ -18,7 +18,7 @@ pub enum Refusal {
     ReferenceUsed,
     /// The desk takes no orders now.
     NotOpen,
-    /// The balance would fall below its floor.
+    /// The balance would be below its floor.
     NoCover,
     /// 500 orders of the sender are queued.
     QueueFull,

@@ -42,7 +42,7 @@ gain_is code o = by (bytes_eq o.receiver code) (bytes_eq o.sender code)
     by false true = refl
     by false false = refl
 
-gains_are : (code : List ℕ) (os : List Order) → int_sum_by (gain code) os ≡ pos (sum_by (gets code) os) -ℤ pos (sum_by (gives code) os)
+pub gains_are : (code : List ℕ) (os : List Order) → int_sum_by (gain code) os ≡ pos (sum_by (gets code) os) -ℤ pos (sum_by (gives code) os)
 gains_are code [] = refl
 gains_are code (o ∷ os) =
     let here = gain_is code o in

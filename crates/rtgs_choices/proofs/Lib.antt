@@ -1,5 +1,6 @@
 pub mod Agree
 pub mod Chosen
+pub mod Closing
 pub mod Greatest
 pub mod Indexes
 pub mod Resolution

@@ -48,7 +48,7 @@ changed-states book state (number ∷ numbers) =
 
 -- ---- the book
 
-changed-append : (book : Book) (rows more : List RowChange) → changed book (rows ++ more) ≡ changed (changed book rows) more
+pub changed-append : (book : Book) (rows more : List RowChange) → changed book (rows ++ more) ≡ changed (changed book rows) more
 changed-append book [] more = refl
 changed-append book (row ∷ rows) more = changed-append (with_row book row) rows more
 
@@ -63,7 +63,7 @@ changed-balances book (SetCredit code credit ∷ rows) h = absurd h.0
 changed-balances book (SetState number state ∷ rows) h = absurd h.0
 changed-balances book (SetDay day ∷ rows) h = absurd h.0
 
-restated_agrees : (p q : Order → Bool) (state : OrderState) (os : List Order) → AllByRecursion (λ o. p o ≡ q o) os → map (restated q state) os ≡ map (restated p state) os
+pub restated_agrees : (p q : Order → Bool) (state : OrderState) (os : List Order) → AllByRecursion (λ o. p o ≡ q o) os → map (restated q state) os ≡ map (restated p state) os
 restated_agrees p q state [] h = refl
 restated_agrees p q state (o ∷ os) h = λ i. cond (sym h.0 i) (record o { state = state }) o ∷ restated_agrees p q state os h.1 i
 
@@ -96,7 +96,7 @@ of_balances book choice = each (filter (moves book choice) (accounts book))
     each [] = tt
     each (code ∷ codes) = (tt, each codes)
 
-balance_set-states : (code : List ℕ) (state : OrderState) (numbers : List ℕ) (rows : List RowChange) → balance_set code (state_rows state numbers ++ rows) ≡ balance_set code rows
+pub balance_set-states : (code : List ℕ) (state : OrderState) (numbers : List ℕ) (rows : List RowChange) → balance_set code (state_rows state numbers ++ rows) ≡ balance_set code rows
 balance_set-states code state [] rows = refl
 balance_set-states code state (number ∷ numbers) rows = balance_set-states code state numbers rows
 

@@ -1,5 +1,5 @@
 -- The numbers that are taken queue by queue are those of the chosen orders, or of all that are queued.
-use Rattle.std.proofs.Common.{◌≡◌, ℕ, zero, suc, ◌<◌, ◌≤◌, ◌+◌, ◌==◌, nat_lt, Bool, true, false, cond, ◌&&◌, ◌||◌, List, [], ◌∷◌, ◌++◌, map, filter, length, get_or, take, sum_by, refl, sym, ap, ◌∙◌, subst, arith}
+use Rattle.std.proofs.Common.{◌≡◌, ℕ, zero, suc, ◌<◌, ◌≤◌, ◌+◌, ◌==◌, nat_lt, pos, ◌-ℤ◌, Bool, true, false, cond, ◌&&◌, ◌||◌, List, [], ◌∷◌, ◌++◌, map, filter, length, get_or, take, sum_by, refl, sym, ap, ◌∙◌, subst, arith}
 use Rattle.std.proofs.lemmas.Bool.Decides.{nat_tests}
 use Rattle.std.proofs.lemmas.List.{length-map, map-append, take-map, take_all}
 use Rattle.std.proofs.lemmas.List.Sums.{sum_by-cons, sum_by-append, sum_by_more}
@@ -9,15 +9,17 @@ use Rattle.rtgs_book.specs.declared.book.Book.{Book}
 use Rattle.rtgs_book.specs.declared.order.Order.{Order}
 use Rattle.rtgs_book.specs.Books.{is_queued}
 use Rattle.rtgs_book.specs.Lookup.{accounts}
+use Rattle.rtgs_book.specs.IntSum.{int_sum_by}
+use Rattle.rtgs_book.specs.Balance.{gain}
 use Rattle.rtgs_book.specs.Queue.{queue}
 use Rattle.rtgs_book.specs.Choice.{Choice, is_chosen, chosen}
 use Rattle.rtgs_book.specs.Soundness.{IsSound, OrdersAreNumbered}
 use Rattle.rtgs_gridlock.specs.Choices.{sum_below}
 use Rattle.rtgs_choices.specs.ByIndex.{code_at}
-use Rattle.rtgs_choices.specs.Settling.{queued_numbers, numbers_taken, is_numbered}
+use Rattle.rtgs_choices.specs.Settling.{queued_numbers, orders_taken, numbers_taken, is_numbered}
 use Rattle.rtgs_choices.proofs.Agree.{length_is}
 use Rattle.rtgs_choices.proofs.Told.{HasIndexes, parties_have_indexes, all_weaker, all_filter}
-use Rattle.rtgs_choices.proofs.Chosen.{ChosenAreBeginnings, sum_by-senders, sum_by-chosen}
+use Rattle.rtgs_choices.proofs.Chosen.{ChosenAreBeginnings, gets, gives, gains_are, sum_by-senders, sum_by-chosen}
 
 -- ---- sums
 
@@ -121,14 +123,14 @@ module _ (book : Book) (sound : IsSound book) (passes : Order → Bool) (part : 
   abbrev numbers : List ℕ
   numbers = flat_map (λ code. map number_of (part code)) (accounts book)
 
-  numbers_are : numbers ≡ map number_of parts
+  pub numbers_are : numbers ≡ map number_of parts
   numbers_are = each (accounts book)
     where
       each : (codes : List (List ℕ)) → flat_map (λ code. map number_of (part code)) codes ≡ map number_of (flat_map part codes)
       each [] = refl
       each (code ∷ codes) = ap (λ (ns : List ℕ). map number_of (part code) ++ ns) (each codes) ∙ sym (map-append number_of (part code) (flat_map part codes))
 
-  sum_by-all : (f : Order → ℕ) → sum_by f parts ≡ sum_by f (filter passes book.orders)
+  pub sum_by-all : (f : Order → ℕ) → sum_by f parts ≡ sum_by f (filter passes book.orders)
   sum_by-all f =
       sum_by-flat_map f part (accounts book)
       ∙ ap (sum_by (λ code. sum_by f (part code))) (sym (take_all (length (accounts book)) (accounts book) (omega arith)))
@@ -173,6 +175,20 @@ module _ (law : ChosenAreBeginnings) (book : Book) (choice : Choice) (sound : Is
   pub chosen_count : length (chosen book choice) ≡ length (numbers_taken book choice)
   unfolding chosen
   chosen_count = as_many_numbers book sound (is_chosen book choice) beginning (sum_by-chosen law book sound choice) ∙ sym (ap length taken_is)
+
+  pub taken_numbers : numbers_taken book choice ≡ map number_of (orders_taken book choice)
+  unfolding orders_taken chosen
+  taken_numbers = taken_is ∙ numbers_are book sound (is_chosen book choice) beginning (sum_by-chosen law book sound choice)
+
+  pub sum_by-taken : (f : Order → ℕ) → sum_by f (orders_taken book choice) ≡ sum_by f (chosen book choice)
+  unfolding orders_taken chosen
+  sum_by-taken f = sum_by-all book sound (is_chosen book choice) beginning (sum_by-chosen law book sound choice) f
+
+  pub gains_taken : (code : List ℕ) → int_sum_by (gain code) (orders_taken book choice) ≡ int_sum_by (gain code) (chosen book choice)
+  gains_taken code =
+      gains_are code (orders_taken book choice)
+      ∙ (λ i. pos (sum_by-taken (gets code) i) -ℤ pos (sum_by-taken (gives code) i))
+      ∙ sym (gains_are code (chosen book choice))
 
 -- ---- the queued orders
 

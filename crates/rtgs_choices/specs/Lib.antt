@@ -1,2 +1,3 @@
 pub mod ByIndex
+pub mod Closing
 pub mod Settling

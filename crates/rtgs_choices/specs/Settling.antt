@@ -19,6 +19,10 @@ use Rattle.rtgs_book.specs.Commands.{has_number}
 abbrev pub queued_numbers : Book → List ℕ → List ℕ
 queued_numbers book code = map (λ (order : Order). order.number) (queue book code)
 
+-- account by account the first orders of the queue, as many as the choice says
+unfoldable pub orders_taken : Book → Choice → List Order
+orders_taken book choice = flat_map (λ code. take (choice code) (queue book code)) (accounts book)
+
 -- account by account the first numbers of the queue, as many as the choice says
 unfoldable pub numbers_taken : Book → Choice → List ℕ
 numbers_taken book choice = flat_map (λ code. take (choice code) (queued_numbers book code)) (accounts book)

@@ -1,6 +1,6 @@
 //! Laws of choices by index, and of the rows that settle a choice. Each function does nothing: its
 //! contract is the law.
-ghost use Rattle.std.specs.Prelude.{◌≡◌, ℕ, ◌<◌, ◌≤◌, false, Ok, List, ◌∷◌, ◌++◌, filter, length, sum_by};
+ghost use Rattle.std.specs.Prelude.{◌≡◌, ℕ, ◌<◌, ◌≤◌, true, false, Ok, List, [], ◌∷◌, ◌++◌, map, filter, length, sum_by};
 ghost use Rattle.std.specs.List.{AllByRecursion, flat_map};
 ghost use Rattle.rtgs_gridlock.specs.Choices.{AreFloored, AreInRange, IsWithin, payment_count, after};
 ghost use Rattle.rtgs_gridlock.specs.Choices as resolver;
@@ -12,20 +12,26 @@ ghost use Rattle.rtgs_book.specs.declared.order_state.OrderState.{OrderState};
 ghost use Rattle.rtgs_book.specs.declared.order_state.OrderState.TheVariants.{Settled};
 ghost use Rattle.rtgs_book.specs.declared.change.RowChange.{RowChange};
 ghost use Rattle.rtgs_book.specs.declared.change.RowChange.TheVariants.{AddMark};
-ghost use Rattle.rtgs_book.specs.declared.command.Command.TheVariants.{Resolve};
+ghost use Rattle.rtgs_book.specs.declared.command.Command.TheVariants.{Resolve, CloseDay};
 ghost use Rattle.rtgs_book.specs.declared.answer.Answer.TheVariants.{Resolved};
-ghost use Rattle.rtgs_book.specs.Books.{is_empty, is_queued};
+ghost use Rattle.rtgs_book.specs.declared.answer.Answer.TheVariants as answer;
+ghost use Rattle.rtgs_book.specs.Books.{is_cut_off, is_empty, is_queued};
 ghost use Rattle.rtgs_book.specs.Lookup.{accounts};
+ghost use Rattle.rtgs_book.specs.IntSum.{int_sum_by};
+ghost use Rattle.rtgs_book.specs.Balance.{gain};
 ghost use Rattle.rtgs_book.specs.Choice.{Choice, is_chosen, chosen, balance_after, IsGreatest};
-ghost use Rattle.rtgs_book.specs.Commands.{with_state};
+ghost use Rattle.rtgs_book.specs.Commands.{is_on, overdrawn, with_state};
 ghost use Rattle.rtgs_book.specs.Settle.{settle, mark_of, next_mark};
 ghost use Rattle.rtgs_book.specs.Changes.{changed, SetsBalances, IsChange};
 ghost use Rattle.rtgs_book.specs.Soundness.{IsSound};
 ghost use Rattle.rtgs_book.specs.Step.{Step};
 ghost use Rattle.rtgs_choices.specs.ByIndex.{code_at, index_of, positions_of, queues_of, by_code};
-ghost use Rattle.rtgs_choices.specs.Settling.{queued_numbers, numbers_taken, is_numbered, state_rows, IsOfBalance, settling_rows};
+ghost use Rattle.rtgs_choices.specs.Closing.{closed_book, closing_rows};
+ghost use Rattle.rtgs_choices.specs.Settling.{queued_numbers, orders_taken, numbers_taken, is_numbered, state_rows, IsOfBalance, settling_rows};
 
-use rtgs_book::laws::{chosen_are_beginnings, settled_balances, step_keeps_soundness};
+use rtgs_book::laws::{
+    balance_after_restating, chosen_are_beginnings, settled_balances, step_keeps_soundness,
+};
 
 /// What the resolver is told of a sound book meets its conditions, with 50000 payments at most.
 pub fn conditions_hold()
@@ -60,6 +66,16 @@ pub fn greatest_means_greatest()
 pub fn chosen_numbers()
     ensures numbers { (book : Book) (choice : Choice) → IsSound book → AllByRecursion (λ order. is_chosen book choice order ≡ is_numbered (numbers_taken book choice) order) book.orders }
     ensures count { (book : Book) (choice : Choice) → IsSound book → length (chosen book choice) ≡ length (numbers_taken book choice) }
+{
+    chosen_are_beginnings();
+}
+
+/// The orders that are taken account by account are the chosen ones in another order: they have the
+/// same value, and each account gains as much by them. Their numbers are those that are taken.
+pub fn taken_are_chosen()
+    ensures numbers { (book : Book) (choice : Choice) → IsSound book → numbers_taken book choice ≡ map (λ (o : Order). o.number) (orders_taken book choice) }
+    ensures value { (book : Book) (choice : Choice) → IsSound book → sum_by (λ (o : Order). o.amount) (orders_taken book choice) ≡ sum_by (λ (o : Order). o.amount) (chosen book choice) }
+    ensures gains { (book : Book) (choice : Choice) (code : List ℕ) → IsSound book → int_sum_by (gain code) (orders_taken book choice) ≡ int_sum_by (gain code) (chosen book choice) }
 {
     chosen_are_beginnings();
 }
@@ -99,4 +115,18 @@ pub fn rows_settle()
     chosen_numbers();
     states_one_by_one();
     balances_one_by_one();
+}
+
+/// Where the greatest choice has no order and nobody is below zero, the day that was cut off can be
+/// closed, and the rows that reject what is queued and close the day make a change to that book.
+pub fn rows_close()
+    ensures step { (book : Book) (choice : Choice) (date : ℕ) → is_cut_off book.day.phase ≡ true → is_on book date ≡ true → IsGreatest book choice → is_empty (chosen book choice) ≡ true → overdrawn book ≡ [] →
+        Step book (CloseDay date) (Ok (answer.Closed (length (filter is_queued book.orders)))) (closed_book book) }
+    ensures change { (book : Book) (choice : Choice) (date : ℕ) → IsSound book → is_cut_off book.day.phase ≡ true → is_on book date ≡ true → IsGreatest book choice → is_empty (chosen book choice) ≡ true → overdrawn book ≡ [] →
+        IsChange book (closing_rows book) (closed_book book) }
+{
+    balance_after_restating();
+    step_keeps_soundness();
+    queued_are_numbered();
+    states_one_by_one();
 }

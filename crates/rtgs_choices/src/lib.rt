@@ -3,3 +3,5 @@
 #![tactic(auto)]
 
 pub mod laws;
+#[cfg(test)]
+mod tests;

@@ -4,8 +4,8 @@ ghost use Rattle.rtgs_gridlock.specs.Listed.{IsOn, on_count};
 use std::alloc::{AllocError, Global};
 use std::marker::Model;
 
-/// The participants that are still to be tested, in which each stands at most once. A clause sees,
-/// for each index, whether it stands here.
+/// The participants that wait for their test, none of them twice. A clause sees, for each index,
+/// whether it stands here.
 #[derive(Drop)]
 pub struct Worklist {
     stack: Vec<usize>,
