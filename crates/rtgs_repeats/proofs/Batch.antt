@@ -1,0 +1,264 @@
+-- Orders that come again with nothing but orders between change nothing, whatever they were answered.
+use Rattle.std.proofs.Common.{◌≡◌, ℕ, ◌≤◌, ◌+◌, nat_le, Bool, true, false, not, ◌&&◌, ◌||◌, List, [], ◌∷◌, ◌++◌, map, filter, length, length-append, is_some, refl, sym, ap, ◌∙◌, subst, arith}
+use Rattle.std.proofs.lemmas.Bool.{and_parts}
+use Rattle.std.proofs.lemmas.Bool.Decides.{nat_tests}
+use Rattle.std.proofs.lemmas.List.{length-map, map-append}
+use Rattle.std.proofs.lemmas.List.Elements.{filter-append}
+use Rattle.std.specs.List.{AllByRecursion, list_any}
+use Rattle.std.specs.Str.{bytes_eq}
+use Rattle.rtgs_book.specs.declared.book.Book.{Book}
+use Rattle.rtgs_book.specs.declared.order.Order.{Order}
+use Rattle.rtgs_book.specs.declared.mark.Mark.{Mark}
+use Rattle.rtgs_book.specs.declared.order_state.OrderState.{OrderState}
+use Rattle.rtgs_book.specs.declared.order_state.OrderState.TheVariants.{Settled}
+use Rattle.rtgs_book.specs.declared.command.Command.{Command}
+use Rattle.rtgs_book.specs.declared.command.Command.TheVariants.{Order as PlaceOrder}
+use Rattle.rtgs_book.specs.Books.{is_open, is_empty, is_queued}
+use Rattle.rtgs_book.specs.Commands.{is_same_order, settles_at_once, new_order, with_order, has_number, takes, order}
+use Rattle.rtgs_book.specs.Lookup.{accounts, is_participant, order_named}
+use Rattle.rtgs_book.specs.Queue.{queue}
+use Rattle.rtgs_book.specs.Outcome.{Reply, Outcome}
+use Rattle.rtgs_book.specs.Run.{Run, is_accepted}
+use Rattle.rtgs_book.specs.Settle.{restated, next_mark}
+use Rattle.rtgs_book.specs.Soundness.{OrdersAreNumbered, IsSound}
+use Rattle.rtgs_book.specs.Step.{Step}
+use Rattle.rtgs_repeats.specs.Kept.{AreKept}
+use Rattle.rtgs_repeats.specs.Batch.{IsOrder}
+use Rattle.rtgs_repeats.proofs.Acted.{ordered_known, order_same, there}
+use Rattle.rtgs_repeats.proofs.Kept.{none_numbered, by_settling, kept_through}
+use Rattle.rtgs_repeats.proofs.KeptSteps.{StepKeepsSoundness, step_kept, kept_itself}
+use Rattle.rtgs_repeats.proofs.Once.{or_second, book_as, recorded_kept}
+use Rattle.rtgs_repeats.proofs.Passing.{some_holds, none_holds, choose, choose_book}
+
+-- a test of the order holds, so that it changes nothing
+abbrev pub is_stopped : Book → List ℕ → List ℕ → List ℕ → ℕ → Bool
+is_stopped book sender reference receiver amount =
+    not (is_participant book sender)
+    || (is_same_order (order_named book sender reference) receiver amount
+    || (is_some (order_named book sender reference)
+    || (not (is_open book.day.phase)
+    || (not (is_participant book receiver)
+    || (bytes_eq sender receiver
+    || (nat_le 999999999 (length book.orders)
+    || ((not (settles_at_once book sender amount) && nat_le 500 (length (queue book sender)))
+    || false)))))))
+
+-- what orders alone leave
+record Follows (old new : Book) : Type 0 where
+  pub participants : new.participants ≡ old.participants
+  pub day : new.day ≡ old.day
+  pub orders : length old.orders ≤ length new.orders
+  pub queued : (code : List ℕ) → length (queue old code) ≤ length (queue new code)
+  pub kept : AreKept old new
+
+follows_itself : (book : Book) → Follows book book
+follows_itself book = record { participants = refl; day = refl; orders = omega arith; queued = λ code. omega arith; kept = kept_itself book }
+
+follows_through : (old mid new : Book) → Follows old mid → Follows mid new → Follows old new
+follows_through old mid new h k = record {
+  participants = k.participants ∙ h.participants;
+  day = k.day ∙ h.day;
+  orders = let a = h.orders in let b = k.orders in omega arith;
+  queued = λ code. let a = h.queued code in let b = k.queued code in omega arith;
+  kept = kept_through old mid new h.kept k.kept;
+}
+
+-- ---- a test that holds holds later
+
+or_weaker : (a b c d : Bool) → (a ≡ true → c ≡ true) → (b ≡ true → d ≡ true) → (a || b) ≡ true → (c || d) ≡ true
+or_weaker true b c d f g e = rw (f refl) refl
+or_weaker false b true d f g e = refl
+or_weaker false b false d f g e = g e
+
+more_orders : (a b : ℕ) → a ≤ b → nat_le 999999999 a ≡ true → nat_le 999999999 b ≡ true
+more_orders a b le e = grind (arith, nat_tests)
+
+more_queued : (a b : ℕ) → a ≤ b → nat_le 500 a ≡ true → nat_le 500 b ≡ true
+more_queued a b le e = grind (arith, nat_tests)
+
+some_queued : (os : List Order) → nat_le 500 (length os) ≡ true → is_empty os ≡ false
+some_queued [] e = absurd (grind (arith, nat_tests))
+some_queued (o ∷ os) e = refl
+
+waits : (book : Book) (sender : List ℕ) (amount : ℕ) → nat_le 500 (length (queue book sender)) ≡ true → settles_at_once book sender amount ≡ false
+unfolding settles_at_once
+waits book sender amount e = rw (some_queued (queue book sender) e) refl
+
+same_participant : (old new : Book) (code : List ℕ) → new.participants ≡ old.participants → is_participant new code ≡ is_participant old code
+unfolding is_participant accounts
+same_participant old new code same = λ i. list_any (bytes_eq code) (map (λ p. p.code) (same i))
+
+stopped_later : (old new : Book) (sender reference receiver : List ℕ) (amount : ℕ) → Follows old new → is_stopped old sender reference receiver amount ≡ true → is_stopped new sender reference receiver amount ≡ true
+stopped_later old new sender reference receiver amount f =
+    or_weaker _ _ _ _ (λ e. ap not (same_participant old new sender f.participants) ∙ e)
+    (or_weaker _ _ _ _ (recorded_kept old new (PlaceOrder sender reference receiver amount) f.kept)
+    (or_weaker _ _ _ _ (λ e. let o = there (order_named old sender reference) e in ap is_some (f.kept.orders sender reference o.0 o.1).1)
+    (or_weaker _ _ _ _ (λ e. (λ i. not (is_open (f.day i).phase)) ∙ e)
+    (or_weaker _ _ _ _ (λ e. ap not (same_participant old new receiver f.participants) ∙ e)
+    (or_weaker _ _ _ _ (λ e. e)
+    (or_weaker _ _ _ _ (more_orders (length old.orders) (length new.orders) f.orders)
+    (or_weaker _ _ _ _ (full (f.queued sender))
+    (λ e. e))))))))
+  where
+    full : length (queue old sender) ≤ length (queue new sender) → (not (settles_at_once old sender amount) && nat_le 500 (length (queue old sender))) ≡ true → (not (settles_at_once new sender amount) && nat_le 500 (length (queue new sender))) ≡ true
+    full le e =
+        let long = more_queued (length (queue old sender)) (length (queue new sender)) le (and_parts (not (settles_at_once old sender amount)) (nat_le 500 (length (queue old sender))) e).1 in
+        rw (waits new sender amount long, long) refl
+
+-- ---- one order
+
+stays : (old new : Book) (sender reference receiver : List ℕ) (amount : ℕ) (reply : Reply) → is_stopped old sender reference receiver amount ≡ true → Step old (PlaceOrder sender reference receiver amount) reply new → new ≡ old
+unfolding order
+stays old new sender reference receiver amount reply e s = book_as old new reply _ s (some_holds old _ _ e)
+
+acts : (old new : Book) (sender reference receiver : List ℕ) (amount : ℕ) (reply : Reply) → is_stopped old sender reference receiver amount ≡ false → Step old (PlaceOrder sender reference receiver amount) reply new
+    → record { reply = reply; book = new } ≡ takes old (new_order old sender reference receiver amount)
+unfolding order
+acts old new sender reference receiver amount reply e s = s ∙ none_holds old _ _ e
+
+takes_accepted : (book : Book) (o : Order) → is_accepted (takes book o).reply ≡ true
+unfolding takes
+takes_accepted book o = choose (λ (out : Outcome). is_accepted out.reply ≡ true) (settles_at_once book o.sender o.amount) _ _ refl refl
+
+-- what a taken order leaves as it was
+abbrev Leaves : Book → Book → Type 0
+Leaves old new = (new.participants ≡ old.participants) × (new.day ≡ old.day) × (length old.orders ≤ length new.orders)
+
+takes_leaves : (book : Book) (o : Order) → Leaves book (takes book o).book
+unfolding takes
+takes_leaves book o =
+    let long = length-append book.orders (o ∷ []) in
+    let joined : Leaves book (with_order book o) = (refl, refl, omega arith) in
+    choose_book (Leaves book) (settles_at_once book o.sender o.amount) _ _
+    (by_settling (Leaves book) (with_order book o) (has_number o.number) joined (λ marks. (refl, refl, let same = length-map (book.orders ++ o ∷ []) (restated (has_number o.number) (Settled (next_mark (with_order book o)))) in omega arith))) joined
+
+queue_joined : (book : Book) (o : Order) (sender : List ℕ) → length (queue book sender) ≤ length (queue (with_order book o) sender)
+unfolding queue
+queue_joined book o sender =
+    let test : Order → Bool = λ (x : Order). is_queued x && bytes_eq x.sender sender in
+    let parts : length (filter test (book.orders ++ o ∷ [])) ≡ length (filter test book.orders ++ filter test (o ∷ [])) = ap length (filter-append test book.orders (o ∷ [])) in
+    let long = length-append (filter test book.orders) (filter test (o ∷ [])) in
+    omega arith
+
+unmoved : (is_in : Order → Bool) (state : OrderState) (os : List Order) → AllByRecursion (λ o. is_in o ≡ false) os → map (restated is_in state) os ≡ os
+unmoved is_in state [] h = refl
+unmoved is_in state (o ∷ os) h = rw (h.0, unmoved is_in state os h.1) refl
+
+-- settling the new order alone shortens no queue
+queue_settled : (book : Book) (o : Order) (marks : List Mark) (state : OrderState) (code : List ℕ) → AllByRecursion (λ x. has_number o.number x ≡ false) book.orders
+    → length (queue book code) ≤ length (queue (record book { orders = map (restated (has_number o.number) state) (book.orders ++ o ∷ []); marks = marks }) code)
+unfolding queue
+queue_settled book o marks state code none =
+    let test : Order → Bool = λ (x : Order). is_queued x && bytes_eq x.sender code in
+    let f : Order → Order = restated (has_number o.number) state in
+    let mapped : map f (book.orders ++ o ∷ []) ≡ book.orders ++ f o ∷ [] = map-append f book.orders (o ∷ []) ∙ ap (λ os. os ++ f o ∷ []) (unmoved (has_number o.number) state book.orders none) in
+    let parts : length (filter test (map f (book.orders ++ o ∷ []))) ≡ length (filter test book.orders ++ filter test (f o ∷ [])) = ap (λ os. length (filter test os)) mapped ∙ ap length (filter-append test book.orders (f o ∷ [])) in
+    let long = length-append (filter test book.orders) (filter test (f o ∷ [])) in
+    omega arith
+
+-- no queue gets shorter
+queue_grows : (book : Book) (sender reference receiver : List ℕ) (amount : ℕ) (code : List ℕ) → OrdersAreNumbered book → length (queue book code) ≤ length (queue (takes book (new_order book sender reference receiver amount)).book code)
+unfolding takes
+queue_grows book sender reference receiver amount code h =
+    let new = new_order book sender reference receiver amount in
+    choose_book (λ b. length (queue book code) ≤ length (queue b code)) (settles_at_once book sender amount) _ _
+    (by_settling (λ b. length (queue book code) ≤ length (queue b code)) (with_order book new) (has_number (length book.orders + 1)) (queue_joined book new code) (λ marks. queue_settled book new marks (Settled (next_mark (with_order book new))) code (none_numbered book h)))
+    (queue_joined book new code)
+
+-- an order is stopped after it, and what came before follows
+after_order : (old new : Book) (sender reference receiver : List ℕ) (amount : ℕ) (reply : Reply) → IsSound old → Step old (PlaceOrder sender reference receiver amount) reply new
+    → (is_stopped new sender reference receiver amount ≡ true) × Follows old new
+after_order old new sender reference receiver amount reply h s = by (is_stopped old sender reference receiver amount) refl
+  where
+    by : (b : Bool) → is_stopped old sender reference receiver amount ≡ b → (is_stopped new sender reference receiver amount ≡ true) × Follows old new
+    by true e =
+        let same = stays old new sender reference receiver amount reply e s in
+        (subst (λ book. is_stopped book sender reference receiver amount ≡ true) (sym same) e, subst (Follows old) (sym same) (follows_itself old))
+    by false e =
+        let took = acts old new sender reference receiver amount reply e s in
+        let accepted = ap (λ (o : Outcome). is_accepted o.reply) took ∙ takes_accepted old (new_order old sender reference receiver amount) in
+        let known = ordered_known old new reply sender reference receiver amount h accepted s in
+        let book = ap (λ (o : Outcome). o.book) took in
+        let leaves = takes_leaves old (new_order old sender reference receiver amount) in (
+          or_second _ _ _ (ap (λ found. is_same_order found receiver amount) known.1 ∙ order_same known.0 receiver amount known.2 known.3),
+          record {
+            participants = (λ i. (book i).participants) ∙ leaves.0;
+            day = (λ i. (book i).day) ∙ leaves.1;
+            orders = subst (λ (b : Book). length old.orders ≤ length b.orders) (sym book) leaves.2;
+            queued = λ code. subst (λ (b : Book). length (queue old code) ≤ length (queue b code)) (sym book) (queue_grows old sender reference receiver amount code h.orders_numbered);
+            kept = step_kept old new (PlaceOrder sender reference receiver amount) reply h s;
+          },
+        )
+
+-- ---- a list
+
+-- the command is an order that a test stops
+abbrev Stopped : Book → Command → Type 0
+Stopped book (PlaceOrder sender reference receiver amount) = is_stopped book sender reference receiver amount ≡ true
+Stopped book other = ⊥
+
+stopped_after : (old new : Book) (command : Command) → Follows old new → Stopped old command → Stopped new command
+stopped_after old new (PlaceOrder sender reference receiver amount) f h = stopped_later old new sender reference receiver amount f h
+stopped_after old new other f h = absurd h
+
+after_one : (old new : Book) (command : Command) (reply : Reply) → IsSound old → IsOrder command → Step old command reply new → Stopped new command × Follows old new
+after_one old new (PlaceOrder sender reference receiver amount) reply h is s = after_order old new sender reference receiver amount reply h s
+after_one old new other reply h is s = absurd is
+
+after_all : StepKeepsSoundness → (old new : Book) (commands : List Command) (replies : List Reply) → IsSound old → AllByRecursion IsOrder commands → Run old commands replies new → AllByRecursion (Stopped new) commands × Follows old new
+after_all law old new [] [] h is r = (tt, subst (Follows old) (sym r) (follows_itself old))
+after_all law old new [] (reply ∷ replies) h is r = absurd r
+after_all law old new (command ∷ commands) [] h is r = absurd r
+after_all law old new (command ∷ commands) (reply ∷ replies) h is r =
+    let one = after_one old r.0 command reply h is.0 r.1 in
+    let rest = after_all law r.0 new commands replies (law old r.0 command reply h r.1) is.1 r.2 in
+    ((stopped_after r.0 new command rest.1 one.0, rest.0), follows_through old r.0 new one.1 rest.1)
+
+stays_one : (old new : Book) (command : Command) (reply : Reply) → Stopped old command → Step old command reply new → new ≡ old
+stays_one old new (PlaceOrder sender reference receiver amount) reply h s = stays old new sender reference receiver amount reply h s
+stays_one old new other reply h s = absurd h
+
+stays_all : (old new : Book) (commands : List Command) (replies : List Reply) → AllByRecursion (Stopped old) commands → Run old commands replies new → new ≡ old
+stays_all old new [] [] h r = r
+stays_all old new [] (reply ∷ replies) h r = absurd r
+stays_all old new (command ∷ commands) [] h r = absurd r
+stays_all old new (command ∷ commands) (reply ∷ replies) h r =
+    let same = stays_one old r.0 command reply h.0 r.1 in
+    stays_all old new commands replies h.1 (subst (λ b. Run b commands replies new) same r.2)
+
+-- ---- a batch that stopped
+
+abbrev pub StepIsDetermined : Type 0
+StepIsDetermined = (old new last : Book) (command : Command) (reply other : Reply) → Step old command reply new → Step old command other last → (reply ≡ other) × (new ≡ last)
+
+run_determined : StepIsDetermined → (old new last : Book) (commands : List Command) (replies others : List Reply) → Run old commands replies new → Run old commands others last → new ≡ last
+run_determined law old new last [] [] [] r k = r ∙ sym k
+run_determined law old new last [] [] (other ∷ others) r k = absurd k
+run_determined law old new last [] (reply ∷ replies) others r k = absurd r
+run_determined law old new last (command ∷ commands) [] others r k = absurd r
+run_determined law old new last (command ∷ commands) (reply ∷ replies) [] r k = absurd k
+run_determined law old new last (command ∷ commands) (reply ∷ replies) (other ∷ others) r k =
+    let same = (law old r.0 k.0 command reply other r.1 k.1).1 in
+    run_determined law k.0 new last commands replies others (subst (λ b. Run b commands replies new) same r.2) k.2
+
+-- a run of two lists, one after the other
+pub run_parts : (old new : Book) (first rest : List Command) (replies : List Reply) → Run old (first ++ rest) replies new → (mid : Book) × (one : List Reply) × (two : List Reply) × Run old first one mid × Run mid rest two new
+run_parts old new [] rest replies r = (old, [], replies, refl, r)
+run_parts old new (command ∷ first) rest [] r = absurd r
+run_parts old new (command ∷ first) rest (reply ∷ replies) r =
+    let k = run_parts r.0 new first rest replies r.2 in
+    (k.0, reply ∷ k.1, k.2, (r.0, r.1, k.3), k.4)
+
+all_left : {X : Type 0} (P : X → Type 0) (xs ys : List X) → AllByRecursion P (xs ++ ys) → AllByRecursion P xs
+all_left P [] ys h = tt
+all_left P (x ∷ xs) ys h = (h.0, all_left P xs ys h.1)
+
+pub resumed : StepKeepsSoundness → StepIsDetermined → (old mid last end : Book) (first rest : List Command) (one two three : List Reply) → IsSound old → AllByRecursion IsOrder (first ++ rest)
+    → Run old first one mid → Run mid (first ++ rest) two last → Run old (first ++ rest) three end → last ≡ end
+resumed sounds determined old mid last end first rest one two three h is r s t =
+    let again = run_parts mid last first rest two s in
+    let whole = run_parts old end first rest three t in
+    let stopped = after_all sounds old mid first one h (all_left IsOrder first rest is) r in
+    let stayed = stays_all mid again.0 first again.1 stopped.0 again.3 in
+    let there = run_determined determined old whole.0 mid first whole.1 one whole.3 r in
+    run_determined determined again.0 last end rest again.2 whole.2 again.4 (subst (λ b. Run b rest whole.2 end) (there ∙ sym stayed) whole.4)

@@ -1,0 +1,14 @@
+pub mod Acted
+pub mod Batch
+pub mod Begun
+pub mod Days
+pub mod Finds
+pub mod Kept
+pub mod KeptSteps
+pub mod Lives
+pub mod Once
+pub mod Passing
+pub mod Posted
+pub mod Resolved
+pub mod Stopped
+pub mod Sums

@@ -1,0 +1,10 @@
+use Rattle.rtgs_repeats.proofs.Lives.{lived}
+use Rattle.rtgs_repeats.proofs.laws.life_is_a_run.Goals as goal
+
+pub returns : goal.returns
+returns c = record {
+  run = lived;
+  stands = λ book found sessions sound life.
+      let run = lived book found sessions life in
+      (c.run_keeps_soundness.ensures book found run.0 run.1 sound run.3, c.run_keeps_what_is_final.ensures book found run.0 run.1 sound run.3);
+}
