@@ -40,11 +40,11 @@ apart_from_more a b more = by (bytes_eq a b) refl
         let there : slice_cmp nat_cmp a a ≡ Less = nat_list_cmp_total.antisymm a a ∙ ap ordering_reverse here in
         cc
 
-equal_codes : (a b : List ℕ) → a ≡ b → bytes_eq a b ≡ true
+pub equal_codes : (a b : List ℕ) → a ≡ b → bytes_eq a b ≡ true
 equal_codes a b e = (bytes_decides a b).1 e
 
 -- what holds of each code holds of the code at an index
-at_index : (P : List ℕ → Type 0) (xs : List Account) → AllByRecursion P (map code_of xs) → (i : ℕ) (d : Account) → i < length xs → P (code_of (get_or xs i d))
+pub at_index : (P : List ℕ → Type 0) (xs : List Account) → AllByRecursion P (map code_of xs) → (i : ℕ) (d : Account) → i < length xs → P (code_of (get_or xs i d))
 at_index P [] h i d lt = absurd (omega arith)
 at_index P (x ∷ xs) h zero d lt = h.0
 at_index P (x ∷ xs) h (suc i) d lt = at_index P xs h.1 i d (omega arith)

@@ -76,4 +76,4 @@ module _ (r : Records) (kept : IsKept (held_of r)) (code name key : List ℕ) (a
   pub prepared_add : StepKeepsRanges → StepKeepsSoundness → list_any (has_key key) r.accounts.accounts ≡ false → nat_le 100 (length r.accounts.accounts) ≡ false → 1 ≤ r.accounts.room → IsPrepared (held_of r) (Add code name key) Added (AddParticipant p ∷ [])
   prepared_add ranges soundness free few room =
       let step = adds (book_of r) code name key (participant_none r kept code absent) (any-participants key r.accounts.accounts ∙ free) (rw (length-participants r.accounts.accounts) few) in
-      prepared_done (held_of r) (Add code name key) Added (AddParticipant p ∷ []) (with_participant (book_of r) p) kept ranges soundness tt step leads_to_it ((refl, balance_same code ∙ no_balance), tt) stays_balanced ((absent, room), tt) (λ k e. absurd (cc))
+      prepared_done (held_of r) (Add code name key) Added (AddParticipant p ∷ []) (with_participant (book_of r) p) kept ranges soundness tt step leads_to_it ((refl, balance_same code ∙ no_balance), tt) stays_balanced ((absent, room), tt) (λ k e. absurd (cc)) (λ e. absurd (cc))

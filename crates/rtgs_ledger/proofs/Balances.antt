@@ -26,7 +26,7 @@ use Rattle.rtgs_ledger.proofs.Lists.{bytes_eq_comm, int_sum_by-append, weaker}
 pub same_int : (z : ℤ) → int_eq z z ≡ true
 same_int z = int_eq_equiv.refl z
 
-int_eq-same : (x y : ℤ) → int_eq x y ≡ true → x ≡ y
+pub int_eq-same : (x y : ℤ) → int_eq x y ≡ true → x ≡ y
 int_eq-same x y e = search (rules, Decides-int_eq)
 
 pub other_int : (x y : ℤ) → (x ≡ y → ⊥) → int_eq x y ≡ false

@@ -14,7 +14,7 @@ use Rattle.rtgs_book.specs.declared.book.Book.{Book}
 use Rattle.rtgs_book.specs.declared.participant.Participant.{Participant}
 use Rattle.rtgs_book.specs.declared.command.Command.{Command}
 use Rattle.rtgs_book.specs.declared.answer.Answer.{Answer}
-use Rattle.rtgs_book.specs.declared.answer.Answer.TheVariants.{Repeated}
+use Rattle.rtgs_book.specs.declared.answer.Answer.TheVariants.{Nothing, Repeated}
 use Rattle.rtgs_book.specs.declared.answer.Known.{Known}
 use Rattle.rtgs_book.specs.declared.change.RowChange.{RowChange}
 use Rattle.rtgs_book.specs.Books.{is_closed}
@@ -105,7 +105,7 @@ sum_of_balances book [] h = refl
 sum_of_balances book (x ∷ xs) h = λ i. h.0 i +ℤ sum_of_balances book xs h.1 i
 
 -- a change of no row, to the same book
-no_balance_set : (book : Book) → SetsBalances book [] book
+pub no_balance_set : (book : Book) → SetsBalances book [] book
 no_balance_set book = every (λ code. balance_set code [] ≡ (if int_eq (balance book code) (balance book code) then None else Some (balance book code))) (λ code. rw (same_int (balance book code)) refl) (accounts book)
 
 pub prepared_repeat : (held : Held) (c : Command) (k : Known) → IsKept held → Step held.content c (Ok (Repeated k)) held.content → IsPrepared held c (Repeated k) []
@@ -119,6 +119,7 @@ prepared_repeat held c k kept step = record {
     room = tt;
   };
   repeated = λ _ _. refl;
+  nothing = λ _. refl;
 }
 
 module _ (r : Records) (kept : IsKept (held_of r)) where
@@ -168,8 +169,8 @@ StepKeepsSoundness = (old new : Book) (c : Command) (reply : Reply) → IsSound 
 
 -- a change that leads on, where the laws say that the book stays sound and in range
 pub prepared_done : (held : Held) (c : Command) (a : Answer) (rows : List RowChange) (book : Book) → IsKept held → StepKeepsRanges → StepKeepsSoundness → CommandFits c → Step held.content c (Ok a) book
-    → Leads held.content rows book → AllByRecursion (StartsEmpty book rows) rows → AreBalanced book (after held rows).accounts → HasRoom held rows → ((k : Known) → a ≡ Repeated k → ⊥) → IsPrepared held c a rows
-prepared_done held c a rows book kept ranges soundness in_range step leads added balanced room new = record {
+    → Leads held.content rows book → AllByRecursion (StartsEmpty book rows) rows → AreBalanced book (after held rows).accounts → HasRoom held rows → ((k : Known) → a ≡ Repeated k → ⊥) → (a ≡ Nothing → ⊥) → IsPrepared held c a rows
+prepared_done held c a rows book kept ranges soundness in_range step leads added balanced room new some = record {
   book = book;
   prepares = record {
     step = step;
@@ -179,6 +180,7 @@ prepared_done held c a rows book kept ranges soundness in_range step leads added
     room = room;
   };
   repeated = λ k e. absurd (new k e);
+  nothing = λ e. absurd (some e);
 }
 
 -- ---- a book loaded
@@ -217,7 +219,7 @@ module _ (book : Book) (balances : BTreeMap (List ℕ) ℤ) (totals : Totals (sl
   unfolding accounts
   balance_there_fits small = all_codes_at (λ c. Within (109 * 10 ^ 14) (balance book c)) book.participants i d within small
 
-codes-participants : (xs : List Account) → map code_of xs ≡ map (λ (p : Participant). p.code) (map participant_of xs)
+pub codes-participants : (xs : List Account) → map code_of xs ≡ map (λ (p : Participant). p.code) (map participant_of xs)
 codes-participants [] = refl
 codes-participants (x ∷ xs) = λ i. code_of x ∷ codes-participants xs i
 

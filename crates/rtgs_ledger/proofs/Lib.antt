@@ -1,7 +1,11 @@
 pub mod AccountLemmas
 pub mod Adding
 pub mod Balances
+pub mod Closing
+pub mod Crediting
+pub mod CuttingOff
 pub mod Finding
+pub mod Indexes
 pub mod Kept
 pub mod Lists
 pub mod Opening
@@ -13,3 +17,8 @@ pub mod PostingLemmas
 pub mod QueueLemmas
 pub mod Reading
 pub mod RecordLemmas
+pub mod Resolving
+pub mod Rooms
+pub mod Settling
+pub mod Telling
+pub mod Withdrawing

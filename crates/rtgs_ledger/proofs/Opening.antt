@@ -63,4 +63,4 @@ module _ (held : Held) (kept : IsKept held) (date : ℕ) where
       → IsPrepared held (OpenDay date) Opened (SetDay day ∷ [])
   prepared_open ranges soundness new closed later working =
       prepared_done held (OpenDay date) Opened (SetDay day ∷ []) (with_day held.content day) kept ranges soundness tt (opens held.content date new closed later working) leads_to_it (tt, tt)
-      (all_same (balance held.content) (balance (with_day held.content day)) balance_same held.accounts kept.balanced) (tt, tt) (λ k e. absurd (cc))
+      (all_same (balance held.content) (balance (with_day held.content day)) balance_same held.accounts kept.balanced) (tt, tt) (λ k e. absurd (cc)) (λ e. absurd (cc))

@@ -108,15 +108,15 @@ open_not_closed Closed e = absurd (true≢false (sym e))
 open_not_closed Open e = refl
 open_not_closed CutOff e = refl
 
-is_opened : (b : Bool) (day : Option ℕ) (date : ℕ) → (if b then day else None) ≡ Some date → b ≡ true
+pub is_opened : (b : Bool) (day : Option ℕ) (date : ℕ) → (if b then day else None) ≡ Some date → b ≡ true
 is_opened true day date e = refl
 is_opened false day date e = absurd (let f : None ≡ Some date = e in cc)
 
-is_day : (b : Bool) (day : Option ℕ) (date : ℕ) → (if b then day else None) ≡ Some date → day ≡ Some date
+pub is_day : (b : Bool) (day : Option ℕ) (date : ℕ) → (if b then day else None) ≡ Some date → day ≡ Some date
 is_day true day date e = e
 is_day false day date e = absurd (let f : None ≡ Some date = e in cc)
 
-is_shut : (b : Bool) (day : Option ℕ) → (if b then day else None) ≡ None → (b ≡ true → IsTrue (is_some day)) → b ≡ false
+pub is_shut : (b : Bool) (day : Option ℕ) → (if b then day else None) ≡ None → (b ≡ true → IsTrue (is_some day)) → b ≡ false
 is_shut true None e dated = absurd (true≢false (sym (dated refl)))
 is_shut true (Some date) e dated = absurd (let f : Some date ≡ None = e in cc)
 is_shut false day e dated = refl
@@ -127,6 +127,9 @@ module _ (r : Records) (kept : IsKept (held_of r)) where
 
   pub open_now : (date : ℕ) → (if is_open r.day.phase then r.day.date else None) ≡ Some date → is_open r.day.phase ≡ true
   open_now date e = is_opened (is_open r.day.phase) r.day.date date e
+
+  pub is_today : (date : ℕ) → (if is_open r.day.phase then r.day.date else None) ≡ Some date → r.day.date ≡ Some date
+  is_today date e = is_day (is_open r.day.phase) r.day.date date e
 
   pub settles_is : (sender : List ℕ) (debtor : Account) (amount : ℕ) → find (is_of sender) r.accounts.accounts ≡ Some debtor
       → settles_at_once (book_of r) sender amount ≡ (is_empty (queued_numbers (code_of debtor) r.orders.orders) && int_le (floor_at r.day.phase debtor.participant.credit) (debtor.balance -ℤ pos amount))
@@ -218,7 +221,7 @@ module _ (held : Held) (kept : IsKept held) (o : Order) (taken : IsTaken held.co
       } in
       prepared_done held (command.Order o.sender o.reference o.receiver o.amount) (answer.Queued o.number (length (queue held.content o.sender) + 1)) (AddOrder o ∷ []) (with_order held.content o) kept ranges soundness taken.fits (step_queued waits) leads (tt, tt)
       (all_same (balance held.content) (balance (with_order held.content o)) same_balance held.accounts kept.balanced)
-      ((room, awaited, number), tt) (λ k e. absurd (cc))
+      ((room, awaited, number), tt) (λ k e. absurd (cc)) (λ e. absurd (cc))
 
   moves : (c : List ℕ) → balance (with_settled held.content o) c ≡ balance held.content c +ℤ ((if bytes_eq o.receiver c then pos o.amount else pos 0) -ℤ (if bytes_eq o.sender c then pos o.amount else pos 0))
   unfolding gain
@@ -276,4 +279,4 @@ module _ (held : Held) (kept : IsKept held) (o : Order) (taken : IsTaken held.co
         prepared_done held (command.Order o.sender o.reference o.receiver o.amount) (answer.Settled o.number (next_mark held.content)) rows (with_settled held.content o) kept ranges soundness taken.fits (step_settled settles) leads (tt, (tt, (tt, (tt, tt))))
         (all_same (moved o.receiver more (moved o.sender less (balance held.content))) (balance (with_settled held.content o)) is_moved (with_balance o.receiver more (with_balance o.sender less held.accounts))
         (all_moved o.receiver more (moved o.sender less (balance held.content)) (with_balance o.sender less held.accounts) (all_moved o.sender less (balance held.content) held.accounts kept.balanced)))
-        ((room, awaited, number), (mark_room, (tt, (tt, tt)))) (λ k e. absurd (cc))
+        ((room, awaited, number), (mark_room, (tt, (tt, tt)))) (λ k e. absurd (cc)) (λ e. absurd (cc))

@@ -108,4 +108,4 @@ module _ (r : Records) (kept : IsKept (held_of r)) (code reference : List ℕ) (
       let leads : Leads (book_of r) (AddPosting q ∷ SetBalance code b ∷ []) (with_posting (book_of r) q) = record { book = refl; balances = every _ (sets_one in_range.0) (accounts (with_posting (book_of r) q)) } in
       prepared_done (held_of r) (command.Post code reference cents) (Posted (length r.postings.postings + 1)) (AddPosting q ∷ SetBalance code b ∷ []) (with_posting (book_of r) q) kept ranges soundness in_range step leads (tt, (tt, tt))
       (all_same (moved code b (balance (book_of r))) (balance (with_posting (book_of r) q)) is_moved (with_balance code b r.accounts.accounts) (all_moved code b (balance (book_of r)) r.accounts.accounts kept.balanced))
-      ((room, awaited), (tt, tt)) (λ k e. absurd (cc))
+      ((room, awaited), (tt, tt)) (λ k e. absurd (cc)) (λ e. absurd (cc))

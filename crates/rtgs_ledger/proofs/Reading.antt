@@ -15,7 +15,7 @@ use Rattle.rtgs_ledger.specs.Orders.{queued_numbers}
 use Rattle.rtgs_ledger.proofs.Lists.{weaker, all_at, all_filter, self_number}
 
 -- where numbers rise one by one, each order is found by its own
-found_by_number : (k : ℕ) (os : List Order) → map (λ (o : Order). o.number) os ≡ range_with_len k (length os) → AllByRecursion (λ x. (k ≤ x.number) × (find (has_number x.number) os ≡ Some x)) os
+pub found_by_number : (k : ℕ) (os : List Order) → map (λ (o : Order). o.number) os ≡ range_with_len k (length os) → AllByRecursion (λ x. (k ≤ x.number) × (find (has_number x.number) os ≡ Some x)) os
 found_by_number k [] e = tt
 found_by_number k (o ∷ os) e =
     let first : o.number ≡ k = cc in

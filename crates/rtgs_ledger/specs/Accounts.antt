@@ -1,11 +1,13 @@
 -- Accounts, as contracts see them.
-use Rattle.std.specs.Prelude.{true, false, ◌≡◌, ℕ, ◌≤◌, ℤ, Bool, true, List, map, filter, not, ◌++◌, ◌∷◌, if◌then◌else◌, length, slice_index_or, ◌<◌}
+use Rattle.std.specs.Prelude.{true, false, ◌≡◌, ℕ, ◌≤◌, ℤ, ◌+ℤ◌, Bool, true, List, map, filter, not, ◌++◌, ◌∷◌, if◌then◌else◌, length, slice_index_or, ◌<◌, pos, int_lt}
 use Rattle.std.specs.List.{AllByRecursion}
 use Rattle.std.specs.List.Sorted.{IsStrictlySortedBy}
 use Rattle.std.specs.Ordering.{nat_cmp}
 use Rattle.std.specs.Cmp.Lexicographic.{slice_cmp}
 use Rattle.std.specs.Str.{bytes_eq}
 use Rattle.rtgs_book.specs.declared.participant.Participant.{Participant}
+use Rattle.rtgs_book.specs.declared.order.Order.{Order}
+use Rattle.rtgs_book.specs.Balance.{gain}
 use Rattle.rtgs_book.specs.Commands.{is_before}
 use Rattle.rtgs_ledger.specs.declared.account.Account.{Account}
 
@@ -30,6 +32,10 @@ has_key key a = bytes_eq a.participant.key key
 abbrev pub balance_of : Account → ℤ
 balance_of a = a.balance
 
+-- below zero
+abbrev pub is_overdrawn : Account → Bool
+is_overdrawn a = int_lt a.balance (pos 0)
+
 -- codes rise strictly
 abbrev pub AreInCodeOrder : List Account → Type 0
 AreInCodeOrder accounts = IsStrictlySortedBy (slice_cmp nat_cmp) (map code_of accounts)
@@ -45,6 +51,17 @@ rebalanced code balance a = if is_of code a then record a { balance = balance } 
 -- the code's account with this balance
 abbrev pub with_balance : List ℕ → ℤ → List Account → List Account
 with_balance code balance = map (rebalanced code balance)
+
+abbrev pub move : List ℕ → ℤ → Account → Account
+move code cents a = if is_of code a then record a { balance = a.balance +ℤ cents } else a
+
+-- the code's account with so many cents more
+abbrev pub with_move : List ℕ → ℤ → List Account → List Account
+with_move code cents = map (move code cents)
+
+-- the account with what it gains where the order is settled
+abbrev pub after_order : Order → Account → Account
+after_order order a = record a { balance = a.balance +ℤ gain (code_of a) order }
 
 -- the code's account stands at this index
 pub record IsAt (code : List ℕ) (accounts : List Account) (i : ℕ) : Type 0 where

@@ -5,7 +5,7 @@ use Rattle.rtgs_book.specs.declared.book.Book.{Book}
 use Rattle.rtgs_book.specs.declared.change.RowChange.{RowChange}
 use Rattle.rtgs_book.specs.declared.command.Command.{Command}
 use Rattle.rtgs_book.specs.declared.answer.Answer.{Answer}
-use Rattle.rtgs_book.specs.declared.answer.Answer.TheVariants.{Repeated}
+use Rattle.rtgs_book.specs.declared.answer.Answer.TheVariants.{Nothing, Repeated}
 use Rattle.rtgs_book.specs.declared.answer.Known.{Known}
 use Rattle.rtgs_book.specs.declared.refusal.Refusal.{Refusal}
 use Rattle.rtgs_book.specs.declared.refusal.Refusal.TheVariants.{OutOfMemory}
@@ -51,6 +51,8 @@ pub record IsPrepared (held : Held) (command : Command) (answer : Answer) (chang
   pub prepares : Prepares held command answer change book
   -- a command that was done before has no change
   pub repeated : (known : Known) → answer ≡ Repeated known → change ≡ []
+  -- nor has a resolution that settles nothing
+  pub nothing : answer ≡ Nothing → change ≡ []
 
 -- the refusal is that of the command's first test that holds, or want of memory
 abbrev pub IsRefused : Book → Command → Refusal → Type 0

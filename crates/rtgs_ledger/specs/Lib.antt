@@ -1,5 +1,4 @@
 pub mod Accounts
-pub mod Commands
 pub mod Held
 pub mod Ordering
 pub mod Orders
@@ -7,4 +6,5 @@ pub mod Places
 pub mod Postings
 pub mod Queues
 pub mod Records
+pub mod Resolving
 pub mod Kept

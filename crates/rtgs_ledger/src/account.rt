@@ -1,6 +1,7 @@
 //! A participant with its running balance.
 ghost use Rattle.std.specs.Prelude.{◌≡◌, ◌+ℤ◌, ◌-ℤ◌, pos, FitsSigned};
 ghost use Rattle.std.specs.Int.{w64};
+ghost use Rattle.rtgs_ledger.specs.Accounts.{is_overdrawn};
 
 use rtgs_book::Participant;
 use rtgs_money::{Amount, Cents, PostingAmount};
@@ -13,12 +14,27 @@ pub struct Account {
 }
 
 impl Account {
+    /// Whether the balance is below zero.
+    pub fn is_overdrawn(&self) -> bool
+        ensures { result ≡ is_overdrawn self.now }
+    {
+        self.balance.cents() < 0
+    }
+
     /// The balance after a posting.
     pub fn balance_with(&self, cents: PostingAmount) -> Cents
         requires { FitsSigned w64 (self.now.balance +ℤ cents) }
         ensures { result ≡ self.now.balance +ℤ cents }
     {
         Cents::new(self.balance.cents() + cents.cents())
+    }
+
+    /// The balance with so many cents more, or less where they are below zero.
+    pub fn balance_moved(&self, cents: i64) -> Cents
+        requires { FitsSigned w64 (self.now.balance +ℤ cents) }
+        ensures { result ≡ self.now.balance +ℤ cents }
+    {
+        Cents::new(self.balance.cents() + cents)
     }
 
     /// The balance after an order of the participant is settled.

@@ -1,18 +1,21 @@
 //! Accounts in the order of their codes.
-ghost use Rattle.std.specs.Prelude.{◌≡◌, ◌-◌, ◌≤◌, [], ℤ, length, map, Some, None, OnOk, IfOk, IfErr, FitsSigned};
+ghost use Rattle.std.specs.Prelude.{◌≡◌, ◌-◌, ◌≤◌, ◌^◌, ◌+ℤ◌, [], ℤ, length, map, filter, Some, None, OnOk, IfOk, IfErr, FitsSigned};
 ghost use Rattle.std.specs.BTreeMap.{get};
 ghost use Rattle.std.specs.Cmp.Lexicographic.{slice_cmp};
 ghost use Rattle.std.specs.Int.{w64};
 ghost use Rattle.std.specs.Ordering.{nat_cmp};
-ghost use Rattle.std.specs.List.{find, list_any};
+ghost use Rattle.std.specs.List.{find, list_any, position_or_len, AllByRecursion};
+ghost use Rattle.std.specs.Str.{bytes_eq};
+ghost use Rattle.rtgs_money.specs.Amounts.{IsAmount};
+ghost use Rattle.rtgs_book.specs.Totals.{Within};
 ghost use Rattle.rtgs_book.specs.IntSum.{int_sum_by};
 ghost use Rattle.rtgs_book.specs.Ranges.{Fits};
 ghost use Rattle.rtgs_book.specs.Soundness.{IsSound};
 ghost use Rattle.rtgs_ledger.specs.Kept.{AreBalanced};
-ghost use Rattle.rtgs_ledger.specs.Accounts.{AreInCodeOrder, IsAt, IsGapFor, is_of, code_of, balance_of, participant_of, has_key, with_account, with_balance, with_limit};
+ghost use Rattle.rtgs_ledger.specs.Accounts.{AreInCodeOrder, IsAt, IsGapFor, is_of, code_of, balance_of, participant_of, has_key, is_overdrawn, with_account, with_balance, with_move, with_limit, after_order};
 
 use crate::account::Account;
-use rtgs_book::{Book, Participant, laws};
+use rtgs_book::{Book, Order, Participant, laws};
 use rtgs_money::{Cents, Code, Credit, KeyDigest};
 use std::alloc::{AllocError, Global};
 use std::collections::BTreeMap;
@@ -53,6 +56,14 @@ impl Accounts {
         Ok(Accounts { accounts })
     }
 
+    /// The same accounts once more.
+    pub fn copy(&self) -> Result<Accounts, AllocError>
+        ensures { IfOk result (λ copy. copy.accounts ≡ self.now.accounts) }
+    {
+        let accounts = Vec::from_slice(*self.accounts.allocator(), self.accounts.as_slice())?;
+        Ok(Accounts { accounts })
+    }
+
     /// The accounts in code order.
     pub fn as_slice(&self) -> &[Account]
         ensures value { result.now ≡ self.now.accounts }
@@ -68,6 +79,16 @@ impl Accounts {
         self.accounts.len()
     }
 
+    /// Their codes, in order. It answers want of memory.
+    pub fn codes(&self, alloc: Global) -> Result<Vec<Code>, AllocError>
+        ensures { IfOk result (λ codes. codes.items ≡ map code_of self.now.accounts) }
+    {
+        self.accounts
+            .iter()
+            .map(|account| account.participant.code)
+            .collect(alloc)
+    }
+
     /// The account with this code, if there is one.
     pub fn get(&self, code: &Code) -> Option<Account>
         ensures { result ≡ find (is_of code.now) self.now.accounts }
@@ -75,6 +96,16 @@ impl Accounts {
         match self.search(code) {
             Ok(at) => Some(self.accounts[at]),
             Err(_) => None,
+        }
+    }
+
+    /// The index of the account with this code, and else how many accounts there are.
+    pub fn index_of(&self, code: &Code) -> usize
+        ensures { result ≡ position_or_len (bytes_eq code.now) (map code_of self.now.accounts) }
+    {
+        match self.search(code) {
+            Ok(at) => at,
+            Err(_) => self.accounts.len(),
         }
     }
 
@@ -94,6 +125,20 @@ impl Accounts {
             total += i128::from(account.balance.cents());
         }
         total
+    }
+
+    /// How many accounts are below zero.
+    pub fn overdrawn(&self) -> usize
+        ensures { result ≡ length (filter is_overdrawn self.now.accounts) }
+    {
+        self.accounts.iter().filter(|a| a.is_overdrawn()).count()
+    }
+
+    /// The first account, in code order, that is below zero.
+    pub fn first_overdrawn(&self) -> Option<Account>
+        ensures { result ≡ find is_overdrawn self.now.accounts }
+    {
+        self.accounts.iter().copied().find(Account::is_overdrawn)
     }
 
     /// Makes room for one account more.
@@ -124,6 +169,28 @@ impl Accounts {
     {
         match self.search(code) {
             Ok(at) => self.accounts[at].balance = balance,
+            Err(_) => {}
+        }
+    }
+
+    /// Moves the amount of an order from the balance of its sender to that of its receiver.
+    pub fn settle(&mut self, order: &Order)
+        requires { AllByRecursion (λ a. Within (10 ^ 18) a.balance) self.old.accounts }
+        ensures accounts { self.new.accounts ≡ map (after_order order.now) self.old.accounts }
+        ensures amount { IsAmount order.now.amount }
+    {
+        let cents = order.amount.cents() as i64;
+        self.move_balance(&order.sender, -cents);
+        self.move_balance(&order.receiver, cents);
+    }
+
+    // Adds to the balance of the account with this code.
+    fn move_balance(&mut self, code: &Code, cents: i64)
+        requires { AllByRecursion (λ a. FitsSigned w64 (a.balance +ℤ cents)) self.old.accounts }
+        ensures { self.new.accounts ≡ with_move code.now cents self.old.accounts }
+    {
+        match self.search(code) {
+            Ok(at) => self.accounts[at].balance = self.accounts[at].balance_moved(cents),
             Err(_) => {}
         }
     }

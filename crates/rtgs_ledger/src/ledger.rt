@@ -5,15 +5,20 @@ ghost use Rattle.rtgs_book.specs.Changes.{changed};
 ghost use Rattle.rtgs_book.specs.Soundness.{IsSound};
 ghost use Rattle.rtgs_book.specs.Step.{Step};
 ghost use Rattle.rtgs_book.specs.Judgement.{Explains};
-ghost use Rattle.rtgs_ledger.specs.Commands.{IsCarriedOut};
 ghost use Rattle.rtgs_ledger.specs.Held.{after};
 ghost use Rattle.rtgs_ledger.specs.Kept.{IsReady, IsPrepared, IsRefused};
 
 mod adding;
+mod choosing;
+mod closing;
+mod crediting;
+mod cutting_off;
 mod opening;
 mod ordering;
 mod posting;
 mod reading;
+mod resolving;
+mod withdrawing;
 
 use crate::accounts::Accounts;
 use crate::orders::Orders;
@@ -72,13 +77,13 @@ impl Ledger {
     /// What the command is answered, and the row changes that it makes. The book stays as it is, and every growth that the
     /// change needs is made here. A refusal is that of the command's first test that holds, or want of memory.
     pub fn prepare(&mut self, command: &Command) -> Result<(Answer, Change), Refusal>
-        requires { IsCarriedOut command.now }
         ensures content { self.new.content ≡ self.old.content }
         ensures prepared { IfOk result (λ (answer, change). IsPrepared self.new command.now answer change) }
         ensures refused { IfErr result (IsRefused self.old.content command.now) }
     {
         match *command {
             Command::Add { code, name, key } => self.prepare_add(code, name, key),
+            Command::SetCredit { code, credit } => self.prepare_set_credit(code, credit),
             Command::Post {
                 code,
                 reference,
@@ -91,7 +96,10 @@ impl Ledger {
                 receiver,
                 amount,
             } => self.prepare_order(sender, reference, receiver, amount),
-            _ => unreachable!(),
+            Command::Withdraw { sender, reference } => self.prepare_withdraw(sender, reference),
+            Command::Resolve => self.prepare_resolve(),
+            Command::CutOff(date) => self.prepare_cut_off(date),
+            Command::CloseDay(date) => self.prepare_close_day(date),
         }
     }
 

@@ -12,11 +12,7 @@ mod queues;
 mod records;
 
 pub use crate::account::Account;
-pub use crate::accounts::Accounts;
 pub use crate::ledger::Ledger;
-pub use crate::orders::Orders;
-pub use crate::postings::Postings;
-pub use crate::records::Records;
 
 #[cfg(test)]
 mod tests;

@@ -19,7 +19,7 @@ use std::collections::BTreeMap;
 use std::marker::Model;
 
 /// The orders in rising number, found by the sender and its reference, and the queue of each sender. Contracts see the
-/// orders, how many more there is room for, and the sender and reference that the next one may bear.
+/// orders, how many more there is room for, and the sender and reference that the next one has to bear.
 #[derive(Debug, Drop)]
 pub struct Orders {
     orders: Vec<Order>,

@@ -12,7 +12,7 @@ use std::collections::BTreeMap;
 use std::marker::Model;
 
 /// The postings in rising number, found by their references. Contracts see the postings, how many more there is room
-/// for, and the reference that the next one may bear.
+/// for, and the reference that the next one has to bear.
 #[derive(Debug, Drop)]
 pub struct Postings {
     postings: Vec<Posting>,

@@ -1,11 +1,12 @@
 //! The rows of a book in memory.
-ghost use Rattle.std.specs.Prelude.{◌≡◌, ◌+◌, ◌<◌, length, if◌then◌else◌, ◌&&◌, ◌^◌, pos, neg_ℤ, ◌+ℤ◌, ◌-ℤ◌, int_lt, int_le, None};
-ghost use Rattle.rtgs_money.specs.Amounts.{IsAmount};
+ghost use Rattle.std.specs.Prelude.{◌≡◌, ◌+◌, ◌<◌, ◌≤◌, length, sum_by, if◌then◌else◌, ◌&&◌, not, ◌^◌, pos, neg_ℤ, ◌+ℤ◌, ◌-ℤ◌, int_lt, int_le, None};
+ghost use Rattle.rtgs_money.specs.Amounts.{IsAmount, IsCredit};
+ghost use Rattle.rtgs_book.specs.declared.order.Order.{Order};
 ghost use Rattle.rtgs_book.specs.IntSum.{int_sum_by};
 ghost use Rattle.rtgs_ledger.specs.Accounts.{balance_of, code_of};
 ghost use Rattle.rtgs_ledger.specs.Orders.{queued_numbers};
 ghost use Rattle.rtgs_book.specs.Balance.{floor_at};
-ghost use Rattle.rtgs_book.specs.Books.{is_closed, is_open, is_empty};
+ghost use Rattle.rtgs_book.specs.Books.{is_closed, is_open, is_cut_off, is_empty};
 ghost use Rattle.rtgs_book.specs.Commands.{is_date, is_later};
 ghost use Rattle.rtgs_ledger.specs.Records.{held_of};
 ghost use Rattle.rtgs_ledger.specs.Held.{FindsRoom, after_row};
@@ -15,7 +16,7 @@ use crate::accounts::Accounts;
 use crate::orders::Orders;
 use crate::postings::Postings;
 use rtgs_book::{Day, Mark, Order, OrderState, Phase, RowChange};
-use rtgs_money::{Amount, BusinessDate, Cents, Code, PostingAmount, Reference};
+use rtgs_money::{Amount, BusinessDate, Cents, Code, Credit, PostingAmount, Reference};
 
 // The most that all balances together may be, in cents.
 const MAX_TOTAL: i128 = 1_000_000_000_000_000;
@@ -61,6 +62,16 @@ impl Records {
         }
     }
 
+    /// The day's date, if the desk is not closed.
+    pub fn business_date(&self) -> Option<BusinessDate>
+        ensures { result ≡ (if is_closed self.now.day.phase then None else self.now.day.date) }
+    {
+        match self.day.phase {
+            Phase::Open | Phase::CutOff => self.day.date,
+            Phase::Closed => None,
+        }
+    }
+
     /// Whether no day is open.
     pub fn is_closed(&self) -> bool
         ensures { result ≡ is_closed self.now.day.phase }
@@ -75,6 +86,36 @@ impl Records {
         match self.open_date() {
             Some(day) => day == date,
             None => false,
+        }
+    }
+
+    /// The day's date, if it was cut off.
+    pub fn cut_off_date(&self) -> Option<BusinessDate>
+        ensures { result ≡ (if is_cut_off self.now.day.phase then self.now.day.date else None) }
+    {
+        match self.day.phase {
+            Phase::CutOff => self.day.date,
+            Phase::Closed | Phase::Open => None,
+        }
+    }
+
+    /// Whether the desk is closed, with this as its last date.
+    pub fn is_closed_on(&self, date: BusinessDate) -> bool
+        ensures { result ≡ (is_closed self.now.day.phase && is_date self.now.day.date date) }
+    {
+        match self.day.phase {
+            Phase::Closed => self.day.date == Some(date),
+            Phase::Open | Phase::CutOff => false,
+        }
+    }
+
+    /// Whether the desk was cut off on this date.
+    pub fn is_cut_off_on(&self, date: BusinessDate) -> bool
+        ensures { result ≡ (is_cut_off self.now.day.phase && is_date self.now.day.date date) }
+    {
+        match self.day.phase {
+            Phase::CutOff => self.day.date == Some(date),
+            Phase::Closed | Phase::Open => false,
         }
     }
 
@@ -113,6 +154,15 @@ impl Records {
         cents.cents() < 0 && balance.cents() < self.floor(account)
     }
 
+    /// Whether the account is below minus this credit limit, while the desk is not closed.
+    pub fn is_past_limit(&self, account: &Account, credit: Credit) -> bool
+        ensures value { result ≡ (not (is_closed self.now.day.phase) && int_lt account.now.balance (neg_ℤ (pos credit))) }
+        ensures fits { IsCredit credit }
+    {
+        let limit = credit.cents() as i64;
+        !self.is_closed() && account.balance.cents() < -limit
+    }
+
     /// Whether an order is settled at once: nothing of its sender is queued, and the balance stays at the floor or above.
     pub fn settles_at_once(&self, sender: &Account, amount: Amount) -> bool
         ensures value { result ≡ (is_empty (queued_numbers (code_of sender.now) self.now.orders.orders) && int_le (floor_at self.now.day.phase sender.now.participant.credit) (sender.now.balance -ℤ pos amount)) }
@@ -123,7 +173,7 @@ impl Records {
             && balance >= i128::from(self.floor(sender))
     }
 
-    /// The next order, at the end of its sender's queue.
+    /// The next order, queued as yet.
     pub fn next_order(
         &self,
         sender: Code,
@@ -146,15 +196,39 @@ impl Records {
         }
     }
 
+    // The number of the next mark.
+    fn next_mark_number(&self) -> u64
+        ensures { result ≡ length self.now.marks.items + 1 }
+    {
+        self.marks.len() as u64 + 1
+    }
+
     /// The next mark, for one order of this amount.
     pub fn next_mark(&self, amount: Amount, date: BusinessDate) -> Mark
         ensures { result ≡ record { number = length self.now.marks.items + 1; date = date; count = 1; value = pos amount } }
     {
         Mark {
-            number: self.marks.len() as u64 + 1,
+            number: self.next_mark_number(),
             date,
             count: 1,
             value: Cents::new(amount.cents() as i64),
+        }
+    }
+
+    /// The next mark, for these orders together.
+    pub fn mark_of(&self, orders: &[Order], date: BusinessDate) -> Mark
+        requires { length orders.now ≤ 50000 }
+        ensures { result ≡ record { number = length self.now.marks.items + 1; date = date; count = length orders.now; value = pos (sum_by (λ (o : Order). o.amount) orders.now) } }
+    {
+        let mut value = 0i64;
+        for order in orders {
+            value += order.amount.cents() as i64;
+        }
+        Mark {
+            number: self.next_mark_number(),
+            date,
+            count: orders.len() as u64,
+            value: Cents::new(value),
         }
     }
 }

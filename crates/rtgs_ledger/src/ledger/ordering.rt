@@ -1,5 +1,5 @@
 //! Payment orders.
-ghost use Rattle.std.specs.Prelude.{◌≡◌, true, false, Some, IfOk, IfErr};
+ghost use Rattle.std.specs.Prelude.{◌≡◌, ◌∷◌, [], true, false, Some, IfOk, IfErr};
 ghost use Rattle.std.specs.List.{find};
 ghost use Rattle.rtgs_book.specs.Commands.{settles_at_once};
 ghost use Rattle.rtgs_ledger.specs.Accounts.{is_of};
@@ -12,6 +12,7 @@ use rtgs_book::{
     Answer, Change, Command, Known, Mark, Order, OrderState, Refusal, RowChange, Rows, laws,
 };
 use rtgs_money::{Amount, Cents, Code, Reference};
+use std::alloc::{AllocError, Global};
 
 const MAX_ORDERS: usize = 999_999_999;
 
@@ -90,24 +91,9 @@ impl Ledger {
             number: order.number,
             mark: mark.number,
         };
-        let settled = Order {
-            state: OrderState::Settled(mark.number),
-            ..*order
-        };
         let debited = debtor.balance_less(order.amount);
         let credited = creditor.balance_more(order.amount);
-        let rows = vec![in self.alloc;
-            RowChange::AddOrder(settled),
-            RowChange::AddMark(mark),
-            RowChange::SetBalance {
-                code: order.sender,
-                balance: debited
-            },
-            RowChange::SetBalance {
-                code: order.receiver,
-                balance: credited
-            },
-        ]?;
+        let rows = settled_rows(self.alloc, order, mark, debited, credited)?;
         self.records.orders.reserve(order.sender, order.reference)?;
         self.records.marks.reserve(1)?;
         Ok((answer, Rows::from_vec(rows)))
@@ -132,4 +118,33 @@ impl Ledger {
         };
         Ok((answer, Rows::from_vec(rows)))
     }
+}
+
+// The rows of an order that is settled: itself, its mark, and the balances of its parties.
+fn settled_rows(
+    alloc: Global,
+    order: &Order,
+    mark: Mark,
+    debited: Cents,
+    credited: Cents,
+) -> Result<Vec<RowChange>, AllocError>
+    ensures { IfOk result (λ rows. rows.items ≡ RowChange.AddOrder (record order.now { state = OrderState.Settled mark.number }) ∷ RowChange.AddMark mark ∷ RowChange.SetBalance order.now.sender debited ∷ RowChange.SetBalance order.now.receiver credited ∷ []) }
+{
+    let settled = Order {
+        state: OrderState::Settled(mark.number),
+        ..*order
+    };
+    let rows = vec![in alloc;
+        RowChange::AddOrder(settled),
+        RowChange::AddMark(mark),
+        RowChange::SetBalance {
+            code: order.sender,
+            balance: debited
+        },
+        RowChange::SetBalance {
+            code: order.receiver,
+            balance: credited
+        },
+    ]?;
+    Ok(rows)
 }

@@ -2,18 +2,26 @@
 ghost use Rattle.std.specs.Prelude.{◌≡◌, IfOk, IfSome};
 ghost use Rattle.std.specs.Option.{option_map};
 ghost use Rattle.rtgs_book.specs.Balance.{balance};
-ghost use Rattle.rtgs_book.specs.Lookup.{order_named};
+ghost use Rattle.rtgs_book.specs.Lookup.{accounts, order_named};
 ghost use Rattle.rtgs_book.specs.Lookup as lookup;
 ghost use Rattle.rtgs_book.specs.Queue.{queue};
+ghost use Rattle.rtgs_book.specs.Soundness.{IsSound};
 ghost use Rattle.rtgs_ledger.specs.Accounts.{participant_of};
 
 use super::Ledger;
 use crate::account::Account;
-use rtgs_book::{Day, Order};
+use rtgs_book::{Day, Mark, Order, Posting};
 use rtgs_money::{Code, Reference};
 use std::alloc::AllocError;
 
 impl Ledger {
+    /// The book is sound: it was judged when it was loaded, and no change leaves an unsound one.
+    pub fn holds_a_sound_book(&self)
+        ensures { IsSound self.now.content }
+    {
+        self.records.is_closed();
+    }
+
     /// The participant with this code and its balance, if there is one.
     pub fn account(&self, code: &Code) -> Option<Account>
         ensures participant { option_map participant_of result ≡ lookup.participant_of self.now.content code.now }
@@ -40,6 +48,34 @@ impl Ledger {
             queue.push_reserved(self.records.orders.numbered(*number).unwrap());
         }
         Ok(queue)
+    }
+
+    /// The postings in rising number.
+    pub fn postings(&self) -> &[Posting]
+        ensures { result.now ≡ self.now.content.postings }
+    {
+        self.records.postings.as_slice()
+    }
+
+    /// The orders in rising number.
+    pub fn orders(&self) -> &[Order]
+        ensures { result.now ≡ self.now.content.orders }
+    {
+        self.records.orders.as_slice()
+    }
+
+    /// The marks in rising number.
+    pub fn marks(&self) -> &[Mark]
+        ensures { result.now ≡ self.now.content.marks }
+    {
+        self.records.marks.as_slice()
+    }
+
+    /// The participants' codes in their order. It answers want of memory.
+    pub fn codes(&self) -> Result<Vec<Code>, AllocError>
+        ensures { IfOk result (λ codes. codes.items ≡ accounts self.now.content) }
+    {
+        self.records.accounts.codes(self.alloc)
     }
 
     /// The business day.

@@ -48,6 +48,6 @@ returns-clause-prepared c =
     let mark : c.next_mark-mark.result ≡ mark_of new.content (o ∷ []) = c.next_mark-mark.ensures ∙ rw (number, one_mark new.content o taken.next) refl in
     let from = rw (← c.self.view_is) at c.requires.debtor in
     let to = rw (← c.self.view_is) at c.requires.creditor in
-    rw (c.from_vec.ensures, c.in_ok-rows.ensures.items, mark)
+    rw (c.from_vec.ensures, c.in_ok-rows.ensures, mark)
     (prepared_settled new (kept_same (held_of r) new same refl c.self.invariant) o taken c.args.debtor.now c.args.creditor.now from to c.balance_less-debited.result c.balance_more-credited.result c.balance_less-debited.ensures c.balance_more-credited.ensures
     c.step_keeps_ranges.ensures c.step_keeps_soundness.ensures settles c.in_ok-reserve.ensures.room c.in_ok-reserve.ensures.awaited (let l = c.in_ok-reserve-2.ensures.ok in omega arith))

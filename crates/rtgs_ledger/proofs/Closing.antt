@@ -1,0 +1,171 @@
+-- What closing a day comes to, test by test, and its change.
+use Rattle.std.proofs.Common.{◌≡◌, ℕ, pos, Bool, true, false, ◌&&◌, cond, if◌then◌else◌, List, [], ◌∷◌, ◌++◌, map, filter, length, find, Ok, Err, Some, None, refl, sym, ap, subst, ◌∙◌}
+use Rattle.std.specs.Prelude.{int_lt}
+use Rattle.std.proofs.lemmas.List.{length-map}
+use Rattle.std.specs.List.{flat_map}
+use Rattle.rtgs_book.specs.declared.command.Command.TheVariants as command
+use Rattle.rtgs_book.specs.declared.answer.Answer.TheVariants as answer
+use Rattle.rtgs_book.specs.declared.answer.Known.TheVariants.{Nothing}
+use Rattle.rtgs_book.specs.declared.refusal.Refusal.TheVariants.{WrongPhase, WrongDate, Resolvable, Overdrawn}
+use Rattle.rtgs_book.specs.declared.change.RowChange.TheVariants.{SetDay}
+use Rattle.rtgs_book.specs.declared.book.Book.{Book}
+use Rattle.rtgs_book.specs.declared.order_state.OrderState.TheVariants.{Rejected}
+use Rattle.rtgs_book.specs.declared.participant.Participant.{Participant}
+use Rattle.rtgs_book.specs.declared.phase.Phase.{Phase}
+use Rattle.rtgs_book.specs.declared.phase.Phase.TheVariants.{Closed, Open, CutOff}
+use Rattle.rtgs_book.specs.Balance.{balance}
+use Rattle.rtgs_book.specs.Books.{is_closed, is_cut_off, is_empty, is_queued}
+use Rattle.rtgs_book.specs.Changes.{IsChange}
+use Rattle.rtgs_book.specs.Choice.{Choice, chosen, IsGreatest}
+use Rattle.rtgs_book.specs.Commands.{close_day, overdrawn, is_date, is_on}
+use Rattle.rtgs_book.specs.Lookup.{accounts}
+use Rattle.rtgs_book.specs.Outcome.{first_of}
+use Rattle.rtgs_book.specs.Queue.{queue}
+use Rattle.rtgs_book.specs.Step.{Step}
+use Rattle.rtgs_choices.specs.Closing.{closed_book, closing_rows}
+use Rattle.rtgs_choices.specs.Settling.{queued_numbers, state_rows}
+use Rattle.rtgs_ledger.specs.declared.account.Account.{Account}
+use Rattle.rtgs_ledger.specs.declared.records.Records.{Records}
+use Rattle.rtgs_ledger.specs.Accounts.{code_of, participant_of, is_overdrawn}
+use Rattle.rtgs_ledger.specs.Held.{Held, after}
+use Rattle.rtgs_ledger.specs.Kept.{AreBalanced, IsKept, IsPrepared}
+use Rattle.rtgs_ledger.specs.Orders.{queued_numbers as queued_of}
+use Rattle.rtgs_ledger.specs.Records.{held_of, book_of}
+use Rattle.rtgs_ledger.proofs.Balances.{all_same}
+use Rattle.rtgs_ledger.proofs.Kept.{StepKeepsRanges}
+use Rattle.rtgs_ledger.proofs.Lists.{every}
+use Rattle.rtgs_ledger.proofs.Ordering.{is_shut, is_opened, is_day}
+use Rattle.rtgs_ledger.proofs.Rooms.{room_for_states, after-append, accounts_after-states}
+use Rattle.rtgs_ledger.proofs.Withdrawing.{BalanceAfterRestating}
+
+-- the day was cut off on this date, and the greatest choice has no order
+pub record IsClosable (book : Book) (date : ℕ) : Type 0 where
+  pub choice : Choice
+  pub greatest : IsGreatest book choice
+  pub none : is_empty (chosen book choice) ≡ true
+  pub cut : is_cut_off book.day.phase ≡ true
+  pub same : is_on book date ≡ true
+
+pub closable : (book : Book) (date : ℕ) → is_cut_off book.day.phase ≡ true → is_on book date ≡ true → (choice : Choice) × IsGreatest book choice × (is_empty (chosen book choice) ≡ true) → IsClosable book date
+closable book date cut same nothing = record { choice = nothing.0; greatest = nothing.1; none = nothing.2; cut = cut; same = same }
+
+not_closed : (p : Phase) → is_cut_off p ≡ true → is_closed p ≡ false
+not_closed Closed e = absurd (cc)
+not_closed Open e = refl
+not_closed CutOff e = refl
+
+module _ (book : Book) (date : ℕ) (choice : Choice) (greatest : IsGreatest book choice) where
+  pub repeats : (is_closed book.day.phase && is_date book.day.date date) ≡ true → Step book (command.CloseDay date) (Ok (answer.Repeated Nothing)) book
+  unfolding close_day first_of
+  repeats same = (choice, greatest, rw same refl)
+
+  pub wrong_phase : (is_closed book.day.phase && is_date book.day.date date) ≡ false → is_cut_off book.day.phase ≡ false → Step book (command.CloseDay date) (Err WrongPhase) book
+  unfolding close_day first_of
+  wrong_phase new other = (choice, greatest, rw (new, other) refl)
+
+  module _ (cut : is_cut_off book.day.phase ≡ true) where
+    pub wrong_date : is_on book date ≡ false → Step book (command.CloseDay date) (Err WrongDate) book
+    unfolding close_day first_of
+    wrong_date other = (choice, greatest, rw (not_closed book.day.phase cut, cut, other) refl)
+
+    module _ (same : is_on book date ≡ true) where
+      pub resolvable : is_empty (chosen book choice) ≡ false → Step book (command.CloseDay date) (Err Resolvable) book
+      unfolding close_day first_of
+      resolvable some = (choice, greatest, rw (not_closed book.day.phase cut, cut, same, some) refl)
+
+      pub somebody_overdrawn : is_empty (chosen book choice) ≡ true → (code : List ℕ) (codes : List (List ℕ)) → overdrawn book ≡ code ∷ codes → Step book (command.CloseDay date) (Err (Overdrawn code (length (code ∷ codes)))) book
+      unfolding close_day first_of
+      somebody_overdrawn none code codes some = (choice, greatest, rw (not_closed book.day.phase cut, cut, same, none, some) refl)
+
+module _ (r : Records) (kept : IsKept (held_of r)) where
+  pub not_cut_off_now : (if is_cut_off r.day.phase then r.day.date else None) ≡ None → is_cut_off r.day.phase ≡ false
+  not_cut_off_now e = is_shut (is_cut_off r.day.phase) r.day.date e (λ cut. let s = kept.sound in s.dates.dated (not_closed r.day.phase cut))
+
+  pub cut_off_now : (date : ℕ) → (if is_cut_off r.day.phase then r.day.date else None) ≡ Some date → is_cut_off r.day.phase ≡ true
+  cut_off_now date e = is_opened (is_cut_off r.day.phase) r.day.date date e
+
+  pub cut_off_today : (date : ℕ) → (if is_cut_off r.day.phase then r.day.date else None) ≡ Some date → r.day.date ≡ Some date
+  cut_off_today date e = is_day (is_cut_off r.day.phase) r.day.date date e
+
+-- ---- who is below zero
+
+first_of_filter : {X : Type 0} (p : X → Bool) (xs : List X) (x : X) → find p xs ≡ Some x → (rest : List X) × (filter p xs ≡ x ∷ rest)
+first_of_filter p [] x e = absurd (cc)
+first_of_filter {X} p (y ∷ ys) x e = by (p y) e (first_of_filter p ys x)
+  where
+    by : (b : Bool) → cond b (Some y) (find p ys) ≡ Some x → (find p ys ≡ Some x → (rest : List X) × (filter p ys ≡ x ∷ rest)) → (rest : List X) × (cond b (y ∷ filter p ys) (filter p ys) ≡ x ∷ rest)
+    by true f more = let same : y ≡ x = cc in (filter p ys, ap (λ z. z ∷ filter p ys) same)
+    by false f more = more f
+
+none_of_filter : {X : Type 0} (p : X → Bool) (xs : List X) → find p xs ≡ None → filter p xs ≡ []
+none_of_filter p [] e = refl
+none_of_filter {X} p (y ∷ ys) e = by (p y) e (none_of_filter p ys)
+  where
+    by : (b : Bool) → cond b (Some y) (find p ys) ≡ None → (find p ys ≡ None → filter p ys ≡ []) → cond b (y ∷ filter p ys) (filter p ys) ≡ []
+    by true f more = absurd (cc)
+    by false f more = more f
+
+codes_below : (book : Book) (xs : List Account) → AreBalanced book xs → filter (λ code. int_lt (balance book code) (pos 0)) (map (λ (p : Participant). p.code) (map participant_of xs)) ≡ map code_of (filter is_overdrawn xs)
+codes_below book [] h = refl
+codes_below book (x ∷ xs) h =
+    ap (λ z. cond (int_lt z (pos 0)) (code_of x ∷ filter (λ code. int_lt (balance book code) (pos 0)) (map (λ (p : Participant). p.code) (map participant_of xs))) (filter (λ code. int_lt (balance book code) (pos 0)) (map (λ (p : Participant). p.code) (map participant_of xs)))) (sym h.0)
+    ∙ by (is_overdrawn x) (codes_below book xs h.1)
+  where
+    by : (b : Bool) → filter (λ code. int_lt (balance book code) (pos 0)) (map (λ (p : Participant). p.code) (map participant_of xs)) ≡ map code_of (filter is_overdrawn xs)
+        → cond b (code_of x ∷ filter (λ code. int_lt (balance book code) (pos 0)) (map (λ (p : Participant). p.code) (map participant_of xs))) (filter (λ code. int_lt (balance book code) (pos 0)) (map (λ (p : Participant). p.code) (map participant_of xs))) ≡ map code_of (cond b (x ∷ filter is_overdrawn xs) (filter is_overdrawn xs))
+    by true e = ap (λ cs. code_of x ∷ cs) e
+    by false e = e
+
+module _ (r : Records) (kept : IsKept (held_of r)) where
+  below_zero : overdrawn (book_of r) ≡ map code_of (filter is_overdrawn r.accounts.accounts)
+  unfolding overdrawn accounts
+  below_zero = codes_below (book_of r) r.accounts.accounts kept.balanced
+
+  pub nobody_below : find is_overdrawn r.accounts.accounts ≡ None → overdrawn (book_of r) ≡ []
+  nobody_below none = below_zero ∙ ap (map code_of) (none_of_filter is_overdrawn r.accounts.accounts none)
+
+  pub overdraws : (date : ℕ) → IsClosable (book_of r) date → (a : Account) → find is_overdrawn r.accounts.accounts ≡ Some a → Step (book_of r) (command.CloseDay date) (Err (Overdrawn (code_of a) (length (filter is_overdrawn r.accounts.accounts)))) (book_of r)
+  overdraws date at a found =
+      let parts = first_of_filter is_overdrawn r.accounts.accounts a found in
+      let there : overdrawn (book_of r) ≡ code_of a ∷ map code_of parts.0 = below_zero ∙ ap (map code_of) parts.1 in
+      let count : length (filter is_overdrawn r.accounts.accounts) ≡ length (code_of a ∷ map code_of parts.0) = sym (length-map (filter is_overdrawn r.accounts.accounts) code_of) ∙ ap (λ xs. length (map code_of xs)) parts.1 in
+      subst (λ n. Step (book_of r) (command.CloseDay date) (Err (Overdrawn (code_of a) n)) (book_of r)) (sym count)
+      (somebody_overdrawn (book_of r) date at.choice at.greatest at.cut at.same at.none (code_of a) (map code_of parts.0) there)
+
+-- ---- what is queued
+
+queues_are : (book : Book) (xs : List Account) → flat_map (λ a. queued_of (code_of a) book.orders) xs ≡ flat_map (queued_numbers book) (map (λ (p : Participant). p.code) (map participant_of xs))
+unfolding queue
+queues_are book [] = refl
+queues_are book (x ∷ xs) = ap (λ ns. queued_of (code_of x) book.orders ++ ns) (queues_are book xs)
+
+pub all_queued : (r : Records) → flat_map (λ a. queued_of (code_of a) r.orders.orders) r.accounts.accounts ≡ flat_map (queued_numbers (book_of r)) (accounts (book_of r))
+unfolding accounts
+all_queued r = queues_are (book_of r) r.accounts.accounts
+
+-- ---- the closing
+
+module _ (held : Held) (kept : IsKept held) (law : BalanceAfterRestating) where
+  balance_same : (c : List ℕ) → balance held.content c ≡ balance (closed_book held.content) c
+  unfolding balance
+  balance_same c = sym (law held.content is_queued Rejected c (every (λ o. is_queued o ≡ true → is_queued o ≡ true) (λ o e. e) held.content.orders) refl)
+
+  accounts_stay : (after held (closing_rows held.content)).accounts ≡ held.accounts
+  accounts_stay =
+      ap (λ (h : Held). h.accounts) (after-append held (state_rows Rejected (flat_map (queued_numbers held.content) (accounts held.content))) (SetDay (record held.content.day { phase = Closed }) ∷ []))
+      ∙ accounts_after-states Rejected (flat_map (queued_numbers held.content) (accounts held.content)) held
+
+  pub prepared_closing : StepKeepsRanges → (date : ℕ) → Step held.content (command.CloseDay date) (Ok (answer.Closed (length (filter is_queued held.content.orders)))) (closed_book held.content) → IsChange held.content (closing_rows held.content) (closed_book held.content)
+      → IsPrepared held (command.CloseDay date) (answer.Closed (length (filter is_queued held.content.orders))) (closing_rows held.content)
+  prepared_closing ranges date step change = record {
+    book = closed_book held.content;
+    prepares = record {
+      step = step;
+      change = change;
+      fits = ranges held.content (closed_book held.content) (command.CloseDay date) (Ok (answer.Closed (length (filter is_queued held.content.orders)))) tt kept.fits step;
+      balanced = subst (AreBalanced (closed_book held.content)) (sym accounts_stay) (all_same (balance held.content) (balance (closed_book held.content)) balance_same held.accounts kept.balanced);
+      room = room_for_states Rejected refl (flat_map (queued_numbers held.content) (accounts held.content)) held (SetDay (record held.content.day { phase = Closed }) ∷ []) (tt, tt);
+    };
+    repeated = λ k e. absurd (cc);
+    nothing = λ e. absurd (cc);
+  }

@@ -1,0 +1,128 @@
+-- Accounts while orders are settled one after another.
+use Rattle.std.proofs.Common.{◌≡◌, ℕ, ◌+◌, ◌*◌, ◌^◌, ◌≤◌, ◌<◌, ℤ, pos, neg_ℤ, ◌+ℤ◌, ◌-ℤ◌, Bool, true, false, cond, List, [], ◌∷◌, ◌++◌, map, not, length, get_or, drop, append_assoc, refl, sym, ap, ◌∙◌, arith}
+use Rattle.std.proofs.lemmas.Int.{ints}
+use Rattle.std.proofs.lemmas.List.{at_drop_more}
+use Rattle.std.specs.Ordering.{int_eq}
+use Rattle.std.specs.Prelude.{FitsSigned}
+use Rattle.std.specs.Int.{w64}
+use Rattle.std.specs.List.{AllByRecursion}
+use Rattle.std.specs.Str.{bytes_eq}
+use Rattle.rtgs_book.specs.declared.book.Book.{Book}
+use Rattle.rtgs_book.specs.declared.order.Order.{Order}
+use Rattle.rtgs_book.specs.declared.participant.Participant.{Participant}
+use Rattle.rtgs_book.specs.Balance.{gain, balance}
+use Rattle.rtgs_book.specs.IntSum.{int_sum_by}
+use Rattle.rtgs_book.specs.Totals.{Within}
+use Rattle.rtgs_ledger.specs.declared.account.Account.{Account}
+use Rattle.rtgs_ledger.specs.Accounts.{code_of, participant_of, is_of, move, with_move, after_order}
+use Rattle.rtgs_ledger.specs.Kept.{AreBalanced}
+use Rattle.rtgs_ledger.specs.Resolving.{after_orders, moved_accounts}
+use Rattle.rtgs_ledger.proofs.Lists.{bytes_eq_comm, int_sum_by-append, weaker}
+
+-- ---- one order
+
+moves_once : (o : Order) (less more : ℤ) → less ≡ neg_ℤ (pos o.amount) → more ≡ pos o.amount → (a : Account) → move o.receiver more (move o.sender less a) ≡ after_order o a
+unfolding gain
+moves_once o less more e f a = by (is_of o.sender a) (is_of o.receiver a) refl refl
+  where
+    by : (s r : Bool) → is_of o.sender a ≡ s → is_of o.receiver a ≡ r → move o.receiver more (move o.sender less a) ≡ after_order o a
+    by true true g h =
+        let same : a.balance +ℤ less +ℤ more ≡ a.balance +ℤ (pos o.amount -ℤ pos o.amount) = omega (arith, ints) in
+        rw (bytes_eq_comm o.receiver (code_of a), bytes_eq_comm o.sender (code_of a), g, h) (λ i. record a { balance = same i })
+    by true false g h =
+        let same : a.balance +ℤ less ≡ a.balance +ℤ (pos 0 -ℤ pos o.amount) = omega (arith, ints) in
+        rw (bytes_eq_comm o.receiver (code_of a), bytes_eq_comm o.sender (code_of a), g, h) (λ i. record a { balance = same i })
+    by false true g h =
+        let same : a.balance +ℤ more ≡ a.balance +ℤ (pos o.amount -ℤ pos 0) = omega (arith, ints) in
+        rw (bytes_eq_comm o.receiver (code_of a), bytes_eq_comm o.sender (code_of a), g, h) (λ i. record a { balance = same i })
+    by false false g h =
+        let same : a.balance ≡ a.balance +ℤ (pos 0 -ℤ pos 0) = omega (arith, ints) in
+        rw (bytes_eq_comm o.receiver (code_of a), bytes_eq_comm o.sender (code_of a), g, h) (λ i. record a { balance = same i })
+
+pub moves_all : (o : Order) (less more : ℤ) → less ≡ neg_ℤ (pos o.amount) → more ≡ pos o.amount → (xs : List Account) → with_move o.receiver more (with_move o.sender less xs) ≡ map (after_order o) xs
+moves_all o less more e f [] = refl
+moves_all o less more e f (x ∷ xs) = λ i. moves_once o less more e f x i ∷ moves_all o less more e f xs i
+
+-- a balance within the bound takes or gives one amount more
+pub fits_less : (n : ℕ) → n ≤ 10 ^ 12 → (less : ℤ) → less ≡ neg_ℤ (pos n) → (xs : List Account) → AllByRecursion (λ a. Within (10 ^ 18) a.balance) xs → AllByRecursion (λ a. FitsSigned w64 (a.balance +ℤ less)) xs
+fits_less n small less e = weaker (λ a. Within (10 ^ 18) a.balance) (λ a. FitsSigned w64 (a.balance +ℤ less)) (λ a h. omega (arith, ints))
+
+pub fits_more : (code : List ℕ) (n : ℕ) → n ≤ 10 ^ 12 → (less more : ℤ) → less ≡ neg_ℤ (pos n) → more ≡ pos n → (xs : List Account) → AllByRecursion (λ a. Within (10 ^ 18) a.balance) xs → AllByRecursion (λ a. FitsSigned w64 (a.balance +ℤ more)) (with_move code less xs)
+fits_more code n small less more e f [] h = tt
+fits_more code n small less more e f (x ∷ xs) h = (by (is_of code x), fits_more code n small less more e f xs h.1)
+  where
+    by : (t : Bool) → FitsSigned w64 ((cond t (record x { balance = x.balance +ℤ less }) x).balance +ℤ more)
+    by true = let low = h.0.0 in let high = h.0.1 in omega (arith, ints)
+    by false = let low = h.0.0 in let high = h.0.1 in omega (arith, ints)
+
+-- ---- orders one after another
+
+after_more : (os : List Order) (o : Order) (a : Account) → after_order o (after_orders os a) ≡ after_orders (os ++ o ∷ []) a
+after_more os o a =
+    let sum = int_sum_by-append (gain (code_of a)) os (o ∷ []) in
+    let same : (a.balance +ℤ int_sum_by (gain (code_of a)) os) +ℤ gain (code_of a) o ≡ a.balance +ℤ int_sum_by (gain (code_of a)) (os ++ o ∷ []) = omega (arith, ints) in
+    λ i. record a { balance = same i }
+
+pub all_after_more : (os : List Order) (o : Order) (xs : List Account) → map (after_order o) (map (after_orders os) xs) ≡ map (after_orders (os ++ o ∷ [])) xs
+all_after_more os o [] = refl
+all_after_more os o (x ∷ xs) = λ i. after_more os o x i ∷ all_after_more os o xs i
+
+pub all_after_none : (xs : List Account) → xs ≡ map (after_orders []) xs
+all_after_none [] = refl
+all_after_none (x ∷ xs) = let same : x.balance ≡ x.balance +ℤ pos 0 = omega (arith, ints) in λ i. record x { balance = same i } ∷ all_after_none xs i
+
+gain_is_small : (code : List ℕ) (o : Order) → o.amount ≤ 10 ^ 12 → Within (10 ^ 12) (gain code o)
+unfolding gain
+gain_is_small code o small = by (bytes_eq o.receiver code) (bytes_eq o.sender code)
+  where
+    by : (r s : Bool) → Within (10 ^ 12) (cond r (pos o.amount) (pos 0) -ℤ cond s (pos o.amount) (pos 0))
+    by true true = (omega (arith, ints), omega (arith, ints))
+    by true false = (omega (arith, ints), omega (arith, ints))
+    by false true = (omega (arith, ints), omega (arith, ints))
+    by false false = (omega (arith, ints), omega (arith, ints))
+
+-- so far the balances have moved by one amount for each order at most
+abbrev pub AreNear : ℕ → List Account → Type 0
+AreNear orders xs = AllByRecursion (λ a. Within (109 * 10 ^ 14 + orders * 10 ^ 12) a.balance) xs
+
+pub near_more : (n : ℕ) (o : Order) → o.amount ≤ 10 ^ 12 → (xs : List Account) → AreNear n xs → AreNear (n + 1) (map (after_order o) xs)
+near_more n o small [] h = tt
+near_more n o small (x ∷ xs) h =
+    let by = gain_is_small (code_of x) o small in
+    let low = h.0.0 in
+    let high = h.0.1 in
+    let least = by.0 in
+    let most = by.1 in
+    ((omega (arith, ints), omega (arith, ints)), near_more n o small xs h.1)
+
+pub near_is_small : (n : ℕ) → n ≤ 50000 → (xs : List Account) → AreNear n xs → AllByRecursion (λ a. Within (10 ^ 18) a.balance) xs
+near_is_small n few = weaker (λ a. Within (109 * 10 ^ 14 + n * 10 ^ 12) a.balance) (λ a. Within (10 ^ 18) a.balance) (λ a h. let low = h.0 in let high = h.1 in (omega (arith, ints), omega (arith, ints)))
+
+pub near_none : (book : Book) (xs : List Account) → AreBalanced book xs → AllByRecursion (λ code. Within (109 * 10 ^ 14) (balance book code)) (map (λ (p : Participant). p.code) (map participant_of xs)) → AreNear 0 xs
+near_none book [] h small = tt
+near_none book (x ∷ xs) h small =
+    let e = h.0 in
+    let low = small.0.0 in
+    let high = small.0.1 in
+    ((omega (arith, ints), omega (arith, ints)), near_none book xs h.1 small.1)
+
+-- ---- the accounts that move
+
+abbrev pub does_move : List Order → Account → Bool
+does_move orders a = not (int_eq a.balance (after_orders orders a).balance)
+
+moves_there : (orders : List Order) (a : Account) (rest : List Account) → does_move orders a ≡ true → moved_accounts orders (a ∷ rest) ≡ after_orders orders a ∷ moved_accounts orders rest
+moves_there orders a rest e = rw e refl
+
+stays_there : (orders : List Order) (a : Account) (rest : List Account) → does_move orders a ≡ false → moved_accounts orders (a ∷ rest) ≡ moved_accounts orders rest
+stays_there orders a rest e = rw e refl
+
+module _ (orders : List Order) (xs : List Account) (i : ℕ) (a : Account) (done : List Account) (less : i < length xs) (here : a ≡ get_or xs i a) (so_far : done ++ moved_accounts orders (drop i xs) ≡ moved_accounts orders xs) where
+  next : done ++ moved_accounts orders (a ∷ drop (i + 1) xs) ≡ moved_accounts orders xs
+  next = ap (λ y. done ++ moved_accounts orders (y ∷ drop (i + 1) xs)) here ∙ ap (λ ys. done ++ ys) (sym (at_drop_more (moved_accounts orders) xs i a less)) ∙ so_far
+
+  pub one_moves : does_move orders a ≡ true → (done ++ after_orders orders a ∷ []) ++ moved_accounts orders (drop (i + 1) xs) ≡ moved_accounts orders xs
+  one_moves e = append_assoc done (after_orders orders a ∷ []) (moved_accounts orders (drop (i + 1) xs)) ∙ ap (λ ys. done ++ ys) (sym (moves_there orders a (drop (i + 1) xs) e)) ∙ next
+
+  pub one_stays : does_move orders a ≡ false → done ++ moved_accounts orders (drop (i + 1) xs) ≡ moved_accounts orders xs
+  one_stays e = ap (λ ys. done ++ ys) (sym (stays_there orders a (drop (i + 1) xs) e)) ∙ next

@@ -1,0 +1,101 @@
+//! Closing a business day.
+ghost use Rattle.std.specs.Prelude.{◌≡◌, ◌++◌, ◌∷◌, [], true, IfOk, IfErr};
+ghost use Rattle.std.specs.List.{flat_map};
+ghost use Rattle.rtgs_book.specs.Books.{is_cut_off, is_empty};
+ghost use Rattle.rtgs_book.specs.Choice.{Choice, chosen, IsGreatest};
+ghost use Rattle.rtgs_book.specs.Commands.{is_on};
+ghost use Rattle.rtgs_book.specs.Lookup.{accounts};
+ghost use Rattle.rtgs_choices.specs.Settling.{queued_numbers, state_rows};
+ghost use Rattle.rtgs_ledger.specs.Kept.{IsPrepared, IsRefused};
+
+use super::Ledger;
+use rtgs_book::{
+    Answer, Change, Command, Day, Known, OrderState, Phase, Refusal, RowChange, Rows, laws,
+};
+use rtgs_choices::laws::{chosen_numbers, queued_are_numbered, rows_close, taken_are_chosen};
+use rtgs_money::BusinessDate;
+use std::alloc::{AllocError, Global};
+
+impl Ledger {
+    /// The day that was cut off is closed, where no queued orders can be settled together and nobody is below zero. What
+    /// is queued is rejected.
+    pub(super) fn prepare_close_day(
+        &mut self,
+        date: BusinessDate,
+    ) -> Result<(Answer, Change), Refusal>
+        ensures content { self.new.content ≡ self.old.content }
+        ensures prepared { IfOk result (λ (answer, change). IsPrepared self.new (Command.CloseDay date) answer change) }
+        ensures refused { IfErr result (IsRefused self.old.content (Command.CloseDay date)) }
+    {
+        laws::greatest_exists();
+        chosen_numbers();
+        taken_are_chosen();
+        if self.records.is_closed_on(date) {
+            return Ok(self.repeated(Known::Nothing));
+        }
+        let Some(today) = self.records.cut_off_date() else {
+            return Err(Refusal::WrongPhase);
+        };
+        if today != date {
+            return Err(Refusal::WrongDate);
+        }
+        let Ok(orders) = self.chosen_orders() else {
+            return Err(Refusal::OutOfMemory);
+        };
+        if !orders.is_empty() {
+            return Err(Refusal::Resolvable);
+        }
+        self.prepare_closing(date)
+    }
+
+    // The day is closed, where nobody is below zero, and what is queued is rejected. The greatest choice has no order.
+    fn prepare_closing(&mut self, date: BusinessDate) -> Result<(Answer, Change), Refusal>
+        requires cut_off { is_cut_off self.old.content.day.phase ≡ true }
+        requires dated { is_on self.old.content date ≡ true }
+        requires nothing { (choice : Choice) × IsGreatest self.old.content choice × (is_empty (chosen self.old.content choice) ≡ true) }
+        ensures content { self.new.content ≡ self.old.content }
+        ensures prepared { IfOk result (λ (answer, change). IsPrepared self.new (Command.CloseDay date) answer change) }
+        ensures refused { IfErr result (IsRefused self.old.content (Command.CloseDay date)) }
+    {
+        if let Some(account) = self.records.accounts.first_overdrawn() {
+            return Err(Refusal::Overdrawn {
+                first: account.participant.code,
+                count: self.records.accounts.overdrawn() as u64,
+            });
+        }
+        laws::step_keeps_ranges();
+        laws::balance_after_restating();
+        queued_are_numbered();
+        rows_close();
+        let numbers = self.queued_numbers()?;
+        let day = Day {
+            phase: Phase::Closed,
+            ..self.records.day
+        };
+        let rows = closing_rows(self.alloc, numbers.as_slice(), day)?;
+        let rejected = numbers.len() as u64;
+        Ok((Answer::Closed { rejected }, Rows::from_vec(rows)))
+    }
+
+    // The numbers of all queued orders, account by account.
+    fn queued_numbers(&self) -> Result<Vec<u64>, AllocError>
+        ensures { IfOk result (λ numbers. numbers.items ≡ flat_map (queued_numbers self.now.content) (accounts self.now.content)) }
+    {
+        let mut numbers = Vec::new(self.alloc);
+        for account in self.records.accounts.as_slice() {
+            numbers.extend_from_slice(self.records.orders.queue(&account.participant.code))?;
+        }
+        Ok(numbers)
+    }
+}
+
+// The rows that reject the orders with these numbers, and set the day.
+fn closing_rows(alloc: Global, numbers: &[u64], day: Day) -> Result<Vec<RowChange>, AllocError>
+    ensures { IfOk result (λ rows. rows.items ≡ state_rows OrderState.Rejected numbers.now ++ RowChange.SetDay day ∷ []) }
+{
+    let rejected = numbers.iter().map(|number| RowChange::SetState {
+        number: *number,
+        state: OrderState::Rejected,
+    });
+    rejected.chain(Some(RowChange::SetDay(day))).collect(alloc)
+}

@@ -1,0 +1,31 @@
+//! Setting a credit limit.
+ghost use Rattle.std.specs.Prelude.{◌≡◌, IfOk, IfErr};
+ghost use Rattle.rtgs_ledger.specs.Kept.{IsPrepared, IsRefused};
+
+use super::Ledger;
+use rtgs_book::{Answer, Change, Command, Refusal, RowChange, Rows, laws};
+use rtgs_money::{Code, Credit};
+
+impl Ledger {
+    /// The credit limit is set, where the participant has not used more than that.
+    pub(super) fn prepare_set_credit(
+        &mut self,
+        code: Code,
+        credit: Credit,
+    ) -> Result<(Answer, Change), Refusal>
+        ensures content { self.new.content ≡ self.old.content }
+        ensures prepared { IfOk result (λ (answer, change). IsPrepared self.new (Command.SetCredit code credit) answer change) }
+        ensures refused { IfErr result (IsRefused self.old.content (Command.SetCredit code credit)) }
+    {
+        let Some(account) = self.records.accounts.get(&code) else {
+            return Err(Refusal::UnknownParticipant);
+        };
+        if self.records.is_past_limit(&account, credit) {
+            return Err(Refusal::NoCover);
+        }
+        laws::step_keeps_ranges();
+        laws::step_keeps_soundness();
+        let rows = vec![in self.alloc; RowChange::SetCredit { code, credit }]?;
+        Ok((Answer::CreditSet, Rows::from_vec(rows)))
+    }
+}

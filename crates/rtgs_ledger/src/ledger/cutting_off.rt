@@ -1,0 +1,37 @@
+//! Cutting off a business day.
+ghost use Rattle.std.specs.Prelude.{◌≡◌, IfOk, IfErr};
+ghost use Rattle.rtgs_ledger.specs.Kept.{IsPrepared, IsRefused};
+
+use super::Ledger;
+use rtgs_book::{Answer, Change, Command, Day, Known, Phase, Refusal, RowChange, Rows, laws};
+use rtgs_money::BusinessDate;
+
+impl Ledger {
+    /// The day that is open takes no more orders.
+    pub(super) fn prepare_cut_off(
+        &mut self,
+        date: BusinessDate,
+    ) -> Result<(Answer, Change), Refusal>
+        ensures content { self.new.content ≡ self.old.content }
+        ensures prepared { IfOk result (λ (answer, change). IsPrepared self.new (Command.CutOff date) answer change) }
+        ensures refused { IfErr result (IsRefused self.old.content (Command.CutOff date)) }
+    {
+        if self.records.is_cut_off_on(date) {
+            return Ok(self.repeated(Known::Nothing));
+        }
+        let Some(today) = self.records.open_date() else {
+            return Err(Refusal::WrongPhase);
+        };
+        if today != date {
+            return Err(Refusal::WrongDate);
+        }
+        laws::step_keeps_ranges();
+        laws::step_keeps_soundness();
+        let day = Day {
+            phase: Phase::CutOff,
+            ..self.records.day
+        };
+        let rows = vec![in self.alloc; RowChange::SetDay(day)]?;
+        Ok((Answer::CutOffDone, Rows::from_vec(rows)))
+    }
+}

@@ -1,0 +1,132 @@
+//! Resolving a gridlock.
+ghost use Rattle.std.specs.Prelude.{◌≡◌, ◌≤◌, List, map, length, Some, IfOk, IfErr};
+ghost use Rattle.rtgs_book.specs.declared.order.Order.{Order};
+ghost use Rattle.rtgs_ledger.specs.Kept.{IsPrepared, IsRefused};
+ghost use Rattle.rtgs_ledger.specs.Resolving.{AreGreatest, after_orders, moved_accounts, moved_rows};
+
+use super::Ledger;
+use crate::account::Account;
+use crate::accounts::Accounts;
+use rtgs_book::{Answer, Change, Command, Mark, Order, OrderState, Refusal, RowChange, Rows, laws};
+use rtgs_choices::laws::{chosen_numbers, rows_settle, taken_are_chosen};
+use rtgs_money::BusinessDate;
+use std::alloc::{AllocError, Global};
+
+impl Ledger {
+    /// The orders of the greatest choice are settled together, under one mark: a gridlock is resolved, as in Bech and
+    /// Soramäki 2001. Where nothing is chosen, nothing changes.
+    pub(super) fn prepare_resolve(&mut self) -> Result<(Answer, Change), Refusal>
+        ensures content { self.new.content ≡ self.old.content }
+        ensures prepared { IfOk result (λ (answer, change). IsPrepared self.new Command.Resolve answer change) }
+        ensures refused { IfErr result (IsRefused self.old.content Command.Resolve) }
+    {
+        laws::greatest_exists();
+        chosen_numbers();
+        taken_are_chosen();
+        let Some(date) = self.records.business_date() else {
+            return Err(Refusal::WrongPhase);
+        };
+        let Ok(orders) = self.chosen_orders() else {
+            return Err(Refusal::OutOfMemory);
+        };
+        if orders.is_empty() {
+            return Ok((Answer::Nothing, Rows::new(self.alloc)));
+        }
+        self.prepare_settlement(&orders, date)
+    }
+
+    // The orders are settled together, under one mark.
+    fn prepare_settlement(
+        &mut self,
+        orders: &[Order],
+        date: BusinessDate,
+    ) -> Result<(Answer, Change), Refusal>
+        requires chosen { AreGreatest self.old.content orders.now }
+        requires some { 1 ≤ length orders.now }
+        requires dated { self.old.content.day.date ≡ Some date }
+        ensures content { self.new.content ≡ self.old.content }
+        ensures prepared { IfOk result (λ (answer, change). IsPrepared self.new Command.Resolve answer change) }
+        ensures refused { IfErr result (λ refusal. refusal ≡ Refusal.OutOfMemory) }
+    {
+        laws::step_keeps_ranges();
+        chosen_numbers();
+        taken_are_chosen();
+        rows_settle();
+        let mark = self.records.mark_of(orders, date);
+        let mut rows = state_rows(self.alloc, orders, &mark)?;
+        let mark_row = vec![in self.alloc; RowChange::AddMark(mark)]?;
+        rows.extend_from_slice(&mark_row)?;
+        let balance_rows = self.balance_rows(orders)?;
+        rows.extend_from_slice(&balance_rows)?;
+        self.records.marks.reserve(1)?;
+        Ok((resolved(&mark), Rows::from_vec(rows)))
+    }
+
+    // The rows of the balances that the orders move, in code order.
+    fn balance_rows(&self, orders: &[Order]) -> Result<Vec<RowChange>, AllocError>
+        requires { length orders.now ≤ 50000 }
+        ensures { IfOk result (λ rows. rows.items ≡ moved_rows orders.now self.now.accounts) }
+    {
+        self.moved_accounts(orders)?
+            .iter()
+            .map(|account| RowChange::SetBalance {
+                code: account.participant.code,
+                balance: account.balance,
+            })
+            .collect(self.alloc)
+    }
+
+    // The accounts whose balances the orders move, with the new balances.
+    fn moved_accounts(&self, orders: &[Order]) -> Result<Vec<Account>, AllocError>
+        requires { length orders.now ≤ 50000 }
+        ensures { IfOk result (λ moved. moved.items ≡ moved_accounts orders.now self.now.accounts) }
+    {
+        let settled = self.accounts_after(orders)?;
+        let settled = settled.as_slice();
+        let mut moved = Vec::new(self.alloc);
+        for (index, account) in self.records.accounts.as_slice().iter().enumerate() {
+            if account.balance != settled[index].balance {
+                moved.push(settled[index])?;
+            }
+        }
+        Ok(moved)
+    }
+
+    // The accounts as the orders leave them.
+    fn accounts_after(&self, orders: &[Order]) -> Result<Accounts, AllocError>
+        requires { length orders.now ≤ 50000 }
+        ensures { IfOk result (λ settled. settled.accounts ≡ map (after_orders orders.now) self.now.accounts) }
+    {
+        laws::balances_are_small();
+        let mut settled = self.records.accounts.copy()?;
+        for order in orders {
+            settled.settle(order);
+        }
+        Ok(settled)
+    }
+}
+
+// The answer to a resolution that made this mark.
+fn resolved(mark: &Mark) -> Answer
+    ensures { result ≡ Answer.Resolved mark.now.number mark.now.count mark.now.value }
+{
+    Answer::Resolved {
+        mark: mark.number,
+        count: mark.count,
+        value: mark.value,
+    }
+}
+
+// The rows that settle these orders under the mark.
+fn state_rows(alloc: Global, orders: &[Order], mark: &Mark) -> Result<Vec<RowChange>, AllocError>
+    ensures { IfOk result (λ rows. rows.items ≡ map (λ (o : Order). RowChange.SetState o.number (OrderState.Settled mark.now.number)) orders.now) }
+{
+    let number = mark.number;
+    orders
+        .iter()
+        .map(|order| RowChange::SetState {
+            number: order.number,
+            state: OrderState::Settled(number),
+        })
+        .collect(alloc)
+}
