@@ -8,3 +8,5 @@ pub mod Changed
 pub mod Unique
 pub mod Blank
 pub mod Settling
+pub mod Querying
+pub mod Money

@@ -140,7 +140,7 @@ range_rises : (s len : ℕ) → IsAscending (λ m n. int_cmp (pos m) (pos n) ≡
 range_rises s zero = tt
 range_rises s (suc len) = (above s (s + 1) len (omega arith), range_rises (s + 1) len)
 
-numbered : {A : Type 0} (number : A → ℕ) (xs : List A) → map number xs ≡ range_with_len 1 (length (map number xs)) → IsAscending (λ a b. int_cmp (pos (number a)) (pos (number b)) ≡ Less) xs
+pub numbered : {A : Type 0} (number : A → ℕ) (xs : List A) → map number xs ≡ range_with_len 1 (length (map number xs)) → IsAscending (λ a b. int_cmp (pos (number a)) (pos (number b)) ≡ Less) xs
 numbered number xs is =
     ascending_from_map (λ m n. int_cmp (pos m) (pos n) ≡ Less) number xs (subst (IsAscending (λ m n. int_cmp (pos m) (pos n) ≡ Less)) (sym is) (range_rises 1 (length (map number xs))))
 

@@ -5,14 +5,18 @@ use Rattle.sqlite_trees.specs.declared.store.Store.{Ghosts}
 use Rattle.sqlite.specs.Tree.{Trees}
 use Rattle.sqlite.specs.Effect.{Database}
 use Rattle.sqlite.specs.Held.{Held, state}
-use Rattle.sqlite.specs.State.{State, HasCleanDisk, Survives, IsUnchanged}
+use Rattle.sqlite.specs.State.{State, Opens, IsLive, HasCleanDisk, Survives, IsUnchanged}
 use Rattle.rtgs_book.specs.declared.Book.{Book}
 use Rattle.rtgs_book.specs.declared.RowChange.{RowChange}
 use Rattle.rtgs_book.specs.Changes.{IsChange}
 use Rattle.rtgs_rows.specs.Content.{Content, tables_of, Holds, Rests, AreInOrder, with_changes}
 use Rattle.rtgs_rows.specs.Fitting.{FitsRow}
-use Rattle.rtgs_rows.specs.Keeping.{HoldsBook, MayLeave}
+use Rattle.rtgs_rows.specs.Keeping.{IsBookOf, HoldsBook, MayLeave, IsWhole}
+use Rattle.rtgs_rows.specs.Querying.{HasTables}
+use Rattle.rtgs_rows.specs.Tables.{desk_schema}
+use Rattle.rtgs_rows.proofs.Blank.{one_schema}
 use Rattle.rtgs_rows.proofs.Unique.{once}
+use Rattle.rtgs_rows.proofs.Querying.{file_of, book_is_whole}
 use Rattle.rtgs_rows.proofs.Changed.{in_order, changes}
 
 -- while the connection is open, the last commit is all that a stop leaves
@@ -24,6 +28,10 @@ settled g h alone book other holds left =
 
 pub stays : {S : Type 0} (g : Ghosts S) (h : Held S) → (IsTrue (g.view h.store).is_open → g.recovers h.store (g.view h.store).committed) → (book : Book) → HoldsBook g h book → MayLeave g h book
 stays g h there book holds = ((state g h).committed.trees, there holds.1.is_open, (holds.0, holds.1.holds, holds.2))
+
+-- what holds a book has the tables of a desk
+pub tabled : {S : Type 0} (g : Ghosts S) (h : Held S) (book : Book) → HoldsBook g h book → HasTables g h
+tabled g h book holds = (file_of holds.0 (state g h) holds.1, book_is_whole holds.0 (state g h).committed.trees book holds.1.holds holds.2)
 
 -- what a stop may leave where nothing was committed
 pub leaves_less : {S : Type 0} (g : Ghosts S) (old new : Held S) → Survives (state g old) (state g new) (λ _. ⊥) → HasCleanDisk (state g new) → (other : Book) → MayLeave g new other → MayLeave g old other
@@ -62,3 +70,41 @@ rests_same content old new rests same = record {
 
 pub same_book : {S : Type 0} (g : Ghosts S) (old mid new : Held S) → ((content : Content) → Rests content (state g old) → IsTrue (state g mid).is_open → Rests content (state g mid)) → IsUnchanged (state g mid) (state g new) → (book : Book) → HoldsBook g old book → HoldsBook g new book
 same_book g old mid new undone same book holds = (holds.0, rests_same holds.0 (state g mid) (state g new) (undone holds.0 holds.1 same.0.was_open) same, holds.2)
+
+-- ---- a stop leaves a book
+
+-- what holds a book leaves one
+pub whole : {S : Type 0} (g : Ghosts S) (h : Held S) → ((db : Trees) → IsTrue (g.view h.store).is_open → g.recovers h.store db → db ≡ (g.view h.store).committed) → (book : Book) → HoldsBook g h book → IsWhole g h
+whole g h alone book holds trees left =
+    (book, (holds.0, subst (Holds holds.0) (sym (alone trees holds.1.is_open left)) holds.1.holds, holds.2))
+
+-- where nothing was committed
+pub whole_still : {S : Type 0} (g : Ghosts S) (old new : Held S) → Survives (state g old) (state g new) (λ _. ⊥) → HasCleanDisk (state g new) → IsWhole g old → IsWhole g new
+whole_still g old new s clean was trees left = elim (s.crash clean trees left) [ inl old ↦ was trees old | inr none ↦ absurd none ]
+
+-- where a change was written
+pub whole_at : {S : Type 0} (g : Ghosts S) (old new : Held S) (rows : List RowChange) → Survives (state g old) (state g new) (Made g old rows) → HasCleanDisk (state g new) → IsWhole g old
+    → (before after : Book) → HoldsBook g old before → IsChange before rows after → AllByRecursion FitsRow rows → IsWhole g new
+whole_at g old new rows first clean was before after holds change forms trees left =
+    elim (first.crash clean trees left) [
+      | inl old ↦ was trees old
+      | inr made ↦ (after, (with_changes holds.0 rows, made holds.0 holds.1 (in_order before after rows holds.0 holds.2 change), changes before after rows holds.0 holds.2 change forms))
+    ]
+
+-- where a change was written, and the store was asked for no more
+pub whole_then : {S : Type 0} (g : Ghosts S) (old mid new : Held S) (rows : List RowChange) → Survives (state g old) (state g mid) (Made g old rows) → Survives (state g mid) (state g new) (λ _. ⊥) → HasCleanDisk (state g new) → IsWhole g old
+    → (before after : Book) → HoldsBook g old before → IsChange before rows after → AllByRecursion FitsRow rows → IsWhole g new
+whole_then g old mid new rows first second clean was before after holds change forms =
+    whole_still g mid new second clean (whole_at g old mid rows first (omega (arith, second.clean)) was before after holds change forms)
+
+-- a database is opened whose tables hold a book
+pub opened : {S : Type 0} (g : Ghosts S) (h : Held S) (book : Book) (content : Content) → Opens (state g h) → IsLive (state g h) → Holds content (state g h).committed.trees → IsBookOf book content → HoldsBook g h book
+opened g h book content opens live holds is =
+    let s = state g h in
+    let rests : Rests content s = record {
+      is_open = opens.is_open;
+      schema = one_schema s.committed.schema desk_schema s.committed.trees (live opens.is_open).1 holds.sound;
+      holds = holds;
+      clean = opens.clean;
+    } in
+    (content, rests, is)

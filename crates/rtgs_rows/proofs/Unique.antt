@@ -155,11 +155,12 @@ by_code_total = record {
   congr = λ x y z. nat_list_cmp_total.congr x.code y.code z.code;
 }
 
-sorted_from : (xs : List Participant) → IsAscending (λ a b. by_code a b ≡ Less) xs → IsSorted by_code xs
-sorted_from [] up k d p q = absurd (omega arith)
-sorted_from (x ∷ []) up k d p q = absurd (omega arith)
-sorted_from (x ∷ y ∷ ys) up zero d p q = ap is_lt (by_code_total.antisymm y x ∙ ap ordering_reverse up.0.0)
-sorted_from (x ∷ y ∷ ys) up (suc k) d p q = rw add-one (rw add-one at (sorted_from (y ∷ ys) up.1 k d (omega arith) (omega arith)))
+-- what rises is sorted
+pub sorted_from : {X : Type 0} (cmp : X → X → Ordering) → IsTotalOrder cmp → (xs : List X) → IsAscending (λ a b. cmp a b ≡ Less) xs → IsSorted cmp xs
+sorted_from cmp total [] up k d p q = absurd (omega arith)
+sorted_from cmp total (x ∷ []) up k d p q = absurd (omega arith)
+sorted_from cmp total (x ∷ y ∷ ys) up zero d p q = ap is_lt (total.antisymm y x ∙ ap ordering_reverse up.0.0)
+sorted_from cmp total (x ∷ y ∷ ys) up (suc k) d p q = rw add-one (rw add-one at (sorted_from cmp total (y ∷ ys) up.1 k d (omega arith) (omega arith)))
 
 strict_codes : (xs : List (List ℕ)) → IsStrictlySortedBy (slice_cmp nat_cmp) xs → IsAscending (λ a b. slice_cmp nat_cmp a b ≡ Less) xs
 unfolding IsStrictlySortedBy
@@ -172,7 +173,7 @@ rising b rise = ascending_from_map (λ (x y : List ℕ). slice_cmp nat_cmp x y �
 
 same_participants : (one other : Book) (ps : List Participant) → CodesRise one → CodesRise other → IsPermutation ps one.participants → IsPermutation ps other.participants → other.participants ≡ one.participants
 same_participants one other ps r s p q =
-    sorted_unique by_code by_code_total one.participants other.participants (rising one r) (IsPermutation-trans _ _ _ (IsPermutation-sym _ _ p) q) (sorted_from other.participants (rising other s))
+    sorted_unique by_code by_code_total one.participants other.participants (rising one r) (IsPermutation-trans _ _ _ (IsPermutation-sym _ _ p) q) (sorted_from by_code by_code_total other.participants (rising other s))
 
 -- ---- books
 

@@ -7,7 +7,9 @@ use Rattle.sqlite_trees.specs.declared.store.Store.{Ghosts}
 use Rattle.sqlite.specs.Tree.{Trees, IsAscending}
 use Rattle.sqlite.specs.Held.{Held, state}
 use Rattle.rtgs_book.specs.declared.Book.{Book}
+use Rattle.rtgs_book.specs.declared.Posting.{Posting}
 use Rattle.rtgs_book.specs.Balance.{balance}
+use Rattle.rtgs_book.specs.IntSum.{int_sum_by}
 use Rattle.rtgs_book.specs.Soundness.{IsSound}
 use Rattle.rtgs_rows.specs.Content.{Holding, Content, Holds, Rests}
 use Rattle.rtgs_rows.specs.Fitting.{Fits}
@@ -28,6 +30,10 @@ pub record IsBookOf (book : Book) (content : Content) : Type 0 where
   pub sound : IsSound book
   pub fits : Fits book
 
+-- the stored balances add up to the postings' cents
+abbrev pub AddsUp : Content → Type 0
+AddsUp content = int_sum_by (λ (h : Holding). h.balance) content.holdings ≡ int_sum_by (λ (p : Posting). p.cents) content.postings
+
 -- the tables of the connection hold the book
 abbrev pub HoldsBook : {S : Type 0} → Ghosts S → Held S → Book → Type 0
 HoldsBook g h book = (content : Content) × Rests content (state g h) × IsBookOf book content
@@ -35,3 +41,7 @@ HoldsBook g h book = (content : Content) × Rests content (state g h) × IsBookO
 -- a stop may leave tables that hold the book
 abbrev pub MayLeave : {S : Type 0} → Ghosts S → Held S → Book → Type 0
 MayLeave g h book = (trees : Trees) × (state g h).may_leave trees × ((content : Content) × Holds content trees × IsBookOf book content)
+
+-- whatever tables a stop leaves hold a book
+abbrev pub IsWhole : {S : Type 0} → Ghosts S → Held S → Type 0
+IsWhole g h = (trees : Trees) → (state g h).may_leave trees → (book : Book) × ((content : Content) × Holds content trees × IsBookOf book content)

@@ -3,3 +3,4 @@ pub mod Rows
 pub mod Content
 pub mod Fitting
 pub mod Keeping
+pub mod Querying

@@ -1,16 +1,24 @@
 //! Laws of the definitions. Each function does nothing: its contract is the law.
-ghost use Rattle.std.specs.Prelude.{◌≡◌, List};
+ghost use Rattle.std.specs.Prelude.{◌≡◌, ℤ, List};
 ghost use Rattle.std.specs.List.{AllByRecursion};
 ghost use Rattle.rtgs_book.specs.declared.Book.{Book};
 ghost use Rattle.rtgs_book.specs.declared.RowChange.{RowChange};
 ghost use Rattle.sqlite.specs.Schema.{Schema};
 ghost use Rattle.sqlite.specs.Tree.{Trees};
+ghost use Rattle.sqlite.specs.Held.{state};
 ghost use Rattle.sqlite_catalog.specs.Listing.{IsSound};
 ghost use Rattle.rtgs_rows.specs.Content.{Content, HasNoTables, Holds, AreInOrder, with_changes, tables_for};
 ghost use Rattle.rtgs_book.specs.Changes.{IsChange};
-ghost use Rattle.rtgs_rows.specs.Fitting.{FitsRow};
-ghost use Rattle.rtgs_rows.specs.Keeping.{IsBookOf};
-ghost use Rattle.rtgs_rows.specs.Tables.{no_schema};
+ghost use Rattle.rtgs_rows.specs.Keeping.{IsBookOf, IsWhole, AddsUp};
+ghost use Rattle.rtgs_rows.specs.Tables.{no_schema, desk_schema};
+ghost use Rattle.rtgs_rows.specs.Querying.{AreWhole, ShowsBook};
+ghost use Rattle.rtgs_rows.specs.Fitting.{Fits, FitsRow};
+ghost use Rattle.rtgs_book.specs.declared.Participant.{Participant};
+ghost use Rattle.rtgs_book.specs.Balance.{balance};
+ghost use Rattle.rtgs_book.specs.Soundness.{IsSound as IsSoundBook};
+
+use rtgs_book::laws::total_is_issued;
+use sqlite::{Alter, Connection};
 
 /// While a change is made row by row, no key comes twice and each new number is the greatest.
 pub fn changes_stand_in_order()
@@ -32,7 +40,38 @@ pub fn no_tables_are_read_as_none()
     ensures { (schema : Schema) (trees : Trees) → HasNoTables trees → IsSound schema trees → schema ≡ no_schema }
 {}
 
+/// A database of the five tables is read with their schema, whenever it is opened.
+pub fn tables_of_a_desk_are_read_as_such()
+    ensures { (schema : Schema) (trees : Trees) → IsSound desk_schema trees → IsSound schema trees → schema ≡ desk_schema }
+{}
+
 /// A database that has no tables holds no book.
 pub fn no_tables_hold_no_book()
     ensures { (trees : Trees) (content : Content) → HasNoTables trees → Holds content trees → ⊥ }
 {}
+
+/// Where the queries show the records of a sound book, with its balances stored, the tables hold that book.
+pub fn shown_records_are_held()
+    ensures { (trees : Trees) (book : Book) (entries : List (Participant × ℤ)) → IsSound desk_schema trees → AreWhole trees → IsSoundBook book → Fits book → ShowsBook trees book entries
+        → AllByRecursion (λ (entry : Participant × ℤ). entry.1 ≡ balance book entry.0.code) entries → (content : Content) × Holds content trees × IsBookOf book content }
+{}
+
+/// Tables that hold a book are whole: each row has a value in each column, and the rows stand in the order of their numbers.
+pub fn tables_of_a_book_are_whole()
+    ensures { (trees : Trees) (book : Book) (content : Content) → Holds content trees → IsBookOf book content → AreWhole trees }
+{}
+
+/// In tables that hold a book the stored balances add up to the postings' cents: money is what was posted.
+pub fn stored_balances_are_the_postings()
+    ensures { (book : Book) (content : Content) → IsBookOf book content → AddsUp content }
+{
+    total_is_issued();
+}
+
+/// Where a stop leaves tables that hold a book, whichever it is, their stored balances add up to their postings' cents.
+pub fn what_a_stop_leaves_adds_up<S: Alter>(conn: &Connection<S>)
+    ensures some { IsWhole S.Store conn.now → (trees : Trees) → (state S.Store conn.now).may_leave trees → (content : Content) × Holds content trees × AddsUp content }
+    ensures all { IsWhole S.Store conn.now → (trees : Trees) → (state S.Store conn.now).may_leave trees → (content : Content) → Holds content trees → AddsUp content }
+{
+    stored_balances_are_the_postings();
+}

@@ -4,6 +4,9 @@ use Rattle.std.specs.List.{AllByRecursion}
 use Rattle.std.proofs.lemmas.List.Sorted.{IsPermutation-map}
 use Rattle.std.specs.declared.cmp.Ordering.TheVariants.{Less}
 use Rattle.sqlite.specs.State.{State}
+use Rattle.sqlite.specs.Tree.{Trees}
+use Rattle.rtgs_rows.specs.Querying.{IsDeskFile}
+use Rattle.rtgs_rows.proofs.Querying.{file_of, rests_of}
 use Rattle.sqlite_keyed.proofs.ListLemmas.{ascending-map, map_back}
 use Rattle.rtgs_book.specs.declared.Book.{Book}
 use Rattle.rtgs_book.specs.Balance.{balance}
@@ -53,6 +56,6 @@ balances_of book (p ∷ ps) = (refl, balances_of book ps)
 pub own_balances : (book : Book) → AreBalances book (accounts_of book)
 own_balances book = balances_of book book.participants
 
--- the tables keep their records where they keep their content
-pub kept_on : (accounts : List Account) (book : Book) (old new : State) → ((content : Content) → Rests content old → Rests content new) → HasRecords accounts book old → HasRecords accounts book new
-kept_on accounts book old new kept held = (held.0, kept held.0 held.1, held.2)
+-- the tables keep their records where they keep their rows
+pub kept_on : (accounts : List Account) (book : Book) (old new : State) → ((trees : Trees) → IsDeskFile trees old → IsDeskFile trees new) → HasRecords accounts book old → HasRecords accounts book new
+kept_on accounts book old new kept held = (held.0, rests_of held.0 new old.committed.trees (kept old.committed.trees (file_of held.0 old held.1)) held.1.holds, held.2)

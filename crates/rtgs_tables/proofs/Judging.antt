@@ -56,6 +56,13 @@ same_fault met fault kind (Err told_fault) was told e =
     let is : told_fault ≡ kind = cc in
     was ∙ ap Err (sym told ∙ is)
 
+-- and answers that fault
+pub answered : {A B : Type 0} (met : Result A Fault) (fault kind : Fault) (answer : Result B Fault) → met ≡ Err fault → IsErrAnd answer (λ told. told ≡ fault) → met ≡ Err kind → answer ≡ Err kind
+answered met fault kind (Ok b) was told e = absurd told
+answered met fault kind (Err told_fault) was told e =
+    let is : fault ≡ kind = cc in
+    ap Err (told ∙ is)
+
 -- what was read was judged
 pub judged_book : (stored accounts : List Account) (read book : Book) (answer : Result Book Fault) → read ≡ book → stored ≡ accounts → IfOk answer (λ it. it ≡ read) → OnOk answer (AreBalances read stored) → IfOk answer (λ it. (it ≡ book) × AreBalances book accounts)
 judged_book stored accounts read book (Ok it) same alike given agree = (given ∙ same, subst₂ (λ b a. AreBalances b a) same alike agree)

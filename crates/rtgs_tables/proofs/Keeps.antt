@@ -1,10 +1,14 @@
 -- What a statement inside a transaction leaves committed.
-use Rattle.std.proofs.Common.{◌≡◌, ◌⊎◌, inl, inr, ℕ, List, false, Ok, Err, Result, IsTrue, ap, subst, ◌∙◌}
+use Rattle.std.proofs.Common.{◌≡◌, ◌≢◌, ◌⊎◌, inl, inr, ℕ, List, false, Ok, Err, Result, IsTrue, ap, subst, ◌∙◌}
 use Rattle.std.proofs.lemmas.Bool.{cases_Bool}
 use Rattle.sqlite.specs.Order.{Row}
 use Rattle.sqlite.proofs.StateLemmas.{survives_then}
-use Rattle.rtgs_rows.specs.Content.{Content, Rests}
-use Rattle.sqlite.specs.State.{State, HasCleanDisk, KeepsCommit, Survives, IsUnchanged, IsRolledBack, ExecutesInside}
+use Rattle.sqlite.specs.Tree.{Trees}
+use Rattle.rtgs_book.specs.declared.Fault.{Fault}
+use Rattle.rtgs_book.specs.declared.Fault.TheVariants.{OutOfMemory, StoreFault, NotADeskFile, Inconsistent}
+use Rattle.rtgs_rows.specs.Querying.{IsDeskFile}
+use Rattle.rtgs_tables.proofs.Showing.{file_on}
+use Rattle.sqlite.specs.State.{State, KeepsCommit, Survives, IsUnchanged, IsRolledBack, ExecutesInside}
 use Rattle.sqlite.specs.declared.error.Error.{Error}
 use Rattle.sqlite_trees.specs.declared.store.Store.{Ghosts}
 use Rattle.sqlite.specs.Held.{Held, state}
@@ -36,11 +40,18 @@ survives_on a b c = survives_then a b c (λ _. ⊥) (λ _. ⊥) (λ _. ⊥) (λ 
 pub keeps_on : (a b c : State) → KeepsCommit a b → KeepsCommit b c → KeepsCommit a c
 keeps_on a b c one two = record { was_open = λ is. one.was_open (two.was_open is); committed = λ is. two.committed is ∙ one.committed (two.was_open is) }
 
--- nothing is committed, where the tables are those of a desk
-abbrev pub Quiet : State → State → Type 0
-Quiet old new = Survives old new (λ _. (content : Content) → Rests content old → ⊥)
+-- ---- after a query that failed
 
-pub quiet_on : (a b c : State) → (HasCleanDisk c → (content : Content) → Rests content a → Rests content b) → Quiet a b → Quiet b c → Quiet a c
-quiet_on a b c kept one two =
-    survives_then a b c (λ _. (content : Content) → Rests content a → ⊥) (λ _. (content : Content) → Rests content b → ⊥) (λ _. (content : Content) → Rests content a → ⊥)
-    (λ _ db q. q) (λ clean db q content rests. q content (kept clean content rests)) one two
+pub not_foreign : {A : Type 0} (fault : Fault) → (fault ≡ OutOfMemory) ⊎ (fault ≡ StoreFault) → ◌≢◌ {A = Result A Fault} (Err fault) (Err NotADeskFile)
+not_foreign OutOfMemory why e = absurd cc
+not_foreign StoreFault why e = absurd cc
+not_foreign NotADeskFile (inl m) e = absurd cc
+not_foreign NotADeskFile (inr m) e = absurd cc
+not_foreign (Inconsistent rule) (inl m) e = absurd cc
+not_foreign (Inconsistent rule) (inr m) e = absurd cc
+
+-- memory was refused, and the connection is seen to be open still
+pub file_after : {A : Type 0} (trees : Trees) (mid new : State) (fault : Fault) → (IsTrue mid.is_open → IsDeskFile trees mid) → (fault ≡ OutOfMemory) ⊎ (fault ≡ StoreFault) → (fault ≡ OutOfMemory → IsUnchanged mid new)
+    → ◌≢◌ {A = Result A Fault} (Err fault) (Err StoreFault) → IsDeskFile trees new
+file_after trees mid new fault file (inl memory) same other = let on = same memory in file_on trees mid new (file on.0.was_open) (inl on) on.0.is_open
+file_after trees mid new fault file (inr failed) same other = absurd (other (ap Err failed))

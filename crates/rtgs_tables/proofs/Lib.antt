@@ -26,3 +26,8 @@ pub mod CodeOrder
 pub mod OrderNumbers
 pub mod Credits
 pub mod Making
+pub mod RowColumns
+pub mod AboveZero
+pub mod Told
+pub mod ReadingAlone
+pub mod Together

@@ -8,14 +8,15 @@ use Rattle.sqlite_trees.specs.declared.store.Store.{Ghosts}
 use Rattle.sqlite.specs.Effect.{Database}
 use Rattle.sqlite.specs.Tree.{Trees}
 use Rattle.sqlite.specs.Held.{Held, state}
-use Rattle.sqlite.specs.State.{State, HasCleanDisk, Survives, IsUnchanged}
+use Rattle.sqlite.specs.State.{State, Opens, IsLive, HasCleanDisk, Survives, IsUnchanged}
 use Rattle.rtgs_book.specs.declared.Book.{Book}
 use Rattle.rtgs_book.specs.Lookup.{accounts}
 use Rattle.rtgs_book.specs.Balance.{total}
 use Rattle.rtgs_book.specs.Soundness.{IsSound}
 use Rattle.rtgs_rows.specs.Content.{HasNoTables, Holds, Rests}
 use Rattle.rtgs_rows.specs.Keeping.{IsBookOf, HoldsBook, MayLeave}
-use Rattle.rtgs_rows.proofs.Blank.{no_book}
+use Rattle.rtgs_rows.specs.Tables.{no_schema}
+use Rattle.rtgs_rows.proofs.Blank.{one_schema, no_book}
 use Rattle.rtgs_rows.proofs.Unique.{once}
 use Rattle.rtgs_tables.specs.Building.{IsBlank, IsNoneOrNew, first_content, new_book}
 
@@ -63,3 +64,11 @@ only_new g h all other left = elim (all left.0 left.1) [
 
 pub still_blank : (old new : State) → IsBlank old → IsUnchanged old new → IsBlank new
 still_blank old new blank same = record { is_open = same.0.is_open; schema = ap (λ (d : Database). d.schema) same.0.committed_is ∙ blank.schema; clean = same.0.now_is ∙ blank.clean ∙ sym same.0.committed_is }
+
+-- a database is opened that has no tables
+pub opened_blank : (s : State) → Opens s → IsLive s → HasNoTables s.committed.trees → IsBlank s
+opened_blank s opens live none = record {
+  is_open = opens.is_open;
+  schema = one_schema s.committed.schema no_schema s.committed.trees (live opens.is_open).1 none;
+  clean = opens.clean;
+}

@@ -13,7 +13,7 @@ use Rattle.sqlite.specs.Query.{Query, output, Output}
 use Rattle.sqlite_sql.specs.Query.{output_cmp}
 use Rattle.sqlite_tied.specs.Compute.{everything}
 use Rattle.sqlite.specs.Listing.{understood}
-use Rattle.sqlite.specs.Tree.{IsAscending}
+use Rattle.sqlite.specs.Tree.{Trees, IsAscending}
 use Rattle.sqlite.specs.Effect.{Database}
 use Rattle.sqlite.specs.State.{State, Shown}
 use Rattle.sqlite_keyed.proofs.ListLemmas.{ascending-map, ascending_weaker, map-map, map_same}
@@ -27,6 +27,8 @@ use Rattle.rtgs_rows.specs.Rows.{day_row, posting_row, payment_row, mark_row, sh
 use Rattle.rtgs_rows.specs.Content.{Tables, Holding, Content, holding_row, Rests}
 use Rattle.rtgs_tables.specs.declared.account.Account.{Account}
 use Rattle.rtgs_tables.specs.Accounts.{stored_account, AreRead}
+use Rattle.rtgs_rows.specs.Querying.{IsDeskFile}
+use Rattle.rtgs_rows.proofs.Querying.{file_of}
 use Rattle.rtgs_tables.proofs.Queries.{simple}
 use Rattle.rtgs_tables.proofs.Showing.{Selects, first_up, numbered, shown_are}
 
@@ -115,27 +117,27 @@ postings_shown old new content accounts book rests are =
     let here : old.now.trees 4 ≡ map posting_row content.postings = ap (λ (d : Database). d.trees 4) rests.clean ∙ ap (λ (t : Tables). t.postings) rests.holds.rows in
     let up = are.order.postings in
     subst (λ all. (r : Result (Vec Row Global) Error) → IfOk r (λ rows. Shown postings_text [] old new rows.items) → IfOk r (λ rows. rows.items ≡ map shown_posting all)) are.postings
-    (numbered posting_row shown_posting (λ (a : Posting). pos a.number) postings_text 4 postings_project postings_order postings_names postings_selects (λ a b low. then-Equal _ ∙ value_cmp-Int (pos a.number) (pos b.number) ∙ low) (λ a. refl) old new content rests content.postings up here)
+    (numbered posting_row shown_posting (λ (a : Posting). pos a.number) postings_text 4 postings_project postings_order postings_names postings_selects (λ a b low. then-Equal _ ∙ value_cmp-Int (pos a.number) (pos b.number) ∙ low) (λ a. refl) old new old.committed.trees (file_of content old rests) content.postings up here)
 
 pub payments_shown : (old new : State) (content : Content) (accounts : List Account) (book : Book) → Rests content old → AreRead content accounts book → (r : Result (Vec Row Global) Error) → IfOk r (λ rows. Shown payments_text [] old new rows.items) → IfOk r (λ rows. rows.items ≡ map shown_order book.orders)
 payments_shown old new content accounts book rests are =
     let here : old.now.trees 6 ≡ map payment_row content.orders = ap (λ (d : Database). d.trees 6) rests.clean ∙ ap (λ (t : Tables). t.payments) rests.holds.rows in
     let up = are.order.orders in
     subst (λ all. (r : Result (Vec Row Global) Error) → IfOk r (λ rows. Shown payments_text [] old new rows.items) → IfOk r (λ rows. rows.items ≡ map shown_order all)) are.orders
-    (numbered payment_row shown_order (λ (a : Order). pos a.number) payments_text 6 payments_project payments_order payments_names payments_selects (λ a b low. then-Equal _ ∙ value_cmp-Int (pos a.number) (pos b.number) ∙ low) (λ a. refl) old new content rests content.orders up here)
+    (numbered payment_row shown_order (λ (a : Order). pos a.number) payments_text 6 payments_project payments_order payments_names payments_selects (λ a b low. then-Equal _ ∙ value_cmp-Int (pos a.number) (pos b.number) ∙ low) (λ a. refl) old new old.committed.trees (file_of content old rests) content.orders up here)
 
 pub marks_shown : (old new : State) (content : Content) (accounts : List Account) (book : Book) → Rests content old → AreRead content accounts book → (r : Result (Vec Row Global) Error) → IfOk r (λ rows. Shown marks_text [] old new rows.items) → IfOk r (λ rows. rows.items ≡ map shown_mark book.marks)
 marks_shown old new content accounts book rests are =
     let here : old.now.trees 8 ≡ map mark_row content.marks = ap (λ (d : Database). d.trees 8) rests.clean ∙ ap (λ (t : Tables). t.marks) rests.holds.rows in
     let up = are.order.marks in
     subst (λ all. (r : Result (Vec Row Global) Error) → IfOk r (λ rows. Shown marks_text [] old new rows.items) → IfOk r (λ rows. rows.items ≡ map shown_mark all)) are.marks
-    (numbered mark_row shown_mark (λ (a : Mark). pos a.number) marks_text 8 marks_project marks_order marks_names marks_selects (λ a b low. then-Equal _ ∙ value_cmp-Int (pos a.number) (pos b.number) ∙ low) (λ a. refl) old new content rests content.marks up here)
+    (numbered mark_row shown_mark (λ (a : Mark). pos a.number) marks_text 8 marks_project marks_order marks_names marks_selects (λ a b low. then-Equal _ ∙ value_cmp-Int (pos a.number) (pos b.number) ∙ low) (λ a. refl) old new old.committed.trees (file_of content old rests) content.marks up here)
 
 pub desk_shown : (old new : State) (content : Content) (accounts : List Account) (book : Book) → Rests content old → AreRead content accounts book → (r : Result (Vec Row Global) Error) → IfOk r (λ rows. Shown desk_text [] old new rows.items) → IfOk r (λ rows. rows.items ≡ shown_day book.day ∷ [])
 desk_shown old new content accounts book rests are =
     let here : old.now.trees 0 ≡ map day_row (content.day ∷ []) = ap (λ (d : Database). d.trees 0) rests.clean ∙ ap (λ (t : Tables). t.desk) rests.holds.rows in
     subst (λ (day : Day). (r : Result (Vec Row Global) Error) → IfOk r (λ rows. Shown desk_text [] old new rows.items) → IfOk r (λ rows. rows.items ≡ shown_day day ∷ [])) are.day
-    (numbered day_row shown_day (λ (a : Day). pos 1) desk_text 0 desk_project desk_order desk_names desk_selects (λ a b low. then-Equal _ ∙ value_cmp-Int (pos 1) (pos 1) ∙ low) (λ a. refl) old new content rests (content.day ∷ []) (tt, tt) here)
+    (numbered day_row shown_day (λ (a : Day). pos 1) desk_text 0 desk_project desk_order desk_names desk_selects (λ a b low. then-Equal _ ∙ value_cmp-Int (pos 1) (pos 1) ∙ low) (λ a. refl) old new old.committed.trees (file_of content old rests) (content.day ∷ []) (tt, tt) here)
 
 -- ---- the participants, in the order of their codes
 
@@ -160,5 +162,9 @@ participants_shown old new content accounts book rests are (Ok rows) h =
     ascending-map (λ (a b : Output). output_cmp participants_query a b ≡ Less) outs accounts (ascending_weaker _ _ (λ a b low. then-Equal _ ∙ value_cmp-Text a.participant.code b.participant.code ∙ low) accounts are.rising) in
     let same : IsPermutation (map outs accounts) (map (λ r. output participants_query ([] ∷ r ∷ [])) (map holding_row content.holdings)) =
     subst (λ l. IsPermutation (map outs accounts) l) (sym (stored_outputs content.holdings)) (IsPermutation-map outs _ _ (IsPermutation-sym _ _ are.stored)) in
-    shown_are participants_text 1 participants_project participants_order participants_names participants_selects old new content rests (map holding_row content.holdings) here (map outs accounts) up same rows.items h
+    shown_are participants_text 1 participants_project participants_order participants_names participants_selects old new old.committed.trees (file_of content old rests) (map holding_row content.holdings) here (map outs accounts) up same rows.items h
     ∙ map-map (λ (o : Output). o.1) outs accounts ∙ map_same (λ (a : Account). (outs a).1) shown (λ a. refl) accounts
+
+-- no tree of a query stands in place of one that is stored
+pub stored_here : (trees : Trees) (old : State) (tree : ℕ) → IsDeskFile trees old → old.now.trees tree ≡ trees tree
+stored_here trees old tree file = ap (λ (d : Database). d.trees tree) file.clean ∙ ap (λ (all : Trees). all tree) file.trees_are

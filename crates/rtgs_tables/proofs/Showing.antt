@@ -18,27 +18,27 @@ use Rattle.sqlite_keyed.proofs.ListLemmas.{ascending-map, ascending_weaker, map-
 use Rattle.std.specs.Ordering.{int_cmp}
 use Rattle.sqlite.specs.Tree.{Trees, IsAscending}
 use Rattle.sqlite.specs.Effect.{Database}
-use Rattle.sqlite.specs.State.{State, Shown, FailsToQuery, IsUnchanged, IsRolledBack, CommitsShowing}
-use Rattle.sqlite.proofs.Callers.{reads_as, never_commits, IsPlain}
+use Rattle.sqlite.specs.State.{State, Shown, FailsToQuery, IsUnchanged, IsRolledBack}
+use Rattle.sqlite.proofs.Callers.{reads_as, IsPlain}
 use Rattle.sqlite.specs.Listing.{understood, reads_listing}
 use Rattle.rtgs_rows.specs.Tables.{desk_schema}
-use Rattle.rtgs_rows.specs.Content.{Content, Holds, Rests}
+use Rattle.rtgs_rows.specs.Querying.{IsDeskFile}
 use Rattle.rtgs_tables.specs.Faults.{IsOfStore}
 use Rattle.rtgs_tables.proofs.Refusals.{Asks, of_store, intact}
-use Rattle.rtgs_tables.proofs.Queries.{simple, passes, shows, sorts}
+use Rattle.rtgs_tables.proofs.Queries.{simple, passes, shows, sorts, moved}
 
--- the content is kept, where the connection stays open
-pub rests_on : (content : Content) (old new : State) → Rests content old → IsUnchanged old new ⊎ IsRolledBack old new → IsTrue new.is_open → Rests content new
-rests_on content old new rests (inl same) alive = record {
+-- the tables are kept, where the connection stays open
+pub file_on : (trees : Trees) (old new : State) → IsDeskFile trees old → IsUnchanged old new ⊎ IsRolledBack old new → IsTrue new.is_open → IsDeskFile trees new
+file_on trees old new file (inl same) alive = record {
   is_open = alive;
-  schema = ap (λ (d : Database). d.schema) same.0.committed_is ∙ rests.schema;
-  holds = subst (λ (d : Database). Holds content d.trees) (sym same.0.committed_is) rests.holds;
-  clean = same.0.now_is ∙ rests.clean ∙ sym same.0.committed_is;
+  schema = ap (λ (d : Database). d.schema) same.0.committed_is ∙ file.schema;
+  trees_are = ap (λ (d : Database). d.trees) same.0.committed_is ∙ file.trees_are;
+  clean = same.0.now_is ∙ file.clean ∙ sym same.0.committed_is;
 }
-rests_on content old new rests (inr back) alive = record {
+file_on trees old new file (inr back) alive = record {
   is_open = alive;
-  schema = ap (λ (d : Database). d.schema) (back.undone alive).1 ∙ rests.schema;
-  holds = subst (λ (d : Database). Holds content d.trees) (sym (back.undone alive).1) rests.holds;
+  schema = ap (λ (d : Database). d.schema) (back.undone alive).1 ∙ file.schema;
+  trees_are = ap (λ (d : Database). d.trees) (back.undone alive).1 ∙ file.trees_are;
   clean = (back.undone alive).0 ∙ sym (back.undone alive).1;
 }
 
@@ -54,12 +54,12 @@ all_pass : (rows : List Row) → filter (passes [] []) rows ≡ rows
 all_pass [] = refl
 all_pass (r ∷ rows) = ap (λ more. r ∷ more) (all_pass rows)
 
-module _ (text : List ℕ) (tree : ℕ) (project : List Term) (order : Term × Key) (names : List (List ℕ)) (is : Selects text tree project order names) (old new : State) (content : Content) (rests : Rests content old) where
+module _ (text : List ℕ) (tree : ℕ) (project : List Term) (order : Term × Key) (names : List (List ℕ)) (is : Selects text tree project order names) (old new : State) (trees : Trees) (file : IsDeskFile trees old) where
   abbrev query : Query
   query = simple tree [] project (order ∷ [])
 
   schema_is : old.now.schema ≡ desk_schema
-  schema_is = ap (λ (d : Database). d.schema) rests.clean ∙ rests.schema
+  schema_is = ap (λ (d : Database). d.schema) file.clean ∙ file.schema
 
   asked : Asks old.now.schema text 0 (record { lets = []; body = query }) names
   asked = subst (λ k. Asks k text 0 (record { lets = []; body = simple tree [] project (order ∷ []) }) names) (sym schema_is) is.asks
@@ -74,20 +74,24 @@ module _ (text : List ℕ) (tree : ℕ) (project : List Term) (order : Term × K
       let it = rw bare.0 at h.2 in
       it.3
 
-  pub nothing_commits : (db : Trees) → ¬ CommitsShowing text [] old db
-  nothing_commits db = never_commits text [] old db plain
-
   pub refused : (r : Result (Vec Row Global) Error) → IfErr r (FailsToQuery text [] old new) → IfErr r IsOfStore
   refused (Ok rows) h = tt
   refused (Err e) h = of_store text [] old new _ names asked e h
 
-  pub intact_after : (r : Result (Vec Row Global) Error) → IfOk r (λ rows. Shown text [] old new rows.items) → IfErr r (FailsToQuery text [] old new) → IsTrue new.is_open → Rests content new
-  intact_after (Ok rows) shown failed alive = rests_on content old new rests (inl (unchanged rows.items shown)) alive
-  intact_after (Err e) shown failed alive = rests_on content old new rests (intact text [] old new _ names asked e failed) alive
+  pub intact_after : (r : Result (Vec Row Global) Error) → IfOk r (λ rows. Shown text [] old new rows.items) → IfErr r (FailsToQuery text [] old new) → IsTrue new.is_open → IsDeskFile trees new
+  intact_after (Ok rows) shown failed alive = file_on trees old new file (inl (unchanged rows.items shown)) alive
+  intact_after (Err e) shown failed alive = file_on trees old new file (intact text [] old new _ names asked e failed) alive
 
-  pub kept_after : (r : Result (Vec Row Global) Error) → IfOk r (λ rows. Shown text [] old new rows.items) → OnOk r (Rests content new)
-  kept_after (Ok rows) shown = let same = unchanged rows.items shown in rests_on content old new rests (inl same) same.0.is_open
+  pub kept_after : (r : Result (Vec Row Global) Error) → IfOk r (λ rows. Shown text [] old new rows.items) → OnOk r (IsDeskFile trees new)
+  kept_after (Ok rows) shown = let same = unchanged rows.items shown in file_on trees old new file (inl same) same.0.is_open
   kept_after (Err e) shown = tt
+
+  -- it shows the columns that it names, of each row of the table
+  pub shows_all : (r : Result (Vec Row Global) Error) → overlay old.now.trees [] tree ≡ trees tree → IfOk r (λ rows. Shown text [] old new rows.items) → IfOk r (λ rows. IsPermutation (map (shows project []) (trees tree)) rows.items)
+  shows_all (Err e) here h = tt
+  shows_all (Ok rows) here h =
+      let read = reads_as text [] old new desk_schema schema_is _ is.asks.command is.asks.plain is.unlisted rows.items h in
+      subst (λ all. IsPermutation (map (shows project []) all) rows.items) (all_pass _ ∙ here) (moved query [] _ rows.items (sorts tree [] project (order ∷ []) _ [] rows.items (read.answer Null)))
 
   -- of the rows of the table the query shows these, which rise by what it sorts by
   pub shown_are : (stored : List Row) → overlay old.now.trees [] tree ≡ stored → (goals : List Output) → IsAscending (λ a b. output_cmp query a b ≡ Less) goals → IsPermutation goals (map (λ r. output query ([] ∷ r ∷ [])) stored)
@@ -103,13 +107,13 @@ module _ (text : List ℕ) (tree : ℕ) (project : List Term) (order : Term × K
 pub numbered : {A : Type 0} (row shown : A → Row) (id : A → ℤ) (text : List ℕ) (tree : ℕ) (project : List Term) (order : Term × Key) (names : List (List ℕ)) (is : Selects text tree project order names)
     → ((a b : A) → int_cmp (id a) (id b) ≡ Less → output_cmp (simple tree [] project (order ∷ [])) (output (simple tree [] project (order ∷ [])) ([] ∷ row a ∷ [])) (output (simple tree [] project (order ∷ [])) ([] ∷ row b ∷ [])) ≡ Less)
     → ((a : A) → (output (simple tree [] project (order ∷ [])) ([] ∷ row a ∷ [])).1 ≡ shown a)
-    → (old new : State) (content : Content) (rests : Rests content old) (all : List A) → IsAscending (λ a b. int_cmp (id a) (id b) ≡ Less) all → overlay old.now.trees [] tree ≡ map row all
+    → (old new : State) (trees : Trees) (file : IsDeskFile trees old) (all : List A) → IsAscending (λ a b. int_cmp (id a) (id b) ≡ Less) all → overlay old.now.trees [] tree ≡ map row all
     → (r : Result (Vec Row Global) Error) → IfOk r (λ rows. Shown text [] old new rows.items) → IfOk r (λ rows. rows.items ≡ map shown all)
-numbered row shown id text tree project order names is by shows old new content rests all up here (Err e) h = tt
-numbered {A = A} row shown id text tree project order names is by shows old new content rests all up here (Ok rows) h =
+numbered row shown id text tree project order names is by shows old new trees file all up here (Err e) h = tt
+numbered {A = A} row shown id text tree project order names is by shows old new trees file all up here (Ok rows) h =
     let q : Query = simple tree [] project (order ∷ []) in
     let out = λ (a : A). output q ([] ∷ row a ∷ []) in
-    shown_are text tree project order names is old new content rests (map row all) here (map out all)
+    shown_are text tree project order names is old new trees file (map row all) here (map out all)
     (ascending-map (λ (a b : Output). output_cmp q a b ≡ Less) out all (ascending_weaker _ _ by all up))
     (IsPermutation-same _ _ (sym (map-map (λ (r : Row). output q ([] ∷ r ∷ [])) row all)))
     rows.items h

@@ -5,7 +5,7 @@ use Rattle.std.specs.BTreeMap.{BTreeMap, get}
 use Rattle.std.specs.Ordering.{nat_cmp, int_eq}
 use Rattle.std.specs.declared.cmp.Ordering.TheVariants.{Less}
 use Rattle.std.specs.Cmp.Lexicographic.{slice_cmp}
-use Rattle.sqlite.specs.Tree.{IsAscending}
+use Rattle.sqlite.specs.Tree.{Trees, IsAscending}
 use Rattle.sqlite.specs.State.{State}
 use Rattle.rtgs_book.specs.declared.Book.{Book}
 use Rattle.rtgs_book.specs.declared.Participant.{Participant}
@@ -17,6 +17,8 @@ use Rattle.rtgs_book.specs.Balance.{balance}
 use Rattle.rtgs_book.specs.Judgement.{Keeps, KeepsBefore}
 use Rattle.rtgs_rows.specs.Content.{Holding, Content, IsInOrder, Rests}
 use Rattle.rtgs_rows.specs.Fitting.{Fits}
+use Rattle.rtgs_rows.specs.Querying.{ShowsBook}
+use Rattle.rtgs_tables.specs.Numbers.{IsNumberedBook}
 use Rattle.rtgs_tables.specs.declared.account.Account.{Account}
 
 abbrev pub account_of : Book → Participant → Account
@@ -40,6 +42,15 @@ pub record AreRead (content : Content) (accounts : List Account) (book : Book) :
   pub orders : content.orders ≡ book.orders
   pub marks : content.marks ≡ book.marks
   pub fits : Fits book
+
+-- an account as an entry of the tables
+abbrev pub entry_of : Account → Participant × ℤ
+entry_of a = (a.participant, a.balance)
+
+-- What is read of trees, each value in its form and range: the queries show just these records, where each number is above zero.
+pub record AreReadOf (trees : Trees) (accounts : List Account) (book : Book) : Type 0 where
+  pub fits : Fits book
+  pub shows : IsNumberedBook book → ShowsBook trees book (map entry_of accounts)
 
 -- the tables at rest have these records
 abbrev pub HasRecords : List Account → Book → State → Type 0

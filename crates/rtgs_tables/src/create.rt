@@ -76,6 +76,7 @@ pub(crate) fn create_tables<S: Alter>(conn: &mut Connection<S>) -> Result<(), St
     ensures mode { conn.new.in_transaction ≡ false }
     ensures done { HasCleanDisk (state S.Store conn.new) → IsBlank (state S.Store conn.old) → OnOk result (Rests first_content (state S.Store conn.new)) }
     ensures undone { HasCleanDisk (state S.Store conn.new) → IsBlank (state S.Store conn.old) → IsTrue (state S.Store conn.new).is_open → IfErr result (λ e. IsBefore e → IsBlank (state S.Store conn.new)) }
+    ensures early { IfErr result (λ e. IsBefore e → Survives (state S.Store conn.old) (state S.Store conn.new) (λ _. ⊥)) }
     ensures crash { Survives (state S.Store conn.old) (state S.Store conn.new) (λ trees. IsBlank (state S.Store conn.old) → Holds first_content trees) }
 {
     let mut tx = conn.transaction();

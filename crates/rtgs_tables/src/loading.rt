@@ -3,17 +3,21 @@ ghost use Rattle.std.specs.Prelude.{◌≡◌, ◌≢◌, false, map, List, Err,
 ghost use Rattle.rtgs_book.specs.declared.Book.{Book};
 ghost use Rattle.rtgs_book.specs.declared.Rule.{Rule};
 ghost use Rattle.rtgs_tables.specs.declared.account.Account.{Account as AccountSpec};
-ghost use Rattle.rtgs_tables.specs.Accounts.{HasRecords, AreBalances, ExplainsRead};
+ghost use Rattle.rtgs_tables.specs.Accounts.{HasRecords, AreBalances, AreReadOf, ExplainsRead};
 ghost use Rattle.rtgs_tables.specs.Building.{IsBlank};
 ghost use Rattle.rtgs_book.specs.Soundness.{IsSound};
-ghost use Rattle.rtgs_rows.specs.Content.{Content, Rests};
+ghost use Rattle.rtgs_rows.specs.Content.{Content, Holds};
+ghost use Rattle.rtgs_rows.specs.Keeping.{IsBookOf};
+ghost use Rattle.rtgs_rows.specs.Querying.{IsDeskFile, AreWhole};
 ghost use Rattle.sqlite.specs.State.{HasCleanDisk, Survives};
 ghost use Rattle.sqlite.specs.Held.{state};
+ghost use Rattle.sqlite.specs.Tree.{Trees};
 
 use crate::account::Account;
 use crate::balances::balances_agree;
 use crate::reading::{read_accounts, read_day, read_marks, read_orders, read_postings};
 use rtgs_book::{Book, Fault, Participant, Rows, Rule};
+use rtgs_rows::laws::shown_records_are_held;
 use sqlite::{Alter, Connection};
 use std::alloc::{AllocError, Global};
 
@@ -28,11 +32,12 @@ struct Stored {
 /// Reads the five tables.
 fn read_tables<S: Alter>(alloc: Global, conn: &mut Connection<S>) -> Result<Stored, Fault>
     ensures read { HasCleanDisk (state S.Store conn.new) → (accounts : List AccountSpec) (book : Book) → HasRecords accounts book (state S.Store conn.old) → IfOk result (λ stored. (stored.book ≡ book) × (stored.accounts.items ≡ accounts)) }
+    ensures is { HasCleanDisk (state S.Store conn.new) → (trees : Trees) → IsDeskFile trees (state S.Store conn.old) → IfOk result (λ stored. AreReadOf trees stored.accounts.items stored.book) }
     ensures right { HasCleanDisk (state S.Store conn.new) → (accounts : List AccountSpec) (book : Book) → HasRecords accounts book (state S.Store conn.old) → result ≢ Err Fault.NotADeskFile }
     ensures kinds { (rule : Rule) → result ≢ Err (Fault.Inconsistent rule) }
     ensures blank { HasCleanDisk (state S.Store conn.new) → IsBlank (state S.Store conn.old) → IfOk result (λ _. ⊥) }
-    ensures same { HasCleanDisk (state S.Store conn.new) → (content : Content) → Rests content (state S.Store conn.old) → result ≢ Err Fault.StoreFault → Rests content (state S.Store conn.new) }
-    ensures survives { Survives (state S.Store conn.old) (state S.Store conn.new) (λ _. (content : Content) → Rests content (state S.Store conn.old) → ⊥) }
+    ensures same { HasCleanDisk (state S.Store conn.new) → (trees : Trees) → IsDeskFile trees (state S.Store conn.old) → result ≢ Err Fault.StoreFault → IsDeskFile trees (state S.Store conn.new) }
+    ensures survives { Survives (state S.Store conn.old) (state S.Store conn.new) (λ _. ⊥) }
     ensures mode { conn.old.in_transaction ≡ false → conn.new.in_transaction ≡ false }
     ensures honest { HasCleanDisk (state S.Store conn.new) → HasCleanDisk (state S.Store conn.old) }
 {
@@ -83,17 +88,21 @@ fn judged(stored: Stored) -> Result<Book, Fault>
 }
 
 /// Loads the book, and judges it. Records that break a rule are answered by the first one that they break, and what is no
-/// desk's tables by `NotADeskFile`.
+/// desk's tables by `NotADeskFile`. A book is given only where the tables hold it.
 pub(crate) fn load_book<S: Alter>(alloc: Global, conn: &mut Connection<S>) -> Result<Book, Fault>
     ensures read { HasCleanDisk (state S.Store conn.new) → (accounts : List AccountSpec) (book : Book) → HasRecords accounts book (state S.Store conn.old) → IfOk result (λ loaded. (loaded ≡ book) × AreBalances book accounts) }
+    ensures held { HasCleanDisk (state S.Store conn.new) → (trees : Trees) → IsDeskFile trees (state S.Store conn.old) → AreWhole trees → IfOk result (λ book. (content : Content) × Holds content trees × IsBookOf book content) }
     ensures explained { HasCleanDisk (state S.Store conn.new) → (accounts : List AccountSpec) (book : Book) → HasRecords accounts book (state S.Store conn.old) → IfErr result (ExplainsRead accounts book) }
     ensures blank { HasCleanDisk (state S.Store conn.new) → IsBlank (state S.Store conn.old) → IfOk result (λ _. ⊥) × ((rule : Rule) → result ≢ Err (Fault.Inconsistent rule)) }
-    ensures same { HasCleanDisk (state S.Store conn.new) → (content : Content) → Rests content (state S.Store conn.old) → result ≢ Err Fault.StoreFault → Rests content (state S.Store conn.new) }
-    ensures survives { Survives (state S.Store conn.old) (state S.Store conn.new) (λ _. (content : Content) → Rests content (state S.Store conn.old) → ⊥) }
+    ensures same { HasCleanDisk (state S.Store conn.new) → (trees : Trees) → IsDeskFile trees (state S.Store conn.old) → result ≢ Err Fault.StoreFault → IsDeskFile trees (state S.Store conn.new) }
+    ensures survives { Survives (state S.Store conn.old) (state S.Store conn.new) (λ _. ⊥) }
     ensures sound { IfOk result IsSound }
     ensures mode { conn.old.in_transaction ≡ false → conn.new.in_transaction ≡ false }
     ensures honest { HasCleanDisk (state S.Store conn.new) → HasCleanDisk (state S.Store conn.old) }
 {
+    // The engine keeps the rows as the schema says, so what the queries show of a sound book is what the tables hold.
+    conn.schema();
+    shown_records_are_held();
     let stored = read_tables(alloc, conn)?;
     judged(stored)
 }

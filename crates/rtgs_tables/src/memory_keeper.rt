@@ -121,6 +121,7 @@ impl MemoryKeeper {
 impl Keeper for MemoryKeeper {
     ghost use Rattle.std.proofs.Common.{sym, ◌∙◌};
     ghost use Rattle.rtgs_book.specs.Judgement.{Explains};
+    ghost use Rattle.rtgs_book.specs.declared.Book.{Book};
     ghost use Rattle.rtgs_tables.specs.Memory.{book_of};
 
     ghost content = { KeepsBook };
@@ -129,6 +130,12 @@ impl Keeper for MemoryKeeper {
 
     ghost has_failed = { λ k. false };
 
+    ghost has_tables = { λ k. Unit {0} };
+
+    ghost is_empty = { λ k. ⊥ };
+
+    ghost is_whole = { λ k. (book : Book) × KeepsBook k book };
+
     ghost explains = { λ k. Explains (book_of k) };
 
     ghost is_honest = { λ k. Unit {0} };
@@ -136,6 +143,10 @@ impl Keeper for MemoryKeeper {
     ghost settled = { λ k book other kept left. sym left.0 ∙ kept.0 };
 
     ghost stays = { λ k book kept. kept };
+
+    ghost tabled = { λ k book kept. tt };
+
+    ghost whole = { λ k book kept. (book, kept) };
 
     fn load(&mut self, alloc: Global) -> Result<Book, Fault> {
         let book = self.copied(alloc)?;

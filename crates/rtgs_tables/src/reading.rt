@@ -1,17 +1,20 @@
 //! The queries of the five tables.
-ghost use Rattle.std.specs.Prelude.{◌≡◌, ◌≢◌, ◌⊎◌, false, Err, List, [], ◌∷◌, map, IsTrue, IfOk, IfErr, OnOk};
+ghost use Rattle.std.specs.Prelude.{◌≡◌, ◌≢◌, ◌⊎◌, length, false, Err, IfSome, List, [], ◌∷◌, map, IsTrue, IfOk, IfErr, OnOk};
+ghost use Rattle.std.specs.List.{AllByRecursion};
 ghost use Rattle.rtgs_book.specs.declared.Book.{Book};
 ghost use Rattle.rtgs_book.specs.declared.Rule.{Rule};
 ghost use Rattle.rtgs_book.specs.declared.Day.{Day as DaySpec};
-ghost use Rattle.rtgs_rows.specs.Fitting.{FitsDate};
+ghost use Rattle.rtgs_rows.specs.Fitting.{FitsDate, FitsParticipant, FitsPosting, FitsOrder, FitsMark};
 ghost use Rattle.rtgs_tables.specs.declared.account.Account.{Account as AccountSpec};
 ghost use Rattle.rtgs_tables.specs.Accounts.{HasRecords};
 ghost use Rattle.rtgs_tables.specs.Building.{IsBlank};
 ghost use Rattle.rtgs_rows.specs.Rows.{shown_day, shown_account, shown_posting, shown_order, shown_mark};
-ghost use Rattle.rtgs_rows.specs.Content.{Content, Rests};
+ghost use Rattle.rtgs_rows.specs.Querying.{IsDeskFile, ShowsDesk, ShowsParticipants, ShowsPostings, ShowsPayments, ShowsMarks};
 ghost use Rattle.rtgs_tables.specs.Faults.{IsOfStore};
+ghost use Rattle.rtgs_tables.specs.Numbers.{IsNumberedPosting, IsNumberedOrder, IsNumberedMark};
 ghost use Rattle.sqlite.specs.State.{HasCleanDisk, IsUnchanged, Survives};
 ghost use Rattle.sqlite.specs.Held.{state};
+ghost use Rattle.sqlite.specs.Tree.{Trees};
 
 use crate::account::Account;
 use crate::table_row::decode;
@@ -22,11 +25,12 @@ use std::alloc::Global;
 /// The rows of the table `desk`.
 fn desk_rows<S: Alter>(conn: &mut Connection<S>) -> Result<Vec<Row>, Error>
     ensures rows { HasCleanDisk (state S.Store conn.new) → (accounts : List AccountSpec) (book : Book) → HasRecords accounts book (state S.Store conn.old) → IfOk result (λ rows. rows.items ≡ shown_day book.day ∷ []) }
-    ensures kept { HasCleanDisk (state S.Store conn.new) → (content : Content) → Rests content (state S.Store conn.old) → OnOk result (Rests content (state S.Store conn.new)) }
-    ensures refused { HasCleanDisk (state S.Store conn.new) → (content : Content) → Rests content (state S.Store conn.old) → IfErr result IsOfStore }
-    ensures intact { HasCleanDisk (state S.Store conn.new) → (content : Content) → Rests content (state S.Store conn.old) → IsTrue (state S.Store conn.new).is_open → Rests content (state S.Store conn.new) }
+    ensures raw { HasCleanDisk (state S.Store conn.new) → (trees : Trees) → IsDeskFile trees (state S.Store conn.old) → IfOk result (λ rows. ShowsDesk trees rows.items) }
+    ensures kept { HasCleanDisk (state S.Store conn.new) → (trees : Trees) → IsDeskFile trees (state S.Store conn.old) → OnOk result (IsDeskFile trees (state S.Store conn.new)) }
+    ensures refused { HasCleanDisk (state S.Store conn.new) → (trees : Trees) → IsDeskFile trees (state S.Store conn.old) → IfErr result IsOfStore }
+    ensures intact { HasCleanDisk (state S.Store conn.new) → (trees : Trees) → IsDeskFile trees (state S.Store conn.old) → IsTrue (state S.Store conn.new).is_open → IsDeskFile trees (state S.Store conn.new) }
     ensures blank { HasCleanDisk (state S.Store conn.new) → IsBlank (state S.Store conn.old) → IfOk result (λ _. ⊥) }
-    ensures survives { Survives (state S.Store conn.old) (state S.Store conn.new) (λ _. (content : Content) → Rests content (state S.Store conn.old) → ⊥) }
+    ensures survives { Survives (state S.Store conn.old) (state S.Store conn.new) (λ _. ⊥) }
     ensures mode { conn.old.in_transaction ≡ false → conn.new.in_transaction ≡ false }
     ensures honest { HasCleanDisk (state S.Store conn.new) → HasCleanDisk (state S.Store conn.old) }
 {
@@ -36,10 +40,11 @@ fn desk_rows<S: Alter>(conn: &mut Connection<S>) -> Result<Vec<Row>, Error>
 /// The participants' rows in the order of their codes.
 fn participant_rows<S: Alter>(conn: &mut Connection<S>) -> Result<Vec<Row>, Error>
     ensures rows { HasCleanDisk (state S.Store conn.new) → (accounts : List AccountSpec) (book : Book) → HasRecords accounts book (state S.Store conn.old) → IfOk result (λ rows. rows.items ≡ map (λ (a : AccountSpec). shown_account a.participant a.balance) accounts) }
-    ensures kept { HasCleanDisk (state S.Store conn.new) → (content : Content) → Rests content (state S.Store conn.old) → OnOk result (Rests content (state S.Store conn.new)) }
-    ensures refused { HasCleanDisk (state S.Store conn.new) → (content : Content) → Rests content (state S.Store conn.old) → IfErr result IsOfStore }
-    ensures intact { HasCleanDisk (state S.Store conn.new) → (content : Content) → Rests content (state S.Store conn.old) → IsTrue (state S.Store conn.new).is_open → Rests content (state S.Store conn.new) }
-    ensures survives { Survives (state S.Store conn.old) (state S.Store conn.new) (λ _. (content : Content) → Rests content (state S.Store conn.old) → ⊥) }
+    ensures raw { HasCleanDisk (state S.Store conn.new) → (trees : Trees) → IsDeskFile trees (state S.Store conn.old) → IfOk result (λ rows. ShowsParticipants trees rows.items) }
+    ensures kept { HasCleanDisk (state S.Store conn.new) → (trees : Trees) → IsDeskFile trees (state S.Store conn.old) → OnOk result (IsDeskFile trees (state S.Store conn.new)) }
+    ensures refused { HasCleanDisk (state S.Store conn.new) → (trees : Trees) → IsDeskFile trees (state S.Store conn.old) → IfErr result IsOfStore }
+    ensures intact { HasCleanDisk (state S.Store conn.new) → (trees : Trees) → IsDeskFile trees (state S.Store conn.old) → IsTrue (state S.Store conn.new).is_open → IsDeskFile trees (state S.Store conn.new) }
+    ensures survives { Survives (state S.Store conn.old) (state S.Store conn.new) (λ _. ⊥) }
     ensures mode { conn.old.in_transaction ≡ false → conn.new.in_transaction ≡ false }
     ensures honest { HasCleanDisk (state S.Store conn.new) → HasCleanDisk (state S.Store conn.old) }
 {
@@ -52,10 +57,11 @@ fn participant_rows<S: Alter>(conn: &mut Connection<S>) -> Result<Vec<Row>, Erro
 /// The postings' rows in rising number.
 fn posting_rows<S: Alter>(conn: &mut Connection<S>) -> Result<Vec<Row>, Error>
     ensures rows { HasCleanDisk (state S.Store conn.new) → (accounts : List AccountSpec) (book : Book) → HasRecords accounts book (state S.Store conn.old) → IfOk result (λ rows. rows.items ≡ map shown_posting book.postings) }
-    ensures kept { HasCleanDisk (state S.Store conn.new) → (content : Content) → Rests content (state S.Store conn.old) → OnOk result (Rests content (state S.Store conn.new)) }
-    ensures refused { HasCleanDisk (state S.Store conn.new) → (content : Content) → Rests content (state S.Store conn.old) → IfErr result IsOfStore }
-    ensures intact { HasCleanDisk (state S.Store conn.new) → (content : Content) → Rests content (state S.Store conn.old) → IsTrue (state S.Store conn.new).is_open → Rests content (state S.Store conn.new) }
-    ensures survives { Survives (state S.Store conn.old) (state S.Store conn.new) (λ _. (content : Content) → Rests content (state S.Store conn.old) → ⊥) }
+    ensures raw { HasCleanDisk (state S.Store conn.new) → (trees : Trees) → IsDeskFile trees (state S.Store conn.old) → IfOk result (λ rows. ShowsPostings trees rows.items) }
+    ensures kept { HasCleanDisk (state S.Store conn.new) → (trees : Trees) → IsDeskFile trees (state S.Store conn.old) → OnOk result (IsDeskFile trees (state S.Store conn.new)) }
+    ensures refused { HasCleanDisk (state S.Store conn.new) → (trees : Trees) → IsDeskFile trees (state S.Store conn.old) → IfErr result IsOfStore }
+    ensures intact { HasCleanDisk (state S.Store conn.new) → (trees : Trees) → IsDeskFile trees (state S.Store conn.old) → IsTrue (state S.Store conn.new).is_open → IsDeskFile trees (state S.Store conn.new) }
+    ensures survives { Survives (state S.Store conn.old) (state S.Store conn.new) (λ _. ⊥) }
     ensures mode { conn.old.in_transaction ≡ false → conn.new.in_transaction ≡ false }
     ensures honest { HasCleanDisk (state S.Store conn.new) → HasCleanDisk (state S.Store conn.old) }
 {
@@ -68,10 +74,11 @@ fn posting_rows<S: Alter>(conn: &mut Connection<S>) -> Result<Vec<Row>, Error>
 /// The orders' rows in rising number.
 fn payment_rows<S: Alter>(conn: &mut Connection<S>) -> Result<Vec<Row>, Error>
     ensures rows { HasCleanDisk (state S.Store conn.new) → (accounts : List AccountSpec) (book : Book) → HasRecords accounts book (state S.Store conn.old) → IfOk result (λ rows. rows.items ≡ map shown_order book.orders) }
-    ensures kept { HasCleanDisk (state S.Store conn.new) → (content : Content) → Rests content (state S.Store conn.old) → OnOk result (Rests content (state S.Store conn.new)) }
-    ensures refused { HasCleanDisk (state S.Store conn.new) → (content : Content) → Rests content (state S.Store conn.old) → IfErr result IsOfStore }
-    ensures intact { HasCleanDisk (state S.Store conn.new) → (content : Content) → Rests content (state S.Store conn.old) → IsTrue (state S.Store conn.new).is_open → Rests content (state S.Store conn.new) }
-    ensures survives { Survives (state S.Store conn.old) (state S.Store conn.new) (λ _. (content : Content) → Rests content (state S.Store conn.old) → ⊥) }
+    ensures raw { HasCleanDisk (state S.Store conn.new) → (trees : Trees) → IsDeskFile trees (state S.Store conn.old) → IfOk result (λ rows. ShowsPayments trees rows.items) }
+    ensures kept { HasCleanDisk (state S.Store conn.new) → (trees : Trees) → IsDeskFile trees (state S.Store conn.old) → OnOk result (IsDeskFile trees (state S.Store conn.new)) }
+    ensures refused { HasCleanDisk (state S.Store conn.new) → (trees : Trees) → IsDeskFile trees (state S.Store conn.old) → IfErr result IsOfStore }
+    ensures intact { HasCleanDisk (state S.Store conn.new) → (trees : Trees) → IsDeskFile trees (state S.Store conn.old) → IsTrue (state S.Store conn.new).is_open → IsDeskFile trees (state S.Store conn.new) }
+    ensures survives { Survives (state S.Store conn.old) (state S.Store conn.new) (λ _. ⊥) }
     ensures mode { conn.old.in_transaction ≡ false → conn.new.in_transaction ≡ false }
     ensures honest { HasCleanDisk (state S.Store conn.new) → HasCleanDisk (state S.Store conn.old) }
 {
@@ -84,10 +91,11 @@ fn payment_rows<S: Alter>(conn: &mut Connection<S>) -> Result<Vec<Row>, Error>
 /// The marks' rows in rising number.
 fn mark_rows<S: Alter>(conn: &mut Connection<S>) -> Result<Vec<Row>, Error>
     ensures rows { HasCleanDisk (state S.Store conn.new) → (accounts : List AccountSpec) (book : Book) → HasRecords accounts book (state S.Store conn.old) → IfOk result (λ rows. rows.items ≡ map shown_mark book.marks) }
-    ensures kept { HasCleanDisk (state S.Store conn.new) → (content : Content) → Rests content (state S.Store conn.old) → OnOk result (Rests content (state S.Store conn.new)) }
-    ensures refused { HasCleanDisk (state S.Store conn.new) → (content : Content) → Rests content (state S.Store conn.old) → IfErr result IsOfStore }
-    ensures intact { HasCleanDisk (state S.Store conn.new) → (content : Content) → Rests content (state S.Store conn.old) → IsTrue (state S.Store conn.new).is_open → Rests content (state S.Store conn.new) }
-    ensures survives { Survives (state S.Store conn.old) (state S.Store conn.new) (λ _. (content : Content) → Rests content (state S.Store conn.old) → ⊥) }
+    ensures raw { HasCleanDisk (state S.Store conn.new) → (trees : Trees) → IsDeskFile trees (state S.Store conn.old) → IfOk result (λ rows. ShowsMarks trees rows.items) }
+    ensures kept { HasCleanDisk (state S.Store conn.new) → (trees : Trees) → IsDeskFile trees (state S.Store conn.old) → OnOk result (IsDeskFile trees (state S.Store conn.new)) }
+    ensures refused { HasCleanDisk (state S.Store conn.new) → (trees : Trees) → IsDeskFile trees (state S.Store conn.old) → IfErr result IsOfStore }
+    ensures intact { HasCleanDisk (state S.Store conn.new) → (trees : Trees) → IsDeskFile trees (state S.Store conn.old) → IsTrue (state S.Store conn.new).is_open → IsDeskFile trees (state S.Store conn.new) }
+    ensures survives { Survives (state S.Store conn.old) (state S.Store conn.new) (λ _. ⊥) }
     ensures mode { conn.old.in_transaction ≡ false → conn.new.in_transaction ≡ false }
     ensures honest { HasCleanDisk (state S.Store conn.new) → HasCleanDisk (state S.Store conn.old) }
 {
@@ -113,6 +121,7 @@ fn fault_of<S: Alter>(conn: &mut Connection<S>, error: &Error) -> Fault
     ensures mode { conn.old.in_transaction ≡ false → conn.new.in_transaction ≡ false }
     ensures honest { HasCleanDisk (state S.Store conn.new) → HasCleanDisk (state S.Store conn.old) }
     ensures kinds { (rule : Rule) → result ≢ Fault.Inconsistent rule }
+    ensures cause { result ≡ Fault.OutOfMemory → error.now ≡ Error.SqliteFailure ErrorCode.OutOfMemory }
     ensures right { IsOfStore error.now → (result ≡ Fault.OutOfMemory) ⊎ (result ≡ Fault.StoreFault) }
     ensures same { result ≡ Fault.OutOfMemory → HasCleanDisk (state S.Store conn.new) → IsUnchanged (state S.Store conn.old) (state S.Store conn.new) }
     ensures survives { Survives (state S.Store conn.old) (state S.Store conn.new) (λ _. ⊥) }
@@ -126,7 +135,8 @@ fn fault_of<S: Alter>(conn: &mut Connection<S>, error: &Error) -> Fault
 
 /// The only one of the days.
 fn only(days: &[Day]) -> Option<Day>
-    ensures { (day : DaySpec) → days.now ≡ day ∷ [] → result ≡ Some day }
+    ensures found { (day : DaySpec) → days.now ≡ day ∷ [] → result ≡ Some day }
+    ensures is { IfSome result (λ day. days.now ≡ day ∷ []) }
 {
     match days {
         [day] => Some(*day),
@@ -137,6 +147,7 @@ fn only(days: &[Day]) -> Option<Day>
 /// The business day of the only row.
 fn one_day(alloc: Global, rows: &[Row]) -> Result<Day, Fault>
     ensures given { (day : DaySpec) → FitsDate day.date → rows.now ≡ shown_day day ∷ [] → IfOk result (λ it. it ≡ day) }
+    ensures is { AllByRecursion (λ row. length row ≡ 4) rows.now → IfOk result (λ day. FitsDate day.date × (rows.now ≡ shown_day day ∷ [])) }
     ensures right { (day : DaySpec) → FitsDate day.date → rows.now ≡ shown_day day ∷ [] → result ≢ Err Fault.NotADeskFile }
     ensures kinds { (result ≢ Err Fault.StoreFault) × ((rule : Rule) → result ≢ Err (Fault.Inconsistent rule)) }
 {
@@ -153,11 +164,12 @@ fn one_day(alloc: Global, rows: &[Row]) -> Result<Day, Fault>
 /// The business day, of the one row of the table `desk`.
 pub(crate) fn read_day<S: Alter>(alloc: Global, conn: &mut Connection<S>) -> Result<Day, Fault>
     ensures given { HasCleanDisk (state S.Store conn.new) → (accounts : List AccountSpec) (book : Book) → HasRecords accounts book (state S.Store conn.old) → IfOk result (λ day. day ≡ book.day) }
+    ensures is { HasCleanDisk (state S.Store conn.new) → (trees : Trees) → IsDeskFile trees (state S.Store conn.old) → IfOk result (λ day. FitsDate day.date × ShowsDesk trees (shown_day day ∷ [])) }
     ensures right { HasCleanDisk (state S.Store conn.new) → (accounts : List AccountSpec) (book : Book) → HasRecords accounts book (state S.Store conn.old) → result ≢ Err Fault.NotADeskFile }
     ensures kinds { (rule : Rule) → result ≢ Err (Fault.Inconsistent rule) }
-    ensures same { HasCleanDisk (state S.Store conn.new) → (content : Content) → Rests content (state S.Store conn.old) → result ≢ Err Fault.StoreFault → Rests content (state S.Store conn.new) }
+    ensures same { HasCleanDisk (state S.Store conn.new) → (trees : Trees) → IsDeskFile trees (state S.Store conn.old) → result ≢ Err Fault.StoreFault → IsDeskFile trees (state S.Store conn.new) }
     ensures blank { HasCleanDisk (state S.Store conn.new) → IsBlank (state S.Store conn.old) → IfOk result (λ _. ⊥) }
-    ensures survives { Survives (state S.Store conn.old) (state S.Store conn.new) (λ _. (content : Content) → Rests content (state S.Store conn.old) → ⊥) }
+    ensures survives { Survives (state S.Store conn.old) (state S.Store conn.new) (λ _. ⊥) }
     ensures mode { conn.old.in_transaction ≡ false → conn.new.in_transaction ≡ false }
     ensures honest { HasCleanDisk (state S.Store conn.new) → HasCleanDisk (state S.Store conn.old) }
 {
@@ -173,10 +185,11 @@ pub(crate) fn read_accounts<S: Alter>(
     conn: &mut Connection<S>,
 ) -> Result<Vec<Account>, Fault>
     ensures given { HasCleanDisk (state S.Store conn.new) → (accounts : List AccountSpec) (book : Book) → HasRecords accounts book (state S.Store conn.old) → IfOk result (λ v. v.items ≡ accounts) }
+    ensures is { HasCleanDisk (state S.Store conn.new) → (trees : Trees) → IsDeskFile trees (state S.Store conn.old) → IfOk result (λ v. AllByRecursion (λ (a : AccountSpec). FitsParticipant a.participant) v.items × ShowsParticipants trees (map (λ (a : AccountSpec). shown_account a.participant a.balance) v.items)) }
     ensures right { HasCleanDisk (state S.Store conn.new) → (accounts : List AccountSpec) (book : Book) → HasRecords accounts book (state S.Store conn.old) → result ≢ Err Fault.NotADeskFile }
     ensures kinds { (rule : Rule) → result ≢ Err (Fault.Inconsistent rule) }
-    ensures same { HasCleanDisk (state S.Store conn.new) → (content : Content) → Rests content (state S.Store conn.old) → result ≢ Err Fault.StoreFault → Rests content (state S.Store conn.new) }
-    ensures survives { Survives (state S.Store conn.old) (state S.Store conn.new) (λ _. (content : Content) → Rests content (state S.Store conn.old) → ⊥) }
+    ensures same { HasCleanDisk (state S.Store conn.new) → (trees : Trees) → IsDeskFile trees (state S.Store conn.old) → result ≢ Err Fault.StoreFault → IsDeskFile trees (state S.Store conn.new) }
+    ensures survives { Survives (state S.Store conn.old) (state S.Store conn.new) (λ _. ⊥) }
     ensures mode { conn.old.in_transaction ≡ false → conn.new.in_transaction ≡ false }
     ensures honest { HasCleanDisk (state S.Store conn.new) → HasCleanDisk (state S.Store conn.old) }
 {
@@ -192,10 +205,11 @@ pub(crate) fn read_postings<S: Alter>(
     conn: &mut Connection<S>,
 ) -> Result<Vec<Posting>, Fault>
     ensures given { HasCleanDisk (state S.Store conn.new) → (accounts : List AccountSpec) (book : Book) → HasRecords accounts book (state S.Store conn.old) → IfOk result (λ v. v.items ≡ book.postings) }
+    ensures is { HasCleanDisk (state S.Store conn.new) → (trees : Trees) → IsDeskFile trees (state S.Store conn.old) → IfOk result (λ v. AllByRecursion FitsPosting v.items × (AllByRecursion IsNumberedPosting v.items → ShowsPostings trees (map shown_posting v.items))) }
     ensures right { HasCleanDisk (state S.Store conn.new) → (accounts : List AccountSpec) (book : Book) → HasRecords accounts book (state S.Store conn.old) → result ≢ Err Fault.NotADeskFile }
     ensures kinds { (rule : Rule) → result ≢ Err (Fault.Inconsistent rule) }
-    ensures same { HasCleanDisk (state S.Store conn.new) → (content : Content) → Rests content (state S.Store conn.old) → result ≢ Err Fault.StoreFault → Rests content (state S.Store conn.new) }
-    ensures survives { Survives (state S.Store conn.old) (state S.Store conn.new) (λ _. (content : Content) → Rests content (state S.Store conn.old) → ⊥) }
+    ensures same { HasCleanDisk (state S.Store conn.new) → (trees : Trees) → IsDeskFile trees (state S.Store conn.old) → result ≢ Err Fault.StoreFault → IsDeskFile trees (state S.Store conn.new) }
+    ensures survives { Survives (state S.Store conn.old) (state S.Store conn.new) (λ _. ⊥) }
     ensures mode { conn.old.in_transaction ≡ false → conn.new.in_transaction ≡ false }
     ensures honest { HasCleanDisk (state S.Store conn.new) → HasCleanDisk (state S.Store conn.old) }
 {
@@ -211,10 +225,11 @@ pub(crate) fn read_orders<S: Alter>(
     conn: &mut Connection<S>,
 ) -> Result<Vec<Order>, Fault>
     ensures given { HasCleanDisk (state S.Store conn.new) → (accounts : List AccountSpec) (book : Book) → HasRecords accounts book (state S.Store conn.old) → IfOk result (λ v. v.items ≡ book.orders) }
+    ensures is { HasCleanDisk (state S.Store conn.new) → (trees : Trees) → IsDeskFile trees (state S.Store conn.old) → IfOk result (λ v. AllByRecursion FitsOrder v.items × (AllByRecursion IsNumberedOrder v.items → ShowsPayments trees (map shown_order v.items))) }
     ensures right { HasCleanDisk (state S.Store conn.new) → (accounts : List AccountSpec) (book : Book) → HasRecords accounts book (state S.Store conn.old) → result ≢ Err Fault.NotADeskFile }
     ensures kinds { (rule : Rule) → result ≢ Err (Fault.Inconsistent rule) }
-    ensures same { HasCleanDisk (state S.Store conn.new) → (content : Content) → Rests content (state S.Store conn.old) → result ≢ Err Fault.StoreFault → Rests content (state S.Store conn.new) }
-    ensures survives { Survives (state S.Store conn.old) (state S.Store conn.new) (λ _. (content : Content) → Rests content (state S.Store conn.old) → ⊥) }
+    ensures same { HasCleanDisk (state S.Store conn.new) → (trees : Trees) → IsDeskFile trees (state S.Store conn.old) → result ≢ Err Fault.StoreFault → IsDeskFile trees (state S.Store conn.new) }
+    ensures survives { Survives (state S.Store conn.old) (state S.Store conn.new) (λ _. ⊥) }
     ensures mode { conn.old.in_transaction ≡ false → conn.new.in_transaction ≡ false }
     ensures honest { HasCleanDisk (state S.Store conn.new) → HasCleanDisk (state S.Store conn.old) }
 {
@@ -230,10 +245,11 @@ pub(crate) fn read_marks<S: Alter>(
     conn: &mut Connection<S>,
 ) -> Result<Vec<Mark>, Fault>
     ensures given { HasCleanDisk (state S.Store conn.new) → (accounts : List AccountSpec) (book : Book) → HasRecords accounts book (state S.Store conn.old) → IfOk result (λ v. v.items ≡ book.marks) }
+    ensures is { HasCleanDisk (state S.Store conn.new) → (trees : Trees) → IsDeskFile trees (state S.Store conn.old) → IfOk result (λ v. AllByRecursion FitsMark v.items × (AllByRecursion IsNumberedMark v.items → ShowsMarks trees (map shown_mark v.items))) }
     ensures right { HasCleanDisk (state S.Store conn.new) → (accounts : List AccountSpec) (book : Book) → HasRecords accounts book (state S.Store conn.old) → result ≢ Err Fault.NotADeskFile }
     ensures kinds { (rule : Rule) → result ≢ Err (Fault.Inconsistent rule) }
-    ensures same { HasCleanDisk (state S.Store conn.new) → (content : Content) → Rests content (state S.Store conn.old) → result ≢ Err Fault.StoreFault → Rests content (state S.Store conn.new) }
-    ensures survives { Survives (state S.Store conn.old) (state S.Store conn.new) (λ _. (content : Content) → Rests content (state S.Store conn.old) → ⊥) }
+    ensures same { HasCleanDisk (state S.Store conn.new) → (trees : Trees) → IsDeskFile trees (state S.Store conn.old) → result ≢ Err Fault.StoreFault → IsDeskFile trees (state S.Store conn.new) }
+    ensures survives { Survives (state S.Store conn.old) (state S.Store conn.new) (λ _. ⊥) }
     ensures mode { conn.old.in_transaction ≡ false → conn.new.in_transaction ≡ false }
     ensures honest { HasCleanDisk (state S.Store conn.new) → HasCleanDisk (state S.Store conn.old) }
 {

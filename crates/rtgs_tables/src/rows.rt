@@ -1,14 +1,17 @@
 //! The record of each table's row.
-ghost use Rattle.std.specs.Prelude.{◌≡◌, ◌<◌, pos, length, Some};
+ghost use Rattle.std.specs.Prelude.{◌≡◌, ◌<◌, pos, length, Some, IfSome, ⊤};
 ghost use Rattle.sqlite_value.specs.Order.{column};
 ghost use Rattle.sqlite.specs.declared.types.Value.TheVariants.{Int};
 ghost use Rattle.rtgs_book.specs.declared.Phase.{Phase as PhaseSpec};
 ghost use Rattle.rtgs_book.specs.declared.OrderState.{OrderState as StateSpec};
 ghost use Rattle.rtgs_rows.specs.Rows.{phase_number, state_number, mark_value, shown_day, shown_account, shown_posting, shown_order, shown_mark};
 ghost use Rattle.rtgs_rows.specs.Fitting.{FitsDate, FitsParticipant, FitsPosting, FitsOrder, FitsMark};
+ghost use Rattle.rtgs_tables.specs.Numbers.{IsNumberedPosting, IsNumberedState, IsNumberedOrder, IsNumberedMark};
 
 use crate::account::Account;
-use crate::fields::{blob, cents, code, date, date_or_null, int, is_null, name, number, reference};
+use crate::fields::{
+    blob, cents, code, date, date_or_null, int, is_null, name, number, reference, unsigned,
+};
 use crate::table_row::TableRow;
 use rtgs_book::{Day, Mark, Order, OrderState, Participant, Phase, Posting};
 use rtgs_money::{Amount, Credit, KeyDigest, PostingAmount};
@@ -24,6 +27,10 @@ impl TableRow for Day {
     ghost shown = { shown_day };
 
     ghost fits = { λ day. FitsDate day.date };
+
+    ghost width = { 4 };
+
+    ghost is_numbered = { λ _. ⊤ };
 
     fn from_row(row: &Row) -> Option<Day> {
         if int(row, 0)? != DESK_ID || int(row, 1)? != VERSION {
@@ -41,12 +48,16 @@ impl TableRow for Account {
 
     ghost fits = { λ a. FitsParticipant a.participant };
 
+    ghost width = { 5 };
+
+    ghost is_numbered = { λ _. ⊤ };
+
     fn from_row(row: &Row) -> Option<Account> {
         let participant = Participant {
             code: code(row, 0)?,
             name: name(row, 1)?,
             key: KeyDigest::from_slice(blob(row, 2)?)?,
-            credit: Credit::from_cents(u64::try_from(int(row, 3)?).ok()?)?,
+            credit: Credit::from_cents(unsigned(row, 3)?)?,
         };
         Some(Account {
             participant,
@@ -59,6 +70,10 @@ impl TableRow for Posting {
     ghost shown = { shown_posting };
 
     ghost fits = { FitsPosting };
+
+    ghost width = { 5 };
+
+    ghost is_numbered = { IsNumberedPosting };
 
     fn from_row(row: &Row) -> Option<Posting> {
         Some(Posting {
@@ -76,13 +91,17 @@ impl TableRow for Order {
 
     ghost fits = { FitsOrder };
 
+    ghost width = { 8 };
+
+    ghost is_numbered = { IsNumberedOrder };
+
     fn from_row(row: &Row) -> Option<Order> {
         Some(Order {
             number: number(row, 0)?,
             sender: code(row, 1)?,
             reference: reference(row, 2)?,
             receiver: code(row, 3)?,
-            amount: Amount::from_cents(u64::try_from(int(row, 4)?).ok()?)?,
+            amount: Amount::from_cents(unsigned(row, 4)?)?,
             date: date(row, 5)?,
             state: state(row, 6, 7)?,
         })
@@ -93,6 +112,10 @@ impl TableRow for Mark {
     ghost shown = { shown_mark };
 
     ghost fits = { FitsMark };
+
+    ghost width = { 4 };
+
+    ghost is_numbered = { IsNumberedMark };
 
     fn from_row(row: &Row) -> Option<Mark> {
         Some(Mark {
@@ -106,7 +129,8 @@ impl TableRow for Mark {
 
 /// 0 closed, 1 open, 2 cut off.
 fn phase_of(number: i64) -> Option<Phase>
-    ensures { (phase : PhaseSpec) → number ≡ pos (phase_number phase) → result ≡ Some phase }
+    ensures found { (phase : PhaseSpec) → number ≡ pos (phase_number phase) → result ≡ Some phase }
+    ensures is { IfSome result (λ it. number ≡ pos (phase_number it)) }
 {
     match number {
         0 => Some(Phase::Closed),
@@ -118,7 +142,8 @@ fn phase_of(number: i64) -> Option<Phase>
 
 /// The state at one place, and at the other the mark of a settled order, which no other order has.
 fn state(row: &Row, at: usize, mark_at: usize) -> Option<OrderState>
-    ensures { (state : StateSpec) → at < length row.now → mark_at < length row.now → column row.now at ≡ Int (pos (state_number state)) → column row.now mark_at ≡ mark_value state → result ≡ Some state }
+    ensures found { (state : StateSpec) → at < length row.now → mark_at < length row.now → column row.now at ≡ Int (pos (state_number state)) → column row.now mark_at ≡ mark_value state → result ≡ Some state }
+    ensures is { IfSome result (λ it. (column row.now at ≡ Int (pos (state_number it))) × (IsNumberedState it → column row.now mark_at ≡ mark_value it)) }
 {
     let has_mark = !is_null(row, mark_at);
     match (int(row, at)?, has_mark) {

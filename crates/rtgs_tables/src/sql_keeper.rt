@@ -1,12 +1,12 @@
 //! A book in the tables of a connection.
 ghost use Rattle.std.specs.Prelude.{◌≡◌, ◌≢◌, false, IfOk, IfErr};
 ghost use Rattle.rtgs_book.specs.declared.Book.{Book};
-ghost use Rattle.rtgs_rows.specs.Keeping.{HoldsBook, MayLeave};
+ghost use Rattle.rtgs_rows.specs.Keeping.{IsBookOf, HoldsBook, MayLeave};
 ghost use Rattle.rtgs_tables.specs.Building.{IsBlank, IsNoneOrNew, new_book};
-ghost use Rattle.sqlite.specs.State.{HasCleanDisk, IsUnchanged, Survives};
+ghost use Rattle.sqlite.specs.State.{HasCleanDisk, IsLive, IsUnchanged, Opens, Survives};
 ghost use Rattle.sqlite.specs.Held.{state};
 ghost use Rattle.sqlite.specs.Tree.{Trees};
-ghost use Rattle.rtgs_rows.specs.Content.{HasNoTables};
+ghost use Rattle.rtgs_rows.specs.Content.{Content, Holds, HasNoTables};
 ghost use Rattle.rtgs_tables.specs.Stops.{IsBefore};
 
 use crate::create::create_tables;
@@ -19,8 +19,8 @@ use rtgs_book::{Book, Change, Fault};
 use sqlite::{Alter, Connection, Error, ErrorCode};
 use std::alloc::Global;
 
-/// Keeps a book in five tables, over a connection of any store. It has failed once the store has answered a fault
-/// that may have lost a change.
+/// Keeps a book in five tables, over a connection of any store. It has failed once the store has answered a fault, to a
+/// change or to a reading.
 #[derive(Drop)]
 pub struct SqlKeeper<S: Alter + Drop> {
     conn: Connection<S>,
@@ -37,6 +37,7 @@ impl<S: Alter + Drop> SqlKeeper<S> {
         ensures stops { IfOk result (λ k. HasCleanDisk (state S.Store k.conn) → IsBlank (state S.Store conn) → (other : Book) → MayLeave S.Store k.conn other → other ≡ new_book) }
         ensures left { IfErr result (λ e. HasCleanDisk (state S.Store e.1) → IsBlank (state S.Store conn) → (other : Book) → MayLeave S.Store e.1 other → other ≡ new_book) }
         ensures memory { IfErr result (λ e. e.0 ≡ StoreFault.OutOfMemory → HasCleanDisk (state S.Store e.1) → IsBlank (state S.Store conn) → IsBlank (state S.Store e.1)) }
+        ensures memory_stops { IfErr result (λ e. e.0 ≡ StoreFault.OutOfMemory → HasCleanDisk (state S.Store e.1) → IsBlank (state S.Store conn) → (trees : Trees) → (state S.Store e.1).may_leave trees → HasNoTables trees) }
         ensures tables { IfErr result (λ e. HasCleanDisk (state S.Store e.1) → IsBlank (state S.Store conn) → (trees : Trees) → (state S.Store e.1).may_leave trees → IsNoneOrNew trees) }
         ensures fresh { IfOk result (λ k. k.failed ≡ false) }
         ensures idle { IfErr result (λ e. (e.1.in_transaction ≡ false) × (e.0 ≢ StoreFault.Failed)) }
@@ -52,10 +53,13 @@ impl<S: Alter + Drop> SqlKeeper<S> {
         }
     }
 
-    /// Over a connection whose tables are there already. `load` says whether they are.
+    /// Over a connection whose tables are there already. `load` says whether they are. Where a database is opened whose tables hold
+    /// a book, as a stop left them, the keeper has it; where a stopped `create` left no tables, nothing is there yet, and `load` says so.
     pub fn open(conn: Connection<S>) -> SqlKeeper<S>
         requires { conn.in_transaction ≡ false }
-        ensures { (result.conn ≡ conn) × (result.failed ≡ false) }
+        ensures is { (result.conn ≡ conn) × (result.failed ≡ false) }
+        ensures found { Opens (state S.Store conn) → IsLive (state S.Store conn) → (book : Book) (content : Content) → Holds content (state S.Store conn).committed.trees → IsBookOf book content → HoldsBook S.Store result.conn book }
+        ensures none { Opens (state S.Store conn) → IsLive (state S.Store conn) → HasNoTables (state S.Store conn).committed.trees → IsBlank (state S.Store result.conn) }
     {
         SqlKeeper {
             conn,
@@ -73,8 +77,10 @@ impl<S: Alter + Drop> SqlKeeper<S> {
 }
 
 impl<S: Alter + Drop> Keeper for SqlKeeper<S> {
-    ghost use Rattle.rtgs_rows.specs.Keeping.{HoldsBook, MayLeave};
+    ghost use Rattle.rtgs_rows.specs.Keeping.{HoldsBook, MayLeave, IsWhole};
     ghost use Rattle.rtgs_rows.proofs.Settling as settling;
+    ghost use Rattle.rtgs_rows.specs.Querying.{HasTables};
+    ghost use Rattle.rtgs_tables.specs.Building.{IsBlank};
     ghost use Rattle.rtgs_tables.specs.declared.account.Account.{Account as AccountSpec};
     ghost use Rattle.rtgs_tables.specs.Accounts.{HasRecords, ExplainsRead};
     ghost use Rattle.std.specs.Prelude.{List};
@@ -85,6 +91,12 @@ impl<S: Alter + Drop> Keeper for SqlKeeper<S> {
 
     ghost has_failed = { λ k. k.failed };
 
+    ghost has_tables = { λ k. HasTables S.Store k.conn };
+
+    ghost is_empty = { λ k. IsBlank (state S.Store k.conn) };
+
+    ghost is_whole = { λ k. IsWhole S.Store k.conn };
+
     ghost explains = { λ k fault. (accounts : List AccountSpec) (book : Book) → HasRecords accounts book (state S.Store k.conn) → ExplainsRead accounts book fault };
 
     ghost is_honest = { λ k. HasCleanDisk (state S.Store k.conn) };
@@ -92,6 +104,10 @@ impl<S: Alter + Drop> Keeper for SqlKeeper<S> {
     ghost settled = { λ k. settling.settled (record { view = S.Store.view; faults = S.Store.faults; recovers = S.Store.recovers; is_shielded = S.Store.is_shielded; is_step = S.Store.is_step; blamed = S.Store.blamed; names = S.Store.names }) k.conn (S.Store.settled k.conn.store) };
 
     ghost stays = { λ k. settling.stays (record { view = S.Store.view; faults = S.Store.faults; recovers = S.Store.recovers; is_shielded = S.Store.is_shielded; is_step = S.Store.is_step; blamed = S.Store.blamed; names = S.Store.names }) k.conn (S.Store.stays k.conn.store) };
+
+    ghost tabled = { λ k. settling.tabled (record { view = S.Store.view; faults = S.Store.faults; recovers = S.Store.recovers; is_shielded = S.Store.is_shielded; is_step = S.Store.is_step; blamed = S.Store.blamed; names = S.Store.names }) k.conn };
+
+    ghost whole = { λ k. settling.whole (record { view = S.Store.view; faults = S.Store.faults; recovers = S.Store.recovers; is_shielded = S.Store.is_shielded; is_step = S.Store.is_step; blamed = S.Store.blamed; names = S.Store.names }) k.conn (S.Store.settled k.conn.store) };
 
     fn load(&mut self, alloc: Global) -> Result<Book, Fault> {
         if self.failed {
@@ -136,6 +152,7 @@ fn fault_of<S: Alter>(conn: &mut Connection<S>, stopped: &Stopped) -> StoreFault
     ensures mode { conn.new.in_transaction ≡ false }
     ensures kinds { result ≢ StoreFault.Failed }
     ensures before { result ≡ StoreFault.OutOfMemory → IsBefore stopped.now }
+    ensures cause { result ≡ StoreFault.OutOfMemory → stopped.now ≡ Stopped.Before (Error.SqliteFailure ErrorCode.OutOfMemory) }
     ensures same { result ≡ StoreFault.OutOfMemory → HasCleanDisk (state S.Store conn.new) → IsUnchanged (state S.Store conn.old) (state S.Store conn.new) }
     ensures survives { Survives (state S.Store conn.old) (state S.Store conn.new) (λ _. ⊥) }
 {

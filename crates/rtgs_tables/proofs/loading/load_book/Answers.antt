@@ -1,6 +1,11 @@
-use Rattle.std.proofs.Common.{IfErr, subst₂}
+use Rattle.std.proofs.Common.{IfErr, subst, subst₂}
+use Rattle.sqlite_catalog.specs.Listing.{IsSound}
+use Rattle.sqlite.specs.Held.{state}
+use Rattle.rtgs_book.specs.declared.Fault.TheVariants.{StoreFault}
+use Rattle.rtgs_rows.specs.Tables.{desk_schema}
 use Rattle.rtgs_tables.specs.Accounts.{ExplainsRead}
-use Rattle.rtgs_tables.proofs.Judging.{judged_book, unread}
+use Rattle.rtgs_tables.proofs.Judging.{judged_book, unread, answered}
+use Rattle.rtgs_tables.proofs.Together.{held_book}
 use Rattle.rtgs_tables.proofs.loading.load_book.Goals as goal
 
 pub returns-in_err-stored-clause-explained : goal.returns-in_err-stored-clause-explained
@@ -16,3 +21,15 @@ pub returns-clause-explained : goal.returns-clause-explained
 returns-clause-explained g c clean accounts book held =
     let read = c.in_ok-stored.ensures.read clean accounts book held in
     subst₂ (λ b a. IfErr c.judged.result (ExplainsRead a b)) read.0 read.1 c.judged.ensures.explained
+
+pub returns-clause-held : goal.returns-clause-held
+returns-clause-held g c clean trees file whole =
+    let was = (state g.S.Store c.args.conn.now).committed in
+    let sound = subst (IsSound desk_schema) file.trees_are (subst (λ schema. IsSound schema was.trees) file.schema (c.schema.ensures.live file.is_open).1) in
+    held_book c.shown_records_are_held.ensures trees _ _ c.judged.result sound whole (c.in_ok-stored.ensures.is clean trees file) c.judged.ensures.given c.judged.ensures.sound c.judged.ensures.balances
+
+pub returns-in_err-stored-clause-same : goal.returns-in_err-stored-clause-same
+returns-in_err-stored-clause-same g c clean trees file other = c.read_tables.ensures.same clean trees file (λ e. other (answered c.read_tables.result _ StoreFault c.from_residual.result c.in_err-stored.was c.from_residual.ensures.1 e))
+
+pub returns-clause-same : goal.returns-clause-same
+returns-clause-same g c clean trees file other = c.read_tables.ensures.same clean trees file (λ e. let is = c.in_ok-stored.was in cc)

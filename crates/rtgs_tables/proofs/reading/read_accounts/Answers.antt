@@ -1,5 +1,13 @@
-use Rattle.std.proofs.Common.{◌∙◌}
 use Rattle.rtgs_tables.proofs.Accounts.{accounts_fit}
+use Rattle.std.proofs.Common.{[], ◌∷◌, map, IsPermutation, sym, subst, ◌∙◌}
+use Rattle.rtgs_rows.specs.Fitting.{FitsParticipant}
+use Rattle.rtgs_rows.specs.Rows.{shown_account}
+use Rattle.rtgs_rows.specs.Querying.{picked}
+use Rattle.rtgs_tables.specs.declared.account.Account.{Account}
+use Rattle.rtgs_tables.proofs.Told.{read_plainly}
+use Rattle.sqlite.specs.Held.{state}
+use Rattle.rtgs_rows.proofs.Querying.{file_of}
+use Rattle.rtgs_tables.proofs.Keeps.{not_foreign, file_after}
 use Rattle.rtgs_tables.proofs.reading.read_accounts.Goals as goal
 
 pub returns-in-Ok-clause-given : goal.returns-in-Ok-clause-given
@@ -9,3 +17,20 @@ returns-in-Ok-clause-given g c clean accounts book held =
 pub returns-in-Ok-clause-right : goal.returns-in-Ok-clause-right
 returns-in-Ok-clause-right g c clean accounts book held =
     c.decode.ensures.right accounts (accounts_fit held.0 accounts book held.2) (c.as_slice.ensures.value ∙ c.in-Ok.ensures.rows clean accounts book held)
+
+pub returns-in-Ok-clause-is : goal.returns-in-Ok-clause-is
+returns-in-Ok-clause-is g c clean trees file =
+    let places = 1 ∷ 2 ∷ 3 ∷ 4 ∷ 5 ∷ [] in
+    let seen = subst (IsPermutation (map (picked places) (trees 1))) (sym c.as_slice.ensures.value) (c.in-Ok.ensures.raw clean trees file) in
+    read_plainly (λ (a : Account). FitsParticipant a.participant) (λ (a : Account). shown_account a.participant a.balance) places (trees 1) _ c.decode.result seen c.decode.ensures.is
+
+pub returns-in-Ok-clause-same : goal.returns-in-Ok-clause-same
+returns-in-Ok-clause-same g c clean trees file _ = c.in-Ok.ensures.kept clean trees file
+
+pub returns-in-Err-clause-right : goal.returns-in-Err-clause-right
+returns-in-Err-clause-right g c clean accounts book held = not_foreign c.fault_of.result (c.fault_of.ensures.right (c.in-Err.ensures.refused (c.fault_of.ensures.honest clean) _ (file_of held.0 (state g.S.Store c.args.conn.now) held.1)))
+
+pub returns-in-Err-clause-same : goal.returns-in-Err-clause-same
+returns-in-Err-clause-same g c clean trees file =
+    let was = c.fault_of.ensures.honest clean in
+    file_after trees (state g.S.Store c.participant_rows.new.conn) (state g.S.Store c.fault_of.new.conn) c.fault_of.result (c.in-Err.ensures.intact was trees file) (c.fault_of.ensures.right (c.in-Err.ensures.refused was trees file)) (λ memory. c.fault_of.ensures.same memory clean)

@@ -1,7 +1,9 @@
-use Rattle.std.proofs.Common.{inl, inr}
 use Rattle.sqlite.specs.Held.{state}
 use Rattle.rtgs_tables.specs.Accounts.{accounts_of, HasRecords}
 use Rattle.rtgs_tables.proofs.Accounts.{has_own, own_balances}
+use Rattle.rtgs_rows.proofs.Querying.{file_of, rests_of}
+use Rattle.rtgs_rows.proofs.Settling.{leaves_less}
+use Rattle.rtgs_tables.proofs.Together.{kept_book}
 use Rattle.rtgs_tables.proofs.Judging.{accepted, explained, the_book}
 use Rattle.rtgs_tables.proofs.sql_keeper.SqlKeeperKeeper.load.Goals as goal
 
@@ -14,10 +16,7 @@ returns-else-self-2-clause-accepted g c clean book holds =
     accepted (accounts_of book) book c.load_book-loaded.result holds.2.sound (own_balances book) (c.load_book-loaded.ensures.explained clean (accounts_of book) book (has_own _ holds.0 book holds.1 holds.2))
 
 pub returns-else-self-2-clause-stops : goal.returns-else-self-2-clause-stops
-returns-else-self-2-clause-stops g c clean book other holds left = elim (c.load_book-loaded.ensures.survives.crash clean left.0 left.1) [
-  | inl was ↦ (left.0, was, left.2)
-  | inr none ↦ absurd (none holds.0 holds.1)
-]
+returns-else-self-2-clause-stops g c clean other left = leaves_less g.S.Store c.args.self.now.conn c.load_book-loaded.new.conn c.load_book-loaded.ensures.survives clean other left
 
 pub returns-else-self-clause-given : goal.returns-else-self-clause-given
 returns-else-self-clause-given g c clean book holds =
@@ -28,13 +27,33 @@ returns-else-self-clause-accepted g c clean book holds =
     accepted (accounts_of book) book c.load_book-loaded.result holds.2.sound (own_balances book) (c.load_book-loaded.ensures.explained clean (accounts_of book) book (has_own _ holds.0 book holds.1 holds.2))
 
 pub returns-else-self-clause-stops : goal.returns-else-self-clause-stops
-returns-else-self-clause-stops g c clean book other holds left = elim (c.load_book-loaded.ensures.survives.crash clean left.0 left.1) [
-  | inl was ↦ (left.0, was, left.2)
-  | inr none ↦ absurd (none holds.0 holds.1)
-]
+returns-else-self-clause-stops g c clean other left = leaves_less g.S.Store c.args.self.now.conn c.load_book-loaded.new.conn c.load_book-loaded.ensures.survives clean other left
 
 pub returns-else-self-2-clause-explained : goal.returns-else-self-2-clause-explained
 returns-else-self-2-clause-explained g c clean = explained (λ accounts book. HasRecords accounts book (state g.S.Store c.args.self.now.conn)) c.load_book-loaded.result (c.load_book-loaded.ensures.explained clean)
 
 pub returns-else-self-clause-explained : goal.returns-else-self-clause-explained
 returns-else-self-clause-explained g c clean = explained (λ accounts book. HasRecords accounts book (state g.S.Store c.args.self.now.conn)) c.load_book-loaded.result (c.load_book-loaded.ensures.explained clean)
+
+pub returns-else-self-2-clause-kept : goal.returns-else-self-2-clause-kept
+returns-else-self-2-clause-kept g c clean tables =
+    let was = state g.S.Store c.args.self.now.conn in
+    kept_book (state g.S.Store c.load_book-loaded.new.conn) was.committed.trees c.load_book-loaded.result (c.load_book-loaded.ensures.held clean was.committed.trees tables.0 tables.1) (c.load_book-loaded.ensures.same clean was.committed.trees tables.0)
+
+pub returns-else-self-2-clause-same : goal.returns-else-self-2-clause-same
+returns-else-self-2-clause-same g c clean book holds other =
+    let was = state g.S.Store c.args.self.now.conn in
+    (holds.0, rests_of holds.0 (state g.S.Store c.load_book-loaded.new.conn) was.committed.trees (c.load_book-loaded.ensures.same clean was.committed.trees (file_of holds.0 was holds.1) other) holds.1.holds, holds.2)
+
+pub returns-else-self-clause-kept : goal.returns-else-self-clause-kept
+returns-else-self-clause-kept g c clean tables =
+    let was = state g.S.Store c.args.self.now.conn in
+    kept_book (state g.S.Store c.load_book-loaded.new.conn) was.committed.trees c.load_book-loaded.result (c.load_book-loaded.ensures.held clean was.committed.trees tables.0 tables.1) (c.load_book-loaded.ensures.same clean was.committed.trees tables.0)
+
+pub returns-else-self-clause-same : goal.returns-else-self-clause-same
+returns-else-self-clause-same g c clean book holds other =
+    let was = state g.S.Store c.args.self.now.conn in
+    (holds.0, rests_of holds.0 (state g.S.Store c.load_book-loaded.new.conn) was.committed.trees (c.load_book-loaded.ensures.same clean was.committed.trees (file_of holds.0 was holds.1) other) holds.1.holds, holds.2)
+
+pub returns-in-Err-StoreFault-clause-stops : goal.returns-in-Err-StoreFault-clause-stops
+returns-in-Err-StoreFault-clause-stops g c clean other left = leaves_less g.S.Store c.args.self.now.conn c.load_book-loaded.new.conn c.load_book-loaded.ensures.survives clean other left

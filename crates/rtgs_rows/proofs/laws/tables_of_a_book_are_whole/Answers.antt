@@ -1,0 +1,5 @@
+use Rattle.rtgs_rows.proofs.Querying.{book_is_whole}
+use Rattle.rtgs_rows.proofs.laws.tables_of_a_book_are_whole.Goals as goal
+
+pub returns : goal.returns
+returns c trees book content holds of = book_is_whole content trees book holds of

@@ -1,0 +1,71 @@
+-- The five tables together, and the book that they hold.
+use Rattle.std.proofs.Common.{◌≡◌, ◌≢◌, ℤ, List, [], ◌∷◌, map, sym, subst, ◌∙◌, Ok, Err, Result, IfOk, OnOk}
+use Rattle.std.specs.List.{AllByRecursion}
+use Rattle.sqlite.specs.Tree.{Trees}
+use Rattle.sqlite.specs.State.{State}
+use Rattle.sqlite_keyed.proofs.ListLemmas.{map-map, all_map}
+use Rattle.sqlite_catalog.specs.Listing.{IsSound}
+use Rattle.rtgs_book.specs.declared.Book.{Book}
+use Rattle.rtgs_book.specs.declared.Fault.{Fault}
+use Rattle.rtgs_book.specs.declared.Fault.TheVariants.{StoreFault}
+use Rattle.rtgs_book.specs.Balance.{balance}
+use Rattle.rtgs_book.specs.Soundness.{IsSound as IsSoundBook}
+use Rattle.rtgs_rows.specs.Tables.{desk_schema}
+use Rattle.rtgs_rows.specs.Content.{Content, Holds, Rests}
+use Rattle.rtgs_rows.proofs.Querying.{rests_of}
+use Rattle.rtgs_rows.specs.Keeping.{IsBookOf}
+use Rattle.rtgs_tables.proofs.AboveZero.{above_zero}
+use Rattle.rtgs_book.specs.declared.Participant.{Participant}
+use Rattle.rtgs_book.specs.declared.Posting.{Posting}
+use Rattle.rtgs_book.specs.declared.Order.{Order}
+use Rattle.rtgs_book.specs.declared.Mark.{Mark}
+use Rattle.rtgs_rows.specs.Rows.{shown_day, shown_account, shown_posting, shown_order, shown_mark}
+use Rattle.rtgs_rows.specs.Fitting.{FitsDate, FitsParticipant, FitsPosting, FitsOrder, FitsMark, Fits}
+use Rattle.rtgs_rows.specs.Querying.{IsDeskFile, AreWhole, ShowsBook, shown_entry, ShowsDesk, ShowsParticipants, ShowsPostings, ShowsPayments, ShowsMarks}
+use Rattle.rtgs_tables.specs.declared.account.Account.{Account}
+use Rattle.rtgs_tables.specs.Accounts.{AreBalances, entry_of, AreReadOf}
+use Rattle.rtgs_tables.specs.Numbers.{IsNumberedPosting, IsNumberedOrder, IsNumberedMark}
+
+-- what each table shows
+pub are_read_of : (trees : Trees) (accounts : List Account) (book : Book) {postings : List Posting} {orders : List Order} {marks : List Mark}
+    → book.participants ≡ map (λ (a : Account). a.participant) accounts → book.postings ≡ postings → book.orders ≡ orders → book.marks ≡ marks
+    → FitsDate book.day.date × ShowsDesk trees (shown_day book.day ∷ [])
+    → AllByRecursion (λ (a : Account). FitsParticipant a.participant) accounts × ShowsParticipants trees (map (λ (a : Account). shown_account a.participant a.balance) accounts)
+    → AllByRecursion FitsPosting postings × (AllByRecursion IsNumberedPosting postings → ShowsPostings trees (map shown_posting postings))
+    → AllByRecursion FitsOrder orders × (AllByRecursion IsNumberedOrder orders → ShowsPayments trees (map shown_order orders))
+    → AllByRecursion FitsMark marks × (AllByRecursion IsNumberedMark marks → ShowsMarks trees (map shown_mark marks))
+    → AreReadOf trees accounts book
+are_read_of trees accounts book named postings orders marks day stored some_postings some_orders some_marks = record {
+  fits = record {
+    participants = subst (AllByRecursion FitsParticipant) (sym named) (all_map FitsParticipant (λ (a : Account). a.participant) accounts stored.0);
+    postings = subst (AllByRecursion FitsPosting) (sym postings) some_postings.0;
+    orders = subst (AllByRecursion FitsOrder) (sym orders) some_orders.0;
+    marks = subst (AllByRecursion FitsMark) (sym marks) some_marks.0;
+    day = day.0;
+  };
+  shows = λ numbered. record {
+    desk = day.1;
+    participants = subst (ShowsParticipants trees) (sym (map-map shown_entry entry_of accounts)) stored.1;
+    named = named ∙ sym (map-map (λ (entry : Participant × ℤ). entry.0) entry_of accounts);
+    postings = subst (λ all. ShowsPostings trees (map shown_posting all)) (sym postings) (some_postings.1 (subst (AllByRecursion IsNumberedPosting) postings numbered.postings));
+    payments = subst (λ all. ShowsPayments trees (map shown_order all)) (sym orders) (some_orders.1 (subst (AllByRecursion IsNumberedOrder) orders numbered.orders));
+    marks = subst (λ all. ShowsMarks trees (map shown_mark all)) (sym marks) (some_marks.1 (subst (AllByRecursion IsNumberedMark) marks numbered.marks));
+  };
+}
+
+module _ (law : (trees : Trees) (book : Book) (entries : List (Participant × ℤ)) → IsSound desk_schema trees → AreWhole trees → IsSoundBook book → Fits book → ShowsBook trees book entries
+    → AllByRecursion (λ (entry : Participant × ℤ). entry.1 ≡ balance book entry.0.code) entries → (content : Content) × Holds content trees × IsBookOf book content) where
+  -- what was read, and judged to be sound with its balances stored, is what the tables hold
+  pub held_book : (trees : Trees) (accounts : List Account) (book : Book) (answer : Result Book Fault) → IsSound desk_schema trees → AreWhole trees → AreReadOf trees accounts book
+      → IfOk answer (λ it. it ≡ book) → IfOk answer IsSoundBook → OnOk answer (AreBalances book accounts) → IfOk answer (λ it. (content : Content) × Holds content trees × IsBookOf it content)
+  held_book trees accounts book (Ok it) sound whole read is right agree =
+      let sound_book = subst IsSoundBook is right in
+      let balances = all_map (λ (entry : Participant × ℤ). entry.1 ≡ balance book entry.0.code) entry_of accounts agree in
+      subst (λ b. (content : Content) × Holds content trees × IsBookOf b content) (sym is) (law trees book (map entry_of accounts) sound whole sound_book read.fits (read.shows (above_zero book sound_book)) balances)
+  held_book trees accounts book (Err fault) sound whole read is right agree = tt
+
+-- and the connection goes on to hold it
+pub kept_book : (s : State) (trees : Trees) (answer : Result Book Fault) → IfOk answer (λ it. (content : Content) × Holds content trees × IsBookOf it content) → (answer ≢ Err StoreFault → IsDeskFile trees s)
+    → IfOk answer (λ it. (content : Content) × Rests content s × IsBookOf it content)
+kept_book s trees (Ok it) held file = (held.0, rests_of held.0 s trees (file (λ e. cc)) held.1, held.2)
+kept_book s trees (Err fault) held file = tt
