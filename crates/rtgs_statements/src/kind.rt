@@ -1,0 +1,47 @@
+//! What a row of a statement tells of.
+ghost use Rattle.std.specs.Prelude.{◌≡◌};
+ghost use Rattle.std.specs.Str.{IsAscii};
+ghost use Rattle.rtgs_statements.specs.Lines.{kind_of_sent, kind_text};
+
+use rtgs_book::OrderState;
+
+/// What a row of a statement tells of: a posting, an order that the participant sent, by where it stands, or one that it
+/// received.
+#[derive(Clone, Copy, Debug, PartialEq, Eq)]
+pub enum Kind {
+    Posting,
+    Sent,
+    Queued,
+    Withdrawn,
+    Rejected,
+    Received,
+}
+
+impl Kind {
+    /// How its sender is told of an order.
+    pub fn of_sent(state: OrderState) -> Kind
+        ensures { result ≡ kind_of_sent state }
+    {
+        match state {
+            OrderState::Queued => Kind::Queued,
+            OrderState::Settled(_) => Kind::Sent,
+            OrderState::Withdrawn => Kind::Withdrawn,
+            OrderState::Rejected => Kind::Rejected,
+        }
+    }
+
+    /// The word that stands for the kind.
+    pub fn text(self) -> &'static str
+        ensures value { result.now ≡ kind_text self }
+        ensures ascii { IsAscii result.now }
+    {
+        match self {
+            Kind::Posting => "posting",
+            Kind::Sent => "sent",
+            Kind::Queued => "queued",
+            Kind::Withdrawn => "withdrawn",
+            Kind::Rejected => "rejected",
+            Kind::Received => "received",
+        }
+    }
+}

@@ -1,0 +1,25 @@
+//! A participant's statement and the day report: the records of a date that each takes, and its text, exact to the
+//! byte.
+#![tactic(auto)]
+
+mod fault;
+mod kind;
+pub mod laws;
+mod line;
+mod party;
+mod report;
+mod row;
+mod sending;
+mod standing;
+mod statement;
+mod sums;
+mod total;
+mod turnover;
+
+pub use crate::fault::TextFault;
+pub use crate::report::{Report, day_report};
+pub use crate::sending::send_all;
+pub use crate::statement::{Statement, statement_text};
+
+#[cfg(test)]
+mod tests;

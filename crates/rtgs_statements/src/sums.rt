@@ -1,0 +1,23 @@
+//! What records add up to for a participant.
+ghost use Rattle.std.specs.Prelude.{◌≡◌};
+ghost use Rattle.rtgs_statements.specs.Sums.{IsSmall, net};
+
+/// Sums of cents of one participant: what was posted to it, and its settled orders, sent and received.
+#[derive(Clone, Copy, Debug, PartialEq, Eq)]
+pub struct Sums {
+    pub posted: i128,
+    pub sent: i128,
+    pub received: i128,
+}
+
+impl Sums {
+    /// What was posted, less what was sent, and what was received.
+    pub fn net(self) -> i128
+        requires posted { IsSmall self.posted }
+        requires sent { IsSmall self.sent }
+        requires received { IsSmall self.received }
+        ensures { result ≡ net self }
+    {
+        self.posted - self.sent + self.received
+    }
+}
