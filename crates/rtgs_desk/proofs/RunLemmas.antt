@@ -78,6 +78,11 @@ all_working false after (r ∷ replies) h works = by (is_store_fault r) refl h.1
 
 -- ---- what a stop leaves
 
+-- what holds either way
+pub by_test : {P : Type 0} (b : Bool) → (b ≡ true → P) → (b ≡ false → P) → P
+by_test true holds fails = holds refl
+by_test false holds fails = fails refl
+
 -- a reply that is no fault leaves the open command
 open_push : (commands : List Command) (replies : List Reply) (command : Command) (reply : Reply) → length commands ≡ length replies → is_store_fault reply ≡ false → open_command (commands ++ command ∷ []) (replies ++ reply ∷ []) ≡ open_command commands replies
 open_push [] [] command reply e quiet = rw quiet refl

@@ -1,3 +1,4 @@
+pub mod Dated
 pub mod Readings
 pub mod Replies
 pub mod Seen

@@ -1,9 +1,9 @@
 //! A desk over a keeper in memory that fails when it is told to.
+mod dated;
 mod failing_keeper;
 mod readings;
 
 ghost use Rattle.std.specs.Prelude.{IfOk};
-ghost use Rattle.rtgs_ledger.specs.Commands.{IsCarriedOut};
 
 use crate::Desk;
 use failing_keeper::FailingKeeper;
@@ -13,18 +13,14 @@ use std::alloc::Global;
 use std::process::Abort;
 use std::test::Fail;
 
-fn alfa() -> Result<Command, Fail>
-    ensures { IfOk result IsCarriedOut }
-{
+fn alfa() -> Result<Command, Fail> {
     let code = Code::read(b"ALFA")?;
     let name = Name::read(b"Alfa Bank")?;
     let key = Key::read(b"0123456789abcdef0123456789abcdef")?.digest();
     Ok(Command::Add { code, name, key })
 }
 
-fn posting(reference: &str, cents: i64) -> Result<Command, Fail>
-    ensures { IfOk result IsCarriedOut }
-{
+fn posting(reference: &str, cents: i64) -> Result<Command, Fail> {
     let code = Code::read(b"ALFA")?;
     let reference = Reference::read(reference.as_bytes())?;
     let cents = PostingAmount::from_cents(cents).ok_or("no posting")?;

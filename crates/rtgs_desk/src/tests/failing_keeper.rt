@@ -89,9 +89,17 @@ impl Keeper for FailingKeeper {
 
     ghost is_honest = { λ _. ⊥ };
 
+    ghost has_tables = { λ _. Unit {0} };
+
+    ghost is_empty = { λ _. ⊥ };
+
     ghost settled = { λ _ _ _ never _. absurd never };
 
     ghost stays = { λ _ _ never. absurd never };
+
+    ghost tabled = { λ _ _ _. tt };
+
+    ghost whole = { λ _ _ _. tt };
 
     fn load(&mut self, alloc: Global) -> Result<Book, Fault> {
         if self.failed {

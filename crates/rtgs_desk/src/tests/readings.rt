@@ -15,7 +15,7 @@ fn today() -> Result<Day, Fail> {
     })
 }
 
-fn bank(code: &str, key: &[u8; 32]) -> Result<Participant, Fail> {
+pub(super) fn bank(code: &str, key: &[u8; 32]) -> Result<Participant, Fail> {
     Ok(Participant {
         code: Code::read(code.as_bytes())?,
         name: Name::read(b"A Bank")?,
@@ -28,8 +28,13 @@ fn first_bank() -> Result<Participant, Fail> {
     bank("ALFA", b"0123456789abcdef0123456789abcdef")
 }
 
-// An order of ALFA to BETA.
-fn order(number: u64, reference: &str, amount: &str, state: OrderState) -> Result<Order, Fail> {
+// An order of ALFA to BETA, on that day.
+pub(super) fn order(
+    number: u64,
+    reference: &str,
+    amount: &str,
+    state: OrderState,
+) -> Result<Order, Fail> {
     Ok(Order {
         number,
         sender: Code::read(b"ALFA")?,
@@ -117,10 +122,13 @@ fn a_failed_desk_tells_nothing(rt: HostRuntime) -> Result<(), Fail> {
     let command = alfa()?;
     let code = Code::read(b"ALFA")?;
     let reference = Reference::read(b"O-1")?;
+    let date = BusinessDate::read(b"2024-03-04")?;
     let mut desk = opened(rt.alloc(), FailingKeeper::new(rt.alloc(), 0, false))?;
     assert_eq!(rt; desk.submit(command), Err(Refusal::StoreFault));
     assert_eq!(rt; desk.account(&code), Err(Refusal::Failed));
     assert_eq!(rt; desk.queue_of(&code).err(), Some(Refusal::Failed));
     assert_eq!(rt; desk.order_of(&code, &reference), Err(Refusal::Failed));
+    assert_eq!(rt; desk.statement_of(&code, date).err(), Some(Refusal::Failed));
+    assert_eq!(rt; desk.report_of(date).err(), Some(Refusal::Failed));
     Ok(())
 }

@@ -5,7 +5,7 @@ use Rattle.rtgs_book.specs.Run.{Run}
 use Rattle.rtgs_book.specs.Session.{answered, answers, open_command, MayFind}
 use Rattle.rtgs_desk.specs.Replies.{FailsOnce}
 use Rattle.rtgs_desk.specs.Seen.{Seen}
-use Rattle.rtgs_desk.proofs.RunLemmas.{one_more, append_nothing, one_reply, still_works, fails_once_push, all_failed, all_working, found_after}
+use Rattle.rtgs_desk.proofs.RunLemmas.{one_more, append_nothing, one_reply, still_works, fails_once_push, all_failed, all_working, found_after, by_test}
 use Rattle.rtgs_desk.proofs.desk.Desk.run.Goals as goal
 
 pub loop-command-preserved : goal.loop-command-preserved
@@ -37,6 +37,9 @@ loop-command-preserved g c =
                 (i.stops works (e.honest honest) old found (subst (λ (s : Seen g.row.K.Denot). g.K.Keeper.leaves s.keeper found) same left)),
           ))
           (λ f. e.stops f honest (i.held f (e.honest honest) old) found left));
+      whole = λ honest old. by_test before
+          (λ f. subst (λ (s : Seen g.row.K.Denot). g.K.Keeper.is_whole s.keeper) (sym (e.failed f).1) (i.whole (e.honest honest) old))
+          (λ works. e.whole honest (i.held works (e.honest honest) old));
       run = λ rest last run.
           let whole = i.run (c.submit.result ∷ rest) last (subst (λ cs. Run c.loop-command.self.book (answered cs (c.submit.result ∷ rest)) (answers (c.submit.result ∷ rest)) last) (sym left) (one_more c.loop-command.self.book c.submit.new.self.book last c.command-item.result (drop (at + 1) commands) c.submit.result rest e.judged e.unjudged run)) in
           rw (c.push_reserved.ensures.items, append_assoc) whole;
@@ -59,3 +62,15 @@ returns-clause-failed g c f =
 
 pub returns-clause-working : goal.returns-clause-working
 returns-clause-working g c works = all_working (g.K.Keeper.has_failed c.args.self.now.keeper) (g.K.Keeper.has_failed c.loop-command.self.keeper) c.loop-command.replies.items c.loop-command.invariant.once works
+
+pub returns-clause-lasting : goal.returns-clause-lasting
+returns-clause-lasting g c = c.runs_last.ensures c.args.self.now.book c.loop-command.self.book (answered c.args.commands.now c.loop-command.replies.items) (answers c.loop-command.replies.items) (rw (← c.self.view_is) c.holds_a_sound_book.ensures) (returns-clause-run g c)
+
+pub returns-clause-session : goal.returns-clause-session
+returns-clause-session g c works honest old found left = record {
+  replied = grind (arith, common_steps, c.loop-command.invariant.told);
+  running = grind (arith, common_steps, c.loop-command.invariant.told, c.loop-command-test.false);
+  last = c.loop-command.self.book;
+  run = returns-clause-run g c;
+  found = returns-clause-stops g c works honest old found left;
+}

@@ -16,5 +16,6 @@ invariant-loop-command g l = record {
   same : g.K.Keeper.has_failed l.fn.self.keeper ≡ true → l.self ≡ l.fn.self;
   held : g.K.Keeper.has_failed l.self.keeper ≡ false → g.K.Keeper.is_honest l.self.keeper → g.K.Keeper.content l.fn.self.keeper l.fn.self.book → g.K.Keeper.content l.self.keeper l.self.book;
   stops : g.K.Keeper.has_failed l.fn.self.keeper ≡ false → g.K.Keeper.is_honest l.self.keeper → g.K.Keeper.content l.fn.self.keeper l.fn.self.book → (found : Book) → g.K.Keeper.leaves l.self.keeper found → MayFind l.self.book (open_command (take l.command-index l.commands) l.replies.items) found;
+  whole : g.K.Keeper.is_honest l.self.keeper → g.K.Keeper.content l.fn.self.keeper l.fn.self.book → g.K.Keeper.is_whole l.self.keeper;
   run : (rest : List Reply) (last : Book) → Run l.self.book (answered (drop l.command-index l.commands) rest) (answers rest) last → Run l.fn.self.book (answered l.commands (l.replies.items ++ rest)) (answers (l.replies.items ++ rest)) last;
 }
