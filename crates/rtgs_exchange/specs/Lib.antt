@@ -1,0 +1,6 @@
+pub mod BatchFaults
+pub mod Batches
+pub mod OrderFile
+pub mod Plain
+pub mod Reading
+pub mod Results
