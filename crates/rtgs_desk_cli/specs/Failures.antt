@@ -12,7 +12,10 @@ use Rattle.rtgs_tables.specs.declared.keeper.StoreFault.TheVariants as keeper
 use Rattle.rtgs_desk_cli.specs.declared.word_fault.WordFault.{WordFault}
 use Rattle.rtgs_desk_cli.specs.declared.word_fault.WordFault.TheVariants as words
 use Rattle.rtgs_desk_cli.specs.declared.failure.Failure.{Failure}
-use Rattle.rtgs_desk_cli.specs.declared.failure.Failure.TheVariants.{Form, Refused, Opening, InUse, FileExists}
+use Rattle.rtgs_desk_cli.specs.declared.failure.Failure.TheVariants.{Form, Refused, Opening, InUse, FileExists, Orders, OrdersTooLong, NoOrders}
+use Rattle.rtgs_exchange.specs.BatchFaults.{batch_entry_of}
+use Rattle.rtgs_exchange.specs.declared.batch_fault.BatchFault.{BatchFault}
+use Rattle.rtgs_exchange.specs.declared.batch_fault.BatchFault.TheVariants.{BadRow}
 
 abbrev pub number_of : Failure → ℕ
 number_of (Form form) = refusal_number form
@@ -20,6 +23,9 @@ number_of (Refused refusal) = (entry_of refusal).number
 number_of (Opening fault) = (fault_entry_of fault).number
 number_of InUse = 95
 number_of FileExists = 96
+number_of (Orders fault) = (batch_entry_of fault).number
+number_of OrdersTooLong = 63
+number_of NoOrders = 98
 
 abbrev pub name_of : Failure → List ℕ
 name_of (Form form) = refusal_name form
@@ -27,6 +33,9 @@ name_of (Refused refusal) = (entry_of refusal).name
 name_of (Opening fault) = (fault_entry_of fault).name
 name_of InUse = codes "InUse"
 name_of FileExists = codes "FileExists"
+name_of (Orders fault) = (batch_entry_of fault).name
+name_of OrdersTooLong = codes "BodyTooLong"
+name_of NoOrders = codes "NoOrderFile"
 
 -- 1 where what was asked for was refused, and 3 where it could not be tried
 abbrev pub exit_status_of : Failure → ℕ
@@ -42,13 +51,21 @@ fault_detail fault.OutOfMemory = []
 fault_detail fault.StoreFault = []
 fault_detail fault.NotADeskFile = []
 
--- what stands behind the name: the first code and the count, or the broken rule
+-- the first bad row
+abbrev pub batch_detail : BatchFault → List ℕ
+batch_detail (BadRow row) = codes " " ++ decimal row
+batch_detail _ = []
+
+-- what stands behind the name: the first code and the count, the broken rule, or the row
 abbrev pub detail_of : Failure → List ℕ
 detail_of (Refused refusal) = refusal_detail refusal
 detail_of (Opening fault) = fault_detail fault
 detail_of (Form form) = []
 detail_of InUse = []
 detail_of FileExists = []
+detail_of (Orders fault) = batch_detail fault
+detail_of OrdersTooLong = []
+detail_of NoOrders = []
 
 -- the number in two digits
 abbrev pub two_digits : ℕ → List ℕ

@@ -1,6 +1,4 @@
 //! The file of a book: its lock, and the desk over it.
-ghost use Rattle.rtgs_ledger.specs.Commands.{IsCarriedOut};
-
 use crate::failure::Failure;
 use rtgs_book::{Answer, Command, Fault};
 use rtgs_desk::Desk;
@@ -12,13 +10,13 @@ use std::io::{ErrorKind, Read};
 use std::{fs, io};
 
 /// The keeper over a file.
-type FileKeeper = SqlKeeper<FileStore<sqlite::File>>;
+pub type FileKeeper = SqlKeeper<FileStore<sqlite::File>>;
 
 /// How each file of the `sqlite` crate begins.
 const MAGIC: &[u8; 16] = b"SQLite format 3\0";
 
 /// Takes the lock of a book's file, which stands beside it and is held until the value is dropped.
-fn lock(rt: &HostRuntime, file: &str) -> Result<File, Failure> {
+pub fn lock(rt: &HostRuntime, file: &str) -> Result<File, Failure> {
     let path = format!(in rt.alloc(); "{file}.lock")?;
     let opened = OpenOptions::new()
         .read(true)
@@ -34,7 +32,7 @@ fn lock(rt: &HostRuntime, file: &str) -> Result<File, Failure> {
     }
 }
 
-/// Whether a file is there with a length above 0.
+/// Whether there is a file, and it is not empty.
 fn is_filled(rt: &HostRuntime, file: &str) -> bool {
     match fs::metadata(rt, file) {
         Ok(data) => data.len() > 0,
@@ -90,12 +88,12 @@ pub fn make(rt: &HostRuntime, file: &str) -> Result<(), Failure> {
 }
 
 /// Copies the log into the file. What was committed stands in the log where this fails.
-fn close(keeper: FileKeeper) {
+pub fn close(keeper: FileKeeper) {
     let _ = keeper.into_connection().close();
 }
 
 /// The desk over the book in a file.
-fn open(rt: &HostRuntime, file: &str) -> Result<Desk<FileKeeper>, Fault> {
+pub fn open(rt: &HostRuntime, file: &str) -> Result<Desk<FileKeeper>, Fault> {
     test_beginning(rt, file)?;
     let conn = match Connection::open(rt, file) {
         Ok(conn) => conn,
@@ -108,9 +106,7 @@ fn open(rt: &HostRuntime, file: &str) -> Result<Desk<FileKeeper>, Fault> {
 }
 
 /// Opens the book in a file, gives its desk one command and closes it.
-pub fn submit(rt: &HostRuntime, file: &str, command: Command) -> Result<Answer, Failure>
-    requires { IsCarriedOut command }
-{
+pub fn submit(rt: &HostRuntime, file: &str, command: Command) -> Result<Answer, Failure> {
     let _lock = lock(rt, file)?;
     let mut desk = open(rt, file)?;
     let answer = desk.submit(command);

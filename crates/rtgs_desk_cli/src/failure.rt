@@ -3,6 +3,7 @@ ghost use Rattle.std.specs.Prelude.{◌≡◌};
 
 use crate::word_fault::WordFault;
 use rtgs_book::{Fault, Refusal};
+use rtgs_exchange::BatchFault;
 use rtgs_money::Lexical;
 use rtgs_tables::StoreFault;
 use std::alloc::AllocError;
@@ -21,6 +22,12 @@ pub enum Failure {
     InUse,
     /// A book is made only where there is no file, or an empty one.
     FileExists,
+    /// The file of orders is refused.
+    Orders(BatchFault),
+    /// The file of orders is too long.
+    OrdersTooLong,
+    /// The file of orders cannot be read.
+    NoOrders,
 }
 
 impl Failure {
@@ -36,6 +43,9 @@ impl Failure {
             Failure::Opening(fault) => fault.number(),
             Failure::InUse => 95,
             Failure::FileExists => 96,
+            Failure::Orders(fault) => fault.number(),
+            Failure::OrdersTooLong => 63,
+            Failure::NoOrders => 98,
         }
     }
 
@@ -49,6 +59,9 @@ impl Failure {
             Failure::Opening(fault) => fault.name(),
             Failure::InUse => "InUse",
             Failure::FileExists => "FileExists",
+            Failure::Orders(fault) => fault.name(),
+            Failure::OrdersTooLong => "BodyTooLong",
+            Failure::NoOrders => "NoOrderFile",
         }
     }
 
@@ -74,7 +87,13 @@ impl fmt::Display for Failure {
         match *self {
             Failure::Refused(refusal) => write!(f, "{}", RefusalDetail(refusal)),
             Failure::Opening(fault) => write!(f, "{}", FaultDetail(fault)),
-            Failure::Form(_) | Failure::InUse | Failure::FileExists => Ok(()),
+            Failure::Orders(BatchFault::BadRow { row }) => write!(f, " {row}"),
+            Failure::Orders(_)
+            | Failure::Form(_)
+            | Failure::InUse
+            | Failure::FileExists
+            | Failure::OrdersTooLong
+            | Failure::NoOrders => Ok(()),
         }
     }
 }
@@ -166,6 +185,17 @@ impl From<StoreFault> for Failure {
             StoreFault::StoreFault => Refusal::StoreFault,
             StoreFault::Failed => Refusal::Failed,
         })
+    }
+}
+
+impl From<BatchFault> for Failure {
+    ghost use Rattle.std.specs.Prelude.{◌≡◌};
+    ghost use Rattle.rtgs_desk_cli.specs.declared.failure.Failure.TheVariants.{Orders};
+
+    ghost from_gives = { λ fault failure. failure ≡ Orders fault };
+
+    fn from(fault: BatchFault) -> Failure {
+        Failure::Orders(fault)
     }
 }
 

@@ -2,10 +2,13 @@
 #![tactic(auto)]
 
 mod book_file;
+mod command_words;
 mod done;
 mod failure;
 mod request;
 mod run;
+mod spelling;
+mod texts;
 mod word_fault;
 mod words;
 

@@ -1,13 +1,16 @@
 //! One run of the program.
-ghost use Rattle.std.specs.Prelude.{◌≡◌, ◌≤◌};
+ghost use Rattle.std.specs.Prelude.{◌≡◌, ◌≤◌, ◌++◌, ◌∷◌, [], IfOk};
+ghost use Rattle.std.specs.Io.KnownBytes.{Appends};
+ghost use Rattle.rtgs_desk_cli.specs.Lines.{line_of};
+ghost use Rattle.rtgs_desk_cli.specs.declared.texts.Printed.{Printed};
 ghost use Rattle.rtgs_desk_cli.specs.Failures.{exit_status_of};
-ghost use Rattle.rtgs_desk_cli.specs.Requests.{IsServed};
 
-use crate::book_file;
 use crate::done::Done;
 use crate::failure::Failure;
 use crate::request::Request;
+use crate::texts::Printed;
 use crate::words::{Words, read_words};
+use crate::{book_file, texts};
 use clap::Error;
 use clap::error::ErrorKind;
 use rtgs_book::Refusal;
@@ -21,7 +24,8 @@ const MISUSED: u8 = 2;
 
 /// Prints what was done on standard output: 0, or 3 where it takes no line.
 fn say<O: Write>(out: &mut O, done: Done) -> u8
-    ensures { result ≤ 3 }
+    ensures status { result ≤ 3 }
+    ensures said { result ≡ 0 → Appends (O.contents out.old) (O.contents out.new) (line_of done ++ 10 ∷ []) }
 {
     match writeln!(out, "{done}") {
         Ok(()) => 0,
@@ -54,26 +58,57 @@ fn explain<O: Write, E: Write>(error: &Error, out: &mut O, err: &mut E) -> u8
     }
 }
 
-/// Does what was asked for.
-fn act(rt: &HostRuntime, request: &Request<'_>) -> Result<Done, Failure>
-    requires { IsServed request.now }
+/// The status of a text that was printed.
+fn status_of(printed: Printed) -> u8
+    ensures status { result ≤ 3 }
+    ensures stopped { printed ≡ Printed.Stopped → result ≡ 3 }
+{
+    match printed {
+        Printed::Whole => 0,
+        Printed::Stopped => FAILED,
+    }
+}
+
+/// Does what was asked for, and prints what came of it.
+fn act<O: Write>(rt: &HostRuntime, request: &Request<'_>, out: &mut O) -> Result<u8, Failure>
+    ensures { IfOk result (λ status. status ≤ 3) }
 {
     match *request {
         Request::Make { file } => match book_file::make(rt, file) {
-            Ok(()) => Ok(Done::Made),
+            Ok(()) => Ok(say(out, Done::Made)),
             Err(failure) => Err(failure),
         },
         Request::Submit { file, command } => match book_file::submit(rt, file, command) {
-            Ok(answer) => Ok(Done::Answered(answer)),
+            Ok(answer) => Ok(say(out, Done::Answered(answer))),
+            Err(failure) => Err(failure),
+        },
+        Request::Import {
+            file,
+            sender,
+            orders,
+        } => match texts::import(rt, file, sender, orders, out) {
+            Ok(printed) => Ok(status_of(printed)),
+            Err(failure) => Err(failure),
+        },
+        Request::Statement { file, code, date } => {
+            match texts::statement(rt, file, code, date, out) {
+                Ok(printed) => Ok(status_of(printed)),
+                Err(failure) => Err(failure),
+            }
+        }
+        Request::Report { file, date } => match texts::report(rt, file, date, out) {
+            Ok(printed) => Ok(status_of(printed)),
             Err(failure) => Err(failure),
         },
     }
 }
 
 /// Reads the words' forms, and does what they ask for.
-fn obey(rt: &HostRuntime, words: &Words<'_>) -> Result<Done, Failure> {
+fn obey<O: Write>(rt: &HostRuntime, words: &Words<'_>, out: &mut O) -> Result<u8, Failure>
+    ensures { IfOk result (λ status. status ≤ 3) }
+{
     match Request::read(rt.alloc(), words) {
-        Ok(request) => act(rt, &request),
+        Ok(request) => act(rt, &request, out),
         Err(fault) => Err(Failure::from(fault)),
     }
 }
@@ -90,8 +125,8 @@ pub fn run_words<O: Write, E: Write>(
     ensures { result ≤ 3 }
 {
     match read_words(rt.alloc(), words) {
-        Ok(Some(words)) => match obey(rt, &words) {
-            Ok(done) => say(out, done),
+        Ok(Some(words)) => match obey(rt, &words, out) {
+            Ok(status) => status,
             Err(failure) => refuse(err, failure),
         },
         Ok(None) => MISUSED,

@@ -2,7 +2,10 @@
 use crate::run_words;
 use std::test::Fail;
 
+mod days;
 mod files;
+mod gridlocks;
+mod imports;
 mod refusals;
 
 const KEY_A: &str = "0000000000000000000000000000000a";

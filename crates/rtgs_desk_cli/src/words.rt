@@ -1,6 +1,11 @@
 //! The words of a run, as the command line names them.
+use crate::command_words::CommandWords;
 use clap::{Arg, ArgAction, ArgMatches, Command, Error};
 use std::alloc::{AllocError, Global};
+
+mod accounts;
+mod days;
+mod texts;
 
 /// What a run was asked for, in words that have not been judged.
 #[derive(Clone, Copy, Debug)]
@@ -8,20 +13,21 @@ pub enum Words<'a> {
     Init {
         file: &'a str,
     },
-    Add {
+    Submit {
+        file: &'a str,
+        command: CommandWords<'a>,
+    },
+    Import {
         file: &'a str,
         code: &'a str,
-        name: &'a str,
-        key: &'a str,
+        orders: &'a str,
     },
-    Post {
+    Statement {
         file: &'a str,
         code: &'a str,
-        reference: &'a str,
-        cents: &'a str,
-        debit: bool,
+        date: &'a str,
     },
-    Open {
+    Report {
         file: &'a str,
         date: &'a str,
     },
@@ -46,62 +52,20 @@ fn word_argument<'a>(alloc: Global, id: &'a str, shown: &'a str, help: &'a str) 
         .allow_hyphen_values(true)
 }
 
+/// The code of a participant that is there.
+fn code_argument<'a>(alloc: Global) -> Arg<'a> {
+    word_argument(alloc, "code", "CODE", "The participant")
+}
+
+/// A business date.
+fn date_argument<'a>(alloc: Global) -> Arg<'a> {
+    word_argument(alloc, "date", "DATE", "The business date, as YYYY-MM-DD")
+}
+
 fn init_command<'a>(alloc: Global) -> Result<Command<'a>, AllocError> {
     Command::new(alloc, "init")
         .about("Makes a new book, without participants")
         .arg(file_argument(alloc))
-}
-
-fn add_command<'a>(alloc: Global) -> Result<Command<'a>, AllocError> {
-    let code = word_argument(
-        alloc,
-        "code",
-        "CODE",
-        "3 to 8 capitals and digits, a capital first",
-    );
-    let name = word_argument(alloc, "name", "NAME", "1 to 40 printable characters");
-    let key = word_argument(alloc, "key", "KEY", "32 characters of 0-9 and a-f");
-    Command::new(alloc, "add")
-        .about("Adds a participant")
-        .arg(file_argument(alloc))?
-        .arg(code)?
-        .arg(name)?
-        .arg(key)
-}
-
-fn post_command<'a>(alloc: Global) -> Result<Command<'a>, AllocError> {
-    let code = word_argument(alloc, "code", "CODE", "The participant");
-    let reference = word_argument(
-        alloc,
-        "reference",
-        "REFERENCE",
-        "1 to 16 capitals, digits and dashes, which name the posting for good",
-    );
-    let cents = word_argument(
-        alloc,
-        "cents",
-        "CENTS",
-        "The amount in cents, without a sign",
-    );
-    let debit = Arg::new(alloc, "debit")
-        .long("debit")
-        .help("Takes the amount from the account")
-        .action(ArgAction::SetTrue);
-    Command::new(alloc, "post")
-        .about("Posts an amount to a participant's account")
-        .arg(file_argument(alloc))?
-        .arg(code)?
-        .arg(reference)?
-        .arg(cents)?
-        .arg(debit)
-}
-
-fn open_command<'a>(alloc: Global) -> Result<Command<'a>, AllocError> {
-    let date = word_argument(alloc, "date", "DATE", "The business date, as YYYY-MM-DD");
-    Command::new(alloc, "open")
-        .about("Opens a business day")
-        .arg(file_argument(alloc))?
-        .arg(date)
 }
 
 fn desk_command<'a>(alloc: Global) -> Result<Command<'a>, AllocError> {
@@ -111,9 +75,16 @@ fn desk_command<'a>(alloc: Global) -> Result<Command<'a>, AllocError> {
         .no_binary_name(true)
         .subcommand_required(true)
         .subcommand(init_command(alloc)?)?
-        .subcommand(add_command(alloc)?)?
-        .subcommand(post_command(alloc)?)?
-        .subcommand(open_command(alloc)?)
+        .subcommand(accounts::add_command(alloc)?)?
+        .subcommand(accounts::credit_command(alloc)?)?
+        .subcommand(accounts::post_command(alloc)?)?
+        .subcommand(days::open_command(alloc)?)?
+        .subcommand(texts::import_command(alloc)?)?
+        .subcommand(days::resolve_command(alloc)?)?
+        .subcommand(days::cut_off_command(alloc)?)?
+        .subcommand(days::close_command(alloc)?)?
+        .subcommand(texts::statement_command(alloc)?)?
+        .subcommand(texts::report_command(alloc)?)
 }
 
 /// The word that was given for an argument. One that is missing reads as no characters, which no form takes.
@@ -121,29 +92,37 @@ fn word<'a>(matches: &ArgMatches<'a>, id: &str) -> &'a str {
     matches.get_str(id).unwrap_or("")
 }
 
-fn words_of<'a>(matches: &ArgMatches<'a>) -> Option<Words<'a>> {
-    match matches.subcommand() {
-        Some(("init", given)) => Some(Words::Init {
-            file: word(given, "file"),
-        }),
-        Some(("add", given)) => Some(Words::Add {
-            file: word(given, "file"),
-            code: word(given, "code"),
-            name: word(given, "name"),
-            key: word(given, "key"),
-        }),
-        Some(("post", given)) => Some(Words::Post {
-            file: word(given, "file"),
-            code: word(given, "code"),
-            reference: word(given, "reference"),
-            cents: word(given, "cents"),
-            debit: given.get_flag("debit"),
-        }),
-        Some(("open", given)) => Some(Words::Open {
-            file: word(given, "file"),
-            date: word(given, "date"),
-        }),
+/// The book's file, as it was given.
+fn file_word<'a>(matches: &ArgMatches<'a>) -> &'a str {
+    word(matches, "file")
+}
+
+/// The words of a command.
+fn command_words<'a>(name: &str, given: &ArgMatches<'a>) -> Option<CommandWords<'a>> {
+    match name {
+        "add" => Some(accounts::add_words(given)),
+        "credit" => Some(accounts::credit_words(given)),
+        "post" => Some(accounts::post_words(given)),
+        "open" => Some(days::open_words(given)),
+        "resolve" => Some(CommandWords::Resolve),
+        "cutoff" => Some(days::cut_off_words(given)),
+        "close" => Some(days::close_words(given)),
         _ => None,
+    }
+}
+
+fn words_of<'a>(matches: &ArgMatches<'a>) -> Option<Words<'a>> {
+    let (name, given) = matches.subcommand()?;
+    let file = file_word(given);
+    match name {
+        "init" => Some(Words::Init { file }),
+        "import" => Some(texts::import_words(given)),
+        "statement" => Some(texts::statement_words(given)),
+        "report" => Some(texts::report_words(given)),
+        _ => Some(Words::Submit {
+            file,
+            command: command_words(name, given)?,
+        }),
     }
 }
 
