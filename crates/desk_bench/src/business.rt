@@ -1,6 +1,5 @@
 //! Banks, and orders between them.
 ghost use Rattle.std.specs.Prelude.{IfOk};
-ghost use Rattle.rtgs_ledger.specs.Commands.{IsCarriedOut};
 
 use anyhow::{Context, Result};
 use rtgs_book::Command;
@@ -23,9 +22,7 @@ pub fn reference_of(alloc: Global, number: u64) -> Result<Reference> {
 }
 
 /// Adds a bank.
-pub fn addition(alloc: Global, bank: u64) -> Result<Command>
-    ensures { IfOk result IsCarriedOut }
-{
+pub fn addition(alloc: Global, bank: u64) -> Result<Command> {
     let key = format!(in alloc; "{bank:032}")?;
     let key = Key::read(key.as_bytes()).context("a key")?.digest();
     let code = code_of(alloc, bank)?;
@@ -34,9 +31,7 @@ pub fn addition(alloc: Global, bank: u64) -> Result<Command>
 }
 
 /// Gives a bank a million cents.
-pub fn endowment(alloc: Global, bank: u64) -> Result<Command>
-    ensures { IfOk result IsCarriedOut }
-{
+pub fn endowment(alloc: Global, bank: u64) -> Result<Command> {
     let code = code_of(alloc, bank)?;
     let reference = reference_of(alloc, bank)?;
     let cents = PostingAmount::from_cents(1_000_000).context("a posting")?;
@@ -47,18 +42,33 @@ pub fn endowment(alloc: Global, bank: u64) -> Result<Command>
     })
 }
 
-/// Opens a Monday.
-pub fn opening() -> Result<Command>
-    ensures { IfOk result IsCarriedOut }
-{
-    let monday = BusinessDate::from_number(20240304).context("a date")?;
-    Ok(Command::OpenDay(monday))
+/// The first day, a Monday.
+pub fn first_day() -> Result<BusinessDate> {
+    BusinessDate::from_number(20240304).context("a date")
+}
+
+/// The day after it.
+pub fn second_day() -> Result<BusinessDate> {
+    BusinessDate::from_number(20240305).context("a date")
+}
+
+/// Opens the first day.
+pub fn opening() -> Result<Command> {
+    Ok(Command::OpenDay(first_day()?))
+}
+
+/// Ends the first day, and opens the second.
+pub fn turning() -> Result<[Command; 3]> {
+    let (first, second) = (first_day()?, second_day()?);
+    Ok([
+        Command::CutOff(first),
+        Command::CloseDay(first),
+        Command::OpenDay(second),
+    ])
 }
 
 /// One cent from a bank to the next one.
-pub fn payment(alloc: Global, number: u64) -> Result<Command>
-    ensures { IfOk result IsCarriedOut }
-{
+pub fn payment(alloc: Global, number: u64) -> Result<Command> {
     Ok(Command::Order {
         sender: code_of(alloc, number % BANKS)?,
         reference: reference_of(alloc, number)?,

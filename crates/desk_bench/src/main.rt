@@ -1,15 +1,19 @@
 #![tactic(auto)]
-//! Opens a desk over books of growing size, and submits orders to it one by one, beside the bare store with the same
-//! rows. It prints how many orders stand in each book, which is the same in every run, and with the argument `times`,
-//! over larger books, how long it all took.
+//! Opens a desk over books of growing size, and submits orders to it one by one, beside the bare store
+//! with the same rows; then reports a day of a book of two, imports a file of orders, and settles rings
+//! of queued ones. It prints how many orders there are, which is the same in every run, and with the
+//! argument `times`, over larger books, how long it all took.
 mod bare;
 mod business;
+mod rings;
+mod texts;
 
 ghost use Rattle.std.specs.Prelude.{◌≤◌};
-ghost use Rattle.rtgs_ledger.specs.Commands.{IsCarriedOut};
 
 use crate::bare::{Store, write_order};
-use crate::business::{BANKS, addition, endowment, opening, payment};
+use crate::business::{
+    BANKS, addition, endowment, first_day, opening, payment, second_day, turning,
+};
 use anyhow::{Result, anyhow, ensure};
 use rtgs_book::Command;
 use rtgs_desk::Desk;
@@ -46,9 +50,7 @@ fn new_desk(rt: &HostRuntime, file: &str) -> Result<FileDesk> {
 }
 
 /// Gives the desk a command that it is to accept.
-fn give(desk: &mut FileDesk, command: Command) -> Result<()>
-    requires { IsCarriedOut command }
-{
+fn give(desk: &mut FileDesk, command: Command) -> Result<()> {
     match desk.submit(command) {
         Ok(_) => Ok(()),
         Err(refusal) => Err(anyhow!("refused: {refusal:?}")),
@@ -135,13 +137,74 @@ fn measure(rt: &HostRuntime, orders: u64, more: u64, timed: bool) -> Result<()>
     fill(rt, file.as_str(), orders)?;
     let store = opening_of_the_store(rt, file.as_str())?.as_micros();
     let desk = opening_of_the_desk(rt, file.as_str())?.as_micros();
+    let (reported, length) = texts::reporting(rt, file.as_str(), first_day()?)?;
     let (paid, written) = paying(rt, file.as_str(), orders, orders + more)?;
-    print!(rt; "{orders} orders, and {more} more")?;
+    print!(rt; "{orders} orders, with a report of {length} bytes, and {more} more")?;
     if timed {
         let (paid, written) = (paid.as_micros(), written.as_micros());
-        print!(rt;
-            ": opening {desk} us, the store alone {store} us; the others {paid} us, their bare rows {written} us"
-        )?;
+        let reported = reported.as_micros();
+        print!(rt; ": opening {desk} us, the store alone {store} us; the report {reported} us")?;
+        print!(rt; "; the others {paid} us, their bare rows {written} us")?;
+    }
+    println!(rt;)?;
+    Ok(())
+}
+
+/// Makes a book of two days with so many orders each.
+fn fill_two_days(rt: &HostRuntime, file: &str, first: u64, second: u64) -> Result<()>
+    requires { (first ≤ 100000) × (second ≤ 100000) }
+{
+    fill(rt, file, first)?;
+    let mut desk = desk_over(rt.alloc(), Connection::open(rt, file)?)?;
+    for command in turning()? {
+        give(&mut desk, command)?;
+    }
+    pay(rt.alloc(), &mut desk, first, first + second)?;
+    desk.into_keeper().into_connection().close()?;
+    Ok(())
+}
+
+/// Measures the report of a second day of so many orders, after a first one of others.
+fn measure_second_day(rt: &HostRuntime, first: u64, second: u64, timed: bool) -> Result<()>
+    requires { (first ≤ 100000) × (second ≤ 100000) }
+{
+    let file = format!(in rt.alloc(); "days-{first}.desk")?;
+    fill_two_days(rt, file.as_str(), first, second)?;
+    let (reported, length) = texts::reporting(rt, file.as_str(), second_day()?)?;
+    print!(rt; "{second} orders on the day after {first}, with a report of {length} bytes")?;
+    if timed {
+        let reported = reported.as_micros();
+        print!(rt; ": {reported} us")?;
+    }
+    println!(rt;)?;
+    Ok(())
+}
+
+/// Measures the import of so many orders into a book of others.
+fn measure_import(rt: &HostRuntime, orders: u64, rows: u64, timed: bool) -> Result<()>
+    requires { (orders ≤ 100000) × (rows ≤ 500) }
+{
+    let (imported, written) = texts::importing(rt, orders, rows)?;
+    print!(rt; "{rows} orders imported into {orders}")?;
+    if timed {
+        let (imported, written) = (imported.as_micros(), written.as_micros());
+        print!(rt; ": {imported} us, their bare rows {written} us")?;
+    }
+    println!(rt;)?;
+    Ok(())
+}
+
+/// Measures rings of so many orders a bank.
+fn measure_rings(rt: &HostRuntime, queued: u64, timed: bool) -> Result<()>
+    requires { queued ≤ 500 }
+{
+    let (count, times) = rings::measure(rt, queued)?;
+    print!(rt; "{queued} orders queued by each bank, {count} settled under one mark")?;
+    if timed {
+        let resolver = times.resolver.as_micros();
+        let commit = times.commit.as_micros();
+        let whole = times.whole.as_micros();
+        print!(rt; ": the resolver {resolver} us, the commit {commit} us, the whole {whole} us")?;
     }
     println!(rt;)?;
     Ok(())
@@ -149,10 +212,21 @@ fn measure(rt: &HostRuntime, orders: u64, more: u64, timed: bool) -> Result<()>
 
 fn main(rt: HostRuntime) -> Result<()> {
     let timed = env::args(&rt)?.any(|word| word.as_str() == "times");
-    if timed {
-        measure(&rt, 5_000, 1_000, true)?;
-        measure(&rt, 10_000, 1_000, true)?;
-        return measure(&rt, 20_000, 1_000, true);
+    if !timed {
+        measure(&rt, 200, 100, false)?;
+        measure_second_day(&rt, 200, 50, false)?;
+        measure_import(&rt, 100, 20, false)?;
+        return measure_rings(&rt, 3, false);
     }
-    measure(&rt, 200, 100, false)
+    for orders in [5_000, 10_000, 20_000] {
+        measure(&rt, orders, 1_000, true)?;
+    }
+    for orders in [5_000, 15_000] {
+        measure_second_day(&rt, orders, 5_000, true)?;
+    }
+    measure_import(&rt, 10_000, 500, true)?;
+    for queued in [100, 250, 500] {
+        measure_rings(&rt, queued, true)?;
+    }
+    Ok(())
 }

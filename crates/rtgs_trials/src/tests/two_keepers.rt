@@ -1,5 +1,6 @@
-//! A thousand commands over both keepers. The file is closed and opened again every fifty.
+//! Five thousand commands over both keepers. The file is closed and opened again every fifty.
 use super::business::Business;
+use super::seen::Seen;
 use rtgs_book::{Book, Rows};
 use rtgs_desk::Desk;
 use rtgs_tables::{Keeper, MemoryKeeper, SqlKeeper};
@@ -44,14 +45,18 @@ fn is_same_book(one: &Book, other: &Book) -> bool {
 }
 
 #[test]
-fn a_thousand_commands_end_in_one_book(rt: HostRuntime) -> Result<(), Fail> {
+fn five_thousand_commands_end_in_one_book(rt: HostRuntime) -> Result<(), Fail> {
     let alloc = rt.alloc();
     let mut business = Business::new(alloc, 2024);
     let mut filed = made(&rt)?;
     let mut held = desk_over(alloc, MemoryKeeper::new(alloc))?;
-    for number in 0..1000u32 {
+    let mut seen = Seen::default();
+    for number in 0..5000u32 {
         let command = business.command()?;
-        assert_eq!(rt; filed.submit(command), held.submit(command), "{command:?}");
+        let reply = held.submit(command);
+        business.hear(&reply);
+        seen.count(&reply);
+        assert_eq!(rt; filed.submit(command), reply, "{command:?}");
         if number % 50 == 49 {
             filed = opened_again(&rt, filed)?;
         }
@@ -59,7 +64,6 @@ fn a_thousand_commands_end_in_one_book(rt: HostRuntime) -> Result<(), Fail> {
     let in_the_file = filed.into_keeper().load(alloc)?;
     let in_memory = held.into_keeper().load(alloc)?;
     assert!(rt; is_same_book(&in_the_file, &in_memory));
-    assert!(rt; in_memory.orders.len() > 100);
-    assert!(rt; in_memory.marks.len() > 20);
+    assert!(rt; seen.is_varied(), "{seen:?}");
     Ok(())
 }

@@ -1,0 +1,87 @@
+//! A file of orders that comes in, and a day report that goes out.
+ghost use Rattle.std.specs.Prelude.{◌≤◌};
+
+use crate::bare::write_order;
+use crate::business::code_of;
+use crate::{FileDesk, desk_over, fill};
+use anyhow::{Result, anyhow, ensure};
+use rtgs_exchange::{read_orders, submit_batch, write_results};
+use rtgs_money::BusinessDate;
+use rtgs_statements::day_report;
+use sqlite::Connection;
+use std::alloc::Global;
+use std::fmt::Write;
+use std::time::{Duration, Instant};
+
+/// A file of so many orders of one cent each.
+fn order_file(alloc: Global, rows: u64) -> Result<String> {
+    let receiver = code_of(alloc, 1)?;
+    let mut text = String::from_str(alloc, "reference,to,amount\n")?;
+    for row in 0..rows {
+        writeln!(text, "I-{row},{receiver},1")?;
+    }
+    Ok(text)
+}
+
+/// Reads the file, submits its orders, and writes their results: how many bytes these have.
+fn import(alloc: Global, desk: &mut FileDesk, text: &str) -> Result<usize> {
+    let sender = code_of(alloc, 0)?;
+    let rows = match read_orders(alloc, text.as_bytes()) {
+        Ok(rows) => rows,
+        Err(fault) => return Err(anyhow!("the file: {fault:?}")),
+    };
+    let batch = submit_batch(alloc, desk, sender, rows.as_slice())?;
+    let mut results = Vec::new(alloc);
+    match write_results(alloc, &mut results, rows.as_slice(), &batch) {
+        Ok(()) => Ok(results.len()),
+        Err(fault) => Err(anyhow!("the results: {fault:?}")),
+    }
+}
+
+/// Writes as many orders to the store alone, after these.
+fn write_orders(
+    alloc: Global,
+    conn: &mut Connection<crate::bare::Store>,
+    from: u64,
+    rows: u64,
+) -> Result<()>
+    requires { (from ≤ 200000) × (rows ≤ 500) }
+{
+    for number in from..from + rows {
+        write_order(alloc, conn, number)?;
+    }
+    Ok(())
+}
+
+/// How long it takes to import so many orders into a book of others, and to write as many to the store alone.
+pub fn importing(rt: &HostRuntime, orders: u64, rows: u64) -> Result<(Duration, Duration)>
+    requires { (orders ≤ 100000) × (rows ≤ 500) }
+{
+    let file = format!(in rt.alloc(); "imports-{orders}.desk")?;
+    fill(rt, file.as_str(), orders)?;
+    let text = order_file(rt.alloc(), rows)?;
+    let mut desk = desk_over(rt.alloc(), Connection::open(rt, file.as_str())?)?;
+    let start = Instant::now(rt)?;
+    let length = import(rt.alloc(), &mut desk, text.as_str())?;
+    let imported = start.elapsed(rt)?;
+    ensure!(length > 0, "no results");
+    let mut conn = desk.into_keeper().into_connection();
+    let start = Instant::now(rt)?;
+    write_orders(rt.alloc(), &mut conn, orders + rows, rows)?;
+    Ok((imported, start.elapsed(rt)?))
+}
+
+/// How long a desk takes for the report of a day, and how many bytes it has.
+pub fn reporting(rt: &HostRuntime, file: &str, date: BusinessDate) -> Result<(Duration, usize)> {
+    let desk = desk_over(rt.alloc(), Connection::open(rt, file)?)?;
+    let start = Instant::now(rt)?;
+    let report = match desk.report_of(date) {
+        Ok(report) => report,
+        Err(refusal) => return Err(anyhow!("refused: {refusal:?}")),
+    };
+    let mut text = Vec::new(rt.alloc());
+    match day_report(rt.alloc(), &mut text, &report) {
+        Ok(()) => Ok((start.elapsed(rt)?, text.len())),
+        Err(fault) => Err(anyhow!("the report: {fault:?}")),
+    }
+}
