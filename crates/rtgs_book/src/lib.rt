@@ -19,8 +19,6 @@ mod refusal;
 mod rows;
 mod rule;
 mod rules;
-#[cfg(test)]
-mod tests;
 
 pub use crate::answer::{Answer, Known};
 pub use crate::book::Book;

@@ -6,6 +6,3 @@ mod reading;
 
 pub use crate::desk::Desk;
 pub use crate::reading::AccountReading;
-
-#[cfg(test)]
-mod tests;

@@ -14,6 +14,3 @@ mod words;
 
 pub use crate::failure::Failure;
 pub use crate::run::run_words;
-
-#[cfg(test)]
-mod tests;

@@ -15,6 +15,3 @@ pub use crate::batch_result::{BatchResult, RowReply};
 pub use crate::order_file::read_orders;
 pub use crate::order_row::OrderRow;
 pub use crate::results::write_results;
-
-#[cfg(test)]
-mod tests;

@@ -13,6 +13,3 @@ mod records;
 
 pub use crate::account::Account;
 pub use crate::ledger::Ledger;
-
-#[cfg(test)]
-mod tests;

@@ -210,6 +210,3 @@ fn queues_of(alloc: Global, orders: &[Order]) -> Result<Queues, AllocError>
     }
     Ok(queues)
 }
-
-#[cfg(test)]
-mod tests;

@@ -14,8 +14,6 @@ mod lexical;
 mod name;
 mod posting_amount;
 mod reference;
-#[cfg(test)]
-mod tests;
 mod text;
 mod units;
 

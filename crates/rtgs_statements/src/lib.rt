@@ -20,6 +20,3 @@ pub use crate::fault::TextFault;
 pub use crate::report::{Report, day_report};
 pub use crate::sending::send_all;
 pub use crate::statement::{Statement, statement_text};
-
-#[cfg(test)]
-mod tests;

@@ -20,6 +20,3 @@ mod table_row;
 pub use crate::keeper::{Keeper, StoreFault};
 pub use crate::memory_keeper::MemoryKeeper;
 pub use crate::sql_keeper::SqlKeeper;
-
-#[cfg(test)]
-mod tests;

@@ -19,9 +19,6 @@ use rtgs_book::{
 use rtgs_money::{Code, Credit};
 use std::alloc::{AllocError, Global};
 
-#[cfg(test)]
-mod tests;
-
 /// Keeps a book in memory alone, so that nothing is left of it once the keeper is gone. It refuses where memory is
 /// refused, and never fails.
 #[derive(Debug, Drop)]

@@ -1,0 +1,82 @@
+//! Whole runs, by their words, and what they print.
+use rtgs_desk_cli::run_words;
+use std::test::Fail;
+
+mod days;
+mod files;
+mod gridlocks;
+mod imports;
+mod refusals;
+
+const KEY_A: &str = "0000000000000000000000000000000a";
+
+const KEY_B: &str = "0000000000000000000000000000000b";
+
+/// A run over these words prints this one text, on standard output with status 0 and else on standard error.
+fn prints(rt: &HostRuntime, words: &[&str], text: &str, status: u8) -> Result<(), Fail> {
+    let alloc = rt.alloc();
+    let mut out = Vec::new(alloc);
+    let mut err = Vec::new(alloc);
+    let ended = run_words(rt, words, &mut out, &mut err);
+    let (said, silent) = if status == 0 { (out, err) } else { (err, out) };
+    let said = std::str::from_utf8(said.as_slice())?;
+    if said == text && silent.is_empty() && ended == status {
+        return Ok(());
+    }
+    let found = format!(in alloc; "{words:?} ended with {ended} and said {said:?} {silent:?}")?;
+    Err(Fail::from(found))
+}
+
+/// A book with ALFA in it. All tests share a folder, so that each has a file of its own.
+fn begin(rt: &HostRuntime, file: &str) -> Result<(), Fail> {
+    prints(rt, &["init", file], "initialised\n", 0)?;
+    prints(rt, &["add", file, "ALFA", "Alfa Bank", KEY_A], "added\n", 0)
+}
+
+#[test]
+fn a_book_is_made_and_posted_to(rt: HostRuntime) -> Result<(), Fail> {
+    let rows: [(&[&str], &str, u8); 8] = [
+        (&["init", "F"], "initialised\n", 0),
+        (&["init", "F"], "refused 96 FileExists\n", 3),
+        (&["add", "F", "ALFA", "Alfa Bank", KEY_A], "added\n", 0),
+        (
+            &["add", "F", "BETA", "Beta Bank", KEY_A],
+            "refused 11 KeyTaken\n",
+            1,
+        ),
+        (&["post", "F", "ALFA", "P-1", "1000"], "posted 1\n", 0),
+        (&["post", "F", "ALFA", "P-1", "1000"], "repeated\n", 0),
+        (
+            &["post", "F", "ALFA", "P-1", "999"],
+            "refused 04 ReferenceUsed\n",
+            1,
+        ),
+        (
+            &["post", "F", "ALFA", "P-2", "1001", "--debit"],
+            "refused 06 NoCover\n",
+            1,
+        ),
+    ];
+    for (words, text, status) in rows {
+        prints(&rt, words, text, status)?;
+    }
+    Ok(())
+}
+
+#[test]
+fn help_and_faults_of_the_command_line(rt: HostRuntime) -> Result<(), Fail> {
+    let mut out = Vec::new(rt.alloc());
+    let mut err = Vec::new(rt.alloc());
+    assert_eq!(rt; run_words(&rt, &["--help"], &mut out, &mut err), 0);
+    assert!(rt; std::str::from_utf8(out.as_slice())?.contains("desk <COMMAND>"));
+    assert!(rt; err.is_empty());
+    out.clear();
+    let none: &[&str] = &[];
+    for words in [none, &["init"], &["pay", "F"], &["init", "F", "G"]] {
+        err.clear();
+        assert_eq!(rt; run_words(&rt, words, &mut out, &mut err), 2, "{words:?}");
+        assert!(rt; out.is_empty());
+        assert!(rt; !err.is_empty());
+    }
+    Ok(())
+}
