@@ -1,29 +1,15 @@
 //! Runs that print a text: the results of a file of orders, a statement, a report.
-ghost use Rattle.std.specs.Prelude.{◌≡◌, Some};
-ghost use Rattle.rtgs_book.specs.declared.refusal.Refusal.{Refusal};
-ghost use Rattle.rtgs_desk_cli.specs.declared.texts.Printed.{Printed};
-
-use crate::book_file::{FileKeeper, close, lock, open};
-use crate::failure::Failure;
 use rtgs_book::Refusal;
-use rtgs_desk::Desk;
+use rtgs_book_file::{FileDesk, with_desk};
+use rtgs_desk_lines::{Failure, Printed};
 use rtgs_exchange::{BatchResult, OrderRow, read_orders, submit_batch, write_results};
 use rtgs_money::{BusinessDate, Code};
-use rtgs_statements::{TextFault, day_report, statement_text};
+use rtgs_statements::{day_report, statement_text};
 use std::fs::File;
 use std::io::{ErrorKind, Read, Write};
 
 /// The most bytes that a file of orders may have.
 const MOST_BYTES: u64 = 65_536;
-
-/// What became of a text.
-#[derive(Clone, Copy, Debug, PartialEq, Eq)]
-pub enum Printed {
-    /// It was printed whole, and all was done.
-    Whole,
-    /// The batch stopped, or standard output took no more.
-    Stopped,
-}
 
 /// The bytes of a file of orders.
 fn read_file(rt: &HostRuntime, path: &str) -> Result<Vec<u8>, Failure> {
@@ -44,7 +30,7 @@ fn read_file(rt: &HostRuntime, path: &str) -> Result<Vec<u8>, Failure> {
 /// Submits the orders of a file.
 fn submit_file(
     rt: &HostRuntime,
-    desk: &mut Desk<FileKeeper>,
+    desk: &mut FileDesk,
     sender: Code,
     orders: &str,
 ) -> Result<(Vec<OrderRow>, BatchResult), Failure> {
@@ -57,15 +43,6 @@ fn submit_file(
     Ok((rows, batch))
 }
 
-/// What became of a text that was written like this.
-fn outcome_of(written: Result<(), TextFault>) -> Result<Printed, Failure> {
-    match written {
-        Ok(()) => Ok(Printed::Whole),
-        Err(TextFault::OutOfMemory) => Err(Failure::Refused(Refusal::OutOfMemory)),
-        Err(TextFault::Write(_)) => Ok(Printed::Stopped),
-    }
-}
-
 /// Opens the book in a file, submits a participant's file of orders to its desk, closes it, and prints the results.
 pub fn import<O: Write>(
     rt: &HostRuntime,
@@ -74,23 +51,10 @@ pub fn import<O: Write>(
     orders: &str,
     out: &mut O,
 ) -> Result<Printed, Failure> {
-    let _lock = lock(rt, file)?;
-    let mut desk = open(rt, file)?;
-    let submitted = submit_file(rt, &mut desk, sender, orders);
-    close(desk.into_keeper());
+    let submitted = with_desk(rt, file, |desk| submit_file(rt, desk, sender, orders))?;
     let (rows, batch) = submitted?;
-    let written = outcome_of(write_results(rt.alloc(), out, rows.as_slice(), &batch))?;
-    Ok(end_of(written, batch.stopped))
-}
-
-/// How an import ends: as its text, or stopped where the batch stopped.
-fn end_of(written: Printed, stopped: Option<Refusal>) -> Printed
-    ensures { (refusal : Refusal) → stopped ≡ Some refusal → result ≡ Printed.Stopped }
-{
-    match stopped {
-        None => written,
-        Some(_) => Printed::Stopped,
-    }
+    let printed = Printed::of(write_results(rt.alloc(), out, rows.as_slice(), &batch))?;
+    Ok(printed.after_batch(batch.stopped))
 }
 
 /// Opens the book in a file, and prints a participant's statement.
@@ -101,11 +65,8 @@ pub fn statement<O: Write>(
     date: BusinessDate,
     out: &mut O,
 ) -> Result<Printed, Failure> {
-    let _lock = lock(rt, file)?;
-    let desk = open(rt, file)?;
-    let statement = desk.statement_of(&code, date);
-    close(desk.into_keeper());
-    outcome_of(statement_text(rt.alloc(), out, &statement?))
+    let statement = with_desk(rt, file, |desk| desk.statement_of(&code, date))?;
+    Printed::of(statement_text(rt.alloc(), out, &statement?))
 }
 
 /// Opens the book in a file, and prints the report of a day.
@@ -115,9 +76,6 @@ pub fn report<O: Write>(
     date: BusinessDate,
     out: &mut O,
 ) -> Result<Printed, Failure> {
-    let _lock = lock(rt, file)?;
-    let desk = open(rt, file)?;
-    let report = desk.report_of(date);
-    close(desk.into_keeper());
-    outcome_of(day_report(rt.alloc(), out, &report?))
+    let report = with_desk(rt, file, |desk| desk.report_of(date))?;
+    Printed::of(day_report(rt.alloc(), out, &report?))
 }

@@ -1,0 +1,92 @@
+//! Participants, their credit and their postings, as the command line names them.
+use crate::{code_argument, file_argument, word, word_argument};
+use clap::{Arg, ArgAction, ArgMatches, Command};
+use rtgs_desk_requests::CommandWords;
+use std::alloc::{AllocError, Global};
+
+/// The subcommand that adds a participant: a book's file, a code, a name and a key.
+pub fn add_command<'a>(alloc: Global) -> Result<Command<'a>, AllocError> {
+    let code = word_argument(
+        alloc,
+        "code",
+        "CODE",
+        "3 to 8 capitals and digits, a capital first",
+    );
+    let name = word_argument(alloc, "name", "NAME", "1 to 40 printable characters");
+    let key = word_argument(alloc, "key", "KEY", "32 characters of 0-9 and a-f");
+    Command::new(alloc, "add")
+        .about("Adds a participant")
+        .arg(file_argument(alloc))?
+        .arg(code)?
+        .arg(name)?
+        .arg(key)
+}
+
+/// The code, the name and the key of a participant, as they were given.
+pub fn add_words<'a>(given: &ArgMatches<'a>) -> CommandWords<'a> {
+    CommandWords::Add {
+        code: word(given, "code"),
+        name: word(given, "name"),
+        key: word(given, "key"),
+    }
+}
+
+/// The subcommand that sets a credit limit: a book's file, a participant and an amount.
+pub fn credit_command<'a>(alloc: Global) -> Result<Command<'a>, AllocError> {
+    let cents = word_argument(
+        alloc,
+        "cents",
+        "CENTS",
+        "How far below zero the balance may go, in cents",
+    );
+    Command::new(alloc, "credit")
+        .about("Sets the credit limit of a participant")
+        .arg(file_argument(alloc))?
+        .arg(code_argument(alloc))?
+        .arg(cents)
+}
+
+/// The participant and the credit limit, as they were given.
+pub fn credit_words<'a>(given: &ArgMatches<'a>) -> CommandWords<'a> {
+    CommandWords::Credit {
+        code: word(given, "code"),
+        cents: word(given, "cents"),
+    }
+}
+
+/// The subcommand that posts an amount: a book's file, a participant, a reference, the amount and the flag of a debit.
+pub fn post_command<'a>(alloc: Global) -> Result<Command<'a>, AllocError> {
+    let reference = word_argument(
+        alloc,
+        "reference",
+        "REFERENCE",
+        "1 to 16 capitals, digits and dashes, which name the posting for good",
+    );
+    let cents = word_argument(
+        alloc,
+        "cents",
+        "CENTS",
+        "The amount in cents, without a sign",
+    );
+    let debit = Arg::new(alloc, "debit")
+        .long("debit")
+        .help("Takes the amount from the account")
+        .action(ArgAction::SetTrue);
+    Command::new(alloc, "post")
+        .about("Posts an amount to a participant's account")
+        .arg(file_argument(alloc))?
+        .arg(code_argument(alloc))?
+        .arg(reference)?
+        .arg(cents)?
+        .arg(debit)
+}
+
+/// The participant, the reference and the amount of a posting, as they were given, and whether it is a debit.
+pub fn post_words<'a>(given: &ArgMatches<'a>) -> CommandWords<'a> {
+    CommandWords::Post {
+        code: word(given, "code"),
+        reference: word(given, "reference"),
+        cents: word(given, "cents"),
+        debit: given.get_flag("debit"),
+    }
+}

@@ -1,0 +1,109 @@
+//! The arguments of the program, as the command line names them.
+#![tactic(auto)]
+
+use clap::{Arg, ArgAction, ArgMatches, Command, Error};
+use rtgs_desk_requests::{CommandWords, Words};
+use std::alloc::{AllocError, Global};
+
+mod accounts;
+mod days;
+mod texts;
+
+/// The book's file, which each subcommand takes first.
+fn file_argument<'a>(alloc: Global) -> Arg<'a> {
+    Arg::new(alloc, "file")
+        .value_name("FILE")
+        .help("The file of the book")
+        .required(true)
+        .action(ArgAction::Set)
+}
+
+/// A word that its own form judges, also where it begins with a dash.
+fn word_argument<'a>(alloc: Global, id: &'a str, shown: &'a str, help: &'a str) -> Arg<'a> {
+    Arg::new(alloc, id)
+        .value_name(shown)
+        .help(help)
+        .required(true)
+        .action(ArgAction::Set)
+        .allow_hyphen_values(true)
+}
+
+/// The code of a participant that is there.
+fn code_argument<'a>(alloc: Global) -> Arg<'a> {
+    word_argument(alloc, "code", "CODE", "The participant")
+}
+
+/// A business date.
+fn date_argument<'a>(alloc: Global) -> Arg<'a> {
+    word_argument(alloc, "date", "DATE", "The business date, as YYYY-MM-DD")
+}
+
+fn init_command<'a>(alloc: Global) -> Result<Command<'a>, AllocError> {
+    Command::new(alloc, "init")
+        .about("Makes a new book, without participants")
+        .arg(file_argument(alloc))
+}
+
+fn desk_command<'a>(alloc: Global) -> Result<Command<'a>, AllocError> {
+    Command::new(alloc, "desk")
+        .about("The settlement desk of a central bank")
+        .bin_name("desk")?
+        .no_binary_name(true)
+        .subcommand_required(true)
+        .subcommand(init_command(alloc)?)?
+        .subcommand(accounts::add_command(alloc)?)?
+        .subcommand(accounts::credit_command(alloc)?)?
+        .subcommand(accounts::post_command(alloc)?)?
+        .subcommand(days::open_command(alloc)?)?
+        .subcommand(texts::import_command(alloc)?)?
+        .subcommand(days::resolve_command(alloc)?)?
+        .subcommand(days::cut_off_command(alloc)?)?
+        .subcommand(days::close_command(alloc)?)?
+        .subcommand(texts::statement_command(alloc)?)?
+        .subcommand(texts::report_command(alloc)?)
+}
+
+/// The word that was given for an argument. One that is missing reads as no characters, which no form takes.
+fn word<'a>(matches: &ArgMatches<'a>, id: &str) -> &'a str {
+    matches.get_str(id).unwrap_or("")
+}
+
+/// The book's file, as it was given.
+fn file_word<'a>(matches: &ArgMatches<'a>) -> &'a str {
+    word(matches, "file")
+}
+
+/// The words of a command.
+fn command_words<'a>(name: &str, given: &ArgMatches<'a>) -> Option<CommandWords<'a>> {
+    match name {
+        "add" => Some(accounts::add_words(given)),
+        "credit" => Some(accounts::credit_words(given)),
+        "post" => Some(accounts::post_words(given)),
+        "open" => Some(days::open_words(given)),
+        "resolve" => Some(CommandWords::Resolve),
+        "cutoff" => Some(days::cut_off_words(given)),
+        "close" => Some(days::close_words(given)),
+        _ => None,
+    }
+}
+
+fn words_of<'a>(matches: &ArgMatches<'a>) -> Option<Words<'a>> {
+    let (name, given) = matches.subcommand()?;
+    let file = file_word(given);
+    match name {
+        "init" => Some(Words::Init { file }),
+        "import" => Some(texts::import_words(given)),
+        "statement" => Some(texts::statement_words(given)),
+        "report" => Some(texts::report_words(given)),
+        _ => Some(Words::Submit {
+            file,
+            command: command_words(name, given)?,
+        }),
+    }
+}
+
+/// What the words ask for, or the fault or the help of the command line.
+pub fn read_words<'a>(alloc: Global, words: &'a [&'a str]) -> Result<Option<Words<'a>>, Error> {
+    let matches = desk_command(alloc)?.try_get_matches_from(words)?;
+    Ok(words_of(&matches))
+}

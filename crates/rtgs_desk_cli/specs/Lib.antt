@@ -1,4 +1,0 @@
-pub mod Failures
-pub mod Lines
-pub mod Requests
-pub mod Words

@@ -1,0 +1,59 @@
+//! The words of a command.
+ghost use Rattle.rtgs_desk_requests.specs.Requests.{ReadsCommand};
+
+use crate::spelling::{read_add, read_close, read_credit, read_cut_off, read_open, read_post};
+use crate::word_fault::WordFault;
+use rtgs_book::Command;
+use std::alloc::Global;
+
+/// A command, in words that have not been judged.
+#[derive(Clone, Copy, Debug)]
+pub enum CommandWords<'a> {
+    Add {
+        code: &'a str,
+        name: &'a str,
+        key: &'a str,
+    },
+    Credit {
+        code: &'a str,
+        cents: &'a str,
+    },
+    Post {
+        code: &'a str,
+        reference: &'a str,
+        cents: &'a str,
+        debit: bool,
+    },
+    Open {
+        date: &'a str,
+    },
+    Resolve,
+    CutOff {
+        date: &'a str,
+    },
+    Close {
+        date: &'a str,
+    },
+}
+
+impl CommandWords<'_> {
+    /// The command, or the refusal of the first word, from the left, that is not of its form.
+    pub fn read(self, alloc: Global) -> Result<Command, WordFault>
+        ensures { ReadsCommand self.entry result }
+    {
+        match self {
+            CommandWords::Add { code, name, key } => Ok(read_add(code, name, key)?),
+            CommandWords::Credit { code, cents } => Ok(read_credit(code, cents)?),
+            CommandWords::Post {
+                code,
+                reference,
+                cents,
+                debit,
+            } => read_post(alloc, code, reference, cents, debit),
+            CommandWords::Open { date } => Ok(read_open(date)?),
+            CommandWords::Resolve => Ok(Command::Resolve),
+            CommandWords::CutOff { date } => Ok(read_cut_off(date)?),
+            CommandWords::Close { date } => Ok(read_close(date)?),
+        }
+    }
+}

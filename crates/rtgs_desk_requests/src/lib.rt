@@ -1,0 +1,13 @@
+//! What a run is asked for: its words, each judged by its form from left to right, become a request.
+#![tactic(auto)]
+
+mod command_words;
+mod request;
+mod spelling;
+mod word_fault;
+mod words;
+
+pub use crate::command_words::CommandWords;
+pub use crate::request::Request;
+pub use crate::word_fault::WordFault;
+pub use crate::words::Words;

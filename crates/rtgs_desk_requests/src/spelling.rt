@@ -1,0 +1,106 @@
+//! The values that words spell, judged from left to right.
+ghost use Rattle.std.specs.Prelude.{◌≡◌};
+ghost use Rattle.rtgs_book.specs.declared.command.Command.TheVariants.{OpenDay, CutOff, CloseDay};
+ghost use Rattle.rtgs_desk_requests.specs.Words.{ReadsAdd, ReadsCode, ReadsCredit, ReadsPost, ReadsCents, ReadsDate, ReadsDay, ReadsStatement};
+
+use crate::word_fault::WordFault;
+use rtgs_book::Command;
+use rtgs_money::{BusinessDate, Code, Credit, Key, Lexical, Name, PostingAmount, Reference};
+use std::alloc::Global;
+
+/// The addition that the words spell.
+pub fn read_add(code: &str, name: &str, key: &str) -> Result<Command, Lexical>
+    ensures { ReadsAdd code.now name.now key.now result }
+{
+    let code = Code::read(code.as_bytes())?;
+    let name = Name::read(name.as_bytes())?;
+    let key = Key::read(key.as_bytes())?.digest();
+    Ok(Command::Add { code, name, key })
+}
+
+/// The setting of a credit limit that the words spell.
+pub fn read_credit(code: &str, cents: &str) -> Result<Command, Lexical>
+    ensures { ReadsCredit code.now cents.now result }
+{
+    let code = Code::read(code.as_bytes())?;
+    let credit = Credit::read(cents.as_bytes())?;
+    Ok(Command::SetCredit { code, credit })
+}
+
+/// The posting that the words spell.
+pub fn read_post(
+    alloc: Global,
+    code: &str,
+    reference: &str,
+    cents: &str,
+    debit: bool,
+) -> Result<Command, WordFault>
+    ensures { ReadsPost code.now reference.now cents.now debit result }
+{
+    let code = Code::read(code.as_bytes())?;
+    let reference = Reference::read(reference.as_bytes())?;
+    let cents = read_cents(alloc, cents, debit)?;
+    Ok(Command::Post {
+        code,
+        reference,
+        cents,
+    })
+}
+
+/// The amount of a posting from a word without a sign.
+fn read_cents(alloc: Global, cents: &str, debit: bool) -> Result<PostingAmount, WordFault>
+    ensures { ReadsCents cents.now debit result }
+{
+    if cents.starts_with('-') {
+        return Err(WordFault::Form(Lexical::BadAmount));
+    }
+    if !debit {
+        return Ok(PostingAmount::read(cents.as_bytes())?);
+    }
+    let signed = format!(in alloc; "-{cents}")?;
+    Ok(PostingAmount::read(signed.as_bytes())?)
+}
+
+/// The opening of a day that the word spells.
+pub fn read_open(date: &str) -> Result<Command, Lexical>
+    ensures { ReadsDay OpenDay date.now result }
+{
+    Ok(Command::OpenDay(read_date(date)?))
+}
+
+/// The cut-off of a day that the word spells.
+pub fn read_cut_off(date: &str) -> Result<Command, Lexical>
+    ensures { ReadsDay CutOff date.now result }
+{
+    Ok(Command::CutOff(read_date(date)?))
+}
+
+/// The closing of a day that the word spells.
+pub fn read_close(date: &str) -> Result<Command, Lexical>
+    ensures { ReadsDay CloseDay date.now result }
+{
+    Ok(Command::CloseDay(read_date(date)?))
+}
+
+/// The code that the word spells.
+pub fn read_code(code: &str) -> Result<Code, Lexical>
+    ensures { ReadsCode code.now result }
+{
+    Code::read(code.as_bytes())
+}
+
+/// The date that the word spells.
+pub fn read_date(date: &str) -> Result<BusinessDate, Lexical>
+    ensures { ReadsDate date.now result }
+{
+    BusinessDate::read(date.as_bytes())
+}
+
+/// The participant and the date of a statement that the words spell.
+pub fn read_statement(code: &str, date: &str) -> Result<(Code, BusinessDate), Lexical>
+    ensures { ReadsStatement code.now date.now result }
+{
+    let code = Code::read(code.as_bytes())?;
+    let date = BusinessDate::read(date.as_bytes())?;
+    Ok((code, date))
+}
