@@ -4,130 +4,21 @@
 //! of queued ones. It prints how many orders there are, which is the same in every run, and with the
 //! argument `times`, over larger books, how long it all took.
 mod bare;
+mod books;
 mod business;
+mod openings;
+mod orders;
 mod rings;
 mod texts;
 
 ghost use Rattle.std.specs.Prelude.{◌≤◌};
 
-use crate::bare::{Store, write_order};
-use crate::business::{
-    BANKS, addition, endowment, first_day, opening, payment, second_day, turning,
-};
-use anyhow::{Result, anyhow, ensure};
-use rtgs_book::Command;
-use rtgs_desk::Desk;
-use rtgs_tables::SqlKeeper;
-use sqlite::Connection;
-use std::alloc::Global;
+use crate::books::{fill, fill_two_days};
+use crate::business::{first_day, second_day};
+use crate::openings::{opening_of_the_desk, opening_of_the_store};
+use crate::orders::{paying, writing};
+use anyhow::Result;
 use std::env;
-use std::rt::Clock;
-use std::time::{Duration, Instant};
-
-/// A desk over a file.
-type FileDesk = Desk<SqlKeeper<Store>>;
-
-/// How often an opening is measured. The shortest counts.
-const TIMES: usize = 5;
-
-/// A desk over the tables of a connection.
-fn desk_over(alloc: Global, conn: Connection<Store>) -> Result<FileDesk> {
-    ensure!(conn.is_autocommit(), "a transaction");
-    match Desk::open(alloc, SqlKeeper::open(conn)) {
-        Ok(desk) => Ok(desk),
-        Err((fault, _)) => Err(anyhow!("the desk: {fault:?}")),
-    }
-}
-
-/// A desk over a new file.
-fn new_desk(rt: &HostRuntime, file: &str) -> Result<FileDesk> {
-    let conn = Connection::open(rt, file)?;
-    ensure!(conn.is_autocommit(), "a transaction");
-    match SqlKeeper::create(conn) {
-        Ok(keeper) => desk_over(rt.alloc(), keeper.into_connection()),
-        Err((fault, _)) => Err(anyhow!("a new book: {fault:?}")),
-    }
-}
-
-/// Gives the desk a command that it is to accept.
-fn give(desk: &mut FileDesk, command: Command) -> Result<()> {
-    match desk.submit(command) {
-        Ok(_) => Ok(()),
-        Err(refusal) => Err(anyhow!("refused: {refusal:?}")),
-    }
-}
-
-/// Adds the banks, gives each its money, and opens the day.
-fn begin(alloc: Global, desk: &mut FileDesk) -> Result<()> {
-    for bank in 0..BANKS {
-        give(desk, addition(alloc, bank)?)?;
-        give(desk, endowment(alloc, bank)?)?;
-    }
-    give(desk, opening()?)
-}
-
-/// Submits the orders from one number up to another.
-fn pay(alloc: Global, desk: &mut FileDesk, from: u64, to: u64) -> Result<()> {
-    for number in from..to {
-        give(desk, payment(alloc, number)?)?;
-    }
-    Ok(())
-}
-
-/// Writes the same rows to the store alone.
-fn write_orders(alloc: Global, conn: &mut Connection<Store>, from: u64, to: u64) -> Result<()> {
-    for number in from..to {
-        write_order(alloc, conn, number)?;
-    }
-    Ok(())
-}
-
-/// The shortest time that the store alone takes to open the file.
-fn opening_of_the_store(rt: &HostRuntime, file: &str) -> Result<Duration> {
-    let mut shortest = Duration::MAX;
-    for _ in 0..TIMES {
-        let start = Instant::now(rt)?;
-        let conn = Connection::open(rt, file)?;
-        shortest = shortest.min(start.elapsed(rt)?);
-        conn.close()?;
-    }
-    Ok(shortest)
-}
-
-/// The shortest time that the desk takes to open the file, the store's part included.
-fn opening_of_the_desk(rt: &HostRuntime, file: &str) -> Result<Duration> {
-    let mut shortest = Duration::MAX;
-    for _ in 0..TIMES {
-        let start = Instant::now(rt)?;
-        let desk = desk_over(rt.alloc(), Connection::open(rt, file)?)?;
-        shortest = shortest.min(start.elapsed(rt)?);
-        desk.into_keeper().into_connection().close()?;
-    }
-    Ok(shortest)
-}
-
-/// Makes a book of so many orders.
-fn fill(rt: &HostRuntime, file: &str, orders: u64) -> Result<()> {
-    let mut desk = new_desk(rt, file)?;
-    begin(rt.alloc(), &mut desk)?;
-    pay(rt.alloc(), &mut desk, 0, orders)?;
-    desk.into_keeper().into_connection().close()?;
-    Ok(())
-}
-
-/// How long the desk takes for these orders, and the store alone for as many after them.
-fn paying(rt: &HostRuntime, file: &str, from: u64, to: u64) -> Result<(Duration, Duration)>
-    requires { (from ≤ to) × (to ≤ 200000) }
-{
-    let mut desk = desk_over(rt.alloc(), Connection::open(rt, file)?)?;
-    let start = Instant::now(rt)?;
-    pay(rt.alloc(), &mut desk, from, to)?;
-    let by_the_desk = start.elapsed(rt)?;
-    let mut conn = desk.into_keeper().into_connection();
-    let start = Instant::now(rt)?;
-    write_orders(rt.alloc(), &mut conn, to, to + (to - from))?;
-    Ok((by_the_desk, start.elapsed(rt)?))
-}
 
 /// Measures a book of so many orders: its opening, and then some orders more.
 fn measure(rt: &HostRuntime, orders: u64, more: u64, timed: bool) -> Result<()>
@@ -138,7 +29,8 @@ fn measure(rt: &HostRuntime, orders: u64, more: u64, timed: bool) -> Result<()>
     let store = opening_of_the_store(rt, file.as_str())?.as_micros();
     let desk = opening_of_the_desk(rt, file.as_str())?.as_micros();
     let (reported, length) = texts::reporting(rt, file.as_str(), first_day()?)?;
-    let (paid, written) = paying(rt, file.as_str(), orders, orders + more)?;
+    let paid = paying(rt, file.as_str(), orders, more)?;
+    let written = writing(rt, file.as_str(), orders + more, more)?;
     print!(rt; "{orders} orders, with a report of {length} bytes, and {more} more")?;
     if timed {
         let (paid, written) = (paid.as_micros(), written.as_micros());
@@ -147,20 +39,6 @@ fn measure(rt: &HostRuntime, orders: u64, more: u64, timed: bool) -> Result<()>
         print!(rt; "; the others {paid} us, their bare rows {written} us")?;
     }
     println!(rt;)?;
-    Ok(())
-}
-
-/// Makes a book of two days with so many orders each.
-fn fill_two_days(rt: &HostRuntime, file: &str, first: u64, second: u64) -> Result<()>
-    requires { (first ≤ 100000) × (second ≤ 100000) }
-{
-    fill(rt, file, first)?;
-    let mut desk = desk_over(rt.alloc(), Connection::open(rt, file)?)?;
-    for command in turning()? {
-        give(&mut desk, command)?;
-    }
-    pay(rt.alloc(), &mut desk, first, first + second)?;
-    desk.into_keeper().into_connection().close()?;
     Ok(())
 }
 

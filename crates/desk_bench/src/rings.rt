@@ -1,13 +1,13 @@
 //! Orders that wait for each other in rings, and how long it takes to settle them all under one mark.
 ghost use Rattle.std.specs.Prelude.{◌≤◌};
 
-use crate::business::{BANKS, addition, opening};
-use crate::{FileDesk, desk_over, give, new_desk, pay};
-use anyhow::{Result, anyhow, bail, ensure};
-use rtgs_book::{Answer, Command};
+use crate::books::{add_banks, desk_over, give, new_desk, pay};
+use crate::business::{BANKS, opening};
+use anyhow::{Result, anyhow, bail};
+use rtgs_book::{Answer, Change, Command};
+use rtgs_book_file::{FileDesk, FileKeeper, close};
 use rtgs_ledger::Ledger;
-use rtgs_tables::{Keeper, SqlKeeper};
-use sqlite::Connection;
+use rtgs_tables::Keeper;
 use std::alloc::Global;
 use std::time::{Duration, Instant};
 
@@ -22,26 +22,28 @@ pub struct Times {
     pub whole: Duration,
 }
 
-/// Makes a book in which each bank owes the next one so many cents, in orders of one cent, and nobody has money.
+/// Adds the banks and opens the day; each bank then owes the next one so many cents, in orders of one cent, and
+/// nobody has money.
+fn begin(alloc: Global, desk: &mut FileDesk, queued: u64) -> Result<()>
+    requires { queued ≤ 500 }
+{
+    add_banks(alloc, desk)?;
+    give(desk, opening()?)?;
+    pay(alloc, desk, 0, queued * BANKS)
+}
+
+/// Makes a book of rings.
 fn fill(rt: &HostRuntime, file: &str, queued: u64) -> Result<()>
     requires { queued ≤ 500 }
 {
-    let alloc = rt.alloc();
     let mut desk = new_desk(rt, file)?;
-    for bank in 0..BANKS {
-        give(&mut desk, addition(alloc, bank)?)?;
-    }
-    give(&mut desk, opening()?)?;
-    pay(alloc, &mut desk, 0, queued * BANKS)?;
-    desk.into_keeper().into_connection().close()?;
-    Ok(())
+    let begun = begin(rt.alloc(), &mut desk, queued);
+    close(desk.into_keeper());
+    begun
 }
 
-/// How long the ledger takes to prepare the resolution, and the keeper to keep it.
-fn parts(rt: &HostRuntime, file: &str) -> Result<(Duration, Duration)> {
-    let conn = Connection::open(rt, file)?;
-    ensure!(conn.is_autocommit(), "a transaction");
-    let mut keeper = SqlKeeper::open(conn);
+/// The rows that settle the rings of a book, and how long the ledger takes to prepare them.
+fn prepare(rt: &HostRuntime, keeper: &mut FileKeeper) -> Result<(Change, Duration)> {
     let book = match keeper.load(rt.alloc()) {
         Ok(book) => book,
         Err(fault) => return Err(anyhow!("the book: {fault:?}")),
@@ -51,26 +53,45 @@ fn parts(rt: &HostRuntime, file: &str) -> Result<(Duration, Duration)> {
         Err(fault) => return Err(anyhow!("the ledger: {fault:?}")),
     };
     let start = Instant::now(rt)?;
-    let change = match ledger.prepare(&Command::Resolve) {
-        Ok((_, change)) => change,
-        Err(refusal) => return Err(anyhow!("refused: {refusal:?}")),
-    };
-    let resolver = start.elapsed(rt)?;
+    match ledger.prepare(&Command::Resolve) {
+        Ok((_, change)) => Ok((change, start.elapsed(rt)?)),
+        Err(refusal) => Err(anyhow!("refused: {refusal:?}")),
+    }
+}
+
+/// How long the ledger takes to prepare the resolution, and the keeper to keep it.
+fn time_parts(rt: &HostRuntime, keeper: &mut FileKeeper) -> Result<(Duration, Duration)> {
+    let (change, resolver) = prepare(rt, keeper)?;
     let start = Instant::now(rt)?;
     if let Err(fault) = keeper.commit(&change) {
         bail!("not kept: {fault:?}");
     }
-    let commit = start.elapsed(rt)?;
-    keeper.into_connection().close()?;
-    Ok((resolver, commit))
+    Ok((resolver, start.elapsed(rt)?))
 }
 
-/// How many orders a desk settles under one mark.
-fn resolve(desk: &mut FileDesk) -> Result<u64> {
+/// The same for the book in a file.
+fn parts(rt: &HostRuntime, file: &str) -> Result<(Duration, Duration)> {
+    let mut keeper = desk_over(rt, file)?.into_keeper();
+    let times = time_parts(rt, &mut keeper);
+    close(keeper);
+    times
+}
+
+/// How many orders a desk settles under one mark, and how long it takes.
+fn time_resolution(rt: &HostRuntime, desk: &mut FileDesk) -> Result<(u64, Duration)> {
+    let start = Instant::now(rt)?;
     match desk.submit(Command::Resolve) {
-        Ok(Answer::Resolved { count, .. }) => Ok(count),
+        Ok(Answer::Resolved { count, .. }) => Ok((count, start.elapsed(rt)?)),
         answered => Err(anyhow!("not resolved: {answered:?}")),
     }
+}
+
+/// The same for the book in a file.
+fn resolve(rt: &HostRuntime, file: &str) -> Result<(u64, Duration)> {
+    let mut desk = desk_over(rt, file)?;
+    let resolved = time_resolution(rt, &mut desk);
+    close(desk.into_keeper());
+    resolved
 }
 
 /// Fills two books with rings of so many orders a bank, and settles them: how many orders they were, and the times.
@@ -82,17 +103,11 @@ pub fn measure(rt: &HostRuntime, queued: u64) -> Result<(u64, Times)>
     fill(rt, one.as_str(), queued)?;
     fill(rt, other.as_str(), queued)?;
     let (resolver, commit) = parts(rt, one.as_str())?;
-    let mut desk = desk_over(rt.alloc(), Connection::open(rt, other.as_str())?)?;
-    let start = Instant::now(rt)?;
-    let count = resolve(&mut desk)?;
-    let whole = start.elapsed(rt)?;
-    desk.into_keeper().into_connection().close()?;
-    Ok((
-        count,
-        Times {
-            resolver,
-            commit,
-            whole,
-        },
-    ))
+    let (count, whole) = resolve(rt, other.as_str())?;
+    let times = Times {
+        resolver,
+        commit,
+        whole,
+    };
+    Ok((count, times))
 }

@@ -1,14 +1,14 @@
 //! A file of orders that comes in, and a day report that goes out.
 ghost use Rattle.std.specs.Prelude.{◌≤◌};
 
-use crate::bare::write_order;
+use crate::books::{desk_over, fill};
 use crate::business::code_of;
-use crate::{FileDesk, desk_over, fill};
+use crate::orders::writing;
 use anyhow::{Result, anyhow, ensure};
+use rtgs_book_file::{FileDesk, close};
 use rtgs_exchange::{read_orders, submit_batch, write_results};
 use rtgs_money::BusinessDate;
 use rtgs_statements::day_report;
-use sqlite::Connection;
 use std::alloc::Global;
 use std::fmt::Write;
 use std::time::{Duration, Instant};
@@ -38,19 +38,13 @@ fn import(alloc: Global, desk: &mut FileDesk, text: &str) -> Result<usize> {
     }
 }
 
-/// Writes as many orders to the store alone, after these.
-fn write_orders(
-    alloc: Global,
-    conn: &mut Connection<crate::bare::Store>,
-    from: u64,
-    rows: u64,
-) -> Result<()>
-    requires { (from ≤ 200000) × (rows ≤ 500) }
-{
-    for number in from..from + rows {
-        write_order(alloc, conn, number)?;
-    }
-    Ok(())
+/// How long a desk takes to import the file.
+fn time_import(rt: &HostRuntime, desk: &mut FileDesk, text: &str) -> Result<Duration> {
+    let start = Instant::now(rt)?;
+    let length = import(rt.alloc(), desk, text)?;
+    let took = start.elapsed(rt)?;
+    ensure!(length > 0, "no results");
+    Ok(took)
 }
 
 /// How long it takes to import so many orders into a book of others, and to write as many to the store alone.
@@ -60,20 +54,15 @@ pub fn importing(rt: &HostRuntime, orders: u64, rows: u64) -> Result<(Duration, 
     let file = format!(in rt.alloc(); "imports-{orders}.desk")?;
     fill(rt, file.as_str(), orders)?;
     let text = order_file(rt.alloc(), rows)?;
-    let mut desk = desk_over(rt.alloc(), Connection::open(rt, file.as_str())?)?;
-    let start = Instant::now(rt)?;
-    let length = import(rt.alloc(), &mut desk, text.as_str())?;
-    let imported = start.elapsed(rt)?;
-    ensure!(length > 0, "no results");
-    let mut conn = desk.into_keeper().into_connection();
-    let start = Instant::now(rt)?;
-    write_orders(rt.alloc(), &mut conn, orders + rows, rows)?;
-    Ok((imported, start.elapsed(rt)?))
+    let mut desk = desk_over(rt, file.as_str())?;
+    let took = time_import(rt, &mut desk, text.as_str());
+    close(desk.into_keeper());
+    let written = writing(rt, file.as_str(), orders + rows, rows)?;
+    Ok((took?, written))
 }
 
 /// How long a desk takes for the report of a day, and how many bytes it has.
-pub fn reporting(rt: &HostRuntime, file: &str, date: BusinessDate) -> Result<(Duration, usize)> {
-    let desk = desk_over(rt.alloc(), Connection::open(rt, file)?)?;
+fn time_report(rt: &HostRuntime, desk: &FileDesk, date: BusinessDate) -> Result<(Duration, usize)> {
     let start = Instant::now(rt)?;
     let report = match desk.report_of(date) {
         Ok(report) => report,
@@ -84,4 +73,12 @@ pub fn reporting(rt: &HostRuntime, file: &str, date: BusinessDate) -> Result<(Du
         Ok(()) => Ok((start.elapsed(rt)?, text.len())),
         Err(fault) => Err(anyhow!("the report: {fault:?}")),
     }
+}
+
+/// The same for the book in a file.
+pub fn reporting(rt: &HostRuntime, file: &str, date: BusinessDate) -> Result<(Duration, usize)> {
+    let desk = desk_over(rt, file)?;
+    let reported = time_report(rt, &desk, date);
+    close(desk.into_keeper());
+    reported
 }

@@ -6,4 +6,5 @@ mod gridlocks;
 mod seen;
 mod setting;
 mod stopping_keeper;
+mod stops;
 mod two_keepers;

@@ -9,6 +9,15 @@ use std::test::Fail;
 /// What a command is answered.
 pub type Reply = Result<Answer, Refusal>;
 
+/// A command, and what it is answered.
+pub type Row = (Command, Reply);
+
+/// The three balances in cents, and how many orders each of the three has in its queue.
+pub type Standings = [(i64, usize); 3];
+
+/// Nobody has money, and nothing waits.
+pub const EMPTY: Standings = [(0, 0), (0, 0), (0, 0)];
+
 /// The Friday before the week.
 pub const FRIDAY: u32 = 20240301;
 
@@ -57,6 +66,11 @@ pub fn opens(day: u32) -> Result<Command, Fail> {
     Ok(Command::OpenDay(date(day)?))
 }
 
+/// Opens Monday.
+pub fn opened() -> Result<Row, Fail> {
+    Ok((opens(MONDAY)?, Ok(Answer::Opened)))
+}
+
 /// An order of the sender to pay the receiver.
 pub fn pays(sender: &str, reference: &str, receiver: &str, amount: u64) -> Result<Command, Fail> {
     Ok(Command::Order {
@@ -93,28 +107,36 @@ pub fn desk_over<K: Keeper + Drop>(alloc: Global, keeper: K) -> Result<Desk<K>, 
     }
 }
 
-/// A desk with three banks, before its first day.
-pub fn three_banks(alloc: Global) -> Result<Desk<MemoryKeeper>, Fail> {
-    let mut desk = desk_over(alloc, MemoryKeeper::new(alloc))?;
-    desk.submit(adds("ALFA", "0000000000000000000000000000000a")?)?;
-    desk.submit(adds("BETA", "0000000000000000000000000000000b")?)?;
-    desk.submit(adds("GAMA", "0000000000000000000000000000000c")?)?;
+/// A desk with three banks, before its first day, after commands that are answered like this.
+pub fn desk_after(rt: &HostRuntime, rows: &[Row]) -> Result<Desk<MemoryKeeper>, Fail> {
+    let banks = [
+        (
+            adds("ALFA", "0000000000000000000000000000000a")?,
+            Ok(Answer::Added),
+        ),
+        (
+            adds("BETA", "0000000000000000000000000000000b")?,
+            Ok(Answer::Added),
+        ),
+        (
+            adds("GAMA", "0000000000000000000000000000000c")?,
+            Ok(Answer::Added),
+        ),
+    ];
+    let mut desk = desk_over(rt.alloc(), MemoryKeeper::new(rt.alloc()))?;
+    follows(rt, &mut desk, &banks)?;
+    follows(rt, &mut desk, rows)?;
     Ok(desk)
 }
 
-/// The same on a Monday that is open.
-pub fn open_desk(alloc: Global) -> Result<Desk<MemoryKeeper>, Fail> {
-    let mut desk = three_banks(alloc)?;
-    desk.submit(opens(MONDAY)?)?;
-    Ok(desk)
+/// How three banks stand after commands that are answered like this.
+pub fn after(rt: &HostRuntime, rows: &[Row]) -> Result<Standings, Fail> {
+    let desk = desk_after(rt, rows)?;
+    standings(&desk)
 }
 
 /// Whether each command is answered like this, in order.
-pub fn follows<K: Keeper>(
-    rt: &HostRuntime,
-    desk: &mut Desk<K>,
-    rows: &[(Command, Reply)],
-) -> Result<(), Fail> {
+pub fn follows<K: Keeper>(rt: &HostRuntime, desk: &mut Desk<K>, rows: &[Row]) -> Result<(), Fail> {
     for (command, reply) in rows {
         let found = desk.submit(*command);
         if found != *reply {
@@ -133,8 +155,8 @@ fn standing<K: Keeper>(desk: &Desk<K>, code: &str) -> Result<(i64, usize), Fail>
     }
 }
 
-/// The three balances in cents, and how many orders each of the three has in its queue.
-pub fn standings<K: Keeper>(desk: &Desk<K>) -> Result<[(i64, usize); 3], Fail> {
+/// How the three stand.
+pub fn standings<K: Keeper>(desk: &Desk<K>) -> Result<Standings, Fail> {
     Ok([
         standing(desk, "ALFA")?,
         standing(desk, "BETA")?,

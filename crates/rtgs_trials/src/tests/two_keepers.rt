@@ -1,35 +1,65 @@
 //! Five thousand commands over both keepers. The file is closed and opened again every fifty.
 use super::business::Business;
 use super::seen::Seen;
-use rtgs_book::{Book, Rows};
+use super::setting::desk_over;
+use rtgs_book::{Answer, Book, Fault, Refusal, Rows};
+use rtgs_book_file::{close, make, open};
 use rtgs_desk::Desk;
-use rtgs_tables::{Keeper, MemoryKeeper, SqlKeeper};
-use sqlite::{Connection, FileStore};
-use std::alloc::Global;
+use rtgs_tables::{Keeper, MemoryKeeper};
 use std::test::Fail;
-
-/// The keeper over a file.
-type FileKeeper = SqlKeeper<FileStore<sqlite::File>>;
 
 const FILE: &str = "two_keepers";
 
-fn desk_over<K: Keeper + Drop>(alloc: Global, keeper: K) -> Result<Desk<K>, Fail> {
-    match Desk::open(alloc, keeper) {
-        Ok(desk) => Ok(desk),
-        Err((fault, _)) => Err(Fail::from(fault)),
+/// Gives two desks the next fifty commands: each answers as the other does.
+fn fifty<A: Keeper, B: Keeper>(
+    rt: &HostRuntime,
+    business: &mut Business,
+    seen: &mut Seen,
+    one: &mut Desk<A>,
+    other: &mut Desk<B>,
+) -> Result<(), Fail> {
+    for _ in 0..50 {
+        let command = business.command()?;
+        let reply: Result<Answer, Refusal> = one.submit(command);
+        business.hear(&reply);
+        seen.count(&reply);
+        let answered = other.submit(command);
+        if answered != reply {
+            let said = format!(in rt.alloc(); "{command:?}: {reply:?} and {answered:?}")?;
+            return Err(Fail::from(said));
+        }
     }
+    Ok(())
 }
 
-fn made(rt: &HostRuntime) -> Result<Desk<FileKeeper>, Fail> {
-    match SqlKeeper::create(Connection::open(rt, FILE)?) {
-        Ok(keeper) => desk_over(rt.alloc(), keeper),
-        Err((fault, _)) => Err(Fail::from(fault)),
-    }
+/// The same with the desk over the file, which is opened before and closed after.
+fn fifty_over_the_file(
+    rt: &HostRuntime,
+    business: &mut Business,
+    seen: &mut Seen,
+    held: &mut Desk<MemoryKeeper>,
+) -> Result<(), Fail> {
+    let mut filed = open(rt, FILE)?;
+    let outcome = fifty(rt, business, seen, held, &mut filed);
+    close(filed.into_keeper());
+    outcome
 }
 
-fn opened_again(rt: &HostRuntime, desk: Desk<FileKeeper>) -> Result<Desk<FileKeeper>, Fail> {
-    desk.into_keeper().into_connection().close()?;
-    desk_over(rt.alloc(), SqlKeeper::open(Connection::open(rt, FILE)?))
+/// The book in memory after five thousand commands, which the desk over the file got too.
+fn book_in_memory(rt: &HostRuntime, seen: &mut Seen) -> Result<Book, Fail> {
+    let mut business = Business::new(rt.alloc(), 2024);
+    let mut held = desk_over(rt.alloc(), MemoryKeeper::new(rt.alloc()))?;
+    for _ in 0..100 {
+        fifty_over_the_file(rt, &mut business, seen, &mut held)?;
+    }
+    Ok(held.into_keeper().load(rt.alloc())?)
+}
+
+fn book_in_the_file(rt: &HostRuntime) -> Result<Book, Fault> {
+    let mut keeper = open(rt, FILE)?.into_keeper();
+    let book = keeper.load(rt.alloc());
+    close(keeper);
+    book
 }
 
 fn are_same<T: PartialEq>(one: &Rows<T>, other: &Rows<T>) -> bool {
@@ -46,23 +76,10 @@ fn is_same_book(one: &Book, other: &Book) -> bool {
 
 #[test]
 fn five_thousand_commands_end_in_one_book(rt: HostRuntime) -> Result<(), Fail> {
-    let alloc = rt.alloc();
-    let mut business = Business::new(alloc, 2024);
-    let mut filed = made(&rt)?;
-    let mut held = desk_over(alloc, MemoryKeeper::new(alloc))?;
     let mut seen = Seen::default();
-    for number in 0..5000u32 {
-        let command = business.command()?;
-        let reply = held.submit(command);
-        business.hear(&reply);
-        seen.count(&reply);
-        assert_eq!(rt; filed.submit(command), reply, "{command:?}");
-        if number % 50 == 49 {
-            filed = opened_again(&rt, filed)?;
-        }
-    }
-    let in_the_file = filed.into_keeper().load(alloc)?;
-    let in_memory = held.into_keeper().load(alloc)?;
+    assert!(rt; make(&rt, FILE).is_ok());
+    let in_memory = book_in_memory(&rt, &mut seen)?;
+    let in_the_file = book_in_the_file(&rt)?;
     assert!(rt; is_same_book(&in_the_file, &in_memory));
     assert!(rt; seen.is_varied(), "{seen:?}");
     Ok(())

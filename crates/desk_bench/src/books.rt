@@ -1,0 +1,99 @@
+//! Books over files, filled by a desk.
+ghost use Rattle.std.specs.Prelude.{◌≤◌};
+
+use crate::business::{BANKS, addition, endowment, opening, payment, turning};
+use anyhow::{Result, anyhow};
+use rtgs_book::Command;
+use rtgs_book_file::{FileDesk, close, make, open};
+use std::alloc::Global;
+
+/// A desk over the book in a file.
+pub fn desk_over(rt: &HostRuntime, file: &str) -> Result<FileDesk> {
+    match open(rt, file) {
+        Ok(desk) => Ok(desk),
+        Err(fault) => Err(anyhow!("the desk: {fault:?}")),
+    }
+}
+
+/// A desk over a new book.
+pub fn new_desk(rt: &HostRuntime, file: &str) -> Result<FileDesk> {
+    match make(rt, file) {
+        Ok(()) => desk_over(rt, file),
+        Err(failure) => Err(anyhow!("a new book: {failure:?}")),
+    }
+}
+
+/// Gives the desk a command that it is to accept.
+pub fn give(desk: &mut FileDesk, command: Command) -> Result<()> {
+    match desk.submit(command) {
+        Ok(_) => Ok(()),
+        Err(refusal) => Err(anyhow!("refused: {refusal:?}")),
+    }
+}
+
+/// Adds the banks.
+pub fn add_banks(alloc: Global, desk: &mut FileDesk) -> Result<()> {
+    for bank in 0..BANKS {
+        give(desk, addition(alloc, bank)?)?;
+    }
+    Ok(())
+}
+
+/// Gives each bank its money.
+fn endow(alloc: Global, desk: &mut FileDesk) -> Result<()> {
+    for bank in 0..BANKS {
+        give(desk, endowment(alloc, bank)?)?;
+    }
+    Ok(())
+}
+
+/// Submits so many orders, from this number on.
+pub fn pay(alloc: Global, desk: &mut FileDesk, from: u64, orders: u64) -> Result<()>
+    requires { (from ≤ 200000) × (orders ≤ 100000) }
+{
+    for number in from..from + orders {
+        give(desk, payment(alloc, number)?)?;
+    }
+    Ok(())
+}
+
+/// Adds the banks, gives each its money, opens the first day, and submits so many orders.
+fn begin(alloc: Global, desk: &mut FileDesk, orders: u64) -> Result<()>
+    requires { orders ≤ 100000 }
+{
+    add_banks(alloc, desk)?;
+    endow(alloc, desk)?;
+    give(desk, opening()?)?;
+    pay(alloc, desk, 0, orders)
+}
+
+/// Ends the first day, opens the second, and submits so many orders more.
+fn turn(alloc: Global, desk: &mut FileDesk, first: u64, second: u64) -> Result<()>
+    requires { (first ≤ 100000) × (second ≤ 100000) }
+{
+    for command in turning()? {
+        give(desk, command)?;
+    }
+    pay(alloc, desk, first, second)
+}
+
+/// Makes a book of so many orders.
+pub fn fill(rt: &HostRuntime, file: &str, orders: u64) -> Result<()>
+    requires { orders ≤ 100000 }
+{
+    let mut desk = new_desk(rt, file)?;
+    let begun = begin(rt.alloc(), &mut desk, orders);
+    close(desk.into_keeper());
+    begun
+}
+
+/// Makes a book of two days with so many orders each.
+pub fn fill_two_days(rt: &HostRuntime, file: &str, first: u64, second: u64) -> Result<()>
+    requires { (first ≤ 100000) × (second ≤ 100000) }
+{
+    fill(rt, file, first)?;
+    let mut desk = desk_over(rt, file)?;
+    let turned = turn(rt.alloc(), &mut desk, first, second);
+    close(desk.into_keeper());
+    turned
+}
