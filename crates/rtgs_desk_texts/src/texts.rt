@@ -7,9 +7,9 @@ ghost use Rattle.rtgs_desk_texts.specs.Written.{Writes, statement_wanted, report
 
 use crate::fault::DeskTextFault;
 use rtgs_desk::Desk;
+use rtgs_keeper::Keeper;
 use rtgs_money::{BusinessDate, Code};
 use rtgs_statements::{day_report, statement_text};
-use rtgs_tables::Keeper;
 use std::alloc::Global;
 use std::io::Write;
 

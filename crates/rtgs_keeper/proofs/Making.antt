@@ -15,10 +15,10 @@ use Rattle.rtgs_book.specs.Settle.{restated}
 use Rattle.rtgs_book.specs.Soundness.{OrdersAreNumbered, AreNumbered, IsSound}
 use Rattle.rtgs_book.proofs.Lists.{map_same}
 use Rattle.rtgs_book.proofs.States.{restated_same}
-use Rattle.rtgs_tables.specs.declared.memory_keeper.MemoryKeeper.{MemoryKeeper}
-use Rattle.rtgs_tables.specs.Memory.{AreInCodeOrder, HasRoom, adds_participant, adds_posting, adds_order, adds_mark}
-use Rattle.rtgs_tables.proofs.CodeOrder.{order_put_in, order_map, order_of_codes}
-use Rattle.rtgs_tables.proofs.OrderNumbers.{beginning_numbered}
+use Rattle.rtgs_keeper.specs.declared.memory_keeper.MemoryKeeper.{MemoryKeeper}
+use Rattle.rtgs_keeper.specs.Memory.{AreInCodeOrder, HasRoom, adds_participant, adds_posting, adds_order, adds_mark}
+use Rattle.rtgs_keeper.proofs.CodeOrder.{order_put_in, order_map, order_of_codes}
+use Rattle.rtgs_keeper.proofs.OrderNumbers.{beginning_numbered}
 
 -- ---- the code order stays
 

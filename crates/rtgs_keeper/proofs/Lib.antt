@@ -1,0 +1,4 @@
+pub mod CodeOrder
+pub mod OrderNumbers
+pub mod Credits
+pub mod Making
