@@ -1,3 +1,4 @@
+pub mod Insertions
 pub mod CodeOrder
 pub mod OrderNumbers
 pub mod Credits

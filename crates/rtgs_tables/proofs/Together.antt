@@ -22,7 +22,7 @@ use Rattle.rtgs_book.specs.declared.Mark.{Mark}
 use Rattle.rtgs_rows.specs.Rows.{shown_day, shown_account, shown_posting, shown_order, shown_mark}
 use Rattle.rtgs_rows.specs.Fitting.{FitsDate, FitsParticipant, FitsPosting, FitsOrder, FitsMark, Fits}
 use Rattle.rtgs_rows.specs.Querying.{IsDeskFile, AreWhole, ShowsBook, shown_entry, ShowsDesk, ShowsParticipants, ShowsPostings, ShowsPayments, ShowsMarks}
-use Rattle.rtgs_tables.specs.declared.account.Account.{Account}
+use Rattle.rtgs_book.specs.declared.account.Account.{Account}
 use Rattle.rtgs_tables.specs.Accounts.{AreBalances, entry_of, AreReadOf}
 use Rattle.rtgs_tables.specs.Numbers.{IsNumberedPosting, IsNumberedOrder, IsNumberedMark}
 

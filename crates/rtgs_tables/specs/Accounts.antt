@@ -19,7 +19,7 @@ use Rattle.rtgs_rows.specs.Content.{Holding, Content, IsInOrder, Rests}
 use Rattle.rtgs_rows.specs.Fitting.{Fits}
 use Rattle.rtgs_rows.specs.Querying.{ShowsBook}
 use Rattle.rtgs_tables.specs.Numbers.{IsNumberedBook}
-use Rattle.rtgs_tables.specs.declared.account.Account.{Account}
+use Rattle.rtgs_book.specs.declared.account.Account.{Account}
 
 abbrev pub account_of : Book → Participant → Account
 account_of book p = record { participant = p; balance = balance book p.code }

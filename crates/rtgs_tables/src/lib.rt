@@ -1,7 +1,6 @@
 //! The five tables of the desk, and the keeper of a book over a connection.
 #![tactic(auto)]
 
-mod account;
 mod balances;
 mod columns;
 mod create;

@@ -84,7 +84,7 @@ impl<S: Alter + Drop> Keeper for SqlKeeper<S> {
     ghost use Rattle.rtgs_rows.proofs.Settling as settling;
     ghost use Rattle.rtgs_rows.specs.Querying.{HasTables};
     ghost use Rattle.rtgs_tables.specs.Building.{IsBlank};
-    ghost use Rattle.rtgs_tables.specs.declared.account.Account.{Account as AccountSpec};
+    ghost use Rattle.rtgs_book.specs.declared.account.Account.{Account as AccountSpec};
     ghost use Rattle.rtgs_tables.specs.Accounts.{HasRecords, ExplainsRead};
     ghost use Rattle.std.specs.Prelude.{List};
 
