@@ -7,6 +7,7 @@ pub mod CuttingOff
 pub mod Finding
 pub mod Indexes
 pub mod Kept
+pub mod Keys
 pub mod Lists
 pub mod Opening
 pub mod OrderLemmas

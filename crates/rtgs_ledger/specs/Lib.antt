@@ -1,5 +1,6 @@
 pub mod Accounts
 pub mod Held
+pub mod Keys
 pub mod Ordering
 pub mod Orders
 pub mod Places

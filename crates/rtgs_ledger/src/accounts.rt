@@ -116,6 +116,16 @@ impl Accounts {
         self.accounts.iter().any(|a| a.participant.key == *key)
     }
 
+    /// The first account with this key, if there is one.
+    pub fn bearer(&self, key: &KeyDigest) -> Option<Account>
+        ensures { result ≡ find (has_key key.now) self.now.accounts }
+    {
+        self.accounts
+            .iter()
+            .copied()
+            .find(|a| a.participant.key == *key)
+    }
+
     /// All balances together, in cents.
     pub fn total(&self) -> i128
         ensures { result ≡ int_sum_by balance_of self.now.accounts }

@@ -5,12 +5,14 @@ ghost use Rattle.rtgs_book.specs.Balance.{balance};
 ghost use Rattle.rtgs_book.specs.Lookup.{accounts, order_named};
 ghost use Rattle.rtgs_book.specs.Lookup as lookup;
 ghost use Rattle.rtgs_book.specs.Queue.{queue};
+ghost use Rattle.rtgs_book.specs.Ranges.{Fits};
 ghost use Rattle.rtgs_book.specs.Soundness.{IsSound};
 ghost use Rattle.rtgs_ledger.specs.Accounts.{participant_of};
+ghost use Rattle.rtgs_ledger.specs.Keys.{code_under};
 
 use super::Ledger;
 use rtgs_book::{Account, Day, Mark, Order, Posting};
-use rtgs_money::{Code, Reference};
+use rtgs_money::{Code, KeyDigest, Reference};
 use std::alloc::AllocError;
 
 impl Ledger {
@@ -27,6 +29,23 @@ impl Ledger {
         ensures balance { IfSome result (λ account. account.balance ≡ balance self.now.content code.now) }
     {
         self.records.accounts.get(code)
+    }
+
+    /// The amounts in the book are in their ranges.
+    pub fn holds_amounts_in_range(&self)
+        ensures { Fits self.now.content }
+    {
+        self.records.is_closed();
+    }
+
+    /// The code of the participant whose key has this digest, if there is one.
+    pub fn code_of(&self, digest: &KeyDigest) -> Option<Code>
+        ensures { result ≡ code_under self.now.content digest.now }
+    {
+        match self.records.accounts.bearer(digest) {
+            Some(account) => Some(account.participant.code),
+            None => None,
+        }
     }
 
     /// The order that the sender gave this reference, if there is one.
