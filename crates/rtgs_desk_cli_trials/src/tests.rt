@@ -1,5 +1,6 @@
 //! Whole runs, by their words, and what they print.
 use rtgs_desk_cli::run_words;
+use sqlite::Connection;
 use std::test::Fail;
 
 mod days;
@@ -31,6 +32,14 @@ fn prints(rt: &HostRuntime, words: &[&str], text: &str, status: u8) -> Result<()
 fn begin(rt: &HostRuntime, file: &str) -> Result<(), Fail> {
     prints(rt, &["init", file], "initialised\n", 0)?;
     prints(rt, &["add", file, "ALFA", "Alfa Bank", KEY_A], "added\n", 0)
+}
+
+/// Changes a book's file by SQL, as another program does.
+fn meddle(rt: &HostRuntime, file: &str, sql: &str) -> Result<(), Fail> {
+    let mut conn = Connection::open(rt, file)?;
+    let done = conn.execute_batch(sql);
+    conn.close()?;
+    Ok(done?)
 }
 
 #[test]

@@ -1,6 +1,5 @@
 //! Files that are no book, or are in use.
-use super::{KEY_A, begin, prints};
-use sqlite::Connection;
+use super::{KEY_A, begin, meddle, prints};
 use std::fs;
 use std::fs::OpenOptions;
 use std::test::Fail;
@@ -16,14 +15,6 @@ fn refuses(rt: &HostRuntime, file: &str, text: &str) -> Result<(), Fail> {
     } else {
         Err(Fail::from("the file was changed"))
     }
-}
-
-/// Changes the book's file by SQL of another program's.
-fn meddle(rt: &HostRuntime, file: &str, sql: &str) -> Result<(), Fail> {
-    let mut conn = Connection::open(rt, file)?;
-    conn.execute_batch(sql)?;
-    conn.close()?;
-    Ok(())
 }
 
 #[test]

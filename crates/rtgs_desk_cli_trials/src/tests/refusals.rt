@@ -1,6 +1,5 @@
 //! One row for each refusal of a command.
-use super::{KEY_A, KEY_B, begin, prints};
-use sqlite::Connection;
+use super::{KEY_A, KEY_B, begin, meddle, prints};
 use std::fmt::Write;
 use std::test::Fail;
 
@@ -137,9 +136,7 @@ fn of_a_hundred_and_first_participant(rt: HostRuntime) -> Result<(), Fail> {
         )?;
     }
     sql.push_str("COMMIT")?;
-    let mut conn = Connection::open(&rt, "hundred")?;
-    conn.execute_batch(sql.as_str())?;
-    conn.close()?;
+    meddle(&rt, "hundred", sql.as_str())?;
     prints(
         &rt,
         &["add", "hundred", "ALFA", "Alfa Bank", KEY_A],
@@ -170,9 +167,7 @@ fn of_opening_a_day(rt: HostRuntime) -> Result<(), Fail> {
     for (day, text, status) in before {
         prints(&rt, &["open", "days", day], text, status)?;
     }
-    let mut conn = Connection::open(&rt, "days")?;
-    conn.execute_batch("UPDATE desk SET phase = 0")?;
-    conn.close()?;
+    meddle(&rt, "days", "UPDATE desk SET phase = 0")?;
     let after: [(&str, &str, u8); 4] = [
         ("2024-03-04", "refused 15 WrongDate\n", 1),
         ("2024-03-01", "refused 15 WrongDate\n", 1),

@@ -1,5 +1,0 @@
-//! Statements and day reports to the byte, and writers that fail.
-#![tactic(auto)]
-
-#[cfg(test)]
-mod tests;

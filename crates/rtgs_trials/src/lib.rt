@@ -1,5 +1,0 @@
-//! Business over two keepers, a file and memory, side by side.
-#![tactic(auto)]
-
-#[cfg(test)]
-mod tests;

@@ -1,0 +1,165 @@
+//! Statements, line by line.
+use super::super::setting::{MONDAY, TUESDAY, date};
+use super::{order, posting, statement};
+use rtgs_book::{Order, OrderState, Posting};
+use std::test::Fail;
+
+#[test]
+fn one_order_is_sent_and_one_is_queued(rt: HostRuntime) -> Result<(), Fail> {
+    let orders = [
+        order(1, ["ALFA", "BETA"], "A-1", 100, OrderState::Settled(1))?,
+        order(2, ["ALFA", "BETA"], "A-2", 1, OrderState::Queued)?,
+    ];
+    let text = statement(rt.alloc(), "ALFA", MONDAY, &[], &orders)?;
+    assert_eq!(rt;
+        text.as_str(),
+        "statement ALFA 2024-03-04
+sent       000000001 A-1              BETA                     1.00         1
+queued     000000002 A-2              BETA                     0.01         -
+sum-posted                           0.00
+sum-sent                             1.00
+sum-recv                             0.00
+net                                 -1.00
+"
+    );
+    Ok(())
+}
+
+#[test]
+fn date_without_rows_has_a_title_and_four_sums(rt: HostRuntime) -> Result<(), Fail> {
+    let orders = [order(1, ["ALFA", "BETA"], "A-1", 100, OrderState::Settled(1))?];
+    let text = statement(rt.alloc(), "ALFA", TUESDAY, &[], &orders)?;
+    assert_eq!(rt;
+        text.as_str(),
+        "statement ALFA 2024-03-05
+sum-posted                           0.00
+sum-sent                             0.00
+sum-recv                             0.00
+net                                  0.00
+"
+    );
+    Ok(())
+}
+
+// A posting of another date, and one from before the first day.
+fn other_postings() -> Result<[Posting; 2], Fail> {
+    let late = posting(3, "ALFA", "P-3", 700)?;
+    let early = posting(4, "ALFA", "P-4", 900)?;
+    Ok([
+        Posting {
+            date: Some(date(TUESDAY)?),
+            ..late
+        },
+        Posting {
+            date: None,
+            ..early
+        },
+    ])
+}
+
+#[test]
+fn postings_count_to_their_date_with_their_sign(rt: HostRuntime) -> Result<(), Fail> {
+    let [late, early] = other_postings()?;
+    let postings = [
+        early,
+        posting(1, "ALFA", "P-1", 250)?,
+        posting(2, "BETA", "P-2", 40)?,
+        posting(5, "ALFA", "P-5", -5)?,
+        late,
+    ];
+    let text = statement(rt.alloc(), "ALFA", MONDAY, &postings, &[])?;
+    assert_eq!(rt;
+        text.as_str(),
+        "statement ALFA 2024-03-04
+posting    000000001 P-1              -                        2.50         -
+posting    000000005 P-5              -                       -0.05         -
+sum-posted                           2.45
+sum-sent                             0.00
+sum-recv                             0.00
+net                                  2.45
+"
+    );
+    Ok(())
+}
+
+// Orders of each kind, as BETA sees them, with three that it does not see.
+fn orders_of_each_kind() -> Result<[Order; 8], Fail> {
+    let later = order(9, ["BETA", "ALFA"], "B-9", 1, OrderState::Queued)?;
+    Ok([
+        order(1, ["BETA", "ALFA"], "B-1", 300, OrderState::Settled(1))?,
+        order(2, ["BETA", "GAMA"], "B-2", 20, OrderState::Withdrawn)?,
+        order(3, ["GAMA", "BETA"], "G-3", 500, OrderState::Settled(2))?,
+        order(4, ["GAMA", "BETA"], "G-4", 7, OrderState::Queued)?,
+        order(5, ["BETA", "ALFA"], "B-5", 40, OrderState::Rejected)?,
+        order(6, ["BETA", "ALFA"], "B-6", 50, OrderState::Queued)?,
+        order(7, ["ALFA", "GAMA"], "A-7", 60, OrderState::Settled(3))?,
+        Order {
+            date: date(TUESDAY)?,
+            ..later
+        },
+    ])
+}
+
+#[test]
+fn each_order_is_told_by_its_kind(rt: HostRuntime) -> Result<(), Fail> {
+    let text = statement(rt.alloc(), "BETA", MONDAY, &[], &orders_of_each_kind()?)?;
+    assert_eq!(rt;
+        text.as_str(),
+        "statement BETA 2024-03-04
+sent       000000001 B-1              ALFA                     3.00         1
+withdrawn  000000002 B-2              GAMA                     0.20         -
+received   000000003 G-3              GAMA                     5.00         2
+rejected   000000005 B-5              ALFA                     0.40         -
+queued     000000006 B-6              ALFA                     0.50         -
+sum-posted                           0.00
+sum-sent                             3.00
+sum-recv                             5.00
+net                                  2.00
+"
+    );
+    Ok(())
+}
+
+#[test]
+fn largest_amounts_fit_their_columns(rt: HostRuntime) -> Result<(), Fail> {
+    let settled = OrderState::Settled(999_999_999);
+    let postings = [
+        posting(
+            999_999_998,
+            "ALFA1234",
+            "ABCDEFGHIJKLMNOP",
+            1_000_000_000_000_000,
+        )?,
+        posting(
+            999_999_999,
+            "ALFA1234",
+            "ABCDEFGHIJKLMNO-",
+            -1_000_000_000_000_000,
+        )?,
+    ];
+    let parties = ["ALFA1234", "BETA5678"];
+    let orders = [order(
+        999_999_999,
+        parties,
+        "0123456789ABCDEF",
+        1_000_000_000_000,
+        settled,
+    )?];
+    let text = statement(rt.alloc(), "ALFA1234", MONDAY, &postings, &orders)?;
+    assert_eq!(rt;
+        text.as_str(),
+        "statement ALFA1234 2024-03-04
+posting    999999998 ABCDEFGHIJKLMNOP -           10000000000000.00         -
+posting    999999999 ABCDEFGHIJKLMNO- -          -10000000000000.00         -
+sent       999999999 0123456789ABCDEF BETA5678       10000000000.00 999999999
+sum-posted                           0.00
+sum-sent                   10000000000.00
+sum-recv                             0.00
+net                       -10000000000.00
+"
+    );
+    for line in text.lines().skip(1) {
+        assert!(rt; line.len() == 77 || line.len() == 41);
+    }
+    Ok(())
+}
