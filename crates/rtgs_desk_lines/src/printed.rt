@@ -3,7 +3,7 @@ ghost use Rattle.std.specs.Prelude.{◌≡◌};
 
 use crate::failure::Failure;
 use rtgs_book::Refusal;
-use rtgs_statements::TextFault;
+use rtgs_output::TextFault;
 
 /// What became of a text.
 #[derive(Clone, Copy, Debug, PartialEq, Eq)]

@@ -3,7 +3,8 @@ ghost use Rattle.std.specs.Prelude.{◌≤◌, length};
 
 use super::{MONDAY, code, date, mark, order, posting};
 use rtgs_book::OrderState;
-use rtgs_statements::{Report, Statement, TextFault, day_report, statement_text};
+use rtgs_output::TextFault;
+use rtgs_statements::{Report, Statement, day_report, statement_text};
 use std::alloc::Global;
 use std::io::{Error, ErrorKind, Result as IoResult, Write};
 use std::test::Fail;
