@@ -8,6 +8,7 @@ use Rattle.rtgs_money.specs.Date.{is_weekend}
 use Rattle.rtgs_book.specs.declared.answer.Answer.TheVariants as answer
 use Rattle.rtgs_book.specs.declared.answer.Known.TheVariants as known
 use Rattle.rtgs_book.specs.declared.refusal.Refusal.TheVariants.{UnknownParticipant, UnknownReceiver, SameParty, ReferenceUsed, NotOpen, NoCover, QueueFull, NumbersUsedUp, UnknownOrder, CodeTaken, KeyTaken, TooManyParticipants, TotalTooLarge, WrongPhase, WrongDate, Weekend, NotQueued, Resolvable, Overdrawn}
+use Rattle.rtgs_book.specs.declared.limits.TheConstants.{MOST_PARTICIPANTS, LONGEST_QUEUE, LARGEST_NUMBER, LARGEST_TOTAL}
 use Rattle.rtgs_book.specs.Books.{Book, Day, Closed, Open, CutOff, Participant, Posting, Order, OrderState, Queued, Withdrawn, Rejected, is_closed, is_open, is_cut_off, is_queued, is_withdrawn_state, is_empty}
 use Rattle.rtgs_book.specs.Lookup.{has_code, accounts, participant_of, is_participant, order_named, posting_named}
 use Rattle.rtgs_book.specs.Balance.{balance, floor, total}
@@ -40,7 +41,7 @@ add book code name key =
     (is_same_participant found name key, repeated)
     ∷ (is_some found, Err CodeTaken)
     ∷ (list_any (λ p. bytes_eq p.key key) book.participants, Err KeyTaken)
-    ∷ (nat_le 100 (length book.participants), Err TooManyParticipants)
+    ∷ (nat_le MOST_PARTICIPANTS (length book.participants), Err TooManyParticipants)
     ∷ []
     ) (accepts answer.Added (with_participant book (record { code = code; name = name; key = key; credit = 0 })))
 
@@ -74,8 +75,8 @@ post book code reference cents =
     (not (is_participant book code), Err UnknownParticipant)
     ∷ (is_same_posting found code cents, known_posting found)
     ∷ (is_some found, Err ReferenceUsed)
-    ∷ (nat_le 999999999 (length book.postings), Err NumbersUsedUp)
-    ∷ (int_lt (pos 0) cents && int_lt (pos (10 ^ 15)) (total book +ℤ cents), Err TotalTooLarge)
+    ∷ (nat_le LARGEST_NUMBER (length book.postings), Err NumbersUsedUp)
+    ∷ (int_lt (pos 0) cents && int_lt (pos LARGEST_TOTAL) (total book +ℤ cents), Err TotalTooLarge)
     ∷ (int_lt cents (pos 0) && int_lt (balance book code +ℤ cents) (floor book code), Err NoCover)
     ∷ []
     ) (accepts (answer.Posted number) (record book { postings = book.postings ++ posting ∷ [] }))
@@ -123,8 +124,8 @@ order book sender reference receiver amount =
     ∷ (not (is_open book.day.phase), Err NotOpen)
     ∷ (not (is_participant book receiver), Err UnknownReceiver)
     ∷ (bytes_eq sender receiver, Err SameParty)
-    ∷ (nat_le 999999999 (length book.orders), Err NumbersUsedUp)
-    ∷ (not (settles_at_once book sender amount) && nat_le 500 (length (queue book sender)), Err QueueFull)
+    ∷ (nat_le LARGEST_NUMBER (length book.orders), Err NumbersUsedUp)
+    ∷ (not (settles_at_once book sender amount) && nat_le LONGEST_QUEUE (length (queue book sender)), Err QueueFull)
     ∷ []
     ) (takes book (new_order book sender reference receiver amount))
 

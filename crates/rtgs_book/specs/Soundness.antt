@@ -6,15 +6,16 @@ use Rattle.std.specs.Ordering.{nat_cmp}
 use Rattle.std.specs.Cmp.Lexicographic.{slice_cmp}
 use Rattle.std.specs.Str.{bytes_eq}
 use Rattle.rtgs_money.specs.Date.{is_weekend}
+use Rattle.rtgs_book.specs.declared.limits.TheConstants.{MOST_PARTICIPANTS, LONGEST_QUEUE, LARGEST_NUMBER, LARGEST_TOTAL}
 use Rattle.rtgs_book.specs.Books.{Book, Participant, Posting, Order, OrderState, Mark, Settled, is_closed, is_queued}
 use Rattle.rtgs_book.specs.Lookup.{accounts, is_participant}
 use Rattle.rtgs_book.specs.Balance.{balance, floor, total}
 use Rattle.rtgs_book.specs.Queue.{queue}
 use Rattle.rtgs_book.specs.Settle.{today}
 
--- 1, 2, 3 and so on, at most 999999999
+-- 1, 2, 3 and so on, at most LARGEST_NUMBER
 abbrev pub AreNumbered : List ℕ → Type 0
-AreNumbered numbers = (numbers ≡ range_with_len 1 (length numbers)) × (length numbers ≤ 999999999)
+AreNumbered numbers = (numbers ≡ range_with_len 1 (length numbers)) × (length numbers ≤ LARGEST_NUMBER)
 
 abbrev pub OrdersAreNumbered : Book → Type 0
 OrdersAreNumbered book = AreNumbered (map (λ (o : Order). o.number) book.orders)
@@ -25,9 +26,9 @@ PostingsAreNumbered book = AreNumbered (map (λ (p : Posting). p.number) book.po
 abbrev pub MarksAreNumbered : Book → Type 0
 MarksAreNumbered book = AreNumbered (map (λ (m : Mark). m.number) book.marks)
 
--- codes rise strictly, and there are at most 100
+-- codes rise strictly, and there are at most MOST_PARTICIPANTS
 abbrev pub AreCodes : List (List ℕ) → Type 0
-AreCodes codes = IsStrictlySortedBy (slice_cmp nat_cmp) codes × (length codes ≤ 100)
+AreCodes codes = IsStrictlySortedBy (slice_cmp nat_cmp) codes × (length codes ≤ MOST_PARTICIPANTS)
 
 abbrev pub CodesRise : Book → Type 0
 CodesRise book = AreCodes (accounts book)
@@ -79,10 +80,10 @@ MarksFitOrders book =
     AllByRecursion (λ (o : Order). HasMark book.marks o.date o.state) book.orders
     × AllByRecursion (CountsItsOrders book) book.marks
 
--- nothing is queued while the desk is closed, a queue has at most 500 orders, and a queued order is of the day
+-- nothing is queued while the desk is closed, a queue has at most LONGEST_QUEUE orders, and a queued order is of the day
 pub record QueuesFit (book : Book) : Type 0 where
   pub closed : IsTrue (is_closed book.day.phase) → filter is_queued book.orders ≡ []
-  pub short : AllByRecursion (λ code. length (queue book code) ≤ 500) (accounts book)
+  pub short : AllByRecursion (λ code. length (queue book code) ≤ LONGEST_QUEUE) (accounts book)
   pub of_the_day : AllByRecursion (λ (o : Order). o.date ≡ today book) (filter is_queued book.orders)
 
 -- the dates don't fall along the list, and none is after the last
@@ -107,7 +108,7 @@ abbrev pub FloorsHold : Book → Type 0
 FloorsHold book = AllByRecursion (λ code. floor book code ≤ℤ balance book code) (accounts book)
 
 abbrev pub TotalFits : Book → Type 0
-TotalFits book = total book ≤ℤ pos (10 ^ 15)
+TotalFits book = total book ≤ℤ pos LARGEST_TOTAL
 
 -- rules 1 to 13, in the order in which `check` names them
 pub record IsSound (book : Book) : Type 0 where

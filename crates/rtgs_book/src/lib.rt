@@ -9,6 +9,7 @@ mod command;
 mod day;
 mod fault;
 pub mod laws;
+mod limits;
 mod mark;
 mod order;
 mod order_state;
@@ -29,6 +30,9 @@ pub use crate::change::{Change, RowChange};
 pub use crate::command::Command;
 pub use crate::day::Day;
 pub use crate::fault::Fault;
+pub use crate::limits::{
+    LARGEST_NUMBER, LARGEST_TOTAL, LONGEST_QUEUE, MOST_PARTICIPANTS, MOST_QUEUED,
+};
 pub use crate::mark::Mark;
 pub use crate::order::Order;
 pub use crate::order_state::OrderState;

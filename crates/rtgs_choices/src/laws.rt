@@ -5,6 +5,7 @@ ghost use Rattle.std.specs.List.{AllByRecursion, flat_map};
 ghost use Rattle.rtgs_gridlock.specs.Choices.{AreFloored, AreInRange, IsWithin, payment_count, after};
 ghost use Rattle.rtgs_gridlock.specs.Choices as resolver;
 ghost use Rattle.rtgs_gridlock.specs.Laws.{order_count, value_of};
+ghost use Rattle.rtgs_book.specs.declared.limits.TheConstants.{MOST_QUEUED};
 ghost use Rattle.rtgs_book.specs.declared.book.Book.{Book};
 ghost use Rattle.rtgs_book.specs.declared.mark.Mark.{Mark};
 ghost use Rattle.rtgs_book.specs.declared.order.Order.{Order};
@@ -33,13 +34,13 @@ use rtgs_book::laws::{
     balance_after_restating, chosen_are_beginnings, settled_balances, step_keeps_soundness,
 };
 
-/// What the resolver is told of a sound book meets its conditions, with 50000 payments at most.
+/// What the resolver is told of a sound book meets its conditions, with `MOST_QUEUED` payments at most.
 pub fn conditions_hold()
     ensures positions { (book : Book) → length (positions_of book) ≡ length (accounts book) }
     ensures queues { (book : Book) → length (queues_of book) ≡ length (accounts book) }
     ensures floored { (book : Book) → IsSound book → AreFloored (positions_of book) }
     ensures receivers { (book : Book) → IsSound book → AreInRange (queues_of book) }
-    ensures payments { (book : Book) → IsSound book → payment_count (queues_of book) ≤ 50000 }
+    ensures payments { (book : Book) → IsSound book → payment_count (queues_of book) ≤ MOST_QUEUED }
 {}
 
 /// A choice by index and the choice by code that it means take as much of each participant's

@@ -3,8 +3,8 @@ use Rattle.std.specs.Prelude.{ℕ, ⊤, Result, Ok, Err, Option, None, Some}
 use Rattle.rtgs_refusals.specs.declared.exit_status.TheConstants.{DONE, FAILED}
 use Rattle.rtgs_book.specs.declared.refusal.Refusal.{Refusal}
 use Rattle.rtgs_book.specs.declared.refusal.Refusal.TheVariants.{OutOfMemory}
-use Rattle.rtgs_statements.specs.declared.fault.TextFault.{TextFault}
-use Rattle.rtgs_statements.specs.declared.fault.TextFault.TheVariants as fault
+use Rattle.rtgs_output.specs.declared.text_fault.TextFault.{TextFault}
+use Rattle.rtgs_output.specs.declared.text_fault.TextFault.TheVariants as fault
 use Rattle.rtgs_desk_lines.specs.declared.failure.Failure.{Failure}
 use Rattle.rtgs_desk_lines.specs.declared.failure.Failure.TheVariants.{Refused}
 use Rattle.rtgs_desk_lines.specs.declared.printed.Printed.{Printed}

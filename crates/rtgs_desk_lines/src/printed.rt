@@ -3,8 +3,8 @@ ghost use Rattle.std.specs.Prelude.{◌≡◌};
 
 use crate::failure::Failure;
 use rtgs_book::Refusal;
+use rtgs_output::TextFault;
 use rtgs_refusals::exit_status::{DONE, FAILED};
-use rtgs_statements::TextFault;
 
 /// What became of a text.
 #[derive(Clone, Copy, Debug, PartialEq, Eq)]

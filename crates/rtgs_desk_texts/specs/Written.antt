@@ -6,7 +6,7 @@ use Rattle.rtgs_book.specs.declared.refusal.Refusal.{Refusal}
 use Rattle.rtgs_book.specs.declared.refusal.Refusal.TheVariants.{OutOfMemory}
 use Rattle.rtgs_book.specs.Lookup.{participant_of}
 use Rattle.rtgs_desk.specs.Readings.{if_known}
-use Rattle.rtgs_statements.specs.Sent.{AppendsPart}
+use Rattle.rtgs_output.specs.Sent.{AppendsPart}
 use Rattle.rtgs_statements.specs.Texts.{statement, report}
 use Rattle.rtgs_desk_texts.specs.declared.fault.DeskTextFault.{DeskTextFault}
 use Rattle.rtgs_desk_texts.specs.declared.fault.DeskTextFault.TheVariants.{Refused, Text}

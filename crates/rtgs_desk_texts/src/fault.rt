@@ -1,6 +1,6 @@
 //! Why a text of a desk's book was not written.
 use rtgs_book::Refusal;
-use rtgs_statements::TextFault;
+use rtgs_output::TextFault;
 
 /// Why a text of a desk's book was not written to its end.
 #[derive(Debug, Drop)]

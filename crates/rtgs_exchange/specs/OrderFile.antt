@@ -4,6 +4,7 @@ use Rattle.std.specs.List.{AllByRecursion}
 use Rattle.csv.specs.Reading.{default_config, records, strip_bom}
 use Rattle.rtgs_money.specs.Amounts.{IsAmount}
 use Rattle.rtgs_money.specs.Forms.{IsCode, IsReference}
+use Rattle.rtgs_exchange.specs.declared.limits.TheConstants.{MOST_ROWS}
 use Rattle.rtgs_exchange.specs.declared.order_row.OrderRow.{OrderRow}
 use Rattle.rtgs_exchange.specs.declared.batch_fault.BatchFault.{BatchFault}
 use Rattle.rtgs_exchange.specs.declared.batch_fault.BatchFault.TheVariants.{BadHeader, BadRow, BadCount, OutOfMemory}
@@ -28,19 +29,19 @@ IsNoRow fields = (row : OrderRow) → IsRow row → fields ≢ fields_of_row row
 abbrev pub BeginWith : List OrderRow → List Fields → List Fields → Type 0
 BeginWith rows rest records = (records ≡ map fields_of_row rows ++ rest) × AllByRecursion IsRow rows
 
--- The records spell these rows, and they are 1 to 500.
+-- The records spell these rows, and they are 1 to MOST_ROWS.
 abbrev pub AreRows : List OrderRow → List Fields → Type 0
-AreRows rows records = BeginWith rows [] records × (1 ≤ length rows) × (length rows ≤ 500)
+AreRows rows records = BeginWith rows [] records × (1 ≤ length rows) × (length rows ≤ MOST_ROWS)
 
--- Row r, one of the first 500, is the first that is none.
+-- Row r, one of the first MOST_ROWS, is the first that is none.
 abbrev pub FirstBadRow : ℕ → List Fields → Type 0
 FirstBadRow r records = (rows : List OrderRow) × (bad : Fields) × (rest : List Fields)
-    × BeginWith rows (bad ∷ rest) records × IsNoRow bad × (r ≡ length rows + 1) × (r ≤ 500)
+    × BeginWith rows (bad ∷ rest) records × IsNoRow bad × (r ≡ length rows + 1) × (r ≤ MOST_ROWS)
 
--- There is no row, or 500 are good and there are more.
+-- There is no row, or MOST_ROWS are good and there are more.
 abbrev pub Miscount : List Fields → Type 0
 Miscount records = (records ≡ [])
-    ⊎ ((rows : List OrderRow) × (next : Fields) × (rest : List Fields) × BeginWith rows (next ∷ rest) records × (length rows ≡ 500))
+    ⊎ ((rows : List OrderRow) × (next : Fields) × (rest : List Fields) × BeginWith rows (next ∷ rest) records × (length rows ≡ MOST_ROWS))
 
 -- Why these records, those under a header, are refused.
 abbrev pub IsFaultOfRows : BatchFault → List Fields → Type 0

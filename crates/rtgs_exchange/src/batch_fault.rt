@@ -14,7 +14,7 @@ pub enum BatchFault {
     BadHeader,
     /// This row, from 1 after the header, is the first that is no order.
     BadRow { row: u64 },
-    /// There is no row, or there are more than 500.
+    /// There is no row, or there are more than `MOST_ROWS`.
     BadCount,
     /// Memory was refused.
     OutOfMemory,

@@ -7,16 +7,14 @@ ghost use Rattle.rtgs_exchange.specs.OrderFile.{Fields, header, records_of, AreR
 ghost use Rattle.rtgs_exchange.specs.Reading.{IsReading, left_of};
 
 use crate::batch_fault::BatchFault;
+use crate::limits::MOST_ROWS;
 use crate::order_row::{OrderRow, three_fields};
 use csv::{ByteRecord, ByteRecordsIntoIter, ReaderBuilder};
 use std::alloc::Global;
 
-// The most rows that an order file may have.
-const MOST_ROWS: usize = 500;
-
-/// The rows of an order file: CSV (RFC 4180) whose first record is `reference,to,amount`, and then 1 to 500 records of a
+/// The rows of an order file: CSV (RFC 4180) whose first record is `reference,to,amount`, and then 1 to `MOST_ROWS` records of a
 /// reference, a code and an amount in cents. A byte order mark at the start and empty lines are passed over. The faults come
-/// in this order: `BadHeader`, `BadCount` where there is no row, `BadRow` with the first bad row of the first 500, counted
+/// in this order: `BadHeader`, `BadCount` where there is no row, `BadRow` with the first bad row of the first `MOST_ROWS`, counted
 /// from 1, and `BadCount` where there are more. `OutOfMemory` stands for every error of the reader of the bytes.
 pub fn read_orders(alloc: Global, bytes: &[u8]) -> Result<Vec<OrderRow>, BatchFault>
     ensures rows { IfOk result (λ rows. IsOrderFile bytes.now rows.items) }

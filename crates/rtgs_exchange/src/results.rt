@@ -2,7 +2,7 @@
 ghost use Rattle.std.specs.Io.KnownBytes.{Appends, Keeps};
 ghost use Rattle.std.specs.Prelude.{◌≡◌, ◌++◌, ℕ, List, IfOk, IfErr, OnOk, OnErr};
 ghost use Rattle.rtgs_exchange.specs.Results.{line, reply_line, stop_line, result_lines, results_text, Wrote};
-ghost use Rattle.rtgs_statements.specs.Sent.{AppendsPart};
+ghost use Rattle.rtgs_output.specs.Sent.{AppendsPart};
 
 use crate::batch_result::{BatchResult, RowReply};
 use crate::order_row::OrderRow;
@@ -10,7 +10,7 @@ use csv::Writer;
 use itoa::Buffer;
 use rtgs_book::{Refusal, Standing};
 use rtgs_money::Reference;
-use rtgs_statements::{TextFault, send_all};
+use rtgs_output::{TextFault, send_all};
 use std::alloc::{AllocError, Global};
 use std::io::Write;
 
@@ -29,11 +29,11 @@ pub fn write_results<W: Write>(
 {
     let text = match text_of(alloc, rows, batch) {
         Ok(text) => text,
-        Err(AllocError) => return Err(TextFault::OutOfMemory),
+        Err(refused) => return Err(TextFault::from(refused)),
     };
     match send_all(out, text.as_slice()) {
         Ok(()) => Ok(()),
-        Err(error) => Err(TextFault::Write(error)),
+        Err(failed) => Err(TextFault::from(failed)),
     }
 }
 

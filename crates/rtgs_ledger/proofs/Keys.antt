@@ -15,6 +15,6 @@ code_of-bearer key (x ∷ xs) = by (has_key key x) (code_of-bearer key xs)
     by : (b : Bool) → option_map (λ (p : Participant). p.code) (find (bears key) (map participant_of xs))
         ≡ option_map code_of (find (has_key key) xs)
         → option_map (λ (p : Participant). p.code) (cond b (Some (participant_of x))
-            (find (bears key) (map participant_of xs))) ≡ option_map code_of (cond b (Some x) (find (has_key key) xs))
+        (find (bears key) (map participant_of xs))) ≡ option_map code_of (cond b (Some x) (find (has_key key) xs))
     by true e = refl
     by false e = e

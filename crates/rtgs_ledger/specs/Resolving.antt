@@ -1,6 +1,7 @@
 -- A resolution: the orders of the greatest choice, and the balances that they move.
 use Rattle.std.specs.Prelude.{◌≡◌, ◌≤◌, ◌+ℤ◌, not, List, map, filter, length}
 use Rattle.std.specs.Ordering.{int_eq}
+use Rattle.rtgs_book.specs.declared.limits.TheConstants.{MOST_QUEUED}
 use Rattle.rtgs_book.specs.declared.book.Book.{Book}
 use Rattle.rtgs_book.specs.declared.order.Order.{Order}
 use Rattle.rtgs_book.specs.declared.change.RowChange.{RowChange}
@@ -17,7 +18,7 @@ pub record AreGreatest (book : Book) (orders : List Order) : Type 0 where
   pub choice : Choice
   pub greatest : IsGreatest book choice
   pub taken : orders ≡ orders_taken book choice
-  pub few : length orders ≤ 50000
+  pub few : length orders ≤ MOST_QUEUED
 
 -- the account with what it gains where these orders are settled
 abbrev pub after_orders : List Order → Account → Account

@@ -1,5 +1,6 @@
 //! The rows of a book in memory.
 ghost use Rattle.std.specs.Prelude.{◌≡◌, ◌+◌, ◌<◌, ◌≤◌, length, sum_by, if◌then◌else◌, ◌&&◌, not, ◌^◌, pos, neg_ℤ, ◌+ℤ◌, ◌-ℤ◌, int_lt, int_le, None};
+ghost use Rattle.rtgs_book.specs.declared.limits.TheConstants.{LARGEST_NUMBER, LARGEST_TOTAL, MOST_QUEUED};
 ghost use Rattle.rtgs_money.specs.Amounts.{IsAmount, IsCredit};
 ghost use Rattle.rtgs_book.specs.declared.order.Order.{Order};
 ghost use Rattle.rtgs_book.specs.IntSum.{int_sum_by};
@@ -14,11 +15,8 @@ ghost use Rattle.rtgs_ledger.specs.Held.{FindsRoom, after_row};
 use crate::accounts::Accounts;
 use crate::orders::Orders;
 use crate::postings::Postings;
-use rtgs_book::{Account, Day, Mark, Order, OrderState, Phase, RowChange};
+use rtgs_book::{Account, Day, LARGEST_TOTAL, Mark, Order, OrderState, Phase, RowChange};
 use rtgs_money::{Amount, BusinessDate, Cents, Code, Credit, PostingAmount, Reference};
-
-// The most that all balances together may be, in cents.
-const MAX_TOTAL: i128 = 1_000_000_000_000_000;
 
 /// The rows of a book, with a balance beside each participant.
 #[derive(Debug, Drop)]
@@ -140,10 +138,10 @@ impl Records {
 
     /// Whether a posting would take all balances together past 10^15 cents.
     pub fn is_too_much(&self, cents: PostingAmount) -> bool
-        ensures { result ≡ (int_lt (pos 0) cents && int_lt (pos (10 ^ 15)) (int_sum_by balance_of self.now.accounts.accounts +ℤ cents)) }
+        ensures { result ≡ (int_lt (pos 0) cents && int_lt (pos LARGEST_TOTAL) (int_sum_by balance_of self.now.accounts.accounts +ℤ cents)) }
     {
         let amount = i128::from(cents.cents());
-        amount > 0 && self.accounts.total() > MAX_TOTAL - amount
+        amount > 0 && self.accounts.total() > i128::from(LARGEST_TOTAL) - amount
     }
 
     /// Whether a posting takes so much from the account that this balance is below the floor.
@@ -181,7 +179,7 @@ impl Records {
         amount: Amount,
         date: BusinessDate,
     ) -> Order
-        requires { length self.now.orders.orders < 999999999 }
+        requires { length self.now.orders.orders < LARGEST_NUMBER }
         ensures { result ≡ record { number = length self.now.orders.orders + 1; sender = sender; reference = reference; receiver = receiver; amount = amount; date = date; state = OrderState.Queued } }
     {
         Order {
@@ -216,7 +214,7 @@ impl Records {
 
     /// The next mark, for these orders together.
     pub fn mark_of(&self, orders: &[Order], date: BusinessDate) -> Mark
-        requires { length orders.now ≤ 50000 }
+        requires { length orders.now ≤ MOST_QUEUED }
         ensures { result ≡ record { number = length self.now.marks.items + 1; date = date; count = length orders.now; value = pos (sum_by (λ (o : Order). o.amount) orders.now) } }
     {
         let mut value = 0i64;

@@ -1,5 +1,5 @@
 //! What an order pays.
-ghost use Rattle.std.specs.Prelude.{◌≡◌, ℕ, ◌≤◌, ◌^◌, ◌↔◌, decimal, Some, IsSome, IfSome, IfOk, IfErr};
+ghost use Rattle.std.specs.Prelude.{◌≡◌, ℕ, ◌≤◌, ◌↔◌, decimal, Some, IsSome, IfSome, IfOk, IfErr};
 ghost use Rattle.std.specs.Fmt.{styled_decimal};
 ghost use Rattle.rtgs_money.specs.Amounts.{IsAmount};
 
@@ -31,7 +31,7 @@ impl Amount {
     /// The amount of so many cents.
     pub fn new(cents: u64) -> Amount
         requires at_least_one { 1 ≤ cents }
-        requires in_range { cents ≤ 10 ^ 12 }
+        requires in_range { cents ≤ Amount.MAX }
         ensures { result ≡ cents }
     {
         Amount { cents }
@@ -64,7 +64,7 @@ impl Amount {
     pub fn cents(self) -> u64
         ensures value { result ≡ self }
         ensures at_least_one { 1 ≤ self }
-        ensures in_range { self ≤ 10 ^ 12 }
+        ensures in_range { self ≤ Amount.MAX }
     {
         self.cents
     }

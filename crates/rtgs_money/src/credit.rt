@@ -1,5 +1,5 @@
 //! Credit limits.
-ghost use Rattle.std.specs.Prelude.{◌≡◌, ℕ, ◌≤◌, ◌^◌, ◌↔◌, decimal, Some, IsSome, IfSome, IfOk, IfErr};
+ghost use Rattle.std.specs.Prelude.{◌≡◌, ℕ, ◌≤◌, ◌↔◌, decimal, Some, IsSome, IfSome, IfOk, IfErr};
 ghost use Rattle.std.specs.Fmt.{styled_decimal};
 ghost use Rattle.rtgs_money.specs.Amounts.{IsCredit};
 
@@ -57,7 +57,7 @@ impl Credit {
     /// The credit limit in cents.
     pub fn cents(self) -> u64
         ensures value { result ≡ self }
-        ensures in_range { self ≤ 10 ^ 14 }
+        ensures in_range { self ≤ Credit.MAX }
     {
         self.cents
     }

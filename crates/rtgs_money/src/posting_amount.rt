@@ -1,5 +1,5 @@
 //! What a posting adds or takes.
-ghost use Rattle.std.specs.Prelude.{◌≡◌, ◌≢◌, ℤ, pos, ◌≤◌, ◌^◌, ◌↔◌, unsigned_abs, Some, IsSome, IfSome, IfOk, IfErr};
+ghost use Rattle.std.specs.Prelude.{◌≡◌, ◌≢◌, ℤ, pos, ◌≤◌, ◌↔◌, unsigned_abs, Some, IsSome, IfSome, IfOk, IfErr};
 ghost use Rattle.std.specs.Fmt.{signed_decimal, styled_signed_decimal};
 ghost use Rattle.rtgs_money.specs.Amounts.{IsPostingAmount};
 
@@ -57,7 +57,7 @@ impl PostingAmount {
     pub fn cents(self) -> i64
         ensures value { result ≡ self }
         ensures not_zero { self ≢ pos 0 }
-        ensures in_range { unsigned_abs self ≤ 10 ^ 15 }
+        ensures in_range { unsigned_abs self ≤ PostingAmount.MAX }
     {
         self.cents
     }

@@ -1,26 +1,15 @@
 -- Writes one after another.
-use Rattle.std.proofs.Common.{◌≡◌, arith, ◌<◌, ◌+◌, ◌-◌, ◌++◌, ◌∷◌, [], ℕ, List, length, length-append, take, drop, get_or, Option, Some, None, Result, Ok, Err, OnOk, OnErr, refl, sym, ap, subst, ◌∙◌, append_assoc}
+use Rattle.std.proofs.Common.{◌≡◌, arith, ◌<◌, ◌+◌, ◌++◌, ◌∷◌, [], ℕ, List, length, length-append, take, drop, get_or, Option, Some, None, Result, Ok, Err, OnOk, OnErr, refl, sym, ap, subst, ◌∙◌, append_assoc}
 use Rattle.std.specs.Prelude.{codes}
 use Rattle.std.specs.Io.KnownBytes.{Appends}
-use Rattle.std.proofs.Math.Seq.{take-add, take-append-add}
-use Rattle.std.proofs.lemmas.List.{length-drop, take_all, take_more, take-append-drop, take-append-le, append-nil}
+use Rattle.std.proofs.Math.Seq.{take-append-add}
+use Rattle.std.proofs.lemmas.List.{take_more, take-append-drop, take-append-le, append-nil}
 use Rattle.rtgs_money.specs.Date.{date_text}
 use Rattle.rtgs_statements.specs.declared.line.Line.{Line}
 use Rattle.rtgs_statements.specs.declared.line.Line.TheVariants.{StatementOf, Record, Sum, ReportOf, Account, Orders, Marks}
 use Rattle.rtgs_statements.specs.Lines.{row_columns}
-use Rattle.rtgs_statements.specs.Sent.{AppendsPart}
+use Rattle.rtgs_output.specs.Sent.{AppendsPart}
 use Rattle.rtgs_statements.specs.Texts.{sum_columns, count_columns, value_columns, account_columns, line_text, text_of}
-
-pub appends-more : (old mid new : Option (List ℕ)) (a n : ℕ) (bs : List ℕ)
-    → Appends old mid (take a bs) → Appends mid new (take n (drop a bs)) → Appends old new (take (a + n) bs)
-appends-more None mid new a n bs p q = tt
-appends-more (Some xs) None new a n bs p q = absurd p
-appends-more (Some xs) (Some ys) None a n bs p q = q
-appends-more (Some xs) (Some ys) (Some zs) a n bs p q = rw (q, p, take-add a n bs) (append_assoc xs (take a bs) (take n (drop a bs)))
-
--- the bytes from a place on
-pub rest-of : (a : ℕ) (bs : List ℕ) → take (length bs - a) (drop a bs) ≡ drop a bs
-rest-of a bs = take_all (length bs - a) (drop a bs) (omega (arith, length-drop a bs))
 
 pub appends-none : (old : Option (List ℕ)) → Appends old old []
 appends-none None = tt

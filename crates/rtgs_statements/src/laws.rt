@@ -1,5 +1,6 @@
 //! Laws of the sums and of the lines. Each function does nothing: its contract is the law.
 ghost use Rattle.std.specs.Prelude.{◌≡◌, ◌≤◌, ◌<◌, ◌^◌, ℕ, ℤ, unsigned_abs, List, length, IfSome};
+ghost use Rattle.rtgs_book.specs.declared.limits.TheConstants.{LARGEST_NUMBER};
 ghost use Rattle.rtgs_money.specs.Amounts.{IsAmount, IsPostingAmount};
 ghost use Rattle.rtgs_money.specs.Forms.{IsCode, IsReference};
 ghost use Rattle.rtgs_book.specs.declared.book.Book.{Book};
@@ -30,10 +31,10 @@ pub fn net_is_posted()
     ensures { (book : Book) (date : ℕ) → CodesRise book → PartiesAreKnown book → int_sum_by (λ code. net (sums_of code (postings_on date book.postings) (orders_on date book.orders))) (accounts book) ≡ int_sum_by cents_of (postings_on date book.postings) }
 {}
 
-/// Each row of a statement has 77 characters and a line feed, where numbers have at most nine digits.
+/// Each row of a statement has 77 characters and a line feed, where numbers are at most `LARGEST_NUMBER`.
 pub fn rows_have_77_characters()
-    ensures postings { (posting : Posting) → posting.number ≤ 999999999 → IsReference posting.reference → IsPostingAmount posting.cents → length (row_text (row_of_posting posting)) ≡ 78 }
-    ensures orders { (code : List ℕ) (order : Order) → order.number ≤ 999999999 → IsReference order.reference → IsCode order.sender → IsCode order.receiver → IsAmount order.amount → IfSome (mark_of order.state) (λ mark. mark ≤ 999999999) → length (row_text (row_of_order code order)) ≡ 78 }
+    ensures postings { (posting : Posting) → posting.number ≤ LARGEST_NUMBER → IsReference posting.reference → IsPostingAmount posting.cents → length (row_text (row_of_posting posting)) ≡ 78 }
+    ensures orders { (code : List ℕ) (order : Order) → order.number ≤ LARGEST_NUMBER → IsReference order.reference → IsCode order.sender → IsCode order.receiver → IsAmount order.amount → IfSome (mark_of order.state) (λ mark. mark ≤ LARGEST_NUMBER) → length (row_text (row_of_order code order)) ≡ 78 }
 {}
 
 /// Each sum of a statement has 41 characters and a line feed, where it is below 10^28 cents.

@@ -2,7 +2,6 @@
 //! byte.
 #![tactic(auto)]
 
-mod fault;
 mod kind;
 pub mod laws;
 mod line;
@@ -15,7 +14,5 @@ mod sums;
 mod total;
 mod turnover;
 
-pub use crate::fault::TextFault;
 pub use crate::report::{Report, day_report};
-pub use crate::sending::send_all;
 pub use crate::statement::{Statement, statement_text};

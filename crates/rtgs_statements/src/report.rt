@@ -4,16 +4,16 @@ ghost use Rattle.std.specs.Io.KnownBytes.{Appends};
 ghost use Rattle.rtgs_statements.specs.declared.line.Line.{Line};
 ghost use Rattle.rtgs_book.specs.declared.standing.Standing.{Standing};
 ghost use Rattle.rtgs_statements.specs.Records.{is_posted_on, postings_on, orders_on, marks_on};
-ghost use Rattle.rtgs_statements.specs.Sent.{AppendsPart};
+ghost use Rattle.rtgs_output.specs.Sent.{AppendsPart};
 ghost use Rattle.rtgs_statements.specs.Sums.{sums_at};
 ghost use Rattle.rtgs_statements.specs.Texts.{report_text, orders_line};
 
-use crate::fault::TextFault;
 use crate::line::Line;
 use crate::sending::send_parts;
 use crate::turnover::Turnover;
 use rtgs_book::{Mark, Order, Posting, Standing};
 use rtgs_money::{BusinessDate, Code, Units};
+use rtgs_output::TextFault;
 use std::alloc::{AllocError, Global};
 use std::io::Write;
 

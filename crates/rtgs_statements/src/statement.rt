@@ -4,11 +4,10 @@ ghost use Rattle.std.specs.Io.KnownBytes.{Appends};
 ghost use Rattle.rtgs_statements.specs.declared.line.Line.{Line};
 ghost use Rattle.rtgs_statements.specs.Lines.{row_of_posting, row_of_order};
 ghost use Rattle.rtgs_statements.specs.Records.{is_posting_of, is_order_of, postings_of, orders_of};
-ghost use Rattle.rtgs_statements.specs.Sent.{AppendsPart};
+ghost use Rattle.rtgs_output.specs.Sent.{AppendsPart};
 ghost use Rattle.rtgs_statements.specs.Sums.{IsSmall};
 ghost use Rattle.rtgs_statements.specs.Texts.{statement_text, sum_lines};
 
-use crate::fault::TextFault;
 use crate::line::Line;
 use crate::row::Row;
 use crate::sending::send_parts;
@@ -17,6 +16,7 @@ use crate::total::Total;
 use crate::turnover::Turnover;
 use rtgs_book::{Order, OrderState, Posting};
 use rtgs_money::{BusinessDate, Code, Units};
+use rtgs_output::TextFault;
 use std::alloc::{AllocError, Global};
 use std::io::Write;
 

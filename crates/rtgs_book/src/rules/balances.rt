@@ -6,6 +6,7 @@ ghost use Rattle.std.specs.List.{AllByRecursion};
 ghost use Rattle.std.specs.Ordering.{nat_cmp};
 ghost use Rattle.std.specs.Str.{bytes_eq};
 ghost use Rattle.rtgs_money.specs.Amounts.{IsAmount, IsPostingAmount, IsCredit};
+ghost use Rattle.rtgs_book.specs.declared.limits.TheConstants.{LARGEST_NUMBER, LARGEST_TOTAL};
 ghost use Rattle.rtgs_book.specs.declared.order.Order.{Order};
 ghost use Rattle.rtgs_book.specs.declared.participant.Participant.{Participant};
 ghost use Rattle.rtgs_book.specs.declared.posting.Posting.{Posting};
@@ -18,6 +19,7 @@ ghost use Rattle.rtgs_book.specs.Soundness.{CodesRise, FloorsHold};
 ghost use Rattle.rtgs_book.specs.Totals.{Totals, AreWithin};
 
 use crate::book::Book;
+use crate::limits::LARGEST_TOTAL;
 use crate::order::Order;
 use crate::order_state::OrderState;
 use crate::participant::Participant;
@@ -32,8 +34,8 @@ use std::collections::BTreeMap;
 /// Whether every balance is at least its floor.
 pub fn floors_hold(alloc: Global, book: &Book) -> Result<bool, AllocError>
     requires codes { CodesRise book.now }
-    requires few_postings { length book.now.postings ≤ 999999999 }
-    requires few_orders { length book.now.orders ≤ 999999999 }
+    requires few_postings { length book.now.postings ≤ LARGEST_NUMBER }
+    requires few_orders { length book.now.orders ≤ LARGEST_NUMBER }
     ensures floors { IfOk result (λ yes. IsTrue yes ↔ FloorsHold book.now) }
     ensures fits { IfOk result (λ yes. IsTrue yes → Fits book.now) }
 {
@@ -42,20 +44,17 @@ pub fn floors_hold(alloc: Global, book: &Book) -> Result<bool, AllocError>
     Ok(are_covered(&balances, participants, book.day.phase))
 }
 
-/// Whether all that was posted is at most 10^15 cents.
+/// Whether all that was posted is at most `LARGEST_TOTAL`.
 pub fn is_issue_small(postings: &[Posting]) -> bool
-    requires { length postings.now ≤ 999999999 }
-    ensures { IsTrue result ↔ (int_sum_by (λ (p : Posting). p.cents) postings.now ≤ℤ pos (10 ^ 15)) }
+    requires { length postings.now ≤ LARGEST_NUMBER }
+    ensures { IsTrue result ↔ (int_sum_by (λ (p : Posting). p.cents) postings.now ≤ℤ pos LARGEST_TOTAL) }
 {
     let mut issued = 0i128;
     for posting in postings {
         issued += i128::from(posting.cents.cents());
     }
-    issued <= LARGEST_TOTAL
+    issued <= i128::from(LARGEST_TOTAL)
 }
-
-// The most that all balances together may be, in cents.
-const LARGEST_TOTAL: i128 = 1_000_000_000_000_000;
 
 // Whether the balance of each participant is at least its floor.
 fn are_covered(balances: &BTreeMap<Code, i128>, participants: &[Participant], phase: Phase) -> bool
@@ -87,8 +86,8 @@ fn is_covered(balances: &BTreeMap<Code, i128>, participant: &Participant, phase:
 
 /// The balance of each participant in cents, by one pass over the postings and one over the orders.
 pub fn balances(alloc: Global, book: &Book) -> Result<BTreeMap<Code, i128>, AllocError>
-    requires few_postings { length book.now.postings ≤ 999999999 }
-    requires few_orders { length book.now.orders ≤ 999999999 }
+    requires few_postings { length book.now.postings ≤ LARGEST_NUMBER }
+    requires few_orders { length book.now.orders ≤ LARGEST_NUMBER }
     ensures sums { IfOk result (Totals (slice_cmp nat_cmp) (accounts book.now) (balance book.now)) }
     ensures postings { OnOk result (AllByRecursion (λ (p : Posting). IsPostingAmount p.cents) book.now.postings) }
     ensures orders { OnOk result (AllByRecursion (λ (o : Order). IsAmount o.amount) book.now.orders) }
@@ -101,7 +100,7 @@ pub fn balances(alloc: Global, book: &Book) -> Result<BTreeMap<Code, i128>, Allo
 
 // Adds the postings to the sums under the codes that they are made to.
 fn add_postings(totals: &mut BTreeMap<Code, i128>, postings: &[Posting])
-    requires few { length postings.now ≤ 999999999 }
+    requires few { length postings.now ≤ LARGEST_NUMBER }
     requires small { AreWithin (slice_cmp nat_cmp) 0 totals.old }
     ensures sums { (codes : List (List ℕ)) (sum_of : List ℕ → ℤ) → Totals (slice_cmp nat_cmp) codes sum_of totals.old →
         Totals (slice_cmp nat_cmp) codes (λ code. sum_of code +ℤ int_sum_by (λ (p : Posting). p.cents) (filter (λ (p : Posting). bytes_eq p.code code) postings.now)) totals.new }
@@ -115,7 +114,7 @@ fn add_postings(totals: &mut BTreeMap<Code, i128>, postings: &[Posting])
 
 // Adds the settled orders to the sums under the codes of their parties.
 fn add_orders(totals: &mut BTreeMap<Code, i128>, orders: &[Order])
-    requires few { length orders.now ≤ 999999999 }
+    requires few { length orders.now ≤ LARGEST_NUMBER }
     requires small { AreWithin (slice_cmp nat_cmp) (10 ^ 27) totals.old }
     ensures sums { (codes : List (List ℕ)) (sum_of : List ℕ → ℤ) → Totals (slice_cmp nat_cmp) codes sum_of totals.old →
         Totals (slice_cmp nat_cmp) codes (λ code. sum_of code +ℤ int_sum_by (gain code) (filter is_settled orders.now)) totals.new }

@@ -4,6 +4,7 @@ ghost use Rattle.std.specs.BTreeMap.{get};
 ghost use Rattle.std.specs.List.{AllByRecursion, list_any, list_all};
 ghost use Rattle.std.specs.Ordering.{nat_cmp};
 ghost use Rattle.rtgs_book.specs.declared.mark.Mark.{Mark};
+ghost use Rattle.rtgs_book.specs.declared.limits.TheConstants.{LARGEST_NUMBER};
 ghost use Rattle.rtgs_book.specs.declared.order.Order.{Order};
 ghost use Rattle.rtgs_book.specs.IntSum.{int_sum_by};
 ghost use Rattle.rtgs_book.specs.Soundness.{MarksFitOrders, HasMark, is_state_under};
@@ -21,7 +22,7 @@ use std::collections::{BTreeMap, BTreeSet};
 
 /// Whether each settled order's mark is there and bears its date, and each mark counts its orders, at least one, and their value.
 pub fn marks_fit(alloc: Global, book: &Book) -> Result<bool, AllocError>
-    requires { length book.now.orders ≤ 999999999 }
+    requires { length book.now.orders ≤ LARGEST_NUMBER }
     ensures { IfOk result (λ yes. IsTrue yes ↔ MarksFitOrders book.now) }
 {
     let marks = book.marks.as_slice();
@@ -71,7 +72,7 @@ fn are_among(dated: &BTreeSet<(u64, BusinessDate)>, orders: &[Order]) -> bool
 
 // Adds each settled order to the count and the value of its mark.
 fn add_marked(counts: &mut BTreeMap<u64, i128>, values: &mut BTreeMap<u64, i128>, orders: &[Order])
-    requires few { length orders.now ≤ 999999999 }
+    requires few { length orders.now ≤ LARGEST_NUMBER }
     requires no_counts { AreWithin nat_cmp 0 counts.old }
     requires no_values { AreWithin nat_cmp 0 values.old }
     ensures counts { (numbers : List ℕ) (count_of : ℕ → ℤ) → Totals nat_cmp numbers count_of counts.old →

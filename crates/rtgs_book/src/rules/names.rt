@@ -9,6 +9,7 @@ ghost use Rattle.rtgs_book.specs.declared.participant.Participant.{Participant};
 ghost use Rattle.rtgs_book.specs.declared.posting.Posting.{Posting};
 ghost use Rattle.rtgs_book.specs.Soundness.{AreCodes, is_same_name};
 
+use crate::limits::MOST_PARTICIPANTS;
 use crate::order::Order;
 use crate::participant::Participant;
 use crate::posting::Posting;
@@ -16,10 +17,7 @@ use rtgs_money::{Code, KeyDigest, Reference};
 use std::alloc::{AllocError, Global};
 use std::collections::BTreeSet;
 
-/// The greatest number of participants.
-pub const MOST_PARTICIPANTS: usize = 100;
-
-/// Whether the participants' codes rise strictly, and are at most 100.
+/// Whether the participants' codes rise strictly, and are at most `MOST_PARTICIPANTS`.
 pub fn codes_rise(participants: &[Participant]) -> bool
     ensures { IsTrue result ↔ AreCodes (map (λ (p : Participant). p.code) participants.now) }
 {

@@ -2,12 +2,10 @@
 ghost use Rattle.std.specs.Prelude.{◌↔◌, map, IsTrue};
 ghost use Rattle.rtgs_book.specs.Soundness.{AreNumbered};
 
+use crate::limits::LARGEST_NUMBER;
 use crate::recorded::Recorded;
 
-/// The greatest number of an order, a posting or a mark.
-pub const LARGEST_NUMBER: usize = 999_999_999;
-
-/// Whether the records are numbered 1, 2, 3 and so on, at most 999999999.
+/// Whether the records are numbered 1, 2, 3 and so on, at most `LARGEST_NUMBER`.
 pub fn are_numbered<T: Recorded>(rows: &[T]) -> bool
     ensures { IsTrue result ↔ AreNumbered (map T.number_of rows.now) }
 {

@@ -5,6 +5,7 @@ ghost use Rattle.std.specs.Cmp.Lexicographic.{slice_cmp};
 ghost use Rattle.std.specs.List.{AllByRecursion, list_all};
 ghost use Rattle.std.specs.Ordering.{nat_cmp};
 ghost use Rattle.std.specs.Str.{bytes_eq};
+ghost use Rattle.rtgs_book.specs.declared.limits.TheConstants.{LONGEST_QUEUE, LARGEST_NUMBER};
 ghost use Rattle.rtgs_book.specs.declared.order.Order.{Order};
 ghost use Rattle.rtgs_book.specs.declared.participant.Participant.{Participant};
 ghost use Rattle.rtgs_book.specs.Books.{is_closed, is_queued};
@@ -16,6 +17,7 @@ ghost use Rattle.rtgs_book.specs.Soundness.{QueuesFit};
 ghost use Rattle.rtgs_book.specs.Totals.{Totals, AreWithin};
 
 use crate::book::Book;
+use crate::limits::LONGEST_QUEUE;
 use crate::order::Order;
 use crate::order_state::OrderState;
 use crate::participant::Participant;
@@ -26,12 +28,9 @@ use rtgs_money::Code;
 use std::alloc::{AllocError, Global};
 use std::collections::BTreeMap;
 
-/// The greatest number of queued orders of one sender.
-const LONGEST_QUEUE: i128 = 500;
-
-/// Whether nothing is queued while the desk is closed, each queue has at most 500 orders, and queued orders are of the day.
+/// Whether nothing is queued while the desk is closed, each queue has at most `LONGEST_QUEUE` orders, and queued orders are of the day.
 pub fn queues_fit(alloc: Global, book: &Book) -> Result<bool, AllocError>
-    requires { length book.now.orders ≤ 999999999 }
+    requires { length book.now.orders ≤ LARGEST_NUMBER }
     ensures { IfOk result (λ yes. IsTrue yes ↔ QueuesFit book.now) }
 {
     let lengths = queue_lengths(alloc, book)?;
@@ -67,7 +66,7 @@ fn are_queued_on(orders: &[Order], has_day: bool, today: u32) -> bool
 // Whether each participant's queue is short.
 fn are_short(lengths: &BTreeMap<Code, i128>, participants: &[Participant]) -> bool
     ensures { (length_of : List ℕ → ℤ) → Totals (slice_cmp nat_cmp) (map (λ (p : Participant). p.code) participants.now) length_of lengths.now →
-        (IsTrue result ↔ AllByRecursion (λ (p : Participant). length_of p.code ≤ℤ pos 500) participants.now) }
+        (IsTrue result ↔ AllByRecursion (λ (p : Participant). length_of p.code ≤ℤ pos LONGEST_QUEUE) participants.now) }
 {
     for participant in participants {
         if !is_short(lengths, participant) {
@@ -79,17 +78,17 @@ fn are_short(lengths: &BTreeMap<Code, i128>, participants: &[Participant]) -> bo
 
 // Whether the participant's queue is short.
 fn is_short(lengths: &BTreeMap<Code, i128>, participant: &Participant) -> bool
-    ensures { (length : ℤ) → get (slice_cmp nat_cmp) lengths.now participant.now.code ≡ Some length → (IsTrue result ↔ (length ≤ℤ pos 500)) }
+    ensures { (length : ℤ) → get (slice_cmp nat_cmp) lengths.now participant.now.code ≡ Some length → (IsTrue result ↔ (length ≤ℤ pos LONGEST_QUEUE)) }
 {
     match lengths.get(&participant.code) {
-        Some(length) => *length <= LONGEST_QUEUE,
+        Some(length) => *length <= LONGEST_QUEUE as i128,
         None => false,
     }
 }
 
 // How many orders of each participant are queued.
 fn queue_lengths(alloc: Global, book: &Book) -> Result<BTreeMap<Code, i128>, AllocError>
-    requires { length book.now.orders ≤ 999999999 }
+    requires { length book.now.orders ≤ LARGEST_NUMBER }
     ensures { IfOk result (Totals (slice_cmp nat_cmp) (accounts book.now) (λ code. pos (length (queue book.now code)))) }
 {
     let mut lengths = zeros(alloc, codes_of(alloc, book.participants.as_slice())?)?;
@@ -99,7 +98,7 @@ fn queue_lengths(alloc: Global, book: &Book) -> Result<BTreeMap<Code, i128>, All
 
 // Counts the queued orders under the codes of their senders.
 fn count_queued(lengths: &mut BTreeMap<Code, i128>, orders: &[Order])
-    requires few { length orders.now ≤ 999999999 }
+    requires few { length orders.now ≤ LARGEST_NUMBER }
     requires small { AreWithin (slice_cmp nat_cmp) 0 lengths.old }
     ensures { (codes : List (List ℕ)) (length_of : List ℕ → ℤ) → Totals (slice_cmp nat_cmp) codes length_of lengths.old →
         Totals (slice_cmp nat_cmp) codes (λ code. length_of code +ℤ int_sum_by (λ (o : Order). pos 1) (filter (λ (o : Order). is_queued o && bytes_eq o.sender code) orders.now)) lengths.new }

@@ -3,10 +3,10 @@ ghost use Rattle.std.specs.Prelude.{◌≡◌, IfOk, IfErr};
 ghost use Rattle.rtgs_ledger.specs.Kept.{IsPrepared, IsRefused};
 
 use super::Ledger;
-use rtgs_book::{Answer, Change, Command, Known, Participant, Refusal, RowChange, Rows, laws};
+use rtgs_book::{
+    Answer, Change, Command, Known, MOST_PARTICIPANTS, Participant, Refusal, RowChange, Rows, laws,
+};
 use rtgs_money::{Code, Credit, KeyDigest, Name};
-
-const MAX_PARTICIPANTS: usize = 100;
 
 impl Ledger {
     /// A participant is added, in code order.
@@ -29,7 +29,7 @@ impl Ledger {
         if self.records.accounts.has_key(&key) {
             return Err(Refusal::KeyTaken);
         }
-        if self.records.accounts.len() >= MAX_PARTICIPANTS {
+        if self.records.accounts.len() >= MOST_PARTICIPANTS {
             return Err(Refusal::TooManyParticipants);
         }
         let participant = Participant {

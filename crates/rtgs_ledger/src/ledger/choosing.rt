@@ -1,5 +1,6 @@
 //! The greatest choice of queued orders, as the resolver finds it.
 ghost use Rattle.std.specs.Prelude.{◌≡◌, ◌≤◌, List, IfOk, length, slice_index};
+ghost use Rattle.rtgs_book.specs.declared.limits.TheConstants.{MOST_QUEUED};
 ghost use Rattle.rtgs_gridlock.specs.Workspaces.{lengths_of};
 ghost use Rattle.rtgs_book.specs.Choice.{IsGreatest};
 ghost use Rattle.rtgs_book.specs.Lookup.{accounts};
@@ -8,14 +9,11 @@ ghost use Rattle.rtgs_choices.specs.Settling.{orders_taken};
 ghost use Rattle.rtgs_ledger.specs.Resolving.{AreGreatest};
 
 use super::Ledger;
-use rtgs_book::Order;
+use rtgs_book::{MOST_QUEUED, Order};
 use rtgs_choices::laws;
 use rtgs_gridlock::{OutOfMemory, Payment, Position, Positions, Queues, Workspace, greatest};
 use rtgs_money::Code;
 use std::alloc::AllocError;
-
-// The most orders that all queues together may have.
-const MAX_QUEUED_IN_ALL: usize = 50_000;
 
 impl Ledger {
     /// The orders of the greatest choice, account by account.
@@ -36,7 +34,7 @@ impl Ledger {
         laws::greatest_means_greatest();
         let positions = self.positions()?;
         let queues = self.payments()?;
-        let mut workspace = Workspace::reserve(self.alloc, queues.len(), MAX_QUEUED_IN_ALL)?;
+        let mut workspace = Workspace::reserve(self.alloc, queues.len(), MOST_QUEUED)?;
         greatest(&positions, &queues, &mut workspace);
         Ok(workspace)
     }
@@ -93,7 +91,7 @@ impl Ledger {
     fn beginnings(&self, lengths: &[usize]) -> Result<Vec<Order>, AllocError>
         requires { length lengths.now ≡ length (accounts self.now.content) }
         ensures orders { IfOk result (λ orders. orders.items ≡ orders_taken self.now.content (by_code self.now.content (slice_index lengths.now))) }
-        ensures few { IfOk result (λ orders. length orders.items ≤ 50000) }
+        ensures few { IfOk result (λ orders. length orders.items ≤ MOST_QUEUED) }
     {
         laws::choices_agree();
         let mut orders = Vec::new(self.alloc);

@@ -8,16 +8,11 @@ ghost use Rattle.rtgs_ledger.specs.Ordering.{IsTaken};
 
 use super::Ledger;
 use rtgs_book::{
-    Account, Answer, Change, Command, Known, Mark, Order, OrderState, Refusal, RowChange, Rows,
-    laws,
+    Account, Answer, Change, Command, Known, LARGEST_NUMBER, LONGEST_QUEUE, Mark, Order,
+    OrderState, Refusal, RowChange, Rows, laws,
 };
 use rtgs_money::{Amount, Cents, Code, Reference};
 use std::alloc::{AllocError, Global};
-
-const MAX_ORDERS: usize = 999_999_999;
-
-// The most orders that one sender's queue may have.
-const MAX_QUEUED: usize = 500;
 
 impl Ledger {
     /// An order is settled at once, or joins its sender's queue.
@@ -53,7 +48,7 @@ impl Ledger {
         if sender == receiver {
             return Err(Refusal::SameParty);
         }
-        if self.records.orders.len() >= MAX_ORDERS {
+        if self.records.orders.len() >= LARGEST_NUMBER {
             return Err(Refusal::NumbersUsedUp);
         }
         let order = self
@@ -62,7 +57,7 @@ impl Ledger {
         if self.records.settles_at_once(&debtor, amount) {
             return self.prepare_settled(&order, &debtor, &creditor);
         }
-        if self.records.orders.queue(&sender).len() >= MAX_QUEUED {
+        if self.records.orders.queue(&sender).len() >= LONGEST_QUEUE {
             return Err(Refusal::QueueFull);
         }
         self.prepare_queued(order)

@@ -3,10 +3,10 @@ ghost use Rattle.std.specs.Prelude.{◌≡◌, IfOk, IfErr};
 ghost use Rattle.rtgs_ledger.specs.Kept.{IsPrepared, IsRefused};
 
 use super::Ledger;
-use rtgs_book::{Answer, Change, Command, Known, Posting, Refusal, RowChange, Rows, laws};
+use rtgs_book::{
+    Answer, Change, Command, Known, LARGEST_NUMBER, Posting, Refusal, RowChange, Rows, laws,
+};
 use rtgs_money::{Code, PostingAmount, Reference};
-
-const MAX_POSTINGS: usize = 999_999_999;
 
 impl Ledger {
     /// A posting is added, with the next number.
@@ -31,7 +31,7 @@ impl Ledger {
             }
             return Err(Refusal::ReferenceUsed);
         }
-        if self.records.postings.len() >= MAX_POSTINGS {
+        if self.records.postings.len() >= LARGEST_NUMBER {
             return Err(Refusal::NumbersUsedUp);
         }
         if self.records.is_too_much(cents) {

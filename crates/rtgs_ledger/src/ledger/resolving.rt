@@ -1,5 +1,6 @@
 //! Resolving a gridlock.
 ghost use Rattle.std.specs.Prelude.{◌≡◌, ◌≤◌, List, map, length, Some, IfOk, IfErr};
+ghost use Rattle.rtgs_book.specs.declared.limits.TheConstants.{MOST_QUEUED};
 ghost use Rattle.rtgs_book.specs.declared.order.Order.{Order};
 ghost use Rattle.rtgs_ledger.specs.Kept.{IsPrepared, IsRefused};
 ghost use Rattle.rtgs_ledger.specs.Resolving.{AreGreatest, after_orders, moved_accounts, moved_rows};
@@ -65,7 +66,7 @@ impl Ledger {
 
     // The rows of the balances that the orders move, in code order.
     fn balance_rows(&self, orders: &[Order]) -> Result<Vec<RowChange>, AllocError>
-        requires { length orders.now ≤ 50000 }
+        requires { length orders.now ≤ MOST_QUEUED }
         ensures { IfOk result (λ rows. rows.items ≡ moved_rows orders.now self.now.accounts) }
     {
         self.moved_accounts(orders)?
@@ -79,7 +80,7 @@ impl Ledger {
 
     // The accounts whose balances the orders move, with the new balances.
     fn moved_accounts(&self, orders: &[Order]) -> Result<Vec<Account>, AllocError>
-        requires { length orders.now ≤ 50000 }
+        requires { length orders.now ≤ MOST_QUEUED }
         ensures { IfOk result (λ moved. moved.items ≡ moved_accounts orders.now self.now.accounts) }
     {
         let settled = self.accounts_after(orders)?;
@@ -95,7 +96,7 @@ impl Ledger {
 
     // The accounts as the orders leave them.
     fn accounts_after(&self, orders: &[Order]) -> Result<Accounts, AllocError>
-        requires { length orders.now ≤ 50000 }
+        requires { length orders.now ≤ MOST_QUEUED }
         ensures { IfOk result (λ settled. settled.accounts ≡ map (after_orders orders.now) self.now.accounts) }
     {
         laws::balances_are_small();

@@ -3,10 +3,10 @@ use rtgs_book::{
     Answer, Change, Command, Order, OrderState, Participant, Posting, Refusal, RowChange, Rows,
 };
 use rtgs_desk::Desk;
+use rtgs_keeper::{Keeper, MemoryKeeper};
 use rtgs_money::{
     Amount, BusinessDate, Cents, Code, Credit, Key, KeyDigest, Name, PostingAmount, Reference,
 };
-use rtgs_keeper::{Keeper, MemoryKeeper};
 use std::alloc::Global;
 use std::test::Fail;
 

@@ -3,8 +3,8 @@ mod memory_keeper;
 
 use super::setting::{change, code, participant, posting};
 use rtgs_book::{Change, Fault, RowChange, Rule};
-use rtgs_money::Cents;
 use rtgs_keeper::{CommitFault, Keeper};
+use rtgs_money::Cents;
 use rtgs_tables::SqlKeeper;
 use sqlite::{Connection, MemStore};
 use std::alloc::Global;

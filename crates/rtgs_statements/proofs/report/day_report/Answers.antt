@@ -1,7 +1,7 @@
 use Rattle.std.proofs.Common.{rules, OnOk, OnErr, [], ◌∷◌, refl, subst}
 use Rattle.rtgs_statements.specs.declared.line.Line.TheVariants.{ReportOf, Marks}
 use Rattle.std.specs.Io.KnownBytes.{Appends}
-use Rattle.rtgs_statements.specs.Sent.{AppendsPart}
+use Rattle.rtgs_output.specs.Sent.{AppendsPart}
 use Rattle.rtgs_statements.proofs.Groups.{report_is, report-has_bytes}
 use Rattle.rtgs_statements.proofs.Growth.{none-begun, on_err}
 use Rattle.rtgs_statements.proofs.report.day_report.Goals as goal

@@ -5,8 +5,8 @@ use super::super::setting::{
 };
 use rtgs_book::{Mark, OrderState, Posting, Refusal};
 use rtgs_desk::Desk;
-use rtgs_money::Cents;
 use rtgs_keeper::MemoryKeeper;
+use rtgs_money::Cents;
 use std::alloc::Global;
 use std::test::Fail;
 

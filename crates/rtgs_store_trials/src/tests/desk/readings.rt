@@ -6,8 +6,8 @@ use super::super::setting::{
 use super::failing;
 use rtgs_book::{Day, Order, OrderState, Phase, Refusal, RowChange};
 use rtgs_desk::{AccountReading, Desk};
-use rtgs_money::{Cents, Units};
 use rtgs_keeper::{Keeper, MemoryKeeper};
+use rtgs_money::{Cents, Units};
 use std::alloc::Global;
 use std::test::Fail;
 

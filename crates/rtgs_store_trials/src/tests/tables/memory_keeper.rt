@@ -2,8 +2,8 @@
 use super::super::setting::{MONDAY, change, code, date, order, participant, posting};
 use super::add_two_banks;
 use rtgs_book::{Day, Fault, Mark, OrderState, Phase, RowChange, Rule};
-use rtgs_money::{Cents, Credit};
 use rtgs_keeper::{Keeper, MemoryKeeper};
+use rtgs_money::{Cents, Credit};
 use std::alloc::Global;
 use std::test::Fail;
 

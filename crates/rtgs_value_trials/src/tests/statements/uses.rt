@@ -6,7 +6,8 @@ ghost use Rattle.rtgs_statements.specs.Texts.{statement, report};
 
 use rtgs_book::Book;
 use rtgs_money::{BusinessDate, Code};
-use rtgs_statements::{Report, Statement, TextFault, day_report, statement_text};
+use rtgs_output::TextFault;
+use rtgs_statements::{Report, Statement, day_report, statement_text};
 use std::alloc::Global;
 use std::io::Write;
 

@@ -62,14 +62,14 @@ returns-then-eq-3-clause-refused c =
     let receiver = is_known r c.self.invariant c.args.receiver c.in-Some-get-2.creditor (sym c.get-3.ensures ∙ c.in-Some-get-2.is) in
     rw (← c.self.view_is) (inr (same_party (book_of r) c.args.sender c.args.reference c.args.receiver c.args.amount there (sym c.get-2.ensures ∙ c.in_default-get.is) opened receiver (sym c.eq-2.ensures ∙ c.if-eq-3.true), refl))
 
-pub returns-then-len-ge-MAX_ORDERS-clause-refused : goal.returns-then-len-ge-MAX_ORDERS-clause-refused
+pub returns-then-len-ge-LARGEST_NUMBER-clause-refused : goal.returns-then-len-ge-LARGEST_NUMBER-clause-refused
 unfolding order_named
-returns-then-len-ge-MAX_ORDERS-clause-refused c =
+returns-then-len-ge-LARGEST_NUMBER-clause-refused c =
     let r = c.self.inside.records in
     let there = is_known r c.self.invariant c.args.sender c.in-Some.debtor (sym c.get.ensures ∙ c.in-Some.is) in
     let opened = open_now r c.self.invariant c.in-Some-open_date.date (sym c.open_date.ensures ∙ c.in-Some-open_date.is) in
     let receiver = is_known r c.self.invariant c.args.receiver c.in-Some-get-2.creditor (sym c.get-3.ensures ∙ c.in-Some-get-2.is) in
-    let many : nat_le 999999999 (length r.orders.orders) ≡ true = grind (arith, nat_tests, c.len.ensures, c.if-len-ge-MAX_ORDERS.true) in
+    let many : nat_le 999999999 (length r.orders.orders) ≡ true = grind (arith, nat_tests, c.len.ensures, c.if-len-ge-LARGEST_NUMBER.true) in
     rw (← c.self.view_is) (inr (numbers_used_up (book_of r) c.args.sender c.args.reference c.args.receiver c.args.amount there (sym c.get-2.ensures ∙ c.in_default-get.is) opened receiver (sym c.eq-2.ensures ∙ c.if-eq-3.false) many, refl))
 
 pub prepare_settled-requires-clause-settles : goal.prepare_settled-requires-clause-settles
@@ -82,7 +82,7 @@ unfolding order_named
 prepare_settled-requires-clause-taken c =
     let r = c.self.inside.records in
     let from = sym c.get.ensures ∙ c.in-Some.is in
-    let few : nat_le 999999999 (length r.orders.orders) ≡ false = grind (arith, nat_tests, c.len.ensures, c.if-len-ge-MAX_ORDERS.false) in
+    let few : nat_le 999999999 (length r.orders.orders) ≡ false = grind (arith, nat_tests, c.len.ensures, c.if-len-ge-LARGEST_NUMBER.false) in
     let settles = settles_is r c.self.invariant c.args.sender c.in-Some.debtor c.args.amount from ∙ sym c.settles_at_once.ensures.value ∙ c.if-settles_at_once.true in
     rw (← c.self.view_is, c.next_order-order.ensures) (taken_now r c.self.invariant c.args.sender c.args.reference c.args.receiver c.args.amount c.in-Some-open_date.date c.in-Some.debtor c.in-Some-get-2.creditor from (sym c.get-2.ensures ∙ c.in_default-get.is) (sym c.open_date.ensures ∙ c.in-Some-open_date.is)
     (sym c.get-3.ensures ∙ c.in-Some-get-2.is) (sym c.eq-2.ensures ∙ c.if-eq-3.false) few c.settles_at_once.ensures.fits (rw settles refl))
@@ -92,17 +92,17 @@ prepare_queued-requires-clause-waits c =
     let r = c.self.inside.records in
     rw (← c.self.view_is, c.next_order-order.ensures) (settles_is r c.self.invariant c.args.sender c.in-Some.debtor c.args.amount (sym c.get.ensures ∙ c.in-Some.is) ∙ sym c.settles_at_once.ensures.value ∙ c.if-settles_at_once.false)
 
-pub returns-then-queue-ge-MAX_QUEUED-clause-refused : goal.returns-then-queue-ge-MAX_QUEUED-clause-refused
+pub returns-then-queue-ge-LONGEST_QUEUE-clause-refused : goal.returns-then-queue-ge-LONGEST_QUEUE-clause-refused
 unfolding order_named
-returns-then-queue-ge-MAX_QUEUED-clause-refused c =
+returns-then-queue-ge-LONGEST_QUEUE-clause-refused c =
     let r = c.self.inside.records in
     let from = sym c.get.ensures ∙ c.in-Some.is in
     let opened = open_now r c.self.invariant c.in-Some-open_date.date (sym c.open_date.ensures ∙ c.in-Some-open_date.is) in
     let receiver = is_known r c.self.invariant c.args.receiver c.in-Some-get-2.creditor (sym c.get-3.ensures ∙ c.in-Some-get-2.is) in
-    let few : nat_le 999999999 (length r.orders.orders) ≡ false = grind (arith, nat_tests, c.len.ensures, c.if-len-ge-MAX_ORDERS.false) in
+    let few : nat_le 999999999 (length r.orders.orders) ≡ false = grind (arith, nat_tests, c.len.ensures, c.if-len-ge-LARGEST_NUMBER.false) in
     let waits = settles_is r c.self.invariant c.args.sender c.in-Some.debtor c.args.amount from ∙ sym c.settles_at_once.ensures.value ∙ c.if-settles_at_once.false in
     let long : length c.queue.result.now ≡ length (queue (book_of r) c.args.sender) = ap length c.queue.ensures ∙ queued_length (book_of r) c.args.sender in
-    let full : nat_le 500 (length (queue (book_of r) c.args.sender)) ≡ true = grind (arith, nat_tests, long, c.if-queue-ge-MAX_QUEUED.true) in
+    let full : nat_le 500 (length (queue (book_of r) c.args.sender)) ≡ true = grind (arith, nat_tests, long, c.if-queue-ge-LONGEST_QUEUE.true) in
     rw (← c.self.view_is) (inr (queue_full (book_of r) c.args.sender c.args.reference c.args.receiver c.args.amount (is_known r c.self.invariant c.args.sender c.in-Some.debtor from) (sym c.get-2.ensures ∙ c.in_default-get.is) opened receiver (sym c.eq-2.ensures ∙ c.if-eq-3.false) few waits full, refl))
 
 pub prepare_queued-requires-clause-taken : goal.prepare_queued-requires-clause-taken
@@ -110,8 +110,8 @@ unfolding order_named
 prepare_queued-requires-clause-taken c =
     let r = c.self.inside.records in
     let from = sym c.get.ensures ∙ c.in-Some.is in
-    let few : nat_le 999999999 (length r.orders.orders) ≡ false = grind (arith, nat_tests, c.len.ensures, c.if-len-ge-MAX_ORDERS.false) in
+    let few : nat_le 999999999 (length r.orders.orders) ≡ false = grind (arith, nat_tests, c.len.ensures, c.if-len-ge-LARGEST_NUMBER.false) in
     let long : length c.queue.result.now ≡ length (queue (book_of r) c.args.sender) = ap length c.queue.ensures ∙ queued_length (book_of r) c.args.sender in
-    let short : nat_le 500 (length (queue (book_of r) c.args.sender)) ≡ false = grind (arith, nat_tests, long, c.if-queue-ge-MAX_QUEUED.false) in
+    let short : nat_le 500 (length (queue (book_of r) c.args.sender)) ≡ false = grind (arith, nat_tests, long, c.if-queue-ge-LONGEST_QUEUE.false) in
     rw (← c.self.view_is, c.next_order-order.ensures) (taken_now r c.self.invariant c.args.sender c.args.reference c.args.receiver c.args.amount c.in-Some-open_date.date c.in-Some.debtor c.in-Some-get-2.creditor from (sym c.get-2.ensures ∙ c.in_default-get.is) (sym c.open_date.ensures ∙ c.in-Some-open_date.is)
     (sym c.get-3.ensures ∙ c.in-Some-get-2.is) (sym c.eq-2.ensures ∙ c.if-eq-3.false) few c.settles_at_once.ensures.fits (and_right (not (settles_at_once (book_of r) c.args.sender c.args.amount)) (nat_le 500 (length (queue (book_of r) c.args.sender))) short))

@@ -1,0 +1,46 @@
+//! Writes that failed.
+ghost use Rattle.std.specs.Prelude.{◌≡◌, ◌≤◌, IfOk, length};
+ghost use Rattle.std.specs.Io.KnownBytes.{WriteAppends};
+ghost use Rattle.std.specs.IoError.{error_kind};
+
+use std::error::Error;
+use std::io::{ErrorKind, Write};
+use std::{fmt, io};
+
+/// A writer answered an error, or took no byte. Such a value is made where a call of `write` did so, and nowhere else: the
+/// type shows no way to make one.
+#[derive(Debug, Drop)]
+pub struct WriterFailed {
+    error: io::Error,
+}
+
+impl WriterFailed {
+    /// The kind of the writer's error, which is `WriteZero` where the writer took no byte.
+    pub fn kind(&self) -> ErrorKind
+        ensures { result ≡ error_kind self.now.error }
+    {
+        self.error.kind()
+    }
+}
+
+impl fmt::Display for WriterFailed {
+    fn fmt<W: fmt::Write>(&self, f: &mut fmt::Formatter<W>) -> fmt::Result {
+        fmt::Display::fmt(&self.error, f)
+    }
+}
+
+impl Error for WriterFailed {}
+
+/// Writes a beginning of the bytes, which has at least one, and tells how many were taken. On an error none was.
+pub(crate) fn write_some<W: Write>(out: &mut W, bytes: &[u8]) -> Result<usize, WriterFailed>
+    ensures some { IfOk result (λ taken. (1 ≤ taken) × (taken ≤ length bytes.now)) }
+    ensures bytes { WriteAppends (W.contents out.old) (W.contents out.new) result bytes.now }
+{
+    match out.write(bytes) {
+        Ok(0) => Err(WriterFailed {
+            error: io::Error::from(ErrorKind::WriteZero),
+        }),
+        Ok(taken) => Ok(taken),
+        Err(error) => Err(WriterFailed { error }),
+    }
+}
