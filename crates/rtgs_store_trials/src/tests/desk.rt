@@ -18,12 +18,10 @@ fn failing(alloc: Global, calls: usize, trouble: Trouble) -> FailingKeeper<Memor
 
 #[test]
 fn a_posting_is_answered_and_kept(rt: HostRuntime) -> Result<(), Fail> {
+    let (add, post) = (adds_alfa()?, posts("ALFA", "P-1", 100)?);
     let mut desk = desk_over(rt.alloc(), MemoryKeeper::new(rt.alloc()))?;
-    assert_eq!(rt; desk.submit(adds_alfa()?), Ok(Answer::Added));
-    assert_eq!(rt;
-        desk.submit(posts("ALFA", "P-1", 100)?),
-        Ok(Answer::Posted { number: 1 })
-    );
+    assert_eq!(rt; desk.submit(add), Ok(Answer::Added));
+    assert_eq!(rt; desk.submit(post), Ok(Answer::Posted { number: 1 }));
     assert!(rt; !desk.failed());
     let book = desk.into_keeper().load(rt.alloc())?;
     assert_eq!(rt; book.postings.len(), 1);
@@ -32,8 +30,8 @@ fn a_posting_is_answered_and_kept(rt: HostRuntime) -> Result<(), Fail> {
 
 #[test]
 fn commands_are_run_in_order(rt: HostRuntime) -> Result<(), Fail> {
-    let mut desk = desk_over(rt.alloc(), MemoryKeeper::new(rt.alloc()))?;
     let commands = [adds_alfa()?, posts("ALFA", "P-1", -1)?];
+    let mut desk = desk_over(rt.alloc(), MemoryKeeper::new(rt.alloc()))?;
     let answers = desk.run(&commands)?;
     let expected = [Ok(Answer::Added), Err(Refusal::NoCover)];
     assert_eq!(rt; answers.as_slice(), expected.as_slice());
@@ -42,8 +40,8 @@ fn commands_are_run_in_order(rt: HostRuntime) -> Result<(), Fail> {
 
 #[test]
 fn a_fault_of_the_store_fails_the_rest_of_a_list(rt: HostRuntime) -> Result<(), Fail> {
-    let mut desk = desk_over(rt.alloc(), failing(rt.alloc(), 2, Trouble::Kept))?;
     let commands = [adds_alfa()?, posts("ALFA", "P-1", 100)?, adds_alfa()?];
+    let mut desk = desk_over(rt.alloc(), failing(rt.alloc(), 2, Trouble::Kept))?;
     let answers = desk.run(&commands)?;
     let expected = [
         Ok(Answer::Added),
@@ -59,45 +57,39 @@ fn after_a_fault<R: AllocGlobal + Abort>(
     rt: &R,
     trouble: Trouble,
 ) -> Result<FailingKeeper<MemoryKeeper>, Fail> {
+    let (add, post) = (adds_alfa()?, posts("ALFA", "P-1", 100)?);
     let mut desk = desk_over(rt.alloc(), failing(rt.alloc(), 2, trouble))?;
-    assert_eq!(rt; desk.submit(adds_alfa()?), Ok(Answer::Added));
-    assert_eq!(rt;
-        desk.submit(posts("ALFA", "P-1", 100)?),
-        Err(Refusal::StoreFault)
-    );
-    assert_eq!(rt; desk.submit(adds_alfa()?), Err(Refusal::Failed));
+    assert_eq!(rt; desk.submit(add), Ok(Answer::Added));
+    assert_eq!(rt; desk.submit(post), Err(Refusal::StoreFault));
+    assert_eq!(rt; desk.submit(add), Err(Refusal::Failed));
     assert!(rt; desk.failed());
     Ok(desk.into_keeper())
 }
 
 #[test]
 fn a_change_that_was_lost_is_made_again(rt: HostRuntime) -> Result<(), Fail> {
+    let post = posts("ALFA", "P-1", 100)?;
     let found = after_a_fault(&rt, Trouble::Lost)?.into_kept();
     let mut desk = desk_over(rt.alloc(), found)?;
-    assert_eq!(rt;
-        desk.submit(posts("ALFA", "P-1", 100)?),
-        Ok(Answer::Posted { number: 1 })
-    );
+    assert_eq!(rt; desk.submit(post), Ok(Answer::Posted { number: 1 }));
     Ok(())
 }
 
 #[test]
 fn a_change_that_was_kept_is_not_made_again(rt: HostRuntime) -> Result<(), Fail> {
+    let post = posts("ALFA", "P-1", 100)?;
+    let known = Known::Posting { number: 1 };
     let found = after_a_fault(&rt, Trouble::Kept)?.into_kept();
     let mut desk = desk_over(rt.alloc(), found)?;
-    let known = Known::Posting { number: 1 };
-    assert_eq!(rt;
-        desk.submit(posts("ALFA", "P-1", 100)?),
-        Ok(Answer::Repeated(known))
-    );
+    assert_eq!(rt; desk.submit(post), Ok(Answer::Repeated(known)));
     Ok(())
 }
 
 #[test]
 fn a_command_that_lacked_memory_is_sent_again(rt: HostRuntime) -> Result<(), Fail> {
+    let (add, post) = (adds_alfa()?, posts("ALFA", "P-1", 100)?);
     let mut desk = desk_over(rt.alloc(), failing(rt.alloc(), 2, Trouble::OutOfMemory))?;
-    assert_eq!(rt; desk.submit(adds_alfa()?), Ok(Answer::Added));
-    let post = posts("ALFA", "P-1", 100)?;
+    assert_eq!(rt; desk.submit(add), Ok(Answer::Added));
     assert_eq!(rt; desk.submit(post), Err(Refusal::OutOfMemory));
     assert!(rt; !desk.failed());
     assert_eq!(rt; desk.submit(post), Ok(Answer::Posted { number: 1 }));

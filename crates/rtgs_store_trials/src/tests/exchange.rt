@@ -35,12 +35,12 @@ fn three_rows() -> Result<[OrderRow; 3], Fail> {
 
 // A desk with three banks on an open day, of which ALFA has 150 cents.
 fn open_desk<K: Keeper + Drop>(alloc: Global, keeper: K) -> Result<Desk<K>, Fail> {
+    let banks = adds_three()?;
+    let others = [posts("ALFA", "P-1", 150)?, opens(MONDAY)?];
     let mut desk = desk_over(alloc, keeper)?;
-    for command in adds_three()? {
-        desk.submit(command)?;
+    for command in banks.iter().chain(others.iter()) {
+        desk.submit(*command)?;
     }
-    desk.submit(posts("ALFA", "P-1", 150)?)?;
-    desk.submit(opens(MONDAY)?)?;
     Ok(desk)
 }
 

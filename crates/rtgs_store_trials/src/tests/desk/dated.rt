@@ -12,10 +12,7 @@ use std::test::Fail;
 
 // ALFA pays BETA on two days. On the second, after another posting, it pays all that it has, and one order waits.
 fn two_days(alloc: Global) -> Result<Desk<MemoryKeeper>, Fail> {
-    let mut desk = desk_over(alloc, MemoryKeeper::new(alloc))?;
-    for command in adds_three()? {
-        desk.submit(command)?;
-    }
+    let banks = adds_three()?;
     let commands = [
         posts("ALFA", "P-1", 150)?,
         opens(FRIDAY)?,
@@ -27,8 +24,9 @@ fn two_days(alloc: Global) -> Result<Desk<MemoryKeeper>, Fail> {
         pays("ALFA", "O-2", "BETA", 60)?,
         pays("ALFA", "O-3", "BETA", 25)?,
     ];
-    for command in commands {
-        desk.submit(command)?;
+    let mut desk = desk_over(alloc, MemoryKeeper::new(alloc))?;
+    for command in banks.iter().chain(commands.iter()) {
+        desk.submit(*command)?;
     }
     Ok(desk)
 }
@@ -48,10 +46,11 @@ fn a_statement_has_what_is_the_participants_on_the_date(rt: HostRuntime) -> Resu
     let monday = date(MONDAY)?;
     let settled = order(2, "O-2", 60, OrderState::Settled(2))?;
     let queued = order(3, "O-3", 25, OrderState::Queued)?;
+    let posted = [posted()?];
     let desk = two_days(rt.alloc())?;
     let sent = desk.statement_of(&sender, monday)?;
     assert_eq!(rt; (sent.code, sent.date), (sender, monday));
-    assert_eq!(rt; sent.postings.as_slice(), [posted()?].as_slice());
+    assert_eq!(rt; sent.postings.as_slice(), posted.as_slice());
     assert_eq!(rt; sent.orders.as_slice(), [settled, queued].as_slice());
     let received = desk.statement_of(&receiver, monday)?;
     assert_eq!(rt; received.postings.len(), 0);
@@ -75,10 +74,11 @@ fn a_report_has_what_bears_the_date(rt: HostRuntime) -> Result<(), Fail> {
         count: 1,
         value: Cents::new(60),
     };
+    let posted = [posted()?];
     let report = two_days(rt.alloc())?.report_of(monday)?;
     assert_eq!(rt; report.date, monday);
     assert_eq!(rt; report.codes.as_slice(), codes.as_slice());
-    assert_eq!(rt; report.postings.as_slice(), [posted()?].as_slice());
+    assert_eq!(rt; report.postings.as_slice(), posted.as_slice());
     assert_eq!(rt; report.orders.as_slice(), orders.as_slice());
     assert_eq!(rt; report.marks.as_slice(), [mark].as_slice());
     Ok(())

@@ -8,8 +8,9 @@ use std::test::Fail;
 
 #[test]
 fn rows_are_replied_to_in_order(rt: HostRuntime) -> Result<(), Fail> {
+    let rows = three_rows()?;
     let mut desk = open_desk(rt.alloc(), MemoryKeeper::new(rt.alloc()))?;
-    let batch = submitted(rt.alloc(), &mut desk, &three_rows()?)?;
+    let batch = submitted(rt.alloc(), &mut desk, &rows)?;
     let replies = [
         RowReply::Settled { number: 1, mark: 1 },
         RowReply::Settled { number: 2, mark: 2 },
@@ -25,8 +26,8 @@ fn rows_are_replied_to_in_order(rt: HostRuntime) -> Result<(), Fail> {
 
 #[test]
 fn a_batch_that_comes_again_changes_nothing(rt: HostRuntime) -> Result<(), Fail> {
-    let mut desk = open_desk(rt.alloc(), MemoryKeeper::new(rt.alloc()))?;
     let rows = three_rows()?;
+    let mut desk = open_desk(rt.alloc(), MemoryKeeper::new(rt.alloc()))?;
     submitted(rt.alloc(), &mut desk, &rows)?;
     let again = submitted(rt.alloc(), &mut desk, &rows)?;
     let replies = [
@@ -41,8 +42,8 @@ fn a_batch_that_comes_again_changes_nothing(rt: HostRuntime) -> Result<(), Fail>
 
 #[test]
 fn a_batch_stops_where_the_store_fails(rt: HostRuntime) -> Result<(), Fail> {
-    let mut desk = failing_desk(rt.alloc(), 1)?;
     let rows = three_rows()?;
+    let mut desk = failing_desk(rt.alloc(), 1)?;
     let batch = submitted(rt.alloc(), &mut desk, &rows)?;
     assert_eq!(rt; batch.replies.len(), 1);
     assert_eq!(rt; batch.stopped, Some(Refusal::StoreFault));
@@ -54,8 +55,8 @@ fn a_batch_stops_where_the_store_fails(rt: HostRuntime) -> Result<(), Fail> {
 
 #[test]
 fn a_stopped_batch_is_sent_again_after_a_restart(rt: HostRuntime) -> Result<(), Fail> {
-    let mut desk = failing_desk(rt.alloc(), 2)?;
     let rows = three_rows()?;
+    let mut desk = failing_desk(rt.alloc(), 2)?;
     submitted(rt.alloc(), &mut desk, &rows)?;
     let found = desk.into_keeper().into_kept();
     let mut desk = desk_over(rt.alloc(), found)?;
@@ -68,13 +69,13 @@ fn a_stopped_batch_is_sent_again_after_a_restart(rt: HostRuntime) -> Result<(), 
 
 #[test]
 fn a_refused_row_stops_no_other(rt: HostRuntime) -> Result<(), Fail> {
-    let mut desk = open_desk(rt.alloc(), MemoryKeeper::new(rt.alloc()))?;
     let rows = [
         row("A-1", "BETA", 100)?,
         row("A-2", "ALFA", 5)?,
         row("A-3", "ZETA", 5)?,
         row("A-1", "BETA", 99)?,
     ];
+    let mut desk = open_desk(rt.alloc(), MemoryKeeper::new(rt.alloc()))?;
     let text = result_file(rt.alloc(), &mut desk, &rows)?;
     let expected =
         b"reference,result,number,detail\nA-1,settled,1,1\nA-2,refused,,3\nA-3,refused,,2\nA-1,refused,,4\n";

@@ -8,8 +8,8 @@ use std::test::Fail;
 
 #[test]
 fn a_line_tells_what_became_of_a_row(rt: HostRuntime) -> Result<(), Fail> {
-    let mut desk = open_desk(rt.alloc(), MemoryKeeper::new(rt.alloc()))?;
     let rows = three_rows()?;
+    let mut desk = open_desk(rt.alloc(), MemoryKeeper::new(rt.alloc()))?;
     let text = result_file(rt.alloc(), &mut desk, &rows)?;
     let expected =
         b"reference,result,number,detail\nA-1,settled,1,1\nA-2,settled,2,2\nA-3,queued,3,1\n";
@@ -23,8 +23,9 @@ fn a_line_tells_what_became_of_a_row(rt: HostRuntime) -> Result<(), Fail> {
 
 #[test]
 fn no_line_follows_a_stop(rt: HostRuntime) -> Result<(), Fail> {
+    let rows = three_rows()?;
     let mut desk = failing_desk(rt.alloc(), 1)?;
-    let text = result_file(rt.alloc(), &mut desk, &three_rows()?)?;
+    let text = result_file(rt.alloc(), &mut desk, &rows)?;
     let expected = b"reference,result,number,detail\nA-1,settled,1,1\nA-2,stopped,,91\n";
     assert_eq!(rt; text.as_slice(), expected.as_slice());
     Ok(())
@@ -55,8 +56,8 @@ fn a_repeat_tells_each_state(rt: HostRuntime) -> Result<(), Fail> {
 
 #[test]
 fn a_writer_that_fails_has_a_beginning(rt: HostRuntime) -> Result<(), Fail> {
-    let mut desk = open_desk(rt.alloc(), MemoryKeeper::new(rt.alloc()))?;
     let rows = three_rows()?;
+    let mut desk = open_desk(rt.alloc(), MemoryKeeper::new(rt.alloc()))?;
     let batch = submitted(rt.alloc(), &mut desk, &rows)?;
     let mut whole = Vec::new(rt.alloc());
     write_results(rt.alloc(), &mut whole, &rows, &batch)?;

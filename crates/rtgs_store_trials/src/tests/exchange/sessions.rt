@@ -42,9 +42,9 @@ fn submit_and_send<K: Keeper>(
 
 #[test]
 fn a_command_and_a_batch_are_a_session(rt: HostRuntime) -> Result<(), Fail> {
-    let mut desk = open_desk(rt.alloc(), MemoryKeeper::new(rt.alloc()))?;
     let sender = code("ALFA")?;
     let rows = three_rows()?;
+    let mut desk = open_desk(rt.alloc(), MemoryKeeper::new(rt.alloc()))?;
     let (reply, batch) = submit_and_send(rt.alloc(), &mut desk, Command::Resolve, sender, &rows)?;
     assert_eq!(rt; reply, Ok(Answer::Nothing));
     assert_eq!(rt; batch.replies.len(), 3);
