@@ -3,7 +3,8 @@ use Rattle.std.proofs.Common.{◌≡◌, ◌<◌, ◌≤◌, ◌⊎◌, inl, inr
 use Rattle.std.proofs.Math.Seq.{take-append_seam, take-length}
 use Rattle.std.proofs.lemmas.Bool.{cases_lt}
 use Rattle.std.proofs.lemmas.List.{take-append-le, length-take, take-take}
-use Rattle.rtgs_http_feeds.specs.Region.{longest_region, IsRegion, StartsWith, ends_region, IsOpen, IsTooLong}
+use Rattle.rtgs_http_feeds.specs.declared.limits.TheConstants.{LONGEST_HEAD}
+use Rattle.rtgs_http_feeds.specs.Region.{IsRegion, StartsWith, ends_region, IsOpen, IsTooLong}
 
 -- a beginning of one that is no longer than the other is a beginning of the other
 same_front : (a b r s : List ℕ) → a ++ r ≡ b ++ s → length a ≤ length b → take (length a) b ≡ a
@@ -37,5 +38,5 @@ not_open input region rest x unfinished = cc (seen input region rest x, unfinish
 
 pub not_long : (input region rest : List ℕ) → StartsWith input region rest → ¬ IsTooLong input
 not_long input region rest x long =
-    let le : length region ≤ length (take longest_region input) = omega (arith, x.1.short, fits_in input region rest x, length-take longest_region input) in
-    cc (seen input region rest x, ap (λ t. ends_region t) (take-take (length region) longest_region input x.1.short), long.1 (length region) le)
+    let le : length region ≤ length (take LONGEST_HEAD input) = omega (arith, x.1.short, fits_in input region rest x, length-take LONGEST_HEAD input) in
+    cc (seen input region rest x, ap (λ t. ends_region t) (take-take (length region) LONGEST_HEAD input x.1.short), long.1 (length region) le)

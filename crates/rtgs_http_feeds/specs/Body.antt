@@ -3,10 +3,6 @@ use Rattle.std.specs.Prelude.{◌≡◌, ◌<◌, ◌≤◌, ℕ, List, [], ◌+
 use Rattle.rtgs_http_feeds.specs.declared.body_step.BodyStep.{BodyStep}
 use Rattle.rtgs_http_feeds.specs.declared.body_step.BodyStep.TheVariants.{More, Full}
 
--- the most bytes that a body may have
-abbrev pub longest_body : ℕ
-longest_body = 65536
-
 -- how many bytes a body has, and those that have come
 pub record Body : Type 0 where
   pub wanted : ℕ

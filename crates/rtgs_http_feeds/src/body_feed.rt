@@ -1,8 +1,9 @@
 //! A request's body, from pieces of the input.
 ghost use Rattle.std.specs.Prelude.{◌≡◌, ◌<◌, ◌≤◌, length, vec_capacity, IfOk, OnOk, OnErr};
-ghost use Rattle.rtgs_http_feeds.specs.Body.{longest_body, no_bytes_of, TakesBody};
+ghost use Rattle.rtgs_http_feeds.specs.Body.{no_bytes_of, TakesBody};
 
 use crate::body_step::BodyStep;
+use crate::limits::LONGEST_BODY;
 use crate::truncated::Truncated;
 use std::alloc::{AllocError, Global};
 use std::marker::Model;
@@ -26,12 +27,9 @@ impl Model for BodyFeed {
 }
 
 impl BodyFeed {
-    /// The most bytes of a body: `longest_body` of the definitions.
-    pub const LONGEST: usize = 65536;
-
     /// A feed with no bytes, and all the room that a body of so many bytes needs. The error is a want of memory.
     pub fn new(alloc: Global, length: usize) -> Result<BodyFeed, AllocError>
-        requires { length ≤ longest_body }
+        requires { length ≤ LONGEST_BODY }
         ensures { IfOk result (λ feed. feed ≡ no_bytes_of length) }
     {
         let seen = Vec::with_capacity(alloc, length)?;

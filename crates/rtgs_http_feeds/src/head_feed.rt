@@ -1,14 +1,12 @@
 //! The region of a request's head, from pieces of the input.
 ghost use Rattle.std.specs.Prelude.{◌≡◌, ◌≤◌, ℕ, List, [], true, false, vec_capacity, IfOk, OnOk, OnErr};
-ghost use Rattle.rtgs_http_feeds.specs.Region.{ends_region, longest_region, IsOpen, TakesHead};
+ghost use Rattle.rtgs_http_feeds.specs.Region.{ends_region, IsOpen, TakesHead};
 
 use crate::head_step::HeadStep;
+use crate::limits::LONGEST_HEAD;
 use crate::truncated::Truncated;
 use std::alloc::{AllocError, Global};
 use std::marker::Model;
-
-// The most bytes of a region: `longest_region` of the definitions.
-const LONGEST: usize = 8192;
 
 /// The bytes of a request's head that have come so far, up to the empty line that ends it (RFC 9112, section 2.1).
 /// Contracts see these bytes.
@@ -19,13 +17,13 @@ pub struct HeadFeed {
 
 impl Model for HeadFeed {
     ghost use Rattle.std.specs.Prelude.{◌≤◌, ℕ, List, vec_capacity};
-    ghost use Rattle.rtgs_http_feeds.specs.Region.{longest_region};
+    ghost use Rattle.rtgs_http_feeds.specs.declared.limits.TheConstants.{LONGEST_HEAD};
 
     ghost Value = { List ℕ };
 
     ghost view = { λ feed. feed.seen.items };
 
-    ghost invariant = { λ feed. longest_region ≤ vec_capacity feed.seen };
+    ghost invariant = { λ feed. LONGEST_HEAD ≤ vec_capacity feed.seen };
 }
 
 impl HeadFeed {
@@ -33,7 +31,7 @@ impl HeadFeed {
     pub fn new(alloc: Global) -> Result<HeadFeed, AllocError>
         ensures { IfOk result (λ feed. feed ≡ []) }
     {
-        let seen = Vec::with_capacity(alloc, LONGEST)?;
+        let seen = Vec::with_capacity(alloc, LONGEST_HEAD)?;
         Ok(HeadFeed { seen })
     }
 
@@ -68,9 +66,9 @@ impl HeadFeed {
 // Takes the next piece, where there is room for all bytes of a region.
 fn take_head(seen: &mut Vec<u8>, piece: &[u8]) -> HeadStep
     requires open { IsOpen seen.old.items }
-    requires room { longest_region ≤ vec_capacity seen.old }
+    requires room { LONGEST_HEAD ≤ vec_capacity seen.old }
     ensures step { TakesHead seen.old.items piece.now result seen.new.items }
-    ensures room { longest_region ≤ vec_capacity seen.new }
+    ensures room { LONGEST_HEAD ≤ vec_capacity seen.new }
 {
     for (index, byte) in piece.iter().enumerate() {
         let Ok(()) = seen.push(*byte) else {
@@ -79,7 +77,7 @@ fn take_head(seen: &mut Vec<u8>, piece: &[u8]) -> HeadStep
         if ends_region(seen) {
             return HeadStep::Region { taken: index + 1 };
         }
-        if seen.len() == LONGEST {
+        if seen.len() == LONGEST_HEAD {
             return HeadStep::TooLong;
         }
     }

@@ -1,5 +1,6 @@
 use Rattle.std.proofs.Common.{◌≡◌, ◌≤◌, ◌++◌, take, vec_capacity}
-use Rattle.rtgs_http_feeds.specs.Region.{IsOpen, longest_region}
+use Rattle.rtgs_http_feeds.specs.declared.limits.TheConstants.{LONGEST_HEAD}
+use Rattle.rtgs_http_feeds.specs.Region.{IsOpen}
 use Rattle.rtgs_http_feeds.proofs.head_feed.take_head.Given as goal
 
 -- The bytes before this place were taken, and the region has not ended.
@@ -7,5 +8,5 @@ abbrev pub invariant-loop-index : goal.invariant-loop-index
 invariant-loop-index l = record {
   taken : l.seen.items ≡ l.initial.seen.items ++ take l.index l.piece;
   unfinished : IsOpen l.seen.items;
-  room : longest_region ≤ vec_capacity l.seen;
+  room : LONGEST_HEAD ≤ vec_capacity l.seen;
 }
