@@ -7,8 +7,8 @@ use std::error::Error;
 use std::io::{ErrorKind, Write};
 use std::{fmt, io};
 
-/// A writer answered an error, or took no byte. Such a value is made where a call of `write` did so, and nowhere else: the
-/// type shows no way to make one.
+/// A writer answered an error, or took no byte. Such a value is made where a call of `write` did so, and nowhere else:
+/// the type shows no way to make one.
 #[derive(Debug, Drop)]
 pub struct WriterFailed {
     error: io::Error,
