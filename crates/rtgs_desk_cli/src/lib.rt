@@ -1,6 +1,8 @@
 //! The command line of the desk, as a call over two writers.
 #![tactic(auto)]
 
+mod files;
+mod order_file;
 mod run;
 mod texts;
 

@@ -1,11 +1,14 @@
 //! One run of the program.
-ghost use Rattle.std.specs.Prelude.{◌≤◌, IfOk};
+ghost use Rattle.std.specs.Prelude.{◌≡◌, ◌≤◌, ◌⊎◌, IfOk, IfErr};
+ghost use Rattle.rtgs_desk_cli.specs.Runs.{status_of};
+ghost use Rattle.rtgs_desk_lines.specs.Failures.{exit_status_of};
+ghost use Rattle.rtgs_refusals.specs.declared.exit_status.TheConstants.{DONE, REFUSED, MISUSED, FAILED};
 
+use crate::files::{make, with_desk};
 use crate::texts;
 use clap::Error;
 use clap::error::ErrorKind;
 use rtgs_book::{Answer, Command, Refusal};
-use rtgs_book_file::{make, with_desk};
 use rtgs_desk_arguments::read_words;
 use rtgs_desk_lines::{Done, Failure};
 use rtgs_desk_requests::{Request, Words};
@@ -14,7 +17,9 @@ use std::io::Write;
 
 /// Prints what the command line itself has to say: help on standard output, a fault on standard error.
 fn explain<O: Write, E: Write>(error: &Error, out: &mut O, err: &mut E) -> u8
-    ensures { result ≤ FAILED }
+    ensures status { (result ≡ DONE) ⊎ (result ≡ MISUSED) ⊎ (result ≡ FAILED) }
+    ensures silent { result ≡ DONE → err.new ≡ err.old }
+    ensures misused { result ≡ MISUSED → out.new ≡ out.old }
 {
     if error.kind() == ErrorKind::OutOfMemory {
         return Failure::Refused(Refusal::OutOfMemory).print(err);
@@ -36,7 +41,8 @@ fn submit(rt: &HostRuntime, file: &str, command: Command) -> Result<Answer, Fail
 
 /// Does what was asked for, and prints what came of it.
 fn act<O: Write>(rt: &HostRuntime, request: &Request<'_>, out: &mut O) -> Result<u8, Failure>
-    ensures { IfOk result (λ status. status ≤ FAILED) }
+    ensures done { IfOk result (λ status. (status ≡ DONE) ⊎ (status ≡ FAILED)) }
+    ensures refused { IfErr result (λ failure. exit_status_of failure ≡ REFUSED → out.new ≡ out.old) }
 {
     match *request {
         Request::Make { file } => match make(rt, file) {
@@ -70,11 +76,23 @@ fn act<O: Write>(rt: &HostRuntime, request: &Request<'_>, out: &mut O) -> Result
 
 /// Reads the words' forms, and does what they ask for.
 fn obey<O: Write>(rt: &HostRuntime, words: &Words<'_>, out: &mut O) -> Result<u8, Failure>
-    ensures { IfOk result (λ status. status ≤ FAILED) }
+    ensures done { IfOk result (λ status. (status ≡ DONE) ⊎ (status ≡ FAILED)) }
+    ensures refused { IfErr result (λ failure. exit_status_of failure ≡ REFUSED → out.new ≡ out.old) }
 {
     match Request::read(rt.alloc(), words) {
         Ok(request) => act(rt, &request, out),
         Err(fault) => Err(Failure::from(fault)),
+    }
+}
+
+/// Prints a refusal on standard error, and gives the exit status of the run.
+fn ended<E: Write>(done: Result<u8, Failure>, err: &mut E) -> u8
+    ensures status { result ≡ status_of done }
+    ensures silent { IfOk done (λ _. err.new ≡ err.old) }
+{
+    match done {
+        Ok(status) => status,
+        Err(failure) => failure.print(err),
     }
 }
 
@@ -87,13 +105,15 @@ pub fn run_words<O: Write, E: Write>(
     out: &mut O,
     err: &mut E,
 ) -> u8
-    ensures { result ≤ FAILED }
+    ensures status { result ≤ FAILED }
+
+    // What was done is not told on `err`, and nothing was printed on `out` where the run was refused or misused.
+    ensures done { result ≡ DONE → err.new ≡ err.old }
+    ensures refused { result ≡ REFUSED → out.new ≡ out.old }
+    ensures misused { result ≡ MISUSED → out.new ≡ out.old }
 {
     match read_words(rt.alloc(), words) {
-        Ok(Some(words)) => match obey(rt, &words, out) {
-            Ok(status) => status,
-            Err(failure) => failure.print(err),
-        },
+        Ok(Some(words)) => ended(obey(rt, &words, out), err),
         Ok(None) => MISUSED,
         Err(error) => explain(&error, out, err),
     }
