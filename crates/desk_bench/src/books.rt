@@ -4,22 +4,27 @@ ghost use Rattle.std.specs.Prelude.{◌≤◌};
 use crate::business::{BANKS, addition, endowment, opening, payment, turning};
 use anyhow::{Result, anyhow};
 use rtgs_book::Command;
-use rtgs_book_file::{FileDesk, close, make, open};
+use rtgs_book_file::{BookLock, FileDesk, FileFault, OpenBook, make};
 use std::alloc::Global;
 
-/// A desk over the book in a file.
-pub fn desk_over(rt: &HostRuntime, file: &str) -> Result<FileDesk> {
+/// The book in a file.
+fn open<'a>(rt: &HostRuntime, file: &'a str) -> std::result::Result<OpenBook<'a>, FileFault> {
+    BookLock::take(rt, file)?.open(rt)
+}
+
+/// The book in a file.
+pub fn open_book<'a>(rt: &HostRuntime, file: &'a str) -> Result<OpenBook<'a>> {
     match open(rt, file) {
-        Ok(desk) => Ok(desk),
-        Err(fault) => Err(anyhow!("the desk: {fault:?}")),
+        Ok(book) => Ok(book),
+        Err(fault) => Err(anyhow!("the book: {fault:?}")),
     }
 }
 
-/// A desk over a new book.
-pub fn new_desk(rt: &HostRuntime, file: &str) -> Result<FileDesk> {
+/// A new book in a file.
+pub fn new_book<'a>(rt: &HostRuntime, file: &'a str) -> Result<OpenBook<'a>> {
     match make(rt, file) {
-        Ok(()) => desk_over(rt, file),
-        Err(failure) => Err(anyhow!("a new book: {failure:?}")),
+        Ok(()) => open_book(rt, file),
+        Err(fault) => Err(anyhow!("a new book: {fault:?}")),
     }
 }
 
@@ -81,9 +86,9 @@ fn turn(alloc: Global, desk: &mut FileDesk, first: u64, second: u64) -> Result<(
 pub fn fill(rt: &HostRuntime, file: &str, orders: u64) -> Result<()>
     requires { orders ≤ 100000 }
 {
-    let mut desk = new_desk(rt, file)?;
-    let begun = begin(rt.alloc(), &mut desk, orders);
-    close(desk.into_keeper());
+    let mut book = new_book(rt, file)?;
+    let begun = begin(rt.alloc(), book.desk(), orders);
+    book.close();
     begun
 }
 
@@ -92,8 +97,8 @@ pub fn fill_two_days(rt: &HostRuntime, file: &str, first: u64, second: u64) -> R
     requires { (first ≤ 100000) × (second ≤ 100000) }
 {
     fill(rt, file, first)?;
-    let mut desk = desk_over(rt, file)?;
-    let turned = turn(rt.alloc(), &mut desk, first, second);
-    close(desk.into_keeper());
+    let mut book = open_book(rt, file)?;
+    let turned = turn(rt.alloc(), book.desk(), first, second);
+    book.close();
     turned
 }

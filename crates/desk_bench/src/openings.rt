@@ -1,7 +1,6 @@
 //! How long it takes to open a book.
-use crate::books::desk_over;
+use crate::books::open_book;
 use anyhow::Result;
-use rtgs_book_file::close;
 use sqlite::Connection;
 use std::time::{Duration, Instant};
 
@@ -20,9 +19,9 @@ fn open_the_store(rt: &HostRuntime, file: &str) -> Result<Duration> {
 /// How long the desk takes to open the file, the store's part included.
 fn open_the_desk(rt: &HostRuntime, file: &str) -> Result<Duration> {
     let start = Instant::now(rt)?;
-    let desk = desk_over(rt, file)?;
+    let book = open_book(rt, file)?;
     let took = start.elapsed(rt);
-    close(desk.into_keeper());
+    book.close();
     Ok(took?)
 }
 

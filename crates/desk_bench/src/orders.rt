@@ -2,9 +2,9 @@
 ghost use Rattle.std.specs.Prelude.{◌≤◌};
 
 use crate::bare::{Store, write_order};
-use crate::books::{desk_over, pay};
+use crate::books::{open_book, pay};
 use anyhow::Result;
-use rtgs_book_file::{FileDesk, close};
+use rtgs_book_file::FileDesk;
 use sqlite::Connection;
 use std::time::{Duration, Instant};
 
@@ -37,9 +37,9 @@ fn time_rows(
 pub fn paying(rt: &HostRuntime, file: &str, from: u64, orders: u64) -> Result<Duration>
     requires { (from ≤ 200000) × (orders ≤ 100000) }
 {
-    let mut desk = desk_over(rt, file)?;
-    let took = time_orders(rt, &mut desk, from, orders);
-    close(desk.into_keeper());
+    let mut book = open_book(rt, file)?;
+    let took = time_orders(rt, book.desk(), from, orders);
+    book.close();
     took
 }
 

@@ -1,13 +1,14 @@
 //! Orders that wait for each other in rings, and how long it takes to settle them all under one mark.
 ghost use Rattle.std.specs.Prelude.{◌≤◌};
 
-use crate::books::{add_banks, desk_over, give, new_desk, pay};
+use crate::books::{add_banks, give, new_book, open_book, pay};
 use crate::business::{BANKS, opening};
 use anyhow::{Result, anyhow, bail};
 use rtgs_book::{Answer, Change, Command};
-use rtgs_book_file::{FileDesk, FileKeeper, close};
+use rtgs_book_file::FileDesk;
 use rtgs_ledger::Ledger;
-use rtgs_tables::Keeper;
+use rtgs_tables::{Keeper, SqlKeeper};
+use sqlite::Connection;
 use std::alloc::Global;
 use std::time::{Duration, Instant};
 
@@ -36,14 +37,14 @@ fn begin(alloc: Global, desk: &mut FileDesk, queued: u64) -> Result<()>
 fn fill(rt: &HostRuntime, file: &str, queued: u64) -> Result<()>
     requires { queued ≤ 500 }
 {
-    let mut desk = new_desk(rt, file)?;
-    let begun = begin(rt.alloc(), &mut desk, queued);
-    close(desk.into_keeper());
+    let mut book = new_book(rt, file)?;
+    let begun = begin(rt.alloc(), book.desk(), queued);
+    book.close();
     begun
 }
 
 /// The rows that settle the rings of a book, and how long the ledger takes to prepare them.
-fn prepare(rt: &HostRuntime, keeper: &mut FileKeeper) -> Result<(Change, Duration)> {
+fn prepare<K: Keeper>(rt: &HostRuntime, keeper: &mut K) -> Result<(Change, Duration)> {
     let book = match keeper.load(rt.alloc()) {
         Ok(book) => book,
         Err(fault) => return Err(anyhow!("the book: {fault:?}")),
@@ -60,7 +61,7 @@ fn prepare(rt: &HostRuntime, keeper: &mut FileKeeper) -> Result<(Change, Duratio
 }
 
 /// How long the ledger takes to prepare the resolution, and the keeper to keep it.
-fn time_parts(rt: &HostRuntime, keeper: &mut FileKeeper) -> Result<(Duration, Duration)> {
+fn time_parts<K: Keeper>(rt: &HostRuntime, keeper: &mut K) -> Result<(Duration, Duration)> {
     let (change, resolver) = prepare(rt, keeper)?;
     let start = Instant::now(rt)?;
     if let Err(fault) = keeper.commit(&change) {
@@ -71,9 +72,9 @@ fn time_parts(rt: &HostRuntime, keeper: &mut FileKeeper) -> Result<(Duration, Du
 
 /// The same for the book in a file.
 fn parts(rt: &HostRuntime, file: &str) -> Result<(Duration, Duration)> {
-    let mut keeper = desk_over(rt, file)?.into_keeper();
+    let mut keeper = SqlKeeper::open(Connection::open(rt, file)?);
     let times = time_parts(rt, &mut keeper);
-    close(keeper);
+    keeper.into_connection().close()?;
     times
 }
 
@@ -88,9 +89,9 @@ fn time_resolution(rt: &HostRuntime, desk: &mut FileDesk) -> Result<(u64, Durati
 
 /// The same for the book in a file.
 fn resolve(rt: &HostRuntime, file: &str) -> Result<(u64, Duration)> {
-    let mut desk = desk_over(rt, file)?;
-    let resolved = time_resolution(rt, &mut desk);
-    close(desk.into_keeper());
+    let mut book = open_book(rt, file)?;
+    let resolved = time_resolution(rt, book.desk());
+    book.close();
     resolved
 }
 

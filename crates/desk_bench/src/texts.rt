@@ -1,11 +1,11 @@
 //! A file of orders that comes in, and a day report that goes out.
 ghost use Rattle.std.specs.Prelude.{◌≤◌};
 
-use crate::books::{desk_over, fill};
+use crate::books::{fill, open_book};
 use crate::business::code_of;
 use crate::orders::writing;
 use anyhow::{Result, anyhow, ensure};
-use rtgs_book_file::{FileDesk, close};
+use rtgs_book_file::FileDesk;
 use rtgs_exchange::{read_orders, submit_batch, write_results};
 use rtgs_money::BusinessDate;
 use rtgs_statements::day_report;
@@ -54,9 +54,9 @@ pub fn importing(rt: &HostRuntime, orders: u64, rows: u64) -> Result<(Duration, 
     let file = format!(in rt.alloc(); "imports-{orders}.desk")?;
     fill(rt, file.as_str(), orders)?;
     let text = order_file(rt.alloc(), rows)?;
-    let mut desk = desk_over(rt, file.as_str())?;
-    let took = time_import(rt, &mut desk, text.as_str());
-    close(desk.into_keeper());
+    let mut book = open_book(rt, file.as_str())?;
+    let took = time_import(rt, book.desk(), text.as_str());
+    book.close();
     let written = writing(rt, file.as_str(), orders + rows, rows)?;
     Ok((took?, written))
 }
@@ -77,8 +77,8 @@ fn time_report(rt: &HostRuntime, desk: &FileDesk, date: BusinessDate) -> Result<
 
 /// The same for the book in a file.
 pub fn reporting(rt: &HostRuntime, file: &str, date: BusinessDate) -> Result<(Duration, usize)> {
-    let desk = desk_over(rt, file)?;
-    let reported = time_report(rt, &desk, date);
-    close(desk.into_keeper());
+    let mut book = open_book(rt, file)?;
+    let reported = time_report(rt, book.desk(), date);
+    book.close();
     reported
 }

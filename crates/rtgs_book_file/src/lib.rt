@@ -2,8 +2,11 @@
 #![tactic(auto)]
 
 mod beginning;
-mod book_file;
 mod book_lock;
+mod file_fault;
+mod open_book;
+mod store;
 
-pub use crate::book_file::{FileDesk, FileKeeper, close, make, open, with_desk};
-pub use crate::book_lock::lock;
+pub use crate::book_lock::BookLock;
+pub use crate::file_fault::FileFault;
+pub use crate::open_book::{FileDesk, OpenBook, make, with_desk};

@@ -1,6 +1,7 @@
 //! The command line of the desk, as a call over two writers.
 #![tactic(auto)]
 
+mod order_file;
 mod run;
 mod texts;
 

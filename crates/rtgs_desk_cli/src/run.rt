@@ -1,5 +1,7 @@
 //! One run of the program.
-ghost use Rattle.std.specs.Prelude.{◌≤◌, IfOk};
+ghost use Rattle.std.specs.Prelude.{◌≡◌, ◌≤◌, ◌⊎◌, IfOk, IfErr};
+ghost use Rattle.rtgs_desk_cli.specs.Runs.{status_of};
+ghost use Rattle.rtgs_desk_lines.specs.Failures.{exit_status_of};
 
 use crate::texts;
 use clap::Error;
@@ -19,7 +21,9 @@ const MISUSED: u8 = 2;
 
 /// Prints what the command line itself has to say: help on standard output, a fault on standard error.
 fn explain<O: Write, E: Write>(error: &Error, out: &mut O, err: &mut E) -> u8
-    ensures { result ≤ 3 }
+    ensures status { (result ≡ 0) ⊎ (result ≡ 2) ⊎ (result ≡ 3) }
+    ensures silent { result ≡ 0 → err.new ≡ err.old }
+    ensures misused { result ≡ 2 → out.new ≡ out.old }
 {
     if error.kind() == ErrorKind::OutOfMemory {
         return Failure::Refused(Refusal::OutOfMemory).print(err);
@@ -41,12 +45,13 @@ fn submit(rt: &HostRuntime, file: &str, command: Command) -> Result<Answer, Fail
 
 /// Does what was asked for, and prints what came of it.
 fn act<O: Write>(rt: &HostRuntime, request: &Request<'_>, out: &mut O) -> Result<u8, Failure>
-    ensures { IfOk result (λ status. status ≤ 3) }
+    ensures done { IfOk result (λ status. (status ≡ 0) ⊎ (status ≡ 3)) }
+    ensures refused { IfErr result (λ failure. exit_status_of failure ≡ 1 → out.new ≡ out.old) }
 {
     match *request {
         Request::Make { file } => match make(rt, file) {
             Ok(()) => Ok(Done::Made.print(out)),
-            Err(failure) => Err(failure),
+            Err(fault) => Err(Failure::from(fault)),
         },
         Request::Submit { file, command } => match submit(rt, file, command) {
             Ok(answer) => Ok(Done::Answered(answer).print(out)),
@@ -75,11 +80,23 @@ fn act<O: Write>(rt: &HostRuntime, request: &Request<'_>, out: &mut O) -> Result
 
 /// Reads the words' forms, and does what they ask for.
 fn obey<O: Write>(rt: &HostRuntime, words: &Words<'_>, out: &mut O) -> Result<u8, Failure>
-    ensures { IfOk result (λ status. status ≤ 3) }
+    ensures done { IfOk result (λ status. (status ≡ 0) ⊎ (status ≡ 3)) }
+    ensures refused { IfErr result (λ failure. exit_status_of failure ≡ 1 → out.new ≡ out.old) }
 {
     match Request::read(rt.alloc(), words) {
         Ok(request) => act(rt, &request, out),
         Err(fault) => Err(Failure::from(fault)),
+    }
+}
+
+/// Prints a refusal on standard error, and gives the exit status of the run.
+fn ended<E: Write>(done: Result<u8, Failure>, err: &mut E) -> u8
+    ensures status { result ≡ status_of done }
+    ensures silent { IfOk done (λ _. err.new ≡ err.old) }
+{
+    match done {
+        Ok(status) => status,
+        Err(failure) => failure.print(err),
     }
 }
 
@@ -92,13 +109,15 @@ pub fn run_words<O: Write, E: Write>(
     out: &mut O,
     err: &mut E,
 ) -> u8
-    ensures { result ≤ 3 }
+    ensures status { result ≤ 3 }
+
+    // What was done is not told on `err`, and nothing was printed on `out` where the run was refused or misused.
+    ensures done { result ≡ 0 → err.new ≡ err.old }
+    ensures refused { result ≡ 1 → out.new ≡ out.old }
+    ensures misused { result ≡ 2 → out.new ≡ out.old }
 {
     match read_words(rt.alloc(), words) {
-        Ok(Some(words)) => match obey(rt, &words, out) {
-            Ok(status) => status,
-            Err(failure) => failure.print(err),
-        },
+        Ok(Some(words)) => ended(obey(rt, &words, out), err),
         Ok(None) => MISUSED,
         Err(error) => explain(&error, out, err),
     }

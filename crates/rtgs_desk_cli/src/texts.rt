@@ -1,31 +1,14 @@
 //! Runs that print a text: the results of a file of orders, a statement, a report.
-use rtgs_book::Refusal;
+ghost use Rattle.std.specs.Prelude.{◌≡◌, IfErr};
+ghost use Rattle.rtgs_desk_lines.specs.Failures.{exit_status_of};
+
+use crate::order_file::read_file;
 use rtgs_book_file::{FileDesk, with_desk};
 use rtgs_desk_lines::{Failure, Printed};
 use rtgs_exchange::{BatchResult, OrderRow, read_orders, submit_batch, write_results};
 use rtgs_money::{BusinessDate, Code};
 use rtgs_statements::{day_report, statement_text};
-use std::fs::File;
-use std::io::{ErrorKind, Read, Write};
-
-/// The most bytes that a file of orders may have.
-const MOST_BYTES: u64 = 65_536;
-
-/// The bytes of a file of orders.
-fn read_file(rt: &HostRuntime, path: &str) -> Result<Vec<u8>, Failure> {
-    let Ok(file) = File::open(rt, path) else {
-        return Err(Failure::NoOrders);
-    };
-    let mut bytes = Vec::new(rt.alloc());
-    match file.take(MOST_BYTES + 1).read_to_end(&mut bytes) {
-        Ok(_) if bytes.len() as u64 > MOST_BYTES => Err(Failure::OrdersTooLong),
-        Ok(_) => Ok(bytes),
-        Err(error) if error.kind() == ErrorKind::OutOfMemory => {
-            Err(Failure::Refused(Refusal::OutOfMemory))
-        }
-        Err(_) => Err(Failure::NoOrders),
-    }
-}
+use std::io::Write;
 
 /// Submits the orders of a file.
 fn submit_file(
@@ -50,7 +33,9 @@ pub fn import<O: Write>(
     sender: Code,
     orders: &str,
     out: &mut O,
-) -> Result<Printed, Failure> {
+) -> Result<Printed, Failure>
+    ensures refused { IfErr result (λ failure. exit_status_of failure ≡ 1 → out.new ≡ out.old) }
+{
     let submitted = with_desk(rt, file, |desk| submit_file(rt, desk, sender, orders))?;
     let (rows, batch) = submitted?;
     let printed = Printed::of(write_results(rt.alloc(), out, rows.as_slice(), &batch))?;
@@ -64,7 +49,9 @@ pub fn statement<O: Write>(
     code: Code,
     date: BusinessDate,
     out: &mut O,
-) -> Result<Printed, Failure> {
+) -> Result<Printed, Failure>
+    ensures refused { IfErr result (λ failure. exit_status_of failure ≡ 1 → out.new ≡ out.old) }
+{
     let statement = with_desk(rt, file, |desk| desk.statement_of(&code, date))?;
     Printed::of(statement_text(rt.alloc(), out, &statement?))
 }
@@ -75,7 +62,9 @@ pub fn report<O: Write>(
     file: &str,
     date: BusinessDate,
     out: &mut O,
-) -> Result<Printed, Failure> {
+) -> Result<Printed, Failure>
+    ensures refused { IfErr result (λ failure. exit_status_of failure ≡ 1 → out.new ≡ out.old) }
+{
     let report = with_desk(rt, file, |desk| desk.report_of(date))?;
     Printed::of(day_report(rt.alloc(), out, &report?))
 }

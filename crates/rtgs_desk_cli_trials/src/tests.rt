@@ -6,6 +6,7 @@ mod days;
 mod files;
 mod gridlocks;
 mod imports;
+mod openings;
 mod refusals;
 
 const KEY_A: &str = "0000000000000000000000000000000a";

@@ -13,6 +13,8 @@ use Rattle.rtgs_desk_requests.specs.declared.word_fault.WordFault.{WordFault}
 use Rattle.rtgs_desk_requests.specs.declared.word_fault.WordFault.TheVariants as words
 use Rattle.rtgs_desk_lines.specs.declared.failure.Failure.{Failure}
 use Rattle.rtgs_desk_lines.specs.declared.failure.Failure.TheVariants.{Form, Refused, Opening, InUse, FileExists, Orders, OrdersTooLong, NoOrders}
+use Rattle.rtgs_book_file.specs.declared.file_fault.FileFault.{FileFault}
+use Rattle.rtgs_book_file.specs.declared.file_fault.FileFault.TheVariants as file
 use Rattle.rtgs_exchange.specs.BatchFaults.{batch_entry_of}
 use Rattle.rtgs_exchange.specs.declared.batch_fault.BatchFault.{BatchFault}
 use Rattle.rtgs_exchange.specs.declared.batch_fault.BatchFault.TheVariants.{BadRow}
@@ -82,3 +84,8 @@ abbrev pub failure_of_store : KeeperFault → Failure
 failure_of_store keeper.OutOfMemory = Refused OutOfMemory
 failure_of_store keeper.StoreFault = Refused StoreFault
 failure_of_store keeper.Failed = Refused Failed
+
+abbrev pub failure_of_file : FileFault → Failure
+failure_of_file file.InUse = InUse
+failure_of_file file.FileExists = FileExists
+failure_of_file (file.Book fault) = Opening fault

@@ -2,6 +2,7 @@
 ghost use Rattle.std.specs.Prelude.{◌≡◌};
 
 use rtgs_book::{Fault, Refusal};
+use rtgs_book_file::FileFault;
 use rtgs_desk_requests::WordFault;
 use rtgs_exchange::BatchFault;
 use rtgs_money::Lexical;
@@ -179,6 +180,21 @@ impl From<Fault> for Failure {
 
     fn from(fault: Fault) -> Failure {
         Failure::Opening(fault)
+    }
+}
+
+impl From<FileFault> for Failure {
+    ghost use Rattle.std.specs.Prelude.{◌≡◌};
+    ghost use Rattle.rtgs_desk_lines.specs.Failures.{failure_of_file};
+
+    ghost from_gives = { λ fault failure. failure ≡ failure_of_file fault };
+
+    fn from(fault: FileFault) -> Failure {
+        match fault {
+            FileFault::InUse => Failure::InUse,
+            FileFault::FileExists => Failure::FileExists,
+            FileFault::Book(fault) => Failure::Opening(fault),
+        }
     }
 }
 

@@ -2,10 +2,11 @@
 use super::business::Business;
 use super::seen::Seen;
 use super::setting::desk_over;
-use rtgs_book::{Answer, Book, Fault, Refusal, Rows};
-use rtgs_book_file::{close, make, open};
+use rtgs_book::{Answer, Book, Refusal, Rows};
+use rtgs_book_file::{make, with_desk};
 use rtgs_desk::Desk;
-use rtgs_tables::{Keeper, MemoryKeeper};
+use rtgs_tables::{Keeper, MemoryKeeper, SqlKeeper};
+use sqlite::Connection;
 use std::test::Fail;
 
 const FILE: &str = "two_keepers";
@@ -39,10 +40,7 @@ fn fifty_over_the_file(
     seen: &mut Seen,
     held: &mut Desk<MemoryKeeper>,
 ) -> Result<(), Fail> {
-    let mut filed = open(rt, FILE)?;
-    let outcome = fifty(rt, business, seen, held, &mut filed);
-    close(filed.into_keeper());
-    outcome
+    with_desk(rt, FILE, |filed| fifty(rt, business, seen, held, filed))?
 }
 
 /// The book in memory after five thousand commands, which the desk over the file got too.
@@ -55,11 +53,11 @@ fn book_in_memory(rt: &HostRuntime, seen: &mut Seen) -> Result<Book, Fail> {
     Ok(held.into_keeper().load(rt.alloc())?)
 }
 
-fn book_in_the_file(rt: &HostRuntime) -> Result<Book, Fault> {
-    let mut keeper = open(rt, FILE)?.into_keeper();
-    let book = keeper.load(rt.alloc());
-    close(keeper);
-    book
+fn book_in_the_file(rt: &HostRuntime) -> Result<Book, Fail> {
+    let mut keeper = SqlKeeper::open(Connection::open(rt, FILE)?);
+    let book = keeper.load(rt.alloc())?;
+    keeper.into_connection().close()?;
+    Ok(book)
 }
 
 fn are_same<T: PartialEq>(one: &Rows<T>, other: &Rows<T>) -> bool {

@@ -1,0 +1,60 @@
+-- What an error says of a book's file: of looking at it, of reading its beginning, of its lock, and of the store.
+use Rattle.std.specs.Prelude.{◌==◌, ◌++◌, ◌∷◌, [], ℕ, ⊤, Bool, true, List, Result, Ok, Err, codes, if◌then◌else◌}
+use Rattle.std.specs.IoError.{error_kind}
+use Rattle.std.specs.Str.{bytes_eq}
+use Rattle.std.specs.declared.io.Error.{Error}
+use Rattle.std.specs.declared.io.ErrorKind.{ErrorKind}
+use Rattle.std.specs.declared.io.ErrorKind.TheVariants as kind
+use Rattle.sqlite.specs.declared.error.Error.{Error as SqlError}
+use Rattle.sqlite.specs.declared.error.Error.TheVariants.{SqliteFailure}
+use Rattle.sqlite.specs.declared.error.ErrorCode.TheVariants as code
+use Rattle.rtgs_book.specs.declared.fault.Fault.{Fault}
+use Rattle.rtgs_book.specs.declared.fault.Fault.TheVariants.{OutOfMemory, StoreFault, NotADeskFile}
+use Rattle.rtgs_tables.specs.declared.keeper.StoreFault.{StoreFault as KeeperFault}
+use Rattle.rtgs_tables.specs.declared.keeper.StoreFault.TheVariants as keeper
+use Rattle.rtgs_book_file.specs.declared.file_fault.FileFault.{FileFault}
+use Rattle.rtgs_book_file.specs.declared.file_fault.FileFault.TheVariants.{InUse, Book}
+
+-- no file, or a fault: memory was refused, or the path cannot be looked at
+abbrev pub vacancy_without : ErrorKind → Result Bool Fault
+vacancy_without kind.NotFound = Ok true
+vacancy_without kind.OutOfMemory = Err OutOfMemory
+vacancy_without _ = Err StoreFault
+
+-- whether a file of this length is missing or empty
+abbrev pub vacancy_of : Result ℕ Error → Result Bool Fault
+vacancy_of (Ok length) = Ok (length == 0)
+vacancy_of (Err error) = vacancy_without (error_kind error)
+
+-- how a database begins
+abbrev pub magic : List ℕ
+magic = codes "SQLite format 3" ++ 0 ∷ []
+
+-- a file that is missing or too short, want of memory, or a file that cannot be read
+abbrev pub fault_of_reading : ErrorKind → Fault
+fault_of_reading kind.NotFound = NotADeskFile
+fault_of_reading kind.UnexpectedEof = NotADeskFile
+fault_of_reading kind.OutOfMemory = OutOfMemory
+fault_of_reading _ = StoreFault
+
+-- what it means for a book that its file begins so
+abbrev pub opening_of : Result (List ℕ) Error → Result ⊤ Fault
+opening_of (Ok bytes) = if bytes_eq bytes magic then Ok tt else Err NotADeskFile
+opening_of (Err error) = Err (fault_of_reading (error_kind error))
+
+-- why a lock cannot be taken
+abbrev pub fault_of_lock : ErrorKind → FileFault
+fault_of_lock kind.OutOfMemory = Book OutOfMemory
+fault_of_lock _ = InUse
+
+-- what an error of the store's opening says of a file
+abbrev pub fault_of_store : SqlError → Fault
+fault_of_store (SqliteFailure code.OutOfMemory) = OutOfMemory
+fault_of_store (SqliteFailure code.NotADatabase) = NotADeskFile
+fault_of_store _ = StoreFault
+
+-- why no tables were made
+abbrev pub fault_of_making : KeeperFault → Fault
+fault_of_making keeper.OutOfMemory = OutOfMemory
+fault_of_making keeper.StoreFault = StoreFault
+fault_of_making keeper.Failed = StoreFault

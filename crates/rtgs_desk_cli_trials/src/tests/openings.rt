@@ -1,0 +1,66 @@
+//! How files are opened, held and closed by runs.
+use super::{begin, prints};
+use rtgs_book_file::with_desk;
+use sqlite::Connection;
+use std::fs;
+use std::test::Fail;
+
+/// The cents of the one posting in a file, as another program reads them.
+fn posted_in(rt: &HostRuntime, file: &str) -> Result<i64, Fail> {
+    let mut conn = Connection::open(rt, file)?;
+    let row = conn.query_row("SELECT cents FROM posting", &[])?;
+    let cents = row.get::<i64>(0)?;
+    conn.close()?;
+    Ok(cents)
+}
+
+#[test]
+fn no_book_is_made_over_one_byte(rt: HostRuntime) -> Result<(), Fail> {
+    fs::write(&rt, "one_byte", "S")?;
+    prints(&rt, &["init", "one_byte"], "refused 96 FileExists\n", 3)?;
+    assert_eq!(rt; fs::read(&rt, "one_byte")?.as_slice(), b"S".as_slice());
+    Ok(())
+}
+
+#[test]
+fn a_book_is_made_in_an_empty_file(rt: HostRuntime) -> Result<(), Fail> {
+    fs::write(&rt, "empty", "")?;
+    begin(&rt, "empty")
+}
+
+#[test]
+fn runs_that_overlap_are_refused(rt: HostRuntime) -> Result<(), Fail> {
+    let post = ["post", "overlap", "ALFA", "P-1", "1"];
+    let text = "refused 95 InUse\n";
+    begin(&rt, "overlap")?;
+    let within = with_desk(&rt, "overlap", |_| {
+        prints(&rt, &["init", "overlap"], text, 3)?;
+        prints(&rt, &post, text, 3)
+    });
+    within??;
+    prints(&rt, &post, "posted 1\n", 0)
+}
+
+#[test]
+fn a_folder_is_no_order_file(rt: HostRuntime) -> Result<(), Fail> {
+    begin(&rt, "folder")?;
+    fs::create_dir(&rt, "orders")?;
+    let words = ["import", "folder", "ALFA", "orders"];
+    prints(&rt, &words, "refused 98 NoOrderFile\n", 3)
+}
+
+#[test]
+fn a_folder_holds_no_book(rt: HostRuntime) -> Result<(), Fail> {
+    fs::create_dir(&rt, "books")?;
+    let words = ["post", "books", "ALFA", "P-1", "1"];
+    prints(&rt, &words, "refused 91 StoreFault\n", 3)
+}
+
+#[test]
+fn the_file_is_whole_by_itself_after_a_run(rt: HostRuntime) -> Result<(), Fail> {
+    begin(&rt, "whole")?;
+    prints(&rt, &["post", "whole", "ALFA", "P-1", "7"], "posted 1\n", 0)?;
+    fs::copy(&rt, "whole", "copied")?;
+    assert_eq!(rt; posted_in(&rt, "copied")?, 7);
+    Ok(())
+}
