@@ -1,5 +1,5 @@
 -- What the causes of a run's failure come to, and what a run leaves on its two writers.
-use Rattle.std.specs.Prelude.{ℕ, ⊤, Result, Ok, Err, Option}
+use Rattle.std.specs.Prelude.{ℕ, Result, Ok, Err}
 use Rattle.std.specs.declared.io.ErrorKind.{ErrorKind}
 use Rattle.std.specs.declared.io.ErrorKind.TheVariants as kind
 use Rattle.rtgs_book.specs.declared.refusal.Refusal.TheVariants.{OutOfMemory}
