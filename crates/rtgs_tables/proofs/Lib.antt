@@ -28,6 +28,7 @@ pub mod Credits
 pub mod Making
 pub mod RowColumns
 pub mod AboveZero
+pub mod AsRead
 pub mod Told
 pub mod ReadingAlone
 pub mod Together
