@@ -6,8 +6,8 @@ use crate::business::{BANKS, opening};
 use anyhow::{Result, anyhow, bail};
 use rtgs_book::{Answer, Change, Command};
 use rtgs_book_file::{FileDesk, FileKeeper, close};
+use rtgs_keeper::Keeper;
 use rtgs_ledger::Ledger;
-use rtgs_tables::Keeper;
 use std::alloc::Global;
 use std::time::{Duration, Instant};
 

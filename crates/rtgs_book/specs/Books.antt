@@ -1,5 +1,5 @@
 -- The book and its records under short names, and the tests of a phase and a state.
-use Rattle.std.specs.Prelude.{Bool, true, false, List, [], ◌∷◌}
+use Rattle.std.specs.Prelude.{Bool, true, false, List, [], ◌∷◌, None}
 pub use Rattle.rtgs_book.specs.declared.book.Book.{Book}
 pub use Rattle.rtgs_book.specs.declared.day.Day.{Day}
 pub use Rattle.rtgs_book.specs.declared.phase.Phase.{Phase}
@@ -44,3 +44,7 @@ is_settled order = is_settled_state order.state
 abbrev pub is_empty : {X : Type 0} → List X → Bool
 is_empty [] = true
 is_empty (x ∷ xs) = false
+
+-- the book of a new desk: nothing recorded, and closed
+abbrev pub new_book : Book
+new_book = record { participants = []; postings = []; orders = []; marks = []; day = record { date = None; phase = Closed } }

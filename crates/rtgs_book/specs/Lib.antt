@@ -1,3 +1,4 @@
+pub mod Accounts
 pub mod Balance
 pub mod Books
 pub mod Changes
@@ -16,5 +17,6 @@ pub mod Run
 pub mod Session
 pub mod Settle
 pub mod Soundness
+pub mod Standings
 pub mod Step
 pub mod Totals

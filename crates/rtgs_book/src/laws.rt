@@ -7,7 +7,7 @@ ghost use Rattle.rtgs_book.specs.declared.order.Order.{Order};
 ghost use Rattle.rtgs_book.specs.declared.order_state.OrderState.{OrderState};
 ghost use Rattle.rtgs_book.specs.declared.posting.Posting.{Posting};
 ghost use Rattle.std.specs.Str.{bytes_eq};
-ghost use Rattle.rtgs_book.specs.Books.{is_queued, is_settled, is_settled_state};
+ghost use Rattle.rtgs_book.specs.Books.{is_queued, is_settled, is_settled_state, new_book};
 ghost use Rattle.rtgs_book.specs.Commands.{with_state};
 ghost use Rattle.rtgs_book.specs.IntSum.{int_sum_by};
 ghost use Rattle.rtgs_book.specs.Lookup.{accounts, is_participant};
@@ -22,6 +22,11 @@ ghost use Rattle.rtgs_book.specs.Run.{Run};
 ghost use Rattle.rtgs_book.specs.Step.{Step};
 ghost use Rattle.rtgs_book.specs.Choice.{Choice, nothing_chosen, larger, is_chosen, chosen, balance_after, IsFeasible, IsGreatest};
 ghost use Rattle.rtgs_book.specs.Soundness.{OrdersAreNumbered, FloorsHold, IsSound};
+
+/// The book of a new desk is sound.
+pub fn new_book_is_sound()
+    ensures { IsSound new_book }
+{}
 
 /// To choose no order is feasible where no balance is below its floor.
 pub fn nothing_is_feasible()

@@ -1,6 +1,7 @@
 //! The settlement book: its records, the commands, what they mean, and the test of soundness.
 #![tactic(auto)]
 
+mod account;
 mod answer;
 mod book;
 mod change;
@@ -19,7 +20,9 @@ mod refusal;
 mod rows;
 mod rule;
 mod rules;
+mod standing;
 
+pub use crate::account::Account;
 pub use crate::answer::{Answer, Known};
 pub use crate::book::Book;
 pub use crate::change::{Change, RowChange};
@@ -35,3 +38,4 @@ pub use crate::posting::Posting;
 pub use crate::refusal::Refusal;
 pub use crate::rows::Rows;
 pub use crate::rule::Rule;
+pub use crate::standing::Standing;

@@ -6,7 +6,8 @@ use crate::book_lock::lock;
 use rtgs_book::Fault;
 use rtgs_desk::Desk;
 use rtgs_desk_lines::Failure;
-use rtgs_tables::{Keeper, SqlKeeper};
+use rtgs_keeper::Keeper;
+use rtgs_tables::SqlKeeper;
 use sqlite::{Connection, Error, ErrorCode, FileStore};
 use std::alloc::Global;
 

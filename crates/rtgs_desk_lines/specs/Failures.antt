@@ -7,8 +7,8 @@ use Rattle.rtgs_book.specs.declared.refusal.Refusal.{Refusal}
 use Rattle.rtgs_book.specs.declared.refusal.Refusal.TheVariants.{Overdrawn, OutOfMemory, StoreFault, Failed}
 use Rattle.rtgs_book.specs.declared.fault.Fault.{Fault}
 use Rattle.rtgs_book.specs.declared.fault.Fault.TheVariants as fault
-use Rattle.rtgs_tables.specs.declared.keeper.StoreFault.{StoreFault as KeeperFault}
-use Rattle.rtgs_tables.specs.declared.keeper.StoreFault.TheVariants as keeper
+use Rattle.rtgs_keeper.specs.declared.commit_fault.CommitFault.{CommitFault}
+use Rattle.rtgs_keeper.specs.declared.commit_fault.CommitFault.TheVariants as keeper
 use Rattle.rtgs_desk_requests.specs.declared.word_fault.WordFault.{WordFault}
 use Rattle.rtgs_desk_requests.specs.declared.word_fault.WordFault.TheVariants as words
 use Rattle.rtgs_desk_lines.specs.declared.failure.Failure.{Failure}
@@ -78,7 +78,7 @@ abbrev pub failure_of_words : WordFault → Failure
 failure_of_words (words.Form form) = Form form
 failure_of_words words.OutOfMemory = Refused OutOfMemory
 
-abbrev pub failure_of_store : KeeperFault → Failure
+abbrev pub failure_of_store : CommitFault → Failure
 failure_of_store keeper.OutOfMemory = Refused OutOfMemory
-failure_of_store keeper.StoreFault = Refused StoreFault
+failure_of_store keeper.Store = Refused StoreFault
 failure_of_store keeper.Failed = Refused Failed

@@ -4,8 +4,8 @@ ghost use Rattle.std.specs.Prelude.{◌≡◌};
 use rtgs_book::{Fault, Refusal};
 use rtgs_desk_requests::WordFault;
 use rtgs_exchange::BatchFault;
+use rtgs_keeper::CommitFault;
 use rtgs_money::Lexical;
-use rtgs_tables::StoreFault;
 use std::alloc::AllocError;
 use std::fmt;
 use std::io::Write;
@@ -182,17 +182,17 @@ impl From<Fault> for Failure {
     }
 }
 
-impl From<StoreFault> for Failure {
+impl From<CommitFault> for Failure {
     ghost use Rattle.std.specs.Prelude.{◌≡◌};
     ghost use Rattle.rtgs_desk_lines.specs.Failures.{failure_of_store};
 
     ghost from_gives = { λ fault failure. failure ≡ failure_of_store fault };
 
-    fn from(fault: StoreFault) -> Failure {
+    fn from(fault: CommitFault) -> Failure {
         Failure::Refused(match fault {
-            StoreFault::OutOfMemory => Refusal::OutOfMemory,
-            StoreFault::StoreFault => Refusal::StoreFault,
-            StoreFault::Failed => Refusal::Failed,
+            CommitFault::OutOfMemory => Refusal::OutOfMemory,
+            CommitFault::Store => Refusal::StoreFault,
+            CommitFault::Failed => Refusal::Failed,
         })
     }
 }

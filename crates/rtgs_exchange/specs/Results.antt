@@ -2,10 +2,10 @@
 use Rattle.std.specs.Prelude.{◌≡◌, false, ℕ, List, [], ◌∷◌, ◌++◌, codes, decimal, Option, Some, None}
 use Rattle.csv.specs.Writing.{default_writer, row_text, text_written, fields_written, has_written, writer_setup}
 use Rattle.csv.specs.declared.writer.Writer.{Writer}
-use Rattle.rtgs_book.specs.declared.OrderState.{OrderState}
-use Rattle.rtgs_book.specs.declared.OrderState.TheVariants as state
+use Rattle.rtgs_book.specs.declared.Standing.TheVariants as standing
 use Rattle.rtgs_book.specs.declared.Refusal.{Refusal}
 use Rattle.rtgs_book.specs.Refusals.{entry_of}
+use Rattle.rtgs_book.specs.Standings.{standing_of, word_of}
 use Rattle.rtgs_exchange.specs.declared.batch_result.RowReply.{RowReply}
 use Rattle.rtgs_exchange.specs.declared.batch_result.RowReply.TheVariants.{Settled, Queued, Repeated, Refused}
 use Rattle.rtgs_exchange.specs.declared.order_row.OrderRow.{OrderRow}
@@ -17,17 +17,11 @@ line reference result number detail = row_text default_writer (reference ∷ res
 abbrev pub header : List ℕ
 header = line (codes "reference") (codes "result") (codes "number") (codes "detail")
 
-abbrev pub state_word : OrderState → List ℕ
-state_word state.Queued = codes "queued"
-state_word (state.Settled mark) = codes "settled"
-state_word state.Withdrawn = codes "withdrawn"
-state_word state.Rejected = codes "rejected"
-
 -- the line of a row with this reference and this reply
 abbrev pub reply_line : List ℕ → RowReply → List ℕ
-reply_line reference (Settled number mark) = line reference (codes "settled") (decimal number) (decimal mark)
-reply_line reference (Queued number place) = line reference (codes "queued") (decimal number) (decimal place)
-reply_line reference (Repeated number state) = line reference (codes "repeated") (decimal number) (state_word state)
+reply_line reference (Settled number mark) = line reference (word_of standing.Settled) (decimal number) (decimal mark)
+reply_line reference (Queued number place) = line reference (word_of standing.Queued) (decimal number) (decimal place)
+reply_line reference (Repeated number state) = line reference (codes "repeated") (decimal number) (word_of (standing_of state))
 reply_line reference (Refused refusal) = line reference (codes "refused") [] (decimal (entry_of refusal).number)
 
 -- the line of the row at which the batch stopped

@@ -1,14 +1,14 @@
 //! Result files: what came of each row of a batch.
 ghost use Rattle.std.specs.Io.KnownBytes.{Appends, Keeps};
 ghost use Rattle.std.specs.Prelude.{◌≡◌, ◌++◌, ℕ, List, IfOk, IfErr, OnOk, OnErr};
-ghost use Rattle.rtgs_exchange.specs.Results.{line, state_word, reply_line, stop_line, result_lines, results_text, Wrote};
+ghost use Rattle.rtgs_exchange.specs.Results.{line, reply_line, stop_line, result_lines, results_text, Wrote};
 ghost use Rattle.rtgs_statements.specs.Sent.{AppendsPart};
 
 use crate::batch_result::{BatchResult, RowReply};
 use crate::order_row::OrderRow;
 use csv::Writer;
 use itoa::Buffer;
-use rtgs_book::{OrderState, Refusal};
+use rtgs_book::{Refusal, Standing};
 use rtgs_money::Reference;
 use rtgs_statements::{TextFault, send_all};
 use std::alloc::{AllocError, Global};
@@ -86,14 +86,14 @@ fn put_reply<W: Write + Drop>(
         RowReply::Settled { number, mark } => put_line(
             lines,
             reference,
-            "settled",
+            Standing::Settled.word(),
             first.format(number),
             second.format(mark),
         ),
         RowReply::Queued { number, place } => put_line(
             lines,
             reference,
-            "queued",
+            Standing::Queued.word(),
             first.format(number),
             second.format(place),
         ),
@@ -102,7 +102,7 @@ fn put_reply<W: Write + Drop>(
             reference,
             "repeated",
             first.format(number),
-            state_word(state),
+            state.word(),
         ),
         RowReply::Refused(refusal) => put_line(
             lines,
@@ -151,17 +151,5 @@ fn put_line<W: Write + Drop>(
     match lines.write_fields(&fields) {
         Ok(()) => Ok(()),
         Err(_) => Err(AllocError),
-    }
-}
-
-// The word for where an order stands.
-fn state_word(state: OrderState) -> &'static str
-    ensures { result.now ≡ state_word state }
-{
-    match state {
-        OrderState::Queued => "queued",
-        OrderState::Settled(_) => "settled",
-        OrderState::Withdrawn => "withdrawn",
-        OrderState::Rejected => "rejected",
     }
 }

@@ -14,7 +14,7 @@ use Rattle.std.proofs.lemmas.List.Elements.{recursion_from_All}
 use Rattle.std.proofs.lemmas.Bool.{cases_lt}
 use Rattle.rtgs_ledger.proofs.Lists.{bytes_eq_comm, find_none, map-filter, not_before, sorted_put_in}
 use Rattle.rtgs_book.specs.declared.participant.Participant.{Participant}
-use Rattle.rtgs_ledger.specs.declared.account.Account.{Account}
+use Rattle.rtgs_book.specs.declared.account.Account.{Account}
 use Rattle.rtgs_ledger.specs.Accounts.{code_of, participant_of, is_of, AreInCodeOrder, with_account, with_balance, with_limit, IsAt, IsGapFor}
 
 -- a code that comes before another is another

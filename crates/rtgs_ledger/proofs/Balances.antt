@@ -17,7 +17,7 @@ use Rattle.rtgs_book.specs.Balance.{balance, gain}
 use Rattle.rtgs_book.specs.Lookup.{accounts, is_participant}
 use Rattle.rtgs_book.specs.IntSum.{int_sum_by}
 use Rattle.rtgs_book.specs.Soundness.{has_parties, PartiesAreKnown}
-use Rattle.rtgs_ledger.specs.declared.account.Account.{Account}
+use Rattle.rtgs_book.specs.declared.account.Account.{Account}
 use Rattle.rtgs_ledger.specs.Accounts.{code_of, is_of, rebalanced, with_balance}
 use Rattle.rtgs_ledger.proofs.Lists.{bytes_eq_comm, int_sum_by-append, weaker}
 

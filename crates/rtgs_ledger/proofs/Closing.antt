@@ -24,9 +24,10 @@ use Rattle.rtgs_book.specs.Queue.{queue}
 use Rattle.rtgs_book.specs.Step.{Step}
 use Rattle.rtgs_choices.specs.Closing.{closed_book, closing_rows}
 use Rattle.rtgs_choices.specs.Settling.{queued_numbers, state_rows}
-use Rattle.rtgs_ledger.specs.declared.account.Account.{Account}
+use Rattle.rtgs_book.specs.declared.account.Account.{Account}
 use Rattle.rtgs_ledger.specs.declared.records.Records.{Records}
-use Rattle.rtgs_ledger.specs.Accounts.{code_of, participant_of, is_overdrawn}
+use Rattle.rtgs_book.specs.Accounts.{is_overdrawn}
+use Rattle.rtgs_ledger.specs.Accounts.{code_of, participant_of}
 use Rattle.rtgs_ledger.specs.Held.{Held, after}
 use Rattle.rtgs_ledger.specs.Kept.{AreBalanced, IsKept, IsPrepared}
 use Rattle.rtgs_ledger.specs.Orders.{queued_numbers as queued_of}

@@ -16,7 +16,7 @@ use Rattle.rtgs_book.specs.Commands.{set_credit, with_credit}
 use Rattle.rtgs_book.specs.Lookup.{accounts, is_participant}
 use Rattle.rtgs_book.specs.Outcome.{first_of}
 use Rattle.rtgs_book.specs.Step.{Step}
-use Rattle.rtgs_ledger.specs.declared.account.Account.{Account}
+use Rattle.rtgs_book.specs.declared.account.Account.{Account}
 use Rattle.rtgs_ledger.specs.Accounts.{code_of, is_of, with_limit}
 use Rattle.rtgs_ledger.specs.Held.{Held}
 use Rattle.rtgs_ledger.specs.Kept.{IsKept, IsPrepared}

@@ -4,7 +4,7 @@ use Rattle.std.specs.List.{AllByRecursion, position_or_len}
 use Rattle.std.specs.List.Sorted.{IsStrictlySortedBy}
 use Rattle.std.specs.Str.{bytes_eq}
 use Rattle.std.specs.Cmp.Lexicographic.{slice_cmp}
-use Rattle.rtgs_ledger.specs.declared.account.Account.{Account}
+use Rattle.rtgs_book.specs.declared.account.Account.{Account}
 use Rattle.rtgs_ledger.specs.Accounts.{code_of, is_of, AreInCodeOrder, IsAt}
 use Rattle.rtgs_ledger.proofs.AccountLemmas.{apart_from_less, at_index, equal_codes}
 use Rattle.rtgs_ledger.proofs.Lists.{bytes_eq_comm}

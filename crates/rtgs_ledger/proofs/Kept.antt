@@ -27,7 +27,7 @@ use Rattle.rtgs_book.specs.Soundness.{IsSound}
 use Rattle.rtgs_book.specs.Step.{Step}
 use Rattle.rtgs_ledger.proofs.Lists.{bytes_eq_comm, every}
 use Rattle.rtgs_ledger.proofs.Balances.{same_int}
-use Rattle.rtgs_ledger.specs.declared.account.Account.{Account}
+use Rattle.rtgs_book.specs.declared.account.Account.{Account}
 use Rattle.rtgs_ledger.specs.declared.records.Records.{Records}
 use Rattle.rtgs_ledger.specs.Accounts.{AreInCodeOrder, code_of, participant_of, balance_of, is_of, has_key}
 use Rattle.rtgs_ledger.specs.Held.{Held, HasRoom, after}

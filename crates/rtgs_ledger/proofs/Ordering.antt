@@ -31,7 +31,7 @@ use Rattle.rtgs_book.specs.Queue.{queue}
 use Rattle.rtgs_book.specs.Settle.{restated, settle, mark_of, next_mark, today}
 use Rattle.rtgs_book.specs.Soundness.{OrdersAreNumbered}
 use Rattle.rtgs_book.specs.Step.{Step}
-use Rattle.rtgs_ledger.specs.declared.account.Account.{Account}
+use Rattle.rtgs_book.specs.declared.account.Account.{Account}
 use Rattle.rtgs_ledger.specs.declared.records.Records.{Records}
 use Rattle.rtgs_ledger.specs.Records.{held_of, book_of}
 use Rattle.rtgs_ledger.specs.Accounts.{code_of, is_of, with_balance}

@@ -20,7 +20,7 @@ use Rattle.rtgs_money.specs.Amounts.{IsPostingAmount}
 use Rattle.rtgs_book.specs.declared.change.RowChange.TheVariants.{AddPosting, SetBalance}
 use Rattle.rtgs_book.specs.Changes.{Leads, balance_set}
 use Rattle.rtgs_book.specs.Lookup.{accounts}
-use Rattle.rtgs_ledger.specs.declared.account.Account.{Account}
+use Rattle.rtgs_book.specs.declared.account.Account.{Account}
 use Rattle.rtgs_ledger.specs.declared.records.Records.{Records}
 use Rattle.rtgs_ledger.specs.Accounts.{is_of, with_balance}
 use Rattle.rtgs_ledger.specs.Kept.{IsKept, IsPrepared}

@@ -28,7 +28,7 @@ use Rattle.rtgs_book.specs.Settle.{restated, settle, mark_of, next_mark}
 use Rattle.rtgs_book.specs.Soundness.{IsSound}
 use Rattle.rtgs_book.specs.Step.{Step}
 use Rattle.rtgs_choices.specs.Settling.{orders_taken, numbers_taken, state_rows, IsOfBalance, moves, balance_rows, settling_rows}
-use Rattle.rtgs_ledger.specs.declared.account.Account.{Account}
+use Rattle.rtgs_book.specs.declared.account.Account.{Account}
 use Rattle.rtgs_ledger.specs.declared.records.Records.{Records}
 use Rattle.rtgs_ledger.specs.Accounts.{code_of, participant_of, is_of, with_balance}
 use Rattle.rtgs_ledger.specs.Held.{Held, HasRoom, after, after_row}

@@ -13,7 +13,7 @@ use Rattle.rtgs_book.specs.declared.participant.Participant.{Participant}
 use Rattle.rtgs_book.specs.Balance.{gain, balance}
 use Rattle.rtgs_book.specs.IntSum.{int_sum_by}
 use Rattle.rtgs_book.specs.Totals.{Within}
-use Rattle.rtgs_ledger.specs.declared.account.Account.{Account}
+use Rattle.rtgs_book.specs.declared.account.Account.{Account}
 use Rattle.rtgs_ledger.specs.Accounts.{code_of, participant_of, is_of, move, with_move, after_order}
 use Rattle.rtgs_ledger.specs.Kept.{AreBalanced}
 use Rattle.rtgs_ledger.specs.Resolving.{after_orders, moved_accounts}

@@ -15,7 +15,7 @@ use Rattle.rtgs_choices.specs.Settling.{orders_taken}
 use Rattle.rtgs_book.specs.declared.order.Order.{Order}
 use Rattle.rtgs_book.specs.Choice.{Choice}
 use Rattle.rtgs_book.specs.Queue.{queue}
-use Rattle.rtgs_ledger.specs.declared.account.Account.{Account}
+use Rattle.rtgs_book.specs.declared.account.Account.{Account}
 use Rattle.rtgs_ledger.specs.declared.records.Records.{Records}
 use Rattle.rtgs_ledger.specs.Accounts.{code_of, is_of, AreInCodeOrder}
 use Rattle.rtgs_ledger.specs.Kept.{AreBalanced, IsKept}

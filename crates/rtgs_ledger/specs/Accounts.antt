@@ -1,5 +1,5 @@
 -- Accounts, as contracts see them.
-use Rattle.std.specs.Prelude.{true, false, ◌≡◌, ℕ, ◌≤◌, ℤ, ◌+ℤ◌, Bool, true, List, map, filter, not, ◌++◌, ◌∷◌, if◌then◌else◌, length, slice_index_or, ◌<◌, pos, int_lt}
+use Rattle.std.specs.Prelude.{true, false, ◌≡◌, ℕ, ◌≤◌, ℤ, ◌+ℤ◌, Bool, true, List, map, filter, not, ◌++◌, ◌∷◌, if◌then◌else◌, length, slice_index_or, ◌<◌}
 use Rattle.std.specs.List.{AllByRecursion}
 use Rattle.std.specs.List.Sorted.{IsStrictlySortedBy}
 use Rattle.std.specs.Ordering.{nat_cmp}
@@ -9,7 +9,7 @@ use Rattle.rtgs_book.specs.declared.participant.Participant.{Participant}
 use Rattle.rtgs_book.specs.declared.order.Order.{Order}
 use Rattle.rtgs_book.specs.Balance.{gain}
 use Rattle.rtgs_book.specs.Commands.{is_before}
-use Rattle.rtgs_ledger.specs.declared.account.Account.{Account}
+use Rattle.rtgs_book.specs.declared.account.Account.{Account}
 
 -- the accounts, and how many more can be added without memory
 pub record AccountList : Type 0 where
@@ -31,10 +31,6 @@ has_key key a = bytes_eq a.participant.key key
 
 abbrev pub balance_of : Account → ℤ
 balance_of a = a.balance
-
--- below zero
-abbrev pub is_overdrawn : Account → Bool
-is_overdrawn a = int_lt a.balance (pos 0)
 
 -- codes rise strictly
 abbrev pub AreInCodeOrder : List Account → Type 0

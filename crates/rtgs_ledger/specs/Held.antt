@@ -6,7 +6,7 @@ use Rattle.rtgs_book.specs.declared.change.RowChange.{RowChange}
 use Rattle.rtgs_book.specs.declared.change.RowChange.TheVariants.{AddParticipant, AddPosting, AddOrder, AddMark, SetCredit, SetBalance, SetState, SetDay}
 use Rattle.rtgs_book.specs.Books.{is_queued_state}
 use Rattle.rtgs_book.specs.Changes.{with_row}
-use Rattle.rtgs_ledger.specs.declared.account.Account.{Account}
+use Rattle.rtgs_book.specs.declared.account.Account.{Account}
 use Rattle.rtgs_ledger.specs.Accounts.{is_of, with_account, with_balance, with_limit}
 
 -- how many records of each kind can be added without memory, the reference that the next posting has to bear, and the sender and reference of the next order

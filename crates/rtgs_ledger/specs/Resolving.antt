@@ -9,7 +9,7 @@ use Rattle.rtgs_book.specs.Balance.{gain}
 use Rattle.rtgs_book.specs.Choice.{Choice, IsGreatest}
 use Rattle.rtgs_book.specs.IntSum.{int_sum_by}
 use Rattle.rtgs_choices.specs.Settling.{orders_taken}
-use Rattle.rtgs_ledger.specs.declared.account.Account.{Account}
+use Rattle.rtgs_book.specs.declared.account.Account.{Account}
 use Rattle.rtgs_ledger.specs.Accounts.{code_of}
 
 -- the orders are those of the book's greatest choice, account by account

@@ -12,10 +12,10 @@ ghost use Rattle.rtgs_book.specs.IntSum.{int_sum_by};
 ghost use Rattle.rtgs_book.specs.Ranges.{Fits};
 ghost use Rattle.rtgs_book.specs.Soundness.{IsSound};
 ghost use Rattle.rtgs_ledger.specs.Kept.{AreBalanced};
-ghost use Rattle.rtgs_ledger.specs.Accounts.{AreInCodeOrder, IsAt, IsGapFor, is_of, code_of, balance_of, participant_of, has_key, is_overdrawn, with_account, with_balance, with_move, with_limit, after_order};
+ghost use Rattle.rtgs_book.specs.Accounts.{is_overdrawn};
+ghost use Rattle.rtgs_ledger.specs.Accounts.{AreInCodeOrder, IsAt, IsGapFor, is_of, code_of, balance_of, participant_of, has_key, with_account, with_balance, with_move, with_limit, after_order};
 
-use crate::account::Account;
-use rtgs_book::{Book, Order, Participant, laws};
+use rtgs_book::{Account, Book, Order, Participant, laws};
 use rtgs_money::{Cents, Code, Credit, KeyDigest};
 use std::alloc::{AllocError, Global};
 use std::collections::BTreeMap;

@@ -3,7 +3,6 @@
 //! adopted, which takes no memory.
 #![tactic(auto)]
 
-mod account;
 mod accounts;
 mod ledger;
 mod orders;
@@ -11,5 +10,4 @@ mod postings;
 mod queues;
 mod records;
 
-pub use crate::account::Account;
 pub use crate::ledger::Ledger;

@@ -11,11 +11,10 @@ ghost use Rattle.rtgs_book.specs.Commands.{is_date, is_later};
 ghost use Rattle.rtgs_ledger.specs.Records.{held_of};
 ghost use Rattle.rtgs_ledger.specs.Held.{FindsRoom, after_row};
 
-use crate::account::Account;
 use crate::accounts::Accounts;
 use crate::orders::Orders;
 use crate::postings::Postings;
-use rtgs_book::{Day, Mark, Order, OrderState, Phase, RowChange};
+use rtgs_book::{Account, Day, Mark, Order, OrderState, Phase, RowChange};
 use rtgs_money::{Amount, BusinessDate, Cents, Code, Credit, PostingAmount, Reference};
 
 // The most that all balances together may be, in cents.

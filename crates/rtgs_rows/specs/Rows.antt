@@ -14,17 +14,18 @@ use Rattle.rtgs_book.specs.declared.Order.{Order}
 use Rattle.rtgs_book.specs.declared.Mark.{Mark}
 use Rattle.rtgs_book.specs.declared.OrderState.{OrderState}
 use Rattle.rtgs_book.specs.declared.OrderState.TheVariants.{Queued, Settled, Withdrawn, Rejected}
+use Rattle.rtgs_rows.specs.declared.numbers.TheConstants.{PHASE_CLOSED, PHASE_OPEN, PHASE_CUT_OFF, STATE_QUEUED, STATE_SETTLED, STATE_WITHDRAWN, STATE_REJECTED}
 
 abbrev pub phase_number : Phase → ℕ
-phase_number Closed = 0
-phase_number Open = 1
-phase_number CutOff = 2
+phase_number Closed = PHASE_CLOSED
+phase_number Open = PHASE_OPEN
+phase_number CutOff = PHASE_CUT_OFF
 
 abbrev pub state_number : OrderState → ℕ
-state_number Queued = 0
-state_number (Settled mark) = 1
-state_number Withdrawn = 2
-state_number Rejected = 3
+state_number Queued = STATE_QUEUED
+state_number (Settled mark) = STATE_SETTLED
+state_number Withdrawn = STATE_WITHDRAWN
+state_number Rejected = STATE_REJECTED
 
 -- a settled order has its mark, and no other order has one
 abbrev pub mark_value : OrderState → Value

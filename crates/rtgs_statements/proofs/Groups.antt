@@ -5,7 +5,7 @@ use Rattle.rtgs_book.specs.declared.order.Order.{Order}
 use Rattle.rtgs_book.specs.declared.mark.Mark.{Mark}
 use Rattle.rtgs_statements.specs.declared.line.Line.{Line}
 use Rattle.rtgs_statements.specs.declared.line.Line.TheVariants.{StatementOf, Record, ReportOf, Marks}
-use Rattle.rtgs_statements.specs.declared.standing.Standing.TheVariants.{Settled, Queued, Withdrawn, Rejected}
+use Rattle.rtgs_book.specs.declared.standing.Standing.TheVariants.{Settled, Queued, Withdrawn, Rejected}
 use Rattle.rtgs_statements.specs.Lines.{row_of_posting, row_of_order}
 use Rattle.rtgs_statements.specs.Sums.{sums_of}
 use Rattle.rtgs_statements.specs.Texts.{text_of, sum_lines, statement_text, account_line, orders_line, report_text}

@@ -6,6 +6,8 @@ use Rattle.rtgs_book.specs.declared.posting.Posting.{Posting}
 use Rattle.rtgs_book.specs.declared.order.Order.{Order}
 use Rattle.rtgs_book.specs.declared.order_state.OrderState.{OrderState}
 use Rattle.rtgs_book.specs.declared.order_state.OrderState.TheVariants.{Queued, Settled, Withdrawn, Rejected}
+use Rattle.rtgs_book.specs.declared.standing.Standing.TheVariants as standing
+use Rattle.rtgs_book.specs.Standings.{word_of}
 use Rattle.rtgs_statements.specs.declared.kind.Kind.{Kind}
 use Rattle.rtgs_statements.specs.declared.kind.Kind.TheVariants.{Posting as OfPosting, Sent, Queued as OfQueued, Withdrawn as OfWithdrawn, Rejected as OfRejected, Received}
 use Rattle.rtgs_statements.specs.declared.row.Row.{Row}
@@ -14,9 +16,9 @@ use Rattle.rtgs_statements.specs.Columns.{left_in, right_in, zeros_in}
 abbrev pub kind_text : Kind → List ℕ
 kind_text OfPosting = codes "posting"
 kind_text Sent = codes "sent"
-kind_text OfQueued = codes "queued"
-kind_text OfWithdrawn = codes "withdrawn"
-kind_text OfRejected = codes "rejected"
+kind_text OfQueued = word_of standing.Queued
+kind_text OfWithdrawn = word_of standing.Withdrawn
+kind_text OfRejected = word_of standing.Rejected
 kind_text Received = codes "received"
 
 -- how its sender is told of an order

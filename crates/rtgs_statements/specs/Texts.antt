@@ -1,19 +1,18 @@
 -- The lines of a statement and of a report, and their texts.
-use Rattle.std.specs.Prelude.{ℕ, Bool, true, false, List, [], ◌∷◌, ◌++◌, map, filter, length, decimal, codes}
+use Rattle.std.specs.Prelude.{ℕ, List, [], ◌∷◌, ◌++◌, map, filter, length, decimal, codes}
 use Rattle.rtgs_money.specs.Date.{date_text}
 use Rattle.rtgs_money.specs.Units.{units_text}
 use Rattle.rtgs_book.specs.declared.book.Book.{Book}
 use Rattle.rtgs_book.specs.declared.posting.Posting.{Posting}
 use Rattle.rtgs_book.specs.declared.order.Order.{Order}
 use Rattle.rtgs_book.specs.declared.mark.Mark.{Mark}
-use Rattle.rtgs_book.specs.declared.order_state.OrderState.{OrderState}
-use Rattle.rtgs_book.specs.declared.order_state.OrderState.TheVariants.{Queued as IsQueued, Settled as IsSettled, Withdrawn as IsWithdrawn, Rejected as IsRejected}
 use Rattle.rtgs_book.specs.IntSum.{int_sum_by}
 use Rattle.rtgs_book.specs.Lookup.{accounts}
+use Rattle.rtgs_book.specs.Standings.{stands, word_of}
 use Rattle.rtgs_statements.specs.declared.line.Line.{Line}
 use Rattle.rtgs_statements.specs.declared.line.Line.TheVariants.{StatementOf, Record, Sum, ReportOf, Account, Orders, Marks}
-use Rattle.rtgs_statements.specs.declared.standing.Standing.{Standing}
-use Rattle.rtgs_statements.specs.declared.standing.Standing.TheVariants.{Settled, Queued, Withdrawn, Rejected}
+use Rattle.rtgs_book.specs.declared.standing.Standing.{Standing}
+use Rattle.rtgs_book.specs.declared.standing.Standing.TheVariants.{Settled, Queued, Withdrawn, Rejected}
 use Rattle.rtgs_statements.specs.declared.sums.Sums.{Sums}
 use Rattle.rtgs_statements.specs.declared.total.Total.{Total}
 use Rattle.rtgs_statements.specs.declared.total.Total.TheVariants.{Posted, Sent, Received, Net}
@@ -27,12 +26,6 @@ total_text Posted = codes "sum-posted"
 total_text Sent = codes "sum-sent"
 total_text Received = codes "sum-recv"
 total_text Net = codes "net"
-
-abbrev pub standing_text : Standing → List ℕ
-standing_text Settled = codes "settled"
-standing_text Queued = codes "queued"
-standing_text Withdrawn = codes "withdrawn"
-standing_text Rejected = codes "rejected"
 
 -- a label and a sum
 unfoldable pub sum_columns : List ℕ → List ℕ → List ℕ
@@ -56,7 +49,7 @@ line_text (Record row) = row_text row
 line_text (Sum total cents) = sum_columns (total_text total) (units_text cents)
 line_text (ReportOf date) = codes "report " ++ date_text date ++ 10 ∷ []
 line_text (Account code sums) = account_columns code (units_text sums.posted) (units_text sums.sent) (units_text sums.received)
-line_text (Orders standing count value) = value_columns (standing_text standing) count (units_text value)
+line_text (Orders standing count value) = value_columns (word_of standing) count (units_text value)
 line_text (Marks count) = count_columns (codes "marks") count
 
 -- the texts of the lines, one after another
@@ -82,13 +75,6 @@ statement_text code date postings orders = text_of (statement_lines code date po
 -- the statement of the participant with this code, for this date
 abbrev pub statement : Book → List ℕ → ℕ → List ℕ
 statement book code date = statement_text code date (postings_of code date book.postings) (orders_of code date book.orders)
-
-abbrev pub stands : Standing → OrderState → Bool
-stands Settled (IsSettled mark) = true
-stands Queued IsQueued = true
-stands Withdrawn IsWithdrawn = true
-stands Rejected IsRejected = true
-stands standing state = false
 
 -- the orders that stand so
 abbrev pub standing_orders : Standing → List Order → List Order

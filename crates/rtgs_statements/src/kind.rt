@@ -3,7 +3,7 @@ ghost use Rattle.std.specs.Prelude.{◌≡◌};
 ghost use Rattle.std.specs.Str.{IsAscii};
 ghost use Rattle.rtgs_statements.specs.Lines.{kind_of_sent, kind_text};
 
-use rtgs_book::OrderState;
+use rtgs_book::{OrderState, Standing};
 
 /// What a row of a statement tells of: a posting, an order that the participant sent, by where it stands, or one that it
 /// received.
@@ -38,9 +38,9 @@ impl Kind {
         match self {
             Kind::Posting => "posting",
             Kind::Sent => "sent",
-            Kind::Queued => "queued",
-            Kind::Withdrawn => "withdrawn",
-            Kind::Rejected => "rejected",
+            Kind::Queued => Standing::Queued.word(),
+            Kind::Withdrawn => Standing::Withdrawn.word(),
+            Kind::Rejected => Standing::Rejected.word(),
             Kind::Received => "received",
         }
     }

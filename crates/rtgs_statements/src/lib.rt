@@ -10,7 +10,6 @@ mod party;
 mod report;
 mod row;
 mod sending;
-mod standing;
 mod statement;
 mod sums;
 mod total;

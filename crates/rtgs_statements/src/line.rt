@@ -5,9 +5,9 @@ ghost use Rattle.rtgs_money.specs.Units.{units_text};
 ghost use Rattle.rtgs_statements.specs.Texts.{line_text, sum_columns, count_columns, value_columns, account_columns};
 
 use crate::row::Row;
-use crate::standing::Standing;
 use crate::sums::Sums;
 use crate::total::Total;
+use rtgs_book::Standing;
 use rtgs_money::{BusinessDate, Code, Units};
 use std::alloc::{AllocError, Global};
 use std::fmt::Write;
@@ -43,7 +43,7 @@ impl Line {
             Line::ReportOf(date) => format!(in alloc; "report {date}\n"),
             Line::Account(code, sums) => account_text(alloc, &code, sums),
             Line::Orders(standing, count, value) => {
-                value_columns(alloc, standing.text(), count, value.text().as_str())
+                value_columns(alloc, standing.word(), count, value.text().as_str())
             }
             Line::Marks(count) => count_columns(alloc, "marks", count),
         }

@@ -13,7 +13,7 @@ use Rattle.rtgs_book.specs.Balance.{balance}
 use Rattle.rtgs_book.specs.declared.Participant.{Participant}
 use Rattle.rtgs_rows.specs.Content.{Holding, Content, Rests}
 use Rattle.rtgs_rows.specs.Fitting.{FitsParticipant}
-use Rattle.rtgs_tables.specs.declared.account.Account.{Account}
+use Rattle.rtgs_book.specs.declared.account.Account.{Account}
 use Rattle.rtgs_rows.specs.Keeping.{IsBookOf}
 use Rattle.rtgs_rows.proofs.Ordered.{keys_of}
 use Rattle.rtgs_rows.proofs.Unique.{by_code, rising}

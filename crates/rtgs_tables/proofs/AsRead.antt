@@ -1,11 +1,11 @@
 -- Rows as they are read: a number below zero is read as 0.
-use Rattle.std.proofs.Common.{◌≡◌, ℕ, zero, suc, ◌<◌, ℤ, pos, negsuc, Bool, true, false, List, [], ◌∷◌, map, length, IsPermutation, Option, Some, None, refl, sym, subst, ap, ap₂, ◌∙◌, arith}
+use Rattle.std.proofs.Common.{◌≡◌, ℕ, suc, ◌<◌, ℤ, pos, negsuc, Bool, List, [], ◌∷◌, map, length, IsPermutation, Option, Some, None, refl, sym, subst, ap, ap₂, ◌∙◌, arith}
 use Rattle.std.specs.List.{AllByRecursion}
 use Rattle.std.proofs.lemmas.List.Sorted.{IsPermutation-sym}
 use Rattle.sqlite.specs.Order.{Row}
 use Rattle.sqlite.specs.declared.types.Value.{Value}
 use Rattle.sqlite.specs.declared.types.Value.TheVariants.{Null, Int, Real, Text, Blob}
-use Rattle.sqlite_keyed.proofs.ListLemmas.{map-map, map_same, all_map, all_unmap}
+use Rattle.sqlite_keyed.proofs.ListLemmas.{map-map, map_same, all_unmap}
 use Rattle.sqlite_trees.proofs.ListLemmas.{all-permutation}
 use Rattle.rtgs_book.specs.declared.Posting.{Posting}
 use Rattle.rtgs_book.specs.declared.Order.{Order}

@@ -22,7 +22,7 @@ use Rattle.rtgs_book.specs.declared.Rule.{Rule}
 use Rattle.rtgs_book.specs.declared.Rule.TheVariants.{OrderNumbers, PostingNumbers, MarkNumbers, ParticipantCodes, Keys, OrderReferences, PostingReferences, Parties, Marks, Queues, Dates, Floors, Total, StoredBalances}
 use Rattle.rtgs_book.specs.Judgement.{Keeps}
 use Rattle.rtgs_book.specs.Soundness.{IsSound}
-use Rattle.rtgs_tables.specs.declared.account.Account.{Account}
+use Rattle.rtgs_book.specs.declared.account.Account.{Account}
 use Rattle.rtgs_tables.specs.Accounts.{AreBalances, AreReadOf, AreFormed, is_stored, ExplainsRead, ExplainsTrees}
 use Rattle.sqlite.specs.Tree.{Trees}
 

@@ -22,10 +22,6 @@ pub mod Decoding
 pub mod Accounts
 pub mod Blank
 pub mod Judging
-pub mod CodeOrder
-pub mod OrderNumbers
-pub mod Credits
-pub mod Making
 pub mod RowColumns
 pub mod AboveZero
 pub mod AsRead

@@ -1,45 +1,23 @@
 -- The book of a new desk.
-use Rattle.std.proofs.Common.{◌≡◌, inl, inr, [], Bool, true, false, refl, sym, ap, ◌∙◌, arith}
-use Rattle.std.proofs.lemmas.Int.{ints}
+use Rattle.std.proofs.Common.{◌≡◌, inl, inr, [], refl, sym, ap, ◌∙◌}
 use Rattle.std.proofs.lemmas.List.Sorted.{IsPermutation-refl}
-use Rattle.std.specs.List.{IsDistinct}
-use Rattle.std.specs.List.Sorted.{IsStrictlySortedBy}
 use Rattle.sqlite_trees.specs.declared.store.Store.{Ghosts}
 use Rattle.sqlite.specs.Effect.{Database}
 use Rattle.sqlite.specs.Tree.{Trees}
 use Rattle.sqlite.specs.Held.{Held, state}
 use Rattle.sqlite.specs.State.{State, Opens, IsLive, HasCleanDisk, Survives, IsUnchanged}
 use Rattle.rtgs_book.specs.declared.Book.{Book}
-use Rattle.rtgs_book.specs.Lookup.{accounts}
-use Rattle.rtgs_book.specs.Balance.{total}
 use Rattle.rtgs_book.specs.Soundness.{IsSound}
 use Rattle.rtgs_rows.specs.Content.{HasNoTables, Holds, Rests}
 use Rattle.rtgs_rows.specs.Keeping.{IsBookOf, HoldsBook, MayLeave}
 use Rattle.rtgs_rows.specs.Tables.{no_schema}
 use Rattle.rtgs_rows.proofs.Blank.{one_schema, no_book}
 use Rattle.rtgs_rows.proofs.Unique.{once}
-use Rattle.rtgs_tables.specs.Building.{IsBlank, IsNoneOrNew, first_content, new_book}
+use Rattle.rtgs_book.specs.Books.{new_book}
+use Rattle.rtgs_tables.specs.Building.{IsBlank, IsNoneOrNew, first_content}
 
-pub sound : IsSound new_book
-unfolding accounts total IsDistinct IsStrictlySortedBy
-sound = record {
-  orders_numbered = (refl, omega arith);
-  postings_numbered = (refl, omega arith);
-  marks_numbered = (refl, omega arith);
-  codes_rise = (tt, omega arith);
-  keys_distinct = tt;
-  order_references = tt;
-  posting_references = tt;
-  parties = (tt, tt);
-  marks = (tt, tt);
-  queues = record { closed = λ _. refl; short = tt; of_the_day = tt };
-  dates = record { dated = λ e. absurd (let clash : ◌≡◌ {A = Bool} true false = e in cc); weekday = λ e. absurd (let clash : ◌≡◌ {A = Bool} false true = e in cc); order_weekdays = tt; mark_weekdays = tt; orders = tt; marks = tt; postings = tt };
-  floors = tt;
-  total_fits = omega (arith, ints);
-}
-
-is_new : IsBookOf new_book first_content
-is_new = record {
+is_new : IsSound new_book → IsBookOf new_book first_content
+is_new sound = record {
   records = record { day = refl; participants = IsPermutation-refl []; postings = refl; orders = refl; marks = refl };
   balances = tt;
   ids = tt;
@@ -47,8 +25,8 @@ is_new = record {
   fits = record { participants = tt; postings = tt; orders = tt; marks = tt; day = tt };
 }
 
-pub holds_new : {S : Type 0} (g : Ghosts S) (h : Held S) → Rests first_content (state g h) → HoldsBook g h new_book
-holds_new g h rests = (first_content, rests, is_new)
+pub holds_new : {S : Type 0} (g : Ghosts S) (h : Held S) → IsSound new_book → Rests first_content (state g h) → HoldsBook g h new_book
+holds_new g h sound rests = (first_content, rests, is_new sound)
 
 -- a stop leaves what it could leave before, which is no tables, or those of the new book
 pub leaves_new : {S : Type 0} (g : Ghosts S) (old new : Held S) → Survives (state g old) (state g new) (λ trees. IsBlank (state g old) → Holds first_content trees) → HasCleanDisk (state g new) → IsBlank (state g old)
@@ -56,10 +34,10 @@ pub leaves_new : {S : Type 0} (g : Ghosts S) (old new : Held S) → Survives (st
 leaves_new g old new s clean blank none trees left = elim (s.crash clean trees left) [ inl was ↦ inl (none trees was) | inr made ↦ inr (made blank) ]
 
 -- and so the new book, if any
-pub only_new : {S : Type 0} (g : Ghosts S) (h : Held S) → ((trees : Trees) → (state g h).may_leave trees → IsNoneOrNew trees) → (other : Book) → MayLeave g h other → other ≡ new_book
-only_new g h all other left = elim (all left.0 left.1) [
+pub only_new : {S : Type 0} (g : Ghosts S) (h : Held S) → IsSound new_book → ((trees : Trees) → (state g h).may_leave trees → IsNoneOrNew trees) → (other : Book) → MayLeave g h other → other ≡ new_book
+only_new g h sound all other left = elim (all left.0 left.1) [
   | inl none ↦ absurd (no_book left.0 left.2.0 none left.2.1)
-  | inr made ↦ once new_book other first_content left.2.0 is_new left.2.2 (sym made.rows ∙ left.2.1.rows)
+  | inr made ↦ once new_book other first_content left.2.0 (is_new sound) left.2.2 (sym made.rows ∙ left.2.1.rows)
 ]
 
 pub still_blank : (old new : State) → IsBlank old → IsUnchanged old new → IsBlank new

@@ -22,7 +22,7 @@ use Rattle.rtgs_book.specs.declared.Mark.{Mark}
 use Rattle.rtgs_rows.specs.Rows.{shown_day, shown_account, shown_posting, shown_order, shown_mark}
 use Rattle.rtgs_rows.specs.Fitting.{FitsDate, FitsParticipant, FitsPosting, FitsOrder, FitsMark, Fits}
 use Rattle.rtgs_rows.specs.Querying.{picked, IsDeskFile, AreWhole, ShowsBook, shown_entry, ShowsDesk, ShowsParticipants}
-use Rattle.rtgs_tables.specs.declared.account.Account.{Account}
+use Rattle.rtgs_book.specs.declared.account.Account.{Account}
 use Rattle.rtgs_tables.specs.Accounts.{AreBalances, entry_of, AreTold, AreReadOf}
 use Rattle.rtgs_tables.specs.Numbers.{counted_of_posting, counted_of_order, counted_of_mark, IsNumberedPosting, IsNumberedOrder, IsNumberedMark, IsNumberedBook}
 use Rattle.rtgs_tables.proofs.AsRead.{told_plainly, posting_own, order_own, mark_own}

@@ -22,7 +22,7 @@ use Rattle.rtgs_rows.specs.Fitting.{Fits, FitsDate, FitsParticipant, FitsPosting
 use Rattle.rtgs_rows.specs.Rows.{shown_day, shown_account, shown_posting, shown_order, shown_mark}
 use Rattle.rtgs_rows.specs.Querying.{picked, ShowsDesk, ShowsParticipants}
 use Rattle.rtgs_tables.specs.Numbers.{as_read, counted_of_posting, counted_of_order, counted_of_mark, IsFormed}
-use Rattle.rtgs_tables.specs.declared.account.Account.{Account}
+use Rattle.rtgs_book.specs.declared.account.Account.{Account}
 
 abbrev pub account_of : Book → Participant → Account
 account_of book p = record { participant = p; balance = balance book p.code }

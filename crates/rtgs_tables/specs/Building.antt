@@ -15,7 +15,6 @@ use Rattle.sqlite.specs.Given.{IsPlain}
 use Rattle.sqlite.proofs.Callers.{command_of, statement_of}
 use Rattle.rtgs_rows.specs.Tables.{no_schema}
 use Rattle.rtgs_rows.specs.Content.{Content, HasNoTables, Holds}
-use Rattle.rtgs_book.specs.declared.Book.{Book}
 use Rattle.rtgs_book.specs.declared.Phase.TheVariants.{Closed}
 
 -- inside a transaction, with these tables, all of them empty
@@ -48,7 +47,3 @@ first_content = record { day = record { date = None; phase = Closed }; holdings 
 -- no tables at all, or those of a new desk
 abbrev pub IsNoneOrNew : Trees → Type 0
 IsNoneOrNew trees = HasNoTables trees ⊎ Holds first_content trees
-
--- the book of a new desk
-abbrev pub new_book : Book
-new_book = record { participants = []; postings = []; orders = []; marks = []; day = record { date = None; phase = Closed } }

@@ -2,5 +2,4 @@ pub mod Stops
 pub mod Faults
 pub mod Building
 pub mod Accounts
-pub mod Memory
 pub mod Numbers

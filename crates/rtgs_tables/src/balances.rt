@@ -2,11 +2,10 @@
 ghost use Rattle.std.specs.Prelude.{◌≡◌, ◌↔◌, map, IfOk, IsTrue};
 ghost use Rattle.std.specs.List.{list_all};
 ghost use Rattle.rtgs_book.specs.Soundness.{IsSound};
-ghost use Rattle.rtgs_tables.specs.declared.account.Account.{Account as AccountSpec};
+ghost use Rattle.rtgs_book.specs.declared.account.Account.{Account as AccountSpec};
 ghost use Rattle.rtgs_tables.specs.Accounts.{AreBalances, is_stored as is_stored_in};
 
-use crate::account::Account;
-use rtgs_book::Book;
+use rtgs_book::{Account, Book};
 use rtgs_money::Code;
 use std::alloc::AllocError;
 use std::collections::BTreeMap;

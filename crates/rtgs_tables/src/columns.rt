@@ -8,6 +8,10 @@ ghost use Rattle.rtgs_rows.specs.Rows.{phase_number, state_number, mark_value as
 
 use rtgs_book::{OrderState, Phase};
 use rtgs_money::{Amount, BusinessDate, Cents, Credit, PostingAmount, Text};
+use rtgs_rows::numbers::{
+    PHASE_CLOSED, PHASE_CUT_OFF, PHASE_OPEN, STATE_QUEUED, STATE_REJECTED, STATE_SETTLED,
+    STATE_WITHDRAWN,
+};
 use sqlite::types::ValueRef;
 use sqlite::{Error, ErrorCode};
 
@@ -55,26 +59,26 @@ pub(crate) fn mark_value(state: OrderState) -> ValueRef<'static>
     }
 }
 
-/// 0 queued, 1 settled, 2 withdrawn, 3 rejected.
+/// The number of the state.
 pub(crate) fn state_value(state: OrderState) -> ValueRef<'static>
     ensures { owned result ≡ Int (pos (state_number state)) }
 {
     number_value(match state {
-        OrderState::Queued => 0,
-        OrderState::Settled(_) => 1,
-        OrderState::Withdrawn => 2,
-        OrderState::Rejected => 3,
+        OrderState::Queued => STATE_QUEUED,
+        OrderState::Settled(_) => STATE_SETTLED,
+        OrderState::Withdrawn => STATE_WITHDRAWN,
+        OrderState::Rejected => STATE_REJECTED,
     })
 }
 
-/// 0 closed, 1 open, 2 cut off.
+/// The number of the phase.
 pub(crate) fn phase_value(phase: Phase) -> ValueRef<'static>
     ensures { owned result ≡ Int (pos (phase_number phase)) }
 {
     number_value(match phase {
-        Phase::Closed => 0,
-        Phase::Open => 1,
-        Phase::CutOff => 2,
+        Phase::Closed => PHASE_CLOSED,
+        Phase::Open => PHASE_OPEN,
+        Phase::CutOff => PHASE_CUT_OFF,
     })
 }
 

@@ -2,7 +2,7 @@
 ghost use Rattle.std.specs.Prelude.{◌≡◌, ◌≢◌, false, map, List, Err, IfOk, IfErr, OnOk};
 ghost use Rattle.rtgs_book.specs.declared.Book.{Book};
 ghost use Rattle.rtgs_book.specs.declared.Rule.{Rule};
-ghost use Rattle.rtgs_tables.specs.declared.account.Account.{Account as AccountSpec};
+ghost use Rattle.rtgs_book.specs.declared.account.Account.{Account as AccountSpec};
 ghost use Rattle.rtgs_tables.specs.Accounts.{HasRecords, AreBalances, AreReadOf, AreFormed, ExplainsRead, ExplainsTrees};
 ghost use Rattle.rtgs_tables.specs.Building.{IsBlank};
 ghost use Rattle.rtgs_book.specs.Soundness.{IsSound};
@@ -13,10 +13,9 @@ ghost use Rattle.sqlite.specs.State.{HasCleanDisk, Survives};
 ghost use Rattle.sqlite.specs.Held.{state};
 ghost use Rattle.sqlite.specs.Tree.{Trees};
 
-use crate::account::Account;
 use crate::balances::balances_agree;
 use crate::reading::{read_accounts, read_day, read_marks, read_orders, read_postings};
-use rtgs_book::{Book, Fault, Participant, Rows, Rule};
+use rtgs_book::{Account, Book, Fault, Participant, Rows, Rule};
 use rtgs_rows::laws::shown_records_are_held;
 use sqlite::{Alter, Connection};
 use std::alloc::{AllocError, Global};

@@ -8,13 +8,16 @@ ghost use Rattle.rtgs_rows.specs.Rows.{phase_number, state_number, mark_value, s
 ghost use Rattle.rtgs_rows.specs.Fitting.{FitsDate, FitsParticipant, FitsPosting, FitsOrder, FitsMark};
 ghost use Rattle.rtgs_tables.specs.Numbers.{at_least_zero, counted_of_posting, counted_of_order, counted_of_mark};
 
-use crate::account::Account;
 use crate::fields::{
     blob, cents, code, date, date_or_null, int, is_null, name, number, reference, unsigned, width,
 };
 use crate::table_row::TableRow;
-use rtgs_book::{Day, Mark, Order, OrderState, Participant, Phase, Posting};
+use rtgs_book::{Account, Day, Mark, Order, OrderState, Participant, Phase, Posting};
 use rtgs_money::{Amount, Credit, KeyDigest, PostingAmount};
+use rtgs_rows::numbers::{
+    PHASE_CLOSED, PHASE_CUT_OFF, PHASE_OPEN, STATE_QUEUED, STATE_REJECTED, STATE_SETTLED,
+    STATE_WITHDRAWN,
+};
 use sqlite::Row;
 
 /// The number of the row of the table `desk`.
@@ -37,7 +40,7 @@ impl TableRow for Day {
         }
         Some(Day {
             date: date_or_null(row, 2)?,
-            phase: phase_of(int(row, 3)?)?,
+            phase: phase_of(unsigned(row, 3)?)?,
         })
     }
 }
@@ -122,15 +125,15 @@ impl TableRow for Mark {
     }
 }
 
-/// 0 closed, 1 open, 2 cut off.
-fn phase_of(number: i64) -> Option<Phase>
-    ensures found { (phase : PhaseSpec) → number ≡ pos (phase_number phase) → result ≡ Some phase }
-    ensures is { IfSome result (λ it. number ≡ pos (phase_number it)) }
+/// The phase with this number.
+fn phase_of(number: u64) -> Option<Phase>
+    ensures found { (phase : PhaseSpec) → number ≡ phase_number phase → result ≡ Some phase }
+    ensures is { IfSome result (λ it. number ≡ phase_number it) }
 {
     match number {
-        0 => Some(Phase::Closed),
-        1 => Some(Phase::Open),
-        2 => Some(Phase::CutOff),
+        PHASE_CLOSED => Some(Phase::Closed),
+        PHASE_OPEN => Some(Phase::Open),
+        PHASE_CUT_OFF => Some(Phase::CutOff),
         _ => None,
     }
 }
@@ -142,11 +145,11 @@ fn state(row: &Row, at: usize, mark_at: usize) -> Option<OrderState>
     ensures is { IfSome result (λ it. (column row.now at ≡ Int (pos (state_number it))) × (at_least_zero (column row.now mark_at) ≡ mark_value it)) }
 {
     let has_mark = !is_null(row, mark_at);
-    match (int(row, at)?, has_mark) {
-        (0, false) => Some(OrderState::Queued),
-        (1, true) => Some(OrderState::Settled(number(row, mark_at)?)),
-        (2, false) => Some(OrderState::Withdrawn),
-        (3, false) => Some(OrderState::Rejected),
+    match (unsigned(row, at)?, has_mark) {
+        (STATE_QUEUED, false) => Some(OrderState::Queued),
+        (STATE_SETTLED, true) => Some(OrderState::Settled(number(row, mark_at)?)),
+        (STATE_WITHDRAWN, false) => Some(OrderState::Withdrawn),
+        (STATE_REJECTED, false) => Some(OrderState::Rejected),
         _ => None,
     }
 }

@@ -2,7 +2,8 @@
 ghost use Rattle.std.specs.Prelude.{◌≡◌, ◌≢◌, false, IfOk, IfErr};
 ghost use Rattle.rtgs_book.specs.declared.Book.{Book};
 ghost use Rattle.rtgs_rows.specs.Keeping.{IsBookOf, HoldsBook, MayLeave};
-ghost use Rattle.rtgs_tables.specs.Building.{IsBlank, IsNoneOrNew, new_book};
+ghost use Rattle.rtgs_book.specs.Books.{new_book};
+ghost use Rattle.rtgs_tables.specs.Building.{IsBlank, IsNoneOrNew};
 ghost use Rattle.sqlite.specs.State.{HasCleanDisk, IsLive, IsUnchanged, Opens, Survives};
 ghost use Rattle.sqlite.specs.Held.{state};
 ghost use Rattle.sqlite.specs.Tree.{Trees};
@@ -11,11 +12,12 @@ ghost use Rattle.rtgs_tables.specs.Stops.{IsBefore};
 
 use crate::create::create_tables;
 use crate::forms::rows_fit;
-use crate::keeper::{Keeper, StoreFault};
 use crate::loading::load_book;
 use crate::reading::is_alive;
 use crate::staging::{Stopped, write};
+use rtgs_book::laws::new_book_is_sound;
 use rtgs_book::{Book, Change, Fault};
+use rtgs_keeper::{CommitFault, Keeper};
 use sqlite::{Alter, Connection, Error, ErrorCode};
 use std::alloc::Global;
 
@@ -31,19 +33,20 @@ pub struct SqlKeeper<S: Alter + Drop> {
 impl<S: Alter + Drop> SqlKeeper<S> {
     /// Makes the tables of a new book in an empty database, in one transaction. On a fault the connection comes back, and a stop
     /// leaves no tables or those of the new book.
-    pub fn create(conn: Connection<S>) -> Result<SqlKeeper<S>, (StoreFault, Connection<S>)>
+    pub fn create(conn: Connection<S>) -> Result<SqlKeeper<S>, (CommitFault, Connection<S>)>
         requires { conn.in_transaction ≡ false }
         ensures made { IfOk result (λ k. HasCleanDisk (state S.Store k.conn) → IsBlank (state S.Store conn) → HoldsBook S.Store k.conn new_book) }
         ensures stops { IfOk result (λ k. HasCleanDisk (state S.Store k.conn) → IsBlank (state S.Store conn) → (other : Book) → MayLeave S.Store k.conn other → other ≡ new_book) }
         ensures left { IfErr result (λ e. HasCleanDisk (state S.Store e.1) → IsBlank (state S.Store conn) → (other : Book) → MayLeave S.Store e.1 other → other ≡ new_book) }
-        ensures memory { IfErr result (λ e. e.0 ≡ StoreFault.OutOfMemory → HasCleanDisk (state S.Store e.1) → IsBlank (state S.Store conn) → IsBlank (state S.Store e.1)) }
-        ensures memory_stops { IfErr result (λ e. e.0 ≡ StoreFault.OutOfMemory → HasCleanDisk (state S.Store e.1) → IsBlank (state S.Store conn) → (trees : Trees) → (state S.Store e.1).may_leave trees → HasNoTables trees) }
+        ensures memory { IfErr result (λ e. e.0 ≡ CommitFault.OutOfMemory → HasCleanDisk (state S.Store e.1) → IsBlank (state S.Store conn) → IsBlank (state S.Store e.1)) }
+        ensures memory_stops { IfErr result (λ e. e.0 ≡ CommitFault.OutOfMemory → HasCleanDisk (state S.Store e.1) → IsBlank (state S.Store conn) → (trees : Trees) → (state S.Store e.1).may_leave trees → HasNoTables trees) }
         ensures tables { IfErr result (λ e. HasCleanDisk (state S.Store e.1) → IsBlank (state S.Store conn) → (trees : Trees) → (state S.Store e.1).may_leave trees → IsNoneOrNew trees) }
         ensures fresh { IfOk result (λ k. k.failed ≡ false) }
-        ensures idle { IfErr result (λ e. (e.1.in_transaction ≡ false) × (e.0 ≢ StoreFault.Failed)) }
+        ensures idle { IfErr result (λ e. (e.1.in_transaction ≡ false) × (e.0 ≢ CommitFault.Failed)) }
     {
         let mut conn = conn;
         leaves_no_tables(&conn);
+        new_book_is_sound();
         match create_tables(&mut conn) {
             Ok(()) => Ok(SqlKeeper::open(conn)),
             Err(stopped) => {
@@ -82,7 +85,7 @@ impl<S: Alter + Drop> Keeper for SqlKeeper<S> {
     ghost use Rattle.rtgs_rows.specs.Querying.{HasTables, IsDeskFile};
     ghost use Rattle.sqlite.specs.Tree.{Trees};
     ghost use Rattle.rtgs_tables.specs.Building.{IsBlank};
-    ghost use Rattle.rtgs_tables.specs.declared.account.Account.{Account as AccountSpec};
+    ghost use Rattle.rtgs_book.specs.declared.account.Account.{Account as AccountSpec};
     ghost use Rattle.rtgs_tables.specs.Accounts.{HasRecords, ExplainsRead, ExplainsTrees};
     ghost use Rattle.std.specs.Prelude.{List};
 
@@ -123,9 +126,9 @@ impl<S: Alter + Drop> Keeper for SqlKeeper<S> {
         loaded
     }
 
-    fn commit(&mut self, change: &Change) -> Result<(), StoreFault> {
+    fn commit(&mut self, change: &Change) -> Result<(), CommitFault> {
         if self.failed {
-            return Err(StoreFault::Failed);
+            return Err(CommitFault::Failed);
         }
         let rows = change.as_slice();
         rows_fit(rows);
@@ -134,7 +137,7 @@ impl<S: Alter + Drop> Keeper for SqlKeeper<S> {
             Err(stopped) => stopped,
         };
         let fault = fault_of(&mut self.conn, &stopped);
-        if fault == StoreFault::StoreFault {
+        if fault == CommitFault::Store {
             self.failed = true;
         }
         Err(fault)
@@ -150,19 +153,19 @@ fn leaves_no_tables<S: Alter>(conn: &Connection<S>)
 
 /// What a stopped transaction comes to: want of memory before the call that commits, where the connection is seen to
 /// be open still, and else a fault of the store.
-fn fault_of<S: Alter>(conn: &mut Connection<S>, stopped: &Stopped) -> StoreFault
+fn fault_of<S: Alter>(conn: &mut Connection<S>, stopped: &Stopped) -> CommitFault
     requires { conn.old.in_transaction ≡ false }
     ensures mode { conn.new.in_transaction ≡ false }
-    ensures kinds { result ≢ StoreFault.Failed }
-    ensures before { result ≡ StoreFault.OutOfMemory → IsBefore stopped.now }
-    ensures cause { result ≡ StoreFault.OutOfMemory → stopped.now ≡ Stopped.Before (Error.SqliteFailure ErrorCode.OutOfMemory) }
-    ensures same { result ≡ StoreFault.OutOfMemory → HasCleanDisk (state S.Store conn.new) → IsUnchanged (state S.Store conn.old) (state S.Store conn.new) }
+    ensures kinds { result ≢ CommitFault.Failed }
+    ensures before { result ≡ CommitFault.OutOfMemory → IsBefore stopped.now }
+    ensures cause { result ≡ CommitFault.OutOfMemory → stopped.now ≡ Stopped.Before (Error.SqliteFailure ErrorCode.OutOfMemory) }
+    ensures same { result ≡ CommitFault.OutOfMemory → HasCleanDisk (state S.Store conn.new) → IsUnchanged (state S.Store conn.old) (state S.Store conn.new) }
     ensures survives { Survives (state S.Store conn.old) (state S.Store conn.new) (λ _. ⊥) }
 {
     match stopped {
         Stopped::Before(Error::SqliteFailure(ErrorCode::OutOfMemory)) if is_alive(conn) => {
-            StoreFault::OutOfMemory
+            CommitFault::OutOfMemory
         }
-        _ => StoreFault::StoreFault,
+        _ => CommitFault::Store,
     }
 }

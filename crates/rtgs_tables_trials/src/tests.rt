@@ -1,7 +1,8 @@
 //! Tests over a store in memory.
 use rtgs_book::{Change, Fault, Participant, Posting, RowChange, Rows, Rule};
+use rtgs_keeper::{CommitFault, Keeper};
 use rtgs_money::{BusinessDate, Cents, Code, Credit, KeyDigest, Name, PostingAmount, Reference};
-use rtgs_tables::{Keeper, SqlKeeper, StoreFault};
+use rtgs_tables::SqlKeeper;
 use sqlite::{Connection, MemStore};
 use std::alloc::Global;
 use std::test::Fail;
@@ -113,11 +114,11 @@ fn a_repeated_key_fails_the_keeper(rt: HostRuntime) -> Result<(), Fail> {
     let mut keeper = two_banks(alloc)?;
     assert_eq!(rt;
         keeper.commit(&posts(alloc, 2, "P-1", 5, 1005)?),
-        Err(StoreFault::StoreFault)
+        Err(CommitFault::Store)
     );
     assert_eq!(rt;
         keeper.commit(&posts(alloc, 2, "P-2", 5, 1005)?),
-        Err(StoreFault::Failed)
+        Err(CommitFault::Failed)
     );
     assert_eq!(rt; keeper.load(alloc).err(), Some(Fault::StoreFault));
     let book = SqlKeeper::open(keeper.into_connection()).load(alloc)?;

@@ -3,8 +3,8 @@ use super::readings::{bank, order};
 use super::{alfa, posting};
 use rtgs_book::{Command, Mark, OrderState, Posting, Refusal};
 use rtgs_desk::Desk;
+use rtgs_keeper::MemoryKeeper;
 use rtgs_money::{Amount, BusinessDate, Cents, Code, PostingAmount, Reference};
-use rtgs_tables::MemoryKeeper;
 use std::alloc::Global;
 use std::test::Fail;
 

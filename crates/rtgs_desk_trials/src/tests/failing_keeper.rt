@@ -1,6 +1,6 @@
 //! A keeper in memory that fails when it is told to.
 use rtgs_book::{Book, Change, Day, Fault, Order, Participant, Phase, Posting, RowChange, Rows};
-use rtgs_tables::{Keeper, StoreFault};
+use rtgs_keeper::{CommitFault, Keeper};
 use std::alloc::{AllocError, Global};
 
 /// Keeps the rows of a book, and meets a fault of the store at a commit. It claims nothing of what it keeps.
@@ -93,13 +93,17 @@ impl Keeper for FailingKeeper {
 
     ghost is_empty = { λ _. ⊥ };
 
+    ghost is_whole = { λ _. ⊥ };
+
+    ghost explains = { λ _ _. Unit {0} };
+
     ghost settled = { λ _ _ _ never _. absurd never };
 
     ghost stays = { λ _ _ never. absurd never };
 
     ghost tabled = { λ _ _ _. tt };
 
-    ghost whole = { λ _ _ _. tt };
+    ghost whole = { λ _ _ never. absurd never };
 
     fn load(&mut self, alloc: Global) -> Result<Book, Fault> {
         if self.failed {
@@ -115,20 +119,20 @@ impl Keeper for FailingKeeper {
         }
     }
 
-    fn commit(&mut self, change: &Change) -> Result<(), StoreFault> {
+    fn commit(&mut self, change: &Change) -> Result<(), CommitFault> {
         if self.failed {
-            return Err(StoreFault::Failed);
+            return Err(CommitFault::Failed);
         }
         let fails = self.commits == 0;
         self.commits = self.commits.saturating_sub(1);
         if fails && !self.keeps {
             self.failed = true;
-            return Err(StoreFault::StoreFault);
+            return Err(CommitFault::Store);
         }
         let kept = self.keep(change);
         self.failed = fails || kept.is_err();
         if self.failed {
-            return Err(StoreFault::StoreFault);
+            return Err(CommitFault::Store);
         }
         Ok(())
     }

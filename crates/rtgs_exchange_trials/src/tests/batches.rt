@@ -3,7 +3,7 @@ use super::{failing_desk, open_desk, result_file, row, submitted, three_rows};
 use rtgs_book::{OrderState, Refusal};
 use rtgs_desk::Desk;
 use rtgs_exchange::RowReply;
-use rtgs_tables::MemoryKeeper;
+use rtgs_keeper::MemoryKeeper;
 use std::test::Fail;
 
 #[test]

@@ -1,6 +1,6 @@
 //! A keeper in memory that fails when it is told to.
 use rtgs_book::{Book, Change, Fault};
-use rtgs_tables::{Keeper, MemoryKeeper, StoreFault};
+use rtgs_keeper::{CommitFault, Keeper, MemoryKeeper};
 use std::alloc::Global;
 
 /// Keeps a book in memory, and meets a fault of the store at a commit, which is lost. It claims nothing of what it keeps.
@@ -43,13 +43,17 @@ impl Keeper for FailingKeeper {
 
     ghost is_empty = { λ _. ⊥ };
 
+    ghost is_whole = { λ _. ⊥ };
+
+    ghost explains = { λ _ _. Unit {0} };
+
     ghost settled = { λ _ _ _ never _. absurd never };
 
     ghost stays = { λ _ _ never. absurd never };
 
     ghost tabled = { λ _ _ _. tt };
 
-    ghost whole = { λ _ _ _. tt };
+    ghost whole = { λ _ _ never. absurd never };
 
     fn load(&mut self, alloc: Global) -> Result<Book, Fault> {
         if self.failed {
@@ -61,13 +65,13 @@ impl Keeper for FailingKeeper {
         }
     }
 
-    fn commit(&mut self, change: &Change) -> Result<(), StoreFault> {
+    fn commit(&mut self, change: &Change) -> Result<(), CommitFault> {
         if self.failed {
-            return Err(StoreFault::Failed);
+            return Err(CommitFault::Failed);
         }
         self.failed = self.commits == 0 || self.kept.commit(change).is_err();
         if self.failed {
-            return Err(StoreFault::StoreFault);
+            return Err(CommitFault::Store);
         }
         self.commits -= 1;
         Ok(())

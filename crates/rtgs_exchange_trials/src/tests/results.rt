@@ -3,7 +3,7 @@ use super::cut_writer::CutWriter;
 use super::{failing_desk, open_desk, result_file, submitted, three_rows};
 use rtgs_book::{OrderState, Refusal};
 use rtgs_exchange::{BatchResult, RowReply, write_results};
-use rtgs_tables::MemoryKeeper;
+use rtgs_keeper::MemoryKeeper;
 use std::test::Fail;
 
 #[test]

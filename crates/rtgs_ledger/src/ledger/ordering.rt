@@ -7,9 +7,9 @@ ghost use Rattle.rtgs_ledger.specs.Kept.{IsPrepared, IsRefused};
 ghost use Rattle.rtgs_ledger.specs.Ordering.{IsTaken};
 
 use super::Ledger;
-use crate::account::Account;
 use rtgs_book::{
-    Answer, Change, Command, Known, Mark, Order, OrderState, Refusal, RowChange, Rows, laws,
+    Account, Answer, Change, Command, Known, Mark, Order, OrderState, Refusal, RowChange, Rows,
+    laws,
 };
 use rtgs_money::{Amount, Cents, Code, Reference};
 use std::alloc::{AllocError, Global};

@@ -9,8 +9,7 @@ ghost use Rattle.rtgs_book.specs.Soundness.{IsSound};
 ghost use Rattle.rtgs_ledger.specs.Accounts.{participant_of};
 
 use super::Ledger;
-use crate::account::Account;
-use rtgs_book::{Day, Mark, Order, Posting};
+use rtgs_book::{Account, Day, Mark, Order, Posting};
 use rtgs_money::{Code, Reference};
 use std::alloc::AllocError;
 

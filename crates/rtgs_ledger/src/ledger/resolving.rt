@@ -5,9 +5,10 @@ ghost use Rattle.rtgs_ledger.specs.Kept.{IsPrepared, IsRefused};
 ghost use Rattle.rtgs_ledger.specs.Resolving.{AreGreatest, after_orders, moved_accounts, moved_rows};
 
 use super::Ledger;
-use crate::account::Account;
 use crate::accounts::Accounts;
-use rtgs_book::{Answer, Change, Command, Mark, Order, OrderState, Refusal, RowChange, Rows, laws};
+use rtgs_book::{
+    Account, Answer, Change, Command, Mark, Order, OrderState, Refusal, RowChange, Rows, laws,
+};
 use rtgs_choices::laws::{chosen_numbers, rows_settle, taken_are_chosen};
 use rtgs_money::BusinessDate;
 use std::alloc::{AllocError, Global};

@@ -2,10 +2,10 @@
 use rtgs_book::{
     Change, Day, Fault, Mark, Order, OrderState, Participant, Phase, Posting, RowChange, Rows, Rule,
 };
+use rtgs_keeper::{Keeper, MemoryKeeper};
 use rtgs_money::{
     Amount, BusinessDate, Cents, Code, Credit, KeyDigest, Name, PostingAmount, Reference,
 };
-use rtgs_tables::{Keeper, MemoryKeeper};
 use std::alloc::Global;
 use std::test::Fail;
 

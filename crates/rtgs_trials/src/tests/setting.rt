@@ -1,8 +1,8 @@
 //! Banks, a desk over memory, and the commands of short days.
 use rtgs_book::{Answer, Command, Refusal};
 use rtgs_desk::Desk;
+use rtgs_keeper::{Keeper, MemoryKeeper};
 use rtgs_money::{Amount, BusinessDate, Cents, Code, Credit, Key, Name, PostingAmount, Reference};
-use rtgs_tables::{Keeper, MemoryKeeper};
 use std::alloc::Global;
 use std::test::Fail;
 

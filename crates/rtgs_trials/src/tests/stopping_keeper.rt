@@ -1,6 +1,6 @@
 //! A keeper in memory whose store stops at its next commit.
 use rtgs_book::{Book, Change, Fault};
-use rtgs_tables::{Keeper, MemoryKeeper, StoreFault};
+use rtgs_keeper::{CommitFault, Keeper, MemoryKeeper};
 use std::alloc::Global;
 
 /// When the store stops.
@@ -51,13 +51,17 @@ impl Keeper for StoppingKeeper {
 
     ghost is_empty = { λ _. ⊥ };
 
+    ghost is_whole = { λ _. ⊥ };
+
+    ghost explains = { λ _ _. Unit {0} };
+
     ghost settled = { λ _ _ _ never _. absurd never };
 
     ghost stays = { λ _ _ never. absurd never };
 
     ghost tabled = { λ _ _ _. tt };
 
-    ghost whole = { λ _ _ _. tt };
+    ghost whole = { λ _ _ never. absurd never };
 
     fn load(&mut self, alloc: Global) -> Result<Book, Fault> {
         if self.failed {
@@ -69,9 +73,9 @@ impl Keeper for StoppingKeeper {
         }
     }
 
-    fn commit(&mut self, change: &Change) -> Result<(), StoreFault> {
+    fn commit(&mut self, change: &Change) -> Result<(), CommitFault> {
         if self.failed {
-            return Err(StoreFault::Failed);
+            return Err(CommitFault::Failed);
         }
         self.failed = match self.stop {
             Some(Stop::Before) => true,
@@ -79,7 +83,7 @@ impl Keeper for StoppingKeeper {
             None => self.kept.commit(change).is_err(),
         };
         if self.failed {
-            return Err(StoreFault::StoreFault);
+            return Err(CommitFault::Store);
         }
         Ok(())
     }

@@ -4,7 +4,7 @@ pub use super::stopping_keeper::Stop;
 use super::stopping_keeper::StoppingKeeper;
 use rtgs_book::{Command, Refusal};
 use rtgs_desk::Desk;
-use rtgs_tables::Keeper;
+use rtgs_keeper::Keeper;
 use std::test::Fail;
 
 /// What is found before a command, what it is answered, and what is left then.

@@ -5,7 +5,7 @@ use super::setting::desk_over;
 use rtgs_book::{Answer, Book, Fault, Refusal, Rows};
 use rtgs_book_file::{close, make, open};
 use rtgs_desk::Desk;
-use rtgs_tables::{Keeper, MemoryKeeper};
+use rtgs_keeper::{Keeper, MemoryKeeper};
 use std::test::Fail;
 
 const FILE: &str = "two_keepers";

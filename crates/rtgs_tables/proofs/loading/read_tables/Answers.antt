@@ -1,5 +1,5 @@
 use Rattle.std.proofs.Common.{arith, map, sym, ap, ◌∙◌}
-use Rattle.rtgs_tables.specs.declared.account.Account.{Account}
+use Rattle.rtgs_book.specs.declared.account.Account.{Account}
 use Rattle.sqlite.specs.State.{HasCleanDisk}
 use Rattle.sqlite.specs.Held.{state}
 use Rattle.rtgs_book.specs.declared.Fault.TheVariants.{NotADeskFile, StoreFault}

@@ -3,7 +3,7 @@ use Rattle.std.proofs.Common.{[], ◌∷◌, map, IsPermutation, refl, sym, subs
 use Rattle.rtgs_rows.specs.Fitting.{FitsParticipant}
 use Rattle.rtgs_rows.specs.Rows.{shown_account}
 use Rattle.rtgs_rows.specs.Querying.{picked}
-use Rattle.rtgs_tables.specs.declared.account.Account.{Account}
+use Rattle.rtgs_book.specs.declared.account.Account.{Account}
 use Rattle.rtgs_tables.proofs.Told.{read_plainly, misread}
 use Rattle.sqlite.specs.Order.{Row}
 use Rattle.rtgs_tables.proofs.AsRead.{rows_same, are_formed}

@@ -3,7 +3,7 @@ use Rattle.std.proofs.lemmas.Int.{ints}
 use Rattle.std.proofs.lemmas.List.{get_or_default}
 use Rattle.std.specs.Prelude.{FitsSigned}
 use Rattle.std.specs.Int.{w64}
-use Rattle.rtgs_ledger.specs.declared.account.Account.{Account}
+use Rattle.rtgs_book.specs.declared.account.Account.{Account}
 use Rattle.rtgs_ledger.specs.Accounts.{AreInCodeOrder, IsAt, with_move}
 use Rattle.rtgs_ledger.proofs.AccountLemmas.{altered_at, altered_in_gap, ordered_altered}
 use Rattle.rtgs_ledger.proofs.Lists.{all_at}

@@ -1,5 +1,5 @@
 use Rattle.std.proofs.Common.{ℤ, refl, sym, ap, set, ◌≡◌, ◌∙◌, subst}
-use Rattle.rtgs_ledger.specs.declared.account.Account.{Account}
+use Rattle.rtgs_book.specs.declared.account.Account.{Account}
 use Rattle.rtgs_ledger.specs.Accounts.{AreInCodeOrder, IsAt, with_balance}
 use Rattle.rtgs_ledger.proofs.AccountLemmas.{altered_at, altered_in_gap, ordered_altered}
 use Rattle.rtgs_ledger.proofs.accounts.Accounts.set_balance.Goals as goal

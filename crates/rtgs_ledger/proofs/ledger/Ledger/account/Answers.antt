@@ -2,7 +2,7 @@ use Rattle.std.proofs.Common.{◌≡◌, ◌∙◌, refl, sym, ap, Option, Some,
 use Rattle.std.specs.Option.{option_map}
 use Rattle.rtgs_book.specs.Balance.{balance}
 use Rattle.rtgs_book.specs.Lookup as lookup
-use Rattle.rtgs_ledger.specs.declared.account.Account.{Account}
+use Rattle.rtgs_book.specs.declared.account.Account.{Account}
 use Rattle.rtgs_ledger.specs.Accounts.{is_of, participant_of}
 use Rattle.rtgs_ledger.specs.Records.{book_of}
 use Rattle.rtgs_ledger.proofs.Kept.{find-participants, balance_at}

@@ -6,7 +6,7 @@ use Rattle.rtgs_book.specs.Lookup.{accounts}
 use Rattle.rtgs_book.specs.Queue.{queue}
 use Rattle.rtgs_choices.specs.ByIndex.{by_code, code_at}
 use Rattle.rtgs_choices.specs.Settling.{orders_taken}
-use Rattle.rtgs_ledger.specs.declared.account.Account.{Account}
+use Rattle.rtgs_book.specs.declared.account.Account.{Account}
 use Rattle.rtgs_ledger.specs.Accounts.{code_of}
 use Rattle.rtgs_ledger.specs.Held.{Held}
 use Rattle.rtgs_ledger.specs.Records.{book_of}

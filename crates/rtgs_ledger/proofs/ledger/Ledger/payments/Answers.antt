@@ -1,7 +1,7 @@
 use Rattle.std.proofs.Common.{◌∙◌, ap, sym, map}
 use Rattle.std.proofs.lemmas.List.{drop_all}
 use Rattle.rtgs_choices.specs.ByIndex.{payments_of, queues_of}
-use Rattle.rtgs_ledger.specs.declared.account.Account.{Account}
+use Rattle.rtgs_book.specs.declared.account.Account.{Account}
 use Rattle.rtgs_ledger.specs.Accounts.{code_of}
 use Rattle.rtgs_ledger.specs.Held.{Held}
 use Rattle.rtgs_ledger.proofs.Telling.{all_done, queues_are}

@@ -3,19 +3,20 @@ use Rattle.sqlite.specs.State.{HasCleanDisk}
 use Rattle.sqlite.specs.Held.{state}
 use Rattle.rtgs_book.specs.declared.Book.{Book}
 use Rattle.rtgs_rows.specs.Keeping.{HoldsBook, MayLeave}
-use Rattle.rtgs_tables.specs.Building.{IsBlank, new_book}
+use Rattle.rtgs_book.specs.Books.{new_book}
+use Rattle.rtgs_tables.specs.Building.{IsBlank}
 use Rattle.rtgs_tables.proofs.NewBook.{holds_new, leaves_new, only_new, still_blank}
 use Rattle.rtgs_tables.proofs.sql_keeper.SqlKeeper.create.Goals as goal
 
 pub returns-in-Ok-clause-made : goal.returns-in-Ok-clause-made
 returns-in-Ok-clause-made g c =
     subst (λ h. HasCleanDisk (state g.S.Store h) → IsBlank (state g.S.Store c.args.conn) → HoldsBook g.S.Store h new_book) (sym c.open.ensures.is.0)
-    (λ clean blank. holds_new g.S.Store c.create_tables.new.conn (c.in-Ok.ensures.done clean blank))
+    (λ clean blank. holds_new g.S.Store c.create_tables.new.conn c.new_book_is_sound.ensures (c.in-Ok.ensures.done clean blank))
 
 pub returns-in-Ok-clause-stops : goal.returns-in-Ok-clause-stops
 returns-in-Ok-clause-stops g c =
     subst (λ h. HasCleanDisk (state g.S.Store h) → IsBlank (state g.S.Store c.args.conn) → (other : Book) → MayLeave g.S.Store h other → other ≡ new_book) (sym c.open.ensures.is.0)
-    (λ clean blank. only_new g.S.Store c.create_tables.new.conn (leaves_new g.S.Store c.args.conn c.create_tables.new.conn c.create_tables.ensures.crash clean blank (c.leaves_no_tables.ensures blank)))
+    (λ clean blank. only_new g.S.Store c.create_tables.new.conn c.new_book_is_sound.ensures (leaves_new g.S.Store c.args.conn c.create_tables.new.conn c.create_tables.ensures.crash clean blank (c.leaves_no_tables.ensures blank)))
 
 pub returns-in-Err-clause-tables : goal.returns-in-Err-clause-tables
 returns-in-Err-clause-tables g c clean blank trees left = elim (c.fault_of-fault.ensures.survives.crash clean trees left) [
@@ -25,7 +26,7 @@ returns-in-Err-clause-tables g c clean blank trees left = elim (c.fault_of-fault
 
 pub returns-in-Err-clause-left : goal.returns-in-Err-clause-left
 returns-in-Err-clause-left g c clean blank other left =
-    only_new g.S.Store c.fault_of-fault.new.conn (λ trees at. returns-in-Err-clause-tables g c clean blank trees at) other left
+    only_new g.S.Store c.fault_of-fault.new.conn c.new_book_is_sound.ensures (λ trees at. returns-in-Err-clause-tables g c clean blank trees at) other left
 
 pub returns-in-Err-clause-memory : goal.returns-in-Err-clause-memory
 returns-in-Err-clause-memory g c want clean blank =

@@ -4,15 +4,17 @@ ghost use Rattle.std.specs.Vec.{vec_len, vec_capacity};
 ghost use Rattle.rtgs_book.specs.declared.Order.{Order as OrderSpec};
 ghost use Rattle.rtgs_book.specs.declared.Participant.{Participant as ParticipantSpec};
 ghost use Rattle.rtgs_book.specs.declared.RowChange.{RowChange as RowChangeSpec};
+ghost use Rattle.rtgs_book.specs.Books.{new_book};
 ghost use Rattle.rtgs_book.specs.Changes.{changed, with_row};
 ghost use Rattle.rtgs_book.specs.Commands.{has_number, is_before};
 ghost use Rattle.rtgs_book.specs.Lookup.{has_code};
 ghost use Rattle.rtgs_book.specs.Settle.{restated};
 ghost use Rattle.rtgs_book.specs.Soundness.{AreNumbered, OrdersAreNumbered, IsSound};
-ghost use Rattle.rtgs_tables.specs.Building.{new_book};
-ghost use Rattle.rtgs_tables.specs.Memory.{book_of, KeepsBook, AreInCodeOrder, HasRoom, adds_participant, adds_posting, adds_order, adds_mark};
+ghost use Rattle.rtgs_keeper.specs.Memory.{book_of, KeepsBook, AreInCodeOrder, HasRoom, adds_participant, adds_posting, adds_order, adds_mark};
 
-use crate::keeper::{Keeper, StoreFault};
+use crate::commit_fault::CommitFault;
+use crate::keeper::Keeper;
+use rtgs_book::laws::new_book_is_sound;
 use rtgs_book::{
     Book, Change, Day, Fault, Mark, Order, OrderState, Participant, Phase, Posting, RowChange, Rows,
 };
@@ -35,6 +37,7 @@ impl MemoryKeeper {
     pub fn new(alloc: Global) -> MemoryKeeper
         ensures { KeepsBook result new_book }
     {
+        new_book_is_sound();
         MemoryKeeper {
             participants: Vec::new(alloc),
             postings: Vec::new(alloc),
@@ -119,7 +122,7 @@ impl Keeper for MemoryKeeper {
     ghost use Rattle.std.proofs.Common.{sym, ◌∙◌};
     ghost use Rattle.rtgs_book.specs.Judgement.{Explains};
     ghost use Rattle.rtgs_book.specs.declared.Book.{Book};
-    ghost use Rattle.rtgs_tables.specs.Memory.{book_of};
+    ghost use Rattle.rtgs_keeper.specs.Memory.{book_of};
 
     ghost content = { KeepsBook };
 
@@ -151,10 +154,10 @@ impl Keeper for MemoryKeeper {
         Ok(book)
     }
 
-    fn commit(&mut self, change: &Change) -> Result<(), StoreFault> {
+    fn commit(&mut self, change: &Change) -> Result<(), CommitFault> {
         let rows = change.as_slice();
         if self.reserve(rows).is_err() {
-            return Err(StoreFault::OutOfMemory);
+            return Err(CommitFault::OutOfMemory);
         }
         self.apply_all(rows);
         Ok(())

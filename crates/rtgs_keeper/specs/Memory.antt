@@ -8,7 +8,7 @@ use Rattle.rtgs_book.specs.declared.RowChange.TheVariants.{AddParticipant, AddPo
 use Rattle.rtgs_book.specs.declared.Participant.{Participant}
 use Rattle.rtgs_book.specs.Commands.{is_before}
 use Rattle.rtgs_book.specs.Soundness.{IsSound}
-use Rattle.rtgs_tables.specs.declared.memory_keeper.MemoryKeeper.{MemoryKeeper}
+use Rattle.rtgs_keeper.specs.declared.memory_keeper.MemoryKeeper.{MemoryKeeper}
 
 -- the records that the keeper has
 abbrev pub book_of : MemoryKeeper → Book

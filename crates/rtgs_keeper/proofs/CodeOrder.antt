@@ -7,8 +7,8 @@ use Rattle.std.specs.Cmp.Lexicographic.{slice_cmp, nat_list_cmp_total}
 use Rattle.std.specs.FinMap.{nat_cmp-IsAntisymmetric, slice_cmp-IsAntisymmetric}
 use Rattle.rtgs_book.specs.declared.Participant.{Participant}
 use Rattle.rtgs_book.specs.Commands.{is_before}
-use Rattle.rtgs_book.proofs.Insertions.{put_in, all_put_in}
-use Rattle.rtgs_tables.specs.Memory.{AreInCodeOrder}
+use Rattle.rtgs_keeper.proofs.Insertions.{put_in, all_put_in}
+use Rattle.rtgs_keeper.specs.Memory.{AreInCodeOrder}
 
 is_less : (a b : List ℕ) → is_before a b ≡ true → slice_cmp nat_cmp a b ≡ Less
 is_less a b e = by (slice_cmp nat_cmp a b) e

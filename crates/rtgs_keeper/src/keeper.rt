@@ -1,24 +1,14 @@
 //! What keeps a book.
-ghost use Rattle.std.specs.Prelude.{◌≡◌, ◌≢◌, ◌⊎◌, Bool, true, false, ⊤, Err, IfOk, IfErr, OnOk};
+ghost use Rattle.std.specs.Prelude.{◌≡◌, ◌≢◌, ◌⊎◌, Bool, true, false, Err, IfOk, IfErr, OnOk};
 ghost use Rattle.rtgs_book.specs.Soundness.{IsSound};
 ghost use Rattle.rtgs_book.specs.declared.Book.{Book};
 ghost use Rattle.rtgs_book.specs.declared.Fault.{Fault};
 ghost use Rattle.rtgs_book.specs.declared.Rule.{Rule};
 ghost use Rattle.rtgs_book.specs.Changes.{IsChange};
 
+use crate::commit_fault::CommitFault;
 use rtgs_book::{Book, Change, Fault};
 use std::alloc::Global;
-
-/// Why a change was not kept.
-#[derive(Clone, Copy, Debug, PartialEq, Eq)]
-pub enum StoreFault {
-    /// A growth was refused; nothing has changed.
-    OutOfMemory,
-    /// The store answered a fault, and the keeper has failed: the change is kept whole or not at all.
-    StoreFault,
-    /// The keeper had failed before; nothing was done.
-    Failed,
-}
 
 /// A store of one book. Between calls nothing moves.
 pub trait Keeper {
@@ -34,28 +24,33 @@ pub trait Keeper {
     // The store returned what was written to it, and nobody else wrote.
     ghost is_honest: { Self → Type 0 };
 
-    // The tables are such as a keeper of this kind makes, whatever rows they have. Of these a load gives a book only where it is kept.
+    // The tables are such as a keeper of this kind makes, whatever rows they have. Of these a load gives a book only
+    // where it is kept.
     ghost has_tables: { Self → Type 0 };
 
     // Nothing was ever kept, no new book either.
     ghost is_empty: { Self → Type 0 };
 
     // Whatever a stop at this moment leaves is a book, kept whole.
-    ghost is_whole: { Self → Type 0 } = { λ _. ⊤ };
+    ghost is_whole: { Self → Type 0 };
 
     // What a load may answer in place of a book, whatever is kept.
-    ghost explains: { Self → Fault → Type 0 } = { λ _ _. ⊤ };
+    ghost explains: { Self → Fault → Type 0 };
 
     /// Gives the book that is kept. On a keeper that has failed it is `StoreFault`, and nothing is done.
     fn load(&mut self, alloc: Global) -> Result<Book, Fault>
         ensures honest { is_honest self.new → is_honest self.old }
-        ensures given { is_honest self.new → (book : Book) → content self.old book → IfOk result (λ loaded. loaded ≡ book) }
-        ensures accepted { is_honest self.new → (book : Book) → content self.old book → IfErr result (λ fault. (fault ≡ Fault.OutOfMemory) ⊎ (fault ≡ Fault.StoreFault)) }
+        ensures given { is_honest self.new → (book : Book) → content self.old book
+            → IfOk result (λ loaded. loaded ≡ book) }
+        ensures accepted { is_honest self.new → (book : Book) → content self.old book
+            → IfErr result (λ fault. (fault ≡ Fault.OutOfMemory) ⊎ (fault ≡ Fault.StoreFault)) }
         ensures explained { is_honest self.new → IfErr result (explains self.old) }
         ensures kept { is_honest self.new → has_tables self.old → IfOk result (content self.new) }
-        ensures empty { is_honest self.new → is_empty self.old → IfOk result (λ _. ⊥) × ((rule : Rule) → result ≢ Err (Fault.Inconsistent rule)) }
+        ensures empty { is_honest self.new → is_empty self.old
+            → IfOk result (λ _. ⊥) × ((rule : Rule) → result ≢ Err (Fault.Inconsistent rule)) }
         ensures sound { IfOk result IsSound }
-        ensures same { is_honest self.new → (book : Book) → content self.old book → result ≢ Err Fault.StoreFault → content self.new book }
+        ensures same { is_honest self.new → (book : Book) → content self.old book → result ≢ Err Fault.StoreFault
+            → content self.new book }
         ensures stops { is_honest self.new → (other : Book) → leaves self.new other → leaves self.old other }
         ensures whole { is_honest self.new → is_whole self.old → is_whole self.new }
         ensures fault { result ≡ Err Fault.StoreFault → has_failed self.new ≡ true }
@@ -63,17 +58,22 @@ pub trait Keeper {
         ensures failed { has_failed self.old ≡ true → (result ≡ Err Fault.StoreFault) × (self.new ≡ self.old) };
 
     /// Keeps the book after the change, whole or not at all.
-    fn commit(&mut self, change: &Change) -> Result<(), StoreFault>
+    fn commit(&mut self, change: &Change) -> Result<(), CommitFault>
         ensures honest { is_honest self.new → is_honest self.old }
-        ensures done { is_honest self.new → (old new : Book) → content self.old old → IsChange old change.now new → OnOk result (content self.new new) }
-        ensures stops { is_honest self.new → (old new other : Book) → content self.old old → IsChange old change.now new → leaves self.new other → leaves self.old other ⊎ (other ≡ new) }
-        ensures whole { is_honest self.new → (old new : Book) → content self.old old → IsChange old change.now new → is_whole self.new }
-        ensures memory { result ≡ Err StoreFault.OutOfMemory → is_honest self.new → (book : Book) → content self.old book → content self.new book }
-        ensures memory_stops { result ≡ Err StoreFault.OutOfMemory → is_honest self.new → (other : Book) → leaves self.new other → leaves self.old other }
-        ensures fault { result ≡ Err StoreFault.StoreFault → has_failed self.new ≡ true }
-        ensures only_fault { result ≢ Err StoreFault.StoreFault → has_failed self.new ≡ has_failed self.old }
-        ensures failed { has_failed self.old ≡ true → (result ≡ Err StoreFault.Failed) × (self.new ≡ self.old) }
-        ensures not_failed { result ≡ Err StoreFault.Failed → has_failed self.old ≡ true };
+        ensures done { is_honest self.new → (old new : Book) → content self.old old → IsChange old change.now new
+            → OnOk result (content self.new new) }
+        ensures stops { is_honest self.new → (old new other : Book) → content self.old old
+            → IsChange old change.now new → leaves self.new other → leaves self.old other ⊎ (other ≡ new) }
+        ensures whole { is_honest self.new → (old new : Book) → content self.old old → IsChange old change.now new
+            → is_whole self.new }
+        ensures memory { result ≡ Err CommitFault.OutOfMemory → is_honest self.new → (book : Book)
+            → content self.old book → content self.new book }
+        ensures memory_stops { result ≡ Err CommitFault.OutOfMemory → is_honest self.new → (other : Book)
+            → leaves self.new other → leaves self.old other }
+        ensures fault { result ≡ Err CommitFault.Store → has_failed self.new ≡ true }
+        ensures only_fault { result ≢ Err CommitFault.Store → has_failed self.new ≡ has_failed self.old }
+        ensures failed { has_failed self.old ≡ true → (result ≡ Err CommitFault.Failed) × (self.new ≡ self.old) }
+        ensures not_failed { result ≡ Err CommitFault.Failed → has_failed self.old ≡ true };
 
     // A stop now leaves the content, and no other book.
     ghost settled: { (k : Self) (book other : Book) → content k book → leaves k other → other ≡ book };

@@ -13,12 +13,10 @@ use Rattle.rtgs_book.specs.Commands.{with_participant, with_credit, with_state, 
 use Rattle.rtgs_book.specs.Lookup.{accounts, has_code}
 use Rattle.rtgs_book.specs.Settle.{restated}
 use Rattle.rtgs_book.specs.Soundness.{OrdersAreNumbered, AreNumbered, IsSound}
-use Rattle.rtgs_book.proofs.Lists.{map_same}
-use Rattle.rtgs_book.proofs.States.{restated_same}
-use Rattle.rtgs_tables.specs.declared.memory_keeper.MemoryKeeper.{MemoryKeeper}
-use Rattle.rtgs_tables.specs.Memory.{AreInCodeOrder, HasRoom, adds_participant, adds_posting, adds_order, adds_mark}
-use Rattle.rtgs_tables.proofs.CodeOrder.{order_put_in, order_map, order_of_codes}
-use Rattle.rtgs_tables.proofs.OrderNumbers.{beginning_numbered}
+use Rattle.rtgs_keeper.specs.declared.memory_keeper.MemoryKeeper.{MemoryKeeper}
+use Rattle.rtgs_keeper.specs.Memory.{AreInCodeOrder, HasRoom, adds_participant, adds_posting, adds_order, adds_mark}
+use Rattle.rtgs_keeper.proofs.CodeOrder.{order_put_in, order_map, order_of_codes}
+use Rattle.rtgs_keeper.proofs.OrderNumbers.{beginning_numbered, restated_numbers}
 
 -- ---- the code order stays
 
@@ -52,7 +50,7 @@ before_row (AddOrder o) book h =
 before_row (AddMark m) book h = h
 before_row (SetCredit code credit) book h = h
 before_row (SetBalance code balance) book h = h
-before_row (SetState number state) book h = subst AreNumbered (map_same (λ (o : Order). o.number) (restated (has_number number) state) (restated_same (λ (o : Order). o.number) (λ o s. refl) (has_number number) state) book.orders) h
+before_row (SetState number state) book h = subst AreNumbered (restated_numbers (has_number number) state book.orders) h
 before_row (SetDay day) book h = h
 
 pub numbered_before : (rows : List RowChange) (book : Book) → OrdersAreNumbered (changed book rows) → OrdersAreNumbered book

@@ -2,9 +2,9 @@ use Rattle.std.proofs.Common.{◌≡◌, ◌+◌, ◌∙◌, [], ◌∷◌, drop
 use Rattle.std.proofs.Math.ListN.{drop_of_length-le}
 use Rattle.std.proofs.lemmas.List.{drop_more}
 use Rattle.rtgs_book.specs.Changes.{changed}
-use Rattle.rtgs_tables.specs.Memory.{book_of, HasRoom}
-use Rattle.rtgs_tables.proofs.Making.{Remains, from_start, one_more, at_end, room_for_one}
-use Rattle.rtgs_tables.proofs.memory_keeper.MemoryKeeper.apply_all.Goals as goal
+use Rattle.rtgs_keeper.specs.Memory.{book_of, HasRoom}
+use Rattle.rtgs_keeper.proofs.Making.{Remains, from_start, one_more, at_end, room_for_one}
+use Rattle.rtgs_keeper.proofs.memory_keeper.MemoryKeeper.apply_all.Goals as goal
 
 pub loop-row-init : goal.loop-row-init
 loop-row-init c = record { room = c.requires; remains = λ sound end. from_start (book_of c.args.self.now) c.args.rows.now sound }

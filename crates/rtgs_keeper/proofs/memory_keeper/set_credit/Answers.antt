@@ -3,9 +3,9 @@ use Rattle.std.specs.Str.{bytes_eq}
 use Rattle.rtgs_book.specs.declared.Participant.{Participant}
 use Rattle.std.proofs.lemmas.List.Edits.{map_over_more}
 use Rattle.std.proofs.lemmas.Grind.{common_steps}
-use Rattle.rtgs_tables.proofs.Credits.{credited, set_hit, set_miss}
-use Rattle.rtgs_tables.proofs.memory_keeper.set_credit.Goals as goal
-use Rattle.rtgs_tables.proofs.memory_keeper.set_credit.Goals.{then-eq, else-eq}
+use Rattle.rtgs_keeper.proofs.Credits.{credited, set_hit, set_miss}
+use Rattle.rtgs_keeper.proofs.memory_keeper.set_credit.Goals as goal
+use Rattle.rtgs_keeper.proofs.memory_keeper.set_credit.Goals.{then-eq, else-eq}
 
 pub loop-participant-preserved : goal.loop-participant-preserved
 loop-participant-preserved c =

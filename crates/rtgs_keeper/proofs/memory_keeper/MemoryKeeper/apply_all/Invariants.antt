@@ -1,9 +1,9 @@
 use Rattle.std.proofs.Common.{drop}
 use Rattle.rtgs_book.specs.Changes.{changed}
 use Rattle.rtgs_book.specs.Soundness.{IsSound}
-use Rattle.rtgs_tables.specs.Memory.{book_of, HasRoom}
-use Rattle.rtgs_tables.proofs.Making.{Remains}
-use Rattle.rtgs_tables.proofs.memory_keeper.MemoryKeeper.apply_all.Given as goal
+use Rattle.rtgs_keeper.specs.Memory.{book_of, HasRoom}
+use Rattle.rtgs_keeper.proofs.Making.{Remains}
+use Rattle.rtgs_keeper.proofs.memory_keeper.MemoryKeeper.apply_all.Given as goal
 
 abbrev pub invariant-loop-row : goal.invariant-loop-row
 invariant-loop-row l = record {

@@ -1,9 +1,9 @@
-//! Where the orders of a report stand.
+//! Where orders stand.
 ghost use Rattle.std.specs.Prelude.{◌≡◌};
 ghost use Rattle.std.specs.Str.{IsAscii};
-ghost use Rattle.rtgs_statements.specs.Texts.{stands, standing_text};
+ghost use Rattle.rtgs_book.specs.Standings.{stands, word_of};
 
-use rtgs_book::OrderState;
+use crate::order_state::OrderState;
 
 /// Where an order stands, whatever its mark.
 #[derive(Clone, Copy, Debug, PartialEq, Eq)]
@@ -27,9 +27,9 @@ impl Standing {
         }
     }
 
-    /// The word that stands before the count.
-    pub fn text(self) -> &'static str
-        ensures value { result.now ≡ standing_text self }
+    /// Its word in texts.
+    pub fn word(self) -> &'static str
+        ensures value { result.now ≡ word_of self }
         ensures ascii { IsAscii result.now }
     {
         match self {

@@ -1,5 +1,5 @@
 -- Orders by their numbers.
-use Rattle.std.proofs.Common.{◌≡◌, ◌≢◌, ℕ, zero, suc, ◌+◌, ◌<◌, List, [], ◌∷◌, ◌++◌, map, length, get_or, length-append, refl, ap, ◌∙◌, eq-eqb, arith}
+use Rattle.std.proofs.Common.{◌≡◌, ◌≢◌, ℕ, zero, suc, Bool, true, false, cond, ◌+◌, ◌<◌, List, [], ◌∷◌, ◌++◌, map, length, get_or, length-append, refl, ap, ◌∙◌, eq-eqb, arith}
 use Rattle.std.proofs.Math.ListN.{set}
 use Rattle.std.proofs.lemmas.Bool.{ne_eqb}
 use Rattle.std.proofs.lemmas.List.{length-map}
@@ -28,6 +28,14 @@ restated_other number state o other = rw (ne_eqb o.number number other) refl
 
 restated_this : (number : ℕ) (state : OrderState) (o : Order) → o.number ≡ number → restated (has_number number) state o ≡ record o { state = state }
 restated_this number state o this = rw (eq-eqb o.number number this) refl
+
+pub restated_numbers : (is_in : Order → Bool) (state : OrderState) (os : List Order) → numbers (map (restated is_in state) os) ≡ numbers os
+restated_numbers is_in state [] = refl
+restated_numbers is_in state (o ∷ os) = rw (restated_numbers is_in state os, same (is_in o)) refl
+  where
+    same : (b : Bool) → (cond b (record o { state = state }) o).number ≡ o.number
+    same true = refl
+    same false = refl
 
 -- no order has a number outside
 pub none_restated : (first number : ℕ) (state : OrderState) (os : List Order) → CountFrom first os → ((k : ℕ) → k < length os → number ≢ first + k) → map (restated (has_number number) state) os ≡ os

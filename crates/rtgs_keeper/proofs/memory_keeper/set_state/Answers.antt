@@ -1,8 +1,8 @@
 use Rattle.std.proofs.Common.{◌≡◌, ◌+◌, ◌-◌, ◌<◌, length, map, sym, ap, ◌∙◌, rules}
 use Rattle.rtgs_book.specs.Commands.{has_number}
 use Rattle.rtgs_book.specs.Settle.{restated}
-use Rattle.rtgs_tables.proofs.OrderNumbers.{counts, one_restated, none_restated}
-use Rattle.rtgs_tables.proofs.memory_keeper.set_state.Goals as goal
+use Rattle.rtgs_keeper.proofs.OrderNumbers.{counts, one_restated, none_restated}
+use Rattle.rtgs_keeper.proofs.memory_keeper.set_state.Goals as goal
 
 pub returns-then-contains : goal.returns-then-contains
 returns-then-contains c = λ numbered.

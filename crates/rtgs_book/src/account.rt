@@ -1,9 +1,9 @@
-//! A participant with its running balance.
+//! A participant with its balance.
 ghost use Rattle.std.specs.Prelude.{◌≡◌, ◌+ℤ◌, ◌-ℤ◌, pos, FitsSigned};
 ghost use Rattle.std.specs.Int.{w64};
-ghost use Rattle.rtgs_ledger.specs.Accounts.{is_overdrawn};
+ghost use Rattle.rtgs_book.specs.Accounts.{is_overdrawn};
 
-use rtgs_book::Participant;
+use crate::participant::Participant;
 use rtgs_money::{Amount, Cents, PostingAmount};
 
 /// A participant and its balance.

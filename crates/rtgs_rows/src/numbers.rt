@@ -1,0 +1,22 @@
+//! The numbers that stand in columns for a phase of the day, and for where an order stands.
+
+/// No day is open.
+pub const PHASE_CLOSED: u64 = 0;
+
+/// A day is open.
+pub const PHASE_OPEN: u64 = 1;
+
+/// A day is open, past its cut-off.
+pub const PHASE_CUT_OFF: u64 = 2;
+
+/// The order is queued.
+pub const STATE_QUEUED: u64 = 0;
+
+/// The order is settled, under the mark in the next column.
+pub const STATE_SETTLED: u64 = 1;
+
+/// The order is withdrawn.
+pub const STATE_WITHDRAWN: u64 = 2;
+
+/// The order is rejected.
+pub const STATE_REJECTED: u64 = 3;
