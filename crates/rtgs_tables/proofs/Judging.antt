@@ -23,7 +23,8 @@ use Rattle.rtgs_book.specs.declared.Rule.TheVariants.{OrderNumbers, PostingNumbe
 use Rattle.rtgs_book.specs.Judgement.{Keeps}
 use Rattle.rtgs_book.specs.Soundness.{IsSound}
 use Rattle.rtgs_book.specs.declared.account.Account.{Account}
-use Rattle.rtgs_tables.specs.Accounts.{AreBalances, is_stored, ExplainsRead}
+use Rattle.rtgs_tables.specs.Accounts.{AreBalances, AreReadOf, AreFormed, is_stored, ExplainsRead, ExplainsTrees}
+use Rattle.sqlite.specs.Tree.{Trees}
 
 -- a sound book keeps each rule of a book
 keeps_all : (book : Book) → IsSound book → (rule : Rule) → Keeps book rule
@@ -76,11 +77,28 @@ unread accounts book read StoreFault (Err it) form rules was told = subst (Expla
 unread accounts book read NotADeskFile (Err it) form rules was told = absurd (form was)
 unread accounts book read (Inconsistent rule) (Err it) form rules was told = absurd (rules rule was)
 
+-- nothing was read of tables: a row is in no form, or the store failed or memory was refused
+pub unread_of : {A : Type 0} (trees : Trees) (read : Result A Fault) (fault : Fault) (answer : Result Book Fault) → (read ≡ Err NotADeskFile → ¬ AreFormed trees) → ((rule : Rule) → read ≢ Err (Inconsistent rule)) → read ≡ Err fault → IsErrAnd answer (λ told. told ≡ fault) → IfErr answer (ExplainsTrees trees)
+unread_of trees read fault (Ok it) wrong rules was told = tt
+unread_of trees read OutOfMemory (Err it) wrong rules was told = subst (ExplainsTrees trees) (sym told) tt
+unread_of trees read StoreFault (Err it) wrong rules was told = subst (ExplainsTrees trees) (sym told) tt
+unread_of trees read NotADeskFile (Err it) wrong rules was told = subst (ExplainsTrees trees) (sym told) (wrong was)
+unread_of trees read (Inconsistent rule) (Err it) wrong rules was told = absurd (rules rule was)
+
+-- what was read of tables was judged
+pub judged_of : (trees : Trees) (accounts : List Account) (book : Book) (answer : Result Book Fault) → AreReadOf trees accounts book → IfErr answer (ExplainsRead accounts book) → IfErr answer (ExplainsTrees trees)
+judged_of trees accounts book (Ok it) read why = tt
+judged_of trees accounts book (Err OutOfMemory) read why = tt
+judged_of trees accounts book (Err StoreFault) read why = tt
+judged_of trees accounts book (Err NotADeskFile) read why = absurd why
+judged_of trees accounts book (Err (Inconsistent rule)) read why = (accounts, book, read, why)
+
 -- the same fault explains whatever records there are
-pub explained : (Are : List Account → Book → Type 0) (answer : Result Book Fault) → ((accounts : List Account) (book : Book) → Are accounts book → IfErr answer (ExplainsRead accounts book))
-    → IfErr answer (λ fault. (accounts : List Account) (book : Book) → Are accounts book → ExplainsRead accounts book fault)
-explained Are (Ok it) why = tt
-explained Are (Err fault) why = why
+pub explained : (Are : List Account → Book → Type 0) (File : Trees → Type 0) (answer : Result Book Fault) → ((accounts : List Account) (book : Book) → Are accounts book → IfErr answer (ExplainsRead accounts book))
+    → ((trees : Trees) → File trees → IfErr answer (ExplainsTrees trees))
+    → IfErr answer (λ fault. ((accounts : List Account) (book : Book) → Are accounts book → ExplainsRead accounts book fault) × ((trees : Trees) → File trees → ExplainsTrees trees fault))
+explained Are File (Ok it) why all = tt
+explained Are File (Err fault) why all = (why, all)
 
 pub accepted : (accounts : List Account) (book : Book) (answer : Result Book Fault) → IsSound book → AreBalances book accounts → IfErr answer (ExplainsRead accounts book) → IfErr answer (λ fault. (fault ≡ OutOfMemory) ⊎ (fault ≡ StoreFault))
 accepted accounts book (Ok it) sound agree why = tt

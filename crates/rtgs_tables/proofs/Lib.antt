@@ -24,6 +24,7 @@ pub mod Blank
 pub mod Judging
 pub mod RowColumns
 pub mod AboveZero
+pub mod AsRead
 pub mod Told
 pub mod ReadingAlone
 pub mod Together

@@ -1,5 +1,5 @@
 -- Why a query that is understood fails.
-use Rattle.std.proofs.Common.{◌≡◌, ◌⊎◌, inl, inr, ℕ, List, length, Option, Ok, Err, Result, sym, ap, subst, ◌∙◌, arith}
+use Rattle.std.proofs.Common.{◌≡◌, ◌⊎◌, inl, inr, ℕ, List, length, Option, [], IfErr, Ok, Err, Result, sym, ap, subst, ◌∙◌, arith}
 use Rattle.sqlite.specs.Order.{Row}
 use Rattle.sqlite.specs.Schema.{Schema}
 use Rattle.sqlite_trees.specs.declared.error.StoreError.{StoreError}
@@ -10,6 +10,7 @@ use Rattle.sqlite.specs.Command.TheVariants.{Select}
 use Rattle.sqlite_resolve.specs.declared.compiled.Compiled.{Compiled}
 use Rattle.sqlite_resolve.specs.declared.error.CompileError.{CompileError}
 use Rattle.sqlite.specs.declared.error.Error.{Error}
+use Rattle.sqlite.specs.declared.error.Error.TheVariants.{SqlInputError}
 use Rattle.sqlite.specs.Listing.{understood}
 use Rattle.sqlite.specs.Effect.{Database, RefusesToRead}
 use Rattle.sqlite.specs.State.{State, Fails, IsUnchanged, IsRolledBack, IsNotRun, IsNoStatement, FailsToQuery, FailsToShow, store_error}
@@ -78,3 +79,12 @@ module _ (sql : List ℕ) (params : Row) (old new : State) (q : Program) (names 
       let none = (subst IsPlain h.1.is asks.plain).0 in
       let it = subst (FailsToShow old new sql h.0 _ e) none h.2 in
       inl it.3
+
+-- A text that was read and found to be no statement changed nothing: the store was open.
+pub unread_text : {A : Type 0} (old new : State) (sql : List ℕ) (answer : Result A Error) (fault : CompileError) → IfErr answer (λ e. (params : Row) → IsNotRun old new sql params e) → answer ≡ Err (SqlInputError fault) → IsUnchanged old new
+unfolding IsNotRun
+unread_text old new sql (Ok a) fault why is = absurd cc
+unread_text {A = A} old new sql (Err e) fault why is = elim (why []) [
+  | inl bad ↦ bad.1
+  | inr failed ↦ let same : e ≡ SqlInputError fault = cc in absurd (subst IsOfStore (sym failed.1 ∙ same) (told failed.0))
+]

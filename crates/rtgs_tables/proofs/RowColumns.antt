@@ -1,15 +1,8 @@
 -- A row from its columns.
-use Rattle.std.proofs.Common.{◌≡◌, ℕ, ◌<◌, ℤ, pos, negsuc, [], ◌∷◌, length, ap, ap₂, sym, ◌∙◌, arith}
+use Rattle.std.proofs.Common.{◌≡◌, [], ◌∷◌, length, ap, ap₂, arith}
 use Rattle.sqlite.specs.declared.types.Value.{Value}
-use Rattle.sqlite.specs.declared.types.Value.TheVariants.{Int}
 use Rattle.sqlite.specs.Order.{Row}
 use Rattle.sqlite_value.specs.Order.{column}
-use Rattle.rtgs_tables.specs.Numbers.{number_of}
-
--- a number above zero is that of the column
-pub above : (v : Value) (it : ℕ) → ((n : ℤ) × (v ≡ Int n) × (it ≡ number_of n)) → 0 < it → v ≡ Int (pos it)
-above v it (pos n, is, same) low = is ∙ ap (λ k. Int (pos k)) (sym same)
-above v it (negsuc n, is, same) low = absurd (omega (arith, same, low))
 
 pub of_four : (r : Row) {a b c d : Value} → length r ≡ 4 → column r 0 ≡ a → column r 1 ≡ b → column r 2 ≡ c → column r 3 ≡ d → r ≡ a ∷ b ∷ c ∷ d ∷ []
 of_four [] wide e0 e1 e2 e3 = absurd (omega (arith, wide))

@@ -21,19 +21,20 @@ use Rattle.rtgs_book.specs.declared.Order.{Order}
 use Rattle.rtgs_book.specs.declared.Mark.{Mark}
 use Rattle.rtgs_rows.specs.Rows.{shown_day, shown_account, shown_posting, shown_order, shown_mark}
 use Rattle.rtgs_rows.specs.Fitting.{FitsDate, FitsParticipant, FitsPosting, FitsOrder, FitsMark, Fits}
-use Rattle.rtgs_rows.specs.Querying.{IsDeskFile, AreWhole, ShowsBook, shown_entry, ShowsDesk, ShowsParticipants, ShowsPostings, ShowsPayments, ShowsMarks}
+use Rattle.rtgs_rows.specs.Querying.{picked, IsDeskFile, AreWhole, ShowsBook, shown_entry, ShowsDesk, ShowsParticipants}
 use Rattle.rtgs_book.specs.declared.account.Account.{Account}
-use Rattle.rtgs_tables.specs.Accounts.{AreBalances, entry_of, AreReadOf}
-use Rattle.rtgs_tables.specs.Numbers.{IsNumberedPosting, IsNumberedOrder, IsNumberedMark}
+use Rattle.rtgs_tables.specs.Accounts.{AreBalances, entry_of, AreTold, AreReadOf}
+use Rattle.rtgs_tables.specs.Numbers.{counted_of_posting, counted_of_order, counted_of_mark, IsNumberedPosting, IsNumberedOrder, IsNumberedMark, IsNumberedBook}
+use Rattle.rtgs_tables.proofs.AsRead.{told_plainly, posting_own, order_own, mark_own}
 
--- what each table shows
+-- what is read of each table
 pub are_read_of : (trees : Trees) (accounts : List Account) (book : Book) {postings : List Posting} {orders : List Order} {marks : List Mark}
     → book.participants ≡ map (λ (a : Account). a.participant) accounts → book.postings ≡ postings → book.orders ≡ orders → book.marks ≡ marks
     → FitsDate book.day.date × ShowsDesk trees (shown_day book.day ∷ [])
     → AllByRecursion (λ (a : Account). FitsParticipant a.participant) accounts × ShowsParticipants trees (map (λ (a : Account). shown_account a.participant a.balance) accounts)
-    → AllByRecursion FitsPosting postings × (AllByRecursion IsNumberedPosting postings → ShowsPostings trees (map shown_posting postings))
-    → AllByRecursion FitsOrder orders × (AllByRecursion IsNumberedOrder orders → ShowsPayments trees (map shown_order orders))
-    → AllByRecursion FitsMark marks × (AllByRecursion IsNumberedMark marks → ShowsMarks trees (map shown_mark marks))
+    → AllByRecursion FitsPosting postings × AreTold (0 ∷ 2 ∷ 3 ∷ 4 ∷ 5 ∷ []) counted_of_posting (trees 4) (map shown_posting postings)
+    → AllByRecursion FitsOrder orders × AreTold (0 ∷ 2 ∷ 3 ∷ 4 ∷ 5 ∷ 6 ∷ 7 ∷ 8 ∷ []) counted_of_order (trees 6) (map shown_order orders)
+    → AllByRecursion FitsMark marks × AreTold (0 ∷ 2 ∷ 3 ∷ 4 ∷ []) counted_of_mark (trees 8) (map shown_mark marks)
     → AreReadOf trees accounts book
 are_read_of trees accounts book named postings orders marks day stored some_postings some_orders some_marks = record {
   fits = record {
@@ -43,14 +44,23 @@ are_read_of trees accounts book named postings orders marks day stored some_post
     marks = subst (AllByRecursion FitsMark) (sym marks) some_marks.0;
     day = day.0;
   };
-  shows = λ numbered. record {
-    desk = day.1;
-    participants = subst (ShowsParticipants trees) (sym (map-map shown_entry entry_of accounts)) stored.1;
-    named = named ∙ sym (map-map (λ (entry : Participant × ℤ). entry.0) entry_of accounts);
-    postings = subst (λ all. ShowsPostings trees (map shown_posting all)) (sym postings) (some_postings.1 (subst (AllByRecursion IsNumberedPosting) postings numbered.postings));
-    payments = subst (λ all. ShowsPayments trees (map shown_order all)) (sym orders) (some_orders.1 (subst (AllByRecursion IsNumberedOrder) orders numbered.orders));
-    marks = subst (λ all. ShowsMarks trees (map shown_mark all)) (sym marks) (some_marks.1 (subst (AllByRecursion IsNumberedMark) marks numbered.marks));
-  };
+  named = named;
+  desk = day.1;
+  participants = stored.1;
+  postings = subst (λ all. AreTold (0 ∷ 2 ∷ 3 ∷ 4 ∷ 5 ∷ []) counted_of_posting (trees 4) (map shown_posting all)) (sym postings) some_postings.1;
+  payments = subst (λ all. AreTold (0 ∷ 2 ∷ 3 ∷ 4 ∷ 5 ∷ 6 ∷ 7 ∷ 8 ∷ []) counted_of_order (trees 6) (map shown_order all)) (sym orders) some_orders.1;
+  marks = subst (λ all. AreTold (0 ∷ 2 ∷ 3 ∷ 4 ∷ []) counted_of_mark (trees 8) (map shown_mark all)) (sym marks) some_marks.1;
+}
+
+-- where the numbers are above zero, the tables show the records' own rows
+pub shows_of : (trees : Trees) (accounts : List Account) (book : Book) → AreReadOf trees accounts book → IsNumberedBook book → ShowsBook trees book (map entry_of accounts)
+shows_of trees accounts book read numbered = record {
+  desk = read.desk;
+  participants = subst (ShowsParticipants trees) (sym (map-map shown_entry entry_of accounts)) read.participants;
+  named = read.named ∙ sym (map-map (λ (entry : Participant × ℤ). entry.0) entry_of accounts);
+  postings = told_plainly counted_of_posting shown_posting IsNumberedPosting posting_own (map (picked (0 ∷ 2 ∷ 3 ∷ 4 ∷ 5 ∷ [])) (trees 4)) book.postings numbered.postings read.postings;
+  payments = told_plainly counted_of_order shown_order IsNumberedOrder order_own (map (picked (0 ∷ 2 ∷ 3 ∷ 4 ∷ 5 ∷ 6 ∷ 7 ∷ 8 ∷ [])) (trees 6)) book.orders numbered.orders read.payments;
+  marks = told_plainly counted_of_mark shown_mark IsNumberedMark mark_own (map (picked (0 ∷ 2 ∷ 3 ∷ 4 ∷ [])) (trees 8)) book.marks numbered.marks read.marks;
 }
 
 module _ (law : (trees : Trees) (book : Book) (entries : List (Participant × ℤ)) → IsSound desk_schema trees → AreWhole trees → IsSoundBook book → Fits book → ShowsBook trees book entries
@@ -61,7 +71,7 @@ module _ (law : (trees : Trees) (book : Book) (entries : List (Participant × �
   held_book trees accounts book (Ok it) sound whole read is right agree =
       let sound_book = subst IsSoundBook is right in
       let balances = all_map (λ (entry : Participant × ℤ). entry.1 ≡ balance book entry.0.code) entry_of accounts agree in
-      subst (λ b. (content : Content) × Holds content trees × IsBookOf b content) (sym is) (law trees book (map entry_of accounts) sound whole sound_book read.fits (read.shows (above_zero book sound_book)) balances)
+      subst (λ b. (content : Content) × Holds content trees × IsBookOf b content) (sym is) (law trees book (map entry_of accounts) sound whole sound_book read.fits (shows_of trees accounts book read (above_zero book sound_book)) balances)
   held_book trees accounts book (Err fault) sound whole read is right agree = tt
 
 -- and the connection goes on to hold it

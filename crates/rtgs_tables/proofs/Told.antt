@@ -1,7 +1,9 @@
 -- Rows of a query and the records that are read of them.
-use Rattle.std.proofs.Common.{◌≡◌, ℕ, suc, ap, List, [], ◌∷◌, map, length, IsPermutation, Ok, Err, Result, IfOk, Vec, Global, refl, ap₂, subst}
-use Rattle.std.specs.Prelude.{⊤}
-use Rattle.std.specs.List.{AllByRecursion, AllZip}
+use Rattle.std.proofs.Common.{◌≡◌, ◌≢◌, ℕ, ap, List, [], ◌∷◌, map, length, IsPermutation, Bool, sym, ◌∙◌, Ok, Err, Result, IfOk, IfErr, Vec, Global, refl, subst, arith}
+use Rattle.std.specs.List.{AllByRecursion}
+use Rattle.std.proofs.lemmas.List.Sorted.{IsPermutation-map, IsPermutation-sym, IsPermutation-trans, length_permutation}
+use Rattle.rtgs_tables.specs.Accounts.{AreTold}
+use Rattle.rtgs_tables.specs.Numbers.{as_read, IsFormed}
 use Rattle.sqlite_value.specs.Order.{Row}
 use Rattle.sqlite_trees.proofs.ListLemmas.{all-permutation}
 use Rattle.rtgs_book.specs.declared.Fault.{Fault}
@@ -10,63 +12,45 @@ use Rattle.rtgs_rows.specs.Fitting.{FitsDate}
 use Rattle.rtgs_rows.specs.Rows.{shown_day}
 use Rattle.rtgs_rows.specs.Querying.{picked}
 
--- the record is read of the row
-abbrev pub Tells : {A : Type 0} → (A → Type 0) → (A → Type 0) → ℕ → (A → Row) → Row → A → Type 0
-Tells fits numbered width shown row it = fits it × (length row ≡ width → numbered it → row ≡ shown it)
-
-module _ {A : Type 0} (fits numbered : A → Type 0) (width : ℕ) (shown : A → Row) where
-  formed : (rows : List Row) (items : List A) → AllZip (Tells fits numbered width shown) rows items → AllByRecursion fits items
-  formed [] [] told = tt
-  formed [] (x ∷ items) told = absurd told
-  formed (r ∷ rows) [] told = absurd told
-  formed (r ∷ rows) (x ∷ items) told = (told.0.0, formed rows items told.1)
-
-  are_shown : (rows : List Row) (items : List A) → AllZip (Tells fits numbered width shown) rows items → AllByRecursion (λ r. length r ≡ width) rows → AllByRecursion numbered items → rows ≡ map shown items
-  are_shown [] [] told wide above = refl
-  are_shown [] (x ∷ items) told wide above = absurd told
-  are_shown (r ∷ rows) [] told wide above = absurd told
-  are_shown (r ∷ rows) (x ∷ items) told wide above = ap₂ ◌∷◌ (told.0.1 wide.0 above.0) (are_shown rows items told.1 wide.1 above.1)
-
--- a query shows so many columns
-long : (row : Row) (places : List ℕ) → length (picked places row) ≡ length places
-long row [] = refl
-long row (at ∷ places) = ap suc (long row places)
-
-longs : (places : List ℕ) (stored : List Row) → AllByRecursion (λ r. length r ≡ length places) (map (picked places) stored)
-longs places [] = tt
-longs places (r ∷ stored) = (long r places, longs places stored)
-
-pub wide : (places : List ℕ) (stored rows : List Row) → IsPermutation (map (picked places) stored) rows → AllByRecursion (λ r. length r ≡ length places) rows
-wide places stored rows same = all-permutation (λ r. length r ≡ length places) _ _ same (longs places stored)
-
 -- of the rows that a query shows, these records are read
-pub read_as : {A : Type 0} (fits numbered : A → Type 0) (shown : A → Row) (places : List ℕ) (stored rows : List Row) (r : Result (Vec A Global) Fault) → IsPermutation (map (picked places) stored) rows
-    → IfOk r (λ v. AllZip (Tells fits numbered (length places) shown) rows v.items) → IfOk r (λ v. AllByRecursion fits v.items × (AllByRecursion numbered v.items → IsPermutation (map (picked places) stored) (map shown v.items)))
-read_as fits numbered shown places stored rows (Ok v) same told = (
-  formed fits numbered (length places) shown rows v.items told,
-  λ above. subst (IsPermutation (map (picked places) stored)) (are_shown fits numbered (length places) shown rows v.items told (wide places stored rows same) above) same,
-)
-read_as fits numbered shown places stored rows (Err e) same told = tt
+pub read_as : {A : Type 0} (fits : A → Type 0) (counted : List Bool) (shown : A → Row) (places : List ℕ) (stored rows : List Row) (r : Result (Vec A Global) Fault) → IsPermutation (map (picked places) stored) rows
+    → IfOk r (λ v. AllByRecursion fits v.items × (map (as_read counted) rows ≡ map shown v.items)) → IfOk r (λ v. AllByRecursion fits v.items × AreTold places counted stored (map shown v.items))
+read_as fits counted shown places stored rows (Ok v) same told = (told.0, subst (IsPermutation (map (as_read counted) (map (picked places) stored))) told.1 (IsPermutation-map (as_read counted) _ _ same))
+read_as fits counted shown places stored rows (Err e) same told = tt
 
--- where the records have no numbers
-pub all_true : {A : Type 0} (xs : List A) → AllByRecursion (λ (x : A). ⊤) xs
-all_true [] = tt
-all_true (x ∷ xs) = (tt, all_true xs)
+-- where no number is read in another way
+as_they_are : (rows : List Row) → map (as_read []) rows ≡ rows
+as_they_are [] = refl
+as_they_are (row ∷ rows) = ap (λ rs. row ∷ rs) (as_they_are rows)
 
 pub read_plainly : {A : Type 0} (fits : A → Type 0) (shown : A → Row) (places : List ℕ) (stored rows : List Row) (r : Result (Vec A Global) Fault) → IsPermutation (map (picked places) stored) rows
-    → IfOk r (λ v. AllZip (Tells fits (λ _. ⊤) (length places) shown) rows v.items) → IfOk r (λ v. AllByRecursion fits v.items × IsPermutation (map (picked places) stored) (map shown v.items))
-read_plainly fits shown places stored rows (Ok v) same told =
-    let read = read_as fits (λ _. ⊤) shown places stored rows (Ok v) same told in
-    (read.0, read.1 (all_true v.items))
+    → IfOk r (λ v. AllByRecursion fits v.items × (map (as_read []) rows ≡ map shown v.items)) → IfOk r (λ v. AllByRecursion fits v.items × IsPermutation (map (picked places) stored) (map shown v.items))
+read_plainly fits shown places stored rows (Ok v) same told = (told.0, subst (IsPermutation (map (picked places) stored)) (sym (as_they_are rows) ∙ told.1) same)
 read_plainly fits shown places stored rows (Err e) same told = tt
 
-pub only_one : {A : Type 0} (fits : A → Type 0) (width : ℕ) (shown : A → Row) (rows : List Row) (items : List A) (it : A) → items ≡ it ∷ [] → AllZip (Tells fits (λ _. ⊤) width shown) rows items → AllByRecursion (λ r. length r ≡ width) rows
-    → fits it × (rows ≡ shown it ∷ [])
-only_one fits width shown rows items it is told wide =
-    let one = subst (AllZip (Tells fits (λ _. ⊤) width shown) rows) is told in
-    ((formed fits (λ _. ⊤) width shown rows (it ∷ []) one).0, are_shown fits (λ _. ⊤) width shown rows (it ∷ []) one wide (tt, tt))
+-- a row that the query shows is in no form, so one that the table has
+pub misread : {A : Type 0} (fits : A → Type 0) (counted : List Bool) (shown : A → Row) (places : List ℕ) (stored rows : List Row) → IsPermutation (map (picked places) stored) rows
+    → ¬ AllByRecursion (IsFormed fits counted shown) rows → ¬ AllByRecursion (IsFormed fits counted shown) (map (picked places) stored)
+misread fits counted shown places stored rows same wrong all = wrong (all-permutation (IsFormed fits counted shown) _ _ same all)
 
 pub day_shown : (places : List ℕ) (stored rows : List Row) (r : Result Day Fault) → IsPermutation (map (picked places) stored) rows → IfOk r (λ (day : Day). FitsDate day.date × (rows ≡ shown_day day ∷ []))
     → IfOk r (λ (day : Day). FitsDate day.date × IsPermutation (map (picked places) stored) (shown_day day ∷ []))
 day_shown places stored rows (Ok day) same is = (is.0, subst (IsPermutation (map (picked places) stored)) is.1 same)
 day_shown places stored rows (Err e) same is = tt
+
+-- one row alone is the only row
+only_row : (rows : List Row) (day : Day) → IsPermutation (shown_day day ∷ []) rows → rows ≡ shown_day day ∷ []
+only_row rows day same = all_one rows (shown_day day) (all-permutation (λ r. r ≡ shown_day day) _ _ same (refl, tt)) (sym (length_permutation _ _ same))
+  where
+    all_one : (rs : List Row) (r : Row) → AllByRecursion (λ x. x ≡ r) rs → length (r ∷ []) ≡ length rs → rs ≡ r ∷ []
+    all_one [] r each many = absurd (omega (arith, many))
+    all_one (x ∷ []) r each many = ap (λ y. y ∷ []) each.0
+    all_one (x ∷ y ∷ rs) r each many = absurd (omega (arith, many))
+
+pub no_day : (places : List ℕ) (stored rows : List Row) → IsPermutation (map (picked places) stored) rows → ((day : Day) → FitsDate day.date → rows ≢ shown_day day ∷ [])
+    → ¬ ((day : Day) × FitsDate day.date × IsPermutation (map (picked places) stored) (shown_day day ∷ []))
+no_day places stored rows same none found = none found.0 found.1 (only_row rows found.0 (IsPermutation-trans _ _ _ (IsPermutation-sym _ _ found.2) same))
+
+pub not_read : (r : Result Day Fault) (fault : Fault) (None : Type 0) → IfErr r (λ it. (it ≡ fault) × None) → r ≡ Err fault → None
+not_read (Ok day) fault None why e = absurd (let clash : ◌≡◌ {A = Result Day Fault} (Ok day) (Err fault) = e in cc)
+not_read (Err it) fault None why e = why.1

@@ -1,10 +1,11 @@
 -- The records of the tables as they are read, and what an opening says of them.
-use Rattle.std.specs.Prelude.{◌≡◌, ℕ, ℤ, Bool, false, List, map, option_map, unwrap_or, IsPermutation, ⊤}
+use Rattle.std.specs.Prelude.{◌≡◌, ℕ, ℤ, Bool, false, List, [], ◌∷◌, map, option_map, unwrap_or, IsPermutation, ⊤}
 use Rattle.std.specs.List.{AllByRecursion}
 use Rattle.std.specs.BTreeMap.{BTreeMap, get}
 use Rattle.std.specs.Ordering.{nat_cmp, int_eq}
 use Rattle.std.specs.declared.cmp.Ordering.TheVariants.{Less}
 use Rattle.std.specs.Cmp.Lexicographic.{slice_cmp}
+use Rattle.sqlite.specs.Order.{Row}
 use Rattle.sqlite.specs.Tree.{Trees, IsAscending}
 use Rattle.sqlite.specs.State.{State}
 use Rattle.rtgs_book.specs.declared.Book.{Book}
@@ -16,9 +17,11 @@ use Rattle.rtgs_book.specs.declared.Rule.TheVariants.{StoredBalances}
 use Rattle.rtgs_book.specs.Balance.{balance}
 use Rattle.rtgs_book.specs.Judgement.{Keeps, KeepsBefore}
 use Rattle.rtgs_rows.specs.Content.{Holding, Content, IsInOrder, Rests}
-use Rattle.rtgs_rows.specs.Fitting.{Fits}
-use Rattle.rtgs_rows.specs.Querying.{ShowsBook}
-use Rattle.rtgs_tables.specs.Numbers.{IsNumberedBook}
+use Rattle.rtgs_book.specs.declared.Day.{Day}
+use Rattle.rtgs_rows.specs.Fitting.{Fits, FitsDate, FitsParticipant, FitsPosting, FitsOrder, FitsMark}
+use Rattle.rtgs_rows.specs.Rows.{shown_day, shown_account, shown_posting, shown_order, shown_mark}
+use Rattle.rtgs_rows.specs.Querying.{picked, ShowsDesk, ShowsParticipants}
+use Rattle.rtgs_tables.specs.Numbers.{as_read, counted_of_posting, counted_of_order, counted_of_mark, IsFormed}
 use Rattle.rtgs_book.specs.declared.account.Account.{Account}
 
 abbrev pub account_of : Book → Participant → Account
@@ -47,10 +50,27 @@ pub record AreRead (content : Content) (accounts : List Account) (book : Book) :
 abbrev pub entry_of : Account → Participant × ℤ
 entry_of a = (a.participant, a.balance)
 
--- What is read of trees, each value in its form and range: the queries show just these records, where each number is above zero.
+-- the rows of a table as its query shows them and as they are read, in some order
+abbrev pub AreTold : List ℕ → List Bool → List Row → List Row → Type 0
+AreTold places counted stored = IsPermutation (map (as_read counted) (map (picked places) stored))
+
+-- What is read of trees, sound or not: each value is in its form and range, and each row of the five tables is told by one record. A number below zero is read as 0, which breaks the same rule of a sound book.
 pub record AreReadOf (trees : Trees) (accounts : List Account) (book : Book) : Type 0 where
   pub fits : Fits book
-  pub shows : IsNumberedBook book → ShowsBook trees book (map entry_of accounts)
+  pub named : book.participants ≡ map (λ (a : Account). a.participant) accounts
+  pub desk : ShowsDesk trees (shown_day book.day ∷ [])
+  pub participants : ShowsParticipants trees (map (λ (a : Account). shown_account a.participant a.balance) accounts)
+  pub postings : AreTold (0 ∷ 2 ∷ 3 ∷ 4 ∷ 5 ∷ []) counted_of_posting (trees 4) (map shown_posting book.postings)
+  pub payments : AreTold (0 ∷ 2 ∷ 3 ∷ 4 ∷ 5 ∷ 6 ∷ 7 ∷ 8 ∷ []) counted_of_order (trees 6) (map shown_order book.orders)
+  pub marks : AreTold (0 ∷ 2 ∷ 3 ∷ 4 ∷ []) counted_of_mark (trees 8) (map shown_mark book.marks)
+
+-- Each row of the five tables is in the form of a record, and the first table has one row.
+pub record AreFormed (trees : Trees) : Type 0 where
+  pub desk : (day : Day) × FitsDate day.date × ShowsDesk trees (shown_day day ∷ [])
+  pub participants : AllByRecursion (IsFormed (λ (a : Account). FitsParticipant a.participant) [] (λ (a : Account). shown_account a.participant a.balance)) (map (picked (1 ∷ 2 ∷ 3 ∷ 4 ∷ 5 ∷ [])) (trees 1))
+  pub postings : AllByRecursion (IsFormed FitsPosting counted_of_posting shown_posting) (map (picked (0 ∷ 2 ∷ 3 ∷ 4 ∷ 5 ∷ [])) (trees 4))
+  pub payments : AllByRecursion (IsFormed FitsOrder counted_of_order shown_order) (map (picked (0 ∷ 2 ∷ 3 ∷ 4 ∷ 5 ∷ 6 ∷ 7 ∷ 8 ∷ [])) (trees 6))
+  pub marks : AllByRecursion (IsFormed FitsMark counted_of_mark shown_mark) (map (picked (0 ∷ 2 ∷ 3 ∷ 4 ∷ [])) (trees 8))
 
 -- the tables at rest have these records
 abbrev pub HasRecords : List Account → Book → State → Type 0
@@ -79,3 +99,10 @@ ExplainsRead accounts book OutOfMemory = ⊤
 ExplainsRead accounts book StoreFault = ⊤
 ExplainsRead accounts book NotADeskFile = ⊥
 ExplainsRead accounts book (Inconsistent rule) = BreaksFirst accounts book rule
+
+-- Why tables with the schema of a desk give no book, whatever their rows are: a row is in no form; or all are, and this is the first rule that the records break; or else the store failed or memory was refused.
+abbrev pub ExplainsTrees : Trees → Fault → Type 0
+ExplainsTrees trees OutOfMemory = ⊤
+ExplainsTrees trees StoreFault = ⊤
+ExplainsTrees trees NotADeskFile = ¬ AreFormed trees
+ExplainsTrees trees (Inconsistent rule) = (accounts : List Account) × (book : Book) × AreReadOf trees accounts book × BreaksFirst accounts book rule

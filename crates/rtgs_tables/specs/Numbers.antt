@@ -1,6 +1,9 @@
 -- Numbers of records, as they are read.
-use Rattle.std.specs.Prelude.{ℕ, ℤ, pos, negsuc, ◌<◌, ⊤}
+use Rattle.std.specs.Prelude.{◌≡◌, ℕ, ℤ, pos, negsuc, Bool, true, false, List, [], ◌∷◌, ◌<◌, ⊤}
 use Rattle.std.specs.List.{AllByRecursion}
+use Rattle.sqlite.specs.Order.{Row}
+use Rattle.sqlite.specs.declared.types.Value.{Value}
+use Rattle.sqlite.specs.declared.types.Value.TheVariants.{Null, Int, Real, Text, Blob}
 use Rattle.rtgs_book.specs.declared.Book.{Book}
 use Rattle.rtgs_book.specs.declared.Posting.{Posting}
 use Rattle.rtgs_book.specs.declared.Order.{Order}
@@ -12,6 +15,36 @@ use Rattle.rtgs_book.specs.declared.Mark.{Mark}
 abbrev pub number_of : ℤ → ℕ
 number_of (pos n) = n
 number_of (negsuc n) = 0
+
+-- the value with a number below zero read as 0
+abbrev pub at_least_zero : Value → Value
+at_least_zero Null = Null
+at_least_zero (Int n) = Int (pos (number_of n))
+at_least_zero (Real x) = Real x
+at_least_zero (Text t) = Text t
+at_least_zero (Blob b) = Blob b
+
+-- the row as it is read: at each place that is marked a number below zero is read as 0
+abbrev pub as_read : List Bool → Row → Row
+as_read [] row = row
+as_read (place ∷ places) [] = []
+as_read (true ∷ places) (value ∷ row) = at_least_zero value ∷ as_read places row
+as_read (false ∷ places) (value ∷ row) = value ∷ as_read places row
+
+-- ---- the places of such numbers in the rows that the queries show
+
+abbrev pub counted_of_posting : List Bool
+counted_of_posting = true ∷ []
+
+abbrev pub counted_of_order : List Bool
+counted_of_order = true ∷ false ∷ false ∷ false ∷ false ∷ false ∷ false ∷ true ∷ []
+
+abbrev pub counted_of_mark : List Bool
+counted_of_mark = true ∷ false ∷ true ∷ []
+
+-- the row is in the form of a record
+abbrev pub IsFormed : {A : Type 0} → (A → Type 0) → List Bool → (A → Row) → Row → Type 0
+IsFormed {A = A} fits counted shown row = (it : A) × fits it × (as_read counted row ≡ shown it)
 
 -- ---- the numbers of a record are above zero, as in a sound book
 

@@ -1,5 +1,5 @@
 //! Values as the columns hold them.
-ghost use Rattle.std.specs.Prelude.{◌≡◌, ◌<◌, ◌^◌, pos, option_map, OnOk};
+ghost use Rattle.std.specs.Prelude.{◌≡◌, ◌<◌, ◌≤◌, ◌^◌, pos, option_map, OnOk, IfErr};
 ghost use Rattle.sqlite.specs.Values.{or_null};
 ghost use Rattle.sqlite.specs.declared.types.Value.TheVariants.{Int, Text as TextValue, Blob};
 ghost use Rattle.sqlite_value.specs.Value.{owned};
@@ -18,9 +18,10 @@ use sqlite::{Error, ErrorCode};
 /// The greatest number that a column can hold.
 const GREATEST: u64 = 0x7fff_ffff_ffff_ffff;
 
-/// Refuses a number that no column can hold, as too big for the store.
+/// Refuses a number that no column can hold, and no other, as too big for the store.
 pub(crate) fn check_number(n: u64) -> Result<(), Error>
-    ensures { OnOk result (n < 2 ^ 63) }
+    ensures fits { OnOk result (n < 2 ^ 63) }
+    ensures refused { IfErr result (λ e. (2 ^ 63 ≤ n) × (e ≡ Error.SqliteFailure ErrorCode.TooBig)) }
 {
     if n > GREATEST {
         return Err(Error::SqliteFailure(ErrorCode::TooBig));
@@ -28,9 +29,10 @@ pub(crate) fn check_number(n: u64) -> Result<(), Error>
     Ok(())
 }
 
-/// Refuses a mark that no column can hold.
+/// Refuses a mark that no column can hold, and no other, as too big for the store.
 pub(crate) fn check_mark(state: OrderState) -> Result<(), Error>
-    ensures { OnOk result (FitsColumn state) }
+    ensures fits { OnOk result (FitsColumn state) }
+    ensures refused { IfErr result (λ e. (¬ FitsColumn state) × (e ≡ Error.SqliteFailure ErrorCode.TooBig)) }
 {
     match state {
         OrderState::Settled(mark) => check_number(mark),

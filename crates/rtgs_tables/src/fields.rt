@@ -1,16 +1,28 @@
 //! The values of a row, by their place.
-ghost use Rattle.std.specs.Prelude.{◌≡◌, ◌<◌, ℕ, ℤ, pos, negsuc, List, length, Some, None, true, false, IfSome, IsSomeAnd};
+ghost use Rattle.std.specs.Prelude.{◌≡◌, ◌<◌, ℕ, ℤ, pos, List, length, Some, None, true, false, IsSome, IfSome, OnSome, IsSomeAnd};
 ghost use Rattle.sqlite_value.specs.Order.{column};
 ghost use Rattle.sqlite.specs.declared.types.Value.TheVariants.{Null, Int, Text, Blob};
 ghost use Rattle.rtgs_money.specs.Forms.{IsCode, IsReference, IsName};
 ghost use Rattle.rtgs_money.specs.Date.{date_text, IsBusinessDate};
 ghost use Rattle.rtgs_rows.specs.Fitting.{FitsDate};
 ghost use Rattle.rtgs_rows.specs.Rows.{date_value};
-ghost use Rattle.rtgs_tables.specs.Numbers.{number_of};
+ghost use Rattle.rtgs_tables.specs.Numbers.{at_least_zero};
 
 use rtgs_money::{BusinessDate, Cents, Code, Name, Reference};
 use sqlite::Row;
 use sqlite::types::ValueRef;
+
+/// Nothing, where the row has so many values.
+pub(crate) fn width(row: &Row, wide: usize) -> Option<()>
+    ensures found { length row.now ≡ wide → IsSome result }
+    ensures is { OnSome result (length row.now ≡ wide) }
+{
+    if row.column_count() == wide {
+        Some(())
+    } else {
+        None
+    }
+}
 
 /// A whole number.
 pub(crate) fn int(row: &Row, at: usize) -> Option<i64>
@@ -25,9 +37,9 @@ pub(crate) fn int(row: &Row, at: usize) -> Option<i64>
 
 /// A number of a record. One below zero is read as 0, which breaks the same rule of a sound book.
 pub(crate) fn number(row: &Row, at: usize) -> Option<u64>
-    ensures found { (n : ℕ) → at < length row.now → column row.now at ≡ Int (pos n) → result ≡ Some n }
-    ensures below { (n : ℕ) → at < length row.now → column row.now at ≡ Int (negsuc n) → result ≡ Some 0 }
-    ensures is { IfSome result (λ it. (n : ℤ) × (column row.now at ≡ Int n) × (it ≡ number_of n)) }
+    ensures found { (n : ℕ) → at < length row.now → at_least_zero (column row.now at) ≡ Int (pos n)
+        → result ≡ Some n }
+    ensures is { IfSome result (λ n. at_least_zero (column row.now at) ≡ Int (pos n)) }
 {
     let n = int(row, at)?;
     Some(u64::try_from(n).unwrap_or(0))

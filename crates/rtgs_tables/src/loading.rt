@@ -3,7 +3,7 @@ ghost use Rattle.std.specs.Prelude.{◌≡◌, ◌≢◌, false, map, List, Err,
 ghost use Rattle.rtgs_book.specs.declared.Book.{Book};
 ghost use Rattle.rtgs_book.specs.declared.Rule.{Rule};
 ghost use Rattle.rtgs_book.specs.declared.account.Account.{Account as AccountSpec};
-ghost use Rattle.rtgs_tables.specs.Accounts.{HasRecords, AreBalances, AreReadOf, ExplainsRead};
+ghost use Rattle.rtgs_tables.specs.Accounts.{HasRecords, AreBalances, AreReadOf, AreFormed, ExplainsRead, ExplainsTrees};
 ghost use Rattle.rtgs_tables.specs.Building.{IsBlank};
 ghost use Rattle.rtgs_book.specs.Soundness.{IsSound};
 ghost use Rattle.rtgs_rows.specs.Content.{Content, Holds};
@@ -33,6 +33,8 @@ fn read_tables<S: Alter>(alloc: Global, conn: &mut Connection<S>) -> Result<Stor
     ensures read { HasCleanDisk (state S.Store conn.new) → (accounts : List AccountSpec) (book : Book) → HasRecords accounts book (state S.Store conn.old) → IfOk result (λ stored. (stored.book ≡ book) × (stored.accounts.items ≡ accounts)) }
     ensures is { HasCleanDisk (state S.Store conn.new) → (trees : Trees) → IsDeskFile trees (state S.Store conn.old) → IfOk result (λ stored. AreReadOf trees stored.accounts.items stored.book) }
     ensures right { HasCleanDisk (state S.Store conn.new) → (accounts : List AccountSpec) (book : Book) → HasRecords accounts book (state S.Store conn.old) → result ≢ Err Fault.NotADeskFile }
+    ensures wrong { HasCleanDisk (state S.Store conn.new) → (trees : Trees) → IsDeskFile trees (state S.Store conn.old)
+        → result ≡ Err Fault.NotADeskFile → ¬ AreFormed trees }
     ensures kinds { (rule : Rule) → result ≢ Err (Fault.Inconsistent rule) }
     ensures blank { HasCleanDisk (state S.Store conn.new) → IsBlank (state S.Store conn.old) → IfOk result (λ _. ⊥) }
     ensures same { HasCleanDisk (state S.Store conn.new) → (trees : Trees) → IsDeskFile trees (state S.Store conn.old) → result ≢ Err Fault.StoreFault → IsDeskFile trees (state S.Store conn.new) }
@@ -40,7 +42,7 @@ fn read_tables<S: Alter>(alloc: Global, conn: &mut Connection<S>) -> Result<Stor
     ensures mode { conn.old.in_transaction ≡ false → conn.new.in_transaction ≡ false }
     ensures honest { HasCleanDisk (state S.Store conn.new) → HasCleanDisk (state S.Store conn.old) }
 {
-    let day = read_day(alloc, conn)?;
+    let day = read_day(conn)?;
     let accounts = read_accounts(alloc, conn)?;
     let postings = read_postings(alloc, conn)?;
     let orders = read_orders(alloc, conn)?;
@@ -92,6 +94,8 @@ pub(crate) fn load_book<S: Alter>(alloc: Global, conn: &mut Connection<S>) -> Re
     ensures read { HasCleanDisk (state S.Store conn.new) → (accounts : List AccountSpec) (book : Book) → HasRecords accounts book (state S.Store conn.old) → IfOk result (λ loaded. (loaded ≡ book) × AreBalances book accounts) }
     ensures held { HasCleanDisk (state S.Store conn.new) → (trees : Trees) → IsDeskFile trees (state S.Store conn.old) → AreWhole trees → IfOk result (λ book. (content : Content) × Holds content trees × IsBookOf book content) }
     ensures explained { HasCleanDisk (state S.Store conn.new) → (accounts : List AccountSpec) (book : Book) → HasRecords accounts book (state S.Store conn.old) → IfErr result (ExplainsRead accounts book) }
+    ensures caused { HasCleanDisk (state S.Store conn.new) → (trees : Trees) → IsDeskFile trees (state S.Store conn.old)
+        → IfErr result (ExplainsTrees trees) }
     ensures blank { HasCleanDisk (state S.Store conn.new) → IsBlank (state S.Store conn.old) → IfOk result (λ _. ⊥) × ((rule : Rule) → result ≢ Err (Fault.Inconsistent rule)) }
     ensures same { HasCleanDisk (state S.Store conn.new) → (trees : Trees) → IsDeskFile trees (state S.Store conn.old) → result ≢ Err Fault.StoreFault → IsDeskFile trees (state S.Store conn.new) }
     ensures survives { Survives (state S.Store conn.old) (state S.Store conn.new) (λ _. ⊥) }

@@ -1,25 +1,28 @@
 //! The queries of the five tables.
-ghost use Rattle.std.specs.Prelude.{◌≡◌, ◌≢◌, ◌⊎◌, length, false, Err, IfSome, List, [], ◌∷◌, map, IsTrue, IfOk, IfErr, OnOk};
+ghost use Rattle.std.specs.Prelude.{◌≡◌, ◌≢◌, ◌⊎◌, false, Ok, Err, List, [], ◌∷◌, map, IsTrue, IfOk, IfErr, OnOk};
 ghost use Rattle.std.specs.List.{AllByRecursion};
 ghost use Rattle.rtgs_book.specs.declared.Book.{Book};
 ghost use Rattle.rtgs_book.specs.declared.Rule.{Rule};
 ghost use Rattle.rtgs_book.specs.declared.Day.{Day as DaySpec};
 ghost use Rattle.rtgs_rows.specs.Fitting.{FitsDate, FitsParticipant, FitsPosting, FitsOrder, FitsMark};
 ghost use Rattle.rtgs_book.specs.declared.account.Account.{Account as AccountSpec};
-ghost use Rattle.rtgs_tables.specs.Accounts.{HasRecords};
+ghost use Rattle.rtgs_tables.specs.Accounts.{HasRecords, AreTold};
 ghost use Rattle.rtgs_tables.specs.Building.{IsBlank};
 ghost use Rattle.rtgs_rows.specs.Rows.{shown_day, shown_account, shown_posting, shown_order, shown_mark};
-ghost use Rattle.rtgs_rows.specs.Querying.{IsDeskFile, ShowsDesk, ShowsParticipants, ShowsPostings, ShowsPayments, ShowsMarks};
+ghost use Rattle.rtgs_rows.specs.Querying.{picked, IsDeskFile, ShowsDesk, ShowsParticipants, ShowsPostings, ShowsPayments, ShowsMarks};
 ghost use Rattle.rtgs_tables.specs.Faults.{IsOfStore};
-ghost use Rattle.rtgs_tables.specs.Numbers.{IsNumberedPosting, IsNumberedOrder, IsNumberedMark};
+ghost use Rattle.rtgs_tables.specs.Numbers.{counted_of_posting, counted_of_order, counted_of_mark, IsFormed};
 ghost use Rattle.sqlite.specs.State.{HasCleanDisk, IsUnchanged, Survives};
 ghost use Rattle.sqlite.specs.Held.{state};
 ghost use Rattle.sqlite.specs.Tree.{Trees};
 
-use crate::table_row::decode;
+use crate::table_row::{TableRow, decode};
 use rtgs_book::{Account, Day, Fault, Mark, Order, Posting};
 use sqlite::{Alter, Connection, Error, ErrorCode, Row};
 use std::alloc::Global;
+
+/// A text that is refused at its first word.
+const NO_STATEMENT: &str = "OPEN";
 
 /// The rows of the table `desk`.
 fn desk_rows<S: Alter>(conn: &mut Connection<S>) -> Result<Vec<Row>, Error>
@@ -104,14 +107,15 @@ fn mark_rows<S: Alter>(conn: &mut Connection<S>) -> Result<Vec<Row>, Error>
     )
 }
 
-/// Whether the connection has stayed open.
+/// Whether the connection has stayed open. The engine looks at its store before it reads a text, and sees at its first
+/// word that this one is no statement: so the look takes no memory.
 pub(crate) fn is_alive<S: Alter>(conn: &mut Connection<S>) -> bool
     ensures mode { conn.old.in_transaction ≡ false → conn.new.in_transaction ≡ false }
     ensures honest { HasCleanDisk (state S.Store conn.new) → HasCleanDisk (state S.Store conn.old) }
     ensures alive { HasCleanDisk (state S.Store conn.new) → IsTrue result → IsUnchanged (state S.Store conn.old) (state S.Store conn.new) }
     ensures survives { Survives (state S.Store conn.old) (state S.Store conn.new) (λ _. ⊥) }
 {
-    conn.prepare("SELECT 1").is_ok()
+    matches!(conn.prepare(NO_STATEMENT), Err(Error::SqlInputError(_)))
 }
 
 /// What the failure of a query says of the file: want of memory, where the connection is seen to be open still; else a
@@ -132,39 +136,29 @@ fn fault_of<S: Alter>(conn: &mut Connection<S>, error: &Error) -> Fault
     }
 }
 
-/// The only one of the days.
-fn only(days: &[Day]) -> Option<Day>
-    ensures found { (day : DaySpec) → days.now ≡ day ∷ [] → result ≡ Some day }
-    ensures is { IfSome result (λ day. days.now ≡ day ∷ []) }
+/// The business day of the only row. Anything else is `NotADeskFile`.
+fn one_day(rows: &[Row]) -> Result<Day, Fault>
+    ensures given { (day : DaySpec) → FitsDate day.date → rows.now ≡ shown_day day ∷ [] → result ≡ Ok day }
+    ensures is { IfOk result (λ day. FitsDate day.date × (rows.now ≡ shown_day day ∷ [])) }
+    ensures wrong { IfErr result (λ fault. (fault ≡ Fault.NotADeskFile)
+        × ((day : DaySpec) → FitsDate day.date → rows.now ≢ shown_day day ∷ [])) }
 {
-    match days {
-        [day] => Some(*day),
-        _ => None,
-    }
-}
-
-/// The business day of the only row.
-fn one_day(alloc: Global, rows: &[Row]) -> Result<Day, Fault>
-    ensures given { (day : DaySpec) → FitsDate day.date → rows.now ≡ shown_day day ∷ [] → IfOk result (λ it. it ≡ day) }
-    ensures is { AllByRecursion (λ row. length row ≡ 4) rows.now → IfOk result (λ day. FitsDate day.date × (rows.now ≡ shown_day day ∷ [])) }
-    ensures right { (day : DaySpec) → FitsDate day.date → rows.now ≡ shown_day day ∷ [] → result ≢ Err Fault.NotADeskFile }
-    ensures kinds { (result ≢ Err Fault.StoreFault) × ((rule : Rule) → result ≢ Err (Fault.Inconsistent rule)) }
-{
-    let days = match decode::<Day>(alloc, rows) {
-        Ok(days) => days,
-        Err(fault) => return Err(fault),
+    let [row] = rows else {
+        return Err(Fault::NotADeskFile);
     };
-    match only(days.as_slice()) {
+    match Day::from_row(row) {
         Some(day) => Ok(day),
         None => Err(Fault::NotADeskFile),
     }
 }
 
 /// The business day, of the one row of the table `desk`.
-pub(crate) fn read_day<S: Alter>(alloc: Global, conn: &mut Connection<S>) -> Result<Day, Fault>
+pub(crate) fn read_day<S: Alter>(conn: &mut Connection<S>) -> Result<Day, Fault>
     ensures given { HasCleanDisk (state S.Store conn.new) → (accounts : List AccountSpec) (book : Book) → HasRecords accounts book (state S.Store conn.old) → IfOk result (λ day. day ≡ book.day) }
     ensures is { HasCleanDisk (state S.Store conn.new) → (trees : Trees) → IsDeskFile trees (state S.Store conn.old) → IfOk result (λ day. FitsDate day.date × ShowsDesk trees (shown_day day ∷ [])) }
     ensures right { HasCleanDisk (state S.Store conn.new) → (accounts : List AccountSpec) (book : Book) → HasRecords accounts book (state S.Store conn.old) → result ≢ Err Fault.NotADeskFile }
+    ensures wrong { HasCleanDisk (state S.Store conn.new) → (trees : Trees) → IsDeskFile trees (state S.Store conn.old)
+        → result ≡ Err Fault.NotADeskFile → ¬ ((day : DaySpec) × FitsDate day.date × ShowsDesk trees (shown_day day ∷ [])) }
     ensures kinds { (rule : Rule) → result ≢ Err (Fault.Inconsistent rule) }
     ensures same { HasCleanDisk (state S.Store conn.new) → (trees : Trees) → IsDeskFile trees (state S.Store conn.old) → result ≢ Err Fault.StoreFault → IsDeskFile trees (state S.Store conn.new) }
     ensures blank { HasCleanDisk (state S.Store conn.new) → IsBlank (state S.Store conn.old) → IfOk result (λ _. ⊥) }
@@ -173,7 +167,7 @@ pub(crate) fn read_day<S: Alter>(alloc: Global, conn: &mut Connection<S>) -> Res
     ensures honest { HasCleanDisk (state S.Store conn.new) → HasCleanDisk (state S.Store conn.old) }
 {
     match desk_rows(conn) {
-        Ok(rows) => one_day(alloc, rows.as_slice()),
+        Ok(rows) => one_day(rows.as_slice()),
         Err(error) => Err(fault_of(conn, &error)),
     }
 }
@@ -186,6 +180,9 @@ pub(crate) fn read_accounts<S: Alter>(
     ensures given { HasCleanDisk (state S.Store conn.new) → (accounts : List AccountSpec) (book : Book) → HasRecords accounts book (state S.Store conn.old) → IfOk result (λ v. v.items ≡ accounts) }
     ensures is { HasCleanDisk (state S.Store conn.new) → (trees : Trees) → IsDeskFile trees (state S.Store conn.old) → IfOk result (λ v. AllByRecursion (λ (a : AccountSpec). FitsParticipant a.participant) v.items × ShowsParticipants trees (map (λ (a : AccountSpec). shown_account a.participant a.balance) v.items)) }
     ensures right { HasCleanDisk (state S.Store conn.new) → (accounts : List AccountSpec) (book : Book) → HasRecords accounts book (state S.Store conn.old) → result ≢ Err Fault.NotADeskFile }
+    ensures wrong { HasCleanDisk (state S.Store conn.new) → (trees : Trees) → IsDeskFile trees (state S.Store conn.old)
+        → result ≡ Err Fault.NotADeskFile → ¬ AllByRecursion (IsFormed (λ (a : AccountSpec). FitsParticipant a.participant) []
+        (λ (a : AccountSpec). shown_account a.participant a.balance)) (map (picked (1 ∷ 2 ∷ 3 ∷ 4 ∷ 5 ∷ [])) (trees 1)) }
     ensures kinds { (rule : Rule) → result ≢ Err (Fault.Inconsistent rule) }
     ensures same { HasCleanDisk (state S.Store conn.new) → (trees : Trees) → IsDeskFile trees (state S.Store conn.old) → result ≢ Err Fault.StoreFault → IsDeskFile trees (state S.Store conn.new) }
     ensures survives { Survives (state S.Store conn.old) (state S.Store conn.new) (λ _. ⊥) }
@@ -204,8 +201,11 @@ pub(crate) fn read_postings<S: Alter>(
     conn: &mut Connection<S>,
 ) -> Result<Vec<Posting>, Fault>
     ensures given { HasCleanDisk (state S.Store conn.new) → (accounts : List AccountSpec) (book : Book) → HasRecords accounts book (state S.Store conn.old) → IfOk result (λ v. v.items ≡ book.postings) }
-    ensures is { HasCleanDisk (state S.Store conn.new) → (trees : Trees) → IsDeskFile trees (state S.Store conn.old) → IfOk result (λ v. AllByRecursion FitsPosting v.items × (AllByRecursion IsNumberedPosting v.items → ShowsPostings trees (map shown_posting v.items))) }
+    ensures is { HasCleanDisk (state S.Store conn.new) → (trees : Trees) → IsDeskFile trees (state S.Store conn.old) → IfOk result (λ v. AllByRecursion FitsPosting v.items × AreTold (0 ∷ 2 ∷ 3 ∷ 4 ∷ 5 ∷ []) counted_of_posting (trees 4) (map shown_posting v.items)) }
     ensures right { HasCleanDisk (state S.Store conn.new) → (accounts : List AccountSpec) (book : Book) → HasRecords accounts book (state S.Store conn.old) → result ≢ Err Fault.NotADeskFile }
+    ensures wrong { HasCleanDisk (state S.Store conn.new) → (trees : Trees) → IsDeskFile trees (state S.Store conn.old)
+        → result ≡ Err Fault.NotADeskFile → ¬ AllByRecursion (IsFormed FitsPosting counted_of_posting shown_posting)
+        (map (picked (0 ∷ 2 ∷ 3 ∷ 4 ∷ 5 ∷ [])) (trees 4)) }
     ensures kinds { (rule : Rule) → result ≢ Err (Fault.Inconsistent rule) }
     ensures same { HasCleanDisk (state S.Store conn.new) → (trees : Trees) → IsDeskFile trees (state S.Store conn.old) → result ≢ Err Fault.StoreFault → IsDeskFile trees (state S.Store conn.new) }
     ensures survives { Survives (state S.Store conn.old) (state S.Store conn.new) (λ _. ⊥) }
@@ -224,8 +224,11 @@ pub(crate) fn read_orders<S: Alter>(
     conn: &mut Connection<S>,
 ) -> Result<Vec<Order>, Fault>
     ensures given { HasCleanDisk (state S.Store conn.new) → (accounts : List AccountSpec) (book : Book) → HasRecords accounts book (state S.Store conn.old) → IfOk result (λ v. v.items ≡ book.orders) }
-    ensures is { HasCleanDisk (state S.Store conn.new) → (trees : Trees) → IsDeskFile trees (state S.Store conn.old) → IfOk result (λ v. AllByRecursion FitsOrder v.items × (AllByRecursion IsNumberedOrder v.items → ShowsPayments trees (map shown_order v.items))) }
+    ensures is { HasCleanDisk (state S.Store conn.new) → (trees : Trees) → IsDeskFile trees (state S.Store conn.old) → IfOk result (λ v. AllByRecursion FitsOrder v.items × AreTold (0 ∷ 2 ∷ 3 ∷ 4 ∷ 5 ∷ 6 ∷ 7 ∷ 8 ∷ []) counted_of_order (trees 6) (map shown_order v.items)) }
     ensures right { HasCleanDisk (state S.Store conn.new) → (accounts : List AccountSpec) (book : Book) → HasRecords accounts book (state S.Store conn.old) → result ≢ Err Fault.NotADeskFile }
+    ensures wrong { HasCleanDisk (state S.Store conn.new) → (trees : Trees) → IsDeskFile trees (state S.Store conn.old)
+        → result ≡ Err Fault.NotADeskFile → ¬ AllByRecursion (IsFormed FitsOrder counted_of_order shown_order)
+        (map (picked (0 ∷ 2 ∷ 3 ∷ 4 ∷ 5 ∷ 6 ∷ 7 ∷ 8 ∷ [])) (trees 6)) }
     ensures kinds { (rule : Rule) → result ≢ Err (Fault.Inconsistent rule) }
     ensures same { HasCleanDisk (state S.Store conn.new) → (trees : Trees) → IsDeskFile trees (state S.Store conn.old) → result ≢ Err Fault.StoreFault → IsDeskFile trees (state S.Store conn.new) }
     ensures survives { Survives (state S.Store conn.old) (state S.Store conn.new) (λ _. ⊥) }
@@ -244,8 +247,11 @@ pub(crate) fn read_marks<S: Alter>(
     conn: &mut Connection<S>,
 ) -> Result<Vec<Mark>, Fault>
     ensures given { HasCleanDisk (state S.Store conn.new) → (accounts : List AccountSpec) (book : Book) → HasRecords accounts book (state S.Store conn.old) → IfOk result (λ v. v.items ≡ book.marks) }
-    ensures is { HasCleanDisk (state S.Store conn.new) → (trees : Trees) → IsDeskFile trees (state S.Store conn.old) → IfOk result (λ v. AllByRecursion FitsMark v.items × (AllByRecursion IsNumberedMark v.items → ShowsMarks trees (map shown_mark v.items))) }
+    ensures is { HasCleanDisk (state S.Store conn.new) → (trees : Trees) → IsDeskFile trees (state S.Store conn.old) → IfOk result (λ v. AllByRecursion FitsMark v.items × AreTold (0 ∷ 2 ∷ 3 ∷ 4 ∷ []) counted_of_mark (trees 8) (map shown_mark v.items)) }
     ensures right { HasCleanDisk (state S.Store conn.new) → (accounts : List AccountSpec) (book : Book) → HasRecords accounts book (state S.Store conn.old) → result ≢ Err Fault.NotADeskFile }
+    ensures wrong { HasCleanDisk (state S.Store conn.new) → (trees : Trees) → IsDeskFile trees (state S.Store conn.old)
+        → result ≡ Err Fault.NotADeskFile → ¬ AllByRecursion (IsFormed FitsMark counted_of_mark shown_mark)
+        (map (picked (0 ∷ 2 ∷ 3 ∷ 4 ∷ [])) (trees 8)) }
     ensures kinds { (rule : Rule) → result ≢ Err (Fault.Inconsistent rule) }
     ensures same { HasCleanDisk (state S.Store conn.new) → (trees : Trees) → IsDeskFile trees (state S.Store conn.old) → result ≢ Err Fault.StoreFault → IsDeskFile trees (state S.Store conn.new) }
     ensures survives { Survives (state S.Store conn.old) (state S.Store conn.new) (λ _. ⊥) }

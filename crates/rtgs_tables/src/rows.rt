@@ -1,15 +1,15 @@
 //! The record of each table's row.
-ghost use Rattle.std.specs.Prelude.{◌≡◌, ◌<◌, pos, length, Some, IfSome, ⊤};
+ghost use Rattle.std.specs.Prelude.{◌≡◌, ◌<◌, pos, [], length, Some, IfSome};
 ghost use Rattle.sqlite_value.specs.Order.{column};
 ghost use Rattle.sqlite.specs.declared.types.Value.TheVariants.{Int};
 ghost use Rattle.rtgs_book.specs.declared.Phase.{Phase as PhaseSpec};
 ghost use Rattle.rtgs_book.specs.declared.OrderState.{OrderState as StateSpec};
 ghost use Rattle.rtgs_rows.specs.Rows.{phase_number, state_number, mark_value, shown_day, shown_account, shown_posting, shown_order, shown_mark};
 ghost use Rattle.rtgs_rows.specs.Fitting.{FitsDate, FitsParticipant, FitsPosting, FitsOrder, FitsMark};
-ghost use Rattle.rtgs_tables.specs.Numbers.{IsNumberedPosting, IsNumberedState, IsNumberedOrder, IsNumberedMark};
+ghost use Rattle.rtgs_tables.specs.Numbers.{at_least_zero, counted_of_posting, counted_of_order, counted_of_mark};
 
 use crate::fields::{
-    blob, cents, code, date, date_or_null, int, is_null, name, number, reference, unsigned,
+    blob, cents, code, date, date_or_null, int, is_null, name, number, reference, unsigned, width,
 };
 use crate::table_row::TableRow;
 use rtgs_book::{Account, Day, Mark, Order, OrderState, Participant, Phase, Posting};
@@ -31,11 +31,10 @@ impl TableRow for Day {
 
     ghost fits = { λ day. FitsDate day.date };
 
-    ghost width = { 4 };
-
-    ghost is_numbered = { λ _. ⊤ };
+    ghost counted = { [] };
 
     fn from_row(row: &Row) -> Option<Day> {
+        width(row, 4)?;
         if int(row, 0)? != DESK_ID || int(row, 1)? != VERSION {
             return None;
         }
@@ -51,11 +50,10 @@ impl TableRow for Account {
 
     ghost fits = { λ a. FitsParticipant a.participant };
 
-    ghost width = { 5 };
-
-    ghost is_numbered = { λ _. ⊤ };
+    ghost counted = { [] };
 
     fn from_row(row: &Row) -> Option<Account> {
+        width(row, 5)?;
         let participant = Participant {
             code: code(row, 0)?,
             name: name(row, 1)?,
@@ -74,11 +72,10 @@ impl TableRow for Posting {
 
     ghost fits = { FitsPosting };
 
-    ghost width = { 5 };
-
-    ghost is_numbered = { IsNumberedPosting };
+    ghost counted = { counted_of_posting };
 
     fn from_row(row: &Row) -> Option<Posting> {
+        width(row, 5)?;
         Some(Posting {
             number: number(row, 0)?,
             code: code(row, 1)?,
@@ -94,11 +91,10 @@ impl TableRow for Order {
 
     ghost fits = { FitsOrder };
 
-    ghost width = { 8 };
-
-    ghost is_numbered = { IsNumberedOrder };
+    ghost counted = { counted_of_order };
 
     fn from_row(row: &Row) -> Option<Order> {
+        width(row, 8)?;
         Some(Order {
             number: number(row, 0)?,
             sender: code(row, 1)?,
@@ -116,11 +112,10 @@ impl TableRow for Mark {
 
     ghost fits = { FitsMark };
 
-    ghost width = { 4 };
-
-    ghost is_numbered = { IsNumberedMark };
+    ghost counted = { counted_of_mark };
 
     fn from_row(row: &Row) -> Option<Mark> {
+        width(row, 4)?;
         Some(Mark {
             number: number(row, 0)?,
             date: date(row, 1)?,
@@ -143,10 +138,11 @@ fn phase_of(number: u64) -> Option<Phase>
     }
 }
 
-/// The state at one place, and at the other the mark of a settled order, which no other order has.
+/// The state at one place, and at the other the mark of a settled order, which no other order has. A mark below zero is
+/// read as 0.
 fn state(row: &Row, at: usize, mark_at: usize) -> Option<OrderState>
-    ensures found { (state : StateSpec) → at < length row.now → mark_at < length row.now → column row.now at ≡ Int (pos (state_number state)) → column row.now mark_at ≡ mark_value state → result ≡ Some state }
-    ensures is { IfSome result (λ it. (column row.now at ≡ Int (pos (state_number it))) × (IsNumberedState it → column row.now mark_at ≡ mark_value it)) }
+    ensures found { (state : StateSpec) → at < length row.now → mark_at < length row.now → column row.now at ≡ Int (pos (state_number state)) → at_least_zero (column row.now mark_at) ≡ mark_value state → result ≡ Some state }
+    ensures is { IfSome result (λ it. (column row.now at ≡ Int (pos (state_number it))) × (at_least_zero (column row.now mark_at) ≡ mark_value it)) }
 {
     let has_mark = !is_null(row, mark_at);
     match (unsigned(row, at)?, has_mark) {

@@ -82,10 +82,11 @@ impl<S: Alter + Drop> SqlKeeper<S> {
 impl<S: Alter + Drop> Keeper for SqlKeeper<S> {
     ghost use Rattle.rtgs_rows.specs.Keeping.{HoldsBook, MayLeave, IsWhole};
     ghost use Rattle.rtgs_rows.proofs.Settling as settling;
-    ghost use Rattle.rtgs_rows.specs.Querying.{HasTables};
+    ghost use Rattle.rtgs_rows.specs.Querying.{HasTables, IsDeskFile};
+    ghost use Rattle.sqlite.specs.Tree.{Trees};
     ghost use Rattle.rtgs_tables.specs.Building.{IsBlank};
     ghost use Rattle.rtgs_book.specs.declared.account.Account.{Account as AccountSpec};
-    ghost use Rattle.rtgs_tables.specs.Accounts.{HasRecords, ExplainsRead};
+    ghost use Rattle.rtgs_tables.specs.Accounts.{HasRecords, ExplainsRead, ExplainsTrees};
     ghost use Rattle.std.specs.Prelude.{List};
 
     ghost content = { λ k. HoldsBook S.Store k.conn };
@@ -100,7 +101,9 @@ impl<S: Alter + Drop> Keeper for SqlKeeper<S> {
 
     ghost is_whole = { λ k. IsWhole S.Store k.conn };
 
-    ghost explains = { λ k fault. (accounts : List AccountSpec) (book : Book) → HasRecords accounts book (state S.Store k.conn) → ExplainsRead accounts book fault };
+    ghost explains = { λ k fault. ((accounts : List AccountSpec) (book : Book)
+        → HasRecords accounts book (state S.Store k.conn) → ExplainsRead accounts book fault)
+        × ((trees : Trees) → IsDeskFile trees (state S.Store k.conn) → ExplainsTrees trees fault) };
 
     ghost is_honest = { λ k. HasCleanDisk (state S.Store k.conn) };
 

@@ -1,8 +1,9 @@
 //! What a table's row says.
-ghost use Rattle.std.specs.Prelude.{◌≡◌, ◌≢◌, ℕ, List, length, map, Some, Err, IfOk, IfSome};
-ghost use Rattle.std.specs.List.{AllByRecursion, AllZip};
+ghost use Rattle.std.specs.Prelude.{◌≡◌, ◌≢◌, ℕ, Bool, List, map, Some, Err, IfOk, IfSome};
+ghost use Rattle.std.specs.List.{AllByRecursion};
 ghost use Rattle.rtgs_book.specs.declared.Rule.{Rule};
 ghost use Rattle.sqlite_value.specs.declared.value.Value.{Value};
+ghost use Rattle.rtgs_tables.specs.Numbers.{as_read, IsFormed};
 
 use rtgs_book::Fault;
 use sqlite::Row;
@@ -15,30 +16,49 @@ pub(crate) trait TableRow: Sized {
 
     ghost fits: { Self → Type 0 };
 
-    // How many columns the query shows, and whether the numbers of the record are above zero: one below is read as 0.
-    ghost width: { ℕ };
+    // The places of the numbers that are read as 0 where they are below zero.
+    ghost counted: { List Bool };
 
-    ghost is_numbered: { Self → Type 0 };
-
-    /// The record, where each value of the row is in its form and range.
+    /// The record, where each value of the row is in its form and range, and there are no more values.
     fn from_row(row: &Row) -> Option<Self>
-        ensures found { (it : Self) → fits it → row.now ≡ shown it → result ≡ Some it }
-        ensures is { IfSome result (λ it. fits it × (length row.now ≡ width → is_numbered it → row.now ≡ shown it)) };
+        ensures found { (it : Self) → fits it → as_read counted row.now ≡ shown it → result ≡ Some it }
+        ensures is { IfSome result (λ it. fits it × (as_read counted row.now ≡ shown it)) };
 }
 
-/// The records of the rows, in their order. A row that is in no form is `NotADeskFile`.
+/// The records of the rows, in their order. A row that is in no form is `NotADeskFile`, also where memory is wanting.
 pub(crate) fn decode<T: TableRow + Drop>(alloc: Global, rows: &[Row]) -> Result<Vec<T>, Fault>
-    ensures given { (records : List T) → AllByRecursion T.fits records → rows.now ≡ map T.shown records → IfOk result (λ v. v.items ≡ records) }
-    ensures is { IfOk result (λ v. AllZip (λ row it. T.fits it × (length row ≡ T.width → T.is_numbered it → row ≡ T.shown it)) rows.now v.items) }
-    ensures right { (records : List T) → AllByRecursion T.fits records → rows.now ≡ map T.shown records → result ≢ Err Fault.NotADeskFile }
+    ensures given { (records : List T) → AllByRecursion T.fits records
+        → map (as_read T.counted) rows.now ≡ map T.shown records → IfOk result (λ v. v.items ≡ records) }
+    ensures is { IfOk result (λ v. AllByRecursion T.fits v.items
+        × (map (as_read T.counted) rows.now ≡ map T.shown v.items)) }
+    ensures wrong { result ≡ Err Fault.NotADeskFile
+        → ¬ AllByRecursion (IsFormed T.fits T.counted T.shown) rows.now }
+    ensures memory { result ≡ Err Fault.OutOfMemory
+        → AllByRecursion (IsFormed T.fits T.counted T.shown) rows.now }
     ensures kinds { (result ≢ Err Fault.StoreFault) × ((rule : Rule) → result ≢ Err (Fault.Inconsistent rule)) }
 {
-    let mut records = Vec::with_capacity(alloc, rows.len())?;
+    let Ok(mut records) = Vec::with_capacity(alloc, rows.len()) else {
+        return Err(without_room::<T>(rows));
+    };
     for row in rows {
         match T::from_row(row) {
-            Some(record) => records.push(record)?,
+            Some(record) => records.push_reserved(record),
             None => return Err(Fault::NotADeskFile),
         }
     }
     Ok(records)
+}
+
+/// What rows come to for whose records there is no memory.
+fn without_room<T: TableRow + Drop>(rows: &[Row]) -> Fault
+    ensures wrong { result ≡ Fault.NotADeskFile → ¬ AllByRecursion (IsFormed T.fits T.counted T.shown) rows.now }
+    ensures memory { result ≡ Fault.OutOfMemory → AllByRecursion (IsFormed T.fits T.counted T.shown) rows.now }
+    ensures kinds { (result ≢ Fault.StoreFault) × ((rule : Rule) → result ≢ Fault.Inconsistent rule) }
+{
+    for row in rows {
+        if T::from_row(row).is_none() {
+            return Fault::NotADeskFile;
+        }
+    }
+    Fault::OutOfMemory
 }

@@ -4,7 +4,7 @@ use Rattle.sqlite.specs.Held.{state}
 use Rattle.rtgs_book.specs.declared.Fault.TheVariants.{StoreFault}
 use Rattle.rtgs_rows.specs.Tables.{desk_schema}
 use Rattle.rtgs_tables.specs.Accounts.{ExplainsRead}
-use Rattle.rtgs_tables.proofs.Judging.{judged_book, unread, answered}
+use Rattle.rtgs_tables.proofs.Judging.{judged_book, judged_of, unread, unread_of, answered}
 use Rattle.rtgs_tables.proofs.Together.{held_book}
 use Rattle.rtgs_tables.proofs.loading.load_book.Goals as goal
 
@@ -33,3 +33,10 @@ returns-in_err-stored-clause-same g c clean trees file other = c.read_tables.ens
 
 pub returns-clause-same : goal.returns-clause-same
 returns-clause-same g c clean trees file other = c.read_tables.ensures.same clean trees file (λ e. let is = c.in_ok-stored.was in cc)
+
+pub returns-in_err-stored-clause-caused : goal.returns-in_err-stored-clause-caused
+returns-in_err-stored-clause-caused g c clean trees file =
+    unread_of trees c.read_tables.result _ c.from_residual.result (c.read_tables.ensures.wrong clean trees file) c.read_tables.ensures.kinds c.in_err-stored.was c.from_residual.ensures.1
+
+pub returns-clause-caused : goal.returns-clause-caused
+returns-clause-caused g c clean trees file = judged_of trees _ _ c.judged.result (c.in_ok-stored.ensures.is clean trees file) c.judged.ensures.explained

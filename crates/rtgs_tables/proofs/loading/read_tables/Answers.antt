@@ -161,3 +161,43 @@ returns-clause-is g c clean trees file =
     let v4 = c.in_ok-marks.ensures.is c4 trees f3 in
     let participants = c.from_vec.ensures ∙ c.in_ok-participants.ensures ∙ ap (map (λ (a : Account). a.participant)) c.as_slice.ensures.value in
     are_read_of trees _ _ participants c.from_vec-2.ensures c.from_vec-3.ensures c.from_vec-4.ensures v0 v1 v2 v3 v4
+
+pub returns-in_err-day-clause-wrong : goal.returns-in_err-day-clause-wrong
+returns-in_err-day-clause-wrong g c clean trees file e formed =
+    c.read_day.ensures.wrong clean trees file (same_fault c.read_day.result _ NotADeskFile c.from_residual.result c.in_err-day.was c.from_residual.ensures.1 e) formed.desk
+
+pub returns-in_err-accounts-clause-wrong : goal.returns-in_err-accounts-clause-wrong
+returns-in_err-accounts-clause-wrong g c clean trees file e formed =
+    let c0 : HasCleanDisk (state g.S.Store c.read_day.new.conn) = omega (arith, c.read_accounts.ensures.survives.clean) in
+    let f0 = c.read_day.ensures.same c0 trees file (λ e. let is = c.in_ok-day.was in cc) in
+    c.read_accounts.ensures.wrong clean trees f0 (same_fault c.read_accounts.result _ NotADeskFile c.from_residual-in_err-accounts.result c.in_err-accounts.was c.from_residual-in_err-accounts.ensures.1 e) formed.participants
+
+pub returns-in_err-postings-clause-wrong : goal.returns-in_err-postings-clause-wrong
+returns-in_err-postings-clause-wrong g c clean trees file e formed =
+    let c1 : HasCleanDisk (state g.S.Store c.read_accounts.new.conn) = omega (arith, c.read_postings.ensures.survives.clean) in
+    let c0 : HasCleanDisk (state g.S.Store c.read_day.new.conn) = omega (arith, c.read_accounts.ensures.survives.clean) in
+    let f0 = c.read_day.ensures.same c0 trees file (λ e. let is = c.in_ok-day.was in cc) in
+    let f1 = c.read_accounts.ensures.same c1 trees f0 (λ e. let is = c.in_ok-accounts.was in cc) in
+    c.read_postings.ensures.wrong clean trees f1 (same_fault c.read_postings.result _ NotADeskFile c.from_residual-in_err-postings.result c.in_err-postings.was c.from_residual-in_err-postings.ensures.1 e) formed.postings
+
+pub returns-in_err-orders-clause-wrong : goal.returns-in_err-orders-clause-wrong
+returns-in_err-orders-clause-wrong g c clean trees file e formed =
+    let c2 : HasCleanDisk (state g.S.Store c.read_postings.new.conn) = omega (arith, c.read_orders.ensures.survives.clean) in
+    let c1 : HasCleanDisk (state g.S.Store c.read_accounts.new.conn) = omega (arith, c.read_postings.ensures.survives.clean) in
+    let c0 : HasCleanDisk (state g.S.Store c.read_day.new.conn) = omega (arith, c.read_accounts.ensures.survives.clean) in
+    let f0 = c.read_day.ensures.same c0 trees file (λ e. let is = c.in_ok-day.was in cc) in
+    let f1 = c.read_accounts.ensures.same c1 trees f0 (λ e. let is = c.in_ok-accounts.was in cc) in
+    let f2 = c.read_postings.ensures.same c2 trees f1 (λ e. let is = c.in_ok-postings.was in cc) in
+    c.read_orders.ensures.wrong clean trees f2 (same_fault c.read_orders.result _ NotADeskFile c.from_residual-in_err-orders.result c.in_err-orders.was c.from_residual-in_err-orders.ensures.1 e) formed.payments
+
+pub returns-in_err-marks-clause-wrong : goal.returns-in_err-marks-clause-wrong
+returns-in_err-marks-clause-wrong g c clean trees file e formed =
+    let c3 : HasCleanDisk (state g.S.Store c.read_orders.new.conn) = omega (arith, c.read_marks.ensures.survives.clean) in
+    let c2 : HasCleanDisk (state g.S.Store c.read_postings.new.conn) = omega (arith, c.read_orders.ensures.survives.clean) in
+    let c1 : HasCleanDisk (state g.S.Store c.read_accounts.new.conn) = omega (arith, c.read_postings.ensures.survives.clean) in
+    let c0 : HasCleanDisk (state g.S.Store c.read_day.new.conn) = omega (arith, c.read_accounts.ensures.survives.clean) in
+    let f0 = c.read_day.ensures.same c0 trees file (λ e. let is = c.in_ok-day.was in cc) in
+    let f1 = c.read_accounts.ensures.same c1 trees f0 (λ e. let is = c.in_ok-accounts.was in cc) in
+    let f2 = c.read_postings.ensures.same c2 trees f1 (λ e. let is = c.in_ok-postings.was in cc) in
+    let f3 = c.read_orders.ensures.same c3 trees f2 (λ e. let is = c.in_ok-orders.was in cc) in
+    c.read_marks.ensures.wrong clean trees f3 (same_fault c.read_marks.result _ NotADeskFile c.from_residual-in_err-marks.result c.in_err-marks.was c.from_residual-in_err-marks.ensures.1 e) formed.marks

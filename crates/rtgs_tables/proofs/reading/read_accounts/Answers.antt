@@ -1,28 +1,45 @@
 use Rattle.rtgs_tables.proofs.Accounts.{accounts_fit}
-use Rattle.std.proofs.Common.{[], ◌∷◌, map, IsPermutation, sym, subst, ◌∙◌}
+use Rattle.std.proofs.Common.{[], ◌∷◌, map, IsPermutation, refl, sym, subst, ◌∙◌}
 use Rattle.rtgs_rows.specs.Fitting.{FitsParticipant}
 use Rattle.rtgs_rows.specs.Rows.{shown_account}
 use Rattle.rtgs_rows.specs.Querying.{picked}
 use Rattle.rtgs_book.specs.declared.account.Account.{Account}
-use Rattle.rtgs_tables.proofs.Told.{read_plainly}
+use Rattle.rtgs_tables.proofs.Told.{read_plainly, misread}
+use Rattle.sqlite.specs.Order.{Row}
+use Rattle.rtgs_tables.proofs.AsRead.{rows_same, are_formed}
 use Rattle.sqlite.specs.Held.{state}
 use Rattle.rtgs_rows.proofs.Querying.{file_of}
 use Rattle.rtgs_tables.proofs.Keeps.{not_foreign, file_after}
 use Rattle.rtgs_tables.proofs.reading.read_accounts.Goals as goal
 
+abbrev fits : Account → Type 0
+fits a = FitsParticipant a.participant
+
+abbrev shown : Account → Row
+shown a = shown_account a.participant a.balance
+
 pub returns-in-Ok-clause-given : goal.returns-in-Ok-clause-given
 returns-in-Ok-clause-given g c clean accounts book held =
-    c.decode.ensures.given accounts (accounts_fit held.0 accounts book held.2) (c.as_slice.ensures.value ∙ c.in-Ok.ensures.rows clean accounts book held)
+    c.decode.ensures.given accounts (accounts_fit held.0 accounts book held.2) (rows_same [] shown (λ a. refl) _ _ (c.as_slice.ensures.value ∙ c.in-Ok.ensures.rows clean accounts book held))
 
 pub returns-in-Ok-clause-right : goal.returns-in-Ok-clause-right
-returns-in-Ok-clause-right g c clean accounts book held =
-    c.decode.ensures.right accounts (accounts_fit held.0 accounts book held.2) (c.as_slice.ensures.value ∙ c.in-Ok.ensures.rows clean accounts book held)
+returns-in-Ok-clause-right g c clean accounts book held e =
+    c.decode.ensures.wrong e (are_formed fits [] shown accounts (accounts_fit held.0 accounts book held.2) _ (rows_same [] shown (λ a. refl) _ _ (c.as_slice.ensures.value ∙ c.in-Ok.ensures.rows clean accounts book held)))
 
 pub returns-in-Ok-clause-is : goal.returns-in-Ok-clause-is
 returns-in-Ok-clause-is g c clean trees file =
     let places = 1 ∷ 2 ∷ 3 ∷ 4 ∷ 5 ∷ [] in
     let seen = subst (IsPermutation (map (picked places) (trees 1))) (sym c.as_slice.ensures.value) (c.in-Ok.ensures.raw clean trees file) in
-    read_plainly (λ (a : Account). FitsParticipant a.participant) (λ (a : Account). shown_account a.participant a.balance) places (trees 1) _ c.decode.result seen c.decode.ensures.is
+    read_plainly fits shown places (trees 1) _ c.decode.result seen c.decode.ensures.is
+
+pub returns-in-Ok-clause-wrong : goal.returns-in-Ok-clause-wrong
+returns-in-Ok-clause-wrong g c clean trees file e =
+    let places = 1 ∷ 2 ∷ 3 ∷ 4 ∷ 5 ∷ [] in
+    let seen = subst (IsPermutation (map (picked places) (trees 1))) (sym c.as_slice.ensures.value) (c.in-Ok.ensures.raw clean trees file) in
+    misread fits [] shown places (trees 1) _ seen (c.decode.ensures.wrong e)
+
+pub returns-in-Err-clause-wrong : goal.returns-in-Err-clause-wrong
+returns-in-Err-clause-wrong g c clean trees file e = absurd (not_foreign c.fault_of.result (c.fault_of.ensures.right (c.in-Err.ensures.refused (c.fault_of.ensures.honest clean) trees file)) e)
 
 pub returns-in-Ok-clause-same : goal.returns-in-Ok-clause-same
 returns-in-Ok-clause-same g c clean trees file _ = c.in-Ok.ensures.kept clean trees file

@@ -1,8 +1,7 @@
-use Rattle.std.proofs.Common.{◌≡◌, List, map, take, length}
-use Rattle.std.specs.List.{AllByRecursion, AllZip}
+use Rattle.std.proofs.Common.{vec_capacity}
+use Rattle.rtgs_tables.specs.Numbers.{as_read}
+use Rattle.rtgs_tables.proofs.Decoding.{SoFar}
 use Rattle.rtgs_tables.proofs.table_row.decode.Given as goal
 
 abbrev pub invariant-loop-row : goal.invariant-loop-row
-invariant-loop-row g l =
-    AllZip (λ row it. g.T.TableRow.fits it × (length row ≡ g.T.TableRow.width → g.T.TableRow.is_numbered it → row ≡ g.T.TableRow.shown it)) (take l.row-index l.rows) l.records.items
-    × ((found : List g.row.T.Denot) → AllByRecursion g.T.TableRow.fits found → l.rows ≡ map g.T.TableRow.shown found → l.records.items ≡ take l.row-index found)
+invariant-loop-row g l = SoFar g.T.TableRow.fits (as_read g.T.TableRow.counted) g.T.TableRow.shown l.rows l.row-index (vec_capacity l.records) l.records.items

@@ -1,6 +1,7 @@
 use Rattle.sqlite.specs.Held.{state}
 use Rattle.rtgs_tables.specs.Accounts.{accounts_of, HasRecords}
 use Rattle.rtgs_tables.proofs.Accounts.{has_own, own_balances}
+use Rattle.rtgs_rows.specs.Querying.{IsDeskFile}
 use Rattle.rtgs_rows.proofs.Querying.{file_of, rests_of}
 use Rattle.rtgs_rows.proofs.Settling.{leaves_less}
 use Rattle.rtgs_tables.proofs.Together.{kept_book}
@@ -30,10 +31,10 @@ pub returns-else-self-clause-stops : goal.returns-else-self-clause-stops
 returns-else-self-clause-stops g c clean other left = leaves_less g.S.Store c.args.self.now.conn c.load_book-loaded.new.conn c.load_book-loaded.ensures.survives clean other left
 
 pub returns-else-self-2-clause-explained : goal.returns-else-self-2-clause-explained
-returns-else-self-2-clause-explained g c clean = explained (λ accounts book. HasRecords accounts book (state g.S.Store c.args.self.now.conn)) c.load_book-loaded.result (c.load_book-loaded.ensures.explained clean)
+returns-else-self-2-clause-explained g c clean = explained (λ accounts book. HasRecords accounts book (state g.S.Store c.args.self.now.conn)) (λ trees. IsDeskFile trees (state g.S.Store c.args.self.now.conn)) c.load_book-loaded.result (c.load_book-loaded.ensures.explained clean) (c.load_book-loaded.ensures.caused clean)
 
 pub returns-else-self-clause-explained : goal.returns-else-self-clause-explained
-returns-else-self-clause-explained g c clean = explained (λ accounts book. HasRecords accounts book (state g.S.Store c.args.self.now.conn)) c.load_book-loaded.result (c.load_book-loaded.ensures.explained clean)
+returns-else-self-clause-explained g c clean = explained (λ accounts book. HasRecords accounts book (state g.S.Store c.args.self.now.conn)) (λ trees. IsDeskFile trees (state g.S.Store c.args.self.now.conn)) c.load_book-loaded.result (c.load_book-loaded.ensures.explained clean) (c.load_book-loaded.ensures.caused clean)
 
 pub returns-else-self-2-clause-kept : goal.returns-else-self-2-clause-kept
 returns-else-self-2-clause-kept g c clean tables =
