@@ -1,7 +1,7 @@
 //! Faults of requests.
 ghost use Rattle.std.specs.Prelude.{◌≡◌, Some};
 ghost use Rattle.rtgs_refusals.specs.Table.{entry_of};
-ghost use Rattle.rtgs_http_requests.specs.Faults.{http_kind_of, kind_of_form, kind_of_batch};
+ghost use Rattle.rtgs_http_requests.specs.Faults.{http_kind_of};
 
 use rtgs_exchange::BatchFault;
 use rtgs_http_feeds::Truncated;
@@ -54,8 +54,8 @@ impl HttpFault {
             HttpFault::WrongFields => RefusalKind::WrongFields,
             HttpFault::NoSuchRoute => RefusalKind::NoSuchRoute,
             HttpFault::NoKey => RefusalKind::NoKey,
-            HttpFault::Form(form) => kind_of_form(form),
-            HttpFault::Batch(fault) => kind_of_batch(fault),
+            HttpFault::Form(form) => form.kind(),
+            HttpFault::Batch(fault) => fault.kind(),
             HttpFault::OutOfMemory => RefusalKind::OutOfMemory,
         }
     }
@@ -68,32 +68,6 @@ impl HttpFault {
             unreachable!();
         };
         status
-    }
-}
-
-// What a fault of a form is known by.
-fn kind_of_form(form: Lexical) -> RefusalKind
-    ensures { result ≡ kind_of_form form }
-{
-    match form {
-        Lexical::BadCode => RefusalKind::BadCode,
-        Lexical::BadReference => RefusalKind::BadReference,
-        Lexical::BadAmount => RefusalKind::BadAmount,
-        Lexical::BadName => RefusalKind::BadName,
-        Lexical::BadKey => RefusalKind::BadKey,
-        Lexical::BadDate => RefusalKind::BadDate,
-    }
-}
-
-// What a fault of an order file is known by.
-fn kind_of_batch(fault: BatchFault) -> RefusalKind
-    ensures { result ≡ kind_of_batch fault }
-{
-    match fault {
-        BatchFault::BadHeader => RefusalKind::BadHeader,
-        BatchFault::BadRow { .. } => RefusalKind::BadRow,
-        BatchFault::BadCount => RefusalKind::BadCount,
-        BatchFault::OutOfMemory => RefusalKind::OutOfMemory,
     }
 }
 

@@ -1,0 +1,19 @@
+#![tactic(auto)]
+//! Judges the longest heads and bodies that a request may have, given in one piece and byte by byte. It prints
+//! how long they are, which is the same in every run, and with the argument `times` the shortest of twenty times too.
+mod bodies;
+mod heads;
+
+use anyhow::Result;
+use std::env;
+
+fn main(rt: HostRuntime) -> Result<()> {
+    let timed = env::args(&rt)?.any(|word| word.as_str() == "times");
+    for length in [2048, 4096, 8192] {
+        heads::measure(&rt, length, timed)?;
+    }
+    for length in [16384, 32768, 65536] {
+        bodies::measure(&rt, length, timed)?;
+    }
+    Ok(())
+}
