@@ -1,0 +1,6 @@
+use Rattle.rtgs_http_feeds.specs.Region.{IsOpen}
+use Rattle.rtgs_http_trials.proofs.tests.pieces.head_in_bytes.Given as goal
+
+-- The bytes before this place hold no region.
+abbrev pub invariant-loop-place : goal.invariant-loop-place
+invariant-loop-place l = IsOpen l.feed
