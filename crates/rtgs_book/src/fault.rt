@@ -1,8 +1,9 @@
 //! Faults of a book, or of what keeps it.
 ghost use Rattle.std.specs.Prelude.{◌≡◌};
-ghost use Rattle.rtgs_book.specs.Refusals.{fault_entry_of};
+ghost use Rattle.rtgs_book.specs.Refusals.{fault_kind_of};
 
 use crate::rule::Rule;
+use rtgs_refusals::RefusalKind;
 use std::alloc::{AllocError, AllocFailed};
 
 /// Why there is no book.
@@ -19,37 +20,15 @@ pub enum Fault {
 }
 
 impl Fault {
-    /// The number by which the fault is known.
-    pub fn number(self) -> u8
-        ensures { result ≡ (fault_entry_of self).number }
-    {
-        self.entry().0
-    }
-
-    /// The name that is printed with the number.
-    pub fn name(self) -> &'static str
-        ensures { result.now ≡ (fault_entry_of self).name }
-    {
-        self.entry().1
-    }
-
-    /// The status with which the program ends.
-    pub fn exit_status(self) -> u8
-        ensures { result ≡ (fault_entry_of self).exit_status }
-    {
-        3
-    }
-
-    // The table: number and name.
-    fn entry(self) -> (u8, &'static str)
-        ensures number { result.0 ≡ (fault_entry_of self).number }
-        ensures name { result.1.now ≡ (fault_entry_of self).name }
+    /// What the fault is known by: its number, its name and its statuses.
+    pub fn kind(self) -> RefusalKind
+        ensures { result ≡ fault_kind_of self }
     {
         match self {
-            Fault::OutOfMemory => (90, "OutOfMemory"),
-            Fault::StoreFault => (91, "StoreFault"),
-            Fault::NotADeskFile => (93, "NotADeskFile"),
-            Fault::Inconsistent { .. } => (94, "Inconsistent"),
+            Fault::OutOfMemory => RefusalKind::OutOfMemory,
+            Fault::StoreFault => RefusalKind::StoreFault,
+            Fault::NotADeskFile => RefusalKind::NotADeskFile,
+            Fault::Inconsistent { .. } => RefusalKind::Inconsistent,
         }
     }
 }

@@ -287,16 +287,16 @@ fn refusals_are_numbered(rt: HostRuntime) -> Result<(), Fail> {
         (Refusal::OutOfMemory, 90, "OutOfMemory", 503, 3),
         (Refusal::Failed, 92, "Failed", 503, 3),
     ] {
-        assert_eq!(rt; refusal.number(), number);
-        assert_eq!(rt; refusal.name(), name);
-        assert_eq!(rt; refusal.http_status(), http);
-        assert_eq!(rt; refusal.exit_status(), exit);
+        assert_eq!(rt; refusal.kind().number(), number);
+        assert_eq!(rt; refusal.kind().name(), name);
+        assert_eq!(rt; refusal.kind().http_status(), Some(http));
+        assert_eq!(rt; refusal.kind().exit_status(), Some(exit));
     }
     let fault = Fault::Inconsistent {
         rule: Rule::StoredBalances,
     };
-    assert_eq!(rt; fault.number(), 94);
-    assert_eq!(rt; fault.name(), "Inconsistent");
-    assert_eq!(rt; fault.exit_status(), 3);
+    assert_eq!(rt; fault.kind().number(), 94);
+    assert_eq!(rt; fault.kind().name(), "Inconsistent");
+    assert_eq!(rt; fault.kind().exit_status(), Some(3));
     Ok(())
 }

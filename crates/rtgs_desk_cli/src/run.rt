@@ -9,17 +9,12 @@ use rtgs_book_file::{make, with_desk};
 use rtgs_desk_arguments::read_words;
 use rtgs_desk_lines::{Done, Failure};
 use rtgs_desk_requests::{Request, Words};
+use rtgs_refusals::exit_status::{DONE, FAILED, MISUSED};
 use std::io::Write;
-
-/// Standard output took no help.
-const FAILED: u8 = 3;
-
-/// The words are no command line.
-const MISUSED: u8 = 2;
 
 /// Prints what the command line itself has to say: help on standard output, a fault on standard error.
 fn explain<O: Write, E: Write>(error: &Error, out: &mut O, err: &mut E) -> u8
-    ensures { result ≤ 3 }
+    ensures { result ≤ FAILED }
 {
     if error.kind() == ErrorKind::OutOfMemory {
         return Failure::Refused(Refusal::OutOfMemory).print(err);
@@ -29,7 +24,7 @@ fn explain<O: Write, E: Write>(error: &Error, out: &mut O, err: &mut E) -> u8
         return MISUSED;
     }
     match write!(out, "{error}") {
-        Ok(()) => 0,
+        Ok(()) => DONE,
         Err(_) => FAILED,
     }
 }
@@ -41,7 +36,7 @@ fn submit(rt: &HostRuntime, file: &str, command: Command) -> Result<Answer, Fail
 
 /// Does what was asked for, and prints what came of it.
 fn act<O: Write>(rt: &HostRuntime, request: &Request<'_>, out: &mut O) -> Result<u8, Failure>
-    ensures { IfOk result (λ status. status ≤ 3) }
+    ensures { IfOk result (λ status. status ≤ FAILED) }
 {
     match *request {
         Request::Make { file } => match make(rt, file) {
@@ -75,7 +70,7 @@ fn act<O: Write>(rt: &HostRuntime, request: &Request<'_>, out: &mut O) -> Result
 
 /// Reads the words' forms, and does what they ask for.
 fn obey<O: Write>(rt: &HostRuntime, words: &Words<'_>, out: &mut O) -> Result<u8, Failure>
-    ensures { IfOk result (λ status. status ≤ 3) }
+    ensures { IfOk result (λ status. status ≤ FAILED) }
 {
     match Request::read(rt.alloc(), words) {
         Ok(request) => act(rt, &request, out),
@@ -84,15 +79,15 @@ fn obey<O: Write>(rt: &HostRuntime, words: &Words<'_>, out: &mut O) -> Result<u8
 }
 
 /// One run of the program with the words after its name. Answers and help are printed on `out`, refusals and
-/// faults of the command line on `err`, each line with its end. The result is the exit status: 0 done, 1 refused,
-/// 2 no command line, 3 where the book, memory or standard output failed.
+/// faults of the command line on `err`, each line with its end. The result is the exit status: done (0),
+/// refused (1), misused (2) where the words are no command line, failed (3) where the book, memory or standard output did.
 pub fn run_words<O: Write, E: Write>(
     rt: &HostRuntime,
     words: &[&str],
     out: &mut O,
     err: &mut E,
 ) -> u8
-    ensures { result ≤ 3 }
+    ensures { result ≤ FAILED }
 {
     match read_words(rt.alloc(), words) {
         Ok(Some(words)) => match obey(rt, &words, out) {

@@ -1,7 +1,10 @@
--- What a run's refusal is known by, what is printed of it, and the status with which the run ends.
+-- What a run's refusal is known by, and what is printed of it.
 use Rattle.std.specs.Prelude.{ℕ, List, [], ◌++◌, codes, decimal, nat_lt, if◌then◌else◌}
-use Rattle.rtgs_money.specs.Lexical.{refusal_number, refusal_name}
-use Rattle.rtgs_book.specs.Refusals.{entry_of, fault_entry_of}
+use Rattle.rtgs_refusals.specs.Table.{Entry, entry_of}
+use Rattle.rtgs_refusals.specs.declared.refusal_kind.RefusalKind.{RefusalKind}
+use Rattle.rtgs_refusals.specs.declared.refusal_kind.RefusalKind.TheVariants as kind
+use Rattle.rtgs_money.specs.Lexical.{lexical_kind_of}
+use Rattle.rtgs_book.specs.Refusals.{refusal_kind_of, fault_kind_of}
 use Rattle.rtgs_book.specs.Judgement as rules
 use Rattle.rtgs_book.specs.declared.refusal.Refusal.{Refusal}
 use Rattle.rtgs_book.specs.declared.refusal.Refusal.TheVariants.{Overdrawn, OutOfMemory, StoreFault, Failed}
@@ -13,33 +16,22 @@ use Rattle.rtgs_desk_requests.specs.declared.word_fault.WordFault.{WordFault}
 use Rattle.rtgs_desk_requests.specs.declared.word_fault.WordFault.TheVariants as words
 use Rattle.rtgs_desk_lines.specs.declared.failure.Failure.{Failure}
 use Rattle.rtgs_desk_lines.specs.declared.failure.Failure.TheVariants.{Form, Refused, Opening, InUse, FileExists, Orders, OrdersTooLong, NoOrders}
-use Rattle.rtgs_exchange.specs.BatchFaults.{batch_entry_of}
+use Rattle.rtgs_exchange.specs.BatchFaults.{batch_kind_of}
 use Rattle.rtgs_exchange.specs.declared.batch_fault.BatchFault.{BatchFault}
 use Rattle.rtgs_exchange.specs.declared.batch_fault.BatchFault.TheVariants.{BadRow}
 
-abbrev pub number_of : Failure → ℕ
-number_of (Form form) = refusal_number form
-number_of (Refused refusal) = (entry_of refusal).number
-number_of (Opening fault) = (fault_entry_of fault).number
-number_of InUse = 95
-number_of FileExists = 96
-number_of (Orders fault) = (batch_entry_of fault).number
-number_of OrdersTooLong = 63
-number_of NoOrders = 98
+abbrev pub failure_kind_of : Failure → RefusalKind
+failure_kind_of (Form form) = lexical_kind_of form
+failure_kind_of (Refused refusal) = refusal_kind_of refusal
+failure_kind_of (Opening fault) = fault_kind_of fault
+failure_kind_of InUse = kind.InUse
+failure_kind_of FileExists = kind.FileExists
+failure_kind_of (Orders fault) = batch_kind_of fault
+failure_kind_of OrdersTooLong = kind.BodyTooLong
+failure_kind_of NoOrders = kind.NoOrderFile
 
-abbrev pub name_of : Failure → List ℕ
-name_of (Form form) = refusal_name form
-name_of (Refused refusal) = (entry_of refusal).name
-name_of (Opening fault) = (fault_entry_of fault).name
-name_of InUse = codes "InUse"
-name_of FileExists = codes "FileExists"
-name_of (Orders fault) = (batch_entry_of fault).name
-name_of OrdersTooLong = codes "BodyTooLong"
-name_of NoOrders = codes "NoOrderFile"
-
--- 1 where what was asked for was refused, and 3 where it could not be tried
-abbrev pub exit_status_of : Failure → ℕ
-exit_status_of failure = if nat_lt (number_of failure) 90 then 1 else 3
+abbrev pub failure_entry_of : Failure → Entry
+failure_entry_of failure = entry_of (failure_kind_of failure)
 
 abbrev pub refusal_detail : Refusal → List ℕ
 refusal_detail (Overdrawn first count) = codes " " ++ first ++ codes " " ++ decimal count
@@ -72,7 +64,7 @@ abbrev pub two_digits : ℕ → List ℕ
 two_digits number = (if nat_lt number 10 then codes "0" else []) ++ decimal number
 
 abbrev pub line_of : Failure → List ℕ
-line_of failure = codes "refused " ++ two_digits (number_of failure) ++ codes " " ++ name_of failure ++ detail_of failure
+line_of failure = codes "refused " ++ two_digits (failure_entry_of failure).number ++ codes " " ++ (failure_entry_of failure).name ++ detail_of failure
 
 abbrev pub failure_of_words : WordFault → Failure
 failure_of_words (words.Form form) = Form form

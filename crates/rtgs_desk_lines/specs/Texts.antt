@@ -1,5 +1,6 @@
 -- How a run ends that prints a text: the results of a file of orders, a statement, a report.
 use Rattle.std.specs.Prelude.{ℕ, ⊤, Result, Ok, Err, Option, None, Some}
+use Rattle.rtgs_refusals.specs.declared.exit_status.TheConstants.{DONE, FAILED}
 use Rattle.rtgs_book.specs.declared.refusal.Refusal.{Refusal}
 use Rattle.rtgs_book.specs.declared.refusal.Refusal.TheVariants.{OutOfMemory}
 use Rattle.rtgs_statements.specs.declared.fault.TextFault.{TextFault}
@@ -21,5 +22,5 @@ after_batch printed None = printed
 after_batch printed (Some _) = Stopped
 
 abbrev pub text_status : Printed → ℕ
-text_status Whole = 0
-text_status Stopped = 3
+text_status Whole = DONE
+text_status Stopped = FAILED

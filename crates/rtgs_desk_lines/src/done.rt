@@ -4,6 +4,7 @@ ghost use Rattle.std.specs.Io.KnownBytes.{Appends};
 ghost use Rattle.rtgs_desk_lines.specs.Lines.{answer_line};
 
 use rtgs_book::Answer;
+use rtgs_refusals::exit_status::{DONE, FAILED};
 use std::fmt;
 use std::io::Write;
 
@@ -19,14 +20,15 @@ pub enum Done {
 impl Done {
     ghost use Rattle.rtgs_desk_lines.specs.Lines.{line_of};
 
-    /// Prints the line with its end, and gives the exit status of the run: 0, or 3 where the line is not taken whole.
+    /// Prints the line with its end, and gives the exit status of the run: done (0), or failed (3) where the line is not
+    /// taken whole.
     pub fn print<O: Write>(self, out: &mut O) -> u8
-        ensures status { (result ≡ 0) ⊎ (result ≡ 3) }
-        ensures said { result ≡ 0 → Appends (O.contents out.old) (O.contents out.new) (line_of self ++ 10 ∷ []) }
+        ensures status { (result ≡ DONE) ⊎ (result ≡ FAILED) }
+        ensures said { result ≡ DONE → Appends (O.contents out.old) (O.contents out.new) (line_of self ++ 10 ∷ []) }
     {
         match writeln!(out, "{self}") {
-            Ok(()) => 0,
-            Err(_) => 3,
+            Ok(()) => DONE,
+            Err(_) => FAILED,
         }
     }
 }

@@ -1,10 +1,12 @@
 //! Why a run did not do what it was asked for.
-ghost use Rattle.std.specs.Prelude.{◌≡◌};
+ghost use Rattle.std.specs.Prelude.{◌≡◌, ◌⊎◌, Some};
 
 use rtgs_book::{Fault, Refusal};
 use rtgs_desk_requests::WordFault;
 use rtgs_exchange::BatchFault;
 use rtgs_money::Lexical;
+use rtgs_refusals::RefusalKind;
+use rtgs_refusals::exit_status::{FAILED, REFUSED};
 use rtgs_tables::StoreFault;
 use std::alloc::AllocError;
 use std::fmt;
@@ -32,50 +34,36 @@ pub enum Failure {
 }
 
 impl Failure {
-    ghost use Rattle.rtgs_desk_lines.specs.Failures.{number_of, name_of, exit_status_of};
+    ghost use Rattle.rtgs_desk_lines.specs.Failures.{failure_kind_of, failure_entry_of};
 
-    /// The number under which it is reported.
-    pub fn number(&self) -> u8
-        ensures { result ≡ number_of self.now }
+    /// What it is known by: its number, its name and its statuses.
+    pub fn kind(&self) -> RefusalKind
+        ensures { result ≡ failure_kind_of self.now }
     {
         match self {
-            Failure::Form(form) => form.number(),
-            Failure::Refused(refusal) => refusal.number(),
-            Failure::Opening(fault) => fault.number(),
-            Failure::InUse => 95,
-            Failure::FileExists => 96,
-            Failure::Orders(fault) => fault.number(),
-            Failure::OrdersTooLong => 63,
-            Failure::NoOrders => 98,
+            Failure::Form(form) => form.kind(),
+            Failure::Refused(refusal) => refusal.kind(),
+            Failure::Opening(fault) => fault.kind(),
+            Failure::InUse => RefusalKind::InUse,
+            Failure::FileExists => RefusalKind::FileExists,
+            Failure::Orders(fault) => fault.kind(),
+            Failure::OrdersTooLong => RefusalKind::BodyTooLong,
+            Failure::NoOrders => RefusalKind::NoOrderFile,
         }
     }
 
-    /// The name under which it is reported.
-    pub fn name(&self) -> &'static str
-        ensures { result.now ≡ name_of self.now }
-    {
-        match self {
-            Failure::Form(form) => form.name(),
-            Failure::Refused(refusal) => refusal.name(),
-            Failure::Opening(fault) => fault.name(),
-            Failure::InUse => "InUse",
-            Failure::FileExists => "FileExists",
-            Failure::Orders(fault) => fault.name(),
-            Failure::OrdersTooLong => "BodyTooLong",
-            Failure::NoOrders => "NoOrderFile",
-        }
-    }
-
-    /// 1 where what was asked for was refused, and 3 where it could not be tried.
+    /// The exit status of the run: refused (1), or failed (3) where what was asked for could not be tried.
     pub fn exit_status(&self) -> u8
-        ensures { result ≡ exit_status_of self.now }
+        ensures status { Some result ≡ (failure_entry_of self.now).exit_status }
+        ensures refused_or_failed { (result ≡ REFUSED) ⊎ (result ≡ FAILED) }
     {
-        if self.number() < 90 { 1 } else { 3 }
+        self.kind().exit_status().unwrap()
     }
 
     /// Prints the line with its end, as far as it is taken, and gives the exit status of the run.
     pub fn print<E: Write>(self, err: &mut E) -> u8
-        ensures { result ≡ exit_status_of self }
+        ensures status { Some result ≡ (failure_entry_of self).exit_status }
+        ensures refused_or_failed { (result ≡ REFUSED) ⊎ (result ≡ FAILED) }
     {
         let _ = writeln!(err, "{self}");
         self.exit_status()
@@ -89,8 +77,9 @@ impl fmt::Display for Failure {
     ghost output = { λ failure. Some (line_of failure) };
 
     fn fmt<W: fmt::Write>(&self, f: &mut fmt::Formatter<W>) -> fmt::Result {
-        let number = self.number();
-        let name = self.name();
+        let kind = self.kind();
+        let number = kind.number();
+        let name = kind.name();
         f.write_str(if number < 10 { "refused 0" } else { "refused " })?;
         write!(f, "{number} {name}")?;
         match *self {

@@ -3,6 +3,7 @@ ghost use Rattle.std.specs.Prelude.{◌≡◌};
 
 use crate::failure::Failure;
 use rtgs_book::Refusal;
+use rtgs_refusals::exit_status::{DONE, FAILED};
 use rtgs_statements::TextFault;
 
 /// What became of a text.
@@ -39,13 +40,13 @@ impl Printed {
         }
     }
 
-    /// The exit status of the run: 0 where the text was printed whole, and 3 where it stopped.
+    /// The exit status of the run: done (0) where the text was printed whole, and failed (3) where it stopped.
     pub fn exit_status(self) -> u8
         ensures { result ≡ text_status self }
     {
         match self {
-            Printed::Whole => 0,
-            Printed::Stopped => 3,
+            Printed::Whole => DONE,
+            Printed::Stopped => FAILED,
         }
     }
 }

@@ -1,11 +1,11 @@
--- What the outside is told of a fault of an order file.
-use Rattle.std.specs.Prelude.{codes}
-use Rattle.rtgs_book.specs.Refusals.{Entry, entry}
+-- What each fault of an order file is known by.
+use Rattle.rtgs_refusals.specs.declared.refusal_kind.RefusalKind.{RefusalKind}
+use Rattle.rtgs_refusals.specs.declared.refusal_kind.RefusalKind.TheVariants as kind
 use Rattle.rtgs_exchange.specs.declared.batch_fault.BatchFault.{BatchFault}
 use Rattle.rtgs_exchange.specs.declared.batch_fault.BatchFault.TheVariants.{BadHeader, BadRow, BadCount, OutOfMemory}
 
-abbrev pub batch_entry_of : BatchFault → Entry
-batch_entry_of BadHeader = entry 40 (codes "BadHeader") 400 1
-batch_entry_of (BadRow row) = entry 41 (codes "BadRow") 400 1
-batch_entry_of BadCount = entry 42 (codes "BadCount") 400 1
-batch_entry_of OutOfMemory = entry 90 (codes "OutOfMemory") 503 3
+abbrev pub batch_kind_of : BatchFault → RefusalKind
+batch_kind_of BadHeader = kind.BadHeader
+batch_kind_of (BadRow row) = kind.BadRow
+batch_kind_of BadCount = kind.BadCount
+batch_kind_of OutOfMemory = kind.OutOfMemory

@@ -2,10 +2,11 @@
 use Rattle.std.specs.Prelude.{◌≡◌, false, ℕ, List, [], ◌∷◌, ◌++◌, codes, decimal, Option, Some, None}
 use Rattle.csv.specs.Writing.{default_writer, row_text, text_written, fields_written, has_written, writer_setup}
 use Rattle.csv.specs.declared.writer.Writer.{Writer}
+use Rattle.rtgs_refusals.specs.Table.{entry_of}
 use Rattle.rtgs_book.specs.declared.OrderState.{OrderState}
 use Rattle.rtgs_book.specs.declared.OrderState.TheVariants as state
 use Rattle.rtgs_book.specs.declared.Refusal.{Refusal}
-use Rattle.rtgs_book.specs.Refusals.{entry_of}
+use Rattle.rtgs_book.specs.Refusals.{refusal_kind_of}
 use Rattle.rtgs_exchange.specs.declared.batch_result.RowReply.{RowReply}
 use Rattle.rtgs_exchange.specs.declared.batch_result.RowReply.TheVariants.{Settled, Queued, Repeated, Refused}
 use Rattle.rtgs_exchange.specs.declared.order_row.OrderRow.{OrderRow}
@@ -28,11 +29,11 @@ abbrev pub reply_line : List ℕ → RowReply → List ℕ
 reply_line reference (Settled number mark) = line reference (codes "settled") (decimal number) (decimal mark)
 reply_line reference (Queued number place) = line reference (codes "queued") (decimal number) (decimal place)
 reply_line reference (Repeated number state) = line reference (codes "repeated") (decimal number) (state_word state)
-reply_line reference (Refused refusal) = line reference (codes "refused") [] (decimal (entry_of refusal).number)
+reply_line reference (Refused refusal) = line reference (codes "refused") [] (decimal (entry_of (refusal_kind_of refusal)).number)
 
 -- the line of the row at which the batch stopped
 abbrev pub stop_line : List ℕ → Refusal → List ℕ
-stop_line reference refusal = line reference (codes "stopped") [] (decimal (entry_of refusal).number)
+stop_line reference refusal = line reference (codes "stopped") [] (decimal (entry_of (refusal_kind_of refusal)).number)
 
 -- a line for each row that has a reply, and one for the row at which the batch stopped
 abbrev pub result_lines : List OrderRow → List RowReply → Option Refusal → List ℕ

@@ -109,7 +109,7 @@ fn put_reply<W: Write + Drop>(
             reference,
             "refused",
             "",
-            second.format(refusal.number()),
+            second.format(refusal.kind().number()),
         ),
     }
 }
@@ -128,7 +128,7 @@ fn put_stop<W: Write + Drop>(
         reference.as_str(),
         "stopped",
         "",
-        detail.format(refusal.number()),
+        detail.format(refusal.kind().number()),
     )
 }
 

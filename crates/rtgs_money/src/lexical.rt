@@ -1,7 +1,9 @@
 //! Why bytes are not a value.
 ghost use Rattle.std.specs.Prelude.{◌≡◌, Some};
-ghost use Rattle.rtgs_money.specs.Lexical.{refusal_number, refusal_name};
+ghost use Rattle.rtgs_refusals.specs.Table.{entry_of};
+ghost use Rattle.rtgs_money.specs.Lexical.{lexical_kind_of};
 
+use rtgs_refusals::RefusalKind;
 use std::error::Error;
 use std::fmt;
 
@@ -17,40 +19,26 @@ pub enum Lexical {
 }
 
 impl Lexical {
-    /// The number by which this refusal is reported, 30 to 35.
-    pub fn number(self) -> u8
-        ensures { result ≡ refusal_number self }
+    /// What this refusal is known by: its number, its name and its statuses.
+    pub fn kind(self) -> RefusalKind
+        ensures { result ≡ lexical_kind_of self }
     {
         match self {
-            Lexical::BadCode => 30,
-            Lexical::BadReference => 31,
-            Lexical::BadAmount => 32,
-            Lexical::BadName => 33,
-            Lexical::BadKey => 34,
-            Lexical::BadDate => 35,
-        }
-    }
-
-    /// The name by which this refusal is reported.
-    pub fn name(self) -> &'static str
-        ensures { result.now ≡ refusal_name self }
-    {
-        match self {
-            Lexical::BadCode => "BadCode",
-            Lexical::BadReference => "BadReference",
-            Lexical::BadAmount => "BadAmount",
-            Lexical::BadName => "BadName",
-            Lexical::BadKey => "BadKey",
-            Lexical::BadDate => "BadDate",
+            Lexical::BadCode => RefusalKind::BadCode,
+            Lexical::BadReference => RefusalKind::BadReference,
+            Lexical::BadAmount => RefusalKind::BadAmount,
+            Lexical::BadName => RefusalKind::BadName,
+            Lexical::BadKey => RefusalKind::BadKey,
+            Lexical::BadDate => RefusalKind::BadDate,
         }
     }
 }
 
 impl fmt::Display for Lexical {
-    ghost output = { λ refusal. Some (refusal_name refusal) };
+    ghost output = { λ refusal. Some (entry_of (lexical_kind_of refusal)).name };
 
     fn fmt<W: fmt::Write>(&self, f: &mut fmt::Formatter<W>) -> fmt::Result {
-        f.write_str(self.name())
+        f.write_str(self.kind().name())
     }
 }
 

@@ -10,6 +10,7 @@ mod date;
 mod decimal;
 mod key;
 mod key_digest;
+pub mod laws;
 mod lexical;
 mod name;
 mod posting_amount;

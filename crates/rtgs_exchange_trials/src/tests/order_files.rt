@@ -175,9 +175,9 @@ fn faults_have_numbers_names_and_statuses(rt: HostRuntime) {
         (BatchFault::OutOfMemory, 90, "OutOfMemory", 503, 3),
     ];
     for (fault, number, name, http_status, exit_status) in table {
-        assert_eq!(rt; fault.number(), number);
-        assert_eq!(rt; fault.name(), name);
-        assert_eq!(rt; fault.http_status(), http_status);
-        assert_eq!(rt; fault.exit_status(), exit_status);
+        assert_eq!(rt; fault.kind().number(), number);
+        assert_eq!(rt; fault.kind().name(), name);
+        assert_eq!(rt; fault.kind().http_status(), Some(http_status));
+        assert_eq!(rt; fault.kind().exit_status(), Some(exit_status));
     }
 }

@@ -120,8 +120,8 @@ fn refusals_have_their_numbers_and_names(rt: HostRuntime) -> Result<(), Fail> {
         (Lexical::BadDate, 35, "BadDate"),
     ];
     for (refusal, number, name) in refusals {
-        assert_eq!(rt; refusal.number(), number);
-        assert_eq!(rt; refusal.name(), name);
+        assert_eq!(rt; refusal.kind().number(), number);
+        assert_eq!(rt; refusal.kind().name(), name);
         assert_eq!(rt; format!(in rt.alloc(); "{refusal}")?.as_str(), name);
     }
     Ok(())

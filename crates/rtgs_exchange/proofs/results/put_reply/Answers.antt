@@ -10,4 +10,4 @@ pub returns-in-Repeated : goal.returns-in-Repeated
 returns-in-Repeated g c = rw c.in-Repeated.is (rw (c.as_str-reference.ensures.value, c.format-in-Repeated.ensures.text, c.state_word.ensures) at c.put_line-in-Repeated.ensures)
 
 pub returns-in-Refused : goal.returns-in-Refused
-returns-in-Refused g c = rw c.in-Refused.is (rw (c.as_str-reference.ensures.value, c.format-in-Refused.ensures.text, c.number.ensures) at c.put_line-in-Refused.ensures)
+returns-in-Refused g c = rw c.in-Refused.is (rw (c.as_str-reference.ensures.value, c.format-in-Refused.ensures.text, c.number.ensures, c.kind.ensures) at c.put_line-in-Refused.ensures)

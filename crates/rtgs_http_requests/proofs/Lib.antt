@@ -1,0 +1,10 @@
+mod Access
+mod Agreement
+mod Chains
+mod Composed
+mod ContentsOnce
+mod Decisions
+mod Lower
+mod MeaningOnce
+mod Stages
+mod StepsOnce

@@ -1,0 +1,28 @@
+-- What follows each step of a request.
+use Rattle.std.proofs.Common.{◌≡◌, ℕ, List, Option}
+use Rattle.httparse.specs.Grammar.{RequestHead}
+use Rattle.rtgs_http_heads.specs.Targets.{is_post}
+use Rattle.rtgs_http_heads.specs.declared.route.Route.{Route}
+use Rattle.rtgs_http_requests.specs.Bodies.{body_length}
+use Rattle.rtgs_http_requests.specs.Callers.{CodeOf}
+use Rattle.rtgs_http_requests.specs.Exchange.{HasHead, HasRoute, HasCaller, HasBody}
+use Rattle.rtgs_http_requests.specs.Meaning.{Answer, Means}
+use Rattle.rtgs_http_requests.specs.Steps.{Then}
+use Rattle.rtgs_http_requests.specs.declared.admitted.Admitted.{Admitted}
+
+abbrev pub after_size : List ℕ → List ℕ → Admitted → ℕ → Answer → Type 0
+after_size rest parameter caller size = Then (HasBody rest size) (λ body. Means caller parameter body)
+
+abbrev pub after_caller : RequestHead → Option ℕ → List ℕ → List ℕ → Admitted → Answer → Type 0
+after_caller head declared rest parameter caller =
+    Then (λ told. told ≡ body_length (is_post head.method) declared) (after_size rest parameter caller)
+
+abbrev pub after_route : List ℕ → CodeOf → List ℕ → RequestHead → Option ℕ → Route × List ℕ → Answer → Type 0
+after_route operator code_of rest head declared found =
+    Then (HasCaller operator code_of found.0 head) (after_caller head declared rest found.1)
+
+abbrev pub after_head : List ℕ → CodeOf → List ℕ → RequestHead × Option ℕ → Answer → Type 0
+after_head operator code_of rest read = Then (HasRoute read.0) (after_route operator code_of rest read.0 read.1)
+
+abbrev pub after_region : List ℕ → CodeOf → List ℕ × List ℕ → Answer → Type 0
+after_region operator code_of parts = Then (HasHead parts.0) (after_head operator code_of parts.1)

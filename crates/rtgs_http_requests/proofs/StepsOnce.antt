@@ -1,0 +1,147 @@
+-- A whole input asks for one thing.
+use Rattle.std.proofs.Common.{◌≡◌, ◌<◌, ◌≤◌, ◌++◌, inl, inr, ℕ, Bool, List, length, take, Option, Some, None, Result}
+use Rattle.std.proofs.Common.{Ok, Err, refl, sym, ap, subst, ◌∙◌, arith}
+use Rattle.std.specs.Prelude.{◌≢◌}
+use Rattle.std.proofs.lemmas.List.{append_cancel_left}
+use Rattle.httparse.specs.Grammar.{RequestHead}
+use Rattle.rtgs_http_heads.specs.Heads.{IsGoodHead, fields_of}
+use Rattle.rtgs_http_heads.specs.Targets.{routed, is_post}
+use Rattle.rtgs_http_heads.specs.declared.route.Route.{Route}
+use Rattle.rtgs_http_requests.specs.Bodies.{body_length}
+use Rattle.rtgs_http_requests.specs.Callers.{CodeOf, caller_under}
+use Rattle.rtgs_http_requests.specs.Exchange.{AsksFor, HasRegion, HasHead, HasRoute, HasCaller, HasBody}
+use Rattle.rtgs_http_requests.specs.Meaning.{Answer, Means}
+use Rattle.rtgs_http_requests.specs.Same.{AreTheSame}
+use Rattle.rtgs_http_requests.specs.declared.admitted.Admitted.{Admitted}
+use Rattle.rtgs_http_requests.specs.declared.http_fault.HttpFault.{HttpFault}
+use Rattle.rtgs_http_requests.specs.declared.http_fault.HttpFault.TheVariants as fault
+use Rattle.rtgs_http_requests.proofs.Agreement.{Agree, Equal, IsDetermined, Tells, told_once, told_equal, then_once}
+use Rattle.rtgs_http_requests.proofs.Lower.{LowerLaws}
+use Rattle.rtgs_http_requests.proofs.MeaningOnce.{meant_once}
+use Rattle.rtgs_http_requests.proofs.Stages.{after_size, after_caller, after_route, after_head, after_region}
+
+same_pair : {A B : Type 0} (one other : A × B) → one.0 ≡ other.0 → one.1 ≡ other.1 → one ≡ other
+same_pair {A} {B} one other p q =
+    let first : A → A × B = λ a. (a, one.1) in
+    let second : B → A × B = λ b. (other.0, b) in
+    ap first p ∙ ap second q
+
+region_once : LowerLaws → (input : List ℕ) → IsDetermined (HasRegion input)
+region_once laws input (Ok one) (Ok other) x y =
+    let region : one.0 ≡ other.0 = laws.regions input one.0 other.0 one.1 other.1 x y in
+    let behind : one.0 ++ one.1 ≡ one.0 ++ other.1 = sym x.0 ∙ y.0 ∙ ap (λ r. r ++ other.1) (sym region) in
+    inr (inr (ap (λ p. Ok p) (same_pair one other region (append_cancel_left one.0 one.1 other.1 behind))))
+region_once laws input (Ok one) (Err fault.HeadTooLong) x y = absurd (laws.not_long input one.0 one.1 x y)
+region_once laws input (Ok one) (Err fault.Truncated) x y = absurd (laws.not_open input one.0 one.1 x y)
+region_once laws input (Err fault.HeadTooLong) (Ok other) x y = absurd (laws.not_long input other.0 other.1 y x)
+region_once laws input (Err fault.HeadTooLong) (Err fault.HeadTooLong) x y = inr (inr refl)
+region_once laws input (Err fault.HeadTooLong) (Err fault.Truncated) x y = absurd (laws.long_is_not_open input x y)
+region_once laws input (Err fault.Truncated) (Ok other) x y = absurd (laws.not_open input other.0 other.1 y x)
+region_once laws input (Err fault.Truncated) (Err fault.HeadTooLong) x y = absurd (laws.long_is_not_open input y x)
+region_once laws input (Err fault.Truncated) (Err fault.Truncated) x y = inr (inr refl)
+region_once laws input (Err fault.OutOfMemory) other x y = inl refl
+region_once laws input one (Err fault.OutOfMemory) x y = inr (inl refl)
+region_once laws input (Ok one) (Err _) x y = absurd y
+region_once laws input (Err fault.HeadTooLong) (Err _) x y = absurd y
+region_once laws input (Err fault.Truncated) (Err _) x y = absurd y
+region_once laws input (Err _) other x y = absurd x
+
+abbrev IsHeadOf : List ℕ → RequestHead × Option ℕ → Type 0
+IsHeadOf region read = IsGoodHead region read.0 read.1
+
+tells_head : (region : List ℕ) (told : Result (RequestHead × Option ℕ) HttpFault) → HasHead region told → Tells (IsHeadOf region) fault.BadHead told
+tells_head region (Ok read) x = inl (read, refl, x)
+tells_head region (Err fault.BadHead) none = inr (inl (refl, λ read. none read.0 read.1))
+tells_head region (Err _) x = absurd x
+
+head_once : LowerLaws → (region : List ℕ) → IsDetermined (HasHead region)
+head_once laws region one other x y =
+    told_once (IsHeadOf region) fault.BadHead
+    (λ a b p q. same_pair a b (laws.heads region a.0 b.0 a.1 b.1 p q) (laws.lengths region a.0 b.0 a.1 b.1 p q))
+    one other (tells_head region one x) (tells_head region other y)
+
+abbrev IsRouteOf : RequestHead → Route × List ℕ → Type 0
+IsRouteOf head found = routed head.method head.target ≡ Some found
+
+no_route : (head : RequestHead) (found : Route × List ℕ) → routed head.method head.target ≡ None → ¬ IsRouteOf head found
+no_route head found none some =
+    let clash : ◌≡◌ {A = Option (Route × List ℕ)} None (Some found) = sym none ∙ some in
+    cc
+
+tells_route : (head : RequestHead) (told : Result (Route × List ℕ) HttpFault) → HasRoute head told → Tells (IsRouteOf head) fault.NoSuchRoute told
+tells_route head (Ok found) x = inl (found, refl, x)
+tells_route head (Err fault.NoSuchRoute) none = inr (inl (refl, λ found. no_route head found none))
+tells_route head (Err fault.OutOfMemory) x = inr (inr refl)
+tells_route head (Err _) x = absurd x
+
+one_route : (head : RequestHead) (one other : Route × List ℕ) → IsRouteOf head one → IsRouteOf head other → one ≡ other
+one_route head one other x y =
+    let same : Some one ≡ Some other = sym x ∙ y in
+    cc
+
+route_once : (head : RequestHead) → IsDetermined (HasRoute head)
+route_once head one other x y =
+    told_once (IsRouteOf head) fault.NoSuchRoute (one_route head) one other (tells_route head one x) (tells_route head other y)
+
+caller_once : LowerLaws → (operator : List ℕ) (code_of : CodeOf) (route : Route) (head : RequestHead) → IsDetermined (HasCaller operator code_of route head)
+caller_once laws operator code_of route head one other x y =
+    let key : x.0 ≡ y.0 = laws.keys (fields_of head) x.0 y.0 x.1 y.1 in
+    inr (inr (x.2 ∙ ap (λ k. caller_under operator code_of route k) key ∙ sym y.2))
+
+abbrev IsBodyOf : List ℕ → ℕ → List ℕ → Type 0
+IsBodyOf rest size body = (size ≤ length rest) × (body ≡ take size rest)
+
+tells_body : (rest : List ℕ) (size : ℕ) (told : Result (List ℕ) HttpFault) → HasBody rest size told → Tells (IsBodyOf rest size) fault.Truncated told
+tells_body rest size (Ok body) x = inl (body, refl, x)
+tells_body rest size (Err fault.Truncated) short = inr (inl (refl, λ body has. omega (arith, short, has.0)))
+tells_body rest size (Err fault.OutOfMemory) x = inr (inr refl)
+tells_body rest size (Err _) x = absurd x
+
+body_once : (rest : List ℕ) (size : ℕ) → IsDetermined (HasBody rest size)
+body_once rest size one other x y =
+    told_once (IsBodyOf rest size) fault.Truncated (λ a b p q. p.1 ∙ sym q.1) one other (tells_body rest size one x) (tells_body rest size other y)
+
+fault_same : (bad : HttpFault) → AreTheSame (Err bad) (Err bad)
+fault_same bad = refl
+
+-- the steps from the length on, from the caller on, and so on
+size_on : LowerLaws → (rest parameter : List ℕ) (caller : Admitted) (size : ℕ) (one other : Answer)
+    → after_size rest parameter caller size one → after_size rest parameter caller size other → Agree AreTheSame one other
+size_on laws rest parameter caller size one other x y =
+    then_once AreTheSame fault_same (HasBody rest size) (λ body. Means caller parameter body) (body_once rest size)
+    (λ body. meant_once laws caller parameter body) one other x y
+
+caller_on : LowerLaws → (head : RequestHead) (declared : Option ℕ) (rest parameter : List ℕ) (caller : Admitted) (one other : Answer)
+    → after_caller head declared rest parameter caller one → after_caller head declared rest parameter caller other → Agree AreTheSame one other
+caller_on laws head declared rest parameter caller one other x y =
+    then_once AreTheSame fault_same (λ told. told ≡ body_length (is_post head.method) declared) (after_size rest parameter caller)
+    (told_equal (body_length (is_post head.method) declared)) (size_on laws rest parameter caller) one other x y
+
+route_on : LowerLaws → (operator : List ℕ) (code_of : CodeOf) (rest : List ℕ) (head : RequestHead) (declared : Option ℕ) (found : Route × List ℕ) (one other : Answer)
+    → after_route operator code_of rest head declared found one → after_route operator code_of rest head declared found other → Agree AreTheSame one other
+route_on laws operator code_of rest head declared found one other x y =
+    then_once AreTheSame fault_same (HasCaller operator code_of found.0 head) (after_caller head declared rest found.1)
+    (caller_once laws operator code_of found.0 head) (caller_on laws head declared rest found.1) one other x y
+
+head_on : LowerLaws → (operator : List ℕ) (code_of : CodeOf) (rest : List ℕ) (read : RequestHead × Option ℕ) (one other : Answer)
+    → after_head operator code_of rest read one → after_head operator code_of rest read other → Agree AreTheSame one other
+head_on laws operator code_of rest read one other x y =
+    then_once AreTheSame fault_same (HasRoute read.0) (after_route operator code_of rest read.0 read.1)
+    (route_once read.0) (route_on laws operator code_of rest read.0 read.1) one other x y
+
+region_on : LowerLaws → (operator : List ℕ) (code_of : CodeOf) (parts : List ℕ × List ℕ) (one other : Answer)
+    → after_region operator code_of parts one → after_region operator code_of parts other → Agree AreTheSame one other
+region_on laws operator code_of parts one other x y =
+    then_once AreTheSame fault_same (HasHead parts.0) (after_head operator code_of parts.1)
+    (head_once laws parts.0) (head_on laws operator code_of parts.1) one other x y
+
+pub answered_once : LowerLaws → (operator : List ℕ) (code_of : CodeOf) (input : List ℕ) (one other : Answer)
+    → AsksFor operator code_of input one → AsksFor operator code_of input other
+    → one ≢ Err fault.OutOfMemory → other ≢ Err fault.OutOfMemory → AreTheSame one other
+answered_once laws operator code_of input one other x y enough also =
+    by (then_once AreTheSame fault_same (HasRegion input) (after_region operator code_of) (region_once laws input) (region_on laws operator code_of) one other x y)
+  where
+    by : Agree AreTheSame one other → AreTheSame one other
+    by (inl e) = absurd (enough e)
+    by (inr (inl e)) = absurd (also e)
+    by (inr (inr same)) = same

@@ -1,0 +1,41 @@
+-- Whom a route takes.
+use Rattle.std.specs.Prelude.{◌≡◌, ℕ, List, Option, Some, None, Result, Ok, Err, if◌then◌else◌}
+use Rattle.std.specs.Str.{bytes_eq}
+use Rattle.rtgs_http_heads.specs.declared.bank_route.BankRoute.{BankRoute}
+use Rattle.rtgs_http_heads.specs.declared.route.Route.{Route}
+use Rattle.rtgs_http_heads.specs.declared.route.Route.TheVariants.{Bank, Operator}
+use Rattle.rtgs_http_requests.specs.declared.admission.Admission.{Admission}
+use Rattle.rtgs_http_requests.specs.declared.admission.Admission.TheVariants as admission
+use Rattle.rtgs_http_requests.specs.declared.admitted.Admitted.{Admitted}
+use Rattle.rtgs_http_requests.specs.declared.admitted.Admitted.TheVariants as admitted
+use Rattle.rtgs_http_requests.specs.declared.http_fault.HttpFault.{HttpFault}
+use Rattle.rtgs_http_requests.specs.declared.http_fault.HttpFault.TheVariants.{NoKey}
+
+-- the participant with each digest, if there is one
+abbrev pub CodeOf : Type 0
+CodeOf = List ℕ → Option (List ℕ)
+
+-- a route of banks takes the participant with the digest
+abbrev pub known : BankRoute → Option (List ℕ) → Result Admitted HttpFault
+known route None = Err NoKey
+known route (Some code) = Ok (admitted.Bank route code)
+
+-- the bearer of a digest: the operator first, else the participant who has it
+abbrev pub bearer : List ℕ → CodeOf → Route → List ℕ → Result Admitted HttpFault
+bearer operator code_of (Operator route) digest =
+    if bytes_eq digest operator then Ok (admitted.Operator route) else Err NoKey
+bearer operator code_of (Bank route) digest =
+    if bytes_eq digest operator then Err NoKey else known route (code_of digest)
+
+-- the caller with this key, or with none, under a route
+abbrev pub caller_under : List ℕ → CodeOf → Route → Option (List ℕ) → Result Admitted HttpFault
+caller_under operator code_of route None = Err NoKey
+caller_under operator code_of route (Some digest) = bearer operator code_of route digest
+
+-- What is known before the participants are, whoever they are.
+abbrev pub Leads : List ℕ → Route → Option (List ℕ) → Result Admission HttpFault → Type 0
+Leads operator route key (Ok (admission.Operator served)) =
+    (code_of : CodeOf) → caller_under operator code_of route key ≡ Ok (admitted.Operator served)
+Leads operator route key (Ok (admission.LookUp served digest)) =
+    (code_of : CodeOf) → caller_under operator code_of route key ≡ known served (code_of digest)
+Leads operator route key (Err fault) = (code_of : CodeOf) → caller_under operator code_of route key ≡ Err fault

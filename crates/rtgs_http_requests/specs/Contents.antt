@@ -1,0 +1,36 @@
+-- The values that bodies are to have: objects with exactly these keys.
+use Rattle.std.specs.Prelude.{◌≡◌, ℕ, ℤ, List, codes, Some, Result, Ok, Err}
+use Rattle.serde_json.specs.Data.{Data, Num, unsigned, number, string, object, member, no_members}
+use Rattle.serde_json.specs.Find.{as_integer}
+use Rattle.rtgs_http_requests.specs.declared.http_fault.HttpFault.{HttpFault}
+use Rattle.rtgs_http_requests.specs.declared.http_fault.HttpFault.TheVariants.{WrongFields}
+
+-- a reference, a receiver and an amount that is not negative
+abbrev pub HasOrder : List ℕ × List ℕ × ℕ → Data → Type 0
+HasOrder (reference, to, amount) value =
+    value ≡ object (member (codes "amount") (number (unsigned amount))
+    (member (codes "reference") (string reference) (member (codes "to") (string to) no_members)))
+
+-- a code, a reference and a whole number of cents
+abbrev pub HasPosting : List ℕ × List ℕ × ℤ → Data → Type 0
+HasPosting (code, reference, cents) value =
+    (whole : Num) × (as_integer whole ≡ Some cents)
+    × (value ≡ object (member (codes "cents") (number whole)
+    (member (codes "code") (string code) (member (codes "reference") (string reference) no_members))))
+
+-- a code and a limit that is not negative
+abbrev pub HasCredit : List ℕ × ℕ → Data → Type 0
+HasCredit (code, credit) value =
+    value ≡ object (member (codes "code") (string code) (member (codes "credit") (number (unsigned credit)) no_members))
+
+abbrev pub HasDate : List ℕ → Data → Type 0
+HasDate date value = value ≡ object (member (codes "date") (string date) no_members)
+
+abbrev pub HasNothing : Data → Type 0
+HasNothing value = value ≡ object no_members
+
+-- The value has this content, or it has none of the kind.
+abbrev pub Finds : {A : Type 0} → (A → Data → Type 0) → Data → Result A HttpFault → Type 0
+Finds {A} Has value (Ok content) = Has content value
+Finds {A} Has value (Err WrongFields) = (content : A) → ¬ Has content value
+Finds {A} Has value (Err _) = ⊥

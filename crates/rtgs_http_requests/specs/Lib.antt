@@ -1,0 +1,10 @@
+pub mod Access
+pub mod Bodies
+pub mod Callers
+pub mod Contents
+pub mod Exchange
+pub mod Faults
+pub mod Meaning
+pub mod Plans
+pub mod Same
+pub mod Steps

@@ -1,0 +1,139 @@
+-- What an admitted caller asks for. The path's parameter is judged first, then the body.
+use Rattle.std.specs.Prelude.{◌≡◌, ◌≢◌, ⊤, ℕ, ℤ, List, Result, Ok, Err}
+use Rattle.rtgs_money.specs.Amounts.{IsAmount, IsPostingAmount, IsCredit}
+use Rattle.rtgs_money.specs.Date.{IsBusinessDate, date_text}
+use Rattle.rtgs_money.specs.Forms.{IsCode, IsReference}
+use Rattle.rtgs_money.specs.declared.lexical.Lexical.TheVariants.{BadCode, BadReference, BadAmount, BadDate}
+use Rattle.rtgs_book.specs.declared.command.Command.TheVariants as command
+use Rattle.rtgs_exchange.specs.OrderFile.{IsOrderFile, IsFaultOf}
+use Rattle.rtgs_exchange.specs.declared.batch_fault.BatchFault.TheVariants as batch
+use Rattle.rtgs_http_heads.specs.declared.bank_route.BankRoute.{BankRoute}
+use Rattle.rtgs_http_heads.specs.declared.bank_route.BankRoute.TheVariants.{SendOrder, WithdrawOrder, SendBatch}
+use Rattle.rtgs_http_heads.specs.declared.bank_route.BankRoute.TheVariants.{ReadOrder, ReadAccount, ReadQueue}
+use Rattle.rtgs_http_heads.specs.declared.bank_route.BankRoute.TheVariants.{ReadStatement}
+use Rattle.rtgs_http_heads.specs.declared.operator_route.OperatorRoute.{OperatorRoute}
+use Rattle.rtgs_http_heads.specs.declared.operator_route.OperatorRoute.TheVariants.{Post, SetCredit, OpenDay}
+use Rattle.rtgs_http_heads.specs.declared.operator_route.OperatorRoute.TheVariants.{Resolve, CutOff, CloseDay}
+use Rattle.rtgs_http_heads.specs.declared.operator_route.OperatorRoute.TheVariants.{ReadReport}
+use Rattle.rtgs_http_requests.specs.declared.admitted.Admitted.{Admitted}
+use Rattle.rtgs_http_requests.specs.declared.admitted.Admitted.TheVariants as admitted
+use Rattle.rtgs_http_requests.specs.declared.asked.Asked.{Asked}
+use Rattle.rtgs_http_requests.specs.declared.asked.Asked.TheVariants.{Submit, Batch, Read}
+use Rattle.rtgs_http_requests.specs.declared.http_fault.HttpFault.{HttpFault}
+use Rattle.rtgs_http_requests.specs.declared.http_fault.HttpFault.TheVariants as fault
+use Rattle.rtgs_http_requests.specs.declared.reading.Reading.TheVariants as reading
+use Rattle.rtgs_http_requests.specs.Bodies.{ReadsJson}
+use Rattle.rtgs_http_requests.specs.Contents.{Finds, HasOrder, HasPosting, HasCredit, HasDate, HasNothing}
+use Rattle.rtgs_http_requests.specs.Steps.{Then}
+
+-- what a request may come to
+abbrev pub Answer : Type 0
+Answer = Result Asked HttpFault
+
+-- the reference that a text is
+pub record SpellsReference (text : List ℕ) (told : Result (List ℕ) HttpFault) : Type 0 where
+  pub found : IsReference text → told ≡ Ok text
+  pub refused : ¬ IsReference text → told ≡ Err (fault.Form BadReference)
+
+-- the date that a text is, weekends too
+abbrev pub SpellsDate : List ℕ → Result ℕ HttpFault → Type 0
+SpellsDate text (Ok date) = IsBusinessDate date × (text ≡ date_text date)
+SpellsDate text (Err (fault.Form BadDate)) = (date : ℕ) → IsBusinessDate date → text ≢ date_text date
+SpellsDate text (Err _) = ⊥
+
+-- the order of a caller with these values, judged in this order
+pub record SpellsOrder (caller : List ℕ) (values : List ℕ × List ℕ × ℕ) (answer : Answer) : Type 0 where
+  pub found : IsReference values.0 → IsCode values.1 → IsAmount values.2
+      → answer ≡ Ok (Submit (command.Order caller values.0 values.1 values.2))
+  pub bad_reference : ¬ IsReference values.0 → answer ≡ Err (fault.Form BadReference)
+  pub bad_code : IsReference values.0 → ¬ IsCode values.1 → answer ≡ Err (fault.Form BadCode)
+  pub bad_amount : IsReference values.0 → IsCode values.1 → ¬ IsAmount values.2 → answer ≡ Err (fault.Form BadAmount)
+
+-- the posting with these values, judged in this order
+pub record SpellsPosting (values : List ℕ × List ℕ × ℤ) (answer : Answer) : Type 0 where
+  pub found : IsCode values.0 → IsReference values.1 → IsPostingAmount values.2
+      → answer ≡ Ok (Submit (command.Post values.0 values.1 values.2))
+  pub bad_code : ¬ IsCode values.0 → answer ≡ Err (fault.Form BadCode)
+  pub bad_reference : IsCode values.0 → ¬ IsReference values.1 → answer ≡ Err (fault.Form BadReference)
+  pub bad_amount : IsCode values.0 → IsReference values.1 → ¬ IsPostingAmount values.2
+      → answer ≡ Err (fault.Form BadAmount)
+
+-- the limit with these values, judged in this order
+pub record SpellsCredit (values : List ℕ × ℕ) (answer : Answer) : Type 0 where
+  pub found : IsCode values.0 → IsCredit values.1 → answer ≡ Ok (Submit (command.SetCredit values.0 values.1))
+  pub bad_code : ¬ IsCode values.0 → answer ≡ Err (fault.Form BadCode)
+  pub bad_amount : IsCode values.0 → ¬ IsCredit values.1 → answer ≡ Err (fault.Form BadAmount)
+
+-- The body is an object without members, and then this is asked.
+abbrev pub AsksPlainly : List ℕ → Asked → Answer → Type 0
+AsksPlainly body asked =
+    Then (ReadsJson body) (λ value.
+    Then (Finds (λ (_ : Unit {0}) given. HasNothing given) value) (λ _ answer. answer ≡ Ok asked))
+
+abbrev pub AsksOrder : List ℕ → List ℕ → Answer → Type 0
+AsksOrder caller body =
+    Then (ReadsJson body) (λ value. Then (Finds HasOrder value) (λ values. SpellsOrder caller values))
+
+abbrev pub AsksWithdrawal : List ℕ → List ℕ → List ℕ → Answer → Type 0
+AsksWithdrawal caller parameter body =
+    Then (SpellsReference parameter) (λ reference. AsksPlainly body (Submit (command.Withdraw caller reference)))
+
+-- the rows of the order file that the body is, or its fault
+abbrev pub AsksBatch : List ℕ → List ℕ → Answer → Type 0
+AsksBatch caller body (Ok (Batch sender rows)) = (sender ≡ caller) × IsOrderFile body rows.items
+AsksBatch caller body (Ok (Submit submitted)) = ⊥
+AsksBatch caller body (Ok (Read read)) = ⊥
+AsksBatch caller body (Err (fault.Batch bad)) = IsFaultOf body bad × (bad ≢ batch.OutOfMemory)
+AsksBatch caller body (Err fault.OutOfMemory) = ⊤
+AsksBatch caller body (Err _) = ⊥
+
+abbrev pub AsksOrderName : List ℕ → List ℕ → Answer → Type 0
+AsksOrderName caller parameter =
+    Then (SpellsReference parameter) (λ reference answer. answer ≡ Ok (Read (reading.Order caller reference)))
+
+abbrev pub AsksStatement : List ℕ → List ℕ → Answer → Type 0
+AsksStatement caller parameter =
+    Then (SpellsDate parameter) (λ date answer. answer ≡ Ok (Read (reading.Statement caller date)))
+
+abbrev pub AsksReport : List ℕ → Answer → Type 0
+AsksReport parameter = Then (SpellsDate parameter) (λ date answer. answer ≡ Ok (Read (reading.Report date)))
+
+abbrev pub AsksPosting : List ℕ → Answer → Type 0
+AsksPosting body = Then (ReadsJson body) (λ value. Then (Finds HasPosting value) (λ values. SpellsPosting values))
+
+abbrev pub AsksCredit : List ℕ → Answer → Type 0
+AsksCredit body = Then (ReadsJson body) (λ value. Then (Finds HasCredit value) (λ values. SpellsCredit values))
+
+abbrev pub AsksDay : List ℕ → Result ℕ HttpFault → Type 0
+AsksDay body = Then (ReadsJson body) (λ value. Then (Finds HasDate value) (λ text. SpellsDate text))
+
+abbrev pub AsksResolution : List ℕ → Answer → Type 0
+AsksResolution body = AsksPlainly body (Submit command.Resolve)
+
+-- what a participant asks for
+abbrev pub MeansBank : BankRoute → List ℕ → List ℕ → List ℕ → Answer → Type 0
+MeansBank SendOrder caller parameter body answer = AsksOrder caller body answer
+MeansBank WithdrawOrder caller parameter body answer = AsksWithdrawal caller parameter body answer
+MeansBank SendBatch caller parameter body answer = AsksBatch caller body answer
+MeansBank ReadOrder caller parameter body answer = AsksOrderName caller parameter answer
+MeansBank ReadAccount caller parameter body answer = answer ≡ Ok (Read (reading.Account caller))
+MeansBank ReadQueue caller parameter body answer = answer ≡ Ok (Read (reading.Queue caller))
+MeansBank ReadStatement caller parameter body answer = AsksStatement caller parameter answer
+
+-- what the operator asks for
+abbrev pub MeansOperator : OperatorRoute → List ℕ → List ℕ → Answer → Type 0
+MeansOperator Post parameter body answer = AsksPosting body answer
+MeansOperator SetCredit parameter body answer = AsksCredit body answer
+MeansOperator OpenDay parameter body answer =
+    Then (AsksDay body) (λ date given. given ≡ Ok (Submit (command.OpenDay date))) answer
+MeansOperator Resolve parameter body answer = AsksResolution body answer
+MeansOperator CutOff parameter body answer =
+    Then (AsksDay body) (λ date given. given ≡ Ok (Submit (command.CutOff date))) answer
+MeansOperator CloseDay parameter body answer =
+    Then (AsksDay body) (λ date given. given ≡ Ok (Submit (command.CloseDay date))) answer
+MeansOperator ReadReport parameter body answer = AsksReport parameter answer
+
+-- what an admitted caller asks for
+abbrev pub Means : Admitted → List ℕ → List ℕ → Answer → Type 0
+Means (admitted.Bank route caller) parameter body answer = MeansBank route caller parameter body answer
+Means (admitted.Operator route) parameter body answer = MeansOperator route parameter body answer

@@ -1,0 +1,37 @@
+-- What a head leaves to be known.
+use Rattle.std.specs.Prelude.{◌≡◌, ℕ, List, Result, Ok, Err}
+use Rattle.rtgs_http_feeds.specs.Region.{StartsWith}
+use Rattle.rtgs_http_requests.specs.Bodies.{body_length}
+use Rattle.rtgs_http_requests.specs.Callers.{CodeOf, known}
+use Rattle.rtgs_http_requests.specs.Exchange.{AsksFor, HasBody}
+use Rattle.rtgs_http_requests.specs.Meaning.{Answer, Means}
+use Rattle.rtgs_http_requests.specs.Steps.{Then}
+use Rattle.rtgs_http_requests.specs.declared.admission.Admission.{Admission}
+use Rattle.rtgs_http_requests.specs.declared.admission.Admission.TheVariants as admission
+use Rattle.rtgs_http_requests.specs.declared.admitted.Admitted.{Admitted}
+use Rattle.rtgs_http_requests.specs.declared.admitted.Admitted.TheVariants as admitted
+use Rattle.rtgs_http_requests.specs.declared.http_fault.HttpFault.{HttpFault}
+use Rattle.rtgs_http_requests.specs.declared.plan.Plan.{Plan}
+
+-- the caller of an admission, where the participants have these digests
+abbrev pub admitted_by : CodeOf → Admission → Result Admitted HttpFault
+admitted_by code_of (admission.Operator route) = Ok (admitted.Operator route)
+admitted_by code_of (admission.LookUp route digest) = known route (code_of digest)
+
+-- what a caller asks for under a plan, where this comes behind the region
+abbrev pub AfterCaller : Plan → List ℕ → Admitted → Answer → Type 0
+AfterCaller plan rest caller =
+    Then (λ told. told ≡ body_length plan.posts plan.length) (λ size.
+    Then (HasBody rest size) (λ body.
+    Means caller plan.parameter.now body))
+
+-- what is asked under a plan
+abbrev pub AfterHead : Plan → CodeOf → List ℕ → Answer → Type 0
+AfterHead plan code_of rest = Then (λ told. told ≡ admitted_by code_of plan.admission) (AfterCaller plan rest)
+
+-- The plan, or the fault, is that of each input that starts with the region.
+abbrev pub Plans : List ℕ → List ℕ → Result Plan HttpFault → Type 0
+Plans operator region (Ok plan) = (code_of : CodeOf) (input rest : List ℕ) (answer : Answer)
+    → StartsWith input region rest → AfterHead plan code_of rest answer → AsksFor operator code_of input answer
+Plans operator region (Err fault) = (code_of : CodeOf) (input rest : List ℕ)
+    → StartsWith input region rest → AsksFor operator code_of input (Err fault)

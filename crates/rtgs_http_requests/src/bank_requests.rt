@@ -1,0 +1,112 @@
+//! What participants ask for.
+ghost use Rattle.rtgs_http_requests.specs.Meaning.{AsksOrder, SpellsOrder, AsksWithdrawal, AsksBatch};
+ghost use Rattle.rtgs_http_requests.specs.Meaning.{AsksOrderName, AsksStatement, MeansBank};
+
+use crate::asked::Asked;
+use crate::body::read_json;
+use crate::contents::{is_nothing, order_of};
+use crate::http_fault::HttpFault;
+use crate::reading::Reading;
+use crate::spelling::{spell_date, spell_reference};
+use rtgs_book::Command;
+use rtgs_exchange::read_orders;
+use rtgs_http_heads::BankRoute;
+use rtgs_money::{Amount, Code, Lexical, Reference};
+use std::alloc::Global;
+
+/// What a participant asks for under a route.
+pub fn read_bank(
+    alloc: Global,
+    route: BankRoute,
+    caller: Code,
+    parameter: &str,
+    body: &[u8],
+) -> Result<Asked, HttpFault>
+    ensures { MeansBank route caller parameter.now body.now result }
+{
+    match route {
+        BankRoute::SendOrder => read_order(alloc, caller, body),
+        BankRoute::WithdrawOrder => read_withdrawal(alloc, caller, parameter, body),
+        BankRoute::SendBatch => read_batch(alloc, caller, body),
+        BankRoute::ReadOrder => read_order_name(caller, parameter),
+        BankRoute::ReadAccount => Ok(Asked::Read(Reading::Account { code: caller })),
+        BankRoute::ReadQueue => Ok(Asked::Read(Reading::Queue { code: caller })),
+        BankRoute::ReadStatement => read_statement(caller, parameter),
+    }
+}
+
+// The order that a body asks for.
+fn read_order(alloc: Global, caller: Code, body: &[u8]) -> Result<Asked, HttpFault>
+    ensures { AsksOrder caller body.now result }
+{
+    let value = read_json(alloc, body)?;
+    let Some((reference, to, amount)) = order_of(&value) else {
+        return Err(HttpFault::WrongFields);
+    };
+    spell_order(caller, reference, to, amount)
+}
+
+// The order that these values are, each judged by its form.
+fn spell_order(caller: Code, reference: &str, to: &str, amount: u64) -> Result<Asked, HttpFault>
+    ensures { SpellsOrder caller (reference.now, to.now, amount) result }
+{
+    let reference = Reference::read(reference.as_bytes())?;
+    let receiver = Code::read(to.as_bytes())?;
+    let amount = Amount::from_cents(amount).ok_or(Lexical::BadAmount)?;
+    Ok(Asked::Submit(Command::Order {
+        sender: caller,
+        reference,
+        receiver,
+        amount,
+    }))
+}
+
+// The withdrawal that a path and a body ask for.
+fn read_withdrawal(
+    alloc: Global,
+    caller: Code,
+    parameter: &str,
+    body: &[u8],
+) -> Result<Asked, HttpFault>
+    ensures { AsksWithdrawal caller parameter.now body.now result }
+{
+    let reference = spell_reference(parameter)?;
+    let value = read_json(alloc, body)?;
+    if !is_nothing(&value) {
+        return Err(HttpFault::WrongFields);
+    }
+    Ok(Asked::Submit(Command::Withdraw {
+        sender: caller,
+        reference,
+    }))
+}
+
+// The batch that a body asks for.
+fn read_batch(alloc: Global, caller: Code, body: &[u8]) -> Result<Asked, HttpFault>
+    ensures { AsksBatch caller body.now result }
+{
+    let rows = read_orders(alloc, body)?;
+    Ok(Asked::Batch {
+        sender: caller,
+        rows,
+    })
+}
+
+// The reading of an order that a path asks for.
+fn read_order_name(caller: Code, parameter: &str) -> Result<Asked, HttpFault>
+    ensures { AsksOrderName caller parameter.now result }
+{
+    let reference = spell_reference(parameter)?;
+    Ok(Asked::Read(Reading::Order {
+        sender: caller,
+        reference,
+    }))
+}
+
+// The statement that a path asks for.
+fn read_statement(caller: Code, parameter: &str) -> Result<Asked, HttpFault>
+    ensures { AsksStatement caller parameter.now result }
+{
+    let date = spell_date(parameter)?;
+    Ok(Asked::Read(Reading::Statement { code: caller, date }))
+}

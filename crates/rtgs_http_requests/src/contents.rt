@@ -1,0 +1,94 @@
+//! The members of a body's value: exactly the keys of a route, of their kinds.
+ghost use Rattle.std.specs.Prelude.{◌≡◌, ◌↔◌, ℕ, ℤ, List, None, IsTrue, IfSome, option_and_then};
+ghost use Rattle.serde_json.specs.Find.{as_integer, as_number};
+ghost use Rattle.serde_json.specs.View.{view};
+ghost use Rattle.rtgs_http_requests.specs.Contents.{HasOrder, HasPosting, HasCredit, HasDate, HasNothing};
+
+use serde_json::Value;
+
+/// The reference, the receiver and the amount of an order.
+pub fn order_of(value: &Value) -> Option<(&str, &str, u64)>
+    ensures some { IfSome result (λ (reference, to, amount).
+        HasOrder (reference.now, to.now, amount) (view value.now)) }
+    ensures none { result ≡ None → (reference to : List ℕ) (amount : ℕ)
+        → ¬ HasOrder (reference, to, amount) (view value.now) }
+{
+    let mut members = value.as_object()?.iter();
+    let (first, amount) = members.next()?;
+    let (second, reference) = members.next()?;
+    let (third, to) = members.next()?;
+    if members.next().is_some() {
+        return None;
+    }
+    if first.as_str() != "amount" || second.as_str() != "reference" || third.as_str() != "to" {
+        return None;
+    }
+    Some((reference.as_str()?, to.as_str()?, amount.as_u64()?))
+}
+
+/// The code, the reference and the cents of a posting.
+pub fn posting_of(value: &Value) -> Option<(&str, &str, i128)>
+    ensures some { IfSome result (λ (code, reference, cents).
+        HasPosting (code.now, reference.now, cents) (view value.now)) }
+    ensures none { result ≡ None → (code reference : List ℕ) (cents : ℤ)
+        → ¬ HasPosting (code, reference, cents) (view value.now) }
+{
+    let mut members = value.as_object()?.iter();
+    let (first, cents) = members.next()?;
+    let (second, code) = members.next()?;
+    let (third, reference) = members.next()?;
+    if members.next().is_some() {
+        return None;
+    }
+    if first.as_str() != "cents" || second.as_str() != "code" || third.as_str() != "reference" {
+        return None;
+    }
+    Some((code.as_str()?, reference.as_str()?, whole_of(cents)?))
+}
+
+/// The code and the limit of a credit.
+pub fn credit_of(value: &Value) -> Option<(&str, u64)>
+    ensures some { IfSome result (λ (code, credit). HasCredit (code.now, credit) (view value.now)) }
+    ensures none { result ≡ None → (code : List ℕ) (credit : ℕ) → ¬ HasCredit (code, credit) (view value.now) }
+{
+    let mut members = value.as_object()?.iter();
+    let (first, code) = members.next()?;
+    let (second, credit) = members.next()?;
+    if members.next().is_some() || first.as_str() != "code" || second.as_str() != "credit" {
+        return None;
+    }
+    Some((code.as_str()?, credit.as_u64()?))
+}
+
+/// The date of a day.
+pub fn date_of(value: &Value) -> Option<&str>
+    ensures some { IfSome result (λ date. HasDate date.now (view value.now)) }
+    ensures none { result ≡ None → (date : List ℕ) → ¬ HasDate date (view value.now) }
+{
+    let mut members = value.as_object()?.iter();
+    let (first, date) = members.next()?;
+    if members.next().is_some() || first.as_str() != "date" {
+        return None;
+    }
+    date.as_str()
+}
+
+/// Whether the value is the object with no members.
+pub fn is_nothing(value: &Value) -> bool
+    ensures { IsTrue result ↔ HasNothing (view value.now) }
+{
+    match value.as_object() {
+        Some(members) => members.iter().next().is_none(),
+        None => false,
+    }
+}
+
+// The whole number that the value is.
+fn whole_of(value: &Value) -> Option<i128>
+    ensures { result ≡ option_and_then as_integer (as_number (view value.now)) }
+{
+    match value.as_u64() {
+        Some(number) => Some(i128::from(number)),
+        None => value.as_i64().map(i128::from),
+    }
+}

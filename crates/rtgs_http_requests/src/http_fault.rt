@@ -1,0 +1,155 @@
+//! Faults of requests.
+ghost use Rattle.std.specs.Prelude.{◌≡◌, Some};
+ghost use Rattle.rtgs_refusals.specs.Table.{entry_of};
+ghost use Rattle.rtgs_http_requests.specs.Faults.{http_kind_of, kind_of_form, kind_of_batch};
+
+use rtgs_exchange::BatchFault;
+use rtgs_http_feeds::Truncated;
+use rtgs_http_heads::HeadFault;
+use rtgs_money::Lexical;
+use rtgs_refusals::RefusalKind;
+use std::alloc::AllocError;
+
+/// Why a request asks for nothing.
+#[derive(Clone, Copy, Debug, PartialEq, Eq)]
+pub enum HttpFault {
+    /// The region is no head that the desk serves.
+    BadHead,
+    /// As many bytes as a head may have hold no end of one.
+    HeadTooLong,
+    /// A POST declares no length.
+    NoLength,
+    /// The body is to have more bytes than one may have.
+    BodyTooLong,
+    /// The input ended too soon.
+    Truncated,
+    /// The body is no value of JSON.
+    BadJson,
+    /// The body's value has not exactly the route's keys, of their kinds.
+    WrongFields,
+    /// No route has the method and the target.
+    NoSuchRoute,
+    /// The route does not take the caller.
+    NoKey,
+    /// A value is not of its form.
+    Form(Lexical),
+    /// The body is no order file.
+    Batch(BatchFault),
+    /// Memory was refused.
+    OutOfMemory,
+}
+
+impl HttpFault {
+    /// What the fault is known by: its number, its name and the status of the HTTP reply.
+    pub fn kind(self) -> RefusalKind
+        ensures { result ≡ http_kind_of self }
+    {
+        match self {
+            HttpFault::BadHead => RefusalKind::BadHead,
+            HttpFault::HeadTooLong => RefusalKind::HeadTooLong,
+            HttpFault::NoLength => RefusalKind::NoLength,
+            HttpFault::BodyTooLong => RefusalKind::BodyTooLong,
+            HttpFault::Truncated => RefusalKind::Truncated,
+            HttpFault::BadJson => RefusalKind::BadJson,
+            HttpFault::WrongFields => RefusalKind::WrongFields,
+            HttpFault::NoSuchRoute => RefusalKind::NoSuchRoute,
+            HttpFault::NoKey => RefusalKind::NoKey,
+            HttpFault::Form(form) => kind_of_form(form),
+            HttpFault::Batch(fault) => kind_of_batch(fault),
+            HttpFault::OutOfMemory => RefusalKind::OutOfMemory,
+        }
+    }
+
+    /// The status of the HTTP reply (RFC 9110, section 15). Each fault has one.
+    pub fn http_status(self) -> u16
+        ensures { (entry_of (http_kind_of self)).http_status ≡ Some result }
+    {
+        let Some(status) = self.kind().http_status() else {
+            unreachable!();
+        };
+        status
+    }
+}
+
+// What a fault of a form is known by.
+fn kind_of_form(form: Lexical) -> RefusalKind
+    ensures { result ≡ kind_of_form form }
+{
+    match form {
+        Lexical::BadCode => RefusalKind::BadCode,
+        Lexical::BadReference => RefusalKind::BadReference,
+        Lexical::BadAmount => RefusalKind::BadAmount,
+        Lexical::BadName => RefusalKind::BadName,
+        Lexical::BadKey => RefusalKind::BadKey,
+        Lexical::BadDate => RefusalKind::BadDate,
+    }
+}
+
+// What a fault of an order file is known by.
+fn kind_of_batch(fault: BatchFault) -> RefusalKind
+    ensures { result ≡ kind_of_batch fault }
+{
+    match fault {
+        BatchFault::BadHeader => RefusalKind::BadHeader,
+        BatchFault::BadRow { .. } => RefusalKind::BadRow,
+        BatchFault::BadCount => RefusalKind::BadCount,
+        BatchFault::OutOfMemory => RefusalKind::OutOfMemory,
+    }
+}
+
+impl From<Lexical> for HttpFault {
+    ghost use Rattle.rtgs_http_requests.specs.declared.http_fault.HttpFault.TheVariants.{Form};
+
+    ghost from_gives = { λ form fault. fault ≡ Form form };
+
+    fn from(form: Lexical) -> HttpFault {
+        HttpFault::Form(form)
+    }
+}
+
+impl From<HeadFault> for HttpFault {
+    ghost use Rattle.rtgs_http_requests.specs.Faults.{of_head};
+
+    ghost from_gives = { λ fault given. given ≡ of_head fault };
+
+    fn from(fault: HeadFault) -> HttpFault {
+        match fault {
+            HeadFault::BadHead => HttpFault::BadHead,
+            HeadFault::NoSuchRoute => HttpFault::NoSuchRoute,
+            HeadFault::OutOfMemory => HttpFault::OutOfMemory,
+        }
+    }
+}
+
+impl From<BatchFault> for HttpFault {
+    ghost use Rattle.rtgs_http_requests.specs.Faults.{of_batch};
+
+    ghost from_gives = { λ fault given. given ≡ of_batch fault };
+
+    fn from(fault: BatchFault) -> HttpFault {
+        match fault {
+            BatchFault::OutOfMemory => HttpFault::OutOfMemory,
+            _ => HttpFault::Batch(fault),
+        }
+    }
+}
+
+impl From<Truncated> for HttpFault {
+    ghost use Rattle.rtgs_http_requests.specs.declared.http_fault.HttpFault.TheVariants as fault;
+
+    ghost from_gives = { λ _ given. given ≡ fault.Truncated };
+
+    fn from(_: Truncated) -> HttpFault {
+        HttpFault::Truncated
+    }
+}
+
+impl From<AllocError> for HttpFault {
+    ghost use Rattle.rtgs_http_requests.specs.declared.http_fault.HttpFault.TheVariants.{OutOfMemory};
+
+    ghost from_gives = { λ _ fault. fault ≡ OutOfMemory };
+
+    fn from(_: AllocError) -> HttpFault {
+        HttpFault::OutOfMemory
+    }
+}

@@ -1,0 +1,37 @@
+//! Laws of the definitions. Each function does nothing: its contract is the law.
+ghost use Rattle.std.specs.Prelude.{◌≡◌, ◌≢◌, ℕ, List, Ok, Err};
+ghost use Rattle.rtgs_http_requests.specs.Callers.{CodeOf};
+ghost use Rattle.rtgs_http_requests.specs.Exchange.{AsksFor};
+ghost use Rattle.rtgs_http_requests.specs.Meaning.{Answer};
+ghost use Rattle.rtgs_http_requests.specs.Same.{AreTheSame};
+ghost use Rattle.rtgs_http_requests.specs.declared.asked.Asked.{Asked};
+ghost use Rattle.rtgs_http_requests.specs.Access.{BearsKey, MayAsk};
+ghost use Rattle.rtgs_http_requests.specs.declared.http_fault.HttpFault.{HttpFault};
+
+use rtgs_exchange::laws::{faults_are_determined, order_files_have_no_fault, rows_are_determined};
+use rtgs_http_feeds::laws::{outcomes_are_apart, regions_are_determined};
+use rtgs_http_heads::laws::{heads_are_determined, keys_are_determined};
+use rtgs_money::laws::dates_have_distinct_texts;
+
+/// Whatever is asked is asked by the bearer of a key: the operator, or a participant who asks for its own alone.
+pub fn participants_ask_for_their_own()
+    ensures { (operator : List ℕ) (code_of : CodeOf) (input : List ℕ) (asked : Asked)
+        → AsksFor operator code_of input (Ok asked)
+        → (digest : List ℕ) × BearsKey input digest × MayAsk operator code_of digest asked }
+{}
+
+/// An input asks for one thing, or has one fault, but that memory may be wanting.
+pub fn answers_are_determined()
+    ensures { (operator : List ℕ) (code_of : CodeOf) (input : List ℕ) (one other : Answer)
+        → AsksFor operator code_of input one → AsksFor operator code_of input other
+        → one ≢ Err HttpFault.OutOfMemory → other ≢ Err HttpFault.OutOfMemory → AreTheSame one other }
+{
+    dates_have_distinct_texts();
+    rows_are_determined();
+    order_files_have_no_fault();
+    faults_are_determined();
+    regions_are_determined();
+    outcomes_are_apart();
+    heads_are_determined();
+    keys_are_determined();
+}

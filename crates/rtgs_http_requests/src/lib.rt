@@ -1,0 +1,30 @@
+//! What one HTTP request asks of the desk: its caller, its body, and the command, batch or reading that they mean, or
+//! the fault of the first step that fails.
+#![tactic(auto)]
+
+mod admission;
+mod admitted;
+mod asked;
+mod asking;
+mod bank_requests;
+mod body;
+mod contents;
+mod http_fault;
+pub mod laws;
+mod meaning;
+mod operator_requests;
+mod participants;
+mod plan;
+mod reading;
+mod spelling;
+
+pub use crate::admission::Admission;
+pub use crate::admitted::Admitted;
+pub use crate::asked::Asked;
+pub use crate::asking::ask;
+pub use crate::body::body_length;
+pub use crate::http_fault::HttpFault;
+pub use crate::meaning::read_asked;
+pub use crate::participants::Participants;
+pub use crate::plan::Plan;
+pub use crate::reading::Reading;

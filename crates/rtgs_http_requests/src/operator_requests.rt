@@ -1,0 +1,109 @@
+//! What the operator asks for.
+ghost use Rattle.rtgs_http_requests.specs.Meaning.{AsksPosting, SpellsPosting, AsksCredit, SpellsCredit};
+ghost use Rattle.rtgs_http_requests.specs.Meaning.{AsksDay, AsksResolution, AsksReport, MeansOperator};
+
+use crate::asked::Asked;
+use crate::body::read_json;
+use crate::contents::{credit_of, date_of, is_nothing, posting_of};
+use crate::http_fault::HttpFault;
+use crate::reading::Reading;
+use crate::spelling::{posting_amount, spell_date};
+use rtgs_book::Command;
+use rtgs_http_heads::OperatorRoute;
+use rtgs_money::{BusinessDate, Code, Credit, Lexical, Reference};
+use std::alloc::Global;
+
+/// What the operator asks for under a route.
+pub fn read_operator(
+    alloc: Global,
+    route: OperatorRoute,
+    parameter: &str,
+    body: &[u8],
+) -> Result<Asked, HttpFault>
+    ensures { MeansOperator route parameter.now body.now result }
+{
+    match route {
+        OperatorRoute::Post => read_posting(alloc, body),
+        OperatorRoute::SetCredit => read_credit(alloc, body),
+        OperatorRoute::OpenDay => Ok(Asked::Submit(Command::OpenDay(read_day(alloc, body)?))),
+        OperatorRoute::Resolve => read_resolution(alloc, body),
+        OperatorRoute::CutOff => Ok(Asked::Submit(Command::CutOff(read_day(alloc, body)?))),
+        OperatorRoute::CloseDay => Ok(Asked::Submit(Command::CloseDay(read_day(alloc, body)?))),
+        OperatorRoute::ReadReport => read_report(parameter),
+    }
+}
+
+// The posting that a body asks for.
+fn read_posting(alloc: Global, body: &[u8]) -> Result<Asked, HttpFault>
+    ensures { AsksPosting body.now result }
+{
+    let value = read_json(alloc, body)?;
+    let Some((code, reference, cents)) = posting_of(&value) else {
+        return Err(HttpFault::WrongFields);
+    };
+    spell_posting(code, reference, cents)
+}
+
+// The posting that these values are, each judged by its form.
+fn spell_posting(code: &str, reference: &str, cents: i128) -> Result<Asked, HttpFault>
+    ensures { SpellsPosting (code.now, reference.now, cents) result }
+{
+    let code = Code::read(code.as_bytes())?;
+    let reference = Reference::read(reference.as_bytes())?;
+    let cents = posting_amount(cents).ok_or(Lexical::BadAmount)?;
+    Ok(Asked::Submit(Command::Post {
+        code,
+        reference,
+        cents,
+    }))
+}
+
+// The setting of a credit limit that a body asks for.
+fn read_credit(alloc: Global, body: &[u8]) -> Result<Asked, HttpFault>
+    ensures { AsksCredit body.now result }
+{
+    let value = read_json(alloc, body)?;
+    let Some((code, credit)) = credit_of(&value) else {
+        return Err(HttpFault::WrongFields);
+    };
+    spell_credit(code, credit)
+}
+
+// The setting of a credit limit that these values are, each judged by its form.
+fn spell_credit(code: &str, credit: u64) -> Result<Asked, HttpFault>
+    ensures { SpellsCredit (code.now, credit) result }
+{
+    let code = Code::read(code.as_bytes())?;
+    let credit = Credit::from_cents(credit).ok_or(Lexical::BadAmount)?;
+    Ok(Asked::Submit(Command::SetCredit { code, credit }))
+}
+
+// The date that a body names.
+fn read_day(alloc: Global, body: &[u8]) -> Result<BusinessDate, HttpFault>
+    ensures { AsksDay body.now result }
+{
+    let value = read_json(alloc, body)?;
+    let Some(date) = date_of(&value) else {
+        return Err(HttpFault::WrongFields);
+    };
+    spell_date(date)
+}
+
+// The resolution that a body asks for.
+fn read_resolution(alloc: Global, body: &[u8]) -> Result<Asked, HttpFault>
+    ensures { AsksResolution body.now result }
+{
+    let value = read_json(alloc, body)?;
+    if !is_nothing(&value) {
+        return Err(HttpFault::WrongFields);
+    }
+    Ok(Asked::Submit(Command::Resolve))
+}
+
+// The report that a path asks for.
+fn read_report(parameter: &str) -> Result<Asked, HttpFault>
+    ensures { AsksReport parameter.now result }
+{
+    let date = spell_date(parameter)?;
+    Ok(Asked::Read(Reading::Report { date }))
+}

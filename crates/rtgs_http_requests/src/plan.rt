@@ -1,0 +1,43 @@
+//! What a head leaves to be known.
+use crate::admission::Admission;
+use crate::http_fault::HttpFault;
+use rtgs_http_heads::Head;
+use rtgs_money::KeyDigest;
+use std::alloc::Global;
+
+/// What a head leaves to be known: who the caller is, and what the body says.
+#[derive(Clone, Copy, Debug)]
+pub struct Plan<'a> {
+    pub admission: Admission,
+    pub parameter: &'a str,
+    pub posts: bool,
+    pub length: Option<u32>,
+}
+
+impl<'a> Plan<'a> {
+    ghost use Rattle.rtgs_http_requests.specs.Plans.{Plans};
+
+    /// What the region leaves to be known, whoever the participants are and whatever comes behind the region.
+    pub fn read(
+        alloc: Global,
+        operator: &KeyDigest,
+        region: &'a [u8],
+    ) -> Result<Plan<'a>, HttpFault>
+        ensures { Plans operator.now region.now result }
+    {
+        let head = match Head::read(alloc, region) {
+            Ok(head) => head,
+            Err(fault) => return Err(HttpFault::from(fault)),
+        };
+        let admission = match Admission::of_key(head.route, head.key, operator) {
+            Ok(admission) => admission,
+            Err(fault) => return Err(fault),
+        };
+        Ok(Plan {
+            admission,
+            parameter: head.parameter,
+            posts: head.posts,
+            length: head.length,
+        })
+    }
+}
