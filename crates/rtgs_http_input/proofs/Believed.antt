@@ -1,0 +1,26 @@
+-- Whose key a desk tells.
+use Rattle.std.proofs.Common.{◌≡◌, true, false, Bool, ℕ, List, Option, Result, Ok, Err, refl, sym, ap, ◌∙◌}
+use Rattle.rtgs_book.specs.declared.Book.{Book}
+use Rattle.rtgs_book.specs.declared.Refusal.{Refusal}
+use Rattle.rtgs_book.specs.declared.Refusal.TheVariants.{Failed}
+use Rattle.rtgs_tables.specs.declared.Keeper.{Ghosts}
+use Rattle.rtgs_ledger.specs.Keys.{code_under}
+use Rattle.rtgs_desk.specs.Holding.{Holds}
+use Rattle.rtgs_desk.specs.Seen.{Seen}
+use Rattle.rtgs_http_input.specs.Known.{KnowsOf}
+
+answers_work : (failed : Bool) (result : Result (Option (List ℕ)) Refusal) (code : Option (List ℕ)) → result ≡ Ok code
+    → (failed ≡ true → result ≡ Err Failed) → failed ≡ false
+answers_work false result code e h = refl
+answers_work true result code e h = let f = h refl in let no : ⊥ = cc in absurd no
+
+-- what an open desk tells is of the book that it holds
+pub believed : {K : Type 0} (g : Ghosts K) (desk : Seen K) (digest : List ℕ) (result : Result (Option (List ℕ)) Refusal)
+    (code : Option (List ℕ)) (code_of : List ℕ → Option (List ℕ)) → result ≡ Ok code
+    → ((book : Book) → Holds g desk book → result ≡ Ok (code_under book digest))
+    → (g.has_failed desk.keeper ≡ true → result ≡ Err Failed) → KnowsOf g desk code_of → code ≡ code_of digest
+believed g desk digest result code code_of is told failed known =
+    let held = known (answers_work (g.has_failed desk.keeper) result code is failed) in
+    let e = told held.0 held.1 in
+    let same : code ≡ code_under held.0 digest = cc in
+    same ∙ sym (ap (λ (f : List ℕ → Option (List ℕ)). f digest) held.2)

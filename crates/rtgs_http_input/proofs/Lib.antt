@@ -1,0 +1,4 @@
+mod Believed
+mod Joined
+mod Known
+mod Told

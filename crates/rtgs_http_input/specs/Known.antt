@@ -1,0 +1,12 @@
+-- Whose key a desk tells.
+use Rattle.std.specs.Prelude.{◌≡◌, false, ℕ, List, Option}
+use Rattle.rtgs_book.specs.declared.Book.{Book}
+use Rattle.rtgs_tables.specs.declared.Keeper.{Ghosts}
+use Rattle.rtgs_desk.specs.Holding.{Holds}
+use Rattle.rtgs_desk.specs.Seen.{Seen}
+use Rattle.rtgs_ledger.specs.Keys.{code_under}
+
+-- unless the desk has failed, it holds a book whose participants have these digests
+abbrev pub KnowsOf : {K : Type 0} → Ghosts K → Seen K → (List ℕ → Option (List ℕ)) → Type 0
+KnowsOf g desk code_of =
+    g.has_failed desk.keeper ≡ false → (book : Book) × Holds g desk book × (code_of ≡ code_under book)

@@ -1,0 +1,41 @@
+//! Who has which key.
+ghost use Rattle.std.specs.Prelude.{◌≡◌, ℕ, List, Option, Bool, true, IfOk, OnErr};
+
+use rtgs_desk::Desk;
+use rtgs_money::{Code, KeyDigest};
+use rtgs_tables::Keeper;
+
+/// A directory that is closed tells nothing.
+#[derive(Clone, Copy, Debug, PartialEq, Eq)]
+pub struct Closed;
+
+/// Those who know the participants.
+pub trait Directory {
+    /// The participant with each digest, as far as the directory is to be believed.
+    ghost knows: { Self → (List ℕ → Option (List ℕ)) → Type 0 };
+
+    /// Whether nothing can be told.
+    ghost is_closed: { Self → Bool };
+
+    /// The code of the participant with this digest, if there is one.
+    fn code_of(&self, digest: &KeyDigest) -> Result<Option<Code>, Closed>
+        ensures told { IfOk result (λ code. (code_of : List ℕ → Option (List ℕ))
+            → knows self.now code_of → code ≡ code_of digest.now) }
+        ensures closed { OnErr result (is_closed self.now ≡ true) };
+}
+
+impl<K: Keeper> Directory for Desk<K> {
+    ghost use Rattle.rtgs_http_input.specs.Known.{KnowsOf};
+
+    // The participants are those of the book that the desk holds. A desk that has failed tells of nobody.
+    ghost knows = { λ desk code_of. KnowsOf K.Keeper desk code_of };
+
+    ghost is_closed = { λ desk. K.has_failed desk.keeper };
+
+    fn code_of(&self, digest: &KeyDigest) -> Result<Option<Code>, Closed> {
+        match Desk::code_of(self, digest) {
+            Ok(code) => Ok(code),
+            Err(_) => Err(Closed),
+        }
+    }
+}

@@ -1,0 +1,49 @@
+//! The region of a request's head, from a reader.
+ghost use Rattle.std.specs.Prelude.{◌≡◌, ◌≢◌, ◌≤◌, ◌++◌, Err, IfOk, IfErr, IfSome};
+ghost use Rattle.std.specs.Io.KnownBytes.{Consumes};
+ghost use Rattle.rtgs_http_feeds.specs.Region.{IsRegion};
+ghost use Rattle.rtgs_http_input.specs.Input.{Fails, part};
+ghost use Rattle.rtgs_http_input.specs.declared.piece.TheConstants.{PIECE};
+ghost use Rattle.rtgs_http_requests.specs.Exchange.{HasRegion};
+
+use crate::piece::PIECE;
+use crate::unread::Unread;
+use rtgs_http_feeds::limits::LONGEST_HEAD;
+use rtgs_http_feeds::{HeadFeed, HeadStep};
+use rtgs_http_requests::HttpFault;
+use std::alloc::Global;
+use std::io::Read;
+
+/// The region, and from where to where the last piece holds what comes behind it.
+pub fn read_region<R: Read>(
+    alloc: Global,
+    reader: &mut R,
+    piece: &mut [u8; PIECE],
+) -> Result<(HeadFeed, usize, usize), Unread>
+    ensures inside { IfOk result (λ (region, from, to). (from ≤ to) × (to ≤ PIECE)) }
+    ensures region { IfOk result (λ (region, from, to). IsRegion region) }
+    ensures taken { IfOk result (λ (region, from, to).
+        Consumes (R.remaining reader.old) (R.remaining reader.new) (region ++ part from to piece.new)) }
+    ensures fault { IfErr result (λ unread. IfSome (R.remaining reader.old)
+        (λ input. Fails (λ fault. HasRegion input (Err fault)) unread)) }
+    ensures open { IfErr result (λ unread. unread ≢ Unread.Closed) }
+{
+    let Ok(mut feed) = HeadFeed::new(alloc) else {
+        return Err(Unread::Faulty(HttpFault::OutOfMemory));
+    };
+    // Each piece has a byte at least.
+    for _turn in 0..LONGEST_HEAD {
+        let Ok(many) = reader.read(&mut piece[..]) else {
+            return Err(Unread::Reader);
+        };
+        if many == 0 {
+            return Err(Unread::Faulty(HttpFault::Truncated));
+        }
+        match feed.feed(&piece[..many]) {
+            HeadStep::Region { taken } => return Ok((feed, taken, many)),
+            HeadStep::TooLong => return Err(Unread::Faulty(HttpFault::HeadTooLong)),
+            HeadStep::More => {}
+        }
+    }
+    unreachable!()
+}

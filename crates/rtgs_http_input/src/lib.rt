@@ -1,0 +1,14 @@
+//! A request, from a reader: its bytes come in pieces, as the reader gives them, and no piece is asked for once the
+//! answer is decided.
+#![tactic(auto)]
+
+mod body;
+mod directory;
+mod head;
+mod piece;
+mod request;
+mod unread;
+
+pub use crate::directory::{Closed, Directory};
+pub use crate::request::read_request;
+pub use crate::unread::Unread;

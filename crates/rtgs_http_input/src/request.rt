@@ -1,0 +1,115 @@
+//! A whole request, from a reader.
+ghost use Rattle.std.specs.Prelude.{◌≡◌, ◌≢◌, ◌≤◌, ℕ, List, true, Err, IfErr, IfSome};
+ghost use Rattle.rtgs_http_input.specs.declared.piece.TheConstants.{PIECE};
+ghost use Rattle.rtgs_http_requests.specs.Plans.{admitted_by, AfterCaller};
+ghost use Rattle.rtgs_http_feeds.specs.Region.{StartsWith};
+ghost use Rattle.rtgs_http_input.specs.Input.{Says, Behind, part};
+ghost use Rattle.rtgs_http_requests.specs.Callers.{CodeOf};
+ghost use Rattle.rtgs_http_requests.specs.Exchange.{AsksFor};
+
+use crate::body::read_body;
+use crate::directory::Directory;
+use crate::head::read_region;
+use crate::piece::PIECE;
+use crate::unread::Unread;
+use rtgs_http_requests::{Admission, Admitted, Asked, HttpFault, Plan, body_length, read_asked};
+use rtgs_money::KeyDigest;
+use std::alloc::Global;
+use std::io::Read;
+
+/// What the whole input asks for, however the reader cuts it, or the fault of the first step that fails. It is read in
+/// pieces, and none is asked for once the answer is decided (RFC 9112, sections 2 and 6).
+pub fn read_request<R: Read, D: Directory>(
+    alloc: Global,
+    reader: &mut R,
+    operator: &KeyDigest,
+    directory: &D,
+) -> Result<Asked, Unread>
+    ensures asked { IfSome (R.remaining reader.old)
+        (λ input. (code_of : CodeOf) → D.knows directory.now code_of
+        → Says (AsksFor operator.now code_of input) result) }
+    ensures closed { result ≡ Err Unread.Closed → D.is_closed directory.now ≡ true }
+{
+    let mut piece = [0u8; PIECE];
+    let (feed, from, to) = match read_region(alloc, reader, &mut piece) {
+        Ok(found) => found,
+        Err(unread) => return Err(unread),
+    };
+    let region = feed.bytes();
+    read_behind(
+        alloc, reader, operator, directory, region, &mut piece, from, to,
+    )
+}
+
+// What an input asks for that is this region, then these bytes of the piece, and then what the reader has left.
+fn read_behind<R: Read, D: Directory>(
+    alloc: Global,
+    reader: &mut R,
+    operator: &KeyDigest,
+    directory: &D,
+    region: &[u8],
+    piece: &mut [u8; PIECE],
+    from: usize,
+    to: usize,
+) -> Result<Asked, Unread>
+    requires inside { (from ≤ to) × (to ≤ PIECE) }
+    ensures asked { (input : List ℕ) → Behind (part from to piece.old) (R.remaining reader.old)
+        (λ rest. StartsWith input region.now rest → (code_of : CodeOf) → D.knows directory.now code_of
+        → Says (AsksFor operator.now code_of input) result) }
+    ensures closed { result ≡ Err Unread.Closed → D.is_closed directory.now ≡ true }
+{
+    let plan = match Plan::read(alloc, operator, region) {
+        Ok(plan) => plan,
+        Err(fault) => return Err(Unread::Faulty(fault)),
+    };
+    let caller = match caller_of(directory, plan.admission) {
+        Ok(caller) => caller,
+        Err(unread) => return Err(unread),
+    };
+    read_content(alloc, reader, &plan, caller, piece, from, to)
+}
+
+// The caller of an admission.
+fn caller_of<D: Directory>(directory: &D, admission: Admission) -> Result<Admitted, Unread>
+    ensures caller { (code_of : CodeOf) → D.knows directory.now code_of
+        → Says (λ told. told ≡ admitted_by code_of admission) result }
+    ensures closed { result ≡ Err Unread.Closed → D.is_closed directory.now ≡ true }
+{
+    match admission {
+        Admission::Operator { route } => Ok(Admitted::Operator { route }),
+        Admission::LookUp { route, digest } => match directory.code_of(&digest) {
+            Ok(Some(caller)) => Ok(Admitted::Bank { route, caller }),
+            Ok(None) => Err(Unread::Faulty(HttpFault::NoKey)),
+            Err(_) => Err(Unread::Closed),
+        },
+    }
+}
+
+// What a caller asks for, where these bytes of the piece come behind the region, and then what the reader has left.
+fn read_content<R: Read>(
+    alloc: Global,
+    reader: &mut R,
+    plan: &Plan,
+    caller: Admitted,
+    piece: &mut [u8; PIECE],
+    from: usize,
+    to: usize,
+) -> Result<Asked, Unread>
+    requires inside { (from ≤ to) × (to ≤ PIECE) }
+    ensures asked { Behind (part from to piece.old) (R.remaining reader.old)
+        (λ rest. Says (AfterCaller plan.now rest caller) result) }
+    ensures open { IfErr result (λ unread. unread ≢ Unread.Closed) }
+{
+    let size = match body_length(plan.posts, plan.length) {
+        Ok(size) => size as usize,
+        Err(fault) => return Err(Unread::Faulty(fault)),
+    };
+    let body = match read_body(alloc, reader, piece, from, to, size) {
+        Ok(body) => body,
+        Err(unread) => return Err(unread),
+    };
+    match read_asked(alloc, caller, plan.parameter, body.bytes()) {
+        Ok(asked) => Ok(asked),
+        Err(fault) => Err(Unread::Faulty(fault)),
+    }
+}
