@@ -1,7 +1,7 @@
 -- Whose key a desk tells.
 use Rattle.std.specs.Prelude.{◌≡◌, false, ℕ, List, Option}
 use Rattle.rtgs_book.specs.declared.Book.{Book}
-use Rattle.rtgs_tables.specs.declared.Keeper.{Ghosts}
+use Rattle.rtgs_keeper.specs.declared.Keeper.{Ghosts}
 use Rattle.rtgs_desk.specs.Holding.{Holds}
 use Rattle.rtgs_desk.specs.Seen.{Seen}
 use Rattle.rtgs_ledger.specs.Keys.{code_under}

@@ -2,8 +2,8 @@
 ghost use Rattle.std.specs.Prelude.{◌≡◌, ℕ, List, Option, Bool, true, IfOk, OnErr};
 
 use rtgs_desk::Desk;
+use rtgs_keeper::Keeper;
 use rtgs_money::{Code, KeyDigest};
-use rtgs_tables::Keeper;
 
 /// A directory that is closed tells nothing.
 #[derive(Clone, Copy, Debug, PartialEq, Eq)]

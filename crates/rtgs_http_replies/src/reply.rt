@@ -3,7 +3,7 @@ ghost use Rattle.std.specs.Prelude.{◌≡◌, ℕ, false, codes, string_bytes, 
 ghost use Rattle.std.specs.Io.KnownBytes.{Appends};
 ghost use Rattle.serde_json.specs.View.{view};
 ghost use Rattle.serde_json.specs.Written.{has_float};
-ghost use Rattle.rtgs_statements.specs.Sent.{AppendsPart};
+ghost use Rattle.rtgs_output.specs.Sent.{AppendsPart};
 ghost use Rattle.rtgs_http_replies.specs.Bodies.{refusal_data};
 ghost use Rattle.rtgs_http_replies.specs.Messages.{Message, message, json_message};
 ghost use Rattle.rtgs_http_replies.specs.Texts.{reason_of, head_text, reply_text};
@@ -11,10 +11,10 @@ ghost use Rattle.rtgs_http_replies.specs.Texts.{reason_of, head_text, reply_text
 use crate::content_type::ContentType;
 use crate::reply_bytes::ReplyBytes;
 use http::StatusCode;
-use rtgs_statements::send_all;
+use rtgs_output::{WriterFailed, send_all};
 use serde_json::{Value, json};
 use std::alloc::{AllocError, Global};
-use std::io::{Error, Write};
+use std::io::Write;
 use std::marker::Model;
 
 /// The reply to a request. Contracts see its status and all its bytes.
@@ -111,9 +111,8 @@ impl Reply {
         }
     }
 
-    /// Sends all bytes. After an error a beginning of them was written, and not all. A write that takes no byte is an
-    /// error.
-    pub fn send<W: Write>(&self, out: &mut W) -> Result<(), Error>
+    /// Sends all bytes. After a write that failed, or took no byte, a beginning of them was written, and not all.
+    pub fn send<W: Write>(&self, out: &mut W) -> Result<(), WriterFailed>
         ensures sent { OnOk result (Appends (W.contents out.old) (W.contents out.new) self.now.text) }
         ensures begun { OnErr result (AppendsPart (W.contents out.old) (W.contents out.new) self.now.text) }
     {
@@ -121,12 +120,10 @@ impl Reply {
     }
 }
 
-const OUT_OF_MEMORY: &str =
-    "HTTP/1.1 503 Service Unavailable\r\nContent-Type: application/json\r\n\
+const OUT_OF_MEMORY: &str = "HTTP/1.1 503 Service Unavailable\r\nContent-Type: application/json\r\n\
      Content-Length: 32\r\nConnection: close\r\n\r\n{\"code\":90,\"name\":\"OutOfMemory\"}";
 
-const ANSWER_LOST: &str =
-    "HTTP/1.1 503 Service Unavailable\r\nContent-Type: application/json\r\n\
+const ANSWER_LOST: &str = "HTTP/1.1 503 Service Unavailable\r\nContent-Type: application/json\r\n\
      Content-Length: 31\r\nConnection: close\r\n\r\n{\"code\":69,\"name\":\"AnswerLost\"}";
 
 // All that stands before a body of this length.
