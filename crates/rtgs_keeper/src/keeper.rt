@@ -34,6 +34,12 @@ pub trait Keeper {
     // Whatever a stop at this moment leaves is a book, kept whole.
     ghost is_whole: { Self → Type 0 };
 
+    // The book was shown when the store was read, each balance kept beside it being the sum from scratch.
+    ghost shows: { Self → Book → Type 0 };
+
+    // In the store's own terms: what a crash of the second leaves is what one of the first could leave.
+    ghost leaves_no_more: { Self → Self → Type 0 };
+
     // What a load may answer in place of a book, whatever is kept.
     ghost explains: { Self → Fault → Type 0 };
 
@@ -45,6 +51,7 @@ pub trait Keeper {
         ensures accepted { is_honest self.new → (book : Book) → content self.old book
             → IfErr result (λ fault. (fault ≡ Fault.OutOfMemory) ⊎ (fault ≡ Fault.StoreFault)) }
         ensures explained { is_honest self.new → IfErr result (explains self.old) }
+        ensures shown { is_honest self.new → IfOk result (shows self.old) }
         ensures kept { is_honest self.new → has_tables self.old → IfOk result (content self.new) }
         ensures empty { is_honest self.new → is_empty self.old
             → IfOk result (λ _. ⊥) × ((rule : Rule) → result ≢ Err (Fault.Inconsistent rule)) }
@@ -52,6 +59,7 @@ pub trait Keeper {
         ensures same { is_honest self.new → (book : Book) → content self.old book → result ≢ Err Fault.StoreFault
             → content self.new book }
         ensures stops { is_honest self.new → (other : Book) → leaves self.new other → leaves self.old other }
+        ensures untouched { is_honest self.new → leaves_no_more self.old self.new }
         ensures whole { is_honest self.new → is_whole self.old → is_whole self.new }
         ensures fault { result ≡ Err Fault.StoreFault → has_failed self.new ≡ true }
         ensures only_fault { result ≢ Err Fault.StoreFault → has_failed self.new ≡ has_failed self.old }

@@ -136,6 +136,10 @@ impl Keeper for MemoryKeeper {
 
     ghost is_whole = { λ k. (book : Book) × KeepsBook k book };
 
+    ghost shows = { λ k book. book ≡ book_of k };
+
+    ghost leaves_no_more = { λ old new. (book : Book) → KeepsBook new book → KeepsBook old book };
+
     ghost explains = { λ k. Explains (book_of k) };
 
     ghost is_honest = { λ k. Unit {0} };

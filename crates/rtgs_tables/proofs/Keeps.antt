@@ -8,7 +8,7 @@ use Rattle.rtgs_book.specs.declared.Fault.{Fault}
 use Rattle.rtgs_book.specs.declared.Fault.TheVariants.{OutOfMemory, StoreFault, NotADeskFile, Inconsistent}
 use Rattle.rtgs_rows.specs.Querying.{IsDeskFile}
 use Rattle.rtgs_tables.proofs.Showing.{file_on}
-use Rattle.sqlite.specs.State.{State, KeepsCommit, Survives, IsUnchanged, IsRolledBack, ExecutesInside}
+use Rattle.sqlite.specs.State.{State, HasCleanDisk, KeepsCommit, Survives, IsUnchanged, IsRolledBack, ExecutesInside}
 use Rattle.sqlite.specs.declared.error.Error.{Error}
 use Rattle.sqlite_trees.specs.declared.store.Store.{Ghosts}
 use Rattle.sqlite.specs.Held.{Held, state}
@@ -55,3 +55,10 @@ pub file_after : {A : Type 0} (trees : Trees) (mid new : State) (fault : Fault) 
     → ◌≢◌ {A = Result A Fault} (Err fault) (Err StoreFault) → IsDeskFile trees new
 file_after trees mid new fault file (inl memory) same other = let on = same memory in file_on trees mid new (file on.0.was_open) (inl on) on.0.is_open
 file_after trees mid new fault file (inr failed) same other = absurd (other (ap Err failed))
+
+-- a crash leaves what it could leave before
+pub leaves_on : (old new : State) → Survives old new (λ _. ⊥) → HasCleanDisk new → (trees : Trees) → new.may_leave trees → old.may_leave trees
+leaves_on old new survives clean trees left = elim (survives.crash clean trees left) [
+  | inl was ↦ was
+  | inr none ↦ absurd none
+]

@@ -23,7 +23,7 @@ use Rattle.rtgs_rows.specs.Rows.{shown_day, shown_account, shown_posting, shown_
 use Rattle.rtgs_rows.specs.Fitting.{FitsDate, FitsParticipant, FitsPosting, FitsOrder, FitsMark, Fits}
 use Rattle.rtgs_rows.specs.Querying.{picked, IsDeskFile, AreWhole, ShowsBook, shown_entry, ShowsDesk, ShowsParticipants}
 use Rattle.rtgs_book.specs.declared.account.Account.{Account}
-use Rattle.rtgs_tables.specs.Accounts.{AreBalances, entry_of, AreTold, AreReadOf}
+use Rattle.rtgs_tables.specs.Accounts.{AreBalances, entry_of, AreTold, AreReadOf, IsShown}
 use Rattle.rtgs_tables.specs.Numbers.{counted_of_posting, counted_of_order, counted_of_mark, IsNumberedPosting, IsNumberedOrder, IsNumberedMark, IsNumberedBook}
 use Rattle.rtgs_tables.proofs.AsRead.{told_plainly, posting_own, order_own, mark_own}
 
@@ -63,6 +63,15 @@ shows_of trees accounts book read numbered = record {
   marks = told_plainly counted_of_mark shown_mark IsNumberedMark mark_own (map (picked (0 ∷ 2 ∷ 3 ∷ 4 ∷ [])) (trees 8)) book.marks numbered.marks read.marks;
 }
 
+-- what was read, and judged to be sound with its balances stored, is what the tables show
+pub shown_book : (trees : Trees) (accounts : List Account) (book : Book) (answer : Result Book Fault) → AreReadOf trees accounts book → IfOk answer (λ it. it ≡ book) → IfOk answer IsSoundBook → OnOk answer (AreBalances book accounts)
+    → IfOk answer (IsShown trees)
+shown_book trees accounts book (Ok it) read is right agree =
+    let sound_book = subst IsSoundBook is right in
+    let balances = all_map (λ (entry : Participant × ℤ). entry.1 ≡ balance book entry.0.code) entry_of accounts agree in
+    subst (IsShown trees) (sym is) (map entry_of accounts, shows_of trees accounts book read (above_zero book sound_book), balances)
+shown_book trees accounts book (Err fault) read is right agree = tt
+
 module _ (law : (trees : Trees) (book : Book) (entries : List (Participant × ℤ)) → IsSound desk_schema trees → AreWhole trees → IsSoundBook book → Fits book → ShowsBook trees book entries
     → AllByRecursion (λ (entry : Participant × ℤ). entry.1 ≡ balance book entry.0.code) entries → (content : Content) × Holds content trees × IsBookOf book content) where
   -- what was read, and judged to be sound with its balances stored, is what the tables hold
@@ -79,3 +88,7 @@ pub kept_book : (s : State) (trees : Trees) (answer : Result Book Fault) → IfO
     → IfOk answer (λ it. (content : Content) × Rests content s × IsBookOf it content)
 kept_book s trees (Ok it) held file = (held.0, rests_of held.0 s trees (file (λ e. cc)) held.1, held.2)
 kept_book s trees (Err fault) held file = tt
+
+pub shown_always : (File : Trees → Type 0) (answer : Result Book Fault) → ((trees : Trees) → File trees → IfOk answer (IsShown trees)) → IfOk answer (λ it. (trees : Trees) → File trees → IsShown trees it)
+shown_always File (Ok it) shown = shown
+shown_always File (Err fault) shown = tt

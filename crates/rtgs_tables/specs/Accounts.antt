@@ -20,7 +20,7 @@ use Rattle.rtgs_rows.specs.Content.{Holding, Content, IsInOrder, Rests}
 use Rattle.rtgs_book.specs.declared.Day.{Day}
 use Rattle.rtgs_rows.specs.Fitting.{Fits, FitsDate, FitsParticipant, FitsPosting, FitsOrder, FitsMark}
 use Rattle.rtgs_rows.specs.Rows.{shown_day, shown_account, shown_posting, shown_order, shown_mark}
-use Rattle.rtgs_rows.specs.Querying.{picked, ShowsDesk, ShowsParticipants}
+use Rattle.rtgs_rows.specs.Querying.{picked, ShowsDesk, ShowsParticipants, ShowsBook}
 use Rattle.rtgs_tables.specs.Numbers.{as_read, counted_of_posting, counted_of_order, counted_of_mark, IsFormed}
 use Rattle.rtgs_book.specs.declared.account.Account.{Account}
 
@@ -106,3 +106,7 @@ ExplainsTrees trees OutOfMemory = ⊤
 ExplainsTrees trees StoreFault = ⊤
 ExplainsTrees trees NotADeskFile = ¬ AreFormed trees
 ExplainsTrees trees (Inconsistent rule) = (accounts : List Account) × (book : Book) × AreReadOf trees accounts book × BreaksFirst accounts book rule
+
+-- The queries show the records of the book, with stored balances that are the sums from scratch.
+abbrev pub IsShown : Trees → Book → Type 0
+IsShown trees book = (entries : List (Participant × ℤ)) × ShowsBook trees book entries × AllByRecursion (λ (entry : Participant × ℤ). entry.1 ≡ balance book entry.0.code) entries

@@ -3,7 +3,7 @@ ghost use Rattle.std.specs.Prelude.{◌≡◌, ◌≢◌, false, map, List, Err,
 ghost use Rattle.rtgs_book.specs.declared.Book.{Book};
 ghost use Rattle.rtgs_book.specs.declared.Rule.{Rule};
 ghost use Rattle.rtgs_book.specs.declared.account.Account.{Account as AccountSpec};
-ghost use Rattle.rtgs_tables.specs.Accounts.{HasRecords, AreBalances, AreReadOf, AreFormed, ExplainsRead, ExplainsTrees};
+ghost use Rattle.rtgs_tables.specs.Accounts.{HasRecords, AreBalances, AreReadOf, AreFormed, ExplainsRead, ExplainsTrees, IsShown};
 ghost use Rattle.rtgs_tables.specs.Building.{IsBlank};
 ghost use Rattle.rtgs_book.specs.Soundness.{IsSound};
 ghost use Rattle.rtgs_rows.specs.Content.{Content, Holds};
@@ -93,6 +93,8 @@ fn judged(stored: Stored) -> Result<Book, Fault>
 pub(crate) fn load_book<S: Alter>(alloc: Global, conn: &mut Connection<S>) -> Result<Book, Fault>
     ensures read { HasCleanDisk (state S.Store conn.new) → (accounts : List AccountSpec) (book : Book) → HasRecords accounts book (state S.Store conn.old) → IfOk result (λ loaded. (loaded ≡ book) × AreBalances book accounts) }
     ensures held { HasCleanDisk (state S.Store conn.new) → (trees : Trees) → IsDeskFile trees (state S.Store conn.old) → AreWhole trees → IfOk result (λ book. (content : Content) × Holds content trees × IsBookOf book content) }
+    ensures shown { HasCleanDisk (state S.Store conn.new) → (trees : Trees) → IsDeskFile trees (state S.Store conn.old)
+        → IfOk result (IsShown trees) }
     ensures explained { HasCleanDisk (state S.Store conn.new) → (accounts : List AccountSpec) (book : Book) → HasRecords accounts book (state S.Store conn.old) → IfErr result (ExplainsRead accounts book) }
     ensures caused { HasCleanDisk (state S.Store conn.new) → (trees : Trees) → IsDeskFile trees (state S.Store conn.old)
         → IfErr result (ExplainsTrees trees) }

@@ -86,7 +86,7 @@ impl<S: Alter + Drop> Keeper for SqlKeeper<S> {
     ghost use Rattle.sqlite.specs.Tree.{Trees};
     ghost use Rattle.rtgs_tables.specs.Building.{IsBlank};
     ghost use Rattle.rtgs_book.specs.declared.account.Account.{Account as AccountSpec};
-    ghost use Rattle.rtgs_tables.specs.Accounts.{HasRecords, ExplainsRead, ExplainsTrees};
+    ghost use Rattle.rtgs_tables.specs.Accounts.{HasRecords, ExplainsRead, ExplainsTrees, IsShown};
     ghost use Rattle.std.specs.Prelude.{List};
 
     ghost content = { λ k. HoldsBook S.Store k.conn };
@@ -104,6 +104,11 @@ impl<S: Alter + Drop> Keeper for SqlKeeper<S> {
     ghost explains = { λ k fault. ((accounts : List AccountSpec) (book : Book)
         → HasRecords accounts book (state S.Store k.conn) → ExplainsRead accounts book fault)
         × ((trees : Trees) → IsDeskFile trees (state S.Store k.conn) → ExplainsTrees trees fault) };
+
+    ghost shows = { λ k book. (trees : Trees) → IsDeskFile trees (state S.Store k.conn) → IsShown trees book };
+
+    ghost leaves_no_more = { λ old new. (trees : Trees) → (state S.Store new.conn).may_leave trees
+        → (state S.Store old.conn).may_leave trees };
 
     ghost is_honest = { λ k. HasCleanDisk (state S.Store k.conn) };
 

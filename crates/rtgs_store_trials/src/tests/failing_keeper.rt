@@ -73,6 +73,11 @@ impl<K: Keeper> Keeper for FailingKeeper<K> {
 
     ghost is_whole = { λ keeper. K.is_whole keeper.kept };
 
+    // Nothing is claimed of what was shown, and of what the store itself may leave.
+    ghost shows = { λ _ _. Unit {0} };
+
+    ghost leaves_no_more = { λ _ _. Unit {0} };
+
     ghost explains = { λ keeper fault. (fault ≡ Fault.OutOfMemory)
         ⊎ ((fault ≡ Fault.StoreFault) ⊎ K.explains keeper.kept fault) };
 

@@ -5,7 +5,7 @@ use Rattle.rtgs_book.specs.declared.Fault.TheVariants.{StoreFault}
 use Rattle.rtgs_rows.specs.Tables.{desk_schema}
 use Rattle.rtgs_tables.specs.Accounts.{ExplainsRead}
 use Rattle.rtgs_tables.proofs.Judging.{judged_book, judged_of, unread, unread_of, answered}
-use Rattle.rtgs_tables.proofs.Together.{held_book}
+use Rattle.rtgs_tables.proofs.Together.{held_book, shown_book}
 use Rattle.rtgs_tables.proofs.loading.load_book.Goals as goal
 
 pub returns-in_err-stored-clause-explained : goal.returns-in_err-stored-clause-explained
@@ -40,3 +40,6 @@ returns-in_err-stored-clause-caused g c clean trees file =
 
 pub returns-clause-caused : goal.returns-clause-caused
 returns-clause-caused g c clean trees file = judged_of trees _ _ c.judged.result (c.in_ok-stored.ensures.is clean trees file) c.judged.ensures.explained
+
+pub returns-clause-shown : goal.returns-clause-shown
+returns-clause-shown g c clean trees file = shown_book trees _ _ c.judged.result (c.in_ok-stored.ensures.is clean trees file) c.judged.ensures.given c.judged.ensures.sound c.judged.ensures.balances

@@ -4,7 +4,8 @@ use Rattle.rtgs_tables.proofs.Accounts.{has_own, own_balances}
 use Rattle.rtgs_rows.specs.Querying.{IsDeskFile}
 use Rattle.rtgs_rows.proofs.Querying.{file_of, rests_of}
 use Rattle.rtgs_rows.proofs.Settling.{leaves_less}
-use Rattle.rtgs_tables.proofs.Together.{kept_book}
+use Rattle.rtgs_tables.proofs.Keeps.{leaves_on}
+use Rattle.rtgs_tables.proofs.Together.{kept_book, shown_always}
 use Rattle.rtgs_tables.proofs.Judging.{accepted, explained, the_book}
 use Rattle.rtgs_tables.proofs.sql_keeper.SqlKeeperKeeper.load.Goals as goal
 
@@ -58,3 +59,18 @@ returns-else-self-clause-same g c clean book holds other =
 
 pub returns-in-Err-StoreFault-clause-stops : goal.returns-in-Err-StoreFault-clause-stops
 returns-in-Err-StoreFault-clause-stops g c clean other left = leaves_less g.S.Store c.args.self.now.conn c.load_book-loaded.new.conn c.load_book-loaded.ensures.survives clean other left
+
+pub returns-else-self-2-clause-untouched : goal.returns-else-self-2-clause-untouched
+returns-else-self-2-clause-untouched g c clean trees left = leaves_on (state g.S.Store c.args.self.now.conn) (state g.S.Store c.load_book-loaded.new.conn) c.load_book-loaded.ensures.survives clean trees left
+
+pub returns-else-self-clause-untouched : goal.returns-else-self-clause-untouched
+returns-else-self-clause-untouched g c clean trees left = leaves_on (state g.S.Store c.args.self.now.conn) (state g.S.Store c.load_book-loaded.new.conn) c.load_book-loaded.ensures.survives clean trees left
+
+pub returns-in-Err-StoreFault-clause-untouched : goal.returns-in-Err-StoreFault-clause-untouched
+returns-in-Err-StoreFault-clause-untouched g c clean trees left = leaves_on (state g.S.Store c.args.self.now.conn) (state g.S.Store c.load_book-loaded.new.conn) c.load_book-loaded.ensures.survives clean trees left
+
+pub returns-else-self-2-clause-shown : goal.returns-else-self-2-clause-shown
+returns-else-self-2-clause-shown g c clean = shown_always (λ trees. IsDeskFile trees (state g.S.Store c.args.self.now.conn)) c.load_book-loaded.result (c.load_book-loaded.ensures.shown clean)
+
+pub returns-else-self-clause-shown : goal.returns-else-self-clause-shown
+returns-else-self-clause-shown g c clean = shown_always (λ trees. IsDeskFile trees (state g.S.Store c.args.self.now.conn)) c.load_book-loaded.result (c.load_book-loaded.ensures.shown clean)
