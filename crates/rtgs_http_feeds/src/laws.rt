@@ -1,7 +1,11 @@
 //! Laws of the definitions: an input has one outcome, however it was cut. Each function does nothing: its contract is
 //! the law.
-ghost use Rattle.std.specs.Prelude.{◌≡◌, ℕ, List};
-ghost use Rattle.rtgs_http_feeds.specs.Region.{StartsWith, IsTooLong, IsOpen, IsRegion};
+ghost use Rattle.std.specs.Prelude.{◌≡◌, ◌++◌, ℕ, List, length};
+ghost use Rattle.rtgs_http_feeds.specs.Body.{Body, TakesBody};
+ghost use Rattle.rtgs_http_feeds.specs.Region.{StartsWith, IsTooLong, IsOpen, IsRegion, TakesHead};
+ghost use Rattle.rtgs_http_feeds.specs.Pieces.{body_step_behind, head_step_behind};
+ghost use Rattle.rtgs_http_feeds.specs.declared.body_step.BodyStep.{BodyStep};
+ghost use Rattle.rtgs_http_feeds.specs.declared.head_step.HeadStep.{HeadStep};
 
 /// An input has one region at its start at most.
 pub fn regions_are_determined()
@@ -14,4 +18,14 @@ pub fn outcomes_are_apart()
     ensures long { (input region rest : List ℕ) → StartsWith input region rest → ¬ IsTooLong input }
     ensures unfinished { (input region rest : List ℕ) → StartsWith input region rest → ¬ IsOpen input }
     ensures length { (input : List ℕ) → IsTooLong input → ¬ IsOpen input }
+{}
+
+/// Two pieces do what they do as one: so the pieces do not matter, but for what they are together.
+pub fn pieces_may_be_joined()
+    ensures head { (old first second mid new : List ℕ) (step : HeadStep)
+        → TakesHead old first HeadStep.More mid → TakesHead mid second step new
+        → TakesHead old (first ++ second) (head_step_behind (length first) step) new }
+    ensures body { (old mid new : Body) (first second : List ℕ) (step : BodyStep)
+        → TakesBody old first BodyStep.More mid → TakesBody mid second step new
+        → TakesBody old (first ++ second) (body_step_behind (length first) step) new }
 {}

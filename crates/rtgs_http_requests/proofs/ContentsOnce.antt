@@ -1,7 +1,7 @@
 -- A body has one content, and one meaning.
-use Rattle.std.proofs.Common.{◌≡◌, ◌⊎◌, inl, inr, ℕ, ℤ, List, Option, Some, None, Result, Ok, Err, refl, sym, ap}
+use Rattle.std.proofs.Common.{◌≡◌, ◌⊎◌, inl, inr, ℕ, ℤ, List, Some, Result, Ok, Err, refl, sym, ap}
 use Rattle.std.proofs.Common.{◌∙◌, IsUtf8}
-use Rattle.serde_json.specs.Data.{Data, Num}
+use Rattle.serde_json.specs.Data.{Data}
 use Rattle.serde_json.specs.Find.{as_integer}
 use Rattle.serde_json.specs.Read.{read}
 use Rattle.rtgs_money.specs.Amounts.{IsAmount, IsPostingAmount, IsCredit}

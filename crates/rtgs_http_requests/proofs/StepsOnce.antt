@@ -1,6 +1,6 @@
 -- A whole input asks for one thing.
-use Rattle.std.proofs.Common.{◌≡◌, ◌<◌, ◌≤◌, ◌++◌, inl, inr, ℕ, Bool, List, length, take, Option, Some, None, Result}
-use Rattle.std.proofs.Common.{Ok, Err, refl, sym, ap, subst, ◌∙◌, arith}
+use Rattle.std.proofs.Common.{◌≡◌, ◌≤◌, ◌++◌, inl, inr, ℕ, List, length, take, Option, Some, None, Result}
+use Rattle.std.proofs.Common.{Ok, Err, refl, sym, ap, ◌∙◌, arith}
 use Rattle.std.specs.Prelude.{◌≢◌}
 use Rattle.std.proofs.lemmas.List.{append_cancel_left}
 use Rattle.httparse.specs.Grammar.{RequestHead}
@@ -15,7 +15,7 @@ use Rattle.rtgs_http_requests.specs.Same.{AreTheSame}
 use Rattle.rtgs_http_requests.specs.declared.admitted.Admitted.{Admitted}
 use Rattle.rtgs_http_requests.specs.declared.http_fault.HttpFault.{HttpFault}
 use Rattle.rtgs_http_requests.specs.declared.http_fault.HttpFault.TheVariants as fault
-use Rattle.rtgs_http_requests.proofs.Agreement.{Agree, Equal, IsDetermined, Tells, told_once, told_equal, then_once}
+use Rattle.rtgs_http_requests.proofs.Agreement.{Agree, IsDetermined, Tells, told_once, told_equal, then_once}
 use Rattle.rtgs_http_requests.proofs.Lower.{LowerLaws}
 use Rattle.rtgs_http_requests.proofs.MeaningOnce.{meant_once}
 use Rattle.rtgs_http_requests.proofs.Stages.{after_size, after_caller, after_route, after_head, after_region}
