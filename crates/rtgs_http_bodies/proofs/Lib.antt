@@ -1,0 +1,5 @@
+mod InRange
+mod NoFloat
+mod QueueValues
+mod Spelled
+mod Undetailed

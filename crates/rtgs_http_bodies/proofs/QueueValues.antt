@@ -1,0 +1,83 @@
+-- What the orders of a queue pay together.
+use Rattle.std.proofs.Common.{◌≡◌, ℕ, ◌≤◌, ◌*◌, ◌^◌, pos, Bool, true, false, cond, List, [], ◌∷◌, length, map, filter}
+use Rattle.std.proofs.Common.{Option, Some, None, Result, Ok, refl, ap, subst, arith}
+use Rattle.std.specs.Prelude.{FitsSigned}
+use Rattle.std.specs.Int.{w64}
+use Rattle.std.specs.List.{AllByRecursion, find}
+use Rattle.std.specs.Str.{bytes_eq}
+use Rattle.std.proofs.lemmas.Int.{fits_signed_from_abs}
+use Rattle.std.proofs.lemmas.List.Sums.{sum_by-cons}
+use Rattle.std.proofs.lemmas.Slice.Eq.{bytes_eq-Decides}
+use Rattle.rtgs_money.specs.Amounts.{IsAmount}
+use Rattle.rtgs_book.specs.Balance.{balance}
+use Rattle.rtgs_book.specs.declared.book.Book.{Book}
+use Rattle.rtgs_book.specs.declared.participant.Participant.{Participant}
+use Rattle.rtgs_book.specs.declared.order.Order.{Order}
+use Rattle.rtgs_book.specs.Lookup.{participant_of, accounts, has_code}
+use Rattle.rtgs_book.specs.Queue.{queue}
+use Rattle.rtgs_book.specs.Ranges.{Fits}
+use Rattle.rtgs_book.specs.Soundness.{IsSound}
+use Rattle.rtgs_book.specs.declared.refusal.Refusal.{Refusal}
+use Rattle.rtgs_desk.specs.Readings.{if_known, account_told, value_of}
+use Rattle.rtgs_desk.specs.declared.reading.AccountReading.{AccountReading}
+
+-- some of the orders pay at most 10^12 cents each
+taken_bounded : (is_in : Order → Bool) (orders : List Order) → AllByRecursion (λ (o : Order). IsAmount o.amount) orders
+    → value_of (filter is_in orders) ≤ 10 ^ 12 * length (filter is_in orders)
+taken_bounded is_in [] h = omega arith
+taken_bounded is_in (order ∷ orders) h = by (is_in order) (taken_bounded is_in orders h.1)
+  where
+    by : (b : Bool) → value_of (filter is_in orders) ≤ 10 ^ 12 * length (filter is_in orders)
+        → value_of (cond b (order ∷ filter is_in orders) (filter is_in orders)) ≤ 10 ^ 12 * length
+        (cond b (order ∷ filter is_in orders) (filter is_in orders))
+    by true rest = omega (arith, rest, h.0.1, sum_by-cons (λ (o : Order). o.amount) order (filter is_in orders))
+    by false rest = rest
+
+-- what holds of each participant's code holds of one that is looked up
+at_known : (P : List ℕ → Type 0) (code : List ℕ) (participants : List Participant) (found : Participant)
+    → find (has_code code) participants ≡ Some found
+    → AllByRecursion P (map (λ (p : Participant). p.code) participants) → P code
+at_known P code [] found e all = absurd (cc)
+at_known P code (one ∷ others) found e all = by (bytes_eq one.code code) refl e
+    (λ later. at_known P code others found later all.1)
+  where
+    by : (b : Bool) → bytes_eq one.code code ≡ b → cond b (Some one) (find (has_code code) others) ≡ Some found
+        → (find (has_code code) others ≡ Some found → P code) → P code
+    by true same e rest = subst P ((bytes_eq-Decides one.code code).0 same) all.0
+    by false other e rest = rest e
+
+queue_short : (book : Book) (code : List ℕ) (found : Participant) → IsSound book
+    → participant_of book code ≡ Some found → length (queue book code) ≤ 500
+unfolding participant_of accounts
+queue_short book code found sound e = at_known (λ c. length
+    (queue book c) ≤ 500) code book.participants found e sound.queues.short
+
+queue_bounded : (book : Book) (code : List ℕ) → Fits book
+    → value_of (queue book code) ≤ 10 ^ 12 * length (queue book code)
+unfolding queue
+queue_bounded book code fits = taken_bounded _ book.orders fits.orders
+
+value_fits : (book : Book) (code : List ℕ) (found : Participant) → IsSound book → Fits book
+    → participant_of book code ≡ Some found → FitsSigned w64 (pos (value_of (queue book code)))
+value_fits book code found sound fits e =
+    fits_signed_from_abs w64 (pos (value_of (queue book code)))
+    (omega (arith, queue_bounded book code fits, queue_short book code found sound e))
+
+ok_is : (a b : AccountReading) (told : Result AccountReading Refusal) → told ≡ Ok a → told ≡ Ok b → a ≡ b
+ok_is a b told one other = cc
+
+pub queued_fits : (book : Book) (code : List ℕ) (reading : AccountReading) → IsSound book → Fits book
+    → account_told book code ≡ Ok reading → FitsSigned w64 reading.queued_value
+queued_fits book code reading sound fits told = by (participant_of book code) refl told
+  where
+    by : (o : Option Participant) → participant_of book code ≡ o
+        → if_known o (λ participant. Ok (record {
+          participant = participant;
+          balance = balance book code;
+          day = book.day;
+          queued = length (queue book code);
+          queued_value = pos (value_of (queue book code));
+        })) ≡ Ok reading → FitsSigned w64 reading.queued_value
+    by None e told = absurd (cc)
+    by (Some found) e told = subst (FitsSigned w64) (ap (λ (r : AccountReading). r.queued_value)
+        (ok_is _ _ _ refl told)) (value_fits book code found sound fits e)

@@ -1,0 +1,19 @@
+use Rattle.std.proofs.Common.{◌≡◌, ◌∙◌, sym, subst, ap, arith, rules}
+use Rattle.std.specs.Int.{w64, w128}
+use Rattle.std.specs.Prelude.{FitsSigned}
+use Rattle.std.proofs.lemmas.Int.{ints, to_z-of_z}
+use Rattle.std.proofs.lemmas.Result.{IfOk-weaker}
+use Rattle.rtgs_http_bodies.specs.Readings.{account_with}
+use Rattle.rtgs_http_replies.specs.Messages.{json_message}
+use Rattle.rtgs_http_bodies.proofs.account.account_reply.Goals as goal
+
+pub returns : goal.returns
+returns c fits =
+    let cents : c.cents.result ≡ c.args.reading.now.queued_value = search rules in
+    let small : FitsSigned w64 c.cents.result = subst (FitsSigned w64) (sym cents) fits in
+    let passed = to_z-of_z w128 c.cents.result (omega (arith, ints, small)) in
+    let same = c.in_64_bits-queued_value.ensures (subst (FitsSigned w64) (sym passed) small) ∙ passed ∙ cents in
+    let told = to_z-of_z w64 c.in_64_bits-queued_value.result (subst (FitsSigned w64) (sym same) fits) ∙ same in
+    IfOk-weaker c.json.result _ _
+    (λ reply h. h ∙ ap (json_message 200) (c.in_ok-value.ensures ∙ ap (λ v. account_with v c.args.reading.now) told))
+    c.json.ensures

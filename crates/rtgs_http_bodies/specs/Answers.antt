@@ -1,0 +1,52 @@
+-- The values that the bodies of replies to commands spell. Keys stand in byte order.
+use Rattle.std.specs.Prelude.{ℕ, List, codes}
+use Rattle.serde_json.specs.Data.{Data, string, object, Members, member, no_members}
+use Rattle.rtgs_book.specs.declared.answer.Answer.{Answer}
+use Rattle.rtgs_book.specs.declared.answer.Answer.TheVariants.{Added, CreditSet, Posted, Opened, Settled, Queued}
+use Rattle.rtgs_book.specs.declared.answer.Answer.TheVariants.{Withdrawn, Resolved, Nothing, CutOffDone, Closed}
+use Rattle.rtgs_book.specs.declared.answer.Answer.TheVariants.{Repeated}
+use Rattle.rtgs_book.specs.declared.answer.Known.{Known}
+use Rattle.rtgs_book.specs.declared.answer.Known.TheVariants as known
+use Rattle.rtgs_book.specs.declared.order_state.OrderState.{OrderState}
+use Rattle.rtgs_book.specs.declared.order_state.OrderState.TheVariants as state
+use Rattle.rtgs_http_replies.specs.Bodies.{whole, signed}
+
+-- the value of an answer that this word names
+abbrev pub told : List ℕ → Members → Data
+told word members = object (member (codes "answer") (string word) members)
+
+-- where the order stands now; its mark is told where it has settled
+abbrev pub repeated_order : ℕ → OrderState → Data
+repeated_order number (state.Settled mark) = told (codes "repeated")
+    (member (codes "mark") (whole mark) (member (codes "number") (whole number)
+    (member (codes "state") (string (codes "settled")) no_members)))
+repeated_order number state.Queued = told (codes "repeated")
+    (member (codes "number") (whole number) (member (codes "state") (string (codes "queued")) no_members))
+repeated_order number state.Withdrawn = told (codes "repeated")
+    (member (codes "number") (whole number) (member (codes "state") (string (codes "withdrawn")) no_members))
+repeated_order number state.Rejected = told (codes "repeated")
+    (member (codes "number") (whole number) (member (codes "state") (string (codes "rejected")) no_members))
+
+-- what is known now of a command that was done before
+abbrev pub repeated_data : Known → Data
+repeated_data known.Nothing = told (codes "repeated") no_members
+repeated_data (known.Posting number) = told (codes "repeated") (member (codes "number") (whole number) no_members)
+repeated_data (known.Order number state) = repeated_order number state
+
+abbrev pub answer_data : Answer → Data
+answer_data Added = told (codes "added") no_members
+answer_data CreditSet = told (codes "credit set") no_members
+answer_data (Posted number) = told (codes "posted") (member (codes "number") (whole number) no_members)
+answer_data Opened = told (codes "opened") no_members
+answer_data (Settled number mark) = told (codes "settled")
+    (member (codes "mark") (whole mark) (member (codes "number") (whole number) no_members))
+answer_data (Queued number place) = told (codes "queued")
+    (member (codes "number") (whole number) (member (codes "place") (whole place) no_members))
+answer_data (Withdrawn number) = told (codes "withdrawn") (member (codes "number") (whole number) no_members)
+answer_data (Resolved mark count value) = told (codes "resolved")
+    (member (codes "count") (whole count) (member (codes "mark") (whole mark)
+    (member (codes "value") (signed value) no_members)))
+answer_data Nothing = told (codes "nothing") no_members
+answer_data CutOffDone = told (codes "cut off") no_members
+answer_data (Closed rejected) = told (codes "closed") (member (codes "rejected") (whole rejected) no_members)
+answer_data (Repeated known) = repeated_data known

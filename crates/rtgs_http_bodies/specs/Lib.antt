@@ -1,0 +1,5 @@
+pub mod Answers
+pub mod Readings
+pub mod Refusals
+pub mod Spellings
+pub mod Statuses

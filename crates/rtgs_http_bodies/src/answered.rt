@@ -1,0 +1,97 @@
+//! Replies that tell an answer.
+ghost use Rattle.std.specs.Prelude.{◌≡◌, codes, IfOk};
+ghost use Rattle.serde_json.specs.Data.{string, member, no_members};
+ghost use Rattle.serde_json.specs.View.{view};
+ghost use Rattle.rtgs_http_bodies.specs.Answers.{told, answer_data, repeated_data, repeated_order};
+ghost use Rattle.rtgs_http_replies.specs.Bodies.{whole, signed};
+ghost use Rattle.rtgs_http_replies.specs.Messages.{json_message};
+
+use http::StatusCode;
+use rtgs_book::{Answer, Known, OrderState};
+use rtgs_http_replies::Reply;
+use serde_json::{Value, json};
+use std::alloc::{AllocError, Global};
+
+/// The reply that tells this answer. The only error is want of memory.
+pub fn answer_reply(alloc: Global, answer: Answer) -> Result<Reply, AllocError>
+    ensures { IfOk result (λ reply. reply ≡ json_message 200 (answer_data answer)) }
+{
+    let value = answer_value(alloc, answer)?;
+    Reply::json(alloc, StatusCode::OK, &value)
+}
+
+// What is told of an answer.
+fn answer_value(alloc: Global, answer: Answer) -> Result<Value, AllocError>
+    ensures { IfOk result (λ value. view value ≡ answer_data answer) }
+{
+    match answer {
+        Answer::Added => word_value(alloc, "added"),
+        Answer::CreditSet => word_value(alloc, "credit set"),
+        Answer::Posted { number } => numbered_value(alloc, "posted", number),
+        Answer::Opened => word_value(alloc, "opened"),
+        Answer::Settled { number, mark } => {
+            json!(in alloc; {"answer": "settled", "mark": mark, "number": number})
+        }
+        Answer::Queued { number, place } => {
+            json!(in alloc; {"answer": "queued", "number": number, "place": place})
+        }
+        Answer::Withdrawn { number } => numbered_value(alloc, "withdrawn", number),
+        Answer::Resolved { mark, count, value } => {
+            let value = value.cents();
+            json!(in alloc; {"answer": "resolved", "count": count, "mark": mark, "value": value})
+        }
+        Answer::Nothing => word_value(alloc, "nothing"),
+        Answer::CutOffDone => word_value(alloc, "cut off"),
+        Answer::Closed { rejected } => {
+            json!(in alloc; {"answer": "closed", "rejected": rejected})
+        }
+        Answer::Repeated(known) => repeated_value(alloc, known),
+    }
+}
+
+// What is told of a command that was done before.
+fn repeated_value(alloc: Global, known: Known) -> Result<Value, AllocError>
+    ensures { IfOk result (λ value. view value ≡ repeated_data known) }
+{
+    match known {
+        Known::Nothing => word_value(alloc, "repeated"),
+        Known::Posting { number } => numbered_value(alloc, "repeated", number),
+        Known::Order { number, state } => repeated_order_value(alloc, number, state),
+    }
+}
+
+// What is told of an order that was taken before.
+fn repeated_order_value(alloc: Global, number: u64, state: OrderState) -> Result<Value, AllocError>
+    ensures { IfOk result (λ value. view value ≡ repeated_order number state) }
+{
+    match state {
+        OrderState::Settled(mark) => {
+            json!(in alloc; {"answer": "repeated", "mark": mark, "number": number, "state": "settled"})
+        }
+        OrderState::Queued => standing_value(alloc, number, "queued"),
+        OrderState::Withdrawn => standing_value(alloc, number, "withdrawn"),
+        OrderState::Rejected => standing_value(alloc, number, "rejected"),
+    }
+}
+
+// An answer that is a word alone.
+fn word_value(alloc: Global, word: &str) -> Result<Value, AllocError>
+    ensures { IfOk result (λ value. view value ≡ told word.now no_members) }
+{
+    json!(in alloc; {"answer": word})
+}
+
+// An answer with a number.
+fn numbered_value(alloc: Global, word: &str, number: u64) -> Result<Value, AllocError>
+    ensures { IfOk result (λ value. view value ≡ told word.now (member (codes "number") (whole number) no_members)) }
+{
+    json!(in alloc; {"answer": word, "number": number})
+}
+
+// An order that was taken before and has not settled.
+fn standing_value(alloc: Global, number: u64, state: &str) -> Result<Value, AllocError>
+    ensures { IfOk result (λ value. view value ≡ told (codes "repeated") (member (codes "number") (whole number)
+        (member (codes "state") (string state.now) no_members))) }
+{
+    json!(in alloc; {"answer": "repeated", "number": number, "state": state})
+}

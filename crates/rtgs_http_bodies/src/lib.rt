@@ -1,0 +1,22 @@
+//! What replies tell: the desk's answers and refusals, its readings, the result file of a batch, statements and
+//! reports.
+#![tactic(auto)]
+
+mod account;
+mod answered;
+mod batch;
+pub mod laws;
+mod order;
+mod queue;
+mod refused;
+mod report;
+mod statement;
+
+pub use crate::account::account_reply;
+pub use crate::answered::answer_reply;
+pub use crate::batch::batch_reply;
+pub use crate::order::order_reply;
+pub use crate::queue::queue_reply;
+pub use crate::refused::{batch_fault_reply, kind_reply, refusal_reply};
+pub use crate::report::report_reply;
+pub use crate::statement::statement_reply;

@@ -1,0 +1,72 @@
+//! Replies that tell an order.
+ghost use Rattle.std.specs.Prelude.{◌≡◌, IfOk};
+ghost use Rattle.serde_json.specs.View.{view};
+ghost use Rattle.rtgs_http_bodies.specs.Readings.{order_data, settled_order, standing_order};
+ghost use Rattle.rtgs_http_replies.specs.Messages.{json_message};
+
+use http::StatusCode;
+use rtgs_book::{Order, OrderState};
+use rtgs_http_replies::Reply;
+use serde_json::{Value, json};
+use std::alloc::{AllocError, Global};
+
+/// The reply that tells this order to its sender, with its mark where it has settled. The only error is want of memory.
+pub fn order_reply(alloc: Global, order: &Order) -> Result<Reply, AllocError>
+    ensures { IfOk result (λ reply. reply ≡ json_message 200 (order_data order.now)) }
+{
+    let value = order_value(alloc, order)?;
+    Reply::json(alloc, StatusCode::OK, &value)
+}
+
+// What is told of an order.
+fn order_value(alloc: Global, order: &Order) -> Result<Value, AllocError>
+    ensures { IfOk result (λ value. view value ≡ order_data order.now) }
+{
+    match order.state {
+        OrderState::Settled(mark) => settled_value(alloc, order, mark),
+        OrderState::Queued => standing_value(alloc, order, "queued"),
+        OrderState::Withdrawn => standing_value(alloc, order, "withdrawn"),
+        OrderState::Rejected => standing_value(alloc, order, "rejected"),
+    }
+}
+
+// What is told of an order that has settled under this mark.
+fn settled_value(alloc: Global, order: &Order, mark: u64) -> Result<Value, AllocError>
+    ensures { IfOk result (λ value. view value ≡ settled_order order.now mark) }
+{
+    let amount = order.amount.cents();
+    let date = order.date.text();
+    let date = date.as_str();
+    let number = order.number;
+    let reference = order.reference.as_str();
+    let to = order.receiver.as_str();
+    json!(in alloc; {
+        "amount": amount,
+        "date": date,
+        "mark": mark,
+        "number": number,
+        "reference": reference,
+        "state": "settled",
+        "to": to
+    })
+}
+
+// What is told of an order that stands so and has not settled.
+fn standing_value(alloc: Global, order: &Order, state: &str) -> Result<Value, AllocError>
+    ensures { IfOk result (λ value. view value ≡ standing_order order.now state.now) }
+{
+    let amount = order.amount.cents();
+    let date = order.date.text();
+    let date = date.as_str();
+    let number = order.number;
+    let reference = order.reference.as_str();
+    let to = order.receiver.as_str();
+    json!(in alloc; {
+        "amount": amount,
+        "date": date,
+        "number": number,
+        "reference": reference,
+        "state": state,
+        "to": to
+    })
+}

@@ -1,0 +1,56 @@
+//! Replies that tell a queue.
+ghost use Rattle.std.specs.Prelude.{◌≡◌, map, IfOk};
+ghost use Rattle.serde_json.specs.View.{view};
+ghost use Rattle.rtgs_http_bodies.specs.Readings.{queue_data, queued_data, queued_from};
+ghost use Rattle.rtgs_http_replies.specs.Messages.{json_message};
+
+use http::StatusCode;
+use rtgs_book::Order;
+use rtgs_http_replies::Reply;
+use serde_json::{Value, json};
+use std::alloc::{AllocError, Global};
+
+/// The reply that tells a participant its queue, in order. The only error is want of memory.
+pub fn queue_reply(alloc: Global, orders: &[Order]) -> Result<Reply, AllocError>
+    ensures { IfOk result (λ reply. reply ≡ json_message 200 (queue_data orders.now)) }
+{
+    let value = queue_value(alloc, orders)?;
+    Reply::json(alloc, StatusCode::OK, &value)
+}
+
+// What is told of a queue.
+fn queue_value(alloc: Global, orders: &[Order]) -> Result<Value, AllocError>
+    ensures { IfOk result (λ value. view value ≡ queue_data orders.now) }
+{
+    let items = queued_values(alloc, orders)?;
+    json!(in alloc; {"orders": items})
+}
+
+// What is told of each order of a queue, in order.
+fn queued_values(alloc: Global, orders: &[Order]) -> Result<Vec<Value>, AllocError>
+    ensures { IfOk result (λ items. map view items.items ≡ queued_from 1 orders.now) }
+{
+    let mut items = Vec::new(alloc);
+    for (index, order) in orders.iter().enumerate() {
+        let item = queued_value(alloc, order, index + 1)?;
+        items.push(item)?;
+    }
+    Ok(items)
+}
+
+// What is told of an order at this place of its queue.
+fn queued_value(alloc: Global, order: &Order, place: usize) -> Result<Value, AllocError>
+    ensures { IfOk result (λ value. view value ≡ queued_data place order.now) }
+{
+    let amount = order.amount.cents();
+    let number = order.number;
+    let reference = order.reference.as_str();
+    let to = order.receiver.as_str();
+    json!(in alloc; {
+        "amount": amount,
+        "number": number,
+        "place": place,
+        "reference": reference,
+        "to": to
+    })
+}

@@ -1,0 +1,82 @@
+//! Replies that tell why there is no answer.
+ghost use Rattle.std.specs.Prelude.{◌≡◌, IfOk};
+ghost use Rattle.http.specs.StatusCode.{IsStatusCode};
+ghost use Rattle.serde_json.specs.View.{view};
+ghost use Rattle.rtgs_http_bodies.specs.Refusals.{kind_status, kind_message, refused_message, batch_refused_message};
+ghost use Rattle.rtgs_http_bodies.specs.Refusals.{overdrawn_data, bad_row_data};
+
+use http::StatusCode;
+use rtgs_book::Refusal;
+use rtgs_exchange::BatchFault;
+use rtgs_http_replies::Reply;
+use rtgs_money::Code;
+use rtgs_refusals::RefusalKind;
+use serde_json::{Value, json};
+use std::alloc::{AllocError, Global};
+
+/// The reply that tells a kind of refusal by its number and its name. The only error is want of memory.
+pub fn kind_reply(alloc: Global, kind: RefusalKind) -> Result<Reply, AllocError>
+    ensures { IfOk result (λ reply. reply ≡ kind_message kind) }
+{
+    Reply::refused(alloc, status_of(kind), kind.number(), kind.name())
+}
+
+/// The reply that tells why the desk refused a command or a reading. The only error is want of memory.
+pub fn refusal_reply(alloc: Global, refusal: Refusal) -> Result<Reply, AllocError>
+    ensures { IfOk result (λ reply. reply ≡ refused_message refusal) }
+{
+    match &refusal {
+        Refusal::Overdrawn { first, count } => {
+            let value = overdrawn_value(alloc, first, *count)?;
+            Reply::json(alloc, status_of(RefusalKind::Overdrawn), &value)
+        }
+        _ => kind_reply(alloc, refusal.kind()),
+    }
+}
+
+/// The reply that tells what is wrong with a file of orders. The only error is want of memory.
+pub fn batch_fault_reply(alloc: Global, fault: BatchFault) -> Result<Reply, AllocError>
+    ensures { IfOk result (λ reply. reply ≡ batch_refused_message fault) }
+{
+    match fault {
+        BatchFault::BadRow { row } => {
+            let value = bad_row_value(alloc, row)?;
+            Reply::json(alloc, status_of(RefusalKind::BadRow), &value)
+        }
+        _ => kind_reply(alloc, fault.kind()),
+    }
+}
+
+// The status of the table. No reply tells of a kind that has none there.
+fn status_of(kind: RefusalKind) -> StatusCode
+    ensures { result ≡ kind_status kind }
+{
+    status_with(kind.http_status().unwrap_or(503))
+}
+
+// The status with this number.
+fn status_with(number: u16) -> StatusCode
+    requires { IsStatusCode number }
+    ensures { result ≡ number }
+{
+    StatusCode::from_u16(number).unwrap()
+}
+
+// What is told where participants are below zero.
+fn overdrawn_value(alloc: Global, first: &Code, count: u64) -> Result<Value, AllocError>
+    ensures { IfOk result (λ value. view value ≡ overdrawn_data first.now count) }
+{
+    let code = RefusalKind::Overdrawn.number();
+    let first = first.as_str();
+    let name = RefusalKind::Overdrawn.name();
+    json!(in alloc; {"code": code, "count": count, "first": first, "name": name})
+}
+
+// What is told of a bad row.
+fn bad_row_value(alloc: Global, row: u64) -> Result<Value, AllocError>
+    ensures { IfOk result (λ value. view value ≡ bad_row_data row) }
+{
+    let code = RefusalKind::BadRow.number();
+    let name = RefusalKind::BadRow.name();
+    json!(in alloc; {"code": code, "name": name, "row": row})
+}
