@@ -1,0 +1,126 @@
+-- What is known of a request becomes what a desk makes of it.
+use Rattle.std.proofs.Common.{◌≡◌, true, false, ℕ, List, [], ◌∷◌, length, take, Result, Ok, Err, refl, inl, inr, arith}
+use Rattle.rtgs_book.specs.declared.book.Book.{Book}
+use Rattle.rtgs_book.specs.declared.refusal.Refusal.TheVariants.{Failed}
+use Rattle.rtgs_keeper.specs.declared.keeper.Keeper.{Ghosts}
+use Rattle.rtgs_ledger.specs.Keys.{code_under}
+use Rattle.rtgs_desk.specs.Holding.{Holds}
+use Rattle.rtgs_desk.specs.Seen.{Seen}
+use Rattle.rtgs_exchange.specs.Batches.{orders_of, replies_of, with_stop}
+use Rattle.rtgs_http_bodies.specs.Refusals.{refused_message}
+use Rattle.rtgs_http_input.specs.Known.{KnowsOf}
+use Rattle.rtgs_http_replies.specs.Messages.{Message}
+use Rattle.rtgs_http_requests.specs.Access.{BearsKey, MayAsk}
+use Rattle.rtgs_http_requests.specs.Callers.{CodeOf}
+use Rattle.rtgs_http_requests.specs.Exchange.{AsksFor}
+use Rattle.rtgs_http_requests.specs.declared.asked.Asked.{Asked}
+use Rattle.rtgs_http_requests.specs.declared.asked.Asked.TheVariants.{Submit, Batch, Read}
+use Rattle.rtgs_http_requests.specs.declared.http_fault.HttpFault.{HttpFault}
+use Rattle.rtgs_http_banks.specs.Dealings.{Stands, ComesTo, Makes, Works}
+use Rattle.rtgs_http_banks.specs.Exchange.{Exchanges}
+use Rattle.rtgs_http_banks.specs.Sayings.{IsSaid, fault_message}
+
+-- on a desk that has failed anybody may have any key
+nobody : {K : Type 0} (g : Ghosts K) (desk : Seen K) (code_of : CodeOf) → g.has_failed desk.keeper ≡ true
+    → KnowsOf g desk code_of
+nobody g desk code_of failed = λ works. let no : ⊥ = cc in absurd no
+
+of_book : {K : Type 0} (g : Ghosts K) (desk : Seen K) (book : Book) → Holds g desk book
+    → KnowsOf g desk (code_under book)
+of_book g desk book held = λ works. (book, held, refl)
+
+stood : {K : Type 0} (g : Ghosts K) (old : Book) (desk : Seen K) → Stands g old desk → Makes g old [] [] desk
+stood g old desk s = record {
+  last = old;
+  kept = s.kept;
+  none_open = λ works. refl;
+  session = λ found left. record {
+    replied = omega arith;
+    running = omega arith;
+    last = old;
+    run = refl;
+    found = s.after_a_crash found left;
+  };
+  whole_after_a_crash = s.whole_after_a_crash;
+}
+
+-- no commands
+pub idle : {K : Type 0} (g : Ghosts K) (old : Book) (desk : Seen K) → Stands g old desk → Works g old desk
+idle g old desk s = ([], [], stood g old desk s)
+
+-- the commands of what was asked
+pub works_of : {K : Type 0} (g : Ghosts K) (old : Book) (answer : Result Asked HttpFault) (desk : Seen K)
+    (sent : Message) → ComesTo g old answer desk sent → Works g old desk
+works_of g old (Err fault) desk sent comes = ([], [], stood g old desk comes.0)
+works_of g old (Ok (Submit command)) desk sent comes = (
+  command ∷ [],
+  comes.reply ∷ [],
+  record {
+    last = comes.acts.book;
+    kept = comes.acts.kept;
+    none_open = comes.acts.none_open;
+    session = comes.acts.session;
+    whole_after_a_crash = comes.acts.whole_after_a_crash;
+  },
+)
+works_of g old (Ok (Batch sender rows)) desk sent (inl comes) = ([], [], stood g old desk comes.0)
+works_of g old (Ok (Batch sender rows)) desk sent (inr comes) =
+    let replies = with_stop (replies_of comes.replies) comes.stopped in (
+      orders_of sender (take (length replies) rows.items),
+      replies,
+      record {
+        last = comes.acts.last;
+        kept = comes.acts.kept;
+        none_open = comes.acts.none_open;
+        session = comes.acts.session;
+        whole_after_a_crash = comes.acts.whole_after_a_crash;
+      },
+    )
+works_of g old (Ok (Read reading)) desk sent comes = ([], [], stood g old desk comes.0)
+
+-- a request that asks for something
+pub asked_exchange : {K : Type 0} (g : Ghosts K) (operator input : List ℕ) (old new : Seen K) (asked : Asked)
+    (sent : Message)
+    → ((operator : List ℕ) (code_of : CodeOf) (input : List ℕ) (asked : Asked)
+    → AsksFor operator code_of input (Ok asked)
+    → (digest : List ℕ) × BearsKey input digest × MayAsk operator code_of digest asked)
+    → ((code_of : CodeOf) → KnowsOf g old code_of → AsksFor operator code_of input (Ok asked))
+    → (g.is_honest new.keeper → (book : Book) → Holds g old book → ComesTo g book (Ok asked) new sent)
+    → (g.has_failed old.keeper ≡ true → (new ≡ old) × IsSaid (refused_message Failed) sent)
+    → Exchanges g operator old input new sent
+asked_exchange g operator input old new asked sent own asks comes failed = record {
+  deals = λ honest book held.
+      let a = asks (code_under book) (of_book g old book held) in
+      record {
+        answer = Ok asked;
+        asks = a;
+        allowed = own operator (code_under book) input asked a;
+        comes = comes honest book held;
+      };
+  failed = λ f. ((failed f).0, inl (failed f).1);
+}
+
+-- a request with a fault
+pub fault_exchange : {K : Type 0} (g : Ghosts K) (operator input : List ℕ) (desk : Seen K) (fault : HttpFault)
+    (sent : Message)
+    → ((code_of : CodeOf) → KnowsOf g desk code_of → AsksFor operator code_of input (Err fault))
+    → ((book : Book) → Holds g desk book → Stands g book desk) → IsSaid (fault_message fault) sent
+    → Exchanges g operator desk input desk sent
+fault_exchange g operator input desk fault sent asks stands said = record {
+  deals = λ honest book held. record {
+    answer = Err fault;
+    asks = asks (code_under book) (of_book g desk book held);
+    allowed = tt;
+    comes = (stands book held, said);
+  };
+  failed = λ f. (refl, inr (fault, (λ code_of. asks code_of (nobody g desk code_of f)), said));
+}
+
+-- a request whose caller was to be looked up by a desk that had failed
+pub closed_exchange : {K : Type 0} (g : Ghosts K) (operator input : List ℕ) (desk : Seen K) (sent : Message)
+    → g.has_failed desk.keeper ≡ true → IsSaid (refused_message Failed) sent
+    → Exchanges g operator desk input desk sent
+closed_exchange g operator input desk sent closed said = record {
+  deals = λ honest book held. let works = held.works in let no : ⊥ = cc in absurd no;
+  failed = λ f. (refl, inl said);
+}

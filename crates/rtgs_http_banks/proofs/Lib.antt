@@ -1,0 +1,4 @@
+mod Exchanged
+mod Finding
+mod Plainly
+mod Told

@@ -1,0 +1,8 @@
+use Rattle.rtgs_http_banks.proofs.commands.submit.Goals as goal
+
+pub returns-clause-submits : goal.returns-clause-submits
+returns-clause-submits g c honest book held = record {
+  reply = c.submit-reply.result;
+  acts = c.submit-reply.ensures.acts honest book held;
+  told = c.tell.ensures;
+}

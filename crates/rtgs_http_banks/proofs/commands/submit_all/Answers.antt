@@ -1,0 +1,19 @@
+use Rattle.std.proofs.Common.{inr}
+use Rattle.rtgs_exchange.specs.Results.{results_text}
+use Rattle.rtgs_http_bodies.specs.Statuses.{batch_status}
+use Rattle.rtgs_http_replies.specs.Messages.{message}
+use Rattle.rtgs_http_replies.specs.declared.content_type.ContentType.TheVariants.{Csv}
+use Rattle.rtgs_http_banks.proofs.commands.submit_all.Goals as goal
+
+pub returns-clause-submits : goal.returns-clause-submits
+returns-clause-submits g c honest book held =
+    let replies = c.in-Ok.batch.replies.items in
+    let stopped = c.in-Ok.batch.stopped in
+    inr (record {
+      replies = replies;
+      stopped = stopped;
+      stops = c.in-Ok.ensures.stopped;
+      acts = c.in-Ok.ensures.sent honest book held;
+      told = c.or_lost.ensures (message (batch_status stopped) Csv (results_text c.args.rows.now replies stopped))
+          c.batch_reply.ensures;
+    })

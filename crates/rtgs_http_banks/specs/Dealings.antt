@@ -1,0 +1,86 @@
+-- What a desk that held a book does where this is asked, and what is sent for it. `g` has the members of the keeper's
+-- trait.
+use Rattle.std.specs.Prelude.{◌≡◌, ◌⊎◌, true, false, ℕ, List, length, Option, Some, None, Result, Ok, Err}
+use Rattle.rtgs_book.specs.declared.book.Book.{Book}
+use Rattle.rtgs_book.specs.declared.command.Command.{Command}
+use Rattle.rtgs_book.specs.declared.refusal.Refusal.{Refusal}
+use Rattle.rtgs_book.specs.declared.refusal.Refusal.TheVariants.{StoreFault}
+use Rattle.rtgs_book.specs.Outcome.{Reply}
+use Rattle.rtgs_book.specs.Session.{IsSession, open_command}
+use Rattle.rtgs_keeper.specs.declared.keeper.Keeper.{Ghosts}
+use Rattle.rtgs_desk.specs.Holding.{Holds, Acts}
+use Rattle.rtgs_desk.specs.Seen.{Seen}
+use Rattle.rtgs_exchange.specs.Batches.{StopsAfter}
+use Rattle.rtgs_exchange.specs.Results.{results_text}
+use Rattle.rtgs_exchange.specs.Sent.{Sent}
+use Rattle.rtgs_exchange.specs.declared.batch_result.RowReply.{RowReply}
+use Rattle.rtgs_exchange.specs.declared.order_row.OrderRow.{OrderRow}
+use Rattle.rtgs_http_bodies.specs.Refusals.{refused_message}
+use Rattle.rtgs_http_bodies.specs.Statuses.{batch_status}
+use Rattle.rtgs_http_replies.specs.Messages.{Message, message}
+use Rattle.rtgs_http_replies.specs.declared.content_type.ContentType.TheVariants.{Csv}
+use Rattle.rtgs_http_requests.specs.declared.asked.Asked.{Asked}
+use Rattle.rtgs_http_requests.specs.declared.asked.Asked.TheVariants.{Submit, Batch, Read}
+use Rattle.rtgs_http_requests.specs.declared.http_fault.HttpFault.{HttpFault}
+use Rattle.rtgs_http_requests.specs.declared.reading.Reading.{Reading}
+use Rattle.rtgs_http_banks.specs.Sayings.{no_memory, IsSaid, IsTold, fault_message, reply_message, reading_message}
+
+-- nothing was done to the book: the desk holds it, unless the store failed, and a crash leaves it and no other, whole
+pub record Stands {K : Type 0} (g : Ghosts K) (book : Book) (desk : Seen K) : Type 0 where
+  pub kept : g.has_failed desk.keeper ≡ false → Holds g desk book
+  pub after_a_crash : (found : Book) → g.leaves desk.keeper found → found ≡ book
+  pub whole_after_a_crash : g.is_whole desk.keeper
+
+-- the command was given once, and what the desk replied is told
+pub record Submits {K : Type 0} (g : Ghosts K) (old : Book) (command : Command) (desk : Seen K) (sent : Message)
+    : Type 0 where
+  pub reply : Reply
+  pub acts : Acts g old command reply desk
+  pub told : IsTold (reply_message reply) sent
+
+-- The orders of the rows were given, up to the last or to the one at which the batch stopped. The result file is told.
+pub record SubmitsAll {K : Type 0} (g : Ghosts K) (old : Book) (sender : List ℕ) (rows : List OrderRow)
+    (desk : Seen K) (sent : Message) : Type 0 where
+  pub replies : List RowReply
+  pub stopped : Option Refusal
+  pub stops : StopsAfter (length replies) (length rows) stopped
+  pub acts : Sent g old sender rows replies stopped desk
+  pub told : IsTold (message (batch_status stopped) Csv (results_text rows replies stopped)) sent
+
+-- nothing was given for want of memory
+abbrev pub GivesNothing : {K : Type 0} → Ghosts K → Book → Seen K → Message → Type 0
+GivesNothing g old desk sent = Stands g old desk × (sent ≡ no_memory)
+
+-- this was read, or the store failed
+abbrev pub IsReadOf : {K : Type 0} → Ghosts K → Message → Seen K → Message → Type 0
+IsReadOf g wanted desk sent =
+    IsSaid wanted sent ⊎ ((g.has_failed desk.keeper ≡ true) × IsSaid (refused_message StoreFault) sent)
+
+-- the book was read, and nothing done to it
+abbrev pub Reads : {K : Type 0} → Ghosts K → Book → Reading → Seen K → Message → Type 0
+Reads g old reading desk sent = Stands g old desk × IsReadOf g (reading_message old reading) desk sent
+
+-- what is done and sent for what a request asks, or for the fault of the first step that fails
+abbrev pub ComesTo : {K : Type 0} → Ghosts K → Book → Result Asked HttpFault → Seen K → Message → Type 0
+ComesTo g old (Err fault) desk sent = Stands g old desk × IsSaid (fault_message fault) sent
+ComesTo g old (Ok (Submit command)) desk sent = Submits g old command desk sent
+ComesTo g old (Ok (Batch sender rows)) desk sent =
+    GivesNothing g old desk sent ⊎ SubmitsAll g old sender rows.items desk sent
+ComesTo g old (Ok (Read reading)) desk sent = Reads g old reading desk sent
+
+-- what commands with these replies made of a book that the desk held
+pub record Makes {K : Type 0} (g : Ghosts K) (old : Book) (commands : List Command) (replies : List Reply)
+    (desk : Seen K) : Type 0 where
+  pub last : Book
+  -- unless the store failed, the desk holds that book, and no command is open
+  pub kept : g.has_failed desk.keeper ≡ false → Holds g desk last
+  pub none_open : g.has_failed desk.keeper ≡ false → open_command commands replies ≡ None
+  -- whatever the next opening finds, the commands were a session of the definitions
+  pub session : (found : Book) → g.leaves desk.keeper found
+      → IsSession (record { start = old; commands = commands; replies = replies; found = found })
+  -- and it is a book, kept whole
+  pub whole_after_a_crash : g.is_whole desk.keeper
+
+-- the commands of one request
+abbrev pub Works : {K : Type 0} → Ghosts K → Book → Seen K → Type 0
+Works g old desk = (commands : List Command) × (replies : List Reply) × Makes g old commands replies desk

@@ -1,0 +1,44 @@
+-- One request and its reply. `g` has the members of the keeper's trait.
+use Rattle.std.specs.Prelude.{◌≡◌, ◌⊎◌, ⊤, ℕ, List, true, Result, Ok, Err}
+use Rattle.rtgs_book.specs.declared.book.Book.{Book}
+use Rattle.rtgs_book.specs.declared.refusal.Refusal.TheVariants.{Failed}
+use Rattle.rtgs_keeper.specs.declared.keeper.Keeper.{Ghosts}
+use Rattle.rtgs_ledger.specs.Keys.{code_under}
+use Rattle.rtgs_desk.specs.Holding.{Holds}
+use Rattle.rtgs_desk.specs.Seen.{Seen}
+use Rattle.rtgs_http_bodies.specs.Refusals.{refused_message}
+use Rattle.rtgs_http_replies.specs.Messages.{Message}
+use Rattle.rtgs_http_requests.specs.Access.{BearsKey, MayAsk}
+use Rattle.rtgs_http_requests.specs.Callers.{CodeOf}
+use Rattle.rtgs_http_requests.specs.Exchange.{AsksFor}
+use Rattle.rtgs_http_requests.specs.declared.asked.Asked.{Asked}
+use Rattle.rtgs_http_requests.specs.declared.http_fault.HttpFault.{HttpFault}
+use Rattle.rtgs_http_banks.specs.Dealings.{ComesTo}
+use Rattle.rtgs_http_banks.specs.Sayings.{IsSaid, fault_message}
+
+-- what is asked is the own of the key's participant, unless the key is the operator's
+abbrev pub IsAllowed : List ℕ → Book → List ℕ → Result Asked HttpFault → Type 0
+IsAllowed operator old input (Ok asked) =
+    (digest : List ℕ) × BearsKey input digest × MayAsk operator (code_under old) digest asked
+IsAllowed operator old input (Err fault) = ⊤
+
+-- the request is read to its end, and what it asks of the book that the desk held is done and answered
+pub record Deals {K : Type 0} (g : Ghosts K) (operator : List ℕ) (old : Book) (input : List ℕ) (desk : Seen K)
+    (sent : Message) : Type 0 where
+  pub answer : Result Asked HttpFault
+  pub asks : AsksFor operator (code_under old) input answer
+  pub allowed : IsAllowed operator old input answer
+  pub comes : ComesTo g old answer desk sent
+
+-- A desk that had failed replies so, and the fault is one of a step before the book is needed.
+abbrev pub TurnsAway : List ℕ → List ℕ → Message → Type 0
+TurnsAway operator input sent =
+    IsSaid (refused_message Failed) sent
+    ⊎ ((fault : HttpFault) × ((code_of : CodeOf) → AsksFor operator code_of input (Err fault))
+    × IsSaid (fault_message fault) sent)
+
+-- what an input comes to: on a desk that held a book, and on one that had failed
+pub record Exchanges {K : Type 0} (g : Ghosts K) (operator : List ℕ) (old : Seen K) (input : List ℕ) (new : Seen K)
+    (sent : Message) : Type 0 where
+  pub deals : g.is_honest new.keeper → (book : Book) → Holds g old book → Deals g operator book input new sent
+  pub failed : g.has_failed old.keeper ≡ true → (new ≡ old) × TurnsAway operator input sent

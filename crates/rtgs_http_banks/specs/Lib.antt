@@ -1,0 +1,4 @@
+pub mod Dealings
+pub mod Exchange
+pub mod Sayings
+pub mod Serving

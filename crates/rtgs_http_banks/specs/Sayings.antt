@@ -1,0 +1,76 @@
+-- The messages that tell what came of a request.
+use Rattle.std.specs.Prelude.{◌≡◌, ◌⊎◌, ℕ, List, Result, Ok, Err, codes}
+use Rattle.rtgs_book.specs.declared.book.Book.{Book}
+use Rattle.rtgs_book.specs.declared.order.Order.{Order}
+use Rattle.rtgs_book.specs.declared.refusal.Refusal.{Refusal}
+use Rattle.rtgs_book.specs.Outcome.{Reply}
+use Rattle.rtgs_desk.specs.Dated.{StatementTold, statement_told, ReportTold, report_told}
+use Rattle.rtgs_desk.specs.Readings.{account_told, queue_told, order_told}
+use Rattle.rtgs_desk.specs.declared.reading.AccountReading.{AccountReading}
+use Rattle.rtgs_http_bodies.specs.Answers.{answer_data}
+use Rattle.rtgs_http_bodies.specs.Readings.{account_data, order_data, queue_data}
+use Rattle.rtgs_http_bodies.specs.Refusals.{kind_message, refused_message, batch_refused_message}
+use Rattle.rtgs_http_replies.specs.Bodies.{refusal_data}
+use Rattle.rtgs_http_replies.specs.Messages.{Message, message, json_message}
+use Rattle.rtgs_http_replies.specs.declared.content_type.ContentType.TheVariants.{Plain}
+use Rattle.rtgs_http_requests.specs.Faults.{http_kind_of}
+use Rattle.rtgs_http_requests.specs.declared.http_fault.HttpFault.{HttpFault}
+use Rattle.rtgs_http_requests.specs.declared.http_fault.HttpFault.TheVariants.{Batch}
+use Rattle.rtgs_http_requests.specs.declared.reading.Reading.{Reading}
+use Rattle.rtgs_http_requests.specs.declared.reading.Reading.TheVariants as reading
+use Rattle.rtgs_statements.specs.Texts.{statement_text, report_text}
+
+-- memory was refused, and no command was given
+abbrev pub no_memory : Message
+no_memory = json_message 503 (refusal_data 90 (codes "OutOfMemory"))
+
+-- memory was refused for the reply, after the desk had answered
+abbrev pub answer_lost : Message
+answer_lost = json_message 503 (refusal_data 69 (codes "AnswerLost"))
+
+-- What is sent is this, or that there was no memory for it. No command was given.
+abbrev pub IsSaid : Message → Message → Type 0
+IsSaid wanted sent = (sent ≡ wanted) ⊎ (sent ≡ no_memory)
+
+-- What is sent is this, or that there was no memory for it. The desk had answered.
+abbrev pub IsTold : Message → Message → Type 0
+IsTold wanted sent = (sent ≡ wanted) ⊎ (sent ≡ answer_lost)
+
+-- why nothing is asked
+abbrev pub fault_message : HttpFault → Message
+fault_message (Batch fault) = batch_refused_message fault
+fault_message fault = kind_message (http_kind_of fault)
+
+-- what the desk replied to a command
+abbrev pub reply_message : Reply → Message
+reply_message (Ok answer) = json_message 200 (answer_data answer)
+reply_message (Err refusal) = refused_message refusal
+
+-- what a desk tells of this
+abbrev pub told_message : {X : Type 0} → (X → Message) → Result X Refusal → Message
+told_message say (Ok value) = say value
+told_message say (Err refusal) = refused_message refusal
+
+abbrev pub order_message : Order → Message
+order_message order = json_message 200 (order_data order)
+
+abbrev pub account_message : AccountReading → Message
+account_message account = json_message 200 (account_data account)
+
+abbrev pub queue_message : List Order → Message
+queue_message orders = json_message 200 (queue_data orders)
+
+abbrev pub statement_message : StatementTold → Message
+statement_message told = message 200 Plain (statement_text told.code told.date told.postings told.orders)
+
+abbrev pub report_message : ReportTold → Message
+report_message told =
+    message 200 Plain (report_text told.date told.codes told.postings told.orders told.marks)
+
+-- what is read in a book
+abbrev pub reading_message : Book → Reading → Message
+reading_message book (reading.Order sender reference) = told_message order_message (order_told book sender reference)
+reading_message book (reading.Account code) = told_message account_message (account_told book code)
+reading_message book (reading.Queue code) = told_message queue_message (queue_told book code)
+reading_message book (reading.Statement code date) = told_message statement_message (statement_told book code date)
+reading_message book (reading.Report date) = told_message report_message (report_told book date)

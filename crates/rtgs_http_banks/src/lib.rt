@@ -1,0 +1,13 @@
+//! One request to the desk over HTTP, and one reply. The reply is made whole, after the last command and without a
+//! writer, before any of it is written.
+#![tactic(auto)]
+
+mod commands;
+mod faults;
+mod readings;
+mod reply;
+mod serve;
+mod served;
+
+pub use crate::serve::serve_one;
+pub use crate::served::Served;

@@ -1,0 +1,130 @@
+//! Readings, and what is replied to them.
+ghost use Rattle.rtgs_book.specs.declared.Book.{Book};
+ghost use Rattle.rtgs_desk.specs.Dated.{statement_told, report_told};
+ghost use Rattle.rtgs_desk.specs.Holding.{Holds};
+ghost use Rattle.rtgs_desk.specs.Readings.{account_told, queue_told, order_told};
+ghost use Rattle.rtgs_http_banks.specs.Dealings.{Stands, Reads, IsReadOf};
+ghost use Rattle.rtgs_http_banks.specs.Sayings.{IsSaid, told_message, order_message, account_message, queue_message};
+ghost use Rattle.rtgs_http_banks.specs.Sayings.{statement_message, report_message};
+
+use crate::faults::refused;
+use rtgs_desk::Desk;
+use rtgs_http_bodies::laws::queued_values_fit;
+use rtgs_http_bodies::{account_reply, order_reply, queue_reply, report_reply, statement_reply};
+use rtgs_http_replies::Reply;
+use rtgs_http_requests::Reading;
+use rtgs_keeper::Keeper;
+use rtgs_money::{BusinessDate, Code, Reference};
+use std::alloc::Global;
+
+/// Reads what is asked, and makes the reply.
+pub(crate) fn read<K: Keeper>(alloc: Global, desk: &mut Desk<K>, reading: Reading) -> Reply
+    ensures reads { K.is_honest desk.new.keeper → (book : Book) → Holds K.Keeper desk.old book
+        → Reads K.Keeper book reading desk.new result }
+    ensures honest { K.is_honest desk.new.keeper → K.is_honest desk.old.keeper }
+{
+    stands(desk);
+    match reading {
+        Reading::Order { sender, reference } => read_order(alloc, desk, &sender, &reference),
+        Reading::Account { code } => read_account(alloc, desk, &code),
+        Reading::Queue { code } => read_queue(alloc, desk, &code),
+        Reading::Statement { code, date } => read_statement(alloc, desk, &code, date),
+        Reading::Report { date } => read_report(alloc, desk, date),
+    }
+}
+
+/// A desk on which nothing is done stands as it stood.
+pub(crate) fn stands<K: Keeper>(desk: &Desk<K>)
+    ensures { (book : Book) → Holds K.Keeper desk.now book → Stands K.Keeper book desk.now }
+{
+    desk.holds_a_sound_book();
+}
+
+// The order of this reference.
+fn read_order<K: Keeper>(
+    alloc: Global,
+    desk: &mut Desk<K>,
+    code: &Code,
+    reference: &Reference,
+) -> Reply
+    ensures reads { K.is_honest desk.new.keeper → (book : Book) → Holds K.Keeper desk.old book
+        → Stands K.Keeper book desk.new
+        × IsReadOf K.Keeper (told_message order_message (order_told book code.now reference.now)) desk.new result }
+    ensures honest { K.is_honest desk.new.keeper → K.is_honest desk.old.keeper }
+{
+    let order = match desk.order_of(code, reference) {
+        Ok(order) => order,
+        Err(refusal) => return refused(alloc, refusal),
+    };
+    match order_reply(alloc, &order) {
+        Ok(reply) => reply,
+        Err(_) => Reply::out_of_memory(),
+    }
+}
+
+// The account.
+fn read_account<K: Keeper>(alloc: Global, desk: &Desk<K>, code: &Code) -> Reply
+    ensures { (book : Book) → Holds K.Keeper desk.now book
+        → IsSaid (told_message account_message (account_told book code.now)) result }
+{
+    desk.holds_a_sound_book();
+    queued_values_fit();
+    let account = match desk.account(code) {
+        Ok(account) => account,
+        Err(refusal) => return refused(alloc, refusal),
+    };
+    match account_reply(alloc, &account) {
+        Ok(reply) => reply,
+        Err(_) => Reply::out_of_memory(),
+    }
+}
+
+// The queue.
+fn read_queue<K: Keeper>(alloc: Global, desk: &Desk<K>, code: &Code) -> Reply
+    ensures { (book : Book) → Holds K.Keeper desk.now book
+        → IsSaid (told_message queue_message (queue_told book code.now)) result }
+{
+    let orders = match desk.queue_of(code) {
+        Ok(orders) => orders,
+        Err(refusal) => return refused(alloc, refusal),
+    };
+    match queue_reply(alloc, &orders) {
+        Ok(reply) => reply,
+        Err(_) => Reply::out_of_memory(),
+    }
+}
+
+// The statement of a date.
+fn read_statement<K: Keeper>(
+    alloc: Global,
+    desk: &Desk<K>,
+    code: &Code,
+    date: BusinessDate,
+) -> Reply
+    ensures { (book : Book) → Holds K.Keeper desk.now book
+        → IsSaid (told_message statement_message (statement_told book code.now date)) result }
+{
+    let statement = match desk.statement_of(code, date) {
+        Ok(statement) => statement,
+        Err(refusal) => return refused(alloc, refusal),
+    };
+    match statement_reply(alloc, &statement) {
+        Ok(reply) => reply,
+        Err(_) => Reply::out_of_memory(),
+    }
+}
+
+// The report of a date.
+fn read_report<K: Keeper>(alloc: Global, desk: &Desk<K>, date: BusinessDate) -> Reply
+    ensures { (book : Book) → Holds K.Keeper desk.now book
+        → IsSaid (told_message report_message (report_told book date)) result }
+{
+    let report = match desk.report_of(date) {
+        Ok(report) => report,
+        Err(refusal) => return refused(alloc, refusal),
+    };
+    match report_reply(alloc, &report) {
+        Ok(reply) => reply,
+        Err(_) => Reply::out_of_memory(),
+    }
+}

@@ -1,0 +1,46 @@
+//! One request and its reply, over a reader and a writer.
+ghost use Rattle.std.specs.Prelude.{◌≡◌};
+ghost use Rattle.rtgs_book.specs.declared.Book.{Book};
+ghost use Rattle.rtgs_desk.specs.Holding.{Holds};
+ghost use Rattle.rtgs_http_banks.specs.Dealings.{Works};
+ghost use Rattle.rtgs_http_banks.specs.Exchange.{Exchanges};
+ghost use Rattle.rtgs_http_banks.specs.Serving.{Serves};
+
+use crate::reply::reply_to;
+use crate::served::Served;
+use rtgs_desk::Desk;
+use rtgs_http_input::read_request;
+use rtgs_keeper::Keeper;
+use rtgs_money::KeyDigest;
+use std::alloc::Global;
+use std::io::{Read, Write};
+
+/// Reads one request, does what it asks, and writes one reply (RFC 9112, sections 2 to 6). The reply is made whole,
+/// after the last command, before any of it is written.
+pub fn serve_one<R: Read, W: Write, K: Keeper>(
+    alloc: Global,
+    reader: &mut R,
+    writer: &mut W,
+    desk: &mut Desk<K>,
+    operator: &KeyDigest,
+) -> Served
+    // What is written is a reply to the whole input, however reads cut it.
+    ensures served { Serves (λ input sent. Exchanges K.Keeper operator.now desk.old input desk.new sent)
+        (R.remaining reader.old) (W.contents writer.old) (W.contents writer.new) result }
+    // Where the reader fails, no command was given.
+    ensures read_fault { result ≡ Served.ReadFault → desk.new ≡ desk.old }
+    // Whatever was read, the commands are a session from the book that the desk held.
+    ensures works { K.is_honest desk.new.keeper → (book : Book) → Holds K.Keeper desk.old book
+        → Works K.Keeper book desk.new }
+    ensures honest { K.is_honest desk.new.keeper → K.is_honest desk.old.keeper }
+{
+    let request = read_request(alloc, reader, operator, desk);
+    let Some(reply) = reply_to(alloc, desk, &request) else {
+        return Served::ReadFault;
+    };
+    let status = reply.status();
+    match reply.send(writer) {
+        Ok(()) => Served::Answered(status),
+        Err(_) => Served::WriteFault(status),
+    }
+}
