@@ -1,4 +1,5 @@
 mod Exchanged
 mod Finding
+mod OwnRows
 mod Plainly
 mod Told

@@ -1,4 +1,5 @@
 pub mod Dealings
 pub mod Exchange
+pub mod Own
 pub mod Sayings
 pub mod Serving

@@ -4,6 +4,7 @@
 
 mod commands;
 mod faults;
+pub mod laws;
 mod readings;
 mod reply;
 mod serve;

@@ -11,7 +11,8 @@ use rtgs_exchange::{BatchResult, OrderRow, write_results};
 use rtgs_http_replies::{ContentType, Reply};
 use std::alloc::{AllocError, Global};
 
-/// The reply with the result file of a batch. A batch that stopped has another status. The only error is want of memory.
+/// The reply with the result file of a batch. A batch that stopped has another status. The only error is want of
+/// memory.
 pub fn batch_reply(
     alloc: Global,
     rows: &[OrderRow],
