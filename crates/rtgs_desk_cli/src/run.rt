@@ -1,7 +1,6 @@
 //! One run of the program.
 ghost use Rattle.std.specs.Prelude.{◌≡◌, ◌≤◌, ◌⊎◌, IfOk, IfErr};
-ghost use Rattle.rtgs_desk_cli.specs.Runs.{status_of};
-ghost use Rattle.rtgs_desk_lines.specs.Failures.{exit_status_of};
+ghost use Rattle.rtgs_desk_cli.specs.Runs.{EndsWith, IsRefused};
 ghost use Rattle.rtgs_refusals.specs.declared.exit_status.TheConstants.{DONE, REFUSED, MISUSED, FAILED};
 
 use crate::files::{make, with_desk};
@@ -42,7 +41,7 @@ fn submit(rt: &HostRuntime, file: &str, command: Command) -> Result<Answer, Fail
 /// Does what was asked for, and prints what came of it.
 fn act<O: Write>(rt: &HostRuntime, request: &Request<'_>, out: &mut O) -> Result<u8, Failure>
     ensures done { IfOk result (λ status. (status ≡ DONE) ⊎ (status ≡ FAILED)) }
-    ensures refused { IfErr result (λ failure. exit_status_of failure ≡ REFUSED → out.new ≡ out.old) }
+    ensures refused { IfErr result (λ failure. IsRefused failure → out.new ≡ out.old) }
 {
     match *request {
         Request::Make { file } => match make(rt, file) {
@@ -77,7 +76,7 @@ fn act<O: Write>(rt: &HostRuntime, request: &Request<'_>, out: &mut O) -> Result
 /// Reads the words' forms, and does what they ask for.
 fn obey<O: Write>(rt: &HostRuntime, words: &Words<'_>, out: &mut O) -> Result<u8, Failure>
     ensures done { IfOk result (λ status. (status ≡ DONE) ⊎ (status ≡ FAILED)) }
-    ensures refused { IfErr result (λ failure. exit_status_of failure ≡ REFUSED → out.new ≡ out.old) }
+    ensures refused { IfErr result (λ failure. IsRefused failure → out.new ≡ out.old) }
 {
     match Request::read(rt.alloc(), words) {
         Ok(request) => act(rt, &request, out),
@@ -87,7 +86,7 @@ fn obey<O: Write>(rt: &HostRuntime, words: &Words<'_>, out: &mut O) -> Result<u8
 
 /// Prints a refusal on standard error, and gives the exit status of the run.
 fn ended<E: Write>(done: Result<u8, Failure>, err: &mut E) -> u8
-    ensures status { result ≡ status_of done }
+    ensures status { EndsWith done result }
     ensures silent { IfOk done (λ _. err.new ≡ err.old) }
 {
     match done {

@@ -1,7 +1,6 @@
 //! Runs that print a text: the results of a file of orders, a statement, a report.
 ghost use Rattle.std.specs.Prelude.{◌≡◌, IfErr};
-ghost use Rattle.rtgs_desk_lines.specs.Failures.{exit_status_of};
-ghost use Rattle.rtgs_refusals.specs.declared.exit_status.TheConstants.{REFUSED};
+ghost use Rattle.rtgs_desk_cli.specs.Runs.{IsRefused};
 
 use crate::files::with_desk;
 use crate::order_file::read_file;
@@ -36,7 +35,7 @@ pub fn import<O: Write>(
     orders: &str,
     out: &mut O,
 ) -> Result<Printed, Failure>
-    ensures refused { IfErr result (λ failure. exit_status_of failure ≡ REFUSED → out.new ≡ out.old) }
+    ensures refused { IfErr result (λ failure. IsRefused failure → out.new ≡ out.old) }
 {
     let submitted = with_desk(rt, file, |desk| submit_file(rt, desk, sender, orders))?;
     let (rows, batch) = submitted?;
@@ -52,7 +51,7 @@ pub fn statement<O: Write>(
     date: BusinessDate,
     out: &mut O,
 ) -> Result<Printed, Failure>
-    ensures refused { IfErr result (λ failure. exit_status_of failure ≡ REFUSED → out.new ≡ out.old) }
+    ensures refused { IfErr result (λ failure. IsRefused failure → out.new ≡ out.old) }
 {
     let statement = with_desk(rt, file, |desk| desk.statement_of(&code, date))?;
     Printed::of(statement_text(rt.alloc(), out, &statement?))
@@ -65,7 +64,7 @@ pub fn report<O: Write>(
     date: BusinessDate,
     out: &mut O,
 ) -> Result<Printed, Failure>
-    ensures refused { IfErr result (λ failure. exit_status_of failure ≡ REFUSED → out.new ≡ out.old) }
+    ensures refused { IfErr result (λ failure. IsRefused failure → out.new ≡ out.old) }
 {
     let report = with_desk(rt, file, |desk| desk.report_of(date))?;
     Printed::of(day_report(rt.alloc(), out, &report?))
