@@ -27,10 +27,16 @@ fn measure_body(rt: &HostRuntime, what: &str, body: &[u8], good: bool, timed: bo
     let mut bytes = Duration::MAX;
     for _ in 0..TIMES {
         let start = Instant::now(rt)?;
-        ensure!(judged_whole(rt.alloc(), body)? == good, "the body in one piece");
+        ensure!(
+            judged_whole(rt.alloc(), body)? == good,
+            "the body in one piece"
+        );
         whole = whole.min(start.elapsed(rt)?);
         let start = Instant::now(rt)?;
-        ensure!(judged_in_bytes(rt.alloc(), body)? == good, "the body byte by byte");
+        ensure!(
+            judged_in_bytes(rt.alloc(), body)? == good,
+            "the body byte by byte"
+        );
         bytes = bytes.min(start.elapsed(rt)?);
     }
     print!(rt; "a body of {} bytes, {what}", body.len())?;

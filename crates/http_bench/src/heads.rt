@@ -16,10 +16,16 @@ pub fn measure(rt: &HostRuntime, length: usize, timed: bool) -> Result<()> {
     let mut bytes = Duration::MAX;
     for _ in 0..TIMES {
         let start = Instant::now(rt)?;
-        ensure!(judged_whole(rt.alloc(), &operator, head.as_bytes())?, "the head in one piece");
+        ensure!(
+            judged_whole(rt.alloc(), &operator, head.as_bytes())?,
+            "the head in one piece"
+        );
         whole = whole.min(start.elapsed(rt)?);
         let start = Instant::now(rt)?;
-        ensure!(judged_in_bytes(rt.alloc(), &operator, head.as_bytes())?, "the head byte by byte");
+        ensure!(
+            judged_in_bytes(rt.alloc(), &operator, head.as_bytes())?,
+            "the head byte by byte"
+        );
         bytes = bytes.min(start.elapsed(rt)?);
     }
     print!(rt; "a head of {} bytes", head.len())?;
