@@ -6,20 +6,15 @@ use std::alloc::{AllocError, Global};
 
 /// The subcommand that adds a participant: a book's file, a code, a name and a key.
 pub fn add_command<'a>(alloc: Global) -> Result<Command<'a>, AllocError> {
-    let code = word_argument(
-        alloc,
-        "code",
-        "CODE",
-        "3 to 8 capitals and digits, a capital first",
-    );
-    let name = word_argument(alloc, "name", "NAME", "1 to 40 printable characters");
-    let key = word_argument(alloc, "key", "KEY", "32 characters of 0-9 and a-f");
+    let code = "3 to 8 capitals and digits, a capital first";
+    let name = "1 to 40 printable characters";
+    let key = "32 characters of 0-9 and a-f";
     Command::new(alloc, "add")
         .about("Adds a participant")
         .arg(file_argument(alloc))?
-        .arg(code)?
-        .arg(name)?
-        .arg(key)
+        .arg(word_argument(alloc, "code", "CODE", code))?
+        .arg(word_argument(alloc, "name", "NAME", name))?
+        .arg(word_argument(alloc, "key", "KEY", key))
 }
 
 /// The code, the name and the key of a participant, as they were given.
@@ -33,17 +28,12 @@ pub fn add_words<'a>(given: &ArgMatches<'a>) -> CommandWords<'a> {
 
 /// The subcommand that sets a credit limit: a book's file, a participant and an amount.
 pub fn credit_command<'a>(alloc: Global) -> Result<Command<'a>, AllocError> {
-    let cents = word_argument(
-        alloc,
-        "cents",
-        "CENTS",
-        "How far below zero the balance may go, in cents",
-    );
+    let cents = "How far below zero the balance may go, in cents";
     Command::new(alloc, "credit")
         .about("Sets the credit limit of a participant")
         .arg(file_argument(alloc))?
         .arg(code_argument(alloc))?
-        .arg(cents)
+        .arg(word_argument(alloc, "cents", "CENTS", cents))
 }
 
 /// The participant and the credit limit, as they were given.
@@ -56,29 +46,23 @@ pub fn credit_words<'a>(given: &ArgMatches<'a>) -> CommandWords<'a> {
 
 /// The subcommand that posts an amount: a book's file, a participant, a reference, the amount and the flag of a debit.
 pub fn post_command<'a>(alloc: Global) -> Result<Command<'a>, AllocError> {
-    let reference = word_argument(
-        alloc,
-        "reference",
-        "REFERENCE",
-        "1 to 16 capitals, digits and dashes, which name the posting for good",
-    );
-    let cents = word_argument(
-        alloc,
-        "cents",
-        "CENTS",
-        "The amount in cents, without a sign",
-    );
-    let debit = Arg::new(alloc, "debit")
-        .long("debit")
-        .help("Takes the amount from the account")
-        .action(ArgAction::SetTrue);
+    let reference = "1 to 16 capitals, digits and dashes, which name the posting for good";
+    let cents = "The amount in cents, without a sign";
     Command::new(alloc, "post")
         .about("Posts an amount to a participant's account")
         .arg(file_argument(alloc))?
         .arg(code_argument(alloc))?
-        .arg(reference)?
-        .arg(cents)?
-        .arg(debit)
+        .arg(word_argument(alloc, "reference", "REFERENCE", reference))?
+        .arg(word_argument(alloc, "cents", "CENTS", cents))?
+        .arg(debit_argument(alloc))
+}
+
+/// The flag of a posting that takes from the account.
+fn debit_argument<'a>(alloc: Global) -> Arg<'a> {
+    Arg::new(alloc, "debit")
+        .long("debit")
+        .help("Takes the amount from the account")
+        .action(ArgAction::SetTrue)
 }
 
 /// The participant, the reference and the amount of a posting, as they were given, and whether it is a debit.

@@ -44,23 +44,46 @@ fn init_command<'a>(alloc: Global) -> Result<Command<'a>, AllocError> {
         .arg(file_argument(alloc))
 }
 
-fn desk_command<'a>(alloc: Global) -> Result<Command<'a>, AllocError> {
-    Command::new(alloc, "desk")
+/// A command with one more subcommand.
+fn joined<'a>(
+    command: Command<'a>,
+    subcommand: Result<Command<'a>, AllocError>,
+) -> Result<Command<'a>, AllocError> {
+    command.subcommand(subcommand?)
+}
+
+/// The command line of the desk, without its subcommands.
+fn bare_command<'a>(alloc: Global) -> Result<Command<'a>, AllocError> {
+    let desk = Command::new(alloc, "desk")
         .about("The settlement desk of a central bank")
-        .bin_name("desk")?
-        .no_binary_name(true)
-        .subcommand_required(true)
-        .subcommand(init_command(alloc)?)?
-        .subcommand(accounts::add_command(alloc)?)?
-        .subcommand(accounts::credit_command(alloc)?)?
-        .subcommand(accounts::post_command(alloc)?)?
-        .subcommand(days::open_command(alloc)?)?
-        .subcommand(texts::import_command(alloc)?)?
-        .subcommand(days::resolve_command(alloc)?)?
-        .subcommand(days::cut_off_command(alloc)?)?
-        .subcommand(days::close_command(alloc)?)?
-        .subcommand(texts::statement_command(alloc)?)?
-        .subcommand(texts::report_command(alloc)?)
+        .bin_name("desk")?;
+    Ok(desk.no_binary_name(true).subcommand_required(true))
+}
+
+/// The command line of the desk, with the subcommands of participants.
+fn with_participants<'a>(alloc: Global) -> Result<Command<'a>, AllocError> {
+    let desk = bare_command(alloc)?;
+    let desk = joined(desk, init_command(alloc))?;
+    let desk = joined(desk, accounts::add_command(alloc))?;
+    let desk = joined(desk, accounts::credit_command(alloc))?;
+    joined(desk, accounts::post_command(alloc))
+}
+
+/// The command line of the desk, with the subcommands of a business day too.
+fn with_days<'a>(alloc: Global) -> Result<Command<'a>, AllocError> {
+    let desk = with_participants(alloc)?;
+    let desk = joined(desk, days::open_command(alloc))?;
+    let desk = joined(desk, texts::import_command(alloc))?;
+    let desk = joined(desk, days::resolve_command(alloc))?;
+    let desk = joined(desk, days::cut_off_command(alloc))?;
+    joined(desk, days::close_command(alloc))
+}
+
+/// The command line of the desk, with all its subcommands.
+fn desk_command<'a>(alloc: Global) -> Result<Command<'a>, AllocError> {
+    let desk = with_days(alloc)?;
+    let desk = joined(desk, texts::statement_command(alloc))?;
+    joined(desk, texts::report_command(alloc))
 }
 
 /// The word that was given for an argument. One that is missing reads as no characters, which no form takes.

@@ -6,12 +6,12 @@ use std::alloc::{AllocError, Global};
 
 /// The subcommand that submits a file of orders: a book's file, a participant and the file of orders.
 pub fn import_command<'a>(alloc: Global) -> Result<Command<'a>, AllocError> {
-    let orders = word_argument(alloc, "orders", "ORDERS", "The file of orders, as CSV");
+    let orders = "The file of orders, as CSV";
     Command::new(alloc, "import")
         .about("Submits a participant's file of orders")
         .arg(file_argument(alloc))?
         .arg(code_argument(alloc))?
-        .arg(orders)
+        .arg(word_argument(alloc, "orders", "ORDERS", orders))
 }
 
 /// The book's file, the participant and the file of orders, as they were given.
