@@ -1,5 +1,5 @@
 -- What a writer holds after a write that failed, and how a fault of a text is displayed.
-use Rattle.std.specs.Prelude.{ℕ, ◌<◌, ◌⊎◌, List, Option, None, Some, codes, take, length}
+use Rattle.std.specs.Prelude.{ℕ, ◌<◌, List, Option, None, Some, codes, take, length}
 use Rattle.std.specs.Io.KnownBytes.{Appends}
 use Rattle.rtgs_output.specs.declared.text_fault.TextFault.{TextFault}
 use Rattle.rtgs_output.specs.declared.text_fault.TextFault.TheVariants.{OutOfMemory, Write}
@@ -7,10 +7,6 @@ use Rattle.rtgs_output.specs.declared.text_fault.TextFault.TheVariants.{OutOfMem
 -- known bytes grow by a beginning of the text, which is not all of it
 abbrev pub AppendsPart : Option (List ℕ) → Option (List ℕ) → List ℕ → Type 0
 AppendsPart old new text = (n : ℕ) × (n < length text) × Appends old new (take n text)
-
--- known bytes grow by the text, or by a beginning of it
-abbrev pub IsSent : Option (List ℕ) → Option (List ℕ) → List ℕ → Type 0
-IsSent old new text = Appends old new text ⊎ AppendsPart old new text
 
 -- what is displayed of a fault; the words of a writer's error are its own
 abbrev pub words_of : TextFault → Option (List ℕ)

@@ -1,5 +1,5 @@
 //! Writes that failed.
-ghost use Rattle.std.specs.Prelude.{◌≡◌, ◌≤◌, IfOk, length};
+ghost use Rattle.std.specs.Prelude.{◌≡◌, ◌≤◌, ◌⊎◌, Ok, Err, IfOk, IfErr, length};
 ghost use Rattle.std.specs.Io.KnownBytes.{WriteAppends};
 ghost use Rattle.std.specs.IoError.{error_kind};
 
@@ -36,7 +36,19 @@ pub(crate) fn write_some<W: Write>(out: &mut W, bytes: &[u8]) -> Result<usize, W
     ensures some { IfOk result (λ taken. (1 ≤ taken) × (taken ≤ length bytes.now)) }
     ensures bytes { WriteAppends (W.contents out.old) (W.contents out.new) result bytes.now }
 {
-    match out.write(bytes) {
+    match taken_of(out.write(bytes)) {
+        Ok(taken) => Ok(taken),
+        Err(failed) => Err(failed),
+    }
+}
+
+// How many bytes a writer took, by its answer. It failed where the answer is an error, or that no byte was taken, and
+// no other answer is called so.
+fn taken_of(answer: io::Result<usize>) -> Result<usize, WriterFailed>
+    ensures taken { IfOk result (λ taken. (answer ≡ Ok taken) × (1 ≤ taken)) }
+    ensures failed { IfErr result (λ failed. (answer ≡ Ok 0) × (error_kind failed.error ≡ ErrorKind.WriteZero) ⊎ (answer ≡ Err failed.error)) }
+{
+    match answer {
         Ok(0) => Err(WriterFailed {
             error: io::Error::from(ErrorKind::WriteZero),
         }),
