@@ -1,2 +1,3 @@
 pub mod Dates
+mod Debits
 mod Padding

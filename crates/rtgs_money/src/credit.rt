@@ -24,6 +24,8 @@ impl Model for Credit {
     ghost inverse = { λ n. record { cents = n } };
 }
 
+const _: () = prove!(Credit::NONE.cents == 0);
+
 impl Credit {
     /// The greatest credit limit.
     pub const MAX: u64 = 100_000_000_000_000;

@@ -1,9 +1,9 @@
 //! What a posting adds or takes.
-ghost use Rattle.std.specs.Prelude.{◌≡◌, ◌≢◌, ℤ, pos, ◌≤◌, ◌↔◌, unsigned_abs, Some, IsSome, IfSome, IfOk, IfErr};
+ghost use Rattle.std.specs.Prelude.{◌≡◌, ◌≢◌, ℤ, pos, ◌≤◌, ◌↔◌, ◌∷◌, unsigned_abs, Some, IsSome, IfSome, IfOk, IfErr};
 ghost use Rattle.std.specs.Fmt.{signed_decimal, styled_signed_decimal};
 ghost use Rattle.rtgs_money.specs.Amounts.{IsPostingAmount};
 
-use crate::decimal::read_signed_decimal;
+use crate::decimal::{read_decimal, read_signed_decimal};
 use crate::lexical::Lexical;
 use std::fmt;
 use std::marker::Model;
@@ -51,6 +51,25 @@ impl PostingAmount {
         read_signed_decimal(bytes)
             .and_then(PostingAmount::from_cents)
             .ok_or(Lexical::BadAmount)
+    }
+
+    /// The posting that takes as many cents as these bytes spell: decimal digits, with no sign and no leading zero. So it
+    /// is the one that is spelled by `-` and these bytes. Anything else is `BadAmount`.
+    pub fn read_debit(bytes: &[u8]) -> Result<PostingAmount, Lexical>
+        ensures value { IfOk result (λ posting. IsPostingAmount posting × (45 ∷ bytes.now ≡ signed_decimal posting)) }
+        ensures found { (posting : ℤ) → IsPostingAmount posting
+            → 45 ∷ bytes.now ≡ signed_decimal posting → result ≡ Ok posting }
+        ensures refused { IfErr result (λ refusal. refusal ≡ Lexical.BadAmount) }
+    {
+        let Some(cents) = read_decimal(bytes) else {
+            return Err(Lexical::BadAmount);
+        };
+        if cents == 0 || cents > PostingAmount::MAX {
+            return Err(Lexical::BadAmount);
+        }
+        Ok(PostingAmount {
+            cents: -(cents as i64),
+        })
     }
 
     /// The posting in cents.
