@@ -1,6 +1,6 @@
 //! Laws of the definitions: an input has one outcome, however it was cut. Each function does nothing: its contract is
 //! the law.
-ghost use Rattle.std.specs.Prelude.{◌≡◌, ◌++◌, ℕ, List, length};
+ghost use Rattle.std.specs.Prelude.{◌≡◌, ◌⊎◌, ◌++◌, ℕ, List, length};
 ghost use Rattle.rtgs_http_feeds.specs.Body.{Body, TakesBody};
 ghost use Rattle.rtgs_http_feeds.specs.Region.{StartsWith, IsTooLong, IsOpen, IsRegion, TakesHead};
 ghost use Rattle.rtgs_http_feeds.specs.Pieces.{body_step_behind, head_step_behind};
@@ -11,6 +11,12 @@ ghost use Rattle.rtgs_http_feeds.specs.declared.head_step.HeadStep.{HeadStep};
 pub fn regions_are_determined()
     ensures { (input one other rest more : List ℕ)
         → StartsWith input one rest → StartsWith input other more → one ≡ other }
+{}
+
+/// An input starts with a region, or is too long for one, or is unfinished.
+pub fn every_input_has_an_outcome()
+    ensures { (input : List ℕ) → ((region : List ℕ) × (rest : List ℕ) × StartsWith input region rest)
+        ⊎ (IsTooLong input ⊎ IsOpen input) }
 {}
 
 /// An input that starts with a region is neither too long nor unfinished, and one that is too long is not unfinished.
