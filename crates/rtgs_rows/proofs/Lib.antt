@@ -1,5 +1,4 @@
 pub mod NextRow
-pub mod Lists
 pub mod Matching
 pub mod Ordered
 pub mod Stored
@@ -7,6 +6,5 @@ pub mod Formed
 pub mod Changed
 pub mod Unique
 pub mod Blank
-pub mod Settling
 pub mod Querying
 pub mod Money

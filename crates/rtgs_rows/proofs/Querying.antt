@@ -12,7 +12,6 @@ use Rattle.sqlite.specs.declared.types.Value.{Value}
 use Rattle.sqlite.specs.declared.types.Value.TheVariants.{Null, Int, Real, Text, Blob}
 use Rattle.sqlite.specs.Order.{Row, column}
 use Rattle.sqlite.specs.Schema.{Schema}
-use Rattle.sqlite.specs.State.{State}
 use Rattle.sqlite.specs.Tree.{Trees, IsAscending}
 use Rattle.sqlite_trees.specs.Tree.{rowid}
 use Rattle.sqlite_trees.specs.View.{is_int}
@@ -33,10 +32,10 @@ use Rattle.rtgs_book.specs.Balance.{balance}
 use Rattle.rtgs_book.specs.Soundness.{AreNumbered as Numbered, IsSound as IsSoundBook}
 use Rattle.rtgs_rows.specs.Tables.{desk_schema, desk_at, posting_at, payment_at, mark_at}
 use Rattle.rtgs_rows.specs.Rows.{day_row, posting_row, payment_row, mark_row, shown_day, shown_posting, shown_order, shown_mark}
-use Rattle.rtgs_rows.specs.Content.{Tables, Holding, holding_row, Content, Holds, Rests, IsInOrder}
+use Rattle.rtgs_rows.specs.Content.{Tables, Holding, holding_row, Content, Holds, IsInOrder}
 use Rattle.rtgs_rows.specs.Fitting.{Fits}
 use Rattle.rtgs_rows.specs.Keeping.{IsBookOf}
-use Rattle.rtgs_rows.specs.Querying.{IsDeskFile, AreNumberedRows, AreWhole, picked, shown_entry, ShowsBook}
+use Rattle.rtgs_rows.specs.Querying.{AreNumberedRows, AreWhole, picked, shown_entry, ShowsBook}
 use Rattle.rtgs_rows.proofs.Ordered.{numbered, keys_of}
 use Rattle.rtgs_rows.proofs.Unique.{sorted_from}
 
@@ -223,14 +222,6 @@ held trees book entries sound full is fits shows stored =
       },
     )
 
--- ---- the state of a connection
-
-pub file_of : (content : Content) (s : State) → Rests content s → IsDeskFile s.committed.trees s
-file_of content s rests = record { is_open = rests.is_open; schema = rests.schema; trees_are = refl; clean = rests.clean }
-
-pub rests_of : (content : Content) (s : State) (trees : Trees) → IsDeskFile trees s → Holds content trees → Rests content s
-rests_of content s trees file holds = record { is_open = file.is_open; schema = file.schema; holds = subst (Holds content) (sym file.trees_are) holds; clean = file.clean }
-
 -- ---- tables that hold records in order are whole
 
 numbered_rows : {A : Type 0} (row : A → Row) (id : A → ℤ) (width : ℕ) → ((a : A) → (rowid (row a) ≡ Int (id a)) × (length (row a) ≡ width + 1)) → (rows : List Row) (all : List A) → rows ≡ map row all → IsAscending (λ a b. int_cmp (id a) (id b) ≡ Less) all
@@ -251,7 +242,10 @@ are_whole content trees holds order = record {
   marks = numbered_rows mark_row (λ (m : Mark). pos m.number) 4 (λ m. (refl, refl)) (trees 8) content.marks (ap (λ (t : Tables). t.marks) holds.rows) order.marks;
 }
 
-pub book_is_whole : (content : Content) (trees : Trees) (book : Book) → Holds content trees → IsBookOf book content → AreWhole trees
-book_is_whole content trees book holds of =
+pub book_in_order : (book : Book) (content : Content) → IsBookOf book content → IsInOrder content
+book_in_order book content of =
     let keys = keys_of book content of.records of.sound in
-    are_whole content trees holds (record { ids = of.ids; codes = keys.codes; postings = keys.postings; orders = keys.orders; marks = keys.marks })
+    record { ids = of.ids; codes = keys.codes; postings = keys.postings; orders = keys.orders; marks = keys.marks }
+
+pub book_is_whole : (content : Content) (trees : Trees) (book : Book) → Holds content trees → IsBookOf book content → AreWhole trees
+book_is_whole content trees book holds of = are_whole content trees holds (book_in_order book content of)

@@ -1,5 +1,5 @@
 -- The tables hold one book at most.
-use Rattle.std.proofs.Common.{◌≡◌, ℕ, ◌/◌, ◌≤◌, pos, zero, suc, List, [], ◌∷◌, map, Option, Some, None, refl, sym, ap, ap₂, subst, ◌∙◌, arith, add-one}
+use Rattle.std.proofs.Common.{◌≡◌, ℕ, pos, zero, suc, List, [], ◌∷◌, map, Option, Some, None, refl, sym, ap, ap₂, subst, ◌∙◌, arith, add-one}
 use Rattle.std.specs.List.{AllByRecursion}
 use Rattle.std.specs.List.Sorted.{IsPermutation, IsSorted, IsStrictlySortedBy}
 use Rattle.std.specs.Ordering.{nat_cmp, ordering_reverse, is_lt}
@@ -16,7 +16,6 @@ use Rattle.sqlite.specs.Tree.{IsAscending}
 use Rattle.sqlite_keyed.proofs.SortLemmas.{sorted_unique}
 use Rattle.sqlite_keyed.proofs.ListLemmas.{ascending_from_map}
 use Rattle.rtgs_money.specs.Date.{date_text, IsBusinessDate}
-use Rattle.rtgs_money.proofs.Dates.{date_text-injective}
 use Rattle.rtgs_book.specs.declared.Book.{Book}
 use Rattle.rtgs_book.specs.declared.Day.{Day}
 use Rattle.rtgs_book.specs.declared.Phase.{Phase}
@@ -36,17 +35,15 @@ use Rattle.rtgs_rows.specs.Keeping.{IsBookOf}
 
 -- ---- dates
 
-date_once : (a b : ℕ) → IsBusinessDate a → IsBusinessDate b → date_text a ≡ date_text b → a ≡ b
-date_once a b p q e =
-    let low : a / 10000 ≤ 2999 = p.to_year in
-    let high : b / 10000 ≤ 2999 = q.to_year in
-    date_text-injective a b (omega arith) (omega arith) e
+-- the law of dates
+abbrev DatesTell : Type 0
+DatesTell = (one other : ℕ) → IsBusinessDate one → IsBusinessDate other → date_text one ≡ date_text other → one ≡ other
 
-date_value_once : (a b : Option ℕ) → FitsDate a → FitsDate b → date_value a ≡ date_value b → a ≡ b
-date_value_once None None p q e = refl
-date_value_once None (Some b) p q e = absurd (let clash : ◌≡◌ {A = Value} Null (Text (date_text b)) = e in cc)
-date_value_once (Some a) None p q e = absurd (let clash : ◌≡◌ {A = Value} (Text (date_text a)) Null = e in cc)
-date_value_once (Some a) (Some b) p q e = ap Some (date_once a b p q (let texts : ◌≡◌ {A = Value} (Text (date_text a)) (Text (date_text b)) = e in cc))
+date_value_once : DatesTell → (a b : Option ℕ) → FitsDate a → FitsDate b → date_value a ≡ date_value b → a ≡ b
+date_value_once d None None p q e = refl
+date_value_once d None (Some b) p q e = absurd (let clash : ◌≡◌ {A = Value} Null (Text (date_text b)) = e in cc)
+date_value_once d (Some a) None p q e = absurd (let clash : ◌≡◌ {A = Value} (Text (date_text a)) Null = e in cc)
+date_value_once d (Some a) (Some b) p q e = ap Some (d a b p q (let texts : ◌≡◌ {A = Value} (Text (date_text a)) (Text (date_text b)) = e in cc))
 
 -- ---- rows
 
@@ -79,11 +76,11 @@ state_once Rejected (Settled n) e f = absurd (omega arith)
 state_once Rejected Withdrawn e f = absurd (omega arith)
 state_once Rejected Rejected e f = refl
 
-pub day_once : (a b : Day) → FitsDate a.date → FitsDate b.date → day_row a ≡ day_row b → a ≡ b
-day_once a b p q e =
+pub day_once : DatesTell → (a b : Day) → FitsDate a.date → FitsDate b.date → day_row a ≡ day_row b → a ≡ b
+day_once d a b p q e =
     let dates : date_value a.date ≡ date_value b.date = cc in
     let phases : phase_number a.phase ≡ phase_number b.phase = cc in
-    let date = date_value_once a.date b.date p q dates in
+    let date = date_value_once d a.date b.date p q dates in
     let phase = phase_once a.phase b.phase phases in
     λ i. record { date = date i; phase = phase i }
 
@@ -97,18 +94,18 @@ holding_once a b e =
     let balance : a.balance ≡ b.balance = cc in
     λ i. record { id = id i; participant = record { code = code i; name = name i; key = key i; credit = credit i }; balance = balance i }
 
-pub posting_once : (a b : Posting) → FitsPosting a → FitsPosting b → posting_row a ≡ posting_row b → a ≡ b
-posting_once a b p q e =
+pub posting_once : DatesTell → (a b : Posting) → FitsPosting a → FitsPosting b → posting_row a ≡ posting_row b → a ≡ b
+posting_once d a b p q e =
     let number : a.number ≡ b.number = cc in
     let code : a.code ≡ b.code = cc in
     let reference : a.reference ≡ b.reference = cc in
     let cents : a.cents ≡ b.cents = cc in
     let dates : date_value a.date ≡ date_value b.date = cc in
-    let date = date_value_once a.date b.date p.date q.date dates in
+    let date = date_value_once d a.date b.date p.date q.date dates in
     λ i. record { number = number i; code = code i; reference = reference i; cents = cents i; date = date i }
 
-pub order_once : (a b : Order) → FitsOrder a → FitsOrder b → payment_row a ≡ payment_row b → a ≡ b
-order_once a b p q e =
+pub order_once : DatesTell → (a b : Order) → FitsOrder a → FitsOrder b → payment_row a ≡ payment_row b → a ≡ b
+order_once d a b p q e =
     let number : a.number ≡ b.number = cc in
     let sender : a.sender ≡ b.sender = cc in
     let reference : a.reference ≡ b.reference = cc in
@@ -117,17 +114,17 @@ order_once a b p q e =
     let dates : date_text a.date ≡ date_text b.date = cc in
     let states : state_number a.state ≡ state_number b.state = cc in
     let marks : mark_value a.state ≡ mark_value b.state = cc in
-    let date = date_once a.date b.date p.date q.date dates in
+    let date = d a.date b.date p.date q.date dates in
     let state = state_once a.state b.state states marks in
     λ i. record { number = number i; sender = sender i; reference = reference i; receiver = receiver i; amount = amount i; date = date i; state = state i }
 
-pub mark_once : (a b : Mark) → FitsMark a → FitsMark b → mark_row a ≡ mark_row b → a ≡ b
-mark_once a b p q e =
+pub mark_once : DatesTell → (a b : Mark) → FitsMark a → FitsMark b → mark_row a ≡ mark_row b → a ≡ b
+mark_once d a b p q e =
     let number : a.number ≡ b.number = cc in
     let dates : date_text a.date ≡ date_text b.date = cc in
     let count : a.count ≡ b.count = cc in
     let value : a.value ≡ b.value = cc in
-    let date = date_once a.date b.date p.date q.date dates in
+    let date = d a.date b.date p.date q.date dates in
     λ i. record { number = number i; date = date i; count = count i; value = value i }
 
 rows_once : {A : Type 0} (row : A → Row) (P : A → Type 0) → ((a b : A) → P a → P b → row a ≡ row b → a ≡ b) → (xs ys : List A) → AllByRecursion P xs → AllByRecursion P ys → map row xs ≡ map row ys → xs ≡ ys
@@ -177,18 +174,18 @@ same_participants one other ps r s p q =
 
 -- ---- books
 
-pub once : (one other : Book) (c d : Content) → IsBookOf one c → IsBookOf other d → tables_for c ≡ tables_for d → other ≡ one
-once one other c d h k e =
+pub once : DatesTell → (one other : Book) (c d : Content) → IsBookOf one c → IsBookOf other d → tables_for c ≡ tables_for d → other ≡ one
+once dates one other c d h k e =
     let holdings : d.holdings ≡ c.holdings = rows_once holding_row (λ _. Unit {0}) (λ a b _ _. holding_once a b) d.holdings c.holdings (all_true _) (all_true _) (sym (ap (λ (t : Tables). t.participants) e)) in
     let participants = same_participants one other (map (λ (h : Holding). h.participant) c.holdings) h.sound.codes_rise k.sound.codes_rise h.records.participants
     (subst (λ hs. IsPermutation (map (λ (h : Holding). h.participant) hs) other.participants) holdings k.records.participants) in
-    let postings = rows_once posting_row FitsPosting posting_once other.postings one.postings k.fits.postings h.fits.postings
+    let postings = rows_once posting_row FitsPosting (posting_once dates) other.postings one.postings k.fits.postings h.fits.postings
     (ap (map posting_row) (sym k.records.postings) ∙ sym (ap (λ (t : Tables). t.postings) e) ∙ ap (map posting_row) h.records.postings) in
-    let orders = rows_once payment_row FitsOrder order_once other.orders one.orders k.fits.orders h.fits.orders
+    let orders = rows_once payment_row FitsOrder (order_once dates) other.orders one.orders k.fits.orders h.fits.orders
     (ap (map payment_row) (sym k.records.orders) ∙ sym (ap (λ (t : Tables). t.payments) e) ∙ ap (map payment_row) h.records.orders) in
-    let marks = rows_once mark_row FitsMark mark_once other.marks one.marks k.fits.marks h.fits.marks
+    let marks = rows_once mark_row FitsMark (mark_once dates) other.marks one.marks k.fits.marks h.fits.marks
     (ap (map mark_row) (sym k.records.marks) ∙ sym (ap (λ (t : Tables). t.marks) e) ∙ ap (map mark_row) h.records.marks) in
     let desks : day_row other.day ∷ [] ≡ day_row one.day ∷ [] = ap (λ day. day_row day ∷ []) (sym k.records.day) ∙ sym (ap (λ (t : Tables). t.desk) e) ∙ ap (λ day. day_row day ∷ []) h.records.day in
     let rows : day_row other.day ≡ day_row one.day = cc in
-    let day = day_once other.day one.day k.fits.day h.fits.day rows in
+    let day = day_once dates other.day one.day k.fits.day h.fits.day rows in
     λ i. record { participants = participants i; postings = postings i; orders = orders i; marks = marks i; day = day i }

@@ -4,3 +4,5 @@ pub mod Content
 pub mod Fitting
 pub mod Keeping
 pub mod Querying
+pub mod RowLaws
+pub mod Settling

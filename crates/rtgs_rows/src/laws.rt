@@ -10,7 +10,9 @@ ghost use Rattle.sqlite_catalog.specs.Listing.{IsSound};
 ghost use Rattle.rtgs_rows.specs.Content.{Content, HasNoTables, Holds, AreInOrder, with_changes, tables_for};
 ghost use Rattle.rtgs_book.specs.Changes.{IsChange};
 ghost use Rattle.rtgs_rows.specs.Keeping.{IsBookOf, IsWhole, AddsUp};
-ghost use Rattle.rtgs_rows.specs.Tables.{no_schema, desk_schema};
+ghost use Rattle.rtgs_rows.specs.RowLaws.{RecordsStandInOrder, ChangesStandInOrder, ChangedRowsAreTheBook, NextRowIsAbove};
+ghost use Rattle.rtgs_rows.specs.RowLaws.{RowsTellTheBook, NoTablesAreReadAsNone, DesksAreReadAsSuch, NoTablesHoldNoBook, TablesOfABookAreWhole};
+ghost use Rattle.rtgs_rows.specs.Tables.{desk_schema};
 ghost use Rattle.rtgs_rows.specs.Querying.{AreWhole, ShowsBook};
 ghost use Rattle.rtgs_rows.specs.Fitting.{Fits, FitsRow};
 ghost use Rattle.rtgs_book.specs.declared.Participant.{Participant};
@@ -18,36 +20,49 @@ ghost use Rattle.rtgs_book.specs.Balance.{balance};
 ghost use Rattle.rtgs_book.specs.Soundness.{IsSound as IsSoundBook};
 
 use rtgs_book::laws::total_is_issued;
+use rtgs_money::laws::dates_have_distinct_texts;
 use sqlite::{Alter, Connection};
+
+/// In tables that hold a book no key comes twice, and each list stands in the order of its row numbers.
+pub fn records_stand_in_order()
+    ensures { RecordsStandInOrder }
+{}
+
+/// The row number that a new participant gets is above all.
+pub fn next_row_is_above()
+    ensures { NextRowIsAbove }
+{}
 
 /// While a change is made row by row, no key comes twice and each new number is the greatest.
 pub fn changes_stand_in_order()
-    ensures { (old new : Book) (rows : List RowChange) (content : Content) → IsBookOf old content → IsChange old rows new → AreInOrder content rows }
+    ensures { ChangesStandInOrder }
 {}
 
 /// The rows that a change makes are those of the book after it, stored balances with them, where its values are in their forms.
 pub fn changed_rows_are_the_changed_book()
-    ensures { (old new : Book) (rows : List RowChange) (content : Content) → IsBookOf old content → IsChange old rows new → AllByRecursion FitsRow rows → IsBookOf new (with_changes content rows) }
+    ensures { ChangedRowsAreTheBook }
 {}
 
 /// Tables hold one book at most.
 pub fn rows_tell_the_book()
-    ensures { (one other : Book) (content same : Content) → IsBookOf one content → IsBookOf other same → tables_for content ≡ tables_for same → other ≡ one }
-{}
+    ensures { RowsTellTheBook }
+{
+    dates_have_distinct_texts();
+}
 
 /// A database that has no tables is read as one, whenever it is opened.
 pub fn no_tables_are_read_as_none()
-    ensures { (schema : Schema) (trees : Trees) → HasNoTables trees → IsSound schema trees → schema ≡ no_schema }
+    ensures { NoTablesAreReadAsNone }
 {}
 
 /// A database of the five tables is read with their schema, whenever it is opened.
 pub fn tables_of_a_desk_are_read_as_such()
-    ensures { (schema : Schema) (trees : Trees) → IsSound desk_schema trees → IsSound schema trees → schema ≡ desk_schema }
+    ensures { DesksAreReadAsSuch }
 {}
 
 /// A database that has no tables holds no book.
 pub fn no_tables_hold_no_book()
-    ensures { (trees : Trees) (content : Content) → HasNoTables trees → Holds content trees → ⊥ }
+    ensures { NoTablesHoldNoBook }
 {}
 
 /// Where the queries show the records of a sound book, with its balances stored, the tables hold that book.
@@ -58,7 +73,7 @@ pub fn shown_records_are_held()
 
 /// Tables that hold a book are whole: each row has a value in each column, and the rows stand in the order of their numbers.
 pub fn tables_of_a_book_are_whole()
-    ensures { (trees : Trees) (book : Book) (content : Content) → Holds content trees → IsBookOf book content → AreWhole trees }
+    ensures { TablesOfABookAreWhole }
 {}
 
 /// In tables that hold a book the stored balances add up to the postings' cents: money is what was posted.

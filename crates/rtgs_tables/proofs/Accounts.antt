@@ -1,22 +1,26 @@
 -- The records as they are read.
-use Rattle.std.proofs.Common.{◌≡◌, List, [], ◌∷◌, map, IsPermutation, ap₂, refl, sym, subst}
+use Rattle.std.proofs.Common.{◌≡◌, ℕ, List, [], ◌∷◌, map, IsPermutation, ap₂, refl, sym, subst}
 use Rattle.std.specs.List.{AllByRecursion}
 use Rattle.std.proofs.lemmas.List.Sorted.{IsPermutation-map}
+use Rattle.std.specs.List.Sorted.{IsStrictlySortedBy}
+use Rattle.std.specs.Ordering.{nat_cmp}
 use Rattle.std.specs.declared.cmp.Ordering.TheVariants.{Less}
+use Rattle.std.specs.Cmp.Lexicographic.{slice_cmp}
 use Rattle.sqlite.specs.State.{State}
-use Rattle.sqlite.specs.Tree.{Trees}
+use Rattle.sqlite.specs.Tree.{Trees, IsAscending}
 use Rattle.rtgs_rows.specs.Querying.{IsDeskFile}
-use Rattle.rtgs_rows.proofs.Querying.{file_of, rests_of}
-use Rattle.sqlite_keyed.proofs.ListLemmas.{ascending-map, map_back}
+use Rattle.rtgs_tables.proofs.Resting.{file_of, rests_of}
+use Rattle.sqlite_keyed.proofs.ListLemmas.{ascending-map, ascending_from_map, map_back}
 use Rattle.rtgs_book.specs.declared.Book.{Book}
 use Rattle.rtgs_book.specs.Balance.{balance}
 use Rattle.rtgs_book.specs.declared.Participant.{Participant}
+use Rattle.rtgs_book.specs.Lookup.{accounts}
+use Rattle.rtgs_book.specs.Soundness.{CodesRise}
 use Rattle.rtgs_rows.specs.Content.{Holding, Content, Rests}
 use Rattle.rtgs_rows.specs.Fitting.{FitsParticipant}
 use Rattle.rtgs_book.specs.declared.account.Account.{Account}
 use Rattle.rtgs_rows.specs.Keeping.{IsBookOf}
-use Rattle.rtgs_rows.proofs.Ordered.{keys_of}
-use Rattle.rtgs_rows.proofs.Unique.{by_code, rising}
+use Rattle.rtgs_rows.specs.RowLaws.{RecordsStandInOrder}
 use Rattle.rtgs_tables.specs.Accounts.{account_of, accounts_of, stored_account, AreRead, HasRecords, AreBalances}
 
 all_from_map : {A B : Type 0} (P : B → Type 0) (f : A → B) (xs : List A) → AllByRecursion P (map f xs) → AllByRecursion (λ x. P (f x)) xs
@@ -26,18 +30,26 @@ all_from_map P f (x ∷ xs) all = (all.0, all_from_map P f xs all.1)
 pub accounts_fit : (content : Content) (accounts : List Account) (book : Book) → AreRead content accounts book → AllByRecursion (λ (a : Account). FitsParticipant a.participant) accounts
 accounts_fit content accounts book are = all_from_map FitsParticipant (λ (a : Account). a.participant) accounts (subst (AllByRecursion FitsParticipant) are.participants are.fits.participants)
 
+strict_codes : (codes : List (List ℕ)) → IsStrictlySortedBy (slice_cmp nat_cmp) codes → IsAscending (λ a b. slice_cmp nat_cmp a b ≡ Less) codes
+unfolding IsStrictlySortedBy
+strict_codes [] sorted = tt
+strict_codes (x ∷ xs) sorted = (sorted.0, strict_codes xs sorted.1)
+
+in_order_of_codes : (book : Book) → CodesRise book → IsAscending (λ (p q : Participant). slice_cmp nat_cmp p.code q.code ≡ Less) book.participants
+unfolding accounts
+in_order_of_codes book rise = ascending_from_map (λ (x y : List ℕ). slice_cmp nat_cmp x y ≡ Less) (λ (p : Participant). p.code) book.participants (strict_codes _ rise.0)
+
 -- where the stored balances are those of the book, the accounts are those of its participants
 own_accounts : (book : Book) (hs : List Holding) → AllByRecursion (λ (h : Holding). h.balance ≡ balance book h.participant.code) hs → map stored_account hs ≡ map (account_of book) (map (λ (h : Holding). h.participant) hs)
 own_accounts book [] stored = refl
 own_accounts book (h ∷ hs) stored = ap₂ ◌∷◌ (λ i. record { participant = h.participant; balance = stored.0 i }) (own_accounts book hs stored.1)
 
-are_own : (content : Content) (book : Book) → IsBookOf book content → AreRead content (accounts_of book) book
-are_own content book of =
-    let keys = keys_of book content of.records of.sound in
+are_own : RecordsStandInOrder → (content : Content) (book : Book) → IsBookOf book content → AreRead content (accounts_of book) book
+are_own in_order content book of =
     record {
-      order = record { ids = of.ids; codes = keys.codes; postings = keys.postings; orders = keys.orders; marks = keys.marks };
+      order = in_order book content of;
       stored = subst (λ l. IsPermutation l (accounts_of book)) (sym (own_accounts book content.holdings of.balances)) (IsPermutation-map (account_of book) _ _ of.records.participants);
-      rising = ascending-map (λ (a b : Account). by_code a.participant b.participant ≡ Less) (account_of book) book.participants (rising book of.sound.codes_rise);
+      rising = ascending-map (λ (a b : Account). slice_cmp nat_cmp a.participant.code b.participant.code ≡ Less) (account_of book) book.participants (in_order_of_codes book of.sound.codes_rise);
       participants = sym (map_back (account_of book) (λ (a : Account). a.participant) (λ p. refl) book.participants);
       day = of.records.day;
       postings = of.records.postings;
@@ -46,8 +58,8 @@ are_own content book of =
       fits = of.fits;
     }
 
-pub has_own : (s : State) (content : Content) (book : Book) → Rests content s → IsBookOf book content → HasRecords (accounts_of book) book s
-has_own s content book rests of = (content, rests, are_own content book of)
+pub has_own : RecordsStandInOrder → (s : State) (content : Content) (book : Book) → Rests content s → IsBookOf book content → HasRecords (accounts_of book) book s
+has_own in_order s content book rests of = (content, rests, are_own in_order content book of)
 
 balances_of : (book : Book) (ps : List Participant) → AreBalances book (map (account_of book) ps)
 balances_of book [] = tt

@@ -28,8 +28,8 @@ use Rattle.std.proofs.lemmas.Bool.{cases_Bool}
 use Rattle.std.specs.Str.{bytes_eq}
 use Rattle.std.proofs.lemmas.Slice.Eq.{bytes_eq-Decides}
 use Rattle.rtgs_tables.proofs.Casts.{cast_null, cast_int}
-use Rattle.rtgs_rows.proofs.Lists.{put_last}
-use Rattle.rtgs_rows.proofs.NextRow.{all_below}
+use Rattle.rtgs_tables.proofs.Lists.{put_last}
+use Rattle.rtgs_rows.specs.RowLaws.{NextRowIsAbove}
 use Rattle.rtgs_tables.proofs.Steps.{IsPlainTable}
 use Rattle.rtgs_tables.proofs.Queries.{simple, passes, shows}
 use Rattle.rtgs_tables.proofs.Replacing.{Replaces, replaces}
@@ -75,20 +75,20 @@ participant_given p = Text p.code ∷ Text p.name ∷ Blob p.key ∷ Int (pos p.
 edit : (trees : Trees) (p : Participant) → edited trees (edit_of trees (participant_at 1) [] Chosen 0 (value_rows (stamped (participant_at 1) (participant_given p)) 6 1 terms)) ≡ put_row (participant_row (next_rowid (trees 1)) p (pos 0)) (trees 1)
 edit trees p = rw (cast_null, cast_int (pos p.credit), cast_int (pos 0))
 
-adds : (was : Database) (content : Content) (old new : State) (p : Participant) (count : ℕ) → Stands was content old → IsInOrder content → ExecutesInside 0 participant_text (participant_given p) old new (Ok count) → Stands was (with_change content (AddParticipant p)) new
-adds was content old new p count stands order h =
+adds : NextRowIsAbove → (was : Database) (content : Content) (old new : State) (p : Participant) (count : ℕ) → Stands was content old → IsInOrder content → ExecutesInside 0 participant_text (participant_given p) old new (Ok count) → Stands was (with_change content (AddParticipant p)) new
+adds above was content old new p count stands order h =
     let made = inserted participant_text 1 (participant_at 1) plain participant_is_plain old new (participant_given p) count stands.schema h.0 terms 6 is in
     let here : old.now.trees 1 ≡ map holding_row content.holdings = ap (λ (t : Tables). t.participants) stands.holds.rows in
     let fresh = newcomer content p in
     let rows : new.now.trees 1 ≡ map holding_row (content.holdings ++ fresh ∷ []) =
-    made.rows ∙ edit old.now.trees p ∙ ap (λ rows. put_row (participant_row (next_rowid rows) p (pos 0)) rows) here ∙ put_last holding_row (λ q. q.id) (λ _. refl) fresh content.holdings (all_below content.holdings order.ids) in
+    made.rows ∙ edit old.now.trees p ∙ ap (λ rows. put_row (participant_row (next_rowid rows) p (pos 0)) rows) here ∙ put_last holding_row (λ q. q.id) (λ _. refl) fresh content.holdings (above content.holdings order.ids) in
     stands_on was old new content (with_change content (AddParticipant p)) stands h.1 made.schema made.sound
     (participant_frame old.now.trees new.now.trees _ made.frame rows ∙ ap (λ (t : Tables). record t { participants = map holding_row (content.holdings ++ fresh ∷ []) }) stands.holds.rows)
 
-pub adds_participant : (was : Database) (content : Content) (old new : State) (p : Participant) (r : Result ℕ Error) (values : Row) → values ≡ participant_given p → Stands was content old → IsInOrder content
+pub adds_participant : NextRowIsAbove → (was : Database) (content : Content) (old new : State) (p : Participant) (r : Result ℕ Error) (values : Row) → values ≡ participant_given p → Stands was content old → IsInOrder content
     → ExecutesInside 0 participant_text values old new r → OnOk r (Stands was (with_change content (AddParticipant p)) new)
-adds_participant was content old new p (Err e) values same stands order h = tt
-adds_participant was content old new p (Ok count) values same stands order h = adds was content old new p count stands order (subst (λ all. ExecutesInside 0 participant_text all old new (Ok count)) same h)
+adds_participant above was content old new p (Err e) values same stands order h = tt
+adds_participant above was content old new p (Ok count) values same stands order h = adds above was content old new p count stands order (subst (λ all. ExecutesInside 0 participant_text all old new (Ok count)) same h)
 
 -- ---- what a code names
 

@@ -28,3 +28,6 @@ pub mod AsRead
 pub mod Told
 pub mod ReadingAlone
 pub mod Together
+pub mod Lists
+pub mod Resting
+pub mod Settling

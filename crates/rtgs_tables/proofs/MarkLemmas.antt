@@ -19,7 +19,7 @@ use Rattle.sqlite.specs.State.{State, ExecutesInside}
 use Rattle.sqlite.proofs.Callers.{IsPlain, command_of}
 use Rattle.sqlite_tied.specs.Compute.{everything}
 use Rattle.rtgs_tables.proofs.Casts.{cast_null, cast_int}
-use Rattle.rtgs_rows.proofs.Lists.{put_last, before_last}
+use Rattle.rtgs_tables.proofs.Lists.{put_last, before_last}
 use Rattle.rtgs_tables.proofs.Steps.{IsPlainTable}
 use Rattle.rtgs_tables.proofs.StateLemmas.{desk_over, frame_but, stands_on}
 use Rattle.rtgs_tables.proofs.Writing.{inserted}

@@ -10,9 +10,7 @@ use Rattle.rtgs_book.specs.declared.Book.{Book}
 use Rattle.rtgs_book.specs.Soundness.{IsSound}
 use Rattle.rtgs_rows.specs.Content.{HasNoTables, Holds, Rests}
 use Rattle.rtgs_rows.specs.Keeping.{IsBookOf, HoldsBook, MayLeave}
-use Rattle.rtgs_rows.specs.Tables.{no_schema}
-use Rattle.rtgs_rows.proofs.Blank.{one_schema, no_book}
-use Rattle.rtgs_rows.proofs.Unique.{once}
+use Rattle.rtgs_rows.specs.RowLaws.{RowsTellTheBook, NoTablesAreReadAsNone, NoTablesHoldNoBook}
 use Rattle.rtgs_book.specs.Books.{new_book}
 use Rattle.rtgs_tables.specs.Building.{IsBlank, IsNoneOrNew, first_content}
 
@@ -34,19 +32,19 @@ pub leaves_new : {S : Type 0} (g : Ghosts S) (old new : Held S) → Survives (st
 leaves_new g old new s clean blank none trees left = elim (s.crash clean trees left) [ inl was ↦ inl (none trees was) | inr made ↦ inr (made blank) ]
 
 -- and so the new book, if any
-pub only_new : {S : Type 0} (g : Ghosts S) (h : Held S) → IsSound new_book → ((trees : Trees) → (state g h).may_leave trees → IsNoneOrNew trees) → (other : Book) → MayLeave g h other → other ≡ new_book
-only_new g h sound all other left = elim (all left.0 left.1) [
-  | inl none ↦ absurd (no_book left.0 left.2.0 none left.2.1)
-  | inr made ↦ once new_book other first_content left.2.0 (is_new sound) left.2.2 (sym made.rows ∙ left.2.1.rows)
+pub only_new : RowsTellTheBook → NoTablesHoldNoBook → {S : Type 0} (g : Ghosts S) (h : Held S) → IsSound new_book → ((trees : Trees) → (state g h).may_leave trees → IsNoneOrNew trees) → (other : Book) → MayLeave g h other → other ≡ new_book
+only_new tells holds_none g h sound all other left = elim (all left.0 left.1) [
+  | inl none ↦ absurd (holds_none left.0 left.2.0 none left.2.1)
+  | inr made ↦ tells new_book other first_content left.2.0 (is_new sound) left.2.2 (sym made.rows ∙ left.2.1.rows)
 ]
 
 pub still_blank : (old new : State) → IsBlank old → IsUnchanged old new → IsBlank new
 still_blank old new blank same = record { is_open = same.0.is_open; schema = ap (λ (d : Database). d.schema) same.0.committed_is ∙ blank.schema; clean = same.0.now_is ∙ blank.clean ∙ sym same.0.committed_is }
 
 -- a database is opened that has no tables
-pub opened_blank : (s : State) → Opens s → IsLive s → HasNoTables s.committed.trees → IsBlank s
-opened_blank s opens live none = record {
+pub opened_blank : NoTablesAreReadAsNone → (s : State) → Opens s → IsLive s → HasNoTables s.committed.trees → IsBlank s
+opened_blank read s opens live none = record {
   is_open = opens.is_open;
-  schema = one_schema s.committed.schema no_schema s.committed.trees (live opens.is_open).1 none;
+  schema = read s.committed.schema s.committed.trees none (live opens.is_open).1;
   clean = opens.clean;
 }

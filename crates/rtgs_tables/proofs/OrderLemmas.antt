@@ -31,7 +31,7 @@ use Rattle.sqlite_tied.specs.Compute.{everything}
 use Rattle.std.proofs.lemmas.Cmp.{int_cmp_total, tied_itself}
 use Rattle.std.proofs.lemmas.Bool.{cases_Bool}
 use Rattle.rtgs_tables.proofs.Casts.{cast_null, cast_int, cast_mark, bound_mark}
-use Rattle.rtgs_rows.proofs.Lists.{put_last, before_last}
+use Rattle.rtgs_tables.proofs.Lists.{put_last, before_last}
 use Rattle.rtgs_tables.proofs.Steps.{IsPlainTable}
 use Rattle.rtgs_tables.proofs.Queries.{simple, passes, shows}
 use Rattle.rtgs_tables.proofs.Replacing.{Replaces, replaces}

@@ -25,7 +25,7 @@ use Rattle.rtgs_rows.specs.Tables.{desk_schema, posting_at}
 use Rattle.rtgs_rows.specs.Rows.{date_value, posting_row}
 use Rattle.rtgs_rows.specs.Content.{Tables, Content, tables_of, Stands, IsInOrder, with_change}
 use Rattle.rtgs_tables.proofs.Casts.{cast_null, cast_int, cast_date, bound_date}
-use Rattle.rtgs_rows.proofs.Lists.{put_last, before_last}
+use Rattle.rtgs_tables.proofs.Lists.{put_last, before_last}
 use Rattle.rtgs_tables.proofs.Steps.{IsPlainTable}
 use Rattle.rtgs_tables.proofs.StateLemmas.{desk_over, frame_but, stands_on}
 use Rattle.rtgs_tables.proofs.Writing.{inserted}

@@ -28,7 +28,7 @@ use Rattle.rtgs_rows.specs.Content.{Tables, Holding, Content, holding_row, Rests
 use Rattle.rtgs_book.specs.declared.account.Account.{Account}
 use Rattle.rtgs_tables.specs.Accounts.{stored_account, AreRead}
 use Rattle.rtgs_rows.specs.Querying.{IsDeskFile}
-use Rattle.rtgs_rows.proofs.Querying.{file_of}
+use Rattle.rtgs_tables.proofs.Resting.{file_of}
 use Rattle.rtgs_tables.proofs.Queries.{simple}
 use Rattle.rtgs_tables.proofs.Showing.{Selects, first_up, numbered, shown_are}
 

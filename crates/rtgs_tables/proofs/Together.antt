@@ -12,7 +12,7 @@ use Rattle.rtgs_book.specs.Balance.{balance}
 use Rattle.rtgs_book.specs.Soundness.{IsSound as IsSoundBook}
 use Rattle.rtgs_rows.specs.Tables.{desk_schema}
 use Rattle.rtgs_rows.specs.Content.{Content, Holds, Rests}
-use Rattle.rtgs_rows.proofs.Querying.{rests_of}
+use Rattle.rtgs_tables.proofs.Resting.{rests_of}
 use Rattle.rtgs_rows.specs.Keeping.{IsBookOf}
 use Rattle.rtgs_tables.proofs.AboveZero.{above_zero}
 use Rattle.rtgs_book.specs.declared.Participant.{Participant}

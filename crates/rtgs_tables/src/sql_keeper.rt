@@ -9,6 +9,7 @@ ghost use Rattle.sqlite.specs.Held.{state};
 ghost use Rattle.sqlite.specs.Tree.{Trees};
 ghost use Rattle.rtgs_rows.specs.Content.{Content, Holds, HasNoTables};
 ghost use Rattle.rtgs_tables.specs.Stops.{IsBefore};
+ghost use Rattle.rtgs_rows.specs.RowLaws.{RowsTellTheBook, TablesOfABookAreWhole, TablesOfABookAreWhole-prop};
 
 use crate::create::create_tables;
 use crate::forms::rows_fit;
@@ -18,6 +19,7 @@ use crate::staging::{Stopped, write};
 use rtgs_book::laws::new_book_is_sound;
 use rtgs_book::{Book, Change, Fault};
 use rtgs_keeper::{CommitFault, Keeper};
+use rtgs_rows::laws;
 use sqlite::{Alter, Connection, Error, ErrorCode};
 use std::alloc::Global;
 
@@ -28,6 +30,8 @@ pub struct SqlKeeper<S: Alter + Drop> {
     conn: Connection<S>,
     failed: bool,
     ghost idle: { conn.in_transaction ≡ false },
+    ghost tells: { RowsTellTheBook },
+    ghost tables_are_whole: { TablesOfABookAreWhole } by { TablesOfABookAreWhole-prop },
 }
 
 impl<S: Alter + Drop> SqlKeeper<S> {
@@ -47,6 +51,8 @@ impl<S: Alter + Drop> SqlKeeper<S> {
         let mut conn = conn;
         leaves_no_tables(&conn);
         new_book_is_sound();
+        laws::rows_tell_the_book();
+        laws::no_tables_hold_no_book();
         match create_tables(&mut conn) {
             Ok(()) => Ok(SqlKeeper::open(conn)),
             Err(stopped) => {
@@ -64,6 +70,10 @@ impl<S: Alter + Drop> SqlKeeper<S> {
         ensures found { Opens (state S.Store conn) → IsLive (state S.Store conn) → (book : Book) (content : Content) → Holds content (state S.Store conn).committed.trees → IsBookOf book content → HoldsBook S.Store result.conn book }
         ensures none { Opens (state S.Store conn) → IsLive (state S.Store conn) → HasNoTables (state S.Store conn).committed.trees → IsBlank (state S.Store result.conn) }
     {
+        laws::tables_of_a_desk_are_read_as_such();
+        laws::no_tables_are_read_as_none();
+        laws::rows_tell_the_book();
+        laws::tables_of_a_book_are_whole();
         SqlKeeper {
             conn,
             failed: false,
@@ -81,7 +91,7 @@ impl<S: Alter + Drop> SqlKeeper<S> {
 
 impl<S: Alter + Drop> Keeper for SqlKeeper<S> {
     ghost use Rattle.rtgs_rows.specs.Keeping.{HoldsBook, MayLeave, IsWhole};
-    ghost use Rattle.rtgs_rows.proofs.Settling as settling;
+    ghost use Rattle.rtgs_rows.specs.Settling as settling;
     ghost use Rattle.rtgs_rows.specs.Querying.{HasTables, IsDeskFile};
     ghost use Rattle.sqlite.specs.Tree.{Trees};
     ghost use Rattle.rtgs_tables.specs.Building.{IsBlank};
@@ -112,11 +122,11 @@ impl<S: Alter + Drop> Keeper for SqlKeeper<S> {
 
     ghost is_honest = { λ k. HasCleanDisk (state S.Store k.conn) };
 
-    ghost settled = { λ k. settling.settled (record { view = S.Store.view; faults = S.Store.faults; recovers = S.Store.recovers; is_shielded = S.Store.is_shielded; is_step = S.Store.is_step; blamed = S.Store.blamed; names = S.Store.names }) k.conn (S.Store.settled k.conn.store) };
+    ghost settled = { λ k. settling.settled (record { view = S.Store.view; faults = S.Store.faults; recovers = S.Store.recovers; is_shielded = S.Store.is_shielded; is_step = S.Store.is_step; blamed = S.Store.blamed; names = S.Store.names }) k.conn k.tells (S.Store.settled k.conn.store) };
 
     ghost stays = { λ k. settling.stays (record { view = S.Store.view; faults = S.Store.faults; recovers = S.Store.recovers; is_shielded = S.Store.is_shielded; is_step = S.Store.is_step; blamed = S.Store.blamed; names = S.Store.names }) k.conn (S.Store.stays k.conn.store) };
 
-    ghost tabled = { λ k. settling.tabled (record { view = S.Store.view; faults = S.Store.faults; recovers = S.Store.recovers; is_shielded = S.Store.is_shielded; is_step = S.Store.is_step; blamed = S.Store.blamed; names = S.Store.names }) k.conn };
+    ghost tabled = { λ k. settling.tabled (record { view = S.Store.view; faults = S.Store.faults; recovers = S.Store.recovers; is_shielded = S.Store.is_shielded; is_step = S.Store.is_step; blamed = S.Store.blamed; names = S.Store.names }) k.conn k.tables_are_whole };
 
     ghost whole = { λ k. settling.whole (record { view = S.Store.view; faults = S.Store.faults; recovers = S.Store.recovers; is_shielded = S.Store.is_shielded; is_step = S.Store.is_step; blamed = S.Store.blamed; names = S.Store.names }) k.conn (S.Store.settled k.conn.store) };
 
@@ -124,6 +134,7 @@ impl<S: Alter + Drop> Keeper for SqlKeeper<S> {
         if self.failed {
             return Err(Fault::StoreFault);
         }
+        laws::records_stand_in_order();
         let loaded = load_book(alloc, &mut self.conn);
         if let Err(Fault::StoreFault) = loaded {
             self.failed = true;
@@ -137,6 +148,9 @@ impl<S: Alter + Drop> Keeper for SqlKeeper<S> {
         }
         let rows = change.as_slice();
         rows_fit(rows);
+        laws::rows_tell_the_book();
+        laws::changes_stand_in_order();
+        laws::changed_rows_are_the_changed_book();
         let stopped = match write(&mut self.conn, rows) {
             Ok(()) => return Ok(()),
             Err(stopped) => stopped,

@@ -11,6 +11,7 @@ use crate::columns::{
     number_value, posting_value, state_value, text, text_of, text_or_null,
 };
 use rtgs_book::{Mark, Order, Participant, Posting};
+use rtgs_rows::laws::next_row_is_above;
 use sqlite::{Alter, Error, Transaction};
 
 /// Adds the row of a participant, with a balance of 0.
@@ -24,6 +25,7 @@ pub(crate) fn add_participant<S: Alter>(
     ensures kept { HasCleanDisk (state S.Store tx.new.conn.now) → KeepsCommit (state S.Store tx.old.conn.now) (state S.Store tx.new.conn.now) }
     ensures survives { Survives (state S.Store tx.old.conn.now) (state S.Store tx.new.conn.now) (λ _. ⊥) }
 {
+    next_row_is_above();
     tx.execute(
         "INSERT INTO participant (code, name, key, credit, balance) VALUES (?1, ?2, ?3, ?4, 0)",
         &[

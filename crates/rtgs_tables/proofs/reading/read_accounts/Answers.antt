@@ -8,7 +8,7 @@ use Rattle.rtgs_tables.proofs.Told.{read_plainly, misread}
 use Rattle.sqlite.specs.Order.{Row}
 use Rattle.rtgs_tables.proofs.AsRead.{rows_same, are_formed}
 use Rattle.sqlite.specs.Held.{state}
-use Rattle.rtgs_rows.proofs.Querying.{file_of}
+use Rattle.rtgs_tables.proofs.Resting.{file_of}
 use Rattle.rtgs_tables.proofs.Keeps.{not_foreign, file_after}
 use Rattle.rtgs_tables.proofs.reading.read_accounts.Goals as goal
 

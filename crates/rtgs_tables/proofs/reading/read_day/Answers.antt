@@ -2,7 +2,7 @@ use Rattle.std.proofs.Common.{[], ◌∷◌, map, IsPermutation, refl, sym, subs
 use Rattle.rtgs_rows.specs.Querying.{picked}
 use Rattle.rtgs_tables.proofs.Told.{day_shown, no_day, not_read}
 use Rattle.sqlite.specs.Held.{state}
-use Rattle.rtgs_rows.proofs.Querying.{file_of}
+use Rattle.rtgs_tables.proofs.Resting.{file_of}
 use Rattle.rtgs_tables.proofs.Keeps.{not_foreign, file_after}
 use Rattle.rtgs_tables.proofs.reading.read_day.Goals as goal
 

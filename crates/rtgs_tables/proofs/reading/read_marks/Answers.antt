@@ -6,7 +6,7 @@ use Rattle.rtgs_tables.specs.Numbers.{counted_of_mark}
 use Rattle.rtgs_tables.proofs.AsRead.{rows_same, are_formed, mark_same}
 use Rattle.rtgs_tables.proofs.Told.{read_as, misread}
 use Rattle.sqlite.specs.Held.{state}
-use Rattle.rtgs_rows.proofs.Querying.{file_of}
+use Rattle.rtgs_tables.proofs.Resting.{file_of}
 use Rattle.rtgs_tables.proofs.Keeps.{not_foreign, file_after}
 use Rattle.rtgs_tables.proofs.reading.read_marks.Goals as goal
 

@@ -16,7 +16,7 @@ returns-in-Ok-clause-made g c =
 pub returns-in-Ok-clause-stops : goal.returns-in-Ok-clause-stops
 returns-in-Ok-clause-stops g c =
     subst (λ h. HasCleanDisk (state g.S.Store h) → IsBlank (state g.S.Store c.args.conn) → (other : Book) → MayLeave g.S.Store h other → other ≡ new_book) (sym c.open.ensures.is.0)
-    (λ clean blank. only_new g.S.Store c.create_tables.new.conn c.new_book_is_sound.ensures (leaves_new g.S.Store c.args.conn c.create_tables.new.conn c.create_tables.ensures.crash clean blank (c.leaves_no_tables.ensures blank)))
+    (λ clean blank. only_new c.rows_tell_the_book.ensures c.no_tables_hold_no_book.ensures g.S.Store c.create_tables.new.conn c.new_book_is_sound.ensures (leaves_new g.S.Store c.args.conn c.create_tables.new.conn c.create_tables.ensures.crash clean blank (c.leaves_no_tables.ensures blank)))
 
 pub returns-in-Err-clause-tables : goal.returns-in-Err-clause-tables
 returns-in-Err-clause-tables g c clean blank trees left = elim (c.fault_of-fault.ensures.survives.crash clean trees left) [
@@ -26,7 +26,7 @@ returns-in-Err-clause-tables g c clean blank trees left = elim (c.fault_of-fault
 
 pub returns-in-Err-clause-left : goal.returns-in-Err-clause-left
 returns-in-Err-clause-left g c clean blank other left =
-    only_new g.S.Store c.fault_of-fault.new.conn c.new_book_is_sound.ensures (λ trees at. returns-in-Err-clause-tables g c clean blank trees at) other left
+    only_new c.rows_tell_the_book.ensures c.no_tables_hold_no_book.ensures g.S.Store c.fault_of-fault.new.conn c.new_book_is_sound.ensures (λ trees at. returns-in-Err-clause-tables g c clean blank trees at) other left
 
 pub returns-in-Err-clause-memory : goal.returns-in-Err-clause-memory
 returns-in-Err-clause-memory g c want clean blank =

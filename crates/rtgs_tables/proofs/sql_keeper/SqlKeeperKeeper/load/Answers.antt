@@ -2,8 +2,8 @@ use Rattle.sqlite.specs.Held.{state}
 use Rattle.rtgs_tables.specs.Accounts.{accounts_of, HasRecords}
 use Rattle.rtgs_tables.proofs.Accounts.{has_own, own_balances}
 use Rattle.rtgs_rows.specs.Querying.{IsDeskFile}
-use Rattle.rtgs_rows.proofs.Querying.{file_of, rests_of}
-use Rattle.rtgs_rows.proofs.Settling.{leaves_less}
+use Rattle.rtgs_tables.proofs.Resting.{file_of, rests_of}
+use Rattle.rtgs_tables.proofs.Settling.{leaves_less}
 use Rattle.rtgs_tables.proofs.Keeps.{leaves_on}
 use Rattle.rtgs_tables.proofs.Together.{kept_book, shown_always}
 use Rattle.rtgs_tables.proofs.Judging.{accepted, explained, the_book}
@@ -11,22 +11,22 @@ use Rattle.rtgs_tables.proofs.sql_keeper.SqlKeeperKeeper.load.Goals as goal
 
 pub returns-else-self-2-clause-given : goal.returns-else-self-2-clause-given
 returns-else-self-2-clause-given g c clean book holds =
-    the_book (accounts_of book) book c.load_book-loaded.result (c.load_book-loaded.ensures.read clean (accounts_of book) book (has_own _ holds.0 book holds.1 holds.2))
+    the_book (accounts_of book) book c.load_book-loaded.result (c.load_book-loaded.ensures.read clean (accounts_of book) book (has_own c.records_stand_in_order.ensures _ holds.0 book holds.1 holds.2))
 
 pub returns-else-self-2-clause-accepted : goal.returns-else-self-2-clause-accepted
 returns-else-self-2-clause-accepted g c clean book holds =
-    accepted (accounts_of book) book c.load_book-loaded.result holds.2.sound (own_balances book) (c.load_book-loaded.ensures.explained clean (accounts_of book) book (has_own _ holds.0 book holds.1 holds.2))
+    accepted (accounts_of book) book c.load_book-loaded.result holds.2.sound (own_balances book) (c.load_book-loaded.ensures.explained clean (accounts_of book) book (has_own c.records_stand_in_order.ensures _ holds.0 book holds.1 holds.2))
 
 pub returns-else-self-2-clause-stops : goal.returns-else-self-2-clause-stops
 returns-else-self-2-clause-stops g c clean other left = leaves_less g.S.Store c.args.self.now.conn c.load_book-loaded.new.conn c.load_book-loaded.ensures.survives clean other left
 
 pub returns-else-self-clause-given : goal.returns-else-self-clause-given
 returns-else-self-clause-given g c clean book holds =
-    the_book (accounts_of book) book c.load_book-loaded.result (c.load_book-loaded.ensures.read clean (accounts_of book) book (has_own _ holds.0 book holds.1 holds.2))
+    the_book (accounts_of book) book c.load_book-loaded.result (c.load_book-loaded.ensures.read clean (accounts_of book) book (has_own c.records_stand_in_order.ensures _ holds.0 book holds.1 holds.2))
 
 pub returns-else-self-clause-accepted : goal.returns-else-self-clause-accepted
 returns-else-self-clause-accepted g c clean book holds =
-    accepted (accounts_of book) book c.load_book-loaded.result holds.2.sound (own_balances book) (c.load_book-loaded.ensures.explained clean (accounts_of book) book (has_own _ holds.0 book holds.1 holds.2))
+    accepted (accounts_of book) book c.load_book-loaded.result holds.2.sound (own_balances book) (c.load_book-loaded.ensures.explained clean (accounts_of book) book (has_own c.records_stand_in_order.ensures _ holds.0 book holds.1 holds.2))
 
 pub returns-else-self-clause-stops : goal.returns-else-self-clause-stops
 returns-else-self-clause-stops g c clean other left = leaves_less g.S.Store c.args.self.now.conn c.load_book-loaded.new.conn c.load_book-loaded.ensures.survives clean other left

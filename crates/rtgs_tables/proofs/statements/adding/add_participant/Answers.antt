@@ -16,6 +16,6 @@ returns-clause-made g c clean was content stands order =
     let name = ap bound_value (c.text-2.ensures ∙ ap Text c.as_bytes-2.ensures.value) in
     let key = ap bound_value (c.blob.ensures ∙ ap Blob c.as_bytes-3.ensures.value) in
     let credit = ap bound_value c.credit_value.ensures in
-    adds_participant was content (state g.S.Store c.args.tx.now.conn.now) (state g.S.Store c.execute.new.self.conn.now) c.args.participant.now c.execute.result _
+    adds_participant c.next_row_is_above.ensures was content (state g.S.Store c.args.tx.now.conn.now) (state g.S.Store c.execute.new.self.conn.now) c.args.participant.now c.execute.result _
     (λ i. code i ∷ name i ∷ key i ∷ credit i ∷ []) stands order
     (c.execute.ensures.runs clean (rw stands.inside))
