@@ -20,7 +20,7 @@ abbrev pub report_wanted : Book → ℕ → Result (List ℕ) Refusal
 report_wanted book date = Ok (report book date)
 
 -- What is wanted is written whole, or refused with nothing written. Want of memory can come in its place, before the
--- first byte or, as a fault of the writer can, after a beginning of the text.
+-- first byte, and a fault of the writer after a beginning of the text.
 abbrev pub Writes : Option (List ℕ) → Result (List ℕ) Refusal → Result ⊤ DeskTextFault → Option (List ℕ) → Type 0
 Writes old (Err refusal) result new = (result ≡ Err (Refused refusal)) × (new ≡ old)
 Writes old (Ok text) (Ok done) new = Appends old new text

@@ -7,6 +7,6 @@ use rtgs_output::TextFault;
 pub enum DeskTextFault {
     /// The desk refused it, and nothing was written.
     Refused(Refusal),
-    /// A beginning of it was written.
+    /// A beginning of it was written, and where memory was wanting nothing.
     Text(TextFault),
 }

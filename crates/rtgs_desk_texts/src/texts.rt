@@ -3,6 +3,7 @@ ghost use Rattle.std.specs.Prelude.{◌≡◌, true, Ok, Err};
 ghost use Rattle.rtgs_book.specs.declared.Book.{Book};
 ghost use Rattle.rtgs_book.specs.declared.Refusal.{Refusal};
 ghost use Rattle.rtgs_desk.specs.Holding.{Holds};
+ghost use Rattle.rtgs_output.specs.declared.text_fault.TextFault.{TextFault};
 ghost use Rattle.rtgs_desk_texts.specs.Written.{Writes, statement_wanted, report_wanted};
 
 use crate::fault::DeskTextFault;
@@ -14,8 +15,8 @@ use std::alloc::Global;
 use std::io::Write;
 
 /// Writes the statement of a participant for a date, as the book that the desk holds has it. It is refused before a
-/// byte is written where the store has failed, and else where nobody has the code; want of memory and a fault of the
-/// writer leave a beginning of the text.
+/// byte is written where the store has failed, and else where nobody has the code; a fault of the writer leaves a
+/// beginning of the text, and want of memory leaves the writer as it was.
 pub fn write_statement<K: Keeper, W: Write>(
     alloc: Global,
     out: &mut W,
@@ -27,6 +28,8 @@ pub fn write_statement<K: Keeper, W: Write>(
         → Writes (W.contents out.old) (statement_wanted book code.now date) result (W.contents out.new) }
     ensures failed { K.has_failed desk.now.keeper ≡ true
         → (result ≡ Err (DeskTextFault.Refused Refusal.Failed)) × (out.new ≡ out.old) }
+    ensures memory { result ≡ Err (DeskTextFault.Text TextFault.OutOfMemory) → out.new ≡ out.old }
+    ensures refused { (refusal : Refusal) → result ≡ Err (DeskTextFault.Refused refusal) → out.new ≡ out.old }
 {
     let statement = match desk.statement_of(code, date) {
         Ok(statement) => statement,
@@ -39,7 +42,8 @@ pub fn write_statement<K: Keeper, W: Write>(
 }
 
 /// Writes the report of a day, as the book that the desk holds has it. It is refused before a byte is written where
-/// the store has failed; want of memory and a fault of the writer leave a beginning of the text.
+/// the store has failed; a fault of the writer leaves a beginning of the text, and want of memory leaves the writer as
+/// it was.
 pub fn write_report<K: Keeper, W: Write>(
     alloc: Global,
     out: &mut W,
@@ -50,6 +54,8 @@ pub fn write_report<K: Keeper, W: Write>(
         → Writes (W.contents out.old) (report_wanted book date) result (W.contents out.new) }
     ensures failed { K.has_failed desk.now.keeper ≡ true
         → (result ≡ Err (DeskTextFault.Refused Refusal.Failed)) × (out.new ≡ out.old) }
+    ensures memory { result ≡ Err (DeskTextFault.Text TextFault.OutOfMemory) → out.new ≡ out.old }
+    ensures refused { (refusal : Refusal) → result ≡ Err (DeskTextFault.Refused refusal) → out.new ≡ out.old }
 {
     let report = match desk.report_of(date) {
         Ok(report) => report,

@@ -5,10 +5,10 @@
 mod kind;
 pub mod laws;
 mod line;
+mod parts;
 mod party;
 mod report;
 mod row;
-mod sending;
 mod statement;
 mod sums;
 mod total;

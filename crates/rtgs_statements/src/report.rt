@@ -1,5 +1,5 @@
 //! Day reports.
-ghost use Rattle.std.specs.Prelude.{◌≡◌, ◌∷◌, [], map, IfOk, OnOk, OnErr};
+ghost use Rattle.std.specs.Prelude.{◌≡◌, ◌∷◌, [], map, IfOk, IfErr, OnOk, OnErr, string_bytes};
 ghost use Rattle.std.specs.Io.KnownBytes.{Appends};
 ghost use Rattle.rtgs_statements.specs.declared.line.Line.{Line};
 ghost use Rattle.rtgs_book.specs.declared.standing.Standing.{Standing};
@@ -9,11 +9,11 @@ ghost use Rattle.rtgs_statements.specs.Sums.{sums_at};
 ghost use Rattle.rtgs_statements.specs.Texts.{report_text, orders_line};
 
 use crate::line::Line;
-use crate::sending::send_parts;
+use crate::parts::text_of_parts;
 use crate::turnover::Turnover;
 use rtgs_book::{Mark, Order, Posting, Standing};
 use rtgs_money::{BusinessDate, Code, Units};
-use rtgs_output::TextFault;
+use rtgs_output::{TextFault, send_all};
 use std::alloc::{AllocError, Global};
 use std::io::Write;
 
@@ -55,18 +55,33 @@ impl Report {
 }
 
 /// Writes the day report: its title, a line of sums for each participant, how many orders stand where and their value, and
-/// the number of marks. Amounts are in units. On a fault, which is the writer's, a write that takes no byte, or want of
-/// memory, a beginning of the text was written, and not the whole.
+/// the number of marks. Amounts are in units. On a fault of the writer, or a write that takes no byte, a beginning of the
+/// text was written, and not the whole. Where memory is wanting, nothing was asked of the writer.
 pub fn day_report<W: Write>(alloc: Global, out: &mut W, report: &Report) -> Result<(), TextFault>
     ensures written { OnOk result (Appends (W.contents out.old) (W.contents out.new) (report_text report.now.date report.now.codes.items report.now.postings.items report.now.orders.items report.now.marks.items)) }
     ensures begun { OnErr result (AppendsPart (W.contents out.old) (W.contents out.new) (report_text report.now.date report.now.codes.items report.now.postings.items report.now.orders.items report.now.marks.items)) }
+    ensures memory { IfErr result (λ fault. fault ≡ TextFault.OutOfMemory → out.new ≡ out.old) }
+{
+    let text = match text_of(alloc, report) {
+        Ok(text) => text,
+        Err(refused) => return Err(TextFault::from(refused)),
+    };
+    match send_all(out, text.as_bytes()) {
+        Ok(()) => Ok(()),
+        Err(failed) => Err(TextFault::from(failed)),
+    }
+}
+
+// The text of a report.
+fn text_of(alloc: Global, report: &Report) -> Result<String, AllocError>
+    ensures { IfOk result (λ text. string_bytes text ≡ report_text report.now.date report.now.codes.items report.now.postings.items report.now.orders.items report.now.marks.items) }
 {
     let turnover = Turnover::of(alloc, &report.postings, &report.orders)?;
     let title = [Line::ReportOf(report.date)];
     let accounts = account_lines(alloc, &turnover, &report.codes)?;
     let standings = standing_lines(&report.orders);
     let marks = [Line::Marks(report.marks.len())];
-    send_parts(alloc, out, &title, &accounts, &standings, &marks)
+    text_of_parts(alloc, &title, &accounts, &standings, &marks)
 }
 
 // The postings of that date.

@@ -1,5 +1,5 @@
 //! Statements.
-ghost use Rattle.std.specs.Prelude.{◌≡◌, map, IfOk, OnOk, OnErr};
+ghost use Rattle.std.specs.Prelude.{◌≡◌, map, IfOk, IfErr, OnOk, OnErr, string_bytes};
 ghost use Rattle.std.specs.Io.KnownBytes.{Appends};
 ghost use Rattle.rtgs_statements.specs.declared.line.Line.{Line};
 ghost use Rattle.rtgs_statements.specs.Lines.{row_of_posting, row_of_order};
@@ -9,14 +9,14 @@ ghost use Rattle.rtgs_statements.specs.Sums.{IsSmall};
 ghost use Rattle.rtgs_statements.specs.Texts.{statement_text, sum_lines};
 
 use crate::line::Line;
+use crate::parts::text_of_parts;
 use crate::row::Row;
-use crate::sending::send_parts;
 use crate::sums::Sums;
 use crate::total::Total;
 use crate::turnover::Turnover;
 use rtgs_book::{Order, OrderState, Posting};
 use rtgs_money::{BusinessDate, Code, Units};
-use rtgs_output::TextFault;
+use rtgs_output::{TextFault, send_all};
 use std::alloc::{AllocError, Global};
 use std::io::Write;
 
@@ -57,8 +57,8 @@ impl Statement {
 }
 
 /// Writes the statement: its title, a line for each posting and then for each order, and four sums. Amounts are in units.
-/// On a fault, which is the writer's, a write that takes no byte, or want of memory, a beginning of the text was written, and
-/// not the whole.
+/// On a fault of the writer, or a write that takes no byte, a beginning of the text was written, and not the whole. Where
+/// memory is wanting, nothing was asked of the writer.
 pub fn statement_text<W: Write>(
     alloc: Global,
     out: &mut W,
@@ -66,6 +66,21 @@ pub fn statement_text<W: Write>(
 ) -> Result<(), TextFault>
     ensures written { OnOk result (Appends (W.contents out.old) (W.contents out.new) (statement_text statement.now.code statement.now.date statement.now.postings.items statement.now.orders.items)) }
     ensures begun { OnErr result (AppendsPart (W.contents out.old) (W.contents out.new) (statement_text statement.now.code statement.now.date statement.now.postings.items statement.now.orders.items)) }
+    ensures memory { IfErr result (λ fault. fault ≡ TextFault.OutOfMemory → out.new ≡ out.old) }
+{
+    let text = match text_of(alloc, statement) {
+        Ok(text) => text,
+        Err(refused) => return Err(TextFault::from(refused)),
+    };
+    match send_all(out, text.as_bytes()) {
+        Ok(()) => Ok(()),
+        Err(failed) => Err(TextFault::from(failed)),
+    }
+}
+
+// The text of a statement.
+fn text_of(alloc: Global, statement: &Statement) -> Result<String, AllocError>
+    ensures { IfOk result (λ text. string_bytes text ≡ statement_text statement.now.code statement.now.date statement.now.postings.items statement.now.orders.items) }
 {
     let code = &statement.code;
     let turnover = Turnover::of(alloc, &statement.postings, &statement.orders)?;
@@ -73,7 +88,7 @@ pub fn statement_text<W: Write>(
     let postings = posting_lines(alloc, &statement.postings)?;
     let orders = order_lines(alloc, code, &statement.orders)?;
     let sums = sum_lines(turnover.sums(code));
-    send_parts(alloc, out, &title, &postings, &orders, &sums)
+    text_of_parts(alloc, &title, &postings, &orders, &sums)
 }
 
 // The participant's postings of that date.
