@@ -1,0 +1,80 @@
+-- A desk over the tables of a store: what an opening makes of them, and what a stop leaves. `k` has the members of the keeper's trait.
+use Rattle.std.specs.Prelude.{◌≡◌, ◌≢◌, ◌⊎◌, List, IsTrue}
+use Rattle.sqlite.specs.Effect.{IsDatabase}
+use Rattle.sqlite.specs.State.{State}
+use Rattle.sqlite.specs.Tree.{Trees}
+use Rattle.rtgs_book.specs.declared.Book.{Book}
+use Rattle.rtgs_book.specs.declared.Command.{Command}
+use Rattle.rtgs_book.specs.declared.Fault.{Fault}
+use Rattle.rtgs_book.specs.declared.Fault.TheVariants.{OutOfMemory, StoreFault, Inconsistent}
+use Rattle.rtgs_book.specs.declared.Rule.{Rule}
+use Rattle.rtgs_book.specs.Books.{new_book}
+use Rattle.rtgs_book.specs.Outcome.{Reply}
+use Rattle.rtgs_book.specs.Session.{IsSession}
+use Rattle.rtgs_keeper.specs.declared.commit_fault.CommitFault.{CommitFault}
+use Rattle.rtgs_keeper.specs.declared.commit_fault.CommitFault.TheVariants as commit
+use Rattle.rtgs_keeper.specs.declared.keeper.Keeper.{Ghosts}
+use Rattle.rtgs_rows.specs.Content.{Content, HasNoTables}
+use Rattle.rtgs_rows.specs.Content as rows
+use Rattle.rtgs_rows.specs.Keeping.{IsBookOf, AddsUp}
+use Rattle.rtgs_rows.specs.Querying.{AreWhole}
+use Rattle.rtgs_rows.specs.Tables.{desk_schema}
+use Rattle.rtgs_tables.specs.Accounts.{ExplainsTrees}
+use Rattle.rtgs_desk.specs.Holding.{Holds}
+use Rattle.rtgs_desk.specs.Seen.{Seen}
+
+-- the tables hold the book
+abbrev pub AreTablesOf : Book → Trees → Type 0
+AreTablesOf book trees = (content : Content) × rows.Holds content trees × IsBookOf book content
+
+-- the store is open, shows what it has committed, and reads it by its own schema
+pub record IsAtRest (s : State) : Type 0 where
+  pub is_open : IsTrue s.is_open
+  pub clean : s.now ≡ s.committed
+  pub sound : IsDatabase s.committed
+
+abbrev pub IsMemoryOrStore : Fault → Type 0
+IsMemoryOrStore fault = (fault ≡ OutOfMemory) ⊎ (fault ≡ StoreFault)
+
+-- why no tables were made
+abbrev pub fault_of_making : CommitFault → Fault
+fault_of_making commit.OutOfMemory = OutOfMemory
+fault_of_making commit.Store = StoreFault
+fault_of_making commit.Failed = StoreFault
+
+-- No new book was made, or none was opened. A stop leaves no tables, or those of the new book.
+pub record IsUnmade (fault : Fault) (new : State) : Type 0 where
+  pub cause : IsMemoryOrStore fault
+  pub leaves : (trees : Trees) → new.may_leave trees → HasNoTables trees ⊎ AreTablesOf new_book trees
+
+-- the desk was opened over what the store had committed
+pub record IsOver {K : Type 0} (k : Ghosts K) (old : State) (desk : Seen K) (new : State) : Type 0 where
+  -- where the tables held a book, the desk holds it
+  pub held : (book : Book) → AreTablesOf book old.committed.trees → Holds k desk book
+  -- over the tables of a desk, whatever values their rows have, there is a desk only where they held a book
+  pub kept : old.committed.schema ≡ desk_schema → AreWhole old.committed.trees
+      → (book : Book) × AreTablesOf book old.committed.trees × Holds k desk book
+  -- and over a database that has no tables there is none
+  pub some : HasNoTables old.committed.trees → ⊥
+  -- a stop leaves what was found
+  pub leaves : (trees : Trees) → new.may_leave trees → trees ≡ old.committed.trees
+
+-- no desk was opened over what the store had committed
+pub record IsRefused (old : State) (fault : Fault) (new : State) : Type 0 where
+  -- tables that hold a book are refused for want of memory or a fault of the store alone
+  pub cause : (book : Book) → AreTablesOf book old.committed.trees → IsMemoryOrStore fault
+  -- over the schema of a desk the rows explain the fault: one is in no form, or this is the first rule that they break
+  pub explained : old.committed.schema ≡ desk_schema → ExplainsTrees old.committed.trees fault
+  -- a database that has no tables breaks no rule
+  pub no_rule : HasNoTables old.committed.trees → (rule : Rule) → fault ≢ Inconsistent rule
+  -- a stop leaves what was found
+  pub leaves : (trees : Trees) → new.may_leave trees → trees ≡ old.committed.trees
+
+-- What a stop leaves after these commands: tables that hold a book which a session of the definitions may find, and stored balances that add up to the postings' cents.
+pub record AreLeft (start : Book) (commands : List Command) (replies : List Reply) (trees : Trees) : Type 0 where
+  pub found : Book
+  pub session : IsSession (record { start = start; commands = commands; replies = replies; found = found })
+  pub content : Content
+  pub holds : rows.Holds content trees
+  pub records : IsBookOf found content
+  pub adds_up : AddsUp content

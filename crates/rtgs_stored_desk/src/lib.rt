@@ -1,0 +1,9 @@
+//! A desk over the tables of a store: made in an empty database, opened over one, and found again after a stop.
+#![tactic(auto)]
+
+pub mod laws;
+mod making;
+mod opening;
+
+pub use crate::making::make;
+pub use crate::opening::{create, open};

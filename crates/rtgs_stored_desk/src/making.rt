@@ -1,0 +1,51 @@
+//! The tables of a new book.
+ghost use Rattle.std.specs.Prelude.{◌≡◌, false, IfOk, IfErr};
+ghost use Rattle.sqlite.specs.Held.{state};
+ghost use Rattle.sqlite.specs.State.{HasCleanDisk};
+ghost use Rattle.sqlite.specs.Tree.{Trees};
+ghost use Rattle.rtgs_book.specs.Books.{new_book};
+ghost use Rattle.rtgs_rows.specs.Content.{HasNoTables};
+ghost use Rattle.rtgs_rows.specs.Keeping.{HoldsBook};
+ghost use Rattle.rtgs_tables.specs.Building.{IsBlank};
+ghost use Rattle.rtgs_stored_desk.specs.Stored.{AreTablesOf, IsUnmade, fault_of_making};
+
+use rtgs_book::Fault;
+use rtgs_book::laws::new_book_is_sound;
+use rtgs_keeper::CommitFault;
+use rtgs_tables::SqlKeeper;
+use sqlite::{Alter, Connection};
+
+/// Makes the tables of a new book in an empty database, in one transaction. On a fault, which is want of memory or the
+/// store's, the connection comes back: want of memory leaves the database empty, and a fault of the store leaves it
+/// empty or with all tables of the new book.
+pub fn make<S: Alter + Drop>(conn: Connection<S>) -> Result<Connection<S>, (Fault, Connection<S>)>
+    requires { conn.in_transaction ≡ false }
+    ensures made { IfOk result (λ made. HasCleanDisk (state S.Store made) → IsBlank (state S.Store conn)
+        → HoldsBook S.Store made new_book) }
+    ensures stops { IfOk result (λ made. HasCleanDisk (state S.Store made) → IsBlank (state S.Store conn)
+        → (trees : Trees) → (state S.Store made).may_leave trees → AreTablesOf new_book trees) }
+    ensures refused { IfErr result (λ (fault, left). HasCleanDisk (state S.Store left) → IsBlank (state S.Store conn)
+        → IsUnmade fault (state S.Store left)) }
+    ensures memory { IfErr result (λ (fault, left). fault ≡ Fault.OutOfMemory → HasCleanDisk (state S.Store left)
+        → IsBlank (state S.Store conn) → IsBlank (state S.Store left)) }
+    ensures memory_stops { IfErr result (λ (fault, left). fault ≡ Fault.OutOfMemory → HasCleanDisk (state S.Store left)
+        → IsBlank (state S.Store conn) → (trees : Trees) → (state S.Store left).may_leave trees → HasNoTables trees) }
+    ensures idle { IfOk result (λ made. made.in_transaction ≡ false) }
+    ensures idle_still { IfErr result (λ (_, left). left.in_transaction ≡ false) }
+{
+    new_book_is_sound();
+    match SqlKeeper::create(conn) {
+        Ok(keeper) => Ok(keeper.into_connection()),
+        Err((fault, conn)) => Err((fault_of(fault), conn)),
+    }
+}
+
+// Why no tables were made. A store that had failed before makes none either.
+fn fault_of(fault: CommitFault) -> Fault
+    ensures { result ≡ fault_of_making fault }
+{
+    match fault {
+        CommitFault::OutOfMemory => Fault::OutOfMemory,
+        CommitFault::Store | CommitFault::Failed => Fault::StoreFault,
+    }
+}
