@@ -5,4 +5,5 @@ mod exchange;
 mod failing_keeper;
 mod ledger;
 mod setting;
+mod stored_desk;
 mod tables;
