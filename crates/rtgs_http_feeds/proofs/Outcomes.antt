@@ -60,8 +60,11 @@ outcome input = by (cases_lt (length input) LONGEST_HEAD)
     long : LONGEST_HEAD ≤ length input → Ends input (suc LONGEST_HEAD) ⊎ EndsNowhere input (suc LONGEST_HEAD)
         → ((region : List ℕ) × (rest : List ℕ) × StartsWith input region rest) ⊎ (IsTooLong input ⊎ IsOpen input)
     long ge (inl x) = inl (starts input LONGEST_HEAD ge (omega arith) x)
-    long ge (inr none) = inr (inl (ge, λ m le.
-        ap (λ t. ends_region t) (take-take m LONGEST_HEAD input (omega (arith, le, size ge))) ∙ none m (omega (arith, le, size ge))))
+    long ge (inr none) = inr (inl (
+      ge,
+      λ m le.
+          ap (λ t. ends_region t) (take-take m LONGEST_HEAD input (omega (arith, le, size ge))) ∙ none m (omega (arith, le, size ge)),
+    ))
 
     by : (length input < LONGEST_HEAD) ⊎ (LONGEST_HEAD ≤ length input)
         → ((region : List ℕ) × (rest : List ℕ) × StartsWith input region rest) ⊎ (IsTooLong input ⊎ IsOpen input)

@@ -5,6 +5,7 @@ use Rattle.std.specs.Str.{str_eq_ignore_ascii_case}
 use Rattle.std.specs.Str.Parse.{IsNumeral, digits_value}
 use Rattle.sha2.specs.Sha256.{sha256}
 use Rattle.rtgs_money.specs.Forms.{IsKey}
+use Rattle.rtgs_http_heads.specs.declared.limits.TheConstants.{MOST_DIGITS}
 
 abbrev pub Fields : Type 0
 Fields = List (List ℕ × List ℕ)
@@ -13,11 +14,11 @@ Fields = List (List ℕ × List ℕ)
 abbrev pub values_of : List ℕ → Fields → List (List ℕ)
 values_of name fields = map (λ field. field.1) (filter (λ field. str_eq_ignore_ascii_case field.0 name) fields)
 
--- 1 to 9 digits
+-- 1 to MOST_DIGITS digits
 abbrev pub IsShortNumber : List ℕ → Type 0
-IsShortNumber digits = IsNumeral 10 digits × (length digits ≤ 9)
+IsShortNumber digits = IsNumeral 10 digits × (length digits ≤ MOST_DIGITS)
 
--- There is no value and no length, or the one value is the length in 1 to 9 digits.
+-- There is no value and no length, or the one value is the length in 1 to MOST_DIGITS digits.
 abbrev pub Declares : List (List ℕ) → Option ℕ → Type 0
 Declares values None = values ≡ []
 Declares values (Some length) =

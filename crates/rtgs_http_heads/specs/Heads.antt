@@ -3,16 +3,17 @@ use Rattle.std.specs.Prelude.{◌≡◌, ◌≢◌, ◌≤◌, ℕ, List, [], le
 use Rattle.httparse.specs.Grammar.{RequestHead, ReadsRequest}
 use Rattle.httparse.specs.Spans.{name_and_value}
 use Rattle.rtgs_http_heads.specs.Fields.{Fields, HasLength}
+use Rattle.rtgs_http_heads.specs.declared.limits.TheConstants.{MOST_FIELDS}
 
 abbrev pub fields_of : RequestHead → Fields
 fields_of head = map name_and_value head.fields
 
--- The region is this head and nothing else, it begins with no end of a line, and its fields are at most 32.
+-- The region is this head and nothing else, it begins with no end of a line, and its fields are at most MOST_FIELDS.
 pub record IsWholeHead (region : List ℕ) (head : RequestHead) : Type 0 where
   pub reads : ReadsRequest region head []
   pub no_return : slice_index region 0 ≢ 13
   pub no_feed : slice_index region 0 ≢ 10
-  pub few : length head.fields ≤ 32
+  pub few : length head.fields ≤ MOST_FIELDS
 
 -- The region is a head of version 1.1 that declares this length of its body, or none.
 pub record IsGoodHead (region : List ℕ) (head : RequestHead) (declared : Option ℕ) : Type 0 where

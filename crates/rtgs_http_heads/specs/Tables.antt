@@ -59,4 +59,5 @@ first_part (part ∷ parts) = part.1
 -- the route whose path the target matches, and what its parameter took of the target
 abbrev pub found_in : RowsOf (RouteOf Route) → List ℕ → Option (Route × List ℕ)
 found_in rows target =
-    option_map (λ found. (found.value, first_part (walk found.pattern found.text target found.names 0 0))) (first rows target)
+    option_map (λ found. (found.value, first_part (walk found.pattern found.text target found.names 0 0)))
+    (first rows target)

@@ -12,7 +12,8 @@ use httparse::spans::HeaderSpan;
 use rtgs_money::{Key, KeyDigest};
 
 /// The length of the body that the fields declare (RFC 9112, section 6.2), or none. `BadHead` where a transfer coding
-/// is named (section 6.1), where two lengths stand or one has not 1 to 9 digits, and where a GET declares content.
+/// is named (section 6.1), where two lengths stand or one has not 1 to `MOST_DIGITS` digits, and where a GET declares
+/// content.
 pub fn length_of(
     region: &[u8],
     fields: &[HeaderSpan],

@@ -5,6 +5,7 @@ ghost use Rattle.httparse.specs.Spans.{IsRequestAt, IsRequestWithin};
 ghost use Rattle.rtgs_http_heads.specs.Heads.{IsWholeHead, IsGoodHead};
 
 use crate::fields::{key_of, length_of};
+use crate::limits::MOST_FIELDS;
 use httparse::Status;
 use httparse::spans::{EMPTY_HEADER_SPAN, HeaderSpan, RequestSpans, parse_request};
 use rtgs_money::KeyDigest;
@@ -21,15 +22,15 @@ pub struct Request<'a> {
 impl<'a> Request<'a> {
     ghost use Rattle.rtgs_http_heads.specs.Requests.{Bears};
 
-    /// What the region says, where it is one head of HTTP/1.1 with 32 fields at most (RFC 9112, sections 3 and 5), and
-    /// nothing else, with good fields.
+    /// What the region says, where it is one head of HTTP/1.1 with `MOST_FIELDS` fields at most (RFC 9112, sections 3
+    /// and 5), and nothing else, with good fields.
     pub fn read(region: &'a [u8]) -> Option<Request<'a>>
         ensures request { IfSome result (λ request.
             (head : RequestHead) × IsGoodHead region.now head request.length × Bears head request) }
         ensures none { result ≡ None → (head : RequestHead) (length : Option ℕ)
             → ¬ IsGoodHead region.now head length }
     {
-        let mut room = [EMPTY_HEADER_SPAN; 32];
+        let mut room = [EMPTY_HEADER_SPAN; MOST_FIELDS];
         let spans = parse_whole(region, &mut room)?;
         if spans.version != 1 {
             return None;
@@ -46,8 +47,8 @@ impl<'a> Request<'a> {
     }
 }
 
-// The head that the whole region is, with at most 32 fields and no empty line before it.
-fn parse_whole(region: &[u8], room: &mut [HeaderSpan; 32]) -> Option<RequestSpans>
+// The head that the whole region is, with at most `MOST_FIELDS` fields and no empty line before it.
+fn parse_whole(region: &[u8], room: &mut [HeaderSpan; MOST_FIELDS]) -> Option<RequestSpans>
     ensures within { IfSome result (λ spans. IsRequestWithin region.now room.new spans) }
     ensures len { IfSome result (λ spans. spans.len ≡ length region.now) }
     ensures head { IfSome result (λ spans.

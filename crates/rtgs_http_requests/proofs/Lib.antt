@@ -1,10 +1,14 @@
 mod Access
 mod Agreement
+mod Answered
 mod Chains
 mod Composed
 mod ContentsOnce
 mod Decisions
+mod FilesAnswered
 mod Lower
+mod MeaningAnswered
 mod MeaningOnce
 mod Stages
+mod StepsAnswered
 mod StepsOnce

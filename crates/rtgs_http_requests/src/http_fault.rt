@@ -1,14 +1,11 @@
 //! Faults of requests.
-ghost use Rattle.std.specs.Prelude.{◌≡◌, Some};
-ghost use Rattle.rtgs_refusals.specs.Table.{entry_of};
+ghost use Rattle.std.specs.Prelude.{◌≡◌};
 ghost use Rattle.rtgs_http_requests.specs.Faults.{http_kind_of};
 
 use rtgs_exchange::BatchFault;
-use rtgs_http_feeds::Truncated;
 use rtgs_http_heads::HeadFault;
 use rtgs_money::Lexical;
 use rtgs_refusals::RefusalKind;
-use std::alloc::AllocError;
 
 /// Why a request asks for nothing.
 #[derive(Clone, Copy, Debug, PartialEq, Eq)]
@@ -59,16 +56,6 @@ impl HttpFault {
             HttpFault::OutOfMemory => RefusalKind::OutOfMemory,
         }
     }
-
-    /// The status of the HTTP reply (RFC 9110, section 15). Each fault has one.
-    pub fn http_status(self) -> u16
-        ensures { (entry_of (http_kind_of self)).http_status ≡ Some result }
-    {
-        let Some(status) = self.kind().http_status() else {
-            unreachable!();
-        };
-        status
-    }
 }
 
 impl From<Lexical> for HttpFault {
@@ -105,25 +92,5 @@ impl From<BatchFault> for HttpFault {
             BatchFault::OutOfMemory => HttpFault::OutOfMemory,
             _ => HttpFault::Batch(fault),
         }
-    }
-}
-
-impl From<Truncated> for HttpFault {
-    ghost use Rattle.rtgs_http_requests.specs.declared.http_fault.HttpFault.TheVariants as fault;
-
-    ghost from_gives = { λ _ given. given ≡ fault.Truncated };
-
-    fn from(_: Truncated) -> HttpFault {
-        HttpFault::Truncated
-    }
-}
-
-impl From<AllocError> for HttpFault {
-    ghost use Rattle.rtgs_http_requests.specs.declared.http_fault.HttpFault.TheVariants.{OutOfMemory};
-
-    ghost from_gives = { λ _ fault. fault ≡ OutOfMemory };
-
-    fn from(_: AllocError) -> HttpFault {
-        HttpFault::OutOfMemory
     }
 }

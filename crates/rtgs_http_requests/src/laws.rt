@@ -4,14 +4,18 @@ ghost use Rattle.rtgs_http_requests.specs.Callers.{CodeOf};
 ghost use Rattle.rtgs_http_requests.specs.Exchange.{AsksFor};
 ghost use Rattle.rtgs_http_requests.specs.Meaning.{Answer};
 ghost use Rattle.rtgs_http_requests.specs.Same.{AreTheSame};
+ghost use Rattle.rtgs_http_requests.specs.Steps.{HasAnswer};
 ghost use Rattle.rtgs_http_requests.specs.declared.asked.Asked.{Asked};
 ghost use Rattle.rtgs_http_requests.specs.Access.{BearsKey, MayAsk};
 ghost use Rattle.rtgs_http_requests.specs.declared.http_fault.HttpFault.{HttpFault};
 
 use rtgs_exchange::laws::{faults_are_determined, order_files_have_no_fault, rows_are_determined};
-use rtgs_http_feeds::laws::{outcomes_are_apart, regions_are_determined};
+use rtgs_http_feeds::laws::{
+    every_input_has_an_outcome, outcomes_are_apart, regions_are_determined,
+};
 use rtgs_http_heads::laws::{heads_are_determined, keys_are_determined};
 use rtgs_money::laws::dates_have_distinct_texts;
+use std::alloc::Global;
 
 /// Whatever is asked is asked by the bearer of a key: the operator, or a participant who asks for its own alone.
 pub fn participants_ask_for_their_own()
@@ -34,4 +38,12 @@ pub fn answers_are_determined()
     outcomes_are_apart();
     heads_are_determined();
     keys_are_determined();
+}
+
+/// No input is without an answer: it asks for something, or has a fault other than that memory was refused. The rows
+/// of a batch stand in memory of the allocator.
+pub fn every_input_has_an_answer(_alloc: Global)
+    ensures { (operator : List ℕ) (code_of : CodeOf) (input : List ℕ) → HasAnswer (AsksFor operator code_of input) }
+{
+    every_input_has_an_outcome();
 }

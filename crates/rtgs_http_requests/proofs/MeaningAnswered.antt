@@ -1,0 +1,223 @@
+-- Each body and each parameter means something, or has a fault.
+use Rattle.std.proofs.Common.{◌≡◌, ◌⊎◌, inl, inr, ℕ, ℤ, List, Option, Some, None, Result, Ok, Err, refl, IsUtf8, Global}
+use Rattle.std.specs.Prelude.{◌≢◌}
+use Rattle.serde_json.specs.Data.{Data}
+use Rattle.serde_json.specs.Read.{read}
+use Rattle.rtgs_money.specs.Amounts.{IsAmount, IsPostingAmount, IsCredit}
+use Rattle.rtgs_money.specs.Date.{IsBusinessDate, date_text}
+use Rattle.rtgs_money.specs.Forms.{IsCode, IsReference, is_code, is_reference}
+use Rattle.rtgs_money.specs.declared.lexical.Lexical.TheVariants.{BadCode, BadReference, BadAmount, BadDate}
+use Rattle.rtgs_book.specs.declared.command.Command.TheVariants as command
+use Rattle.rtgs_http_heads.specs.declared.bank_route.BankRoute.{BankRoute}
+use Rattle.rtgs_http_heads.specs.declared.bank_route.BankRoute.TheVariants.{SendOrder, WithdrawOrder, SendBatch}
+use Rattle.rtgs_http_heads.specs.declared.bank_route.BankRoute.TheVariants.{ReadOrder, ReadAccount, ReadQueue}
+use Rattle.rtgs_http_heads.specs.declared.bank_route.BankRoute.TheVariants.{ReadStatement}
+use Rattle.rtgs_http_heads.specs.declared.operator_route.OperatorRoute.{OperatorRoute}
+use Rattle.rtgs_http_heads.specs.declared.operator_route.OperatorRoute.TheVariants.{Post, SetCredit, OpenDay}
+use Rattle.rtgs_http_heads.specs.declared.operator_route.OperatorRoute.TheVariants.{Resolve, CutOff, CloseDay}
+use Rattle.rtgs_http_heads.specs.declared.operator_route.OperatorRoute.TheVariants.{ReadReport}
+use Rattle.rtgs_http_requests.specs.Bodies.{ReadsJson}
+use Rattle.rtgs_http_requests.specs.Contents.{Finds, HasOrder, HasPosting, HasCredit, HasDate, HasNothing}
+use Rattle.rtgs_http_requests.specs.Meaning.{AsksDay, AsksPlainly, Means, MeansBank, MeansOperator, SpellsReference}
+use Rattle.rtgs_http_requests.specs.Meaning.{Answer, SpellsDate, SpellsOrder, SpellsPosting, SpellsCredit}
+use Rattle.rtgs_http_requests.specs.Steps.{Then, HasAnswer}
+use Rattle.rtgs_http_requests.specs.declared.admitted.Admitted.{Admitted}
+use Rattle.rtgs_http_requests.specs.declared.admitted.Admitted.TheVariants as admitted
+use Rattle.rtgs_http_requests.specs.declared.asked.Asked.{Asked}
+use Rattle.rtgs_http_requests.specs.declared.asked.Asked.TheVariants.{Submit, Read}
+use Rattle.rtgs_http_requests.specs.declared.http_fault.HttpFault.{HttpFault}
+use Rattle.rtgs_http_requests.specs.declared.http_fault.HttpFault.TheVariants as fault
+use Rattle.rtgs_http_requests.specs.declared.reading.Reading.TheVariants as reading
+use Rattle.rtgs_http_requests.proofs.Answered.{then_answered, told_answered, value_answered}
+use Rattle.rtgs_http_requests.proofs.Decisions.{truth, amount, credit, posting}
+use Rattle.rtgs_http_requests.proofs.FilesAnswered.{file_answered}
+
+-- ---- values of bodies
+
+abbrev Spells : List ℕ → Data → Type 0
+Spells body value = IsUtf8 body × (read body ≡ Some value)
+
+no_json : (body : List ℕ) (value : Option Data) → read body ≡ value → ((given : Data) → ¬ Spells body given) → IsUtf8 body → read body ≡ None
+no_json body None e none text = e
+no_json body (Some value) e none text = absurd (none value (text, e))
+
+json_answered : (body : List ℕ) → HasAnswer (ReadsJson body)
+json_answered body =
+    told_answered (Spells body) fault.BadJson (ReadsJson body) (λ e. cc) (λ value has. has) (λ none text. no_json body (read body) refl none text)
+
+content_answered : {A : Type 0} (Has : A → Data → Type 0) (value : Data) → HasAnswer (Finds Has value)
+content_answered Has value =
+    told_answered (λ content. Has content value) fault.WrongFields (Finds Has value) (λ e. cc) (λ content has. has) (λ none. none)
+
+-- the value of a body, its content, and what is made of it
+spelt_answered : {A B : Type 0} (Has : A → Data → Type 0) (next : A → Result B HttpFault → Type 0) (body : List ℕ)
+    → ((content : A) → HasAnswer (next content)) → HasAnswer (Then (ReadsJson body) (λ value. Then (Finds Has value) next))
+spelt_answered Has next body go =
+    then_answered (ReadsJson body) (λ value. Then (Finds Has value) next) (json_answered body) (λ value.
+    then_answered (Finds Has value) next (content_answered Has value) go)
+
+-- ---- what values spell
+
+reference_answered : (text : List ℕ) → HasAnswer (SpellsReference text)
+reference_answered text none = by (truth (is_reference text))
+  where
+    by : ¬ (IsReference text ⊎ (¬ IsReference text))
+    by (inl good) = let told = none (Ok text) (record { found = λ _. refl; refused = λ bad. absurd (bad good) }) in cc
+    by (inr bad) = let told = none (Err (fault.Form BadReference)) (record { found = λ good. absurd (bad good); refused = λ _. refl }) in cc
+
+abbrev IsDateOf : List ℕ → ℕ → Type 0
+IsDateOf text date = IsBusinessDate date × (text ≡ date_text date)
+
+date_answered : (text : List ℕ) → HasAnswer (SpellsDate text)
+date_answered text =
+    told_answered (IsDateOf text) (fault.Form BadDate) (SpellsDate text) (λ e. cc) (λ date has. has) (λ none date is e. none date (is, e))
+
+order_answered : (caller : List ℕ) (values : List ℕ × List ℕ × ℕ) → HasAnswer (SpellsOrder caller values)
+order_answered caller values none = by (truth (is_reference values.0)) (truth (is_code values.1)) (amount values.2)
+  where
+    by : IsReference values.0 ⊎ (¬ IsReference values.0) → IsCode values.1 ⊎ (¬ IsCode values.1)
+        → IsAmount values.2 ⊎ (¬ IsAmount values.2) → ⊥
+    by (inl r) (inl t) (inl a) =
+        let told = none (Ok (Submit (command.Order caller values.0 values.1 values.2))) (record {
+          found = λ _ _ _. refl;
+          bad_reference = λ x. absurd (x r);
+          bad_code = λ _ x. absurd (x t);
+          bad_amount = λ _ _ x. absurd (x a);
+        }) in
+        cc
+    by (inl r) (inl t) (inr a) =
+        let told = none (Err (fault.Form BadAmount)) (record {
+          found = λ _ _ x. absurd (a x);
+          bad_reference = λ x. absurd (x r);
+          bad_code = λ _ x. absurd (x t);
+          bad_amount = λ _ _ _. refl;
+        }) in
+        cc
+    by (inl r) (inr t) _ =
+        let told = none (Err (fault.Form BadCode)) (record {
+          found = λ _ x _. absurd (t x);
+          bad_reference = λ x. absurd (x r);
+          bad_code = λ _ _. refl;
+          bad_amount = λ _ x _. absurd (t x);
+        }) in
+        cc
+    by (inr r) _ _ =
+        let told = none (Err (fault.Form BadReference)) (record {
+          found = λ x _ _. absurd (r x);
+          bad_reference = λ _. refl;
+          bad_code = λ x _. absurd (r x);
+          bad_amount = λ x _ _. absurd (r x);
+        }) in
+        cc
+
+posting_answered : (values : List ℕ × List ℕ × ℤ) → HasAnswer (SpellsPosting values)
+posting_answered values none = by (truth (is_code values.0)) (truth (is_reference values.1)) (posting values.2)
+  where
+    by : IsCode values.0 ⊎ (¬ IsCode values.0) → IsReference values.1 ⊎ (¬ IsReference values.1)
+        → IsPostingAmount values.2 ⊎ (¬ IsPostingAmount values.2) → ⊥
+    by (inl t) (inl r) (inl a) =
+        let told = none (Ok (Submit (command.Post values.0 values.1 values.2))) (record {
+          found = λ _ _ _. refl;
+          bad_code = λ x. absurd (x t);
+          bad_reference = λ _ x. absurd (x r);
+          bad_amount = λ _ _ x. absurd (x a);
+        }) in
+        cc
+    by (inl t) (inl r) (inr a) =
+        let told = none (Err (fault.Form BadAmount)) (record {
+          found = λ _ _ x. absurd (a x);
+          bad_code = λ x. absurd (x t);
+          bad_reference = λ _ x. absurd (x r);
+          bad_amount = λ _ _ _. refl;
+        }) in
+        cc
+    by (inl t) (inr r) _ =
+        let told = none (Err (fault.Form BadReference)) (record {
+          found = λ _ x _. absurd (r x);
+          bad_code = λ x. absurd (x t);
+          bad_reference = λ _ _. refl;
+          bad_amount = λ _ x _. absurd (r x);
+        }) in
+        cc
+    by (inr t) _ _ =
+        let told = none (Err (fault.Form BadCode)) (record {
+          found = λ x _ _. absurd (t x);
+          bad_code = λ _. refl;
+          bad_reference = λ x _. absurd (t x);
+          bad_amount = λ x _ _. absurd (t x);
+        }) in
+        cc
+
+credit_answered : (values : List ℕ × ℕ) → HasAnswer (SpellsCredit values)
+credit_answered values none = by (truth (is_code values.0)) (credit values.1)
+  where
+    by : IsCode values.0 ⊎ (¬ IsCode values.0) → IsCredit values.1 ⊎ (¬ IsCredit values.1) → ⊥
+    by (inl t) (inl a) =
+        let told = none (Ok (Submit (command.SetCredit values.0 values.1))) (record {
+          found = λ _ _. refl;
+          bad_code = λ x. absurd (x t);
+          bad_amount = λ _ x. absurd (x a);
+        }) in
+        cc
+    by (inl t) (inr a) =
+        let told = none (Err (fault.Form BadAmount)) (record {
+          found = λ _ x. absurd (a x);
+          bad_code = λ x. absurd (x t);
+          bad_amount = λ _ _. refl;
+        }) in
+        cc
+    by (inr t) _ =
+        let told = none (Err (fault.Form BadCode)) (record {
+          found = λ x _. absurd (t x);
+          bad_code = λ _. refl;
+          bad_amount = λ x _. absurd (t x);
+        }) in
+        cc
+
+-- ---- what callers mean
+
+plainly_answered : (body : List ℕ) (asked : Asked) → HasAnswer (AsksPlainly body asked)
+plainly_answered body asked =
+    spelt_answered (λ (_ : Unit {0}) given. HasNothing given) (λ (_ : Unit {0}) (answer : Answer). answer ≡ Ok asked) body (λ _. value_answered asked)
+
+day_answered : (body : List ℕ) (asked : ℕ → Asked) → HasAnswer (Then (AsksDay body) (λ date (told : Answer). told ≡ Ok (asked date)))
+day_answered body asked =
+    then_answered (AsksDay body) (λ date (told : Answer). told ≡ Ok (asked date))
+    (spelt_answered HasDate (λ text. SpellsDate text) body date_answered) (λ date. value_answered (asked date))
+
+dated_answered : (parameter : List ℕ) (asked : ℕ → Asked) → HasAnswer (Then (SpellsDate parameter) (λ date (told : Answer). told ≡ Ok (asked date)))
+dated_answered parameter asked =
+    then_answered (SpellsDate parameter) (λ date (told : Answer). told ≡ Ok (asked date)) (date_answered parameter) (λ date. value_answered (asked date))
+
+referred_answered : (parameter : List ℕ) (asked : List ℕ → Asked)
+    → HasAnswer (Then (SpellsReference parameter) (λ reference (told : Answer). told ≡ Ok (asked reference)))
+referred_answered parameter asked =
+    then_answered (SpellsReference parameter) (λ reference (told : Answer). told ≡ Ok (asked reference)) (reference_answered parameter)
+    (λ reference. value_answered (asked reference))
+
+withdrawal_answered : (caller parameter body : List ℕ) → HasAnswer (MeansBank WithdrawOrder caller parameter body)
+withdrawal_answered caller parameter body =
+    then_answered (SpellsReference parameter) (λ reference. AsksPlainly body (Submit (command.Withdraw caller reference))) (reference_answered parameter)
+    (λ reference. plainly_answered body (Submit (command.Withdraw caller reference)))
+
+bank_answered : Global → (route : BankRoute) (caller parameter body : List ℕ) → HasAnswer (MeansBank route caller parameter body)
+bank_answered alloc SendOrder caller parameter body = spelt_answered HasOrder (λ values. SpellsOrder caller values) body (order_answered caller)
+bank_answered alloc WithdrawOrder caller parameter body = withdrawal_answered caller parameter body
+bank_answered alloc SendBatch caller parameter body = file_answered alloc caller body
+bank_answered alloc ReadOrder caller parameter body = referred_answered parameter (λ reference. Read (reading.Order caller reference))
+bank_answered alloc ReadAccount caller parameter body = value_answered (Read (reading.Account caller))
+bank_answered alloc ReadQueue caller parameter body = value_answered (Read (reading.Queue caller))
+bank_answered alloc ReadStatement caller parameter body = dated_answered parameter (λ date. Read (reading.Statement caller date))
+
+operator_answered : (route : OperatorRoute) (parameter body : List ℕ) → HasAnswer (MeansOperator route parameter body)
+operator_answered Post parameter body = spelt_answered HasPosting (λ values. SpellsPosting values) body posting_answered
+operator_answered SetCredit parameter body = spelt_answered HasCredit (λ values. SpellsCredit values) body credit_answered
+operator_answered OpenDay parameter body = day_answered body (λ date. Submit (command.OpenDay date))
+operator_answered Resolve parameter body = plainly_answered body (Submit command.Resolve)
+operator_answered CutOff parameter body = day_answered body (λ date. Submit (command.CutOff date))
+operator_answered CloseDay parameter body = day_answered body (λ date. Submit (command.CloseDay date))
+operator_answered ReadReport parameter body = dated_answered parameter (λ date. Read (reading.Report date))
+
+pub meaning_answered : Global → (caller : Admitted) (parameter body : List ℕ) → HasAnswer (Means caller parameter body)
+meaning_answered alloc (admitted.Bank route caller) parameter body = bank_answered alloc route caller parameter body
+meaning_answered alloc (admitted.Operator route) parameter body = operator_answered route parameter body
