@@ -13,6 +13,7 @@ use Rattle.rtgs_http_replies.specs.Messages.{Message}
 use Rattle.rtgs_http_requests.specs.Access.{BearsKey, MayAsk}
 use Rattle.rtgs_http_requests.specs.Callers.{CodeOf}
 use Rattle.rtgs_http_requests.specs.Exchange.{AsksFor}
+use Rattle.rtgs_http_requests.specs.Plans.{LooksUp}
 use Rattle.rtgs_http_requests.specs.declared.asked.Asked.{Asked}
 use Rattle.rtgs_http_requests.specs.declared.asked.Asked.TheVariants.{Submit, Batch, Read}
 use Rattle.rtgs_http_requests.specs.declared.http_fault.HttpFault.{HttpFault}
@@ -97,7 +98,7 @@ asked_exchange g operator input old new asked sent own asks comes failed = recor
         allowed = own operator (code_under book) input asked a;
         comes = comes honest book held;
       };
-  failed = λ f. ((failed f).0, inl (failed f).1);
+  failed = λ f. ((failed f).0, inl (inr (asked, (λ code_of. asks code_of (nobody g old code_of f))), (failed f).1));
 }
 
 -- a request with a fault
@@ -117,10 +118,10 @@ fault_exchange g operator input desk fault sent asks stands said = record {
 }
 
 -- a request whose caller was to be looked up by a desk that had failed
-pub closed_exchange : {K : Type 0} (g : Ghosts K) (operator input : List ℕ) (desk : Seen K) (sent : Message)
-    → g.has_failed desk.keeper ≡ true → IsSaid (refused_message Failed) sent
+pub failed_exchange : {K : Type 0} (g : Ghosts K) (operator input : List ℕ) (desk : Seen K) (sent : Message)
+    → LooksUp operator input → g.has_failed desk.keeper ≡ true → IsSaid (refused_message Failed) sent
     → Exchanges g operator desk input desk sent
-closed_exchange g operator input desk sent closed said = record {
+failed_exchange g operator input desk sent looks failed said = record {
   deals = λ honest book held. let works = held.works in let no : ⊥ = cc in absurd no;
-  failed = λ f. (refl, inl said);
+  failed = λ f. (refl, inl (inl looks, said));
 }

@@ -1,5 +1,8 @@
+mod Determined
 mod Exchanged
 mod Finding
+mod Inputs
+mod Joining
 mod OwnRows
 mod Plainly
 mod Told

@@ -1,10 +1,10 @@
 -- What a desk that held a book does where this is asked, and what is sent for it. `g` has the members of the keeper's
 -- trait.
-use Rattle.std.specs.Prelude.{◌≡◌, ◌⊎◌, true, false, ℕ, List, length, Option, Some, None, Result, Ok, Err}
+use Rattle.std.specs.Prelude.{◌≡◌, ◌≢◌, ◌⊎◌, true, false, ℕ, List, length, Option, Some, None, Result, Ok, Err}
 use Rattle.rtgs_book.specs.declared.book.Book.{Book}
 use Rattle.rtgs_book.specs.declared.command.Command.{Command}
 use Rattle.rtgs_book.specs.declared.refusal.Refusal.{Refusal}
-use Rattle.rtgs_book.specs.declared.refusal.Refusal.TheVariants.{StoreFault}
+use Rattle.rtgs_book.specs.declared.refusal.Refusal.TheVariants.{OutOfMemory, StoreFault, Failed}
 use Rattle.rtgs_book.specs.Outcome.{Reply}
 use Rattle.rtgs_book.specs.Session.{IsSession, open_command}
 use Rattle.rtgs_keeper.specs.declared.keeper.Keeper.{Ghosts}
@@ -17,13 +17,14 @@ use Rattle.rtgs_exchange.specs.declared.batch_result.RowReply.{RowReply}
 use Rattle.rtgs_exchange.specs.declared.order_row.OrderRow.{OrderRow}
 use Rattle.rtgs_http_bodies.specs.Refusals.{refused_message}
 use Rattle.rtgs_http_bodies.specs.Statuses.{batch_status}
+use Rattle.rtgs_http_replies.specs.Kinds.{no_memory}
 use Rattle.rtgs_http_replies.specs.Messages.{Message, message}
 use Rattle.rtgs_http_replies.specs.declared.content_type.ContentType.TheVariants.{Csv}
 use Rattle.rtgs_http_requests.specs.declared.asked.Asked.{Asked}
 use Rattle.rtgs_http_requests.specs.declared.asked.Asked.TheVariants.{Submit, Batch, Read}
 use Rattle.rtgs_http_requests.specs.declared.http_fault.HttpFault.{HttpFault}
 use Rattle.rtgs_http_requests.specs.declared.reading.Reading.{Reading}
-use Rattle.rtgs_http_banks.specs.Sayings.{no_memory, IsSaid, IsTold, fault_message, reply_message, reading_message}
+use Rattle.rtgs_http_banks.specs.Sayings.{IsSaid, IsTold, fault_message, reply_message, reading_message}
 
 -- nothing was done to the book: the desk holds it, unless the store failed, and a crash leaves it and no other, whole
 pub record Stands {K : Type 0} (g : Ghosts K) (book : Book) (desk : Seen K) : Type 0 where
@@ -37,6 +38,9 @@ pub record Submits {K : Type 0} (g : Ghosts K) (old : Book) (command : Command) 
   pub reply : Reply
   pub acts : Acts g old command reply desk
   pub told : IsTold (reply_message reply) sent
+  -- that memory was refused for the command is told without taking any
+  pub refused : reply ≡ Err OutOfMemory → sent ≡ no_memory
+  pub not_failed : reply ≢ Err Failed
 
 -- The orders of the rows were given, up to the last or to the one at which the batch stopped. The result file is told.
 pub record SubmitsAll {K : Type 0} (g : Ghosts K) (old : Book) (sender : List ℕ) (rows : List OrderRow)
@@ -46,6 +50,7 @@ pub record SubmitsAll {K : Type 0} (g : Ghosts K) (old : Book) (sender : List �
   pub stops : StopsAfter (length replies) (length rows) stopped
   pub acts : Sent g old sender rows replies stopped desk
   pub told : IsTold (message (batch_status stopped) Csv (results_text rows replies stopped)) sent
+  pub not_failed : stopped ≢ Some Failed
 
 -- nothing was given for want of memory
 abbrev pub GivesNothing : {K : Type 0} → Ghosts K → Book → Seen K → Message → Type 0

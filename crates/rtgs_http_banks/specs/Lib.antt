@@ -1,3 +1,4 @@
+pub mod Alike
 pub mod Dealings
 pub mod Exchange
 pub mod Own

@@ -1,5 +1,5 @@
 -- The messages that tell what came of a request.
-use Rattle.std.specs.Prelude.{◌≡◌, ◌⊎◌, ℕ, List, Result, Ok, Err, codes}
+use Rattle.std.specs.Prelude.{◌≡◌, ◌⊎◌, ℕ, List, Result, Ok, Err}
 use Rattle.rtgs_book.specs.declared.book.Book.{Book}
 use Rattle.rtgs_book.specs.declared.order.Order.{Order}
 use Rattle.rtgs_book.specs.declared.refusal.Refusal.{Refusal}
@@ -9,8 +9,8 @@ use Rattle.rtgs_desk.specs.Readings.{account_told, queue_told, order_told}
 use Rattle.rtgs_desk.specs.declared.reading.AccountReading.{AccountReading}
 use Rattle.rtgs_http_bodies.specs.Answers.{answer_data}
 use Rattle.rtgs_http_bodies.specs.Readings.{account_data, order_data, queue_data}
-use Rattle.rtgs_http_bodies.specs.Refusals.{kind_message, refused_message, batch_refused_message}
-use Rattle.rtgs_http_replies.specs.Bodies.{refusal_data}
+use Rattle.rtgs_http_bodies.specs.Refusals.{refused_message, batch_refused_message}
+use Rattle.rtgs_http_replies.specs.Kinds.{kind_message, no_memory, answer_lost}
 use Rattle.rtgs_http_replies.specs.Messages.{Message, message, json_message}
 use Rattle.rtgs_http_replies.specs.declared.content_type.ContentType.TheVariants.{Plain}
 use Rattle.rtgs_http_requests.specs.Faults.{http_kind_of}
@@ -19,14 +19,6 @@ use Rattle.rtgs_http_requests.specs.declared.http_fault.HttpFault.TheVariants.{B
 use Rattle.rtgs_http_requests.specs.declared.reading.Reading.{Reading}
 use Rattle.rtgs_http_requests.specs.declared.reading.Reading.TheVariants as reading
 use Rattle.rtgs_statements.specs.Texts.{statement_text, report_text}
-
--- memory was refused, and no command was given
-abbrev pub no_memory : Message
-no_memory = json_message 503 (refusal_data 90 (codes "OutOfMemory"))
-
--- memory was refused for the reply, after the desk had answered
-abbrev pub answer_lost : Message
-answer_lost = json_message 503 (refusal_data 69 (codes "AnswerLost"))
 
 -- What is sent is this, or that there was no memory for it. No command was given.
 abbrev pub IsSaid : Message → Message → Type 0

@@ -1,16 +1,18 @@
 -- What is written for what is read.
-use Rattle.std.specs.Prelude.{◌≡◌, ℕ, List, Option, IfSome}
+use Rattle.std.specs.Prelude.{◌≡◌, ℕ, List, Option}
 use Rattle.std.specs.Io.KnownBytes.{Appends, Keeps}
 use Rattle.rtgs_http_banks.specs.declared.served.Served.{Served}
 use Rattle.rtgs_http_banks.specs.declared.served.Served.TheVariants.{Answered, ReadFault, WriteFault}
+use Rattle.rtgs_http_input.specs.Input.{OfInput}
 use Rattle.rtgs_http_replies.specs.Messages.{Message}
 use Rattle.rtgs_output.specs.Sent.{AppendsPart}
 
--- What is sent is a reply to the input, where its bytes are known. `IsReply` says which messages are.
+-- What is sent is a reply to the input, or, where its bytes are not known, to some input. `IsReply` says which messages
+-- are.
 pub record Sends (IsReply : List ℕ → Message → Type 0) (known : Option (List ℕ)) (status : ℕ)
     (Written : List ℕ → Type 0) : Type 0 where
   pub sent : Message
-  pub reply : IfSome known (λ input. IsReply input sent)
+  pub reply : OfInput known (λ input. IsReply input sent)
   pub has_status : sent.status ≡ status
   pub written : Written sent.text
 
@@ -18,4 +20,4 @@ pub record Sends (IsReply : List ℕ → Message → Type 0) (known : Option (Li
 abbrev pub Serves : (List ℕ → Message → Type 0) → Option (List ℕ) → Option (List ℕ) → Option (List ℕ) → Served → Type 0
 Serves IsReply known old new (Answered status) = Sends IsReply known status (Appends old new)
 Serves IsReply known old new (WriteFault status) = Sends IsReply known status (AppendsPart old new)
-Serves IsReply known old new ReadFault = Keeps old new
+Serves IsReply known old new (ReadFault failed) = Keeps old new

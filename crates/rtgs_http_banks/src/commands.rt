@@ -1,11 +1,12 @@
 //! What is asked of the desk, and what is replied.
-ghost use Rattle.std.specs.Prelude.{◌≡◌, ◌⊎◌, true, Ok, IfOk};
+ghost use Rattle.std.specs.Prelude.{◌≡◌, ◌⊎◌, true, Ok, Err, IfOk, IsOk};
 ghost use Rattle.rtgs_book.specs.declared.Book.{Book};
 ghost use Rattle.rtgs_book.specs.declared.Refusal.{Refusal};
 ghost use Rattle.rtgs_desk.specs.Holding.{Holds};
 ghost use Rattle.rtgs_http_banks.specs.Dealings.{ComesTo, GivesNothing, Submits, SubmitsAll};
 ghost use Rattle.rtgs_http_banks.specs.Sayings.{IsSaid, IsTold, reply_message};
 ghost use Rattle.rtgs_http_bodies.specs.Refusals.{refused_message};
+ghost use Rattle.rtgs_http_replies.specs.Kinds.{no_memory};
 ghost use Rattle.rtgs_http_replies.specs.Messages.{Message};
 
 use crate::faults::failed_reply;
@@ -49,9 +50,10 @@ fn submit<K: Keeper>(alloc: Global, desk: &mut Desk<K>, command: Command) -> Rep
     tell(alloc, reply)
 }
 
-// What is told of a reply of the desk.
+// What is told of a reply of the desk. Want of memory for the command is told without taking any.
 fn tell(alloc: Global, reply: Result<Answer, Refusal>) -> Reply
-    ensures { IsTold (reply_message reply) result }
+    ensures told { IsTold (reply_message reply) result }
+    ensures refused { reply ≡ Err Refusal.OutOfMemory → result ≡ no_memory }
 {
     match reply {
         Ok(answer) => or_lost(answer_reply(alloc, answer)),
@@ -61,7 +63,8 @@ fn tell(alloc: Global, reply: Result<Answer, Refusal>) -> Reply
 
 // The reply, or that the answer is lost.
 fn or_lost(made: Result<Reply, AllocError>) -> Reply
-    ensures { (wanted : Message) → IfOk made (λ reply. reply ≡ wanted) → IsTold wanted result }
+    ensures told { (wanted : Message) → IfOk made (λ reply. reply ≡ wanted) → IsTold wanted result }
+    ensures made { (wanted : Message) → IfOk made (λ reply. reply ≡ wanted) → IsOk made → result ≡ wanted }
 {
     match made {
         Ok(reply) => reply,

@@ -1,10 +1,22 @@
 //! Laws of the definitions. Each function does nothing: its contract is the law.
-ghost use Rattle.std.specs.Prelude.{◌≡◌, ℕ, List};
+ghost use Rattle.std.specs.Prelude.{◌≡◌, ◌≢◌, false, ℕ, List};
 ghost use Rattle.rtgs_book.specs.declared.Book.{Book};
+ghost use Rattle.rtgs_desk.specs.Holding.{Holds};
+ghost use Rattle.rtgs_desk.specs.Seen.{Seen};
+ghost use Rattle.rtgs_http_banks.specs.Alike.{EndAlike};
+ghost use Rattle.rtgs_http_banks.specs.Dealings.{Works};
+ghost use Rattle.rtgs_http_banks.specs.Exchange.{Deals};
 ghost use Rattle.rtgs_http_banks.specs.Own.{AgreeFor};
 ghost use Rattle.rtgs_http_banks.specs.Sayings.{reading_message};
+ghost use Rattle.rtgs_http_replies.specs.Messages.{Message};
 ghost use Rattle.rtgs_http_requests.specs.Access.{IsReadingOf};
 ghost use Rattle.rtgs_http_requests.specs.declared.reading.Reading.{Reading};
+
+use rtgs_book::laws::step_is_determined;
+use rtgs_desk::Desk;
+use rtgs_http_requests::laws::answers_are_determined;
+use rtgs_keeper::Keeper;
+use rtgs_repeats::laws::sessions_join;
 
 /// A participant reads its own rows alone: two books that agree in the day and in its record, its postings, the orders
 /// that it sent and the settled orders to it have the same reply to each of its readings.
@@ -12,3 +24,24 @@ pub fn participants_read_their_own_rows()
     ensures { (one other : Book) (code : List ℕ) (reading : Reading) → IsReadingOf code reading
         → AgreeFor code one other → reading_message one reading ≡ reading_message other reading }
 {}
+
+/// A book, the operator's digest and an input have one reply and one book after it. Set aside are replies with the
+/// status 503: memory was wanting, the store failed, or a batch stopped for one of these.
+pub fn replies_are_determined<K: Keeper>()
+    ensures { (operator input : List ℕ) (old : Book) (one other : Seen K) (sent told : Message)
+        → Deals K.Keeper operator old input one sent → Deals K.Keeper operator old input other told
+        → sent.status ≢ 503 → told.status ≢ 503 → EndAlike K.Keeper one other sent told }
+{
+    step_is_determined();
+    answers_are_determined();
+}
+
+/// Requests join: the commands of one that left this desk working, and those of the next, are one session from the book
+/// before the first.
+pub fn requests_join<K: Keeper>(desk: &Desk<K>)
+    ensures { (old : Book) (new : Seen K) → Works K.Keeper old desk.now → K.has_failed desk.now.keeper ≡ false
+        → ((book : Book) → Holds K.Keeper desk.now book → Works K.Keeper book new) → Works K.Keeper old new }
+{
+    desk.holds_a_sound_book();
+    sessions_join();
+}

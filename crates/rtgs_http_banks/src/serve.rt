@@ -1,5 +1,6 @@
 //! One request and its reply, over a reader and a writer.
 ghost use Rattle.std.specs.Prelude.{◌≡◌};
+ghost use Rattle.rtgs_http_input.specs.declared.ReaderFailed.{ReaderFailed};
 ghost use Rattle.rtgs_book.specs.declared.Book.{Book};
 ghost use Rattle.rtgs_desk.specs.Holding.{Holds};
 ghost use Rattle.rtgs_http_banks.specs.Dealings.{Works};
@@ -24,19 +25,21 @@ pub fn serve_one<R: Read, W: Write, K: Keeper>(
     desk: &mut Desk<K>,
     operator: &KeyDigest,
 ) -> Served
-    // What is written is a reply to the whole input, however reads cut it.
+    // What is written is a reply to the whole input, however reads cut it. Where the reader's bytes are not known,
+    // there is an input to which it is one.
     ensures served { Serves (λ input sent. Exchanges K.Keeper operator.now desk.old input desk.new sent)
         (R.remaining reader.old) (W.contents writer.old) (W.contents writer.new) result }
     // Where the reader fails, no command was given.
-    ensures read_fault { result ≡ Served.ReadFault → desk.new ≡ desk.old }
+    ensures read_fault { (failed : ReaderFailed) → result ≡ Served.ReadFault failed → desk.new ≡ desk.old }
     // Whatever was read, the commands are a session from the book that the desk held.
     ensures works { K.is_honest desk.new.keeper → (book : Book) → Holds K.Keeper desk.old book
         → Works K.Keeper book desk.new }
     ensures honest { K.is_honest desk.new.keeper → K.is_honest desk.old.keeper }
 {
     let request = read_request(alloc, reader, operator, desk);
-    let Some(reply) = reply_to(alloc, desk, &request) else {
-        return Served::ReadFault;
+    let reply = match reply_to(alloc, desk, &request) {
+        Ok(reply) => reply,
+        Err(failed) => return Served::ReadFault(failed),
     };
     let status = reply.status();
     match reply.send(writer) {

@@ -8,7 +8,8 @@ use Rattle.rtgs_book.specs.declared.refusal.Refusal.TheVariants.{NumbersUsedUp, 
 use Rattle.rtgs_book.specs.declared.refusal.Refusal.TheVariants.{TooManyParticipants, TotalTooLarge, WrongPhase}
 use Rattle.rtgs_book.specs.declared.refusal.Refusal.TheVariants.{WrongDate, Weekend, NotQueued, Resolvable, Overdrawn}
 use Rattle.rtgs_book.specs.declared.refusal.Refusal.TheVariants.{OutOfMemory, StoreFault, Failed}
-use Rattle.rtgs_http_bodies.specs.Refusals.{kind_data, refused_data}
+use Rattle.rtgs_http_replies.specs.Kinds.{kind_data}
+use Rattle.rtgs_http_bodies.specs.Refusals.{refused_data}
 
 pub undetailed : (refusal : Refusal) → ((first : List ℕ) (count : ℕ) → refusal ≡ Overdrawn first count → ⊥)
     → kind_data (refusal_kind_of refusal) ≡ refused_data refusal

@@ -9,23 +9,28 @@ use Rattle.rtgs_book.specs.declared.answer.Known.{Known}
 use Rattle.rtgs_book.specs.declared.answer.Known.TheVariants as known
 use Rattle.rtgs_book.specs.declared.order_state.OrderState.{OrderState}
 use Rattle.rtgs_book.specs.declared.order_state.OrderState.TheVariants as state
+use Rattle.rtgs_book.specs.declared.standing.Standing.{Standing}
+use Rattle.rtgs_book.specs.declared.standing.Standing.TheVariants as standing
+use Rattle.rtgs_book.specs.Standings.{word_of}
 use Rattle.rtgs_http_replies.specs.Bodies.{whole, signed}
 
 -- the value of an answer that this word names
 abbrev pub told : List ℕ → Members → Data
 told word members = object (member (codes "answer") (string word) members)
 
+-- an order that was taken before and has not settled stands so now
+abbrev pub unsettled_repeat : ℕ → Standing → Data
+unsettled_repeat number standing = told (codes "repeated")
+    (member (codes "number") (whole number) (member (codes "state") (string (word_of standing)) no_members))
+
 -- where the order stands now; its mark is told where it has settled
 abbrev pub repeated_order : ℕ → OrderState → Data
 repeated_order number (state.Settled mark) = told (codes "repeated")
     (member (codes "mark") (whole mark) (member (codes "number") (whole number)
-    (member (codes "state") (string (codes "settled")) no_members)))
-repeated_order number state.Queued = told (codes "repeated")
-    (member (codes "number") (whole number) (member (codes "state") (string (codes "queued")) no_members))
-repeated_order number state.Withdrawn = told (codes "repeated")
-    (member (codes "number") (whole number) (member (codes "state") (string (codes "withdrawn")) no_members))
-repeated_order number state.Rejected = told (codes "repeated")
-    (member (codes "number") (whole number) (member (codes "state") (string (codes "rejected")) no_members))
+    (member (codes "state") (string (word_of standing.Settled)) no_members)))
+repeated_order number state.Queued = unsettled_repeat number standing.Queued
+repeated_order number state.Withdrawn = unsettled_repeat number standing.Withdrawn
+repeated_order number state.Rejected = unsettled_repeat number standing.Rejected
 
 -- what is known now of a command that was done before
 abbrev pub repeated_data : Known → Data

@@ -6,6 +6,9 @@ use Rattle.rtgs_money.specs.Date.{date_text}
 use Rattle.rtgs_book.specs.declared.order.Order.{Order}
 use Rattle.rtgs_book.specs.declared.order_state.OrderState.{OrderState}
 use Rattle.rtgs_book.specs.declared.order_state.OrderState.TheVariants as state
+use Rattle.rtgs_book.specs.declared.standing.Standing.{Standing}
+use Rattle.rtgs_book.specs.declared.standing.Standing.TheVariants as standing
+use Rattle.rtgs_book.specs.Standings.{word_of}
 use Rattle.rtgs_book.specs.declared.phase.Phase.{Phase}
 use Rattle.rtgs_book.specs.declared.phase.Phase.TheVariants as phase
 use Rattle.rtgs_desk.specs.declared.reading.AccountReading.{AccountReading}
@@ -17,27 +20,27 @@ phase_name phase.Open = codes "OPEN"
 phase_name phase.CutOff = codes "CUTOFF"
 
 -- an order's members from its number on; it stands so
-abbrev pub order_members : Order → List ℕ → Members
-order_members order state = member (codes "number") (whole order.number)
-    (member (codes "reference") (string order.reference)
-    (member (codes "state") (string state) (member (codes "to") (string order.receiver) no_members)))
+abbrev pub order_members : Order → Standing → Members
+order_members order standing = member (codes "number") (whole order.number)
+    (member (codes "reference") (string order.reference) (member (codes "state") (string (word_of standing))
+    (member (codes "to") (string order.receiver) no_members)))
 
--- an order that stands so, and has no mark
-abbrev pub standing_order : Order → List ℕ → Data
-standing_order order state = object (member (codes "amount") (whole order.amount)
-    (member (codes "date") (string (date_text order.date)) (order_members order state)))
+-- an order that has not settled, and so has no mark; it stands so
+abbrev pub unsettled_order : Order → Standing → Data
+unsettled_order order standing = object (member (codes "amount") (whole order.amount)
+    (member (codes "date") (string (date_text order.date)) (order_members order standing)))
 
 -- an order that has settled under this mark
 abbrev pub settled_order : Order → ℕ → Data
 settled_order order mark = object (member (codes "amount") (whole order.amount)
     (member (codes "date") (string (date_text order.date))
-    (member (codes "mark") (whole mark) (order_members order (codes "settled")))))
+    (member (codes "mark") (whole mark) (order_members order standing.Settled))))
 
 abbrev pub order_in : OrderState → Order → Data
 order_in (state.Settled mark) order = settled_order order mark
-order_in state.Queued order = standing_order order (codes "queued")
-order_in state.Withdrawn order = standing_order order (codes "withdrawn")
-order_in state.Rejected order = standing_order order (codes "rejected")
+order_in state.Queued order = unsettled_order order standing.Queued
+order_in state.Withdrawn order = unsettled_order order standing.Withdrawn
+order_in state.Rejected order = unsettled_order order standing.Rejected
 
 -- what its sender is told of an order; its mark where it has settled
 abbrev pub order_data : Order → Data

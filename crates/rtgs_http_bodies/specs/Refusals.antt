@@ -1,8 +1,7 @@
 -- The replies that tell why there is no answer: a status, and the value that the body spells. Keys stand in byte order.
-use Rattle.std.specs.Prelude.{ℕ, List, codes, unwrap_or}
+use Rattle.std.specs.Prelude.{ℕ, List, codes}
 use Rattle.serde_json.specs.Data.{Data, string, object, member, no_members}
 use Rattle.rtgs_refusals.specs.Table.{entry_of}
-use Rattle.rtgs_refusals.specs.declared.refusal_kind.RefusalKind.{RefusalKind}
 use Rattle.rtgs_refusals.specs.declared.refusal_kind.RefusalKind.TheVariants as kind
 use Rattle.rtgs_book.specs.Refusals.{refusal_kind_of}
 use Rattle.rtgs_book.specs.declared.refusal.Refusal.{Refusal}
@@ -10,19 +9,9 @@ use Rattle.rtgs_book.specs.declared.refusal.Refusal.TheVariants.{Overdrawn}
 use Rattle.rtgs_exchange.specs.BatchFaults.{batch_kind_of}
 use Rattle.rtgs_exchange.specs.declared.batch_fault.BatchFault.{BatchFault}
 use Rattle.rtgs_exchange.specs.declared.batch_fault.BatchFault.TheVariants.{BadRow}
-use Rattle.rtgs_http_replies.specs.Bodies.{whole, refusal_data}
+use Rattle.rtgs_http_replies.specs.Bodies.{whole}
+use Rattle.rtgs_http_replies.specs.Kinds.{kind_status, kind_data}
 use Rattle.rtgs_http_replies.specs.Messages.{Message, json_message}
-
--- the status of the table, or 503 for a kind that no request meets
-abbrev pub kind_status : RefusalKind → ℕ
-kind_status kind = unwrap_or (entry_of kind).http_status 503
-
--- a kind of refusal by its number and its name
-abbrev pub kind_data : RefusalKind → Data
-kind_data kind = refusal_data (entry_of kind).number (entry_of kind).name
-
-abbrev pub kind_message : RefusalKind → Message
-kind_message kind = json_message (kind_status kind) (kind_data kind)
 
 -- so many participants are below zero, the first in the order of codes this one
 abbrev pub overdrawn_data : List ℕ → ℕ → Data

@@ -1,13 +1,13 @@
 //! Replies that tell an answer.
 ghost use Rattle.std.specs.Prelude.{◌≡◌, codes, IfOk};
-ghost use Rattle.serde_json.specs.Data.{string, member, no_members};
+ghost use Rattle.serde_json.specs.Data.{member, no_members};
 ghost use Rattle.serde_json.specs.View.{view};
-ghost use Rattle.rtgs_http_bodies.specs.Answers.{told, answer_data, repeated_data, repeated_order};
+ghost use Rattle.rtgs_http_bodies.specs.Answers.{told, answer_data, repeated_data, repeated_order, unsettled_repeat};
 ghost use Rattle.rtgs_http_replies.specs.Bodies.{whole, signed};
 ghost use Rattle.rtgs_http_replies.specs.Messages.{json_message};
 
 use http::StatusCode;
-use rtgs_book::{Answer, Known, OrderState};
+use rtgs_book::{Answer, Known, OrderState, Standing};
 use rtgs_http_replies::Reply;
 use serde_json::{Value, json};
 use std::alloc::{AllocError, Global};
@@ -66,11 +66,12 @@ fn repeated_order_value(alloc: Global, number: u64, state: OrderState) -> Result
 {
     match state {
         OrderState::Settled(mark) => {
-            json!(in alloc; {"answer": "repeated", "mark": mark, "number": number, "state": "settled"})
+            let state = Standing::Settled.word();
+            json!(in alloc; {"answer": "repeated", "mark": mark, "number": number, "state": state})
         }
-        OrderState::Queued => standing_value(alloc, number, "queued"),
-        OrderState::Withdrawn => standing_value(alloc, number, "withdrawn"),
-        OrderState::Rejected => standing_value(alloc, number, "rejected"),
+        OrderState::Queued => unsettled_value(alloc, number, Standing::Queued),
+        OrderState::Withdrawn => unsettled_value(alloc, number, Standing::Withdrawn),
+        OrderState::Rejected => unsettled_value(alloc, number, Standing::Rejected),
     }
 }
 
@@ -88,10 +89,10 @@ fn numbered_value(alloc: Global, word: &str, number: u64) -> Result<Value, Alloc
     json!(in alloc; {"answer": word, "number": number})
 }
 
-// An order that was taken before and has not settled.
-fn standing_value(alloc: Global, number: u64, state: &str) -> Result<Value, AllocError>
-    ensures { IfOk result (λ value. view value ≡ told (codes "repeated") (member (codes "number") (whole number)
-        (member (codes "state") (string state.now) no_members))) }
+// An order that was taken before and has not settled: it stands so.
+fn unsettled_value(alloc: Global, number: u64, standing: Standing) -> Result<Value, AllocError>
+    ensures { IfOk result (λ value. view value ≡ unsettled_repeat number standing) }
 {
+    let state = standing.word();
     json!(in alloc; {"answer": "repeated", "number": number, "state": state})
 }

@@ -1,11 +1,11 @@
 //! Replies that tell an order.
 ghost use Rattle.std.specs.Prelude.{◌≡◌, IfOk};
 ghost use Rattle.serde_json.specs.View.{view};
-ghost use Rattle.rtgs_http_bodies.specs.Readings.{order_data, settled_order, standing_order};
+ghost use Rattle.rtgs_http_bodies.specs.Readings.{order_data, settled_order, unsettled_order};
 ghost use Rattle.rtgs_http_replies.specs.Messages.{json_message};
 
 use http::StatusCode;
-use rtgs_book::{Order, OrderState};
+use rtgs_book::{Order, OrderState, Standing};
 use rtgs_http_replies::Reply;
 use serde_json::{Value, json};
 use std::alloc::{AllocError, Global};
@@ -24,9 +24,9 @@ fn order_value(alloc: Global, order: &Order) -> Result<Value, AllocError>
 {
     match order.state {
         OrderState::Settled(mark) => settled_value(alloc, order, mark),
-        OrderState::Queued => standing_value(alloc, order, "queued"),
-        OrderState::Withdrawn => standing_value(alloc, order, "withdrawn"),
-        OrderState::Rejected => standing_value(alloc, order, "rejected"),
+        OrderState::Queued => unsettled_value(alloc, order, Standing::Queued),
+        OrderState::Withdrawn => unsettled_value(alloc, order, Standing::Withdrawn),
+        OrderState::Rejected => unsettled_value(alloc, order, Standing::Rejected),
     }
 }
 
@@ -39,6 +39,7 @@ fn settled_value(alloc: Global, order: &Order, mark: u64) -> Result<Value, Alloc
     let date = date.as_str();
     let number = order.number;
     let reference = order.reference.as_str();
+    let state = Standing::Settled.word();
     let to = order.receiver.as_str();
     json!(in alloc; {
         "amount": amount,
@@ -46,20 +47,21 @@ fn settled_value(alloc: Global, order: &Order, mark: u64) -> Result<Value, Alloc
         "mark": mark,
         "number": number,
         "reference": reference,
-        "state": "settled",
+        "state": state,
         "to": to
     })
 }
 
 // What is told of an order that stands so and has not settled.
-fn standing_value(alloc: Global, order: &Order, state: &str) -> Result<Value, AllocError>
-    ensures { IfOk result (λ value. view value ≡ standing_order order.now state.now) }
+fn unsettled_value(alloc: Global, order: &Order, standing: Standing) -> Result<Value, AllocError>
+    ensures { IfOk result (λ value. view value ≡ unsettled_order order.now standing) }
 {
     let amount = order.amount.cents();
     let date = order.date.text();
     let date = date.as_str();
     let number = order.number;
     let reference = order.reference.as_str();
+    let state = standing.word();
     let to = order.receiver.as_str();
     json!(in alloc; {
         "amount": amount,

@@ -1,9 +1,11 @@
 //! Replies that tell why there is no answer.
-ghost use Rattle.std.specs.Prelude.{◌≡◌, IfOk};
+ghost use Rattle.std.specs.Prelude.{◌≡◌, IfOk, IsOk};
 ghost use Rattle.http.specs.StatusCode.{IsStatusCode};
 ghost use Rattle.serde_json.specs.View.{view};
-ghost use Rattle.rtgs_http_bodies.specs.Refusals.{kind_status, kind_message, refused_message, batch_refused_message};
-ghost use Rattle.rtgs_http_bodies.specs.Refusals.{overdrawn_data, bad_row_data};
+ghost use Rattle.rtgs_book.specs.declared.Refusal.{Refusal};
+ghost use Rattle.rtgs_refusals.specs.declared.RefusalKind.{RefusalKind};
+ghost use Rattle.rtgs_http_bodies.specs.Refusals.{refused_message, batch_refused_message, overdrawn_data, bad_row_data};
+ghost use Rattle.rtgs_http_replies.specs.Kinds.{kind_status, kind_message};
 
 use http::StatusCode;
 use rtgs_book::Refusal;
@@ -14,16 +16,23 @@ use rtgs_refusals::RefusalKind;
 use serde_json::{Value, json};
 use std::alloc::{AllocError, Global};
 
-/// The reply that tells a kind of refusal by its number and its name. The only error is want of memory.
+/// The reply that tells a kind of refusal by its number and its name. The only error is want of memory. That memory was
+/// refused is told by the fixed reply, which takes none.
 pub fn kind_reply(alloc: Global, kind: RefusalKind) -> Result<Reply, AllocError>
-    ensures { IfOk result (λ reply. reply ≡ kind_message kind) }
+    ensures told { IfOk result (λ reply. reply ≡ kind_message kind) }
+    ensures no_memory { kind ≡ RefusalKind.OutOfMemory → IsOk result }
 {
-    Reply::refused(alloc, status_of(kind), kind.number(), kind.name())
+    match kind {
+        RefusalKind::OutOfMemory => Ok(Reply::out_of_memory()),
+        _ => Reply::refused(alloc, status_of(kind), kind.number(), kind.name()),
+    }
 }
 
-/// The reply that tells why the desk refused a command or a reading. The only error is want of memory.
+/// The reply that tells why the desk refused a command or a reading. The only error is want of memory, and none comes
+/// where the refusal is one.
 pub fn refusal_reply(alloc: Global, refusal: Refusal) -> Result<Reply, AllocError>
-    ensures { IfOk result (λ reply. reply ≡ refused_message refusal) }
+    ensures told { IfOk result (λ reply. reply ≡ refused_message refusal) }
+    ensures no_memory { refusal ≡ Refusal.OutOfMemory → IsOk result }
 {
     match &refusal {
         Refusal::Overdrawn { first, count } => {

@@ -1,30 +1,38 @@
--- What a reader's known bytes are, by what was read of them.
-use Rattle.std.proofs.Common.{◌≡◌, ℕ, List, [], ◌++◌, Option, Some, None, IfSome, sym, ap, ◌∙◌, subst, append_assoc}
+-- What a reader has left, by what was read of it.
+use Rattle.std.proofs.Common.{◌≡◌, ℕ, List, [], ◌++◌, Option, Some, None, sym, ap, ◌∙◌, subst, append_assoc}
 use Rattle.std.proofs.Common.{append-nil}
 use Rattle.std.specs.Io.KnownBytes.{Consumes, IsAtEnd}
+use Rattle.rtgs_http_input.specs.Input.{OfInput}
 
--- what holds of all bytes holds of the known ones
-pub any : (a : Option (List ℕ)) (Q : List ℕ → Type 0) → ((rest : List ℕ) → Q rest) → IfSome a Q
-any None Q f = tt
+-- what holds of all bytes holds of those that are left
+pub any : (a : Option (List ℕ)) (Q : List ℕ → Type 0) → ((rest : List ℕ) → Q rest) → OfInput a Q
+any None Q f = ([], f [])
 any (Some x) Q f = f x
 
--- so it is of known bytes of which these were read
+-- what follows from what holds of them
+pub known_map : (a : Option (List ℕ)) (P Q : List ℕ → Type 0) → ((rest : List ℕ) → P rest → Q rest) → OfInput a P
+    → OfInput a Q
+known_map None P Q f h = (h.0, f h.0 h.1)
+known_map (Some x) P Q f h = f x h
+
+-- so it is of bytes of which these were read
 pub consumed : (a b : Option (List ℕ)) (bs : List ℕ) (Q : List ℕ → Type 0) → Consumes a b bs
-    → ((rest : List ℕ) → Q (bs ++ rest)) → IfSome a Q
-consumed None b bs Q e f = tt
+    → ((rest : List ℕ) → Q (bs ++ rest)) → OfInput a Q
+consumed None b bs Q e f = (bs ++ [], f [])
 consumed (Some x) None bs Q e f = absurd e
 consumed (Some x) (Some y) bs Q e f = subst Q (sym e) (f y)
 
 pub consumed_on : (a b : Option (List ℕ)) (bs : List ℕ) (P Q : List ℕ → Type 0) → Consumes a b bs
-    → ((rest : List ℕ) → P rest → Q (bs ++ rest)) → IfSome b P → IfSome a Q
-consumed_on None b bs P Q e f h = tt
+    → ((rest : List ℕ) → P rest → Q (bs ++ rest)) → OfInput b P → OfInput a Q
+consumed_on None None bs P Q e f h = (bs ++ h.0, f h.0 h.1)
+consumed_on None (Some y) bs P Q e f h = (bs ++ y, f y h)
 consumed_on (Some x) None bs P Q e f h = absurd e
 consumed_on (Some x) (Some y) bs P Q e f h = subst Q (sym e) (f y h)
 
 -- at the end all were read
 pub consumed_all : (a b : Option (List ℕ)) (bs : List ℕ) (Q : List ℕ → Type 0) → Consumes a b bs → IsAtEnd b → Q bs
-    → IfSome a Q
-consumed_all None b bs Q e end h = tt
+    → OfInput a Q
+consumed_all None b bs Q e end h = (bs, h)
 consumed_all (Some x) None bs Q e end h = absurd e
 consumed_all (Some x) (Some y) bs Q e end h = subst Q (sym (e ∙ ap (λ l. bs ++ l) end ∙ append-nil bs)) h
 

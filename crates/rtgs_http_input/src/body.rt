@@ -1,11 +1,12 @@
 //! The body of a request, from a reader.
-ghost use Rattle.std.specs.Prelude.{◌≡◌, ◌≢◌, ◌≤◌, ◌<◌, length, Ok, Err, IfOk, IfErr, OnOk};
+ghost use Rattle.std.specs.Prelude.{◌≤◌, ◌<◌, length, Ok, Err, IfOk, IfErr, OnOk};
 ghost use Rattle.rtgs_http_feeds.specs.declared.limits.TheConstants.{LONGEST_BODY};
 ghost use Rattle.rtgs_http_input.specs.Input.{Fails, Behind, part};
 ghost use Rattle.rtgs_http_input.specs.declared.piece.TheConstants.{PIECE};
 ghost use Rattle.rtgs_http_requests.specs.Exchange.{HasBody};
 
 use crate::piece::PIECE;
+use crate::reader_failed::read_piece;
 use crate::unread::Unread;
 use rtgs_http_feeds::limits::LONGEST_BODY;
 use rtgs_http_feeds::{BodyFeed, BodyStep};
@@ -28,7 +29,6 @@ pub fn read_body<R: Read>(
         (λ rest. HasBody rest size (Ok body.bytes))) }
     ensures fault { IfErr result (λ unread. Behind (part from to piece.old) (R.remaining reader.old)
         (λ rest. Fails (λ fault. HasBody rest size (Err fault)) unread)) }
-    ensures open { IfErr result (λ unread. unread ≢ Unread.Closed) }
 {
     let Ok(mut feed) = BodyFeed::new(alloc, size) else {
         return Err(Unread::Faulty(HttpFault::OutOfMemory));
@@ -51,12 +51,12 @@ fn fill<R: Read>(reader: &mut R, piece: &mut [u8; PIECE], feed: &mut BodyFeed) -
         (λ rest. HasBody rest feed.old.wanted (Ok feed.new.bytes))) }
     ensures fault { IfErr result (λ unread. Behind feed.old.bytes (R.remaining reader.old)
         (λ rest. Fails (λ fault. HasBody rest feed.old.wanted (Err fault)) unread)) }
-    ensures open { IfErr result (λ unread. unread ≢ Unread.Closed) }
 {
     // Each piece has a byte at least.
     for _turn in 0..LONGEST_BODY {
-        let Ok(many) = reader.read(&mut piece[..]) else {
-            return Err(Unread::Reader);
+        let many = match read_piece(reader, piece) {
+            Ok(many) => many,
+            Err(failed) => return Err(Unread::Reader(failed)),
         };
         if many == 0 {
             return Err(Unread::Faulty(HttpFault::Truncated));

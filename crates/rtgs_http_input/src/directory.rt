@@ -5,23 +5,23 @@ use rtgs_desk::Desk;
 use rtgs_keeper::Keeper;
 use rtgs_money::{Code, KeyDigest};
 
-/// A directory that is closed tells nothing.
+/// A directory that has failed tells nothing.
 #[derive(Clone, Copy, Debug, PartialEq, Eq)]
-pub struct Closed;
+pub struct DirectoryFailed;
 
 /// Those who know the participants.
 pub trait Directory {
     /// The participant with each digest, as far as the directory is to be believed.
     ghost knows: { Self → (List ℕ → Option (List ℕ)) → Type 0 };
 
-    /// Whether nothing can be told.
-    ghost is_closed: { Self → Bool };
+    /// Whether it has failed, and tells nothing.
+    ghost has_failed: { Self → Bool };
 
     /// The code of the participant with this digest, if there is one.
-    fn code_of(&self, digest: &KeyDigest) -> Result<Option<Code>, Closed>
+    fn code_of(&self, digest: &KeyDigest) -> Result<Option<Code>, DirectoryFailed>
         ensures told { IfOk result (λ code. (code_of : List ℕ → Option (List ℕ))
             → knows self.now code_of → code ≡ code_of digest.now) }
-        ensures closed { OnErr result (is_closed self.now ≡ true) };
+        ensures failed { OnErr result (has_failed self.now ≡ true) };
 }
 
 impl<K: Keeper> Directory for Desk<K> {
@@ -30,12 +30,12 @@ impl<K: Keeper> Directory for Desk<K> {
     // The participants are those of the book that the desk holds. A desk that has failed tells of nobody.
     ghost knows = { λ desk code_of. KnowsOf K.Keeper desk code_of };
 
-    ghost is_closed = { λ desk. K.has_failed desk.keeper };
+    ghost has_failed = { λ desk. K.has_failed desk.keeper };
 
-    fn code_of(&self, digest: &KeyDigest) -> Result<Option<Code>, Closed> {
+    fn code_of(&self, digest: &KeyDigest) -> Result<Option<Code>, DirectoryFailed> {
         match Desk::code_of(self, digest) {
             Ok(code) => Ok(code),
-            Err(_) => Err(Closed),
+            Err(_) => Err(DirectoryFailed),
         }
     }
 }

@@ -1,12 +1,13 @@
 //! The region of a request's head, from a reader.
-ghost use Rattle.std.specs.Prelude.{◌≡◌, ◌≢◌, ◌≤◌, ◌++◌, Err, IfOk, IfErr, IfSome};
+ghost use Rattle.std.specs.Prelude.{◌≤◌, ◌++◌, Err, IfOk, IfErr};
 ghost use Rattle.std.specs.Io.KnownBytes.{Consumes};
 ghost use Rattle.rtgs_http_feeds.specs.Region.{IsRegion};
-ghost use Rattle.rtgs_http_input.specs.Input.{Fails, part};
+ghost use Rattle.rtgs_http_input.specs.Input.{Fails, OfInput, part};
 ghost use Rattle.rtgs_http_input.specs.declared.piece.TheConstants.{PIECE};
 ghost use Rattle.rtgs_http_requests.specs.Exchange.{HasRegion};
 
 use crate::piece::PIECE;
+use crate::reader_failed::read_piece;
 use crate::unread::Unread;
 use rtgs_http_feeds::limits::LONGEST_HEAD;
 use rtgs_http_feeds::{HeadFeed, HeadStep};
@@ -24,17 +25,17 @@ pub fn read_region<R: Read>(
     ensures region { IfOk result (λ (region, from, to). IsRegion region) }
     ensures taken { IfOk result (λ (region, from, to).
         Consumes (R.remaining reader.old) (R.remaining reader.new) (region ++ part from to piece.new)) }
-    ensures fault { IfErr result (λ unread. IfSome (R.remaining reader.old)
+    ensures fault { IfErr result (λ unread. OfInput (R.remaining reader.old)
         (λ input. Fails (λ fault. HasRegion input (Err fault)) unread)) }
-    ensures open { IfErr result (λ unread. unread ≢ Unread.Closed) }
 {
     let Ok(mut feed) = HeadFeed::new(alloc) else {
         return Err(Unread::Faulty(HttpFault::OutOfMemory));
     };
     // Each piece has a byte at least.
     for _turn in 0..LONGEST_HEAD {
-        let Ok(many) = reader.read(&mut piece[..]) else {
-            return Err(Unread::Reader);
+        let many = match read_piece(reader, piece) {
+            Ok(many) => many,
+            Err(failed) => return Err(Unread::Reader(failed)),
         };
         if many == 0 {
             return Err(Unread::Faulty(HttpFault::Truncated));

@@ -6,9 +6,11 @@ mod body;
 mod directory;
 mod head;
 mod piece;
+mod reader_failed;
 mod request;
 mod unread;
 
-pub use crate::directory::{Closed, Directory};
+pub use crate::directory::{Directory, DirectoryFailed};
+pub use crate::reader_failed::ReaderFailed;
 pub use crate::request::read_request;
 pub use crate::unread::Unread;

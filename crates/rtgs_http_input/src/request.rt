@@ -1,11 +1,9 @@
 //! A whole request, from a reader.
-ghost use Rattle.std.specs.Prelude.{◌≡◌, ◌≢◌, ◌≤◌, ℕ, List, true, Err, IfErr, IfSome};
+ghost use Rattle.std.specs.Prelude.{◌≡◌, ◌≤◌, ℕ, List, true, Err};
 ghost use Rattle.rtgs_http_input.specs.declared.piece.TheConstants.{PIECE};
-ghost use Rattle.rtgs_http_requests.specs.Plans.{admitted_by, AfterCaller};
+ghost use Rattle.rtgs_http_requests.specs.Plans.{AfterCaller};
 ghost use Rattle.rtgs_http_feeds.specs.Region.{StartsWith};
-ghost use Rattle.rtgs_http_input.specs.Input.{Says, Behind, part};
-ghost use Rattle.rtgs_http_requests.specs.Callers.{CodeOf};
-ghost use Rattle.rtgs_http_requests.specs.Exchange.{AsksFor};
+ghost use Rattle.rtgs_http_input.specs.Input.{Says, FindsCaller, Requests, OfInput, Behind, part};
 
 use crate::body::read_body;
 use crate::directory::Directory;
@@ -18,17 +16,17 @@ use std::alloc::Global;
 use std::io::Read;
 
 /// What the whole input asks for, however the reader cuts it, or the fault of the first step that fails. It is read in
-/// pieces, and none is asked for once the answer is decided (RFC 9112, sections 2 and 6).
+/// pieces, and none is asked for once the answer is decided (RFC 9112, sections 2 and 6). Where the reader's bytes are
+/// not known, there is an input for which the same holds.
 pub fn read_request<R: Read, D: Directory>(
     alloc: Global,
     reader: &mut R,
     operator: &KeyDigest,
     directory: &D,
 ) -> Result<Asked, Unread>
-    ensures asked { IfSome (R.remaining reader.old)
-        (λ input. (code_of : CodeOf) → D.knows directory.now code_of
-        → Says (AsksFor operator.now code_of input) result) }
-    ensures closed { result ≡ Err Unread.Closed → D.is_closed directory.now ≡ true }
+    ensures asked { OfInput (R.remaining reader.old)
+        (λ input. Requests (D.knows directory.now) operator.now input result) }
+    ensures failed { result ≡ Err Unread.DirectoryFailed → D.has_failed directory.now ≡ true }
 {
     let mut piece = [0u8; PIECE];
     let (feed, from, to) = match read_region(alloc, reader, &mut piece) {
@@ -53,10 +51,10 @@ fn read_behind<R: Read, D: Directory>(
     to: usize,
 ) -> Result<Asked, Unread>
     requires inside { (from ≤ to) × (to ≤ PIECE) }
-    ensures asked { (input : List ℕ) → Behind (part from to piece.old) (R.remaining reader.old)
-        (λ rest. StartsWith input region.now rest → (code_of : CodeOf) → D.knows directory.now code_of
-        → Says (AsksFor operator.now code_of input) result) }
-    ensures closed { result ≡ Err Unread.Closed → D.is_closed directory.now ≡ true }
+    ensures asked { Behind (part from to piece.old) (R.remaining reader.old)
+        (λ rest. (input : List ℕ) → StartsWith input region.now rest
+        → Requests (D.knows directory.now) operator.now input result) }
+    ensures failed { result ≡ Err Unread.DirectoryFailed → D.has_failed directory.now ≡ true }
 {
     let plan = match Plan::read(alloc, operator, region) {
         Ok(plan) => plan,
@@ -71,16 +69,15 @@ fn read_behind<R: Read, D: Directory>(
 
 // The caller of an admission.
 fn caller_of<D: Directory>(directory: &D, admission: Admission) -> Result<Admitted, Unread>
-    ensures caller { (code_of : CodeOf) → D.knows directory.now code_of
-        → Says (λ told. told ≡ admitted_by code_of admission) result }
-    ensures closed { result ≡ Err Unread.Closed → D.is_closed directory.now ≡ true }
+    ensures caller { FindsCaller (D.knows directory.now) admission result }
+    ensures failed { result ≡ Err Unread.DirectoryFailed → D.has_failed directory.now ≡ true }
 {
     match admission {
         Admission::Operator { route } => Ok(Admitted::Operator { route }),
         Admission::LookUp { route, digest } => match directory.code_of(&digest) {
             Ok(Some(caller)) => Ok(Admitted::Bank { route, caller }),
             Ok(None) => Err(Unread::Faulty(HttpFault::NoKey)),
-            Err(_) => Err(Unread::Closed),
+            Err(_) => Err(Unread::DirectoryFailed),
         },
     }
 }
@@ -96,9 +93,8 @@ fn read_content<R: Read>(
     to: usize,
 ) -> Result<Asked, Unread>
     requires inside { (from ≤ to) × (to ≤ PIECE) }
-    ensures asked { Behind (part from to piece.old) (R.remaining reader.old)
+    ensures { Behind (part from to piece.old) (R.remaining reader.old)
         (λ rest. Says (AfterCaller plan.now rest caller) result) }
-    ensures open { IfErr result (λ unread. unread ≢ Unread.Closed) }
 {
     let size = match body_length(plan.posts, plan.length) {
         Ok(size) => size as usize,

@@ -1,10 +1,11 @@
 //! Replies.
-ghost use Rattle.std.specs.Prelude.{◌≡◌, ℕ, false, codes, string_bytes, IfOk, OnOk, OnErr};
+ghost use Rattle.std.specs.Prelude.{◌≡◌, ℕ, false, string_bytes, IfOk, OnOk, OnErr};
 ghost use Rattle.std.specs.Io.KnownBytes.{Appends};
 ghost use Rattle.serde_json.specs.View.{view};
 ghost use Rattle.serde_json.specs.Written.{has_float};
 ghost use Rattle.rtgs_output.specs.Sent.{AppendsPart};
 ghost use Rattle.rtgs_http_replies.specs.Bodies.{refusal_data};
+ghost use Rattle.rtgs_http_replies.specs.Kinds.{no_memory, answer_lost};
 ghost use Rattle.rtgs_http_replies.specs.Messages.{Message, message, json_message};
 ghost use Rattle.rtgs_http_replies.specs.Texts.{reason_of, head_text, reply_text};
 
@@ -73,9 +74,9 @@ impl Reply {
         Reply::json(alloc, status, &value)
     }
 
-    /// The reply where memory was refused. It takes none.
+    /// The reply where memory was refused before the desk had answered. It takes none.
     pub fn out_of_memory() -> Reply
-        ensures { result ≡ json_message 503 (refusal_data 90 (codes "OutOfMemory")) }
+        ensures { result ≡ no_memory }
     {
         Reply {
             status: StatusCode::SERVICE_UNAVAILABLE,
@@ -86,7 +87,7 @@ impl Reply {
     /// The reply where memory was refused for the reply itself, after the desk had answered. What was answered stands.
     /// It takes no memory.
     pub fn answer_lost() -> Reply
-        ensures { result ≡ json_message 503 (refusal_data 69 (codes "AnswerLost")) }
+        ensures { result ≡ answer_lost }
     {
         Reply {
             status: StatusCode::SERVICE_UNAVAILABLE,

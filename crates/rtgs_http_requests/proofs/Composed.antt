@@ -1,10 +1,13 @@
 -- The steps of a head and of a key, put together.
-use Rattle.std.proofs.Common.{◌≡◌, ℕ, List, Bool, Option, Result, Ok, Err, refl, sym, ◌∙◌, subst}
+use Rattle.std.proofs.Common.{◌≡◌, ℕ, List, Bool, Option, Some, Result, Ok, Err, refl, sym, ◌∙◌, subst}
 use Rattle.rtgs_http_heads.specs.Asking.{ReadsHead}
-use Rattle.rtgs_http_heads.specs.Targets.{is_post}
+use Rattle.rtgs_http_heads.specs.Fields.{HasKey}
+use Rattle.rtgs_http_heads.specs.Heads.{fields_of}
+use Rattle.rtgs_http_heads.specs.Targets.{is_post, routed}
 use Rattle.rtgs_http_heads.specs.declared.head.Head.{Head}
 use Rattle.rtgs_http_heads.specs.declared.head_fault.HeadFault.{HeadFault}
 use Rattle.rtgs_http_heads.specs.declared.head_fault.HeadFault.TheVariants as head
+use Rattle.rtgs_http_heads.specs.declared.route.Route.{Route}
 use Rattle.rtgs_http_requests.specs.Bodies.{body_length}
 use Rattle.rtgs_http_requests.specs.Callers.{CodeOf, caller_under, Leads}
 use Rattle.rtgs_http_requests.specs.Exchange.{HasBody}
@@ -16,7 +19,7 @@ use Rattle.rtgs_http_requests.specs.declared.admission.Admission.TheVariants as 
 use Rattle.rtgs_http_requests.specs.declared.admitted.Admitted.{Admitted}
 use Rattle.rtgs_http_requests.specs.declared.http_fault.HttpFault.{HttpFault}
 use Rattle.rtgs_http_requests.specs.declared.http_fault.HttpFault.TheVariants as fault
-use Rattle.rtgs_http_requests.specs.Plans.{Plans, admitted_by}
+use Rattle.rtgs_http_requests.specs.Plans.{Plans, MayLookUp, admitted_by}
 use Rattle.rtgs_http_requests.specs.declared.plan.Plan.{Plan}
 
 -- the fault of a head is that of each input that starts with it
@@ -33,7 +36,7 @@ key_fails operator region read bad told leads code_of input rest starts =
 
 led : (operator : List ℕ) (read : Head) (known : Admission) (code_of : CodeOf) → Leads operator read.route read.key (Ok known) → caller_under operator code_of read.route read.key ≡ admitted_by code_of known
 led operator read (admission.Operator route) code_of leads = leads code_of
-led operator read (admission.LookUp route digest) code_of leads = leads code_of
+led operator read (admission.LookUp route digest) code_of leads = leads.3 code_of
 
 abbrev behind : Bool → Option ℕ → List ℕ → List ℕ → Admitted → Answer → Type 0
 behind posts length parameter rest caller =
@@ -55,3 +58,23 @@ planned operator region read plan told leads parameter posts length code_of inpu
     let P : List ℕ → Type 0 = λ p. Goes (behind plan.posts plan.length p rest) answer after.0 in
     let goes = same_behind plan.posts (is_post told.0.method) plan.length told.1 read.parameter.now rest after.0 answer (posts ∙ told.3.posts) (length ∙ told.3.length) (subst P parameter after.2) in
     (Ok (region, rest), starts, (Ok (told.0, told.1), told.2, (Ok (read.route, read.parameter.now), told.3.route, (after.0, (read.key, told.3.key, after.1 ∙ sym (led operator read plan.admission code_of leads)), goes))))
+
+-- where a key leaves its bearer to be looked up, each input that starts with the region does
+pub looked_up : (operator region : List ℕ) (read : Head) (known : Admission) → ReadsHead region (Ok read)
+    → Leads operator read.route read.key (Ok known) → MayLookUp operator region known
+looked_up operator region read (admission.Operator route) told leads = tt
+looked_up operator region read (admission.LookUp route digest) told leads = λ input rest starts. record {
+  region = region;
+  rest = rest;
+  head = told.0;
+  declared = told.1;
+  route = route;
+  parameter = read.parameter.now;
+  digest = digest;
+  starts = starts;
+  good = told.2;
+  found = subst (λ (r : Route). routed told.0.method told.0.target ≡ Some (r, read.parameter.now)) leads.0
+      told.3.route;
+  key = subst (λ (k : Option (List ℕ)). HasKey (fields_of told.0) k) leads.1 told.3.key;
+  other = leads.2;
+}

@@ -1,5 +1,5 @@
 -- Whom a route takes.
-use Rattle.std.specs.Prelude.{◌≡◌, ℕ, List, Option, Some, None, Result, Ok, Err, if◌then◌else◌}
+use Rattle.std.specs.Prelude.{◌≡◌, ◌≢◌, ℕ, List, Option, Some, None, Result, Ok, Err, if◌then◌else◌}
 use Rattle.std.specs.Str.{bytes_eq}
 use Rattle.rtgs_http_heads.specs.declared.bank_route.BankRoute.{BankRoute}
 use Rattle.rtgs_http_heads.specs.declared.route.Route.{Route}
@@ -32,10 +32,12 @@ abbrev pub caller_under : List ℕ → CodeOf → Route → Option (List ℕ) �
 caller_under operator code_of route None = Err NoKey
 caller_under operator code_of route (Some digest) = bearer operator code_of route digest
 
--- What is known before the participants are, whoever they are.
+-- What is known before the participants are, whoever they are. A caller is to be looked up under a route of banks, with a
+-- key that is not the operator's.
 abbrev pub Leads : List ℕ → Route → Option (List ℕ) → Result Admission HttpFault → Type 0
 Leads operator route key (Ok (admission.Operator served)) =
     (code_of : CodeOf) → caller_under operator code_of route key ≡ Ok (admitted.Operator served)
 Leads operator route key (Ok (admission.LookUp served digest)) =
-    (code_of : CodeOf) → caller_under operator code_of route key ≡ known served (code_of digest)
+    (route ≡ Bank served) × (key ≡ Some digest) × (digest ≢ operator)
+    × ((code_of : CodeOf) → caller_under operator code_of route key ≡ known served (code_of digest))
 Leads operator route key (Err fault) = (code_of : CodeOf) → caller_under operator code_of route key ≡ Err fault

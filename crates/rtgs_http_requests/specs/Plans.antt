@@ -1,6 +1,12 @@
 -- What a head leaves to be known.
-use Rattle.std.specs.Prelude.{◌≡◌, ℕ, List, Result, Ok, Err}
+use Rattle.std.specs.Prelude.{◌≡◌, ◌≢◌, ⊤, ℕ, List, Option, Some, Result, Ok, Err}
+use Rattle.httparse.specs.Grammar.{RequestHead}
 use Rattle.rtgs_http_feeds.specs.Region.{StartsWith}
+use Rattle.rtgs_http_heads.specs.Fields.{HasKey}
+use Rattle.rtgs_http_heads.specs.Heads.{IsGoodHead, fields_of}
+use Rattle.rtgs_http_heads.specs.Targets.{routed}
+use Rattle.rtgs_http_heads.specs.declared.bank_route.BankRoute.{BankRoute}
+use Rattle.rtgs_http_heads.specs.declared.route.Route.TheVariants.{Bank}
 use Rattle.rtgs_http_requests.specs.Bodies.{body_length}
 use Rattle.rtgs_http_requests.specs.Callers.{CodeOf, known}
 use Rattle.rtgs_http_requests.specs.Exchange.{AsksFor, HasBody}
@@ -35,3 +41,25 @@ Plans operator region (Ok plan) = (code_of : CodeOf) (input rest : List ℕ) (an
     → StartsWith input region rest → AfterHead plan code_of rest answer → AsksFor operator code_of input answer
 Plans operator region (Err fault) = (code_of : CodeOf) (input rest : List ℕ)
     → StartsWith input region rest → AsksFor operator code_of input (Err fault)
+
+-- The input's head is good, its route is one of banks, and its only key is not the operator's: so the next step looks up
+-- whose the key is.
+pub record LooksUp (operator input : List ℕ) : Type 0 where
+  pub region : List ℕ
+  pub rest : List ℕ
+  pub head : RequestHead
+  pub declared : Option ℕ
+  pub route : BankRoute
+  pub parameter : List ℕ
+  pub digest : List ℕ
+  pub starts : StartsWith input region rest
+  pub good : IsGoodHead region head declared
+  pub found : routed head.method head.target ≡ Some (Bank route, parameter)
+  pub key : HasKey (fields_of head) (Some digest)
+  pub other : digest ≢ operator
+
+-- Where an admission leaves the caller to be looked up, so does each input that starts with the region.
+abbrev pub MayLookUp : List ℕ → List ℕ → Admission → Type 0
+MayLookUp operator region (admission.Operator route) = ⊤
+MayLookUp operator region (admission.LookUp route digest) =
+    (input rest : List ℕ) → StartsWith input region rest → LooksUp operator input

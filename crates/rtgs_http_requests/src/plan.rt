@@ -1,4 +1,6 @@
 //! What a head leaves to be known.
+ghost use Rattle.std.specs.Prelude.{IfOk};
+
 use crate::admission::Admission;
 use crate::http_fault::HttpFault;
 use rtgs_http_heads::Head;
@@ -15,15 +17,17 @@ pub struct Plan<'a> {
 }
 
 impl<'a> Plan<'a> {
-    ghost use Rattle.rtgs_http_requests.specs.Plans.{Plans};
+    ghost use Rattle.rtgs_http_requests.specs.Plans.{Plans, MayLookUp};
 
-    /// What the region leaves to be known, whoever the participants are and whatever comes behind the region.
+    /// What the region leaves to be known, whoever the participants are and whatever comes behind the region. A caller
+    /// is left to be looked up only where the next step does so.
     pub fn read(
         alloc: Global,
         operator: &KeyDigest,
         region: &'a [u8],
     ) -> Result<Plan<'a>, HttpFault>
-        ensures { Plans operator.now region.now result }
+        ensures plans { Plans operator.now region.now result }
+        ensures looks_up { IfOk result (λ plan. MayLookUp operator.now region.now plan.admission) }
     {
         let head = match Head::read(alloc, region) {
             Ok(head) => head,

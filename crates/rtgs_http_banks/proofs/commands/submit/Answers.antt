@@ -4,5 +4,8 @@ pub returns-clause-submits : goal.returns-clause-submits
 returns-clause-submits g c honest book held = record {
   reply = c.submit-reply.result;
   acts = c.submit-reply.ensures.acts honest book held;
-  told = c.tell.ensures;
+  told = c.tell.ensures.told;
+  refused = c.tell.ensures.refused;
+  not_failed = λ e.
+      let failed = c.submit-reply.ensures.only_failed e in let works = held.works in let no : ⊥ = cc in no;
 }

@@ -14,6 +14,8 @@ returns-clause-submits g c honest book held =
       stopped = stopped;
       stops = c.in-Ok.ensures.stopped;
       acts = c.in-Ok.ensures.sent honest book held;
-      told = c.or_lost.ensures (message (batch_status stopped) Csv (results_text c.args.rows.now replies stopped))
+      told = c.or_lost.ensures.told (message (batch_status stopped) Csv (results_text c.args.rows.now replies stopped))
           c.batch_reply.ensures;
+      not_failed = λ e.
+          let failed = c.in-Ok.ensures.only_failed e in let works = held.works in let no : ⊥ = cc in no;
     })

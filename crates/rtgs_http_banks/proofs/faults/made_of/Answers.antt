@@ -6,4 +6,4 @@ use Rattle.rtgs_http_banks.proofs.faults.made_of.Goals as goal
 pub returns-in_default : goal.returns-in_default
 returns-in_default c =
     IfOk-weaker c.kind_reply.result _ _
-    (λ reply h. h ∙ rw c.kind.ensures (sym (plainly c.args.fault c.in_default.not-Batch))) c.kind_reply.ensures
+    (λ reply h. h ∙ rw c.kind.ensures (sym (plainly c.args.fault c.in_default.not-Batch))) c.kind_reply.ensures.told

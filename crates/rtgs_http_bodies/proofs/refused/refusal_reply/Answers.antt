@@ -1,14 +1,14 @@
 use Rattle.std.proofs.Common.{◌∙◌, ap}
 use Rattle.std.proofs.lemmas.Result.{IfOk-weaker}
 use Rattle.rtgs_book.specs.Refusals.{refusal_kind_of}
-use Rattle.rtgs_http_bodies.specs.Refusals.{kind_status}
 use Rattle.rtgs_http_bodies.proofs.Undetailed.{undetailed}
+use Rattle.rtgs_http_replies.specs.Kinds.{kind_status}
 use Rattle.rtgs_http_replies.specs.Messages.{json_message}
 use Rattle.rtgs_http_bodies.proofs.refused.refusal_reply.Goals as goal
 
-pub returns-in_default : goal.returns-in_default
-returns-in_default c =
+pub returns-in_default-clause-told : goal.returns-in_default-clause-told
+returns-in_default-clause-told c =
     IfOk-weaker c.kind_reply.result _ _
     (λ reply h. h ∙ rw c.kind.ensures (ap (json_message (kind_status (refusal_kind_of c.args.refusal)))
     (undetailed c.args.refusal c.in_default.not-Overdrawn)))
-    c.kind_reply.ensures
+    c.kind_reply.ensures.told

@@ -8,8 +8,8 @@ pub returns-in-TooLong-clause-fault : goal.returns-in-TooLong-clause-fault
 returns-in-TooLong-clause-fault g c =
     let known = g.R.Read.remaining in
     let inv = c.loop-turn.invariant in
-    let piece = take c.in-Ok-read.many c.read.new.buf in
-    consumed (known c.args.reader.now) (known c.read.new.self) (c.loop-turn.feed ++ piece) IsTooLong
+    let piece = take c.in-Ok-read_piece.many c.read_piece.new.piece in
+    consumed (known c.args.reader.now) (known c.read_piece.new.reader) (c.loop-turn.feed ++ piece) IsTooLong
     (consumes_more (known c.args.reader.now) (known c.loop-turn.reader)
-    (known c.read.new.self) c.loop-turn.feed piece inv.0 c.in-Ok-read.ensures.bytes.0)
+    (known c.read_piece.new.reader) c.loop-turn.feed piece inv.0 c.in-Ok-read_piece.ensures.bytes.0)
     (λ rest. too_long (c.loop-turn.feed ++ piece) rest c.in-TooLong.ensures.1)

@@ -3,21 +3,23 @@ use Rattle.rtgs_http_requests.specs.Plans.{AfterCaller}
 use Rattle.rtgs_http_requests.specs.Exchange.{HasBody}
 use Rattle.rtgs_http_requests.specs.Meaning.{Means}
 use Rattle.rtgs_http_input.specs.Input.{Fails, part}
-use Rattle.rtgs_http_input.proofs.Told.{known_map, body_fails}
+use Rattle.rtgs_http_input.proofs.Known.{known_map}
+use Rattle.rtgs_http_input.proofs.Told.{body_fails}
 use Rattle.rtgs_http_input.proofs.request.read_content.Goals as goal
 
-pub returns-in-Err-read_body-clause-asked : goal.returns-in-Err-read_body-clause-asked
-returns-in-Err-read_body-clause-asked g c =
+pub returns-in-Err-read_body : goal.returns-in-Err-read_body
+returns-in-Err-read_body g c =
     let first = part c.args.from c.args.to c.args.piece.now in
     known_map (g.R.Read.remaining c.args.reader.now) (λ rest.
     Fails (λ fault. HasBody (first ++ rest) c.in-Ok.size (Err fault)) c.in-Err-read_body.unread)
     (λ rest. Fails (λ fault. AfterCaller c.args.plan.now (first ++ rest) c.args.caller
     (Err fault)) c.in-Err-read_body.unread)
     (λ rest h. body_fails c.args.plan.now
-    (first ++ rest) c.args.caller c.in-Ok.size c.in-Err-read_body.unread c.in-Ok.ensures h) c.in-Err-read_body.ensures.fault
+    (first ++ rest) c.args.caller c.in-Ok.size c.in-Err-read_body.unread c.in-Ok.ensures h)
+    c.in-Err-read_body.ensures.fault
 
-pub returns-in-Ok-read_asked-clause-asked : goal.returns-in-Ok-read_asked-clause-asked
-returns-in-Ok-read_asked-clause-asked g c =
+pub returns-in-Ok-read_asked : goal.returns-in-Ok-read_asked
+returns-in-Ok-read_asked g c =
     let first = part c.args.from c.args.to c.args.piece.now in
     let body = c.in-Ok-read_body.body.bytes in
     let means = subst (λ b. Means c.args.caller c.args.plan.now.parameter.now b
@@ -26,8 +28,8 @@ returns-in-Ok-read_asked-clause-asked g c =
     (λ rest. AfterCaller c.args.plan.now (first ++ rest) c.args.caller (Ok c.in-Ok-read_asked.asked))
     (λ rest h. (Ok c.in-Ok.size, c.in-Ok.ensures, (Ok body, h, means))) c.in-Ok-read_body.ensures.body
 
-pub returns-clause-asked : goal.returns-clause-asked
-returns-clause-asked g c =
+pub returns : goal.returns
+returns g c =
     let first = part c.args.from c.args.to c.args.piece.now in
     let body = c.in-Ok-read_body.body.bytes in
     let means = subst (λ b. Means c.args.caller c.args.plan.now.parameter.now b

@@ -1,0 +1,248 @@
+-- A book, the operator's digest and an input have one reply.
+use Rattle.std.proofs.Common.{◌≡◌, true, false, ℕ, List, [], ◌∷◌, length, take, Option, Some, None, Ok, Err}
+use Rattle.std.proofs.Common.{refl, sym, ap, subst, ◌∙◌, inl, inr}
+use Rattle.std.specs.Prelude.{◌≢◌}
+use Rattle.rtgs_book.specs.declared.book.Book.{Book}
+use Rattle.rtgs_book.specs.declared.command.Command.{Command}
+use Rattle.rtgs_book.specs.declared.refusal.Refusal.{Refusal}
+use Rattle.rtgs_book.specs.declared.refusal.Refusal.TheVariants as refusal
+use Rattle.rtgs_book.specs.Outcome.{Reply}
+use Rattle.rtgs_book.specs.Run.{Run}
+use Rattle.rtgs_book.specs.Session.{is_judged}
+use Rattle.rtgs_book.specs.Step.{Step}
+use Rattle.rtgs_keeper.specs.declared.keeper.Keeper.{Ghosts}
+use Rattle.rtgs_ledger.specs.Keys.{code_under}
+use Rattle.rtgs_desk.specs.Holding.{Holds}
+use Rattle.rtgs_desk.specs.Seen.{Seen}
+use Rattle.rtgs_exchange.specs.Batches.{orders_of, reply_of, replies_of, StopsAfter}
+use Rattle.rtgs_exchange.specs.Results.{results_text}
+use Rattle.rtgs_exchange.specs.declared.batch_result.RowReply.{RowReply}
+use Rattle.rtgs_exchange.specs.declared.batch_result.RowReply.TheVariants.{Settled, Queued, Repeated, Refused}
+use Rattle.rtgs_exchange.specs.declared.order_row.OrderRow.{OrderRow}
+use Rattle.rtgs_http_bodies.specs.Statuses.{batch_status}
+use Rattle.rtgs_http_replies.specs.Messages.{Message, message}
+use Rattle.rtgs_http_replies.specs.declared.content_type.ContentType.TheVariants.{Csv}
+use Rattle.rtgs_http_requests.specs.Callers.{CodeOf}
+use Rattle.rtgs_http_requests.specs.Exchange.{AsksFor}
+use Rattle.rtgs_http_requests.specs.Meaning.{Answer}
+use Rattle.rtgs_http_requests.specs.Same.{AreTheSame}
+use Rattle.rtgs_http_requests.specs.declared.asked.Asked.{Asked}
+use Rattle.rtgs_http_requests.specs.declared.asked.Asked.TheVariants.{Submit, Batch, Read}
+use Rattle.rtgs_http_requests.specs.declared.http_fault.HttpFault.{HttpFault}
+use Rattle.rtgs_http_requests.specs.declared.http_fault.HttpFault.TheVariants.{OutOfMemory}
+use Rattle.rtgs_http_requests.specs.declared.reading.Reading.{Reading}
+use Rattle.rtgs_http_banks.specs.Alike.{EndAlike}
+use Rattle.rtgs_http_banks.specs.Dealings.{ComesTo, Submits, SubmitsAll, Reads, IsReadOf}
+use Rattle.rtgs_http_banks.specs.Exchange.{Deals}
+use Rattle.rtgs_http_banks.specs.Sayings.{IsSaid, IsTold, fault_message, reply_message, reading_message}
+
+-- a step has one outcome
+abbrev pub StepsOnce : Type 0
+StepsOnce = (old new last : Book) (command : Command) (reply other : Reply) → Step old command reply new
+    → Step old command other last → (reply ≡ other) × (new ≡ last)
+
+-- a request has one answer
+abbrev pub AsksOnce : Type 0
+AsksOnce = (operator : List ℕ) (code_of : CodeOf) (input : List ℕ) (one other : Answer)
+    → AsksFor operator code_of input one → AsksFor operator code_of input other
+    → one ≢ Err OutOfMemory → other ≢ Err OutOfMemory → AreTheSame one other
+
+run_once : StepsOnce → (old new last : Book) (commands : List Command) (replies others : List Reply)
+    → Run old commands replies new → Run old commands others last → (replies ≡ others) × (new ≡ last)
+run_once steps old new last [] [] [] one other = (refl, one ∙ sym other)
+run_once steps old new last [] (r ∷ replies) others one other = absurd one
+run_once steps old new last [] [] (r ∷ others) one other = absurd other
+run_once steps old new last (c ∷ commands) [] others one other = absurd one
+run_once steps old new last (c ∷ commands) (r ∷ replies) [] one other = absurd other
+run_once steps old new last (c ∷ commands) (r ∷ replies) (o ∷ others) one other =
+    let first = steps old one.0 other.0 c r o one.1 other.1 in
+    let rest = run_once steps one.0 new last commands replies others one.2
+    (subst (λ (b : Book). Run b commands others last) (sym first.1) other.2) in
+    let same = first.0 in let later = rest.0 in (cc, rest.1)
+
+-- what is said or told with another status than 503 is what was to be said
+said : (wanted sent : Message) → sent.status ≢ 503 → IsSaid wanted sent → sent ≡ wanted
+said wanted sent done (inl e) = e
+said wanted sent done (inr e) = absurd (done (ap (λ (m : Message). m.status) e))
+
+told_of : (wanted sent : Message) → sent.status ≢ 503 → IsTold wanted sent → sent ≡ wanted
+told_of wanted sent done (inl e) = e
+told_of wanted sent done (inr e) = absurd (done (ap (λ (m : Message). m.status) e))
+
+-- a reply that is told with another status is judged
+judged : (reply : Reply) → (reply_message reply).status ≢ 503 → is_judged reply ≡ true
+judged (Ok answer) done = refl
+judged (Err refusal.UnknownParticipant) done = refl
+judged (Err refusal.UnknownReceiver) done = refl
+judged (Err refusal.SameParty) done = refl
+judged (Err refusal.ReferenceUsed) done = refl
+judged (Err refusal.NotOpen) done = refl
+judged (Err refusal.NoCover) done = refl
+judged (Err refusal.QueueFull) done = refl
+judged (Err refusal.NumbersUsedUp) done = refl
+judged (Err refusal.UnknownOrder) done = refl
+judged (Err refusal.CodeTaken) done = refl
+judged (Err refusal.KeyTaken) done = refl
+judged (Err refusal.TooManyParticipants) done = refl
+judged (Err refusal.TotalTooLarge) done = refl
+judged (Err refusal.WrongPhase) done = refl
+judged (Err refusal.WrongDate) done = refl
+judged (Err refusal.Weekend) done = refl
+judged (Err refusal.NotQueued) done = refl
+judged (Err refusal.Resolvable) done = refl
+judged (Err (refusal.Overdrawn first count)) done = refl
+judged (Err refusal.OutOfMemory) done = absurd (done refl)
+judged (Err refusal.StoreFault) done = absurd (done refl)
+judged (Err refusal.Failed) done = absurd (done refl)
+
+submits_alike : {K : Type 0} (g : Ghosts K) (old : Book) (command : Command) (one other : Seen K) (sent told : Message)
+    → StepsOnce → sent.status ≢ 503 → told.status ≢ 503 → Submits g old command one sent
+    → Submits g old command other told → EndAlike g one other sent told
+submits_alike g old command one other sent told steps done ended a b =
+    let said = told_of (reply_message a.reply) sent done a.told in
+    let same = told_of (reply_message b.reply) told ended b.told in
+    let first = judged a.reply (λ e. done (ap (λ (m : Message). m.status) said ∙ e)) in
+    let second = judged b.reply (λ e. ended (ap (λ (m : Message). m.status) same ∙ e)) in
+    let once = steps old a.acts.book b.acts.book command a.reply b.reply (a.acts.judged first)
+    (b.acts.judged second) in
+    record {
+      reply = said ∙ ap reply_message once.0 ∙ sym same;
+      book = a.acts.book;
+      one_holds = a.acts.kept;
+      other_holds = λ works. subst (λ (book : Book). Holds g other book) (sym once.1) (b.acts.kept works);
+    }
+
+row_once : (one other : RowReply) → reply_of one ≡ reply_of other → one ≡ other
+row_once (Settled n m) (Settled k j) e = cc
+row_once (Settled n m) (Queued k j) e = absurd (cc)
+row_once (Settled n m) (Repeated k j) e = absurd (cc)
+row_once (Settled n m) (Refused r) e = absurd (cc)
+row_once (Queued n m) (Settled k j) e = absurd (cc)
+row_once (Queued n m) (Queued k j) e = cc
+row_once (Queued n m) (Repeated k j) e = absurd (cc)
+row_once (Queued n m) (Refused r) e = absurd (cc)
+row_once (Repeated n m) (Settled k j) e = absurd (cc)
+row_once (Repeated n m) (Queued k j) e = absurd (cc)
+row_once (Repeated n m) (Repeated k j) e = cc
+row_once (Repeated n m) (Refused r) e = absurd (cc)
+row_once (Refused s) (Settled k j) e = absurd (cc)
+row_once (Refused s) (Queued k j) e = absurd (cc)
+row_once (Refused s) (Repeated k j) e = absurd (cc)
+row_once (Refused s) (Refused r) e = cc
+
+rows_once : (one other : List RowReply) → replies_of one ≡ replies_of other → one ≡ other
+rows_once [] [] e = refl
+rows_once [] (x ∷ xs) e = absurd (cc)
+rows_once (x ∷ xs) [] e = absurd (cc)
+rows_once (x ∷ xs) (y ∷ ys) e =
+    let head : reply_of x ≡ reply_of y = cc in
+    let tail : replies_of xs ≡ replies_of ys = cc in
+    let first = row_once x y head in let rest = rows_once xs ys tail in cc
+
+-- a batch with another status went to its end
+not_stopped : (stopped : Option Refusal) → batch_status stopped ≢ 503 → stopped ≡ None
+not_stopped None done = refl
+not_stopped (Some refusal) done = absurd (done refl)
+
+batches_alike : {K : Type 0} (g : Ghosts K) (old : Book) (sender : List ℕ) (rows : List OrderRow) (one other : Seen K)
+    (sent told : Message) → StepsOnce → sent.status ≢ 503 → told.status ≢ 503 → SubmitsAll g old sender rows one sent
+    → SubmitsAll g old sender rows other told → EndAlike g one other sent told
+batches_alike g old sender rows one other sent told steps done past a b =
+    let said = told_of (message (batch_status a.stopped) Csv (results_text rows a.replies a.stopped)) sent done a.told
+    in
+    let same = told_of (message (batch_status b.stopped) Csv (results_text rows b.replies b.stopped)) told past b.told
+    in
+    let none = not_stopped a.stopped (λ e. done (ap (λ (m : Message). m.status) said ∙ e)) in
+    let neither = not_stopped b.stopped (λ e. past (ap (λ (m : Message). m.status) same ∙ e)) in
+    let long : length a.replies ≡ length rows =
+    subst (λ (s : Option Refusal). StopsAfter (length a.replies) (length rows) s) none a.stops in
+    let as_long : length b.replies ≡ length rows =
+    subst (λ (s : Option Refusal). StopsAfter (length b.replies) (length rows) s) neither b.stops in
+    let run = subst (λ (n : ℕ). Run old (orders_of sender (take n rows)) (replies_of a.replies) a.acts.last) long
+    a.acts.run in
+    let again = subst (λ (n : ℕ). Run old (orders_of sender (take n rows)) (replies_of b.replies) b.acts.last) as_long
+    b.acts.run in
+    let once = run_once steps old a.acts.last b.acts.last (orders_of sender (take (length rows) rows))
+    (replies_of a.replies) (replies_of b.replies) run again in
+    let replies = rows_once a.replies b.replies once.0 in
+    let stop = none ∙ sym neither in
+    let stopped = ap (λ (s : Option Refusal). message (batch_status s) Csv (results_text rows a.replies s)) stop in
+    let listed = ap (λ (r : List RowReply). message (batch_status b.stopped) Csv (results_text rows r b.stopped))
+    replies in
+    record {
+      reply = said ∙ stopped ∙ listed ∙ sym same;
+      book = a.acts.last;
+      one_holds = a.acts.kept;
+      other_holds = λ works. subst (λ (book : Book). Holds g other book) (sym once.1) (b.acts.kept works);
+    }
+
+read_of : {K : Type 0} (g : Ghosts K) (wanted : Message) (desk : Seen K) (sent : Message) → sent.status ≢ 503
+    → IsReadOf g wanted desk sent → sent ≡ wanted
+read_of g wanted desk sent done (inl h) = said wanted sent done h
+read_of g wanted desk sent done (inr (failed, inl e)) = absurd (done (ap (λ (m : Message). m.status) e))
+read_of g wanted desk sent done (inr (failed, inr e)) = absurd (done (ap (λ (m : Message). m.status) e))
+
+readings_alike : {K : Type 0} (g : Ghosts K) (old : Book) (reading : Reading) (one other : Seen K) (sent told : Message)
+    → sent.status ≢ 503 → told.status ≢ 503 → Reads g old reading one sent → Reads g old reading other told
+    → EndAlike g one other sent told
+readings_alike g old reading one other sent told done ended a b = record {
+  reply = read_of g (reading_message old reading) one sent done a.1
+      ∙ sym (read_of g (reading_message old reading) other told ended b.1);
+  book = old;
+  one_holds = a.0.kept;
+  other_holds = b.0.kept;
+}
+
+faults_alike : {K : Type 0} (g : Ghosts K) (old : Book) (fault : HttpFault) (one other : Seen K) (sent told : Message)
+    → sent.status ≢ 503 → told.status ≢ 503 → ComesTo g old (Err fault) one sent → ComesTo g old (Err fault) other told
+    → EndAlike g one other sent told
+faults_alike g old fault one other sent told done ended a b = record {
+  reply = said (fault_message fault) sent done a.1 ∙ sym (said (fault_message fault) told ended b.1);
+  book = old;
+  one_holds = a.0.kept;
+  other_holds = b.0.kept;
+}
+
+come_alike : {K : Type 0} (g : Ghosts K) (old : Book) (answer same : Answer) (one other : Seen K) (sent told : Message)
+    → StepsOnce → AreTheSame answer same → sent.status ≢ 503 → told.status ≢ 503 → ComesTo g old answer one sent
+    → ComesTo g old same other told → EndAlike g one other sent told
+come_alike g old (Err fault) (Err bad) one other sent told steps alike done ended a b =
+    faults_alike g old fault one other sent told done ended a
+    (subst (λ (f : HttpFault). ComesTo g old (Err f) other told) (sym alike) b)
+come_alike g old (Err fault) (Ok asked) one other sent told steps alike done ended a b = absurd alike
+come_alike g old (Ok asked) (Err fault) one other sent told steps alike done ended a b = absurd alike
+come_alike g old (Ok (Submit c)) (Ok (Submit d)) one other sent told steps alike done ended a b =
+    submits_alike g old c one other sent told steps done ended a
+    (subst (λ (x : Command). Submits g old x other told) (sym alike) b)
+come_alike g old (Ok (Submit c)) (Ok (Batch s rows)) one other sent told steps alike done ended a b = absurd alike
+come_alike g old (Ok (Submit c)) (Ok (Read r)) one other sent told steps alike done ended a b = absurd alike
+come_alike g old (Ok (Batch s rows)) (Ok (Submit c)) one other sent told steps alike done ended a b = absurd alike
+come_alike g old (Ok (Batch s rows)) (Ok (Batch t more)) one other sent told steps alike done ended (inl a) b =
+    absurd (done (ap (λ (m : Message). m.status) a.1))
+come_alike g old (Ok (Batch s rows)) (Ok (Batch t more)) one other sent told steps alike done ended (inr a) (inl b) =
+    absurd (ended (ap (λ (m : Message). m.status) b.1))
+come_alike g old (Ok (Batch s rows)) (Ok (Batch t more)) one other sent told steps alike done ended (inr a) (inr b) =
+    batches_alike g old s rows.items one other sent told steps done ended a
+    (subst (λ (x : List ℕ). SubmitsAll g old x rows.items other told) (sym alike.0)
+    (subst (λ (x : List OrderRow). SubmitsAll g old t x other told) (sym alike.1) b))
+come_alike g old (Ok (Batch s rows)) (Ok (Read r)) one other sent told steps alike done ended a b = absurd alike
+come_alike g old (Ok (Read r)) (Ok (Submit c)) one other sent told steps alike done ended a b = absurd alike
+come_alike g old (Ok (Read r)) (Ok (Batch s rows)) one other sent told steps alike done ended a b = absurd alike
+come_alike g old (Ok (Read r)) (Ok (Read q)) one other sent told steps alike done ended a b =
+    readings_alike g old r one other sent told done ended a
+    (subst (λ (x : Reading). Reads g old x other told) (sym alike) b)
+
+wanting : {K : Type 0} (g : Ghosts K) (old : Book) (answer : Answer) (desk : Seen K) (sent : Message)
+    → sent.status ≢ 503 → ComesTo g old answer desk sent → answer ≡ Err OutOfMemory → ⊥
+wanting g old answer desk sent done comes e =
+    let c = subst (λ (a : Answer). ComesTo g old a desk sent) e comes in
+    done (ap (λ (m : Message). m.status) (said (fault_message OutOfMemory) sent done c.1))
+
+pub determined : {K : Type 0} (g : Ghosts K) (operator input : List ℕ) (old : Book) (one other : Seen K)
+    (sent told : Message) → StepsOnce → AsksOnce → Deals g operator old input one sent
+    → Deals g operator old input other told → sent.status ≢ 503 → told.status ≢ 503 → EndAlike g one other sent told
+determined g operator input old one other sent told steps asks a b done ended =
+    come_alike g old a.answer b.answer one other sent told steps
+    (asks operator (code_under old) input a.answer b.answer a.asks b.asks
+    (wanting g old a.answer one sent done a.comes) (wanting g old b.answer other told ended b.comes))
+    done ended a.comes b.comes

@@ -1,0 +1,25 @@
+//! Reads that failed.
+ghost use Rattle.std.specs.Io.{ReadsAtMost};
+ghost use Rattle.std.specs.Io.KnownBytes.{ReadConsumes};
+
+use crate::piece::PIECE;
+use std::io::Read;
+
+/// A reader answered an error. Such a value is made where a call of `read` did so, and nowhere else: the type shows no
+/// way to make one.
+#[derive(Clone, Copy, Debug, PartialEq, Eq)]
+pub struct ReaderFailed(());
+
+/// Reads the next piece, and tells how many bytes it has. With none the input is at its end.
+pub(crate) fn read_piece<R: Read>(
+    reader: &mut R,
+    piece: &mut [u8; PIECE],
+) -> Result<usize, ReaderFailed>
+    ensures bound { ReadsAtMost result piece.new }
+    ensures bytes { ReadConsumes (R.remaining reader.old) (R.remaining reader.new) result piece.new }
+{
+    match reader.read(&mut piece[..]) {
+        Ok(many) => Ok(many),
+        Err(_) => Err(ReaderFailed(())),
+    }
+}
