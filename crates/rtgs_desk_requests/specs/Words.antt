@@ -1,5 +1,5 @@
 -- What the words of a run ask for.
-use Rattle.std.specs.Prelude.{◌≡◌, ◌⊎◌, ℕ, ℤ, Bool, true, List, [], ◌∷◌, if◌then◌else◌, Result, Ok, Err, decimal}
+use Rattle.std.specs.Prelude.{◌≡◌, ℕ, ℤ, Bool, List, [], ◌∷◌, if◌then◌else◌, Result, Ok, Err, decimal}
 use Rattle.std.specs.Fmt.{signed_decimal}
 use Rattle.sha2.specs.Sha256.{sha256}
 use Rattle.rtgs_money.specs.Amounts.{IsPostingAmount, IsCredit}
@@ -9,8 +9,6 @@ use Rattle.rtgs_money.specs.declared.lexical.Lexical.{Lexical}
 use Rattle.rtgs_money.specs.declared.lexical.Lexical.TheVariants.{BadCode, BadReference, BadAmount, BadName, BadKey, BadDate}
 use Rattle.rtgs_book.specs.declared.command.Command.{Command}
 use Rattle.rtgs_book.specs.declared.command.Command.TheVariants as command
-use Rattle.rtgs_desk_requests.specs.declared.word_fault.WordFault.{WordFault}
-use Rattle.rtgs_desk_requests.specs.declared.word_fault.WordFault.TheVariants.{Form, OutOfMemory}
 
 -- the first character is a dash
 abbrev pub IsSigned : List ℕ → Type 0
@@ -29,21 +27,21 @@ pub record ReadsAdd (code name key : List ℕ) (result : Result Command Lexical)
   pub bad_name : IsCode code → ¬ IsName name → result ≡ Err BadName
   pub bad_key : IsCode code → IsName name → ¬ IsKey key → result ≡ Err BadKey
 
--- the word of an amount; a debit wants memory for its sign
-pub record ReadsCents (cents : List ℕ) (debit : Bool) (result : Result ℤ WordFault) : Type 0 where
-  pub found : (posting : ℤ) → ¬ IsSigned cents → SpellsPosting cents debit posting → (result ≡ Ok posting) ⊎ ((debit ≡ true) × (result ≡ Err OutOfMemory))
-  pub signed : IsSigned cents → result ≡ Err (Form BadAmount)
-  pub refused : ((posting : ℤ) → ¬ SpellsPosting cents debit posting) → (result ≡ Err (Form BadAmount)) ⊎ ((debit ≡ true) × (result ≡ Err OutOfMemory))
+-- the word of an amount
+pub record ReadsCents (cents : List ℕ) (debit : Bool) (result : Result ℤ Lexical) : Type 0 where
+  pub found : (posting : ℤ) → ¬ IsSigned cents → SpellsPosting cents debit posting → result ≡ Ok posting
+  pub signed : IsSigned cents → result ≡ Err BadAmount
+  pub refused : ((posting : ℤ) → ¬ SpellsPosting cents debit posting) → result ≡ Err BadAmount
 
 -- the words of a posting, judged from left to right
-pub record ReadsPost (code reference cents : List ℕ) (debit : Bool) (result : Result Command WordFault) : Type 0 where
+pub record ReadsPost (code reference cents : List ℕ) (debit : Bool) (result : Result Command Lexical) : Type 0 where
   pub found : (posting : ℤ) → IsCode code → IsReference reference → ¬ IsSigned cents → SpellsPosting cents debit posting
-      → (result ≡ Ok (command.Post code reference posting)) ⊎ ((debit ≡ true) × (result ≡ Err OutOfMemory))
-  pub bad_code : ¬ IsCode code → result ≡ Err (Form BadCode)
-  pub bad_reference : IsCode code → ¬ IsReference reference → result ≡ Err (Form BadReference)
-  pub signed : IsCode code → IsReference reference → IsSigned cents → result ≡ Err (Form BadAmount)
+      → result ≡ Ok (command.Post code reference posting)
+  pub bad_code : ¬ IsCode code → result ≡ Err BadCode
+  pub bad_reference : IsCode code → ¬ IsReference reference → result ≡ Err BadReference
+  pub signed : IsCode code → IsReference reference → IsSigned cents → result ≡ Err BadAmount
   pub bad_amount : IsCode code → IsReference reference → ((posting : ℤ) → ¬ SpellsPosting cents debit posting)
-      → (result ≡ Err (Form BadAmount)) ⊎ ((debit ≡ true) × (result ≡ Err OutOfMemory))
+      → result ≡ Err BadAmount
 
 -- the words of a credit limit, judged from left to right
 pub record ReadsCredit (code cents : List ℕ) (result : Result Command Lexical) : Type 0 where

@@ -2,9 +2,8 @@
 ghost use Rattle.rtgs_desk_requests.specs.Requests.{ReadsCommand};
 
 use crate::spelling::{read_add, read_close, read_credit, read_cut_off, read_open, read_post};
-use crate::word_fault::WordFault;
 use rtgs_book::Command;
-use std::alloc::Global;
+use rtgs_money::Lexical;
 
 /// A command, in words that have not been judged.
 #[derive(Clone, Copy, Debug)]
@@ -38,22 +37,22 @@ pub enum CommandWords<'a> {
 
 impl CommandWords<'_> {
     /// The command, or the refusal of the first word, from the left, that is not of its form.
-    pub fn read(self, alloc: Global) -> Result<Command, WordFault>
+    pub fn read(self) -> Result<Command, Lexical>
         ensures { ReadsCommand self.entry result }
     {
         match self {
-            CommandWords::Add { code, name, key } => Ok(read_add(code, name, key)?),
-            CommandWords::Credit { code, cents } => Ok(read_credit(code, cents)?),
+            CommandWords::Add { code, name, key } => read_add(code, name, key),
+            CommandWords::Credit { code, cents } => read_credit(code, cents),
             CommandWords::Post {
                 code,
                 reference,
                 cents,
                 debit,
-            } => read_post(alloc, code, reference, cents, debit),
-            CommandWords::Open { date } => Ok(read_open(date)?),
+            } => read_post(code, reference, cents, debit),
+            CommandWords::Open { date } => read_open(date),
             CommandWords::Resolve => Ok(Command::Resolve),
-            CommandWords::CutOff { date } => Ok(read_cut_off(date)?),
-            CommandWords::Close { date } => Ok(read_close(date)?),
+            CommandWords::CutOff { date } => read_cut_off(date),
+            CommandWords::Close { date } => read_close(date),
         }
     }
 }

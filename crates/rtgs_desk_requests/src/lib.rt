@@ -4,10 +4,8 @@
 mod command_words;
 mod request;
 mod spelling;
-mod word_fault;
 mod words;
 
 pub use crate::command_words::CommandWords;
 pub use crate::request::Request;
-pub use crate::word_fault::WordFault;
 pub use crate::words::Words;

@@ -2,11 +2,9 @@
 ghost use Rattle.std.specs.Prelude.{◌≡◌};
 
 use crate::spelling::{read_code, read_date, read_statement};
-use crate::word_fault::WordFault;
 use crate::words::Words;
 use rtgs_book::Command;
-use rtgs_money::{BusinessDate, Code};
-use std::alloc::Global;
+use rtgs_money::{BusinessDate, Code, Lexical};
 
 /// What a run is to do with the book in a file.
 #[derive(Clone, Copy, Debug)]
@@ -43,15 +41,15 @@ impl<'a> Request<'a> {
     ghost use Rattle.rtgs_desk_requests.specs.Requests.{Reads};
 
     /// The request, or the refusal of the first word, from the left, that is not of its form.
-    pub fn read(alloc: Global, words: &Words<'a>) -> Result<Request<'a>, WordFault>
+    pub fn read(words: &Words<'a>) -> Result<Request<'a>, Lexical>
         ensures { Reads words.now result }
     {
         match *words {
             Words::Init { file } => Ok(Request::Make { file }),
-            Words::Submit { file, command } => match command.read(alloc) {
-                Ok(command) => Ok(Request::Submit { file, command }),
-                Err(fault) => Err(fault),
-            },
+            Words::Submit { file, command } => {
+                let command = command.read()?;
+                Ok(Request::Submit { file, command })
+            }
             Words::Import { file, code, orders } => {
                 let sender = read_code(code)?;
                 Ok(Request::Import {

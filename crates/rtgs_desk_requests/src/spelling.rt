@@ -3,10 +3,8 @@ ghost use Rattle.std.specs.Prelude.{◌≡◌};
 ghost use Rattle.rtgs_book.specs.declared.command.Command.TheVariants.{OpenDay, CutOff, CloseDay};
 ghost use Rattle.rtgs_desk_requests.specs.Words.{ReadsAdd, ReadsCode, ReadsCredit, ReadsPost, ReadsCents, ReadsDate, ReadsDay, ReadsStatement};
 
-use crate::word_fault::WordFault;
 use rtgs_book::Command;
 use rtgs_money::{BusinessDate, Code, Credit, Key, Lexical, Name, PostingAmount, Reference};
-use std::alloc::Global;
 
 /// The addition that the words spell.
 pub fn read_add(code: &str, name: &str, key: &str) -> Result<Command, Lexical>
@@ -28,18 +26,12 @@ pub fn read_credit(code: &str, cents: &str) -> Result<Command, Lexical>
 }
 
 /// The posting that the words spell.
-pub fn read_post(
-    alloc: Global,
-    code: &str,
-    reference: &str,
-    cents: &str,
-    debit: bool,
-) -> Result<Command, WordFault>
+pub fn read_post(code: &str, reference: &str, cents: &str, debit: bool) -> Result<Command, Lexical>
     ensures { ReadsPost code.now reference.now cents.now debit result }
 {
     let code = Code::read(code.as_bytes())?;
     let reference = Reference::read(reference.as_bytes())?;
-    let cents = read_cents(alloc, cents, debit)?;
+    let cents = read_cents(cents, debit)?;
     Ok(Command::Post {
         code,
         reference,
@@ -47,18 +39,18 @@ pub fn read_post(
     })
 }
 
-/// The amount of a posting from a word without a sign.
-fn read_cents(alloc: Global, cents: &str, debit: bool) -> Result<PostingAmount, WordFault>
+/// The amount of a posting from a word without a sign, which a debit takes.
+fn read_cents(cents: &str, debit: bool) -> Result<PostingAmount, Lexical>
     ensures { ReadsCents cents.now debit result }
 {
     if cents.starts_with('-') {
-        return Err(WordFault::Form(Lexical::BadAmount));
+        return Err(Lexical::BadAmount);
     }
-    if !debit {
-        return Ok(PostingAmount::read(cents.as_bytes())?);
+    if debit {
+        PostingAmount::read_debit(cents.as_bytes())
+    } else {
+        PostingAmount::read(cents.as_bytes())
     }
-    let signed = format!(in alloc; "-{cents}")?;
-    Ok(PostingAmount::read(signed.as_bytes())?)
 }
 
 /// The opening of a day that the word spells.

@@ -76,6 +76,27 @@ fn a_posting_is_any_cents_but_none_up_to_a_quadrillion(rt: HostRuntime) {
 }
 
 #[test]
+fn a_debit_is_read_from_its_digits(rt: HostRuntime) {
+    let read: [(&[u8], i64); 3] = [
+        (b"1", -1),
+        (b"250", -250),
+        (b"1000000000000000", -1_000_000_000_000_000),
+    ];
+    for (text, cents) in read {
+        let posting = PostingAmount::read_debit(text).expect(&rt, "a debit");
+        assert_eq!(rt; posting.cents(), cents, "{text:?}");
+    }
+    let refused: [&[u8]; 7] = [b"", b"0", b"01", b"-1", b"+1", b" 1", b"1000000000000001"];
+    for text in refused {
+        assert_eq!(rt;
+            PostingAmount::read_debit(text),
+            Err(Lexical::BadAmount),
+            "{text:?}"
+        );
+    }
+}
+
+#[test]
 fn a_credit_limit_is_nothing_to_a_hundred_trillion(rt: HostRuntime) {
     let read: [(&[u8], u64); 3] = [
         (b"0", 0),
