@@ -18,13 +18,13 @@ fn words_of(alloc: Global, given: &[String]) -> Result<Vec<&str>, AllocError> {
         .collect(alloc)
 }
 
-/// One run over the words that were given.
+/// One run over the words that were given, and its exit status.
 fn run(rt: &HostRuntime, args: Args<Global>) -> Result<u8, AllocError> {
     let given = args.collect::<Vec<String>>(rt.alloc())?;
     let words = words_of(rt.alloc(), given.as_slice())?;
     let mut out = rt.stdout();
     let mut err = rt.stderr();
-    Ok(run_words(rt, words.as_slice(), &mut out, &mut err))
+    Ok(run_words(rt, words.as_slice(), &mut out, &mut err).exit_status())
 }
 
 fn main(rt: HostRuntime) -> ExitCode {
@@ -38,7 +38,11 @@ fn main(rt: HostRuntime) -> ExitCode {
     };
     let status = match ended {
         Ok(status) => status,
-        Err(error) => Failure::from(error).print(&mut rt.stderr()),
+        Err(error) => {
+            let failure = Failure::from(error);
+            let _ = failure.print(&mut rt.stderr());
+            failure.exit_status()
+        }
     };
     ExitCode::from(status)
 }

@@ -1,16 +1,14 @@
 //! What is done with the book in a file, and how its faults are told.
 ghost use Rattle.std.specs.Prelude.{◌≡◌};
-ghost use Rattle.rtgs_desk_cli.specs.Runs.{failure_of_file};
+ghost use Rattle.rtgs_desk_cli.specs.Runs.{failure_of_file, outcome_of_file, outcome_of_reply};
 
+use rtgs_book::Refusal;
 use rtgs_book_file::{FileDesk, FileFault};
 use rtgs_desk_lines::Failure;
 
 /// Makes a new book in a file that is missing or empty. Refused where there is another file, or where it fails.
 pub fn make(rt: &HostRuntime, file: &str) -> Result<(), Failure> {
-    match rtgs_book_file::make(rt, file) {
-        Ok(()) => Ok(()),
-        Err(fault) => Err(failure_of(fault)),
-    }
+    outcome(rtgs_book_file::make(rt, file))
 }
 
 /// Lends the desk over the book in a file to `work`. Refused where the file is in use, or holds no sound book.
@@ -21,7 +19,24 @@ pub fn with_desk<T, F: FnOnce(&mut FileDesk) -> T + Drop>(
 ) -> Result<T, Failure>
     requires { F.IsAlwaysCallable work }
 {
-    match rtgs_book_file::with_desk(rt, file, work) {
+    outcome(rtgs_book_file::with_desk(rt, file, work))
+}
+
+/// What a desk replied, or its refusal as that of the run.
+pub fn told<T>(reply: Result<T, Refusal>) -> Result<T, Failure>
+    ensures { result ≡ outcome_of_reply reply }
+{
+    match reply {
+        Ok(outcome) => Ok(outcome),
+        Err(refusal) => Err(Failure::Refused(refusal)),
+    }
+}
+
+// What was done with a book's file, or how its fault is told.
+fn outcome<T>(done: Result<T, FileFault>) -> Result<T, Failure>
+    ensures { result ≡ outcome_of_file done }
+{
+    match done {
         Ok(outcome) => Ok(outcome),
         Err(fault) => Err(failure_of(fault)),
     }

@@ -1,8 +1,10 @@
 //! The command line of the desk, as a call over two writers.
 #![tactic(auto)]
 
+mod batches;
 mod files;
 mod order_file;
+mod readings;
 mod run;
 mod texts;
 

@@ -1,7 +1,6 @@
 //! The bytes of a file of orders.
-ghost use Rattle.std.specs.Prelude.{◌≡◌, ◌<◌, ◌≤◌, length, IfOk, IfErr};
-ghost use Rattle.rtgs_exchange.specs.declared.limits.TheConstants.{MOST_BYTES};
-ghost use Rattle.rtgs_desk_cli.specs.Runs.{failure_of_reading};
+ghost use Rattle.std.specs.Prelude.{◌≡◌};
+ghost use Rattle.rtgs_desk_cli.specs.Runs.{failure_of_reading, IsTaken};
 
 use rtgs_book::Refusal;
 use rtgs_desk_lines::Failure;
@@ -12,10 +11,7 @@ use std::io::{ErrorKind, Read};
 
 /// The bytes of a file of orders. Refused where the file cannot be read, or is too long.
 pub fn read_file(rt: &HostRuntime, path: &str) -> Result<Vec<u8>, Failure> {
-    match read_bytes(rt, path) {
-        Ok(bytes) => within_limit(bytes),
-        Err(error) => Err(failure_of(error.kind())),
-    }
+    taken(read_bytes(rt, path))
 }
 
 // The bytes of a file, and no more than one above the most that a file of orders may have.
@@ -27,6 +23,17 @@ fn read_bytes(rt: &HostRuntime, path: &str) -> io::Result<Vec<u8>> {
     Ok(bytes)
 }
 
+// The bytes that were read, if they are no more than a file of orders may have.
+fn taken(read: io::Result<Vec<u8>>) -> Result<Vec<u8>, Failure>
+    ensures { IsTaken (λ bytes. bytes.items) read result }
+{
+    match read {
+        Ok(bytes) if bytes.len() > MOST_BYTES => Err(Failure::OrdersTooLong),
+        Ok(bytes) => Ok(bytes),
+        Err(error) => Err(failure_of(error.kind())),
+    }
+}
+
 // What an error of reading a file of orders comes to.
 fn failure_of(kind: ErrorKind) -> Failure
     ensures { result ≡ failure_of_reading kind }
@@ -35,15 +42,4 @@ fn failure_of(kind: ErrorKind) -> Failure
         ErrorKind::OutOfMemory => Failure::Refused(Refusal::OutOfMemory),
         _ => Failure::NoOrders,
     }
-}
-
-// The bytes, if they are no more than a file of orders may have.
-fn within_limit(bytes: Vec<u8>) -> Result<Vec<u8>, Failure>
-    ensures taken { IfOk result (λ taken. (taken.items ≡ bytes.items) × (length bytes.items ≤ MOST_BYTES)) }
-    ensures refused { IfErr result (λ failure. (failure ≡ Failure.OrdersTooLong) × (MOST_BYTES < length bytes.items)) }
-{
-    if bytes.len() > MOST_BYTES {
-        return Err(Failure::OrdersTooLong);
-    }
-    Ok(bytes)
 }

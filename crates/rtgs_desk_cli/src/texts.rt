@@ -1,33 +1,24 @@
 //! Runs that print a text: the results of a file of orders, a statement, a report.
-ghost use Rattle.std.specs.Prelude.{◌≡◌, IfErr};
-ghost use Rattle.rtgs_desk_cli.specs.Runs.{IsRefused};
+ghost use Rattle.std.specs.Prelude.{◌≡◌, ℕ, List, Option, None, IfOk, OnErr};
+ghost use Rattle.rtgs_book.specs.declared.Refusal.{Refusal};
+ghost use Rattle.rtgs_desk_lines.specs.Texts.{Prints};
+ghost use Rattle.rtgs_exchange.specs.Results.{results_text};
+ghost use Rattle.rtgs_exchange.specs.declared.OrderRow.{OrderRow};
+ghost use Rattle.rtgs_exchange.specs.declared.RowReply.{RowReply};
 
-use crate::files::with_desk;
+use crate::batches::{print_results, submit_orders};
+use crate::files::{told, with_desk};
 use crate::order_file::read_file;
+use crate::readings::{report_of, statement_of};
 use rtgs_book_file::FileDesk;
 use rtgs_desk_lines::{Failure, Printed};
-use rtgs_exchange::{BatchResult, OrderRow, read_orders, submit_batch, write_results};
+use rtgs_exchange::{BatchResult, OrderRow};
 use rtgs_money::{BusinessDate, Code};
-use rtgs_statements::{day_report, statement_text};
+use rtgs_output::send_all;
 use std::io::Write;
 
-/// Submits the orders of a file.
-fn submit_file(
-    rt: &HostRuntime,
-    desk: &mut FileDesk,
-    sender: Code,
-    orders: &str,
-) -> Result<(Vec<OrderRow>, BatchResult), Failure> {
-    let bytes = read_file(rt, orders)?;
-    let rows = match read_orders(rt.alloc(), bytes.as_slice()) {
-        Ok(rows) => rows,
-        Err(fault) => return Err(Failure::Orders(fault)),
-    };
-    let batch = submit_batch(rt.alloc(), desk, sender, rows.as_slice())?;
-    Ok((rows, batch))
-}
-
-/// Opens the book in a file, submits a participant's file of orders to its desk, closes it, and prints the results.
+/// Opens the book in a file, submits a participant's file of orders to its desk, closes it, and prints the results. A
+/// batch that stopped ends the run as stopped.
 pub fn import<O: Write>(
     rt: &HostRuntime,
     file: &str,
@@ -35,15 +26,17 @@ pub fn import<O: Write>(
     orders: &str,
     out: &mut O,
 ) -> Result<Printed, Failure>
-    ensures refused { IfErr result (λ failure. IsRefused failure → out.new ≡ out.old) }
+    ensures printed { IfOk result (λ printed.
+        (rows : List OrderRow) × (replies : List RowReply) × (stopped : Option Refusal)
+        × Prints (results_text rows replies stopped) stopped printed (O.contents out.old) (O.contents out.new)) }
+    ensures refused { OnErr result (out.new ≡ out.old) }
 {
     let submitted = with_desk(rt, file, |desk| submit_file(rt, desk, sender, orders))?;
     let (rows, batch) = submitted?;
-    let printed = Printed::of(write_results(rt.alloc(), out, rows.as_slice(), &batch))?;
-    Ok(printed.after_batch(batch.stopped))
+    print_results(rt.alloc(), out, rows.as_slice(), &batch)
 }
 
-/// Opens the book in a file, and prints a participant's statement.
+/// Opens the book in a file, reads a participant's statement, closes it, and prints the statement.
 pub fn statement<O: Write>(
     rt: &HostRuntime,
     file: &str,
@@ -51,21 +44,46 @@ pub fn statement<O: Write>(
     date: BusinessDate,
     out: &mut O,
 ) -> Result<Printed, Failure>
-    ensures refused { IfErr result (λ failure. IsRefused failure → out.new ≡ out.old) }
+    ensures printed { IfOk result (λ printed.
+        (text : List ℕ) × Prints text None printed (O.contents out.old) (O.contents out.new)) }
+    ensures refused { OnErr result (out.new ≡ out.old) }
 {
-    let statement = with_desk(rt, file, |desk| desk.statement_of(&code, date))?;
-    Printed::of(statement_text(rt.alloc(), out, &statement?))
+    let text = told(with_desk(rt, file, |desk| statement_of(rt.alloc(), desk, &code, date))?)?;
+    Ok(print_text(out, text.as_slice()))
 }
 
-/// Opens the book in a file, and prints the report of a day.
+/// Opens the book in a file, reads the report of a day, closes it, and prints the report.
 pub fn report<O: Write>(
     rt: &HostRuntime,
     file: &str,
     date: BusinessDate,
     out: &mut O,
 ) -> Result<Printed, Failure>
-    ensures refused { IfErr result (λ failure. IsRefused failure → out.new ≡ out.old) }
+    ensures printed { IfOk result (λ printed.
+        (text : List ℕ) × Prints text None printed (O.contents out.old) (O.contents out.new)) }
+    ensures refused { OnErr result (out.new ≡ out.old) }
 {
-    let report = with_desk(rt, file, |desk| desk.report_of(date))?;
-    Printed::of(day_report(rt.alloc(), out, &report?))
+    let text = told(with_desk(rt, file, |desk| report_of(rt.alloc(), desk, date))?)?;
+    Ok(print_text(out, text.as_slice()))
+}
+
+// Submits the orders of a file.
+fn submit_file(
+    rt: &HostRuntime,
+    desk: &mut FileDesk,
+    sender: Code,
+    orders: &str,
+) -> Result<(Vec<OrderRow>, BatchResult), Failure> {
+    let bytes = read_file(rt, orders)?;
+    submit_orders(rt.alloc(), desk, sender, bytes.as_slice())
+}
+
+/// Prints a text.
+pub fn print_text<O: Write>(out: &mut O, text: &[u8]) -> Printed
+    ensures { Prints text.now None result (O.contents out.old) (O.contents out.new) }
+{
+    match send_all(out, text) {
+        Ok(()) => Printed::Whole,
+        Err(failed) => Printed::Lost(failed),
+    }
 }

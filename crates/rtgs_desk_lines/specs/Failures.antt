@@ -10,10 +10,6 @@ use Rattle.rtgs_book.specs.declared.refusal.Refusal.{Refusal}
 use Rattle.rtgs_book.specs.declared.refusal.Refusal.TheVariants.{Overdrawn, OutOfMemory, StoreFault, Failed}
 use Rattle.rtgs_book.specs.declared.fault.Fault.{Fault}
 use Rattle.rtgs_book.specs.declared.fault.Fault.TheVariants as fault
-use Rattle.rtgs_keeper.specs.declared.commit_fault.CommitFault.{CommitFault}
-use Rattle.rtgs_keeper.specs.declared.commit_fault.CommitFault.TheVariants as keeper
-use Rattle.rtgs_desk_requests.specs.declared.word_fault.WordFault.{WordFault}
-use Rattle.rtgs_desk_requests.specs.declared.word_fault.WordFault.TheVariants as words
 use Rattle.rtgs_desk_lines.specs.declared.failure.Failure.{Failure}
 use Rattle.rtgs_desk_lines.specs.declared.failure.Failure.TheVariants.{Form, Refused, Opening, InUse, FileExists, Orders, OrdersTooLong, NoOrders}
 use Rattle.rtgs_exchange.specs.BatchFaults.{batch_kind_of}
@@ -65,12 +61,3 @@ two_digits number = (if nat_lt number 10 then codes "0" else []) ++ decimal numb
 
 abbrev pub line_of : Failure → List ℕ
 line_of failure = codes "refused " ++ two_digits (failure_entry_of failure).number ++ codes " " ++ (failure_entry_of failure).name ++ detail_of failure
-
-abbrev pub failure_of_words : WordFault → Failure
-failure_of_words (words.Form form) = Form form
-failure_of_words words.OutOfMemory = Refused OutOfMemory
-
-abbrev pub failure_of_store : CommitFault → Failure
-failure_of_store keeper.OutOfMemory = Refused OutOfMemory
-failure_of_store keeper.Store = Refused StoreFault
-failure_of_store keeper.Failed = Refused Failed

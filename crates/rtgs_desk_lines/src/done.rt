@@ -1,10 +1,12 @@
 //! What a run did, as it is printed.
-ghost use Rattle.std.specs.Prelude.{◌≡◌, ◌⊎◌, ◌++◌, ◌∷◌, [], Some};
-ghost use Rattle.std.specs.Io.KnownBytes.{Appends};
-ghost use Rattle.rtgs_desk_lines.specs.Lines.{answer_line};
+ghost use Rattle.std.specs.Prelude.{◌≡◌, ◌+◌, ◌<◌, ◌≤◌, ◌++◌, ◌∷◌, [], Some};
+ghost use Rattle.arrayvec.specs.ArrayString.{array_string_len};
+ghost use Rattle.rtgs_desk_lines.specs.Lines.{answer_line, line_of};
+ghost use Rattle.rtgs_desk_lines.specs.Told.{IsTold};
 
+use crate::line::{Line, ROOM};
 use rtgs_book::Answer;
-use rtgs_refusals::exit_status::{DONE, FAILED};
+use rtgs_output::WriterFailed;
 use std::fmt;
 use std::io::Write;
 
@@ -18,58 +20,67 @@ pub enum Done {
 }
 
 impl Done {
-    ghost use Rattle.rtgs_desk_lines.specs.Lines.{line_of};
-
-    /// Prints the line with its end, and gives the exit status of the run: done (0), or failed (3) where the line is not
-    /// taken whole.
-    pub fn print<O: Write>(self, out: &mut O) -> u8
-        ensures status { (result ≡ DONE) ⊎ (result ≡ FAILED) }
-        ensures said { result ≡ DONE → Appends (O.contents out.old) (O.contents out.new) (line_of self ++ 10 ∷ []) }
+    /// Prints the line with its end, in one piece. Where the writer fails, a beginning of it is printed, and not all.
+    pub fn print<O: Write>(self, out: &mut O) -> Result<(), WriterFailed>
+        ensures { IsTold result (O.contents out.old) (O.contents out.new) (line_of self ++ 10 ∷ []) }
     {
-        match writeln!(out, "{self}") {
-            Ok(()) => DONE,
-            Err(_) => FAILED,
+        self.line().send(out)
+    }
+
+    // The line, without its end.
+    fn line(self) -> Line
+        ensures text { result.text.bytes ≡ line_of self }
+        ensures room { array_string_len result.text < ROOM }
+    {
+        match self {
+            Done::Made => Line::of("initialised"),
+            Done::Answered(answer) => answer_line(answer),
         }
     }
 }
 
+// An answer as one line, without its end.
+fn answer_line(answer: Answer) -> Line
+    ensures text { result.text.bytes ≡ answer_line answer }
+    ensures room { array_string_len result.text < ROOM }
+{
+    match answer {
+        Answer::Added => Line::of("added"),
+        Answer::CreditSet => Line::of("credit set"),
+        Answer::Posted { number } => Line::of("posted ").number(number),
+        Answer::Opened => Line::of("opened"),
+        Answer::Settled { number, mark } => {
+            Line::of("settled ")
+                .number(number)
+                .then(" mark ")
+                .number(mark)
+        }
+        Answer::Queued { number, place } => {
+            Line::of("queued ")
+                .number(number)
+                .then(" place ")
+                .number(place)
+        }
+        Answer::Withdrawn { number } => Line::of("withdrawn ").number(number),
+        Answer::Resolved { mark, count, value } => {
+            let line = Line::of("resolved mark ").number(mark);
+            let line = line.then(" count ").number(count);
+            line.then(" value ").number(value.cents())
+        }
+        Answer::Nothing => Line::of("nothing"),
+        Answer::CutOffDone => Line::of("cut off"),
+        Answer::Closed { rejected } => Line::of("closed rejected ").number(rejected),
+        Answer::Repeated(_) => Line::of("repeated"),
+    }
+}
+
 impl fmt::Display for Done {
+    ghost use Rattle.std.specs.Prelude.{Some};
     ghost use Rattle.rtgs_desk_lines.specs.Lines.{line_of};
 
     ghost output = { λ done. Some (line_of done) };
 
     fn fmt<W: fmt::Write>(&self, f: &mut fmt::Formatter<W>) -> fmt::Result {
-        match self {
-            Done::Made => write!(f, "initialised"),
-            Done::Answered(answer) => write!(f, "{}", AnswerLine(*answer)),
-        }
-    }
-}
-
-/// An answer as one line, without its end.
-#[derive(Clone, Copy)]
-struct AnswerLine(Answer);
-
-impl fmt::Display for AnswerLine {
-    ghost output = { λ line. Some (answer_line line.0) };
-
-    fn fmt<W: fmt::Write>(&self, f: &mut fmt::Formatter<W>) -> fmt::Result {
-        match self.0 {
-            Answer::Added => write!(f, "added"),
-            Answer::CreditSet => write!(f, "credit set"),
-            Answer::Posted { number } => write!(f, "posted {number}"),
-            Answer::Opened => write!(f, "opened"),
-            Answer::Settled { number, mark } => write!(f, "settled {number} mark {mark}"),
-            Answer::Queued { number, place } => write!(f, "queued {number} place {place}"),
-            Answer::Withdrawn { number } => write!(f, "withdrawn {number}"),
-            Answer::Resolved { mark, count, value } => {
-                let value = value.cents();
-                write!(f, "resolved mark {mark} count {count} value {value}")
-            }
-            Answer::Nothing => write!(f, "nothing"),
-            Answer::CutOffDone => write!(f, "cut off"),
-            Answer::Closed { rejected } => write!(f, "closed rejected {rejected}"),
-            Answer::Repeated(_) => write!(f, "repeated"),
-        }
+        f.write_str(self.line().as_str())
     }
 }

@@ -1,16 +1,22 @@
 //! Why a run did not do what it was asked for.
-ghost use Rattle.std.specs.Prelude.{◌≡◌, ◌⊎◌, Some};
+ghost use Rattle.std.specs.Prelude.{◌≡◌, ◌⊎◌, ◌+◌, ◌<◌, ◌≤◌, ◌++◌, ◌∷◌, [], Some};
+ghost use Rattle.arrayvec.specs.ArrayString.{array_string_len};
+ghost use Rattle.rtgs_desk_lines.specs.Failures.{failure_kind_of, failure_entry_of, refusal_detail, fault_detail, detail_of, line_of};
+ghost use Rattle.rtgs_desk_lines.specs.Told.{IsTold};
 
+use crate::line::{Line, ROOM};
 use rtgs_book::{Fault, Refusal};
-use rtgs_desk_requests::WordFault;
 use rtgs_exchange::BatchFault;
-use rtgs_keeper::CommitFault;
 use rtgs_money::Lexical;
+use rtgs_output::WriterFailed;
 use rtgs_refusals::RefusalKind;
 use rtgs_refusals::exit_status::{FAILED, REFUSED};
 use std::alloc::AllocError;
 use std::fmt;
 use std::io::Write;
+
+/// The most bytes that stand behind a refusal's name.
+const LONGEST_DETAIL: usize = 40;
 
 /// A run's refusal: its number and name are printed, and its exit status is given.
 #[derive(Clone, Copy, Debug, PartialEq, Eq)]
@@ -34,8 +40,6 @@ pub enum Failure {
 }
 
 impl Failure {
-    ghost use Rattle.rtgs_desk_lines.specs.Failures.{failure_kind_of, failure_entry_of};
-
     /// What it is known by: its number, its name and its statuses.
     pub fn kind(&self) -> RefusalKind
         ensures { result ≡ failure_kind_of self.now }
@@ -60,13 +64,65 @@ impl Failure {
         self.kind().exit_status().unwrap()
     }
 
-    /// Prints the line with its end, as far as it is taken, and gives the exit status of the run.
-    pub fn print<E: Write>(self, err: &mut E) -> u8
-        ensures status { Some result ≡ (failure_entry_of self).exit_status }
-        ensures refused_or_failed { (result ≡ REFUSED) ⊎ (result ≡ FAILED) }
+    /// Prints the line with its end, in one piece. Where the writer fails, a beginning of it is printed, and not all.
+    pub fn print<E: Write>(&self, err: &mut E) -> Result<(), WriterFailed>
+        ensures { IsTold result (E.contents err.old) (E.contents err.new) (line_of self.now ++ 10 ∷ []) }
     {
-        let _ = writeln!(err, "{self}");
-        self.exit_status()
+        self.line().send(err)
+    }
+
+    // The line, without its end.
+    fn line(&self) -> Line
+        ensures text { result.text.bytes ≡ line_of self.now }
+        ensures room { array_string_len result.text < ROOM }
+    {
+        let kind = self.kind();
+        let number = kind.number();
+        let head = Line::of(if number < 10 { "refused 0" } else { "refused " });
+        let line = head.number(number).then(" ").then(kind.name());
+        line.then(self.detail().as_str())
+    }
+
+    // What stands behind the name.
+    fn detail(&self) -> Line
+        ensures text { result.text.bytes ≡ detail_of self.now }
+        ensures room { array_string_len result.text ≤ LONGEST_DETAIL }
+    {
+        match *self {
+            Failure::Refused(refusal) => refusal_detail(refusal),
+            Failure::Opening(fault) => fault_detail(fault),
+            Failure::Orders(BatchFault::BadRow { row }) => Line::of(" ").number(row),
+            Failure::Orders(_)
+            | Failure::Form(_)
+            | Failure::InUse
+            | Failure::FileExists
+            | Failure::OrdersTooLong
+            | Failure::NoOrders => Line::of(""),
+        }
+    }
+}
+
+// What stands behind a refusal's name: of overdrawn participants the first code and the count.
+fn refusal_detail(refusal: Refusal) -> Line
+    ensures text { result.text.bytes ≡ refusal_detail refusal }
+    ensures room { array_string_len result.text ≤ LONGEST_DETAIL }
+{
+    match refusal {
+        Refusal::Overdrawn { first, count } => {
+            Line::of(" ").then(first.as_str()).then(" ").number(count)
+        }
+        _ => Line::of(""),
+    }
+}
+
+// What stands behind a fault's name: of a broken rule its number.
+fn fault_detail(fault: Fault) -> Line
+    ensures text { result.text.bytes ≡ fault_detail fault }
+    ensures room { array_string_len result.text ≤ LONGEST_DETAIL }
+{
+    match fault {
+        Fault::Inconsistent { rule } => Line::of(" ").number(rule.number()),
+        Fault::OutOfMemory | Fault::StoreFault | Fault::NotADeskFile => Line::of(""),
     }
 }
 
@@ -77,75 +133,7 @@ impl fmt::Display for Failure {
     ghost output = { λ failure. Some (line_of failure) };
 
     fn fmt<W: fmt::Write>(&self, f: &mut fmt::Formatter<W>) -> fmt::Result {
-        let kind = self.kind();
-        let number = kind.number();
-        let name = kind.name();
-        f.write_str(if number < 10 { "refused 0" } else { "refused " })?;
-        write!(f, "{number} {name}")?;
-        match *self {
-            Failure::Refused(refusal) => write!(f, "{}", RefusalDetail(refusal)),
-            Failure::Opening(fault) => write!(f, "{}", FaultDetail(fault)),
-            Failure::Orders(BatchFault::BadRow { row }) => write!(f, " {row}"),
-            Failure::Orders(_)
-            | Failure::Form(_)
-            | Failure::InUse
-            | Failure::FileExists
-            | Failure::OrdersTooLong
-            | Failure::NoOrders => Ok(()),
-        }
-    }
-}
-
-/// What is printed behind a refusal's name.
-#[derive(Clone, Copy)]
-struct RefusalDetail(Refusal);
-
-impl fmt::Display for RefusalDetail {
-    ghost use Rattle.std.specs.Prelude.{Some};
-    ghost use Rattle.rtgs_desk_lines.specs.Failures.{refusal_detail};
-
-    ghost output = { λ detail. Some (refusal_detail detail.0) };
-
-    fn fmt<W: fmt::Write>(&self, f: &mut fmt::Formatter<W>) -> fmt::Result {
-        match self.0 {
-            Refusal::Overdrawn { first, count } => write!(f, " {first} {count}"),
-            _ => Ok(()),
-        }
-    }
-}
-
-/// What is printed behind a fault's name.
-#[derive(Clone, Copy)]
-struct FaultDetail(Fault);
-
-impl fmt::Display for FaultDetail {
-    ghost use Rattle.std.specs.Prelude.{Some};
-    ghost use Rattle.rtgs_desk_lines.specs.Failures.{fault_detail};
-
-    ghost output = { λ detail. Some (fault_detail detail.0) };
-
-    fn fmt<W: fmt::Write>(&self, f: &mut fmt::Formatter<W>) -> fmt::Result {
-        match self.0 {
-            Fault::Inconsistent { rule } => {
-                let number = rule.number();
-                write!(f, " {number}")
-            }
-            Fault::OutOfMemory | Fault::StoreFault | Fault::NotADeskFile => Ok(()),
-        }
-    }
-}
-
-impl From<WordFault> for Failure {
-    ghost use Rattle.std.specs.Prelude.{◌≡◌};
-    ghost use Rattle.rtgs_desk_lines.specs.Failures.{failure_of_words};
-
-    ghost from_gives = { λ fault failure. failure ≡ failure_of_words fault };
-
-    fn from(fault: WordFault) -> Failure {
-        match fault {
-            WordFault::Form(form) => Failure::Form(form),
-            WordFault::OutOfMemory => Failure::Refused(Refusal::OutOfMemory),
-        }
+        f.write_str(self.line().as_str())
     }
 }
 
@@ -157,43 +145,6 @@ impl From<Refusal> for Failure {
 
     fn from(refusal: Refusal) -> Failure {
         Failure::Refused(refusal)
-    }
-}
-
-impl From<Fault> for Failure {
-    ghost use Rattle.std.specs.Prelude.{◌≡◌};
-    ghost use Rattle.rtgs_desk_lines.specs.declared.failure.Failure.TheVariants.{Opening};
-
-    ghost from_gives = { λ fault failure. failure ≡ Opening fault };
-
-    fn from(fault: Fault) -> Failure {
-        Failure::Opening(fault)
-    }
-}
-
-impl From<CommitFault> for Failure {
-    ghost use Rattle.std.specs.Prelude.{◌≡◌};
-    ghost use Rattle.rtgs_desk_lines.specs.Failures.{failure_of_store};
-
-    ghost from_gives = { λ fault failure. failure ≡ failure_of_store fault };
-
-    fn from(fault: CommitFault) -> Failure {
-        Failure::Refused(match fault {
-            CommitFault::OutOfMemory => Refusal::OutOfMemory,
-            CommitFault::Store => Refusal::StoreFault,
-            CommitFault::Failed => Refusal::Failed,
-        })
-    }
-}
-
-impl From<BatchFault> for Failure {
-    ghost use Rattle.std.specs.Prelude.{◌≡◌};
-    ghost use Rattle.rtgs_desk_lines.specs.declared.failure.Failure.TheVariants.{Orders};
-
-    ghost from_gives = { λ fault failure. failure ≡ Orders fault };
-
-    fn from(fault: BatchFault) -> Failure {
-        Failure::Orders(fault)
     }
 }
 

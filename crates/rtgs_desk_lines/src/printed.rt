@@ -1,32 +1,43 @@
-//! What became of a text that a run prints.
+//! What became of what a run prints.
 ghost use Rattle.std.specs.Prelude.{◌≡◌};
 
 use crate::failure::Failure;
 use rtgs_book::Refusal;
-use rtgs_output::TextFault;
+use rtgs_output::{TextFault, WriterFailed};
 use rtgs_refusals::exit_status::{DONE, FAILED};
 
-/// What became of a text.
-#[derive(Clone, Copy, Debug, PartialEq, Eq)]
+/// What became of what a run had to print on standard output, where it was not refused.
+#[derive(Debug, Drop)]
 pub enum Printed {
     /// It was printed whole, and all was done.
     Whole,
-    /// The batch stopped, or standard output took no more.
-    Stopped,
+    /// The batch stopped at this refusal, and its results were printed whole.
+    Stopped(Refusal),
+    /// Standard output took no more: a beginning was printed, and not all.
+    Lost(WriterFailed),
 }
 
 impl Printed {
-    ghost use Rattle.rtgs_desk_lines.specs.Texts.{outcome_of, after_batch, text_status};
+    ghost use Rattle.rtgs_desk_lines.specs.Texts.{printed_of, outcome_of, after_batch, printed_status};
 
-    /// What becomes of a text that was written like this: whole, stopped where its writer failed, or the refusal
-    /// for want of memory.
+    /// What became of a text that was sent like this.
+    pub fn sent(told: Result<(), WriterFailed>) -> Printed
+        ensures { result ≡ printed_of told }
+    {
+        match told {
+            Ok(()) => Printed::Whole,
+            Err(failed) => Printed::Lost(failed),
+        }
+    }
+
+    /// What became of a text that was written like this, or the refusal for want of memory.
     pub fn of(written: Result<(), TextFault>) -> Result<Printed, Failure>
         ensures { result ≡ outcome_of written }
     {
         match written {
             Ok(()) => Ok(Printed::Whole),
             Err(TextFault::OutOfMemory) => Err(Failure::Refused(Refusal::OutOfMemory)),
-            Err(TextFault::Write(_)) => Ok(Printed::Stopped),
+            Err(TextFault::Write(failed)) => Ok(Printed::Lost(failed)),
         }
     }
 
@@ -34,19 +45,20 @@ impl Printed {
     pub fn after_batch(self, stopped: Option<Refusal>) -> Printed
         ensures { result ≡ after_batch self stopped }
     {
-        match stopped {
-            None => self,
-            Some(_) => Printed::Stopped,
+        match (self, stopped) {
+            (Printed::Whole, Some(refusal)) => Printed::Stopped(refusal),
+            (printed, _) => printed,
         }
     }
 
-    /// The exit status of the run: done (0) where the text was printed whole, and failed (3) where it stopped.
-    pub fn exit_status(self) -> u8
-        ensures { result ≡ text_status self }
+    /// The exit status of the run: done (0) where all was done and printed whole, and failed (3) where the batch
+    /// stopped, or standard output took no more.
+    pub fn exit_status(&self) -> u8
+        ensures { result ≡ printed_status self.now }
     {
         match self {
             Printed::Whole => DONE,
-            Printed::Stopped => FAILED,
+            Printed::Stopped(_) | Printed::Lost(_) => FAILED,
         }
     }
 }

@@ -1,13 +1,14 @@
 //! Files of orders, taken whole or not at all, and sent again.
 use super::{KEY_A, KEY_B, prints};
 use rtgs_desk_cli::run_words;
+use rtgs_desk_lines::{Ended, Printed};
 use std::fs;
 use std::test::Fail;
 
 const HEADER: &str = "reference,to,amount\n";
 
 /// An open day on which ALFA has 150 cents.
-fn begin_day(rt: &HostRuntime, file: &str) -> Result<(), Fail> {
+pub fn begin_day(rt: &HostRuntime, file: &str) -> Result<(), Fail> {
     let key = "0000000000000000000000000000000c";
     prints(rt, &["init", file], "initialised\n", 0)?;
     for (code, key) in [("ALFA", KEY_A), ("BETA", KEY_B), ("GAMA", key)] {
@@ -114,7 +115,9 @@ fn orders_stand_where_their_results_are_lost(rt: HostRuntime) -> Result<(), Fail
     let mut out = room.as_mut_slice();
     let mut err = Vec::new(rt.alloc());
     let words = ["import", "lost", "ALFA", "lost.csv"];
-    assert_eq!(rt; run_words(&rt, &words, &mut out, &mut err), 3);
+    let ended = run_words(&rt, &words, &mut out, &mut err);
+    assert!(rt; matches!(ended, Ended::Printed(Printed::Lost(_))));
+    assert_eq!(rt; ended.exit_status(), 3);
     let again = "reference,result,number,detail\nA-1,repeated,1,settled\n";
     prints(&rt, &words, again, 0)
 }

@@ -1,0 +1,35 @@
+//! How a run ended.
+ghost use Rattle.std.specs.Prelude.{◌≡◌, ◌≤◌, Some};
+
+use crate::failure::Failure;
+use crate::printed::Printed;
+use rtgs_output::WriterFailed;
+use rtgs_refusals::exit_status::MISUSED;
+
+/// How a run ended, and what became of what it had to say.
+#[derive(Debug, Drop)]
+pub enum Ended {
+    /// It was not refused: what it printed on standard output.
+    Printed(Printed),
+    /// It was refused, or it failed: why, and whether standard error took the line of that whole.
+    Refused(Failure, Result<(), WriterFailed>),
+    /// Its words are no command line: whether standard error took whole what is wrong with them.
+    Misused(Result<(), WriterFailed>),
+}
+
+impl Ended {
+    ghost use Rattle.rtgs_desk_lines.specs.Texts.{ended_status};
+    ghost use Rattle.rtgs_refusals.specs.declared.exit_status.TheConstants.{FAILED};
+
+    /// The exit status of the run: done (0), refused (1), misused (2), or failed (3).
+    pub fn exit_status(&self) -> u8
+        ensures status { Some result ≡ ended_status self.now }
+        ensures most { result ≤ FAILED }
+    {
+        match self {
+            Ended::Printed(printed) => printed.exit_status(),
+            Ended::Refused(failure, _) => failure.exit_status(),
+            Ended::Misused(_) => MISUSED,
+        }
+    }
+}
