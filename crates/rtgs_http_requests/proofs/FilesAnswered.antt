@@ -1,5 +1,5 @@
 -- A body is an order file or has a fault.
-use Rattle.std.proofs.Common.{◌≡◌, ◌⊎◌, inl, inr, ◌≤◌, ◌<◌, ◌+◌, ℕ, zero, suc, List, [], ◌∷◌, length, Result, Ok, Err, refl, ap}
+use Rattle.std.proofs.Common.{◌≡◌, ◌⊎◌, inl, inr, ◌≤◌, ◌<◌, ◌+◌, ℕ, zero, suc, List, [], ◌∷◌, length, Ok, Err, refl, ap}
 use Rattle.std.proofs.Common.{◌∙◌, arith, Global}
 use Rattle.std.specs.Prelude.{◌≢◌}
 use Rattle.std.specs.Global.{Vec}
@@ -13,7 +13,6 @@ use Rattle.rtgs_exchange.specs.declared.order_row.OrderRow.{OrderRow}
 use Rattle.rtgs_http_requests.specs.Meaning.{Answer, AsksBatch}
 use Rattle.rtgs_http_requests.specs.Steps.{HasAnswer}
 use Rattle.rtgs_http_requests.specs.declared.asked.Asked.TheVariants.{Batch}
-use Rattle.rtgs_http_requests.specs.declared.http_fault.HttpFault.{HttpFault}
 use Rattle.rtgs_http_requests.specs.declared.http_fault.HttpFault.TheVariants as fault
 
 -- all records spell rows, and they are so many at most

@@ -1,13 +1,14 @@
 //! Heads that are served, and heads that are not.
-use super::fault_number;
+use super::fault;
+use super::told::{ASKED, BAD_HEAD, HEAD_TOO_LONG, TRUNCATED};
 use std::alloc::{AllocError, Global};
 use std::test::Fail;
 
 #[test]
 fn regions_that_do_not_end(rt: HostRuntime) -> Result<(), Fail> {
-    assert_eq!(rt; fault_number(rt.alloc(), b"")?, 64);
-    assert_eq!(rt; fault_number(rt.alloc(), &[b'A'; 8191])?, 64);
-    assert_eq!(rt; fault_number(rt.alloc(), &[b'A'; 8192])?, 61);
+    assert_eq!(rt; fault(rt.alloc(), b"")?, TRUNCATED);
+    assert_eq!(rt; fault(rt.alloc(), &[b'A'; 8191])?, TRUNCATED);
+    assert_eq!(rt; fault(rt.alloc(), &[b'A'; 8192])?, HEAD_TOO_LONG);
     Ok(())
 }
 
@@ -26,7 +27,7 @@ fn heads_that_are_not_served(rt: HostRuntime) -> Result<(), Fail> {
         b"GET /account\r\n\r\n",
     ];
     for head in heads {
-        assert_eq!(rt; fault_number(rt.alloc(), head)?, 60);
+        assert_eq!(rt; fault(rt.alloc(), head)?, BAD_HEAD);
     }
     Ok(())
 }
@@ -39,10 +40,11 @@ fn heads_that_are_served(rt: HostRuntime) -> Result<(), Fail> {
         b"GET /account HTTP/1.1\r\ndesk-key: 0000000000000000000000000000000a\r\nContent-Length: 0\r\n\r\n",
         b"GET /account HTTP/1.1\r\ndesk-key: 0000000000000000000000000000000a\r\nContent-Length: 000\r\n\r\n",
         b"GET /account HTTP/1.1\ndesk-key: 0000000000000000000000000000000a\nHost: desk\r\n\r\n",
-        b"POST /orders HTTP/1.1\r\nDesk-Key: 0000000000000000000000000000000a\r\nCONTENT-LENGTH: 000000044\r\n\r\n{\"amount\":100,\"reference\":\"A-1\",\"to\":\"BETA\"}behind",
+        b"POST /orders HTTP/1.1\r\nDesk-Key: 0000000000000000000000000000000a\r\nCONTENT-LENGTH: 000000044\r\n\r\n\
+          {\"amount\":100,\"reference\":\"A-1\",\"to\":\"BETA\"}behind",
     ];
     for head in heads {
-        assert_eq!(rt; fault_number(rt.alloc(), head)?, 0);
+        assert_eq!(rt; fault(rt.alloc(), head)?, ASKED);
     }
     Ok(())
 }
@@ -61,9 +63,9 @@ fn with_fields(alloc: Global, count: u32) -> Result<String, AllocError> {
 #[test]
 fn a_head_has_32_fields_at_most(rt: HostRuntime) -> Result<(), Fail> {
     let most = with_fields(rt.alloc(), 31)?;
-    assert_eq!(rt; fault_number(rt.alloc(), most.as_bytes())?, 0);
+    assert_eq!(rt; fault(rt.alloc(), most.as_bytes())?, ASKED);
     let more = with_fields(rt.alloc(), 32)?;
-    assert_eq!(rt; fault_number(rt.alloc(), more.as_bytes())?, 60);
+    assert_eq!(rt; fault(rt.alloc(), more.as_bytes())?, BAD_HEAD);
     Ok(())
 }
 
@@ -84,10 +86,10 @@ fn a_head_has_8192_bytes_at_most(rt: HostRuntime) -> Result<(), Fail> {
     assert!(rt; shortest < 8192);
     let most = with_long_field(rt.alloc(), 8192 - shortest)?;
     assert_eq!(rt; most.len(), 8192);
-    assert_eq!(rt; fault_number(rt.alloc(), most.as_bytes())?, 0);
+    assert_eq!(rt; fault(rt.alloc(), most.as_bytes())?, ASKED);
     let more = with_long_field(rt.alloc(), 8193 - shortest)?;
-    assert_eq!(rt; fault_number(rt.alloc(), more.as_bytes())?, 61);
+    assert_eq!(rt; fault(rt.alloc(), more.as_bytes())?, HEAD_TOO_LONG);
     let line_of_8192 = with_long_field(rt.alloc(), 8189)?;
-    assert_eq!(rt; fault_number(rt.alloc(), line_of_8192.as_bytes())?, 61);
+    assert_eq!(rt; fault(rt.alloc(), line_of_8192.as_bytes())?, HEAD_TOO_LONG);
     Ok(())
 }

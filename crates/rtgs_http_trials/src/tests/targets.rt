@@ -1,5 +1,6 @@
 //! Targets that name no route, and parameters of no form.
-use super::{ALFA, fault_number, get, post};
+use super::told::{BAD_DATE, BAD_REFERENCE, NO_SUCH_ROUTE};
+use super::{ALFA, fault, get, post};
 use std::test::Fail;
 
 #[test]
@@ -23,7 +24,7 @@ fn targets_without_a_route(rt: HostRuntime) -> Result<(), Fail> {
     ];
     for target in targets {
         let head = get(rt.alloc(), ALFA, target)?;
-        assert_eq!(rt; fault_number(rt.alloc(), head.as_bytes())?, 67);
+        assert_eq!(rt; fault(rt.alloc(), head.as_bytes())?, NO_SUCH_ROUTE);
     }
     Ok(())
 }
@@ -39,7 +40,7 @@ fn commands_without_a_route(rt: HostRuntime) -> Result<(), Fail> {
     ];
     for target in targets {
         let request = post(rt.alloc(), ALFA, target, "{}")?;
-        assert_eq!(rt; fault_number(rt.alloc(), request.as_bytes())?, 67);
+        assert_eq!(rt; fault(rt.alloc(), request.as_bytes())?, NO_SUCH_ROUTE);
     }
     Ok(())
 }
@@ -54,7 +55,7 @@ fn other_methods(rt: HostRuntime) -> Result<(), Fail> {
         b"CONNECT desk:80 HTTP/1.1\r\n\r\n",
     ];
     for head in heads {
-        assert_eq!(rt; fault_number(rt.alloc(), head)?, 67);
+        assert_eq!(rt; fault(rt.alloc(), head)?, NO_SUCH_ROUTE);
     }
     Ok(())
 }
@@ -62,15 +63,15 @@ fn other_methods(rt: HostRuntime) -> Result<(), Fail> {
 #[test]
 fn parameters_of_no_form(rt: HostRuntime) -> Result<(), Fail> {
     let targets = [
-        ("/orders/a-1", 31),
-        ("/orders/A%2D1", 31),
-        ("/orders/A-123456789012345", 31),
-        ("/statements/2024-02-30", 35),
-        ("/statements/20240304", 35),
+        ("/orders/a-1", BAD_REFERENCE),
+        ("/orders/A%2D1", BAD_REFERENCE),
+        ("/orders/A-123456789012345", BAD_REFERENCE),
+        ("/statements/2024-02-30", BAD_DATE),
+        ("/statements/20240304", BAD_DATE),
     ];
-    for (target, number) in targets {
+    for (target, told) in targets {
         let head = get(rt.alloc(), ALFA, target)?;
-        assert_eq!(rt; fault_number(rt.alloc(), head.as_bytes())?, number);
+        assert_eq!(rt; fault(rt.alloc(), head.as_bytes())?, told);
     }
     Ok(())
 }
