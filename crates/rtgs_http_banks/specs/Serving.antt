@@ -19,5 +19,5 @@ pub record Sends (IsReply : List ℕ → Message → Type 0) (known : Option (Li
 -- the reply was written whole, or a beginning of it and not all, or nothing
 abbrev pub Serves : (List ℕ → Message → Type 0) → Option (List ℕ) → Option (List ℕ) → Option (List ℕ) → Served → Type 0
 Serves IsReply known old new (Answered status) = Sends IsReply known status (Appends old new)
-Serves IsReply known old new (WriteFault status) = Sends IsReply known status (AppendsPart old new)
+Serves IsReply known old new (WriteFault status failed) = Sends IsReply known status (AppendsPart old new)
 Serves IsReply known old new (ReadFault failed) = Keeps old new

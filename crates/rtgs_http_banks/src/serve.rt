@@ -44,6 +44,6 @@ pub fn serve_one<R: Read, W: Write, K: Keeper>(
     let status = reply.status();
     match reply.send(writer) {
         Ok(()) => Served::Answered(status),
-        Err(_) => Served::WriteFault(status),
+        Err(failed) => Served::WriteFault(status, failed),
     }
 }
