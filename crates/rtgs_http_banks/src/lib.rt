@@ -10,5 +10,6 @@ mod reply;
 mod serve;
 mod served;
 
+pub use crate::reply::reply_to;
 pub use crate::serve::serve_one;
 pub use crate::served::Served;

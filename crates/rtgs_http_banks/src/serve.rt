@@ -10,14 +10,13 @@ ghost use Rattle.rtgs_http_banks.specs.Serving.{Serves};
 use crate::reply::reply_to;
 use crate::served::Served;
 use rtgs_desk::Desk;
-use rtgs_http_input::read_request;
 use rtgs_keeper::Keeper;
 use rtgs_money::KeyDigest;
 use std::alloc::Global;
 use std::io::{Read, Write};
 
-/// Reads one request, does what it asks, and writes one reply (RFC 9112, sections 2 to 6). The reply is made whole,
-/// after the last command, before any of it is written.
+/// Reads one request, does what it asks, and writes one reply (RFC 9112, sections 2 to 6). It is `reply_to`, which is
+/// lent no writer, and then the reply is sent.
 pub fn serve_one<R: Read, W: Write, K: Keeper>(
     alloc: Global,
     reader: &mut R,
@@ -36,8 +35,7 @@ pub fn serve_one<R: Read, W: Write, K: Keeper>(
         → Works K.Keeper book desk.new }
     ensures honest { K.is_honest desk.new.keeper → K.is_honest desk.old.keeper }
 {
-    let request = read_request(alloc, reader, operator, desk);
-    let reply = match reply_to(alloc, desk, &request) {
+    let reply = match reply_to(alloc, reader, desk, operator) {
         Ok(reply) => reply,
         Err(failed) => return Served::ReadFault(failed),
     };

@@ -1,44 +1,16 @@
-use Rattle.std.proofs.Common.{◌≡◌, Result, Ok, Err, subst, rules}
-use Rattle.rtgs_http_input.specs.Input.{Requests}
+use Rattle.std.proofs.lemmas.Result.{IfOk-weaker}
+use Rattle.rtgs_http_input.specs.Input.{OfInput, Requests}
 use Rattle.rtgs_http_input.specs.Known.{KnowsOf}
-use Rattle.rtgs_http_input.specs.declared.unread.Unread.{Unread}
-use Rattle.rtgs_http_input.specs.declared.unread.Unread.TheVariants.{DirectoryFailed, Faulty}
-use Rattle.rtgs_http_requests.specs.declared.asked.Asked.{Asked}
-use Rattle.rtgs_http_banks.proofs.Exchanged.{asked_exchange, fault_exchange, failed_exchange, idle, works_of}
+use Rattle.rtgs_http_replies.specs.Messages.{Message}
+use Rattle.rtgs_http_banks.specs.Exchange.{Exchanges}
+use Rattle.rtgs_http_banks.proofs.Inputs.{of_same}
 use Rattle.rtgs_http_banks.proofs.reply.reply_to.Goals as goal
 
-pub returns-in-Ok-clause-reply : goal.returns-in-Ok-clause-reply
-returns-in-Ok-clause-reply g c = λ operator input says.
-    asked_exchange g.K.Keeper operator input c.args.desk.now c.answer.new.desk c.in-Ok.asked c.answer.result
-    c.participants_ask_for_their_own.ensures
-    (subst (λ (r : Result Asked Unread). Requests (KnowsOf g.K.Keeper c.args.desk.now) operator input r) c.in-Ok.is
-    says)
-    c.answer.ensures.comes c.answer.ensures.failed
-
-pub returns-in-Ok-clause-works : goal.returns-in-Ok-clause-works
-returns-in-Ok-clause-works g c honest book held =
-    works_of g.K.Keeper book (Ok c.in-Ok.asked) c.answer.new.desk c.answer.result
-    (c.answer.ensures.comes honest book held)
-
-pub returns-in-Err-Faulty-clause-reply : goal.returns-in-Err-Faulty-clause-reply
-returns-in-Err-Faulty-clause-reply g c = λ operator input says.
-    let is : c.args.request.now ≡ Err (Faulty c.in-Err-Faulty.fault) = search rules in
-    fault_exchange g.K.Keeper operator input c.args.desk.now c.in-Err-Faulty.fault c.fault_reply.result
-    (subst (λ (r : Result Asked Unread). Requests (KnowsOf g.K.Keeper c.args.desk.now) operator input r) is says)
-    c.stands.ensures c.fault_reply.ensures
-
-pub returns-in-Err-Faulty-clause-works : goal.returns-in-Err-Faulty-clause-works
-returns-in-Err-Faulty-clause-works g c honest book held =
-    works_of g.K.Keeper book (Err c.in-Err-Faulty.fault) c.args.desk.now c.fault_reply.result
-    (c.stands.ensures book held, c.fault_reply.ensures)
-
-pub returns-in-Err-DirectoryFailed-clause-reply : goal.returns-in-Err-DirectoryFailed-clause-reply
-returns-in-Err-DirectoryFailed-clause-reply g c = λ operator input says.
-    let is : c.args.request.now ≡ Err DirectoryFailed = search rules in
-    failed_exchange g.K.Keeper operator input c.args.desk.now c.failed_reply.result
-    (subst (λ (r : Result Asked Unread). Requests (KnowsOf g.K.Keeper c.args.desk.now) operator input r) is says)
-    (c.requires.failed is) c.failed_reply.ensures
-
-pub returns-in-Err-Reader-clause-works : goal.returns-in-Err-Reader-clause-works
-returns-in-Err-Reader-clause-works g c honest book held =
-    idle g.K.Keeper book c.args.desk.now (c.stands.ensures book held)
+pub returns-clause-reply : goal.returns-clause-reply
+returns-clause-reply g c =
+    IfOk-weaker c.reply_to_request.result _ _
+    (λ (sent : Message) made. of_same (g.R.Read.remaining c.args.reader.now)
+    (λ input. Requests (KnowsOf g.K.Keeper c.args.desk.now) c.args.operator.now input c.read_request-request.result)
+    (λ input. Exchanges g.K.Keeper c.args.operator.now c.args.desk.now input c.reply_to_request.new.desk sent)
+    (λ input says. made c.args.operator.now input says) c.read_request-request.ensures.asked)
+    c.reply_to_request.ensures.reply
