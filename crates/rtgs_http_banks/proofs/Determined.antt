@@ -176,7 +176,7 @@ batches_alike g old sender rows one other sent told steps done past a b =
       other_holds = λ works. subst (λ (book : Book). Holds g other book) (sym once.1) (b.acts.kept works);
     }
 
-read_of : {K : Type 0} (g : Ghosts K) (wanted : Message) (desk : Seen K) (sent : Message) → sent.status ≢ 503
+pub read_of : {K : Type 0} (g : Ghosts K) (wanted : Message) (desk : Seen K) (sent : Message) → sent.status ≢ 503
     → IsReadOf g wanted desk sent → sent ≡ wanted
 read_of g wanted desk sent done (inl h) = said wanted sent done h
 read_of g wanted desk sent done (inr (failed, inl e)) = absurd (done (ap (λ (m : Message). m.status) e))
@@ -232,7 +232,7 @@ come_alike g old (Ok (Read r)) (Ok (Read q)) one other sent told steps alike don
     readings_alike g old r one other sent told done ended a
     (subst (λ (x : Reading). Reads g old x other told) (sym alike) b)
 
-wanting : {K : Type 0} (g : Ghosts K) (old : Book) (answer : Answer) (desk : Seen K) (sent : Message)
+pub wanting : {K : Type 0} (g : Ghosts K) (old : Book) (answer : Answer) (desk : Seen K) (sent : Message)
     → sent.status ≢ 503 → ComesTo g old answer desk sent → answer ≡ Err OutOfMemory → ⊥
 wanting g old answer desk sent done comes e =
     let c = subst (λ (a : Answer). ComesTo g old a desk sent) e comes in

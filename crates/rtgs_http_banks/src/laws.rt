@@ -1,20 +1,25 @@
 //! Laws of the definitions. Each function does nothing: its contract is the law.
-ghost use Rattle.std.specs.Prelude.{◌≡◌, ◌≢◌, false, ℕ, List};
+ghost use Rattle.std.specs.Prelude.{◌≡◌, ◌≢◌, false, ℕ, List, Ok};
 ghost use Rattle.rtgs_book.specs.declared.Book.{Book};
 ghost use Rattle.rtgs_desk.specs.Holding.{Holds};
 ghost use Rattle.rtgs_desk.specs.Seen.{Seen};
 ghost use Rattle.rtgs_http_banks.specs.Alike.{EndAlike};
 ghost use Rattle.rtgs_http_banks.specs.Dealings.{Works};
 ghost use Rattle.rtgs_http_banks.specs.Exchange.{Deals};
-ghost use Rattle.rtgs_http_banks.specs.Own.{AgreeFor};
+ghost use Rattle.rtgs_http_banks.specs.Own.{AgreeFor, IsSentBy};
 ghost use Rattle.rtgs_http_banks.specs.Sayings.{reading_message};
 ghost use Rattle.rtgs_http_replies.specs.Messages.{Message};
 ghost use Rattle.rtgs_http_requests.specs.Access.{IsReadingOf};
+ghost use Rattle.rtgs_http_requests.specs.Exchange.{AsksFor};
+ghost use Rattle.rtgs_http_requests.specs.declared.asked.Asked.{Asked};
 ghost use Rattle.rtgs_http_requests.specs.declared.reading.Reading.{Reading};
+ghost use Rattle.rtgs_ledger.specs.Keys.{code_under};
 
 use rtgs_book::laws::step_is_determined;
 use rtgs_desk::Desk;
-use rtgs_http_requests::laws::answers_are_determined;
+use rtgs_http_feeds::laws::regions_are_determined;
+use rtgs_http_heads::laws::{heads_are_determined, keys_are_determined};
+use rtgs_http_requests::laws::{answers_are_determined, participants_ask_for_their_own};
 use rtgs_keeper::Keeper;
 use rtgs_repeats::laws::sessions_join;
 
@@ -24,6 +29,23 @@ pub fn participants_read_their_own_rows()
     ensures { (one other : Book) (code : List ℕ) (reading : Reading) → IsReadingOf code reading
         → AgreeFor code one other → reading_message one reading ≡ reading_message other reading }
 {}
+
+/// So it is with a whole request: an input that bears a participant's key, and asks for a reading, has the same reply from
+/// two such books. Set aside are replies with the status 503.
+pub fn participants_are_told_of_their_own_rows<K: Keeper>()
+    ensures { (operator input code : List ℕ) (one other : Book) (first second : Seen K) (sent told : Message)
+        (reading : Reading) → AgreeFor code one other
+        → IsSentBy operator one code input → IsSentBy operator other code input
+        → AsksFor operator (code_under one) input (Ok (Asked.Read reading))
+        → Deals K.Keeper operator one input first sent → Deals K.Keeper operator other input second told
+        → sent.status ≢ 503 → told.status ≢ 503 → told ≡ sent }
+{
+    regions_are_determined();
+    heads_are_determined();
+    keys_are_determined();
+    answers_are_determined();
+    participants_ask_for_their_own();
+}
 
 /// A book, the operator's digest and an input have one reply and one book after it. Set aside are replies with the
 /// status 503: memory was wanting, the store failed, or a batch stopped for one of these.

@@ -1,0 +1,82 @@
+-- A participant is told of its own rows.
+use Rattle.std.proofs.Common.{◌≡◌, ℕ, List, Some, Ok, Err, refl, sym, ap, subst, ◌∙◌, inl, inr}
+use Rattle.std.specs.Prelude.{◌≢◌}
+use Rattle.rtgs_book.specs.declared.book.Book.{Book}
+use Rattle.rtgs_desk.specs.Seen.{Seen}
+use Rattle.rtgs_http_replies.specs.Messages.{Message}
+use Rattle.rtgs_http_requests.specs.Access.{BearsKey, MayAsk, IsReadingOf}
+use Rattle.rtgs_http_requests.specs.Callers.{CodeOf}
+use Rattle.rtgs_http_requests.specs.Exchange.{AsksFor}
+use Rattle.rtgs_http_requests.specs.Meaning.{Answer}
+use Rattle.rtgs_http_requests.specs.Same.{AreTheSame}
+use Rattle.rtgs_http_requests.specs.declared.asked.Asked.{Asked}
+use Rattle.rtgs_http_requests.specs.declared.asked.Asked.TheVariants.{Submit, Batch, Read}
+use Rattle.rtgs_http_requests.specs.declared.http_fault.HttpFault.TheVariants.{OutOfMemory}
+use Rattle.rtgs_http_requests.specs.declared.reading.Reading.{Reading}
+use Rattle.rtgs_keeper.specs.declared.keeper.Keeper.{Ghosts}
+use Rattle.rtgs_ledger.specs.Keys.{code_under}
+use Rattle.rtgs_http_banks.specs.Dealings.{ComesTo, Reads}
+use Rattle.rtgs_http_banks.specs.Exchange.{Deals}
+use Rattle.rtgs_http_banks.specs.Own.{AgreeFor, IsSentBy}
+use Rattle.rtgs_http_banks.specs.Sayings.{reading_message}
+use Rattle.rtgs_http_banks.proofs.Callers.{KeysOnce, key_once, asked_alike}
+use Rattle.rtgs_http_banks.proofs.Determined.{AsksOnce, read_of, wanting}
+use Rattle.rtgs_http_banks.proofs.OwnRows.{own_rows}
+
+-- whatever is asked is asked by the bearer of a key
+abbrev pub AskOwn : Type 0
+AskOwn = (operator : List ℕ) (code_of : CodeOf) (input : List ℕ) (asked : Asked)
+    → AsksFor operator code_of input (Ok asked)
+    → (digest : List ℕ) × BearsKey input digest × MayAsk operator code_of digest asked
+
+-- a reading that is asked with a participant's key is of its own
+own_reading : KeysOnce → AskOwn → (operator input code : List ℕ) (book : Book) (reading : Reading)
+    → IsSentBy operator book code input → AsksFor operator (code_under book) input (Ok (Read reading))
+    → IsReadingOf code reading
+own_reading laws own operator input code book reading sender asks =
+    let asked = own operator (code_under book) input (Read reading) asks in
+    by asked.0 (key_once laws input asked.0 sender.digest asked.1 sender.key) asked.2
+  where
+    by : (digest : List ℕ) → digest ≡ sender.digest → MayAsk operator (code_under book) digest (Read reading)
+        → IsReadingOf code reading
+    by digest same (inl e) = absurd (sender.other (sym same ∙ e))
+    by digest same (inr (other, found, is)) =
+        let found_too = subst (λ (d : List ℕ). code_under book d ≡ Some other) same found in
+        let who = sender.participant in
+        let one : other ≡ code = cc in
+        subst (λ (c : List ℕ). IsReadingOf c reading) one is
+
+-- what comes of an answer that is this reading
+reads : {K : Type 0} (g : Ghosts K) (old : Book) (answer : Answer) (reading : Reading) (desk : Seen K) (sent : Message)
+    → AreTheSame answer (Ok (Read reading)) → ComesTo g old answer desk sent → Reads g old reading desk sent
+reads g old (Err fault) reading desk sent same comes = absurd same
+reads g old (Ok (Submit command)) reading desk sent same comes = absurd same
+reads g old (Ok (Batch sender rows)) reading desk sent same comes = absurd same
+reads g old (Ok (Read other)) reading desk sent same comes =
+    subst (λ (r : Reading). Reads g old r desk sent) same comes
+
+-- an input that asks for this reading is told it
+told_reading : {K : Type 0} (g : Ghosts K) (operator input : List ℕ) (old : Book) (reading : Reading) (desk : Seen K)
+    (sent : Message) → AsksOnce → AsksFor operator (code_under old) input (Ok (Read reading))
+    → Deals g operator old input desk sent → sent.status ≢ 503 → sent ≡ reading_message old reading
+told_reading g operator input old reading desk sent once asks deals done =
+    let same = once operator (code_under old) input deals.answer (Ok (Read reading)) deals.asks asks
+    (wanting g old deals.answer desk sent done deals.comes) (λ e. let no : ⊥ = cc in no) in
+    let read = reads g old deals.answer reading desk sent same deals.comes in
+    read_of g (reading_message old reading) desk sent done read.1
+
+pub own_replies : {K : Type 0} (g : Ghosts K) → KeysOnce → AsksOnce → AskOwn → (operator input code : List ℕ)
+    (one other : Book) (first second : Seen K) (sent told : Message) (reading : Reading) → AgreeFor code one other
+    → IsSentBy operator one code input → IsSentBy operator other code input
+    → AsksFor operator (code_under one) input (Ok (Read reading)) → Deals g operator one input first sent
+    → Deals g operator other input second told → sent.status ≢ 503 → told.status ≢ 503 → told ≡ sent
+own_replies g laws once own operator input code one other first second sent told reading agree by_one by_other asks
+    deals deal done ended =
+    let alike : (digest : List ℕ) → BearsKey input digest → code_under one digest ≡ code_under other digest =
+    λ digest key. ap (code_under one) (key_once laws input digest by_one.digest key by_one.key) ∙ by_one.participant
+    ∙ sym by_other.participant ∙ ap (code_under other) (key_once laws input by_other.digest digest by_other.key key) in
+    let again = asked_alike operator input (code_under one) (code_under other) (Ok (Read reading)) alike asks in
+    let is = own_reading laws own operator input code one reading by_one asks in
+    told_reading g operator input other reading second told once again deal ended
+    ∙ sym (own_rows one other code reading is agree)
+    ∙ sym (told_reading g operator input one reading first sent once asks deals done)
