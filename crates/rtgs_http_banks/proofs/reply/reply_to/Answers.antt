@@ -1,5 +1,5 @@
 use Rattle.std.proofs.lemmas.Result.{IfOk-weaker}
-use Rattle.rtgs_http_input.specs.Input.{OfInput, Requests}
+use Rattle.rtgs_http_input.specs.Input.{Requests}
 use Rattle.rtgs_http_input.specs.Known.{KnowsOf}
 use Rattle.rtgs_http_replies.specs.Messages.{Message}
 use Rattle.rtgs_http_banks.specs.Exchange.{Exchanges}
