@@ -64,12 +64,12 @@ said : (wanted sent : Message) → sent.status ≢ 503 → IsSaid wanted sent �
 said wanted sent done (inl e) = e
 said wanted sent done (inr e) = absurd (done (ap (λ (m : Message). m.status) e))
 
-told_of : (wanted sent : Message) → sent.status ≢ 503 → IsTold wanted sent → sent ≡ wanted
+pub told_of : (wanted sent : Message) → sent.status ≢ 503 → IsTold wanted sent → sent ≡ wanted
 told_of wanted sent done (inl e) = e
 told_of wanted sent done (inr e) = absurd (done (ap (λ (m : Message). m.status) e))
 
 -- a reply that is told with another status is judged
-judged : (reply : Reply) → (reply_message reply).status ≢ 503 → is_judged reply ≡ true
+pub judged : (reply : Reply) → (reply_message reply).status ≢ 503 → is_judged reply ≡ true
 judged (Ok answer) done = refl
 judged (Err refusal.UnknownParticipant) done = refl
 judged (Err refusal.UnknownReceiver) done = refl

@@ -8,3 +8,4 @@ mod OwnReplies
 mod OwnRows
 mod Plainly
 mod Told
+mod ToldAgain

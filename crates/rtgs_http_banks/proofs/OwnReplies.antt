@@ -4,7 +4,7 @@ use Rattle.std.specs.Prelude.{◌≢◌}
 use Rattle.rtgs_book.specs.declared.book.Book.{Book}
 use Rattle.rtgs_desk.specs.Seen.{Seen}
 use Rattle.rtgs_http_replies.specs.Messages.{Message}
-use Rattle.rtgs_http_requests.specs.Access.{BearsKey, MayAsk, IsReadingOf}
+use Rattle.rtgs_http_requests.specs.Access.{BearsKey, MayAsk, IsOwn}
 use Rattle.rtgs_http_requests.specs.Callers.{CodeOf}
 use Rattle.rtgs_http_requests.specs.Exchange.{AsksFor}
 use Rattle.rtgs_http_requests.specs.Meaning.{Answer}
@@ -23,28 +23,34 @@ use Rattle.rtgs_http_banks.proofs.Callers.{KeysOnce, key_once, asked_alike}
 use Rattle.rtgs_http_banks.proofs.Determined.{AsksOnce, read_of, wanting}
 use Rattle.rtgs_http_banks.proofs.OwnRows.{own_rows}
 
+-- the key that an input bears is one participant's in two books
+pub same_bearer : KeysOnce → (operator input code : List ℕ) (one other : Book) → IsSentBy operator one code input
+    → IsSentBy operator other code input → (digest : List ℕ) → BearsKey input digest
+    → code_under one digest ≡ code_under other digest
+same_bearer laws operator input code one other by_one by_other digest key =
+    ap (code_under one) (key_once laws input digest by_one.digest key by_one.key) ∙ by_one.participant
+    ∙ sym by_other.participant ∙ ap (code_under other) (key_once laws input by_other.digest digest by_other.key key)
+
 -- whatever is asked is asked by the bearer of a key
 abbrev pub AskOwn : Type 0
 AskOwn = (operator : List ℕ) (code_of : CodeOf) (input : List ℕ) (asked : Asked)
     → AsksFor operator code_of input (Ok asked)
     → (digest : List ℕ) × BearsKey input digest × MayAsk operator code_of digest asked
 
--- a reading that is asked with a participant's key is of its own
-own_reading : KeysOnce → AskOwn → (operator input code : List ℕ) (book : Book) (reading : Reading)
-    → IsSentBy operator book code input → AsksFor operator (code_under book) input (Ok (Read reading))
-    → IsReadingOf code reading
-own_reading laws own operator input code book reading sender asks =
-    let asked = own operator (code_under book) input (Read reading) asks in
-    by asked.0 (key_once laws input asked.0 sender.digest asked.1 sender.key) asked.2
+-- what is asked with a participant's key is its own
+pub own_asked : KeysOnce → AskOwn → (operator input code : List ℕ) (book : Book) (asked : Asked)
+    → IsSentBy operator book code input → AsksFor operator (code_under book) input (Ok asked) → IsOwn code asked
+own_asked laws own operator input code book asked sender asks =
+    let borne = own operator (code_under book) input asked asks in
+    by borne.0 (key_once laws input borne.0 sender.digest borne.1 sender.key) borne.2
   where
-    by : (digest : List ℕ) → digest ≡ sender.digest → MayAsk operator (code_under book) digest (Read reading)
-        → IsReadingOf code reading
+    by : (digest : List ℕ) → digest ≡ sender.digest → MayAsk operator (code_under book) digest asked → IsOwn code asked
     by digest same (inl e) = absurd (sender.other (sym same ∙ e))
     by digest same (inr (other, found, is)) =
         let found_too = subst (λ (d : List ℕ). code_under book d ≡ Some other) same found in
         let who = sender.participant in
         let one : other ≡ code = cc in
-        subst (λ (c : List ℕ). IsReadingOf c reading) one is
+        subst (λ (c : List ℕ). IsOwn c asked) one is
 
 -- what comes of an answer that is this reading
 reads : {K : Type 0} (g : Ghosts K) (old : Book) (answer : Answer) (reading : Reading) (desk : Seen K) (sent : Message)
@@ -72,11 +78,9 @@ pub own_replies : {K : Type 0} (g : Ghosts K) → KeysOnce → AsksOnce → AskO
     → Deals g operator other input second told → sent.status ≢ 503 → told.status ≢ 503 → told ≡ sent
 own_replies g laws once own operator input code one other first second sent told reading agree by_one by_other asks
     deals deal done ended =
-    let alike : (digest : List ℕ) → BearsKey input digest → code_under one digest ≡ code_under other digest =
-    λ digest key. ap (code_under one) (key_once laws input digest by_one.digest key by_one.key) ∙ by_one.participant
-    ∙ sym by_other.participant ∙ ap (code_under other) (key_once laws input by_other.digest digest by_other.key key) in
+    let alike = same_bearer laws operator input code one other by_one by_other in
     let again = asked_alike operator input (code_under one) (code_under other) (Ok (Read reading)) alike asks in
-    let is = own_reading laws own operator input code one reading by_one asks in
+    let is = own_asked laws own operator input code one (Read reading) by_one asks in
     told_reading g operator input other reading second told once again deal ended
     ∙ sym (own_rows one other code reading is agree)
     ∙ sym (told_reading g operator input one reading first sent once asks deals done)

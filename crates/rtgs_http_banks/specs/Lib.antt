@@ -1,3 +1,4 @@
+pub mod Again
 pub mod Alike
 pub mod Dealings
 pub mod Exchange
