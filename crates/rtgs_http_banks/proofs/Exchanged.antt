@@ -8,6 +8,7 @@ use Rattle.rtgs_desk.specs.Holding.{Holds}
 use Rattle.rtgs_desk.specs.Seen.{Seen}
 use Rattle.rtgs_exchange.specs.Batches.{orders_of, replies_of, with_stop}
 use Rattle.rtgs_http_bodies.specs.Refusals.{refused_message}
+use Rattle.rtgs_http_input.specs.Input.{Requests}
 use Rattle.rtgs_http_input.specs.Known.{KnowsOf}
 use Rattle.rtgs_http_replies.specs.Messages.{Message}
 use Rattle.rtgs_http_requests.specs.Access.{BearsKey, MayAsk}
@@ -85,20 +86,22 @@ pub asked_exchange : {K : Type 0} (g : Ghosts K) (operator input : List ℕ) (ol
     → ((operator : List ℕ) (code_of : CodeOf) (input : List ℕ) (asked : Asked)
     → AsksFor operator code_of input (Ok asked)
     → (digest : List ℕ) × BearsKey input digest × MayAsk operator code_of digest asked)
-    → ((code_of : CodeOf) → KnowsOf g old code_of → AsksFor operator code_of input (Ok asked))
+    → Requests (KnowsOf g old) operator input (Ok asked)
     → (g.is_honest new.keeper → (book : Book) → Holds g old book → ComesTo g book (Ok asked) new sent)
     → (g.has_failed old.keeper ≡ true → (new ≡ old) × IsSaid (refused_message Failed) sent)
     → Exchanges g operator old input new sent
 asked_exchange g operator input old new asked sent own asks comes failed = record {
   deals = λ honest book held.
-      let a = asks (code_under book) (of_book g old book held) in
+      let a = asks.1 (code_under book) (of_book g old book held) in
       record {
         answer = Ok asked;
         asks = a;
         allowed = own operator (code_under book) input asked a;
         comes = comes honest book held;
       };
-  failed = λ f. ((failed f).0, inl (inr (asked, (λ code_of. asks code_of (nobody g old code_of f))), (failed f).1));
+  changes = let who = own operator asks.0.0 input asked asks.0.1 in
+      inr (asked, asks.0.0, who.0, asks.0.1, who.1, who.2);
+  failed = λ f. ((failed f).0, inl (inr (asked, (λ code_of. asks.1 code_of (nobody g old code_of f))), (failed f).1));
 }
 
 -- a request with a fault
@@ -114,6 +117,7 @@ fault_exchange g operator input desk fault sent asks stands said = record {
     allowed = tt;
     comes = (stands book held, said);
   };
+  changes = inl refl;
   failed = λ f. (refl, inr (fault, (λ code_of. asks code_of (nobody g desk code_of f)), said));
 }
 
@@ -123,5 +127,6 @@ pub failed_exchange : {K : Type 0} (g : Ghosts K) (operator input : List ℕ) (d
     → Exchanges g operator desk input desk sent
 failed_exchange g operator input desk sent looks failed said = record {
   deals = λ honest book held. let works = held.works in let no : ⊥ = cc in absurd no;
+  changes = inl refl;
   failed = λ f. (refl, inl (inl looks, said));
 }

@@ -44,8 +44,16 @@ TurnsAway operator input sent =
     ⊎ ((fault : HttpFault) × ((code_of : CodeOf) → AsksFor operator code_of input (Err fault))
     × IsSaid (fault_message fault) sent)
 
+-- the bearer of a key asks for what it may, for some participants
+abbrev pub IsAskedByBearer : List ℕ → List ℕ → Type 0
+IsAskedByBearer operator input =
+    (asked : Asked) × (code_of : CodeOf) × (digest : List ℕ) × AsksFor operator code_of input (Ok asked)
+    × BearsKey input digest × MayAsk operator code_of digest asked
+
 -- what an input comes to: on a desk that held a book, and on one that had failed
 pub record Exchanges {K : Type 0} (g : Ghosts K) (operator : List ℕ) (old : Seen K) (input : List ℕ) (new : Seen K)
     (sent : Message) : Type 0 where
   pub deals : g.is_honest new.keeper → (book : Book) → Holds g old book → Deals g operator book input new sent
+  -- whatever the desk holds, it changes only for what the bearer of a key may ask
+  pub changes : (new ≡ old) ⊎ IsAskedByBearer operator input
   pub failed : g.has_failed old.keeper ≡ true → (new ≡ old) × TurnsAway operator input sent

@@ -1,13 +1,18 @@
 -- What a step that reads told, among the steps of a request.
-use Rattle.std.proofs.Common.{◌≡◌, ℕ, List, ◌++◌, Option, Some, None, Result, Ok, Err, refl, subst, ◌∙◌, append_assoc}
+use Rattle.std.proofs.Common.{◌≡◌, ℕ, List, ◌++◌, Option, Some, None, Result, Ok, Err, refl, sym, ap, subst}
+use Rattle.std.proofs.Common.{◌∙◌, append_assoc}
 use Rattle.std.specs.Io.KnownBytes.{Consumes}
 use Rattle.rtgs_http_feeds.specs.Region.{IsRegion, StartsWith}
+use Rattle.rtgs_http_heads.specs.declared.bank_route.BankRoute.{BankRoute}
+use Rattle.rtgs_http_heads.specs.declared.operator_route.OperatorRoute.{OperatorRoute}
 use Rattle.rtgs_http_requests.specs.Bodies.{body_length}
-use Rattle.rtgs_http_requests.specs.Callers.{CodeOf}
+use Rattle.rtgs_http_requests.specs.Callers.{CodeOf, known}
 use Rattle.rtgs_http_requests.specs.Exchange.{HasBody, HasRegion}
 use Rattle.rtgs_http_requests.specs.Plans.{Plans, MayLookUp, AfterCaller, admitted_by}
 use Rattle.rtgs_http_requests.specs.declared.admission.Admission.{Admission}
+use Rattle.rtgs_http_requests.specs.declared.admission.Admission.TheVariants as admission
 use Rattle.rtgs_http_requests.specs.declared.admitted.Admitted.{Admitted}
+use Rattle.rtgs_http_requests.specs.declared.admitted.Admitted.TheVariants as admitted
 use Rattle.rtgs_http_requests.specs.declared.asked.Asked.{Asked}
 use Rattle.rtgs_http_requests.specs.declared.http_fault.HttpFault.{HttpFault}
 use Rattle.rtgs_http_requests.specs.declared.plan.Plan.{Plan}
@@ -37,6 +42,20 @@ caller_fails Knows operator region plan input rest DirectoryFailed plans looks s
 caller_fails Knows operator region plan input rest (Faulty fault) plans looks starts h =
     λ code_of known. plans code_of input rest _ starts (Err fault, h code_of known, refl)
 
+pub operator_found : (Knows : CodeOf → Type 0) (given : Admission) (route : OperatorRoute)
+    → given ≡ admission.Operator route → FindsCaller Knows given (Ok (admitted.Operator route))
+operator_found Knows given route e =
+    subst (λ (a : Admission). FindsCaller Knows a (Ok (admitted.Operator route))) (sym e)
+    ((λ digest. None, refl), λ code_of known. refl)
+
+pub participant_found : (Knows : CodeOf → Type 0) (given : Admission) (route : BankRoute) (digest caller : List ℕ)
+    → given ≡ admission.LookUp route digest
+    → ((code_of : CodeOf) → Knows code_of → Some caller ≡ code_of digest)
+    → FindsCaller Knows given (Ok (admitted.Bank route caller))
+participant_found Knows given route digest caller e told =
+    subst (λ (a : Admission). FindsCaller Knows a (Ok (admitted.Bank route caller))) (sym e)
+    ((λ other. Some caller, refl), λ code_of knows. ap (known route) (told code_of knows))
+
 pub body_fails : (plan : Plan) (rest : List ℕ) (caller : Admitted) (size : ℕ) (unread : Unread)
     → Ok size ≡ body_length plan.posts plan.length
     → Fails (λ fault. HasBody rest size (Err fault)) unread
@@ -47,14 +66,16 @@ body_fails plan rest caller size (Faulty fault) e h = (Ok size, e, (Err fault, h
 
 pub content_told : (Knows : CodeOf → Type 0) (operator region : List ℕ) (plan : Plan) (input rest : List ℕ)
     (caller : Admitted) (result : Result Asked Unread) → Plans operator region (Ok plan) → StartsWith input region rest
-    → ((code_of : CodeOf) → Knows code_of → Ok caller ≡ admitted_by code_of plan.admission)
-    → Says (AfterCaller plan rest caller) result → Requests Knows operator input result
-content_told Knows operator region plan input rest caller (Ok asked) plans starts e h =
-    λ code_of known. plans code_of input rest _ starts (Ok caller, e code_of known, h)
+    → FindsCaller Knows plan.admission (Ok caller) → Says (AfterCaller plan rest caller) result
+    → Requests Knows operator input result
+content_told Knows operator region plan input rest caller (Ok asked) plans starts e h = (
+  (e.0.0, plans e.0.0 input rest _ starts (Ok caller, e.0.1, h)),
+  λ code_of known. plans code_of input rest _ starts (Ok caller, e.1 code_of known, h),
+)
 content_told Knows operator region plan input rest caller (Err (Reader failed)) plans starts e h = tt
 content_told Knows operator region plan input rest caller (Err DirectoryFailed) plans starts e h = absurd h
 content_told Knows operator region plan input rest caller (Err (Faulty fault)) plans starts e h =
-    λ code_of known. plans code_of input rest _ starts (Ok caller, e code_of known, h)
+    λ code_of known. plans code_of input rest _ starts (Ok caller, e.1 code_of known, h)
 
 -- what holds of every input that starts with the region and the bytes read behind it holds of the one that was read
 pub whole : (a b : Option (List ℕ)) (region read : List ℕ) (Q : List ℕ → Type 0) → Consumes a b (region ++ read)
