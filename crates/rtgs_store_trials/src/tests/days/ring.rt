@@ -1,0 +1,122 @@
+//! A ring of more orders than two bytes count: kept in tables, found again, and settled under one mark.
+use super::super::setting::{
+    MONDAY, Reply, amount, change, code, date, participant, queued, reference, resolved,
+};
+use rtgs_book::{Answer, Command, Day, Known, Order, OrderState, Phase, RowChange};
+use rtgs_book_file::{make, with_desk};
+use rtgs_keeper::Keeper;
+use rtgs_money::Code;
+use rtgs_tables::SqlKeeper;
+use sqlite::Connection;
+use std::alloc::Global;
+use std::test::Fail;
+
+const FILE: &str = "ring";
+
+/// How many banks there are. The queue of each is full.
+const BANKS: u64 = 66;
+
+/// How many orders wait in all queues.
+const ORDERS: u64 = 33_000;
+
+/// The code of a bank.
+fn bank(alloc: Global, number: u64) -> Result<Code, Fail> {
+    let text = format!(in alloc; "BANK{number}")?;
+    code(text.as_str())
+}
+
+/// Keeps one row.
+fn keep<K: Keeper>(alloc: Global, keeper: &mut K, row: RowChange) -> Result<(), Fail> {
+    keeper.commit(&change(alloc, &[row])?)?;
+    Ok(())
+}
+
+/// Adds the banks.
+fn add_banks<K: Keeper>(alloc: Global, keeper: &mut K) -> Result<(), Fail> {
+    for number in 0..BANKS {
+        let text = format!(in alloc; "BANK{number}")?;
+        let bank = participant(text.as_str(), number as u8)?;
+        keep(alloc, keeper, RowChange::AddParticipant(bank))?;
+    }
+    Ok(())
+}
+
+/// Opens Monday.
+fn open_monday<K: Keeper>(alloc: Global, keeper: &mut K) -> Result<(), Fail> {
+    let day = Day {
+        date: Some(date(MONDAY)?),
+        phase: Phase::Open,
+    };
+    keep(alloc, keeper, RowChange::SetDay(day))
+}
+
+/// The order with this number, of one cent from a bank to the next one.
+fn order(alloc: Global, number: u64) -> Result<Order, Fail> {
+    let text = format!(in alloc; "R-{number}")?;
+    Ok(Order {
+        number,
+        sender: bank(alloc, number % BANKS)?,
+        reference: reference(text.as_str())?,
+        receiver: bank(alloc, (number % BANKS + 1) % BANKS)?,
+        amount: amount(1)?,
+        date: date(MONDAY)?,
+        state: OrderState::Queued,
+    })
+}
+
+/// Queues all orders.
+fn queue_orders<K: Keeper>(alloc: Global, keeper: &mut K) -> Result<(), Fail> {
+    for number in 1..=ORDERS {
+        let order = order(alloc, number)?;
+        keep(alloc, keeper, RowChange::AddOrder(order))?;
+    }
+    Ok(())
+}
+
+/// Sends the order with this number.
+fn sends(alloc: Global, number: u64) -> Result<Command, Fail> {
+    let order = order(alloc, number)?;
+    Ok(Command::Order {
+        sender: order.sender,
+        reference: order.reference,
+        receiver: order.receiver,
+        amount: order.amount,
+    })
+}
+
+/// Keeps the ring in the file.
+fn fill(rt: &HostRuntime) -> Result<(), Fail> {
+    let mut keeper = SqlKeeper::open(Connection::open(rt, FILE)?);
+    keep_ring(rt.alloc(), &mut keeper)?;
+    keeper.into_connection().close()?;
+    Ok(())
+}
+
+/// Keeps the ring.
+fn keep_ring<K: Keeper>(alloc: Global, keeper: &mut K) -> Result<(), Fail> {
+    add_banks(alloc, keeper)?;
+    open_monday(alloc, keeper)?;
+    queue_orders(alloc, keeper)
+}
+
+/// What the desk over the file, opened for it, answers a command.
+fn submitted(rt: &HostRuntime, command: Command) -> Result<Reply, Fail> {
+    Ok(with_desk(rt, FILE, |desk| desk.submit(command))?)
+}
+
+#[test]
+fn a_ring_of_33000_orders_is_settled_under_one_mark(rt: HostRuntime) -> Result<(), Fail> {
+    assert!(rt; make(&rt, FILE).is_ok());
+    fill(&rt)?;
+    let settled = submitted(&rt, Command::Resolve)?;
+    assert_eq!(rt; settled, resolved(1, ORDERS, ORDERS as i64));
+    let known = Known::Order {
+        number: ORDERS,
+        state: OrderState::Settled(1),
+    };
+    let repeated = submitted(&rt, sends(rt.alloc(), ORDERS)?)?;
+    assert_eq!(rt; repeated, Ok(Answer::Repeated(known)));
+    let next = submitted(&rt, sends(rt.alloc(), ORDERS + 1)?)?;
+    assert_eq!(rt; next, queued(ORDERS + 1, 1));
+    Ok(())
+}
