@@ -6,6 +6,7 @@ mod heads;
 mod numbers;
 mod pieces;
 mod routes;
+mod served;
 mod targets;
 mod told;
 mod whole;
