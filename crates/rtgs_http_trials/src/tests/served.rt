@@ -1,6 +1,23 @@
 //! Replies, to the byte, of a desk in memory that serves one request after another.
+mod batches;
+mod counted_reader;
+mod counting_keeper;
+mod cut_writer;
 mod days;
+mod failing_keeper;
+mod first_day;
+mod forms;
+mod gridlocks;
+mod hostile;
+mod keys;
+mod lengths;
+mod order_of_events;
+mod readers;
+mod refusals;
+mod stores;
+mod watching_writer;
 mod worked;
+mod writers;
 
 use super::{ALFA, digest};
 use rtgs_book::Command;
@@ -124,6 +141,9 @@ pub fn follow<K: Keeper>(
 
 /// The type of most replies.
 pub const JSON: &str = "application/json";
+
+/// The type of result files.
+pub const CSV: &str = "text/csv";
 
 /// The type of statements and reports.
 pub const PLAIN: &str = "text/plain";

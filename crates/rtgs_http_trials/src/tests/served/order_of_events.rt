@@ -1,0 +1,41 @@
+//! The last commit of a request has returned before the first byte of the reply is written.
+use super::super::{ALFA, digest};
+use super::counting_keeper::CountingKeeper;
+use super::watching_writer::WatchingWriter;
+use super::{OPERATOR, begin_day, desk_over, request};
+use rtgs_desk::Desk;
+use rtgs_http_banks::serve_one;
+use rtgs_keeper::{Keeper, MemoryKeeper};
+use std::alloc::Global;
+use std::cell::Cell;
+use std::test::Fail;
+
+// Serves a batch of three orders.
+fn serve_batch<K: Keeper>(
+    alloc: Global,
+    desk: &mut Desk<K>,
+    writer: &mut WatchingWriter<'_>,
+) -> Result<(), Fail> {
+    let file = "reference,to,amount\nA-1,BETA,100\nA-2,GAMA,50\nA-3,BETA,25\n";
+    let input = request(alloc, ALFA, "POST /batches", file)?;
+    let operator = digest(OPERATOR.as_bytes())?;
+    let mut reader = input.as_bytes();
+    let _ = serve_one(alloc, &mut reader, writer, desk, &operator);
+    Ok(())
+}
+
+#[test]
+fn each_byte_is_written_after_the_last_commit(rt: HostRuntime) -> Result<(), Fail> {
+    let alloc = rt.alloc();
+    let commits = Cell::new(0);
+    let keeper = CountingKeeper::new(MemoryKeeper::new(alloc), &commits);
+    let mut desk = desk_over(alloc, keeper)?;
+    begin_day(&mut desk)?;
+    assert_eq!(rt; commits.get(), 4);
+    let mut writer = WatchingWriter::new(alloc, &commits);
+    serve_batch(alloc, &mut desk, &mut writer)?;
+    assert_eq!(rt; commits.get(), 7);
+    assert!(rt; writer.seen.len() > 100);
+    assert!(rt; writer.seen.iter().all(|seen| *seen == 7));
+    Ok(())
+}
