@@ -12,6 +12,7 @@ mod hostile;
 mod keys;
 mod lengths;
 mod order_of_events;
+mod queues;
 mod readers;
 mod refusals;
 mod stores;

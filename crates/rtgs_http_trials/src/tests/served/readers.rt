@@ -1,7 +1,7 @@
 //! Readers that fail, and how often a reader is asked.
 use super::super::{ALFA, GOOD, digest};
 use super::counted_reader::CountedReader;
-use super::{JSON, OPERATOR, Row, follow, open_desk};
+use super::{JSON, OPERATOR, Row, follow, open_desk, tells};
 use rtgs_desk::Desk;
 use rtgs_http_banks::{Served, serve_one};
 use rtgs_keeper::Keeper;
@@ -100,6 +100,28 @@ fn a_request_has_one_reply_wherever_it_is_cut(rt: HostRuntime) -> Result<(), Fai
         assert!(rt; is_good_where_cut(rt.alloc(), cut)?, "cut at {cut}");
     }
     Ok(())
+}
+
+// Two requests on one connection.
+const TWO: &[u8] =
+    b"POST /orders HTTP/1.1\r\ndesk-key: 0000000000000000000000000000000a\r\nContent-Length: 44\r\n\r\n\
+      {\"amount\":100,\"reference\":\"A-1\",\"to\":\"BETA\"}\
+      POST /orders/A-1/withdraw HTTP/1.1\r\ndesk-key: 0000000000000000000000000000000a\r\nContent-Length: 2\r\n\r\n{}";
+
+const STILL_QUEUED: [Row<'static>; 1] = [(
+    ALFA,
+    "GET /queue",
+    "",
+    "200 OK",
+    "{\"orders\":[{\"amount\":100,\"number\":1,\"place\":1,\"reference\":\"A-1\",\"to\":\"BETA\"}]}",
+)];
+
+#[test]
+fn a_second_request_is_not_looked_at(rt: HostRuntime) -> Result<(), Fail> {
+    let alloc = rt.alloc();
+    let mut desk = open_desk(alloc)?;
+    tells(alloc, &mut desk, TWO, QUEUED)?;
+    follow(alloc, &mut desk, JSON, &STILL_QUEUED)
 }
 
 // A fault that is in the head is told without a read behind the head.
