@@ -1,6 +1,6 @@
 //! Good requests that the rules of the desk refuse.
 use super::super::ALFA;
-use super::{JSON, OPERATOR, Row, follow, open_desk};
+use super::{JSON, OPERATOR, PLAIN, Row, follow, open_desk};
 use std::test::Fail;
 
 const PARTIES: [Row<'static>; 5] = [
@@ -95,6 +95,39 @@ const MONEY: [Row<'static>; 7] = [
     ),
 ];
 
+// The longest amounts.
+const TEXTS: [Row<'static>; 2] = [
+    (
+        ALFA,
+        "GET /statements/2024-03-04",
+        "",
+        "200 OK",
+        "statement ALFA 2024-03-04\n\
+        posting    000000001 P-1              -           10000000000000.00         -\n\
+        posting    000000002 P-2              -                       -0.01         -\n\
+        sent       000000001 A-1              BETA           10000000000.00         1\n\
+        sum-posted               9999999999999.99\n\
+        sum-sent                   10000000000.00\n\
+        sum-recv                             0.00\n\
+        net                      9989999999999.99\n",
+    ),
+    (
+        OPERATOR,
+        "GET /desk/report/2024-03-04",
+        "",
+        "200 OK",
+        "report 2024-03-04\n\
+        ALFA                   9999999999999.99                 10000000000.00                           0.00\n\
+        BETA                               0.00                           0.00                 10000000000.00\n\
+        GAMA                               0.00                           0.00                           0.00\n\
+        settled            1                 10000000000.00\n\
+        queued             0                           0.00\n\
+        withdrawn          0                           0.00\n\
+        rejected           0                           0.00\n\
+        marks              1\n",
+    ),
+];
+
 #[test]
 fn parties_that_are_not_there(rt: HostRuntime) -> Result<(), Fail> {
     let alloc = rt.alloc();
@@ -106,7 +139,8 @@ fn parties_that_are_not_there(rt: HostRuntime) -> Result<(), Fail> {
 fn money_that_is_not_there(rt: HostRuntime) -> Result<(), Fail> {
     let alloc = rt.alloc();
     let mut desk = open_desk(alloc)?;
-    follow(alloc, &mut desk, JSON, &MONEY)
+    follow(alloc, &mut desk, JSON, &MONEY)?;
+    follow(alloc, &mut desk, PLAIN, &TEXTS)
 }
 
 const LIMITS: [Row<'static>; 4] = [
