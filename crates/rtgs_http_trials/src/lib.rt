@@ -1,4 +1,4 @@
-//! Requests of all routes, hostile ones, and the same request in pieces.
+//! Requests of all routes, hostile ones, the same request in pieces, and replies to the byte.
 #![tactic(auto)]
 
 #[cfg(test)]
