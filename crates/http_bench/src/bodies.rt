@@ -13,28 +13,68 @@ use std::time::{Duration, Instant};
 
 const TIMES: usize = 20;
 
-/// Measures bodies of about so many bytes: an order among spaces, and an object with many keys, which are refused.
-pub fn measure(rt: &HostRuntime, length: usize, timed: bool) -> Result<()> {
-    let spaces = spaces_of(rt.alloc(), length)?;
-    measure_body(rt, "spaces", spaces.as_bytes(), true, timed)?;
-    let keys = keys_of(rt.alloc(), length)?;
-    measure_body(rt, "keys", keys.as_bytes(), false, timed)
+/// A body, what is in it, the route that it is sent to, and whether it is good there.
+#[derive(Clone, Copy)]
+struct Sample<'a> {
+    what: &'a str,
+    route: BankRoute,
+    body: &'a [u8],
+    good: bool,
 }
 
-fn measure_body(rt: &HostRuntime, what: &str, body: &[u8], good: bool, timed: bool) -> Result<()> {
+/// Measures bodies of about so many bytes: an order among spaces, an object with many keys, which is refused, and a file
+/// of orders whose one row has a long reference, which is refused.
+pub fn measure(rt: &HostRuntime, length: usize, timed: bool) -> Result<()> {
+    let order = BankRoute::SendOrder;
+    let spaces = spaces_of(rt.alloc(), length)?;
+    measure_body(
+        rt,
+        sample_of("spaces", order, spaces.as_bytes(), true),
+        timed,
+    )?;
+    let keys = keys_of(rt.alloc(), length)?;
+    measure_body(rt, sample_of("keys", order, keys.as_bytes(), false), timed)?;
+    let field = field_of(rt.alloc(), length)?;
+    let field = sample_of("a field", BankRoute::SendBatch, field.as_bytes(), false);
+    measure_body(rt, field, timed)
+}
+
+/// Measures a file of so many orders.
+pub fn measure_rows(rt: &HostRuntime, rows: usize, timed: bool) -> Result<()> {
+    let rows = rows_of(rt.alloc(), rows)?;
+    let rows = sample_of("rows", BankRoute::SendBatch, rows.as_bytes(), true);
+    measure_body(rt, rows, timed)
+}
+
+fn sample_of<'a>(what: &'a str, route: BankRoute, body: &'a [u8], good: bool) -> Sample<'a> {
+    Sample {
+        what,
+        route,
+        body,
+        good,
+    }
+}
+
+fn measure_body(rt: &HostRuntime, sample: Sample<'_>, timed: bool) -> Result<()> {
+    let Sample {
+        what,
+        route,
+        body,
+        good,
+    } = sample;
     ensure!(body.len() <= LONGEST_BODY, "the length");
     let mut whole = Duration::MAX;
     let mut bytes = Duration::MAX;
     for _ in 0..TIMES {
         let start = Instant::now(rt)?;
         ensure!(
-            judged_whole(rt.alloc(), body)? == good,
+            judged_whole(rt.alloc(), route, body)? == good,
             "the body in one piece"
         );
         whole = whole.min(start.elapsed(rt)?);
         let start = Instant::now(rt)?;
         ensure!(
-            judged_in_bytes(rt.alloc(), body)? == good,
+            judged_in_bytes(rt.alloc(), route, body)? == good,
             "the body byte by byte"
         );
         bytes = bytes.min(start.elapsed(rt)?);
@@ -72,30 +112,50 @@ fn keys_of(alloc: Global, length: usize) -> Result<String, AllocError> {
     Ok(body)
 }
 
-// Whether the body is an order, given in one piece.
-fn judged_whole(alloc: Global, body: &[u8]) -> Result<bool>
+// A file of orders with one row, whose reference fills it.
+fn field_of(alloc: Global, length: usize) -> Result<String, AllocError> {
+    let mut body = String::new(alloc);
+    body.push_str("reference,to,amount\n")?;
+    for _ in 27..length {
+        body.push('A')?;
+    }
+    body.push_str(",BETA,1")?;
+    Ok(body)
+}
+
+// A file of so many orders.
+fn rows_of(alloc: Global, rows: usize) -> Result<String, AllocError> {
+    let mut body = String::new(alloc);
+    body.push_str("reference,to,amount\n")?;
+    for row in 0..rows {
+        let line = format!(in alloc; "A-{row},BETA,1\n")?;
+        body.push_str(line.as_str())?;
+    }
+    Ok(body)
+}
+
+// Whether the body is good, given in one piece.
+fn judged_whole(alloc: Global, route: BankRoute, body: &[u8]) -> Result<bool>
     requires { length body.now ≤ LONGEST_BODY }
 {
     let mut feed = BodyFeed::new(alloc, body.len())?;
     feed.feed(body);
-    is_order(alloc, feed.bytes())
+    is_good(alloc, route, feed.bytes())
 }
 
 // The same, given byte by byte.
-fn judged_in_bytes(alloc: Global, body: &[u8]) -> Result<bool>
+fn judged_in_bytes(alloc: Global, route: BankRoute, body: &[u8]) -> Result<bool>
     requires { length body.now ≤ LONGEST_BODY }
 {
     let mut feed = BodyFeed::new(alloc, body.len())?;
     for place in 0..body.len() {
         feed.feed(&body[place..place + 1]);
     }
-    is_order(alloc, feed.bytes())
+    is_good(alloc, route, feed.bytes())
 }
 
-fn is_order(alloc: Global, body: &[u8]) -> Result<bool> {
-    let caller = Admitted::Bank {
-        route: BankRoute::SendOrder,
-        caller: Code::read(b"ALFA")?,
-    };
-    Ok(read_asked(alloc, caller, "", body).is_ok())
+fn is_good(alloc: Global, route: BankRoute, body: &[u8]) -> Result<bool> {
+    let caller = Code::read(b"ALFA")?;
+    let admitted = Admitted::Bank { route, caller };
+    Ok(read_asked(alloc, admitted, "", body).is_ok())
 }

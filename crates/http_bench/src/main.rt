@@ -15,5 +15,8 @@ fn main(rt: HostRuntime) -> Result<()> {
     for length in [16384, 32768, 65536] {
         bodies::measure(&rt, length, timed)?;
     }
+    for rows in [125, 250, 500] {
+        bodies::measure_rows(&rt, rows, timed)?;
+    }
     Ok(())
 }
