@@ -22,8 +22,8 @@ struct Sample<'a> {
     good: bool,
 }
 
-/// Measures bodies of about so many bytes: an order among spaces, and two that are refused, an object with many keys and
-/// a file of orders whose one row has a long reference.
+/// Measures bodies of about so many bytes: an order among spaces, and two that are refused, an object with many keys
+/// and a file of orders whose one row has a long reference.
 pub fn measure(rt: &HostRuntime, length: usize, timed: bool) -> Result<()> {
     let order = BankRoute::SendOrder;
     let spaces = spaces_of(rt.alloc(), length)?;
