@@ -1,12 +1,13 @@
 -- Business dates by their number YYYYMMDD, which rises from day to day.
 use Rattle.std.specs.Prelude.{ℕ, ◌/◌, ◌%◌, ◌≤◌, pos, Bool, nat_le, List, ◌∷◌, ◌++◌}
 use Rattle.jiff_core.specs.Calendar.{days_in_month, days_from_civil, weekday_number}
+use Rattle.rtgs_money.specs.declared.date.TheConstants.BusinessDate as business
 use Rattle.rtgs_money.specs.Digits.{digits}
 
 -- the calendar has this day, in the years that the desk serves
 pub record IsBusinessDay (year month day : ℕ) : Type 0 where
-  pub from_year : 2000 ≤ year
-  pub to_year : year ≤ 2999
+  pub from_year : business.FIRST_YEAR ≤ year
+  pub to_year : year ≤ business.LAST_YEAR
   pub from_month : 1 ≤ month
   pub to_month : month ≤ 12
   pub from_day : 1 ≤ day

@@ -1,6 +1,10 @@
 -- The forms of names and keys, over their bytes.
 use Rattle.std.specs.Prelude.{ℕ, ◌-◌, Bool, ◌&&◌, ◌||◌, ◌==◌, nat_le, List, length, IsTrue, not, slice_index}
 use Rattle.std.specs.List.{list_all}
+use Rattle.rtgs_money.specs.declared.code.TheConstants.Code as code
+use Rattle.rtgs_money.specs.declared.reference.TheConstants.Reference as reference
+use Rattle.rtgs_money.specs.declared.name.TheConstants.Name as name
+use Rattle.rtgs_money.specs.declared.key.TheConstants.Key as key
 
 -- b is from low to high
 abbrev pub is_within : ℕ → ℕ → ℕ → Bool
@@ -30,23 +34,25 @@ is_name_byte = is_within 32 126
 abbrev pub is_key_byte : ℕ → Bool
 is_key_byte b = is_digit b || is_within 97 102 b
 
--- a capital, then capitals and digits, 3 to 8 in all
+-- a capital, then capitals and digits, SHORTEST to LONGEST in all
 unfoldable pub is_code : List ℕ → Bool
-is_code bytes = is_within 3 8 (length bytes) && is_capital (slice_index bytes 0) && list_all is_code_byte bytes
+is_code bytes =
+    is_within code.SHORTEST code.LONGEST (length bytes)
+    && is_capital (slice_index bytes 0) && list_all is_code_byte bytes
 
--- 1 to 16 capitals, digits and dashes
+-- 1 to LONGEST capitals, digits and dashes
 unfoldable pub is_reference : List ℕ → Bool
-is_reference bytes = is_within 1 16 (length bytes) && list_all is_reference_byte bytes
+is_reference bytes = is_within 1 reference.LONGEST (length bytes) && list_all is_reference_byte bytes
 
--- 1 to 40 printable characters, with no space first or last
+-- 1 to LONGEST printable characters, with no space first or last
 unfoldable pub is_name : List ℕ → Bool
 is_name bytes =
-    is_within 1 40 (length bytes) && list_all is_name_byte bytes
+    is_within 1 name.LONGEST (length bytes) && list_all is_name_byte bytes
     && not (slice_index bytes 0 == 32) && not (slice_index bytes (length bytes - 1) == 32)
 
--- 32 digits 0-9 and a-f
+-- LENGTH digits 0-9 and a-f
 unfoldable pub is_key : List ℕ → Bool
-is_key bytes = (length bytes == 32) && list_all is_key_byte bytes
+is_key bytes = (length bytes == key.LENGTH) && list_all is_key_byte bytes
 
 abbrev pub IsCode : List ℕ → Type 0
 IsCode bytes = IsTrue (is_code bytes)

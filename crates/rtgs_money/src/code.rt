@@ -10,10 +10,11 @@ use crate::text::Text;
 use std::fmt;
 use std::marker::Model;
 
-/// The short name of a participant: a letter A-Z, then letters and digits, 3 to 8 in all. Contracts see the bytes.
+/// The short name of a participant: a letter A-Z, then letters and digits, `SHORTEST` to `LONGEST` in all. Contracts see
+/// the bytes.
 #[derive(Clone, Copy, Debug, PartialEq, Eq, PartialOrd, Ord)]
 pub struct Code {
-    text: Text<8>,
+    text: Text<{ Code::LONGEST }>,
 }
 
 impl Model for Code {
@@ -27,8 +28,14 @@ impl Model for Code {
 }
 
 impl Code {
-    /// The code that these bytes are: a letter A-Z, then letters A-Z and digits, 3 to 8 in all. Anything else is
-    /// `BadCode`.
+    /// The least number of characters of a code.
+    pub const SHORTEST: usize = 3;
+
+    /// The greatest number of characters of a code.
+    pub const LONGEST: usize = 8;
+
+    /// The code that these bytes are: a letter A-Z, then letters A-Z and digits, `SHORTEST` to `LONGEST` in all. Anything
+    /// else is `BadCode`.
     #[tactic(auto, unfolding(crate::specs::Forms::is_code))]
     pub fn read(bytes: &[u8]) -> Result<Code, Lexical>
         ensures value { IfOk result (λ code. IsCode bytes.now × (code ≡ bytes.now)) }
@@ -81,7 +88,9 @@ fn has_code_bytes(bytes: &[u8]) -> bool
 fn is_code(bytes: &[u8]) -> bool
     ensures { result ≡ is_code bytes.now }
 {
-    (3..=8).contains(&bytes.len()) && bytes[0].is_ascii_uppercase() && has_code_bytes(bytes)
+    (Code::SHORTEST..=Code::LONGEST).contains(&bytes.len())
+        && bytes[0].is_ascii_uppercase()
+        && has_code_bytes(bytes)
 }
 
 impl fmt::Display for Code {

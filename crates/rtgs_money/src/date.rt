@@ -9,7 +9,7 @@ use jiff::civil::{self, Date, Weekday};
 use std::fmt;
 use std::marker::Model;
 
-/// A date of the years 2000 to 2999 of the Gregorian calendar. Contracts see the number YYYYMMDD.
+/// A date of the years `FIRST_YEAR` to `LAST_YEAR` of the Gregorian calendar. Contracts see the number YYYYMMDD.
 #[derive(Clone, Copy, Debug, PartialEq, Eq, PartialOrd, Ord)]
 pub struct BusinessDate {
     number: u32,
@@ -26,13 +26,19 @@ impl Model for BusinessDate {
 }
 
 impl BusinessDate {
+    /// The first year that the desk serves.
+    pub const FIRST_YEAR: u32 = 2000;
+
+    /// The last year that the desk serves.
+    pub const LAST_YEAR: u32 = 2999;
+
     /// The date with this number YYYYMMDD, if the calendar has it in the years that the desk serves.
     pub fn from_number(number: u32) -> Option<BusinessDate>
         ensures valid { IsSome result ↔ IsBusinessDate number }
         ensures value { IfSome result (λ date. date ≡ number) }
     {
         let year = number / 10_000;
-        if year < 2000 || year > 2999 {
+        if year < BusinessDate::FIRST_YEAR || year > BusinessDate::LAST_YEAR {
             return None;
         }
         let month = (number / 100 % 100) as i8;

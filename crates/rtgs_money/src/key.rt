@@ -13,10 +13,10 @@ use sha2::{Digest, Sha256};
 use std::fmt;
 use std::marker::Model;
 
-/// The secret by which a caller is known: 32 characters 0-9 and a-f. Contracts see the bytes.
+/// The secret by which a caller is known: `LENGTH` characters 0-9 and a-f. Contracts see the bytes.
 #[derive(Clone, Copy, PartialEq, Eq)]
 pub struct Key {
-    text: Text<32>,
+    text: Text<{ Key::LENGTH }>,
 }
 
 impl Model for Key {
@@ -30,7 +30,10 @@ impl Model for Key {
 }
 
 impl Key {
-    /// The key that these bytes are: 32 characters 0-9 and a-f. Anything else is `BadKey`.
+    /// How many characters a key has.
+    pub const LENGTH: usize = 32;
+
+    /// The key that these bytes are: `LENGTH` characters 0-9 and a-f. Anything else is `BadKey`.
     #[tactic(auto, unfolding(crate::specs::Forms::is_key))]
     pub fn read(bytes: &[u8]) -> Result<Key, Lexical>
         ensures value { IfOk result (λ key. IsKey bytes.now × (key ≡ bytes.now)) }
@@ -63,7 +66,7 @@ impl Key {
         self.text.as_str()
     }
 
-    /// The SHA-256 digest (FIPS 180-4) of the key's 32 characters.
+    /// The SHA-256 digest (FIPS 180-4) of the key's characters.
     pub fn digest(&self) -> KeyDigest
         ensures { result ≡ sha256 self.now }
     {
@@ -90,7 +93,7 @@ fn has_key_bytes(bytes: &[u8]) -> bool
 fn is_key(bytes: &[u8]) -> bool
     ensures { result ≡ is_key bytes.now }
 {
-    bytes.len() == 32 && has_key_bytes(bytes)
+    bytes.len() == Key::LENGTH && has_key_bytes(bytes)
 }
 
 impl fmt::Display for Key {

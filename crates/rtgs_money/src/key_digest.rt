@@ -3,10 +3,10 @@ ghost use Rattle.std.specs.Prelude.{◌≡◌, ℕ, List, ◌↔◌, length, IsS
 
 use std::marker::Model;
 
-/// The SHA-256 digest of a key, 32 bytes. Contracts see the bytes.
+/// The SHA-256 digest of a key, `LENGTH` bytes. Contracts see the bytes.
 #[derive(Clone, Copy, Debug, PartialEq, Eq, PartialOrd, Ord)]
 pub struct KeyDigest {
-    bytes: [u8; 32],
+    bytes: [u8; KeyDigest::LENGTH],
 }
 
 impl Model for KeyDigest {
@@ -18,25 +18,28 @@ impl Model for KeyDigest {
 }
 
 impl KeyDigest {
-    /// The digest of these 32 bytes.
-    pub fn from_bytes(bytes: [u8; 32]) -> KeyDigest
+    /// How many bytes a digest has.
+    pub const LENGTH: usize = 32;
+
+    /// The digest of these bytes.
+    pub fn from_bytes(bytes: [u8; KeyDigest::LENGTH]) -> KeyDigest
         ensures { result ≡ bytes }
     {
         KeyDigest { bytes }
     }
 
-    /// The digest of these bytes, if they are 32.
+    /// The digest of these bytes, if they are `LENGTH`.
     pub fn from_slice(bytes: &[u8]) -> Option<KeyDigest>
-        ensures valid { IsSome result ↔ (length bytes.now ≡ 32) }
+        ensures valid { IsSome result ↔ (length bytes.now ≡ KeyDigest.LENGTH) }
         ensures value { IfSome result (λ digest. digest ≡ bytes.now) }
     {
         bytes.try_into().ok().map(KeyDigest::from_bytes)
     }
 
-    /// The 32 bytes.
+    /// The bytes.
     pub fn as_bytes(&self) -> &[u8]
         ensures value { result.now ≡ self.now }
-        ensures len { length self.now ≡ 32 }
+        ensures len { length self.now ≡ KeyDigest.LENGTH }
     {
         &self.bytes
     }

@@ -10,11 +10,11 @@ use crate::text::Text;
 use std::fmt;
 use std::marker::Model;
 
-/// The full name of a participant: 1 to 40 printable ASCII characters, with no space at either end. Contracts see the
-/// bytes.
+/// The full name of a participant: 1 to `LONGEST` printable ASCII characters, with no space at either end. Contracts see
+/// the bytes.
 #[derive(Clone, Copy, Debug, PartialEq, Eq, PartialOrd, Ord)]
 pub struct Name {
-    text: Text<40>,
+    text: Text<{ Name::LONGEST }>,
 }
 
 impl Model for Name {
@@ -28,8 +28,11 @@ impl Model for Name {
 }
 
 impl Name {
-    /// The name that these bytes are: 1 to 40 printable ASCII characters, with no space at either end. Anything else is
-    /// `BadName`.
+    /// The greatest number of characters of a name.
+    pub const LONGEST: usize = 40;
+
+    /// The name that these bytes are: 1 to `LONGEST` printable ASCII characters, with no space at either end. Anything
+    /// else is `BadName`.
     #[tactic(auto, unfolding(crate::specs::Forms::is_name))]
     pub fn read(bytes: &[u8]) -> Result<Name, Lexical>
         ensures value { IfOk result (λ name. IsName bytes.now × (name ≡ bytes.now)) }
@@ -82,7 +85,7 @@ fn has_name_bytes(bytes: &[u8]) -> bool
 fn is_name(bytes: &[u8]) -> bool
     ensures { result ≡ is_name bytes.now }
 {
-    (1..=40).contains(&bytes.len())
+    (1..=Name::LONGEST).contains(&bytes.len())
         && has_name_bytes(bytes)
         && bytes[0] != b' '
         && bytes[bytes.len() - 1] != b' '

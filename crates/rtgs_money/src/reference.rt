@@ -10,11 +10,11 @@ use crate::text::Text;
 use std::fmt;
 use std::marker::Model;
 
-/// The name that a sender gives an order, or the operator a posting: 1 to 16 letters A-Z, digits and dashes. Contracts
-/// see the bytes.
+/// The name that a sender gives an order, or the operator a posting: 1 to `LONGEST` letters A-Z, digits and dashes.
+/// Contracts see the bytes.
 #[derive(Clone, Copy, Debug, PartialEq, Eq, PartialOrd, Ord)]
 pub struct Reference {
-    text: Text<16>,
+    text: Text<{ Reference::LONGEST }>,
 }
 
 impl Model for Reference {
@@ -28,7 +28,11 @@ impl Model for Reference {
 }
 
 impl Reference {
-    /// The reference that these bytes are: 1 to 16 letters A-Z, digits and dashes. Anything else is `BadReference`.
+    /// The greatest number of characters of a reference.
+    pub const LONGEST: usize = 16;
+
+    /// The reference that these bytes are: 1 to `LONGEST` letters A-Z, digits and dashes. Anything else is
+    /// `BadReference`.
     #[tactic(auto, unfolding(crate::specs::Forms::is_reference))]
     pub fn read(bytes: &[u8]) -> Result<Reference, Lexical>
         ensures value { IfOk result (λ reference. IsReference bytes.now × (reference ≡ bytes.now)) }
@@ -81,7 +85,7 @@ fn has_reference_bytes(bytes: &[u8]) -> bool
 fn is_reference(bytes: &[u8]) -> bool
     ensures { result ≡ is_reference bytes.now }
 {
-    (1..=16).contains(&bytes.len()) && has_reference_bytes(bytes)
+    (1..=Reference::LONGEST).contains(&bytes.len()) && has_reference_bytes(bytes)
 }
 
 impl fmt::Display for Reference {

@@ -1,6 +1,7 @@
 -- Values in their forms and ranges, as the types of the records keep them.
 use Rattle.std.specs.Prelude.{◌≡◌, ℕ, Option, Some, None, length, ⊤}
 use Rattle.std.specs.List.{AllByRecursion}
+use Rattle.rtgs_money.specs.declared.key_digest.TheConstants.KeyDigest as KeyDigest
 use Rattle.rtgs_money.specs.Forms.{IsCode, IsReference, IsName}
 use Rattle.rtgs_money.specs.Amounts.{IsAmount, IsPostingAmount, IsCredit}
 use Rattle.rtgs_money.specs.Date.{IsBusinessDate}
@@ -19,7 +20,7 @@ FitsDate (Some date) = IsBusinessDate date
 pub record FitsParticipant (p : Participant) : Type 0 where
   pub code : IsCode p.code
   pub name : IsName p.name
-  pub key : length p.key ≡ 32
+  pub key : length p.key ≡ KeyDigest.LENGTH
   pub credit : IsCredit p.credit
 
 pub record FitsPosting (p : Posting) : Type 0 where

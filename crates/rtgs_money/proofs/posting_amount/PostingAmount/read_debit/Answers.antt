@@ -1,4 +1,4 @@
-use Rattle.std.proofs.Common.{rules, ◌≡◌, ℤ, pos, ◌∷◌, ◌-ℤ◌, to_z, of_z, w64, Ok, Some, sym, ap, ◌∙◌, arith}
+use Rattle.std.proofs.Common.{rules, ◌≡◌, pos, ◌∷◌, ◌-ℤ◌, to_z, of_z, w64, Ok, sym, ap, ◌∙◌, arith}
 use Rattle.std.proofs.lemmas.Fmt.{signed_decimal_injective}
 use Rattle.std.specs.Fmt.{signed_decimal}
 use Rattle.rtgs_money.proofs.Debits.{below_zero}
