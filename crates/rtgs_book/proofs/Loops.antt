@@ -5,6 +5,7 @@ use Rattle.std.proofs.lemmas.List.{length-map}
 use Rattle.std.proofs.Math.ListN.{drop_of_length-le}
 use Rattle.std.specs.List.{AllByRecursion, range_with_len, list_all}
 use Rattle.rtgs_money.specs.Date.{is_weekend}
+use Rattle.rtgs_book.specs.declared.limits.TheConstants.{LARGEST_NUMBER}
 use Rattle.rtgs_book.specs.Soundness.{AreNumbered, AreWeekdays, NeverFall}
 use Rattle.rtgs_book.proofs.Lists.{all_weaker}
 
@@ -88,7 +89,7 @@ module _ {X : Type 0} (number : X → ℕ) (xs : List X) where
       let differ : (number x == 1 + i) ≡ false = grind (arith, nat_tests) in
       true≢false (sym (counts 1 (map number xs) numbered.0) ∙ sym h ∙ one_more i x less is ∙ rw differ refl)
 
-  pub counted_all : (i : ℕ) → length xs ≤ i → Counted i → (nat_le (length xs) 999999999 ≡ true) ↔ AreNumbered (map number xs)
+  pub counted_all : (i : ℕ) → length xs ≤ i → Counted i → (nat_le (length xs) LARGEST_NUMBER ≡ true) ↔ AreNumbered (map number xs)
   counted_all i past h =
       let whole : counts_from 1 (map number xs) ≡ true = sym h ∙ ap (λ ys. counts_from (1 + i) (map number ys)) (drop_of_length-le xs past) in
       let long : length (map number xs) ≡ length xs = length-map xs number in

@@ -1,8 +1,10 @@
 -- No balance is large.
-use Rattle.std.proofs.Common.{◌≡◌, ℕ, suc, ◌≤◌, ◌+◌, ◌*◌, ◌^◌, ℤ, pos, neg_ℤ, ◌+ℤ◌, ◌≤ℤ◌, Bool, true, false, cond, List, [], ◌∷◌, Some, find, option_map, unwrap_or, length, arith}
+use Rattle.std.proofs.Common.{◌≡◌, ℕ, suc, ◌≤◌, ◌+◌, ◌*◌, ℤ, pos, neg_ℤ, ◌+ℤ◌, ◌≤ℤ◌, Bool, true, false, cond, List, [], ◌∷◌, Some, find, option_map, unwrap_or, length, arith}
 use Rattle.std.proofs.lemmas.Int.{ints}
 use Rattle.std.specs.List.{AllByRecursion}
+use Rattle.rtgs_money.specs.declared.credit.TheConstants.Credit as Credit
 use Rattle.rtgs_money.specs.Amounts.{IsCredit}
+use Rattle.rtgs_book.specs.declared.limits.TheConstants.{LARGEST_BALANCE}
 use Rattle.rtgs_book.specs.Books.{Book, Participant, is_closed}
 use Rattle.rtgs_book.specs.Lookup.{has_code, participant_of, credit_of, accounts}
 use Rattle.rtgs_book.specs.IntSum.{int_sum_by}
@@ -29,28 +31,28 @@ high_terms f low (x ∷ xs) h =
     )
 
 -- a credit limit, if there is one
-small_limit : (code : List ℕ) (ps : List Participant) → AllByRecursion (λ (p : Participant). IsCredit p.credit) ps → unwrap_or (option_map (λ (p : Participant). p.credit) (find (has_code code) ps)) 0 ≤ 10 ^ 14
+small_limit : (code : List ℕ) (ps : List Participant) → AllByRecursion (λ (p : Participant). IsCredit p.credit) ps → unwrap_or (option_map (λ (p : Participant). p.credit) (find (has_code code) ps)) 0 ≤ Credit.MAX
 small_limit code [] h = omega arith
 small_limit code (p ∷ ps) h = by (has_code code p) (small_limit code ps h.1)
   where
-    by : (b : Bool) → unwrap_or (option_map (λ (p : Participant). p.credit) (find (has_code code) ps)) 0 ≤ 10 ^ 14 → unwrap_or (option_map (λ (p : Participant). p.credit) (cond b (Some p) (find (has_code code) ps))) 0 ≤ 10 ^ 14
+    by : (b : Bool) → unwrap_or (option_map (λ (p : Participant). p.credit) (find (has_code code) ps)) 0 ≤ Credit.MAX → unwrap_or (option_map (λ (p : Participant). p.credit) (cond b (Some p) (find (has_code code) ps))) 0 ≤ Credit.MAX
     by true rest = h.0
     by false rest = rest
 
-low_floor : (book : Book) (code : List ℕ) → Fits book → neg_ℤ (pos (10 ^ 14)) ≤ℤ floor book code
+low_floor : (book : Book) (code : List ℕ) → Fits book → neg_ℤ (pos Credit.MAX) ≤ℤ floor book code
 unfolding floor credit_of participant_of
 low_floor book code h = by (is_closed book.day.phase) _ (small_limit code book.participants h.credits)
   where
-    by : (b : Bool) (n : ℕ) → n ≤ 10 ^ 14 → neg_ℤ (pos (10 ^ 14)) ≤ℤ cond b (pos 0) (neg_ℤ (pos n))
+    by : (b : Bool) (n : ℕ) → n ≤ Credit.MAX → neg_ℤ (pos Credit.MAX) ≤ℤ cond b (pos 0) (neg_ℤ (pos n))
     by true n few = omega (arith, ints)
     by false n few = omega (arith, ints)
 
 pub balances_small : (book : Book) → IsSound book → Fits book → BalancesFit book
 unfolding total
 balances_small book h fits =
-    let floors = all_weaker (λ code. floor book code ≤ℤ balance book code) (λ code. neg_ℤ (pos (10 ^ 14)) ≤ℤ balance book code) (λ code k. let low = low_floor book code fits in omega (arith, ints)) (accounts book) h.floors in
-    let terms = high_terms (balance book) (10 ^ 14) (accounts book) floors in
+    let floors = all_weaker (λ code. floor book code ≤ℤ balance book code) (λ code. neg_ℤ (pos Credit.MAX) ≤ℤ balance book code) (λ code k. let low = low_floor book code fits in omega (arith, ints)) (accounts book) h.floors in
+    let terms = high_terms (balance book) Credit.MAX (accounts book) floors in
     let few = h.codes_rise.1 in
     let all = h.total_fits in
-    all_both (λ code. neg_ℤ (pos (10 ^ 14)) ≤ℤ balance book code) (λ code. (balance book code +ℤ pos (10 ^ 14)) ≤ℤ (int_sum_by (balance book) (accounts book) +ℤ pos (length (accounts book) * 10 ^ 14))) (λ code. Within (109 * 10 ^ 14) (balance book code))
+    all_both (λ code. neg_ℤ (pos Credit.MAX) ≤ℤ balance book code) (λ code. (balance book code +ℤ pos Credit.MAX) ≤ℤ (int_sum_by (balance book) (accounts book) +ℤ pos (length (accounts book) * Credit.MAX))) (λ code. Within LARGEST_BALANCE (balance book code))
     (λ code low high. (omega (arith, ints), omega (arith, ints))) (accounts book) floors terms.1

@@ -8,6 +8,7 @@ use Rattle.std.specs.List.Sorted.{IsStrictlySortedBy}
 use Rattle.std.specs.Ordering.{is_lt, is_ge, eq_by_cmp, ordering_then}
 use Rattle.std.specs.Cmp.Lexicographic.{slice_cmp, nat_list_cmp_total, texts_ties}
 use Rattle.std.specs.Str.{bytes_eq}
+use Rattle.rtgs_book.specs.declared.limits.TheConstants.{MOST_PARTICIPANTS}
 use Rattle.rtgs_book.specs.Soundness.{AreCodes, is_same_name}
 use Rattle.rtgs_book.proofs.Lists.{all_weaker}
 use Rattle.rtgs_book.proofs.Loops.{next_of, and_left, and_right}
@@ -80,7 +81,7 @@ module _ {X : Type 0} (code : X → List ℕ) (xs : List X) where
   slipped before i x h less is down codes =
       true≢false (sym ((climbs_is (map code xs)).1 codes.0) ∙ sym h ∙ next_code before i x less is ∙ rw down refl)
 
-  pub climbed_all : (before : Option (List ℕ)) (i : ℕ) → length xs ≤ i → Climbing before i → (nat_le (length xs) 100 ≡ true) ↔ AreCodes (map code xs)
+  pub climbed_all : (before : Option (List ℕ)) (i : ℕ) → length xs ≤ i → Climbing before i → (nat_le (length xs) MOST_PARTICIPANTS ≡ true) ↔ AreCodes (map code xs)
   climbed_all before i past h =
       let whole : climbs_from None (map code xs) ≡ true = sym h ∙ ap (λ ys. climbs_from before (map code ys)) (drop_of_length-le xs past) in
       let long : length (map code xs) ≡ length xs = length-map xs code in

@@ -3,6 +3,7 @@ use Rattle.std.proofs.Common.{◌≡◌, ℕ, ◌≤◌, pos, ◌≤ℤ◌, Bool
 use Rattle.std.proofs.lemmas.Int.{ints}
 use Rattle.std.proofs.lemmas.Bool.{eqb-true, eq-eqb}
 use Rattle.std.specs.List.{AllByRecursion, list_all}
+use Rattle.rtgs_book.specs.declared.limits.TheConstants.{LONGEST_QUEUE}
 use Rattle.rtgs_book.specs.Books.{Book, Participant, Order, is_closed, is_queued}
 use Rattle.rtgs_book.specs.Lookup.{accounts}
 use Rattle.rtgs_book.specs.Queue.{queue}
@@ -46,24 +47,24 @@ not_closed : (b : Bool) → not b ≡ false → b ≡ true
 not_closed true e = refl
 not_closed false e = absurd (true≢false e)
 
-short_length : (n : ℕ) → pos n ≤ℤ pos 500 → n ≤ 500
+short_length : (n : ℕ) → pos n ≤ℤ pos LONGEST_QUEUE → n ≤ LONGEST_QUEUE
 short_length n h = omega (arith, ints)
 
-length_short : (n : ℕ) → n ≤ 500 → pos n ≤ℤ pos 500
+length_short : (n : ℕ) → n ≤ LONGEST_QUEUE → pos n ≤ℤ pos LONGEST_QUEUE
 length_short n h = omega (arith, ints)
 
-pub queues_of : (book : Book) (b : Bool) → AllByRecursion (λ (p : Participant). pos (length (queue book p.code)) ≤ℤ pos 500) book.participants → b ≡ list_all (is_queued_on (not (is_closed book.day.phase)) (today book)) book.orders → (b ≡ true) ↔ QueuesFit book
+pub queues_of : (book : Book) (b : Bool) → AllByRecursion (λ (p : Participant). pos (length (queue book p.code)) ≤ℤ pos LONGEST_QUEUE) book.participants → b ≡ list_all (is_queued_on (not (is_closed book.day.phase)) (today book)) book.orders → (b ≡ true) ↔ QueuesFit book
 unfolding accounts
 queues_of book b short is = (
   λ e. let on = all_on (not (is_closed book.day.phase)) (today book) book.orders (sym is ∙ e) in
       record {
         closed = λ closed. on.0 (ap not closed);
-        short = all_map (λ code. length (queue book code) ≤ 500) (λ (p : Participant). p.code) book.participants (all_weaker (λ (p : Participant). pos (length (queue book p.code)) ≤ℤ pos 500) (λ (p : Participant). length (queue book p.code) ≤ 500) (λ p h. short_length _ h) book.participants short);
+        short = all_map (λ code. length (queue book code) ≤ LONGEST_QUEUE) (λ (p : Participant). p.code) book.participants (all_weaker (λ (p : Participant). pos (length (queue book p.code)) ≤ℤ pos LONGEST_QUEUE) (λ (p : Participant). length (queue book p.code) ≤ LONGEST_QUEUE) (λ p h. short_length _ h) book.participants short);
         of_the_day = on.1;
       },
   λ fit. is ∙ on_all (not (is_closed book.day.phase)) (today book) book.orders (λ e. fit.closed (not_closed _ e)) fit.of_the_day,
 )
 
-pub long_queue : (book : Book) → QueuesFit book → AllByRecursion (λ (p : Participant). pos (length (queue book p.code)) ≤ℤ pos 500) book.participants
+pub long_queue : (book : Book) → QueuesFit book → AllByRecursion (λ (p : Participant). pos (length (queue book p.code)) ≤ℤ pos LONGEST_QUEUE) book.participants
 unfolding accounts
-long_queue book fit = all_weaker (λ (p : Participant). length (queue book p.code) ≤ 500) (λ (p : Participant). pos (length (queue book p.code)) ≤ℤ pos 500) (λ p h. length_short _ h) book.participants (all_unmap (λ code. length (queue book code) ≤ 500) (λ (p : Participant). p.code) book.participants fit.short)
+long_queue book fit = all_weaker (λ (p : Participant). length (queue book p.code) ≤ LONGEST_QUEUE) (λ (p : Participant). pos (length (queue book p.code)) ≤ℤ pos LONGEST_QUEUE) (λ p h. length_short _ h) book.participants (all_unmap (λ code. length (queue book code) ≤ LONGEST_QUEUE) (λ (p : Participant). p.code) book.participants fit.short)

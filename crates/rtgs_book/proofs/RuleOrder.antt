@@ -1,9 +1,10 @@
 -- Rules one after another.
-use Rattle.std.proofs.Common.{◌≡◌, ℕ, ◌+◌, ◌^◌, pos, ◌≤ℤ◌, Bool, true, ◌↔◌, ◌<◌, ◌≤◌, ◌⊎◌, inl, inr, ⊎_elim, refl, sym, ap, ◌∙◌, subst, length, get_or, [], ◌∷◌, arith}
+use Rattle.std.proofs.Common.{◌≡◌, ℕ, ◌+◌, pos, ◌≤ℤ◌, Bool, true, ◌↔◌, ◌<◌, ◌≤◌, ◌⊎◌, inl, inr, ⊎_elim, refl, sym, ap, ◌∙◌, subst, length, get_or, [], ◌∷◌, arith}
 use Rattle.std.proofs.lemmas.Bool.{cases_lt}
 use Rattle.std.proofs.lemmas.List.{length-map}
 use Rattle.rtgs_book.specs.declared.rule.Rule.{Rule}
 use Rattle.rtgs_book.specs.declared.rule.Rule.TheVariants.{OrderNumbers, PostingNumbers, MarkNumbers, ParticipantCodes, Keys, OrderReferences, PostingReferences, Parties, Marks, Queues, Dates, Floors, Total, StoredBalances}
+use Rattle.rtgs_book.specs.declared.limits.TheConstants.{LARGEST_NUMBER, LARGEST_TOTAL}
 use Rattle.rtgs_book.specs.Books.{Book, Posting, Order}
 use Rattle.rtgs_book.specs.Judgement.{Keeps, KeepsBefore}
 use Rattle.rtgs_book.specs.Judgement.{number_of}
@@ -16,10 +17,10 @@ use Rattle.rtgs_book.proofs.Sound.{total_from_rules}
 pub earlier : (book : Book) (rule this other : Rule) → rule ≡ this → number_of other < number_of this → KeepsBefore book rule → Keeps book other
 earlier book rule this other is less h = h other (subst (λ r. number_of other < number_of r) (sym is) less)
 
-pub few_orders : (book : Book) → Keeps book OrderNumbers → length book.orders ≤ 999999999
+pub few_orders : (book : Book) → Keeps book OrderNumbers → length book.orders ≤ LARGEST_NUMBER
 few_orders book h = let long = length-map book.orders (λ (o : Order). o.number) in let few = h.1 in omega arith
 
-pub few_postings : (book : Book) → Keeps book PostingNumbers → length book.postings ≤ 999999999
+pub few_postings : (book : Book) → Keeps book PostingNumbers → length book.postings ≤ LARGEST_NUMBER
 few_postings book h = let long = length-map book.postings (λ (p : Posting). p.number) in let few = h.1 in omega arith
 
 -- the rule with a number
@@ -77,7 +78,7 @@ sound_from_rules book count past kept = record {
 }
 
 -- the total by what was issued
-pub total_by_issue : (book : Book) (b : Bool) → CodesRise book → PartiesAreKnown book → (b ≡ true) ↔ (int_sum_by (λ (p : Posting). p.cents) book.postings ≤ℤ pos (10 ^ 15)) → (b ≡ true) ↔ TotalFits book
+pub total_by_issue : (book : Book) (b : Bool) → CodesRise book → PartiesAreKnown book → (b ≡ true) ↔ (int_sum_by (λ (p : Posting). p.cents) book.postings ≤ℤ pos LARGEST_TOTAL) → (b ≡ true) ↔ TotalFits book
 unfolding issued
 total_by_issue book b codes parties told =
     let same : total book ≡ int_sum_by (λ (p : Posting). p.cents) book.postings = total_from_rules book codes parties in

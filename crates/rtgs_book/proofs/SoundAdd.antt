@@ -5,6 +5,7 @@ use Rattle.std.proofs.lemmas.List.{length-map, map-append}
 use Rattle.std.specs.List.{AllByRecursion, list_any}
 use Rattle.std.specs.Str.{bytes_eq}
 use Rattle.std.specs.Cmp.Lexicographic.{bytes_decides}
+use Rattle.rtgs_book.specs.declared.limits.TheConstants.{MOST_PARTICIPANTS, LONGEST_QUEUE}
 use Rattle.rtgs_book.specs.Books.{Book, Participant, Posting, Order, Mark, is_closed, is_settled, is_queued}
 use Rattle.rtgs_book.specs.Lookup.{has_code, participant_of, credit_of, accounts, is_participant}
 use Rattle.rtgs_book.specs.IntSum.{int_sum_by}
@@ -88,7 +89,7 @@ no_gains code (o ∷ os) h = by (is_settled o) (no_gains code os h.1)
     by true rest = rw (h.0.0, h.0.1) (omega (arith, ints))
     by false rest = rest
 
-no_queue : (code : List ℕ) (os : List Order) → AllByRecursion (λ (o : Order). (bytes_eq o.sender code ≡ false) × (bytes_eq o.receiver code ≡ false)) os → length (filter (λ (o : Order). is_queued o && bytes_eq o.sender code) os) ≤ 500
+no_queue : (code : List ℕ) (os : List Order) → AllByRecursion (λ (o : Order). (bytes_eq o.sender code ≡ false) × (bytes_eq o.receiver code ≡ false)) os → length (filter (λ (o : Order). is_queued o && bytes_eq o.sender code) os) ≤ LONGEST_QUEUE
 no_queue code [] h = omega arith
 no_queue code (o ∷ os) h = rw (h.0.0, and_false (is_queued o)) (no_queue code os h.1)
   where
@@ -146,7 +147,7 @@ module _ (book : Book) (code full key : List ℕ) (h : IsSound book) (free : All
   unfolding balance with_participant
   balance_same c = refl
 
-  few : length book.participants < 100 → length (put_in (λ c. is_before c code) code (accounts book)) ≡ length (accounts book) + 1 → length (put_in (λ c. is_before c code) code (accounts book)) ≤ 100
+  few : length book.participants < MOST_PARTICIPANTS → length (put_in (λ c. is_before c code) code (accounts book)) ≡ length (accounts book) + 1 → length (put_in (λ c. is_before c code) code (accounts book)) ≤ MOST_PARTICIPANTS
   unfolding accounts
   few room many = let long = length-map book.participants (λ (p : Participant). p.code) in omega arith
 
@@ -184,7 +185,7 @@ module _ (book : Book) (code full key : List ℕ) (h : IsSound book) (free : All
       zero_first : (a b : ℤ) → a ≡ pos 0 → a +ℤ b ≡ b
       zero_first a b e = omega (arith, ints)
 
-  pub participant_sound : AllByRecursion (λ (p : Participant). bytes_eq p.key key ≡ false) book.participants → length book.participants < 100 → IsSound (with_participant book new)
+  pub participant_sound : AllByRecursion (λ (p : Participant). bytes_eq p.key key ≡ false) book.participants → length book.participants < MOST_PARTICIPANTS → IsSound (with_participant book new)
   unfolding with_participant queue
   participant_sound keys room =
       let same = accounts-with_participant in
@@ -204,7 +205,7 @@ module _ (book : Book) (code full key : List ℕ) (h : IsSound book) (free : All
         marks = (h.marks.0, all_weaker (CountsItsOrders book) (CountsItsOrders (with_participant book new)) (λ (m : Mark) c. record { some = c.some; count = c.count; value = c.value }) book.marks h.marks.1);
         queues = record {
           closed = h.queues.closed;
-          short = rw same (all_put_in (λ c. length (queue book c) ≤ 500) (λ c. is_before c code) code (accounts book) h.queues.short (no_queue code book.orders known));
+          short = rw same (all_put_in (λ c. length (queue book c) ≤ LONGEST_QUEUE) (λ c. is_before c code) code (accounts book) h.queues.short (no_queue code book.orders known));
           of_the_day = h.queues.of_the_day;
         };
         dates = record {

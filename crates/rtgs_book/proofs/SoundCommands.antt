@@ -6,6 +6,7 @@ use Rattle.std.proofs.lemmas.List.Elements.{filter-append}
 use Rattle.std.specs.List.{AllByRecursion, range_with_len}
 use Rattle.std.specs.Str.{bytes_eq}
 use Rattle.std.specs.Cmp.Lexicographic.{bytes_decides}
+use Rattle.rtgs_book.specs.declared.limits.TheConstants.{LONGEST_QUEUE, LARGEST_NUMBER}
 use Rattle.rtgs_book.specs.Books.{Book, Order, is_closed, is_queued, is_empty}
 use Rattle.rtgs_book.specs.Lookup.{accounts, participant_of, credit_of, order_named}
 use Rattle.rtgs_book.specs.Balance.{balance, floor, gain}
@@ -66,7 +67,7 @@ pub right_true : (a b : Bool) → (a && b) ≡ true → b ≡ true
 right_true true b e = e
 right_true false b e = absurd (true≢false (sym e))
 
-no_orders : {X : Type 0} (xs : List X) → is_empty xs ≡ true → length xs < 500
+no_orders : {X : Type 0} (xs : List X) → is_empty xs ≡ true → length xs < LONGEST_QUEUE
 no_orders [] e = omega arith
 no_orders (x ∷ xs) e = absurd (true≢false (sym e))
 
@@ -81,7 +82,7 @@ choose : (b : Bool) (x y : Outcome) → (b ≡ true → IsSound x.book) → (b �
 choose true x y h k = h refl
 choose false x y h k = k refl
 
-at_once_empty : (book : Book) (sender : List ℕ) (amount : ℕ) → settles_at_once book sender amount ≡ true → length (queue book sender) < 500
+at_once_empty : (book : Book) (sender : List ℕ) (amount : ℕ) → settles_at_once book sender amount ≡ true → length (queue book sender) < LONGEST_QUEUE
 unfolding settles_at_once
 at_once_empty book sender amount e = no_orders _ (left_true _ _ e)
 
@@ -125,8 +126,8 @@ module _ (book : Book) (sender reference receiver : List ℕ) (amount : ℕ) (h 
       sound not_closed
       (rw batch_is (all_weaker (λ code. floor book code ≤ℤ balance book code) (λ code. floor book code ≤ℤ (balance (with_order book new) code +ℤ (gain code new +ℤ pos 0))) (λ code x. rw (balance-with_order book sender reference receiver amount code) (covered_at apart cover code x)) (accounts book) h.floors))
 
-  takes_sound : length book.orders < 999999999 → is_some (order_named book sender reference) ≡ false → has_parties book (new_order book sender reference receiver amount) ≡ true → bytes_eq sender receiver ≡ false
-      → is_closed book.day.phase ≡ false → (not (settles_at_once book sender amount) && nat_le 500 (length (queue book sender))) ≡ false → IsSound (takes book (new_order book sender reference receiver amount)).book
+  takes_sound : length book.orders < LARGEST_NUMBER → is_some (order_named book sender reference) ≡ false → has_parties book (new_order book sender reference receiver amount) ≡ true → bytes_eq sender receiver ≡ false
+      → is_closed book.day.phase ≡ false → (not (settles_at_once book sender amount) && nat_le LONGEST_QUEUE (length (queue book sender))) ≡ false → IsSound (takes book (new_order book sender reference receiver amount)).book
   unfolding takes
   takes_sound room fresh parties apart not_closed short =
       choose (settles_at_once book sender amount) _ _

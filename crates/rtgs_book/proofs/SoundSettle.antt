@@ -6,6 +6,7 @@ use Rattle.std.proofs.lemmas.List.{length-map, map-append}
 use Rattle.std.specs.List.{AllByRecursion, list_any, range_with_len}
 use Rattle.std.specs.Str.{bytes_eq}
 use Rattle.rtgs_money.specs.Date.{is_weekend}
+use Rattle.rtgs_book.specs.declared.limits.TheConstants.{LONGEST_QUEUE}
 use Rattle.rtgs_book.specs.Books.{Book, Order, OrderState, Mark, Settled, is_closed, is_queued, is_settled}
 use Rattle.rtgs_book.specs.Lookup.{accounts, is_participant, participant_of, credit_of}
 use Rattle.rtgs_book.specs.IntSum.{int_sum_by}
@@ -124,7 +125,7 @@ module _ (book : Book) (is_in : Order → Bool) (queued : AllByRecursion (λ o. 
         );
         queues = record {
           closed = λ e. absurd (true≢false (sym e ∙ not_closed));
-          short = all_weaker (λ code. length (queue book code) ≤ 500) (λ code. length (queue (with_batch book is_in) code) ≤ 500)
+          short = all_weaker (λ code. length (queue book code) ≤ LONGEST_QUEUE) (λ code. length (queue (with_batch book is_in) code) ≤ LONGEST_QUEUE)
               (λ code x. let le = length-filter_restated (λ o. is_queued o && bytes_eq o.sender code) is_in s (λ o. refl) book.orders in omega arith) (accounts book) h.queues.short;
           of_the_day = all_filter_restated is_queued is_in s (λ o. refl) (λ o. o.date ≡ today book) book.orders h.queues.of_the_day;
         };

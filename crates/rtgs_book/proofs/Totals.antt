@@ -17,6 +17,7 @@ use Rattle.std.specs.Int.{w128}
 use Rattle.std.specs.Option.{option_map}
 use Rattle.std.specs.Ordering.{eq_by_cmp}
 use Rattle.std.specs.Set.{is_member}
+use Rattle.rtgs_money.specs.declared.posting_amount.TheConstants.PostingAmount as PostingAmount
 use Rattle.rtgs_book.specs.IntSum.{int_sum_by}
 use Rattle.rtgs_book.specs.Totals.{Totals, Within, AreWithin}
 use Rattle.rtgs_book.proofs.IntSums.{int_sum_by-append}
@@ -120,9 +121,9 @@ pub wide : (z : ℤ) → Within (10 ^ 30) z → to_z w128 (of_z w128 z) ≡ z
 wide z h = to_z-of_z w128 z (fits_wide z h)
 
 -- a posting's amount, as a value of 128 bits
-pub cents_are : (cents : ℤ) (c : ℤ) (a : ℤ) → a ≡ to_z w64 (of_z w64 c) → c ≡ cents → unsigned_abs cents ≤ 10 ^ 15 → Within (10 ^ 15) cents × (to_z w128 (of_z w128 a) ≡ cents)
+pub cents_are : (cents : ℤ) (c : ℤ) (a : ℤ) → a ≡ to_z w64 (of_z w64 c) → c ≡ cents → unsigned_abs cents ≤ PostingAmount.MAX → Within PostingAmount.MAX cents × (to_z w128 (of_z w128 a) ≡ cents)
 cents_are cents c a e f few =
-    let fits : Within (10 ^ 15) cents = (omega (arith, ints), omega (arith, ints)) in
+    let fits : Within PostingAmount.MAX cents = (omega (arith, ints), omega (arith, ints)) in
     let narrow : to_z w64 (of_z w64 c) ≡ c = to_z-of_z w64 c (omega (arith, ints)) in
     let same : a ≡ cents = e ∙ narrow ∙ f in
     (fits, wide a (omega (arith, ints), omega (arith, ints)) ∙ same)

@@ -1,9 +1,10 @@
 -- What the laws of the definitions speak of.
-use Rattle.std.specs.Prelude.{◌≡◌, ◌^◌, ◌*◌, ℤ, pos, true, Ok, List, ◌++◌, ⊤}
+use Rattle.std.specs.Prelude.{◌≡◌, ℤ, pos, true, Ok, List, ◌++◌, ⊤}
 use Rattle.std.specs.List.{AllByRecursion}
 use Rattle.rtgs_money.specs.Amounts.{IsAmount, IsPostingAmount, IsCredit}
 use Rattle.rtgs_book.specs.declared.command.Command.TheVariants.{SetCredit, Post, Order as PlaceOrder}
 use Rattle.rtgs_book.specs.declared.answer.Answer.TheVariants.{Posted}
+use Rattle.rtgs_book.specs.declared.limits.TheConstants.{LARGEST_BALANCE}
 use Rattle.rtgs_book.specs.Books.{Book, Order, Mark, is_settled}
 use Rattle.rtgs_book.specs.Lookup.{accounts}
 use Rattle.rtgs_book.specs.Balance.{balance}
@@ -28,6 +29,6 @@ CommandFits (Post code reference cents) = IsPostingAmount cents
 CommandFits (PlaceOrder sender reference receiver amount) = IsAmount amount
 CommandFits command = ⊤
 
--- every balance is at most 1.09 times 10^16 cents in magnitude, which is far below 2^63
+-- every balance is at most LARGEST_BALANCE in magnitude, which is far below 2^63
 abbrev pub BalancesFit : Book → Type 0
-BalancesFit book = AllByRecursion (λ code. Within (109 * 10 ^ 14) (balance book code)) (accounts book)
+BalancesFit book = AllByRecursion (λ code. Within LARGEST_BALANCE (balance book code)) (accounts book)

@@ -31,7 +31,7 @@ pub use crate::command::Command;
 pub use crate::day::Day;
 pub use crate::fault::Fault;
 pub use crate::limits::{
-    LARGEST_NUMBER, LARGEST_TOTAL, LONGEST_QUEUE, MOST_PARTICIPANTS, MOST_QUEUED,
+    LARGEST_BALANCE, LARGEST_NUMBER, LARGEST_TOTAL, LONGEST_QUEUE, MOST_PARTICIPANTS, MOST_QUEUED,
 };
 pub use crate::mark::Mark;
 pub use crate::order::Order;

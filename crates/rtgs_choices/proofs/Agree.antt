@@ -5,6 +5,7 @@ use Rattle.std.proofs.lemmas.List.Elements.{All-from_recursion}
 use Rattle.std.proofs.lemmas.List.Sums.{sum_by-cons}
 use Rattle.rtgs_book.specs.declared.book.Book.{Book}
 use Rattle.rtgs_book.specs.declared.order.Order.{Order}
+use Rattle.rtgs_book.specs.declared.limits.TheConstants.{MOST_PARTICIPANTS, LONGEST_QUEUE, MOST_QUEUED}
 use Rattle.rtgs_book.specs.Lookup.{accounts}
 use Rattle.rtgs_book.specs.Queue.{queue}
 use Rattle.rtgs_book.specs.Choice.{chosen, balance_after}
@@ -20,18 +21,18 @@ use Rattle.rtgs_choices.proofs.Chosen.{ChosenAreBeginnings, Agree, sum_by-chosen
 pub queue_length : (book : Book) (i : ℕ) → i < length (accounts book) → length (queue_of (queues_of book) i) ≡ length (queue book (code_at book i))
 queue_length book i less = ap length (queue_at book i less) ∙ length-map (queue book (code_at book i)) (payment_of book)
 
-pub payments-le : (book : Book) → IsSound book → payment_count (queues_of book) ≤ 50000
+pub payments-le : (book : Book) → IsSound book → payment_count (queues_of book) ≤ MOST_QUEUED
 unfolding payment_count
 payments-le book sound =
     let count = length-queues book in
-    let codes : length (accounts book) ≤ 100 = sound.codes_rise.1 in
+    let codes : length (accounts book) ≤ MOST_PARTICIPANTS = sound.codes_rise.1 in
     let each = sum_below-bound (length (queues_of book)) (λ i. length (queue_of (queues_of book) i)) (λ i less. short i (omega arith)) in
     omega arith
   where
-    short : (i : ℕ) → i < length (accounts book) → length (queue_of (queues_of book) i) ≤ 500
+    short : (i : ℕ) → i < length (accounts book) → length (queue_of (queues_of book) i) ≤ LONGEST_QUEUE
     short i less =
         let long = queue_length book i less in
-        let here : length (queue book (code_at book i)) ≤ 500 = All-from_recursion (λ code. length (queue book code) ≤ 500) (accounts book) sound.queues.short i [] less in
+        let here : length (queue book (code_at book i)) ≤ LONGEST_QUEUE = All-from_recursion (λ code. length (queue book code) ≤ LONGEST_QUEUE) (accounts book) sound.queues.short i [] less in
         omega arith
 
 pub length_is : {X : Type 0} (xs : List X) → sum_by (λ x. 1) xs ≡ length xs

@@ -16,12 +16,13 @@ use Rattle.rtgs_book.specs.declared.phase.Phase.TheVariants.{Closed, Open, CutOf
 use Rattle.rtgs_book.specs.Books.{is_closed, is_cut_off, is_empty, is_queued, is_settled_state}
 use Rattle.rtgs_book.specs.Lookup.{accounts}
 use Rattle.rtgs_book.specs.Balance.{balance}
+use Rattle.rtgs_book.specs.Queue.{queued_numbers}
 use Rattle.rtgs_book.specs.Choice.{Choice, chosen, IsGreatest}
 use Rattle.rtgs_book.specs.Commands.{close_day, is_on, overdrawn, with_day, with_state}
 use Rattle.rtgs_book.specs.Outcome.{first_of}
 use Rattle.rtgs_book.specs.Changes.{changed, balance_set, SetsBalances, StartsEmpty}
 use Rattle.rtgs_book.specs.Step.{Step}
-use Rattle.rtgs_choices.specs.Settling.{queued_numbers, is_numbered, state_rows}
+use Rattle.rtgs_choices.specs.Settling.{is_numbered, state_rows}
 use Rattle.rtgs_choices.specs.Closing.{closed_book, closing_rows}
 use Rattle.rtgs_choices.proofs.Rows.{changed-append, restated_agrees, balance_set-states}
 
@@ -41,14 +42,14 @@ StatesOneByOne = (book : Book) (state : OrderState) (numbers : List ℕ) → cha
 
 -- the numbers in the queues are those of the queued orders
 abbrev QueuedAreNumbered : Book → Type 0
-QueuedAreNumbered book = AllByRecursion (λ order. is_queued order ≡ is_numbered (flat_map (queued_numbers book) (accounts book)) order) book.orders
+QueuedAreNumbered book = AllByRecursion (λ order. is_queued order ≡ is_numbered (flat_map (queued_numbers book.orders) (accounts book)) order) book.orders
 
 -- queued orders that get another state, but are not settled, move no balance
 abbrev BalanceAfterRestating : Type 0
 BalanceAfterRestating = (book : Book) (is_in : Order → Bool) (state : OrderState) (code : List ℕ) → AllByRecursion (λ order. is_in order ≡ true → is_queued order ≡ true) book.orders → is_settled_state state ≡ false → balance (with_state book is_in state) code ≡ balance book code
 
 abbrev numbers : Book → List ℕ
-numbers book = flat_map (queued_numbers book) (accounts book)
+numbers book = flat_map (queued_numbers book.orders) (accounts book)
 
 pub rejected : (book : Book) → StatesOneByOne → QueuedAreNumbered book → changed book (closing_rows book) ≡ closed_book book
 unfolding with_state
@@ -70,11 +71,11 @@ moves_nothing book law = every (λ code. balance_set code (closing_rows book) �
   where
     at : (code : List ℕ) → balance_set code (closing_rows book) ≡ cond (int_eq (balance book code) (balance (closed_book book) code)) None (Some (balance (closed_book book) code))
     at code =
-        balance_set-states code Rejected (flat_map (queued_numbers book) (accounts book)) (SetDay (record book.day { phase = Closed }) ∷ [])
+        balance_set-states code Rejected (flat_map (queued_numbers book.orders) (accounts book)) (SetDay (record book.day { phase = Closed }) ∷ [])
         ∙ rw (← same_balance book law code, int_eq_equiv.refl (balance book code)) refl
 
 pub adds_nobody : (new : Book) (all : List RowChange) (book : Book) → AllByRecursion (StartsEmpty new all) (closing_rows book)
-adds_nobody new all book = each (flat_map (queued_numbers book) (accounts book))
+adds_nobody new all book = each (flat_map (queued_numbers book.orders) (accounts book))
   where
     each : (numbers : List ℕ) → AllByRecursion (StartsEmpty new all) (state_rows Rejected numbers ++ SetDay (record book.day { phase = Closed }) ∷ [])
     each [] = (tt, tt)

@@ -3,6 +3,7 @@ use Rattle.std.proofs.Common.{◌≡◌, ℕ, zero, suc, ◌<◌, ◌≤◌, ◌
 use Rattle.std.proofs.lemmas.Bool.Decides.{nat_tests}
 use Rattle.std.proofs.lemmas.List.Sums.{sum_by-cons}
 use Rattle.std.specs.List.{AllByRecursion}
+use Rattle.rtgs_book.specs.declared.limits.TheConstants.{LONGEST_QUEUE}
 use Rattle.rtgs_gridlock.specs.Choices.{sum_below}
 
 pub sum_below-same : (n : ℕ) (f g : ℕ → ℕ) → ((i : ℕ) → i < n → f i ≡ g i) → sum_below n f ≡ sum_below n g
@@ -10,8 +11,8 @@ unfolding sum_below
 sum_below-same zero f g h = refl
 sum_below-same (suc n) f g h = omega (arith, sum_below-same n f g (λ i less. h i (omega arith)), h n (omega arith))
 
--- 500 is the length of the longest queue
-pub sum_below-bound : (n : ℕ) (f : ℕ → ℕ) → ((i : ℕ) → i < n → f i ≤ 500) → sum_below n f ≤ n * 500
+-- no part is longer than the longest queue
+pub sum_below-bound : (n : ℕ) (f : ℕ → ℕ) → ((i : ℕ) → i < n → f i ≤ LONGEST_QUEUE) → sum_below n f ≤ n * LONGEST_QUEUE
 unfolding sum_below
 sum_below-bound zero f h = omega arith
 sum_below-bound (suc n) f h = omega (arith, sum_below-bound n f (λ i less. h i (omega arith)), h n (omega arith))

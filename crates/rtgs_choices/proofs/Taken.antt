@@ -11,12 +11,12 @@ use Rattle.rtgs_book.specs.Books.{is_queued}
 use Rattle.rtgs_book.specs.Lookup.{accounts}
 use Rattle.rtgs_book.specs.IntSum.{int_sum_by}
 use Rattle.rtgs_book.specs.Balance.{gain}
-use Rattle.rtgs_book.specs.Queue.{queue}
+use Rattle.rtgs_book.specs.Queue.{queue, queued_numbers}
 use Rattle.rtgs_book.specs.Choice.{Choice, is_chosen, chosen}
 use Rattle.rtgs_book.specs.Soundness.{IsSound, OrdersAreNumbered}
 use Rattle.rtgs_gridlock.specs.Choices.{sum_below}
 use Rattle.rtgs_choices.specs.ByIndex.{code_at}
-use Rattle.rtgs_choices.specs.Settling.{queued_numbers, orders_taken, numbers_taken, is_numbered}
+use Rattle.rtgs_choices.specs.Settling.{orders_taken, numbers_taken, is_numbered}
 use Rattle.rtgs_choices.proofs.Agree.{length_is}
 use Rattle.rtgs_choices.proofs.Told.{HasIndexes, parties_have_indexes, all_weaker, all_filter}
 use Rattle.rtgs_choices.proofs.Chosen.{ChosenAreBeginnings, gets, gives, gains_are, sum_by-senders, sum_by-chosen}
@@ -163,7 +163,7 @@ module _ (law : ChosenAreBeginnings) (book : Book) (choice : Choice) (sound : Is
   beginning code = take (choice code) (queue book code)
 
   taken_is : numbers_taken book choice ≡ flat_map (λ code. map number_of (beginning code)) (accounts book)
-  unfolding numbers_taken
+  unfolding numbers_taken queue
   taken_is i = flat_map (λ code. take-map number_of (choice code) (queue book code) i) (accounts book)
 
   pub chosen_by_number : AllByRecursion (λ o. is_chosen book choice o ≡ is_numbered (numbers_taken book choice) o) book.orders
@@ -208,8 +208,10 @@ module _ (book : Book) (sound : IsSound book) where
       sum_by-senders book (filter is_queued book.orders) (queue book) sound (all_filter (HasIndexes book) is_queued book.orders (parties_have_indexes book sound))
       (λ code. filter-filter is_queued (λ (o : Order). bytes_eq o.sender code) book.orders)
 
-  pub queued_by_number : AllByRecursion (λ o. is_queued o ≡ is_numbered (flat_map (queued_numbers book) (accounts book)) o) book.orders
+  pub queued_by_number : AllByRecursion (λ o. is_queued o ≡ is_numbered (flat_map (queued_numbers book.orders) (accounts book)) o) book.orders
+  unfolding queue
   queued_by_number = passes_by_numbers book sound is_queued (queue book) sum_by-queued
 
-  pub queued_count : length (filter is_queued book.orders) ≡ length (flat_map (queued_numbers book) (accounts book))
+  pub queued_count : length (filter is_queued book.orders) ≡ length (flat_map (queued_numbers book.orders) (accounts book))
+  unfolding queue
   queued_count = as_many_numbers book sound is_queued (queue book) sum_by-queued

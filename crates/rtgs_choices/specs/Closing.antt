@@ -9,7 +9,8 @@ use Rattle.rtgs_book.specs.declared.phase.Phase.TheVariants.{Closed}
 use Rattle.rtgs_book.specs.Books.{is_queued}
 use Rattle.rtgs_book.specs.Commands.{with_day, with_state}
 use Rattle.rtgs_book.specs.Lookup.{accounts}
-use Rattle.rtgs_choices.specs.Settling.{queued_numbers, state_rows}
+use Rattle.rtgs_book.specs.Queue.{queued_numbers}
+use Rattle.rtgs_choices.specs.Settling.{state_rows}
 
 -- the book with all that was queued rejected, and its day closed
 abbrev pub closed_book : Book → Book
@@ -17,4 +18,4 @@ closed_book book = with_day (with_state book is_queued Rejected) (record book.da
 
 -- what is queued is rejected, account by account; then the day is closed
 abbrev pub closing_rows : Book → List RowChange
-closing_rows book = state_rows Rejected (flat_map (queued_numbers book) (accounts book)) ++ SetDay (record book.day { phase = Closed }) ∷ []
+closing_rows book = state_rows Rejected (flat_map (queued_numbers book.orders) (accounts book)) ++ SetDay (record book.day { phase = Closed }) ∷ []

@@ -11,13 +11,9 @@ use Rattle.rtgs_book.specs.declared.order_state.OrderState.{OrderState}
 use Rattle.rtgs_book.specs.declared.order_state.OrderState.TheVariants.{Settled}
 use Rattle.rtgs_book.specs.Lookup.{accounts}
 use Rattle.rtgs_book.specs.Balance.{balance}
-use Rattle.rtgs_book.specs.Queue.{queue}
+use Rattle.rtgs_book.specs.Queue.{queue, queued_numbers}
 use Rattle.rtgs_book.specs.Choice.{Choice, balance_after}
 use Rattle.rtgs_book.specs.Commands.{has_number}
-
--- the numbers of the sender's queued orders
-abbrev pub queued_numbers : Book → List ℕ → List ℕ
-queued_numbers book code = map (λ (order : Order). order.number) (queue book code)
 
 -- account by account the first orders of the queue, as many as the choice says
 unfoldable pub orders_taken : Book → Choice → List Order
@@ -25,7 +21,7 @@ orders_taken book choice = flat_map (λ code. take (choice code) (queue book cod
 
 -- account by account the first numbers of the queue, as many as the choice says
 unfoldable pub numbers_taken : Book → Choice → List ℕ
-numbers_taken book choice = flat_map (λ code. take (choice code) (queued_numbers book code)) (accounts book)
+numbers_taken book choice = flat_map (λ code. take (choice code) (queued_numbers book.orders code)) (accounts book)
 
 -- the order has one of the numbers
 abbrev pub is_numbered : List ℕ → Order → Bool

@@ -20,6 +20,7 @@ ghost use Rattle.rtgs_book.specs.Books.{is_cut_off, is_empty, is_queued};
 ghost use Rattle.rtgs_book.specs.Lookup.{accounts};
 ghost use Rattle.rtgs_book.specs.IntSum.{int_sum_by};
 ghost use Rattle.rtgs_book.specs.Balance.{gain};
+ghost use Rattle.rtgs_book.specs.Queue.{queued_numbers};
 ghost use Rattle.rtgs_book.specs.Choice.{Choice, is_chosen, chosen, balance_after, IsGreatest};
 ghost use Rattle.rtgs_book.specs.Commands.{is_on, overdrawn, with_state};
 ghost use Rattle.rtgs_book.specs.Settle.{settle, mark_of, next_mark};
@@ -28,7 +29,7 @@ ghost use Rattle.rtgs_book.specs.Soundness.{IsSound};
 ghost use Rattle.rtgs_book.specs.Step.{Step};
 ghost use Rattle.rtgs_choices.specs.ByIndex.{code_at, index_of, positions_of, queues_of, by_code};
 ghost use Rattle.rtgs_choices.specs.Closing.{closed_book, closing_rows};
-ghost use Rattle.rtgs_choices.specs.Settling.{queued_numbers, orders_taken, numbers_taken, is_numbered, state_rows, IsOfBalance, settling_rows};
+ghost use Rattle.rtgs_choices.specs.Settling.{orders_taken, numbers_taken, is_numbered, state_rows, IsOfBalance, settling_rows};
 
 use rtgs_book::laws::{
     balance_after_restating, chosen_are_beginnings, settled_balances, step_keeps_soundness,
@@ -84,8 +85,8 @@ pub fn taken_are_chosen()
 /// An order is queued where its number is in one of the queues, account by account, and there are as
 /// many of these as queued orders.
 pub fn queued_are_numbered()
-    ensures numbers { (book : Book) → IsSound book → AllByRecursion (λ order. is_queued order ≡ is_numbered (flat_map (queued_numbers book) (accounts book)) order) book.orders }
-    ensures count { (book : Book) → IsSound book → length (filter is_queued book.orders) ≡ length (flat_map (queued_numbers book) (accounts book)) }
+    ensures numbers { (book : Book) → IsSound book → AllByRecursion (λ order. is_queued order ≡ is_numbered (flat_map (queued_numbers book.orders) (accounts book)) order) book.orders }
+    ensures count { (book : Book) → IsSound book → length (filter is_queued book.orders) ≡ length (flat_map (queued_numbers book.orders) (accounts book)) }
 {}
 
 /// To set the state of one order after another is to set that of all of them. With the mark and

@@ -5,6 +5,9 @@ use crate::out_of_memory::OutOfMemory;
 use std::alloc::Global;
 use std::marker::Model;
 
+/// The greatest amount of a payment, in cents.
+pub(crate) const LARGEST_AMOUNT: u64 = u64::MAX;
+
 /// A queued payment: the index of the participant that receives it, and its amount in cents.
 #[derive(Clone, Copy, Debug, PartialEq, Eq)]
 pub struct Payment {

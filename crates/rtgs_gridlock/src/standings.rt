@@ -1,4 +1,5 @@
 ghost use Rattle.std.specs.Prelude.{◌≡◌, ℕ, ◌+◌, ◌*◌, ◌^◌, ◌<◌, ◌≤◌, ◌↔◌, ◌==◌, ◌+ℤ◌, pos, All, IfOk, IsTrue, length, sum_by, if◌then◌else◌};
+ghost use Rattle.rtgs_gridlock.specs.declared.queues.TheConstants.{LARGEST_AMOUNT};
 ghost use Rattle.rtgs_gridlock.specs.Choices.{amount_to, position_of, queue_of, payment_count, received, AreFloored, AreInRange};
 ghost use Rattle.rtgs_gridlock.specs.Standings.{funds_of, owed_of, everything, HasEnough, AreStandings};
 
@@ -130,12 +131,12 @@ fn credit_all(standings: &mut [Standing], queues: &Queues)
 fn credit(standings: &mut [Standing], payments: &[Payment])
     requires receivers { All (λ payment. payment.receiver < length standings.old) payments.now }
     requires room { All
-        (λ payment. funds_of standings.old payment.receiver + length payments.now * 18446744073709551615 < 2 ^ 128)
+        (λ payment. funds_of standings.old payment.receiver + length payments.now * LARGEST_AMOUNT < 2 ^ 128)
         payments.now }
     ensures funds { (p : ℕ) → p < length standings.old →
         funds_of standings.new p ≡ funds_of standings.old p + sum_by (amount_to p) payments.now }
     ensures small { (p : ℕ) → p < length standings.old →
-        sum_by (amount_to p) payments.now ≤ length payments.now * 18446744073709551615 }
+        sum_by (amount_to p) payments.now ≤ length payments.now * LARGEST_AMOUNT }
     ensures owed { (p : ℕ) → owed_of standings.new p ≡ owed_of standings.old p }
 {
     for payment in payments {

@@ -14,6 +14,7 @@ use Rattle.rtgs_book.specs.Commands.{add, with_participant}
 use Rattle.rtgs_book.specs.Step.{Step}
 use Rattle.std.specs.Ordering.{int_eq}
 use Rattle.rtgs_book.specs.declared.change.RowChange.TheVariants.{AddParticipant}
+use Rattle.rtgs_book.specs.declared.limits.TheConstants.{MOST_PARTICIPANTS}
 use Rattle.rtgs_book.specs.Balance.{balance}
 use Rattle.rtgs_book.specs.Changes.{Leads, balance_set}
 use Rattle.rtgs_book.specs.Commands.{is_before}
@@ -39,11 +40,11 @@ module _ (book : Book) (code name key : List ℕ) where
   unfolding add first_of
   key_taken absent taken = rw (absent, taken) refl
 
-  pub too_many : lookup.participant_of book code ≡ None → list_any (λ (p : Participant). bytes_eq p.key key) book.participants ≡ false → nat_le 100 (length book.participants) ≡ true → Step book (Add code name key) (Err TooManyParticipants) book
+  pub too_many : lookup.participant_of book code ≡ None → list_any (λ (p : Participant). bytes_eq p.key key) book.participants ≡ false → nat_le MOST_PARTICIPANTS (length book.participants) ≡ true → Step book (Add code name key) (Err TooManyParticipants) book
   unfolding add first_of
   too_many absent free many = rw (absent, free, many) refl
 
-  pub adds : lookup.participant_of book code ≡ None → list_any (λ (p : Participant). bytes_eq p.key key) book.participants ≡ false → nat_le 100 (length book.participants) ≡ false → Step book (Add code name key) (Ok Added) (with_participant book (record { code = code; name = name; key = key; credit = 0 }))
+  pub adds : lookup.participant_of book code ≡ None → list_any (λ (p : Participant). bytes_eq p.key key) book.participants ≡ false → nat_le MOST_PARTICIPANTS (length book.participants) ≡ false → Step book (Add code name key) (Ok Added) (with_participant book (record { code = code; name = name; key = key; credit = 0 }))
   unfolding add first_of
   adds absent free few = rw (absent, free, few) refl
 
@@ -73,7 +74,7 @@ module _ (r : Records) (kept : IsKept (held_of r)) (code name key : List ℕ) (a
       (all_same (balance (book_of r)) (balance (with_participant (book_of r) p)) (λ c. sym (balance_same c)) r.accounts.accounts kept.balanced)
       (sym (balance_same code ∙ no_balance))
 
-  pub prepared_add : StepKeepsRanges → StepKeepsSoundness → list_any (has_key key) r.accounts.accounts ≡ false → nat_le 100 (length r.accounts.accounts) ≡ false → 1 ≤ r.accounts.room → IsPrepared (held_of r) (Add code name key) Added (AddParticipant p ∷ [])
+  pub prepared_add : StepKeepsRanges → StepKeepsSoundness → list_any (has_key key) r.accounts.accounts ≡ false → nat_le MOST_PARTICIPANTS (length r.accounts.accounts) ≡ false → 1 ≤ r.accounts.room → IsPrepared (held_of r) (Add code name key) Added (AddParticipant p ∷ [])
   prepared_add ranges soundness free few room =
       let step = adds (book_of r) code name key (participant_none r kept code absent) (any-participants key r.accounts.accounts ∙ free) (rw (length-participants r.accounts.accounts) few) in
       prepared_done (held_of r) (Add code name key) Added (AddParticipant p ∷ []) (with_participant (book_of r) p) kept ranges soundness tt step leads_to_it ((refl, balance_same code ∙ no_balance), tt) stays_balanced ((absent, room), tt) (λ k e. absurd (cc)) (λ e. absurd (cc))

@@ -20,17 +20,16 @@ use Rattle.rtgs_book.specs.Choice.{Choice, chosen, IsGreatest}
 use Rattle.rtgs_book.specs.Commands.{close_day, overdrawn, is_date, is_on}
 use Rattle.rtgs_book.specs.Lookup.{accounts}
 use Rattle.rtgs_book.specs.Outcome.{first_of}
-use Rattle.rtgs_book.specs.Queue.{queue}
+use Rattle.rtgs_book.specs.Queue.{queue, queued_numbers}
 use Rattle.rtgs_book.specs.Step.{Step}
 use Rattle.rtgs_choices.specs.Closing.{closed_book, closing_rows}
-use Rattle.rtgs_choices.specs.Settling.{queued_numbers, state_rows}
+use Rattle.rtgs_choices.specs.Settling.{state_rows}
 use Rattle.rtgs_book.specs.declared.account.Account.{Account}
 use Rattle.rtgs_ledger.specs.declared.records.Records.{Records}
 use Rattle.rtgs_book.specs.Accounts.{is_overdrawn}
 use Rattle.rtgs_ledger.specs.Accounts.{code_of, participant_of}
 use Rattle.rtgs_ledger.specs.Held.{Held, after}
 use Rattle.rtgs_ledger.specs.Kept.{AreBalanced, IsKept, IsPrepared}
-use Rattle.rtgs_ledger.specs.Orders.{queued_numbers as queued_of}
 use Rattle.rtgs_ledger.specs.Records.{held_of, book_of}
 use Rattle.rtgs_ledger.proofs.Balances.{all_same}
 use Rattle.rtgs_ledger.proofs.Kept.{StepKeepsRanges}
@@ -135,12 +134,12 @@ module _ (r : Records) (kept : IsKept (held_of r)) where
 
 -- ---- what is queued
 
-queues_are : (book : Book) (xs : List Account) → flat_map (λ a. queued_of (code_of a) book.orders) xs ≡ flat_map (queued_numbers book) (map (λ (p : Participant). p.code) (map participant_of xs))
+queues_are : (book : Book) (xs : List Account) → flat_map (λ a. queued_numbers book.orders (code_of a)) xs ≡ flat_map (queued_numbers book.orders) (map (λ (p : Participant). p.code) (map participant_of xs))
 unfolding queue
 queues_are book [] = refl
-queues_are book (x ∷ xs) = ap (λ ns. queued_of (code_of x) book.orders ++ ns) (queues_are book xs)
+queues_are book (x ∷ xs) = ap (λ ns. queued_numbers book.orders (code_of x) ++ ns) (queues_are book xs)
 
-pub all_queued : (r : Records) → flat_map (λ a. queued_of (code_of a) r.orders.orders) r.accounts.accounts ≡ flat_map (queued_numbers (book_of r)) (accounts (book_of r))
+pub all_queued : (r : Records) → flat_map (λ a. queued_numbers r.orders.orders (code_of a)) r.accounts.accounts ≡ flat_map (queued_numbers (book_of r).orders) (accounts (book_of r))
 unfolding accounts
 all_queued r = queues_are (book_of r) r.accounts.accounts
 
@@ -153,8 +152,8 @@ module _ (held : Held) (kept : IsKept held) (law : BalanceAfterRestating) where
 
   accounts_stay : (after held (closing_rows held.content)).accounts ≡ held.accounts
   accounts_stay =
-      ap (λ (h : Held). h.accounts) (after-append held (state_rows Rejected (flat_map (queued_numbers held.content) (accounts held.content))) (SetDay (record held.content.day { phase = Closed }) ∷ []))
-      ∙ accounts_after-states Rejected (flat_map (queued_numbers held.content) (accounts held.content)) held
+      ap (λ (h : Held). h.accounts) (after-append held (state_rows Rejected (flat_map (queued_numbers held.content.orders) (accounts held.content))) (SetDay (record held.content.day { phase = Closed }) ∷ []))
+      ∙ accounts_after-states Rejected (flat_map (queued_numbers held.content.orders) (accounts held.content)) held
 
   pub prepared_closing : StepKeepsRanges → (date : ℕ) → Step held.content (command.CloseDay date) (Ok (answer.Closed (length (filter is_queued held.content.orders)))) (closed_book held.content) → IsChange held.content (closing_rows held.content) (closed_book held.content)
       → IsPrepared held (command.CloseDay date) (answer.Closed (length (filter is_queued held.content.orders))) (closing_rows held.content)
@@ -165,7 +164,7 @@ module _ (held : Held) (kept : IsKept held) (law : BalanceAfterRestating) where
       change = change;
       fits = ranges held.content (closed_book held.content) (command.CloseDay date) (Ok (answer.Closed (length (filter is_queued held.content.orders)))) tt kept.fits step;
       balanced = subst (AreBalanced (closed_book held.content)) (sym accounts_stay) (all_same (balance held.content) (balance (closed_book held.content)) balance_same held.accounts kept.balanced);
-      room = room_for_states Rejected refl (flat_map (queued_numbers held.content) (accounts held.content)) held (SetDay (record held.content.day { phase = Closed }) ∷ []) (tt, tt);
+      room = room_for_states Rejected refl (flat_map (queued_numbers held.content.orders) (accounts held.content)) held (SetDay (record held.content.day { phase = Closed }) ∷ []) (tt, tt);
     };
     repeated = λ k e. absurd (cc);
     nothing = λ e. absurd (cc);

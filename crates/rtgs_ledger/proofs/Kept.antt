@@ -1,5 +1,5 @@
 -- What the accounts of a kept ledger say of its book.
-use Rattle.std.proofs.Common.{◌≡◌, ℕ, ◌*◌, ◌^◌, ℤ, pos, neg_ℤ, ◌+ℤ◌, Bool, true, false, ◌||◌, cond, if◌then◌else◌, List, [], ◌∷◌, map, length, find, Ok, Some, None, option_map, refl, sym, ap, ◌∙◌, subst, get_or, ◌<◌, suc, zero, Ordering, Less, Equal, Greater, nat_cmp, arith}
+use Rattle.std.proofs.Common.{◌≡◌, ℕ, ℤ, pos, neg_ℤ, ◌+ℤ◌, Bool, true, false, ◌||◌, cond, if◌then◌else◌, List, [], ◌∷◌, map, length, find, Ok, Some, None, option_map, refl, sym, ap, ◌∙◌, subst, get_or, ◌<◌, suc, zero, Ordering, Less, Equal, Greater, nat_cmp, arith}
 use Rattle.std.proofs.lemmas.List.{length-map}
 use Rattle.std.specs.List.{list_any, AllByRecursion}
 use Rattle.std.specs.Str.{bytes_eq}
@@ -28,6 +28,7 @@ use Rattle.rtgs_book.specs.Step.{Step}
 use Rattle.rtgs_ledger.proofs.Lists.{bytes_eq_comm, every}
 use Rattle.rtgs_ledger.proofs.Balances.{same_int}
 use Rattle.rtgs_book.specs.declared.account.Account.{Account}
+use Rattle.rtgs_book.specs.declared.limits.TheConstants.{LARGEST_BALANCE}
 use Rattle.rtgs_ledger.specs.declared.records.Records.{Records}
 use Rattle.rtgs_ledger.specs.Accounts.{AreInCodeOrder, code_of, participant_of, balance_of, is_of, has_key}
 use Rattle.rtgs_ledger.specs.Held.{Held, HasRoom, after}
@@ -143,9 +144,9 @@ module _ (r : Records) (kept : IsKept (held_of r)) where
   balance_at code a e = found_balance (book_of r) code r.accounts.accounts a e kept.balanced
 
   -- the balance is far from the ends of 64 bits
-  pub balance_fits : BalancesFit (book_of r) → (code : List ℕ) (a : Account) → find (is_of code) r.accounts.accounts ≡ Some a → Within (109 * 10 ^ 14) a.balance
+  pub balance_fits : BalancesFit (book_of r) → (code : List ℕ) (a : Account) → find (is_of code) r.accounts.accounts ≡ Some a → Within LARGEST_BALANCE a.balance
   unfolding accounts
-  balance_fits small code a e = subst (Within (109 * 10 ^ 14)) (sym (balance_at code a e)) (found_code (λ c. Within (109 * 10 ^ 14) (balance (book_of r) c)) code r.accounts.accounts a e small)
+  balance_fits small code a e = subst (Within LARGEST_BALANCE) (sym (balance_at code a e)) (found_code (λ c. Within LARGEST_BALANCE (balance (book_of r) c)) code r.accounts.accounts a e small)
 
   pub floor_at : (code : List ℕ) (a : Account) → find (is_of code) r.accounts.accounts ≡ Some a → floor (book_of r) code ≡ (if is_closed r.day.phase then pos 0 else neg_ℤ (pos a.participant.credit))
   unfolding floor credit_of
@@ -215,9 +216,9 @@ module _ (book : Book) (balances : BTreeMap (List ℕ) ℤ) (totals : Totals (sl
   unfolding accounts
   balance_there = rw (totals (code_at book.participants i d), member_at book.participants i d within) refl
 
-  pub balance_there_fits : BalancesFit book → Within (109 * 10 ^ 14) (balance book (code_at book.participants i d))
+  pub balance_there_fits : BalancesFit book → Within LARGEST_BALANCE (balance book (code_at book.participants i d))
   unfolding accounts
-  balance_there_fits small = all_codes_at (λ c. Within (109 * 10 ^ 14) (balance book c)) book.participants i d within small
+  balance_there_fits small = all_codes_at (λ c. Within LARGEST_BALANCE (balance book c)) book.participants i d within small
 
 pub codes-participants : (xs : List Account) → map code_of xs ≡ map (λ (p : Participant). p.code) (map participant_of xs)
 codes-participants [] = refl

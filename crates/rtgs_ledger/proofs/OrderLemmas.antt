@@ -18,8 +18,9 @@ use Rattle.rtgs_book.specs.Commands.{has_number}
 use Rattle.rtgs_book.specs.Lookup.{is_order_named}
 use Rattle.rtgs_book.specs.Settle.{restated}
 use Rattle.rtgs_book.specs.Soundness.{is_same_name}
+use Rattle.rtgs_book.specs.Queue.{queued_numbers}
 use Rattle.rtgs_ledger.specs.declared.queues.Queues.{Queues}
-use Rattle.rtgs_ledger.specs.Orders.{IsKept, queued_numbers, name_of, name_cmp}
+use Rattle.rtgs_ledger.specs.Orders.{IsKept, name_of, name_cmp}
 use Rattle.rtgs_ledger.specs.Queues.{queue_of, room_of}
 use Rattle.rtgs_ledger.proofs.Finding.{find_first, find_nowhere}
 use Rattle.rtgs_ledger.proofs.Lists.{and_true, left_true, right_true, map_same, numbered_push}
@@ -115,21 +116,21 @@ module _ (number : ℕ) (state : OrderState) where
 abbrev stands : List ℕ → Order → Bool
 stands sender order = is_queued order && bytes_eq order.sender sender
 
-queue_first : (sender : List ℕ) (order : Order) (orders : List Order) → queued_numbers sender (order ∷ orders) ≡ cond (stands sender order) (order.number ∷ queued_numbers sender orders) (queued_numbers sender orders)
+queue_first : (sender : List ℕ) (order : Order) (orders : List Order) → queued_numbers (order ∷ orders) sender ≡ cond (stands sender order) (order.number ∷ queued_numbers orders sender) (queued_numbers orders sender)
 queue_first sender order orders = by (stands sender order) refl
   where
-    by : (b : Bool) → stands sender order ≡ b → queued_numbers sender (order ∷ orders) ≡ cond (stands sender order) (order.number ∷ queued_numbers sender orders) (queued_numbers sender orders)
+    by : (b : Bool) → stands sender order ≡ b → queued_numbers (order ∷ orders) sender ≡ cond (stands sender order) (order.number ∷ queued_numbers orders sender) (queued_numbers orders sender)
     by true e = rw e refl
     by false e = rw e refl
 
 -- an order at the end of the list comes to the end of its sender's queue, if it is queued
-pub queue_push : (sender : List ℕ) (orders : List Order) (order : Order) → queued_numbers sender (orders ++ order ∷ []) ≡ cond (stands sender order) (queued_numbers sender orders ++ order.number ∷ []) (queued_numbers sender orders)
+pub queue_push : (sender : List ℕ) (orders : List Order) (order : Order) → queued_numbers (orders ++ order ∷ []) sender ≡ cond (stands sender order) (queued_numbers orders sender ++ order.number ∷ []) (queued_numbers orders sender)
 queue_push sender [] order = queue_first sender order []
 queue_push sender (first ∷ orders) order = queue_first sender first (orders ++ order ∷ []) ∙ by (stands sender first) (stands sender order) refl refl (queue_push sender orders order) ∙ ap (λ ns. cond (stands sender order) (ns ++ order.number ∷ []) ns) (sym (queue_first sender first orders))
   where
-    by : (a b : Bool) → stands sender first ≡ a → stands sender order ≡ b → queued_numbers sender (orders ++ order ∷ []) ≡ cond (stands sender order) (queued_numbers sender orders ++ order.number ∷ []) (queued_numbers sender orders)
-        → cond (stands sender first) (first.number ∷ queued_numbers sender (orders ++ order ∷ [])) (queued_numbers sender (orders ++ order ∷ []))
-        ≡ cond (stands sender order) (cond (stands sender first) (first.number ∷ queued_numbers sender orders) (queued_numbers sender orders) ++ order.number ∷ []) (cond (stands sender first) (first.number ∷ queued_numbers sender orders) (queued_numbers sender orders))
+    by : (a b : Bool) → stands sender first ≡ a → stands sender order ≡ b → queued_numbers (orders ++ order ∷ []) sender ≡ cond (stands sender order) (queued_numbers orders sender ++ order.number ∷ []) (queued_numbers orders sender)
+        → cond (stands sender first) (first.number ∷ queued_numbers (orders ++ order ∷ []) sender) (queued_numbers (orders ++ order ∷ []) sender)
+        ≡ cond (stands sender order) (cond (stands sender first) (first.number ∷ queued_numbers orders sender) (queued_numbers orders sender) ++ order.number ∷ []) (cond (stands sender first) (first.number ∷ queued_numbers orders sender) (queued_numbers orders sender))
     by true true e f rest = rw (e, f) (ap (λ ns. first.number ∷ ns) (rest ∙ rw f refl))
     by true false e f rest = rw (e, f) (ap (λ ns. first.number ∷ ns) (rest ∙ rw f refl))
     by false true e f rest = rw (e, f) (rest ∙ rw f refl)
@@ -140,19 +141,19 @@ module _ (number : ℕ) (state : OrderState) (settled : is_queued_state state �
   gone order = rw settled refl
 
   -- the order with the number leaves the queue
-  pub queue_leaves : (orders : List Order) → queued_numbers sender (map (restated (has_number number) state) orders) ≡ filter (λ (n : ℕ). not (n == number)) (queued_numbers sender orders)
+  pub queue_leaves : (orders : List Order) → queued_numbers (map (restated (has_number number) state) orders) sender ≡ filter (λ (n : ℕ). not (n == number)) (queued_numbers orders sender)
   queue_leaves [] = refl
   queue_leaves (order ∷ orders) = by (has_number number order) (stands sender order) refl refl (queue_leaves orders)
     where
-      by : (b s : Bool) → has_number number order ≡ b → stands sender order ≡ s → queued_numbers sender (map (restated (has_number number) state) orders) ≡ filter (λ (n : ℕ). not (n == number)) (queued_numbers sender orders)
-          → queued_numbers sender (restated (has_number number) state order ∷ map (restated (has_number number) state) orders) ≡ filter (λ (n : ℕ). not (n == number)) (queued_numbers sender (order ∷ orders))
+      by : (b s : Bool) → has_number number order ≡ b → stands sender order ≡ s → queued_numbers (map (restated (has_number number) state) orders) sender ≡ filter (λ (n : ℕ). not (n == number)) (queued_numbers orders sender)
+          → queued_numbers (restated (has_number number) state order ∷ map (restated (has_number number) state) orders) sender ≡ filter (λ (n : ℕ). not (n == number)) (queued_numbers (order ∷ orders) sender)
       by true true e f rest = rw (e, f, e, gone order) rest
       by true false e f rest = rw (e, f, gone order) rest
       by false true e f rest = rw (e, f, e) (ap (λ ns. order.number ∷ ns) rest)
       by false false e f rest = rw (e, f) rest
 
   -- where it is another sender's, the queue stays
-  pub queue_stays : (orders : List Order) → ((k : ℕ) (d : Order) → k < length orders → has_number number (get_or orders k d) ≡ true → bytes_eq (get_or orders k d).sender sender ≡ false) → queued_numbers sender (map (restated (has_number number) state) orders) ≡ queued_numbers sender orders
+  pub queue_stays : (orders : List Order) → ((k : ℕ) (d : Order) → k < length orders → has_number number (get_or orders k d) ≡ true → bytes_eq (get_or orders k d).sender sender ≡ false) → queued_numbers (map (restated (has_number number) state) orders) sender ≡ queued_numbers orders sender
   queue_stays [] other = refl
   queue_stays (order ∷ orders) other = by (has_number number order) (stands sender order) refl refl (queue_stays orders (λ k d lt. other (suc k) d (omega arith)))
     where
@@ -160,8 +161,8 @@ module _ (number : ℕ) (state : OrderState) (settled : is_queued_state state �
       right_false true b e = e
       right_false false b e = refl
 
-      by : (b s : Bool) → has_number number order ≡ b → stands sender order ≡ s → queued_numbers sender (map (restated (has_number number) state) orders) ≡ queued_numbers sender orders
-          → queued_numbers sender (restated (has_number number) state order ∷ map (restated (has_number number) state) orders) ≡ queued_numbers sender (order ∷ orders)
+      by : (b s : Bool) → has_number number order ≡ b → stands sender order ≡ s → queued_numbers (map (restated (has_number number) state) orders) sender ≡ queued_numbers orders sender
+          → queued_numbers (restated (has_number number) state order ∷ map (restated (has_number number) state) orders) sender ≡ queued_numbers (order ∷ orders) sender
       by true s e f rest = rw (e, gone order, right_false (is_queued order) (bytes_eq order.sender sender) (other 0 order (omega arith) e)) rest
       by false true e f rest = rw (e, f) (ap (λ ns. order.number ∷ ns) rest)
       by false false e f rest = rw (e, f) rest
@@ -221,7 +222,7 @@ module _ (orders : List Order) (places : BTreeMap (List ℕ × List ℕ) ℕ) (q
       names : (k : ℕ) (d : Order) → k < length orders → name_of (get_or (map (restated (has_number number) state) orders) k d) ≡ name_of (get_or orders k d)
       names k d lt = ap name_of (get_or-map (restated (has_number number) state) orders k d d lt) ∙ name_stays number state (get_or orders k d)
 
-      by : (sender : List ℕ) (b : Bool) → bytes_eq order.sender sender ≡ b → cond (bytes_eq order.sender sender) (filter (λ (n : ℕ). not (n == number)) (queued_numbers sender orders)) (queued_numbers sender orders) ≡ queued_numbers sender (map (restated (has_number number) state) orders)
+      by : (sender : List ℕ) (b : Bool) → bytes_eq order.sender sender ≡ b → cond (bytes_eq order.sender sender) (filter (λ (n : ℕ). not (n == number)) (queued_numbers orders sender)) (queued_numbers orders sender) ≡ queued_numbers (map (restated (has_number number) state) orders) sender
       by sender true f = rw f (sym (queue_leaves number state settled sender orders))
       by sender false f = rw f (sym (queue_stays number state settled sender orders (λ k d lt g. ap (λ (o : Order). bytes_eq o.sender sender) (here k d lt g) ∙ f)))
         where

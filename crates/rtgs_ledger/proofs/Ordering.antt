@@ -27,17 +27,17 @@ use Rattle.rtgs_book.specs.Changes.{Leads, balance_set, or_else}
 use Rattle.rtgs_book.specs.Commands.{order, takes, new_order, with_order, settles_at_once, has_number}
 use Rattle.rtgs_book.specs.Lookup.{accounts, is_participant, order_named}
 use Rattle.rtgs_book.specs.Outcome.{first_of}
-use Rattle.rtgs_book.specs.Queue.{queue}
+use Rattle.rtgs_book.specs.Queue.{queue, queued_numbers}
 use Rattle.rtgs_book.specs.Settle.{restated, settle, mark_of, next_mark, today}
 use Rattle.rtgs_book.specs.Soundness.{OrdersAreNumbered}
 use Rattle.rtgs_book.specs.Step.{Step}
 use Rattle.rtgs_book.specs.declared.account.Account.{Account}
+use Rattle.rtgs_book.specs.declared.limits.TheConstants.{LONGEST_QUEUE, LARGEST_NUMBER}
 use Rattle.rtgs_ledger.specs.declared.records.Records.{Records}
 use Rattle.rtgs_ledger.specs.Records.{held_of, book_of}
 use Rattle.rtgs_ledger.specs.Accounts.{code_of, is_of, with_balance}
 use Rattle.rtgs_ledger.specs.Held.{Held}
 use Rattle.rtgs_ledger.specs.Kept.{IsKept, IsPrepared}
-use Rattle.rtgs_ledger.specs.Orders.{queued_numbers}
 use Rattle.rtgs_ledger.specs.Ordering.{IsTaken}
 use Rattle.rtgs_ledger.proofs.Balances.{same_int, other_int, moved, all_moved, all_same, balance-with_order}
 use Rattle.rtgs_ledger.proofs.Kept.{StepKeepsRanges, StepKeepsSoundness, found_balance, found_is, is_known, balance_at, floor_at as floor_is, prepared_done}
@@ -72,28 +72,28 @@ module _ (book : Book) (sender reference receiver : List ℕ) (amount : ℕ) whe
         same_party same = rw (known, unused, opened, there, same) refl
 
         module _ (apart : bytes_eq sender receiver ≡ false) where
-          pub numbers_used_up : nat_le 999999999 (length book.orders) ≡ true → Step book (command.Order sender reference receiver amount) (Err NumbersUsedUp) book
+          pub numbers_used_up : nat_le LARGEST_NUMBER (length book.orders) ≡ true → Step book (command.Order sender reference receiver amount) (Err NumbersUsedUp) book
           unfolding order first_of
           numbers_used_up many = rw (known, unused, opened, there, apart, many) refl
 
-          pub queue_full : nat_le 999999999 (length book.orders) ≡ false → settles_at_once book sender amount ≡ false → nat_le 500 (length (queue book sender)) ≡ true → Step book (command.Order sender reference receiver amount) (Err QueueFull) book
+          pub queue_full : nat_le LARGEST_NUMBER (length book.orders) ≡ false → settles_at_once book sender amount ≡ false → nat_le LONGEST_QUEUE (length (queue book sender)) ≡ true → Step book (command.Order sender reference receiver amount) (Err QueueFull) book
           unfolding order first_of
           queue_full few waits full = rw (known, unused, opened, there, apart, few, waits, full) refl
 
-          taken : nat_le 999999999 (length book.orders) ≡ false → (not (settles_at_once book sender amount) && nat_le 500 (length (queue book sender))) ≡ false → order book sender reference receiver amount ≡ takes book (new_order book sender reference receiver amount)
+          taken : nat_le LARGEST_NUMBER (length book.orders) ≡ false → (not (settles_at_once book sender amount) && nat_le LONGEST_QUEUE (length (queue book sender))) ≡ false → order book sender reference receiver amount ≡ takes book (new_order book sender reference receiver amount)
           unfolding order first_of
           taken few room = rw (known, unused, opened, there, apart, few, room) refl
 
-          pub is_taken : IsAmount amount → nat_le 999999999 (length book.orders) ≡ false → (not (settles_at_once book sender amount) && nat_le 500 (length (queue book sender))) ≡ false → IsTaken book (new_order book sender reference receiver amount)
+          pub is_taken : IsAmount amount → nat_le LARGEST_NUMBER (length book.orders) ≡ false → (not (settles_at_once book sender amount) && nat_le LONGEST_QUEUE (length (queue book sender))) ≡ false → IsTaken book (new_order book sender reference receiver amount)
           is_taken fits few room = record { next = refl; unused = unused; fits = fits; apart = apart; taken = taken few room }
 
 -- ---- its sender's queue
 
-pub queued_length : (book : Book) (sender : List ℕ) → length (queued_numbers sender book.orders) ≡ length (queue book sender)
+pub queued_length : (book : Book) (sender : List ℕ) → length (queued_numbers book.orders sender) ≡ length (queue book sender)
 unfolding queue
 queued_length book sender = length-map (filter (λ o. is_queued o && bytes_eq o.sender sender) book.orders) (λ (o : Order). o.number)
 
-pub queued_none : (book : Book) (sender : List ℕ) → is_empty (queued_numbers sender book.orders) ≡ is_empty (queue book sender)
+pub queued_none : (book : Book) (sender : List ℕ) → is_empty (queued_numbers book.orders sender) ≡ is_empty (queue book sender)
 unfolding queue
 queued_none book sender = by (filter (λ o. is_queued o && bytes_eq o.sender sender) book.orders)
   where
@@ -132,15 +132,15 @@ module _ (r : Records) (kept : IsKept (held_of r)) where
   is_today date e = is_day (is_open r.day.phase) r.day.date date e
 
   pub settles_is : (sender : List ℕ) (debtor : Account) (amount : ℕ) → find (is_of sender) r.accounts.accounts ≡ Some debtor
-      → settles_at_once (book_of r) sender amount ≡ (is_empty (queued_numbers (code_of debtor) r.orders.orders) && int_le (floor_at r.day.phase debtor.participant.credit) (debtor.balance -ℤ pos amount))
+      → settles_at_once (book_of r) sender amount ≡ (is_empty (queued_numbers r.orders.orders (code_of debtor)) && int_le (floor_at r.day.phase debtor.participant.credit) (debtor.balance -ℤ pos amount))
   unfolding settles_at_once
   settles_is sender debtor amount from =
       rw (floor_is r kept sender debtor from, ← balance_at r kept sender debtor from, found_is sender r.accounts.accounts debtor from, queued_none (book_of r) sender) refl
 
   -- the next order, where no test but the last refuses it
   pub taken_now : (sender reference receiver : List ℕ) (amount date : ℕ) (debtor creditor : Account) → find (is_of sender) r.accounts.accounts ≡ Some debtor → order_named (book_of r) sender reference ≡ None → (if is_open r.day.phase then r.day.date else None) ≡ Some date
-      → find (is_of receiver) r.accounts.accounts ≡ Some creditor → bytes_eq sender receiver ≡ false → nat_le 999999999 (length r.orders.orders) ≡ false → IsAmount amount
-      → (not (settles_at_once (book_of r) sender amount) && nat_le 500 (length (queue (book_of r) sender))) ≡ false
+      → find (is_of receiver) r.accounts.accounts ≡ Some creditor → bytes_eq sender receiver ≡ false → nat_le LARGEST_NUMBER (length r.orders.orders) ≡ false → IsAmount amount
+      → (not (settles_at_once (book_of r) sender amount) && nat_le LONGEST_QUEUE (length (queue (book_of r) sender))) ≡ false
       → IsTaken (book_of r) (record { number = length r.orders.orders + 1; sender = sender; reference = reference; receiver = receiver; amount = amount; date = date; state = Queued })
   taken_now sender reference receiver amount date debtor creditor from unused day to apart few fits room =
       let today_is : today (book_of r) ≡ date = ap (λ (d : Option ℕ). unwrap_or d 0) (is_day (is_open r.day.phase) r.day.date date day) in

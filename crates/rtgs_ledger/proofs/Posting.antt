@@ -1,5 +1,5 @@
 -- What a posting comes to, test by test, and its change.
-use Rattle.std.proofs.Common.{◌≡◌, ℕ, ◌+◌, ◌^◌, ◌≤◌, ℤ, pos, ◌+ℤ◌, Bool, true, false, ◌&&◌, if◌then◌else◌, nat_le, List, [], ◌∷◌, ◌++◌, length, find, Ok, Err, Some, None, refl, sym, ap, subst, ◌∙◌, arith}
+use Rattle.std.proofs.Common.{◌≡◌, ℕ, ◌+◌, ◌≤◌, ℤ, pos, ◌+ℤ◌, Bool, true, false, ◌&&◌, if◌then◌else◌, nat_le, List, [], ◌∷◌, ◌++◌, length, find, Ok, Err, Some, None, refl, sym, ap, subst, ◌∙◌, arith}
 use Rattle.std.proofs.lemmas.Int.{ints}
 use Rattle.std.specs.Cmp.Lexicographic.{bytes_decides}
 use Rattle.std.specs.Prelude.{int_lt}
@@ -21,6 +21,7 @@ use Rattle.rtgs_book.specs.declared.change.RowChange.TheVariants.{AddPosting, Se
 use Rattle.rtgs_book.specs.Changes.{Leads, balance_set}
 use Rattle.rtgs_book.specs.Lookup.{accounts}
 use Rattle.rtgs_book.specs.declared.account.Account.{Account}
+use Rattle.rtgs_book.specs.declared.limits.TheConstants.{LARGEST_NUMBER, LARGEST_TOTAL}
 use Rattle.rtgs_ledger.specs.declared.records.Records.{Records}
 use Rattle.rtgs_ledger.specs.Accounts.{is_of, with_balance}
 use Rattle.rtgs_ledger.specs.Kept.{IsKept, IsPrepared}
@@ -51,19 +52,19 @@ module _ (book : Book) (code reference : List ℕ) (cents : ℤ) where
   reference_used e p found other = rw (e, found, other) refl
 
   module _ (known : is_participant book code ≡ true) (absent : posting_named book reference ≡ None) where
-    pub numbers_used_up : nat_le 999999999 (length book.postings) ≡ true → Step book (command.Post code reference cents) (Err NumbersUsedUp) book
+    pub numbers_used_up : nat_le LARGEST_NUMBER (length book.postings) ≡ true → Step book (command.Post code reference cents) (Err NumbersUsedUp) book
     unfolding post first_of
     numbers_used_up many = rw (known, absent, many) refl
 
-    pub total_too_large : nat_le 999999999 (length book.postings) ≡ false → (int_lt (pos 0) cents && int_lt (pos (10 ^ 15)) (total book +ℤ cents)) ≡ true → Step book (command.Post code reference cents) (Err TotalTooLarge) book
+    pub total_too_large : nat_le LARGEST_NUMBER (length book.postings) ≡ false → (int_lt (pos 0) cents && int_lt (pos LARGEST_TOTAL) (total book +ℤ cents)) ≡ true → Step book (command.Post code reference cents) (Err TotalTooLarge) book
     unfolding post first_of
     total_too_large few large = rw (known, absent, few, large) refl
 
-    pub no_cover : nat_le 999999999 (length book.postings) ≡ false → (int_lt (pos 0) cents && int_lt (pos (10 ^ 15)) (total book +ℤ cents)) ≡ false → (int_lt cents (pos 0) && int_lt (balance book code +ℤ cents) (floor book code)) ≡ true → Step book (command.Post code reference cents) (Err NoCover) book
+    pub no_cover : nat_le LARGEST_NUMBER (length book.postings) ≡ false → (int_lt (pos 0) cents && int_lt (pos LARGEST_TOTAL) (total book +ℤ cents)) ≡ false → (int_lt cents (pos 0) && int_lt (balance book code +ℤ cents) (floor book code)) ≡ true → Step book (command.Post code reference cents) (Err NoCover) book
     unfolding post first_of
     no_cover few small short = rw (known, absent, few, small, short) refl
 
-    pub posts : nat_le 999999999 (length book.postings) ≡ false → (int_lt (pos 0) cents && int_lt (pos (10 ^ 15)) (total book +ℤ cents)) ≡ false → (int_lt cents (pos 0) && int_lt (balance book code +ℤ cents) (floor book code)) ≡ false → Step book (command.Post code reference cents) (Ok (Posted (length book.postings + 1))) (with_posting book (next_posting book code reference cents))
+    pub posts : nat_le LARGEST_NUMBER (length book.postings) ≡ false → (int_lt (pos 0) cents && int_lt (pos LARGEST_TOTAL) (total book +ℤ cents)) ≡ false → (int_lt cents (pos 0) && int_lt (balance book code +ℤ cents) (floor book code)) ≡ false → Step book (command.Post code reference cents) (Ok (Posted (length book.postings + 1))) (with_posting book (next_posting book code reference cents))
     unfolding post first_of
     posts few small covered = rw (known, absent, few, small, covered) refl
 
@@ -101,7 +102,7 @@ module _ (r : Records) (kept : IsKept (held_of r)) (code reference : List ℕ) (
       by true e = balance_of_it c e
       by false e = sym (balance_of_other c e)
 
-  pub prepared_post : StepKeepsRanges → StepKeepsSoundness → IsPostingAmount cents → posting_named (book_of r) reference ≡ None → nat_le 999999999 (length r.postings.postings) ≡ false → (int_lt (pos 0) cents && int_lt (pos (10 ^ 15)) (total (book_of r) +ℤ cents)) ≡ false → (int_lt cents (pos 0) && int_lt (balance (book_of r) code +ℤ cents) (floor (book_of r) code)) ≡ false
+  pub prepared_post : StepKeepsRanges → StepKeepsSoundness → IsPostingAmount cents → posting_named (book_of r) reference ≡ None → nat_le LARGEST_NUMBER (length r.postings.postings) ≡ false → (int_lt (pos 0) cents && int_lt (pos LARGEST_TOTAL) (total (book_of r) +ℤ cents)) ≡ false → (int_lt cents (pos 0) && int_lt (balance (book_of r) code +ℤ cents) (floor (book_of r) code)) ≡ false
       → 1 ≤ r.postings.room → r.postings.awaited ≡ Some reference → IsPrepared (held_of r) (command.Post code reference cents) (Posted (length r.postings.postings + 1)) (AddPosting q ∷ SetBalance code b ∷ [])
   prepared_post ranges soundness in_range absent few small covered room awaited =
       let step = posts (book_of r) code reference cents (is_known r kept code a found) absent few small covered in

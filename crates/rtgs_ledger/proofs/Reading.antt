@@ -9,9 +9,8 @@ use Rattle.rtgs_book.specs.declared.book.Book.{Book}
 use Rattle.rtgs_book.specs.declared.order.Order.{Order}
 use Rattle.rtgs_book.specs.Books.{is_queued}
 use Rattle.rtgs_book.specs.Commands.{has_number}
-use Rattle.rtgs_book.specs.Queue.{queue}
+use Rattle.rtgs_book.specs.Queue.{queue, queued_numbers}
 use Rattle.rtgs_book.specs.Soundness.{OrdersAreNumbered}
-use Rattle.rtgs_ledger.specs.Orders.{queued_numbers}
 use Rattle.rtgs_ledger.proofs.Lists.{weaker, all_at, all_filter, self_number}
 
 -- where numbers rise one by one, each order is found by its own
@@ -29,16 +28,16 @@ found_by_number k (o ∷ os) e =
 
 module _ (book : Book) (numbered : OrdersAreNumbered book) (sender : List ℕ) where
   -- so the numbers in a queue lead to its orders
-  pub queued_at : (k : ℕ) (d : Order) → k < length (queue book sender) → find (has_number (get_or (queued_numbers sender book.orders) k 0)) book.orders ≡ Some (get_or (queue book sender) k d)
+  pub queued_at : (k : ℕ) (d : Order) → k < length (queue book sender) → find (has_number (get_or (queued_numbers book.orders sender) k 0)) book.orders ≡ Some (get_or (queue book sender) k d)
   unfolding queue
   queued_at k d lt =
       let all = found_by_number 1 book.orders (numbered.0 ∙ ap (range_with_len 1) (length-map book.orders (λ (o : Order). o.number))) in
       let here = all_at (λ x. (1 ≤ x.number) × (find (has_number x.number) book.orders ≡ Some x)) (queue book sender) (all_filter (λ x. (1 ≤ x.number) × (find (has_number x.number) book.orders ≡ Some x)) (λ o. is_queued o && bytes_eq o.sender sender) book.orders all) k d lt in
       ap (λ n. find (has_number n) book.orders) (get_or-map (λ (o : Order). o.number) (queue book sender) k d 0 lt) ∙ here.1
 
-  pub some_at : (k : ℕ) → k < length (queue book sender) → IsSome (find (has_number (get_or (queued_numbers sender book.orders) k 0)) book.orders)
+  pub some_at : (k : ℕ) → k < length (queue book sender) → IsSome (find (has_number (get_or (queued_numbers book.orders sender) k 0)) book.orders)
   some_at k lt = by (queue book sender) refl
     where
-      by : (os : List Order) → queue book sender ≡ os → IsSome (find (has_number (get_or (queued_numbers sender book.orders) k 0)) book.orders)
+      by : (os : List Order) → queue book sender ≡ os → IsSome (find (has_number (get_or (queued_numbers book.orders sender) k 0)) book.orders)
       by [] e = absurd (let none : length (queue book sender) ≡ 0 = ap length e in omega arith)
       by (o ∷ os) e = rw (queued_at k o lt) refl

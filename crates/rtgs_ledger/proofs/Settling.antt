@@ -7,6 +7,7 @@ use Rattle.std.specs.Prelude.{FitsSigned}
 use Rattle.std.specs.Int.{w64}
 use Rattle.std.specs.List.{AllByRecursion}
 use Rattle.std.specs.Str.{bytes_eq}
+use Rattle.rtgs_money.specs.declared.amount.TheConstants.Amount as Amount
 use Rattle.rtgs_book.specs.declared.book.Book.{Book}
 use Rattle.rtgs_book.specs.declared.order.Order.{Order}
 use Rattle.rtgs_book.specs.declared.participant.Participant.{Participant}
@@ -14,6 +15,7 @@ use Rattle.rtgs_book.specs.Balance.{gain, balance}
 use Rattle.rtgs_book.specs.IntSum.{int_sum_by}
 use Rattle.rtgs_book.specs.Totals.{Within}
 use Rattle.rtgs_book.specs.declared.account.Account.{Account}
+use Rattle.rtgs_book.specs.declared.limits.TheConstants.{MOST_QUEUED, LARGEST_BALANCE}
 use Rattle.rtgs_ledger.specs.Accounts.{code_of, participant_of, is_of, move, with_move, after_order}
 use Rattle.rtgs_ledger.specs.Kept.{AreBalanced}
 use Rattle.rtgs_ledger.specs.Resolving.{after_orders, moved_accounts}
@@ -44,10 +46,10 @@ moves_all o less more e f [] = refl
 moves_all o less more e f (x ∷ xs) = λ i. moves_once o less more e f x i ∷ moves_all o less more e f xs i
 
 -- a balance within the bound takes or gives one amount more
-pub fits_less : (n : ℕ) → n ≤ 10 ^ 12 → (less : ℤ) → less ≡ neg_ℤ (pos n) → (xs : List Account) → AllByRecursion (λ a. Within (10 ^ 18) a.balance) xs → AllByRecursion (λ a. FitsSigned w64 (a.balance +ℤ less)) xs
+pub fits_less : (n : ℕ) → n ≤ Amount.MAX → (less : ℤ) → less ≡ neg_ℤ (pos n) → (xs : List Account) → AllByRecursion (λ a. Within (10 ^ 18) a.balance) xs → AllByRecursion (λ a. FitsSigned w64 (a.balance +ℤ less)) xs
 fits_less n small less e = weaker (λ a. Within (10 ^ 18) a.balance) (λ a. FitsSigned w64 (a.balance +ℤ less)) (λ a h. omega (arith, ints))
 
-pub fits_more : (code : List ℕ) (n : ℕ) → n ≤ 10 ^ 12 → (less more : ℤ) → less ≡ neg_ℤ (pos n) → more ≡ pos n → (xs : List Account) → AllByRecursion (λ a. Within (10 ^ 18) a.balance) xs → AllByRecursion (λ a. FitsSigned w64 (a.balance +ℤ more)) (with_move code less xs)
+pub fits_more : (code : List ℕ) (n : ℕ) → n ≤ Amount.MAX → (less more : ℤ) → less ≡ neg_ℤ (pos n) → more ≡ pos n → (xs : List Account) → AllByRecursion (λ a. Within (10 ^ 18) a.balance) xs → AllByRecursion (λ a. FitsSigned w64 (a.balance +ℤ more)) (with_move code less xs)
 fits_more code n small less more e f [] h = tt
 fits_more code n small less more e f (x ∷ xs) h = (by (is_of code x), fits_more code n small less more e f xs h.1)
   where
@@ -71,11 +73,11 @@ pub all_after_none : (xs : List Account) → xs ≡ map (after_orders []) xs
 all_after_none [] = refl
 all_after_none (x ∷ xs) = let same : x.balance ≡ x.balance +ℤ pos 0 = omega (arith, ints) in λ i. record x { balance = same i } ∷ all_after_none xs i
 
-gain_is_small : (code : List ℕ) (o : Order) → o.amount ≤ 10 ^ 12 → Within (10 ^ 12) (gain code o)
+gain_is_small : (code : List ℕ) (o : Order) → o.amount ≤ Amount.MAX → Within Amount.MAX (gain code o)
 unfolding gain
 gain_is_small code o small = by (bytes_eq o.receiver code) (bytes_eq o.sender code)
   where
-    by : (r s : Bool) → Within (10 ^ 12) (cond r (pos o.amount) (pos 0) -ℤ cond s (pos o.amount) (pos 0))
+    by : (r s : Bool) → Within Amount.MAX (cond r (pos o.amount) (pos 0) -ℤ cond s (pos o.amount) (pos 0))
     by true true = (omega (arith, ints), omega (arith, ints))
     by true false = (omega (arith, ints), omega (arith, ints))
     by false true = (omega (arith, ints), omega (arith, ints))
@@ -83,9 +85,9 @@ gain_is_small code o small = by (bytes_eq o.receiver code) (bytes_eq o.sender co
 
 -- so far the balances have moved by one amount for each order at most
 abbrev pub AreNear : ℕ → List Account → Type 0
-AreNear orders xs = AllByRecursion (λ a. Within (109 * 10 ^ 14 + orders * 10 ^ 12) a.balance) xs
+AreNear orders xs = AllByRecursion (λ a. Within (LARGEST_BALANCE + orders * Amount.MAX) a.balance) xs
 
-pub near_more : (n : ℕ) (o : Order) → o.amount ≤ 10 ^ 12 → (xs : List Account) → AreNear n xs → AreNear (n + 1) (map (after_order o) xs)
+pub near_more : (n : ℕ) (o : Order) → o.amount ≤ Amount.MAX → (xs : List Account) → AreNear n xs → AreNear (n + 1) (map (after_order o) xs)
 near_more n o small [] h = tt
 near_more n o small (x ∷ xs) h =
     let by = gain_is_small (code_of x) o small in
@@ -95,10 +97,10 @@ near_more n o small (x ∷ xs) h =
     let most = by.1 in
     ((omega (arith, ints), omega (arith, ints)), near_more n o small xs h.1)
 
-pub near_is_small : (n : ℕ) → n ≤ 50000 → (xs : List Account) → AreNear n xs → AllByRecursion (λ a. Within (10 ^ 18) a.balance) xs
-near_is_small n few = weaker (λ a. Within (109 * 10 ^ 14 + n * 10 ^ 12) a.balance) (λ a. Within (10 ^ 18) a.balance) (λ a h. let low = h.0 in let high = h.1 in (omega (arith, ints), omega (arith, ints)))
+pub near_is_small : (n : ℕ) → n ≤ MOST_QUEUED → (xs : List Account) → AreNear n xs → AllByRecursion (λ a. Within (10 ^ 18) a.balance) xs
+near_is_small n few = weaker (λ a. Within (LARGEST_BALANCE + n * Amount.MAX) a.balance) (λ a. Within (10 ^ 18) a.balance) (λ a h. let low = h.0 in let high = h.1 in (omega (arith, ints), omega (arith, ints)))
 
-pub near_none : (book : Book) (xs : List Account) → AreBalanced book xs → AllByRecursion (λ code. Within (109 * 10 ^ 14) (balance book code)) (map (λ (p : Participant). p.code) (map participant_of xs)) → AreNear 0 xs
+pub near_none : (book : Book) (xs : List Account) → AreBalanced book xs → AllByRecursion (λ code. Within LARGEST_BALANCE (balance book code)) (map (λ (p : Participant). p.code) (map participant_of xs)) → AreNear 0 xs
 near_none book [] h small = tt
 near_none book (x ∷ xs) h small =
     let e = h.0 in

@@ -16,6 +16,7 @@ use Rattle.rtgs_book.specs.declared.order.Order.{Order}
 use Rattle.rtgs_book.specs.Choice.{Choice}
 use Rattle.rtgs_book.specs.Queue.{queue}
 use Rattle.rtgs_book.specs.declared.account.Account.{Account}
+use Rattle.rtgs_book.specs.declared.limits.TheConstants.{LONGEST_QUEUE}
 use Rattle.rtgs_ledger.specs.declared.records.Records.{Records}
 use Rattle.rtgs_ledger.specs.Accounts.{code_of, is_of, AreInCodeOrder}
 use Rattle.rtgs_ledger.specs.Kept.{AreBalanced, IsKept}
@@ -98,8 +99,8 @@ pub code_at_is : (r : Records) (i : ℕ) (d : Account) → i < length r.accounts
 unfolding accounts
 code_at_is r i d less = ap (λ codes. get_or codes i []) (sym (codes-participants r.accounts.accounts)) ∙ get_or-map code_of r.accounts.accounts i d [] less
 
-pub short_at : (r : Records) → IsSound (book_of r) → (i : ℕ) (d : Account) → i < length r.accounts.accounts → length (queue (book_of r) (code_of (get_or r.accounts.accounts i d))) ≤ 500
+pub short_at : (r : Records) → IsSound (book_of r) → (i : ℕ) (d : Account) → i < length r.accounts.accounts → length (queue (book_of r) (code_of (get_or r.accounts.accounts i d))) ≤ LONGEST_QUEUE
 unfolding accounts
 short_at r sound i d less =
-    at_index (λ code. length (queue (book_of r) code) ≤ 500) r.accounts.accounts
-    (subst (AllByRecursion (λ code. length (queue (book_of r) code) ≤ 500)) (sym (codes-participants r.accounts.accounts)) sound.queues.short) i d less
+    at_index (λ code. length (queue (book_of r) code) ≤ LONGEST_QUEUE) r.accounts.accounts
+    (subst (AllByRecursion (λ code. length (queue (book_of r) code) ≤ LONGEST_QUEUE)) (sym (codes-participants r.accounts.accounts)) sound.queues.short) i d less

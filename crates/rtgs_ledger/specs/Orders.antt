@@ -1,13 +1,12 @@
 -- Orders, as contracts see them.
-use Rattle.std.specs.Prelude.{◌≡◌, ℕ, ◌≤◌, ◌&&◌, List, map, filter, length, Option, Some}
+use Rattle.std.specs.Prelude.{◌≡◌, ℕ, ◌≤◌, List, map, length, Option, Some}
 use Rattle.std.specs.List.{range_with_len}
 use Rattle.std.specs.BTreeMap.{BTreeMap}
 use Rattle.std.specs.declared.cmp.Ordering.{Ordering}
 use Rattle.std.specs.Ordering.{nat_cmp, ordering_then}
 use Rattle.std.specs.Cmp.Lexicographic.{slice_cmp}
-use Rattle.std.specs.Str.{bytes_eq}
 use Rattle.rtgs_book.specs.declared.order.Order.{Order}
-use Rattle.rtgs_book.specs.Books.{is_queued}
+use Rattle.rtgs_book.specs.Queue.{queued_numbers}
 use Rattle.rtgs_ledger.specs.declared.queues.Queues.{Queues}
 use Rattle.rtgs_ledger.specs.Places.{IsIndexed}
 use Rattle.rtgs_ledger.specs.Queues.{queue_of, room_of}
@@ -17,10 +16,6 @@ pub record OrderList : Type 0 where
   pub orders : List Order
   pub room : ℕ
   pub awaited : Option (List ℕ × List ℕ)
-
--- the numbers of the sender's queued orders
-abbrev pub queued_numbers : List ℕ → List Order → List ℕ
-queued_numbers sender orders = map (λ (o : Order). o.number) (filter (λ order. is_queued order && bytes_eq order.sender sender) orders)
 
 -- what names an order for good, and the order of such names
 abbrev pub name_of : Order → List ℕ × List ℕ
@@ -33,5 +28,5 @@ name_cmp a b = ordering_then (slice_cmp nat_cmp a.0 b.0) (slice_cmp nat_cmp a.1 
 pub record IsKept (orders : List Order) (places : BTreeMap (List ℕ × List ℕ) ℕ) (queues : Queues) (awaited : Option (List ℕ × List ℕ)) : Type 0 where
   pub numbered : map (λ (o : Order). o.number) orders ≡ range_with_len 1 (length orders)
   pub indexed : IsIndexed name_cmp name_of orders places awaited
-  pub queued : (sender : List ℕ) → queue_of queues sender ≡ queued_numbers sender orders
+  pub queued : (sender : List ℕ) → queue_of queues sender ≡ queued_numbers orders sender
   pub ready : (name : List ℕ × List ℕ) → awaited ≡ Some name → 1 ≤ room_of queues name.0

@@ -7,7 +7,8 @@ ghost use Rattle.rtgs_book.specs.Commands.{has_number};
 ghost use Rattle.rtgs_book.specs.Lookup.{is_order_named};
 ghost use Rattle.rtgs_book.specs.Settle.{restated};
 ghost use Rattle.rtgs_book.specs.Soundness.{is_same_name};
-ghost use Rattle.rtgs_ledger.specs.Orders.{queued_numbers, name_of, name_cmp};
+ghost use Rattle.rtgs_book.specs.Queue.{queued_numbers};
+ghost use Rattle.rtgs_ledger.specs.Orders.{name_of, name_cmp};
 ghost use Rattle.rtgs_ledger.specs.Places.{LeadHome};
 ghost use Rattle.rtgs_ledger.specs.Queues.{queue_of};
 
@@ -105,7 +106,7 @@ impl Orders {
 
     /// The numbers of the sender's queued orders, rising.
     pub fn queue(&self, sender: &Code) -> &[u64]
-        ensures { result.now ≡ queued_numbers sender.now self.now.orders }
+        ensures { result.now ≡ queued_numbers self.now.orders sender.now }
     {
         self.queues.get(sender)
     }
@@ -199,7 +200,7 @@ fn places_of(
 
 // The queue of each sender.
 fn queues_of(alloc: Global, orders: &[Order]) -> Result<Queues, AllocError>
-    ensures { IfOk result (λ queues. (sender : List ℕ) → queue_of queues sender ≡ queued_numbers sender orders.now) }
+    ensures { IfOk result (λ queues. (sender : List ℕ) → queue_of queues sender ≡ queued_numbers orders.now sender) }
 {
     let mut queues = Queues::new(alloc);
     for order in orders {

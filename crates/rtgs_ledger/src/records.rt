@@ -5,10 +5,10 @@ ghost use Rattle.rtgs_money.specs.Amounts.{IsAmount, IsCredit};
 ghost use Rattle.rtgs_book.specs.declared.order.Order.{Order};
 ghost use Rattle.rtgs_book.specs.IntSum.{int_sum_by};
 ghost use Rattle.rtgs_ledger.specs.Accounts.{balance_of, code_of};
-ghost use Rattle.rtgs_ledger.specs.Orders.{queued_numbers};
 ghost use Rattle.rtgs_book.specs.Balance.{floor_at};
 ghost use Rattle.rtgs_book.specs.Books.{is_closed, is_open, is_cut_off, is_empty};
 ghost use Rattle.rtgs_book.specs.Commands.{is_date, is_later};
+ghost use Rattle.rtgs_book.specs.Queue.{queued_numbers};
 ghost use Rattle.rtgs_ledger.specs.Records.{held_of};
 ghost use Rattle.rtgs_ledger.specs.Held.{FindsRoom, after_row};
 
@@ -162,7 +162,7 @@ impl Records {
 
     /// Whether an order is settled at once: nothing of its sender is queued, and the balance stays at the floor or above.
     pub fn settles_at_once(&self, sender: &Account, amount: Amount) -> bool
-        ensures value { result ≡ (is_empty (queued_numbers (code_of sender.now) self.now.orders.orders) && int_le (floor_at self.now.day.phase sender.now.participant.credit) (sender.now.balance -ℤ pos amount)) }
+        ensures value { result ≡ (is_empty (queued_numbers self.now.orders.orders (code_of sender.now)) && int_le (floor_at self.now.day.phase sender.now.participant.credit) (sender.now.balance -ℤ pos amount)) }
         ensures fits { IsAmount amount }
     {
         let balance = i128::from(sender.balance.cents()) - i128::from(amount.cents());

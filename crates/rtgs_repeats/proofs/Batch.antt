@@ -13,6 +13,7 @@ use Rattle.rtgs_book.specs.declared.order_state.OrderState.{OrderState}
 use Rattle.rtgs_book.specs.declared.order_state.OrderState.TheVariants.{Settled}
 use Rattle.rtgs_book.specs.declared.command.Command.{Command}
 use Rattle.rtgs_book.specs.declared.command.Command.TheVariants.{Order as PlaceOrder}
+use Rattle.rtgs_book.specs.declared.limits.TheConstants.{LONGEST_QUEUE, LARGEST_NUMBER}
 use Rattle.rtgs_book.specs.Books.{is_open, is_empty, is_queued}
 use Rattle.rtgs_book.specs.Commands.{is_same_order, settles_at_once, new_order, with_order, has_number, takes, order}
 use Rattle.rtgs_book.specs.Lookup.{accounts, is_participant, order_named}
@@ -39,8 +40,8 @@ is_stopped book sender reference receiver amount =
     || (not (is_open book.day.phase)
     || (not (is_participant book receiver)
     || (bytes_eq sender receiver
-    || (nat_le 999999999 (length book.orders)
-    || ((not (settles_at_once book sender amount) && nat_le 500 (length (queue book sender)))
+    || (nat_le LARGEST_NUMBER (length book.orders)
+    || ((not (settles_at_once book sender amount) && nat_le LONGEST_QUEUE (length (queue book sender)))
     || false)))))))
 
 -- what orders alone leave
@@ -70,17 +71,17 @@ or_weaker true b c d f g e = rw (f refl) refl
 or_weaker false b true d f g e = refl
 or_weaker false b false d f g e = g e
 
-more_orders : (a b : ℕ) → a ≤ b → nat_le 999999999 a ≡ true → nat_le 999999999 b ≡ true
+more_orders : (a b : ℕ) → a ≤ b → nat_le LARGEST_NUMBER a ≡ true → nat_le LARGEST_NUMBER b ≡ true
 more_orders a b le e = grind (arith, nat_tests)
 
-more_queued : (a b : ℕ) → a ≤ b → nat_le 500 a ≡ true → nat_le 500 b ≡ true
+more_queued : (a b : ℕ) → a ≤ b → nat_le LONGEST_QUEUE a ≡ true → nat_le LONGEST_QUEUE b ≡ true
 more_queued a b le e = grind (arith, nat_tests)
 
-some_queued : (os : List Order) → nat_le 500 (length os) ≡ true → is_empty os ≡ false
+some_queued : (os : List Order) → nat_le LONGEST_QUEUE (length os) ≡ true → is_empty os ≡ false
 some_queued [] e = absurd (grind (arith, nat_tests))
 some_queued (o ∷ os) e = refl
 
-waits : (book : Book) (sender : List ℕ) (amount : ℕ) → nat_le 500 (length (queue book sender)) ≡ true → settles_at_once book sender amount ≡ false
+waits : (book : Book) (sender : List ℕ) (amount : ℕ) → nat_le LONGEST_QUEUE (length (queue book sender)) ≡ true → settles_at_once book sender amount ≡ false
 unfolding settles_at_once
 waits book sender amount e = rw (some_queued (queue book sender) e) refl
 
@@ -100,9 +101,9 @@ stopped_later old new sender reference receiver amount f =
     (or_weaker _ _ _ _ (full (f.queued sender))
     (λ e. e))))))))
   where
-    full : length (queue old sender) ≤ length (queue new sender) → (not (settles_at_once old sender amount) && nat_le 500 (length (queue old sender))) ≡ true → (not (settles_at_once new sender amount) && nat_le 500 (length (queue new sender))) ≡ true
+    full : length (queue old sender) ≤ length (queue new sender) → (not (settles_at_once old sender amount) && nat_le LONGEST_QUEUE (length (queue old sender))) ≡ true → (not (settles_at_once new sender amount) && nat_le LONGEST_QUEUE (length (queue new sender))) ≡ true
     full le e =
-        let long = more_queued (length (queue old sender)) (length (queue new sender)) le (and_parts (not (settles_at_once old sender amount)) (nat_le 500 (length (queue old sender))) e).1 in
+        let long = more_queued (length (queue old sender)) (length (queue new sender)) le (and_parts (not (settles_at_once old sender amount)) (nat_le LONGEST_QUEUE (length (queue old sender))) e).1 in
         rw (waits new sender amount long, long) refl
 
 -- ---- one order

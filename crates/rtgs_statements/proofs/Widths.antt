@@ -6,11 +6,14 @@ use Rattle.std.proofs.lemmas.Bool.Decides.{nat_tests}
 use Rattle.std.specs.Fmt.{sign_text}
 use Rattle.std.specs.Int.{is_negative}
 use Rattle.std.specs.Str.{bytes_eq}
+use Rattle.rtgs_money.specs.declared.reference.TheConstants.Reference as Reference
+use Rattle.rtgs_money.specs.declared.code.TheConstants.Code as Code
 use Rattle.rtgs_money.specs.Amounts.{IsAmount, IsPostingAmount}
 use Rattle.rtgs_money.specs.Forms.{IsCode, IsReference, is_code, is_reference}
 use Rattle.rtgs_money.specs.Units.{units_text}
 use Rattle.rtgs_book.specs.declared.posting.Posting.{Posting}
 use Rattle.rtgs_book.specs.declared.order.Order.{Order}
+use Rattle.rtgs_book.specs.declared.limits.TheConstants.{LARGEST_NUMBER}
 use Rattle.rtgs_statements.specs.declared.kind.Kind.{Kind}
 use Rattle.rtgs_statements.specs.declared.kind.Kind.TheVariants.{Posting as OfPosting, Sent, Queued as OfQueued, Withdrawn as OfWithdrawn, Rejected as OfRejected, Received}
 use Rattle.rtgs_statements.specs.declared.line.Line.TheVariants.{Sum}
@@ -28,14 +31,14 @@ right_long : (w : ℕ) (text : List ℕ) → length text ≤ w → length (right
 unfolding right_in
 right_long w text fits = simp (length-append, length-replicate) (omega arith)
 
-nine : (n : ℕ) → n ≤ 999999999 → length (decimal n) ≤ 9
+nine : (n : ℕ) → n ≤ LARGEST_NUMBER → length (decimal n) ≤ 9
 nine n few = length-decimal-le_wide 9 n (omega arith) (omega arith) (omega arith)
 
-zeros_long : (n : ℕ) → n ≤ 999999999 → length (zeros_in 9 n) ≡ 9
+zeros_long : (n : ℕ) → n ≤ LARGEST_NUMBER → length (zeros_in 9 n) ≡ 9
 unfolding zeros_in
 zeros_long n few = let fits = nine n few in simp (length-append, length-replicate) (omega arith)
 
-row_long : (kind : List ℕ) (number : ℕ) (reference party amount mark : List ℕ) → length kind ≤ 10 → number ≤ 999999999 → length reference ≤ 16 → length party ≤ 8 → length amount ≤ 20 → length mark ≤ 9
+row_long : (kind : List ℕ) (number : ℕ) (reference party amount mark : List ℕ) → length kind ≤ 10 → number ≤ LARGEST_NUMBER → length reference ≤ 16 → length party ≤ 8 → length amount ≤ 20 → length mark ≤ 9
     → length (row_columns kind number reference party amount mark) ≡ 78
 unfolding row_columns
 row_long kind number reference party amount mark k n r p a m =
@@ -55,11 +58,11 @@ units_short k z some few fits wide =
     let sign = sign_short (is_negative z) in
     simp length-append (omega arith)
 
-reference_short : (reference : List ℕ) → IsReference reference → length reference ≤ 16
+reference_short : (reference : List ℕ) → IsReference reference → length reference ≤ Reference.LONGEST
 unfolding is_reference
 reference_short reference form = grind (arith, nat_tests)
 
-code_short : (code : List ℕ) → IsCode code → length code ≤ 8
+code_short : (code : List ℕ) → IsCode code → length code ≤ Code.LONGEST
 unfolding is_code
 code_short code form = grind (arith, nat_tests)
 
@@ -77,21 +80,21 @@ total_short SentTotal = omega arith
 total_short ReceivedTotal = omega arith
 total_short Net = omega arith
 
-mark_short : (mark : Option ℕ) → IfSome mark (λ m. m ≤ 999999999) → length (mark_text mark) ≤ 9
+mark_short : (mark : Option ℕ) → IfSome mark (λ m. m ≤ LARGEST_NUMBER) → length (mark_text mark) ≤ 9
 mark_short None h = omega arith
 mark_short (Some mark) h = nine mark h
 
-pub posting_row_long : (posting : Posting) → posting.number ≤ 999999999 → IsReference posting.reference → IsPostingAmount posting.cents → length (row_text (row_of_posting posting)) ≡ 78
+pub posting_row_long : (posting : Posting) → posting.number ≤ LARGEST_NUMBER → IsReference posting.reference → IsPostingAmount posting.cents → length (row_text (row_of_posting posting)) ≡ 78
 posting_row_long posting few reference cents =
     let most = cents.1 in
     row_long _ posting.number posting.reference _ (units_text posting.cents) _ (kind_short OfPosting) few (reference_short posting.reference reference) (omega arith)
     (let short = units_short 14 posting.cents (omega arith) (omega arith) (omega arith) (omega arith) in omega arith) (omega arith)
 
-chosen_code : (b : Bool) (one other : List ℕ) → length one ≤ 8 → length other ≤ 8 → length (cond b one other) ≤ 8
+chosen_code : (b : Bool) (one other : List ℕ) → length one ≤ Code.LONGEST → length other ≤ Code.LONGEST → length (cond b one other) ≤ Code.LONGEST
 chosen_code true one other f g = f
 chosen_code false one other f g = g
 
-pub order_row_long : (code : List ℕ) (order : Order) → order.number ≤ 999999999 → IsReference order.reference → IsCode order.sender → IsCode order.receiver → IsAmount order.amount → IfSome (mark_of order.state) (λ mark. mark ≤ 999999999)
+pub order_row_long : (code : List ℕ) (order : Order) → order.number ≤ LARGEST_NUMBER → IsReference order.reference → IsCode order.sender → IsCode order.receiver → IsAmount order.amount → IfSome (mark_of order.state) (λ mark. mark ≤ LARGEST_NUMBER)
     → length (row_text (row_of_order code order)) ≡ 78
 order_row_long code order few reference sender receiver amount mark =
     let most = amount.1 in

@@ -1,18 +1,14 @@
 -- Which records a statement and a report take, in the order of the book: by rising number.
-use Rattle.std.specs.Prelude.{ℕ, Bool, false, ◌&&◌, ◌||◌, ◌==◌, List, filter, Option, Some, None}
+use Rattle.std.specs.Prelude.{ℕ, Bool, ◌&&◌, ◌||◌, ◌==◌, List, filter}
 use Rattle.std.specs.Str.{bytes_eq}
 use Rattle.rtgs_book.specs.declared.posting.Posting.{Posting}
 use Rattle.rtgs_book.specs.declared.order.Order.{Order}
 use Rattle.rtgs_book.specs.declared.mark.Mark.{Mark}
 use Rattle.rtgs_book.specs.Books.{is_settled}
-
--- no date is none of the dates
-abbrev pub is_date : ℕ → Option ℕ → Bool
-is_date date None = false
-is_date date (Some other) = other == date
+use Rattle.rtgs_book.specs.Commands.{is_date}
 
 abbrev pub is_posted_on : ℕ → Posting → Bool
-is_posted_on date posting = is_date date posting.date
+is_posted_on date posting = is_date posting.date date
 
 abbrev pub is_ordered_on : ℕ → Order → Bool
 is_ordered_on date order = order.date == date

@@ -5,6 +5,7 @@ ghost use Rattle.std.specs.Cmp.Lexicographic.{slice_cmp};
 ghost use Rattle.std.specs.List.{AllByRecursion};
 ghost use Rattle.std.specs.Ordering.{nat_cmp};
 ghost use Rattle.std.specs.Str.{bytes_eq};
+ghost use Rattle.rtgs_money.specs.declared.amount.TheConstants.Amount as Amount;
 ghost use Rattle.rtgs_money.specs.Amounts.{IsAmount, IsPostingAmount, IsCredit};
 ghost use Rattle.rtgs_book.specs.declared.limits.TheConstants.{LARGEST_NUMBER, LARGEST_TOTAL};
 ghost use Rattle.rtgs_book.specs.declared.order.Order.{Order};
@@ -130,7 +131,7 @@ fn add_order(totals: &mut BTreeMap<Code, i128>, order: &Order)
     requires { AreWithin (slice_cmp nat_cmp) (10 ^ 28) totals.old }
     ensures sums { (codes : List (List ℕ)) (sum_of : List ℕ → ℤ) → Totals (slice_cmp nat_cmp) codes sum_of totals.old →
         Totals (slice_cmp nat_cmp) codes (λ code. sum_of code +ℤ (if is_settled order.now then gain code order.now else pos 0)) totals.new }
-    ensures within { (bound : ℕ) → AreWithin (slice_cmp nat_cmp) bound totals.old → AreWithin (slice_cmp nat_cmp) (bound + 2 * 10 ^ 12) totals.new }
+    ensures within { (bound : ℕ) → AreWithin (slice_cmp nat_cmp) bound totals.old → AreWithin (slice_cmp nat_cmp) (bound + 2 * Amount.MAX) totals.new }
     ensures amount { IsAmount order.now.amount }
 {
     let amount = i128::from(order.amount.cents());

@@ -3,6 +3,7 @@ ghost use Rattle.std.specs.Prelude.{◌≡◌, ◌↔◌, ◌≤◌, ◌+◌, �
 ghost use Rattle.std.specs.BTreeMap.{get};
 ghost use Rattle.std.specs.List.{AllByRecursion, list_any, list_all};
 ghost use Rattle.std.specs.Ordering.{nat_cmp};
+ghost use Rattle.rtgs_money.specs.declared.amount.TheConstants.Amount as Amount;
 ghost use Rattle.rtgs_book.specs.declared.mark.Mark.{Mark};
 ghost use Rattle.rtgs_book.specs.declared.limits.TheConstants.{LARGEST_NUMBER};
 ghost use Rattle.rtgs_book.specs.declared.order.Order.{Order};
@@ -89,10 +90,10 @@ fn add_marked(counts: &mut BTreeMap<u64, i128>, values: &mut BTreeMap<u64, i128>
 // Adds under the mark of the state, if it has one.
 fn add_under(totals: &mut BTreeMap<u64, i128>, state: OrderState, by: i128)
     requires totals { AreWithin nat_cmp (10 ^ 28) totals.old }
-    requires by { Within (10 ^ 12) by }
+    requires by { Within Amount.MAX by }
     ensures sums { (numbers : List ℕ) (sum_of : ℕ → ℤ) → Totals nat_cmp numbers sum_of totals.old →
         Totals nat_cmp numbers (λ mark. sum_of mark +ℤ (if is_state_under mark state then by else pos 0)) totals.new }
-    ensures within { (bound : ℕ) → AreWithin nat_cmp bound totals.old → AreWithin nat_cmp (bound + 10 ^ 12) totals.new }
+    ensures within { (bound : ℕ) → AreWithin nat_cmp bound totals.old → AreWithin nat_cmp (bound + Amount.MAX) totals.new }
 {
     if let OrderState::Settled(mark) = state {
         add(totals, &mark, by);

@@ -5,7 +5,8 @@ ghost use Rattle.rtgs_book.specs.Books.{is_cut_off, is_empty};
 ghost use Rattle.rtgs_book.specs.Choice.{Choice, chosen, IsGreatest};
 ghost use Rattle.rtgs_book.specs.Commands.{is_on};
 ghost use Rattle.rtgs_book.specs.Lookup.{accounts};
-ghost use Rattle.rtgs_choices.specs.Settling.{queued_numbers, state_rows};
+ghost use Rattle.rtgs_book.specs.Queue.{queued_numbers};
+ghost use Rattle.rtgs_choices.specs.Settling.{state_rows};
 ghost use Rattle.rtgs_ledger.specs.Kept.{IsPrepared, IsRefused};
 
 use super::Ledger;
@@ -79,7 +80,7 @@ impl Ledger {
 
     // The numbers of all queued orders, account by account.
     fn queued_numbers(&self) -> Result<Vec<u64>, AllocError>
-        ensures { IfOk result (λ numbers. numbers.items ≡ flat_map (queued_numbers self.now.content) (accounts self.now.content)) }
+        ensures { IfOk result (λ numbers. numbers.items ≡ flat_map (queued_numbers self.now.content.orders) (accounts self.now.content)) }
     {
         let mut numbers = Vec::new(self.alloc);
         for account in self.records.accounts.as_slice() {

@@ -1,6 +1,7 @@
-use Rattle.std.proofs.Common.{◌≡◌, ◌^◌, ◌+◌, ◌*◌, ◌&&◌, ℕ, List, true, false, pos, refl, ap, arith}
+use Rattle.std.proofs.Common.{◌≡◌, ◌+◌, ◌*◌, ◌&&◌, ℕ, List, true, false, pos, refl, ap, arith}
 use Rattle.std.proofs.lemmas.Int.{ints}
 use Rattle.std.specs.Str.{bytes_eq}
+use Rattle.rtgs_money.specs.declared.amount.TheConstants.Amount as Amount
 use Rattle.rtgs_book.specs.declared.order.Order.{Order}
 use Rattle.rtgs_book.specs.declared.order_state.OrderState.{OrderState}
 use Rattle.rtgs_book.specs.declared.order_state.OrderState.TheVariants.{Queued, Settled, Withdrawn, Rejected}
@@ -22,20 +23,20 @@ loop-order-preserved c =
     elim c.match-order.branch [
       | in-Settled+in_ok-add w ↦
           let settled : is_settled c.order-item.result ≡ true = ap is_settled_state w.in-Settled.is in
-          let small : Within (10 ^ 12) (pos c.order-item.result.amount) = (omega (arith, ints), omega (arith, ints)) in
+          let small : Within Amount.MAX (pos c.order-item.result.amount) = (omega (arith, ints), omega (arith, ints)) in
           rw w.totals-is (record {
             sums = λ code.
                 step-sum _ _ _ _ _ _ (pos c.order-item.result.amount) (bytes_eq w.code.result code) (omega (arith, ints)) (w.in_ok-add.ensures code)
                 (rw (w.code.ensures) (rw settled at (left code)))
                 (c.loop-order.invariant.sums code);
             within = λ code.
-                wider (c.loop-order.order-index * 10 ^ 12 + 10 ^ 12) _ _ (omega arith)
-                (step-within _ (10 ^ 12) _ _ _ (pos c.order-item.result.amount) (bytes_eq w.code.result code) small (omega (arith, ints)) (w.in_ok-add.ensures code) (c.loop-order.invariant.within code));
+                wider (c.loop-order.order-index * Amount.MAX + Amount.MAX) _ _ (omega arith)
+                (step-within _ Amount.MAX _ _ _ (pos c.order-item.result.amount) (bytes_eq w.code.result code) small (omega (arith, ints)) (w.in_ok-add.ensures code) (c.loop-order.invariant.within code));
           })
       | in_default w ↦
           let unsettled : is_settled c.order-item.result ≡ false = not_settled c.order-item.result.state w.in_default.not-Settled in
           rw w.totals-is (record {
             sums = λ code. let more = rw unsettled at (left code) in let before = c.loop-order.invariant.sums code in omega (arith, ints);
-            within = λ code. wider (c.loop-order.order-index * 10 ^ 12) _ _ (omega arith) (c.loop-order.invariant.within code);
+            within = λ code. wider (c.loop-order.order-index * Amount.MAX) _ _ (omega arith) (c.loop-order.invariant.within code);
           })
     ]

@@ -1,4 +1,4 @@
-use Rattle.std.proofs.Common.{◌≡◌, List, true, IfOk, IsTrue, map, ◌↔◌, ◌≤ℤ◌, ◌^◌, pos, lit<, length, ◌≤◌, sym, subst}
+use Rattle.std.proofs.Common.{◌≡◌, List, true, IfOk, IsTrue, map, ◌↔◌, ◌≤ℤ◌, pos, lit<, length, ◌≤◌, sym, subst}
 use Rattle.std.specs.List.{IsDistinct}
 use Rattle.std.specs.Str.{bytes_eq}
 use Rattle.rtgs_book.specs.Books.{Participant, Posting, Order, Mark}
@@ -6,6 +6,7 @@ use Rattle.rtgs_book.specs.IntSum.{int_sum_by}
 use Rattle.rtgs_book.specs.Lookup.{accounts}
 use Rattle.rtgs_book.specs.Soundness.{AreNumbered, AreCodes, is_same_name}
 use Rattle.rtgs_book.specs.declared.rule.Rule.TheVariants.{PostingNumbers, ParticipantCodes, Parties, Floors, Total}
+use Rattle.rtgs_book.specs.declared.limits.TheConstants.{LARGEST_NUMBER, LARGEST_TOTAL}
 use Rattle.rtgs_book.proofs.RuleOrder.{earlier, few_postings, total_by_issue}
 use Rattle.rtgs_book.proofs.book.Book.keeps.Goals as goal
 
@@ -16,7 +17,7 @@ pub floors_hold-requires-clause-few_postings : goal.floors_hold-requires-clause-
 floors_hold-requires-clause-few_postings c = few_postings c.args.self.now (earlier c.args.self.now c.args.rule Floors PostingNumbers c.in-Floors.is (lit< tt) c.requires)
 
 pub is_issue_small-requires : goal.is_issue_small-requires
-is_issue_small-requires c = subst (λ (ps : List Posting). length ps ≤ 999999999) (sym c.as_slice-postings.ensures) (few_postings c.args.self.now (earlier c.args.self.now c.args.rule Total PostingNumbers c.in-Total.is (lit< tt) c.requires))
+is_issue_small-requires c = subst (λ (ps : List Posting). length ps ≤ LARGEST_NUMBER) (sym c.as_slice-postings.ensures) (few_postings c.args.self.now (earlier c.args.self.now c.args.rule Total PostingNumbers c.in-Total.is (lit< tt) c.requires))
 
 pub returns-in-OrderNumbers-clause-kept : goal.returns-in-OrderNumbers-clause-kept
 returns-in-OrderNumbers-clause-kept c = rw c.in-OrderNumbers.is (subst (λ (xs : List Order). (c.are_numbered.result ≡ true) ↔ AreNumbered (map (λ (x : Order). x.number) xs)) c.as_slice-orders.ensures c.are_numbered.ensures)
@@ -47,4 +48,4 @@ pub returns-in-Total-clause-kept : goal.returns-in-Total-clause-kept
 returns-in-Total-clause-kept c =
     rw c.in-Total.is
     (total_by_issue c.args.self.now c.is_issue_small.result (earlier c.args.self.now c.args.rule Total ParticipantCodes c.in-Total.is (lit< tt) c.requires) (earlier c.args.self.now c.args.rule Total Parties c.in-Total.is (lit< tt) c.requires)
-    (subst (λ (xs : List Posting). (c.is_issue_small.result ≡ true) ↔ (int_sum_by (λ (x : Posting). x.cents) xs ≤ℤ pos (10 ^ 15))) c.as_slice-postings.ensures c.is_issue_small.ensures))
+    (subst (λ (xs : List Posting). (c.is_issue_small.result ≡ true) ↔ (int_sum_by (λ (x : Posting). x.cents) xs ≤ℤ pos LARGEST_TOTAL)) c.as_slice-postings.ensures c.is_issue_small.ensures))

@@ -1,7 +1,8 @@
-use Rattle.std.proofs.Common.{◌^◌, ◌+◌, ◌*◌, ◌+ℤ◌, ap, nat_cmp, arith}
+use Rattle.std.proofs.Common.{◌+◌, ◌*◌, ◌+ℤ◌, ap, nat_cmp, arith}
 use Rattle.std.proofs.lemmas.Int.{ints}
 use Rattle.std.specs.Cmp.Lexicographic.{slice_cmp}
 use Rattle.std.specs.Str.{bytes_eq}
+use Rattle.rtgs_money.specs.declared.posting_amount.TheConstants.PostingAmount as PostingAmount
 use Rattle.rtgs_money.specs.Amounts.{IsPostingAmount}
 use Rattle.rtgs_book.specs.declared.posting.Posting.{Posting}
 use Rattle.rtgs_book.proofs.Totals.{cents_are, fits_wide, within_added, texts_added, sum_first, sum_more, sum_all, totals_same, all_more}
@@ -25,7 +26,7 @@ loop-posting-preserved c =
           (λ code. let more = sum_more (λ (p : Posting). bytes_eq p.code code) (λ (p : Posting). p.cents) c.args.postings.now c.loop-posting.posting-index c.posting-item.result c.loop-posting-test.true c.posting-item.is in omega (arith, ints))
           (texts_added codes (λ code. sum_of code +ℤ sum_first (λ (p : Posting). bytes_eq p.code code) (λ (p : Posting). p.cents) c.args.postings.now c.loop-posting.posting-index) c.loop-posting.totals c.add.new.totals c.posting-item.result.code c.posting-item.result.cents _ is.1 (c.loop-posting.invariant.sums codes sum_of holds) c.add.ensures);
       within = λ key total e.
-          let r = within_added (slice_cmp nat_cmp) (c.loop-posting.posting-index * 10 ^ 15) (10 ^ 15) c.loop-posting.totals c.add.new.totals c.posting-item.result.code c.posting-item.result.cents is.0 c.loop-posting.invariant.within (rw is.1 at c.add.ensures) key total e in
+          let r = within_added (slice_cmp nat_cmp) (c.loop-posting.posting-index * PostingAmount.MAX) PostingAmount.MAX c.loop-posting.totals c.add.new.totals c.posting-item.result.code c.posting-item.result.cents is.0 c.loop-posting.invariant.within (rw is.1 at c.add.ensures) key total e in
           let low = r.0 in let high = r.1 in
           (omega (arith, ints), omega (arith, ints));
       cents = all_more (λ (p : Posting). IsPostingAmount p.cents) c.args.postings.now c.loop-posting.posting-index c.posting-item.result c.loop-posting-test.true c.posting-item.is c.loop-posting.invariant.cents (c.cents.ensures.not_zero, c.cents.ensures.in_range);

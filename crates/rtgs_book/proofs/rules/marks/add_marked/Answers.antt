@@ -1,6 +1,7 @@
-use Rattle.std.proofs.Common.{◌≡◌, ℕ, ◌^◌, ◌+◌, ◌*◌, ◌≤◌, ℤ, pos, ◌+ℤ◌, cond, to_z, of_z, ap, refl, ◌∙◌, nat_cmp, arith}
+use Rattle.std.proofs.Common.{◌≡◌, ℕ, ◌+◌, ◌*◌, ◌≤◌, ℤ, pos, ◌+ℤ◌, cond, to_z, of_z, ap, refl, ◌∙◌, nat_cmp, arith}
 use Rattle.std.proofs.lemmas.Int.{ints}
 use Rattle.std.specs.Int.{w128}
+use Rattle.rtgs_money.specs.declared.amount.TheConstants.Amount as Amount
 use Rattle.rtgs_book.specs.declared.order.Order.{Order}
 use Rattle.rtgs_book.specs.Soundness.{is_state_under}
 use Rattle.rtgs_book.proofs.Totals.{wide, sum_first, sum_more, sum_all, totals_same}
@@ -22,7 +23,7 @@ add_under-requires-in-loop-order-clause-totals c = λ key total e.
     (omega (arith, ints), omega (arith, ints))
 
 -- the amount, as a value of 128 bits
-amount_is : (amount cents : ℕ) (a : ℤ) → a ≡ pos cents → cents ≡ amount → amount ≤ 10 ^ 12 → to_z w128 (of_z w128 a) ≡ pos amount
+amount_is : (amount cents : ℕ) (a : ℤ) → a ≡ pos cents → cents ≡ amount → amount ≤ Amount.MAX → to_z w128 (of_z w128 a) ≡ pos amount
 amount_is amount cents a e f few =
     let same : a ≡ pos amount = e ∙ ap pos f in
     wide a (omega (arith, ints), omega (arith, ints)) ∙ same
@@ -46,11 +47,11 @@ loop-order-preserved c = record {
       (λ mark. in_order _ _ _ (ap (λ z. cond (is_state_under mark c.order-item.result.state) z (pos 0)) is) _ (sum_more (λ (o : Order). is_state_under mark o.state) (λ (o : Order). pos o.amount) c.args.orders.now c.loop-order.order-index c.order-item.result c.loop-order-test.true c.order-item.is) (value_of mark))
       (c.add_under-in-loop-order.ensures.sums numbers (λ mark. value_of mark +ℤ sum_first (λ (o : Order). is_state_under mark o.state) (λ (o : Order). pos o.amount) c.args.orders.now c.loop-order.order-index) (c.loop-order.invariant.values numbers value_of holds));
   few = λ key total e.
-      let r = c.add_under.ensures.within (c.loop-order.order-index * 10 ^ 12) c.loop-order.invariant.few key total e in
+      let r = c.add_under.ensures.within (c.loop-order.order-index * Amount.MAX) c.loop-order.invariant.few key total e in
       let low = r.0 in let high = r.1 in
       (omega (arith, ints), omega (arith, ints));
   small = λ key total e.
-      let r = c.add_under-in-loop-order.ensures.within (c.loop-order.order-index * 10 ^ 12) c.loop-order.invariant.small key total e in
+      let r = c.add_under-in-loop-order.ensures.within (c.loop-order.order-index * Amount.MAX) c.loop-order.invariant.small key total e in
       let low = r.0 in let high = r.1 in
       (omega (arith, ints), omega (arith, ints));
 }

@@ -1,11 +1,12 @@
-use Rattle.std.proofs.Common.{◌≡◌, ◌^◌, ℤ, ◌+ℤ◌, to_z, of_z, nat_cmp, arith}
+use Rattle.std.proofs.Common.{◌≡◌, ℤ, ◌+ℤ◌, to_z, of_z, nat_cmp, arith}
 use Rattle.std.proofs.lemmas.Int.{ints}
 use Rattle.std.specs.Int.{w128}
+use Rattle.rtgs_money.specs.declared.amount.TheConstants.Amount as Amount
 use Rattle.rtgs_book.specs.Totals.{Within}
 use Rattle.rtgs_book.proofs.Totals.{fits_wide, wide, within_added, marked_added, unmarked}
 use Rattle.rtgs_book.proofs.rules.marks.add_under.Goals as goal
 
-by_is : (by : ℤ) → Within (10 ^ 12) by → to_z w128 (of_z w128 by) ≡ by
+by_is : (by : ℤ) → Within Amount.MAX by → to_z w128 (of_z w128 by) ≡ by
 by_is by h = let low = h.0 in let high = h.1 in wide by (omega (arith, ints), omega (arith, ints))
 
 pub add-requires : goal.add-requires
@@ -22,7 +23,7 @@ returns-in-Settled-clause-sums c = λ numbers sum_of holds.
 pub returns-in-Settled-clause-within : goal.returns-in-Settled-clause-within
 returns-in-Settled-clause-within c = λ bound holds.
     let is = by_is c.args.by c.requires.by in
-    within_added nat_cmp bound (10 ^ 12) c.args.totals.now c.add.new.totals c.in-Settled.mark c.args.by c.requires.by holds (rw is at c.add.ensures)
+    within_added nat_cmp bound Amount.MAX c.args.totals.now c.add.new.totals c.in-Settled.mark c.args.by c.requires.by holds (rw is at c.add.ensures)
 
 pub returns-in_default : goal.returns-in_default
 returns-in_default c = record {

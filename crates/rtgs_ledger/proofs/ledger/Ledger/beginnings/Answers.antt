@@ -7,6 +7,7 @@ use Rattle.rtgs_book.specs.Queue.{queue}
 use Rattle.rtgs_choices.specs.ByIndex.{by_code, code_at}
 use Rattle.rtgs_choices.specs.Settling.{orders_taken}
 use Rattle.rtgs_book.specs.declared.account.Account.{Account}
+use Rattle.rtgs_book.specs.declared.limits.TheConstants.{MOST_PARTICIPANTS, LONGEST_QUEUE}
 use Rattle.rtgs_ledger.specs.Accounts.{code_of}
 use Rattle.rtgs_ledger.specs.Held.{Held}
 use Rattle.rtgs_ledger.specs.Records.{book_of}
@@ -41,7 +42,7 @@ loop-index-preserved c =
     let added : c.deref.result.now ≡ beginning_of content (by_code content lengths) a =
     c.deref.ensures.value ∙ c.truncate.ensures.items ∙ ap (take (lengths i)) c.in_ok-queue.ensures ∙ ap (λ n. take n (queue content (code_of a))) (sym taken) in
     let new : c.extend_from_slice.new.self.items ≡ c.loop-index.orders.items ++ beginning_of content (by_code content lengths) a = c.in_ok-extend_from_slice.ensures.items ∙ ap (λ ys. c.loop-index.orders.items ++ ys) added in
-    let short : length (queue (book_of r) (code_of a)) ≤ 500 = subst (λ (x : Account). length (queue (book_of r) (code_of x)) ≤ 500) (sym here) (short_at r c.self.invariant.sound i a less) in
+    let short : length (queue (book_of r) (code_of a)) ≤ LONGEST_QUEUE = subst (λ (x : Account). length (queue (book_of r) (code_of x)) ≤ LONGEST_QUEUE) (sym here) (short_at r c.self.invariant.sound i a less) in
     let queue_is = ap (λ (b : Book). length (queue b (code_of a))) book in
     let long = ap length new ∙ length-append c.loop-index.orders.items (beginning_of content (by_code content lengths) a) in
     let part = length-take (by_code content lengths (code_of a)) (queue content (code_of a)) in
@@ -65,5 +66,5 @@ returns-clause-few c =
     let r = c.self.inside.records in
     let count = count_is r in
     let items = ap length c.as_slice-account-items.ensures.value in
-    let few : length (accounts (book_of r)) ≤ 100 = c.self.invariant.sound.codes_rise.1 in
+    let few : length (accounts (book_of r)) ≤ MOST_PARTICIPANTS = c.self.invariant.sound.codes_rise.1 in
     omega (arith, c.loop-index.invariant.few, c.loop-index.auto.index-end)

@@ -1,4 +1,4 @@
-use Rattle.std.proofs.Common.{◌∙◌, sym, ap, refl}
+use Rattle.std.proofs.Common.{◌∙◌, sym, ap}
 use Rattle.std.specs.Option.{option_map}
 use Rattle.rtgs_ledger.specs.Accounts.{code_of}
 use Rattle.rtgs_ledger.proofs.Keys.{code_of-bearer}

@@ -3,6 +3,7 @@ use Rattle.std.proofs.lemmas.Bool.Decides.{nat_tests}
 use Rattle.std.specs.Str.{bytes_eq}
 use Rattle.std.specs.List.{list_any}
 use Rattle.rtgs_book.specs.declared.answer.Known.TheVariants.{Nothing}
+use Rattle.rtgs_book.specs.declared.limits.TheConstants.{MOST_PARTICIPANTS}
 use Rattle.rtgs_ledger.specs.Accounts.{has_key}
 use Rattle.rtgs_ledger.specs.Records.{held_of}
 use Rattle.rtgs_ledger.proofs.Adding.{repeats, code_taken, key_taken, too_many, prepared_add, kept_with_room}
@@ -39,7 +40,7 @@ pub returns-then-len-ge-MOST_PARTICIPANTS-clause-refused : goal.returns-then-len
 returns-then-len-ge-MOST_PARTICIPANTS-clause-refused c =
     let r = c.self.inside.records in
     let absent = sym c.get.ensures ∙ c.in_default.is in
-    let many : nat_le 100 (length r.accounts.accounts) ≡ true = grind (arith, nat_tests, c.len.ensures, c.if-len-ge-MOST_PARTICIPANTS.true) in
+    let many : nat_le MOST_PARTICIPANTS (length r.accounts.accounts) ≡ true = grind (arith, nat_tests, c.len.ensures, c.if-len-ge-MOST_PARTICIPANTS.true) in
     rw (← c.self.view_is) (inr (too_many (held_of r).content c.args.code c.args.name c.args.key (participant_none r c.self.invariant c.args.code absent) (any-participants c.args.key r.accounts.accounts ∙ sym c.has_key.ensures ∙ c.if-has_key.false) (rw (length-participants r.accounts.accounts) many), refl))
 
 pub returns-clause-prepared : goal.returns-clause-prepared
@@ -47,7 +48,7 @@ returns-clause-prepared c =
     let r = c.self.inside.records in
     let same = c.reserve.ensures.same in
     let absent = sym c.get.ensures ∙ c.in_default.is in
-    let few : nat_le 100 (length r.accounts.accounts) ≡ false = grind (arith, nat_tests, c.len.ensures, c.if-len-ge-MOST_PARTICIPANTS.false) in
+    let few : nat_le MOST_PARTICIPANTS (length r.accounts.accounts) ≡ false = grind (arith, nat_tests, c.len.ensures, c.if-len-ge-MOST_PARTICIPANTS.false) in
     let free : list_any (has_key c.args.key) r.accounts.accounts ≡ false = sym c.has_key.ensures ∙ c.if-has_key.false in
     let room = c.in_ok-reserve.ensures.ok in
     rw (c.from_vec.ensures, c.in_ok-rows.ensures.items) (prepared_add (record r { accounts = c.reserve.new.self }) (kept_with_room r c.self.invariant c.reserve.new.self same) c.args.code c.args.name c.args.key (rw same absent) c.step_keeps_ranges.ensures c.step_keeps_soundness.ensures (rw same free) (rw same few) room)

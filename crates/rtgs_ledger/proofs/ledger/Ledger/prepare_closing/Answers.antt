@@ -2,7 +2,7 @@ use Rattle.std.proofs.Common.{◌≡◌, ◌∙◌, sym, ap, subst, filter, leng
 use Rattle.std.specs.List.{flat_map}
 use Rattle.rtgs_book.specs.Books.{is_queued}
 use Rattle.rtgs_book.specs.Lookup.{accounts}
-use Rattle.rtgs_choices.specs.Settling.{queued_numbers}
+use Rattle.rtgs_book.specs.Queue.{queued_numbers}
 use Rattle.rtgs_ledger.specs.Held.{Held}
 use Rattle.rtgs_ledger.specs.Records.{held_of, book_of}
 use Rattle.rtgs_ledger.proofs.Closing.{IsClosable, closable, overdraws, nobody_below, prepared_closing}
@@ -20,7 +20,7 @@ returns-clause-prepared c =
     let book = book_of r in
     let at = subst (λ (h : Held). IsClosable h.content c.args.date) (sym c.self.view_is) (closable c.args.self.now.content c.args.date c.requires.cut_off c.requires.dated c.requires.nothing) in
     let covered = nobody_below r c.self.invariant (sym c.first_overdrawn.ensures ∙ c.in_default.is) in
-    let numbers : c.in_ok-numbers.numbers.items ≡ flat_map (queued_numbers book) (accounts book) = c.in_ok-numbers.ensures ∙ ap (λ (h : Held). flat_map (queued_numbers h.content) (accounts h.content)) (sym c.self.view_is) in
+    let numbers : c.in_ok-numbers.numbers.items ≡ flat_map (queued_numbers book.orders) (accounts book) = c.in_ok-numbers.ensures ∙ ap (λ (h : Held). flat_map (queued_numbers h.content.orders) (accounts h.content)) (sym c.self.view_is) in
     let sound = let k = c.self.invariant in k.sound in
     let count : c.len-rejected.result ≡ length (filter is_queued book.orders) = c.len-rejected.ensures ∙ c.in_ok-numbers.numbers.ok.0 ∙ ap length numbers ∙ sym (c.queued_are_numbered.ensures.count book sound) in
     rw (← c.self.view_is, c.from_vec.ensures, c.in_ok-rows.ensures, c.as_slice.ensures.value, numbers, count)

@@ -2,6 +2,7 @@ use Rattle.std.proofs.Common.{◌≡◌, ◌∙◌, sym, ap, nat_le, length, tru
 use Rattle.std.proofs.lemmas.Bool.Decides.{nat_tests}
 use Rattle.std.specs.Str.{bytes_eq}
 use Rattle.rtgs_book.specs.declared.answer.Known.TheVariants as known
+use Rattle.rtgs_book.specs.declared.limits.TheConstants.{LONGEST_QUEUE, LARGEST_NUMBER}
 use Rattle.rtgs_book.specs.Commands.{settles_at_once}
 use Rattle.rtgs_book.specs.Lookup.{order_named}
 use Rattle.rtgs_book.specs.Queue.{queue}
@@ -69,7 +70,7 @@ returns-then-len-ge-LARGEST_NUMBER-clause-refused c =
     let there = is_known r c.self.invariant c.args.sender c.in-Some.debtor (sym c.get.ensures ∙ c.in-Some.is) in
     let opened = open_now r c.self.invariant c.in-Some-open_date.date (sym c.open_date.ensures ∙ c.in-Some-open_date.is) in
     let receiver = is_known r c.self.invariant c.args.receiver c.in-Some-get-2.creditor (sym c.get-3.ensures ∙ c.in-Some-get-2.is) in
-    let many : nat_le 999999999 (length r.orders.orders) ≡ true = grind (arith, nat_tests, c.len.ensures, c.if-len-ge-LARGEST_NUMBER.true) in
+    let many : nat_le LARGEST_NUMBER (length r.orders.orders) ≡ true = grind (arith, nat_tests, c.len.ensures, c.if-len-ge-LARGEST_NUMBER.true) in
     rw (← c.self.view_is) (inr (numbers_used_up (book_of r) c.args.sender c.args.reference c.args.receiver c.args.amount there (sym c.get-2.ensures ∙ c.in_default-get.is) opened receiver (sym c.eq-2.ensures ∙ c.if-eq-3.false) many, refl))
 
 pub prepare_settled-requires-clause-settles : goal.prepare_settled-requires-clause-settles
@@ -82,7 +83,7 @@ unfolding order_named
 prepare_settled-requires-clause-taken c =
     let r = c.self.inside.records in
     let from = sym c.get.ensures ∙ c.in-Some.is in
-    let few : nat_le 999999999 (length r.orders.orders) ≡ false = grind (arith, nat_tests, c.len.ensures, c.if-len-ge-LARGEST_NUMBER.false) in
+    let few : nat_le LARGEST_NUMBER (length r.orders.orders) ≡ false = grind (arith, nat_tests, c.len.ensures, c.if-len-ge-LARGEST_NUMBER.false) in
     let settles = settles_is r c.self.invariant c.args.sender c.in-Some.debtor c.args.amount from ∙ sym c.settles_at_once.ensures.value ∙ c.if-settles_at_once.true in
     rw (← c.self.view_is, c.next_order-order.ensures) (taken_now r c.self.invariant c.args.sender c.args.reference c.args.receiver c.args.amount c.in-Some-open_date.date c.in-Some.debtor c.in-Some-get-2.creditor from (sym c.get-2.ensures ∙ c.in_default-get.is) (sym c.open_date.ensures ∙ c.in-Some-open_date.is)
     (sym c.get-3.ensures ∙ c.in-Some-get-2.is) (sym c.eq-2.ensures ∙ c.if-eq-3.false) few c.settles_at_once.ensures.fits (rw settles refl))
@@ -99,10 +100,10 @@ returns-then-queue-ge-LONGEST_QUEUE-clause-refused c =
     let from = sym c.get.ensures ∙ c.in-Some.is in
     let opened = open_now r c.self.invariant c.in-Some-open_date.date (sym c.open_date.ensures ∙ c.in-Some-open_date.is) in
     let receiver = is_known r c.self.invariant c.args.receiver c.in-Some-get-2.creditor (sym c.get-3.ensures ∙ c.in-Some-get-2.is) in
-    let few : nat_le 999999999 (length r.orders.orders) ≡ false = grind (arith, nat_tests, c.len.ensures, c.if-len-ge-LARGEST_NUMBER.false) in
+    let few : nat_le LARGEST_NUMBER (length r.orders.orders) ≡ false = grind (arith, nat_tests, c.len.ensures, c.if-len-ge-LARGEST_NUMBER.false) in
     let waits = settles_is r c.self.invariant c.args.sender c.in-Some.debtor c.args.amount from ∙ sym c.settles_at_once.ensures.value ∙ c.if-settles_at_once.false in
     let long : length c.queue.result.now ≡ length (queue (book_of r) c.args.sender) = ap length c.queue.ensures ∙ queued_length (book_of r) c.args.sender in
-    let full : nat_le 500 (length (queue (book_of r) c.args.sender)) ≡ true = grind (arith, nat_tests, long, c.if-queue-ge-LONGEST_QUEUE.true) in
+    let full : nat_le LONGEST_QUEUE (length (queue (book_of r) c.args.sender)) ≡ true = grind (arith, nat_tests, long, c.if-queue-ge-LONGEST_QUEUE.true) in
     rw (← c.self.view_is) (inr (queue_full (book_of r) c.args.sender c.args.reference c.args.receiver c.args.amount (is_known r c.self.invariant c.args.sender c.in-Some.debtor from) (sym c.get-2.ensures ∙ c.in_default-get.is) opened receiver (sym c.eq-2.ensures ∙ c.if-eq-3.false) few waits full, refl))
 
 pub prepare_queued-requires-clause-taken : goal.prepare_queued-requires-clause-taken
@@ -110,8 +111,8 @@ unfolding order_named
 prepare_queued-requires-clause-taken c =
     let r = c.self.inside.records in
     let from = sym c.get.ensures ∙ c.in-Some.is in
-    let few : nat_le 999999999 (length r.orders.orders) ≡ false = grind (arith, nat_tests, c.len.ensures, c.if-len-ge-LARGEST_NUMBER.false) in
+    let few : nat_le LARGEST_NUMBER (length r.orders.orders) ≡ false = grind (arith, nat_tests, c.len.ensures, c.if-len-ge-LARGEST_NUMBER.false) in
     let long : length c.queue.result.now ≡ length (queue (book_of r) c.args.sender) = ap length c.queue.ensures ∙ queued_length (book_of r) c.args.sender in
-    let short : nat_le 500 (length (queue (book_of r) c.args.sender)) ≡ false = grind (arith, nat_tests, long, c.if-queue-ge-LONGEST_QUEUE.false) in
+    let short : nat_le LONGEST_QUEUE (length (queue (book_of r) c.args.sender)) ≡ false = grind (arith, nat_tests, long, c.if-queue-ge-LONGEST_QUEUE.false) in
     rw (← c.self.view_is, c.next_order-order.ensures) (taken_now r c.self.invariant c.args.sender c.args.reference c.args.receiver c.args.amount c.in-Some-open_date.date c.in-Some.debtor c.in-Some-get-2.creditor from (sym c.get-2.ensures ∙ c.in_default-get.is) (sym c.open_date.ensures ∙ c.in-Some-open_date.is)
-    (sym c.get-3.ensures ∙ c.in-Some-get-2.is) (sym c.eq-2.ensures ∙ c.if-eq-3.false) few c.settles_at_once.ensures.fits (and_right (not (settles_at_once (book_of r) c.args.sender c.args.amount)) (nat_le 500 (length (queue (book_of r) c.args.sender))) short))
+    (sym c.get-3.ensures ∙ c.in-Some-get-2.is) (sym c.eq-2.ensures ∙ c.if-eq-3.false) few c.settles_at_once.ensures.fits (and_right (not (settles_at_once (book_of r) c.args.sender c.args.amount)) (nat_le LONGEST_QUEUE (length (queue (book_of r) c.args.sender))) short))

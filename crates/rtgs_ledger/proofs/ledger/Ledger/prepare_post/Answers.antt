@@ -4,6 +4,7 @@ use Rattle.std.proofs.lemmas.Bool.Decides.{nat_tests}
 use Rattle.std.specs.Str.{bytes_eq}
 use Rattle.std.specs.Ordering.{int_eq}
 use Rattle.rtgs_book.specs.declared.answer.Known.TheVariants as known
+use Rattle.rtgs_book.specs.declared.limits.TheConstants.{LARGEST_NUMBER}
 use Rattle.rtgs_book.specs.Lookup.{posting_named}
 use Rattle.rtgs_ledger.specs.Records.{held_of, book_of}
 use Rattle.rtgs_ledger.proofs.Posting.{unknown, repeats, reference_used, numbers_used_up, total_too_large, no_cover, prepared_post, kept_with_postings}
@@ -41,7 +42,7 @@ unfolding posting_named
 returns-then-len-ge-LARGEST_NUMBER-clause-refused c =
     let r = c.self.inside.records in
     let there = is_known r c.self.invariant c.args.code c.in-Some.account (sym c.get.ensures ∙ c.in-Some.is) in
-    let many : nat_le 999999999 (length r.postings.postings) ≡ true = grind (arith, nat_tests, c.len.ensures, c.if-len-ge-LARGEST_NUMBER.true) in
+    let many : nat_le LARGEST_NUMBER (length r.postings.postings) ≡ true = grind (arith, nat_tests, c.len.ensures, c.if-len-ge-LARGEST_NUMBER.true) in
     rw (← c.self.view_is) (inr (numbers_used_up (book_of r) c.args.code c.args.reference c.args.cents there (sym c.get-2.ensures ∙ c.in_default-get.is) many, refl))
 
 pub returns-then-is_too_much-clause-refused : goal.returns-then-is_too_much-clause-refused
@@ -49,7 +50,7 @@ unfolding posting_named
 returns-then-is_too_much-clause-refused c =
     let r = c.self.inside.records in
     let there = is_known r c.self.invariant c.args.code c.in-Some.account (sym c.get.ensures ∙ c.in-Some.is) in
-    let few : nat_le 999999999 (length r.postings.postings) ≡ false = grind (arith, nat_tests, c.len.ensures, c.if-len-ge-LARGEST_NUMBER.false) in
+    let few : nat_le LARGEST_NUMBER (length r.postings.postings) ≡ false = grind (arith, nat_tests, c.len.ensures, c.if-len-ge-LARGEST_NUMBER.false) in
     let large = sym c.is_too_much.ensures ∙ c.if-is_too_much.true in
     rw (← c.self.view_is) (inr (total_too_large (book_of r) c.args.code c.args.reference c.args.cents there (sym c.get-2.ensures ∙ c.in_default-get.is) few (rw (total_at r c.self.invariant) at large), refl))
 
@@ -68,7 +69,7 @@ returns-then-is_uncovered-clause-refused c =
     let r = c.self.inside.records in
     let found = sym c.get.ensures ∙ c.in-Some.is in
     let there = is_known r c.self.invariant c.args.code c.in-Some.account found in
-    let few : nat_le 999999999 (length r.postings.postings) ≡ false = grind (arith, nat_tests, c.len.ensures, c.if-len-ge-LARGEST_NUMBER.false) in
+    let few : nat_le LARGEST_NUMBER (length r.postings.postings) ≡ false = grind (arith, nat_tests, c.len.ensures, c.if-len-ge-LARGEST_NUMBER.false) in
     let small = rw (total_at r c.self.invariant) at (sym c.is_too_much.ensures ∙ c.if-is_too_much.false) in
     let short = rw (c.balance_with-balance.ensures, balance_at r c.self.invariant c.args.code c.in-Some.account found, ← floor_at r c.self.invariant c.args.code c.in-Some.account found) at (sym c.is_uncovered.ensures ∙ c.if-is_uncovered.true) in
     rw (← c.self.view_is) (inr (no_cover (book_of r) c.args.code c.args.reference c.args.cents there (sym c.get-2.ensures ∙ c.in_default-get.is) few small short, refl))
@@ -83,7 +84,7 @@ returns-clause-prepared c =
     let same = c.reserve.ensures.same in
     let found = sym c.get.ensures ∙ c.in-Some.is in
     let kept = kept_with_postings r c.self.invariant c.reserve.new.self same in
-    let few : nat_le 999999999 (length r.postings.postings) ≡ false = grind (arith, nat_tests, c.len.ensures, c.if-len-ge-LARGEST_NUMBER.false) in
+    let few : nat_le LARGEST_NUMBER (length r.postings.postings) ≡ false = grind (arith, nat_tests, c.len.ensures, c.if-len-ge-LARGEST_NUMBER.false) in
     let small = rw (total_at r c.self.invariant) at (sym c.is_too_much.ensures ∙ c.if-is_too_much.false) in
     let covered = rw (c.balance_with-balance.ensures, balance_at r c.self.invariant c.args.code c.in-Some.account found, ← floor_at r c.self.invariant c.args.code c.in-Some.account found) at (sym c.is_uncovered.ensures ∙ c.if-is_uncovered.false) in
     let number : c.len-2.result ≡ length c.reserve.new.self.postings = c.len-2.ensures ∙ ap length (sym same) in
