@@ -5,7 +5,7 @@ ghost use Rattle.rtgs_desk_lines.specs.Lines.{answer_line, line_of};
 ghost use Rattle.rtgs_desk_lines.specs.Told.{IsTold};
 
 use crate::line::{Line, ROOM};
-use rtgs_book::Answer;
+use rtgs_book::{Answer, Standing};
 use rtgs_output::WriterFailed;
 use std::fmt;
 use std::io::Write;
@@ -50,18 +50,22 @@ fn answer_line(answer: Answer) -> Line
         Answer::Posted { number } => Line::of("posted ").number(number),
         Answer::Opened => Line::of("opened"),
         Answer::Settled { number, mark } => {
-            Line::of("settled ")
+            Line::of(Standing::Settled.word())
+                .then(" ")
                 .number(number)
                 .then(" mark ")
                 .number(mark)
         }
         Answer::Queued { number, place } => {
-            Line::of("queued ")
+            Line::of(Standing::Queued.word())
+                .then(" ")
                 .number(number)
                 .then(" place ")
                 .number(place)
         }
-        Answer::Withdrawn { number } => Line::of("withdrawn ").number(number),
+        Answer::Withdrawn { number } => {
+            Line::of(Standing::Withdrawn.word()).then(" ").number(number)
+        }
         Answer::Resolved { mark, count, value } => {
             let line = Line::of("resolved mark ").number(mark);
             let line = line.then(" count ").number(count);
