@@ -1,5 +1,5 @@
 -- What the orders of a queue pay together.
-use Rattle.std.proofs.Common.{◌≡◌, ℕ, ◌≤◌, ◌*◌, ◌^◌, pos, Bool, true, false, cond, List, [], ◌∷◌, length, map, filter}
+use Rattle.std.proofs.Common.{◌≡◌, ℕ, ◌≤◌, ◌*◌, pos, Bool, true, false, cond, List, [], ◌∷◌, length, map, filter}
 use Rattle.std.proofs.Common.{Option, Some, None, Result, Ok, refl, ap, subst, arith}
 use Rattle.std.specs.Prelude.{FitsSigned}
 use Rattle.std.specs.Int.{w64}
@@ -8,6 +8,7 @@ use Rattle.std.specs.Str.{bytes_eq}
 use Rattle.std.proofs.lemmas.Int.{fits_signed_from_abs}
 use Rattle.std.proofs.lemmas.List.Sums.{sum_by-cons}
 use Rattle.std.proofs.lemmas.Slice.Eq.{bytes_eq-Decides}
+use Rattle.rtgs_money.specs.declared.amount.TheConstants.Amount as Amount
 use Rattle.rtgs_money.specs.Amounts.{IsAmount}
 use Rattle.rtgs_book.specs.Balance.{balance}
 use Rattle.rtgs_book.specs.declared.book.Book.{Book}
@@ -18,17 +19,18 @@ use Rattle.rtgs_book.specs.Queue.{queue}
 use Rattle.rtgs_book.specs.Ranges.{Fits}
 use Rattle.rtgs_book.specs.Soundness.{IsSound}
 use Rattle.rtgs_book.specs.declared.refusal.Refusal.{Refusal}
+use Rattle.rtgs_book.specs.declared.limits.TheConstants.{LONGEST_QUEUE}
 use Rattle.rtgs_desk.specs.Readings.{if_known, account_told, value_of}
 use Rattle.rtgs_desk.specs.declared.reading.AccountReading.{AccountReading}
 
--- some of the orders pay at most 10^12 cents each
+-- some of the orders pay at most the greatest amount each
 taken_bounded : (is_in : Order → Bool) (orders : List Order) → AllByRecursion (λ (o : Order). IsAmount o.amount) orders
-    → value_of (filter is_in orders) ≤ 10 ^ 12 * length (filter is_in orders)
+    → value_of (filter is_in orders) ≤ Amount.MAX * length (filter is_in orders)
 taken_bounded is_in [] h = omega arith
 taken_bounded is_in (order ∷ orders) h = by (is_in order) (taken_bounded is_in orders h.1)
   where
-    by : (b : Bool) → value_of (filter is_in orders) ≤ 10 ^ 12 * length (filter is_in orders)
-        → value_of (cond b (order ∷ filter is_in orders) (filter is_in orders)) ≤ 10 ^ 12 * length
+    by : (b : Bool) → value_of (filter is_in orders) ≤ Amount.MAX * length (filter is_in orders)
+        → value_of (cond b (order ∷ filter is_in orders) (filter is_in orders)) ≤ Amount.MAX * length
         (cond b (order ∷ filter is_in orders) (filter is_in orders))
     by true rest = omega (arith, rest, h.0.1, sum_by-cons (λ (o : Order). o.amount) order (filter is_in orders))
     by false rest = rest
@@ -47,13 +49,13 @@ at_known P code (one ∷ others) found e all = by (bytes_eq one.code code) refl 
     by false other e rest = rest e
 
 queue_short : (book : Book) (code : List ℕ) (found : Participant) → IsSound book
-    → participant_of book code ≡ Some found → length (queue book code) ≤ 500
+    → participant_of book code ≡ Some found → length (queue book code) ≤ LONGEST_QUEUE
 unfolding participant_of accounts
 queue_short book code found sound e = at_known (λ c. length
-    (queue book c) ≤ 500) code book.participants found e sound.queues.short
+    (queue book c) ≤ LONGEST_QUEUE) code book.participants found e sound.queues.short
 
 queue_bounded : (book : Book) (code : List ℕ) → Fits book
-    → value_of (queue book code) ≤ 10 ^ 12 * length (queue book code)
+    → value_of (queue book code) ≤ Amount.MAX * length (queue book code)
 unfolding queue
 queue_bounded book code fits = taken_bounded _ book.orders fits.orders
 

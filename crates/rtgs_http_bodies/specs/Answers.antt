@@ -43,11 +43,12 @@ answer_data Added = told (codes "added") no_members
 answer_data CreditSet = told (codes "credit set") no_members
 answer_data (Posted number) = told (codes "posted") (member (codes "number") (whole number) no_members)
 answer_data Opened = told (codes "opened") no_members
-answer_data (Settled number mark) = told (codes "settled")
+answer_data (Settled number mark) = told (word_of standing.Settled)
     (member (codes "mark") (whole mark) (member (codes "number") (whole number) no_members))
-answer_data (Queued number place) = told (codes "queued")
+answer_data (Queued number place) = told (word_of standing.Queued)
     (member (codes "number") (whole number) (member (codes "place") (whole place) no_members))
-answer_data (Withdrawn number) = told (codes "withdrawn") (member (codes "number") (whole number) no_members)
+answer_data (Withdrawn number) = told (word_of standing.Withdrawn)
+    (member (codes "number") (whole number) no_members)
 answer_data (Resolved mark count value) = told (codes "resolved")
     (member (codes "count") (whole count) (member (codes "mark") (whole mark)
     (member (codes "value") (signed value) no_members)))

@@ -30,12 +30,14 @@ fn answer_value(alloc: Global, answer: Answer) -> Result<Value, AllocError>
         Answer::Posted { number } => numbered_value(alloc, "posted", number),
         Answer::Opened => word_value(alloc, "opened"),
         Answer::Settled { number, mark } => {
-            json!(in alloc; {"answer": "settled", "mark": mark, "number": number})
+            let word = Standing::Settled.word();
+            json!(in alloc; {"answer": word, "mark": mark, "number": number})
         }
         Answer::Queued { number, place } => {
-            json!(in alloc; {"answer": "queued", "number": number, "place": place})
+            let word = Standing::Queued.word();
+            json!(in alloc; {"answer": word, "number": number, "place": place})
         }
-        Answer::Withdrawn { number } => numbered_value(alloc, "withdrawn", number),
+        Answer::Withdrawn { number } => numbered_value(alloc, Standing::Withdrawn.word(), number),
         Answer::Resolved { mark, count, value } => {
             let value = value.cents();
             json!(in alloc; {"answer": "resolved", "count": count, "mark": mark, "value": value})
