@@ -1,9 +1,10 @@
 //! The fields of a head.
-ghost use Rattle.std.specs.Prelude.{◌≡◌, ℕ, Option, All, map, length, codes, IfOk, OnErr};
+ghost use Rattle.std.specs.Prelude.{◌≡◌, ℕ, Option, All, map, length, codes, IfOk, IfErr, OnErr};
 ghost use Rattle.std.specs.Str.{str_eq_ignore_ascii_case};
 ghost use Rattle.httparse.specs.Spans.{IsHeaderWithin, header_bytes};
 ghost use Rattle.rtgs_http_heads.specs.Fields.{values_of, HasLength, HasKey};
 ghost use Rattle.rtgs_http_heads.specs.NamedValues.{AreNamed};
+ghost use Rattle.rtgs_http_heads.specs.declared.head_fault.HeadFault.{HeadFault};
 
 use crate::head_fault::HeadFault;
 use crate::named_values::NamedValues;
@@ -23,6 +24,7 @@ pub fn length_of(
     ensures length { IfOk result (HasLength method.now (map (header_bytes region.now) fields.now)) }
     ensures bad { OnErr result ((length : Option ℕ)
         → ¬ HasLength method.now (map (header_bytes region.now) fields.now) length) }
+    ensures fault { IfErr result (λ fault. fault ≡ HeadFault.BadHead) }
 {
     let codings = values_of(region, fields, b"transfer-encoding");
     if !matches!(codings, NamedValues::None) {

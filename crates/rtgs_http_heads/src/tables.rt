@@ -1,45 +1,78 @@
 //! The tables of routes.
-ghost use Rattle.std.specs.Prelude.{◌≡◌, IfOk};
-ghost use Rattle.rtgs_http_heads.specs.Tables.{holding, read_paths, command_paths};
+ghost use Rattle.std.specs.Prelude.{◌≡◌, IfOk, OnOk};
+ghost use Rattle.matchit.specs.Route.{parse_route};
+ghost use Rattle.rtgs_http_heads.specs.Tables.{holding, with_path, read_paths, command_paths};
+ghost use Rattle.rtgs_http_heads.specs.declared.route.Route.TheVariants.{Bank, Operator};
 
 use crate::bank_route::BankRoute;
 use crate::operator_route::OperatorRoute;
 use crate::route::Route;
-use matchit::{InsertError, Router};
-use std::alloc::Global;
+use matchit::Router;
+use std::alloc::{AllocError, Global};
 
-/// The routes under GET. The error is a want of memory.
-pub fn read_routes(alloc: Global) -> Result<Router<Route>, InsertError>
+/// The routes under GET. The only error is a lack of memory.
+pub fn read_routes(alloc: Global) -> Result<Router<Route>, AllocError>
     ensures { IfOk result (λ router. router ≡ holding read_paths) }
 {
     let mut router = Router::new(alloc);
-    router.insert(
+    add_operator(
+        &mut router,
         "/desk/report/{date}",
-        Route::Operator(OperatorRoute::ReadReport),
+        OperatorRoute::ReadReport,
     )?;
-    router.insert("/statements/{date}", Route::Bank(BankRoute::ReadStatement))?;
-    router.insert("/queue", Route::Bank(BankRoute::ReadQueue))?;
-    router.insert("/account", Route::Bank(BankRoute::ReadAccount))?;
-    router.insert("/orders/{reference}", Route::Bank(BankRoute::ReadOrder))?;
+    add_bank(&mut router, "/statements/{date}", BankRoute::ReadStatement)?;
+    add_bank(&mut router, "/queue", BankRoute::ReadQueue)?;
+    add_bank(&mut router, "/account", BankRoute::ReadAccount)?;
+    add_bank(&mut router, "/orders/{reference}", BankRoute::ReadOrder)?;
     Ok(router)
 }
 
-/// The routes under POST. The error is a want of memory.
-pub fn command_routes(alloc: Global) -> Result<Router<Route>, InsertError>
+/// The routes under POST. The only error is a lack of memory.
+pub fn command_routes(alloc: Global) -> Result<Router<Route>, AllocError>
     ensures { IfOk result (λ router. router ≡ holding command_paths) }
 {
     let mut router = Router::new(alloc);
-    router.insert("/desk/close", Route::Operator(OperatorRoute::CloseDay))?;
-    router.insert("/desk/cutoff", Route::Operator(OperatorRoute::CutOff))?;
-    router.insert("/desk/resolve", Route::Operator(OperatorRoute::Resolve))?;
-    router.insert("/desk/open", Route::Operator(OperatorRoute::OpenDay))?;
-    router.insert("/desk/credit", Route::Operator(OperatorRoute::SetCredit))?;
-    router.insert("/desk/post", Route::Operator(OperatorRoute::Post))?;
-    router.insert("/batches", Route::Bank(BankRoute::SendBatch))?;
-    router.insert(
+    add_operator(&mut router, "/desk/close", OperatorRoute::CloseDay)?;
+    add_operator(&mut router, "/desk/cutoff", OperatorRoute::CutOff)?;
+    add_operator(&mut router, "/desk/resolve", OperatorRoute::Resolve)?;
+    add_operator(&mut router, "/desk/open", OperatorRoute::OpenDay)?;
+    add_operator(&mut router, "/desk/credit", OperatorRoute::SetCredit)?;
+    add_operator(&mut router, "/desk/post", OperatorRoute::Post)?;
+    add_bank(&mut router, "/batches", BankRoute::SendBatch)?;
+    add_bank(
+        &mut router,
         "/orders/{reference}/withdraw",
-        Route::Bank(BankRoute::WithdrawOrder),
+        BankRoute::WithdrawOrder,
     )?;
-    router.insert("/orders", Route::Bank(BankRoute::SendOrder))?;
+    add_bank(&mut router, "/orders", BankRoute::SendOrder)?;
     Ok(router)
+}
+
+// Adds a path of banks.
+fn add_bank(router: &mut Router<Route>, path: &str, route: BankRoute) -> Result<(), AllocError>
+    ensures { OnOk result (router.new ≡ with_path (parse_route path.now) (Bank route) router.old) }
+{
+    add(router, path, Route::Bank(route))
+}
+
+// Adds a path of the operator.
+fn add_operator(
+    router: &mut Router<Route>,
+    path: &str,
+    route: OperatorRoute,
+) -> Result<(), AllocError>
+    ensures { OnOk result (router.new ≡ with_path (parse_route path.now) (Operator route) router.old) }
+{
+    add(router, path, Route::Operator(route))
+}
+
+// Adds a path and its route. A path that conflicts with another would be told as a lack of memory too; the tests of each
+// route show that none does.
+fn add(router: &mut Router<Route>, path: &str, route: Route) -> Result<(), AllocError>
+    ensures { OnOk result (router.new ≡ with_path (parse_route path.now) route router.old) }
+{
+    match router.insert(path, route) {
+        Ok(()) => Ok(()),
+        Err(_) => Err(AllocError),
+    }
 }
