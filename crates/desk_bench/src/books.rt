@@ -4,16 +4,28 @@ ghost use Rattle.std.specs.Prelude.{◌≤◌};
 use crate::business::{BANKS, addition, endowment, opening, payment, turning};
 use anyhow::{Result, anyhow};
 use rtgs_book::Command;
-use rtgs_book_file::{BookLock, FileDesk, FileFault, OpenBook, make};
+use rtgs_book_file::{BookLock, FileFault, FileKeeper, OpenBook, Unknown};
+use rtgs_desk::Desk;
 use std::alloc::Global;
 
+/// The desk over a file.
+pub type FileDesk = Desk<FileKeeper<Unknown>>;
+
+/// The book in a file, with its desk.
+pub type FileBook = OpenBook<FileKeeper<Unknown>>;
+
 /// The book in a file.
-fn open<'a>(rt: &HostRuntime, file: &'a str) -> std::result::Result<OpenBook<'a>, FileFault> {
-    BookLock::take(rt, file)?.open(rt)
+fn open(rt: &HostRuntime, file: &str) -> std::result::Result<FileBook, FileFault> {
+    BookLock::take(rt, file)?.open(rt, Unknown)
+}
+
+/// Makes a book in a file.
+fn make(rt: &HostRuntime, file: &str) -> std::result::Result<(), FileFault> {
+    BookLock::take(rt, file)?.make(rt, Unknown)
 }
 
 /// The book in a file.
-pub fn open_book<'a>(rt: &HostRuntime, file: &'a str) -> Result<OpenBook<'a>> {
+pub fn open_book(rt: &HostRuntime, file: &str) -> Result<FileBook> {
     match open(rt, file) {
         Ok(book) => Ok(book),
         Err(fault) => Err(anyhow!("the book: {fault:?}")),
@@ -21,7 +33,7 @@ pub fn open_book<'a>(rt: &HostRuntime, file: &'a str) -> Result<OpenBook<'a>> {
 }
 
 /// A new book in a file.
-pub fn new_book<'a>(rt: &HostRuntime, file: &'a str) -> Result<OpenBook<'a>> {
+pub fn new_book(rt: &HostRuntime, file: &str) -> Result<FileBook> {
     match make(rt, file) {
         Ok(()) => open_book(rt, file),
         Err(fault) => Err(anyhow!("a new book: {fault:?}")),

@@ -2,9 +2,8 @@
 ghost use Rattle.std.specs.Prelude.{◌≤◌};
 
 use crate::bare::{Store, write_order};
-use crate::books::{open_book, pay};
+use crate::books::{FileDesk, open_book, pay};
 use anyhow::Result;
-use rtgs_book_file::FileDesk;
 use sqlite::Connection;
 use std::time::{Duration, Instant};
 

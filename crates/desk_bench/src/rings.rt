@@ -1,11 +1,10 @@
 //! Orders that wait for each other in rings, and how long it takes to settle them all under one mark.
 ghost use Rattle.std.specs.Prelude.{◌≤◌};
 
-use crate::books::{add_banks, give, new_book, open_book, pay};
+use crate::books::{FileDesk, add_banks, give, new_book, open_book, pay};
 use crate::business::{BANKS, opening};
 use anyhow::{Result, anyhow, bail};
 use rtgs_book::{Answer, Change, Command};
-use rtgs_book_file::FileDesk;
 use rtgs_keeper::Keeper;
 use rtgs_ledger::Ledger;
 use rtgs_tables::SqlKeeper;

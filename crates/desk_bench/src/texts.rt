@@ -1,11 +1,10 @@
 //! A file of orders that comes in, and a day report that goes out.
 ghost use Rattle.std.specs.Prelude.{◌≤◌};
 
-use crate::books::{fill, open_book};
+use crate::books::{FileDesk, fill, open_book};
 use crate::business::code_of;
 use crate::orders::writing;
 use anyhow::{Result, anyhow, ensure};
-use rtgs_book_file::FileDesk;
 use rtgs_exchange::{read_orders, submit_batch, write_results};
 use rtgs_money::BusinessDate;
 use rtgs_statements::day_report;

@@ -10,8 +10,6 @@ use Rattle.sqlite.specs.declared.error.Error.TheVariants.{SqliteFailure}
 use Rattle.sqlite.specs.declared.error.ErrorCode.TheVariants as code
 use Rattle.rtgs_book.specs.declared.fault.Fault.{Fault}
 use Rattle.rtgs_book.specs.declared.fault.Fault.TheVariants.{OutOfMemory, StoreFault, NotADeskFile}
-use Rattle.rtgs_keeper.specs.declared.commit_fault.CommitFault.{CommitFault}
-use Rattle.rtgs_keeper.specs.declared.commit_fault.CommitFault.TheVariants as keeper
 use Rattle.rtgs_book_file.specs.declared.file_fault.FileFault.{FileFault}
 use Rattle.rtgs_book_file.specs.declared.file_fault.FileFault.TheVariants.{InUse, Book}
 
@@ -52,9 +50,3 @@ abbrev pub fault_of_store : SqlError → Fault
 fault_of_store (SqliteFailure code.OutOfMemory) = OutOfMemory
 fault_of_store (SqliteFailure code.NotADatabase) = NotADeskFile
 fault_of_store _ = StoreFault
-
--- why no tables were made
-abbrev pub fault_of_making : CommitFault → Fault
-fault_of_making keeper.OutOfMemory = OutOfMemory
-fault_of_making keeper.Store = StoreFault
-fault_of_making keeper.Failed = StoreFault

@@ -1,1 +1,3 @@
 pub mod Files
+pub mod Lending
+pub mod Opened

@@ -37,6 +37,12 @@ impl<'a> BookLock<'a> {
     {
         self.path
     }
+
+    /// The lock's own file, which holds the lock until it is dropped.
+    pub(crate) fn into_file(self) -> File {
+        let BookLock { path: _, file } = self;
+        file
+    }
 }
 
 // The lock's own file, which is made where it is missing.

@@ -9,4 +9,6 @@ mod store;
 
 pub use crate::book_lock::BookLock;
 pub use crate::file_fault::FileFault;
-pub use crate::open_book::{FileDesk, OpenBook, make, with_desk};
+pub use crate::open_book::OpenBook;
+pub use crate::store::FileKeeper;
+pub use sqlite::{Start, Unknown};

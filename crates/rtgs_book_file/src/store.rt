@@ -1,14 +1,19 @@
 //! The store over a file, and the keeper over it.
-ghost use Rattle.std.specs.Prelude.{◌≡◌, false, IfOk};
-ghost use Rattle.rtgs_book_file.specs.Files.{fault_of_store, fault_of_making};
+ghost use Rattle.std.specs.Prelude.{◌≡◌, false, IfOk, IfErr, IsTrue};
+ghost use Rattle.sqlite.specs.Files.{file_state, IsOpened};
+ghost use Rattle.sqlite.specs.Opening.{is_open_error};
+ghost use Rattle.sqlite.specs.Start.{FindsIn};
+ghost use Rattle.sqlite.specs.State.{HasCleanDisk};
+ghost use Rattle.sqlite.specs.WalFiles.{image_at};
+ghost use Rattle.sqlite.specs.declared.error.Error.{Error as SqlError};
+ghost use Rattle.rtgs_book_file.specs.Files.{fault_of_store};
 
 use rtgs_book::Fault;
-use rtgs_keeper::CommitFault;
 use rtgs_tables::SqlKeeper;
-use sqlite::{Connection, Error, ErrorCode, FileStore};
+use sqlite::{Connection, Error, ErrorCode, FileFrom, FileStore, Start};
 
-/// The keeper over a file.
-pub type FileKeeper = SqlKeeper<FileStore<sqlite::File>>;
+/// The keeper over a file that held what `S` says.
+pub type FileKeeper<S> = SqlKeeper<FileStore<FileFrom<S>>>;
 
 // What an error of the store's opening says of a file.
 fn fault_of(error: &Error) -> Fault
@@ -21,35 +26,25 @@ fn fault_of(error: &Error) -> Fault
     }
 }
 
-// Why no tables were made. A store that had failed before makes none either.
-fn fault_of_making(fault: CommitFault) -> Fault
-    ensures { result ≡ fault_of_making fault }
+/// The store over a file that held what `S` says, which is made where there is none.
+pub fn connect<S: Start>(
+    rt: &HostRuntime,
+    file: &str,
+    start: S,
+) -> Result<Connection<FileStore<FileFrom<S>>>, Fault>
+    ensures opened { IfOk result (λ conn. HasCleanDisk (file_state conn) → IsOpened conn) }
+    ensures found { IfOk result (λ conn. HasCleanDisk (file_state conn) → FindsIn (image_at S.Start) (file_state conn)) }
+    ensures idle { IfOk result (λ conn. conn.in_transaction ≡ false) }
+    ensures cause { IfErr result (λ fault.
+        (error : SqlError) × IsTrue (is_open_error error) × (fault ≡ fault_of_store error)) }
 {
-    match fault {
-        CommitFault::OutOfMemory => Fault::OutOfMemory,
-        CommitFault::Store | CommitFault::Failed => Fault::StoreFault,
-    }
-}
-
-/// The store over a file.
-pub fn connect(rt: &HostRuntime, file: &str) -> Result<Connection<FileStore<sqlite::File>>, Fault>
-    ensures { IfOk result (λ conn. conn.in_transaction ≡ false) }
-{
-    match Connection::open(rt, file) {
+    match Connection::open_from(rt, file, false, start) {
         Ok(conn) => Ok(conn),
-        Err(error) => Err(fault_of(&error)),
-    }
-}
-
-/// The keeper of a new book in a file that has no tables.
-pub fn create(rt: &HostRuntime, file: &str) -> Result<FileKeeper, Fault> {
-    match SqlKeeper::create(connect(rt, file)?) {
-        Ok(keeper) => Ok(keeper),
-        Err((fault, _)) => Err(fault_of_making(fault)),
+        Err((error, _)) => Err(fault_of(&error)),
     }
 }
 
 /// Copies the log into the file. What was committed stands in the log where this fails.
-pub fn close(keeper: FileKeeper) {
-    let _ = keeper.into_connection().close();
+pub fn close<S: Start>(conn: Connection<FileStore<FileFrom<S>>>) {
+    let _ = conn.close();
 }

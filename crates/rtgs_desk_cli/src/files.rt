@@ -1,25 +1,19 @@
-//! What is done with the book in a file, and how its faults are told.
+//! The book in a file, and how its faults are told.
 ghost use Rattle.std.specs.Prelude.{◌≡◌};
 ghost use Rattle.rtgs_desk_cli.specs.Runs.{failure_of_file, outcome_of_file, outcome_of_reply};
 
 use rtgs_book::Refusal;
-use rtgs_book_file::{FileDesk, FileFault};
+use rtgs_book_file::{BookLock, FileFault, FileKeeper, OpenBook, Unknown};
 use rtgs_desk_lines::Failure;
 
 /// Makes a new book in a file that is missing or empty. Refused where there is another file, or where it fails.
 pub fn make(rt: &HostRuntime, file: &str) -> Result<(), Failure> {
-    outcome(rtgs_book_file::make(rt, file))
+    outcome(make_book(rt, file))
 }
 
-/// Lends the desk over the book in a file to `work`. Refused where the file is in use, or holds no sound book.
-pub fn with_desk<T, F: FnOnce(&mut FileDesk) -> T + Drop>(
-    rt: &HostRuntime,
-    file: &str,
-    work: F,
-) -> Result<T, Failure>
-    requires { F.IsAlwaysCallable work }
-{
-    outcome(rtgs_book_file::with_desk(rt, file, work))
+/// The book in a file. Refused where the file is in use, or holds no sound book.
+pub fn open(rt: &HostRuntime, file: &str) -> Result<OpenBook<FileKeeper<Unknown>>, Failure> {
+    outcome(open_book(rt, file))
 }
 
 /// What a desk replied, or its refusal as that of the run.
@@ -30,6 +24,16 @@ pub fn told<T>(reply: Result<T, Refusal>) -> Result<T, Failure>
         Ok(outcome) => Ok(outcome),
         Err(refusal) => Err(Failure::Refused(refusal)),
     }
+}
+
+// Takes the lock of a book's file, and makes the tables of a new book in the file.
+fn make_book(rt: &HostRuntime, file: &str) -> Result<(), FileFault> {
+    BookLock::take(rt, file)?.make(rt, Unknown)
+}
+
+// Takes the lock of a book's file, and opens the book.
+fn open_book(rt: &HostRuntime, file: &str) -> Result<OpenBook<FileKeeper<Unknown>>, FileFault> {
+    BookLock::take(rt, file)?.open(rt, Unknown)
 }
 
 // What was done with a book's file, or how its fault is told.

@@ -9,7 +9,7 @@ ghost use Rattle.rtgs_desk_lines.specs.Texts.{Prints};
 ghost use Rattle.rtgs_desk_lines.specs.Told.{IsTold};
 ghost use Rattle.rtgs_desk_cli.specs.Runs.{ended_line, PrintsFor, Leaves};
 
-use crate::files::{make, told, with_desk};
+use crate::files::{make, open, told};
 use crate::texts;
 use crate::texts::print_text;
 use clap::Error;
@@ -40,10 +40,7 @@ fn explain<O: Write, E: Write>(alloc: Global, error: &Error, out: &mut O, err: &
 fn say<O: Write>(done: Done, out: &mut O) -> Printed
     ensures { Prints (ended_line (line_of done)) None result (O.contents out.old) (O.contents out.new) }
 {
-    match done.print(out) {
-        Ok(()) => Printed::Whole,
-        Err(failed) => Printed::Lost(failed),
-    }
+    Printed::sent(done.print(out))
 }
 
 // A run that ends so is told on standard error.
@@ -56,7 +53,10 @@ fn refused<E: Write>(failure: Failure, err: &mut E) -> Ended
 
 /// Opens the book in a file, gives its desk one command and closes it.
 fn submit(rt: &HostRuntime, file: &str, command: Command) -> Result<Answer, Failure> {
-    told(with_desk(rt, file, |desk| desk.submit(command))?)
+    let mut book = open(rt, file)?;
+    let reply = book.desk().submit(command);
+    book.close();
+    told(reply)
 }
 
 /// Does what was asked for, and prints what came of it.

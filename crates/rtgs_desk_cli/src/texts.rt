@@ -7,12 +7,13 @@ ghost use Rattle.rtgs_exchange.specs.declared.OrderRow.{OrderRow};
 ghost use Rattle.rtgs_exchange.specs.declared.RowReply.{RowReply};
 
 use crate::batches::{print_results, submit_orders};
-use crate::files::{told, with_desk};
+use crate::files::{open, told};
 use crate::order_file::read_file;
 use crate::readings::{report_of, statement_of};
-use rtgs_book_file::FileDesk;
+use rtgs_desk::Desk;
 use rtgs_desk_lines::{Failure, Printed};
 use rtgs_exchange::{BatchResult, OrderRow};
+use rtgs_keeper::Keeper;
 use rtgs_money::{BusinessDate, Code};
 use rtgs_output::send_all;
 use std::io::Write;
@@ -31,7 +32,9 @@ pub fn import<O: Write>(
         × Prints (results_text rows replies stopped) stopped printed (O.contents out.old) (O.contents out.new)) }
     ensures refused { OnErr result (out.new ≡ out.old) }
 {
-    let submitted = with_desk(rt, file, |desk| submit_file(rt, desk, sender, orders))?;
+    let mut book = open(rt, file)?;
+    let submitted = submit_file(rt, book.desk(), sender, orders);
+    book.close();
     let (rows, batch) = submitted?;
     print_results(rt.alloc(), out, rows.as_slice(), &batch)
 }
@@ -48,7 +51,10 @@ pub fn statement<O: Write>(
         (text : List ℕ) × Prints text None printed (O.contents out.old) (O.contents out.new)) }
     ensures refused { OnErr result (out.new ≡ out.old) }
 {
-    let text = told(with_desk(rt, file, |desk| statement_of(rt.alloc(), desk, &code, date))?)?;
+    let mut book = open(rt, file)?;
+    let read = statement_of(rt.alloc(), book.desk(), &code, date);
+    book.close();
+    let text = told(read)?;
     Ok(print_text(out, text.as_slice()))
 }
 
@@ -63,14 +69,17 @@ pub fn report<O: Write>(
         (text : List ℕ) × Prints text None printed (O.contents out.old) (O.contents out.new)) }
     ensures refused { OnErr result (out.new ≡ out.old) }
 {
-    let text = told(with_desk(rt, file, |desk| report_of(rt.alloc(), desk, date))?)?;
+    let mut book = open(rt, file)?;
+    let read = report_of(rt.alloc(), book.desk(), date);
+    book.close();
+    let text = told(read)?;
     Ok(print_text(out, text.as_slice()))
 }
 
 // Submits the orders of a file.
-fn submit_file(
+fn submit_file<K: Keeper>(
     rt: &HostRuntime,
-    desk: &mut FileDesk,
+    desk: &mut Desk<K>,
     sender: Code,
     orders: &str,
 ) -> Result<(Vec<OrderRow>, BatchResult), Failure> {
@@ -82,8 +91,5 @@ fn submit_file(
 pub fn print_text<O: Write>(out: &mut O, text: &[u8]) -> Printed
     ensures { Prints text.now None result (O.contents out.old) (O.contents out.new) }
 {
-    match send_all(out, text) {
-        Ok(()) => Printed::Whole,
-        Err(failed) => Printed::Lost(failed),
-    }
+    Printed::sent(send_all(out, text))
 }

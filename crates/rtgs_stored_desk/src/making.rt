@@ -1,11 +1,12 @@
 //! The tables of a new book.
-ghost use Rattle.std.specs.Prelude.{◌≡◌, false, IfOk, IfErr};
+ghost use Rattle.std.specs.Prelude.{◌≡◌, ◌≢◌, ◌↔◌, false, Err, IsTrue, IfOk, IfErr};
 ghost use Rattle.sqlite.specs.Held.{state};
 ghost use Rattle.sqlite.specs.State.{HasCleanDisk};
 ghost use Rattle.sqlite.specs.Tree.{Trees};
 ghost use Rattle.rtgs_book.specs.Books.{new_book};
 ghost use Rattle.rtgs_rows.specs.Content.{HasNoTables};
 ghost use Rattle.rtgs_rows.specs.Keeping.{HoldsBook};
+ghost use Rattle.rtgs_rows.specs.Tables.{no_schema};
 ghost use Rattle.rtgs_tables.specs.Building.{IsBlank};
 ghost use Rattle.rtgs_stored_desk.specs.Stored.{AreTablesOf, IsUnmade, fault_of_making};
 
@@ -17,7 +18,7 @@ use sqlite::{Alter, Connection};
 
 /// Makes the tables of a new book in an empty database, in one transaction. On a fault, which is want of memory or the
 /// store's, the connection comes back: want of memory leaves the database empty, and a fault of the store leaves it
-/// empty or with all tables of the new book.
+/// empty or with all tables of the new book. A database that has tables already is no desk's to be, and is left alone.
 pub fn make<S: Alter + Drop>(conn: Connection<S>) -> Result<Connection<S>, (Fault, Connection<S>)>
     requires { conn.in_transaction ≡ false }
     ensures made { IfOk result (λ made. HasCleanDisk (state S.Store made) → IsBlank (state S.Store conn)
@@ -30,14 +31,26 @@ pub fn make<S: Alter + Drop>(conn: Connection<S>) -> Result<Connection<S>, (Faul
         → IsBlank (state S.Store conn) → IsBlank (state S.Store left)) }
     ensures memory_stops { IfErr result (λ (fault, left). fault ≡ Fault.OutOfMemory → HasCleanDisk (state S.Store left)
         → IsBlank (state S.Store conn) → (trees : Trees) → (state S.Store left).may_leave trees → HasNoTables trees) }
+    ensures taken { (state S.Store conn).now.schema ≢ no_schema → result ≡ Err (Fault.NotADeskFile, conn) }
     ensures idle { IfOk result (λ made. made.in_transaction ≡ false) }
     ensures idle_still { IfErr result (λ (_, left). left.in_transaction ≡ false) }
 {
+    if !has_no_tables(&conn) {
+        return Err((Fault::NotADeskFile, conn));
+    }
     new_book_is_sound();
     match SqlKeeper::create(conn) {
         Ok(keeper) => Ok(keeper.into_connection()),
         Err((fault, conn)) => Err((fault_of(fault), conn)),
     }
+}
+
+// Whether a database has no table, index or view.
+fn has_no_tables<S: Alter>(conn: &Connection<S>) -> bool
+    ensures { IsTrue result ↔ ((state S.Store conn.now).now.schema ≡ no_schema) }
+{
+    let schema = conn.schema();
+    schema.tables.is_empty() && schema.indexes.is_empty() && schema.views.is_empty()
 }
 
 // Why no tables were made. A store that had failed before makes none either.

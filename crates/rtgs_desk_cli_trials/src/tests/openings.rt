@@ -1,6 +1,6 @@
 //! How files are opened, held and closed by runs.
 use super::{begin, prints};
-use rtgs_book_file::with_desk;
+use rtgs_book_file::{BookLock, Unknown};
 use sqlite::Connection;
 use std::fs;
 use std::test::Fail;
@@ -28,16 +28,21 @@ fn a_book_is_made_in_an_empty_file(rt: HostRuntime) -> Result<(), Fail> {
     begin(&rt, "empty")
 }
 
+/// Two runs over a file that is held open are refused.
+fn overlap(rt: &HostRuntime, post: &[&str]) -> Result<(), Fail> {
+    let text = "refused 95 InUse\n";
+    prints(rt, &["init", "overlap"], text, 3)?;
+    prints(rt, post, text, 3)
+}
+
 #[test]
 fn runs_that_overlap_are_refused(rt: HostRuntime) -> Result<(), Fail> {
     let post = ["post", "overlap", "ALFA", "P-1", "1"];
-    let text = "refused 95 InUse\n";
     begin(&rt, "overlap")?;
-    let within = with_desk(&rt, "overlap", |_| {
-        prints(&rt, &["init", "overlap"], text, 3)?;
-        prints(&rt, &post, text, 3)
-    });
-    within??;
+    let held = BookLock::take(&rt, "overlap")?.open(&rt, Unknown)?;
+    let refused = overlap(&rt, &post);
+    held.close();
+    refused?;
     prints(&rt, &post, "posted 1\n", 0)
 }
 

@@ -3,7 +3,7 @@ use super::super::setting::{
     MONDAY, Reply, amount, change, code, date, participant, queued, reference, resolved,
 };
 use rtgs_book::{Answer, Command, Day, Known, Order, OrderState, Phase, RowChange};
-use rtgs_book_file::{make, with_desk};
+use rtgs_book_file::{BookLock, Unknown};
 use rtgs_keeper::Keeper;
 use rtgs_money::Code;
 use rtgs_tables::SqlKeeper;
@@ -101,12 +101,15 @@ fn keep_ring<K: Keeper>(alloc: Global, keeper: &mut K) -> Result<(), Fail> {
 
 /// What the desk over the file, opened for it, answers a command.
 fn submitted(rt: &HostRuntime, command: Command) -> Result<Reply, Fail> {
-    Ok(with_desk(rt, FILE, |desk| desk.submit(command))?)
+    let mut book = BookLock::take(rt, FILE)?.open(rt, Unknown)?;
+    let reply = book.desk().submit(command);
+    book.close();
+    Ok(reply)
 }
 
 #[test]
 fn a_ring_of_33000_orders_is_settled_under_one_mark(rt: HostRuntime) -> Result<(), Fail> {
-    assert!(rt; make(&rt, FILE).is_ok());
+    BookLock::take(&rt, FILE)?.make(&rt, Unknown)?;
     fill(&rt)?;
     let settled = submitted(&rt, Command::Resolve)?;
     assert_eq!(rt; settled, resolved(1, ORDERS, ORDERS as i64));

@@ -3,7 +3,7 @@ use super::super::setting::desk_over;
 use super::business::Business;
 use super::seen::Seen;
 use rtgs_book::{Answer, Book, Refusal, Rows};
-use rtgs_book_file::{make, with_desk};
+use rtgs_book_file::{BookLock, Unknown};
 use rtgs_desk::Desk;
 use rtgs_keeper::{Keeper, MemoryKeeper};
 use rtgs_tables::SqlKeeper;
@@ -41,7 +41,10 @@ fn fifty_over_the_file(
     seen: &mut Seen,
     held: &mut Desk<MemoryKeeper>,
 ) -> Result<(), Fail> {
-    with_desk(rt, FILE, |filed| fifty(rt, business, seen, held, filed))?
+    let mut book = BookLock::take(rt, FILE)?.open(rt, Unknown)?;
+    let done = fifty(rt, business, seen, held, book.desk());
+    book.close();
+    done
 }
 
 /// The book in memory after five thousand commands, which the desk over the file got too.
@@ -76,7 +79,7 @@ fn is_same_book(one: &Book, other: &Book) -> bool {
 #[test]
 fn five_thousand_commands_end_in_one_book(rt: HostRuntime) -> Result<(), Fail> {
     let mut seen = Seen::default();
-    assert!(rt; make(&rt, FILE).is_ok());
+    BookLock::take(&rt, FILE)?.make(&rt, Unknown)?;
     let in_memory = book_in_memory(&rt, &mut seen)?;
     let in_the_file = book_in_the_file(&rt)?;
     assert!(rt; is_same_book(&in_the_file, &in_memory));

@@ -1,16 +1,28 @@
-use Rattle.std.proofs.Common.{inr}
+use Rattle.std.proofs.Common.{inr, sym, subst}
 use Rattle.sqlite.specs.Held.{state}
+use Rattle.sqlite.specs.State.{HasCleanDisk}
 use Rattle.rtgs_book.specs.Books.{new_book}
-use Rattle.rtgs_stored_desk.proofs.Resting.{committed_tables, tables_are, from_both}
+use Rattle.rtgs_tables.specs.Building.{IsBlank}
+use Rattle.rtgs_stored_desk.specs.Stored.{IsUnmade}
+use Rattle.rtgs_stored_desk.proofs.Resting.{committed_tables, tables_are}
 use Rattle.rtgs_stored_desk.proofs.opening.create.Goals as goal
 
-pub returns-in-Ok-clause-refused : goal.returns-in-Ok-clause-refused
-returns-in-Ok-clause-refused g c = from_both c.open.result _ _ _ (λ left refused back clean blank.
+pub returns-in-Ok-open-clause-made : goal.returns-in-Ok-open-clause-made
+returns-in-Ok-open-clause-made g c clean blank =
+    let it = c.in-Ok-open.ensures in
+    let holds = c.in-Ok.ensures.made (it.honest clean) blank in
+    (it.opened clean holds.1.is_open).held new_book (committed_tables g.S.Store c.in-Ok.made new_book holds)
+
+pub returns-in-Err-open-clause-refused : goal.returns-in-Err-open-clause-refused
+returns-in-Err-open-clause-refused g c =
+    let s = state g.S.Store in
     let made = c.in-Ok.made in
-    let holds = c.in-Ok.ensures.made (back clean) blank in
+    let it = c.in-Err-open.ensures in
+    subst (λ h. HasCleanDisk (s h) → IsBlank (s c.args.conn) → IsUnmade c.in-Err-open.fault (s h)) (sym c.into_connection.ensures) (λ clean blank.
+    let holds = c.in-Ok.ensures.made (it.back clean) blank in
     let there = committed_tables g.S.Store made new_book holds in
-    let why = refused clean holds.1.is_open in
+    let why = it.refused clean holds.1.is_open in
     record {
       cause = why.cause new_book there;
-      leaves = λ trees at. inr (tables_are new_book trees (state g.S.Store made).committed.trees (why.leaves trees at) there);
-    }) c.open.ensures.refused c.open.ensures.back
+      leaves = λ trees at. inr (tables_are new_book trees (s made).committed.trees (why.leaves trees at) there);
+    })

@@ -1,8 +1,6 @@
-use Rattle.std.proofs.Common.{◌≡◌, refl, sym, subst, ⊎_elim}
+use Rattle.std.proofs.Common.{◌≡◌, refl, sym, ⊎_elim}
 use Rattle.sqlite.specs.Held.{state}
-use Rattle.sqlite.specs.State.{HasCleanDisk}
 use Rattle.sqlite.specs.Tree.{Trees}
-use Rattle.rtgs_stored_desk.specs.Stored.{IsAtRest, IsRefused}
 use Rattle.rtgs_stored_desk.proofs.Resting.{held_at_rest, blank_at_rest, file_at_rest, tables_are, memory_explains}
 use Rattle.rtgs_stored_desk.proofs.opening.desk_over.Goals as goal
 
@@ -23,13 +21,13 @@ returns-in-Ok-clause-opened g c honest rest =
     }
 
 pub returns-in-Err-clause-refused : goal.returns-in-Err-clause-refused
-returns-in-Err-clause-refused g c =
+returns-in-Err-clause-refused g c honest rest =
     let was = c.args.keeper.conn in
     let it = c.in-Err.ensures in
-    subst (λ h. HasCleanDisk (state g.S.Store h) → IsAtRest (state g.S.Store was) → IsRefused (state g.S.Store was) c.in-Err.fault (state g.S.Store h)) (sym c.into_connection.ensures) (λ honest rest. record {
+    record {
       cause = λ book tables. it.accepted honest book (held_at_rest g.S.Store was c.tables_of_a_desk_are_read_as_such.ensures rest book tables);
       explained = λ schema. ⊎_elim (λ memory. memory_explains (state g.S.Store was).committed.trees c.in-Err.fault memory)
           (λ told. told.1 (state g.S.Store was).committed.trees (file_at_rest (state g.S.Store was) rest schema)) (it.explained honest);
       no_rule = λ none rule. it.no_rule honest (blank_at_rest (state g.S.Store was) c.no_tables_are_read_as_none.ensures rest none) rule;
       leaves = λ trees left. g.met.S.Store.settled was.store trees rest.is_open (it.back_untouched honest trees left);
-    })
+    }
