@@ -22,9 +22,9 @@ pub enum Refusal {
     NotOpen,
     /// The balance would be below its floor.
     NoCover,
-    /// 500 orders of the sender are queued.
+    /// As many orders of the sender are queued as may be, `LONGEST_QUEUE`.
     QueueFull,
-    /// 999999999 orders, or postings, are there.
+    /// The last order, or posting, has the number `LARGEST_NUMBER`.
     NumbersUsedUp,
     /// The sender gave no order this reference.
     UnknownOrder,
@@ -32,9 +32,9 @@ pub enum Refusal {
     CodeTaken,
     /// The key is another participant's.
     KeyTaken,
-    /// 100 participants are there.
+    /// As many participants are there as may be, `MOST_PARTICIPANTS`.
     TooManyParticipants,
-    /// All balances together would be more than 10^15 cents.
+    /// All balances together would be more than `LARGEST_TOTAL`.
     TotalTooLarge,
     /// The command is for another phase.
     WrongPhase,

@@ -1,5 +1,4 @@
-//! A request, from a reader: its bytes come in pieces, as the reader gives them, and no piece is asked for once the
-//! answer is decided.
+//! A request, from a reader: its bytes come in pieces, as the reader gives them.
 #![tactic(auto)]
 
 mod body;

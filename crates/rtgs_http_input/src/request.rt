@@ -16,8 +16,8 @@ use std::alloc::Global;
 use std::io::Read;
 
 /// What the whole input asks for, however the reader cuts it, or the fault of the first step that fails. It is read in
-/// pieces, and none is asked for once the answer is decided (RFC 9112, sections 2 and 6). Where the reader's bytes are
-/// not known, there is an input for which the same holds.
+/// pieces (RFC 9112, sections 2 and 6). Once the answer is decided none is asked for, which is tested, and no clause.
+/// Where the reader's bytes are not known, there is an input for which the same holds.
 pub fn read_request<R: Read, D: Directory>(
     alloc: Global,
     reader: &mut R,
