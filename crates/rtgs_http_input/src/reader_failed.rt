@@ -1,8 +1,10 @@
 //! Reads that failed.
+ghost use Rattle.std.specs.Prelude.{◌≡◌, Ok, IfOk, OnErr, IsErr};
 ghost use Rattle.std.specs.Io.{ReadsAtMost};
 ghost use Rattle.std.specs.Io.KnownBytes.{ReadConsumes};
 
 use crate::piece::PIECE;
+use std::io;
 use std::io::Read;
 
 /// A reader answered an error. Such a value is made where a call of `read` did so, and nowhere else: the type shows no
@@ -18,7 +20,18 @@ pub(crate) fn read_piece<R: Read>(
     ensures bound { ReadsAtMost result piece.new }
     ensures bytes { ReadConsumes (R.remaining reader.old) (R.remaining reader.new) result piece.new }
 {
-    match reader.read(&mut piece[..]) {
+    match given_of(reader.read(&mut piece[..])) {
+        Ok(many) => Ok(many),
+        Err(failed) => Err(failed),
+    }
+}
+
+// How many bytes a reader gave, by its answer. It failed where the answer is an error, and no other answer is called so.
+fn given_of(answer: io::Result<usize>) -> Result<usize, ReaderFailed>
+    ensures given { IfOk result (λ many. answer ≡ Ok many) }
+    ensures failed { OnErr result (IsErr answer) }
+{
+    match answer {
         Ok(many) => Ok(many),
         Err(_) => Err(ReaderFailed(())),
     }
