@@ -1,10 +1,11 @@
 -- What is known of a request becomes what a desk makes of it.
 use Rattle.std.proofs.Common.{◌≡◌, true, ℕ, List, [], ◌∷◌, length, take, Result, Ok, Err, refl, inl, inr, arith}
+use Rattle.rtgs_book.specs.Soundness.{IsSound}
 use Rattle.rtgs_book.specs.declared.book.Book.{Book}
 use Rattle.rtgs_book.specs.declared.refusal.Refusal.TheVariants.{Failed}
 use Rattle.rtgs_keeper.specs.declared.keeper.Keeper.{Ghosts}
 use Rattle.rtgs_ledger.specs.Keys.{code_under}
-use Rattle.rtgs_desk.specs.Holding.{Holds}
+use Rattle.rtgs_desk.specs.Holding.{HasInMemory, Holds}
 use Rattle.rtgs_desk.specs.Seen.{Seen}
 use Rattle.rtgs_exchange.specs.Batches.{orders_of, replies_of, with_stop}
 use Rattle.rtgs_http_bodies.specs.Refusals.{refused_message}
@@ -27,9 +28,9 @@ nobody : {K : Type 0} (g : Ghosts K) (desk : Seen K) (code_of : CodeOf) → g.ha
     → KnowsOf g desk code_of
 nobody g desk code_of failed = λ works. let no : ⊥ = cc in absurd no
 
-of_book : {K : Type 0} (g : Ghosts K) (desk : Seen K) (book : Book) → Holds g desk book
+of_book : {K : Type 0} (g : Ghosts K) (desk : Seen K) (book : Book) → HasInMemory desk book
     → KnowsOf g desk (code_under book)
-of_book g desk book held = λ works. (book, held, refl)
+of_book g desk book memory = λ works. (book, memory, refl)
 
 stood : {K : Type 0} (g : Ghosts K) (old : Book) (desk : Seen K) → Stands g old desk → Makes g old [] [] desk
 stood g old desk s = record {
@@ -86,21 +87,24 @@ pub asked_exchange : {K : Type 0} (g : Ghosts K) (operator input : List ℕ) (ol
     → ((operator : List ℕ) (code_of : CodeOf) (input : List ℕ) (asked : Asked)
     → AsksFor operator code_of input (Ok asked)
     → (digest : List ℕ) × BearsKey input digest × MayAsk operator code_of digest asked)
-    → Requests (KnowsOf g old) operator input (Ok asked)
+    → ((book : Book) × HasInMemory old book × IsSound book)
+    → ((book : Book) → Holds g old book → HasInMemory old book) → Requests (KnowsOf g old) operator input (Ok asked)
     → (g.is_honest new.keeper → (book : Book) → Holds g old book → ComesTo g book (Ok asked) new sent)
     → (g.has_failed old.keeper ≡ true → (new ≡ old) × IsSaid (refused_message Failed) sent)
     → Exchanges g operator old input new sent
-asked_exchange g operator input old new asked sent own asks comes failed = record {
+asked_exchange g operator input old new asked sent own memory has asks comes failed = record {
   deals = λ honest book held.
-      let a = asks.1 (code_under book) (of_book g old book held) in
+      let a = asks.1 (code_under book) (of_book g old book (has book held)) in
       record {
         answer = Ok asked;
         asks = a;
         allowed = own operator (code_under book) input asked a;
         comes = comes honest book held;
       };
-  changes = let who = own operator asks.0.0 input asked asks.0.1 in
-      inr (asked, asks.0.0, who.0, asks.0.1, who.1, who.2);
+  changes =
+      let book = memory.0 in
+      let a = asks.1 (code_under book) (of_book g old book memory.1) in
+      inr (book, memory.1, asked, a, own operator (code_under book) input asked a);
   failed = λ f. ((failed f).0, inl (inr (asked, (λ code_of. asks.1 code_of (nobody g old code_of f))), (failed f).1));
 }
 
@@ -108,12 +112,13 @@ asked_exchange g operator input old new asked sent own asks comes failed = recor
 pub fault_exchange : {K : Type 0} (g : Ghosts K) (operator input : List ℕ) (desk : Seen K) (fault : HttpFault)
     (sent : Message)
     → ((code_of : CodeOf) → KnowsOf g desk code_of → AsksFor operator code_of input (Err fault))
+    → ((book : Book) → Holds g desk book → HasInMemory desk book)
     → ((book : Book) → Holds g desk book → Stands g book desk) → IsSaid (fault_message fault) sent
     → Exchanges g operator desk input desk sent
-fault_exchange g operator input desk fault sent asks stands said = record {
+fault_exchange g operator input desk fault sent asks has stands said = record {
   deals = λ honest book held. record {
     answer = Err fault;
-    asks = asks (code_under book) (of_book g desk book held);
+    asks = asks (code_under book) (of_book g desk book (has book held));
     allowed = tt;
     comes = (stands book held, said);
   };
@@ -123,10 +128,11 @@ fault_exchange g operator input desk fault sent asks stands said = record {
 
 -- a request whose caller was to be looked up by a desk that had failed
 pub failed_exchange : {K : Type 0} (g : Ghosts K) (operator input : List ℕ) (desk : Seen K) (sent : Message)
-    → LooksUp operator input → g.has_failed desk.keeper ≡ true → IsSaid (refused_message Failed) sent
+    → ((book : Book) → Holds g desk book → g.has_failed desk.keeper ≡ false) → LooksUp operator input
+    → g.has_failed desk.keeper ≡ true → IsSaid (refused_message Failed) sent
     → Exchanges g operator desk input desk sent
-failed_exchange g operator input desk sent looks failed said = record {
-  deals = λ honest book held. let works = held.works in let no : ⊥ = cc in absurd no;
+failed_exchange g operator input desk sent work looks failed said = record {
+  deals = λ honest book held. let works = work book held in let no : ⊥ = cc in absurd no;
   changes = inl refl;
   failed = λ f. (refl, inl (inl looks, said));
 }

@@ -4,7 +4,7 @@ use Rattle.rtgs_book.specs.declared.book.Book.{Book}
 use Rattle.rtgs_book.specs.declared.refusal.Refusal.TheVariants.{Failed}
 use Rattle.rtgs_keeper.specs.declared.keeper.Keeper.{Ghosts}
 use Rattle.rtgs_ledger.specs.Keys.{code_under}
-use Rattle.rtgs_desk.specs.Holding.{Holds}
+use Rattle.rtgs_desk.specs.Holding.{HasInMemory, Holds}
 use Rattle.rtgs_desk.specs.Seen.{Seen}
 use Rattle.rtgs_http_bodies.specs.Refusals.{refused_message}
 use Rattle.rtgs_http_replies.specs.Messages.{Message}
@@ -44,16 +44,16 @@ TurnsAway operator input sent =
     ⊎ ((fault : HttpFault) × ((code_of : CodeOf) → AsksFor operator code_of input (Err fault))
     × IsSaid (fault_message fault) sent)
 
--- the bearer of a key asks for what it may, for some participants
-abbrev pub IsAskedByBearer : List ℕ → List ℕ → Type 0
-IsAskedByBearer operator input =
-    (asked : Asked) × (code_of : CodeOf) × (digest : List ℕ) × AsksFor operator code_of input (Ok asked)
-    × BearsKey input digest × MayAsk operator code_of digest asked
+-- the bearer of a key asks for what it may, by the participants of a book that the desk has in memory
+abbrev pub IsAskedByBearer : {K : Type 0} → List ℕ → Seen K → List ℕ → Type 0
+IsAskedByBearer operator desk input =
+    (book : Book) × HasInMemory desk book × (asked : Asked) × AsksFor operator (code_under book) input (Ok asked)
+    × IsAllowed operator book input (Ok asked)
 
 -- what an input comes to: on a desk that held a book, and on one that had failed
 pub record Exchanges {K : Type 0} (g : Ghosts K) (operator : List ℕ) (old : Seen K) (input : List ℕ) (new : Seen K)
     (sent : Message) : Type 0 where
   pub deals : g.is_honest new.keeper → (book : Book) → Holds g old book → Deals g operator book input new sent
   -- whatever the desk holds, it changes only for what the bearer of a key may ask
-  pub changes : (new ≡ old) ⊎ IsAskedByBearer operator input
+  pub changes : (new ≡ old) ⊎ IsAskedByBearer operator old input
   pub failed : g.has_failed old.keeper ≡ true → (new ≡ old) × TurnsAway operator input sent

@@ -46,6 +46,7 @@ fn submit<K: Keeper>(alloc: Global, desk: &mut Desk<K>, command: Command) -> Rep
         → Submits K.Keeper book command desk.new result }
     ensures honest { K.is_honest desk.new.keeper → K.is_honest desk.old.keeper }
 {
+    desk.holds_a_sound_book();
     let reply = desk.submit(command);
     tell(alloc, reply)
 }
@@ -84,6 +85,7 @@ fn submit_all<K: Keeper>(
         ⊎ SubmitsAll K.Keeper book sender rows.now desk.new result }
     ensures honest { K.is_honest desk.new.keeper → K.is_honest desk.old.keeper }
 {
+    desk.holds_a_sound_book();
     stands(desk);
     let Ok(batch) = submit_batch(alloc, desk, sender, rows) else {
         return Reply::out_of_memory();

@@ -59,6 +59,7 @@ fn reply_to_request<K: Keeper>(
     ensures honest { K.is_honest desk.new.keeper → K.is_honest desk.old.keeper }
 {
     participants_ask_for_their_own();
+    desk.holds_a_sound_book();
     stands(desk);
     match request {
         Ok(asked) => Ok(answer(alloc, desk, asked)),

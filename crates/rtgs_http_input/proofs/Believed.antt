@@ -5,7 +5,7 @@ use Rattle.rtgs_book.specs.declared.Refusal.{Refusal}
 use Rattle.rtgs_book.specs.declared.Refusal.TheVariants.{Failed}
 use Rattle.rtgs_keeper.specs.declared.Keeper.{Ghosts}
 use Rattle.rtgs_ledger.specs.Keys.{code_under}
-use Rattle.rtgs_desk.specs.Holding.{Holds}
+use Rattle.rtgs_desk.specs.Holding.{HasInMemory}
 use Rattle.rtgs_desk.specs.Seen.{Seen}
 use Rattle.rtgs_http_input.specs.Known.{KnowsOf}
 
@@ -14,13 +14,14 @@ answers_work : (failed : Bool) (result : Result (Option (List ℕ)) Refusal) (co
 answers_work false result code e h = refl
 answers_work true result code e h = let f = h refl in let no : ⊥ = cc in absurd no
 
--- what an open desk tells is of the book that it holds
+-- what an open desk tells is of the book that it has in memory
 pub believed : {K : Type 0} (g : Ghosts K) (desk : Seen K) (digest : List ℕ) (result : Result (Option (List ℕ)) Refusal)
     (code : Option (List ℕ)) (code_of : List ℕ → Option (List ℕ)) → result ≡ Ok code
-    → ((book : Book) → Holds g desk book → result ≡ Ok (code_under book digest))
+    → ((book : Book) → HasInMemory desk book → g.has_failed desk.keeper ≡ false → result ≡ Ok (code_under book digest))
     → (g.has_failed desk.keeper ≡ true → result ≡ Err Failed) → KnowsOf g desk code_of → code ≡ code_of digest
 believed g desk digest result code code_of is told failed known =
-    let held = known (answers_work (g.has_failed desk.keeper) result code is failed) in
-    let e = told held.0 held.1 in
-    let same : code ≡ code_under held.0 digest = cc in
-    same ∙ sym (ap (λ (f : List ℕ → Option (List ℕ)). f digest) held.2)
+    let works = answers_work (g.has_failed desk.keeper) result code is failed in
+    let memory = known works in
+    let e = told memory.0 memory.1 works in
+    let same : code ≡ code_under memory.0 digest = cc in
+    same ∙ sym (ap (λ (f : List ℕ → Option (List ℕ)). f digest) memory.2)

@@ -17,5 +17,7 @@ returns-clause-submits g c honest book held =
       told = c.or_lost.ensures.told (message (batch_status stopped) Csv (results_text c.args.rows.now replies stopped))
           c.batch_reply.ensures;
       not_failed = λ e.
-          let failed = c.in-Ok.ensures.only_failed e in let works = held.works in let no : ⊥ = cc in no;
+          let failed = c.in-Ok.ensures.only_failed e in
+          let works = c.holds_a_sound_book.ensures.works book held in
+          let no : ⊥ = cc in no;
     })

@@ -34,6 +34,7 @@ fn submit_and_send<K: Keeper>(
         })) }
 {
     sessions_join();
+    desk.holds_a_sound_book();
     let reply = desk.submit(command);
     desk.holds_a_sound_book();
     let batch = submit_batch(alloc, desk, sender, rows)?;

@@ -5,4 +5,4 @@ use Rattle.rtgs_http_input.proofs.directory.DeskDirectory.code_of.Goals as goal
 pub returns-in-Ok-clause-told : goal.returns-in-Ok-clause-told
 returns-in-Ok-clause-told g c = λ code_of known.
     believed g.K.Keeper c.args.self.now c.args.digest.now c.code_of.result c.in-Ok.code code_of (search rules)
-    c.code_of.ensures.told c.code_of.ensures.failed known
+    c.code_of.ensures.remembered c.code_of.ensures.failed known
