@@ -1,6 +1,9 @@
 //! The lengths and the contents that each route of a command refuses, and the dates of a day that ends.
 use super::super::ALFA;
 use super::{JSON, OPERATOR, Row, follow, open_desk, tells, whole};
+use rtgs_desk::Desk;
+use rtgs_keeper::MemoryKeeper;
+use std::alloc::Global;
 use std::test::Fail;
 
 /// The routes of commands, each with its caller's key and a good body.
@@ -30,37 +33,45 @@ pub const COMMANDS: [(&str, &str, &str); 9] = [
 
 const BAD: &str = "400 Bad Request";
 
-#[test]
-fn lengths_of_each_route(rt: HostRuntime) -> Result<(), Fail> {
-    let alloc = rt.alloc();
+// A command, with this line of a length or none, is told this reply.
+fn is_told(
+    alloc: Global,
+    desk: &mut Desk<MemoryKeeper>,
+    (key, line, body): (&str, &str, &str),
+    length: &str,
+    reply: &str,
+) -> Result<(), Fail> {
+    let input = format!(in alloc; "{line} HTTP/1.1\r\ndesk-key: {key}\r\n{length}\r\n{body}")?;
+    tells(alloc, desk, input.as_bytes(), reply)
+}
+
+// Each route's command, with this line of a length or none, is told this.
+fn each_is_told(alloc: Global, length: &str, status: &str, body: &str) -> Result<(), Fail> {
+    let reply = whole(alloc, status, JSON, body)?;
     let mut desk = open_desk(alloc)?;
-    let none = whole(
-        alloc,
-        "411 Length Required",
-        JSON,
-        "{\"code\":62,\"name\":\"NoLength\"}",
-    )?;
-    let long = whole(
-        alloc,
-        "413 Content Too Large",
-        JSON,
-        "{\"code\":63,\"name\":\"BodyTooLong\"}",
-    )?;
-    let short = whole(alloc, BAD, JSON, "{\"code\":64,\"name\":\"Truncated\"}")?;
-    for (key, line, body) in COMMANDS {
-        let input = format!(in alloc; "{line} HTTP/1.1\r\ndesk-key: {key}\r\n\r\n{body}")?;
-        tells(alloc, &mut desk, input.as_bytes(), none.as_str())?;
-        let input = format!(in alloc;
-            "{line} HTTP/1.1\r\ndesk-key: {key}\r\nContent-Length: 65537\r\n\r\n{body}"
-        )?;
-        tells(alloc, &mut desk, input.as_bytes(), long.as_str())?;
-        let more = body.len().saturating_add(1);
-        let input = format!(in alloc;
-            "{line} HTTP/1.1\r\ndesk-key: {key}\r\nContent-Length: {more}\r\n\r\n{body}"
-        )?;
-        tells(alloc, &mut desk, input.as_bytes(), short.as_str())?;
+    for command in COMMANDS {
+        is_told(alloc, &mut desk, command, length, reply.as_str())?;
     }
     Ok(())
+}
+
+#[test]
+fn no_length_on_each_route(rt: HostRuntime) -> Result<(), Fail> {
+    let told = "{\"code\":62,\"name\":\"NoLength\"}";
+    each_is_told(rt.alloc(), "", "411 Length Required", told)
+}
+
+#[test]
+fn too_long_a_body_on_each_route(rt: HostRuntime) -> Result<(), Fail> {
+    let told = "{\"code\":63,\"name\":\"BodyTooLong\"}";
+    let length = "Content-Length: 65537\r\n";
+    each_is_told(rt.alloc(), length, "413 Content Too Large", told)
+}
+
+#[test]
+fn a_body_that_ends_early_on_each_route(rt: HostRuntime) -> Result<(), Fail> {
+    let told = "{\"code\":64,\"name\":\"Truncated\"}";
+    each_is_told(rt.alloc(), "Content-Length: 1000\r\n", BAD, told)
 }
 
 #[test]

@@ -113,26 +113,44 @@ fn troubled_desk(
     Ok(desk)
 }
 
+// A request is told a fault with this body.
+fn is_told(
+    alloc: Global,
+    desk: &mut Desk<FailingKeeper<MemoryKeeper>>,
+    (key, line, body, _, _): Row<'_>,
+    fault: &str,
+) -> Result<(), Fail> {
+    follow(alloc, desk, JSON, &[(key, line, body, BUSY, fault)])
+}
+
+// The store fails at a command, after those before it.
+fn fails_at(alloc: Global, before: &[Row<'_>], command: Row<'_>) -> Result<(), Fail> {
+    let mut desk = troubled_desk(alloc, before.len(), Trouble::Lost)?;
+    follow(alloc, &mut desk, JSON, before)?;
+    is_told(alloc, &mut desk, command, FAULT)?;
+    is_told(alloc, &mut desk, command, FAILED)
+}
+
+// Memory is refused to a command, after those before it, and not when it comes again.
+fn waits_at(alloc: Global, before: &[Row<'_>], command: Row<'_>) -> Result<(), Fail> {
+    let mut desk = troubled_desk(alloc, before.len(), Trouble::OutOfMemory)?;
+    follow(alloc, &mut desk, JSON, before)?;
+    is_told(alloc, &mut desk, command, NO_MEMORY)?;
+    follow(alloc, &mut desk, JSON, &[command])
+}
+
 #[test]
 fn each_command_at_which_the_store_fails(rt: HostRuntime) -> Result<(), Fail> {
-    let alloc = rt.alloc();
-    for (at, (key, line, body, _, _)) in CHANGES.iter().enumerate() {
-        let mut desk = troubled_desk(alloc, at, Trouble::Lost)?;
-        follow(alloc, &mut desk, JSON, &CHANGES[..at])?;
-        follow(alloc, &mut desk, JSON, &[(*key, *line, *body, BUSY, FAULT)])?;
-        follow(alloc, &mut desk, JSON, &[(*key, *line, *body, BUSY, FAILED)])?;
+    for at in 0..CHANGES.len() {
+        fails_at(rt.alloc(), &CHANGES[..at], CHANGES[at])?;
     }
     Ok(())
 }
 
 #[test]
 fn each_command_without_memory_is_done_when_it_comes_again(rt: HostRuntime) -> Result<(), Fail> {
-    let alloc = rt.alloc();
-    for (at, (key, line, body, _, _)) in CHANGES.iter().enumerate() {
-        let mut desk = troubled_desk(alloc, at, Trouble::OutOfMemory)?;
-        follow(alloc, &mut desk, JSON, &CHANGES[..at])?;
-        follow(alloc, &mut desk, JSON, &[(*key, *line, *body, BUSY, NO_MEMORY)])?;
-        follow(alloc, &mut desk, JSON, &CHANGES[at..])?;
+    for at in 0..CHANGES.len() {
+        waits_at(rt.alloc(), &CHANGES[..at], CHANGES[at])?;
     }
     Ok(())
 }
