@@ -6,7 +6,7 @@ use Rattle.rtgs_book.specs.Outcome.{Command, Reply}
 use Rattle.rtgs_book.specs.Step.{Step}
 use Rattle.rtgs_book.specs.Run.{Run}
 
--- the desk has judged the command: it gave no want of memory, no fault of the store, and had not failed
+-- the desk has judged the command: it gave no lack of memory, no fault of the store, and had not failed
 abbrev pub is_judged : Reply → Bool
 is_judged (Err OutOfMemory) = false
 is_judged (Err StoreFault) = false

@@ -28,7 +28,7 @@ vacancy_of (Err error) = vacancy_without (error_kind error)
 abbrev pub magic : List ℕ
 magic = codes "SQLite format 3" ++ 0 ∷ []
 
--- a file that is missing or too short, want of memory, or a file that cannot be read
+-- a file that is missing or too short, lack of memory, or a file that cannot be read
 abbrev pub fault_of_reading : ErrorKind → Fault
 fault_of_reading kind.NotFound = NotADeskFile
 fault_of_reading kind.UnexpectedEof = NotADeskFile

@@ -29,7 +29,7 @@ use Rattle.rtgs_desk_lines.specs.declared.failure.Failure.TheVariants.{Refused, 
 use Rattle.rtgs_book_file.specs.declared.file_fault.FileFault.{FileFault}
 use Rattle.rtgs_book_file.specs.declared.file_fault.FileFault.TheVariants as file
 
--- want of memory, or a file of orders that cannot be read
+-- lack of memory, or a file of orders that cannot be read
 abbrev pub failure_of_reading : ErrorKind → Failure
 failure_of_reading kind.OutOfMemory = Refused OutOfMemory
 failure_of_reading _ = NoOrders

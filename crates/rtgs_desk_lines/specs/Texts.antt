@@ -21,7 +21,7 @@ abbrev pub printed_of : Result ⊤ WriterFailed → Printed
 printed_of (Ok _) = Whole
 printed_of (Err failed) = Lost failed
 
--- the same of a text that is made first, or a refusal for want of memory
+-- the same of a text that is made first, or a refusal for lack of memory
 abbrev pub outcome_of : Result ⊤ TextFault → Result Printed Failure
 outcome_of (Ok _) = Ok Whole
 outcome_of (Err fault.OutOfMemory) = Err (Refused OutOfMemory)

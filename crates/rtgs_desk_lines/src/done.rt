@@ -64,7 +64,9 @@ fn answer_line(answer: Answer) -> Line
                 .number(place)
         }
         Answer::Withdrawn { number } => {
-            Line::of(Standing::Withdrawn.word()).then(" ").number(number)
+            Line::of(Standing::Withdrawn.word())
+                .then(" ")
+                .number(number)
         }
         Answer::Resolved { mark, count, value } => {
             let line = Line::of("resolved mark ").number(mark);

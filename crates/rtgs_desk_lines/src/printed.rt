@@ -30,7 +30,7 @@ impl Printed {
         }
     }
 
-    /// What became of a text that was written like this, or the refusal for want of memory.
+    /// What became of a text that was written like this, or the refusal for lack of memory.
     pub fn of(written: Result<(), TextFault>) -> Result<Printed, Failure>
         ensures { result ≡ outcome_of written }
     {

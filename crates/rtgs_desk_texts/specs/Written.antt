@@ -19,7 +19,7 @@ statement_wanted book code date = if_known (participant_of book code) (λ partic
 abbrev pub report_wanted : Book → ℕ → Result (List ℕ) Refusal
 report_wanted book date = Ok (report book date)
 
--- What is wanted is written whole, or refused with nothing written. Want of memory can come in its place, before the
+-- What is wanted is written whole, or refused with nothing written. Lack of memory can come in its place, before the
 -- first byte, and a fault of the writer after a beginning of the text.
 abbrev pub Writes : Option (List ℕ) → Result (List ℕ) Refusal → Result ⊤ DeskTextFault → Option (List ℕ) → Type 0
 Writes old (Err refusal) result new = (result ≡ Err (Refused refusal)) × (new ≡ old)

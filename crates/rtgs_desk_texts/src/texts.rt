@@ -16,7 +16,7 @@ use std::io::Write;
 
 /// Writes the statement of a participant for a date, as the book that the desk holds has it. It is refused before a
 /// byte is written where the store has failed, and else where nobody has the code; a fault of the writer leaves a
-/// beginning of the text, and want of memory leaves the writer as it was.
+/// beginning of the text, and lack of memory leaves the writer as it was.
 pub fn write_statement<K: Keeper, W: Write>(
     alloc: Global,
     out: &mut W,
@@ -42,7 +42,7 @@ pub fn write_statement<K: Keeper, W: Write>(
 }
 
 /// Writes the report of a day, as the book that the desk holds has it. It is refused before a byte is written where
-/// the store has failed; a fault of the writer leaves a beginning of the text, and want of memory leaves the writer as
+/// the store has failed; a fault of the writer leaves a beginning of the text, and lack of memory leaves the writer as
 /// it was.
 pub fn write_report<K: Keeper, W: Write>(
     alloc: Global,

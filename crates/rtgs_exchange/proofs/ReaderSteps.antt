@@ -112,7 +112,7 @@ nothing_yet : (s : State) (bytes : List ℕ) → Reached default_config s bytes 
 unfolding Reached
 nothing_yet s bytes = (refl, refl)
 
--- a reader of records of any lengths fails for want of memory, or where the reader underneath failed
+-- a reader of records of any lengths fails for lack of memory, or where the reader underneath failed
 why : {R : Type 0} (rem : R → Option (List ℕ)) (a b : Reader R) (kind : ErrorKind) → is_flexible a ≡ true → ExplainsRead rem a b false kind → stops_reader kind ≡ true
 why rem a b (kind.Io e) f h = refl
 why rem a b kind.OutOfMemory f h = refl
@@ -121,7 +121,7 @@ why rem a b (kind.Utf8 pos err) f h = absurd (false≢true h.0)
 why rem a b (kind.Serialize text) f h = absurd h
 why rem a b (kind.Deserialize pos err) f h = absurd h
 
--- What one step does: it finds that no record is left, or takes the first that is, or fails for want of memory.
+-- What one step does: it finds that no record is left, or takes the first that is, or fails for lack of memory.
 abbrev pub Stepped : ByteRecordsIntoIter (Bor (List ℕ)) → ByteRecordsIntoIter (Bor (List ℕ)) → Option (Result Row Error) → Type 0
 Stepped a b None = left_of a ≡ []
 Stepped a b (Some (Ok row)) = IsReading b × (left_of a ≡ fields_of row ∷ left_of b)

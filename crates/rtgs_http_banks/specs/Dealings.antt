@@ -52,7 +52,7 @@ pub record SubmitsAll {K : Type 0} (g : Ghosts K) (old : Book) (sender : List �
   pub told : IsTold (message (batch_status stopped) Csv (results_text rows replies stopped)) sent
   pub not_failed : stopped ≢ Some Failed
 
--- nothing was given for want of memory
+-- nothing was given for lack of memory
 abbrev pub GivesNothing : {K : Type 0} → Ghosts K → Book → Seen K → Message → Type 0
 GivesNothing g old desk sent = Stands g old desk × (sent ≡ no_memory)
 

@@ -21,8 +21,8 @@ use rtgs_keeper::Keeper;
 use rtgs_money::Code;
 use std::alloc::{AllocError, Global};
 
-/// Does what is asked, and makes the reply. Want of memory before the desk was given a command has one fixed reply, and
-/// want of memory after it the other. A desk that has failed is given nothing.
+/// Does what is asked, and makes the reply. Lack of memory before the desk was given a command has one fixed reply, and
+/// lack of memory after it the other. A desk that has failed is given nothing.
 pub(crate) fn answer<K: Keeper>(alloc: Global, desk: &mut Desk<K>, asked: &Asked) -> Reply
     ensures comes { K.is_honest desk.new.keeper → (book : Book) → Holds K.Keeper desk.old book
         → ComesTo K.Keeper book (Ok asked.now) desk.new result }
@@ -51,7 +51,7 @@ fn submit<K: Keeper>(alloc: Global, desk: &mut Desk<K>, command: Command) -> Rep
     tell(alloc, reply)
 }
 
-// What is told of a reply of the desk. Want of memory for the command is told without taking any.
+// What is told of a reply of the desk. Lack of memory for the command is told without taking any.
 fn tell(alloc: Global, reply: Result<Answer, Refusal>) -> Reply
     ensures told { IsTold (reply_message reply) result }
     ensures refused { reply ≡ Err Refusal.OutOfMemory → result ≡ no_memory }

@@ -14,7 +14,7 @@ use serde_json::{Value, json};
 use std::alloc::{AllocError, Global};
 
 /// The reply that tells a participant its account, with the date once a day was opened. What its queue pays together
-/// is told up to 2^63 - 1 cents, and no queue of a desk pays more. The only error is want of memory.
+/// is told up to 2^63 - 1 cents, and no queue of a desk pays more. The only error is lack of memory.
 pub fn account_reply(alloc: Global, reading: &AccountReading) -> Result<Reply, AllocError>
     ensures { FitsSigned w64 reading.now.queued_value
         → IfOk result (λ reply. reply ≡ json_message 200 (account_data reading.now)) }

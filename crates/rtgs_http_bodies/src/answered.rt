@@ -12,7 +12,7 @@ use rtgs_http_replies::Reply;
 use serde_json::{Value, json};
 use std::alloc::{AllocError, Global};
 
-/// The reply that tells this answer. The only error is want of memory.
+/// The reply that tells this answer. The only error is lack of memory.
 pub fn answer_reply(alloc: Global, answer: Answer) -> Result<Reply, AllocError>
     ensures { IfOk result (λ reply. reply ≡ json_message 200 (answer_data answer)) }
 {

@@ -10,7 +10,7 @@ use rtgs_http_replies::Reply;
 use serde_json::{Value, json};
 use std::alloc::{AllocError, Global};
 
-/// The reply that tells this order to its sender, with its mark where it has settled. The only error is want of memory.
+/// The reply that tells this order to its sender, with its mark where it has settled. The only error is lack of memory.
 pub fn order_reply(alloc: Global, order: &Order) -> Result<Reply, AllocError>
     ensures { IfOk result (λ reply. reply ≡ json_message 200 (order_data order.now)) }
 {

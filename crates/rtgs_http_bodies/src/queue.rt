@@ -10,7 +10,7 @@ use rtgs_http_replies::Reply;
 use serde_json::{Value, json};
 use std::alloc::{AllocError, Global};
 
-/// The reply that tells a participant its queue, in order. The only error is want of memory.
+/// The reply that tells a participant its queue, in order. The only error is lack of memory.
 pub fn queue_reply(alloc: Global, orders: &[Order]) -> Result<Reply, AllocError>
     ensures { IfOk result (λ reply. reply ≡ json_message 200 (queue_data orders.now)) }
 {

@@ -16,7 +16,7 @@ use rtgs_refusals::RefusalKind;
 use serde_json::{Value, json};
 use std::alloc::{AllocError, Global};
 
-/// The reply that tells a kind of refusal by its number and its name. The only error is want of memory. That memory was
+/// The reply that tells a kind of refusal by its number and its name. The only error is lack of memory. That memory was
 /// refused is told by the fixed reply, which takes none.
 pub fn kind_reply(alloc: Global, kind: RefusalKind) -> Result<Reply, AllocError>
     ensures told { IfOk result (λ reply. reply ≡ kind_message kind) }
@@ -28,7 +28,7 @@ pub fn kind_reply(alloc: Global, kind: RefusalKind) -> Result<Reply, AllocError>
     }
 }
 
-/// The reply that tells why the desk refused a command or a reading. The only error is want of memory, and none comes
+/// The reply that tells why the desk refused a command or a reading. The only error is lack of memory, and none comes
 /// where the refusal is one.
 pub fn refusal_reply(alloc: Global, refusal: Refusal) -> Result<Reply, AllocError>
     ensures told { IfOk result (λ reply. reply ≡ refused_message refusal) }
@@ -43,7 +43,7 @@ pub fn refusal_reply(alloc: Global, refusal: Refusal) -> Result<Reply, AllocErro
     }
 }
 
-/// The reply that tells what is wrong with a file of orders. The only error is want of memory.
+/// The reply that tells what is wrong with a file of orders. The only error is lack of memory.
 pub fn batch_fault_reply(alloc: Global, fault: BatchFault) -> Result<Reply, AllocError>
     ensures { IfOk result (λ reply. reply ≡ batch_refused_message fault) }
 {

@@ -9,7 +9,7 @@ use rtgs_http_replies::{ContentType, Reply};
 use rtgs_statements::{Report, day_report};
 use std::alloc::{AllocError, Global};
 
-/// The reply with the day report. The only error is want of memory.
+/// The reply with the day report. The only error is lack of memory.
 pub fn report_reply(alloc: Global, report: &Report) -> Result<Reply, AllocError>
     ensures { IfOk result (λ reply. reply ≡ message 200 ContentType.Plain
         (report_text report.now.date report.now.codes.items report.now.postings.items report.now.orders.items

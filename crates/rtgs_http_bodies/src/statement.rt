@@ -9,7 +9,7 @@ use rtgs_http_replies::{ContentType, Reply};
 use rtgs_statements::{Statement, statement_text};
 use std::alloc::{AllocError, Global};
 
-/// The reply with a statement. The only error is want of memory.
+/// The reply with a statement. The only error is lack of memory.
 pub fn statement_reply(alloc: Global, statement: &Statement) -> Result<Reply, AllocError>
     ensures { IfOk result (λ reply. reply ≡ message 200 ContentType.Plain
         (statement_text statement.now.code statement.now.date statement.now.postings.items

@@ -27,7 +27,7 @@ impl Model for HeadFeed {
 }
 
 impl HeadFeed {
-    /// A feed with no bytes, and all the room that a head may need. The error is a want of memory.
+    /// A feed with no bytes, and all the room that a head may need. The error is a lack of memory.
     pub fn new(alloc: Global) -> Result<HeadFeed, AllocError>
         ensures { IfOk result (λ feed. feed ≡ []) }
     {

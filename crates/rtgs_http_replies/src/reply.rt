@@ -35,7 +35,7 @@ impl Model for Reply {
 }
 
 impl Reply {
-    /// The reply with this status and this body. The only error is want of memory.
+    /// The reply with this status and this body. The only error is lack of memory.
     pub fn new(
         alloc: Global,
         status: StatusCode,
@@ -52,7 +52,7 @@ impl Reply {
         })
     }
 
-    /// The reply with this status whose body spells a value. The only error is want of memory.
+    /// The reply with this status whose body spells a value. The only error is lack of memory.
     pub fn json(alloc: Global, status: StatusCode, value: &Value) -> Result<Reply, AllocError>
         requires { has_float (view value.now) ≡ false }
         ensures { IfOk result (λ reply. reply ≡ json_message status (view value.now)) }
@@ -61,7 +61,7 @@ impl Reply {
         Reply::new(alloc, status, ContentType::Json, &body)
     }
 
-    /// The reply that tells a refusal or a fault. The only error is want of memory.
+    /// The reply that tells a refusal or a fault. The only error is lack of memory.
     pub fn refused(
         alloc: Global,
         status: StatusCode,

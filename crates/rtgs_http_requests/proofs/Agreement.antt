@@ -1,10 +1,10 @@
--- Steps that tell one thing, but for want of memory.
+-- Steps that tell one thing, but for lack of memory.
 use Rattle.std.proofs.Common.{◌≡◌, ◌⊎◌, inl, inr, Result, Ok, Err, refl, sym, ap, subst, ◌∙◌}
 use Rattle.rtgs_http_requests.specs.Steps.{Then, Goes}
 use Rattle.rtgs_http_requests.specs.declared.http_fault.HttpFault.{HttpFault}
 use Rattle.rtgs_http_requests.specs.declared.http_fault.HttpFault.TheVariants.{OutOfMemory}
 
--- one of the two is a want of memory, or they are related
+-- one of the two is a lack of memory, or they are related
 abbrev pub Agree : {A : Type 0} → (Result A HttpFault → Result A HttpFault → Type 0)
     → Result A HttpFault → Result A HttpFault → Type 0
 Agree {A} R one other = (one ≡ Err OutOfMemory) ⊎ ((other ≡ Err OutOfMemory) ⊎ R one other)
@@ -16,7 +16,7 @@ Equal {A} one other = one ≡ other
 abbrev pub IsDetermined : {A : Type 0} → (Result A HttpFault → Type 0) → Type 0
 IsDetermined {A} Step = (one other : Result A HttpFault) → Step one → Step other → Agree Equal one other
 
--- a value of which this holds, or this fault where it holds of none, or a want of memory
+-- a value of which this holds, or this fault where it holds of none, or a lack of memory
 abbrev pub Tells : {A : Type 0} → (A → Type 0) → HttpFault → Result A HttpFault → Type 0
 Tells {A} Holds bad told =
     ((value : A) × (told ≡ Ok value) × Holds value)

@@ -28,7 +28,7 @@ told_answered {A} Holds bad Step other good fails none = other same
     same : bad ≡ OutOfMemory
     same = let told = none (Err bad) (fails no_value) in cc
 
--- this answer, which is no want of memory
+-- this answer, which is no lack of memory
 pub equal_answered : {A : Type 0} (answer : Result A HttpFault) → answer ≢ Err OutOfMemory → HasAnswer (λ (told : Result A HttpFault). told ≡ answer)
 equal_answered answer other none = other (none answer refl)
 

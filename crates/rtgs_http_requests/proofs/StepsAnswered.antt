@@ -49,7 +49,7 @@ route_answered head none = by (routed head.method head.target) refl
     by None e = let told = none (Err fault.NoSuchRoute) e in cc
     by (Some found) e = let told = none (Ok found) e in cc
 
--- a caller is never a want of memory
+-- a caller is never a lack of memory
 known_told : (route : BankRoute) (code : Option (List ℕ)) → known route code ≢ Err fault.OutOfMemory
 known_told route None e = cc
 known_told route (Some code) e = cc

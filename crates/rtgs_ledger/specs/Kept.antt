@@ -54,6 +54,6 @@ pub record IsPrepared (held : Held) (command : Command) (answer : Answer) (chang
   -- nor has a resolution that settles nothing
   pub nothing : answer ≡ Nothing → change ≡ []
 
--- the refusal is that of the command's first test that holds, or want of memory
+-- the refusal is that of the command's first test that holds, or lack of memory
 abbrev pub IsRefused : Book → Command → Refusal → Type 0
 IsRefused book command refusal = (refusal ≡ OutOfMemory) ⊎ (Step book command (Err refusal) book × (is_judged (Err refusal) ≡ true))

@@ -79,7 +79,7 @@ impl Accounts {
         self.accounts.len()
     }
 
-    /// Their codes, in order. It answers want of memory.
+    /// Their codes, in order. It answers lack of memory.
     pub fn codes(&self, alloc: Global) -> Result<Vec<Code>, AllocError>
         ensures { IfOk result (λ codes. codes.items ≡ map code_of self.now.accounts) }
     {

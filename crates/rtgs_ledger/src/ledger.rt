@@ -49,7 +49,7 @@ impl Model for Ledger {
 }
 
 impl Ledger {
-    /// The ledger of a book. It answers want of memory, or the lowest rule of soundness that the book breaks.
+    /// The ledger of a book. It answers lack of memory, or the lowest rule of soundness that the book breaks.
     pub fn load(alloc: Global, book: Book) -> Result<Ledger, Fault>
         ensures content { IfOk result (λ ledger. ledger.content ≡ book) }
         ensures sound { OnOk result (IsSound book) }
@@ -75,7 +75,7 @@ impl Ledger {
     }
 
     /// What the command is answered, and the row changes that it makes. The book stays as it is, and every growth that the
-    /// change needs is made here. A refusal is that of the command's first test that holds, or want of memory.
+    /// change needs is made here. A refusal is that of the command's first test that holds, or lack of memory.
     pub fn prepare(&mut self, command: &Command) -> Result<(Answer, Change), Refusal>
         ensures content { self.new.content ≡ self.old.content }
         ensures prepared { IfOk result (λ (answer, change). IsPrepared self.new command.now answer change) }

@@ -5,7 +5,7 @@ ghost use Rattle.rtgs_statements.specs.Texts.{text_of};
 use crate::line::Line;
 use std::alloc::{AllocError, Global};
 
-/// The texts of four groups of lines in order. The only error is want of memory.
+/// The texts of four groups of lines in order. The only error is lack of memory.
 pub fn text_of_parts(
     alloc: Global,
     first: &[Line],

@@ -29,7 +29,7 @@ pub struct Report {
 }
 
 impl Report {
-    /// The report of a date, out of the codes and all records, by one pass over each list. The only error is want of memory.
+    /// The report of a date, out of the codes and all records, by one pass over each list. The only error is lack of memory.
     pub fn of(
         alloc: Global,
         date: BusinessDate,

@@ -61,7 +61,7 @@ pub record IsOver {K : Type 0} (k : Ghosts K) (old : State) (desk : Seen K) (new
 
 -- no desk was opened over what the store had committed
 pub record IsRefused (old : State) (fault : Fault) (new : State) : Type 0 where
-  -- tables that hold a book are refused for want of memory or a fault of the store alone
+  -- tables that hold a book are refused for lack of memory or a fault of the store alone
   pub cause : (book : Book) → AreTablesOf book old.committed.trees → IsMemoryOrStore fault
   -- over the schema of a desk the rows explain the fault: one is in no form, or this is the first rule that they break
   pub explained : old.committed.schema ≡ desk_schema → ExplainsTrees old.committed.trees fault

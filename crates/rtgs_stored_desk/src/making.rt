@@ -16,8 +16,8 @@ use rtgs_keeper::CommitFault;
 use rtgs_tables::SqlKeeper;
 use sqlite::{Alter, Connection};
 
-/// Makes the tables of a new book in an empty database, in one transaction. On a fault, which is want of memory or the
-/// store's, the connection comes back: want of memory leaves the database empty, and a fault of the store leaves it
+/// Makes the tables of a new book in an empty database, in one transaction. On a fault, which is lack of memory or the
+/// store's, the connection comes back: lack of memory leaves the database empty, and a fault of the store leaves it
 /// empty or with all tables of the new book. A database that has tables already is no desk's to be, and is left alone.
 pub fn make<S: Alter + Drop>(conn: Connection<S>) -> Result<Connection<S>, (Fault, Connection<S>)>
     requires { conn.in_transaction ≡ false }

@@ -118,7 +118,7 @@ pub(crate) fn is_alive<S: Alter>(conn: &mut Connection<S>) -> bool
     matches!(conn.prepare(NO_STATEMENT), Err(Error::SqlInputError(_)))
 }
 
-/// What the failure of a query says of the file: want of memory, where the connection is seen to be open still; else a
+/// What the failure of a query says of the file: lack of memory, where the connection is seen to be open still; else a
 /// fault of the store, where the store or its engine failed; else that the tables are not those of a desk.
 fn fault_of<S: Alter>(conn: &mut Connection<S>, error: &Error) -> Fault
     ensures mode { conn.old.in_transaction ≡ false → conn.new.in_transaction ≡ false }

@@ -170,7 +170,7 @@ fn leaves_no_tables<S: Alter>(conn: &Connection<S>)
     conn.schema();
 }
 
-/// What a stopped transaction comes to: want of memory before the call that commits, where the connection is seen to
+/// What a stopped transaction comes to: lack of memory before the call that commits, where the connection is seen to
 /// be open still, and else a fault of the store.
 fn fault_of<S: Alter>(conn: &mut Connection<S>, stopped: &Stopped) -> CommitFault
     requires { conn.old.in_transaction ≡ false }

@@ -56,7 +56,7 @@ impl Ledger {
         self.records.orders.get(sender, reference)
     }
 
-    /// The queued orders of the sender, in their order. It answers want of memory.
+    /// The queued orders of the sender, in their order. It answers lack of memory.
     pub fn queue(&self, sender: &Code) -> Result<Vec<Order>, AllocError>
         ensures { IfOk result (λ orders. orders.items ≡ queue self.now.content sender.now) }
     {
@@ -89,7 +89,7 @@ impl Ledger {
         self.records.marks.as_slice()
     }
 
-    /// The participants' codes in their order. It answers want of memory.
+    /// The participants' codes in their order. It answers lack of memory.
     pub fn codes(&self) -> Result<Vec<Code>, AllocError>
         ensures { IfOk result (λ codes. codes.items ≡ accounts self.now.content) }
     {

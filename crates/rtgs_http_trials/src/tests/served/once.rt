@@ -56,10 +56,7 @@ fn a_read_that_failed_is_not_tried_again(rt: HostRuntime) -> Result<(), Fail> {
     let operator = digest(OPERATOR.as_bytes())?;
     let mut desk = open_desk(alloc)?;
     for reads in [0, 1, 60, GOOD.len() - 1] {
-        let mut reader = Stumbling {
-            left: GOOD,
-            reads,
-        };
+        let mut reader = Stumbling { left: GOOD, reads };
         let mut written = Vec::new(alloc);
         let served = serve_one(alloc, &mut reader, &mut written, &mut desk, &operator);
         assert!(rt;

@@ -108,7 +108,10 @@ fn troubled_desk(
     trouble: Trouble,
 ) -> Result<Desk<FailingKeeper<MemoryKeeper>>, Fail> {
     let calls = BEFORE_THE_FIRST.saturating_add(after);
-    let mut desk = desk_over(alloc, FailingKeeper::new(MemoryKeeper::new(alloc), calls, trouble))?;
+    let mut desk = desk_over(
+        alloc,
+        FailingKeeper::new(MemoryKeeper::new(alloc), calls, trouble),
+    )?;
     begin_day(&mut desk)?;
     Ok(desk)
 }
@@ -160,7 +163,12 @@ fn a_failed_desk_says_so_on_each_route(rt: HostRuntime) -> Result<(), Fail> {
     let alloc = rt.alloc();
     let mut desk = troubled_desk(alloc, 0, Trouble::Lost)?;
     let cut_off = "{\"date\":\"2024-03-04\"}";
-    follow(alloc, &mut desk, JSON, &[(OPERATOR, "POST /desk/cutoff", cut_off, BUSY, FAULT)])?;
+    follow(
+        alloc,
+        &mut desk,
+        JSON,
+        &[(OPERATOR, "POST /desk/cutoff", cut_off, BUSY, FAULT)],
+    )?;
     for (key, line, body) in COMMANDS {
         follow(alloc, &mut desk, JSON, &[(key, line, body, BUSY, FAILED)])?;
     }
@@ -175,12 +183,25 @@ const FILE: &str = "reference,to,amount\nA-1,BETA,100\nA-2,GAMA,50\n";
 // The file is told these results by a desk that has no memory for the row with this index.
 fn stops(alloc: Global, row: usize, results: &str) -> Result<(), Fail> {
     let mut desk = troubled_desk(alloc, row, Trouble::OutOfMemory)?;
-    follow(alloc, &mut desk, CSV, &[(ALFA, "POST /batches", FILE, BUSY, results)])
+    follow(
+        alloc,
+        &mut desk,
+        CSV,
+        &[(ALFA, "POST /batches", FILE, BUSY, results)],
+    )
 }
 
 #[test]
 fn a_batch_without_memory_for_a_row_stops_there(rt: HostRuntime) -> Result<(), Fail> {
     let alloc = rt.alloc();
-    stops(alloc, 0, "reference,result,number,detail\nA-1,stopped,,90\n")?;
-    stops(alloc, 1, "reference,result,number,detail\nA-1,queued,1,1\nA-2,stopped,,90\n")
+    stops(
+        alloc,
+        0,
+        "reference,result,number,detail\nA-1,stopped,,90\n",
+    )?;
+    stops(
+        alloc,
+        1,
+        "reference,result,number,detail\nA-1,queued,1,1\nA-2,stopped,,90\n",
+    )
 }

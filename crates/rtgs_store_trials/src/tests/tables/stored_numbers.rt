@@ -42,9 +42,11 @@ fn states_of_an_order(rt: HostRuntime) -> Result<(), Fail> {
         ("2, NULL", "", OrderState::Withdrawn),
         ("3, NULL", "", OrderState::Rejected),
     ] {
-        let sql = format!(in alloc; "UPDATE desk SET date = '2024-03-04', phase = 1;
+        let sql = format!(in alloc;
+            "UPDATE desk SET date = '2024-03-04', phase = 1;
             INSERT INTO payment (number, sender, reference, receiver, amount, date, state, mark)
-            VALUES (1, 'ALFA', 'A-1', 'BETA', 5, '2024-03-04', {columns}); {beside}")?;
+            VALUES (1, 'ALFA', 'A-1', 'BETA', 5, '2024-03-04', {columns}); {beside}"
+        )?;
         let book = book_after(alloc, sql.as_str())?;
         let found = book.orders.as_slice().first().map(|order| order.state);
         assert_eq!(rt; found, Some(state));
