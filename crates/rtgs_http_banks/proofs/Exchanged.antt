@@ -1,5 +1,5 @@
 -- What is known of a request becomes what a desk makes of it.
-use Rattle.std.proofs.Common.{◌≡◌, true, ℕ, List, [], ◌∷◌, length, take, Result, Ok, Err, refl, inl, inr, arith}
+use Rattle.std.proofs.Common.{false, ◌≡◌, true, ℕ, List, [], ◌∷◌, length, take, Result, Ok, Err, refl, inl, inr, arith}
 use Rattle.rtgs_book.specs.Soundness.{IsSound}
 use Rattle.rtgs_book.specs.declared.book.Book.{Book}
 use Rattle.rtgs_book.specs.declared.refusal.Refusal.TheVariants.{Failed}

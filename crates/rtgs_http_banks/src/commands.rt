@@ -30,6 +30,7 @@ pub(crate) fn answer<K: Keeper>(alloc: Global, desk: &mut Desk<K>, asked: &Asked
     ensures failed { K.has_failed desk.old.keeper ≡ true
         → (desk.new ≡ desk.old) × IsSaid (refused_message Refusal.Failed) result }
 {
+    desk.holds_a_sound_book();
     if desk.failed() {
         return failed_reply(alloc);
     }

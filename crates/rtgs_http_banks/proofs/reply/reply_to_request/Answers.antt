@@ -36,8 +36,9 @@ pub returns-in-Err-DirectoryFailed-clause-reply : goal.returns-in-Err-DirectoryF
 returns-in-Err-DirectoryFailed-clause-reply g c = λ operator input says.
     let is : c.args.request.now ≡ Err DirectoryFailed = search rules in
     failed_exchange g.K.Keeper operator input c.args.desk.now c.failed_reply.result
+    c.holds_a_sound_book.ensures.works
     (subst (λ (r : Result Asked Unread). Requests (KnowsOf g.K.Keeper c.args.desk.now) operator input r) is says)
-    c.holds_a_sound_book.ensures.works (c.requires.failed is) c.failed_reply.ensures
+    (c.requires.failed is) c.failed_reply.ensures
 
 pub returns-in-Err-Reader-clause-works : goal.returns-in-Err-Reader-clause-works
 returns-in-Err-Reader-clause-works g c honest book held =
