@@ -4,6 +4,7 @@ pub mod Steps
 pub mod Queries
 pub mod Replacing
 pub mod Refusals
+pub mod Looking
 pub mod Showing
 pub mod Selecting
 pub mod StateLemmas

@@ -34,7 +34,8 @@ accounts_of book = map (account_of book) book.participants
 abbrev pub stored_account : Holding → Account
 stored_account h = record { participant = h.participant; balance = h.balance }
 
--- What is read of such tables, sound or not: the accounts in the order of their codes, all else as it stands. Each value is in its form and range.
+-- What is read of such tables, sound or not: the accounts in the order of their codes, all else as it stands. Each
+-- value is in its form and range.
 pub record AreRead (content : Content) (accounts : List Account) (book : Book) : Type 0 where
   pub order : IsInOrder content
   pub stored : IsPermutation (map stored_account content.holdings) accounts
@@ -54,7 +55,8 @@ entry_of a = (a.participant, a.balance)
 abbrev pub AreTold : List ℕ → List Bool → List Row → List Row → Type 0
 AreTold places counted stored = IsPermutation (map (as_read counted) (map (picked places) stored))
 
--- What is read of trees, sound or not: each value is in its form and range, and each row of the five tables is told by one record. A number below zero is read as 0, which breaks the same rule of a sound book.
+-- What is read of trees, sound or not: each value is in its form and range, and each row of the five tables is told by
+-- one record. A number below zero is read as 0, which breaks the same rule of a sound book.
 pub record AreReadOf (trees : Trees) (accounts : List Account) (book : Book) : Type 0 where
   pub fits : Fits book
   pub named : book.participants ≡ map (λ (a : Account). a.participant) accounts
@@ -67,10 +69,14 @@ pub record AreReadOf (trees : Trees) (accounts : List Account) (book : Book) : T
 -- Each row of the five tables is in the form of a record, and the first table has one row.
 pub record AreFormed (trees : Trees) : Type 0 where
   pub desk : (day : Day) × FitsDate day.date × ShowsDesk trees (shown_day day ∷ [])
-  pub participants : AllByRecursion (IsFormed (λ (a : Account). FitsParticipant a.participant) [] (λ (a : Account). shown_account a.participant a.balance)) (map (picked (1 ∷ 2 ∷ 3 ∷ 4 ∷ 5 ∷ [])) (trees 1))
-  pub postings : AllByRecursion (IsFormed FitsPosting counted_of_posting shown_posting) (map (picked (0 ∷ 2 ∷ 3 ∷ 4 ∷ 5 ∷ [])) (trees 4))
-  pub payments : AllByRecursion (IsFormed FitsOrder counted_of_order shown_order) (map (picked (0 ∷ 2 ∷ 3 ∷ 4 ∷ 5 ∷ 6 ∷ 7 ∷ 8 ∷ [])) (trees 6))
-  pub marks : AllByRecursion (IsFormed FitsMark counted_of_mark shown_mark) (map (picked (0 ∷ 2 ∷ 3 ∷ 4 ∷ [])) (trees 8))
+  pub participants : AllByRecursion (IsFormed (λ (a : Account). FitsParticipant a.participant) []
+      (λ (a : Account). shown_account a.participant a.balance)) (map (picked (1 ∷ 2 ∷ 3 ∷ 4 ∷ 5 ∷ [])) (trees 1))
+  pub postings : AllByRecursion (IsFormed FitsPosting counted_of_posting shown_posting)
+      (map (picked (0 ∷ 2 ∷ 3 ∷ 4 ∷ 5 ∷ [])) (trees 4))
+  pub payments : AllByRecursion (IsFormed FitsOrder counted_of_order shown_order)
+      (map (picked (0 ∷ 2 ∷ 3 ∷ 4 ∷ 5 ∷ 6 ∷ 7 ∷ 8 ∷ [])) (trees 6))
+  pub marks : AllByRecursion (IsFormed FitsMark counted_of_mark shown_mark)
+      (map (picked (0 ∷ 2 ∷ 3 ∷ 4 ∷ [])) (trees 8))
 
 -- the tables at rest have these records
 abbrev pub HasRecords : List Account → Book → State → Type 0
@@ -82,7 +88,8 @@ AreBalances book accounts = AllByRecursion (λ (a : Account). a.balance ≡ bala
 
 -- the account stores the balance that a map has under its code
 abbrev pub is_stored : BTreeMap (List ℕ) ℤ → Account → Bool
-is_stored balances a = unwrap_or (option_map (int_eq a.balance) (get (slice_cmp nat_cmp) balances a.participant.code)) false
+is_stored balances a = unwrap_or (option_map (int_eq a.balance)
+    (get (slice_cmp nat_cmp) balances a.participant.code)) false
 
 -- the records keep the rule: the last one is about the stored balances, which a book has not
 abbrev pub KeepsStored : List Account → Book → Rule → Type 0
@@ -93,20 +100,24 @@ pub record BreaksFirst (accounts : List Account) (book : Book) (rule : Rule) : T
   pub broken : ¬ KeepsStored accounts book rule
   pub before : KeepsBefore book rule
 
--- Why records in their forms give no book: they break a rule, and this one first, or else the store failed or memory was refused.
+-- Why records in their forms give no book: they break a rule, and this one first, or else the store failed or memory
+-- was refused.
 abbrev pub ExplainsRead : List Account → Book → Fault → Type 0
 ExplainsRead accounts book OutOfMemory = ⊤
 ExplainsRead accounts book StoreFault = ⊤
 ExplainsRead accounts book NotADeskFile = ⊥
 ExplainsRead accounts book (Inconsistent rule) = BreaksFirst accounts book rule
 
--- Why tables with the schema of a desk give no book, whatever their rows are: a row is in no form; or all are, and this is the first rule that the records break; or else the store failed or memory was refused.
+-- Why tables with the schema of a desk give no book, whatever their rows are: a row is in no form; or all are, and this
+-- is the first rule that the records break; or else the store failed or memory was refused.
 abbrev pub ExplainsTrees : Trees → Fault → Type 0
 ExplainsTrees trees OutOfMemory = ⊤
 ExplainsTrees trees StoreFault = ⊤
 ExplainsTrees trees NotADeskFile = ¬ AreFormed trees
-ExplainsTrees trees (Inconsistent rule) = (accounts : List Account) × (book : Book) × AreReadOf trees accounts book × BreaksFirst accounts book rule
+ExplainsTrees trees (Inconsistent rule) = (accounts : List Account) × (book : Book) × AreReadOf trees accounts book
+    × BreaksFirst accounts book rule
 
 -- The queries show the records of the book, with stored balances that are the sums from scratch.
 abbrev pub IsShown : Trees → Book → Type 0
-IsShown trees book = (entries : List (Participant × ℤ)) × ShowsBook trees book entries × AllByRecursion (λ (entry : Participant × ℤ). entry.1 ≡ balance book entry.0.code) entries
+IsShown trees book = (entries : List (Participant × ℤ)) × ShowsBook trees book entries
+    × AllByRecursion (λ (entry : Participant × ℤ). entry.1 ≡ balance book entry.0.code) entries

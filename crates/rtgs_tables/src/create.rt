@@ -16,9 +16,12 @@ use sqlite::{Alter, Connection, Error, Transaction};
 /// Makes one more table.
 fn create_table<S: Alter>(tx: &mut Transaction<'_, S>, sql: &str) -> Result<usize, Error>
     ensures same_reference { tx.new.conn.ghost_name ≡ tx.old.conn.ghost_name }
-    ensures made { HasCleanDisk (state S.Store tx.new.conn.now) → (was : Database) (schema next : Schema) (table : Table) → IsBuilt was schema (state S.Store tx.old.conn.now) → Makes sql.now schema table next
+    ensures made { HasCleanDisk (state S.Store tx.new.conn.now)
+        → (was : Database) (schema next : Schema) (table : Table) → IsBuilt was schema (state S.Store tx.old.conn.now)
+        → Makes sql.now schema table next
         → OnOk result (IsBuilt was next (state S.Store tx.new.conn.now)) }
-    ensures kept { HasCleanDisk (state S.Store tx.new.conn.now) → KeepsCommit (state S.Store tx.old.conn.now) (state S.Store tx.new.conn.now) }
+    ensures kept { HasCleanDisk (state S.Store tx.new.conn.now)
+        → KeepsCommit (state S.Store tx.old.conn.now) (state S.Store tx.new.conn.now) }
     ensures survives { Survives (state S.Store tx.old.conn.now) (state S.Store tx.new.conn.now) (λ _. ⊥) }
 {
     tx.execute(sql, &[])
@@ -27,9 +30,11 @@ fn create_table<S: Alter>(tx: &mut Transaction<'_, S>, sql: &str) -> Result<usiz
 /// The one row of the desk.
 fn first_day<S: Alter>(tx: &mut Transaction<'_, S>) -> Result<usize, Error>
     ensures same_reference { tx.new.conn.ghost_name ≡ tx.old.conn.ghost_name }
-    ensures made { HasCleanDisk (state S.Store tx.new.conn.now) → (was : Database) → IsBuilt was desk_schema (state S.Store tx.old.conn.now)
+    ensures made { HasCleanDisk (state S.Store tx.new.conn.now) → (was : Database)
+        → IsBuilt was desk_schema (state S.Store tx.old.conn.now)
         → OnOk result (Stands was first_content (state S.Store tx.new.conn.now)) }
-    ensures kept { HasCleanDisk (state S.Store tx.new.conn.now) → KeepsCommit (state S.Store tx.old.conn.now) (state S.Store tx.new.conn.now) }
+    ensures kept { HasCleanDisk (state S.Store tx.new.conn.now)
+        → KeepsCommit (state S.Store tx.old.conn.now) (state S.Store tx.new.conn.now) }
     ensures survives { Survives (state S.Store tx.old.conn.now) (state S.Store tx.new.conn.now) (λ _. ⊥) }
 {
     tx.execute(
@@ -41,9 +46,11 @@ fn first_day<S: Alter>(tx: &mut Transaction<'_, S>) -> Result<usize, Error>
 /// Makes the five tables inside the transaction.
 fn build<S: Alter>(tx: &mut Transaction<'_, S>) -> Result<(), Error>
     ensures same_reference { tx.new.conn.ghost_name ≡ tx.old.conn.ghost_name }
-    ensures made { HasCleanDisk (state S.Store tx.new.conn.now) → (was : Database) → IsBuilt was no_schema (state S.Store tx.old.conn.now)
+    ensures made { HasCleanDisk (state S.Store tx.new.conn.now) → (was : Database)
+        → IsBuilt was no_schema (state S.Store tx.old.conn.now)
         → OnOk result (Stands was first_content (state S.Store tx.new.conn.now)) }
-    ensures kept { HasCleanDisk (state S.Store tx.new.conn.now) → KeepsCommit (state S.Store tx.old.conn.now) (state S.Store tx.new.conn.now) }
+    ensures kept { HasCleanDisk (state S.Store tx.new.conn.now)
+        → KeepsCommit (state S.Store tx.old.conn.now) (state S.Store tx.new.conn.now) }
     ensures survives { Survives (state S.Store tx.old.conn.now) (state S.Store tx.new.conn.now) (λ _. ⊥) }
 {
     create_table(
@@ -74,10 +81,14 @@ fn build<S: Alter>(tx: &mut Transaction<'_, S>) -> Result<(), Error>
 pub(crate) fn create_tables<S: Alter>(conn: &mut Connection<S>) -> Result<(), Stopped>
     requires { conn.old.in_transaction ≡ false }
     ensures mode { conn.new.in_transaction ≡ false }
-    ensures done { HasCleanDisk (state S.Store conn.new) → IsBlank (state S.Store conn.old) → OnOk result (Rests first_content (state S.Store conn.new)) }
-    ensures undone { HasCleanDisk (state S.Store conn.new) → IsBlank (state S.Store conn.old) → IsTrue (state S.Store conn.new).is_open → IfErr result (λ e. IsBefore e → IsBlank (state S.Store conn.new)) }
-    ensures early { IfErr result (λ e. IsBefore e → Survives (state S.Store conn.old) (state S.Store conn.new) (λ _. ⊥)) }
-    ensures crash { Survives (state S.Store conn.old) (state S.Store conn.new) (λ trees. IsBlank (state S.Store conn.old) → Holds first_content trees) }
+    ensures done { HasCleanDisk (state S.Store conn.new) → IsBlank (state S.Store conn.old)
+        → OnOk result (Rests first_content (state S.Store conn.new)) }
+    ensures undone { HasCleanDisk (state S.Store conn.new) → IsBlank (state S.Store conn.old)
+        → IsTrue (state S.Store conn.new).is_open → IfErr result (λ e. IsBefore e → IsBlank (state S.Store conn.new)) }
+    ensures early { IfErr result (λ e. IsBefore e → Survives (state S.Store conn.old) (state S.Store conn.new)
+        (λ _. ⊥)) }
+    ensures crash { Survives (state S.Store conn.old) (state S.Store conn.new)
+        (λ trees. IsBlank (state S.Store conn.old) → Holds first_content trees) }
 {
     let mut tx = conn.transaction();
     match build(&mut tx) {

@@ -1,5 +1,6 @@
 //! The values of a row, by their place.
-ghost use Rattle.std.specs.Prelude.{◌≡◌, ◌<◌, ℕ, ℤ, pos, List, length, Some, None, true, false, IsSome, IfSome, OnSome, IsSomeAnd};
+ghost use Rattle.std.specs.Prelude.{◌≡◌, ◌<◌, ℕ, ℤ, pos, List, length, Some, None, true, false, IsSome, IfSome, OnSome};
+ghost use Rattle.std.specs.Prelude.{IsSomeAnd};
 ghost use Rattle.sqlite_value.specs.Order.{column};
 ghost use Rattle.sqlite.specs.declared.types.Value.TheVariants.{Null, Int, Text, Blob};
 ghost use Rattle.rtgs_money.specs.Forms.{IsCode, IsReference, IsName};
@@ -63,7 +64,8 @@ pub(crate) fn cents(row: &Row, at: usize) -> Option<Cents>
 
 /// The bytes of a text.
 pub(crate) fn text(row: &Row, at: usize) -> Option<&[u8]>
-    ensures found { (bytes : List ℕ) → at < length row.now → column row.now at ≡ Text bytes → IsSomeAnd result (λ s. s.now ≡ bytes) }
+    ensures found { (bytes : List ℕ) → at < length row.now → column row.now at ≡ Text bytes
+        → IsSomeAnd result (λ s. s.now ≡ bytes) }
     ensures is { IfSome result (λ s. column row.now at ≡ Text s.now) }
 {
     match row.get_ref(at) {
@@ -74,7 +76,8 @@ pub(crate) fn text(row: &Row, at: usize) -> Option<&[u8]>
 
 /// The bytes of a blob.
 pub(crate) fn blob(row: &Row, at: usize) -> Option<&[u8]>
-    ensures found { (bytes : List ℕ) → at < length row.now → column row.now at ≡ Blob bytes → IsSomeAnd result (λ s. s.now ≡ bytes) }
+    ensures found { (bytes : List ℕ) → at < length row.now → column row.now at ≡ Blob bytes
+        → IsSomeAnd result (λ s. s.now ≡ bytes) }
     ensures is { IfSome result (λ s. column row.now at ≡ Blob s.now) }
 {
     match row.get_ref(at) {
@@ -95,7 +98,8 @@ pub(crate) fn is_null(row: &Row, at: usize) -> bool
 
 /// A participant's code.
 pub(crate) fn code(row: &Row, at: usize) -> Option<Code>
-    ensures found { (code : List ℕ) → IsCode code → at < length row.now → column row.now at ≡ Text code → result ≡ Some code }
+    ensures found { (code : List ℕ) → IsCode code → at < length row.now → column row.now at ≡ Text code
+        → result ≡ Some code }
     ensures is { IfSome result (λ it. IsCode it × (column row.now at ≡ Text it)) }
 {
     Code::read(text(row, at)?).ok()
@@ -103,7 +107,8 @@ pub(crate) fn code(row: &Row, at: usize) -> Option<Code>
 
 /// A reference.
 pub(crate) fn reference(row: &Row, at: usize) -> Option<Reference>
-    ensures found { (reference : List ℕ) → IsReference reference → at < length row.now → column row.now at ≡ Text reference → result ≡ Some reference }
+    ensures found { (reference : List ℕ) → IsReference reference → at < length row.now
+        → column row.now at ≡ Text reference → result ≡ Some reference }
     ensures is { IfSome result (λ it. IsReference it × (column row.now at ≡ Text it)) }
 {
     Reference::read(text(row, at)?).ok()
@@ -111,7 +116,8 @@ pub(crate) fn reference(row: &Row, at: usize) -> Option<Reference>
 
 /// A participant's name.
 pub(crate) fn name(row: &Row, at: usize) -> Option<Name>
-    ensures found { (name : List ℕ) → IsName name → at < length row.now → column row.now at ≡ Text name → result ≡ Some name }
+    ensures found { (name : List ℕ) → IsName name → at < length row.now → column row.now at ≡ Text name
+        → result ≡ Some name }
     ensures is { IfSome result (λ it. IsName it × (column row.now at ≡ Text it)) }
 {
     Name::read(text(row, at)?).ok()
@@ -119,7 +125,8 @@ pub(crate) fn name(row: &Row, at: usize) -> Option<Name>
 
 /// A business date.
 pub(crate) fn date(row: &Row, at: usize) -> Option<BusinessDate>
-    ensures found { (date : ℕ) → IsBusinessDate date → at < length row.now → column row.now at ≡ Text (date_text date) → result ≡ Some date }
+    ensures found { (date : ℕ) → IsBusinessDate date → at < length row.now → column row.now at ≡ Text (date_text date)
+        → result ≡ Some date }
     ensures is { IfSome result (λ it. IsBusinessDate it × (column row.now at ≡ Text (date_text it))) }
 {
     BusinessDate::read(text(row, at)?).ok()
@@ -128,7 +135,8 @@ pub(crate) fn date(row: &Row, at: usize) -> Option<BusinessDate>
 /// A business date, or none.
 pub(crate) fn date_or_null(row: &Row, at: usize) -> Option<Option<BusinessDate>>
     ensures none { at < length row.now → column row.now at ≡ Null → result ≡ Some None }
-    ensures some { (date : ℕ) → IsBusinessDate date → at < length row.now → column row.now at ≡ Text (date_text date) → result ≡ Some (Some date) }
+    ensures some { (date : ℕ) → IsBusinessDate date → at < length row.now → column row.now at ≡ Text (date_text date)
+        → result ≡ Some (Some date) }
     ensures is { IfSome result (λ it. FitsDate it × (column row.now at ≡ date_value it)) }
 {
     if is_null(row, at) {

@@ -3,7 +3,8 @@ ghost use Rattle.std.specs.Prelude.{◌≡◌, ◌≢◌, false, map, List, Err,
 ghost use Rattle.rtgs_book.specs.declared.Book.{Book};
 ghost use Rattle.rtgs_book.specs.declared.Rule.{Rule};
 ghost use Rattle.rtgs_book.specs.declared.account.Account.{Account as AccountSpec};
-ghost use Rattle.rtgs_tables.specs.Accounts.{HasRecords, AreBalances, AreReadOf, AreFormed, ExplainsRead, ExplainsTrees, IsShown};
+ghost use Rattle.rtgs_tables.specs.Accounts.{HasRecords, AreBalances, AreReadOf, AreFormed, ExplainsRead};
+ghost use Rattle.rtgs_tables.specs.Accounts.{ExplainsTrees, IsShown};
 ghost use Rattle.rtgs_tables.specs.Building.{IsBlank};
 ghost use Rattle.rtgs_book.specs.Soundness.{IsSound};
 ghost use Rattle.rtgs_rows.specs.Content.{Content, Holds};
@@ -30,14 +31,19 @@ struct Stored {
 
 /// Reads the five tables.
 fn read_tables<S: Alter>(alloc: Global, conn: &mut Connection<S>) -> Result<Stored, Fault>
-    ensures read { HasCleanDisk (state S.Store conn.new) → (accounts : List AccountSpec) (book : Book) → HasRecords accounts book (state S.Store conn.old) → IfOk result (λ stored. (stored.book ≡ book) × (stored.accounts.items ≡ accounts)) }
-    ensures is { HasCleanDisk (state S.Store conn.new) → (trees : Trees) → IsDeskFile trees (state S.Store conn.old) → IfOk result (λ stored. AreReadOf trees stored.accounts.items stored.book) }
-    ensures right { HasCleanDisk (state S.Store conn.new) → (accounts : List AccountSpec) (book : Book) → HasRecords accounts book (state S.Store conn.old) → result ≢ Err Fault.NotADeskFile }
+    ensures read { HasCleanDisk (state S.Store conn.new) → (accounts : List AccountSpec) (book : Book)
+        → HasRecords accounts book (state S.Store conn.old)
+        → IfOk result (λ stored. (stored.book ≡ book) × (stored.accounts.items ≡ accounts)) }
+    ensures is { HasCleanDisk (state S.Store conn.new) → (trees : Trees) → IsDeskFile trees (state S.Store conn.old)
+        → IfOk result (λ stored. AreReadOf trees stored.accounts.items stored.book) }
+    ensures right { HasCleanDisk (state S.Store conn.new) → (accounts : List AccountSpec) (book : Book)
+        → HasRecords accounts book (state S.Store conn.old) → result ≢ Err Fault.NotADeskFile }
     ensures wrong { HasCleanDisk (state S.Store conn.new) → (trees : Trees) → IsDeskFile trees (state S.Store conn.old)
         → result ≡ Err Fault.NotADeskFile → ¬ AreFormed trees }
     ensures kinds { (rule : Rule) → result ≢ Err (Fault.Inconsistent rule) }
     ensures blank { HasCleanDisk (state S.Store conn.new) → IsBlank (state S.Store conn.old) → IfOk result (λ _. ⊥) }
-    ensures same { HasCleanDisk (state S.Store conn.new) → (trees : Trees) → IsDeskFile trees (state S.Store conn.old) → result ≢ Err Fault.StoreFault → IsDeskFile trees (state S.Store conn.new) }
+    ensures same { HasCleanDisk (state S.Store conn.new) → (trees : Trees) → IsDeskFile trees (state S.Store conn.old)
+        → result ≢ Err Fault.StoreFault → IsDeskFile trees (state S.Store conn.new) }
     ensures survives { Survives (state S.Store conn.old) (state S.Store conn.new) (λ _. ⊥) }
     ensures mode { conn.old.in_transaction ≡ false → conn.new.in_transaction ≡ false }
     ensures honest { HasCleanDisk (state S.Store conn.new) → HasCleanDisk (state S.Store conn.old) }
@@ -68,8 +74,8 @@ fn participants_of(alloc: Global, accounts: &[Account]) -> Result<Vec<Participan
         .collect(alloc)
 }
 
-/// The book of the tables, once it is seen to be sound, and the stored balances to be its balances. Else the fault names
-/// the first rule that is broken, or memory was refused.
+/// The book of the tables, once it is seen to be sound, and the stored balances to be its balances. Else the fault
+/// names the first rule that is broken, or memory was refused.
 fn judged(stored: Stored) -> Result<Book, Fault>
     ensures given { IfOk result (λ book. book ≡ stored.book) }
     ensures sound { IfOk result IsSound }
@@ -88,18 +94,24 @@ fn judged(stored: Stored) -> Result<Book, Fault>
     }
 }
 
-/// Loads the book, and judges it. Records that break a rule are answered by the first one that they break, and what is no
-/// desk's tables by `NotADeskFile`. A book is given only where the tables hold it.
+/// Loads the book, and judges it. Records that break a rule are answered by the first one that they break, and what is
+/// no desk's tables by `NotADeskFile`. A book is given only where the tables hold it.
 pub(crate) fn load_book<S: Alter>(alloc: Global, conn: &mut Connection<S>) -> Result<Book, Fault>
-    ensures read { HasCleanDisk (state S.Store conn.new) → (accounts : List AccountSpec) (book : Book) → HasRecords accounts book (state S.Store conn.old) → IfOk result (λ loaded. (loaded ≡ book) × AreBalances book accounts) }
-    ensures held { HasCleanDisk (state S.Store conn.new) → (trees : Trees) → IsDeskFile trees (state S.Store conn.old) → AreWhole trees → IfOk result (λ book. (content : Content) × Holds content trees × IsBookOf book content) }
+    ensures read { HasCleanDisk (state S.Store conn.new) → (accounts : List AccountSpec) (book : Book)
+        → HasRecords accounts book (state S.Store conn.old)
+        → IfOk result (λ loaded. (loaded ≡ book) × AreBalances book accounts) }
+    ensures held { HasCleanDisk (state S.Store conn.new) → (trees : Trees) → IsDeskFile trees (state S.Store conn.old)
+        → AreWhole trees → IfOk result (λ book. (content : Content) × Holds content trees × IsBookOf book content) }
     ensures shown { HasCleanDisk (state S.Store conn.new) → (trees : Trees) → IsDeskFile trees (state S.Store conn.old)
         → IfOk result (IsShown trees) }
-    ensures explained { HasCleanDisk (state S.Store conn.new) → (accounts : List AccountSpec) (book : Book) → HasRecords accounts book (state S.Store conn.old) → IfErr result (ExplainsRead accounts book) }
+    ensures explained { HasCleanDisk (state S.Store conn.new) → (accounts : List AccountSpec) (book : Book)
+        → HasRecords accounts book (state S.Store conn.old) → IfErr result (ExplainsRead accounts book) }
     ensures caused { HasCleanDisk (state S.Store conn.new) → (trees : Trees) → IsDeskFile trees (state S.Store conn.old)
         → IfErr result (ExplainsTrees trees) }
-    ensures blank { HasCleanDisk (state S.Store conn.new) → IsBlank (state S.Store conn.old) → IfOk result (λ _. ⊥) × ((rule : Rule) → result ≢ Err (Fault.Inconsistent rule)) }
-    ensures same { HasCleanDisk (state S.Store conn.new) → (trees : Trees) → IsDeskFile trees (state S.Store conn.old) → result ≢ Err Fault.StoreFault → IsDeskFile trees (state S.Store conn.new) }
+    ensures blank { HasCleanDisk (state S.Store conn.new) → IsBlank (state S.Store conn.old)
+        → IfOk result (λ _. ⊥) × ((rule : Rule) → result ≢ Err (Fault.Inconsistent rule)) }
+    ensures same { HasCleanDisk (state S.Store conn.new) → (trees : Trees) → IsDeskFile trees (state S.Store conn.old)
+        → result ≢ Err Fault.StoreFault → IsDeskFile trees (state S.Store conn.new) }
     ensures survives { Survives (state S.Store conn.old) (state S.Store conn.new) (λ _. ⊥) }
     ensures sound { IfOk result IsSound }
     ensures mode { conn.old.in_transaction ≡ false → conn.new.in_transaction ≡ false }

@@ -9,8 +9,9 @@ ghost use Rattle.rtgs_book.specs.declared.account.Account.{Account as AccountSpe
 ghost use Rattle.rtgs_tables.specs.Accounts.{HasRecords, AreTold};
 ghost use Rattle.rtgs_tables.specs.Building.{IsBlank};
 ghost use Rattle.rtgs_rows.specs.Rows.{shown_day, shown_account, shown_posting, shown_order, shown_mark};
-ghost use Rattle.rtgs_rows.specs.Querying.{picked, IsDeskFile, ShowsDesk, ShowsParticipants, ShowsPostings, ShowsPayments, ShowsMarks};
-ghost use Rattle.rtgs_tables.specs.Faults.{IsOfStore};
+ghost use Rattle.rtgs_rows.specs.Querying.{picked, IsDeskFile, ShowsDesk, ShowsParticipants, ShowsPostings};
+ghost use Rattle.rtgs_rows.specs.Querying.{ShowsPayments, ShowsMarks};
+ghost use Rattle.rtgs_tables.specs.Faults.{IsOfStore, LookFailed};
 ghost use Rattle.rtgs_tables.specs.Numbers.{counted_of_posting, counted_of_order, counted_of_mark, IsFormed};
 ghost use Rattle.sqlite.specs.State.{HasCleanDisk, IsUnchanged, Survives};
 ghost use Rattle.sqlite.specs.Held.{state};
@@ -26,11 +27,17 @@ const NO_STATEMENT: &str = "OPEN";
 
 /// The rows of the table `desk`.
 fn desk_rows<S: Alter>(conn: &mut Connection<S>) -> Result<Vec<Row>, Error>
-    ensures rows { HasCleanDisk (state S.Store conn.new) → (accounts : List AccountSpec) (book : Book) → HasRecords accounts book (state S.Store conn.old) → IfOk result (λ rows. rows.items ≡ shown_day book.day ∷ []) }
-    ensures raw { HasCleanDisk (state S.Store conn.new) → (trees : Trees) → IsDeskFile trees (state S.Store conn.old) → IfOk result (λ rows. ShowsDesk trees rows.items) }
-    ensures kept { HasCleanDisk (state S.Store conn.new) → (trees : Trees) → IsDeskFile trees (state S.Store conn.old) → OnOk result (IsDeskFile trees (state S.Store conn.new)) }
-    ensures refused { HasCleanDisk (state S.Store conn.new) → (trees : Trees) → IsDeskFile trees (state S.Store conn.old) → IfErr result IsOfStore }
-    ensures intact { HasCleanDisk (state S.Store conn.new) → (trees : Trees) → IsDeskFile trees (state S.Store conn.old) → IsTrue (state S.Store conn.new).is_open → IsDeskFile trees (state S.Store conn.new) }
+    ensures rows { HasCleanDisk (state S.Store conn.new) → (accounts : List AccountSpec) (book : Book)
+        → HasRecords accounts book (state S.Store conn.old)
+        → IfOk result (λ rows. rows.items ≡ shown_day book.day ∷ []) }
+    ensures raw { HasCleanDisk (state S.Store conn.new) → (trees : Trees) → IsDeskFile trees (state S.Store conn.old)
+        → IfOk result (λ rows. ShowsDesk trees rows.items) }
+    ensures kept { HasCleanDisk (state S.Store conn.new) → (trees : Trees) → IsDeskFile trees (state S.Store conn.old)
+        → OnOk result (IsDeskFile trees (state S.Store conn.new)) }
+    ensures refused { HasCleanDisk (state S.Store conn.new) → (trees : Trees)
+        → IsDeskFile trees (state S.Store conn.old) → IfErr result IsOfStore }
+    ensures intact { HasCleanDisk (state S.Store conn.new) → (trees : Trees) → IsDeskFile trees (state S.Store conn.old)
+        → IsTrue (state S.Store conn.new).is_open → IsDeskFile trees (state S.Store conn.new) }
     ensures blank { HasCleanDisk (state S.Store conn.new) → IsBlank (state S.Store conn.old) → IfOk result (λ _. ⊥) }
     ensures survives { Survives (state S.Store conn.old) (state S.Store conn.new) (λ _. ⊥) }
     ensures mode { conn.old.in_transaction ≡ false → conn.new.in_transaction ≡ false }
@@ -41,11 +48,17 @@ fn desk_rows<S: Alter>(conn: &mut Connection<S>) -> Result<Vec<Row>, Error>
 
 /// The participants' rows in the order of their codes.
 fn participant_rows<S: Alter>(conn: &mut Connection<S>) -> Result<Vec<Row>, Error>
-    ensures rows { HasCleanDisk (state S.Store conn.new) → (accounts : List AccountSpec) (book : Book) → HasRecords accounts book (state S.Store conn.old) → IfOk result (λ rows. rows.items ≡ map (λ (a : AccountSpec). shown_account a.participant a.balance) accounts) }
-    ensures raw { HasCleanDisk (state S.Store conn.new) → (trees : Trees) → IsDeskFile trees (state S.Store conn.old) → IfOk result (λ rows. ShowsParticipants trees rows.items) }
-    ensures kept { HasCleanDisk (state S.Store conn.new) → (trees : Trees) → IsDeskFile trees (state S.Store conn.old) → OnOk result (IsDeskFile trees (state S.Store conn.new)) }
-    ensures refused { HasCleanDisk (state S.Store conn.new) → (trees : Trees) → IsDeskFile trees (state S.Store conn.old) → IfErr result IsOfStore }
-    ensures intact { HasCleanDisk (state S.Store conn.new) → (trees : Trees) → IsDeskFile trees (state S.Store conn.old) → IsTrue (state S.Store conn.new).is_open → IsDeskFile trees (state S.Store conn.new) }
+    ensures rows { HasCleanDisk (state S.Store conn.new) → (accounts : List AccountSpec) (book : Book)
+        → HasRecords accounts book (state S.Store conn.old)
+        → IfOk result (λ rows. rows.items ≡ map (λ (a : AccountSpec). shown_account a.participant a.balance) accounts) }
+    ensures raw { HasCleanDisk (state S.Store conn.new) → (trees : Trees) → IsDeskFile trees (state S.Store conn.old)
+        → IfOk result (λ rows. ShowsParticipants trees rows.items) }
+    ensures kept { HasCleanDisk (state S.Store conn.new) → (trees : Trees) → IsDeskFile trees (state S.Store conn.old)
+        → OnOk result (IsDeskFile trees (state S.Store conn.new)) }
+    ensures refused { HasCleanDisk (state S.Store conn.new) → (trees : Trees)
+        → IsDeskFile trees (state S.Store conn.old) → IfErr result IsOfStore }
+    ensures intact { HasCleanDisk (state S.Store conn.new) → (trees : Trees) → IsDeskFile trees (state S.Store conn.old)
+        → IsTrue (state S.Store conn.new).is_open → IsDeskFile trees (state S.Store conn.new) }
     ensures survives { Survives (state S.Store conn.old) (state S.Store conn.new) (λ _. ⊥) }
     ensures mode { conn.old.in_transaction ≡ false → conn.new.in_transaction ≡ false }
     ensures honest { HasCleanDisk (state S.Store conn.new) → HasCleanDisk (state S.Store conn.old) }
@@ -58,11 +71,17 @@ fn participant_rows<S: Alter>(conn: &mut Connection<S>) -> Result<Vec<Row>, Erro
 
 /// The postings' rows in rising number.
 fn posting_rows<S: Alter>(conn: &mut Connection<S>) -> Result<Vec<Row>, Error>
-    ensures rows { HasCleanDisk (state S.Store conn.new) → (accounts : List AccountSpec) (book : Book) → HasRecords accounts book (state S.Store conn.old) → IfOk result (λ rows. rows.items ≡ map shown_posting book.postings) }
-    ensures raw { HasCleanDisk (state S.Store conn.new) → (trees : Trees) → IsDeskFile trees (state S.Store conn.old) → IfOk result (λ rows. ShowsPostings trees rows.items) }
-    ensures kept { HasCleanDisk (state S.Store conn.new) → (trees : Trees) → IsDeskFile trees (state S.Store conn.old) → OnOk result (IsDeskFile trees (state S.Store conn.new)) }
-    ensures refused { HasCleanDisk (state S.Store conn.new) → (trees : Trees) → IsDeskFile trees (state S.Store conn.old) → IfErr result IsOfStore }
-    ensures intact { HasCleanDisk (state S.Store conn.new) → (trees : Trees) → IsDeskFile trees (state S.Store conn.old) → IsTrue (state S.Store conn.new).is_open → IsDeskFile trees (state S.Store conn.new) }
+    ensures rows { HasCleanDisk (state S.Store conn.new) → (accounts : List AccountSpec) (book : Book)
+        → HasRecords accounts book (state S.Store conn.old)
+        → IfOk result (λ rows. rows.items ≡ map shown_posting book.postings) }
+    ensures raw { HasCleanDisk (state S.Store conn.new) → (trees : Trees) → IsDeskFile trees (state S.Store conn.old)
+        → IfOk result (λ rows. ShowsPostings trees rows.items) }
+    ensures kept { HasCleanDisk (state S.Store conn.new) → (trees : Trees) → IsDeskFile trees (state S.Store conn.old)
+        → OnOk result (IsDeskFile trees (state S.Store conn.new)) }
+    ensures refused { HasCleanDisk (state S.Store conn.new) → (trees : Trees)
+        → IsDeskFile trees (state S.Store conn.old) → IfErr result IsOfStore }
+    ensures intact { HasCleanDisk (state S.Store conn.new) → (trees : Trees) → IsDeskFile trees (state S.Store conn.old)
+        → IsTrue (state S.Store conn.new).is_open → IsDeskFile trees (state S.Store conn.new) }
     ensures survives { Survives (state S.Store conn.old) (state S.Store conn.new) (λ _. ⊥) }
     ensures mode { conn.old.in_transaction ≡ false → conn.new.in_transaction ≡ false }
     ensures honest { HasCleanDisk (state S.Store conn.new) → HasCleanDisk (state S.Store conn.old) }
@@ -75,11 +94,17 @@ fn posting_rows<S: Alter>(conn: &mut Connection<S>) -> Result<Vec<Row>, Error>
 
 /// The orders' rows in rising number.
 fn payment_rows<S: Alter>(conn: &mut Connection<S>) -> Result<Vec<Row>, Error>
-    ensures rows { HasCleanDisk (state S.Store conn.new) → (accounts : List AccountSpec) (book : Book) → HasRecords accounts book (state S.Store conn.old) → IfOk result (λ rows. rows.items ≡ map shown_order book.orders) }
-    ensures raw { HasCleanDisk (state S.Store conn.new) → (trees : Trees) → IsDeskFile trees (state S.Store conn.old) → IfOk result (λ rows. ShowsPayments trees rows.items) }
-    ensures kept { HasCleanDisk (state S.Store conn.new) → (trees : Trees) → IsDeskFile trees (state S.Store conn.old) → OnOk result (IsDeskFile trees (state S.Store conn.new)) }
-    ensures refused { HasCleanDisk (state S.Store conn.new) → (trees : Trees) → IsDeskFile trees (state S.Store conn.old) → IfErr result IsOfStore }
-    ensures intact { HasCleanDisk (state S.Store conn.new) → (trees : Trees) → IsDeskFile trees (state S.Store conn.old) → IsTrue (state S.Store conn.new).is_open → IsDeskFile trees (state S.Store conn.new) }
+    ensures rows { HasCleanDisk (state S.Store conn.new) → (accounts : List AccountSpec) (book : Book)
+        → HasRecords accounts book (state S.Store conn.old)
+        → IfOk result (λ rows. rows.items ≡ map shown_order book.orders) }
+    ensures raw { HasCleanDisk (state S.Store conn.new) → (trees : Trees) → IsDeskFile trees (state S.Store conn.old)
+        → IfOk result (λ rows. ShowsPayments trees rows.items) }
+    ensures kept { HasCleanDisk (state S.Store conn.new) → (trees : Trees) → IsDeskFile trees (state S.Store conn.old)
+        → OnOk result (IsDeskFile trees (state S.Store conn.new)) }
+    ensures refused { HasCleanDisk (state S.Store conn.new) → (trees : Trees)
+        → IsDeskFile trees (state S.Store conn.old) → IfErr result IsOfStore }
+    ensures intact { HasCleanDisk (state S.Store conn.new) → (trees : Trees) → IsDeskFile trees (state S.Store conn.old)
+        → IsTrue (state S.Store conn.new).is_open → IsDeskFile trees (state S.Store conn.new) }
     ensures survives { Survives (state S.Store conn.old) (state S.Store conn.new) (λ _. ⊥) }
     ensures mode { conn.old.in_transaction ≡ false → conn.new.in_transaction ≡ false }
     ensures honest { HasCleanDisk (state S.Store conn.new) → HasCleanDisk (state S.Store conn.old) }
@@ -92,11 +117,17 @@ fn payment_rows<S: Alter>(conn: &mut Connection<S>) -> Result<Vec<Row>, Error>
 
 /// The marks' rows in rising number.
 fn mark_rows<S: Alter>(conn: &mut Connection<S>) -> Result<Vec<Row>, Error>
-    ensures rows { HasCleanDisk (state S.Store conn.new) → (accounts : List AccountSpec) (book : Book) → HasRecords accounts book (state S.Store conn.old) → IfOk result (λ rows. rows.items ≡ map shown_mark book.marks) }
-    ensures raw { HasCleanDisk (state S.Store conn.new) → (trees : Trees) → IsDeskFile trees (state S.Store conn.old) → IfOk result (λ rows. ShowsMarks trees rows.items) }
-    ensures kept { HasCleanDisk (state S.Store conn.new) → (trees : Trees) → IsDeskFile trees (state S.Store conn.old) → OnOk result (IsDeskFile trees (state S.Store conn.new)) }
-    ensures refused { HasCleanDisk (state S.Store conn.new) → (trees : Trees) → IsDeskFile trees (state S.Store conn.old) → IfErr result IsOfStore }
-    ensures intact { HasCleanDisk (state S.Store conn.new) → (trees : Trees) → IsDeskFile trees (state S.Store conn.old) → IsTrue (state S.Store conn.new).is_open → IsDeskFile trees (state S.Store conn.new) }
+    ensures rows { HasCleanDisk (state S.Store conn.new) → (accounts : List AccountSpec) (book : Book)
+        → HasRecords accounts book (state S.Store conn.old)
+        → IfOk result (λ rows. rows.items ≡ map shown_mark book.marks) }
+    ensures raw { HasCleanDisk (state S.Store conn.new) → (trees : Trees) → IsDeskFile trees (state S.Store conn.old)
+        → IfOk result (λ rows. ShowsMarks trees rows.items) }
+    ensures kept { HasCleanDisk (state S.Store conn.new) → (trees : Trees) → IsDeskFile trees (state S.Store conn.old)
+        → OnOk result (IsDeskFile trees (state S.Store conn.new)) }
+    ensures refused { HasCleanDisk (state S.Store conn.new) → (trees : Trees)
+        → IsDeskFile trees (state S.Store conn.old) → IfErr result IsOfStore }
+    ensures intact { HasCleanDisk (state S.Store conn.new) → (trees : Trees) → IsDeskFile trees (state S.Store conn.old)
+        → IsTrue (state S.Store conn.new).is_open → IsDeskFile trees (state S.Store conn.new) }
     ensures survives { Survives (state S.Store conn.old) (state S.Store conn.new) (λ _. ⊥) }
     ensures mode { conn.old.in_transaction ≡ false → conn.new.in_transaction ≡ false }
     ensures honest { HasCleanDisk (state S.Store conn.new) → HasCleanDisk (state S.Store conn.old) }
@@ -108,14 +139,23 @@ fn mark_rows<S: Alter>(conn: &mut Connection<S>) -> Result<Vec<Row>, Error>
 }
 
 /// Whether the connection has stayed open. The engine looks at its store before it reads a text, and sees at its first
-/// word that this one is no statement: so the look takes no memory.
+/// word that this one is no statement: so the look takes no memory. The answer is no only where the look itself failed.
 pub(crate) fn is_alive<S: Alter>(conn: &mut Connection<S>) -> bool
     ensures mode { conn.old.in_transaction ≡ false → conn.new.in_transaction ≡ false }
     ensures honest { HasCleanDisk (state S.Store conn.new) → HasCleanDisk (state S.Store conn.old) }
-    ensures alive { HasCleanDisk (state S.Store conn.new) → IsTrue result → IsUnchanged (state S.Store conn.old) (state S.Store conn.new) }
+    ensures alive { HasCleanDisk (state S.Store conn.new) → IsTrue result
+        → IsUnchanged (state S.Store conn.old) (state S.Store conn.new) }
+    ensures dead { HasCleanDisk (state S.Store conn.new) → result ≡ false
+        → LookFailed (state S.Store conn.old) (state S.Store conn.new) }
     ensures survives { Survives (state S.Store conn.old) (state S.Store conn.new) (λ _. ⊥) }
 {
-    matches!(conn.prepare(NO_STATEMENT), Err(Error::SqlInputError(_)))
+    match conn.prepare(NO_STATEMENT) {
+        Ok(_) => false,
+        Err(error) => match error {
+            Error::SqlInputError(_) => true,
+            _ => false,
+        },
+    }
 }
 
 /// What the failure of a query says of the file: lack of memory, where the connection is seen to be open still; else a
@@ -125,8 +165,11 @@ fn fault_of<S: Alter>(conn: &mut Connection<S>, error: &Error) -> Fault
     ensures honest { HasCleanDisk (state S.Store conn.new) → HasCleanDisk (state S.Store conn.old) }
     ensures kinds { (rule : Rule) → result ≢ Fault.Inconsistent rule }
     ensures cause { result ≡ Fault.OutOfMemory → error.now ≡ Error.SqliteFailure ErrorCode.OutOfMemory }
+    ensures must { HasCleanDisk (state S.Store conn.new) → error.now ≡ Error.SqliteFailure ErrorCode.OutOfMemory
+        → (result ≡ Fault.OutOfMemory) ⊎ LookFailed (state S.Store conn.old) (state S.Store conn.new) }
     ensures right { IsOfStore error.now → (result ≡ Fault.OutOfMemory) ⊎ (result ≡ Fault.StoreFault) }
-    ensures same { result ≡ Fault.OutOfMemory → HasCleanDisk (state S.Store conn.new) → IsUnchanged (state S.Store conn.old) (state S.Store conn.new) }
+    ensures same { result ≡ Fault.OutOfMemory → HasCleanDisk (state S.Store conn.new)
+        → IsUnchanged (state S.Store conn.old) (state S.Store conn.new) }
     ensures survives { Survives (state S.Store conn.old) (state S.Store conn.new) (λ _. ⊥) }
 {
     match error {
@@ -154,13 +197,18 @@ fn one_day(rows: &[Row]) -> Result<Day, Fault>
 
 /// The business day, of the one row of the table `desk`.
 pub(crate) fn read_day<S: Alter>(conn: &mut Connection<S>) -> Result<Day, Fault>
-    ensures given { HasCleanDisk (state S.Store conn.new) → (accounts : List AccountSpec) (book : Book) → HasRecords accounts book (state S.Store conn.old) → IfOk result (λ day. day ≡ book.day) }
-    ensures is { HasCleanDisk (state S.Store conn.new) → (trees : Trees) → IsDeskFile trees (state S.Store conn.old) → IfOk result (λ day. FitsDate day.date × ShowsDesk trees (shown_day day ∷ [])) }
-    ensures right { HasCleanDisk (state S.Store conn.new) → (accounts : List AccountSpec) (book : Book) → HasRecords accounts book (state S.Store conn.old) → result ≢ Err Fault.NotADeskFile }
+    ensures given { HasCleanDisk (state S.Store conn.new) → (accounts : List AccountSpec) (book : Book)
+        → HasRecords accounts book (state S.Store conn.old) → IfOk result (λ day. day ≡ book.day) }
+    ensures is { HasCleanDisk (state S.Store conn.new) → (trees : Trees) → IsDeskFile trees (state S.Store conn.old)
+        → IfOk result (λ day. FitsDate day.date × ShowsDesk trees (shown_day day ∷ [])) }
+    ensures right { HasCleanDisk (state S.Store conn.new) → (accounts : List AccountSpec) (book : Book)
+        → HasRecords accounts book (state S.Store conn.old) → result ≢ Err Fault.NotADeskFile }
     ensures wrong { HasCleanDisk (state S.Store conn.new) → (trees : Trees) → IsDeskFile trees (state S.Store conn.old)
-        → result ≡ Err Fault.NotADeskFile → ¬ ((day : DaySpec) × FitsDate day.date × ShowsDesk trees (shown_day day ∷ [])) }
+        → result ≡ Err Fault.NotADeskFile → ¬ ((day : DaySpec) × FitsDate day.date
+        × ShowsDesk trees (shown_day day ∷ [])) }
     ensures kinds { (rule : Rule) → result ≢ Err (Fault.Inconsistent rule) }
-    ensures same { HasCleanDisk (state S.Store conn.new) → (trees : Trees) → IsDeskFile trees (state S.Store conn.old) → result ≢ Err Fault.StoreFault → IsDeskFile trees (state S.Store conn.new) }
+    ensures same { HasCleanDisk (state S.Store conn.new) → (trees : Trees) → IsDeskFile trees (state S.Store conn.old)
+        → result ≢ Err Fault.StoreFault → IsDeskFile trees (state S.Store conn.new) }
     ensures blank { HasCleanDisk (state S.Store conn.new) → IsBlank (state S.Store conn.old) → IfOk result (λ _. ⊥) }
     ensures survives { Survives (state S.Store conn.old) (state S.Store conn.new) (λ _. ⊥) }
     ensures mode { conn.old.in_transaction ≡ false → conn.new.in_transaction ≡ false }
@@ -177,14 +225,21 @@ pub(crate) fn read_accounts<S: Alter>(
     alloc: Global,
     conn: &mut Connection<S>,
 ) -> Result<Vec<Account>, Fault>
-    ensures given { HasCleanDisk (state S.Store conn.new) → (accounts : List AccountSpec) (book : Book) → HasRecords accounts book (state S.Store conn.old) → IfOk result (λ v. v.items ≡ accounts) }
-    ensures is { HasCleanDisk (state S.Store conn.new) → (trees : Trees) → IsDeskFile trees (state S.Store conn.old) → IfOk result (λ v. AllByRecursion (λ (a : AccountSpec). FitsParticipant a.participant) v.items × ShowsParticipants trees (map (λ (a : AccountSpec). shown_account a.participant a.balance) v.items)) }
-    ensures right { HasCleanDisk (state S.Store conn.new) → (accounts : List AccountSpec) (book : Book) → HasRecords accounts book (state S.Store conn.old) → result ≢ Err Fault.NotADeskFile }
+    ensures given { HasCleanDisk (state S.Store conn.new) → (accounts : List AccountSpec) (book : Book)
+        → HasRecords accounts book (state S.Store conn.old) → IfOk result (λ v. v.items ≡ accounts) }
+    ensures is { HasCleanDisk (state S.Store conn.new) → (trees : Trees) → IsDeskFile trees (state S.Store conn.old)
+        → IfOk result (λ v. AllByRecursion (λ (a : AccountSpec). FitsParticipant a.participant) v.items
+        × ShowsParticipants trees (map (λ (a : AccountSpec). shown_account a.participant a.balance) v.items)) }
+    ensures right { HasCleanDisk (state S.Store conn.new) → (accounts : List AccountSpec) (book : Book)
+        → HasRecords accounts book (state S.Store conn.old) → result ≢ Err Fault.NotADeskFile }
     ensures wrong { HasCleanDisk (state S.Store conn.new) → (trees : Trees) → IsDeskFile trees (state S.Store conn.old)
-        → result ≡ Err Fault.NotADeskFile → ¬ AllByRecursion (IsFormed (λ (a : AccountSpec). FitsParticipant a.participant) []
-        (λ (a : AccountSpec). shown_account a.participant a.balance)) (map (picked (1 ∷ 2 ∷ 3 ∷ 4 ∷ 5 ∷ [])) (trees 1)) }
+        → result ≡ Err Fault.NotADeskFile → ¬ AllByRecursion
+        (IsFormed (λ (a : AccountSpec). FitsParticipant a.participant) []
+        (λ (a : AccountSpec). shown_account a.participant a.balance))
+        (map (picked (1 ∷ 2 ∷ 3 ∷ 4 ∷ 5 ∷ [])) (trees 1)) }
     ensures kinds { (rule : Rule) → result ≢ Err (Fault.Inconsistent rule) }
-    ensures same { HasCleanDisk (state S.Store conn.new) → (trees : Trees) → IsDeskFile trees (state S.Store conn.old) → result ≢ Err Fault.StoreFault → IsDeskFile trees (state S.Store conn.new) }
+    ensures same { HasCleanDisk (state S.Store conn.new) → (trees : Trees) → IsDeskFile trees (state S.Store conn.old)
+        → result ≢ Err Fault.StoreFault → IsDeskFile trees (state S.Store conn.new) }
     ensures survives { Survives (state S.Store conn.old) (state S.Store conn.new) (λ _. ⊥) }
     ensures mode { conn.old.in_transaction ≡ false → conn.new.in_transaction ≡ false }
     ensures honest { HasCleanDisk (state S.Store conn.new) → HasCleanDisk (state S.Store conn.old) }
@@ -200,14 +255,19 @@ pub(crate) fn read_postings<S: Alter>(
     alloc: Global,
     conn: &mut Connection<S>,
 ) -> Result<Vec<Posting>, Fault>
-    ensures given { HasCleanDisk (state S.Store conn.new) → (accounts : List AccountSpec) (book : Book) → HasRecords accounts book (state S.Store conn.old) → IfOk result (λ v. v.items ≡ book.postings) }
-    ensures is { HasCleanDisk (state S.Store conn.new) → (trees : Trees) → IsDeskFile trees (state S.Store conn.old) → IfOk result (λ v. AllByRecursion FitsPosting v.items × AreTold (0 ∷ 2 ∷ 3 ∷ 4 ∷ 5 ∷ []) counted_of_posting (trees 4) (map shown_posting v.items)) }
-    ensures right { HasCleanDisk (state S.Store conn.new) → (accounts : List AccountSpec) (book : Book) → HasRecords accounts book (state S.Store conn.old) → result ≢ Err Fault.NotADeskFile }
+    ensures given { HasCleanDisk (state S.Store conn.new) → (accounts : List AccountSpec) (book : Book)
+        → HasRecords accounts book (state S.Store conn.old) → IfOk result (λ v. v.items ≡ book.postings) }
+    ensures is { HasCleanDisk (state S.Store conn.new) → (trees : Trees) → IsDeskFile trees (state S.Store conn.old)
+        → IfOk result (λ v. AllByRecursion FitsPosting v.items
+        × AreTold (0 ∷ 2 ∷ 3 ∷ 4 ∷ 5 ∷ []) counted_of_posting (trees 4) (map shown_posting v.items)) }
+    ensures right { HasCleanDisk (state S.Store conn.new) → (accounts : List AccountSpec) (book : Book)
+        → HasRecords accounts book (state S.Store conn.old) → result ≢ Err Fault.NotADeskFile }
     ensures wrong { HasCleanDisk (state S.Store conn.new) → (trees : Trees) → IsDeskFile trees (state S.Store conn.old)
         → result ≡ Err Fault.NotADeskFile → ¬ AllByRecursion (IsFormed FitsPosting counted_of_posting shown_posting)
         (map (picked (0 ∷ 2 ∷ 3 ∷ 4 ∷ 5 ∷ [])) (trees 4)) }
     ensures kinds { (rule : Rule) → result ≢ Err (Fault.Inconsistent rule) }
-    ensures same { HasCleanDisk (state S.Store conn.new) → (trees : Trees) → IsDeskFile trees (state S.Store conn.old) → result ≢ Err Fault.StoreFault → IsDeskFile trees (state S.Store conn.new) }
+    ensures same { HasCleanDisk (state S.Store conn.new) → (trees : Trees) → IsDeskFile trees (state S.Store conn.old)
+        → result ≢ Err Fault.StoreFault → IsDeskFile trees (state S.Store conn.new) }
     ensures survives { Survives (state S.Store conn.old) (state S.Store conn.new) (λ _. ⊥) }
     ensures mode { conn.old.in_transaction ≡ false → conn.new.in_transaction ≡ false }
     ensures honest { HasCleanDisk (state S.Store conn.new) → HasCleanDisk (state S.Store conn.old) }
@@ -223,14 +283,19 @@ pub(crate) fn read_orders<S: Alter>(
     alloc: Global,
     conn: &mut Connection<S>,
 ) -> Result<Vec<Order>, Fault>
-    ensures given { HasCleanDisk (state S.Store conn.new) → (accounts : List AccountSpec) (book : Book) → HasRecords accounts book (state S.Store conn.old) → IfOk result (λ v. v.items ≡ book.orders) }
-    ensures is { HasCleanDisk (state S.Store conn.new) → (trees : Trees) → IsDeskFile trees (state S.Store conn.old) → IfOk result (λ v. AllByRecursion FitsOrder v.items × AreTold (0 ∷ 2 ∷ 3 ∷ 4 ∷ 5 ∷ 6 ∷ 7 ∷ 8 ∷ []) counted_of_order (trees 6) (map shown_order v.items)) }
-    ensures right { HasCleanDisk (state S.Store conn.new) → (accounts : List AccountSpec) (book : Book) → HasRecords accounts book (state S.Store conn.old) → result ≢ Err Fault.NotADeskFile }
+    ensures given { HasCleanDisk (state S.Store conn.new) → (accounts : List AccountSpec) (book : Book)
+        → HasRecords accounts book (state S.Store conn.old) → IfOk result (λ v. v.items ≡ book.orders) }
+    ensures is { HasCleanDisk (state S.Store conn.new) → (trees : Trees) → IsDeskFile trees (state S.Store conn.old)
+        → IfOk result (λ v. AllByRecursion FitsOrder v.items
+        × AreTold (0 ∷ 2 ∷ 3 ∷ 4 ∷ 5 ∷ 6 ∷ 7 ∷ 8 ∷ []) counted_of_order (trees 6) (map shown_order v.items)) }
+    ensures right { HasCleanDisk (state S.Store conn.new) → (accounts : List AccountSpec) (book : Book)
+        → HasRecords accounts book (state S.Store conn.old) → result ≢ Err Fault.NotADeskFile }
     ensures wrong { HasCleanDisk (state S.Store conn.new) → (trees : Trees) → IsDeskFile trees (state S.Store conn.old)
         → result ≡ Err Fault.NotADeskFile → ¬ AllByRecursion (IsFormed FitsOrder counted_of_order shown_order)
         (map (picked (0 ∷ 2 ∷ 3 ∷ 4 ∷ 5 ∷ 6 ∷ 7 ∷ 8 ∷ [])) (trees 6)) }
     ensures kinds { (rule : Rule) → result ≢ Err (Fault.Inconsistent rule) }
-    ensures same { HasCleanDisk (state S.Store conn.new) → (trees : Trees) → IsDeskFile trees (state S.Store conn.old) → result ≢ Err Fault.StoreFault → IsDeskFile trees (state S.Store conn.new) }
+    ensures same { HasCleanDisk (state S.Store conn.new) → (trees : Trees) → IsDeskFile trees (state S.Store conn.old)
+        → result ≢ Err Fault.StoreFault → IsDeskFile trees (state S.Store conn.new) }
     ensures survives { Survives (state S.Store conn.old) (state S.Store conn.new) (λ _. ⊥) }
     ensures mode { conn.old.in_transaction ≡ false → conn.new.in_transaction ≡ false }
     ensures honest { HasCleanDisk (state S.Store conn.new) → HasCleanDisk (state S.Store conn.old) }
@@ -246,14 +311,19 @@ pub(crate) fn read_marks<S: Alter>(
     alloc: Global,
     conn: &mut Connection<S>,
 ) -> Result<Vec<Mark>, Fault>
-    ensures given { HasCleanDisk (state S.Store conn.new) → (accounts : List AccountSpec) (book : Book) → HasRecords accounts book (state S.Store conn.old) → IfOk result (λ v. v.items ≡ book.marks) }
-    ensures is { HasCleanDisk (state S.Store conn.new) → (trees : Trees) → IsDeskFile trees (state S.Store conn.old) → IfOk result (λ v. AllByRecursion FitsMark v.items × AreTold (0 ∷ 2 ∷ 3 ∷ 4 ∷ []) counted_of_mark (trees 8) (map shown_mark v.items)) }
-    ensures right { HasCleanDisk (state S.Store conn.new) → (accounts : List AccountSpec) (book : Book) → HasRecords accounts book (state S.Store conn.old) → result ≢ Err Fault.NotADeskFile }
+    ensures given { HasCleanDisk (state S.Store conn.new) → (accounts : List AccountSpec) (book : Book)
+        → HasRecords accounts book (state S.Store conn.old) → IfOk result (λ v. v.items ≡ book.marks) }
+    ensures is { HasCleanDisk (state S.Store conn.new) → (trees : Trees) → IsDeskFile trees (state S.Store conn.old)
+        → IfOk result (λ v. AllByRecursion FitsMark v.items
+        × AreTold (0 ∷ 2 ∷ 3 ∷ 4 ∷ []) counted_of_mark (trees 8) (map shown_mark v.items)) }
+    ensures right { HasCleanDisk (state S.Store conn.new) → (accounts : List AccountSpec) (book : Book)
+        → HasRecords accounts book (state S.Store conn.old) → result ≢ Err Fault.NotADeskFile }
     ensures wrong { HasCleanDisk (state S.Store conn.new) → (trees : Trees) → IsDeskFile trees (state S.Store conn.old)
         → result ≡ Err Fault.NotADeskFile → ¬ AllByRecursion (IsFormed FitsMark counted_of_mark shown_mark)
         (map (picked (0 ∷ 2 ∷ 3 ∷ 4 ∷ [])) (trees 8)) }
     ensures kinds { (rule : Rule) → result ≢ Err (Fault.Inconsistent rule) }
-    ensures same { HasCleanDisk (state S.Store conn.new) → (trees : Trees) → IsDeskFile trees (state S.Store conn.old) → result ≢ Err Fault.StoreFault → IsDeskFile trees (state S.Store conn.new) }
+    ensures same { HasCleanDisk (state S.Store conn.new) → (trees : Trees) → IsDeskFile trees (state S.Store conn.old)
+        → result ≢ Err Fault.StoreFault → IsDeskFile trees (state S.Store conn.new) }
     ensures survives { Survives (state S.Store conn.old) (state S.Store conn.new) (λ _. ⊥) }
     ensures mode { conn.old.in_transaction ≡ false → conn.new.in_transaction ≡ false }
     ensures honest { HasCleanDisk (state S.Store conn.new) → HasCleanDisk (state S.Store conn.old) }

@@ -4,7 +4,8 @@ ghost use Rattle.sqlite_value.specs.Order.{column};
 ghost use Rattle.sqlite.specs.declared.types.Value.TheVariants.{Int};
 ghost use Rattle.rtgs_book.specs.declared.Phase.{Phase as PhaseSpec};
 ghost use Rattle.rtgs_book.specs.declared.OrderState.{OrderState as StateSpec};
-ghost use Rattle.rtgs_rows.specs.Rows.{phase_number, state_number, mark_value, shown_day, shown_account, shown_posting, shown_order, shown_mark};
+ghost use Rattle.rtgs_rows.specs.Rows.{phase_number, state_number, mark_value, shown_day, shown_account, shown_posting};
+ghost use Rattle.rtgs_rows.specs.Rows.{shown_order, shown_mark};
 ghost use Rattle.rtgs_rows.specs.Fitting.{FitsDate, FitsParticipant, FitsPosting, FitsOrder, FitsMark};
 ghost use Rattle.rtgs_tables.specs.Numbers.{at_least_zero, counted_of_posting, counted_of_order, counted_of_mark};
 
@@ -141,8 +142,11 @@ fn phase_of(number: u64) -> Option<Phase>
 /// The state at one place, and at the other the mark of a settled order, which no other order has. A mark below zero is
 /// read as 0.
 fn state(row: &Row, at: usize, mark_at: usize) -> Option<OrderState>
-    ensures found { (state : StateSpec) → at < length row.now → mark_at < length row.now → column row.now at ≡ Int (pos (state_number state)) → at_least_zero (column row.now mark_at) ≡ mark_value state → result ≡ Some state }
-    ensures is { IfSome result (λ it. (column row.now at ≡ Int (pos (state_number it))) × (at_least_zero (column row.now mark_at) ≡ mark_value it)) }
+    ensures found { (state : StateSpec) → at < length row.now → mark_at < length row.now
+        → column row.now at ≡ Int (pos (state_number state)) → at_least_zero (column row.now mark_at) ≡ mark_value state
+        → result ≡ Some state }
+    ensures is { IfSome result (λ it. (column row.now at ≡ Int (pos (state_number it)))
+        × (at_least_zero (column row.now mark_at) ≡ mark_value it)) }
 {
     let has_mark = !is_null(row, mark_at);
     match (unsigned(row, at)?, has_mark) {

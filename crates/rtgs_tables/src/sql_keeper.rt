@@ -1,5 +1,5 @@
 //! A book in the tables of a connection.
-ghost use Rattle.std.specs.Prelude.{◌≡◌, ◌≢◌, false, IfOk, IfErr};
+ghost use Rattle.std.specs.Prelude.{◌≡◌, ◌≢◌, ◌⊎◌, false, IfOk, IfErr};
 ghost use Rattle.rtgs_book.specs.declared.Book.{Book};
 ghost use Rattle.rtgs_rows.specs.Keeping.{IsBookOf, HoldsBook, MayLeave};
 ghost use Rattle.rtgs_book.specs.Books.{new_book};
@@ -8,6 +8,7 @@ ghost use Rattle.sqlite.specs.State.{HasCleanDisk, IsLive, IsUnchanged, Opens, S
 ghost use Rattle.sqlite.specs.Held.{state};
 ghost use Rattle.sqlite.specs.Tree.{Trees};
 ghost use Rattle.rtgs_rows.specs.Content.{Content, Holds, HasNoTables};
+ghost use Rattle.rtgs_tables.specs.Faults.{LookFailed};
 ghost use Rattle.rtgs_tables.specs.Stops.{IsBefore};
 ghost use Rattle.rtgs_rows.specs.RowLaws.{RowsTellTheBook, TablesOfABookAreWhole, TablesOfABookAreWhole-prop};
 
@@ -35,16 +36,23 @@ pub struct SqlKeeper<S: Alter + Drop> {
 }
 
 impl<S: Alter + Drop> SqlKeeper<S> {
-    /// Makes the tables of a new book in an empty database, in one transaction. On a fault the connection comes back, and a stop
-    /// leaves no tables or those of the new book.
+    /// Makes the tables of a new book in an empty database, in one transaction. On a fault the connection comes back,
+    /// and a stop leaves no tables or those of the new book.
     pub fn create(conn: Connection<S>) -> Result<SqlKeeper<S>, (CommitFault, Connection<S>)>
         requires { conn.in_transaction ≡ false }
-        ensures made { IfOk result (λ k. HasCleanDisk (state S.Store k.conn) → IsBlank (state S.Store conn) → HoldsBook S.Store k.conn new_book) }
-        ensures stops { IfOk result (λ k. HasCleanDisk (state S.Store k.conn) → IsBlank (state S.Store conn) → (other : Book) → MayLeave S.Store k.conn other → other ≡ new_book) }
-        ensures left { IfErr result (λ e. HasCleanDisk (state S.Store e.1) → IsBlank (state S.Store conn) → (other : Book) → MayLeave S.Store e.1 other → other ≡ new_book) }
-        ensures memory { IfErr result (λ e. e.0 ≡ CommitFault.OutOfMemory → HasCleanDisk (state S.Store e.1) → IsBlank (state S.Store conn) → IsBlank (state S.Store e.1)) }
-        ensures memory_stops { IfErr result (λ e. e.0 ≡ CommitFault.OutOfMemory → HasCleanDisk (state S.Store e.1) → IsBlank (state S.Store conn) → (trees : Trees) → (state S.Store e.1).may_leave trees → HasNoTables trees) }
-        ensures tables { IfErr result (λ e. HasCleanDisk (state S.Store e.1) → IsBlank (state S.Store conn) → (trees : Trees) → (state S.Store e.1).may_leave trees → IsNoneOrNew trees) }
+        ensures made { IfOk result (λ k. HasCleanDisk (state S.Store k.conn) → IsBlank (state S.Store conn)
+            → HoldsBook S.Store k.conn new_book) }
+        ensures stops { IfOk result (λ k. HasCleanDisk (state S.Store k.conn) → IsBlank (state S.Store conn)
+            → (other : Book) → MayLeave S.Store k.conn other → other ≡ new_book) }
+        ensures left { IfErr result (λ e. HasCleanDisk (state S.Store e.1) → IsBlank (state S.Store conn)
+            → (other : Book) → MayLeave S.Store e.1 other → other ≡ new_book) }
+        ensures memory { IfErr result (λ e. e.0 ≡ CommitFault.OutOfMemory → HasCleanDisk (state S.Store e.1)
+            → IsBlank (state S.Store conn) → IsBlank (state S.Store e.1)) }
+        ensures memory_stops { IfErr result (λ e. e.0 ≡ CommitFault.OutOfMemory → HasCleanDisk (state S.Store e.1)
+            → IsBlank (state S.Store conn) → (trees : Trees) → (state S.Store e.1).may_leave trees
+            → HasNoTables trees) }
+        ensures tables { IfErr result (λ e. HasCleanDisk (state S.Store e.1) → IsBlank (state S.Store conn)
+            → (trees : Trees) → (state S.Store e.1).may_leave trees → IsNoneOrNew trees) }
         ensures fresh { IfOk result (λ k. k.failed ≡ false) }
         ensures idle { IfErr result (λ e. (e.1.in_transaction ≡ false) × (e.0 ≢ CommitFault.Failed)) }
     {
@@ -62,13 +70,17 @@ impl<S: Alter + Drop> SqlKeeper<S> {
         }
     }
 
-    /// Over a connection whose tables are there already. `load` says whether they are. Where a database is opened whose tables hold
-    /// a book, as a stop left them, the keeper has it; where a stopped `create` left no tables, nothing is there yet, and `load` says so.
+    /// Over a connection whose tables are there already. `load` says whether they are. Where a database is opened whose
+    /// tables hold a book, as a stop left them, the keeper has it; where a stopped `create` left no tables, nothing is
+    /// there yet, and `load` says so.
     pub fn open(conn: Connection<S>) -> SqlKeeper<S>
         requires { conn.in_transaction ≡ false }
         ensures is { (result.conn ≡ conn) × (result.failed ≡ false) }
-        ensures found { Opens (state S.Store conn) → IsLive (state S.Store conn) → (book : Book) (content : Content) → Holds content (state S.Store conn).committed.trees → IsBookOf book content → HoldsBook S.Store result.conn book }
-        ensures none { Opens (state S.Store conn) → IsLive (state S.Store conn) → HasNoTables (state S.Store conn).committed.trees → IsBlank (state S.Store result.conn) }
+        ensures found { Opens (state S.Store conn) → IsLive (state S.Store conn) → (book : Book) (content : Content)
+            → Holds content (state S.Store conn).committed.trees → IsBookOf book content
+            → HoldsBook S.Store result.conn book }
+        ensures none { Opens (state S.Store conn) → IsLive (state S.Store conn)
+            → HasNoTables (state S.Store conn).committed.trees → IsBlank (state S.Store result.conn) }
     {
         laws::tables_of_a_desk_are_read_as_such();
         laws::no_tables_are_read_as_none();
@@ -165,7 +177,8 @@ impl<S: Alter + Drop> Keeper for SqlKeeper<S> {
 
 /// While a database has no tables, a stop leaves none: the engine keeps its list of them true.
 fn leaves_no_tables<S: Alter>(conn: &Connection<S>)
-    ensures { IsBlank (state S.Store conn.now) → (trees : Trees) → (state S.Store conn.now).may_leave trees → HasNoTables trees }
+    ensures { IsBlank (state S.Store conn.now) → (trees : Trees) → (state S.Store conn.now).may_leave trees
+        → HasNoTables trees }
 {
     conn.schema();
 }
@@ -173,12 +186,16 @@ fn leaves_no_tables<S: Alter>(conn: &Connection<S>)
 /// What a stopped transaction comes to: lack of memory before the call that commits, where the connection is seen to
 /// be open still, and else a fault of the store.
 fn fault_of<S: Alter>(conn: &mut Connection<S>, stopped: &Stopped) -> CommitFault
-    requires { conn.old.in_transaction ≡ false }
-    ensures mode { conn.new.in_transaction ≡ false }
+    ensures mode { conn.old.in_transaction ≡ false → conn.new.in_transaction ≡ false }
     ensures kinds { result ≢ CommitFault.Failed }
     ensures before { result ≡ CommitFault.OutOfMemory → IsBefore stopped.now }
-    ensures cause { result ≡ CommitFault.OutOfMemory → stopped.now ≡ Stopped.Before (Error.SqliteFailure ErrorCode.OutOfMemory) }
-    ensures same { result ≡ CommitFault.OutOfMemory → HasCleanDisk (state S.Store conn.new) → IsUnchanged (state S.Store conn.old) (state S.Store conn.new) }
+    ensures cause { result ≡ CommitFault.OutOfMemory → stopped.now
+        ≡ Stopped.Before (Error.SqliteFailure ErrorCode.OutOfMemory) }
+    ensures must { HasCleanDisk (state S.Store conn.new)
+        → stopped.now ≡ Stopped.Before (Error.SqliteFailure ErrorCode.OutOfMemory)
+        → (result ≡ CommitFault.OutOfMemory) ⊎ LookFailed (state S.Store conn.old) (state S.Store conn.new) }
+    ensures same { result ≡ CommitFault.OutOfMemory → HasCleanDisk (state S.Store conn.new)
+        → IsUnchanged (state S.Store conn.old) (state S.Store conn.new) }
     ensures survives { Survives (state S.Store conn.old) (state S.Store conn.new) (λ _. ⊥) }
 {
     match stopped {

@@ -1,7 +1,8 @@
 //! A change in a transaction of its own.
 ghost use Rattle.std.specs.Prelude.{◌≡◌, false, IsTrue, OnOk, IfErr};
 ghost use Rattle.sqlite.specs.Effect.{Database};
-ghost use Rattle.rtgs_rows.specs.Content.{Content, Holds, Stands, Rests, IsInOrder, AreInOrder, with_change, with_changes};
+ghost use Rattle.rtgs_rows.specs.Content.{Content, Holds, Stands, Rests, IsInOrder, AreInOrder, with_change};
+ghost use Rattle.rtgs_rows.specs.Content.{with_changes};
 ghost use Rattle.sqlite.specs.State.{HasCleanDisk, KeepsCommit, Survives};
 ghost use Rattle.sqlite.specs.Held.{state};
 ghost use Rattle.rtgs_tables.specs.Stops.{IsBefore};
@@ -24,9 +25,12 @@ pub(crate) enum Stopped {
 /// Makes the change of one row inside the transaction.
 fn stage_row<S: Alter>(tx: &mut Transaction<'_, S>, row: &RowChange) -> Result<usize, Error>
     ensures same_reference { tx.new.conn.ghost_name ≡ tx.old.conn.ghost_name }
-    ensures made { HasCleanDisk (state S.Store tx.new.conn.now) → (was : Database) (content : Content) → Stands was content (state S.Store tx.old.conn.now) → IsInOrder content → IsInOrder (with_change content row.now)
+    ensures made { HasCleanDisk (state S.Store tx.new.conn.now) → (was : Database) (content : Content)
+        → Stands was content (state S.Store tx.old.conn.now) → IsInOrder content
+        → IsInOrder (with_change content row.now)
         → OnOk result (Stands was (with_change content row.now) (state S.Store tx.new.conn.now)) }
-    ensures kept { HasCleanDisk (state S.Store tx.new.conn.now) → KeepsCommit (state S.Store tx.old.conn.now) (state S.Store tx.new.conn.now) }
+    ensures kept { HasCleanDisk (state S.Store tx.new.conn.now)
+        → KeepsCommit (state S.Store tx.old.conn.now) (state S.Store tx.new.conn.now) }
     ensures survives { Survives (state S.Store tx.old.conn.now) (state S.Store tx.new.conn.now) (λ _. ⊥) }
 {
     match row {
@@ -44,9 +48,11 @@ fn stage_row<S: Alter>(tx: &mut Transaction<'_, S>, row: &RowChange) -> Result<u
 /// Makes the changes inside the transaction, one after another.
 fn stage<S: Alter>(tx: &mut Transaction<'_, S>, rows: &[RowChange]) -> Result<(), Error>
     ensures same_reference { tx.new.conn.ghost_name ≡ tx.old.conn.ghost_name }
-    ensures made { HasCleanDisk (state S.Store tx.new.conn.now) → (was : Database) (content : Content) → Stands was content (state S.Store tx.old.conn.now) → AreInOrder content rows.now
+    ensures made { HasCleanDisk (state S.Store tx.new.conn.now) → (was : Database) (content : Content)
+        → Stands was content (state S.Store tx.old.conn.now) → AreInOrder content rows.now
         → OnOk result (Stands was (with_changes content rows.now) (state S.Store tx.new.conn.now)) }
-    ensures kept { HasCleanDisk (state S.Store tx.new.conn.now) → KeepsCommit (state S.Store tx.old.conn.now) (state S.Store tx.new.conn.now) }
+    ensures kept { HasCleanDisk (state S.Store tx.new.conn.now)
+        → KeepsCommit (state S.Store tx.old.conn.now) (state S.Store tx.new.conn.now) }
     ensures survives { Survives (state S.Store tx.old.conn.now) (state S.Store tx.new.conn.now) (λ _. ⊥) }
 {
     for row in rows {
@@ -59,12 +65,17 @@ fn stage<S: Alter>(tx: &mut Transaction<'_, S>, rows: &[RowChange]) -> Result<()
 pub(crate) fn write<S: Alter>(conn: &mut Connection<S>, rows: &[RowChange]) -> Result<(), Stopped>
     requires { conn.old.in_transaction ≡ false }
     ensures mode { conn.new.in_transaction ≡ false }
-    ensures done { HasCleanDisk (state S.Store conn.new) → (content : Content) → Rests content (state S.Store conn.old) → AreInOrder content rows.now
+    ensures done { HasCleanDisk (state S.Store conn.new) → (content : Content) → Rests content (state S.Store conn.old)
+        → AreInOrder content rows.now
         → OnOk result (Rests (with_changes content rows.now) (state S.Store conn.new)) }
-    ensures undone { HasCleanDisk (state S.Store conn.new) → (content : Content) → Rests content (state S.Store conn.old) → IsTrue (state S.Store conn.new).is_open
+    ensures undone { HasCleanDisk (state S.Store conn.new) → (content : Content)
+        → Rests content (state S.Store conn.old) → IsTrue (state S.Store conn.new).is_open
         → IfErr result (λ e. IsBefore e → Rests content (state S.Store conn.new)) }
-    ensures early { IfErr result (λ e. IsBefore e → Survives (state S.Store conn.old) (state S.Store conn.new) (λ _. ⊥)) }
-    ensures crash { Survives (state S.Store conn.old) (state S.Store conn.new) (λ trees. (content : Content) → Rests content (state S.Store conn.old) → AreInOrder content rows.now → Holds (with_changes content rows.now) trees) }
+    ensures early { IfErr result (λ e. IsBefore e → Survives (state S.Store conn.old) (state S.Store conn.new)
+        (λ _. ⊥)) }
+    ensures crash { Survives (state S.Store conn.old) (state S.Store conn.new)
+        (λ trees. (content : Content) → Rests content (state S.Store conn.old) → AreInOrder content rows.now
+        → Holds (with_changes content rows.now) trees) }
 {
     let mut tx = conn.transaction();
     match stage(&mut tx, rows) {

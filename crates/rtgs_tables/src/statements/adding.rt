@@ -20,9 +20,12 @@ pub(crate) fn add_participant<S: Alter>(
     participant: &Participant,
 ) -> Result<usize, Error>
     ensures same_reference { tx.new.conn.ghost_name ≡ tx.old.conn.ghost_name }
-    ensures made { HasCleanDisk (state S.Store tx.new.conn.now) → (was : Database) (content : Content) → Stands was content (state S.Store tx.old.conn.now) → IsInOrder content
-        → OnOk result (Stands was (with_change content (change.AddParticipant participant.now)) (state S.Store tx.new.conn.now)) }
-    ensures kept { HasCleanDisk (state S.Store tx.new.conn.now) → KeepsCommit (state S.Store tx.old.conn.now) (state S.Store tx.new.conn.now) }
+    ensures made { HasCleanDisk (state S.Store tx.new.conn.now) → (was : Database) (content : Content)
+        → Stands was content (state S.Store tx.old.conn.now) → IsInOrder content
+        → OnOk result (Stands was (with_change content (change.AddParticipant participant.now))
+        (state S.Store tx.new.conn.now)) }
+    ensures kept { HasCleanDisk (state S.Store tx.new.conn.now)
+        → KeepsCommit (state S.Store tx.old.conn.now) (state S.Store tx.new.conn.now) }
     ensures survives { Survives (state S.Store tx.old.conn.now) (state S.Store tx.new.conn.now) (λ _. ⊥) }
 {
     next_row_is_above();
@@ -43,9 +46,13 @@ pub(crate) fn add_posting<S: Alter>(
     posting: &Posting,
 ) -> Result<usize, Error>
     ensures same_reference { tx.new.conn.ghost_name ≡ tx.old.conn.ghost_name }
-    ensures made { HasCleanDisk (state S.Store tx.new.conn.now) → (was : Database) (content : Content) → Stands was content (state S.Store tx.old.conn.now) → IsInOrder (with_change content (change.AddPosting posting.now))
-        → OnOk result (Stands was (with_change content (change.AddPosting posting.now)) (state S.Store tx.new.conn.now)) }
-    ensures kept { HasCleanDisk (state S.Store tx.new.conn.now) → KeepsCommit (state S.Store tx.old.conn.now) (state S.Store tx.new.conn.now) }
+    ensures made { HasCleanDisk (state S.Store tx.new.conn.now) → (was : Database) (content : Content)
+        → Stands was content (state S.Store tx.old.conn.now)
+        → IsInOrder (with_change content (change.AddPosting posting.now))
+        → OnOk result (Stands was (with_change content (change.AddPosting posting.now))
+        (state S.Store tx.new.conn.now)) }
+    ensures kept { HasCleanDisk (state S.Store tx.new.conn.now)
+        → KeepsCommit (state S.Store tx.old.conn.now) (state S.Store tx.new.conn.now) }
     ensures survives { Survives (state S.Store tx.old.conn.now) (state S.Store tx.new.conn.now) (λ _. ⊥) }
 {
     check_number(posting.number)?;
@@ -68,9 +75,12 @@ pub(crate) fn add_order<S: Alter>(
     order: &Order,
 ) -> Result<usize, Error>
     ensures same_reference { tx.new.conn.ghost_name ≡ tx.old.conn.ghost_name }
-    ensures made { HasCleanDisk (state S.Store tx.new.conn.now) → (was : Database) (content : Content) → Stands was content (state S.Store tx.old.conn.now) → IsInOrder (with_change content (change.AddOrder order.now))
+    ensures made { HasCleanDisk (state S.Store tx.new.conn.now) → (was : Database) (content : Content)
+        → Stands was content (state S.Store tx.old.conn.now)
+        → IsInOrder (with_change content (change.AddOrder order.now))
         → OnOk result (Stands was (with_change content (change.AddOrder order.now)) (state S.Store tx.new.conn.now)) }
-    ensures kept { HasCleanDisk (state S.Store tx.new.conn.now) → KeepsCommit (state S.Store tx.old.conn.now) (state S.Store tx.new.conn.now) }
+    ensures kept { HasCleanDisk (state S.Store tx.new.conn.now)
+        → KeepsCommit (state S.Store tx.old.conn.now) (state S.Store tx.new.conn.now) }
     ensures survives { Survives (state S.Store tx.old.conn.now) (state S.Store tx.new.conn.now) (λ _. ⊥) }
 {
     check_number(order.number)?;
@@ -94,9 +104,11 @@ pub(crate) fn add_order<S: Alter>(
 /// Adds the row of a mark.
 pub(crate) fn add_mark<S: Alter>(tx: &mut Transaction<'_, S>, mark: &Mark) -> Result<usize, Error>
     ensures same_reference { tx.new.conn.ghost_name ≡ tx.old.conn.ghost_name }
-    ensures made { HasCleanDisk (state S.Store tx.new.conn.now) → (was : Database) (content : Content) → Stands was content (state S.Store tx.old.conn.now) → IsInOrder (with_change content (change.AddMark mark.now))
+    ensures made { HasCleanDisk (state S.Store tx.new.conn.now) → (was : Database) (content : Content)
+        → Stands was content (state S.Store tx.old.conn.now) → IsInOrder (with_change content (change.AddMark mark.now))
         → OnOk result (Stands was (with_change content (change.AddMark mark.now)) (state S.Store tx.new.conn.now)) }
-    ensures kept { HasCleanDisk (state S.Store tx.new.conn.now) → KeepsCommit (state S.Store tx.old.conn.now) (state S.Store tx.new.conn.now) }
+    ensures kept { HasCleanDisk (state S.Store tx.new.conn.now)
+        → KeepsCommit (state S.Store tx.old.conn.now) (state S.Store tx.new.conn.now) }
     ensures survives { Survives (state S.Store tx.old.conn.now) (state S.Store tx.new.conn.now) (λ _. ⊥) }
 {
     check_number(mark.number)?;

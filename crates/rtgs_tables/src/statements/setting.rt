@@ -21,9 +21,12 @@ pub(crate) fn set_credit<S: Alter>(
     credit: Credit,
 ) -> Result<usize, Error>
     ensures same_reference { tx.new.conn.ghost_name ≡ tx.old.conn.ghost_name }
-    ensures made { HasCleanDisk (state S.Store tx.new.conn.now) → (was : Database) (content : Content) → Stands was content (state S.Store tx.old.conn.now) → IsInOrder content
-        → OnOk result (Stands was (with_change content (change.SetCredit code.now credit)) (state S.Store tx.new.conn.now)) }
-    ensures kept { HasCleanDisk (state S.Store tx.new.conn.now) → KeepsCommit (state S.Store tx.old.conn.now) (state S.Store tx.new.conn.now) }
+    ensures made { HasCleanDisk (state S.Store tx.new.conn.now) → (was : Database) (content : Content)
+        → Stands was content (state S.Store tx.old.conn.now) → IsInOrder content
+        → OnOk result (Stands was (with_change content (change.SetCredit code.now credit))
+        (state S.Store tx.new.conn.now)) }
+    ensures kept { HasCleanDisk (state S.Store tx.new.conn.now)
+        → KeepsCommit (state S.Store tx.old.conn.now) (state S.Store tx.new.conn.now) }
     ensures survives { Survives (state S.Store tx.old.conn.now) (state S.Store tx.new.conn.now) (λ _. ⊥) }
 {
     tx.execute(
@@ -39,9 +42,12 @@ pub(crate) fn set_balance<S: Alter>(
     balance: Cents,
 ) -> Result<usize, Error>
     ensures same_reference { tx.new.conn.ghost_name ≡ tx.old.conn.ghost_name }
-    ensures made { HasCleanDisk (state S.Store tx.new.conn.now) → (was : Database) (content : Content) → Stands was content (state S.Store tx.old.conn.now) → IsInOrder content
-        → OnOk result (Stands was (with_change content (change.SetBalance code.now balance)) (state S.Store tx.new.conn.now)) }
-    ensures kept { HasCleanDisk (state S.Store tx.new.conn.now) → KeepsCommit (state S.Store tx.old.conn.now) (state S.Store tx.new.conn.now) }
+    ensures made { HasCleanDisk (state S.Store tx.new.conn.now) → (was : Database) (content : Content)
+        → Stands was content (state S.Store tx.old.conn.now) → IsInOrder content
+        → OnOk result (Stands was (with_change content (change.SetBalance code.now balance))
+        (state S.Store tx.new.conn.now)) }
+    ensures kept { HasCleanDisk (state S.Store tx.new.conn.now)
+        → KeepsCommit (state S.Store tx.old.conn.now) (state S.Store tx.new.conn.now) }
     ensures survives { Survives (state S.Store tx.old.conn.now) (state S.Store tx.new.conn.now) (λ _. ⊥) }
 {
     tx.execute(
@@ -57,9 +63,12 @@ pub(crate) fn set_state<S: Alter>(
     stage: OrderState,
 ) -> Result<usize, Error>
     ensures same_reference { tx.new.conn.ghost_name ≡ tx.old.conn.ghost_name }
-    ensures made { HasCleanDisk (state S.Store tx.new.conn.now) → (was : Database) (content : Content) → Stands was content (state S.Store tx.old.conn.now) → IsInOrder content
-        → OnOk result (Stands was (with_change content (change.SetState number stage)) (state S.Store tx.new.conn.now)) }
-    ensures kept { HasCleanDisk (state S.Store tx.new.conn.now) → KeepsCommit (state S.Store tx.old.conn.now) (state S.Store tx.new.conn.now) }
+    ensures made { HasCleanDisk (state S.Store tx.new.conn.now) → (was : Database) (content : Content)
+        → Stands was content (state S.Store tx.old.conn.now) → IsInOrder content
+        → OnOk result (Stands was (with_change content (change.SetState number stage))
+        (state S.Store tx.new.conn.now)) }
+    ensures kept { HasCleanDisk (state S.Store tx.new.conn.now)
+        → KeepsCommit (state S.Store tx.old.conn.now) (state S.Store tx.new.conn.now) }
     ensures survives { Survives (state S.Store tx.old.conn.now) (state S.Store tx.new.conn.now) (λ _. ⊥) }
 {
     check_number(number)?;
@@ -73,9 +82,11 @@ pub(crate) fn set_state<S: Alter>(
 /// Sets the business day.
 pub(crate) fn set_day<S: Alter>(tx: &mut Transaction<'_, S>, day: Day) -> Result<usize, Error>
     ensures same_reference { tx.new.conn.ghost_name ≡ tx.old.conn.ghost_name }
-    ensures made { HasCleanDisk (state S.Store tx.new.conn.now) → (was : Database) (content : Content) → Stands was content (state S.Store tx.old.conn.now) → IsInOrder content
+    ensures made { HasCleanDisk (state S.Store tx.new.conn.now) → (was : Database) (content : Content)
+        → Stands was content (state S.Store tx.old.conn.now) → IsInOrder content
         → OnOk result (Stands was (with_change content (change.SetDay day)) (state S.Store tx.new.conn.now)) }
-    ensures kept { HasCleanDisk (state S.Store tx.new.conn.now) → KeepsCommit (state S.Store tx.old.conn.now) (state S.Store tx.new.conn.now) }
+    ensures kept { HasCleanDisk (state S.Store tx.new.conn.now)
+        → KeepsCommit (state S.Store tx.old.conn.now) (state S.Store tx.new.conn.now) }
     ensures survives { Survives (state S.Store tx.old.conn.now) (state S.Store tx.new.conn.now) (λ _. ⊥) }
 {
     let date = text_of(day.date);

@@ -1,12 +1,30 @@
-use Rattle.std.proofs.Common.{Err, ◌∙◌, sym, ap, true≢false}
+use Rattle.std.proofs.Common.{[], Err, ◌∙◌, sym, ap, true≢false}
 use Rattle.sqlite.specs.Held.{state}
 use Rattle.rtgs_tables.proofs.Refusals.{unread_text}
-use Rattle.rtgs_tables.proofs.reading.is_alive.Goals.{in-Err-SqlInputError, in_default, in_default-2}
+use Rattle.rtgs_tables.proofs.Looking.{no_meaning, not_prepared, look_failed}
+use Rattle.rtgs_tables.proofs.reading.is_alive.Goals.{in-Ok, in-Err+in-SqlInputError, in-Err+in_default}
 use Rattle.rtgs_tables.proofs.reading.is_alive.Goals as goal
 
 pub returns-clause-alive : goal.returns-clause-alive
-returns-clause-alive g c clean alive = elim c.match-matches.branch [
-  | in-Err-SqlInputError w ↦ unread_text (state g.S.Store c.args.conn.now) (state g.S.Store c.prepare.new.self) _ c.prepare.result w.in-Err-SqlInputError.field-0-0 (c.prepare.ensures.err clean) (w.in-Err-SqlInputError.is ∙ ap Err w.in-Err-SqlInputError.field-0-is)
-  | in_default w ↦ absurd (true≢false (sym alive ∙ w.matches-is))
-  | in_default-2 w ↦ absurd (true≢false (sym alive ∙ w.matches-is))
-]
+returns-clause-alive g c clean alive =
+    let was = state g.S.Store c.args.conn.now in
+    elim c.match-prepare.branch [
+      | in-Ok w ↦ absurd (true≢false (sym alive ∙ w.result-is))
+      | in-Err+in-SqlInputError w ↦
+          unread_text was (state g.S.Store c.prepare.new.self) _ c.prepare.result w.in-SqlInputError.field-0
+          (c.prepare.ensures.err clean) (w.in-Err.is ∙ ap Err w.in-SqlInputError.is)
+      | in-Err+in_default w ↦ absurd (true≢false (sym alive ∙ w.result-is))
+    ]
+
+pub returns-clause-dead : goal.returns-clause-dead
+returns-clause-dead g c clean dead =
+    let was = state g.S.Store c.args.conn.now in
+    let none = no_meaning was.now.schema in
+    elim c.match-prepare.branch [
+      | in-Ok w ↦
+          absurd (not_prepared was.now.schema _ c.prepare.result _ none (c.prepare.ensures.shape clean) w.in-Ok.is)
+      | in-Err+in-SqlInputError w ↦ absurd (true≢false (sym w.result-is ∙ dead))
+      | in-Err+in_default w ↦
+          look_failed was (state g.S.Store c.prepare.new.self) _ w.in-Err.error none
+          w.in_default.not-SqlInputError (w.in-Err.ensures.err clean [])
+    ]
