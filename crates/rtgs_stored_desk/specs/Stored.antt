@@ -1,4 +1,5 @@
--- A desk over the tables of a store: what an opening makes of them, and what a stop leaves. `k` has the members of the keeper's trait.
+-- A desk over the tables of a store: what an opening makes of them, and what a stop leaves. `k` has the members of the
+-- keeper's trait.
 use Rattle.std.specs.Prelude.{◌≡◌, ◌≢◌, ◌⊎◌, List, IsTrue}
 use Rattle.sqlite.specs.Effect.{IsDatabase}
 use Rattle.sqlite.specs.State.{State}
@@ -70,7 +71,8 @@ pub record IsRefused (old : State) (fault : Fault) (new : State) : Type 0 where
   -- a stop leaves what was found
   pub leaves : (trees : Trees) → new.may_leave trees → trees ≡ old.committed.trees
 
--- What a stop leaves after these commands: tables that hold a book which a session of the definitions may find, and stored balances that add up to the postings' cents.
+-- What a stop leaves after these commands: tables that hold a book which a session of the definitions may find, and
+-- stored balances that add up to the postings' cents.
 pub record AreLeft (start : Book) (commands : List Command) (replies : List Reply) (trees : Trees) : Type 0 where
   pub found : Book
   pub session : IsSession (record { start = start; commands = commands; replies = replies; found = found })
@@ -78,3 +80,7 @@ pub record AreLeft (start : Book) (commands : List Command) (replies : List Repl
   pub holds : rows.Holds content trees
   pub records : IsBookOf found content
   pub adds_up : AddsUp content
+
+-- whatever trees a stop leaves are such
+abbrev pub StopLeaves : Book → List Command → List Reply → State → Type 0
+StopLeaves start commands replies s = (trees : Trees) → s.may_leave trees → AreLeft start commands replies trees

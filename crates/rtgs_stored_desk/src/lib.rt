@@ -1,9 +1,12 @@
-//! A desk over the tables of a store: made in an empty database, opened over one, and found again after a stop.
+//! A desk over the tables of a store: made in an empty database, opened over one, driven, and found again
+//! after a stop.
 #![tactic(auto)]
 
 pub mod laws;
 mod making;
 mod opening;
+mod running;
 
 pub use crate::making::make;
 pub use crate::opening::{create, open};
+pub use crate::running::{run, submit};

@@ -84,7 +84,8 @@ fn desk_over<S: Alter + Drop>(
         → IsAtRest (state S.Store keeper.conn)
         → IsOver ⟦<SqlKeeper<S> as Keeper>⟧ (state S.Store keeper.conn) desk (state S.Store desk.keeper.conn)) }
     ensures refused { IfErr result (λ (fault, left). HasCleanDisk (state S.Store left.conn)
-        → IsAtRest (state S.Store keeper.conn) → IsRefused (state S.Store keeper.conn) fault (state S.Store left.conn)) }
+        → IsAtRest (state S.Store keeper.conn) → IsRefused (state S.Store keeper.conn) fault
+        (state S.Store left.conn)) }
     ensures honest { IfOk result (λ desk. HasCleanDisk (state S.Store desk.keeper.conn)
         → HasCleanDisk (state S.Store keeper.conn)) }
     ensures back { IfErr result (λ (_, left). HasCleanDisk (state S.Store left.conn)

@@ -1,0 +1,59 @@
+//! Commands to a desk over tables, and what a stop then leaves.
+ghost use Rattle.std.specs.Prelude.{◌≡◌, true, [], ◌∷◌, length, IfOk, OnErr};
+ghost use Rattle.sqlite.specs.Held.{state};
+ghost use Rattle.sqlite.specs.State.{HasCleanDisk};
+ghost use Rattle.rtgs_book.specs.declared.Book.{Book};
+ghost use Rattle.rtgs_desk.specs.Holding.{Holds, Acts, Ran};
+ghost use Rattle.rtgs_desk.specs.Replies.{answers_its_kind};
+ghost use Rattle.rtgs_stored_desk.specs.Stored.{StopLeaves};
+
+use crate::laws::what_a_session_leaves;
+use rtgs_book::{Answer, Command, Refusal};
+use rtgs_desk::Desk;
+use rtgs_keeper::Keeper;
+use rtgs_tables::SqlKeeper;
+use sqlite::Alter;
+use std::alloc::AllocError;
+
+/// Carries out a command, as `Desk::submit` does: of a book that the desk holds it makes what the definitions say, and
+/// a stop leaves tables that hold the book before it or the one that it leads to.
+pub fn submit<S: Alter + Drop>(
+    desk: &mut Desk<SqlKeeper<S>>,
+    command: Command,
+) -> Result<Answer, Refusal>
+    ensures acts { HasCleanDisk (state S.Store desk.new.keeper.conn) → (book : Book)
+        → Holds ⟦<SqlKeeper<S> as Keeper>⟧ desk.old book
+        → Acts ⟦<SqlKeeper<S> as Keeper>⟧ book command result desk.new }
+    ensures left { HasCleanDisk (state S.Store desk.new.keeper.conn) → (book : Book)
+        → Holds ⟦<SqlKeeper<S> as Keeper>⟧ desk.old book
+        → StopLeaves book (command ∷ []) (result ∷ []) (state S.Store desk.new.keeper.conn) }
+    ensures honest { HasCleanDisk (state S.Store desk.new.keeper.conn)
+        → HasCleanDisk (state S.Store desk.old.keeper.conn) }
+    ensures of_its_kind { IfOk result (λ answer. answers_its_kind command answer ≡ true) }
+{
+    let reply = desk.submit(command);
+    what_a_session_leaves(desk);
+    reply
+}
+
+/// Carries out commands in order, as `Desk::run` does, and gives an answer to each. Lack of memory for the answers
+/// comes before the first command, and changes nothing.
+pub fn run<S: Alter + Drop>(
+    desk: &mut Desk<SqlKeeper<S>>,
+    commands: &[Command],
+) -> Result<Vec<Result<Answer, Refusal>>, AllocError>
+    ensures one_each { IfOk result (λ replies. length replies.items ≡ length commands.now) }
+    ensures ran { IfOk result (λ replies. HasCleanDisk (state S.Store desk.new.keeper.conn) → (book : Book)
+        → Holds ⟦<SqlKeeper<S> as Keeper>⟧ desk.old book
+        → Ran ⟦<SqlKeeper<S> as Keeper>⟧ book commands.now replies.items desk.new) }
+    ensures left { IfOk result (λ replies. HasCleanDisk (state S.Store desk.new.keeper.conn) → (book : Book)
+        → Holds ⟦<SqlKeeper<S> as Keeper>⟧ desk.old book
+        → StopLeaves book commands.now replies.items (state S.Store desk.new.keeper.conn)) }
+    ensures honest { HasCleanDisk (state S.Store desk.new.keeper.conn)
+        → HasCleanDisk (state S.Store desk.old.keeper.conn) }
+    ensures err { OnErr result (desk.new ≡ desk.old) }
+{
+    let replies = desk.run(commands);
+    what_a_session_leaves(desk);
+    replies
+}
