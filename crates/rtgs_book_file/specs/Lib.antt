@@ -1,3 +1,4 @@
 pub mod Files
 pub mod Lending
 pub mod Opened
+pub mod OverFile

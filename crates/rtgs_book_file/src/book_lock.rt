@@ -1,5 +1,5 @@
 //! The lock of a book's file.
-ghost use Rattle.std.specs.Prelude.{◌≡◌};
+ghost use Rattle.std.specs.Prelude.{◌≡◌, ◌⊎◌, IfErr};
 ghost use Rattle.rtgs_book_file.specs.Files.{fault_of_lock};
 
 use crate::file_fault::FileFault;
@@ -17,8 +17,12 @@ pub struct BookLock<'a> {
 }
 
 impl<'a> BookLock<'a> {
-    /// Takes the lock of the book's file at this path. `InUse` where another run holds it, or where it cannot be made.
-    pub fn take(rt: &HostRuntime, path: &'a str) -> Result<BookLock<'a>, FileFault> {
+    /// Takes the lock of the book's file at this path. `InUse` where another run holds it, or where it cannot be made,
+    /// and a fault of the book for lack of memory alone.
+    pub fn take(rt: &HostRuntime, path: &'a str) -> Result<BookLock<'a>, FileFault>
+        ensures refused { IfErr result (λ fault.
+            (fault ≡ FileFault.InUse) ⊎ (fault ≡ FileFault.Book Fault.OutOfMemory)) }
+    {
         let beside = format!(in rt.alloc(); "{path}.lock")?;
         let file = match open_lock(rt, beside.as_str()) {
             Ok(file) => file,

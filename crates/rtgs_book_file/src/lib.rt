@@ -1,9 +1,9 @@
 //! The file of a book: its lock, and the desk over it.
 #![tactic(auto)]
 
-mod beginning;
 mod book_lock;
 mod file_fault;
+mod looked_at;
 mod open_book;
 mod store;
 

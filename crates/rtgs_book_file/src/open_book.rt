@@ -8,11 +8,11 @@ ghost use Rattle.sqlite.specs.WalFiles.{image_at};
 ghost use Rattle.rtgs_book.specs.declared.Fault.{Fault as FaultSpec};
 ghost use Rattle.rtgs_stored_desk.specs.Stored.{IsOver};
 ghost use Rattle.rtgs_book_file.specs.Lending.{LendsDesk};
-ghost use Rattle.rtgs_book_file.specs.Opened.{WasOpened};
+ghost use Rattle.rtgs_book_file.specs.Opened.{WasOpened, WasMade};
 
-use crate::beginning::{is_vacant, test_beginning};
 use crate::book_lock::BookLock;
 use crate::file_fault::FileFault;
+use crate::looked_at::LookedAt;
 use crate::store::{FileKeeper, close, connect};
 use rtgs_book::Fault;
 use rtgs_desk::Desk;
@@ -41,23 +41,24 @@ impl BookLock<'_> {
             → WasOpened ⟦<FileKeeper<S> as Keeper>⟧ (image_at S.Start) book.desk book.desk.keeper.conn) }
         ensures refused { IfErr result (λ fault. (why : FaultSpec) × (fault ≡ FileFault.Book why)) }
     {
-        let desk = open_desk(rt, self.path(), start)?;
+        let file = self.with_database(rt)?;
+        let desk = open_desk(rt, &file, start)?;
         Ok(OpenBook {
             desk,
-            lock: self.into_file(),
+            lock: file.into_file(),
         })
     }
 
     /// Makes the tables of a new book in the file, closes it, and lets the lock go. `FileExists` where the file holds
     /// anything, and a fault of the book where the file cannot be looked at, or the store fails.
     pub fn make<S: Start>(self, rt: &HostRuntime, start: S) -> Result<(), FileFault>
+        ensures made { IfOk result (λ _.
+            WasMade ⟦<FileKeeper<S> as Keeper>⟧ (λ keeper. keeper.conn) (image_at S.Start)) }
         ensures refused { IfErr result (λ fault.
             (fault ≡ FileFault.FileExists) ⊎ ((why : FaultSpec) × (fault ≡ FileFault.Book why))) }
     {
-        if !is_vacant(rt, self.path())? {
-            return Err(FileFault::FileExists);
-        }
-        make_tables(rt, self.path(), start)?;
+        let file = self.with_nothing(rt)?;
+        make_tables(rt, file, start)?;
         Ok(())
     }
 }
@@ -77,17 +78,19 @@ impl<S: Start> OpenBook<FileKeeper<S>> {
     /// fails.
     pub fn close(self) {
         let OpenBook { desk, lock } = self;
-        close(desk.into_keeper().into_connection());
-        drop(lock);
+        close(desk.into_keeper().into_connection(), lock);
     }
 }
 
 // The desk over the book in a file.
-fn open_desk<S: Start>(rt: &HostRuntime, file: &str, start: S) -> Result<Desk<FileKeeper<S>>, Fault>
+fn open_desk<S: Start>(
+    rt: &HostRuntime,
+    file: &LookedAt<'_>,
+    start: S,
+) -> Result<Desk<FileKeeper<S>>, Fault>
     ensures { IfOk result (λ desk. HasCleanDisk (file_state desk.keeper.conn)
         → WasOpened ⟦<FileKeeper<S> as Keeper>⟧ (image_at S.Start) desk desk.keeper.conn) }
 {
-    test_beginning(rt, file)?;
     match connect(rt, file, start) {
         Ok(conn) => desk_over(rt.alloc(), conn),
         Err(fault) => Err(fault),
@@ -110,11 +113,14 @@ fn desk_over<S: Alter + Drop>(
     }
 }
 
-// Makes the tables of a new book in a file that has none, and closes it.
-fn make_tables<S: Start>(rt: &HostRuntime, file: &str, start: S) -> Result<(), Fault> {
-    match rtgs_stored_desk::make(connect(rt, file, start)?) {
+// Makes the tables of a new book in a file that has none, closes it, and lets its lock go.
+fn make_tables<S: Start>(rt: &HostRuntime, file: LookedAt<'_>, start: S) -> Result<(), Fault>
+    ensures { IfOk result (λ _.
+        WasMade ⟦<FileKeeper<S> as Keeper>⟧ (λ keeper. keeper.conn) (image_at S.Start)) }
+{
+    match rtgs_stored_desk::make(connect(rt, &file, start)?) {
         Ok(made) => {
-            close(made);
+            close(made, file.into_file());
             Ok(())
         }
         Err((fault, _)) => Err(fault),

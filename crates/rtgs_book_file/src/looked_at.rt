@@ -1,7 +1,10 @@
 //! What stands at a path, which is looked at before anything opens it that could write into it.
-ghost use Rattle.std.specs.Prelude.{◌≡◌};
+ghost use Rattle.std.specs.Prelude.{◌≡◌, ◌⊎◌, IfErr};
+ghost use Rattle.rtgs_book.specs.declared.Fault.{Fault as FaultSpec};
 ghost use Rattle.rtgs_book_file.specs.Files.{vacancy_of, opening_of};
 
+use crate::book_lock::BookLock;
+use crate::file_fault::FileFault;
 use rtgs_book::Fault;
 use std::fs::File;
 use std::io::{ErrorKind, Read};
@@ -10,9 +13,47 @@ use std::{fs, io};
 /// How each file of the `sqlite` crate begins.
 const MAGIC: &[u8; 16] = b"SQLite format 3\0";
 
-/// Whether there is no file, or an empty one. A fault where the path cannot be looked at.
-pub fn is_vacant(rt: &HostRuntime, file: &str) -> Result<bool, Fault> {
-    vacancy(length(rt, file))
+/// The lock of a book's file that was looked at, and may be opened: it begins as a database does, or there is none, or
+/// an empty one. Only a lock makes one.
+#[derive(Drop)]
+pub struct LookedAt<'a> {
+    lock: BookLock<'a>,
+}
+
+impl<'a> BookLock<'a> {
+    /// Looks whether there is no file, or an empty one. `FileExists` where it has anything, and a fault where the path
+    /// cannot be looked at.
+    pub(crate) fn with_nothing(self, rt: &HostRuntime) -> Result<LookedAt<'a>, FileFault>
+        ensures refused { IfErr result (λ fault.
+            (fault ≡ FileFault.FileExists) ⊎ ((why : FaultSpec) × (fault ≡ FileFault.Book why))) }
+    {
+        if !vacancy(length(rt, self.path()))? {
+            return Err(FileFault::FileExists);
+        }
+        Ok(LookedAt { lock: self })
+    }
+
+    /// Looks whether the file begins as a database does: a fault where it does not, is missing or shorter, or cannot be
+    /// read.
+    pub(crate) fn with_database(self, rt: &HostRuntime) -> Result<LookedAt<'a>, Fault> {
+        opening(read_beginning(rt, self.path()))?;
+        Ok(LookedAt { lock: self })
+    }
+}
+
+impl<'a> LookedAt<'a> {
+    /// Where the book's file is.
+    pub(crate) fn path(&self) -> &'a str
+        ensures { result.now ≡ self.now.lock.path.now }
+    {
+        self.lock.path()
+    }
+
+    /// The lock's own file, which holds the lock until it is dropped.
+    pub(crate) fn into_file(self) -> File {
+        let LookedAt { lock } = self;
+        lock.into_file()
+    }
 }
 
 // The length of a file, in bytes.
@@ -32,11 +73,6 @@ fn vacancy(length: io::Result<u64>) -> Result<bool, Fault>
             _ => Err(Fault::StoreFault),
         },
     }
-}
-
-/// Whether a file begins as a database does: a fault where it does not, is missing or shorter, or cannot be read.
-pub fn test_beginning(rt: &HostRuntime, file: &str) -> Result<(), Fault> {
-    opening(read_beginning(rt, file))
 }
 
 // The first bytes of a file, as many as a database begins with.
