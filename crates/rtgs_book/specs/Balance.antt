@@ -8,7 +8,8 @@ use Rattle.rtgs_book.specs.IntSum.{int_sum_by}
 abbrev pub postings_of : Book → List ℕ → List Posting
 postings_of book code = filter (λ posting. bytes_eq posting.code code) book.postings
 
--- what an account gains where this order is settled: its amount if it is the receiver's, and minus its amount if it is the sender's
+-- what an account gains where this order is settled: its amount if it is the receiver's, and minus its amount if it is
+-- the sender's
 unfoldable pub gain : List ℕ → Order → ℤ
 gain code order =
     (if bytes_eq order.receiver code then pos order.amount else pos 0)

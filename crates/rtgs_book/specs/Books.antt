@@ -47,4 +47,10 @@ is_empty (x ∷ xs) = false
 
 -- the book of a new desk: nothing recorded, and closed
 abbrev pub new_book : Book
-new_book = record { participants = []; postings = []; orders = []; marks = []; day = record { date = None; phase = Closed } }
+new_book = record {
+  participants = [];
+  postings = [];
+  orders = [];
+  marks = [];
+  day = record { date = None; phase = Closed };
+}

@@ -1,5 +1,7 @@
 -- What each command comes to. Its tests stand in their order; `choice` is the greatest one.
-use Rattle.std.specs.Prelude.{ℕ, ◌+◌, ℤ, pos, neg_ℤ, ◌+ℤ◌, ◌-ℤ◌, int_lt, int_le, Bool, true, false, not, ◌&&◌, ◌==◌, nat_le, nat_lt, if◌then◌else◌, List, [], ◌∷◌, ◌++◌, length, map, filter, Option, Some, None, is_some, is_none, Ok, Err}
+use Rattle.std.specs.Prelude.{ℕ, ◌+◌, ℤ, pos, neg_ℤ, ◌+ℤ◌, ◌-ℤ◌, int_lt, int_le, Bool, true, false, not, ◌&&◌, ◌==◌}
+use Rattle.std.specs.Prelude.{nat_le, nat_lt, if◌then◌else◌, List, [], ◌∷◌, ◌++◌, length, map, filter, Option, Some}
+use Rattle.std.specs.Prelude.{None, is_some, is_none, Ok, Err}
 use Rattle.std.specs.List.{list_any}
 use Rattle.std.specs.Str.{bytes_eq}
 use Rattle.std.specs.Ordering.{nat_cmp, is_lt, int_eq}
@@ -7,9 +9,16 @@ use Rattle.std.specs.Cmp.Lexicographic.{slice_cmp}
 use Rattle.rtgs_money.specs.Date.{is_weekend}
 use Rattle.rtgs_book.specs.declared.answer.Answer.TheVariants as answer
 use Rattle.rtgs_book.specs.declared.answer.Known.TheVariants as known
-use Rattle.rtgs_book.specs.declared.refusal.Refusal.TheVariants.{UnknownParticipant, UnknownReceiver, SameParty, ReferenceUsed, NotOpen, NoCover, QueueFull, NumbersUsedUp, UnknownOrder, CodeTaken, KeyTaken, TooManyParticipants, TotalTooLarge, WrongPhase, WrongDate, Weekend, NotQueued, Resolvable, Overdrawn}
-use Rattle.rtgs_book.specs.declared.limits.TheConstants.{MOST_PARTICIPANTS, LONGEST_QUEUE, LARGEST_NUMBER, LARGEST_TOTAL}
-use Rattle.rtgs_book.specs.Books.{Book, Day, Closed, Open, CutOff, Participant, Posting, Order, OrderState, Queued, Withdrawn, Rejected, is_closed, is_open, is_cut_off, is_queued, is_withdrawn_state, is_empty}
+use Rattle.rtgs_book.specs.declared.refusal.Refusal.TheVariants.{UnknownParticipant, UnknownReceiver, SameParty}
+use Rattle.rtgs_book.specs.declared.refusal.Refusal.TheVariants.{ReferenceUsed, NotOpen, NoCover, QueueFull}
+use Rattle.rtgs_book.specs.declared.refusal.Refusal.TheVariants.{NumbersUsedUp, UnknownOrder, CodeTaken, KeyTaken}
+use Rattle.rtgs_book.specs.declared.refusal.Refusal.TheVariants.{TooManyParticipants, TotalTooLarge, WrongPhase}
+use Rattle.rtgs_book.specs.declared.refusal.Refusal.TheVariants.{WrongDate, Weekend, NotQueued, Resolvable, Overdrawn}
+use Rattle.rtgs_book.specs.declared.limits.TheConstants.{MOST_PARTICIPANTS, LONGEST_QUEUE, LARGEST_NUMBER}
+use Rattle.rtgs_book.specs.declared.limits.TheConstants.{LARGEST_TOTAL}
+use Rattle.rtgs_book.specs.Books.{Book, Day, Closed, Open, CutOff, Participant, Posting, Order, OrderState, Queued}
+use Rattle.rtgs_book.specs.Books.{Withdrawn, Rejected, is_closed, is_open, is_cut_off, is_queued, is_withdrawn_state}
+use Rattle.rtgs_book.specs.Books.{is_empty}
 use Rattle.rtgs_book.specs.Lookup.{has_code, accounts, participant_of, is_participant, order_named, posting_named}
 use Rattle.rtgs_book.specs.Balance.{balance, floor, total}
 use Rattle.rtgs_book.specs.Queue.{queue}
@@ -28,7 +37,10 @@ is_before a b = is_lt (slice_cmp nat_cmp a b)
 
 -- the participant, at its place in code order
 unfoldable pub with_participant : Book → Participant → Book
-with_participant book new = record book { participants = filter (λ p. is_before p.code new.code) book.participants ++ new ∷ filter (λ p. not (is_before p.code new.code)) book.participants }
+with_participant book new = record book {
+  participants = filter (λ p. is_before p.code new.code) book.participants
+      ++ new ∷ filter (λ p. not (is_before p.code new.code)) book.participants;
+}
 
 abbrev pub is_same_participant : Option Participant → List ℕ → List ℕ → Bool
 is_same_participant None name key = false
@@ -46,7 +58,10 @@ add book code name key =
     ) (accepts answer.Added (with_participant book (record { code = code; name = name; key = key; credit = 0 })))
 
 unfoldable pub with_credit : Book → List ℕ → ℕ → Book
-with_credit book code credit = record book { participants = map (λ p. if has_code code p then record p { credit = credit } else p) book.participants }
+with_credit book code credit = record book {
+  participants = map
+      (λ p. if has_code code p then record p { credit = credit } else p) book.participants;
+}
 
 unfoldable pub set_credit : Book → List ℕ → ℕ → Outcome
 set_credit book code credit =
@@ -70,7 +85,13 @@ unfoldable pub post : Book → List ℕ → List ℕ → ℤ → Outcome
 post book code reference cents =
     let found = posting_named book reference in
     let number = length book.postings + 1 in
-    let posting : Posting = record { number = number; code = code; reference = reference; cents = cents; date = book.day.date } in
+    let posting : Posting = record {
+      number = number;
+      code = code;
+      reference = reference;
+      cents = cents;
+      date = book.day.date;
+    } in
     first_of book (
     (not (is_participant book code), Err UnknownParticipant)
     ∷ (is_same_posting found code cents, known_posting found)
@@ -101,7 +122,15 @@ has_number number order = order.number == number
 
 -- a new order, at the end of its sender's queue
 abbrev pub new_order : Book → List ℕ → List ℕ → List ℕ → ℕ → Order
-new_order book sender reference receiver amount = record { number = length book.orders + 1; sender = sender; reference = reference; receiver = receiver; amount = amount; date = today book; state = Queued }
+new_order book sender reference receiver amount = record {
+  number = length book.orders + 1;
+  sender = sender;
+  reference = reference;
+  receiver = receiver;
+  amount = amount;
+  date = today book;
+  state = Queued;
+}
 
 abbrev pub with_order : Book → Order → Book
 with_order book order = record book { orders = book.orders ++ order ∷ [] }
@@ -218,4 +247,5 @@ close_day book choice date =
     ∷ (not (is_empty (chosen book choice)), Err Resolvable)
     ∷ (not (is_empty (overdrawn book)), Err (Overdrawn (first_code (overdrawn book)) (length (overdrawn book))))
     ∷ []
-    ) (accepts (answer.Closed (length (filter is_queued book.orders))) (with_day (with_state book is_queued Rejected) (record book.day { phase = Closed })))
+    ) (accepts (answer.Closed (length (filter is_queued book.orders)))
+    (with_day (with_state book is_queued Rejected) (record book.day { phase = Closed })))

@@ -1,11 +1,15 @@
 -- What a check says of a book.
 use Rattle.std.specs.Prelude.{ℕ, ◌<◌, ⊤}
 use Rattle.rtgs_book.specs.declared.rule.Rule.{Rule}
-use Rattle.rtgs_book.specs.declared.rule.Rule.TheVariants.{OrderNumbers, PostingNumbers, MarkNumbers, ParticipantCodes, Keys, OrderReferences, PostingReferences, Parties, Marks, Queues, Dates, Floors, Total, StoredBalances}
+use Rattle.rtgs_book.specs.declared.rule.Rule.TheVariants.{OrderNumbers, PostingNumbers, MarkNumbers, ParticipantCodes}
+use Rattle.rtgs_book.specs.declared.rule.Rule.TheVariants.{Keys, OrderReferences, PostingReferences, Parties, Marks}
+use Rattle.rtgs_book.specs.declared.rule.Rule.TheVariants.{Queues, Dates, Floors, Total, StoredBalances}
 use Rattle.rtgs_book.specs.declared.fault.Fault.{Fault}
 use Rattle.rtgs_book.specs.declared.fault.Fault.TheVariants.{OutOfMemory, Inconsistent}
 use Rattle.rtgs_book.specs.Books.{Book}
-use Rattle.rtgs_book.specs.Soundness.{OrdersAreNumbered, PostingsAreNumbered, MarksAreNumbered, CodesRise, KeysAreDistinct, OrderReferencesAreDistinct, PostingReferencesAreDistinct, PartiesAreKnown, MarksFitOrders, QueuesFit, DatesFit, FloorsHold, TotalFits}
+use Rattle.rtgs_book.specs.Soundness.{OrdersAreNumbered, PostingsAreNumbered, MarksAreNumbered, CodesRise}
+use Rattle.rtgs_book.specs.Soundness.{KeysAreDistinct, OrderReferencesAreDistinct, PostingReferencesAreDistinct}
+use Rattle.rtgs_book.specs.Soundness.{PartiesAreKnown, MarksFitOrders, QueuesFit, DatesFit, FloorsHold, TotalFits}
 
 -- the number by which a rule is known
 abbrev pub number_of : Rule → ℕ

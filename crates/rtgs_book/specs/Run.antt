@@ -14,7 +14,8 @@ use Rattle.rtgs_book.specs.Step.{Step}
 -- the commands one after another, each with its reply
 abbrev pub Run : Book → List Command → List Reply → Book → Type 0
 Run old [] [] new = new ≡ old
-Run old (command ∷ commands) (reply ∷ replies) new = (mid : Book) × Step old command reply mid × Run mid commands replies new
+Run old (command ∷ commands) (reply ∷ replies) new = (mid : Book) × Step old command reply mid
+    × Run mid commands replies new
 Run old [] (reply ∷ replies) new = ⊥
 Run old (command ∷ commands) [] new = ⊥
 
@@ -26,17 +27,20 @@ is_accepted (Err refusal) = false
 
 -- two orders, or two postings, with one name and one content
 abbrev pub is_same_entry : Command → Command → Bool
-is_same_entry (Order s r to amount) (Order s' r' to' amount') = bytes_eq s s' && bytes_eq r r' && bytes_eq to to' && (amount == amount')
+is_same_entry (Order s r to amount) (Order s' r' to' amount') = bytes_eq s s' && bytes_eq r r' && bytes_eq to to'
+    && (amount == amount')
 is_same_entry (Post code r cents) (Post code' r' cents') = bytes_eq code code' && bytes_eq r r' && int_eq cents cents'
 is_same_entry one other = false
 
 -- the book has the order or the posting, with that content
 abbrev pub is_recorded : Book → Command → Bool
-is_recorded book (Order sender reference receiver amount) = is_same_order (order_named book sender reference) receiver amount
+is_recorded book (Order sender reference receiver amount) = is_same_order
+    (order_named book sender reference) receiver amount
 is_recorded book (Post code reference cents) = is_same_posting (posting_named book reference) code cents
 is_recorded book command = false
 
--- The commands without each Order and Post that the book has, or that was accepted before it in the list. `accepted` has those that were accepted so far.
+-- The commands without each Order and Post that the book has, or that was accepted before it in the list. `accepted`
+-- has those that were accepted so far.
 unfoldable pub once_after : List Command → Book → List Command → List Reply → List Command
 once_after accepted book (command ∷ commands) (reply ∷ replies) =
     if is_recorded book command || list_any (is_same_entry command) accepted

@@ -1,5 +1,6 @@
 -- A session with a desk, from its opening to the book that the next opening finds.
-use Rattle.std.specs.Prelude.{◌≡◌, ◌⊎◌, ◌+◌, ◌≤◌, Bool, true, false, if◌then◌else◌, List, [], ◌∷◌, filter, length, Option, Some, None, Err}
+use Rattle.std.specs.Prelude.{◌≡◌, ◌⊎◌, ◌+◌, ◌≤◌, Bool, true, false, if◌then◌else◌, List, [], ◌∷◌, filter, length}
+use Rattle.std.specs.Prelude.{Option, Some, None, Err}
 use Rattle.rtgs_book.specs.declared.refusal.Refusal.TheVariants.{OutOfMemory, StoreFault, Failed}
 use Rattle.rtgs_book.specs.Books.{Book}
 use Rattle.rtgs_book.specs.Outcome.{Command, Reply}
@@ -19,7 +20,8 @@ is_store_fault reply = false
 
 -- the commands that were answered, in order
 abbrev pub answered : List Command → List Reply → List Command
-answered (command ∷ commands) (reply ∷ replies) = if is_judged reply then command ∷ answered commands replies else answered commands replies
+answered (command ∷ commands) (reply ∷ replies) = if is_judged reply then command
+    ∷ answered commands replies else answered commands replies
 answered commands replies = []
 
 -- their replies
@@ -30,7 +32,8 @@ answers replies = filter is_judged replies
 abbrev pub open_command : List Command → List Reply → Option Command
 open_command [] replies = None
 open_command (command ∷ commands) [] = Some command
-open_command (command ∷ commands) (reply ∷ replies) = if is_store_fault reply then Some command else open_command commands replies
+open_command (command ∷ commands)
+    (reply ∷ replies) = if is_store_fault reply then Some command else open_command commands replies
 
 -- a book that may be found: this one, or the one after the open command
 abbrev pub MayFind : Book → Option Command → Book → Type 0
@@ -44,7 +47,8 @@ pub record Session : Type 0 where
   -- what the next opening finds
   pub found : Book
 
--- Each command has a reply, but perhaps the last, which is running. The replies are those of a run, and what is found is its book or the one after the open command.
+-- Each command has a reply, but perhaps the last, which is running. The replies are those of a run, and what is found
+-- is its book or the one after the open command.
 pub record IsSession (s : Session) : Type 0 where
   pub replied : length s.replies ≤ length s.commands
   pub running : length s.commands ≤ length s.replies + 1

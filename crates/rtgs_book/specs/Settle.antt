@@ -1,5 +1,6 @@
 -- Settling a batch of orders under one mark.
-use Rattle.std.specs.Prelude.{ℕ, ◌+◌, pos, Bool, if◌then◌else◌, List, [], ◌∷◌, ◌++◌, length, map, filter, sum_by, unwrap_or}
+use Rattle.std.specs.Prelude.{ℕ, ◌+◌, pos, Bool, if◌then◌else◌, List, [], ◌∷◌, ◌++◌, length, map, filter, sum_by}
+use Rattle.std.specs.Prelude.{unwrap_or}
 use Rattle.rtgs_book.specs.Books.{Book, Order, OrderState, Mark, Settled, is_empty}
 
 -- the day's date, and 0 before the first day
@@ -12,7 +13,13 @@ next_mark book = length book.marks + 1
 -- the next mark, for a batch
 unfoldable pub mark_of : Book → List Order → Mark
 mark_of book batch =
-    record { number = next_mark book; date = today book; count = length batch; value = pos (sum_by (λ (o : Order). o.amount) batch) }
+    record {
+      number = next_mark book;
+      date = today book;
+      count = length batch;
+      value = pos
+          (sum_by (λ (o : Order). o.amount) batch);
+    }
 
 -- the order in this state, where it passes the test
 abbrev pub restated : (Order → Bool) → OrderState → Order → Order
@@ -23,4 +30,8 @@ unfoldable pub settle : Book → (Order → Bool) → Book
 settle book is_in =
     let batch = filter is_in book.orders in
     if is_empty batch then book
-    else record book { orders = map (restated is_in (Settled (next_mark book))) book.orders; marks = book.marks ++ mark_of book batch ∷ [] }
+    else record book {
+      orders = map (restated is_in (Settled (next_mark book))) book.orders;
+      marks = book.marks
+          ++ mark_of book batch ∷ [];
+    }

@@ -1,12 +1,14 @@
 -- What a sound book keeps, rule by rule.
-use Rattle.std.specs.Prelude.{◌≡◌, ℕ, ◌≤◌, pos, ◌≤ℤ◌, Bool, true, false, not, ◌&&◌, ◌==◌, List, [], ◌∷◌, length, map, filter, sum_by, unwrap_or, is_some, IsTrue, ⊤}
+use Rattle.std.specs.Prelude.{◌≡◌, ℕ, ◌≤◌, pos, ◌≤ℤ◌, Bool, true, false, not, ◌&&◌, ◌==◌, List, [], ◌∷◌, length, map}
+use Rattle.std.specs.Prelude.{filter, sum_by, unwrap_or, is_some, IsTrue, ⊤}
 use Rattle.std.specs.List.{AllByRecursion, IsDistinct, list_any, range_with_len}
 use Rattle.std.specs.List.Sorted.{IsStrictlySortedBy}
 use Rattle.std.specs.Ordering.{nat_cmp}
 use Rattle.std.specs.Cmp.Lexicographic.{slice_cmp}
 use Rattle.std.specs.Str.{bytes_eq}
 use Rattle.rtgs_money.specs.Date.{is_weekend}
-use Rattle.rtgs_book.specs.declared.limits.TheConstants.{MOST_PARTICIPANTS, LONGEST_QUEUE, LARGEST_NUMBER, LARGEST_TOTAL}
+use Rattle.rtgs_book.specs.declared.limits.TheConstants.{MOST_PARTICIPANTS, LONGEST_QUEUE, LARGEST_NUMBER}
+use Rattle.rtgs_book.specs.declared.limits.TheConstants.{LARGEST_TOTAL}
 use Rattle.rtgs_book.specs.Books.{Book, Participant, Posting, Order, OrderState, Mark, Settled, is_closed, is_queued}
 use Rattle.rtgs_book.specs.Lookup.{accounts, is_participant}
 use Rattle.rtgs_book.specs.Balance.{balance, floor, total}
@@ -49,7 +51,8 @@ PostingReferencesAreDistinct book = IsDistinct bytes_eq (map (λ (p : Posting). 
 
 -- the order is between two participants
 abbrev pub has_parties : Book → Order → Bool
-has_parties book o = is_participant book o.sender && is_participant book o.receiver && not (bytes_eq o.sender o.receiver)
+has_parties book o = is_participant book o.sender && is_participant book o.receiver
+    && not (bytes_eq o.sender o.receiver)
 
 abbrev pub PartiesAreKnown : Book → Type 0
 PartiesAreKnown book =
@@ -80,7 +83,8 @@ MarksFitOrders book =
     AllByRecursion (λ (o : Order). HasMark book.marks o.date o.state) book.orders
     × AllByRecursion (CountsItsOrders book) book.marks
 
--- nothing is queued while the desk is closed, a queue has at most LONGEST_QUEUE orders, and a queued order is of the day
+-- nothing is queued while the desk is closed, a queue has at most LONGEST_QUEUE orders, and a queued order is of the
+-- day
 pub record QueuesFit (book : Book) : Type 0 where
   pub closed : IsTrue (is_closed book.day.phase) → filter is_queued book.orders ≡ []
   pub short : AllByRecursion (λ code. length (queue book code) ≤ LONGEST_QUEUE) (accounts book)

@@ -9,7 +9,8 @@ use Rattle.rtgs_book.specs.Books.{OrderState, Mark, Settled}
 
 -- each key has its sum, and nothing else has one
 abbrev pub Totals : {K : Type 0} → (K → K → Ordering) → List K → (K → ℤ) → BTreeMap K ℤ → Type 0
-Totals {K} cmp keys sum_of totals = (key : K) → get cmp totals key ≡ (if is_member (eq_by_cmp cmp) keys key then Some (sum_of key) else None)
+Totals {K} cmp keys sum_of totals = (key : K) → get cmp totals key
+    ≡ (if is_member (eq_by_cmp cmp) keys key then Some (sum_of key) else None)
 
 -- between minus the bound and the bound
 abbrev pub Within : ℕ → ℤ → Type 0

@@ -22,7 +22,8 @@ use rtgs_money::Code;
 use std::alloc::AllocError;
 use std::collections::BTreeMap;
 
-/// All that the desk has recorded: participants by code, the others by number, and the day. No balance and no queue is stored in it.
+/// All that the desk has recorded: participants by code, the others by number, and the day. No balance and no queue is
+/// stored in it.
 #[derive(Debug, Drop)]
 pub struct Book {
     pub participants: Rows<Participant>,

@@ -1,5 +1,6 @@
 //! Laws of the definitions. Each function does nothing: its contract is the law.
-ghost use Rattle.std.specs.Prelude.{◌≡◌, ◌≤◌, ◌+ℤ◌, ◌≤ℤ◌, pos, Bool, true, false, if◌then◌else◌, ℕ, List, [], ◌∷◌, ◌++◌, filter, length, take, drop};
+ghost use Rattle.std.specs.Prelude.{◌≡◌, ◌≤◌, ◌+ℤ◌, ◌≤ℤ◌, pos, Bool, true, false, if◌then◌else◌, ℕ, List, [], ◌∷◌};
+ghost use Rattle.std.specs.Prelude.{◌++◌, filter, length, take, drop};
 ghost use Rattle.std.specs.List.{AllByRecursion};
 ghost use Rattle.rtgs_book.specs.declared.book.Book.{Book};
 ghost use Rattle.rtgs_book.specs.declared.command.Command.{Command};
@@ -20,7 +21,8 @@ ghost use Rattle.rtgs_book.specs.Settle.{settle};
 ghost use Rattle.rtgs_book.specs.Ranges.{Fits};
 ghost use Rattle.rtgs_book.specs.Run.{Run};
 ghost use Rattle.rtgs_book.specs.Step.{Step};
-ghost use Rattle.rtgs_book.specs.Choice.{Choice, nothing_chosen, larger, is_chosen, chosen, balance_after, IsFeasible, IsGreatest};
+ghost use Rattle.rtgs_book.specs.Choice.{Choice, nothing_chosen, larger, is_chosen, chosen, balance_after, IsFeasible};
+ghost use Rattle.rtgs_book.specs.Choice.{IsGreatest};
 ghost use Rattle.rtgs_book.specs.Soundness.{OrdersAreNumbered, FloorsHold, IsSound};
 
 /// The book of a new desk is sound.
@@ -35,7 +37,8 @@ pub fn nothing_is_feasible()
 
 /// The larger of two feasible choices, sender by sender, is feasible.
 pub fn larger_is_feasible()
-    ensures { (book : Book) (one other : Choice) → IsFeasible book one → IsFeasible book other → IsFeasible book (larger one other) }
+    ensures { (book : Book) (one other : Choice) → IsFeasible book one → IsFeasible book other
+        → IsFeasible book (larger one other) }
 {}
 
 /// A book has one greatest choice at most.
@@ -50,37 +53,45 @@ pub fn greatest_exists()
 
 /// A command has one reply at most, and leaves one book.
 pub fn step_is_determined()
-    ensures { (old new last : Book) (command : Command) (reply other : Reply) → Step old command reply new → Step old command other last → (reply ≡ other) × (new ≡ last) }
+    ensures { (old new last : Book) (command : Command) (reply other : Reply) → Step old command reply new
+        → Step old command other last → (reply ≡ other) × (new ≡ last) }
 {}
 
 /// A command has a reply, where no balance is below its floor.
 pub fn step_exists()
-    ensures { (book : Book) (command : Command) → FloorsHold book → (reply : Reply) × (new : Book) × Step book command reply new }
+    ensures { (book : Book) (command : Command) → FloorsHold book
+        → (reply : Reply) × (new : Book) × Step book command reply new }
 {}
 
 /// Each command leaves a sound book sound.
 pub fn step_keeps_soundness()
-    ensures { (old new : Book) (command : Command) (reply : Reply) → IsSound old → Step old command reply new → IsSound new }
+    ensures { (old new : Book) (command : Command) (reply : Reply) → IsSound old → Step old command reply new
+        → IsSound new }
 {}
 
 /// So does each list of commands.
 pub fn run_keeps_soundness()
-    ensures { (old new : Book) (commands : List Command) (replies : List Reply) → IsSound old → Run old commands replies new → IsSound new }
+    ensures { (old new : Book) (commands : List Command) (replies : List Reply) → IsSound old
+        → Run old commands replies new → IsSound new }
 {}
 
 /// Of each queue just the first orders are chosen, as many as the choice says.
 pub fn chosen_are_beginnings()
-    ensures { (book : Book) (choice : Choice) (code : List ℕ) → OrdersAreNumbered book → filter (λ (o : Order). bytes_eq o.sender code) (chosen book choice) ≡ take (choice code) (queue book code) }
+    ensures { (book : Book) (choice : Choice) (code : List ℕ) → OrdersAreNumbered book
+        → filter (λ (o : Order). bytes_eq o.sender code) (chosen book choice) ≡ take (choice code) (queue book code) }
 {}
 
 /// What was not chosen stays queued, in its order.
 pub fn rest_stays_queued()
-    ensures { (book : Book) (choice : Choice) (code : List ℕ) → OrdersAreNumbered book → queue (settle book (is_chosen book choice)) code ≡ drop (choice code) (queue book code) }
+    ensures { (book : Book) (choice : Choice) (code : List ℕ) → OrdersAreNumbered book
+        → queue (settle book (is_chosen book choice)) code ≡ drop (choice code) (queue book code) }
 {}
 
 /// Where the published procedure stops, as nobody is short, its choice is the greatest.
 pub fn procedure_finds_the_greatest()
-    ensures { (book : Book) (choice : Choice) → Reaches book choice → AllByRecursion (λ code. floor book code ≤ℤ balance_after book choice code) (accounts book) → IsGreatest book choice }
+    ensures { (book : Book) (choice : Choice) → Reaches book choice
+        → AllByRecursion (λ code. floor book code ≤ℤ balance_after book choice code) (accounts book)
+        → IsGreatest book choice }
 {}
 
 /// In a sound book all balances together are what was posted.
@@ -90,7 +101,8 @@ pub fn total_is_issued()
 
 /// Settling the chosen orders leaves the balances that the choice was judged by.
 pub fn settled_balances()
-    ensures { (book : Book) (choice : Choice) (code : List ℕ) → balance (settle book (is_chosen book choice)) code ≡ balance_after book choice code }
+    ensures { (book : Book) (choice : Choice) (code : List ℕ)
+        → balance (settle book (is_chosen book choice)) code ≡ balance_after book choice code }
 {}
 
 /// A sound book has no more marks than orders, so that numbers of marks never run out before those of orders.
@@ -100,27 +112,33 @@ pub fn marks_are_few()
 
 /// To settle queued orders moves money, and makes none.
 pub fn settling_keeps_the_total()
-    ensures { (book : Book) (is_in : Order → Bool) → IsSound book → AllByRecursion (λ order. is_in order ≡ true → is_queued order ≡ true) book.orders → total (settle book is_in) ≡ total book }
+    ensures { (book : Book) (is_in : Order → Bool) → IsSound book
+        → AllByRecursion (λ order. is_in order ≡ true → is_queued order ≡ true) book.orders
+        → total (settle book is_in) ≡ total book }
 {}
 
 /// All balances together move by the cents of an accepted posting alone.
 pub fn total_moves_by_postings()
-    ensures { (old new : Book) (command : Command) (reply : Reply) → IsSound old → Step old command reply new → total new ≡ total old +ℤ posted command reply }
+    ensures { (old new : Book) (command : Command) (reply : Reply) → IsSound old → Step old command reply new
+        → total new ≡ total old +ℤ posted command reply }
 {}
 
 /// A mark stands for good, and so does a settled order.
 pub fn step_keeps_what_is_final()
-    ensures { (old new : Book) (command : Command) (reply : Reply) → IsSound old → Step old command reply new → Stands old new }
+    ensures { (old new : Book) (command : Command) (reply : Reply) → IsSound old → Step old command reply new
+        → Stands old new }
 {}
 
 /// So they do over each list of commands.
 pub fn run_keeps_what_is_final()
-    ensures { (old new : Book) (commands : List Command) (replies : List Reply) → IsSound old → Run old commands replies new → Stands old new }
+    ensures { (old new : Book) (commands : List Command) (replies : List Reply) → IsSound old
+        → Run old commands replies new → Stands old new }
 {}
 
 /// Amounts stay in their ranges.
 pub fn step_keeps_ranges()
-    ensures { (old new : Book) (command : Command) (reply : Reply) → CommandFits command → Fits old → Step old command reply new → Fits new }
+    ensures { (old new : Book) (command : Command) (reply : Reply) → CommandFits command → Fits old
+        → Step old command reply new → Fits new }
 {}
 
 /// In a sound book with amounts in their ranges no balance is large: each fits 64 bits with a sign.
@@ -130,25 +148,34 @@ pub fn balances_are_small()
 
 /// A posting moves the balance of its account by its cents, and no other.
 pub fn balance_after_posting()
-    ensures { (book : Book) (posting : Posting) (code : List ℕ) → balance (record book { postings = book.postings ++ posting ∷ [] }) code ≡ balance book code +ℤ (if bytes_eq posting.code code then posting.cents else pos 0) }
+    ensures { (book : Book) (posting : Posting) (code : List ℕ)
+        → balance (record book { postings = book.postings ++ posting ∷ [] }) code
+        ≡ balance book code +ℤ (if bytes_eq posting.code code then posting.cents else pos 0) }
 {}
 
 /// An order that is added moves the balances of its parties where it is settled, and else none.
 pub fn balance_after_order()
-    ensures { (book : Book) (order : Order) (code : List ℕ) → balance (record book { orders = book.orders ++ order ∷ [] }) code ≡ balance book code +ℤ (if is_settled order then gain code order else pos 0) }
+    ensures { (book : Book) (order : Order) (code : List ℕ)
+        → balance (record book { orders = book.orders ++ order ∷ [] }) code
+        ≡ balance book code +ℤ (if is_settled order then gain code order else pos 0) }
 {}
 
 /// Settling queued orders moves each balance by what its account gains by them.
 pub fn balance_after_settling()
-    ensures { (book : Book) (is_in : Order → Bool) (code : List ℕ) → AllByRecursion (λ order. is_in order ≡ true → is_queued order ≡ true) book.orders → balance (settle book is_in) code ≡ balance book code +ℤ int_sum_by (gain code) (filter is_in book.orders) }
+    ensures { (book : Book) (is_in : Order → Bool) (code : List ℕ)
+        → AllByRecursion (λ order. is_in order ≡ true → is_queued order ≡ true) book.orders
+        → balance (settle book is_in) code ≡ balance book code +ℤ int_sum_by (gain code) (filter is_in book.orders) }
 {}
 
 /// Queued orders that get another state, but are not settled, move no balance.
 pub fn balance_after_restating()
-    ensures { (book : Book) (is_in : Order → Bool) (state : OrderState) (code : List ℕ) → AllByRecursion (λ order. is_in order ≡ true → is_queued order ≡ true) book.orders → is_settled_state state ≡ false → balance (with_state book is_in state) code ≡ balance book code }
+    ensures { (book : Book) (is_in : Order → Bool) (state : OrderState) (code : List ℕ)
+        → AllByRecursion (λ order. is_in order ≡ true → is_queued order ≡ true) book.orders
+        → is_settled_state state ≡ false → balance (with_state book is_in state) code ≡ balance book code }
 {}
 
 /// In a sound book a code that is no participant's has nothing.
 pub fn balance_of_unknown_code()
-    ensures { (book : Book) (code : List ℕ) → IsSound book → is_participant book code ≡ false → balance book code ≡ pos 0 }
+    ensures { (book : Book) (code : List ℕ) → IsSound book → is_participant book code ≡ false
+        → balance book code ≡ pos 0 }
 {}

@@ -2,7 +2,8 @@
 use crate::recorded::Recorded;
 use rtgs_money::{BusinessDate, Cents};
 
-/// One settlement: how many orders it settled together, and their value. From then on they are final. Marks are numbered from 1.
+/// One settlement: how many orders it settled together, and their value. From then on they are final. Marks are
+/// numbered from 1.
 #[derive(Clone, Copy, Debug, PartialEq, Eq)]
 pub struct Mark {
     pub number: u64,

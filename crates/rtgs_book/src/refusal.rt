@@ -6,8 +6,8 @@ use rtgs_money::Code;
 use rtgs_refusals::RefusalKind;
 use std::alloc::{AllocError, AllocFailed};
 
-/// Why a command was refused. A refused command changes nothing, but for a fault of the store, which leaves open whether
-/// it acted.
+/// Why a command was refused. A refused command changes nothing, but for a fault of the store, which leaves open
+/// whether it acted.
 #[derive(Clone, Copy, Debug, PartialEq, Eq)]
 pub enum Refusal {
     /// No participant has the code.

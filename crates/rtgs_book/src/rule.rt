@@ -25,7 +25,8 @@ pub enum Rule {
     Marks,
     /// Nothing is queued while the desk is closed, a queue has at most 500 orders, and they are of the day.
     Queues,
-    /// A day that is not closed has a date, no date is on a weekend, none falls along its list, and none is after the day's.
+    /// A day that is not closed has a date, no date is on a weekend, none falls along its list, and none is after the
+    /// day's.
     Dates,
     /// Every balance is at least its floor.
     Floors,

@@ -18,4 +18,5 @@ closed_book book = with_day (with_state book is_queued Rejected) (record book.da
 
 -- what is queued is rejected, account by account; then the day is closed
 abbrev pub closing_rows : Book → List RowChange
-closing_rows book = state_rows Rejected (flat_map (queued_numbers book.orders) (accounts book)) ++ SetDay (record book.day { phase = Closed }) ∷ []
+closing_rows book = state_rows Rejected (flat_map (queued_numbers book.orders) (accounts book))
+    ++ SetDay (record book.day { phase = Closed }) ∷ []

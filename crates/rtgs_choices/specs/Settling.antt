@@ -42,8 +42,10 @@ moves book choice code = not (int_eq (balance book code) (balance_after book cho
 
 -- each balance that the choice moves, in code order
 unfoldable pub balance_rows : Book → Choice → List RowChange
-balance_rows book choice = map (λ code. SetBalance code (balance_after book choice code)) (filter (moves book choice) (accounts book))
+balance_rows book choice = map (λ code. SetBalance code (balance_after book choice code))
+    (filter (moves book choice) (accounts book))
 
 -- the orders with these numbers are settled under the mark; then the mark, and the balances
 abbrev pub settling_rows : Book → Choice → List ℕ → Mark → List RowChange
-settling_rows book choice numbers mark = state_rows (Settled mark.number) numbers ++ AddMark mark ∷ balance_rows book choice
+settling_rows book choice numbers mark = state_rows (Settled mark.number) numbers ++ AddMark mark
+    ∷ balance_rows book choice

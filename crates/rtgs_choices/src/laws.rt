@@ -1,6 +1,7 @@
 //! Laws of choices by index, and of the rows that settle a choice. Each function does nothing: its
 //! contract is the law.
-ghost use Rattle.std.specs.Prelude.{◌≡◌, ℕ, ◌<◌, ◌≤◌, true, false, Ok, List, [], ◌∷◌, ◌++◌, map, filter, length, sum_by};
+ghost use Rattle.std.specs.Prelude.{◌≡◌, ℕ, ◌<◌, ◌≤◌, true, false, Ok, List, [], ◌∷◌, ◌++◌, map, filter, length};
+ghost use Rattle.std.specs.Prelude.{sum_by};
 ghost use Rattle.std.specs.List.{AllByRecursion, flat_map};
 ghost use Rattle.rtgs_gridlock.specs.Choices.{AreFloored, AreInRange, IsWithin, payment_count, after};
 ghost use Rattle.rtgs_gridlock.specs.Choices as resolver;
@@ -29,7 +30,8 @@ ghost use Rattle.rtgs_book.specs.Soundness.{IsSound};
 ghost use Rattle.rtgs_book.specs.Step.{Step};
 ghost use Rattle.rtgs_choices.specs.ByIndex.{code_at, index_of, positions_of, queues_of, by_code};
 ghost use Rattle.rtgs_choices.specs.Closing.{closed_book, closing_rows};
-ghost use Rattle.rtgs_choices.specs.Settling.{orders_taken, numbers_taken, is_numbered, state_rows, IsOfBalance, settling_rows};
+ghost use Rattle.rtgs_choices.specs.Settling.{orders_taken, numbers_taken, is_numbered, state_rows, IsOfBalance};
+ghost use Rattle.rtgs_choices.specs.Settling.{settling_rows};
 
 use rtgs_book::laws::{
     balance_after_restating, chosen_are_beginnings, settled_balances, step_keeps_soundness,
@@ -47,18 +49,25 @@ pub fn conditions_hold()
 /// A choice by index and the choice by code that it means take as much of each participant's
 /// queue, leave it the same balance, and have the same count and value.
 pub fn choices_agree()
-    ensures indexes { (book : Book) (i : ℕ) → IsSound book → i < length (accounts book) → index_of book (code_at book i) ≡ i }
-    ensures lengths { (book : Book) (lengths : ℕ → ℕ) (i : ℕ) → IsSound book → i < length (accounts book) → by_code book lengths (code_at book i) ≡ lengths i }
-    ensures balances { (book : Book) (lengths : ℕ → ℕ) (i : ℕ) → IsSound book → i < length (accounts book) → balance_after book (by_code book lengths) (code_at book i) ≡ after (positions_of book) (queues_of book) lengths i }
-    ensures count { (book : Book) (lengths : ℕ → ℕ) → IsSound book → IsWithin (queues_of book) lengths → length (chosen book (by_code book lengths)) ≡ order_count (queues_of book) lengths }
-    ensures value { (book : Book) (lengths : ℕ → ℕ) → IsSound book → sum_by (λ (o : Order). o.amount) (chosen book (by_code book lengths)) ≡ value_of (queues_of book) lengths }
+    ensures indexes { (book : Book) (i : ℕ) → IsSound book → i < length (accounts book)
+        → index_of book (code_at book i) ≡ i }
+    ensures lengths { (book : Book) (lengths : ℕ → ℕ) (i : ℕ) → IsSound book → i < length (accounts book)
+        → by_code book lengths (code_at book i) ≡ lengths i }
+    ensures balances { (book : Book) (lengths : ℕ → ℕ) (i : ℕ) → IsSound book → i < length (accounts book)
+        → balance_after book (by_code book lengths) (code_at book i)
+        ≡ after (positions_of book) (queues_of book) lengths i }
+    ensures count { (book : Book) (lengths : ℕ → ℕ) → IsSound book → IsWithin (queues_of book) lengths
+        → length (chosen book (by_code book lengths)) ≡ order_count (queues_of book) lengths }
+    ensures value { (book : Book) (lengths : ℕ → ℕ) → IsSound book
+        → sum_by (λ (o : Order). o.amount) (chosen book (by_code book lengths)) ≡ value_of (queues_of book) lengths }
 {
     chosen_are_beginnings();
 }
 
 /// The resolver's greatest choice by index is the book's greatest choice by code.
 pub fn greatest_means_greatest()
-    ensures { (book : Book) (lengths : ℕ → ℕ) → IsSound book → resolver.IsGreatest (positions_of book) (queues_of book) lengths → IsGreatest book (by_code book lengths) }
+    ensures { (book : Book) (lengths : ℕ → ℕ) → IsSound book
+        → resolver.IsGreatest (positions_of book) (queues_of book) lengths → IsGreatest book (by_code book lengths) }
 {
     chosen_are_beginnings();
 }
@@ -66,8 +75,11 @@ pub fn greatest_means_greatest()
 /// An order is chosen where its number is among the first numbers of the queues, account by
 /// account, and there are as many of these as chosen orders.
 pub fn chosen_numbers()
-    ensures numbers { (book : Book) (choice : Choice) → IsSound book → AllByRecursion (λ order. is_chosen book choice order ≡ is_numbered (numbers_taken book choice) order) book.orders }
-    ensures count { (book : Book) (choice : Choice) → IsSound book → length (chosen book choice) ≡ length (numbers_taken book choice) }
+    ensures numbers { (book : Book) (choice : Choice) → IsSound book
+        → AllByRecursion (λ order. is_chosen book choice order
+        ≡ is_numbered (numbers_taken book choice) order) book.orders }
+    ensures count { (book : Book) (choice : Choice) → IsSound book
+        → length (chosen book choice) ≡ length (numbers_taken book choice) }
 {
     chosen_are_beginnings();
 }
@@ -75,9 +87,13 @@ pub fn chosen_numbers()
 /// The orders that are taken account by account are the chosen ones in another order: they have the
 /// same value, and each account gains as much by them. Their numbers are those that are taken.
 pub fn taken_are_chosen()
-    ensures numbers { (book : Book) (choice : Choice) → IsSound book → numbers_taken book choice ≡ map (λ (o : Order). o.number) (orders_taken book choice) }
-    ensures value { (book : Book) (choice : Choice) → IsSound book → sum_by (λ (o : Order). o.amount) (orders_taken book choice) ≡ sum_by (λ (o : Order). o.amount) (chosen book choice) }
-    ensures gains { (book : Book) (choice : Choice) (code : List ℕ) → IsSound book → int_sum_by (gain code) (orders_taken book choice) ≡ int_sum_by (gain code) (chosen book choice) }
+    ensures numbers { (book : Book) (choice : Choice) → IsSound book
+        → numbers_taken book choice ≡ map (λ (o : Order). o.number) (orders_taken book choice) }
+    ensures value { (book : Book) (choice : Choice) → IsSound book
+        → sum_by (λ (o : Order). o.amount) (orders_taken book choice)
+        ≡ sum_by (λ (o : Order). o.amount) (chosen book choice) }
+    ensures gains { (book : Book) (choice : Choice) (code : List ℕ) → IsSound book
+        → int_sum_by (gain code) (orders_taken book choice) ≡ int_sum_by (gain code) (chosen book choice) }
 {
     chosen_are_beginnings();
 }
@@ -85,22 +101,29 @@ pub fn taken_are_chosen()
 /// An order is queued where its number is in one of the queues, account by account, and there are as
 /// many of these as queued orders.
 pub fn queued_are_numbered()
-    ensures numbers { (book : Book) → IsSound book → AllByRecursion (λ order. is_queued order ≡ is_numbered (flat_map (queued_numbers book.orders) (accounts book)) order) book.orders }
-    ensures count { (book : Book) → IsSound book → length (filter is_queued book.orders) ≡ length (flat_map (queued_numbers book.orders) (accounts book)) }
+    ensures numbers { (book : Book) → IsSound book → AllByRecursion
+        (λ order. is_queued order ≡ is_numbered (flat_map (queued_numbers book.orders)
+        (accounts book)) order) book.orders }
+    ensures count { (book : Book) → IsSound book → length (filter is_queued book.orders)
+        ≡ length (flat_map (queued_numbers book.orders) (accounts book)) }
 {}
 
 /// To set the state of one order after another is to set that of all of them. With the mark and
 /// the balances after them, the choice is settled.
 pub fn states_one_by_one()
-    ensures states { (book : Book) (state : OrderState) (numbers : List ℕ) → changed book (state_rows state numbers) ≡ with_state book (is_numbered numbers) state }
+    ensures states { (book : Book) (state : OrderState) (numbers : List ℕ)
+        → changed book (state_rows state numbers) ≡ with_state book (is_numbered numbers) state }
     ensures settled { (book : Book) (choice : Choice) (numbers : List ℕ) (balances : List RowChange) →
-        AllByRecursion (λ order. is_chosen book choice order ≡ is_numbered numbers order) book.orders → is_empty (chosen book choice) ≡ false → AllByRecursion IsOfBalance balances →
-        changed book (state_rows (Settled (next_mark book)) numbers ++ AddMark (mark_of book (chosen book choice)) ∷ balances) ≡ settle book (is_chosen book choice) }
+        AllByRecursion (λ order. is_chosen book choice order ≡ is_numbered numbers order) book.orders
+        → is_empty (chosen book choice) ≡ false → AllByRecursion IsOfBalance balances →
+        changed book (state_rows (Settled (next_mark book)) numbers ++ AddMark (mark_of book (chosen book choice))
+        ∷ balances) ≡ settle book (is_chosen book choice) }
 {}
 
 /// The rows that settle a choice set the balances that move, and no others.
 pub fn balances_one_by_one()
-    ensures { (book : Book) (choice : Choice) (numbers : List ℕ) (mark : Mark) → SetsBalances book (settling_rows book choice numbers mark) (settle book (is_chosen book choice)) }
+    ensures { (book : Book) (choice : Choice) (numbers : List ℕ) (mark : Mark)
+        → SetsBalances book (settling_rows book choice numbers mark) (settle book (is_chosen book choice)) }
 {
     settled_balances();
 }
@@ -108,10 +131,13 @@ pub fn balances_one_by_one()
 /// Where the greatest choice has orders, they are what a gridlock's resolution settles, and the
 /// rows that settle them make a change to that book.
 pub fn rows_settle()
-    ensures step { (book : Book) (choice : Choice) (mark : Mark) → IsSound book → IsGreatest book choice → is_empty (chosen book choice) ≡ false → mark ≡ mark_of book (chosen book choice) →
+    ensures step { (book : Book) (choice : Choice) (mark : Mark) → IsSound book → IsGreatest book choice
+        → is_empty (chosen book choice) ≡ false → mark ≡ mark_of book (chosen book choice) →
         Step book Resolve (Ok (Resolved mark.number mark.count mark.value)) (settle book (is_chosen book choice)) }
-    ensures change { (book : Book) (choice : Choice) (mark : Mark) → IsSound book → IsGreatest book choice → is_empty (chosen book choice) ≡ false → mark ≡ mark_of book (chosen book choice) →
-        IsChange book (settling_rows book choice (numbers_taken book choice) mark) (settle book (is_chosen book choice)) }
+    ensures change { (book : Book) (choice : Choice) (mark : Mark) → IsSound book → IsGreatest book choice
+        → is_empty (chosen book choice) ≡ false → mark ≡ mark_of book (chosen book choice) →
+        IsChange book (settling_rows book choice (numbers_taken book choice) mark)
+        (settle book (is_chosen book choice)) }
 {
     step_keeps_soundness();
     chosen_numbers();
@@ -122,9 +148,11 @@ pub fn rows_settle()
 /// Where the greatest choice has no order and nobody is below zero, the day that was cut off can be
 /// closed, and the rows that reject what is queued and close the day make a change to that book.
 pub fn rows_close()
-    ensures step { (book : Book) (choice : Choice) (date : ℕ) → is_cut_off book.day.phase ≡ true → is_on book date ≡ true → IsGreatest book choice → is_empty (chosen book choice) ≡ true → overdrawn book ≡ [] →
+    ensures step { (book : Book) (choice : Choice) (date : ℕ) → is_cut_off book.day.phase ≡ true
+        → is_on book date ≡ true → IsGreatest book choice → is_empty (chosen book choice) ≡ true → overdrawn book ≡ [] →
         Step book (CloseDay date) (Ok (answer.Closed (length (filter is_queued book.orders)))) (closed_book book) }
-    ensures change { (book : Book) (choice : Choice) (date : ℕ) → IsSound book → is_cut_off book.day.phase ≡ true → is_on book date ≡ true → IsGreatest book choice → is_empty (chosen book choice) ≡ true → overdrawn book ≡ [] →
+    ensures change { (book : Book) (choice : Choice) (date : ℕ) → IsSound book → is_cut_off book.day.phase ≡ true
+        → is_on book date ≡ true → IsGreatest book choice → is_empty (chosen book choice) ≡ true → overdrawn book ≡ [] →
         IsChange book (closing_rows book) (closed_book book) }
 {
     balance_after_restating();

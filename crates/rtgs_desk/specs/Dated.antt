@@ -39,7 +39,13 @@ pub record ReportTold : Type 0 where
   pub marks : List Mark
 
 abbrev pub report_seen : Report → ReportTold
-report_seen r = record { date = r.date; codes = r.codes.items; postings = r.postings.items; orders = r.orders.items; marks = r.marks.items }
+report_seen r = record {
+  date = r.date;
+  codes = r.codes.items;
+  postings = r.postings.items;
+  orders = r.orders.items;
+  marks = r.marks.items;
+}
 
 -- the participants' codes in their order, and what bears the date
 abbrev pub report_told : Book → ℕ → Result ReportTold Refusal

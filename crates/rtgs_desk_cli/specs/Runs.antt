@@ -25,7 +25,8 @@ use Rattle.rtgs_desk_lines.specs.declared.ended.Ended.{Ended}
 use Rattle.rtgs_desk_lines.specs.declared.ended.Ended.TheVariants as ended
 use Rattle.rtgs_desk_lines.specs.declared.printed.Printed.{Printed}
 use Rattle.rtgs_desk_lines.specs.declared.failure.Failure.{Failure}
-use Rattle.rtgs_desk_lines.specs.declared.failure.Failure.TheVariants.{Refused, Opening, InUse, FileExists, OrdersTooLong, NoOrders}
+use Rattle.rtgs_desk_lines.specs.declared.failure.Failure.TheVariants.{Refused, Opening, InUse, FileExists}
+use Rattle.rtgs_desk_lines.specs.declared.failure.Failure.TheVariants.{OrdersTooLong, NoOrders}
 use Rattle.rtgs_book_file.specs.declared.file_fault.FileFault.{FileFault}
 use Rattle.rtgs_book_file.specs.declared.file_fault.FileFault.TheVariants as file
 
@@ -86,7 +87,8 @@ PrintsFor request printed old new =
 -- nothing on the second alone.
 abbrev pub Leaves : {O E : Type 0} → (O → Option (List ℕ)) → (E → Option (List ℕ)) → Ended → O → O → E → E → Type 0
 Leaves contents told (ended.Printed printed) out out' err err' =
-    ((text : List ℕ) × (stopped : Option Refusal) × Prints text stopped printed (contents out) (contents out')) × (err' ≡ err)
+    ((text : List ℕ) × (stopped : Option Refusal) × Prints text stopped printed (contents out) (contents out'))
+    × (err' ≡ err)
 Leaves contents told (ended.Refused failure sent) out out' err err' =
     IsTold sent (told err) (told err') (ended_line (refusal_line failure)) × (out' ≡ out)
 Leaves contents told (ended.Misused sent) out out' err err' =

@@ -14,8 +14,8 @@ use rtgs_keeper::Keeper;
 use rtgs_money::{BusinessDate, Code};
 use std::alloc::Global;
 
-/// The statement of a participant for a date, as the book that the desk holds has it. Refused where the store has failed,
-/// nobody has the code, or memory is wanting.
+/// The statement of a participant for a date, as the book that the desk holds has it. Refused where the store has
+/// failed, nobody has the code, or memory is wanting.
 pub fn statement_of<K: Keeper>(
     alloc: Global,
     desk: &Desk<K>,
@@ -33,7 +33,8 @@ pub fn statement_of<K: Keeper>(
     }
 }
 
-/// The report of a day, as the book that the desk holds has it. Refused where the store has failed, or memory is wanting.
+/// The report of a day, as the book that the desk holds has it. Refused where the store has failed, or memory is
+/// wanting.
 pub fn report_of<K: Keeper>(
     alloc: Global,
     desk: &Desk<K>,

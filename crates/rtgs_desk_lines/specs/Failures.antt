@@ -11,7 +11,8 @@ use Rattle.rtgs_book.specs.declared.refusal.Refusal.TheVariants.{Overdrawn, OutO
 use Rattle.rtgs_book.specs.declared.fault.Fault.{Fault}
 use Rattle.rtgs_book.specs.declared.fault.Fault.TheVariants as fault
 use Rattle.rtgs_desk_lines.specs.declared.failure.Failure.{Failure}
-use Rattle.rtgs_desk_lines.specs.declared.failure.Failure.TheVariants.{Form, Refused, Opening, InUse, FileExists, Orders, OrdersTooLong, NoOrders}
+use Rattle.rtgs_desk_lines.specs.declared.failure.Failure.TheVariants.{Form, Refused, Opening, InUse, FileExists}
+use Rattle.rtgs_desk_lines.specs.declared.failure.Failure.TheVariants.{Orders, OrdersTooLong, NoOrders}
 use Rattle.rtgs_exchange.specs.BatchFaults.{batch_kind_of}
 use Rattle.rtgs_exchange.specs.declared.batch_fault.BatchFault.{BatchFault}
 use Rattle.rtgs_exchange.specs.declared.batch_fault.BatchFault.TheVariants.{BadRow}
@@ -60,4 +61,6 @@ abbrev pub two_digits : ℕ → List ℕ
 two_digits number = (if nat_lt number 10 then codes "0" else []) ++ decimal number
 
 abbrev pub line_of : Failure → List ℕ
-line_of failure = codes "refused " ++ two_digits (failure_entry_of failure).number ++ codes " " ++ (failure_entry_of failure).name ++ detail_of failure
+line_of failure =
+    codes "refused " ++ two_digits (failure_entry_of failure).number ++ codes " " ++ (failure_entry_of failure).name
+    ++ detail_of failure

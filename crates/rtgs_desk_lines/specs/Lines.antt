@@ -2,7 +2,9 @@
 use Rattle.std.specs.Prelude.{ℕ, List, ◌++◌, codes, decimal}
 use Rattle.std.specs.Fmt.{signed_decimal}
 use Rattle.rtgs_book.specs.declared.answer.Answer.{Answer}
-use Rattle.rtgs_book.specs.declared.answer.Answer.TheVariants.{Added, CreditSet, Posted, Opened, Settled, Queued, Withdrawn, Resolved, Nothing, CutOffDone, Closed, Repeated}
+use Rattle.rtgs_book.specs.declared.answer.Answer.TheVariants.{Added, CreditSet, Posted, Opened, Settled, Queued}
+use Rattle.rtgs_book.specs.declared.answer.Answer.TheVariants.{Withdrawn, Resolved, Nothing, CutOffDone, Closed}
+use Rattle.rtgs_book.specs.declared.answer.Answer.TheVariants.{Repeated}
 use Rattle.rtgs_book.specs.declared.standing.Standing.TheVariants as standing
 use Rattle.rtgs_book.specs.Standings.{word_of}
 use Rattle.rtgs_desk_lines.specs.declared.done.Done.{Done}
@@ -13,10 +15,14 @@ answer_line Added = codes "added"
 answer_line CreditSet = codes "credit set"
 answer_line (Posted number) = codes "posted " ++ decimal number
 answer_line Opened = codes "opened"
-answer_line (Settled number mark) = word_of standing.Settled ++ codes " " ++ decimal number ++ codes " mark " ++ decimal mark
-answer_line (Queued number place) = word_of standing.Queued ++ codes " " ++ decimal number ++ codes " place " ++ decimal place
+answer_line (Settled number mark) =
+    word_of standing.Settled ++ codes " " ++ decimal number ++ codes " mark " ++ decimal mark
+answer_line (Queued number place) =
+    word_of standing.Queued ++ codes " " ++ decimal number ++ codes " place " ++ decimal place
 answer_line (Withdrawn number) = word_of standing.Withdrawn ++ codes " " ++ decimal number
-answer_line (Resolved mark count value) = codes "resolved mark " ++ decimal mark ++ codes " count " ++ decimal count ++ codes " value " ++ signed_decimal value
+answer_line (Resolved mark count value) =
+    codes "resolved mark " ++ decimal mark ++ codes " count " ++ decimal count ++ codes " value "
+    ++ signed_decimal value
 answer_line Nothing = codes "nothing"
 answer_line CutOffDone = codes "cut off"
 answer_line (Closed rejected) = codes "closed rejected " ++ decimal rejected

@@ -34,8 +34,8 @@ after_batch Whole (Some refusal) = Stopped refusal
 after_batch (Stopped before) stopped = Stopped before
 after_batch (Lost failed) stopped = Lost failed
 
--- What a writer holds where a run had this text to print, and its batch stopped so, if it did: all of the text, or where
--- the writer failed a beginning of it and not all.
+-- What a writer holds where a run had this text to print, and its batch stopped so, if it did: all of the text, or
+-- where the writer failed a beginning of it and not all.
 abbrev pub Prints : List ℕ → Option Refusal → Printed → Option (List ℕ) → Option (List ℕ) → Type 0
 Prints text stopped Whole old new = (stopped ≡ None) × Appends old new text
 Prints text stopped (Stopped refusal) old new = (stopped ≡ Some refusal) × Appends old new text

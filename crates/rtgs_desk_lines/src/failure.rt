@@ -1,7 +1,8 @@
 //! Why a run did not do what it was asked for.
 ghost use Rattle.std.specs.Prelude.{◌≡◌, ◌⊎◌, ◌+◌, ◌<◌, ◌≤◌, ◌++◌, ◌∷◌, [], Some};
 ghost use Rattle.arrayvec.specs.ArrayString.{array_string_len};
-ghost use Rattle.rtgs_desk_lines.specs.Failures.{failure_kind_of, failure_entry_of, refusal_detail, fault_detail, detail_of, line_of};
+ghost use Rattle.rtgs_desk_lines.specs.Failures.{failure_kind_of, failure_entry_of, refusal_detail, fault_detail};
+ghost use Rattle.rtgs_desk_lines.specs.Failures.{detail_of, line_of};
 ghost use Rattle.rtgs_desk_lines.specs.Told.{IsTold};
 
 use crate::line::{Line, ROOM};

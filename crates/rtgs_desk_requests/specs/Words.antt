@@ -6,7 +6,8 @@ use Rattle.rtgs_money.specs.Amounts.{IsPostingAmount, IsCredit}
 use Rattle.rtgs_money.specs.Date.{IsBusinessDate, date_text}
 use Rattle.rtgs_money.specs.Forms.{IsCode, IsReference, IsName, IsKey}
 use Rattle.rtgs_money.specs.declared.lexical.Lexical.{Lexical}
-use Rattle.rtgs_money.specs.declared.lexical.Lexical.TheVariants.{BadCode, BadReference, BadAmount, BadName, BadKey, BadDate}
+use Rattle.rtgs_money.specs.declared.lexical.Lexical.TheVariants.{BadCode, BadReference, BadAmount, BadName, BadKey}
+use Rattle.rtgs_money.specs.declared.lexical.Lexical.TheVariants.{BadDate}
 use Rattle.rtgs_book.specs.declared.command.Command.{Command}
 use Rattle.rtgs_book.specs.declared.command.Command.TheVariants as command
 
@@ -45,9 +46,11 @@ pub record ReadsPost (code reference cents : List ℕ) (debit : Bool) (result : 
 
 -- the words of a credit limit, judged from left to right
 pub record ReadsCredit (code cents : List ℕ) (result : Result Command Lexical) : Type 0 where
-  pub found : (credit : ℕ) → IsCode code → IsCredit credit → cents ≡ decimal credit → result ≡ Ok (command.SetCredit code credit)
+  pub found : (credit : ℕ) → IsCode code → IsCredit credit → cents ≡ decimal credit
+      → result ≡ Ok (command.SetCredit code credit)
   pub bad_code : ¬ IsCode code → result ≡ Err BadCode
-  pub bad_amount : IsCode code → ((credit : ℕ) → ¬ (IsCredit credit × (cents ≡ decimal credit))) → result ≡ Err BadAmount
+  pub bad_amount : IsCode code → ((credit : ℕ) → ¬ (IsCredit credit × (cents ≡ decimal credit)))
+      → result ≡ Err BadAmount
 
 -- the word of a participant
 pub record ReadsCode (code : List ℕ) (result : Result (List ℕ) Lexical) : Type 0 where

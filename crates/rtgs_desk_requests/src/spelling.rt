@@ -1,7 +1,8 @@
 //! The values that words spell, judged from left to right.
 ghost use Rattle.std.specs.Prelude.{◌≡◌};
 ghost use Rattle.rtgs_book.specs.declared.command.Command.TheVariants.{OpenDay, CutOff, CloseDay};
-ghost use Rattle.rtgs_desk_requests.specs.Words.{ReadsAdd, ReadsCode, ReadsCredit, ReadsPost, ReadsCents, ReadsDate, ReadsDay, ReadsStatement};
+ghost use Rattle.rtgs_desk_requests.specs.Words.{ReadsAdd, ReadsCode, ReadsCredit, ReadsPost, ReadsCents, ReadsDate};
+ghost use Rattle.rtgs_desk_requests.specs.Words.{ReadsDay, ReadsStatement};
 
 use rtgs_book::Command;
 use rtgs_money::{BusinessDate, Code, Credit, Key, Lexical, Name, PostingAmount, Reference};

@@ -33,7 +33,8 @@ bank code name key = record { code = code; name = name; key = replicate 32 key; 
 -- the three banks, and the day is open
 abbrev pub start : Book
 start = record {
-  participants = bank alfa (codes "Alfa Bank") 1 ∷ bank beta (codes "Beta Bank") 2 ∷ bank gama (codes "Gama Bank") 3 ∷ [];
+  participants = bank alfa (codes "Alfa Bank") 1 ∷ bank beta (codes "Beta Bank") 2 ∷ bank gama (codes "Gama Bank") 3
+      ∷ [];
   postings = [];
   orders = [];
   marks = [];

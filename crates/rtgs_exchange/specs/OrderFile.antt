@@ -41,7 +41,8 @@ FirstBadRow r records = (rows : List OrderRow) × (bad : Fields) × (rest : List
 -- There is no row, or MOST_ROWS are good and there are more.
 abbrev pub Miscount : List Fields → Type 0
 Miscount records = (records ≡ [])
-    ⊎ ((rows : List OrderRow) × (next : Fields) × (rest : List Fields) × BeginWith rows (next ∷ rest) records × (length rows ≡ MOST_ROWS))
+    ⊎ ((rows : List OrderRow) × (next : Fields) × (rest : List Fields) × BeginWith rows (next ∷ rest) records
+    × (length rows ≡ MOST_ROWS))
 
 -- Why these records, those under a header, are refused.
 abbrev pub IsFaultOfRows : BatchFault → List Fields → Type 0
@@ -65,8 +66,8 @@ HasUnderHeader bytes under = records_of bytes ≡ header ∷ under
 abbrev pub IsOrderFile : List ℕ → List OrderRow → Type 0
 IsOrderFile bytes rows = (under : List Fields) × HasUnderHeader bytes under × AreRows rows under
 
--- Why the text is no order file, the first cause: another header or none, then the first bad row, or the count of rows. Memory may
--- be wanting for every text.
+-- Why the text is no order file, the first cause: another header or none, then the first bad row, or the count of rows.
+-- Memory may be wanting for every text.
 abbrev pub IsFaultOf : List ℕ → BatchFault → Type 0
 IsFaultOf bytes BadHeader = (under : List Fields) → HasUnderHeader bytes under → ⊥
 IsFaultOf bytes (BadRow row) = (under : List Fields) × HasUnderHeader bytes under × FirstBadRow row under

@@ -22,8 +22,10 @@ header = line (codes "reference") (codes "result") (codes "number") (codes "deta
 abbrev pub reply_line : List ℕ → RowReply → List ℕ
 reply_line reference (Settled number mark) = line reference (word_of standing.Settled) (decimal number) (decimal mark)
 reply_line reference (Queued number place) = line reference (word_of standing.Queued) (decimal number) (decimal place)
-reply_line reference (Repeated number state) = line reference (codes "repeated") (decimal number) (word_of (standing_of state))
-reply_line reference (Refused refusal) = line reference (codes "refused") [] (decimal (entry_of (refusal_kind_of refusal)).number)
+reply_line reference (Repeated number state) = line reference (codes "repeated") (decimal number)
+    (word_of (standing_of state))
+reply_line reference (Refused refusal) = line reference (codes "refused") []
+    (decimal (entry_of (refusal_kind_of refusal)).number)
 
 -- the line of the row at which the batch stopped
 abbrev pub stop_line : List ℕ → Refusal → List ℕ
@@ -31,7 +33,8 @@ stop_line reference refusal = line reference (codes "stopped") [] (decimal (entr
 
 -- a line for each row that has a reply, and one for the row at which the batch stopped
 abbrev pub result_lines : List OrderRow → List RowReply → Option Refusal → List ℕ
-result_lines (row ∷ rows) (reply ∷ replies) stopped = reply_line row.reference reply ++ result_lines rows replies stopped
+result_lines (row ∷ rows) (reply ∷ replies) stopped = reply_line row.reference reply
+    ++ result_lines rows replies stopped
 result_lines (row ∷ rows) [] (Some refusal) = stop_line row.reference refusal
 result_lines (row ∷ rows) [] None = []
 result_lines [] replies stopped = []

@@ -3,7 +3,8 @@ ghost use Rattle.std.specs.Prelude.{◌≡◌, ◌≢◌, ◌↔◌, ◌⊎◌, 
 ghost use Rattle.csv.specs.Records.{fields_of};
 ghost use Rattle.rtgs_exchange.specs.declared.batch_fault.BatchFault.{BatchFault};
 ghost use Rattle.rtgs_exchange.specs.declared.order_row.OrderRow.{OrderRow};
-ghost use Rattle.rtgs_exchange.specs.OrderFile.{Fields, header, records_of, AreRows, IsFaultOf, IsFaultOfRows, IsOrderFile};
+ghost use Rattle.rtgs_exchange.specs.OrderFile.{Fields, header, records_of, AreRows, IsFaultOf, IsFaultOfRows};
+ghost use Rattle.rtgs_exchange.specs.OrderFile.{IsOrderFile};
 ghost use Rattle.rtgs_exchange.specs.Reading.{IsReading, left_of};
 
 use crate::batch_fault::BatchFault;
@@ -12,10 +13,11 @@ use crate::order_row::{OrderRow, three_fields};
 use csv::{ByteRecord, ByteRecordsIntoIter, ReaderBuilder};
 use std::alloc::Global;
 
-/// The rows of an order file: CSV (RFC 4180) whose first record is `reference,to,amount`, and then 1 to `MOST_ROWS` records of a
-/// reference, a code and an amount in cents. A byte order mark at the start and empty lines are passed over. The faults come
-/// in this order: `BadHeader`, `BadCount` where there is no row, `BadRow` with the first bad row of the first `MOST_ROWS`, counted
-/// from 1, and `BadCount` where there are more. `OutOfMemory` stands for every error of the reader of the bytes.
+/// The rows of an order file: CSV (RFC 4180) whose first record is `reference,to,amount`, and then 1 to `MOST_ROWS`
+/// records of a reference, a code and an amount in cents. A byte order mark at the start and empty lines are passed
+/// over. The faults come in this order: `BadHeader`, `BadCount` where there is no row, `BadRow` with the first bad row
+/// of the first `MOST_ROWS`, counted from 1, and `BadCount` where there are more. `OutOfMemory` stands for every error
+/// of the reader of the bytes.
 pub fn read_orders(alloc: Global, bytes: &[u8]) -> Result<Vec<OrderRow>, BatchFault>
     ensures rows { IfOk result (λ rows. IsOrderFile bytes.now rows.items) }
     ensures fault { IfErr result (λ fault. IsFaultOf bytes.now fault) }

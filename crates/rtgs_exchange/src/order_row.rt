@@ -33,7 +33,8 @@ impl OrderRow {
 /// The fields of a record, if they are three.
 #[tactic(auto, using(crate::proofs::Fields::missing, crate::proofs::Fields::three))]
 pub(crate) fn three_fields(fields: &ByteRecord) -> Option<(&[u8], &[u8], &[u8])>
-    ensures value { IfSome result (λ (first, second, third). fields_of fields.now ≡ first.now ∷ second.now ∷ third.now ∷ []) }
+    ensures value { IfSome result (λ (first, second, third). fields_of fields.now ≡ first.now ∷ second.now ∷ third.now
+        ∷ []) }
     ensures none { result ≡ None → length (fields_of fields.now) ≢ 3 }
 {
     if fields.len() != 3 {

@@ -14,17 +14,19 @@ use rtgs_output::{TextFault, send_all};
 use std::alloc::{AllocError, Global};
 use std::io::Write;
 
-/// Writes the result file of a batch as CSV (RFC 4180, but with a line feed alone at the end of each line): a header, then for each row
-/// that has a reply its reference, what became of it, the order's number and a detail, and last the row at which the batch stopped. On a
-/// fault of the writer a beginning of that was written.
+/// Writes the result file of a batch as CSV (RFC 4180, but with a line feed alone at the end of each line): a header,
+/// then for each row that has a reply its reference, what became of it, the order's number and a detail, and last the
+/// row at which the batch stopped. On a fault of the writer a beginning of that was written.
 pub fn write_results<W: Write>(
     alloc: Global,
     out: &mut W,
     rows: &[OrderRow],
     batch: &BatchResult,
 ) -> Result<(), TextFault>
-    ensures written { OnOk result (Appends (W.contents out.old) (W.contents out.new) (results_text rows.now batch.now.replies.items batch.now.stopped)) }
-    ensures begun { OnErr result (AppendsPart (W.contents out.old) (W.contents out.new) (results_text rows.now batch.now.replies.items batch.now.stopped)) }
+    ensures written { OnOk result (Appends (W.contents out.old) (W.contents out.new)
+        (results_text rows.now batch.now.replies.items batch.now.stopped)) }
+    ensures begun { OnErr result (AppendsPart (W.contents out.old) (W.contents out.new)
+        (results_text rows.now batch.now.replies.items batch.now.stopped)) }
     ensures memory { IfErr result (λ fault. fault ≡ TextFault.OutOfMemory → out.new ≡ out.old) }
 {
     let text = match text_of(alloc, rows, batch) {
@@ -56,7 +58,8 @@ fn put_rows<W: Write + Drop>(
     rows: &[OrderRow],
     batch: &BatchResult,
 ) -> Result<(), AllocError>
-    ensures { OnOk result ((text : List ℕ) → Wrote W.contents lines.old text → Wrote W.contents lines.new (text ++ result_lines rows.now batch.now.replies.items batch.now.stopped)) }
+    ensures { OnOk result ((text : List ℕ) → Wrote W.contents lines.old text
+        → Wrote W.contents lines.new (text ++ result_lines rows.now batch.now.replies.items batch.now.stopped)) }
 {
     let replies = batch.replies.as_slice();
     for (row, reply) in rows.iter().zip(replies.iter()) {
@@ -77,7 +80,8 @@ fn put_reply<W: Write + Drop>(
     reference: &Reference,
     reply: RowReply,
 ) -> Result<(), AllocError>
-    ensures { OnOk result ((text : List ℕ) → Wrote W.contents lines.old text → Wrote W.contents lines.new (text ++ reply_line reference.now reply)) }
+    ensures { OnOk result ((text : List ℕ) → Wrote W.contents lines.old text
+        → Wrote W.contents lines.new (text ++ reply_line reference.now reply)) }
 {
     let mut first = Buffer::new();
     let mut second = Buffer::new();
@@ -120,7 +124,8 @@ fn put_stop<W: Write + Drop>(
     reference: &Reference,
     refusal: Refusal,
 ) -> Result<(), AllocError>
-    ensures { OnOk result ((text : List ℕ) → Wrote W.contents lines.old text → Wrote W.contents lines.new (text ++ stop_line reference.now refusal)) }
+    ensures { OnOk result ((text : List ℕ) → Wrote W.contents lines.old text
+        → Wrote W.contents lines.new (text ++ stop_line reference.now refusal)) }
 {
     let mut detail = Buffer::new();
     put_line(
@@ -140,7 +145,8 @@ fn put_line<W: Write + Drop>(
     number: &str,
     detail: &str,
 ) -> Result<(), AllocError>
-    ensures { OnOk result ((text : List ℕ) → Wrote W.contents lines.old text → Wrote W.contents lines.new (text ++ line reference.now word.now number.now detail.now)) }
+    ensures { OnOk result ((text : List ℕ) → Wrote W.contents lines.old text
+        → Wrote W.contents lines.new (text ++ line reference.now word.now number.now detail.now)) }
 {
     let fields = [
         reference.as_bytes(),

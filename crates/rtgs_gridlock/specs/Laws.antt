@@ -5,7 +5,8 @@ use Rattle.rtgs_gridlock.specs.declared.positions.Position.{Position}
 use Rattle.rtgs_gridlock.specs.Choices.{sum_below, position_of, queue_of, sent, after}
 
 -- the chosen payments are gone from the queues, and the balances are those after them
-pub record IsSettled (positions : List Position) (queues : List (List Payment)) (choice : ℕ → ℕ) (rest_positions : List Position) (rest_queues : List (List Payment)) : Type 0 where
+pub record IsSettled (positions : List Position) (queues : List (List Payment)) (choice : ℕ → ℕ)
+    (rest_positions : List Position) (rest_queues : List (List Payment)) : Type 0 where
   pub count : length rest_queues ≡ length queues
   pub floors : (p : ℕ) → p < length queues → (position_of rest_positions p).floor ≡ (position_of positions p).floor
   pub balances : (p : ℕ) → p < length queues → (position_of rest_positions p).balance ≡ after positions queues choice p

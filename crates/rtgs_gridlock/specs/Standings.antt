@@ -26,7 +26,9 @@ abbrev pub everything : List (List Payment) → ℕ → ℕ
 everything queues p = length (queue_of queues p)
 
 -- the standings are those that a choice gives
-pub record AreStandings (positions : List Position) (queues : List (List Payment)) (choice : ℕ → ℕ) (standings : List Standing) : Type 0 where
+pub record AreStandings (positions : List Position) (queues : List (List Payment)) (choice : ℕ → ℕ)
+    (standings : List Standing) : Type 0 where
   pub funds : (p : ℕ) → p < length queues →
-      (position_of positions p).floor +ℤ pos (funds_of standings p) ≡ (position_of positions p).balance +ℤ pos (received queues choice p)
+      (position_of positions p).floor +ℤ pos (funds_of standings p)
+      ≡ (position_of positions p).balance +ℤ pos (received queues choice p)
   pub owed : (p : ℕ) → p < length queues → owed_of standings p ≡ sent queues choice p

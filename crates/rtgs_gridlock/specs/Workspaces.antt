@@ -1,5 +1,6 @@
 -- What a workspace holds, and what its steps do.
-use Rattle.std.specs.Prelude.{◌≡◌, ℕ, List, length, take, ◌+◌, ◌-◌, ◌*◌, ◌<◌, ◌≤◌, ◌==◌, slice_index, slice_index_or, vec_len, if◌then◌else◌}
+use Rattle.std.specs.Prelude.{◌≡◌, ℕ, List, length, take, ◌+◌, ◌-◌, ◌*◌, ◌<◌, ◌≤◌, ◌==◌, slice_index, slice_index_or}
+use Rattle.std.specs.Prelude.{vec_len, if◌then◌else◌}
 use Rattle.rtgs_gridlock.specs.declared.positions.Position.{Position}
 use Rattle.rtgs_gridlock.specs.declared.queues.Payment.{Payment}
 use Rattle.rtgs_gridlock.specs.declared.workspace.Workspace.{Workspace}
@@ -93,9 +94,11 @@ pub record IsTakenBack (queues : List (List Payment)) (index : ℕ) (old new : W
   pub participants : participants_of new ≡ participants_of old
   pub fewer : choice_of new index + 1 ≡ choice_of old index
   pub others : (p : ℕ) → (p ≡ index → ⊥) → choice_of new p ≡ choice_of old p
-  pub funds : (p : ℕ) → funds_of new.standings p + amount_to p (newest queues (choice_of old) index) ≡ funds_of old.standings p
+  pub funds : (p : ℕ) → funds_of new.standings p + amount_to p (newest queues (choice_of old) index)
+      ≡ funds_of old.standings p
   pub owed : (p : ℕ) →
-      owed_of new.standings p + (if p == index then (newest queues (choice_of old) index).amount else 0) ≡ owed_of old.standings p
+      owed_of new.standings p + (if p == index then (newest queues (choice_of old) index).amount else 0)
+      ≡ owed_of old.standings p
   pub waiting : new.waiting ≡ old.waiting
   pub steps : steps_of new ≡ steps_of old + 1
   pub room : KeepsRoom old new

@@ -24,7 +24,8 @@ pub fn greatest_is_most()
 
 /// Once the greatest choice is settled, the greatest choice of what is left is empty.
 pub fn greatest_leaves_nothing()
-    ensures { (positions rest_positions : List Position) → (queues rest_queues : List (List Payment)) → (choice : ℕ → ℕ) →
+    ensures { (positions rest_positions : List Position) → (queues rest_queues : List (List Payment)) → (choice : ℕ → ℕ)
+        →
         IsGreatest positions queues choice → IsSettled positions queues choice rest_positions rest_queues →
         IsGreatest rest_positions rest_queues (λ _. 0) }
 {}

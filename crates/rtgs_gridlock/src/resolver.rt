@@ -1,7 +1,8 @@
 ghost use Rattle.std.specs.Prelude.{◌≡◌, ◌+◌, ◌*◌, ◌^◌, ◌<◌, ◌≤◌, IsTrue, IsFalse, List, length, slice_index};
 ghost use Rattle.rtgs_gridlock.specs.declared.positions.Position.{Position};
 ghost use Rattle.rtgs_gridlock.specs.Choices.{payment_count, AreFloored, AreInRange, IsGreatest};
-ghost use Rattle.rtgs_gridlock.specs.Workspaces.{reserved_participants, reserved_payments, lengths_of, steps_of, steps_left, waiting_count, KeepsRoom};
+ghost use Rattle.rtgs_gridlock.specs.Workspaces.{reserved_participants, reserved_payments, lengths_of, steps_of};
+ghost use Rattle.rtgs_gridlock.specs.Workspaces.{steps_left, waiting_count, KeepsRoom};
 ghost use Rattle.rtgs_gridlock.specs.Resolving.{IsResolving};
 
 use crate::positions::Positions;

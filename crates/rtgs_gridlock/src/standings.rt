@@ -1,6 +1,8 @@
-ghost use Rattle.std.specs.Prelude.{◌≡◌, ℕ, ◌+◌, ◌*◌, ◌^◌, ◌<◌, ◌≤◌, ◌↔◌, ◌==◌, ◌+ℤ◌, pos, All, IfOk, IsTrue, length, sum_by, if◌then◌else◌};
+ghost use Rattle.std.specs.Prelude.{◌≡◌, ℕ, ◌+◌, ◌*◌, ◌^◌, ◌<◌, ◌≤◌, ◌↔◌, ◌==◌, ◌+ℤ◌, pos, All, IfOk, IsTrue, length};
+ghost use Rattle.std.specs.Prelude.{sum_by, if◌then◌else◌};
 ghost use Rattle.rtgs_gridlock.specs.declared.queues.TheConstants.{LARGEST_AMOUNT};
-ghost use Rattle.rtgs_gridlock.specs.Choices.{amount_to, position_of, queue_of, payment_count, received, AreFloored, AreInRange};
+ghost use Rattle.rtgs_gridlock.specs.Choices.{amount_to, position_of, queue_of, payment_count, received, AreFloored};
+ghost use Rattle.rtgs_gridlock.specs.Choices.{AreInRange};
 ghost use Rattle.rtgs_gridlock.specs.Standings.{funds_of, owed_of, everything, HasEnough, AreStandings};
 
 use crate::positions::Positions;

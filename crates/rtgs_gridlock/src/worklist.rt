@@ -20,7 +20,8 @@ impl Model for Worklist {
 
     ghost view = { λ w. w.is_waiting.items };
 
-    ghost invariant = { λ w. IsListed w.stack.items w.is_waiting.items × (vec_len w.is_waiting ≤ vec_capacity w.stack) };
+    ghost invariant = { λ w. IsListed w.stack.items w.is_waiting.items
+        × (vec_len w.is_waiting ≤ vec_capacity w.stack) };
 }
 
 impl Worklist {

@@ -1,4 +1,5 @@
-ghost use Rattle.std.specs.Prelude.{◌≡◌, [], ℕ, ◌+◌, ◌^◌, ◌<◌, ◌≤◌, ◌↔◌, IsTrue, IfOk, MatchOption, false, length, slice_set, slice_index, vec_len};
+ghost use Rattle.std.specs.Prelude.{◌≡◌, [], ℕ, ◌+◌, ◌^◌, ◌<◌, ◌≤◌, ◌↔◌, IsTrue, IfOk, MatchOption, false, length};
+ghost use Rattle.std.specs.Prelude.{slice_set, slice_index, vec_len};
 ghost use Rattle.rtgs_gridlock.specs.Choices.{payment_count, AreFloored, AreInRange};
 ghost use Rattle.rtgs_gridlock.specs.Standings.{everything, HasEnough};
 
@@ -26,7 +27,9 @@ pub struct Workspace {
 }
 
 impl Workspace {
-    ghost use Rattle.rtgs_gridlock.specs.Workspaces.{reserved_participants, reserved_payments, participants_of, lengths_of, choice_of, steps_of, waiting_count, newest, IsWaiting, IsFilled, IsTested, CanTakeBack, IsTakenBack, SameButWaiting};
+    ghost use Rattle.rtgs_gridlock.specs.Workspaces.{reserved_participants, reserved_payments, participants_of};
+    ghost use Rattle.rtgs_gridlock.specs.Workspaces.{lengths_of, choice_of, steps_of, waiting_count, newest, IsWaiting};
+    ghost use Rattle.rtgs_gridlock.specs.Workspaces.{IsFilled, IsTested, CanTakeBack, IsTakenBack, SameButWaiting};
 
     /// Room for so many participants. A resolution may then have so many queued payments, which
     /// need no room of their own.

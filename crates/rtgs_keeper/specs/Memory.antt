@@ -12,7 +12,13 @@ use Rattle.rtgs_keeper.specs.declared.memory_keeper.MemoryKeeper.{MemoryKeeper}
 
 -- the records that the keeper has
 abbrev pub book_of : MemoryKeeper → Book
-book_of k = record { participants = k.participants.items; postings = k.postings.items; orders = k.orders.items; marks = k.marks.items; day = k.day }
+book_of k = record {
+  participants = k.participants.items;
+  postings = k.postings.items;
+  orders = k.orders.items;
+  marks = k.marks.items;
+  day = k.day;
+}
 
 -- the keeper has this book, and the book is sound
 abbrev pub KeepsBook : MemoryKeeper → Book → Type 0

@@ -1,5 +1,6 @@
 //! A book in memory.
-ghost use Rattle.std.specs.Prelude.{◌≡◌, ◌+◌, ◌<◌, ◌≤◌, false, not, List, [], ◌∷◌, ◌++◌, map, filter, count_by, IfOk, OnOk, if◌then◌else◌};
+ghost use Rattle.std.specs.Prelude.{◌≡◌, ◌+◌, ◌<◌, ◌≤◌, false, not, List, [], ◌∷◌, ◌++◌, map, filter, count_by, IfOk};
+ghost use Rattle.std.specs.Prelude.{OnOk, if◌then◌else◌};
 ghost use Rattle.std.specs.Vec.{vec_len, vec_capacity};
 ghost use Rattle.rtgs_book.specs.declared.Order.{Order as OrderSpec};
 ghost use Rattle.rtgs_book.specs.declared.Participant.{Participant as ParticipantSpec};
@@ -10,7 +11,8 @@ ghost use Rattle.rtgs_book.specs.Commands.{has_number, is_before};
 ghost use Rattle.rtgs_book.specs.Lookup.{has_code};
 ghost use Rattle.rtgs_book.specs.Settle.{restated};
 ghost use Rattle.rtgs_book.specs.Soundness.{AreNumbered, OrdersAreNumbered, IsSound};
-ghost use Rattle.rtgs_keeper.specs.Memory.{book_of, KeepsBook, AreInCodeOrder, HasRoom, adds_participant, adds_posting, adds_order, adds_mark};
+ghost use Rattle.rtgs_keeper.specs.Memory.{book_of, KeepsBook, AreInCodeOrder, HasRoom, adds_participant, adds_posting};
+ghost use Rattle.rtgs_keeper.specs.Memory.{adds_order, adds_mark};
 
 use crate::commit_fault::CommitFault;
 use crate::keeper::Keeper;
@@ -82,7 +84,8 @@ impl MemoryKeeper {
     // Makes the rows one after another, in the order in which they stand.
     fn apply_all(&mut self, rows: &[RowChange])
         requires { HasRoom self.old rows.now }
-        ensures { IsSound (book_of self.old) → IsSound (changed (book_of self.old) rows.now) → book_of self.new ≡ changed (book_of self.old) rows.now }
+        ensures { IsSound (book_of self.old) → IsSound (changed (book_of self.old) rows.now)
+            → book_of self.new ≡ changed (book_of self.old) rows.now }
     {
         for row in rows {
             self.apply(row);
@@ -93,7 +96,8 @@ impl MemoryKeeper {
     #[tactic(auto, unfolding(rtgs_book::specs::Commands::with_participant, rtgs_book::specs::Commands::with_credit, rtgs_book::specs::Commands::with_state))]
     fn apply(&mut self, row: &RowChange)
         requires { HasRoom self.old (row.now ∷ []) }
-        ensures made { AreInCodeOrder self.old.participants.items → OrdersAreNumbered (book_of self.old) → book_of self.new ≡ with_row (book_of self.old) row.now }
+        ensures made { AreInCodeOrder self.old.participants.items → OrdersAreNumbered (book_of self.old)
+            → book_of self.new ≡ with_row (book_of self.old) row.now }
         ensures room { (rows : List RowChangeSpec) → HasRoom self.old (row.now ∷ rows) → HasRoom self.new rows }
     {
         match row {
@@ -207,7 +211,9 @@ fn added_marks(rows: &[RowChange]) -> usize
 // Puts the participant at its place. There is room for it.
 fn insert_in_code_order(participants: &mut Vec<Participant>, new: Participant)
     requires { vec_len participants.old < vec_capacity participants.old }
-    ensures items { AreInCodeOrder participants.old.items → participants.new.items ≡ filter (λ p. is_before p.code new.code) participants.old.items ++ new ∷ filter (λ p. not (is_before p.code new.code)) participants.old.items }
+    ensures items { AreInCodeOrder participants.old.items
+        → participants.new.items ≡ filter (λ p. is_before p.code new.code) participants.old.items ++ new
+        ∷ filter (λ p. not (is_before p.code new.code)) participants.old.items }
     ensures len { vec_len participants.new ≡ vec_len participants.old + 1 }
     ensures capacity { vec_capacity participants.old ≤ vec_capacity participants.new }
 {
@@ -219,7 +225,9 @@ fn insert_in_code_order(participants: &mut Vec<Participant>, new: Participant)
 
 // Sets the credit of the participant with this code.
 fn set_credit(participants: &mut [Participant], code: &Code, credit: Credit)
-    ensures { participants.new ≡ map (λ (p : ParticipantSpec). if has_code code.now p then record p { credit = credit } else p) participants.old }
+    ensures { participants.new
+        ≡ map (λ (p : ParticipantSpec). if has_code code.now p then record p { credit = credit } else p)
+        participants.old }
 {
     for participant in participants.iter_mut() {
         if participant.code == *code {
@@ -230,7 +238,8 @@ fn set_credit(participants: &mut [Participant], code: &Code, credit: Credit)
 
 // Sets the state of the order with this number.
 fn set_state(orders: &mut [Order], number: u64, state: OrderState)
-    ensures { AreNumbered (map (λ (o : OrderSpec). o.number) orders.old) → orders.new ≡ map (restated (has_number number) state) orders.old }
+    ensures { AreNumbered (map (λ (o : OrderSpec). o.number) orders.old)
+        → orders.new ≡ map (restated (has_number number) state) orders.old }
 {
     if (1..=orders.len() as u64).contains(&number) {
         let order = &mut orders[number as usize - 1];

@@ -1,5 +1,6 @@
 -- Accounts, as contracts see them.
-use Rattle.std.specs.Prelude.{true, false, ◌≡◌, ℕ, ◌≤◌, ℤ, ◌+ℤ◌, Bool, true, List, map, filter, not, ◌++◌, ◌∷◌, if◌then◌else◌, length, slice_index_or, ◌<◌}
+use Rattle.std.specs.Prelude.{true, false, ◌≡◌, ℕ, ◌≤◌, ℤ, ◌+ℤ◌, Bool, true, List, map, filter, not, ◌++◌, ◌∷◌}
+use Rattle.std.specs.Prelude.{if◌then◌else◌, length, slice_index_or, ◌<◌}
 use Rattle.std.specs.List.{AllByRecursion}
 use Rattle.std.specs.List.Sorted.{IsStrictlySortedBy}
 use Rattle.std.specs.Ordering.{nat_cmp}
@@ -39,7 +40,8 @@ AreInCodeOrder accounts = IsStrictlySortedBy (slice_cmp nat_cmp) (map code_of ac
 -- the account, at its place in code order
 abbrev pub with_account : Account → List Account → List Account
 with_account new accounts =
-    filter (λ a. is_before (code_of a) (code_of new)) accounts ++ new ∷ filter (λ a. not (is_before (code_of a) (code_of new))) accounts
+    filter (λ a. is_before (code_of a) (code_of new)) accounts ++ new
+    ∷ filter (λ a. not (is_before (code_of a) (code_of new))) accounts
 
 abbrev pub rebalanced : List ℕ → ℤ → Account → Account
 rebalanced code balance a = if is_of code a then record a { balance = balance } else a
@@ -68,7 +70,8 @@ pub record IsAt (code : List ℕ) (accounts : List Account) (i : ℕ) : Type 0 w
 pub record IsGapFor (code : List ℕ) (accounts : List Account) (i : ℕ) : Type 0 where
   pub in_range : i ≤ length accounts
   pub before : (k : ℕ) (d : Account) → k < i → is_before (code_of (slice_index_or accounts k d)) code ≡ true
-  pub after : (k : ℕ) (d : Account) → i ≤ k → k < length accounts → is_before (code_of (slice_index_or accounts k d)) code ≡ false
+  pub after : (k : ℕ) (d : Account) → i ≤ k → k < length accounts
+      → is_before (code_of (slice_index_or accounts k d)) code ≡ false
   pub apart : AllByRecursion (λ a. is_of code a ≡ false) accounts
 
 abbrev pub limited : List ℕ → ℕ → Account → Account

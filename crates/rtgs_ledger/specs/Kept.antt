@@ -29,9 +29,10 @@ pub record IsKept (held : Held) : Type 0 where
   pub balanced : AreBalanced held.content held.accounts
   pub fits : Fits held.content
 
--- The change leads from the held book to the book that the command leaves with this answer, its rows set the running balances right, and
--- each of them finds its room.
-pub record Prepares (held : Held) (command : Command) (answer : Answer) (rows : List RowChange) (book : Book) : Type 0 where
+-- The change leads from the held book to the book that the command leaves with this answer, its rows set the running
+-- balances right, and each of them finds its room.
+pub record Prepares (held : Held) (command : Command) (answer : Answer) (rows : List RowChange)
+    (book : Book) : Type 0 where
   pub step : Step held.content command (Ok answer) book
   pub change : IsChange held.content rows book
   pub fits : Fits book
@@ -56,4 +57,5 @@ pub record IsPrepared (held : Held) (command : Command) (answer : Answer) (chang
 
 -- the refusal is that of the command's first test that holds, or lack of memory
 abbrev pub IsRefused : Book → Command → Refusal → Type 0
-IsRefused book command refusal = (refusal ≡ OutOfMemory) ⊎ (Step book command (Err refusal) book × (is_judged (Err refusal) ≡ true))
+IsRefused book command refusal = (refusal ≡ OutOfMemory)
+    ⊎ (Step book command (Err refusal) book × (is_judged (Err refusal) ≡ true))

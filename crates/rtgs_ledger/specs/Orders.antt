@@ -24,8 +24,10 @@ name_of order = (order.sender, order.reference)
 abbrev pub name_cmp : List ℕ × List ℕ → List ℕ × List ℕ → Ordering
 name_cmp a b = ordering_then (slice_cmp nat_cmp a.0 b.0) (slice_cmp nat_cmp a.1 b.1)
 
--- numbers rise from 1, names lead to their orders, each queue has its sender's queued orders, and room for the one that is awaited
-pub record IsKept (orders : List Order) (places : BTreeMap (List ℕ × List ℕ) ℕ) (queues : Queues) (awaited : Option (List ℕ × List ℕ)) : Type 0 where
+-- numbers rise from 1, names lead to their orders, each queue has its sender's queued orders, and room for the one that
+-- is awaited
+pub record IsKept (orders : List Order) (places : BTreeMap (List ℕ × List ℕ) ℕ) (queues : Queues)
+    (awaited : Option (List ℕ × List ℕ)) : Type 0 where
   pub numbered : map (λ (o : Order). o.number) orders ≡ range_with_len 1 (length orders)
   pub indexed : IsIndexed name_cmp name_of orders places awaited
   pub queued : (sender : List ℕ) → queue_of queues sender ≡ queued_numbers orders sender

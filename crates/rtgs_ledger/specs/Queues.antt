@@ -13,4 +13,5 @@ queue_of queues sender = option_map_or (λ queue. queue.items) (get (slice_cmp n
 
 -- how many more can be put there without memory
 abbrev pub room_of : Queues → List ℕ → ℕ
-room_of queues sender = option_map_or (λ queue. vec_capacity queue - vec_len queue) (get (slice_cmp nat_cmp) queues.numbers sender) 0
+room_of queues sender = option_map_or (λ queue. vec_capacity queue - vec_len queue)
+    (get (slice_cmp nat_cmp) queues.numbers sender) 0

@@ -1,5 +1,6 @@
 //! Accounts in the order of their codes.
-ghost use Rattle.std.specs.Prelude.{◌≡◌, ◌-◌, ◌≤◌, ◌^◌, ◌+ℤ◌, [], ℤ, length, map, filter, Some, None, OnOk, IfOk, IfErr, FitsSigned};
+ghost use Rattle.std.specs.Prelude.{◌≡◌, ◌-◌, ◌≤◌, ◌^◌, ◌+ℤ◌, [], ℤ, length, map, filter, Some, None, OnOk, IfOk};
+ghost use Rattle.std.specs.Prelude.{IfErr, FitsSigned};
 ghost use Rattle.std.specs.BTreeMap.{get};
 ghost use Rattle.std.specs.Cmp.Lexicographic.{slice_cmp};
 ghost use Rattle.std.specs.Int.{w64};
@@ -13,7 +14,9 @@ ghost use Rattle.rtgs_book.specs.Ranges.{Fits};
 ghost use Rattle.rtgs_book.specs.Soundness.{IsSound};
 ghost use Rattle.rtgs_ledger.specs.Kept.{AreBalanced};
 ghost use Rattle.rtgs_book.specs.Accounts.{is_overdrawn};
-ghost use Rattle.rtgs_ledger.specs.Accounts.{AreInCodeOrder, IsAt, IsGapFor, is_of, code_of, balance_of, participant_of, has_key, with_account, with_balance, with_move, with_limit, after_order};
+ghost use Rattle.rtgs_ledger.specs.Accounts.{AreInCodeOrder, IsAt, IsGapFor, is_of, code_of, balance_of};
+ghost use Rattle.rtgs_ledger.specs.Accounts.{participant_of, has_key, with_account, with_balance, with_move};
+ghost use Rattle.rtgs_ledger.specs.Accounts.{with_limit, after_order};
 
 use rtgs_book::{Account, Book, Order, Participant, laws};
 use rtgs_money::{Cents, Code, Credit, KeyDigest};
@@ -228,7 +231,8 @@ impl Accounts {
 
 // The participant with its balance, of those that the map has.
 fn account_of(participant: &Participant, balances: &BTreeMap<Code, i128>) -> Account
-    requires { (balance : ℤ) × (get (slice_cmp nat_cmp) balances.now participant.now.code ≡ Some balance) × FitsSigned w64 balance }
+    requires { (balance : ℤ) × (get (slice_cmp nat_cmp) balances.now participant.now.code ≡ Some balance)
+        × FitsSigned w64 balance }
     ensures participant { participant_of result ≡ participant.now }
     ensures balance { get (slice_cmp nat_cmp) balances.now participant.now.code ≡ Some result.balance }
 {

@@ -74,8 +74,8 @@ impl Ledger {
         Ok(Ledger { alloc, records })
     }
 
-    /// What the command is answered, and the row changes that it makes. The book stays as it is, and every growth that the
-    /// change needs is made here. A refusal is that of the command's first test that holds, or lack of memory.
+    /// What the command is answered, and the row changes that it makes. The book stays as it is, and every growth that
+    /// the change needs is made here. A refusal is that of the command's first test that holds, or lack of memory.
     pub fn prepare(&mut self, command: &Command) -> Result<(Answer, Change), Refusal>
         ensures content { self.new.content ≡ self.old.content }
         ensures prepared { IfOk result (λ (answer, change). IsPrepared self.new command.now answer change) }

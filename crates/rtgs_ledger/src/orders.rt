@@ -1,5 +1,6 @@
 //! Orders, their names, and the queues that they stand in.
-ghost use Rattle.std.specs.Prelude.{◌≡◌, ◌≤◌, ◌<◌, ◌+◌, ◌-◌, ◌++◌, ◌∷◌, [], ℕ, List, length, map, false, Some, None, OnOk, IfOk, MatchOption, ◌≢◌};
+ghost use Rattle.std.specs.Prelude.{◌≡◌, ◌≤◌, ◌<◌, ◌+◌, ◌-◌, ◌++◌, ◌∷◌, [], ℕ, List, length, map, false, Some, None};
+ghost use Rattle.std.specs.Prelude.{OnOk, IfOk, MatchOption, ◌≢◌};
 ghost use Rattle.std.specs.List.{find, range_with_len, IsDistinct};
 ghost use Rattle.rtgs_book.specs.declared.order.Order.{Order};
 ghost use Rattle.rtgs_book.specs.Books.{is_queued, is_queued_state};
@@ -39,7 +40,11 @@ impl Model for Orders {
 
     ghost Value = { OrderList };
 
-    ghost view = { λ o. record { orders = o.orders.items; room = vec_capacity o.orders - vec_len o.orders; awaited = o.awaited } };
+    ghost view = { λ o. record {
+      orders = o.orders.items;
+      room = vec_capacity o.orders - vec_len o.orders;
+      awaited = o.awaited;
+    } };
 
     ghost invariant = { λ o. IsKept o.orders.items o.places o.queues o.awaited };
 }

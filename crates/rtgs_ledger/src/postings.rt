@@ -30,7 +30,11 @@ impl Model for Postings {
 
     ghost Value = { PostingList };
 
-    ghost view = { λ p. record { postings = p.postings.items; room = vec_capacity p.postings - vec_len p.postings; awaited = p.awaited } };
+    ghost view = { λ p. record {
+      postings = p.postings.items;
+      room = vec_capacity p.postings - vec_len p.postings;
+      awaited = p.awaited;
+    } };
 
     ghost invariant = { λ p. IsIndexed p.postings.items p.places p.awaited };
 }

@@ -45,7 +45,8 @@ impl Queues {
     /// Puts a number at the end of the sender's queue, in the room that was made for it.
     pub fn push(&mut self, sender: &Code, number: u64)
         requires { 1 ≤ room_of self.old sender.now }
-        ensures { (other : List ℕ) → queue_of self.new other ≡ (if bytes_eq sender.now other then queue_of self.old other ++ number ∷ [] else queue_of self.old other) }
+        ensures { (other : List ℕ) → queue_of self.new other
+            ≡ (if bytes_eq sender.now other then queue_of self.old other ++ number ∷ [] else queue_of self.old other) }
     {
         if let Some(queue) = self.numbers.get_mut(sender) {
             queue.push_reserved(number);
@@ -54,7 +55,9 @@ impl Queues {
 
     /// Takes a number out of the sender's queue.
     pub fn remove(&mut self, sender: &Code, number: u64)
-        ensures queues { (other : List ℕ) → queue_of self.new other ≡ (if bytes_eq sender.now other then filter (λ n. not (n == number)) (queue_of self.old other) else queue_of self.old other) }
+        ensures queues { (other : List ℕ) → queue_of self.new other
+            ≡ (if bytes_eq sender.now other then filter (λ n. not (n == number))
+            (queue_of self.old other) else queue_of self.old other) }
         ensures room { (other : List ℕ) → room_of self.old other ≤ room_of self.new other }
     {
         if let Some(queue) = self.numbers.get_mut(sender) {

@@ -1,5 +1,6 @@
 //! The rows of a book in memory.
-ghost use Rattle.std.specs.Prelude.{◌≡◌, ◌+◌, ◌<◌, ◌≤◌, length, sum_by, if◌then◌else◌, ◌&&◌, not, ◌^◌, pos, neg_ℤ, ◌+ℤ◌, ◌-ℤ◌, int_lt, int_le, None};
+ghost use Rattle.std.specs.Prelude.{◌≡◌, ◌+◌, ◌<◌, ◌≤◌, length, sum_by, if◌then◌else◌, ◌&&◌, not, ◌^◌, pos, neg_ℤ};
+ghost use Rattle.std.specs.Prelude.{◌+ℤ◌, ◌-ℤ◌, int_lt, int_le, None};
 ghost use Rattle.rtgs_book.specs.declared.limits.TheConstants.{LARGEST_NUMBER, LARGEST_TOTAL, MOST_QUEUED};
 ghost use Rattle.rtgs_money.specs.Amounts.{IsAmount, IsCredit};
 ghost use Rattle.rtgs_book.specs.declared.order.Order.{Order};
@@ -128,7 +129,8 @@ impl Records {
 
     /// The least balance, in cents, that this account may have: minus its credit limit, and 0 while the desk is closed.
     pub fn floor(&self, account: &Account) -> i64
-        ensures { result ≡ (if is_closed self.now.day.phase then pos 0 else neg_ℤ (pos account.now.participant.credit)) }
+        ensures { result ≡ (if is_closed self.now.day.phase then pos 0 else neg_ℤ
+            (pos account.now.participant.credit)) }
     {
         match self.day.phase {
             Phase::Closed => 0,
@@ -138,7 +140,8 @@ impl Records {
 
     /// Whether a posting would take all balances together past 10^15 cents.
     pub fn is_too_much(&self, cents: PostingAmount) -> bool
-        ensures { result ≡ (int_lt (pos 0) cents && int_lt (pos LARGEST_TOTAL) (int_sum_by balance_of self.now.accounts.accounts +ℤ cents)) }
+        ensures { result ≡ (int_lt (pos 0) cents && int_lt (pos LARGEST_TOTAL)
+            (int_sum_by balance_of self.now.accounts.accounts +ℤ cents)) }
     {
         let amount = i128::from(cents.cents());
         amount > 0 && self.accounts.total() > i128::from(LARGEST_TOTAL) - amount
@@ -146,23 +149,27 @@ impl Records {
 
     /// Whether a posting takes so much from the account that this balance is below the floor.
     pub fn is_uncovered(&self, account: &Account, cents: PostingAmount, balance: Cents) -> bool
-        ensures { result ≡ (int_lt cents (pos 0) && int_lt balance (if is_closed self.now.day.phase then pos 0 else neg_ℤ (pos account.now.participant.credit))) }
+        ensures { result ≡ (int_lt cents (pos 0) && int_lt balance
+            (if is_closed self.now.day.phase then pos 0 else neg_ℤ (pos account.now.participant.credit))) }
     {
         cents.cents() < 0 && balance.cents() < self.floor(account)
     }
 
     /// Whether the account is below minus this credit limit, while the desk is not closed.
     pub fn is_past_limit(&self, account: &Account, credit: Credit) -> bool
-        ensures value { result ≡ (not (is_closed self.now.day.phase) && int_lt account.now.balance (neg_ℤ (pos credit))) }
+        ensures value { result ≡ (not (is_closed self.now.day.phase)
+            && int_lt account.now.balance (neg_ℤ (pos credit))) }
         ensures fits { IsCredit credit }
     {
         let limit = credit.cents() as i64;
         !self.is_closed() && account.balance.cents() < -limit
     }
 
-    /// Whether an order is settled at once: nothing of its sender is queued, and the balance stays at the floor or above.
+    /// Whether an order is settled at once: nothing of its sender is queued, and the balance stays at the floor or
+    /// above.
     pub fn settles_at_once(&self, sender: &Account, amount: Amount) -> bool
-        ensures value { result ≡ (is_empty (queued_numbers self.now.orders.orders (code_of sender.now)) && int_le (floor_at self.now.day.phase sender.now.participant.credit) (sender.now.balance -ℤ pos amount)) }
+        ensures value { result ≡ (is_empty (queued_numbers self.now.orders.orders (code_of sender.now))
+            && int_le (floor_at self.now.day.phase sender.now.participant.credit) (sender.now.balance -ℤ pos amount)) }
         ensures fits { IsAmount amount }
     {
         let balance = i128::from(sender.balance.cents()) - i128::from(amount.cents());
@@ -180,7 +187,15 @@ impl Records {
         date: BusinessDate,
     ) -> Order
         requires { length self.now.orders.orders < LARGEST_NUMBER }
-        ensures { result ≡ record { number = length self.now.orders.orders + 1; sender = sender; reference = reference; receiver = receiver; amount = amount; date = date; state = OrderState.Queued } }
+        ensures { result ≡ record {
+          number = length self.now.orders.orders + 1;
+          sender = sender;
+          reference = reference;
+          receiver = receiver;
+          amount = amount;
+          date = date;
+          state = OrderState.Queued;
+        } }
     {
         Order {
             number: self.orders.len() as u64 + 1,
@@ -202,7 +217,8 @@ impl Records {
 
     /// The next mark, for one order of this amount.
     pub fn next_mark(&self, amount: Amount, date: BusinessDate) -> Mark
-        ensures { result ≡ record { number = length self.now.marks.items + 1; date = date; count = 1; value = pos amount } }
+        ensures { result
+            ≡ record { number = length self.now.marks.items + 1; date = date; count = 1; value = pos amount } }
     {
         Mark {
             number: self.next_mark_number(),
@@ -215,7 +231,14 @@ impl Records {
     /// The next mark, for these orders together.
     pub fn mark_of(&self, orders: &[Order], date: BusinessDate) -> Mark
         requires { length orders.now ≤ MOST_QUEUED }
-        ensures { result ≡ record { number = length self.now.marks.items + 1; date = date; count = length orders.now; value = pos (sum_by (λ (o : Order). o.amount) orders.now) } }
+        ensures { result
+            ≡ record {
+              number = length self.now.marks.items + 1;
+              date = date;
+              count = length orders.now;
+              value = pos
+                  (sum_by (λ (o : Order). o.amount) orders.now);
+            } }
     {
         let mut value = 0i64;
         for order in orders {

@@ -2,7 +2,8 @@
 use Rattle.rtgs_refusals.specs.declared.refusal_kind.RefusalKind.{RefusalKind}
 use Rattle.rtgs_refusals.specs.declared.refusal_kind.RefusalKind.TheVariants as kind
 use Rattle.rtgs_money.specs.declared.lexical.Lexical.{Lexical}
-use Rattle.rtgs_money.specs.declared.lexical.Lexical.TheVariants.{BadCode, BadReference, BadAmount, BadName, BadKey, BadDate}
+use Rattle.rtgs_money.specs.declared.lexical.Lexical.TheVariants.{BadCode, BadReference, BadAmount, BadName, BadKey}
+use Rattle.rtgs_money.specs.declared.lexical.Lexical.TheVariants.{BadDate}
 
 abbrev pub lexical_kind_of : Lexical → RefusalKind
 lexical_kind_of BadCode = kind.BadCode

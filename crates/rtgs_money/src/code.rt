@@ -10,8 +10,8 @@ use crate::text::Text;
 use std::fmt;
 use std::marker::Model;
 
-/// The short name of a participant: a letter A-Z, then letters and digits, `SHORTEST` to `LONGEST` in all. Contracts see
-/// the bytes.
+/// The short name of a participant: a letter A-Z, then letters and digits, `SHORTEST` to `LONGEST` in all. Contracts
+/// see the bytes.
 #[derive(Clone, Copy, Debug, PartialEq, Eq, PartialOrd, Ord)]
 pub struct Code {
     text: Text<{ Code::LONGEST }>,
@@ -34,8 +34,8 @@ impl Code {
     /// The greatest number of characters of a code.
     pub const LONGEST: usize = 8;
 
-    /// The code that these bytes are: a letter A-Z, then letters A-Z and digits, `SHORTEST` to `LONGEST` in all. Anything
-    /// else is `BadCode`.
+    /// The code that these bytes are: a letter A-Z, then letters A-Z and digits, `SHORTEST` to `LONGEST` in all.
+    /// Anything else is `BadCode`.
     #[tactic(auto, unfolding(crate::specs::Forms::is_code))]
     pub fn read(bytes: &[u8]) -> Result<Code, Lexical>
         ensures value { IfOk result (λ code. IsCode bytes.now × (code ≡ bytes.now)) }

@@ -10,8 +10,8 @@ use crate::text::Text;
 use std::fmt;
 use std::marker::Model;
 
-/// The full name of a participant: 1 to `LONGEST` printable ASCII characters, with no space at either end. Contracts see
-/// the bytes.
+/// The full name of a participant: 1 to `LONGEST` printable ASCII characters, with no space at either end. Contracts
+/// see the bytes.
 #[derive(Clone, Copy, Debug, PartialEq, Eq, PartialOrd, Ord)]
 pub struct Name {
     text: Text<{ Name::LONGEST }>,

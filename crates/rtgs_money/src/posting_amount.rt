@@ -53,8 +53,8 @@ impl PostingAmount {
             .ok_or(Lexical::BadAmount)
     }
 
-    /// The posting that takes as many cents as these bytes spell: decimal digits, with no sign and no leading zero. So it
-    /// is the one that is spelled by `-` and these bytes. Anything else is `BadAmount`.
+    /// The posting that takes as many cents as these bytes spell: decimal digits, with no sign and no leading zero. So
+    /// it is the one that is spelled by `-` and these bytes. Anything else is `BadAmount`.
     pub fn read_debit(bytes: &[u8]) -> Result<PostingAmount, Lexical>
         ensures value { IfOk result (λ posting. IsPostingAmount posting × (45 ∷ bytes.now ≡ signed_decimal posting)) }
         ensures found { (posting : ℤ) → IsPostingAmount posting

@@ -46,7 +46,8 @@ pub(crate) fn write_some<W: Write>(out: &mut W, bytes: &[u8]) -> Result<usize, W
 // no other answer is called so.
 fn taken_of(answer: io::Result<usize>) -> Result<usize, WriterFailed>
     ensures taken { IfOk result (λ taken. (answer ≡ Ok taken) × (1 ≤ taken)) }
-    ensures failed { IfErr result (λ failed. (answer ≡ Ok 0) × (error_kind failed.error ≡ ErrorKind.WriteZero) ⊎ (answer ≡ Err failed.error)) }
+    ensures failed { IfErr result (λ failed. (answer ≡ Ok 0) × (error_kind failed.error ≡ ErrorKind.WriteZero)
+        ⊎ (answer ≡ Err failed.error)) }
 {
     match answer {
         Ok(0) => Err(WriterFailed {

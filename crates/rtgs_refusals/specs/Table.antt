@@ -1,4 +1,5 @@
--- What each kind of refusal is known by: its number, its name, the status of the HTTP reply and the exit status of the program.
+-- What each kind of refusal is known by: its number, its name, the status of the HTTP reply and the exit status of the
+-- program.
 use Rattle.std.specs.Prelude.{ℕ, List, codes, Option, None, Some}
 use Rattle.rtgs_refusals.specs.declared.exit_status.TheConstants.{REFUSED, FAILED}
 use Rattle.rtgs_refusals.specs.declared.refusal_kind.RefusalKind.{RefusalKind}
@@ -13,7 +14,12 @@ pub record Entry : Type 0 where
   pub exit_status : Option ℕ
 
 abbrev pub entry : ℕ → List ℕ → Option ℕ → Option ℕ → Entry
-entry number name http_status exit_status = record { number = number; name = name; http_status = http_status; exit_status = exit_status }
+entry number name http_status exit_status = record {
+  number = number;
+  name = name;
+  http_status = http_status;
+  exit_status = exit_status;
+}
 
 abbrev pub entry_of : RefusalKind → Entry
 entry_of kind.UnknownParticipant = entry 1 (codes "UnknownParticipant") (Some 404) (Some REFUSED)

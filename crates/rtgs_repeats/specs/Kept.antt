@@ -21,6 +21,9 @@ pub record IsKeptOrder (old new : Order) : Type 0 where
 
 -- what a code or a reference names in the old book it names in the new one
 pub record AreKept (old new : Book) : Type 0 where
-  pub participants : (code : List ℕ) (p : Participant) → participant_of old code ≡ Some p → (q : Participant) × (participant_of new code ≡ Some q) × IsKeptParticipant p q
-  pub postings : (reference : List ℕ) (p : Posting) → posting_named old reference ≡ Some p → posting_named new reference ≡ Some p
-  pub orders : (sender reference : List ℕ) (o : Order) → order_named old sender reference ≡ Some o → (later : Order) × (order_named new sender reference ≡ Some later) × IsKeptOrder o later
+  pub participants : (code : List ℕ) (p : Participant) → participant_of old code ≡ Some p
+      → (q : Participant) × (participant_of new code ≡ Some q) × IsKeptParticipant p q
+  pub postings : (reference : List ℕ) (p : Posting) → posting_named old reference ≡ Some p
+      → posting_named new reference ≡ Some p
+  pub orders : (sender reference : List ℕ) (o : Order) → order_named old sender reference ≡ Some o
+      → (later : Order) × (order_named new sender reference ≡ Some later) × IsKeptOrder o later

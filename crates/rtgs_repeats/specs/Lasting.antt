@@ -17,7 +17,8 @@ use Rattle.rtgs_repeats.specs.Repeats.{acts_once, answered_number, IsRepeat}
 -- whatever comes after this book, the command is answered as a repeat, and changes nothing
 abbrev pub IsKnown : Book → Command → Reply → Type 0
 IsKnown book command reply =
-    (commands : List Command) (replies : List Reply) (later : Book) → Run book commands replies later → (again : Reply) × IsRepeat later command (answered_number reply) again × Step later command again later
+    (commands : List Command) (replies : List Reply) (later : Book) → Run book commands replies later
+    → (again : Reply) × IsRepeat later command (answered_number reply) again × Step later command again later
 
 -- the command at once again changes nothing
 abbrev pub StaysAtOnce : Book → Command → Type 0
@@ -39,7 +40,8 @@ pub record IsLasting (old : Book) (command : Command) (reply : Reply) (new : Boo
   -- and the rest where it comes again at once
   pub at_once : is_accepted reply ≡ true → StaysAtOnce new command
   -- what a close rejected was a deadlock
-  pub deadlock : (date count : ℕ) → command ≡ CloseDay date → reply ≡ Ok (Closed count) → (choice : Choice) → IsGreatest old choice → chosen old choice ≡ []
+  pub deadlock : (date count : ℕ) → command ≡ CloseDay date → reply ≡ Ok (Closed count) → (choice : Choice)
+      → IsGreatest old choice → chosen old choice ≡ []
 
 -- what the accepted postings of a list add to all balances together
 abbrev pub posted_by : List Command → List Reply → ℤ

@@ -6,7 +6,8 @@ use Rattle.rtgs_book.specs.declared.command.Command.{Command}
 use Rattle.rtgs_book.specs.Outcome.{Reply}
 use Rattle.rtgs_book.specs.Run.{is_accepted, is_same_entry, is_recorded}
 
--- The replies without those to each Order and Post that the book has, or that was accepted before it in the list. `accepted` has those that were accepted so far.
+-- The replies without those to each Order and Post that the book has, or that was accepted before it in the list.
+-- `accepted` has those that were accepted so far.
 unfoldable pub once_replies_after : List Command → Book → List Command → List Reply → List Reply
 once_replies_after accepted book (command ∷ commands) (reply ∷ replies) =
     if is_recorded book command || list_any (is_same_entry command) accepted

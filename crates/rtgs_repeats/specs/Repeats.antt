@@ -31,6 +31,8 @@ abbrev pub IsRepeat : Book → Command → ℕ → Reply → Type 0
 IsRepeat book (command.Add code name key) number reply = reply ≡ Ok (answer.Repeated known.Nothing)
 IsRepeat book (command.Post code reference cents) number reply = reply ≡ Ok (answer.Repeated (known.Posting number))
 IsRepeat book (command.Order sender reference receiver amount) number reply =
-    (o : Order) × (order_named book sender reference ≡ Some o) × (o.number ≡ number) × (reply ≡ Ok (answer.Repeated (known.Order number o.state)))
-IsRepeat book (command.Withdraw sender reference) number reply = reply ≡ Ok (answer.Repeated (known.Order number state.Withdrawn))
+    (o : Order) × (order_named book sender reference ≡ Some o) × (o.number ≡ number)
+    × (reply ≡ Ok (answer.Repeated (known.Order number o.state)))
+IsRepeat book (command.Withdraw sender reference) number reply = reply
+    ≡ Ok (answer.Repeated (known.Order number state.Withdrawn))
 IsRepeat book other number reply = ⊥

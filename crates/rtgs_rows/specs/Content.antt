@@ -15,7 +15,8 @@ use Rattle.rtgs_book.specs.declared.Posting.{Posting}
 use Rattle.rtgs_book.specs.declared.Order.{Order}
 use Rattle.rtgs_book.specs.declared.Mark.{Mark}
 use Rattle.rtgs_book.specs.declared.RowChange.{RowChange}
-use Rattle.rtgs_book.specs.declared.RowChange.TheVariants.{AddParticipant, AddPosting, AddOrder, AddMark, SetCredit, SetBalance, SetState, SetDay}
+use Rattle.rtgs_book.specs.declared.RowChange.TheVariants.{AddParticipant, AddPosting, AddOrder, AddMark, SetCredit}
+use Rattle.rtgs_book.specs.declared.RowChange.TheVariants.{SetBalance, SetState, SetDay}
 use Rattle.rtgs_book.specs.Settle.{restated}
 use Rattle.rtgs_book.specs.Commands.{has_number}
 use Rattle.rtgs_rows.specs.Tables.{no_schema, desk_schema}
@@ -30,7 +31,13 @@ pub record Tables : Type 0 where
   pub marks : List Row
 
 abbrev pub tables_of : Trees → Tables
-tables_of trees = record { desk = trees 0; participants = trees 1; postings = trees 4; payments = trees 6; marks = trees 8 }
+tables_of trees = record {
+  desk = trees 0;
+  participants = trees 1;
+  postings = trees 4;
+  payments = trees 6;
+  marks = trees 8;
+}
 
 -- a participant with its stored balance, under its row number
 pub record Holding : Type 0 where
@@ -50,7 +57,13 @@ pub record Content : Type 0 where
   pub marks : List Mark
 
 abbrev pub tables_for : Content → Tables
-tables_for c = record { desk = day_row c.day ∷ []; participants = map holding_row c.holdings; postings = map posting_row c.postings; payments = map payment_row c.orders; marks = map mark_row c.marks }
+tables_for c = record {
+  desk = day_row c.day ∷ [];
+  participants = map holding_row c.holdings;
+  postings = map posting_row c.postings;
+  payments = map payment_row c.orders;
+  marks = map mark_row c.marks;
+}
 
 -- the trees are a database that has no tables
 abbrev pub HasNoTables : Trees → Type 0
@@ -82,7 +95,8 @@ abbrev pub newcomer : Content → Participant → Holding
 newcomer c p = record { id = next_rowid (map holding_row c.holdings); participant = p; balance = pos 0 }
 
 abbrev pub with_credit_in : List ℕ → ℕ → Holding → Holding
-with_credit_in code credit h = if bytes_eq h.participant.code code then record h { participant = record h.participant { credit = credit } } else h
+with_credit_in code credit h =
+    if bytes_eq h.participant.code code then record h { participant = record h.participant { credit = credit } } else h
 
 abbrev pub with_balance_in : List ℕ → ℤ → Holding → Holding
 with_balance_in code balance h = if bytes_eq h.participant.code code then record h { balance = balance } else h

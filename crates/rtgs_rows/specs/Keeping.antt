@@ -14,7 +14,8 @@ use Rattle.rtgs_book.specs.Soundness.{IsSound}
 use Rattle.rtgs_rows.specs.Content.{Holding, Content, Holds, Rests}
 use Rattle.rtgs_rows.specs.Fitting.{Fits}
 
--- The records are those of the book. A book has the participants in the order of their codes, and the tables have them in the order in which they came.
+-- The records are those of the book. A book has the participants in the order of their codes, and the tables have them
+-- in the order in which they came.
 pub record AreOf (book : Book) (content : Content) : Type 0 where
   pub day : content.day ≡ book.day
   pub participants : IsPermutation (map (λ (h : Holding). h.participant) content.holdings) book.participants
@@ -32,7 +33,8 @@ pub record IsBookOf (book : Book) (content : Content) : Type 0 where
 
 -- the stored balances add up to the postings' cents
 abbrev pub AddsUp : Content → Type 0
-AddsUp content = int_sum_by (λ (h : Holding). h.balance) content.holdings ≡ int_sum_by (λ (p : Posting). p.cents) content.postings
+AddsUp content = int_sum_by (λ (h : Holding). h.balance) content.holdings
+    ≡ int_sum_by (λ (p : Posting). p.cents) content.postings
 
 -- the tables of the connection hold the book
 abbrev pub HoldsBook : {S : Type 0} → Ghosts S → Held S → Book → Type 0
@@ -40,8 +42,10 @@ HoldsBook g h book = (content : Content) × Rests content (state g h) × IsBookO
 
 -- a stop may leave tables that hold the book
 abbrev pub MayLeave : {S : Type 0} → Ghosts S → Held S → Book → Type 0
-MayLeave g h book = (trees : Trees) × (state g h).may_leave trees × ((content : Content) × Holds content trees × IsBookOf book content)
+MayLeave g h book = (trees : Trees) × (state g h).may_leave trees
+    × ((content : Content) × Holds content trees × IsBookOf book content)
 
 -- whatever tables a stop leaves hold a book
 abbrev pub IsWhole : {S : Type 0} → Ghosts S → Held S → Type 0
-IsWhole g h = (trees : Trees) → (state g h).may_leave trees → (book : Book) × ((content : Content) × Holds content trees × IsBookOf book content)
+IsWhole g h = (trees : Trees) → (state g h).may_leave trees
+    → (book : Book) × ((content : Content) × Holds content trees × IsBookOf book content)

@@ -22,9 +22,11 @@ pub record IsDeskFile (trees : Trees) (s : State) : Type 0 where
 
 -- rows of so many values, under row numbers that are whole and rise
 abbrev pub AreNumberedRows : ℕ → List Row → Type 0
-AreNumberedRows width rows = IsTable rows × AllByRecursion (λ row. IsTrue (is_int (rowid row)) × (length row ≡ width + 1)) rows
+AreNumberedRows width rows = IsTable rows × AllByRecursion
+    (λ row. IsTrue (is_int (rowid row)) × (length row ≡ width + 1)) rows
 
--- Each row of the five tables has a value in each column, and the rows stand in the order of their numbers. (A row from before a column was added lacks it, and the queries show null there.)
+-- Each row of the five tables has a value in each column, and the rows stand in the order of their numbers. (A row from
+-- before a column was added lacks it, and the queries show null there.)
 pub record AreWhole (trees : Trees) : Type 0 where
   pub desk : AreNumberedRows 4 (trees 0)
   pub participants : AreNumberedRows 5 (trees 1)

@@ -15,7 +15,8 @@ use Rattle.sqlite_catalog.specs.Listing.{IsSound}
 use Rattle.rtgs_book.specs.declared.Book.{Book}
 use Rattle.rtgs_book.specs.declared.RowChange.{RowChange}
 use Rattle.rtgs_book.specs.Changes.{IsChange}
-use Rattle.rtgs_rows.specs.Content.{Holding, Content, HasNoTables, Holds, IsInOrder, AreInOrder, holding_row, tables_for, with_changes}
+use Rattle.rtgs_rows.specs.Content.{Holding, Content, HasNoTables, Holds, IsInOrder, AreInOrder, holding_row}
+use Rattle.rtgs_rows.specs.Content.{tables_for, with_changes}
 use Rattle.rtgs_rows.specs.Fitting.{FitsRow}
 use Rattle.rtgs_rows.specs.Keeping.{IsBookOf}
 use Rattle.rtgs_rows.specs.Tables.{no_schema, desk_schema}
@@ -27,27 +28,33 @@ RecordsStandInOrder = (book : Book) (content : Content) → IsBookOf book conten
 
 -- so it is before each row of a change, and after the last
 abbrev pub ChangesStandInOrder : Type 0
-ChangesStandInOrder = (old new : Book) (rows : List RowChange) (content : Content) → IsBookOf old content → IsChange old rows new → AreInOrder content rows
+ChangesStandInOrder = (old new : Book) (rows : List RowChange) (content : Content) → IsBookOf old content
+    → IsChange old rows new → AreInOrder content rows
 
 -- the rows that a change makes are those of the book after it, where its values are in their forms
 abbrev pub ChangedRowsAreTheBook : Type 0
-ChangedRowsAreTheBook = (old new : Book) (rows : List RowChange) (content : Content) → IsBookOf old content → IsChange old rows new → AllByRecursion FitsRow rows → IsBookOf new (with_changes content rows)
+ChangedRowsAreTheBook = (old new : Book) (rows : List RowChange) (content : Content) → IsBookOf old content
+    → IsChange old rows new → AllByRecursion FitsRow rows → IsBookOf new (with_changes content rows)
 
 -- the row number that comes next is above all
 abbrev pub NextRowIsAbove : Type 0
-NextRowIsAbove = (holdings : List Holding) → IsAscending (λ (a b : Holding). int_cmp a.id b.id ≡ Less) holdings → AllByRecursion (λ (h : Holding). int_cmp h.id (next_rowid (map holding_row holdings)) ≡ Less) holdings
+NextRowIsAbove = (holdings : List Holding) → IsAscending (λ (a b : Holding). int_cmp a.id b.id ≡ Less) holdings
+    → AllByRecursion (λ (h : Holding). int_cmp h.id (next_rowid (map holding_row holdings)) ≡ Less) holdings
 
 -- tables hold one book at most
 abbrev pub RowsTellTheBook : Type 0
-RowsTellTheBook = (one other : Book) (content same : Content) → IsBookOf one content → IsBookOf other same → tables_for content ≡ tables_for same → other ≡ one
+RowsTellTheBook = (one other : Book) (content same : Content) → IsBookOf one content → IsBookOf other same
+    → tables_for content ≡ tables_for same → other ≡ one
 
 -- a database that has no tables is read as one
 abbrev pub NoTablesAreReadAsNone : Type 0
-NoTablesAreReadAsNone = (schema : Schema) (trees : Trees) → HasNoTables trees → IsSound schema trees → schema ≡ no_schema
+NoTablesAreReadAsNone = (schema : Schema) (trees : Trees) → HasNoTables trees → IsSound schema trees
+    → schema ≡ no_schema
 
 -- a database of the five tables is read with their schema
 abbrev pub DesksAreReadAsSuch : Type 0
-DesksAreReadAsSuch = (schema : Schema) (trees : Trees) → IsSound desk_schema trees → IsSound schema trees → schema ≡ desk_schema
+DesksAreReadAsSuch = (schema : Schema) (trees : Trees) → IsSound desk_schema trees → IsSound schema trees
+    → schema ≡ desk_schema
 
 -- a database that has no tables holds no book
 abbrev pub NoTablesHoldNoBook : Type 0
@@ -55,12 +62,14 @@ NoTablesHoldNoBook = (trees : Trees) (content : Content) → HasNoTables trees �
 
 -- tables that hold a book are whole
 abbrev pub TablesOfABookAreWhole : Type 0
-TablesOfABookAreWhole = (trees : Trees) (book : Book) (content : Content) → Holds content trees → IsBookOf book content → AreWhole trees
+TablesOfABookAreWhole = (trees : Trees) (book : Book) (content : Content) → Holds content trees → IsBookOf book content
+    → AreWhole trees
 
 -- ---- so a value can carry the last of them: it is a fact, which is proved in one way
 
 AreNumberedRows-prop : (width : ℕ) (rows : List Row) → IsProp (AreNumberedRows width rows)
-AreNumberedRows-prop width rows = ×_prop (IsAscending-prop _ (λ a b. Ordering-set _ Less) rows) (AllByRecursion-prop _ (λ row. ×_prop (Bool-set _ _) (ℕ_set _ _)) rows)
+AreNumberedRows-prop width rows = ×_prop (IsAscending-prop _ (λ a b. Ordering-set _ Less) rows)
+    (AllByRecursion-prop _ (λ row. ×_prop (Bool-set _ _) (ℕ_set _ _)) rows)
 
 AreWhole-prop : (trees : Trees) → IsProp (AreWhole trees)
 AreWhole-prop trees a b = λ i. record {
@@ -72,4 +81,5 @@ AreWhole-prop trees a b = λ i. record {
 }
 
 pub TablesOfABookAreWhole-prop : IsProp TablesOfABookAreWhole
-TablesOfABookAreWhole-prop = Π_prop (λ trees. Π_prop (λ book. Π_prop (λ content. Π_prop (λ holds. Π_prop (λ of. AreWhole-prop trees)))))
+TablesOfABookAreWhole-prop = Π_prop (λ trees. Π_prop (λ book. Π_prop
+    (λ content. Π_prop (λ holds. Π_prop (λ of. AreWhole-prop trees)))))

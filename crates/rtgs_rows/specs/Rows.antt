@@ -1,4 +1,5 @@
--- The rows that records have in the tables. A stored row begins with its row number; where a column is the row number, it is stored as null.
+-- The rows that records have in the tables. A stored row begins with its row number; where a column is the row number,
+-- it is stored as null.
 use Rattle.std.specs.Prelude.{ℕ, ◌<◌, ◌^◌, ℤ, pos, Option, [], ◌∷◌, ⊤}
 use Rattle.sqlite.specs.declared.types.Value.{Value}
 use Rattle.sqlite.specs.declared.types.Value.TheVariants.{Null, Int, Text, Blob}
@@ -14,7 +15,8 @@ use Rattle.rtgs_book.specs.declared.Order.{Order}
 use Rattle.rtgs_book.specs.declared.Mark.{Mark}
 use Rattle.rtgs_book.specs.declared.OrderState.{OrderState}
 use Rattle.rtgs_book.specs.declared.OrderState.TheVariants.{Queued, Settled, Withdrawn, Rejected}
-use Rattle.rtgs_rows.specs.declared.numbers.TheConstants.{PHASE_CLOSED, PHASE_OPEN, PHASE_CUT_OFF, STATE_QUEUED, STATE_SETTLED, STATE_WITHDRAWN, STATE_REJECTED}
+use Rattle.rtgs_rows.specs.declared.numbers.TheConstants.{PHASE_CLOSED, PHASE_OPEN, PHASE_CUT_OFF, STATE_QUEUED}
+use Rattle.rtgs_rows.specs.declared.numbers.TheConstants.{STATE_SETTLED, STATE_WITHDRAWN, STATE_REJECTED}
 
 abbrev pub phase_number : Phase → ℕ
 phase_number Closed = PHASE_CLOSED
@@ -59,7 +61,8 @@ posting_row p = Int (pos p.number) ∷ Null ∷ Text p.code ∷ Text p.reference
 
 -- number, sender, reference, receiver, amount, date, state, mark
 abbrev pub payment_row : Order → Row
-payment_row o = Int (pos o.number) ∷ Null ∷ Text o.sender ∷ Text o.reference ∷ Text o.receiver ∷ Int (pos o.amount) ∷ Text (date_text o.date) ∷ Int (pos (state_number o.state)) ∷ mark_value o.state ∷ []
+payment_row o = Int (pos o.number) ∷ Null ∷ Text o.sender ∷ Text o.reference ∷ Text o.receiver ∷ Int (pos o.amount)
+    ∷ Text (date_text o.date) ∷ Int (pos (state_number o.state)) ∷ mark_value o.state ∷ []
 
 -- number, date, many, value
 abbrev pub mark_row : Mark → Row
@@ -77,7 +80,8 @@ abbrev pub shown_posting : Posting → Row
 shown_posting p = Int (pos p.number) ∷ Text p.code ∷ Text p.reference ∷ Int p.cents ∷ date_value p.date ∷ []
 
 abbrev pub shown_order : Order → Row
-shown_order o = Int (pos o.number) ∷ Text o.sender ∷ Text o.reference ∷ Text o.receiver ∷ Int (pos o.amount) ∷ Text (date_text o.date) ∷ Int (pos (state_number o.state)) ∷ mark_value o.state ∷ []
+shown_order o = Int (pos o.number) ∷ Text o.sender ∷ Text o.reference ∷ Text o.receiver ∷ Int (pos o.amount)
+    ∷ Text (date_text o.date) ∷ Int (pos (state_number o.state)) ∷ mark_value o.state ∷ []
 
 abbrev pub shown_mark : Mark → Row
 shown_mark m = Int (pos m.number) ∷ Text (date_text m.date) ∷ Int (pos m.count) ∷ Int m.value ∷ []

@@ -10,8 +10,10 @@ ghost use Rattle.sqlite_catalog.specs.Listing.{IsSound};
 ghost use Rattle.rtgs_rows.specs.Content.{Content, HasNoTables, Holds, AreInOrder, with_changes, tables_for};
 ghost use Rattle.rtgs_book.specs.Changes.{IsChange};
 ghost use Rattle.rtgs_rows.specs.Keeping.{IsBookOf, IsWhole, AddsUp};
-ghost use Rattle.rtgs_rows.specs.RowLaws.{RecordsStandInOrder, ChangesStandInOrder, ChangedRowsAreTheBook, NextRowIsAbove};
-ghost use Rattle.rtgs_rows.specs.RowLaws.{RowsTellTheBook, NoTablesAreReadAsNone, DesksAreReadAsSuch, NoTablesHoldNoBook, TablesOfABookAreWhole};
+ghost use Rattle.rtgs_rows.specs.RowLaws.{RecordsStandInOrder, ChangesStandInOrder, ChangedRowsAreTheBook};
+ghost use Rattle.rtgs_rows.specs.RowLaws.{NextRowIsAbove};
+ghost use Rattle.rtgs_rows.specs.RowLaws.{RowsTellTheBook, NoTablesAreReadAsNone, DesksAreReadAsSuch};
+ghost use Rattle.rtgs_rows.specs.RowLaws.{NoTablesHoldNoBook, TablesOfABookAreWhole};
 ghost use Rattle.rtgs_rows.specs.Tables.{desk_schema};
 ghost use Rattle.rtgs_rows.specs.Querying.{AreWhole, ShowsBook};
 ghost use Rattle.rtgs_rows.specs.Fitting.{Fits, FitsRow};
@@ -38,7 +40,8 @@ pub fn changes_stand_in_order()
     ensures { ChangesStandInOrder }
 {}
 
-/// The rows that a change makes are those of the book after it, stored balances with them, where its values are in their forms.
+/// The rows that a change makes are those of the book after it, stored balances with them, where its values are in
+/// their forms.
 pub fn changed_rows_are_the_changed_book()
     ensures { ChangedRowsAreTheBook }
 {}
@@ -67,11 +70,14 @@ pub fn no_tables_hold_no_book()
 
 /// Where the queries show the records of a sound book, with its balances stored, the tables hold that book.
 pub fn shown_records_are_held()
-    ensures { (trees : Trees) (book : Book) (entries : List (Participant × ℤ)) → IsSound desk_schema trees → AreWhole trees → IsSoundBook book → Fits book → ShowsBook trees book entries
-        → AllByRecursion (λ (entry : Participant × ℤ). entry.1 ≡ balance book entry.0.code) entries → (content : Content) × Holds content trees × IsBookOf book content }
+    ensures { (trees : Trees) (book : Book) (entries : List (Participant × ℤ)) → IsSound desk_schema trees
+        → AreWhole trees → IsSoundBook book → Fits book → ShowsBook trees book entries
+        → AllByRecursion (λ (entry : Participant × ℤ). entry.1 ≡ balance book entry.0.code) entries
+        → (content : Content) × Holds content trees × IsBookOf book content }
 {}
 
-/// Tables that hold a book are whole: each row has a value in each column, and the rows stand in the order of their numbers.
+/// Tables that hold a book are whole: each row has a value in each column, and the rows stand in the order of their
+/// numbers.
 pub fn tables_of_a_book_are_whole()
     ensures { TablesOfABookAreWhole }
 {}
@@ -85,8 +91,10 @@ pub fn stored_balances_are_the_postings()
 
 /// Where a stop leaves tables that hold a book, whichever it is, their stored balances add up to their postings' cents.
 pub fn what_a_stop_leaves_adds_up<S: Alter>(conn: &Connection<S>)
-    ensures some { IsWhole S.Store conn.now → (trees : Trees) → (state S.Store conn.now).may_leave trees → (content : Content) × Holds content trees × AddsUp content }
-    ensures all { IsWhole S.Store conn.now → (trees : Trees) → (state S.Store conn.now).may_leave trees → (content : Content) → Holds content trees → AddsUp content }
+    ensures some { IsWhole S.Store conn.now → (trees : Trees) → (state S.Store conn.now).may_leave trees
+        → (content : Content) × Holds content trees × AddsUp content }
+    ensures all { IsWhole S.Store conn.now → (trees : Trees) → (state S.Store conn.now).may_leave trees
+        → (content : Content) → Holds content trees → AddsUp content }
 {
     stored_balances_are_the_postings();
 }

@@ -9,7 +9,9 @@ use Rattle.rtgs_book.specs.declared.order_state.OrderState.TheVariants.{Queued, 
 use Rattle.rtgs_book.specs.declared.standing.Standing.TheVariants as standing
 use Rattle.rtgs_book.specs.Standings.{word_of}
 use Rattle.rtgs_statements.specs.declared.kind.Kind.{Kind}
-use Rattle.rtgs_statements.specs.declared.kind.Kind.TheVariants.{Posting as OfPosting, Sent, Queued as OfQueued, Withdrawn as OfWithdrawn, Rejected as OfRejected, Received}
+use Rattle.rtgs_statements.specs.declared.kind.Kind.TheVariants.{Posting as OfPosting, Sent, Queued as OfQueued}
+use Rattle.rtgs_statements.specs.declared.kind.Kind.TheVariants.{Withdrawn as OfWithdrawn, Rejected as OfRejected}
+use Rattle.rtgs_statements.specs.declared.kind.Kind.TheVariants.{Received}
 use Rattle.rtgs_statements.specs.declared.row.Row.{Row}
 use Rattle.rtgs_statements.specs.Columns.{left_in, right_in, zeros_in}
 
@@ -34,7 +36,14 @@ mark_of state = None
 
 abbrev pub row_of_posting : Posting → Row
 row_of_posting posting =
-    record { kind = OfPosting; number = posting.number; reference = posting.reference; party = None; amount = posting.cents; mark = None }
+    record {
+      kind = OfPosting;
+      number = posting.number;
+      reference = posting.reference;
+      party = None;
+      amount = posting.cents;
+      mark = None;
+    }
 
 -- an order as the participant sees it: one that it sent, or else one that it received
 abbrev pub row_of_order : List ℕ → Order → Row
@@ -61,7 +70,9 @@ mark_text (Some mark) = decimal mark
 -- kind, number, reference, other party, amount and mark, with a space between two columns
 unfoldable pub row_columns : List ℕ → ℕ → List ℕ → List ℕ → List ℕ → List ℕ → List ℕ
 row_columns kind number reference party amount mark =
-    left_in 10 kind ++ 32 ∷ zeros_in 9 number ++ 32 ∷ left_in 16 reference ++ 32 ∷ left_in 8 party ++ 32 ∷ right_in 20 amount ++ 32 ∷ right_in 9 mark ++ 10 ∷ []
+    left_in 10 kind ++ 32 ∷ zeros_in 9 number ++ 32 ∷ left_in 16 reference ++ 32 ∷ left_in 8 party ++ 32
+    ∷ right_in 20 amount ++ 32 ∷ right_in 9 mark ++ 10 ∷ []
 
 abbrev pub row_text : Row → List ℕ
-row_text row = row_columns (kind_text row.kind) row.number row.reference (or_dash row.party) (units_text row.amount) (mark_text row.mark)
+row_text row = row_columns (kind_text row.kind) row.number row.reference (or_dash row.party) (units_text row.amount)
+    (mark_text row.mark)

@@ -22,7 +22,8 @@ is_posting_of code date posting = is_posted_on date posting && bytes_eq posting.
 
 -- an order of that date that the participant sent, or a settled one that was sent to it
 abbrev pub is_order_of : List ℕ → ℕ → Order → Bool
-is_order_of code date order = is_ordered_on date order && (bytes_eq order.sender code || (is_settled order && bytes_eq order.receiver code))
+is_order_of code date order = is_ordered_on date order
+    && (bytes_eq order.sender code || (is_settled order && bytes_eq order.receiver code))
 
 -- what a statement takes
 abbrev pub postings_of : List ℕ → ℕ → List Posting → List Posting

@@ -28,7 +28,8 @@ code_of Receiver order = order.receiver
 
 -- the settled orders in which the participant is this party
 abbrev pub settled_for : Party → List ℕ → List Order → ℤ
-settled_for party code orders = int_sum_by amount_of (filter (λ order. is_settled order && bytes_eq (code_of party order) code) orders)
+settled_for party code orders = int_sum_by amount_of (filter
+    (λ order. is_settled order && bytes_eq (code_of party order) code) orders)
 
 abbrev pub sent : List ℕ → List Order → ℤ
 sent code orders = settled_for Sender code orders
@@ -37,7 +38,11 @@ abbrev pub received : List ℕ → List Order → ℤ
 received code orders = settled_for Receiver code orders
 
 abbrev pub sums_of : List ℕ → List Posting → List Order → Sums
-sums_of code postings orders = record { posted = posted code postings; sent = sent code orders; received = received code orders }
+sums_of code postings orders = record {
+  posted = posted code postings;
+  sent = sent code orders;
+  received = received code orders;
+}
 
 -- what the records leave to it: what was posted, less what it sent, and what it received
 abbrev pub net : Sums → ℤ
@@ -49,7 +54,11 @@ sum_at totals code = unwrap_or (get (slice_cmp nat_cmp) totals code) (pos 0)
 
 -- the sums under a code
 abbrev pub sums_at : BTreeMap (List ℕ) ℤ → BTreeMap (List ℕ) ℤ → BTreeMap (List ℕ) ℤ → List ℕ → Sums
-sums_at posted sent received code = record { posted = sum_at posted code; sent = sum_at sent code; received = sum_at received code }
+sums_at posted sent received code = record {
+  posted = sum_at posted code;
+  sent = sum_at sent code;
+  received = sum_at received code;
+}
 
 -- far within 128 bits
 abbrev pub IsSmall : ℤ → Type 0

@@ -10,7 +10,8 @@ use Rattle.rtgs_book.specs.IntSum.{int_sum_by}
 use Rattle.rtgs_book.specs.Lookup.{accounts}
 use Rattle.rtgs_book.specs.Standings.{stands, word_of}
 use Rattle.rtgs_statements.specs.declared.line.Line.{Line}
-use Rattle.rtgs_statements.specs.declared.line.Line.TheVariants.{StatementOf, Record, Sum, ReportOf, Account, Orders, Marks}
+use Rattle.rtgs_statements.specs.declared.line.Line.TheVariants.{StatementOf, Record, Sum, ReportOf, Account, Orders}
+use Rattle.rtgs_statements.specs.declared.line.Line.TheVariants.{Marks}
 use Rattle.rtgs_book.specs.declared.standing.Standing.{Standing}
 use Rattle.rtgs_book.specs.declared.standing.Standing.TheVariants.{Settled, Queued, Withdrawn, Rejected}
 use Rattle.rtgs_statements.specs.declared.sums.Sums.{Sums}
@@ -37,18 +38,21 @@ count_columns label count = left_in 10 label ++ 32 ∷ right_in 9 (decimal count
 
 -- a label, a count and a value
 unfoldable pub value_columns : List ℕ → ℕ → List ℕ → List ℕ
-value_columns label count value = left_in 10 label ++ 32 ∷ right_in 9 (decimal count) ++ 32 ∷ right_in 30 value ++ 10 ∷ []
+value_columns label count value = left_in 10 label ++ 32 ∷ right_in 9 (decimal count) ++ 32 ∷ right_in 30 value ++ 10
+    ∷ []
 
 -- a code, and what was posted, sent and received
 unfoldable pub account_columns : List ℕ → List ℕ → List ℕ → List ℕ → List ℕ
-account_columns code posted sent received = left_in 8 code ++ 32 ∷ right_in 30 posted ++ 32 ∷ right_in 30 sent ++ 32 ∷ right_in 30 received ++ 10 ∷ []
+account_columns code posted sent received = left_in 8 code ++ 32 ∷ right_in 30 posted ++ 32 ∷ right_in 30 sent ++ 32
+    ∷ right_in 30 received ++ 10 ∷ []
 
 abbrev pub line_text : Line → List ℕ
 line_text (StatementOf code date) = codes "statement " ++ code ++ 32 ∷ date_text date ++ 10 ∷ []
 line_text (Record row) = row_text row
 line_text (Sum total cents) = sum_columns (total_text total) (units_text cents)
 line_text (ReportOf date) = codes "report " ++ date_text date ++ 10 ∷ []
-line_text (Account code sums) = account_columns code (units_text sums.posted) (units_text sums.sent) (units_text sums.received)
+line_text (Account code sums) = account_columns code (units_text sums.posted) (units_text sums.sent)
+    (units_text sums.received)
 line_text (Orders standing count value) = value_columns (word_of standing) count (units_text value)
 line_text (Marks count) = count_columns (codes "marks") count
 
@@ -74,14 +78,16 @@ statement_text code date postings orders = text_of (statement_lines code date po
 
 -- the statement of the participant with this code, for this date
 abbrev pub statement : Book → List ℕ → ℕ → List ℕ
-statement book code date = statement_text code date (postings_of code date book.postings) (orders_of code date book.orders)
+statement book code date = statement_text code date (postings_of code date book.postings)
+    (orders_of code date book.orders)
 
 -- the orders that stand so
 abbrev pub standing_orders : Standing → List Order → List Order
 standing_orders standing orders = filter (λ (order : Order). stands standing order.state) orders
 
 abbrev pub orders_line : List Order → Standing → Line
-orders_line orders standing = Orders standing (length (standing_orders standing orders)) (int_sum_by amount_of (standing_orders standing orders))
+orders_line orders standing = Orders standing (length (standing_orders standing orders))
+    (int_sum_by amount_of (standing_orders standing orders))
 
 abbrev pub account_line : List Posting → List Order → List ℕ → Line
 account_line postings orders code = Account code (sums_of code postings orders)
@@ -100,4 +106,5 @@ report_text date codes postings orders marks = text_of (report_lines date codes 
 
 -- the report of the day with this date
 abbrev pub report : Book → ℕ → List ℕ
-report book date = report_text date (accounts book) (postings_on date book.postings) (orders_on date book.orders) (marks_on date book.marks)
+report book date = report_text date (accounts book) (postings_on date book.postings) (orders_on date book.orders)
+    (marks_on date book.marks)

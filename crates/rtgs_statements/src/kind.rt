@@ -5,8 +5,8 @@ ghost use Rattle.rtgs_statements.specs.Lines.{kind_of_sent, kind_text};
 
 use rtgs_book::{OrderState, Standing};
 
-/// What a row of a statement tells of: a posting, an order that the participant sent, by where it stands, or one that it
-/// received.
+/// What a row of a statement tells of: a posting, an order that the participant sent, by where it stands, or one that
+/// it received.
 #[derive(Clone, Copy, Debug, PartialEq, Eq)]
 pub enum Kind {
     Posting,

@@ -18,26 +18,37 @@ ghost use Rattle.rtgs_statements.specs.Texts.{line_text};
 
 /// The sums of a participant's statement are those of its line in the day's report.
 pub fn statement_and_report_agree()
-    ensures { (code : List ℕ) (date : ℕ) (postings : List Posting) (orders : List Order) → sums_of code (postings_of code date postings) (orders_of code date orders) ≡ sums_of code (postings_on date postings) (orders_on date orders) }
+    ensures { (code : List ℕ) (date : ℕ) (postings : List Posting) (orders : List Order)
+        → sums_of code (postings_of code date postings) (orders_of code date orders)
+        ≡ sums_of code (postings_on date postings) (orders_on date orders) }
 {}
 
 /// Where all parties are participants, what they sent on a date is together what they received on it.
 pub fn sent_is_received()
-    ensures { (book : Book) (date : ℕ) → CodesRise book → PartiesAreKnown book → int_sum_by (λ code. sent code (orders_on date book.orders)) (accounts book) ≡ int_sum_by (λ code. received code (orders_on date book.orders)) (accounts book) }
+    ensures { (book : Book) (date : ℕ) → CodesRise book → PartiesAreKnown book
+        → int_sum_by (λ code. sent code (orders_on date book.orders)) (accounts book)
+        ≡ int_sum_by (λ code. received code (orders_on date book.orders)) (accounts book) }
 {}
 
 /// And what the records of a date leave to them is together what was posted on it.
 pub fn net_is_posted()
-    ensures { (book : Book) (date : ℕ) → CodesRise book → PartiesAreKnown book → int_sum_by (λ code. net (sums_of code (postings_on date book.postings) (orders_on date book.orders))) (accounts book) ≡ int_sum_by cents_of (postings_on date book.postings) }
+    ensures { (book : Book) (date : ℕ) → CodesRise book → PartiesAreKnown book
+        → int_sum_by (λ code. net (sums_of code (postings_on date book.postings) (orders_on date book.orders)))
+        (accounts book) ≡ int_sum_by cents_of (postings_on date book.postings) }
 {}
 
 /// Each row of a statement has 77 characters and a line feed, where numbers are at most `LARGEST_NUMBER`.
 pub fn rows_have_77_characters()
-    ensures postings { (posting : Posting) → posting.number ≤ LARGEST_NUMBER → IsReference posting.reference → IsPostingAmount posting.cents → length (row_text (row_of_posting posting)) ≡ 78 }
-    ensures orders { (code : List ℕ) (order : Order) → order.number ≤ LARGEST_NUMBER → IsReference order.reference → IsCode order.sender → IsCode order.receiver → IsAmount order.amount → IfSome (mark_of order.state) (λ mark. mark ≤ LARGEST_NUMBER) → length (row_text (row_of_order code order)) ≡ 78 }
+    ensures postings { (posting : Posting) → posting.number ≤ LARGEST_NUMBER → IsReference posting.reference
+        → IsPostingAmount posting.cents → length (row_text (row_of_posting posting)) ≡ 78 }
+    ensures orders { (code : List ℕ) (order : Order) → order.number ≤ LARGEST_NUMBER → IsReference order.reference
+        → IsCode order.sender → IsCode order.receiver → IsAmount order.amount
+        → IfSome (mark_of order.state) (λ mark. mark ≤ LARGEST_NUMBER)
+        → length (row_text (row_of_order code order)) ≡ 78 }
 {}
 
 /// Each sum of a statement has 41 characters and a line feed, where it is below 10^28 cents.
 pub fn sums_have_41_characters()
-    ensures { (total : Total) (cents : ℤ) → unsigned_abs cents < 10 ^ 28 → length (line_text (Line.Sum total cents)) ≡ 42 }
+    ensures { (total : Total) (cents : ℤ) → unsigned_abs cents < 10 ^ 28
+        → length (line_text (Line.Sum total cents)) ≡ 42 }
 {}

@@ -52,7 +52,8 @@ impl Line {
 
 // A participant's code and its sums.
 fn account_text(alloc: Global, code: &Code, sums: Sums) -> Result<String, AllocError>
-    ensures { IfOk result (λ text. string_bytes text ≡ account_columns code.now (units_text sums.posted) (units_text sums.sent) (units_text sums.received)) }
+    ensures { IfOk result (λ text. string_bytes text ≡ account_columns code.now (units_text sums.posted)
+        (units_text sums.sent) (units_text sums.received)) }
 {
     let posted = Units::new(sums.posted).text();
     let sent = Units::new(sums.sent).text();

@@ -17,8 +17,8 @@ use rtgs_output::{TextFault, send_all};
 use std::alloc::{AllocError, Global};
 use std::io::Write;
 
-/// What a day report is made of: the participants' codes, and the postings, orders and marks of the date, each by rising
-/// number.
+/// What a day report is made of: the participants' codes, and the postings, orders and marks of the date, each by
+/// rising number.
 #[derive(Debug, Drop)]
 pub struct Report {
     pub date: BusinessDate,
@@ -29,7 +29,8 @@ pub struct Report {
 }
 
 impl Report {
-    /// The report of a date, out of the codes and all records, by one pass over each list. The only error is lack of memory.
+    /// The report of a date, out of the codes and all records, by one pass over each list. The only error is lack of
+    /// memory.
     pub fn of(
         alloc: Global,
         date: BusinessDate,
@@ -54,12 +55,14 @@ impl Report {
     }
 }
 
-/// Writes the day report: its title, a line of sums for each participant, how many orders stand where and their value, and
-/// the number of marks. Amounts are in units. On a fault of the writer, or a write that takes no byte, a beginning of the
-/// text was written, and not the whole. Where memory is wanting, nothing was asked of the writer.
+/// Writes the day report: its title, a line of sums for each participant, how many orders stand where and their value,
+/// and the number of marks. Amounts are in units. On a fault of the writer, or a write that takes no byte, a beginning
+/// of the text was written, and not the whole. Where memory is wanting, nothing was asked of the writer.
 pub fn day_report<W: Write>(alloc: Global, out: &mut W, report: &Report) -> Result<(), TextFault>
-    ensures written { OnOk result (Appends (W.contents out.old) (W.contents out.new) (report_text report.now.date report.now.codes.items report.now.postings.items report.now.orders.items report.now.marks.items)) }
-    ensures begun { OnErr result (AppendsPart (W.contents out.old) (W.contents out.new) (report_text report.now.date report.now.codes.items report.now.postings.items report.now.orders.items report.now.marks.items)) }
+    ensures written { OnOk result (Appends (W.contents out.old) (W.contents out.new) (report_text report.now.date
+        report.now.codes.items report.now.postings.items report.now.orders.items report.now.marks.items)) }
+    ensures begun { OnErr result (AppendsPart (W.contents out.old) (W.contents out.new) (report_text report.now.date
+        report.now.codes.items report.now.postings.items report.now.orders.items report.now.marks.items)) }
     ensures memory { IfErr result (λ fault. fault ≡ TextFault.OutOfMemory → out.new ≡ out.old) }
 {
     let text = match text_of(alloc, report) {
@@ -74,7 +77,8 @@ pub fn day_report<W: Write>(alloc: Global, out: &mut W, report: &Report) -> Resu
 
 // The text of a report.
 fn text_of(alloc: Global, report: &Report) -> Result<String, AllocError>
-    ensures { IfOk result (λ text. string_bytes text ≡ report_text report.now.date report.now.codes.items report.now.postings.items report.now.orders.items report.now.marks.items) }
+    ensures { IfOk result (λ text. string_bytes text ≡ report_text report.now.date
+        report.now.codes.items report.now.postings.items report.now.orders.items report.now.marks.items) }
 {
     let turnover = Turnover::of(alloc, &report.postings, &report.orders)?;
     let title = [Line::ReportOf(report.date)];
@@ -137,7 +141,8 @@ fn account_lines(
     turnover: &Turnover,
     codes: &[Code],
 ) -> Result<Vec<Line>, AllocError>
-    ensures { IfOk result (λ lines. lines.items ≡ map (λ code. Line.Account code (sums_at turnover.now.posted turnover.now.sent turnover.now.received code)) codes.now) }
+    ensures { IfOk result (λ lines. lines.items ≡ map (λ code. Line.Account code
+        (sums_at turnover.now.posted turnover.now.sent turnover.now.received code)) codes.now) }
 {
     codes
         .iter()
@@ -147,7 +152,8 @@ fn account_lines(
 
 // A line for each standing of orders.
 fn standing_lines(orders: &[Order]) -> [Line; 4]
-    ensures { result ≡ map (orders_line orders.now) (Standing.Settled ∷ Standing.Queued ∷ Standing.Withdrawn ∷ Standing.Rejected ∷ []) }
+    ensures { result ≡ map (orders_line orders.now) (Standing.Settled ∷ Standing.Queued ∷ Standing.Withdrawn
+        ∷ Standing.Rejected ∷ []) }
 {
     [
         orders_line(Standing::Settled, orders),

@@ -109,7 +109,8 @@ fn columns(
     requires party { IsAscii party.now }
     requires amount { IsAscii amount.now }
     requires mark { IsAscii mark.now }
-    ensures { IfOk result (λ line. string_bytes line ≡ row_columns kind.now number reference.now party.now amount.now mark.now) }
+    ensures { IfOk result
+        (λ line. string_bytes line ≡ row_columns kind.now number reference.now party.now amount.now mark.now) }
 {
     let mut line = String::new(alloc);
     write!(line, "{kind:<10} {number:09} ")?;

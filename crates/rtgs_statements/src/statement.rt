@@ -20,8 +20,8 @@ use rtgs_output::{TextFault, send_all};
 use std::alloc::{AllocError, Global};
 use std::io::Write;
 
-/// What a statement is made of: the participant's postings of the date, and the orders of the date that it sent, or that
-/// were sent to it and settled, each by rising number.
+/// What a statement is made of: the participant's postings of the date, and the orders of the date that it sent, or
+/// that were sent to it and settled, each by rising number.
 #[derive(Debug, Drop)]
 pub struct Statement {
     pub code: Code,
@@ -31,8 +31,8 @@ pub struct Statement {
 }
 
 impl Statement {
-    /// The statement of a participant for a date, out of all records, by one pass over each list. The only error is want of
-    /// memory.
+    /// The statement of a participant for a date, out of all records, by one pass over each list. The only error is
+    /// want of memory.
     pub fn of(
         alloc: Global,
         code: Code,
@@ -56,16 +56,18 @@ impl Statement {
     }
 }
 
-/// Writes the statement: its title, a line for each posting and then for each order, and four sums. Amounts are in units.
-/// On a fault of the writer, or a write that takes no byte, a beginning of the text was written, and not the whole. Where
-/// memory is wanting, nothing was asked of the writer.
+/// Writes the statement: its title, a line for each posting and then for each order, and four sums. Amounts are in
+/// units. On a fault of the writer, or a write that takes no byte, a beginning of the text was written, and not the
+/// whole. Where memory is wanting, nothing was asked of the writer.
 pub fn statement_text<W: Write>(
     alloc: Global,
     out: &mut W,
     statement: &Statement,
 ) -> Result<(), TextFault>
-    ensures written { OnOk result (Appends (W.contents out.old) (W.contents out.new) (statement_text statement.now.code statement.now.date statement.now.postings.items statement.now.orders.items)) }
-    ensures begun { OnErr result (AppendsPart (W.contents out.old) (W.contents out.new) (statement_text statement.now.code statement.now.date statement.now.postings.items statement.now.orders.items)) }
+    ensures written { OnOk result (Appends (W.contents out.old) (W.contents out.new) (statement_text
+        statement.now.code statement.now.date statement.now.postings.items statement.now.orders.items)) }
+    ensures begun { OnErr result (AppendsPart (W.contents out.old) (W.contents out.new) (statement_text
+        statement.now.code statement.now.date statement.now.postings.items statement.now.orders.items)) }
     ensures memory { IfErr result (λ fault. fault ≡ TextFault.OutOfMemory → out.new ≡ out.old) }
 {
     let text = match text_of(alloc, statement) {
@@ -80,7 +82,8 @@ pub fn statement_text<W: Write>(
 
 // The text of a statement.
 fn text_of(alloc: Global, statement: &Statement) -> Result<String, AllocError>
-    ensures { IfOk result (λ text. string_bytes text ≡ statement_text statement.now.code statement.now.date statement.now.postings.items statement.now.orders.items) }
+    ensures { IfOk result (λ text. string_bytes text ≡ statement_text
+        statement.now.code statement.now.date statement.now.postings.items statement.now.orders.items) }
 {
     let code = &statement.code;
     let turnover = Turnover::of(alloc, &statement.postings, &statement.orders)?;

@@ -26,7 +26,8 @@ pub struct Turnover {
 impl Turnover {
     /// What the records add up to, by one pass over the postings and two over the orders.
     pub fn of(alloc: Global, postings: &[Posting], orders: &[Order]) -> Result<Turnover, AllocError>
-        ensures { IfOk result (λ turnover. (code : List ℕ) → sums_at turnover.posted turnover.sent turnover.received code ≡ sums_of code postings.now orders.now) }
+        ensures { IfOk result (λ turnover. (code : List ℕ)
+            → sums_at turnover.posted turnover.sent turnover.received code ≡ sums_of code postings.now orders.now) }
     {
         Ok(Turnover {
             posted: posted_by_code(alloc, postings)?,
@@ -60,7 +61,8 @@ fn total_at(totals: &BTreeMap<Code, i128>, code: &Code) -> i128
 // Adds to the total under the code.
 fn add(totals: &mut BTreeMap<Code, i128>, code: Code, cents: i128) -> Result<(), AllocError>
     requires { FitsSigned w128 (sum_at totals.old code +ℤ cents) }
-    ensures { OnOk result ((other : List ℕ) → sum_at totals.new other ≡ sum_at totals.old other +ℤ (if bytes_eq code other then cents else pos 0)) }
+    ensures { OnOk result ((other : List ℕ) → sum_at totals.new other
+        ≡ sum_at totals.old other +ℤ (if bytes_eq code other then cents else pos 0)) }
 {
     let total = total_at(totals, &code);
     totals.insert(code, total + cents)?;

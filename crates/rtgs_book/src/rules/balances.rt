@@ -1,5 +1,6 @@
 //! Whether balances are at least their floors, and together within their limit.
-ghost use Rattle.std.specs.Prelude.{◌≡◌, ◌↔◌, ◌≤◌, ◌+◌, ◌*◌, ◌^◌, if◌then◌else◌, ℕ, List, ℤ, pos, ◌+ℤ◌, ◌≤ℤ◌, map, filter, IfOk, OnOk, IsTrue, Some, length};
+ghost use Rattle.std.specs.Prelude.{◌≡◌, ◌↔◌, ◌≤◌, ◌+◌, ◌*◌, ◌^◌, if◌then◌else◌, ℕ, List, ℤ, pos, ◌+ℤ◌, ◌≤ℤ◌, map};
+ghost use Rattle.std.specs.Prelude.{filter, IfOk, OnOk, IsTrue, Some, length};
 ghost use Rattle.std.specs.BTreeMap.{get};
 ghost use Rattle.std.specs.Cmp.Lexicographic.{slice_cmp};
 ghost use Rattle.std.specs.List.{AllByRecursion};
@@ -59,8 +60,10 @@ pub fn is_issue_small(postings: &[Posting]) -> bool
 
 // Whether the balance of each participant is at least its floor.
 fn are_covered(balances: &BTreeMap<Code, i128>, participants: &[Participant], phase: Phase) -> bool
-    ensures covered { (balance_of : List ℕ → ℤ) → Totals (slice_cmp nat_cmp) (map (λ (p : Participant). p.code) participants.now) balance_of balances.now →
-        (IsTrue result ↔ AllByRecursion (λ (p : Participant). floor_at phase p.credit ≤ℤ balance_of p.code) participants.now) }
+    ensures covered { (balance_of : List ℕ → ℤ) → Totals (slice_cmp nat_cmp)
+        (map (λ (p : Participant). p.code) participants.now) balance_of balances.now →
+        (IsTrue result
+        ↔ AllByRecursion (λ (p : Participant). floor_at phase p.credit ≤ℤ balance_of p.code) participants.now) }
     ensures credits { IsTrue result → AllByRecursion (λ (p : Participant). IsCredit p.credit) participants.now }
 {
     for participant in participants {
@@ -104,7 +107,8 @@ fn add_postings(totals: &mut BTreeMap<Code, i128>, postings: &[Posting])
     requires few { length postings.now ≤ LARGEST_NUMBER }
     requires small { AreWithin (slice_cmp nat_cmp) 0 totals.old }
     ensures sums { (codes : List (List ℕ)) (sum_of : List ℕ → ℤ) → Totals (slice_cmp nat_cmp) codes sum_of totals.old →
-        Totals (slice_cmp nat_cmp) codes (λ code. sum_of code +ℤ int_sum_by (λ (p : Posting). p.cents) (filter (λ (p : Posting). bytes_eq p.code code) postings.now)) totals.new }
+        Totals (slice_cmp nat_cmp) codes (λ code. sum_of code +ℤ int_sum_by (λ (p : Posting). p.cents)
+        (filter (λ (p : Posting). bytes_eq p.code code) postings.now)) totals.new }
     ensures within { AreWithin (slice_cmp nat_cmp) (10 ^ 27) totals.new }
     ensures cents { AllByRecursion (λ (p : Posting). IsPostingAmount p.cents) postings.now }
 {
@@ -118,7 +122,8 @@ fn add_orders(totals: &mut BTreeMap<Code, i128>, orders: &[Order])
     requires few { length orders.now ≤ LARGEST_NUMBER }
     requires small { AreWithin (slice_cmp nat_cmp) (10 ^ 27) totals.old }
     ensures sums { (codes : List (List ℕ)) (sum_of : List ℕ → ℤ) → Totals (slice_cmp nat_cmp) codes sum_of totals.old →
-        Totals (slice_cmp nat_cmp) codes (λ code. sum_of code +ℤ int_sum_by (gain code) (filter is_settled orders.now)) totals.new }
+        Totals (slice_cmp nat_cmp) codes (λ code. sum_of code +ℤ int_sum_by (gain code)
+        (filter is_settled orders.now)) totals.new }
     ensures amounts { AllByRecursion (λ (o : Order). IsAmount o.amount) orders.now }
 {
     for order in orders {
@@ -130,8 +135,10 @@ fn add_orders(totals: &mut BTreeMap<Code, i128>, orders: &[Order])
 fn add_order(totals: &mut BTreeMap<Code, i128>, order: &Order)
     requires { AreWithin (slice_cmp nat_cmp) (10 ^ 28) totals.old }
     ensures sums { (codes : List (List ℕ)) (sum_of : List ℕ → ℤ) → Totals (slice_cmp nat_cmp) codes sum_of totals.old →
-        Totals (slice_cmp nat_cmp) codes (λ code. sum_of code +ℤ (if is_settled order.now then gain code order.now else pos 0)) totals.new }
-    ensures within { (bound : ℕ) → AreWithin (slice_cmp nat_cmp) bound totals.old → AreWithin (slice_cmp nat_cmp) (bound + 2 * Amount.MAX) totals.new }
+        Totals (slice_cmp nat_cmp) codes (λ code. sum_of code +ℤ
+        (if is_settled order.now then gain code order.now else pos 0)) totals.new }
+    ensures within { (bound : ℕ) → AreWithin (slice_cmp nat_cmp) bound totals.old
+        → AreWithin (slice_cmp nat_cmp) (bound + 2 * Amount.MAX) totals.new }
     ensures amount { IsAmount order.now.amount }
 {
     let amount = i128::from(order.amount.cents());

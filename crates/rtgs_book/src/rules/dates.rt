@@ -34,7 +34,8 @@ pub fn dates_fit(book: &Book) -> bool
 
 // Whether the day has a date or is closed, and its date is a weekday.
 fn day_fits(day: &Day) -> bool
-    ensures { IsTrue result ↔ ((is_closed day.now.phase ≡ false → IsTrue (is_some day.now.date)) × (is_some day.now.date ≡ true → is_weekend (unwrap_or day.now.date 0) ≡ false)) }
+    ensures { IsTrue result ↔ ((is_closed day.now.phase ≡ false → IsTrue (is_some day.now.date))
+        × (is_some day.now.date ≡ true → is_weekend (unwrap_or day.now.date 0) ≡ false)) }
 {
     match day.date {
         Some(date) => !date.is_weekend(),

@@ -1,5 +1,6 @@
 //! Whether marks and settled orders fit each other.
-ghost use Rattle.std.specs.Prelude.{◌≡◌, ◌↔◌, ◌≤◌, ◌+◌, ◌^◌, ◌&&◌, ◌==◌, ℕ, List, ℤ, pos, ◌+ℤ◌, map, filter, length, if◌then◌else◌, IfOk, IsTrue, Some};
+ghost use Rattle.std.specs.Prelude.{◌≡◌, ◌↔◌, ◌≤◌, ◌+◌, ◌^◌, ◌&&◌, ◌==◌, ℕ, List, ℤ, pos, ◌+ℤ◌, map, filter, length};
+ghost use Rattle.std.specs.Prelude.{if◌then◌else◌, IfOk, IsTrue, Some};
 ghost use Rattle.std.specs.BTreeMap.{get};
 ghost use Rattle.std.specs.List.{AllByRecursion, list_any, list_all};
 ghost use Rattle.std.specs.Ordering.{nat_cmp};
@@ -21,7 +22,8 @@ use rtgs_money::BusinessDate;
 use std::alloc::{AllocError, Global};
 use std::collections::{BTreeMap, BTreeSet};
 
-/// Whether each settled order's mark is there and bears its date, and each mark counts its orders, at least one, and their value.
+/// Whether each settled order's mark is there and bears its date, and each mark counts its orders, at least one, and
+/// their value.
 pub fn marks_fit(alloc: Global, book: &Book) -> Result<bool, AllocError>
     requires { length book.now.orders ≤ LARGEST_NUMBER }
     ensures { IfOk result (λ yes. IsTrue yes ↔ MarksFitOrders book.now) }
@@ -39,7 +41,8 @@ pub fn marks_fit(alloc: Global, book: &Book) -> Result<bool, AllocError>
 
 // Whether each settled order's mark is there, with the order's date.
 fn have_marks(alloc: Global, marks: &[Mark], orders: &[Order]) -> Result<bool, AllocError>
-    ensures { IfOk result (λ yes. IsTrue yes ↔ AllByRecursion (λ (o : Order). HasMark marks.now o.date o.state) orders.now) }
+    ensures { IfOk result (λ yes. IsTrue yes ↔ AllByRecursion
+        (λ (o : Order). HasMark marks.now o.date o.state) orders.now) }
 {
     let dated = set_of(alloc, dated_marks(alloc, marks)?)?;
     Ok(are_among(&dated, orders))
@@ -77,9 +80,11 @@ fn add_marked(counts: &mut BTreeMap<u64, i128>, values: &mut BTreeMap<u64, i128>
     requires no_counts { AreWithin nat_cmp 0 counts.old }
     requires no_values { AreWithin nat_cmp 0 values.old }
     ensures counts { (numbers : List ℕ) (count_of : ℕ → ℤ) → Totals nat_cmp numbers count_of counts.old →
-        Totals nat_cmp numbers (λ mark. count_of mark +ℤ int_sum_by (λ (o : Order). pos 1) (filter (λ (o : Order). is_state_under mark o.state) orders.now)) counts.new }
+        Totals nat_cmp numbers (λ mark. count_of mark +ℤ int_sum_by (λ (o : Order). pos 1)
+        (filter (λ (o : Order). is_state_under mark o.state) orders.now)) counts.new }
     ensures values { (numbers : List ℕ) (value_of : ℕ → ℤ) → Totals nat_cmp numbers value_of values.old →
-        Totals nat_cmp numbers (λ mark. value_of mark +ℤ int_sum_by (λ (o : Order). pos o.amount) (filter (λ (o : Order). is_state_under mark o.state) orders.now)) values.new }
+        Totals nat_cmp numbers (λ mark. value_of mark +ℤ int_sum_by (λ (o : Order). pos o.amount)
+        (filter (λ (o : Order). is_state_under mark o.state) orders.now)) values.new }
 {
     for order in orders {
         add_under(counts, order.state, 1);
@@ -93,7 +98,8 @@ fn add_under(totals: &mut BTreeMap<u64, i128>, state: OrderState, by: i128)
     requires by { Within Amount.MAX by }
     ensures sums { (numbers : List ℕ) (sum_of : ℕ → ℤ) → Totals nat_cmp numbers sum_of totals.old →
         Totals nat_cmp numbers (λ mark. sum_of mark +ℤ (if is_state_under mark state then by else pos 0)) totals.new }
-    ensures within { (bound : ℕ) → AreWithin nat_cmp bound totals.old → AreWithin nat_cmp (bound + Amount.MAX) totals.new }
+    ensures within { (bound : ℕ) → AreWithin nat_cmp bound totals.old
+        → AreWithin nat_cmp (bound + Amount.MAX) totals.new }
 {
     if let OrderState::Settled(mark) = state {
         add(totals, &mark, by);
@@ -102,7 +108,8 @@ fn add_under(totals: &mut BTreeMap<u64, i128>, state: OrderState, by: i128)
 
 // Whether each mark has at least one order, and counts its orders and their value.
 fn are_counted(counts: &BTreeMap<u64, i128>, values: &BTreeMap<u64, i128>, marks: &[Mark]) -> bool
-    ensures { (count_of value_of : ℕ → ℤ) → Totals nat_cmp (map (λ (m : Mark). m.number) marks.now) count_of counts.now → Totals nat_cmp (map (λ (m : Mark). m.number) marks.now) value_of values.now →
+    ensures { (count_of value_of : ℕ → ℤ) → Totals nat_cmp (map (λ (m : Mark). m.number) marks.now) count_of counts.now
+        → Totals nat_cmp (map (λ (m : Mark). m.number) marks.now) value_of values.now →
         (IsTrue result ↔ AllByRecursion (λ (m : Mark). IsCounted m (count_of m.number) (value_of m.number)) marks.now) }
 {
     for mark in marks {
@@ -115,7 +122,8 @@ fn are_counted(counts: &BTreeMap<u64, i128>, values: &BTreeMap<u64, i128>, marks
 
 // Whether the mark has at least one order, and counts its orders and their value.
 fn is_counted(counts: &BTreeMap<u64, i128>, values: &BTreeMap<u64, i128>, mark: &Mark) -> bool
-    ensures { (count value : ℤ) → get nat_cmp counts.now mark.now.number ≡ Some count → get nat_cmp values.now mark.now.number ≡ Some value → (IsTrue result ↔ IsCounted mark.now count value) }
+    ensures { (count value : ℤ) → get nat_cmp counts.now mark.now.number ≡ Some count
+        → get nat_cmp values.now mark.now.number ≡ Some value → (IsTrue result ↔ IsCounted mark.now count value) }
 {
     let value = i128::from(mark.value.cents());
     mark.count > 0

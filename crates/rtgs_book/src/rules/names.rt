@@ -36,14 +36,16 @@ pub fn codes_rise(participants: &[Participant]) -> bool
 
 /// Whether no two participants have one key.
 pub fn keys_are_distinct(alloc: Global, participants: &[Participant]) -> Result<bool, AllocError>
-    ensures { IfOk result (λ yes. IsTrue yes ↔ IsDistinct bytes_eq (map (λ (p : Participant). p.key) participants.now)) }
+    ensures { IfOk result (λ yes. IsTrue yes ↔ IsDistinct bytes_eq
+        (map (λ (p : Participant). p.key) participants.now)) }
 {
     are_distinct(alloc, keys_of(alloc, participants)?)
 }
 
 /// Whether no sender gave two orders one reference.
 pub fn order_references_are_distinct(alloc: Global, orders: &[Order]) -> Result<bool, AllocError>
-    ensures { IfOk result (λ yes. IsTrue yes ↔ IsDistinct is_same_name (map (λ (o : Order). (o.sender, o.reference)) orders.now)) }
+    ensures { IfOk result (λ yes. IsTrue yes ↔ IsDistinct is_same_name
+        (map (λ (o : Order). (o.sender, o.reference)) orders.now)) }
 {
     are_distinct(alloc, names_of(alloc, orders)?)
 }

@@ -39,7 +39,8 @@ pub fn codes_of(alloc: Global, participants: &[Participant]) -> Result<Vec<Code>
 
 // Whether all parties are among the codes.
 fn are_among(codes: &BTreeSet<Code>, book: &Book) -> bool
-    ensures { result ≡ (list_all (λ (o : Order). contains (slice_cmp nat_cmp) codes.now o.sender && contains (slice_cmp nat_cmp) codes.now o.receiver && not (bytes_eq o.sender o.receiver)) book.now.orders
+    ensures { result ≡ (list_all (λ (o : Order). contains (slice_cmp nat_cmp) codes.now o.sender
+        && contains (slice_cmp nat_cmp) codes.now o.receiver && not (bytes_eq o.sender o.receiver)) book.now.orders
         && list_all (λ (p : Posting). contains (slice_cmp nat_cmp) codes.now p.code) book.now.postings) }
 {
     are_between(codes, book.orders.as_slice()) && are_made_to(codes, book.postings.as_slice())
@@ -47,7 +48,8 @@ fn are_among(codes: &BTreeSet<Code>, book: &Book) -> bool
 
 // Whether each order is between two of the codes.
 fn are_between(codes: &BTreeSet<Code>, orders: &[Order]) -> bool
-    ensures { result ≡ list_all (λ (o : Order). contains (slice_cmp nat_cmp) codes.now o.sender && contains (slice_cmp nat_cmp) codes.now o.receiver && not (bytes_eq o.sender o.receiver)) orders.now }
+    ensures { result ≡ list_all (λ (o : Order). contains (slice_cmp nat_cmp) codes.now o.sender
+        && contains (slice_cmp nat_cmp) codes.now o.receiver && not (bytes_eq o.sender o.receiver)) orders.now }
 {
     orders.iter().all(|order| {
         codes.contains(&order.sender)

@@ -1,5 +1,6 @@
 //! Whether queues are short, of the day, and empty while the desk is closed.
-ghost use Rattle.std.specs.Prelude.{◌≡◌, ◌↔◌, ◌≤◌, ◌*◌, ◌==◌, ℕ, List, ℤ, pos, ◌+ℤ◌, ◌≤ℤ◌, ◌&&◌, ◌||◌, map, filter, if◌then◌else◌, IfOk, IsTrue, Some, true, false, not, length};
+ghost use Rattle.std.specs.Prelude.{◌≡◌, ◌↔◌, ◌≤◌, ◌*◌, ◌==◌, ℕ, List, ℤ, pos, ◌+ℤ◌, ◌≤ℤ◌, ◌&&◌, ◌||◌, map, filter};
+ghost use Rattle.std.specs.Prelude.{if◌then◌else◌, IfOk, IsTrue, Some, true, false, not, length};
 ghost use Rattle.std.specs.BTreeMap.{get};
 ghost use Rattle.std.specs.Cmp.Lexicographic.{slice_cmp};
 ghost use Rattle.std.specs.List.{AllByRecursion, list_all};
@@ -28,7 +29,8 @@ use rtgs_money::Code;
 use std::alloc::{AllocError, Global};
 use std::collections::BTreeMap;
 
-/// Whether nothing is queued while the desk is closed, each queue has at most `LONGEST_QUEUE` orders, and queued orders are of the day.
+/// Whether nothing is queued while the desk is closed, each queue has at most `LONGEST_QUEUE` orders, and queued orders
+/// are of the day.
 pub fn queues_fit(alloc: Global, book: &Book) -> Result<bool, AllocError>
     requires { length book.now.orders ≤ LARGEST_NUMBER }
     ensures { IfOk result (λ yes. IsTrue yes ↔ QueuesFit book.now) }
@@ -42,7 +44,8 @@ pub fn queues_fit(alloc: Global, book: &Book) -> Result<bool, AllocError>
 
 // Whether nothing is queued while the desk is closed, and queued orders are of the day.
 fn are_queued_today(book: &Book) -> bool
-    ensures { result ≡ list_all (λ (o : Order). not (is_queued o) || (not (is_closed book.now.day.phase) && (o.date == today book.now))) book.now.orders }
+    ensures { result ≡ list_all (λ (o : Order). not (is_queued o)
+        || (not (is_closed book.now.day.phase) && (o.date == today book.now))) book.now.orders }
 {
     let today = match book.day.date {
         Some(date) => date.number(),
@@ -65,7 +68,8 @@ fn are_queued_on(orders: &[Order], has_day: bool, today: u32) -> bool
 
 // Whether each participant's queue is short.
 fn are_short(lengths: &BTreeMap<Code, i128>, participants: &[Participant]) -> bool
-    ensures { (length_of : List ℕ → ℤ) → Totals (slice_cmp nat_cmp) (map (λ (p : Participant). p.code) participants.now) length_of lengths.now →
+    ensures { (length_of : List ℕ → ℤ) → Totals (slice_cmp nat_cmp)
+        (map (λ (p : Participant). p.code) participants.now) length_of lengths.now →
         (IsTrue result ↔ AllByRecursion (λ (p : Participant). length_of p.code ≤ℤ pos LONGEST_QUEUE) participants.now) }
 {
     for participant in participants {
@@ -78,7 +82,8 @@ fn are_short(lengths: &BTreeMap<Code, i128>, participants: &[Participant]) -> bo
 
 // Whether the participant's queue is short.
 fn is_short(lengths: &BTreeMap<Code, i128>, participant: &Participant) -> bool
-    ensures { (length : ℤ) → get (slice_cmp nat_cmp) lengths.now participant.now.code ≡ Some length → (IsTrue result ↔ (length ≤ℤ pos LONGEST_QUEUE)) }
+    ensures { (length : ℤ) → get (slice_cmp nat_cmp) lengths.now participant.now.code ≡ Some length
+        → (IsTrue result ↔ (length ≤ℤ pos LONGEST_QUEUE)) }
 {
     match lengths.get(&participant.code) {
         Some(length) => *length <= LONGEST_QUEUE as i128,
@@ -89,7 +94,8 @@ fn is_short(lengths: &BTreeMap<Code, i128>, participant: &Participant) -> bool
 // How many orders of each participant are queued.
 fn queue_lengths(alloc: Global, book: &Book) -> Result<BTreeMap<Code, i128>, AllocError>
     requires { length book.now.orders ≤ LARGEST_NUMBER }
-    ensures { IfOk result (Totals (slice_cmp nat_cmp) (accounts book.now) (λ code. pos (length (queue book.now code)))) }
+    ensures { IfOk result (Totals (slice_cmp nat_cmp) (accounts book.now)
+        (λ code. pos (length (queue book.now code)))) }
 {
     let mut lengths = zeros(alloc, codes_of(alloc, book.participants.as_slice())?)?;
     count_queued(&mut lengths, book.orders.as_slice());
@@ -100,8 +106,10 @@ fn queue_lengths(alloc: Global, book: &Book) -> Result<BTreeMap<Code, i128>, All
 fn count_queued(lengths: &mut BTreeMap<Code, i128>, orders: &[Order])
     requires few { length orders.now ≤ LARGEST_NUMBER }
     requires small { AreWithin (slice_cmp nat_cmp) 0 lengths.old }
-    ensures { (codes : List (List ℕ)) (length_of : List ℕ → ℤ) → Totals (slice_cmp nat_cmp) codes length_of lengths.old →
-        Totals (slice_cmp nat_cmp) codes (λ code. length_of code +ℤ int_sum_by (λ (o : Order). pos 1) (filter (λ (o : Order). is_queued o && bytes_eq o.sender code) orders.now)) lengths.new }
+    ensures { (codes : List (List ℕ)) (length_of : List ℕ → ℤ) → Totals (slice_cmp nat_cmp) codes length_of lengths.old
+        →
+        Totals (slice_cmp nat_cmp) codes (λ code. length_of code +ℤ int_sum_by (λ (o : Order). pos 1)
+        (filter (λ (o : Order). is_queued o && bytes_eq o.sender code) orders.now)) lengths.new }
 {
     for order in orders {
         add(lengths, &order.sender, queued_count(order));

@@ -11,7 +11,8 @@ use std::collections::BTreeMap;
 
 /// Nothing under each of the keys.
 pub fn zeros<K: Ord + Drop>(alloc: Global, keys: Vec<K>) -> Result<BTreeMap<K, i128>, AllocError>
-    ensures { IfOk result (λ totals. (q : K) → get K.cmp totals q ≡ (if is_member (eq_by_cmp K.cmp) keys.items q then Some (pos 0) else None)) }
+    ensures { IfOk result (λ totals. (q : K) → get K.cmp totals q
+        ≡ (if is_member (eq_by_cmp K.cmp) keys.items q then Some (pos 0) else None)) }
 {
     with_zeros(alloc, keys)
 }
@@ -25,7 +26,8 @@ fn with_zeros<K: Ord + Drop>(alloc: Global, keys: Vec<K>) -> Result<BTreeMap<K, 
 /// Adds to the sum under the key, if it has one.
 pub fn add<K: Ord>(totals: &mut BTreeMap<K, i128>, key: &K, by: i128)
     requires { (total : ℤ) → get K.cmp totals.old key.now ≡ Some total → FitsSigned w128 (total +ℤ by) }
-    ensures { (q : K) → get K.cmp totals.new q ≡ (if is_at (K.cmp key.now) q then option_map (λ total. total +ℤ by) (get K.cmp totals.old key.now) else get K.cmp totals.old q) }
+    ensures { (q : K) → get K.cmp totals.new q ≡ (if is_at (K.cmp key.now) q then option_map (λ total. total +ℤ by)
+        (get K.cmp totals.old key.now) else get K.cmp totals.old q) }
 {
     if let Some(total) = totals.get_mut(key) {
         *total += by;

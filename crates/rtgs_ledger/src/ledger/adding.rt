@@ -17,7 +17,8 @@ impl Ledger {
         key: KeyDigest,
     ) -> Result<(Answer, Change), Refusal>
         ensures content { self.new.content ≡ self.old.content }
-        ensures prepared { IfOk result (λ (answer, change). IsPrepared self.new (Command.Add code name key) answer change) }
+        ensures prepared { IfOk result (λ (answer, change). IsPrepared self.new
+            (Command.Add code name key) answer change) }
         ensures refused { IfErr result (IsRefused self.old.content (Command.Add code name key)) }
     {
         if let Some(found) = self.records.accounts.get(&code) {

@@ -28,7 +28,8 @@ impl Ledger {
     /// A workspace that holds the lengths of the greatest choice, in code order.
     pub(super) fn greatest_choice(&self) -> Result<Workspace, OutOfMemory>
         ensures length { IfOk result (λ workspace. length (lengths_of workspace) ≡ length (accounts self.now.content)) }
-        ensures greatest { IfOk result (λ workspace. IsGreatest self.now.content (by_code self.now.content (slice_index (lengths_of workspace)))) }
+        ensures greatest { IfOk result (λ workspace. IsGreatest self.now.content
+            (by_code self.now.content (slice_index (lengths_of workspace)))) }
     {
         laws::conditions_hold();
         laws::greatest_means_greatest();
@@ -90,7 +91,8 @@ impl Ledger {
     // Account by account as many orders of its queue as the length at its index says, the oldest first.
     fn beginnings(&self, lengths: &[usize]) -> Result<Vec<Order>, AllocError>
         requires { length lengths.now ≡ length (accounts self.now.content) }
-        ensures orders { IfOk result (λ orders. orders.items ≡ orders_taken self.now.content (by_code self.now.content (slice_index lengths.now))) }
+        ensures orders { IfOk result (λ orders. orders.items
+            ≡ orders_taken self.now.content (by_code self.now.content (slice_index lengths.now))) }
         ensures few { IfOk result (λ orders. length orders.items ≤ MOST_QUEUED) }
     {
         laws::choices_agree();

@@ -18,8 +18,8 @@ use rtgs_money::BusinessDate;
 use std::alloc::{AllocError, Global};
 
 impl Ledger {
-    /// The day that was cut off is closed, where no queued orders can be settled together and nobody is below zero. What
-    /// is queued is rejected.
+    /// The day that was cut off is closed, where no queued orders can be settled together and nobody is below zero.
+    /// What is queued is rejected.
     pub(super) fn prepare_close_day(
         &mut self,
         date: BusinessDate,
@@ -53,7 +53,8 @@ impl Ledger {
     fn prepare_closing(&mut self, date: BusinessDate) -> Result<(Answer, Change), Refusal>
         requires cut_off { is_cut_off self.old.content.day.phase ≡ true }
         requires dated { is_on self.old.content date ≡ true }
-        requires nothing { (choice : Choice) × IsGreatest self.old.content choice × (is_empty (chosen self.old.content choice) ≡ true) }
+        requires nothing { (choice : Choice) × IsGreatest self.old.content choice
+            × (is_empty (chosen self.old.content choice) ≡ true) }
         ensures content { self.new.content ≡ self.old.content }
         ensures prepared { IfOk result (λ (answer, change). IsPrepared self.new (Command.CloseDay date) answer change) }
         ensures refused { IfErr result (IsRefused self.old.content (Command.CloseDay date)) }
@@ -80,7 +81,8 @@ impl Ledger {
 
     // The numbers of all queued orders, account by account.
     fn queued_numbers(&self) -> Result<Vec<u64>, AllocError>
-        ensures { IfOk result (λ numbers. numbers.items ≡ flat_map (queued_numbers self.now.content.orders) (accounts self.now.content)) }
+        ensures { IfOk result (λ numbers. numbers.items
+            ≡ flat_map (queued_numbers self.now.content.orders) (accounts self.now.content)) }
     {
         let mut numbers = Vec::new(self.alloc);
         for account in self.records.accounts.as_slice() {
@@ -92,7 +94,8 @@ impl Ledger {
 
 // The rows that reject the orders with these numbers, and set the day.
 fn closing_rows(alloc: Global, numbers: &[u64], day: Day) -> Result<Vec<RowChange>, AllocError>
-    ensures { IfOk result (λ rows. rows.items ≡ state_rows OrderState.Rejected numbers.now ++ RowChange.SetDay day ∷ []) }
+    ensures { IfOk result (λ rows. rows.items ≡ state_rows OrderState.Rejected numbers.now ++ RowChange.SetDay day
+        ∷ []) }
 {
     let rejected = numbers.iter().map(|number| RowChange::SetState {
         number: *number,

@@ -14,7 +14,8 @@ impl Ledger {
         credit: Credit,
     ) -> Result<(Answer, Change), Refusal>
         ensures content { self.new.content ≡ self.old.content }
-        ensures prepared { IfOk result (λ (answer, change). IsPrepared self.new (Command.SetCredit code credit) answer change) }
+        ensures prepared { IfOk result (λ (answer, change). IsPrepared self.new
+            (Command.SetCredit code credit) answer change) }
         ensures refused { IfErr result (IsRefused self.old.content (Command.SetCredit code credit)) }
     {
         let Some(account) = self.records.accounts.get(&code) else {

@@ -24,7 +24,8 @@ impl Ledger {
         amount: Amount,
     ) -> Result<(Answer, Change), Refusal>
         ensures content { self.new.content ≡ self.old.content }
-        ensures prepared { IfOk result (λ (answer, change). IsPrepared self.new (Command.Order sender reference receiver amount) answer change) }
+        ensures prepared { IfOk result (λ (answer, change). IsPrepared self.new
+            (Command.Order sender reference receiver amount) answer change) }
         ensures refused { IfErr result (IsRefused self.old.content (Command.Order sender reference receiver amount)) }
     {
         let Some(debtor) = self.records.accounts.get(&sender) else {
@@ -75,7 +76,8 @@ impl Ledger {
         requires debtor { find (is_of order.now.sender) self.old.accounts ≡ Some debtor.now }
         requires creditor { find (is_of order.now.receiver) self.old.accounts ≡ Some creditor.now }
         ensures content { self.new.content ≡ self.old.content }
-        ensures prepared { IfOk result (λ (answer, change). IsPrepared self.new (Command.Order order.now.sender order.now.reference order.now.receiver order.now.amount) answer change) }
+        ensures prepared { IfOk result (λ (answer, change). IsPrepared self.new
+            (Command.Order order.now.sender order.now.reference order.now.receiver order.now.amount) answer change) }
         ensures refused { IfErr result (λ refusal. refusal ≡ Refusal.OutOfMemory) }
     {
         laws::step_keeps_ranges();
@@ -99,7 +101,8 @@ impl Ledger {
         requires taken { IsTaken self.old.content order }
         requires waits { settles_at_once self.old.content order.sender order.amount ≡ false }
         ensures content { self.new.content ≡ self.old.content }
-        ensures prepared { IfOk result (λ (answer, change). IsPrepared self.new (Command.Order order.sender order.reference order.receiver order.amount) answer change) }
+        ensures prepared { IfOk result (λ (answer, change). IsPrepared self.new
+            (Command.Order order.sender order.reference order.receiver order.amount) answer change) }
         ensures refused { IfErr result (λ refusal. refusal ≡ Refusal.OutOfMemory) }
     {
         laws::step_keeps_ranges();
@@ -123,7 +126,9 @@ fn settled_rows(
     debited: Cents,
     credited: Cents,
 ) -> Result<Vec<RowChange>, AllocError>
-    ensures { IfOk result (λ rows. rows.items ≡ RowChange.AddOrder (record order.now { state = OrderState.Settled mark.number }) ∷ RowChange.AddMark mark ∷ RowChange.SetBalance order.now.sender debited ∷ RowChange.SetBalance order.now.receiver credited ∷ []) }
+    ensures { IfOk result (λ rows. rows.items ≡ RowChange.AddOrder
+        (record order.now { state = OrderState.Settled mark.number }) ∷ RowChange.AddMark mark
+        ∷ RowChange.SetBalance order.now.sender debited ∷ RowChange.SetBalance order.now.receiver credited ∷ []) }
 {
     let settled = Order {
         state: OrderState::Settled(mark.number),

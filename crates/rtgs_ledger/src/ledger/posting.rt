@@ -17,7 +17,8 @@ impl Ledger {
         cents: PostingAmount,
     ) -> Result<(Answer, Change), Refusal>
         ensures content { self.new.content ≡ self.old.content }
-        ensures prepared { IfOk result (λ (answer, change). IsPrepared self.new (Command.Post code reference cents) answer change) }
+        ensures prepared { IfOk result (λ (answer, change). IsPrepared self.new
+            (Command.Post code reference cents) answer change) }
         ensures refused { IfErr result (IsRefused self.old.content (Command.Post code reference cents)) }
     {
         let Some(account) = self.records.accounts.get(&code) else {

@@ -121,7 +121,8 @@ fn resolved(mark: &Mark) -> Answer
 
 // The rows that settle these orders under the mark.
 fn state_rows(alloc: Global, orders: &[Order], mark: &Mark) -> Result<Vec<RowChange>, AllocError>
-    ensures { IfOk result (λ rows. rows.items ≡ map (λ (o : Order). RowChange.SetState o.number (OrderState.Settled mark.now.number)) orders.now) }
+    ensures { IfOk result (λ rows. rows.items ≡ map (λ (o : Order). RowChange.SetState o.number
+        (OrderState.Settled mark.now.number)) orders.now) }
 {
     let number = mark.number;
     orders

@@ -14,7 +14,8 @@ impl Ledger {
         reference: Reference,
     ) -> Result<(Answer, Change), Refusal>
         ensures content { self.new.content ≡ self.old.content }
-        ensures prepared { IfOk result (λ (answer, change). IsPrepared self.new (Command.Withdraw sender reference) answer change) }
+        ensures prepared { IfOk result (λ (answer, change). IsPrepared self.new
+            (Command.Withdraw sender reference) answer change) }
         ensures refused { IfErr result (IsRefused self.old.content (Command.Withdraw sender reference)) }
     {
         let Some(_) = self.records.accounts.get(&sender) else {
