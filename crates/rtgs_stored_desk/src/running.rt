@@ -1,5 +1,5 @@
 //! Commands to a desk over tables, and what a stop then leaves.
-ghost use Rattle.std.specs.Prelude.{◌≡◌, true, [], ◌∷◌, length, IfOk, OnErr};
+ghost use Rattle.std.specs.Prelude.{◌≡◌, true, false, Err, [], ◌∷◌, length, IfOk, OnErr};
 ghost use Rattle.sqlite.specs.Held.{state};
 ghost use Rattle.sqlite.specs.State.{HasCleanDisk};
 ghost use Rattle.rtgs_book.specs.declared.Book.{Book};
@@ -30,6 +30,10 @@ pub fn submit<S: Alter + Drop>(
     ensures honest { HasCleanDisk (state S.Store desk.new.keeper.conn)
         → HasCleanDisk (state S.Store desk.old.keeper.conn) }
     ensures of_its_kind { IfOk result (λ answer. answers_its_kind command answer ≡ true) }
+    ensures fault { result ≡ Err Refusal.StoreFault
+        → (desk.old.keeper.failed ≡ false) × (desk.new.keeper.failed ≡ true) }
+    ensures failed { desk.old.keeper.failed ≡ true → (result ≡ Err Refusal.Failed) × (desk.new ≡ desk.old) }
+    ensures only_failed { result ≡ Err Refusal.Failed → desk.old.keeper.failed ≡ true }
 {
     let reply = desk.submit(command);
     what_a_session_leaves(desk);
