@@ -1,7 +1,7 @@
 //! The program `desk`: one run over its own words and streams.
 #![tactic(auto)]
 
-use rtgs_desk_cli::run_words;
+use rtgs_desk_cli::{Unknown, run_words};
 use rtgs_desk_lines::Failure;
 use rtgs_refusals::exit_status::MISUSED;
 use std::alloc::{AllocError, Global};
@@ -24,7 +24,7 @@ fn run(rt: &HostRuntime, args: Args<Global>) -> Result<u8, AllocError> {
     let words = words_of(rt.alloc(), given.as_slice())?;
     let mut out = rt.stdout();
     let mut err = rt.stderr();
-    Ok(run_words(rt, words.as_slice(), &mut out, &mut err).exit_status())
+    Ok(run_words(rt, words.as_slice(), Unknown, &mut out, &mut err).exit_status())
 }
 
 fn main(rt: HostRuntime) -> ExitCode {

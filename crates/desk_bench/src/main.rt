@@ -1,13 +1,15 @@
 #![tactic(auto)]
 //! Opens a desk over books of growing size, and submits orders to it one by one, beside the bare store
-//! with the same rows; then reports a day of a book of two, imports a file of orders, and settles rings
-//! of queued ones. It prints how many orders there are, which is the same in every run, and with the
-//! argument `times`, over larger books, how long it all took.
+//! with the same rows; then reports a day of a book of two, imports a file of orders, settles rings of
+//! queued ones, and serves orders and readings of an account as HTTP requests. It prints how many orders
+//! there are, which is the same in every run, and with the argument `times`, over larger books, how long
+//! it all took.
 mod bare;
 mod books;
 mod business;
 mod openings;
 mod orders;
+mod requests;
 mod rings;
 mod texts;
 
@@ -88,13 +90,46 @@ fn measure_rings(rt: &HostRuntime, queued: u64, timed: bool) -> Result<()>
     Ok(())
 }
 
+/// Measures orders that come as requests, over a book of others.
+fn measure_requests(rt: &HostRuntime, orders: u64, more: u64, timed: bool) -> Result<()>
+    requires { (orders ≤ 100000) × (more ≤ 100000) }
+{
+    let file = format!(in rt.alloc(); "requests-{orders}.desk")?;
+    fill(rt, file.as_str(), orders)?;
+    let served = requests::ordering(rt, file.as_str(), orders, more)?;
+    let written = writing(rt, file.as_str(), orders + more, more)?;
+    print!(rt; "{more} orders as requests, over {orders}")?;
+    if timed {
+        let (served, written) = (served.as_micros(), written.as_micros());
+        print!(rt; ": {served} us, their bare rows {written} us")?;
+    }
+    println!(rt;)?;
+    Ok(())
+}
+
+/// Measures readings of an account, where each bank has queued so many orders.
+fn measure_readings(rt: &HostRuntime, queued: u64, readings: u64, timed: bool) -> Result<()>
+    requires { queued ≤ 500 }
+{
+    let read = requests::reading(rt, queued, readings)?;
+    print!(rt; "{readings} readings of an account with {queued} queued orders")?;
+    if timed {
+        let read = read.as_micros();
+        print!(rt; ": {read} us")?;
+    }
+    println!(rt;)?;
+    Ok(())
+}
+
 fn main(rt: HostRuntime) -> Result<()> {
     let timed = env::args(&rt)?.any(|word| word.as_str() == "times");
     if !timed {
         measure(&rt, 200, 100, false)?;
         measure_second_day(&rt, 200, 50, false)?;
         measure_import(&rt, 100, 20, false)?;
-        return measure_rings(&rt, 3, false);
+        measure_rings(&rt, 3, false)?;
+        measure_requests(&rt, 200, 100, false)?;
+        return measure_readings(&rt, 5, 100, false);
     }
     for orders in [5_000, 10_000, 20_000] {
         measure(&rt, orders, 1_000, true)?;
@@ -105,6 +140,10 @@ fn main(rt: HostRuntime) -> Result<()> {
     measure_import(&rt, 10_000, 500, true)?;
     for queued in [100, 250, 500] {
         measure_rings(&rt, queued, true)?;
+    }
+    measure_requests(&rt, 10_000, 1_000, true)?;
+    for queued in [5, 50, 500] {
+        measure_readings(&rt, queued, 1_000, true)?;
     }
     Ok(())
 }

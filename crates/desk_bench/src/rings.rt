@@ -34,7 +34,7 @@ fn begin(alloc: Global, desk: &mut FileDesk, queued: u64) -> Result<()>
 }
 
 /// Makes a book of rings.
-fn fill(rt: &HostRuntime, file: &str, queued: u64) -> Result<()>
+pub fn fill(rt: &HostRuntime, file: &str, queued: u64) -> Result<()>
     requires { queued ≤ 500 }
 {
     let mut book = new_book(rt, file)?;

@@ -1,19 +1,23 @@
--- What the causes of a run's failure come to, and what a run leaves on its two writers.
-use Rattle.std.specs.Prelude.{◌≡◌, ◌<◌, ◌≤◌, ◌++◌, ◌∷◌, [], ℕ, ⊤, List, Option, None, Result, Ok, Err, length}
-use Rattle.std.specs.Io.KnownBytes.{Appends}
-use Rattle.std.specs.IoError.{error_kind}
-use Rattle.std.specs.declared.io.Error.{Error}
-use Rattle.std.specs.declared.io.ErrorKind.{ErrorKind}
-use Rattle.std.specs.declared.io.ErrorKind.TheVariants as kind
+-- What a run has to print for its request, why it is refused, and what it leaves on its two writers.
+use Rattle.std.specs.Prelude.{◌≡◌, ◌≢◌, ◌⊎◌, ◌++◌, ◌∷◌, [], ℕ, Bool, true, false, List, Option, None, Result, Ok, Err}
+use Rattle.std.specs.Prelude.{length}
+use Rattle.clap.specs.declared.error.kind.ErrorKind.{ErrorKind}
+use Rattle.clap.specs.declared.error.kind.ErrorKind.TheVariants as kind
+use Rattle.rtgs_money.specs.declared.lexical.Lexical.{Lexical}
 use Rattle.rtgs_book.specs.declared.answer.Answer.{Answer}
+use Rattle.rtgs_book.specs.declared.fault.Fault.{Fault}
 use Rattle.rtgs_book.specs.declared.refusal.Refusal.{Refusal}
 use Rattle.rtgs_book.specs.declared.refusal.Refusal.TheVariants.{OutOfMemory}
+use Rattle.rtgs_desk.specs.Replies.{answers_its_kind}
+use Rattle.rtgs_exchange.specs.Batches.{StopsAfter}
+use Rattle.rtgs_exchange.specs.OrderFile.{IsOrderFile, IsFaultOf}
 use Rattle.rtgs_exchange.specs.Results.{results_text}
+use Rattle.rtgs_exchange.specs.declared.batch_fault.BatchFault.{BatchFault}
 use Rattle.rtgs_exchange.specs.declared.batch_result.RowReply.{RowReply}
-use Rattle.rtgs_exchange.specs.declared.limits.TheConstants.{MOST_BYTES}
 use Rattle.rtgs_exchange.specs.declared.order_row.OrderRow.{OrderRow}
-use Rattle.rtgs_desk_texts.specs.declared.fault.DeskTextFault.{DeskTextFault}
-use Rattle.rtgs_desk_texts.specs.declared.fault.DeskTextFault.TheVariants as text
+use Rattle.rtgs_desk_texts.specs.Written.{statement_wanted, report_wanted}
+use Rattle.rtgs_desk_requests.specs.Requests.{Reads}
+use Rattle.rtgs_desk_requests.specs.declared.words.Words.{Words}
 use Rattle.rtgs_desk_requests.specs.declared.request.Request.{Request}
 use Rattle.rtgs_desk_requests.specs.declared.request.Request.TheVariants.{Make, Submit, Import, Statement, Report}
 use Rattle.rtgs_desk_lines.specs.Failures.{line_of as refusal_line}
@@ -25,71 +29,103 @@ use Rattle.rtgs_desk_lines.specs.declared.ended.Ended.{Ended}
 use Rattle.rtgs_desk_lines.specs.declared.ended.Ended.TheVariants as ended
 use Rattle.rtgs_desk_lines.specs.declared.printed.Printed.{Printed}
 use Rattle.rtgs_desk_lines.specs.declared.failure.Failure.{Failure}
-use Rattle.rtgs_desk_lines.specs.declared.failure.Failure.TheVariants.{Refused, Opening, InUse, FileExists}
-use Rattle.rtgs_desk_lines.specs.declared.failure.Failure.TheVariants.{OrdersTooLong, NoOrders}
-use Rattle.rtgs_book_file.specs.declared.file_fault.FileFault.{FileFault}
-use Rattle.rtgs_book_file.specs.declared.file_fault.FileFault.TheVariants as file
-
--- lack of memory, or a file of orders that cannot be read
-abbrev pub failure_of_reading : ErrorKind → Failure
-failure_of_reading kind.OutOfMemory = Refused OutOfMemory
-failure_of_reading _ = NoOrders
-
--- What was read of a file of orders is taken as it is, where it has no more bytes than such a file may have. `bytes_of`
--- gives the bytes of what was read.
-abbrev pub IsTaken : {V : Type 0} → (V → List ℕ) → Result V Error → Result V Failure → Type 0
-IsTaken bytes_of (Ok read) (Ok taken) = (bytes_of taken ≡ bytes_of read) × (length (bytes_of read) ≤ MOST_BYTES)
-IsTaken bytes_of (Ok read) (Err failure) = (failure ≡ OrdersTooLong) × (MOST_BYTES < length (bytes_of read))
-IsTaken bytes_of (Err error) result = result ≡ Err (failure_of_reading (error_kind error))
-
--- how a fault of a book's file is told
-abbrev pub failure_of_file : FileFault → Failure
-failure_of_file file.InUse = InUse
-failure_of_file file.FileExists = FileExists
-failure_of_file (file.Book fault) = Opening fault
-
--- what was done with a book's file, or how its fault is told
-abbrev pub outcome_of_file : {T : Type 0} → Result T FileFault → Result T Failure
-outcome_of_file (Ok outcome) = Ok outcome
-outcome_of_file (Err fault) = Err (failure_of_file fault)
-
--- what a desk replied, or its refusal as that of the run
-abbrev pub outcome_of_reply : {T : Type 0} → Result T Refusal → Result T Failure
-outcome_of_reply (Ok outcome) = Ok outcome
-outcome_of_reply (Err refusal) = Err (Refused refusal)
-
--- why a text is not made in memory, where its writer wants memory and nothing else
-abbrev pub refusal_of_text : DeskTextFault → Refusal
-refusal_of_text (text.Refused refusal) = refusal
-refusal_of_text (text.Text fault) = OutOfMemory
+use Rattle.rtgs_desk_lines.specs.declared.failure.Failure.TheVariants.{Form, Refused, Opening, InUse, FileExists}
+use Rattle.rtgs_desk_lines.specs.declared.failure.Failure.TheVariants.{Orders, OrdersTooLong, NoOrders}
+use Rattle.rtgs_book_file.specs.OverFile.{OverFile}
+use Rattle.rtgs_desk_cli.specs.Did.{IsSubmitted, IsSent, IsRead}
 
 -- a line with its end
 abbrev pub ended_line : List ℕ → List ℕ
 ended_line line = line ++ 10 ∷ []
 
--- What a run with this request has to print, and where its batch stopped: the line of what it did, or the results of a
--- batch. Of the file's book nothing is known here, so that a statement and a report may be any text.
-abbrev pub HasToPrint : Request → List ℕ → Option Refusal → Type 0
-HasToPrint (Make file) text stopped = (text ≡ ended_line (line_of Made)) × (stopped ≡ None)
-HasToPrint (Submit file command) text stopped =
-    (answer : Answer) × (text ≡ ended_line (line_of (Answered answer))) × (stopped ≡ None)
-HasToPrint (Import file sender orders) text stopped =
-    (rows : List OrderRow) × (replies : List RowReply) × (text ≡ results_text rows replies stopped)
-HasToPrint (Statement file code date) text stopped = stopped ≡ None
-HasToPrint (Report file date) text stopped = stopped ≡ None
+-- another run has the lock, or it cannot be made; or the book could not be read
+abbrev pub IsNotOpened : Failure → Type 0
+IsNotOpened why = (why ≡ InUse) ⊎ ((fault : Fault) × (why ≡ Opening fault))
 
--- the run printed what it had to, as far as standard output took it
-abbrev pub PrintsFor : Request → Printed → Option (List ℕ) → Option (List ℕ) → Type 0
-PrintsFor request printed old new =
-    (text : List ℕ) × (stopped : Option Refusal) × HasToPrint request text stopped × Prints text stopped printed old new
+-- the same, or there is a file that holds something
+abbrev pub IsNotMade : Failure → Type 0
+IsNotMade why = (why ≡ FileExists) ⊎ IsNotOpened why
 
--- What a run that ended so leaves on its writers. What it did, or its help, stands on the first alone, and why it did
--- nothing on the second alone.
-abbrev pub Leaves : {O E : Type 0} → (O → Option (List ℕ)) → (E → Option (List ℕ)) → Ended → O → O → E → E → Type 0
-Leaves contents told (ended.Printed printed) out out' err err' =
-    ((text : List ℕ) × (stopped : Option Refusal) × Prints text stopped printed (contents out) (contents out'))
-    × (err' ≡ err)
-Leaves contents told (ended.Refused failure sent) out out' err err' =
-    IsTold sent (told err) (told err') (ended_line (refusal_line failure)) × (out' ≡ out)
-Leaves contents told (ended.Misused sent) out out' err err' =
-    ((text : List ℕ) × IsTold sent (told err) (told err') text) × (out' ≡ out)
+-- The file of orders could not be read, or is too long; its bytes are no order file; or memory is wanting.
+abbrev pub IsNotSent : Failure → Type 0
+IsNotSent why = (why ≡ NoOrders) ⊎ ((why ≡ OrdersTooLong) ⊎ ((why ≡ Refused OutOfMemory)
+    ⊎ ((bytes : List ℕ) × (fault : BatchFault) × IsFaultOf bytes fault × (why ≡ Orders fault))))
+
+-- help, or the version, and no fault of the command line
+abbrev pub is_help : ErrorKind → Bool
+is_help kind.DisplayHelp = true
+is_help kind.DisplayVersion = true
+is_help _ = false
+
+-- What is left on the writers where the command line itself has this kind of answer: help on the first alone, or a
+-- fault of the command line on the second alone. Lack of memory is refused, and can come in place of both.
+abbrev pub IsExplained : {O E : Type 0} → ErrorKind → (O → Option (List ℕ)) → (E → Option (List ℕ)) → Ended → O → O → E
+    → E → Type 0
+IsExplained what contents told (ended.Printed printed) out out' err err' = ⊥
+IsExplained what contents told (ended.Helped sent) out out' err err' =
+    (is_help what ≡ true) × ((text : List ℕ) × IsTold sent (contents out) (contents out') text) × (err' ≡ err)
+IsExplained what contents told (ended.Refused failure sent) out out' err err' =
+    (failure ≡ Refused OutOfMemory) × IsTold sent (told err) (told err') (ended_line (refusal_line failure))
+    × (out' ≡ out)
+IsExplained what contents told (ended.Misused sent) out out' err err' =
+    (is_help what ≡ false) × (what ≢ kind.OutOfMemory) × ((text : List ℕ) × IsTold sent (told err) (told err') text)
+    × (out' ≡ out)
+
+module _ {K : Type 0} (book_file : OverFile K) where
+  -- What a run with this request has to print, and where its batch stopped: the line of what it did, the results of its
+  -- batch, or the text that it read.
+  abbrev pub HasToPrint : Request → List ℕ → Option Refusal → Type 0
+  HasToPrint (Make file) text stopped =
+      book_file.was_made × (text ≡ ended_line (line_of Made)) × (stopped ≡ None)
+  HasToPrint (Submit file command) text stopped =
+      (answer : Answer) × IsSubmitted book_file command (Ok answer) × (answers_its_kind command answer ≡ true)
+      × (text ≡ ended_line (line_of (Answered answer))) × (stopped ≡ None)
+  HasToPrint (Import file sender orders) text stopped =
+      (rows : List OrderRow) × (replies : List RowReply) × IsSent book_file sender rows replies stopped
+      × ((bytes : List ℕ) × IsOrderFile bytes rows) × StopsAfter (length replies) (length rows) stopped
+      × (text ≡ results_text rows replies stopped)
+  HasToPrint (Statement file code date) text stopped =
+      IsRead book_file (λ read. read) (λ book. statement_wanted book code date) (Ok text) × (stopped ≡ None)
+  HasToPrint (Report file date) text stopped =
+      IsRead book_file (λ read. read) (λ book. report_wanted book date) (Ok text) × (stopped ≡ None)
+
+  -- why a run with this request is refused
+  abbrev pub IsRefused : Request → Failure → Type 0
+  IsRefused (Make file) why = IsNotMade why
+  IsRefused (Submit file command) why =
+      IsNotOpened why ⊎ ((refusal : Refusal) × IsSubmitted book_file command (Err refusal) × (why ≡ Refused refusal))
+  IsRefused (Import file sender orders) why = IsNotOpened why ⊎ IsNotSent why
+  IsRefused (Statement file code date) why = IsNotOpened why ⊎ ((refusal : Refusal)
+      × IsRead book_file (λ read. read) (λ book. statement_wanted book code date) (Err refusal)
+      × (why ≡ Refused refusal))
+  IsRefused (Report file date) why = IsNotOpened why ⊎ ((refusal : Refusal)
+      × IsRead book_file (λ read. read) (λ book. report_wanted book date) (Err refusal) × (why ≡ Refused refusal))
+
+  -- the run printed what it had to, as far as standard output took it
+  abbrev pub PrintsFor : Request → Printed → Option (List ℕ) → Option (List ℕ) → Type 0
+  PrintsFor request printed old new =
+      (text : List ℕ) × (stopped : Option Refusal) × HasToPrint request text stopped
+      × Prints text stopped printed old new
+
+  -- the words spell a request for which this was printed
+  abbrev pub IsObeyed : Words → Printed → Option (List ℕ) → Option (List ℕ) → Type 0
+  IsObeyed words printed old new =
+      (request : Request) × Reads words (Ok request) × PrintsFor request printed old new
+
+  -- a word is not of its form, or the request that the words spell is refused
+  abbrev pub IsDenied : Words → Failure → Type 0
+  IsDenied words why = ((form : Lexical) × Reads words (Err form) × (why ≡ Form form))
+      ⊎ ((request : Request) × Reads words (Ok request) × IsRefused request why)
+
+  -- What a run that ended so did and leaves on its writers. What was printed for the request that its words spell
+  -- stands on the first alone, and why it was refused on the second alone; or the command line itself was answered.
+  abbrev pub Ends : {O E : Type 0} → (O → Option (List ℕ)) → (E → Option (List ℕ)) → Ended → O → O → E → E → Type 0
+  Ends contents told (ended.Printed printed) out out' err err' =
+      ((words : Words) × IsObeyed words printed (contents out) (contents out')) × (err' ≡ err)
+  Ends contents told (ended.Refused failure sent) out out' err err' =
+      IsTold sent (told err) (told err') (ended_line (refusal_line failure)) × (out' ≡ out)
+      × (((words : Words) × IsDenied words failure) ⊎ (failure ≡ Refused OutOfMemory))
+  Ends contents told (ended.Helped sent) out out' err err' =
+      (what : ErrorKind) × IsExplained what contents told (ended.Helped sent) out out' err err'
+  Ends contents told (ended.Misused sent) out out' err err' =
+      ((text : List ℕ) × IsTold sent (told err) (told err') text) × (out' ≡ out)

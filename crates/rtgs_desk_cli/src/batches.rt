@@ -32,6 +32,7 @@ pub fn submit_orders<K: Keeper>(
     ensures sent { IfOk result (λ (rows, batch). K.is_honest desk.new.keeper
         → (book : Book) → Holds K.Keeper desk.old book
         → Sent K.Keeper book sender rows.items batch.replies.items batch.stopped desk.new) }
+    ensures honest { K.is_honest desk.new.keeper → K.is_honest desk.old.keeper }
     ensures refused { IfErr result (λ failure. (failure ≡ Failure.Refused Refusal.OutOfMemory)
         ⊎ ((fault : BatchFault) × IsFaultOf bytes.now fault × (failure ≡ Failure.Orders fault))) }
     ensures unchanged { OnErr result (desk.new ≡ desk.old) }

@@ -1,47 +1,48 @@
 //! The book in a file, and how its faults are told.
-ghost use Rattle.std.specs.Prelude.{◌≡◌};
-ghost use Rattle.rtgs_desk_cli.specs.Runs.{failure_of_file, outcome_of_file, outcome_of_reply};
+ghost use Rattle.std.specs.Prelude.{◌≡◌, IfOk, IfErr};
+ghost use Rattle.rtgs_book_file.specs.OverFile.{file_from};
+ghost use Rattle.rtgs_desk_cli.specs.Causes.{failure_of_file};
+ghost use Rattle.rtgs_desk_cli.specs.Runs.{IsNotMade, IsNotOpened};
 
-use rtgs_book::Refusal;
-use rtgs_book_file::{BookLock, FileFault, FileKeeper, OpenBook, Unknown};
+use rtgs_book_file::{BookLock, FileFault, FileKeeper, OpenBook, Start};
 use rtgs_desk_lines::Failure;
+use rtgs_keeper::Keeper;
 
 /// Makes a new book in a file that is missing or empty. Refused where there is another file, or where it fails.
-pub fn make(rt: &HostRuntime, file: &str) -> Result<(), Failure> {
-    outcome(make_book(rt, file))
-}
-
-/// The book in a file. Refused where the file is in use, or holds no sound book.
-pub fn open(rt: &HostRuntime, file: &str) -> Result<OpenBook<FileKeeper<Unknown>>, Failure> {
-    outcome(open_book(rt, file))
-}
-
-/// What a desk replied, or its refusal as that of the run.
-pub fn told<T>(reply: Result<T, Refusal>) -> Result<T, Failure>
-    ensures { result ≡ outcome_of_reply reply }
+pub fn make<S: Start>(rt: &HostRuntime, file: &str, start: S) -> Result<(), Failure>
+    ensures made { IfOk result (λ _. (file_from ⟦<FileKeeper<S> as Keeper>⟧ S.Start (λ keeper. keeper.conn)).was_made) }
+    ensures refused { IfErr result IsNotMade }
 {
-    match reply {
-        Ok(outcome) => Ok(outcome),
-        Err(refusal) => Err(Failure::Refused(refusal)),
+    let lock = take(rt, file)?;
+    match lock.make(rt, start) {
+        Ok(()) => Ok(()),
+        Err(fault) => Err(failure_of(fault)),
     }
 }
 
-// Takes the lock of a book's file, and makes the tables of a new book in the file.
-fn make_book(rt: &HostRuntime, file: &str) -> Result<(), FileFault> {
-    BookLock::take(rt, file)?.make(rt, Unknown)
-}
-
-// Takes the lock of a book's file, and opens the book.
-fn open_book(rt: &HostRuntime, file: &str) -> Result<OpenBook<FileKeeper<Unknown>>, FileFault> {
-    BookLock::take(rt, file)?.open(rt, Unknown)
-}
-
-// What was done with a book's file, or how its fault is told.
-fn outcome<T>(done: Result<T, FileFault>) -> Result<T, Failure>
-    ensures { result ≡ outcome_of_file done }
+/// The book in a file. Refused where the file is in use, or holds no sound book.
+pub fn open<S: Start>(
+    rt: &HostRuntime,
+    file: &str,
+    start: S,
+) -> Result<OpenBook<FileKeeper<S>>, Failure>
+    ensures opened { IfOk result (λ book. ⟦<FileKeeper<S> as Keeper>⟧.is_honest book.desk.keeper
+        → (file_from ⟦<FileKeeper<S> as Keeper>⟧ S.Start (λ keeper. keeper.conn)).was_opened book.desk) }
+    ensures refused { IfErr result IsNotOpened }
 {
-    match done {
-        Ok(outcome) => Ok(outcome),
+    let lock = take(rt, file)?;
+    match lock.open(rt, start) {
+        Ok(book) => Ok(book),
+        Err(fault) => Err(failure_of(fault)),
+    }
+}
+
+// Takes the lock of a book's file.
+fn take<'a>(rt: &HostRuntime, file: &'a str) -> Result<BookLock<'a>, Failure>
+    ensures refused { IfErr result IsNotOpened }
+{
+    match BookLock::take(rt, file) {
+        Ok(lock) => Ok(lock),
         Err(fault) => Err(failure_of(fault)),
     }
 }

@@ -1,6 +1,7 @@
 //! The command line of the desk, as a call over two writers.
 #![tactic(auto)]
 
+mod acting;
 mod batches;
 mod files;
 mod order_file;
@@ -9,3 +10,4 @@ mod run;
 mod texts;
 
 pub use crate::run::run_words;
+pub use rtgs_book_file::Unknown;

@@ -1,6 +1,7 @@
 //! The bytes of a file of orders.
-ghost use Rattle.std.specs.Prelude.{◌≡◌};
-ghost use Rattle.rtgs_desk_cli.specs.Runs.{failure_of_reading, IsTaken};
+ghost use Rattle.std.specs.Prelude.{◌≡◌, IfErr};
+ghost use Rattle.rtgs_desk_cli.specs.Causes.{failure_of_reading, IsTaken};
+ghost use Rattle.rtgs_desk_cli.specs.Runs.{IsNotSent};
 
 use rtgs_book::Refusal;
 use rtgs_desk_lines::Failure;
@@ -10,7 +11,9 @@ use std::io;
 use std::io::{ErrorKind, Read};
 
 /// The bytes of a file of orders. Refused where the file cannot be read, or is too long.
-pub fn read_file(rt: &HostRuntime, path: &str) -> Result<Vec<u8>, Failure> {
+pub fn read_file(rt: &HostRuntime, path: &str) -> Result<Vec<u8>, Failure>
+    ensures refused { IfErr result IsNotSent }
+{
     taken(read_bytes(rt, path))
 }
 

@@ -5,7 +5,7 @@ ghost use Rattle.rtgs_book.specs.declared.Refusal.{Refusal};
 ghost use Rattle.rtgs_desk.specs.Holding.{Holds};
 ghost use Rattle.rtgs_desk.specs.Readings.{Tells};
 ghost use Rattle.rtgs_desk_texts.specs.Written.{statement_wanted, report_wanted};
-ghost use Rattle.rtgs_desk_cli.specs.Runs.{refusal_of_text};
+ghost use Rattle.rtgs_desk_cli.specs.Causes.{refusal_of_text};
 
 use rtgs_book::Refusal;
 use rtgs_desk::Desk;

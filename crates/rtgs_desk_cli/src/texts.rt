@@ -1,94 +1,178 @@
 //! Runs that print a text: the results of a file of orders, a statement, a report.
-ghost use Rattle.std.specs.Prelude.{◌≡◌, ℕ, List, Option, None, IfOk, OnErr};
-ghost use Rattle.rtgs_book.specs.declared.Refusal.{Refusal};
+ghost use Rattle.std.specs.Prelude.{◌≡◌, ◌⊎◌, ℕ, List, None, length, IfOk, IfErr, OnErr};
+ghost use Rattle.rtgs_book_file.specs.OverFile.{file_from};
+ghost use Rattle.rtgs_book.specs.declared.Book.{Book};
+ghost use Rattle.rtgs_desk.specs.Holding.{Holds};
+ghost use Rattle.rtgs_exchange.specs.Batches.{StopsAfter};
+ghost use Rattle.rtgs_exchange.specs.OrderFile.{IsOrderFile};
+ghost use Rattle.rtgs_desk_texts.specs.Written.{statement_wanted, report_wanted};
 ghost use Rattle.rtgs_desk_lines.specs.Texts.{Prints};
-ghost use Rattle.rtgs_exchange.specs.Results.{results_text};
-ghost use Rattle.rtgs_exchange.specs.declared.OrderRow.{OrderRow};
-ghost use Rattle.rtgs_exchange.specs.declared.RowReply.{RowReply};
+ghost use Rattle.rtgs_desk_cli.specs.Did.{IsSent, IsRead, SentOver};
+ghost use Rattle.rtgs_desk_cli.specs.Runs.{IsNotOpened, IsNotSent, IsRefused, PrintsFor};
 
 use crate::batches::{print_results, submit_orders};
-use crate::files::{open, told};
+use crate::files::open;
 use crate::order_file::read_file;
 use crate::readings::{report_of, statement_of};
+use rtgs_book::Refusal;
+use rtgs_book_file::{FileKeeper, Start};
 use rtgs_desk::Desk;
 use rtgs_desk_lines::{Failure, Printed};
+use rtgs_desk_requests::Request;
 use rtgs_exchange::{BatchResult, OrderRow};
 use rtgs_keeper::Keeper;
 use rtgs_money::{BusinessDate, Code};
 use rtgs_output::send_all;
+use rtgs_stored_desk::laws::what_a_session_leaves;
 use std::io::Write;
 
-/// Opens the book in a file, submits a participant's file of orders to its desk, closes it, and prints the results. A
-/// batch that stopped ends the run as stopped.
-pub fn import<O: Write>(
+/// Submits a participant's file of orders to the desk over a file, and prints the results. A batch that stopped ends
+/// the run as stopped. Where memory is wanting for the results, the orders stand, and nothing is printed.
+pub fn import<S: Start, O: Write>(
     rt: &HostRuntime,
     file: &str,
     sender: Code,
     orders: &str,
+    start: S,
     out: &mut O,
 ) -> Result<Printed, Failure>
-    ensures printed { IfOk result (λ printed.
-        (rows : List OrderRow) × (replies : List RowReply) × (stopped : Option Refusal)
-        × Prints (results_text rows replies stopped) stopped printed (O.contents out.old) (O.contents out.new)) }
-    ensures refused { OnErr result (out.new ≡ out.old) }
+    ensures printed { IfOk result (λ printed. PrintsFor
+        (file_from ⟦<FileKeeper<S> as Keeper>⟧ S.Start (λ keeper. keeper.conn))
+        (Request.Import file.entry sender orders.entry) printed (O.contents out.old) (O.contents out.new)) }
+    ensures refused { IfErr result (IsRefused (file_from ⟦<FileKeeper<S> as Keeper>⟧ S.Start (λ keeper. keeper.conn))
+        (Request.Import file.entry sender orders.entry)) }
+    ensures unchanged { OnErr result (out.new ≡ out.old) }
 {
-    let mut book = open(rt, file)?;
-    let submitted = submit_file(rt, book.desk(), sender, orders);
-    book.close();
-    let (rows, batch) = submitted?;
+    let (rows, batch) = send(rt, file, sender, orders, start)?;
     print_results(rt.alloc(), out, rows.as_slice(), &batch)
 }
 
-/// Opens the book in a file, reads a participant's statement, closes it, and prints the statement.
-pub fn statement<O: Write>(
+/// Prints a participant's statement of a date, as the desk over a file has it.
+pub fn statement<S: Start, O: Write>(
     rt: &HostRuntime,
     file: &str,
     code: Code,
     date: BusinessDate,
+    start: S,
     out: &mut O,
 ) -> Result<Printed, Failure>
-    ensures printed { IfOk result (λ printed.
-        (text : List ℕ) × Prints text None printed (O.contents out.old) (O.contents out.new)) }
-    ensures refused { OnErr result (out.new ≡ out.old) }
+    ensures printed { IfOk result (λ printed. PrintsFor
+        (file_from ⟦<FileKeeper<S> as Keeper>⟧ S.Start (λ keeper. keeper.conn))
+        (Request.Statement file.entry code date) printed (O.contents out.old) (O.contents out.new)) }
+    ensures refused { IfErr result (IsRefused (file_from ⟦<FileKeeper<S> as Keeper>⟧ S.Start (λ keeper. keeper.conn))
+        (Request.Statement file.entry code date)) }
+    ensures unchanged { OnErr result (out.new ≡ out.old) }
 {
-    let mut book = open(rt, file)?;
-    let read = statement_of(rt.alloc(), book.desk(), &code, date);
-    book.close();
-    let text = told(read)?;
-    Ok(print_text(out, text.as_slice()))
+    match read_statement(rt, file, &code, date, start)? {
+        Ok(text) => Ok(print_text(out, text.as_slice())),
+        Err(refusal) => Err(Failure::Refused(refusal)),
+    }
 }
 
-/// Opens the book in a file, reads the report of a day, closes it, and prints the report.
-pub fn report<O: Write>(
+/// Prints the report of a day, as the desk over a file has it.
+pub fn report<S: Start, O: Write>(
     rt: &HostRuntime,
     file: &str,
     date: BusinessDate,
+    start: S,
     out: &mut O,
 ) -> Result<Printed, Failure>
-    ensures printed { IfOk result (λ printed.
-        (text : List ℕ) × Prints text None printed (O.contents out.old) (O.contents out.new)) }
-    ensures refused { OnErr result (out.new ≡ out.old) }
+    ensures printed { IfOk result (λ printed. PrintsFor
+        (file_from ⟦<FileKeeper<S> as Keeper>⟧ S.Start (λ keeper. keeper.conn)) (Request.Report file.entry date) printed
+        (O.contents out.old) (O.contents out.new)) }
+    ensures refused { IfErr result (IsRefused (file_from ⟦<FileKeeper<S> as Keeper>⟧ S.Start (λ keeper. keeper.conn))
+        (Request.Report file.entry date)) }
+    ensures unchanged { OnErr result (out.new ≡ out.old) }
 {
-    let mut book = open(rt, file)?;
-    let read = report_of(rt.alloc(), book.desk(), date);
+    match read_report(rt, file, date, start)? {
+        Ok(text) => Ok(print_text(out, text.as_slice())),
+        Err(refusal) => Err(Failure::Refused(refusal)),
+    }
+}
+
+// Opens the book in a file, submits a participant's file of orders to its desk, and closes it.
+fn send<S: Start>(
+    rt: &HostRuntime,
+    file: &str,
+    sender: Code,
+    orders: &str,
+    start: S,
+) -> Result<(Vec<OrderRow>, BatchResult), Failure>
+    ensures rows { IfOk result (λ (rows, batch). (bytes : List ℕ) × IsOrderFile bytes rows.items) }
+    ensures stopped { IfOk result (λ (rows, batch).
+        StopsAfter (length batch.replies.items) (length rows.items) batch.stopped) }
+    ensures sent { IfOk result (λ (rows, batch). IsSent
+        (file_from ⟦<FileKeeper<S> as Keeper>⟧ S.Start
+        (λ keeper. keeper.conn)) sender rows.items batch.replies.items batch.stopped) }
+    ensures refused { IfErr result (λ why. IsNotOpened why ⊎ IsNotSent why) }
+{
+    let mut book = open(rt, file, start)?;
+    let sent = submit_file(rt, book.desk(), sender, orders);
     book.close();
-    let text = told(read)?;
-    Ok(print_text(out, text.as_slice()))
+    sent
 }
 
 // Submits the orders of a file.
-fn submit_file<K: Keeper>(
+fn submit_file<S: Start>(
     rt: &HostRuntime,
-    desk: &mut Desk<K>,
+    desk: &mut Desk<FileKeeper<S>>,
     sender: Code,
     orders: &str,
-) -> Result<(Vec<OrderRow>, BatchResult), Failure> {
+) -> Result<(Vec<OrderRow>, BatchResult), Failure>
+    ensures rows { IfOk result (λ (rows, batch). (bytes : List ℕ) × IsOrderFile bytes rows.items) }
+    ensures stopped { IfOk result (λ (rows, batch).
+        StopsAfter (length batch.replies.items) (length rows.items) batch.stopped) }
+    ensures sent { IfOk result (λ (rows, batch). ⟦<FileKeeper<S> as Keeper>⟧.is_honest desk.new.keeper
+        → (book : Book) → Holds ⟦<FileKeeper<S> as Keeper>⟧ desk.old book
+        → SentOver (file_from ⟦<FileKeeper<S> as Keeper>⟧ S.Start (λ keeper. keeper.conn))
+        book sender rows.items batch.replies.items batch.stopped desk.new) }
+    ensures refused { IfErr result IsNotSent }
+    ensures honest { ⟦<FileKeeper<S> as Keeper>⟧.is_honest desk.new.keeper
+        → ⟦<FileKeeper<S> as Keeper>⟧.is_honest desk.old.keeper }
+{
     let bytes = read_file(rt, orders)?;
-    submit_orders(rt.alloc(), desk, sender, bytes.as_slice())
+    let sent = submit_orders(rt.alloc(), desk, sender, bytes.as_slice());
+    what_a_session_leaves(desk);
+    sent
 }
 
-/// Prints a text.
-pub fn print_text<O: Write>(out: &mut O, text: &[u8]) -> Printed
+// Opens the book in a file, reads a participant's statement, and closes it.
+fn read_statement<S: Start>(
+    rt: &HostRuntime,
+    file: &str,
+    code: &Code,
+    date: BusinessDate,
+    start: S,
+) -> Result<Result<Vec<u8>, Refusal>, Failure>
+    ensures read { IfOk result (λ read. IsRead (file_from ⟦<FileKeeper<S> as Keeper>⟧ S.Start (λ keeper. keeper.conn))
+        (λ text. text.items) (λ book. statement_wanted book code.now date) read) }
+    ensures refused { IfErr result IsNotOpened }
+{
+    let mut book = open(rt, file, start)?;
+    let read = statement_of(rt.alloc(), book.desk(), code, date);
+    book.close();
+    Ok(read)
+}
+
+// Opens the book in a file, reads the report of a day, and closes it.
+fn read_report<S: Start>(
+    rt: &HostRuntime,
+    file: &str,
+    date: BusinessDate,
+    start: S,
+) -> Result<Result<Vec<u8>, Refusal>, Failure>
+    ensures read { IfOk result (λ read. IsRead (file_from ⟦<FileKeeper<S> as Keeper>⟧ S.Start (λ keeper. keeper.conn))
+        (λ text. text.items) (λ book. report_wanted book date) read) }
+    ensures refused { IfErr result IsNotOpened }
+{
+    let mut book = open(rt, file, start)?;
+    let read = report_of(rt.alloc(), book.desk(), date);
+    book.close();
+    Ok(read)
+}
+
+// Prints a text.
+fn print_text<O: Write>(out: &mut O, text: &[u8]) -> Printed
     ensures { Prints text.now None result (O.contents out.old) (O.contents out.new) }
 {
     Printed::sent(send_all(out, text))

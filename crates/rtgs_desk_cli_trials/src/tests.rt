@@ -1,5 +1,5 @@
 //! Whole runs, by their words, and what they print.
-use rtgs_desk_cli::run_words;
+use rtgs_desk_cli::{Unknown, run_words};
 use rtgs_desk_lines::{Ended, Printed};
 use sqlite::Connection;
 use std::test::Fail;
@@ -7,9 +7,11 @@ use std::test::Fail;
 mod days;
 mod files;
 mod gridlocks;
+mod helps;
 mod imports;
 mod openings;
 mod refusals;
+mod stops;
 
 const KEY_A: &str = "0000000000000000000000000000000a";
 
@@ -20,7 +22,7 @@ fn prints(rt: &HostRuntime, words: &[&str], text: &str, status: u8) -> Result<()
     let alloc = rt.alloc();
     let mut out = Vec::new(alloc);
     let mut err = Vec::new(alloc);
-    let ended = run_words(rt, words, &mut out, &mut err).exit_status();
+    let ended = run_words(rt, words, Unknown, &mut out, &mut err).exit_status();
     let (said, silent) = if status == 0 { (out, err) } else { (err, out) };
     let said = std::str::from_utf8(said.as_slice())?;
     if said == text && silent.is_empty() && ended == status {
@@ -75,33 +77,13 @@ fn a_book_is_made_and_posted_to(rt: HostRuntime) -> Result<(), Fail> {
 }
 
 #[test]
-fn help_and_faults_of_the_command_line(rt: HostRuntime) -> Result<(), Fail> {
-    let mut out = Vec::new(rt.alloc());
-    let mut err = Vec::new(rt.alloc());
-    let ended = run_words(&rt, &["--help"], &mut out, &mut err);
-    assert_eq!(rt; ended.exit_status(), 0);
-    assert!(rt; std::str::from_utf8(out.as_slice())?.contains("desk <COMMAND>"));
-    assert!(rt; err.is_empty());
-    out.clear();
-    let none: &[&str] = &[];
-    for words in [none, &["init"], &["pay", "F"], &["init", "F", "G"]] {
-        err.clear();
-        let ended = run_words(&rt, words, &mut out, &mut err);
-        assert_eq!(rt; ended.exit_status(), 2, "{words:?}");
-        assert!(rt; out.is_empty());
-        assert!(rt; !err.is_empty());
-    }
-    Ok(())
-}
-
-#[test]
 fn a_run_ends_alike_where_nobody_hears_it(rt: HostRuntime) -> Result<(), Fail> {
     let words = ["post", "unheard", "ALFA", "P-1", "1"];
     begin(&rt, "unheard")?;
     let mut room = [0u8; 4];
     let mut out = room.as_mut_slice();
     let mut err = Vec::new(rt.alloc());
-    let ended = run_words(&rt, &words, &mut out, &mut err);
+    let ended = run_words(&rt, &words, Unknown, &mut out, &mut err);
     assert!(rt; matches!(ended, Ended::Printed(Printed::Lost(_))));
     assert_eq!(rt; ended.exit_status(), 3);
     assert_eq!(rt; room.as_slice(), b"post".as_slice());
@@ -109,7 +91,7 @@ fn a_run_ends_alike_where_nobody_hears_it(rt: HostRuntime) -> Result<(), Fail> {
     let mut deaf = room.as_mut_slice();
     let mut out = Vec::new(rt.alloc());
     let words = ["post", "unheard", "ALFA", "P-1", "2"];
-    let ended = run_words(&rt, &words, &mut out, &mut deaf);
+    let ended = run_words(&rt, &words, Unknown, &mut out, &mut deaf);
     assert_eq!(rt; ended.exit_status(), 1);
     assert!(rt; out.is_empty());
     assert_eq!(rt; room.as_slice(), b"refu".as_slice());

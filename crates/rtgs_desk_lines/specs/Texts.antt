@@ -46,8 +46,9 @@ printed_status Whole = DONE
 printed_status (Stopped refusal) = FAILED
 printed_status (Lost failed) = FAILED
 
--- the status of the run: of what it printed, of its refusal, or of misuse
+-- the status of the run: of what it printed, of its refusal, of help, or of misuse
 abbrev pub ended_status : Ended → Option ℕ
 ended_status (ended.Printed printed) = Some (printed_status printed)
 ended_status (ended.Refused failure told) = (failure_entry_of failure).exit_status
+ended_status (ended.Helped told) = Some (printed_status (printed_of told))
 ended_status (ended.Misused told) = Some MISUSED

@@ -1,5 +1,5 @@
 -- What is known of a request becomes what a desk makes of it.
-use Rattle.std.proofs.Common.{false, ◌≡◌, true, ℕ, List, [], ◌∷◌, length, take, Result, Ok, Err, refl, inl, inr, arith}
+use Rattle.std.proofs.Common.{false, ◌≡◌, true, ℕ, List, [], ◌∷◌, length, Result, Ok, Err, refl, inl, inr, arith}
 use Rattle.rtgs_book.specs.Soundness.{IsSound}
 use Rattle.rtgs_book.specs.declared.book.Book.{Book}
 use Rattle.rtgs_book.specs.declared.refusal.Refusal.TheVariants.{Failed}
@@ -7,7 +7,7 @@ use Rattle.rtgs_keeper.specs.declared.keeper.Keeper.{Ghosts}
 use Rattle.rtgs_ledger.specs.Keys.{code_under}
 use Rattle.rtgs_desk.specs.Holding.{HasInMemory, Holds}
 use Rattle.rtgs_desk.specs.Seen.{Seen}
-use Rattle.rtgs_exchange.specs.Batches.{orders_of, replies_of, with_stop}
+use Rattle.rtgs_exchange.specs.Batches.{replies_of, with_stop}
 use Rattle.rtgs_http_bodies.specs.Refusals.{refused_message}
 use Rattle.rtgs_http_input.specs.Input.{Requests}
 use Rattle.rtgs_http_input.specs.Known.{KnowsOf}
@@ -19,7 +19,7 @@ use Rattle.rtgs_http_requests.specs.Plans.{LooksUp}
 use Rattle.rtgs_http_requests.specs.declared.asked.Asked.{Asked}
 use Rattle.rtgs_http_requests.specs.declared.asked.Asked.TheVariants.{Submit, Batch, Read}
 use Rattle.rtgs_http_requests.specs.declared.http_fault.HttpFault.{HttpFault}
-use Rattle.rtgs_http_banks.specs.Dealings.{Stands, ComesTo, Makes, Works}
+use Rattle.rtgs_http_banks.specs.Dealings.{Stands, ComesTo, Makes, Works, WorksFor, given}
 use Rattle.rtgs_http_banks.specs.Exchange.{Exchanges}
 use Rattle.rtgs_http_banks.specs.Sayings.{IsSaid, fault_message}
 
@@ -51,12 +51,11 @@ stood g old desk s = record {
 pub idle : {K : Type 0} (g : Ghosts K) (old : Book) (desk : Seen K) → Stands g old desk → Works g old desk
 idle g old desk s = ([], [], stood g old desk s)
 
--- the commands of what was asked
-pub works_of : {K : Type 0} (g : Ghosts K) (old : Book) (answer : Result Asked HttpFault) (desk : Seen K)
-    (sent : Message) → ComesTo g old answer desk sent → Works g old desk
-works_of g old (Err fault) desk sent comes = ([], [], stood g old desk comes.0)
-works_of g old (Ok (Submit command)) desk sent comes = (
-  command ∷ [],
+-- the commands that are asked for
+pub works_for : {K : Type 0} (g : Ghosts K) (old : Book) (answer : Result Asked HttpFault) (desk : Seen K)
+    (sent : Message) → ComesTo g old answer desk sent → WorksFor g old answer desk
+works_for g old (Err fault) desk sent comes = ([], stood g old desk comes.0)
+works_for g old (Ok (Submit command)) desk sent comes = (
   comes.reply ∷ [],
   record {
     last = comes.acts.book;
@@ -66,20 +65,23 @@ works_of g old (Ok (Submit command)) desk sent comes = (
     whole_after_a_crash = comes.acts.whole_after_a_crash;
   },
 )
-works_of g old (Ok (Batch sender rows)) desk sent (inl comes) = ([], [], stood g old desk comes.0)
-works_of g old (Ok (Batch sender rows)) desk sent (inr comes) =
-    let replies = with_stop (replies_of comes.replies) comes.stopped in (
-      orders_of sender (take (length replies) rows.items),
-      replies,
-      record {
-        last = comes.acts.last;
-        kept = comes.acts.kept;
-        none_open = comes.acts.none_open;
-        session = comes.acts.session;
-        whole_after_a_crash = comes.acts.whole_after_a_crash;
-      },
-    )
-works_of g old (Ok (Read reading)) desk sent comes = ([], [], stood g old desk comes.0)
+works_for g old (Ok (Batch sender rows)) desk sent (inl comes) = ([], stood g old desk comes.0)
+works_for g old (Ok (Batch sender rows)) desk sent (inr comes) = (
+  with_stop (replies_of comes.replies) comes.stopped,
+  record {
+    last = comes.acts.last;
+    kept = comes.acts.kept;
+    none_open = comes.acts.none_open;
+    session = comes.acts.session;
+    whole_after_a_crash = comes.acts.whole_after_a_crash;
+  },
+)
+works_for g old (Ok (Read reading)) desk sent comes = ([], stood g old desk comes.0)
+
+pub works_of : {K : Type 0} (g : Ghosts K) (old : Book) (answer : Result Asked HttpFault) (desk : Seen K)
+    (sent : Message) → ComesTo g old answer desk sent → Works g old desk
+works_of g old answer desk sent comes =
+    let works = works_for g old answer desk sent comes in (given answer (length works.0), works.0, works.1)
 
 -- a request that asks for something
 pub asked_exchange : {K : Type 0} (g : Ghosts K) (operator input : List ℕ) (old new : Seen K) (asked : Asked)
@@ -100,6 +102,7 @@ asked_exchange g operator input old new asked sent own memory has asks comes fai
         asks = a;
         allowed = own operator (code_under book) input asked a;
         comes = comes honest book held;
+        works = works_for g book (Ok asked) new sent (comes honest book held);
       };
   changes =
       let book = memory.0 in
@@ -121,6 +124,7 @@ fault_exchange g operator input desk fault sent asks has stands said = record {
     asks = asks (code_under book) (of_book g desk book (has book held));
     allowed = tt;
     comes = (stands book held, said);
+    works = ([], stood g book desk (stands book held));
   };
   changes = inl refl;
   failed = λ f. (refl, inr (fault, (λ code_of. asks code_of (nobody g desk code_of f)), said));

@@ -1,6 +1,7 @@
 -- What a desk that held a book does where this is asked, and what is sent for it. `g` has the members of the keeper's
 -- trait.
-use Rattle.std.specs.Prelude.{◌≡◌, ◌≢◌, ◌⊎◌, true, false, ℕ, List, length, Option, Some, None, Result, Ok, Err}
+use Rattle.std.specs.Prelude.{◌≡◌, ◌≢◌, ◌⊎◌, true, false, ℕ, List, [], ◌∷◌, length, take, Option, Some, None, Result}
+use Rattle.std.specs.Prelude.{Ok, Err}
 use Rattle.rtgs_book.specs.declared.book.Book.{Book}
 use Rattle.rtgs_book.specs.declared.command.Command.{Command}
 use Rattle.rtgs_book.specs.declared.refusal.Refusal.{Refusal}
@@ -10,7 +11,7 @@ use Rattle.rtgs_book.specs.Session.{IsSession, open_command}
 use Rattle.rtgs_keeper.specs.declared.keeper.Keeper.{Ghosts}
 use Rattle.rtgs_desk.specs.Holding.{Holds, Acts}
 use Rattle.rtgs_desk.specs.Seen.{Seen}
-use Rattle.rtgs_exchange.specs.Batches.{StopsAfter}
+use Rattle.rtgs_exchange.specs.Batches.{StopsAfter, orders_of}
 use Rattle.rtgs_exchange.specs.Results.{results_text}
 use Rattle.rtgs_exchange.specs.Sent.{Sent}
 use Rattle.rtgs_exchange.specs.declared.batch_result.RowReply.{RowReply}
@@ -85,6 +86,17 @@ pub record Makes {K : Type 0} (g : Ghosts K) (old : Book) (commands : List Comma
       → IsSession (record { start = old; commands = commands; replies = replies; found = found })
   -- and it is a book, kept whole
   pub whole_after_a_crash : g.is_whole desk.keeper
+
+-- the commands that are given for what a request asks, where so many were replied to
+abbrev pub given : Result Asked HttpFault → ℕ → List Command
+given (Err fault) many = []
+given (Ok (Submit command)) many = take many (command ∷ [])
+given (Ok (Batch sender rows)) many = orders_of sender (take many rows.items)
+given (Ok (Read reading)) many = []
+
+-- the commands that a request asks for, and no others
+abbrev pub WorksFor : {K : Type 0} → Ghosts K → Book → Result Asked HttpFault → Seen K → Type 0
+WorksFor g old answer desk = (replies : List Reply) × Makes g old (given answer (length replies)) replies desk
 
 -- the commands of one request
 abbrev pub Works : {K : Type 0} → Ghosts K → Book → Seen K → Type 0

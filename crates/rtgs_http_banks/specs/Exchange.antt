@@ -14,7 +14,7 @@ use Rattle.rtgs_http_requests.specs.Exchange.{AsksFor}
 use Rattle.rtgs_http_requests.specs.Plans.{LooksUp}
 use Rattle.rtgs_http_requests.specs.declared.asked.Asked.{Asked}
 use Rattle.rtgs_http_requests.specs.declared.http_fault.HttpFault.{HttpFault}
-use Rattle.rtgs_http_banks.specs.Dealings.{ComesTo}
+use Rattle.rtgs_http_banks.specs.Dealings.{ComesTo, WorksFor}
 use Rattle.rtgs_http_banks.specs.Sayings.{IsSaid, fault_message}
 
 -- what is asked is the own of the key's participant, unless the key is the operator's
@@ -30,6 +30,8 @@ pub record Deals {K : Type 0} (g : Ghosts K) (operator : List ℕ) (old : Book) 
   pub asks : AsksFor operator (code_under old) input answer
   pub allowed : IsAllowed operator old input answer
   pub comes : ComesTo g old answer desk sent
+  -- the commands that it asks for are a session from the book that the desk held
+  pub works : WorksFor g old answer desk
 
 -- No step before needs the book, and all are good: the next one looks up whose the key is, or, whoever the participants
 -- are, all is read of what is asked.

@@ -1,5 +1,5 @@
 //! Laws of the definitions. Each function does nothing: its contract is the law.
-ghost use Rattle.std.specs.Prelude.{◌≡◌, ◌≢◌, false, true, ℕ, List, Ok};
+ghost use Rattle.std.specs.Prelude.{◌≡◌, ◌≢◌, ◌++◌, false, true, ℕ, List, Ok};
 ghost use Rattle.rtgs_book.specs.declared.Book.{Book};
 ghost use Rattle.rtgs_book.specs.declared.command.Command.{Command};
 ghost use Rattle.rtgs_book.specs.Outcome.{Reply};
@@ -10,7 +10,7 @@ ghost use Rattle.rtgs_desk.specs.Holding.{Holds};
 ghost use Rattle.rtgs_desk.specs.Seen.{Seen};
 ghost use Rattle.rtgs_http_banks.specs.Again.{IsToldAgain};
 ghost use Rattle.rtgs_http_banks.specs.Alike.{EndAlike};
-ghost use Rattle.rtgs_http_banks.specs.Dealings.{Works};
+ghost use Rattle.rtgs_http_banks.specs.Dealings.{Makes};
 ghost use Rattle.rtgs_http_banks.specs.Exchange.{Deals};
 ghost use Rattle.rtgs_http_banks.specs.Own.{AgreeFor, IsSentBy};
 ghost use Rattle.rtgs_http_banks.specs.Sayings.{reading_message};
@@ -87,10 +87,12 @@ pub fn requests_that_come_again_are_told_so<K: Keeper>()
 }
 
 /// Requests join: the commands of one that left this desk working, and those of the next, are one session from the book
-/// before the first.
+/// before the first. Which they are, `Deals` says of each: those that its request asks for.
 pub fn requests_join<K: Keeper>(desk: &Desk<K>)
-    ensures { (old : Book) (new : Seen K) → Works K.Keeper old desk.now → K.has_failed desk.now.keeper ≡ false
-        → ((book : Book) → Holds K.Keeper desk.now book → Works K.Keeper book new) → Works K.Keeper old new }
+    ensures { (old : Book) (new : Seen K) (commands more : List Command) (replies again : List Reply)
+        (first : Makes K.Keeper old commands replies desk.now) → K.has_failed desk.now.keeper ≡ false
+        → Makes K.Keeper first.last more again new
+        → Makes K.Keeper old (commands ++ more) (replies ++ again) new }
 {
     desk.holds_a_sound_book();
     sessions_join();

@@ -1,10 +1,11 @@
 //! Commands to a desk over tables, and what a stop then leaves.
-ghost use Rattle.std.specs.Prelude.{◌≡◌, true, false, Err, [], ◌∷◌, length, IfOk, OnErr};
+ghost use Rattle.std.specs.Prelude.{◌≡◌, ◌≢◌, true, false, Err, [], ◌∷◌, length, IfOk, OnErr};
+ghost use Rattle.std.specs.List.{AllByRecursion};
 ghost use Rattle.sqlite.specs.Held.{state};
 ghost use Rattle.sqlite.specs.State.{HasCleanDisk};
 ghost use Rattle.rtgs_book.specs.declared.Book.{Book};
 ghost use Rattle.rtgs_desk.specs.Holding.{Holds, Acts, Ran};
-ghost use Rattle.rtgs_desk.specs.Replies.{answers_its_kind};
+ghost use Rattle.rtgs_desk.specs.Replies.{answers_its_kind, IsOfAWorkingDesk, FailsOnce};
 ghost use Rattle.rtgs_stored_desk.specs.Stored.{StopLeaves};
 
 use crate::laws::what_a_session_leaves;
@@ -32,6 +33,7 @@ pub fn submit<S: Alter + Drop>(
     ensures of_its_kind { IfOk result (λ answer. answers_its_kind command answer ≡ true) }
     ensures fault { result ≡ Err Refusal.StoreFault
         → (desk.old.keeper.failed ≡ false) × (desk.new.keeper.failed ≡ true) }
+    ensures only_fault { result ≢ Err Refusal.StoreFault → desk.new.keeper.failed ≡ desk.old.keeper.failed }
     ensures failed { desk.old.keeper.failed ≡ true → (result ≡ Err Refusal.Failed) × (desk.new ≡ desk.old) }
     ensures only_failed { result ≡ Err Refusal.Failed → desk.old.keeper.failed ≡ true }
 {
@@ -55,6 +57,11 @@ pub fn run<S: Alter + Drop>(
         → StopLeaves book commands.now replies.items (state S.Store desk.new.keeper.conn)) }
     ensures honest { HasCleanDisk (state S.Store desk.new.keeper.conn)
         → HasCleanDisk (state S.Store desk.old.keeper.conn) }
+    ensures faults { IfOk result (λ replies. FailsOnce desk.old.keeper.failed replies.items desk.new.keeper.failed) }
+    ensures failed { desk.old.keeper.failed ≡ true → (desk.new ≡ desk.old)
+        × IfOk result (λ replies. AllByRecursion (λ reply. reply ≡ Err Refusal.Failed) replies.items) }
+    ensures working { IfOk result (λ replies. desk.new.keeper.failed ≡ false
+        → AllByRecursion IsOfAWorkingDesk replies.items) }
     ensures err { OnErr result (desk.new ≡ desk.old) }
 {
     let replies = desk.run(commands);

@@ -1,0 +1,39 @@
+-- What the causes of a run's failure come to.
+use Rattle.std.specs.Prelude.{◌≡◌, ◌<◌, ◌≤◌, ℕ, List, Result, Ok, Err, length}
+use Rattle.std.specs.IoError.{error_kind}
+use Rattle.std.specs.declared.io.Error.{Error}
+use Rattle.std.specs.declared.io.ErrorKind.{ErrorKind}
+use Rattle.std.specs.declared.io.ErrorKind.TheVariants as kind
+use Rattle.rtgs_book.specs.declared.refusal.Refusal.{Refusal}
+use Rattle.rtgs_book.specs.declared.refusal.Refusal.TheVariants.{OutOfMemory}
+use Rattle.rtgs_exchange.specs.declared.limits.TheConstants.{MOST_BYTES}
+use Rattle.rtgs_desk_texts.specs.declared.fault.DeskTextFault.{DeskTextFault}
+use Rattle.rtgs_desk_texts.specs.declared.fault.DeskTextFault.TheVariants as text
+use Rattle.rtgs_desk_lines.specs.declared.failure.Failure.{Failure}
+use Rattle.rtgs_desk_lines.specs.declared.failure.Failure.TheVariants.{Refused, Opening, InUse, FileExists}
+use Rattle.rtgs_desk_lines.specs.declared.failure.Failure.TheVariants.{OrdersTooLong, NoOrders}
+use Rattle.rtgs_book_file.specs.declared.file_fault.FileFault.{FileFault}
+use Rattle.rtgs_book_file.specs.declared.file_fault.FileFault.TheVariants as file
+
+-- lack of memory, or a file of orders that cannot be read
+abbrev pub failure_of_reading : ErrorKind → Failure
+failure_of_reading kind.OutOfMemory = Refused OutOfMemory
+failure_of_reading _ = NoOrders
+
+-- What was read of a file of orders is taken as it is, where it has no more bytes than such a file may have. `bytes_of`
+-- gives the bytes of what was read.
+abbrev pub IsTaken : {V : Type 0} → (V → List ℕ) → Result V Error → Result V Failure → Type 0
+IsTaken bytes_of (Ok read) (Ok taken) = (bytes_of taken ≡ bytes_of read) × (length (bytes_of read) ≤ MOST_BYTES)
+IsTaken bytes_of (Ok read) (Err failure) = (failure ≡ OrdersTooLong) × (MOST_BYTES < length (bytes_of read))
+IsTaken bytes_of (Err error) result = result ≡ Err (failure_of_reading (error_kind error))
+
+-- how a fault of a book's file is told
+abbrev pub failure_of_file : FileFault → Failure
+failure_of_file file.InUse = InUse
+failure_of_file file.FileExists = FileExists
+failure_of_file (file.Book fault) = Opening fault
+
+-- why a text is not made in memory, where its writer wants memory and nothing else
+abbrev pub refusal_of_text : DeskTextFault → Refusal
+refusal_of_text (text.Refused refusal) = refusal
+refusal_of_text (text.Text fault) = OutOfMemory

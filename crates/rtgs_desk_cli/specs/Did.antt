@@ -1,0 +1,44 @@
+-- What a run did with the file of a book.
+use Rattle.std.specs.Prelude.{[], ◌∷◌, ℕ, List, length, take, Option, Result}
+use Rattle.rtgs_book.specs.declared.book.Book.{Book}
+use Rattle.rtgs_book.specs.declared.command.Command.{Command}
+use Rattle.rtgs_book.specs.declared.refusal.Refusal.{Refusal}
+use Rattle.rtgs_book.specs.Outcome.{Reply}
+use Rattle.rtgs_desk.specs.Holding.{Holds, Acts}
+use Rattle.rtgs_desk.specs.Readings.{Tells}
+use Rattle.rtgs_desk.specs.Seen.{Seen}
+use Rattle.rtgs_book_file.specs.OverFile.{OverFile}
+use Rattle.rtgs_exchange.specs.Batches.{orders_of, replies_of, with_stop}
+use Rattle.rtgs_exchange.specs.Sent.{Sent}
+use Rattle.rtgs_exchange.specs.declared.batch_result.RowReply.{RowReply}
+use Rattle.rtgs_exchange.specs.declared.order_row.OrderRow.{OrderRow}
+
+-- what rows that were submitted make of a book that the desk over the file held, and what a stop then leaves
+abbrev pub SentOver : {K : Type 0} → OverFile K → Book → List ℕ → List OrderRow → List RowReply → Option Refusal
+    → Seen K → Type 0
+SentOver file book sender rows replies stopped desk =
+    Sent file.keeper book sender rows replies stopped desk
+    × file.stop_leaves desk book (orders_of sender (take (length (with_stop (replies_of replies) stopped)) rows))
+    (with_stop (replies_of replies) stopped)
+
+module _ {K : Type 0} (file : OverFile K) where
+  -- A desk was opened over what the files held, and closed again. Where the disk gave back what was written to it, this
+  -- is so of each book that the desk held, and of the desk as it was closed.
+  pub record IsDone (Does : Book → Seen K → Type 0) : Type 0 where
+    pub opened : Seen K
+    pub closed : Seen K
+    pub over : file.keeper.is_honest closed.keeper → file.was_opened opened
+    pub did : file.keeper.is_honest closed.keeper → (book : Book) → Holds file.keeper opened book → Does book closed
+
+  -- the desk gave the command this reply, and a stop leaves the book before it or the one that it leads to
+  abbrev pub IsSubmitted : Command → Reply → Type 0
+  IsSubmitted command reply = IsDone (λ book desk.
+      Acts file.keeper book command reply desk × file.stop_leaves desk book (command ∷ []) (reply ∷ []))
+
+  -- the rows of a batch were submitted, with these replies, and it stopped so, if it did
+  abbrev pub IsSent : List ℕ → List OrderRow → List RowReply → Option Refusal → Type 0
+  IsSent sender rows replies stopped = IsDone (λ book desk. SentOver file book sender rows replies stopped desk)
+
+  -- The text that is wanted of the book was read, or what refuses it. `text_of` gives the bytes of what was read.
+  abbrev pub IsRead : {V : Type 0} → (V → List ℕ) → (Book → Result (List ℕ) Refusal) → Result V Refusal → Type 0
+  IsRead text_of wanted read = IsDone (λ book desk. Tells text_of (wanted book) read)

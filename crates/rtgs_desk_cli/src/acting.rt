@@ -1,0 +1,110 @@
+//! What a request is answered with: the line of what was done.
+ghost use Rattle.std.specs.Prelude.{◌≡◌, true, None, IfOk, IfErr, OnErr};
+ghost use Rattle.rtgs_book_file.specs.OverFile.{file_from};
+ghost use Rattle.rtgs_desk.specs.Replies.{answers_its_kind};
+ghost use Rattle.rtgs_desk_lines.specs.Lines.{line_of};
+ghost use Rattle.rtgs_desk_lines.specs.Texts.{Prints};
+ghost use Rattle.rtgs_desk_cli.specs.Did.{IsSubmitted};
+ghost use Rattle.rtgs_desk_cli.specs.Runs.{ended_line, IsNotOpened, IsRefused, PrintsFor};
+
+use crate::files::{make, open};
+use crate::texts;
+use rtgs_book::{Answer, Command, Refusal};
+use rtgs_book_file::{FileKeeper, Start};
+use rtgs_desk_lines::{Done, Failure, Printed};
+use rtgs_desk_requests::Request;
+use rtgs_keeper::Keeper;
+use std::io::Write;
+
+/// Does what was asked for, and prints what came of it. Where it is refused, nothing is printed.
+pub fn act<S: Start, O: Write>(
+    rt: &HostRuntime,
+    request: &Request<'_>,
+    start: S,
+    out: &mut O,
+) -> Result<Printed, Failure>
+    ensures printed { IfOk result (λ printed. PrintsFor
+        (file_from ⟦<FileKeeper<S> as Keeper>⟧ S.Start (λ keeper. keeper.conn)) request.now printed (O.contents out.old)
+        (O.contents out.new)) }
+    ensures refused { IfErr result (IsRefused (file_from ⟦<FileKeeper<S> as Keeper>⟧ S.Start
+        (λ keeper. keeper.conn)) request.now) }
+    ensures unchanged { OnErr result (out.new ≡ out.old) }
+{
+    match *request {
+        Request::Make { file } => make_book(rt, file, start, out),
+        Request::Submit { file, command } => answer(rt, file, command, start, out),
+        Request::Import {
+            file,
+            sender,
+            orders,
+        } => texts::import(rt, file, sender, orders, start, out),
+        Request::Statement { file, code, date } => texts::statement(
+            rt, file, code, date, start, out,
+        ),
+        Request::Report { file, date } => texts::report(rt, file, date, start, out),
+    }
+}
+
+// Makes a new book in a file, and says so.
+fn make_book<S: Start, O: Write>(
+    rt: &HostRuntime,
+    file: &str,
+    start: S,
+    out: &mut O,
+) -> Result<Printed, Failure>
+    ensures printed { IfOk result (λ printed. PrintsFor
+        (file_from ⟦<FileKeeper<S> as Keeper>⟧ S.Start (λ keeper. keeper.conn)) (Request.Make file.entry) printed
+        (O.contents out.old) (O.contents out.new)) }
+    ensures refused { IfErr result (IsRefused (file_from ⟦<FileKeeper<S> as Keeper>⟧ S.Start (λ keeper. keeper.conn))
+        (Request.Make file.entry)) }
+    ensures unchanged { OnErr result (out.new ≡ out.old) }
+{
+    make(rt, file, start)?;
+    Ok(say(Done::Made, out))
+}
+
+// Gives the desk over a file one command, and prints its answer.
+fn answer<S: Start, O: Write>(
+    rt: &HostRuntime,
+    file: &str,
+    command: Command,
+    start: S,
+    out: &mut O,
+) -> Result<Printed, Failure>
+    ensures printed { IfOk result (λ printed. PrintsFor
+        (file_from ⟦<FileKeeper<S> as Keeper>⟧ S.Start (λ keeper. keeper.conn)) (Request.Submit file.entry command) printed
+        (O.contents out.old) (O.contents out.new)) }
+    ensures refused { IfErr result (IsRefused (file_from ⟦<FileKeeper<S> as Keeper>⟧ S.Start (λ keeper. keeper.conn))
+        (Request.Submit file.entry command)) }
+    ensures unchanged { OnErr result (out.new ≡ out.old) }
+{
+    match submit(rt, file, command, start)? {
+        Ok(answer) => Ok(say(Done::Answered(answer), out)),
+        Err(refusal) => Err(Failure::Refused(refusal)),
+    }
+}
+
+// Opens the book in a file, gives its desk one command and closes it.
+fn submit<S: Start>(
+    rt: &HostRuntime,
+    file: &str,
+    command: Command,
+    start: S,
+) -> Result<Result<Answer, Refusal>, Failure>
+    ensures replied { IfOk result (λ reply. IsSubmitted
+        (file_from ⟦<FileKeeper<S> as Keeper>⟧ S.Start (λ keeper. keeper.conn)) command reply) }
+    ensures of_its_kind { IfOk result (λ reply. IfOk reply (λ answer. answers_its_kind command answer ≡ true)) }
+    ensures refused { IfErr result IsNotOpened }
+{
+    let mut book = open(rt, file, start)?;
+    let reply = rtgs_stored_desk::submit(book.desk(), command);
+    book.close();
+    Ok(reply)
+}
+
+// Prints the line of what was done.
+fn say<O: Write>(done: Done, out: &mut O) -> Printed
+    ensures { Prints (ended_line (line_of done)) None result (O.contents out.old) (O.contents out.new) }
+{
+    Printed::sent(done.print(out))
+}

@@ -1,0 +1,70 @@
+//! Help, and faults of the command line.
+use rtgs_desk_cli::{Unknown, run_words};
+use rtgs_desk_lines::Ended;
+use std::test::Fail;
+
+/// The help that these words ask for names each of these.
+fn helps(rt: &HostRuntime, words: &[&str], named: &[&str]) -> Result<(), Fail> {
+    let mut out = Vec::new(rt.alloc());
+    let mut err = Vec::new(rt.alloc());
+    let ended = run_words(rt, words, Unknown, &mut out, &mut err);
+    assert!(rt; matches!(ended, Ended::Helped(Ok(()))));
+    assert_eq!(rt; ended.exit_status(), 0);
+    assert!(rt; err.is_empty());
+    let text = std::str::from_utf8(out.as_slice())?;
+    for it in named {
+        assert!(rt; text.contains(*it), "{it}");
+    }
+    Ok(())
+}
+
+#[test]
+fn helps_name_the_commands_and_the_forms_of_their_words(rt: HostRuntime) -> Result<(), Fail> {
+    helps(&rt, &["--help"], &["desk <COMMAND>"])?;
+    helps(
+        &rt,
+        &["add", "--help"],
+        &[
+            "3 to 8 capitals and digits, a capital first",
+            "1 to 40 printable characters",
+            "32 characters of 0-9 and a-f",
+        ],
+    )?;
+    helps(
+        &rt,
+        &["post", "--help"],
+        &[
+            "1 to 16 capitals, digits and dashes",
+            "The amount in cents, without a sign",
+            "--debit",
+        ],
+    )
+}
+
+#[test]
+fn words_that_are_no_command_line_are_told_on_standard_error(rt: HostRuntime) -> Result<(), Fail> {
+    let mut out = Vec::new(rt.alloc());
+    let mut err = Vec::new(rt.alloc());
+    let none: &[&str] = &[];
+    for words in [none, &["init"], &["pay", "F"], &["init", "F", "G"]] {
+        err.clear();
+        let ended = run_words(&rt, words, Unknown, &mut out, &mut err);
+        assert!(rt; matches!(ended, Ended::Misused(Ok(()))), "{words:?}");
+        assert_eq!(rt; ended.exit_status(), 2, "{words:?}");
+        assert!(rt; out.is_empty());
+        assert!(rt; !err.is_empty());
+    }
+    Ok(())
+}
+
+#[test]
+fn help_that_nobody_takes_fails(rt: HostRuntime) -> Result<(), Fail> {
+    let mut room = [0u8; 4];
+    let mut out = room.as_mut_slice();
+    let mut err = Vec::new(rt.alloc());
+    let ended = run_words(&rt, &["--help"], Unknown, &mut out, &mut err);
+    assert!(rt; matches!(ended, Ended::Helped(Err(_))));
+    assert_eq!(rt; ended.exit_status(), 3);
+    assert!(rt; err.is_empty());
+    Ok(())
+}
