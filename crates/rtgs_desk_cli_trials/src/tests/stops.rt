@@ -10,8 +10,9 @@ use std::{env, fs};
 /// Set where the test of a run under a limit was started by the other one.
 const UNDER_A_LIMIT: &str = "DESK_UNDER_A_LIMIT";
 
-/// Writes to files of 64 KiB and more fail, and do not end the program.
-const LIMITED: &str = "trap '' XFSZ; ulimit -f 128; exec \"$0\" tests::stops::run_under_a_limit";
+/// Writes past half a mebibyte of a file fail (past one, where the shell's block is no 512 bytes), and do not end the
+/// program. The store takes room for its log by a quarter of one.
+const LIMITED: &str = "trap '' XFSZ; ulimit -f 1024; exec \"$0\" tests::stops::run_under_a_limit";
 
 const IMPORT: [&str; 4] = ["import", "stopping", "ALFA", "stopping.csv"];
 
