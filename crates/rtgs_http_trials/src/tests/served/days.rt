@@ -289,3 +289,42 @@ fn an_overdrawn_day_is_not_closed(rt: HostRuntime) -> Result<(), Fail> {
     follow(alloc, &mut desk, JSON, &TWO_ORDERS)?;
     follow(alloc, &mut desk, JSON, &OVERDRAWN)
 }
+
+const TWO_OVERDRAWN: [Row<'static>; 4] = [
+    (
+        OPERATOR,
+        "POST /desk/credit",
+        "{\"code\":\"BETA\",\"credit\":100}",
+        "200 OK",
+        "{\"answer\":\"credit set\"}",
+    ),
+    (
+        BETA,
+        "POST /orders",
+        "{\"amount\":200,\"reference\":\"B-1\",\"to\":\"GAMA\"}",
+        "200 OK",
+        "{\"answer\":\"settled\",\"mark\":2,\"number\":3}",
+    ),
+    (
+        OPERATOR,
+        "POST /desk/cutoff",
+        "{\"date\":\"2024-03-04\"}",
+        "200 OK",
+        "{\"answer\":\"cut off\"}",
+    ),
+    (
+        OPERATOR,
+        "POST /desk/close",
+        "{\"date\":\"2024-03-04\"}",
+        "409 Conflict",
+        "{\"code\":19,\"count\":2,\"first\":\"ALFA\",\"name\":\"Overdrawn\"}",
+    ),
+];
+
+#[test]
+fn two_overdrawn_banks_are_counted(rt: HostRuntime) -> Result<(), Fail> {
+    let alloc = rt.alloc();
+    let mut desk = open_desk(alloc)?;
+    follow(alloc, &mut desk, JSON, &TWO_ORDERS)?;
+    follow(alloc, &mut desk, JSON, &TWO_OVERDRAWN)
+}

@@ -12,7 +12,7 @@ fn no_read_follows_what_decides_the_reply(rt: HostRuntime) -> Result<(), Fail> {
     let alloc = rt.alloc();
     let operator = digest(OPERATOR.as_bytes())?;
     let mut desk = open_desk(alloc)?;
-    let heads: [&[u8]; 7] = [
+    let inputs: [&[u8]; 10] = [
         b"GET /account HTTP/1.1\r\ndesk-key: 0000000000000000000000000000000a\r\n\r\n",
         b"GET /orders/a-1 HTTP/1.1\r\ndesk-key: 0000000000000000000000000000000a\r\n\r\n",
         b"GET /account HTTP/1.0\r\n\r\n",
@@ -20,9 +20,12 @@ fn no_read_follows_what_decides_the_reply(rt: HostRuntime) -> Result<(), Fail> {
         b"GET /account HTTP/1.1\r\n\r\n",
         b"POST /orders HTTP/1.1\r\ndesk-key: 0000000000000000000000000000000a\r\n\r\n",
         b"POST /orders HTTP/1.1\r\ndesk-key: 0000000000000000000000000000000a\r\nContent-Length: 65537\r\n\r\n",
+        b"GET /account HTTP/1.1\r\ndesk-key: 0000000000000000000000000000000e\r\n\r\n",
+        b"POST /orders HTTP/1.1\r\ndesk-key: 0000000000000000000000000000000a\r\nContent-Length: 1\r\n\r\n[",
+        b"POST /batches HTTP/1.1\r\ndesk-key: 0000000000000000000000000000000a\r\nContent-Length: 1\r\n\r\nx",
     ];
-    for head in heads {
-        let mut reader = CountedReader::new(head, usize::MAX, usize::MAX);
+    for input in inputs {
+        let mut reader = CountedReader::new(input, usize::MAX, usize::MAX);
         let mut written = Vec::new(alloc);
         let served = serve_one(alloc, &mut reader, &mut written, &mut desk, &operator);
         assert!(rt; matches!(served, Served::Answered(_)));

@@ -64,7 +64,7 @@ fn a_deadlock_is_rejected_at_the_close(rt: HostRuntime) -> Result<(), Fail> {
     follow(alloc, &mut desk, JSON, &DEADLOCK)
 }
 
-const PARTIAL: [Row<'static>; 6] = [
+const PARTIAL: [Row<'static>; 7] = [
     (
         ALFA,
         "POST /orders",
@@ -78,6 +78,14 @@ const PARTIAL: [Row<'static>; 6] = [
         "{\"amount\":50,\"reference\":\"A-2\",\"to\":\"GAMA\"}",
         "200 OK",
         "{\"answer\":\"queued\",\"number\":2,\"place\":2}",
+    ),
+    (
+        ALFA,
+        "GET /queue",
+        "",
+        "200 OK",
+        "{\"orders\":[{\"amount\":100,\"number\":1,\"place\":1,\"reference\":\"A-1\",\"to\":\"BETA\"},\
+        {\"amount\":50,\"number\":2,\"place\":2,\"reference\":\"A-2\",\"to\":\"GAMA\"}]}",
     ),
     (
         BETA,

@@ -103,7 +103,7 @@ fn contents_of_each_route(rt: HostRuntime) -> Result<(), Fail> {
     Ok(())
 }
 
-const DATES: [Row<'static>; 4] = [
+const DATES: [Row<'static>; 5] = [
     (
         OPERATOR,
         "POST /desk/cutoff",
@@ -124,6 +124,14 @@ const DATES: [Row<'static>; 4] = [
         "{\"date\":\"2024-03-04\"}",
         "200 OK",
         "{\"answer\":\"closed\",\"rejected\":0}",
+    ),
+    (
+        ALFA,
+        "GET /account",
+        "",
+        "200 OK",
+        "{\"balance\":0,\"code\":\"ALFA\",\"credit\":0,\"date\":\"2024-03-04\",\
+        \"name\":\"Alfa Bank\",\"phase\":\"CLOSED\",\"queued\":0,\"queued_value\":0}",
     ),
     (
         OPERATOR,
