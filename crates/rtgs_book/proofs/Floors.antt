@@ -11,27 +11,40 @@ use Rattle.rtgs_book.proofs.Lists.{all_both, all_map}
 use Rattle.rtgs_book.proofs.SoundCredit.{limit}
 use Rattle.rtgs_book.proofs.Sums.{later_differs}
 
-pub all_unmap : {X Y : Type 0} (P : Y → Type 0) (f : X → Y) (xs : List X) → AllByRecursion P (map f xs) → AllByRecursion (λ x. P (f x)) xs
+pub all_unmap : {X Y : Type 0} (P : Y → Type 0) (f : X → Y) (xs : List X) → AllByRecursion P (map f xs)
+    → AllByRecursion (λ x. P (f x)) xs
 all_unmap P f [] h = tt
 all_unmap P f (x ∷ xs) h = (h.0, all_unmap P f xs h.1)
 
 -- where codes rise, each participant's limit is its own credit
-own_credit : (ps : List Participant) → IsStrictlySortedBy (slice_cmp nat_cmp) (map (λ (p : Participant). p.code) ps) → AllByRecursion (λ (p : Participant). limit p.code ps ≡ p.credit) ps
+own_credit : (ps : List Participant) → IsStrictlySortedBy (slice_cmp nat_cmp) (map (λ (p : Participant). p.code) ps)
+    → AllByRecursion (λ (p : Participant). limit p.code ps ≡ p.credit) ps
 unfolding IsStrictlySortedBy
 own_credit [] h = tt
 own_credit (p ∷ ps) h = (
   rw ((bytes_decides p.code p.code).1 refl) refl,
-  all_both (λ (q : Participant). slice_cmp nat_cmp p.code q.code ≡ Less) (λ (q : Participant). limit q.code ps ≡ q.credit) (λ (q : Participant). limit q.code (p ∷ ps) ≡ q.credit)
-      (λ q less own. rw (later_differs p.code q.code less) own) ps (all_unmap (λ c. slice_cmp nat_cmp p.code c ≡ Less) (λ (q : Participant). q.code) ps h.0) (own_credit ps h.1),
+  all_both (λ (q : Participant). slice_cmp nat_cmp p.code q.code ≡ Less)
+      (λ (q : Participant). limit q.code ps ≡ q.credit) (λ (q : Participant). limit q.code (p ∷ ps) ≡ q.credit)
+      (λ q less own. rw (later_differs p.code q.code less) own) ps
+      (all_unmap (λ c. slice_cmp nat_cmp p.code c ≡ Less) (λ (q : Participant). q.code) ps h.0) (own_credit ps h.1),
 )
 
-pub floors_of : (book : Book) → CodesRise book → (b : Bool) → (b ≡ true) ↔ AllByRecursion (λ (p : Participant). floor_at book.day.phase p.credit ≤ℤ balance book p.code) book.participants → (b ≡ true) ↔ FloorsHold book
+pub floors_of : (book : Book) → CodesRise book → (b : Bool) → (b ≡ true) ↔ AllByRecursion
+    (λ (p : Participant). floor_at book.day.phase p.credit ≤ℤ balance book p.code) book.participants
+    → (b ≡ true) ↔ FloorsHold book
 unfolding accounts floor credit_of participant_of
 floors_of book codes b h =
     let own = own_credit book.participants codes.0 in (
       λ e. all_map (λ code. floor book code ≤ℤ balance book code) (λ (p : Participant). p.code) book.participants
-          (all_both (λ (p : Participant). limit p.code book.participants ≡ p.credit) (λ (p : Participant). floor_at book.day.phase p.credit ≤ℤ balance book p.code) (λ (p : Participant). floor book p.code ≤ℤ balance book p.code)
-          (λ p is covered. subst (λ n. floor_at book.day.phase n ≤ℤ balance book p.code) (sym is) covered) book.participants own (h.0 e)),
-      λ floors. h.1 (all_both (λ (p : Participant). limit p.code book.participants ≡ p.credit) (λ (p : Participant). floor book p.code ≤ℤ balance book p.code) (λ (p : Participant). floor_at book.day.phase p.credit ≤ℤ balance book p.code)
-          (λ p is holds. subst (λ n. floor_at book.day.phase n ≤ℤ balance book p.code) is holds) book.participants own (all_unmap (λ code. floor book code ≤ℤ balance book code) (λ (p : Participant). p.code) book.participants floors)),
+          (all_both (λ (p : Participant). limit p.code book.participants ≡ p.credit)
+          (λ (p : Participant). floor_at book.day.phase p.credit ≤ℤ balance book p.code)
+          (λ (p : Participant). floor book p.code ≤ℤ balance book p.code)
+          (λ p is covered. subst (λ n. floor_at book.day.phase n ≤ℤ balance book p.code) (sym is) covered)
+          book.participants own (h.0 e)),
+      λ floors. h.1 (all_both (λ (p : Participant). limit p.code book.participants ≡ p.credit)
+          (λ (p : Participant). floor book p.code ≤ℤ balance book p.code)
+          (λ (p : Participant). floor_at book.day.phase p.credit ≤ℤ balance book p.code)
+          (λ p is holds. subst (λ n. floor_at book.day.phase n ≤ℤ balance book p.code) is holds) book.participants own
+          (all_unmap (λ code. floor book code ≤ℤ balance book code) (λ (p : Participant). p.code) book.participants
+          floors)),
     )

@@ -1,5 +1,6 @@
 -- No balance is large.
-use Rattle.std.proofs.Common.{◌≡◌, ℕ, suc, ◌≤◌, ◌+◌, ◌*◌, ℤ, pos, neg_ℤ, ◌+ℤ◌, ◌≤ℤ◌, Bool, true, false, cond, List, [], ◌∷◌, Some, find, option_map, unwrap_or, length, arith}
+use Rattle.std.proofs.Common.{◌≡◌, ℕ, suc, ◌≤◌, ◌+◌, ◌*◌, ℤ, pos, neg_ℤ, ◌+ℤ◌, ◌≤ℤ◌, Bool, true, false, cond, List, []}
+use Rattle.std.proofs.Common.{◌∷◌, Some, find, option_map, unwrap_or, length, arith}
 use Rattle.std.proofs.lemmas.Int.{ints}
 use Rattle.std.specs.List.{AllByRecursion}
 use Rattle.rtgs_money.specs.declared.credit.TheConstants.Credit as Credit
@@ -16,7 +17,9 @@ use Rattle.rtgs_book.specs.Totals.{Within}
 use Rattle.rtgs_book.proofs.Lists.{all_weaker, all_both}
 
 -- where no term is far below zero, none is far above the sum
-high_terms : {X : Type 0} (f : X → ℤ) (low : ℕ) (xs : List X) → AllByRecursion (λ x. neg_ℤ (pos low) ≤ℤ f x) xs → (neg_ℤ (pos (length xs * low)) ≤ℤ int_sum_by f xs) × AllByRecursion (λ x. (f x +ℤ pos low) ≤ℤ (int_sum_by f xs +ℤ pos (length xs * low))) xs
+high_terms : {X : Type 0} (f : X → ℤ) (low : ℕ) (xs : List X) → AllByRecursion (λ x. neg_ℤ (pos low) ≤ℤ f x) xs
+    → (neg_ℤ (pos (length xs * low)) ≤ℤ int_sum_by f xs) × AllByRecursion
+    (λ x. (f x +ℤ pos low) ≤ℤ (int_sum_by f xs +ℤ pos (length xs * low))) xs
 high_terms f low [] h = (omega (arith, ints), tt)
 high_terms f low (x ∷ xs) h =
     let rest = high_terms f low xs h.1 in
@@ -26,16 +29,21 @@ high_terms f low (x ∷ xs) h =
       omega (arith, ints),
       (
         omega (arith, ints),
-        all_weaker (λ y. (f y +ℤ pos low) ≤ℤ (int_sum_by f xs +ℤ pos (length xs * low))) (λ y. (f y +ℤ pos low) ≤ℤ ((f x +ℤ int_sum_by f xs) +ℤ pos (suc (length xs) * low))) (λ y k. omega (arith, ints)) xs rest.1,
+        all_weaker (λ y. (f y +ℤ pos low) ≤ℤ (int_sum_by f xs +ℤ pos (length xs * low)))
+            (λ y. (f y +ℤ pos low) ≤ℤ ((f x +ℤ int_sum_by f xs) +ℤ pos (suc (length xs) * low)))
+            (λ y k. omega (arith, ints)) xs rest.1,
       ),
     )
 
 -- a credit limit, if there is one
-small_limit : (code : List ℕ) (ps : List Participant) → AllByRecursion (λ (p : Participant). IsCredit p.credit) ps → unwrap_or (option_map (λ (p : Participant). p.credit) (find (has_code code) ps)) 0 ≤ Credit.MAX
+small_limit : (code : List ℕ) (ps : List Participant) → AllByRecursion (λ (p : Participant). IsCredit p.credit) ps
+    → unwrap_or (option_map (λ (p : Participant). p.credit) (find (has_code code) ps)) 0 ≤ Credit.MAX
 small_limit code [] h = omega arith
 small_limit code (p ∷ ps) h = by (has_code code p) (small_limit code ps h.1)
   where
-    by : (b : Bool) → unwrap_or (option_map (λ (p : Participant). p.credit) (find (has_code code) ps)) 0 ≤ Credit.MAX → unwrap_or (option_map (λ (p : Participant). p.credit) (cond b (Some p) (find (has_code code) ps))) 0 ≤ Credit.MAX
+    by : (b : Bool) → unwrap_or (option_map (λ (p : Participant). p.credit) (find (has_code code) ps)) 0 ≤ Credit.MAX
+        → unwrap_or (option_map (λ (p : Participant). p.credit) (cond b (Some p) (find (has_code code) ps))) 0
+        ≤ Credit.MAX
     by true rest = h.0
     by false rest = rest
 
@@ -50,9 +58,13 @@ low_floor book code h = by (is_closed book.day.phase) _ (small_limit code book.p
 pub balances_small : (book : Book) → IsSound book → Fits book → BalancesFit book
 unfolding total
 balances_small book h fits =
-    let floors = all_weaker (λ code. floor book code ≤ℤ balance book code) (λ code. neg_ℤ (pos Credit.MAX) ≤ℤ balance book code) (λ code k. let low = low_floor book code fits in omega (arith, ints)) (accounts book) h.floors in
+    let floors = all_weaker (λ code. floor book code ≤ℤ balance book code)
+    (λ code. neg_ℤ (pos Credit.MAX) ≤ℤ balance book code)
+    (λ code k. let low = low_floor book code fits in omega (arith, ints)) (accounts book) h.floors in
     let terms = high_terms (balance book) Credit.MAX (accounts book) floors in
     let few = h.codes_rise.1 in
     let all = h.total_fits in
-    all_both (λ code. neg_ℤ (pos Credit.MAX) ≤ℤ balance book code) (λ code. (balance book code +ℤ pos Credit.MAX) ≤ℤ (int_sum_by (balance book) (accounts book) +ℤ pos (length (accounts book) * Credit.MAX))) (λ code. Within LARGEST_BALANCE (balance book code))
+    all_both (λ code. neg_ℤ (pos Credit.MAX) ≤ℤ balance book code)
+    (λ code. (balance book code +ℤ pos Credit.MAX) ≤ℤ (int_sum_by (balance book) (accounts book) +ℤ pos
+    (length (accounts book) * Credit.MAX))) (λ code. Within LARGEST_BALANCE (balance book code))
     (λ code low high. (omega (arith, ints), omega (arith, ints))) (accounts book) floors terms.1

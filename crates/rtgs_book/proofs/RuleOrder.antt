@@ -1,9 +1,12 @@
 -- Rules one after another.
-use Rattle.std.proofs.Common.{◌≡◌, ℕ, ◌+◌, pos, ◌≤ℤ◌, Bool, true, ◌↔◌, ◌<◌, ◌≤◌, ◌⊎◌, inl, inr, ⊎_elim, refl, sym, ap, ◌∙◌, subst, length, get_or, [], ◌∷◌, arith}
+use Rattle.std.proofs.Common.{◌≡◌, ℕ, ◌+◌, pos, ◌≤ℤ◌, Bool, true, ◌↔◌, ◌<◌, ◌≤◌, ◌⊎◌, inl, inr, ⊎_elim, refl, sym, ap}
+use Rattle.std.proofs.Common.{◌∙◌, subst, length, get_or, [], ◌∷◌, arith}
 use Rattle.std.proofs.lemmas.Bool.{cases_lt}
 use Rattle.std.proofs.lemmas.List.{length-map}
 use Rattle.rtgs_book.specs.declared.rule.Rule.{Rule}
-use Rattle.rtgs_book.specs.declared.rule.Rule.TheVariants.{OrderNumbers, PostingNumbers, MarkNumbers, ParticipantCodes, Keys, OrderReferences, PostingReferences, Parties, Marks, Queues, Dates, Floors, Total, StoredBalances}
+use Rattle.rtgs_book.specs.declared.rule.Rule.TheVariants.{OrderNumbers, PostingNumbers, MarkNumbers, ParticipantCodes}
+use Rattle.rtgs_book.specs.declared.rule.Rule.TheVariants.{Keys, OrderReferences, PostingReferences, Parties, Marks}
+use Rattle.rtgs_book.specs.declared.rule.Rule.TheVariants.{Queues, Dates, Floors, Total, StoredBalances}
 use Rattle.rtgs_book.specs.declared.limits.TheConstants.{LARGEST_NUMBER, LARGEST_TOTAL}
 use Rattle.rtgs_book.specs.Books.{Book, Posting, Order}
 use Rattle.rtgs_book.specs.Judgement.{Keeps, KeepsBefore}
@@ -14,7 +17,8 @@ use Rattle.rtgs_book.specs.IntSum.{int_sum_by}
 use Rattle.rtgs_book.proofs.Sound.{total_from_rules}
 
 -- a rule before this one
-pub earlier : (book : Book) (rule this other : Rule) → rule ≡ this → number_of other < number_of this → KeepsBefore book rule → Keeps book other
+pub earlier : (book : Book) (rule this other : Rule) → rule ≡ this → number_of other < number_of this
+    → KeepsBefore book rule → Keeps book other
 earlier book rule this other is less h = h other (subst (λ r. number_of other < number_of r) (sym is) less)
 
 pub few_orders : (book : Book) → Keeps book OrderNumbers → length book.orders ≤ LARGEST_NUMBER
@@ -25,7 +29,8 @@ few_postings book h = let long = length-map book.postings (λ (p : Posting). p.n
 
 -- the rule with a number
 abbrev pub numbered : ℕ → Rule
-numbered n = get_or (StoredBalances ∷ OrderNumbers ∷ PostingNumbers ∷ MarkNumbers ∷ ParticipantCodes ∷ Keys ∷ OrderReferences ∷ PostingReferences ∷ Parties ∷ Marks ∷ Queues ∷ Dates ∷ Floors ∷ Total ∷ []) n StoredBalances
+numbered n = get_or (StoredBalances ∷ OrderNumbers ∷ PostingNumbers ∷ MarkNumbers ∷ ParticipantCodes ∷ Keys
+    ∷ OrderReferences ∷ PostingReferences ∷ Parties ∷ Marks ∷ Queues ∷ Dates ∷ Floors ∷ Total ∷ []) n StoredBalances
 
 numbered_is : (rule : Rule) → numbered (number_of rule) ≡ rule
 numbered_is OrderNumbers = refl
@@ -53,11 +58,14 @@ same_rule one other e = sym (numbered_is one) ∙ ap numbered e ∙ numbered_is 
 split_last : (a b : ℕ) → a ≤ b + 1 → (a ≤ b) ⊎ (a ≡ b + 1)
 split_last a b h = ⊎_elim (λ less. inl (omega arith)) (λ past. inr (omega arith)) (cases_lt a (b + 1))
 
-pub keeps_more : (book : Book) (count : ℕ) (rule : Rule) → number_of rule ≡ count + 1 → KeepsFirst book count → Keeps book rule → KeepsFirst book (count + 1)
+pub keeps_more : (book : Book) (count : ℕ) (rule : Rule) → number_of rule ≡ count + 1 → KeepsFirst book count
+    → Keeps book rule → KeepsFirst book (count + 1)
 keeps_more book count rule next first kept other within =
-    ⊎_elim (λ less. first other less) (λ is. subst (Keeps book) (same_rule rule other (next ∙ sym is)) kept) (split_last (number_of other) count within)
+    ⊎_elim (λ less. first other less) (λ is. subst (Keeps book) (same_rule rule other (next ∙ sym is)) kept)
+    (split_last (number_of other) count within)
 
-pub before_next : (book : Book) (count : ℕ) (rule : Rule) → number_of rule ≡ count + 1 → KeepsFirst book count → KeepsBefore book rule
+pub before_next : (book : Book) (count : ℕ) (rule : Rule) → number_of rule ≡ count + 1 → KeepsFirst book count
+    → KeepsBefore book rule
 before_next book count rule next first other less = first other (omega arith)
 
 pub sound_from_rules : (book : Book) (count : ℕ) → 13 ≤ count → KeepsFirst book count → IsSound book
@@ -78,7 +86,9 @@ sound_from_rules book count past kept = record {
 }
 
 -- the total by what was issued
-pub total_by_issue : (book : Book) (b : Bool) → CodesRise book → PartiesAreKnown book → (b ≡ true) ↔ (int_sum_by (λ (p : Posting). p.cents) book.postings ≤ℤ pos LARGEST_TOTAL) → (b ≡ true) ↔ TotalFits book
+pub total_by_issue : (book : Book) (b : Bool) → CodesRise book → PartiesAreKnown book
+    → (b ≡ true) ↔ (int_sum_by (λ (p : Posting). p.cents) book.postings ≤ℤ pos LARGEST_TOTAL)
+    → (b ≡ true) ↔ TotalFits book
 unfolding issued
 total_by_issue book b codes parties told =
     let same : total book ≡ int_sum_by (λ (p : Posting). p.cents) book.postings = total_from_rules book codes parties in

@@ -1,5 +1,7 @@
 -- A new participant keeps a book sound.
-use Rattle.std.proofs.Common.{◌≡◌, ℕ, ◌≤◌, ◌<◌, ◌+◌, ℤ, pos, neg_ℤ, ◌+ℤ◌, ◌≤ℤ◌, Bool, true, false, cond, not, ◌&&◌, ◌||◌, List, [], ◌∷◌, ◌++◌, map, filter, length, Some, find, option_map, unwrap_or, refl, sym, ap, ◌∙◌, true≢false, arith}
+use Rattle.std.proofs.Common.{◌≡◌, ℕ, ◌≤◌, ◌<◌, ◌+◌, ℤ, pos, neg_ℤ, ◌+ℤ◌, ◌≤ℤ◌, Bool, true, false, cond, not, ◌&&◌}
+use Rattle.std.proofs.Common.{◌||◌, List, [], ◌∷◌, ◌++◌, map, filter, length, Some, find, option_map, unwrap_or, refl}
+use Rattle.std.proofs.Common.{sym, ap, ◌∙◌, true≢false, arith}
 use Rattle.std.proofs.lemmas.Int.{ints}
 use Rattle.std.proofs.lemmas.List.{length-map, map-append}
 use Rattle.std.specs.List.{AllByRecursion, list_any}
@@ -13,7 +15,8 @@ use Rattle.rtgs_book.specs.Balance.{balance, floor, total, gain}
 use Rattle.rtgs_book.specs.Queue.{queue}
 use Rattle.rtgs_book.specs.Commands.{is_before, with_participant, add}
 use Rattle.rtgs_book.specs.Soundness.{has_parties, CountsItsOrders, IsSound}
-use Rattle.rtgs_book.proofs.Insertions.{put_in, map-filter, all_put_in, sorted_put_in, length-put_in, sum-put_in, any-put_in, distinct_put_in}
+use Rattle.rtgs_book.proofs.Insertions.{put_in, map-filter, all_put_in, sorted_put_in, length-put_in, sum-put_in}
+use Rattle.rtgs_book.proofs.Insertions.{any-put_in, distinct_put_in}
 use Rattle.rtgs_book.proofs.Lists.{all_weaker, all_both, all_map, find_none}
 use Rattle.rtgs_book.proofs.Outcomes.{sound_first_of}
 use Rattle.rtgs_book.proofs.SoundCredit.{bytes_eq_comm, limit}
@@ -24,32 +27,44 @@ comes_before code p = is_before p.code code
 
 -- ---- the credit limits of the others
 
-skips : (code : List ℕ) (front back : List Participant) → AllByRecursion (λ p. has_code code p ≡ false) front → limit code (front ++ back) ≡ limit code back
+skips : (code : List ℕ) (front back : List Participant) → AllByRecursion (λ p. has_code code p ≡ false) front
+    → limit code (front ++ back) ≡ limit code back
 skips code [] back h = refl
 skips code (p ∷ front) back h = rw h.0 (skips code front back h.1)
 
-skips_one : (code : List ℕ) (p : Participant) (front back : List Participant) → has_code code p ≡ false → limit code (front ++ p ∷ back) ≡ limit code (front ++ back)
+skips_one : (code : List ℕ) (p : Participant) (front back : List Participant) → has_code code p ≡ false
+    → limit code (front ++ p ∷ back) ≡ limit code (front ++ back)
 skips_one code p [] back e = rw e refl
 skips_one code p (q ∷ front) back e = by (has_code code q) (skips_one code p front back e)
   where
     by : (b : Bool) → limit code (front ++ p ∷ back) ≡ limit code (front ++ back)
-        → unwrap_or (option_map (λ (p : Participant). p.credit) (cond b (Some q) (find (has_code code) (front ++ p ∷ back)))) 0 ≡ unwrap_or (option_map (λ (p : Participant). p.credit) (cond b (Some q) (find (has_code code) (front ++ back)))) 0
+        → unwrap_or (option_map (λ (p : Participant). p.credit)
+        (cond b (Some q) (find (has_code code) (front ++ p ∷ back)))) 0
+        ≡ unwrap_or (option_map (λ (p : Participant). p.credit)
+        (cond b (Some q) (find (has_code code) (front ++ back)))) 0
     by true r = refl
     by false r = r
 
 -- where the test fails at a code, nobody with that code passes it
-none_with_code : (code new : List ℕ) → is_before code new ≡ false → (ps : List Participant) → AllByRecursion (λ p. has_code code p ≡ false) (filter (comes_before new) ps)
+none_with_code : (code new : List ℕ) → is_before code new ≡ false → (ps : List Participant)
+    → AllByRecursion (λ p. has_code code p ≡ false) (filter (comes_before new) ps)
 none_with_code code new e [] = tt
 none_with_code code new e (p ∷ ps) = by (comes_before new p) refl (has_code code p) refl (none_with_code code new e ps)
   where
-    by : (b : Bool) → comes_before new p ≡ b → (d : Bool) → has_code code p ≡ d → AllByRecursion (λ p. has_code code p ≡ false) (filter (comes_before new) ps) → AllByRecursion (λ p. has_code code p ≡ false) (cond b (p ∷ filter (comes_before new) ps) (filter (comes_before new) ps))
-    by true f true g rest = absurd (true≢false (sym f ∙ ap (λ c. is_before c new) ((bytes_decides p.code code).0 g) ∙ e))
+    by : (b : Bool) → comes_before new p ≡ b → (d : Bool) → has_code code p ≡ d
+        → AllByRecursion (λ p. has_code code p ≡ false) (filter (comes_before new) ps)
+        → AllByRecursion (λ p. has_code code p ≡ false) (cond b (p ∷ filter (comes_before new) ps)
+        (filter (comes_before new) ps))
+    by true f true g rest = absurd (true≢false (sym f ∙ ap (λ c. is_before c new) ((bytes_decides p.code code).0 g)
+        ∙ e))
     by true f false g rest = (g, rest)
     by false f d g rest = rest
 
-limit-put_in : (new : Participant) (code : List ℕ) → has_code code new ≡ false → (ps : List Participant) → limit code (put_in (comes_before new.code) new ps) ≡ limit code ps
+limit-put_in : (new : Participant) (code : List ℕ) → has_code code new ≡ false → (ps : List Participant)
+    → limit code (put_in (comes_before new.code) new ps) ≡ limit code ps
 limit-put_in new code apart [] = rw apart refl
-limit-put_in new code apart (p ∷ ps) = by (comes_before new.code p) refl (has_code code p) refl (limit-put_in new code apart ps)
+limit-put_in new code apart (p ∷ ps) = by (comes_before new.code p) refl (has_code code p) refl
+    (limit-put_in new code apart ps)
   where
     before : List Participant
     before = filter (comes_before new.code) ps
@@ -57,39 +72,51 @@ limit-put_in new code apart (p ∷ ps) = by (comes_before new.code p) refl (has_
     after : List Participant
     after = filter (λ q. not (comes_before new.code q)) ps
 
-    by : (b : Bool) → comes_before new.code p ≡ b → (d : Bool) → has_code code p ≡ d → limit code (put_in (comes_before new.code) new ps) ≡ limit code ps
-        → limit code (cond b (p ∷ before) before ++ new ∷ cond (not b) (p ∷ after) after) ≡ unwrap_or (option_map (λ (p : Participant). p.credit) (cond d (Some p) (find (has_code code) ps))) 0
+    by : (b : Bool) → comes_before new.code p ≡ b → (d : Bool) → has_code code p ≡ d
+        → limit code (put_in (comes_before new.code) new ps) ≡ limit code ps
+        → limit code (cond b (p ∷ before) before ++ new ∷ cond (not b) (p ∷ after) after)
+        ≡ unwrap_or (option_map (λ (p : Participant). p.credit) (cond d (Some p) (find (has_code code) ps))) 0
     by true f true g rest = rw g refl
     by true f false g rest = rw g rest
     by false f true g rest =
-        let none = none_with_code code new.code (ap (λ c. is_before c new.code) (sym ((bytes_decides p.code code).0 g)) ∙ f) ps in
+        let none = none_with_code code new.code (ap (λ c. is_before c new.code) (sym ((bytes_decides p.code code).0 g))
+        ∙ f) ps in
         skips code before (new ∷ p ∷ after) none ∙ rw (apart, g) refl
-    by false f false g rest = skips_one code new before (p ∷ after) apart ∙ skips_one code p before after g ∙ sym (skips_one code new before after apart) ∙ rest
+    by false f false g rest = skips_one code new before (p ∷ after) apart ∙ skips_one code p before after g
+        ∙ sym (skips_one code new before after apart) ∙ rest
 
 -- ---- a code that nobody has
 
-apart_from : (s code : List ℕ) (codes : List (List ℕ)) → AllByRecursion (λ c. bytes_eq c code ≡ false) codes → list_any (bytes_eq s) codes ≡ true → bytes_eq s code ≡ false
+apart_from : (s code : List ℕ) (codes : List (List ℕ)) → AllByRecursion (λ c. bytes_eq c code ≡ false) codes
+    → list_any (bytes_eq s) codes ≡ true → bytes_eq s code ≡ false
 apart_from s code [] h e = absurd (true≢false (sym e))
 apart_from s code (c ∷ codes) h e = by (bytes_eq s c) refl e (apart_from s code codes h.1)
   where
-    by : (b : Bool) → bytes_eq s c ≡ b → (b || list_any (bytes_eq s) codes) ≡ true → (list_any (bytes_eq s) codes ≡ true → bytes_eq s code ≡ false) → bytes_eq s code ≡ false
+    by : (b : Bool) → bytes_eq s c ≡ b → (b || list_any (bytes_eq s) codes) ≡ true
+        → (list_any (bytes_eq s) codes ≡ true → bytes_eq s code ≡ false) → bytes_eq s code ≡ false
     by true f k rest = ap (λ x. bytes_eq x code) ((bytes_decides s c).0 f) ∙ h.0
     by false f k rest = rest k
 
-no_postings : (code : List ℕ) (ps : List Posting) → AllByRecursion (λ (p : Posting). bytes_eq p.code code ≡ false) ps → filter (λ (p : Posting). bytes_eq p.code code) ps ≡ []
+no_postings : (code : List ℕ) (ps : List Posting) → AllByRecursion (λ (p : Posting). bytes_eq p.code code ≡ false) ps
+    → filter (λ (p : Posting). bytes_eq p.code code) ps ≡ []
 no_postings code [] h = refl
 no_postings code (p ∷ ps) h = rw (h.0, no_postings code ps h.1) refl
 
-no_gains : (code : List ℕ) (os : List Order) → AllByRecursion (λ (o : Order). (bytes_eq o.sender code ≡ false) × (bytes_eq o.receiver code ≡ false)) os → int_sum_by (gain code) (filter is_settled os) ≡ pos 0
+no_gains : (code : List ℕ) (os : List Order) → AllByRecursion
+    (λ (o : Order). (bytes_eq o.sender code ≡ false) × (bytes_eq o.receiver code ≡ false)) os
+    → int_sum_by (gain code) (filter is_settled os) ≡ pos 0
 unfolding gain
 no_gains code [] h = refl
 no_gains code (o ∷ os) h = by (is_settled o) (no_gains code os h.1)
   where
-    by : (b : Bool) → int_sum_by (gain code) (filter is_settled os) ≡ pos 0 → int_sum_by (gain code) (cond b (o ∷ filter is_settled os) (filter is_settled os)) ≡ pos 0
+    by : (b : Bool) → int_sum_by (gain code) (filter is_settled os) ≡ pos 0
+        → int_sum_by (gain code) (cond b (o ∷ filter is_settled os) (filter is_settled os)) ≡ pos 0
     by true rest = rw (h.0.0, h.0.1) (omega (arith, ints))
     by false rest = rest
 
-no_queue : (code : List ℕ) (os : List Order) → AllByRecursion (λ (o : Order). (bytes_eq o.sender code ≡ false) × (bytes_eq o.receiver code ≡ false)) os → length (filter (λ (o : Order). is_queued o && bytes_eq o.sender code) os) ≤ LONGEST_QUEUE
+no_queue : (code : List ℕ) (os : List Order) → AllByRecursion
+    (λ (o : Order). (bytes_eq o.sender code ≡ false) × (bytes_eq o.receiver code ≡ false)) os
+    → length (filter (λ (o : Order). is_queued o && bytes_eq o.sender code) os) ≤ LONGEST_QUEUE
 no_queue code [] h = omega arith
 no_queue code (o ∷ os) h = rw (h.0.0, and_false (is_queued o)) (no_queue code os h.1)
   where
@@ -101,11 +128,13 @@ none_any : {X : Type 0} (q : X → Bool) (xs : List X) → list_any q xs ≡ fal
 none_any q [] e = tt
 none_any q (x ∷ xs) e = by (q x) refl e (none_any q xs)
   where
-    by : (b : Bool) → q x ≡ b → (b || list_any q xs) ≡ false → (list_any q xs ≡ false → AllByRecursion (λ x. q x ≡ false) xs) → AllByRecursion (λ x. q x ≡ false) (x ∷ xs)
+    by : (b : Bool) → q x ≡ b → (b || list_any q xs) ≡ false
+        → (list_any q xs ≡ false → AllByRecursion (λ x. q x ≡ false) xs) → AllByRecursion (λ x. q x ≡ false) (x ∷ xs)
     by true f k rest = absurd (true≢false k)
     by false f k rest = (f, rest k)
 
-module _ (book : Book) (code full key : List ℕ) (h : IsSound book) (free : AllByRecursion (λ (p : Participant). bytes_eq p.code code ≡ false) book.participants) where
+module _ (book : Book) (code full key : List ℕ) (h : IsSound book)
+    (free : AllByRecursion (λ (p : Participant). bytes_eq p.code code ≡ false) book.participants) where
   abbrev pub new : Participant
   new = record { code = code; name = full; key = key; credit = 0 }
 
@@ -113,16 +142,25 @@ module _ (book : Book) (code full key : List ℕ) (h : IsSound book) (free : All
   unfolding accounts
   unused = all_map (λ c. bytes_eq c code ≡ false) (λ (p : Participant). p.code) book.participants free
 
-  pub accounts-with_participant : accounts (with_participant book new) ≡ put_in (λ c. is_before c code) code (accounts book)
+  pub accounts-with_participant : accounts (with_participant book new)
+      ≡ put_in (λ c. is_before c code) code (accounts book)
   unfolding accounts with_participant
   accounts-with_participant =
-      map-append (λ (p : Participant). p.code) (filter (comes_before code) book.participants) (new ∷ filter (λ p. not (comes_before code p)) book.participants)
-      ∙ (λ i. map-filter (λ (p : Participant). p.code) (λ c. is_before c code) book.participants i ++ code ∷ map-filter (λ (p : Participant). p.code) (λ c. not (is_before c code)) book.participants i)
+      map-append (λ (p : Participant). p.code) (filter (comes_before code) book.participants)
+      (new ∷ filter (λ p. not (comes_before code p)) book.participants)
+      ∙ (λ i. map-filter (λ (p : Participant). p.code) (λ c. is_before c code) book.participants i ++ code
+      ∷ map-filter (λ (p : Participant). p.code) (λ c. not (is_before c code)) book.participants i)
 
-  known : AllByRecursion (λ (o : Order). (bytes_eq o.sender code ≡ false) × (bytes_eq o.receiver code ≡ false)) book.orders
+  known : AllByRecursion (λ (o : Order). (bytes_eq o.sender code ≡ false) × (bytes_eq o.receiver code ≡ false))
+      book.orders
   unfolding is_participant
-  known = all_weaker (λ o. has_parties book o ≡ true) (λ (o : Order). (bytes_eq o.sender code ≡ false) × (bytes_eq o.receiver code ≡ false))
-      (λ o e. (apart_from o.sender code (accounts book) unused (first_true _ _ _ e), apart_from o.receiver code (accounts book) unused (second_true _ _ _ e))) book.orders h.parties.0
+  known = all_weaker (λ o. has_parties book o ≡ true) (λ (o : Order). (bytes_eq o.sender code ≡ false)
+      × (bytes_eq o.receiver code ≡ false))
+      (λ o e. (
+        apart_from o.sender code (accounts book) unused (first_true _ _ _ e),
+        apart_from o.receiver code
+            (accounts book) unused (second_true _ _ _ e),
+      )) book.orders h.parties.0
     where
       first_true : (a b c : Bool) → (a && b && c) ≡ true → a ≡ true
       first_true true b c e = refl
@@ -136,18 +174,22 @@ module _ (book : Book) (code full key : List ℕ) (h : IsSound book) (free : All
   pub balance_none : balance book code ≡ pos 0
   unfolding balance is_participant
   balance_none =
-      let none = no_postings code book.postings (all_weaker (λ (p : Posting). list_any (bytes_eq p.code) (accounts book) ≡ true) (λ (p : Posting). bytes_eq p.code code ≡ false) (λ p e. apart_from p.code code (accounts book) unused e) book.postings h.parties.1) in
+      let none = no_postings code book.postings (all_weaker (λ (p : Posting). list_any (bytes_eq p.code) (accounts book)
+      ≡ true) (λ (p : Posting). bytes_eq p.code code ≡ false)
+      (λ p e. apart_from p.code code (accounts book) unused e) book.postings h.parties.1) in
       rw (none, no_gains code book.orders known) refl
 
   still_known : (c : List ℕ) → is_participant book c ≡ true → is_participant (with_participant book new) c ≡ true
   unfolding is_participant
-  still_known c e = rw accounts-with_participant (any-put_in (bytes_eq c) (λ c. is_before c code) code (accounts book) e)
+  still_known c e = rw accounts-with_participant (any-put_in (bytes_eq c) (λ c. is_before c code) code (accounts book)
+      e)
 
   balance_same : (c : List ℕ) → balance (with_participant book new) c ≡ balance book c
   unfolding balance with_participant
   balance_same c = refl
 
-  few : length book.participants < MOST_PARTICIPANTS → length (put_in (λ c. is_before c code) code (accounts book)) ≡ length (accounts book) + 1 → length (put_in (λ c. is_before c code) code (accounts book)) ≤ MOST_PARTICIPANTS
+  few : length book.participants < MOST_PARTICIPANTS → length (put_in (λ c. is_before c code) code (accounts book))
+      ≡ length (accounts book) + 1 → length (put_in (λ c. is_before c code) code (accounts book)) ≤ MOST_PARTICIPANTS
   unfolding accounts
   few room many = let long = length-map book.participants (λ (p : Participant). p.code) in omega arith
 
@@ -161,12 +203,15 @@ module _ (book : Book) (code full key : List ℕ) (h : IsSound book) (free : All
 
   floor_same : (c : List ℕ) → bytes_eq c code ≡ false → floor (with_participant book new) c ≡ floor book c
   unfolding floor credit_of participant_of with_participant
-  floor_same c apart = ap (λ n. cond (is_closed book.day.phase) (pos 0) (neg_ℤ (pos n))) (limit-put_in new c (bytes_eq_comm code c ∙ apart) book.participants)
+  floor_same c apart = ap (λ n. cond (is_closed book.day.phase) (pos 0) (neg_ℤ (pos n)))
+      (limit-put_in new c (bytes_eq_comm code c ∙ apart) book.participants)
 
   parties_lifted : (o : Order) → has_parties book o ≡ true → has_parties (with_participant book new) o ≡ true
-  parties_lifted o e = lift _ _ (not (bytes_eq o.sender o.receiver)) _ _ (still_known o.sender) (still_known o.receiver) e
+  parties_lifted o e = lift _ _ (not (bytes_eq o.sender o.receiver)) _ _ (still_known o.sender) (still_known o.receiver)
+      e
     where
-      lift : (a b c d f : Bool) → (a ≡ true → d ≡ true) → (b ≡ true → f ≡ true) → (a && b && c) ≡ true → (d && f && c) ≡ true
+      lift : (a b c d f : Bool) → (a ≡ true → d ≡ true) → (b ≡ true → f ≡ true) → (a && b && c) ≡ true
+          → (d && f && c) ≡ true
       lift true true c d f g k e = rw (g refl, k refl) e
       lift true false c d f g k e = absurd (true≢false (sym e))
       lift false b c d f g k e = absurd (true≢false (sym e))
@@ -174,7 +219,8 @@ module _ (book : Book) (code full key : List ℕ) (h : IsSound book) (free : All
   -- the balances of the accounts are what they were
   total_same : total (with_participant book new) ≡ total book
   unfolding total
-  total_same = ap (λ (codes : List (List ℕ)). int_sum_by (balance (with_participant book new)) codes) accounts-with_participant
+  total_same = ap (λ (codes : List (List ℕ)). int_sum_by (balance (with_participant book new)) codes)
+      accounts-with_participant
       ∙ ap (λ (f : List ℕ → ℤ). int_sum_by f (put_in (λ c. is_before c code) code (accounts book))) (λ i c. same c i)
       ∙ sum-put_in (balance book) (λ c. is_before c code) code (accounts book)
       ∙ zero_first _ _ balance_none
@@ -185,7 +231,8 @@ module _ (book : Book) (code full key : List ℕ) (h : IsSound book) (free : All
       zero_first : (a b : ℤ) → a ≡ pos 0 → a +ℤ b ≡ b
       zero_first a b e = omega (arith, ints)
 
-  pub participant_sound : AllByRecursion (λ (p : Participant). bytes_eq p.key key ≡ false) book.participants → length book.participants < MOST_PARTICIPANTS → IsSound (with_participant book new)
+  pub participant_sound : AllByRecursion (λ (p : Participant). bytes_eq p.key key ≡ false) book.participants
+      → length book.participants < MOST_PARTICIPANTS → IsSound (with_participant book new)
   unfolding with_participant queue
   participant_sound keys room =
       let same = accounts-with_participant in
@@ -195,17 +242,26 @@ module _ (book : Book) (code full key : List ℕ) (h : IsSound book) (free : All
         postings_numbered = h.postings_numbered;
         marks_numbered = h.marks_numbered;
         codes_rise = rw same (sorted_put_in code (accounts book) h.codes_rise.0 unused, few room many);
-        keys_distinct = distinct_put_in bytes_eq bytes_eq_comm (λ (p : Participant). p.key) (comes_before code) new book.participants h.keys_distinct keys;
+        keys_distinct = distinct_put_in bytes_eq bytes_eq_comm (λ (p : Participant). p.key) (comes_before code) new
+            book.participants h.keys_distinct keys;
         order_references = h.order_references;
         posting_references = h.posting_references;
         parties = (
-          all_weaker (λ o. has_parties book o ≡ true) (λ o. has_parties (with_participant book new) o ≡ true) parties_lifted book.orders h.parties.0,
-          all_weaker (λ (p : Posting). is_participant book p.code ≡ true) (λ (p : Posting). is_participant (with_participant book new) p.code ≡ true) (λ p e. still_known p.code e) book.postings h.parties.1,
+          all_weaker (λ o. has_parties book o ≡ true) (λ o. has_parties (with_participant book new) o ≡ true)
+              parties_lifted book.orders h.parties.0,
+          all_weaker (λ (p : Posting). is_participant book p.code ≡ true)
+              (λ (p : Posting). is_participant (with_participant book new) p.code ≡ true) (λ p e. still_known p.code e)
+              book.postings h.parties.1,
         );
-        marks = (h.marks.0, all_weaker (CountsItsOrders book) (CountsItsOrders (with_participant book new)) (λ (m : Mark) c. record { some = c.some; count = c.count; value = c.value }) book.marks h.marks.1);
+        marks = (
+          h.marks.0,
+          all_weaker (CountsItsOrders book) (CountsItsOrders (with_participant book new))
+              (λ (m : Mark) c. record { some = c.some; count = c.count; value = c.value }) book.marks h.marks.1,
+        );
         queues = record {
           closed = h.queues.closed;
-          short = rw same (all_put_in (λ c. length (queue book c) ≤ LONGEST_QUEUE) (λ c. is_before c code) code (accounts book) h.queues.short (no_queue code book.orders known));
+          short = rw same (all_put_in (λ c. length (queue book c) ≤ LONGEST_QUEUE) (λ c. is_before c code) code
+              (accounts book) h.queues.short (no_queue code book.orders known));
           of_the_day = h.queues.of_the_day;
         };
         dates = record {
@@ -217,13 +273,17 @@ module _ (book : Book) (code full key : List ℕ) (h : IsSound book) (free : All
           marks = h.dates.marks;
           postings = h.dates.postings;
         };
-        floors = rw same (all_put_in (λ c. floor (with_participant book new) c ≤ℤ balance (with_participant book new) c) (λ c. is_before c code) code (accounts book)
-            (all_both (λ c. bytes_eq c code ≡ false) (λ c. floor book c ≤ℤ balance book c) (λ c. floor (with_participant book new) c ≤ℤ balance (with_participant book new) c) (λ c e x. rw (floor_same c e, balance_same c) x) (accounts book) unused h.floors)
+        floors = rw same (all_put_in (λ c. floor (with_participant book new) c ≤ℤ balance (with_participant book new) c)
+            (λ c. is_before c code) code (accounts book)
+            (all_both (λ c. bytes_eq c code ≡ false) (λ c. floor book c ≤ℤ balance book c)
+            (λ c. floor (with_participant book new) c ≤ℤ balance (with_participant book new) c)
+            (λ c e x. rw (floor_same c e, balance_same c) x) (accounts book) unused h.floors)
             (rw (balance_same code, balance_none) floor_low));
         total_fits = rw total_same h.total_fits;
       }
 
-pub balance_of_unknown : (book : Book) (code : List ℕ) → IsSound book → is_participant book code ≡ false → balance book code ≡ pos 0
+pub balance_of_unknown : (book : Book) (code : List ℕ) → IsSound book → is_participant book code ≡ false
+    → balance book code ≡ pos 0
 unfolding is_participant accounts
 balance_of_unknown book code h unknown = balance_none book code [] [] h (free book.participants unknown)
   where
@@ -235,11 +295,13 @@ balance_of_unknown book code h unknown = balance_none book code [] [] h (free bo
     later true b e = absurd (true≢false e)
     later false b e = e
 
-    free : (ps : List Participant) → list_any (bytes_eq code) (map (λ (p : Participant). p.code) ps) ≡ false → AllByRecursion (λ (p : Participant). bytes_eq p.code code ≡ false) ps
+    free : (ps : List Participant) → list_any (bytes_eq code) (map (λ (p : Participant). p.code) ps) ≡ false
+        → AllByRecursion (λ (p : Participant). bytes_eq p.code code ≡ false) ps
     free [] e = tt
     free (p ∷ ps) e = (bytes_eq_comm p.code code ∙ here _ _ e, free ps (later _ _ e))
 
 pub sound_add : (book : Book) (code full key : List ℕ) → IsSound book → IsSound (add book code full key).book
 unfolding add participant_of
 sound_add book code full key h = sound_first_of book _ _ h (λ passed.
-    participant_sound book code full key h (find_none (has_code code) book.participants passed.1.0) (none_any _ book.participants passed.1.1.0) (lt_from_test _ _ passed.1.1.1.0))
+    participant_sound book code full key h (find_none (has_code code) book.participants passed.1.0)
+    (none_any _ book.participants passed.1.1.0) (lt_from_test _ _ passed.1.1.1.0))

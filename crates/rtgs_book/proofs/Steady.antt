@@ -1,18 +1,24 @@
 -- What a step leaves as it was, or moves.
-use Rattle.std.proofs.Common.{◌≡◌, ℕ, ◌≤◌, ◌+◌, ℤ, pos, ◌+ℤ◌, Bool, true, false, cond, not, inl, inr, List, [], ◌∷◌, ◌++◌, Option, Some, None, map, filter, length, refl, sym, ap, ◌∙◌, subst, ⊎_elim, true≢false, append-nil, append_assoc, arith}
+use Rattle.std.proofs.Common.{◌≡◌, ℕ, ◌≤◌, ◌+◌, ℤ, pos, ◌+ℤ◌, Bool, true, false, cond, not, inl, inr, List, [], ◌∷◌}
+use Rattle.std.proofs.Common.{◌++◌, Option, Some, None, map, filter, length, refl, sym, ap, ◌∙◌, subst, ⊎_elim}
+use Rattle.std.proofs.Common.{true≢false, append-nil, append_assoc, arith}
 use Rattle.std.proofs.lemmas.Int.{ints}
 use Rattle.std.proofs.lemmas.List.{length-map}
 use Rattle.std.specs.List.{AllByRecursion, range_with_len}
 use Rattle.rtgs_money.specs.Amounts.{IsAmount, IsPostingAmount, IsCredit}
-use Rattle.rtgs_book.specs.declared.command.Command.TheVariants.{Add, SetCredit, Post, OpenDay, Order as PlaceOrder, Withdraw, Resolve, CutOff, CloseDay}
-use Rattle.rtgs_book.specs.Books.{Book, Participant, Posting, Order, OrderState, Mark, Settled, Withdrawn, Rejected, is_closed, is_queued, is_settled, is_empty}
+use Rattle.rtgs_book.specs.declared.command.Command.TheVariants.{Add, SetCredit, Post, OpenDay, Order as PlaceOrder}
+use Rattle.rtgs_book.specs.declared.command.Command.TheVariants.{Withdraw, Resolve, CutOff, CloseDay}
+use Rattle.rtgs_book.specs.Books.{Book, Participant, Posting, Order, OrderState, Mark, Settled, Withdrawn, Rejected}
+use Rattle.rtgs_book.specs.Books.{is_closed, is_queued, is_settled, is_empty}
 use Rattle.rtgs_book.specs.Lookup.{has_code, is_order_named, order_named, posting_named}
 use Rattle.rtgs_book.specs.IntSum.{int_sum_by}
 use Rattle.rtgs_book.specs.Balance.{total, issued}
 use Rattle.rtgs_book.specs.Choice.{is_chosen, chosen}
 use Rattle.rtgs_book.specs.Settle.{restated, settle, mark_of, next_mark}
 use Rattle.rtgs_book.specs.Outcome.{Command, Reply, Outcome, first_of}
-use Rattle.rtgs_book.specs.Commands.{is_before, add, with_participant, set_credit, with_credit, known_posting, post, new_order, with_order, has_number, takes, settles_at_once, order, is_queued_order, number_of, with_state, withdraw, open_day, cut_off, resolve, close_day}
+use Rattle.rtgs_book.specs.Commands.{is_before, add, with_participant, set_credit, with_credit, known_posting, post}
+use Rattle.rtgs_book.specs.Commands.{new_order, with_order, has_number, takes, settles_at_once, order, is_queued_order}
+use Rattle.rtgs_book.specs.Commands.{number_of, with_state, withdraw, open_day, cut_off, resolve, close_day}
 use Rattle.rtgs_book.specs.Procedure.{Has}
 use Rattle.rtgs_book.specs.Soundness.{IsSound}
 use Rattle.rtgs_book.specs.Run.{Run}
@@ -32,23 +38,30 @@ use Rattle.rtgs_book.proofs.SoundStates.{all_queued}
 use Rattle.rtgs_book.proofs.States.{found_by_number}
 
 -- what holds where a test is answered, and after what the command is for, holds of the outcome
-pub holds_first_of : (P : Outcome → Type 0) (book : Book) (rows : List (Bool × Reply)) (outcome : Outcome) → AllByRecursion (λ (row : Bool × Reply). P (record { reply = row.1; book = book })) rows → P outcome → P (first_of book rows outcome)
+pub holds_first_of : (P : Outcome → Type 0) (book : Book) (rows : List (Bool × Reply)) (outcome : Outcome)
+    → AllByRecursion (λ (row : Bool × Reply). P (record { reply = row.1; book = book })) rows → P outcome
+    → P (first_of book rows outcome)
 unfolding first_of
 holds_first_of P book [] outcome h p = p
 holds_first_of P book (row ∷ rows) outcome h p = by row.0 (holds_first_of P book rows outcome h.1 p)
   where
-    by : (b : Bool) → P (first_of book rows outcome) → P (cond b (record { reply = row.1; book = book }) (first_of book rows outcome))
+    by : (b : Bool) → P (first_of book rows outcome) → P (cond b (record { reply = row.1; book = book })
+        (first_of book rows outcome))
     by true rest = h.0
     by false rest = rest
 
 -- the same of the book alone
-pub book_first_of : (P : Book → Type 0) (book : Book) (rows : List (Bool × Reply)) (outcome : Outcome) → P book → P outcome.book → P (first_of book rows outcome).book
-book_first_of P book rows outcome h p = holds_first_of (λ o. P o.book) book rows outcome (all_of (λ (row : Bool × Reply). P book) (λ row. h) rows) p
+pub book_first_of : (P : Book → Type 0) (book : Book) (rows : List (Bool × Reply)) (outcome : Outcome) → P book
+    → P outcome.book → P (first_of book rows outcome).book
+book_first_of P book rows outcome h p = holds_first_of (λ o. P o.book) book rows outcome
+    (all_of (λ (row : Bool × Reply). P book) (λ row. h) rows) p
 
 -- the same, where what the command is for is known to come after all tests
-sound_first : (P : Book → Type 0) (book : Book) (rows : List (Bool × Reply)) (outcome : Outcome) → P book → (NoneHolds rows → P outcome.book) → P (first_of book rows outcome).book
+sound_first : (P : Book → Type 0) (book : Book) (rows : List (Bool × Reply)) (outcome : Outcome) → P book
+    → (NoneHolds rows → P outcome.book) → P (first_of book rows outcome).book
 sound_first P book rows outcome h keeps =
-    ⊎_elim (λ same. subst P (sym same) h) (λ passed. subst (λ (o : Outcome). P o.book) (sym passed.1) (keeps passed.0)) (first_of_cases book rows outcome)
+    ⊎_elim (λ same. subst P (sym same) h) (λ passed. subst (λ (o : Outcome). P o.book) (sym passed.1) (keeps passed.0))
+    (first_of_cases book rows outcome)
 
 pub choose_book : (P : Book → Type 0) (b : Bool) (x y : Outcome) → P x.book → P y.book → P (cond b x y).book
 choose_book P true x y h k = h
@@ -66,9 +79,11 @@ settle_same book is_in = settle-postings book is_in
 
 takes_postings : (book : Book) (o : Order) → (takes book o).book.postings ≡ book.postings
 unfolding takes
-takes_postings book o = choose_book (λ new. new.postings ≡ book.postings) (settles_at_once book o.sender o.amount) _ _ (settle-postings (with_order book o) (has_number o.number)) refl
+takes_postings book o = choose_book (λ new. new.postings ≡ book.postings) (settles_at_once book o.sender o.amount) _ _
+    (settle-postings (with_order book o) (has_number o.number)) refl
 
-not_posted : (found : Option Posting) (code reference : List ℕ) (cents : ℤ) → posted (Post code reference cents) (known_posting found) ≡ pos 0
+not_posted : (found : Option Posting) (code reference : List ℕ) (cents : ℤ)
+    → posted (Post code reference cents) (known_posting found) ≡ pos 0
 not_posted None code reference cents = refl
 not_posted (Some p) code reference cents = refl
 
@@ -77,39 +92,71 @@ issued_by : (old new : Book) → new.postings ≡ old.postings → issued new �
 unfolding issued
 issued_by old new same = ap (int_sum_by (λ (p : Posting). p.cents)) same ∙ omega (arith, ints)
 
-issued_with : (book : Book) (posting : Posting) → issued (record book { postings = book.postings ++ posting ∷ [] }) ≡ issued book +ℤ posting.cents
+issued_with : (book : Book) (posting : Posting) → issued (record book { postings = book.postings ++ posting ∷ [] })
+    ≡ issued book +ℤ posting.cents
 unfolding issued
-issued_with book posting = int_sum_by-append (λ (p : Posting). p.cents) book.postings (posting ∷ []) ∙ omega (arith, ints)
+issued_with book posting = int_sum_by-append (λ (p : Posting). p.cents) book.postings (posting ∷ [])
+    ∙ omega (arith, ints)
 
 none_issued : (book : Book) → issued book ≡ issued book +ℤ pos 0
 none_issued book = omega (arith, ints)
 
-by_outcome : (old new : Book) (command : Command) (reply : Reply) (outcome : Outcome) → record { reply = reply; book = new } ≡ outcome → issued outcome.book ≡ issued old +ℤ posted command outcome.reply → issued new ≡ issued old +ℤ posted command reply
-by_outcome old new command reply outcome e h = subst (λ (o : Outcome). issued o.book ≡ issued old +ℤ posted command o.reply) (sym e) h
+by_outcome : (old new : Book) (command : Command) (reply : Reply) (outcome : Outcome) → record {
+  reply = reply;
+  book = new;
+} ≡ outcome → issued outcome.book ≡ issued old +ℤ posted command outcome.reply
+    → issued new ≡ issued old +ℤ posted command reply
+by_outcome old new command reply outcome e h = subst (λ (o : Outcome). issued o.book
+    ≡ issued old +ℤ posted command o.reply) (sym e) h
 
-issued_post : (book : Book) (code reference : List ℕ) (cents : ℤ) → issued (post book code reference cents).book ≡ issued book +ℤ posted (Post code reference cents) (post book code reference cents).reply
+issued_post : (book : Book) (code reference : List ℕ) (cents : ℤ)
+    → issued (post book code reference cents).book ≡ issued book +ℤ posted (Post code reference cents)
+    (post book code reference cents).reply
 unfolding post
 issued_post book code reference cents =
-    holds_first_of (λ (o : Outcome). issued o.book ≡ issued book +ℤ posted (Post code reference cents) o.reply) book _ _
-    (none_issued book, (rw (not_posted (posting_named book reference) code reference cents) (none_issued book), (none_issued book, (none_issued book, (none_issued book, (none_issued book, tt))))))
+    holds_first_of (λ (o : Outcome). issued o.book ≡ issued book +ℤ posted (Post code reference cents) o.reply) book _ _ (
+      none_issued book,
+      (
+        rw (not_posted (posting_named book reference) code reference cents) (none_issued book),
+        (none_issued book, (none_issued book, (none_issued book, (none_issued book, tt)))),
+      ),
+    )
     (issued_with book _)
 
 module _ (old new : Book) (reply : Reply) where
   moves : (command : Command) → Step old command reply new → issued new ≡ issued old +ℤ posted command reply
   unfolding add with_participant set_credit with_credit open_day order withdraw with_state cut_off resolve close_day
-  moves (Add code name key) e = by_outcome old new (Add code name key) reply _ e (issued_by old (add old code name key).book (book_first_of (λ b. b.postings ≡ old.postings) old _ _ refl refl))
-  moves (SetCredit code credit) e = by_outcome old new (SetCredit code credit) reply _ e (issued_by old (set_credit old code credit).book (book_first_of (λ b. b.postings ≡ old.postings) old _ _ refl refl))
-  moves (Post code reference cents) e = by_outcome old new (Post code reference cents) reply _ e (issued_post old code reference cents)
-  moves (OpenDay date) e = by_outcome old new (OpenDay date) reply _ e (issued_by old (open_day old date).book (book_first_of (λ b. b.postings ≡ old.postings) old _ _ refl refl))
-  moves (PlaceOrder sender reference receiver amount) e = by_outcome old new (PlaceOrder sender reference receiver amount) reply _ e (issued_by old (order old sender reference receiver amount).book (book_first_of (λ b. b.postings ≡ old.postings) old _ _ refl (takes_postings old (new_order old sender reference receiver amount))))
-  moves (Withdraw sender reference) e = by_outcome old new (Withdraw sender reference) reply _ e (issued_by old (withdraw old sender reference).book (book_first_of (λ b. b.postings ≡ old.postings) old _ _ refl refl))
-  moves Resolve e = by_outcome old new Resolve reply _ e.2 (issued_by old (resolve old e.0).book (book_first_of (λ b. b.postings ≡ old.postings) old _ _ refl (choose_book (λ b. b.postings ≡ old.postings) (is_empty (chosen old e.0)) _ _ refl (settle-postings old (is_chosen old e.0)))))
-  moves (CutOff date) e = by_outcome old new (CutOff date) reply _ e (issued_by old (cut_off old date).book (book_first_of (λ b. b.postings ≡ old.postings) old _ _ refl refl))
-  moves (CloseDay date) e = by_outcome old new (CloseDay date) reply _ e.2 (issued_by old (close_day old e.0 date).book (book_first_of (λ b. b.postings ≡ old.postings) old _ _ refl refl))
+  moves (Add code name key) e = by_outcome old new (Add code name key) reply _ e
+      (issued_by old (add old code name key).book (book_first_of (λ b. b.postings ≡ old.postings) old _ _ refl refl))
+  moves (SetCredit code credit) e = by_outcome old new (SetCredit code credit) reply _ e
+      (issued_by old (set_credit old code credit).book (book_first_of (λ b. b.postings ≡ old.postings) old _ _ refl
+      refl))
+  moves (Post code reference cents) e = by_outcome old new (Post code reference cents) reply _ e
+      (issued_post old code reference cents)
+  moves (OpenDay date) e = by_outcome old new (OpenDay date) reply _ e
+      (issued_by old (open_day old date).book (book_first_of (λ b. b.postings ≡ old.postings) old _ _ refl refl))
+  moves (PlaceOrder sender reference receiver amount) e = by_outcome old new
+      (PlaceOrder sender reference receiver amount) reply _ e
+      (issued_by old (order old sender reference receiver amount).book
+      (book_first_of (λ b. b.postings ≡ old.postings) old _ _ refl
+      (takes_postings old (new_order old sender reference receiver amount))))
+  moves (Withdraw sender reference) e = by_outcome old new (Withdraw sender reference) reply _ e
+      (issued_by old (withdraw old sender reference).book (book_first_of (λ b. b.postings ≡ old.postings) old _ _ refl
+      refl))
+  moves Resolve e = by_outcome old new Resolve reply _ e.2 (issued_by old (resolve old e.0).book
+      (book_first_of (λ b. b.postings ≡ old.postings) old _ _ refl
+      (choose_book (λ b. b.postings ≡ old.postings) (is_empty (chosen old e.0)) _ _ refl
+      (settle-postings old (is_chosen old e.0)))))
+  moves (CutOff date) e = by_outcome old new (CutOff date) reply _ e
+      (issued_by old (cut_off old date).book (book_first_of (λ b. b.postings ≡ old.postings) old _ _ refl refl))
+  moves (CloseDay date) e = by_outcome old new (CloseDay date) reply _ e.2
+      (issued_by old (close_day old e.0 date).book (book_first_of (λ b. b.postings ≡ old.postings) old _ _ refl refl))
 
-pub total_moves : (old new : Book) (command : Command) (reply : Reply) → IsSound old → Step old command reply new → total new ≡ total old +ℤ posted command reply
+pub total_moves : (old new : Book) (command : Command) (reply : Reply) → IsSound old → Step old command reply new
+    → total new ≡ total old +ℤ posted command reply
 total_moves old new command reply h s =
-    total_is_issued new (step_sound old new command reply h s) ∙ moves old new reply command s ∙ ap (λ z. z +ℤ posted command reply) (sym (total_is_issued old h))
+    total_is_issued new (step_sound old new command reply h s) ∙ moves old new reply command s
+    ∙ ap (λ z. z +ℤ posted command reply) (sym (total_is_issued old h))
 
 -- ---- marks and settled orders stand
 
@@ -126,7 +173,8 @@ has_all P [] o h k = absurd k
 has_all P (x ∷ os) o h k = ⊎_elim (λ e. subst P e h.0) (λ m. has_all P os o h.1 m) k
 
 -- a settled order keeps its state where queued ones alone get another
-settled_stays : (is_in : Order → Bool) (s : OrderState) (o : Order) → (is_in o ≡ true → is_queued o ≡ true) → is_settled o ≡ true → restated is_in s o ≡ o
+settled_stays : (is_in : Order → Bool) (s : OrderState) (o : Order) → (is_in o ≡ true → is_queued o ≡ true)
+    → is_settled o ≡ true → restated is_in s o ≡ o
 settled_stays is_in s o queued settled = by (is_in o) queued
   where
     by : (b : Bool) → (b ≡ true → is_queued o ≡ true) → cond b (record o { state = s }) o ≡ o
@@ -134,21 +182,30 @@ settled_stays is_in s o queued settled = by (is_in o) queued
     by false q = refl
 
 stands_same : (old new : Book) → new.marks ≡ old.marks → new.orders ≡ old.orders → Stands old new
-stands_same old new m o = record { marks = ([], m ∙ sym (append-nil old.marks)); orders = λ x h settled. subst (λ os. Has os x) (sym o) h }
-
-stands_restated : (old new : Book) (is_in : Order → Bool) (s : OrderState) → AllByRecursion (λ o. is_in o ≡ true → is_queued o ≡ true) old.orders → (later : List Mark) → new.marks ≡ old.marks ++ later → new.orders ≡ map (restated is_in s) old.orders → Stands old new
-stands_restated old new is_in s queued later m o = record {
-  marks = (later, m);
-  orders = λ x h settled. subst (λ os. Has os x) (sym o) (has_map (restated is_in s) old.orders x (settled_stays is_in s x (has_all (λ o. is_in o ≡ true → is_queued o ≡ true) old.orders x queued h) settled) h);
+stands_same old new m o = record {
+  marks = ([], m ∙ sym (append-nil old.marks));
+  orders = λ x h settled. subst (λ os. Has os x) (sym o) h;
 }
 
-stands_settle : (old : Book) (is_in : Order → Bool) → AllByRecursion (λ o. is_in o ≡ true → is_queued o ≡ true) old.orders → Stands old (settle old is_in)
+stands_restated : (old new : Book) (is_in : Order → Bool) (s : OrderState)
+    → AllByRecursion (λ o. is_in o ≡ true → is_queued o ≡ true) old.orders → (later : List Mark)
+    → new.marks ≡ old.marks ++ later → new.orders ≡ map (restated is_in s) old.orders → Stands old new
+stands_restated old new is_in s queued later m o = record {
+  marks = (later, m);
+  orders = λ x h settled. subst (λ os. Has os x) (sym o) (has_map (restated is_in s) old.orders x
+      (settled_stays is_in s x (has_all (λ o. is_in o ≡ true → is_queued o ≡ true) old.orders x queued h) settled) h);
+}
+
+stands_settle : (old : Book) (is_in : Order → Bool) → AllByRecursion (λ o. is_in o ≡ true → is_queued o ≡ true)
+    old.orders → Stands old (settle old is_in)
 stands_settle old is_in queued =
     ⊎_elim (λ same. subst (Stands old) (sym same) (stands_same old old refl refl))
-    (λ h. subst (Stands old) (sym h.0) (stands_restated old _ is_in (Settled (next_mark old)) queued (mark_of old (filter is_in old.orders) ∷ []) refl refl))
+    (λ h. subst (Stands old) (sym h.0) (stands_restated old _ is_in (Settled (next_mark old)) queued
+    (mark_of old (filter is_in old.orders) ∷ []) refl refl))
     (settle_cases old is_in)
 
-stands_after : (old mid new : Book) → mid.marks ≡ old.marks → (later : List Order) → mid.orders ≡ old.orders ++ later → Stands mid new → Stands old new
+stands_after : (old mid new : Book) → mid.marks ≡ old.marks → (later : List Order) → mid.orders ≡ old.orders ++ later
+    → Stands mid new → Stands old new
 stands_after old mid new m later o h = record {
   marks = (h.marks.0, h.marks.1 ∙ ap (λ ms. ms ++ h.marks.0) m);
   orders = λ x has settled. h.orders x (subst (λ os. Has os x) (sym o) (has_left old.orders later x has)) settled;
@@ -156,45 +213,71 @@ stands_after old mid new m later o h = record {
 
 -- the order that joins its queue is the only one with its number
 module _ (book : Book) (sender reference receiver : List ℕ) (amount : ℕ) (h : IsSound book) where
-  one_new : AllByRecursion (λ o. has_number (length book.orders + 1) o ≡ true → is_queued o ≡ true) (book.orders ++ new_order book sender reference receiver amount ∷ [])
-  one_new = all_push (λ o. has_number (length book.orders + 1) o ≡ true → is_queued o ≡ true) book.orders (new_order book sender reference receiver amount)
-      (all_weaker (λ o. has_number (length book.orders + 1) o ≡ false) (λ o. has_number (length book.orders + 1) o ≡ true → is_queued o ≡ true) (λ o none e. absurd (true≢false (sym e ∙ none))) book.orders (old_numbers book sender reference receiver amount h)) (λ _. refl)
+  one_new : AllByRecursion (λ o. has_number (length book.orders + 1) o ≡ true → is_queued o ≡ true)
+      (book.orders ++ new_order book sender reference receiver amount ∷ [])
+  one_new = all_push (λ o. has_number (length book.orders + 1) o ≡ true → is_queued o ≡ true) book.orders
+      (new_order book sender reference receiver amount)
+      (all_weaker (λ o. has_number (length book.orders + 1) o ≡ false)
+      (λ o. has_number (length book.orders + 1) o ≡ true → is_queued o ≡ true)
+      (λ o none e. absurd (true≢false (sym e ∙ none))) book.orders
+      (old_numbers book sender reference receiver amount h)) (λ _. refl)
 
   takes_stands : Stands book (takes book (new_order book sender reference receiver amount)).book
   unfolding takes
   takes_stands =
       let new = new_order book sender reference receiver amount in
       choose_book (Stands book) (settles_at_once book sender amount) _ _
-      (stands_after book (with_order book new) (settle (with_order book new) (has_number (length book.orders + 1))) refl (new ∷ []) refl (stands_settle (with_order book new) (has_number (length book.orders + 1)) one_new))
-      (stands_after book (with_order book new) (with_order book new) refl (new ∷ []) refl (stands_same (with_order book new) (with_order book new) refl refl))
+      (stands_after book (with_order book new) (settle (with_order book new) (has_number (length book.orders + 1))) refl
+      (new ∷ []) refl (stands_settle (with_order book new) (has_number (length book.orders + 1)) one_new))
+      (stands_after book (with_order book new) (with_order book new) refl (new ∷ []) refl
+      (stands_same (with_order book new) (with_order book new) refl refl))
 
   withdraw_stands : Stands book (withdraw book sender reference).book
   unfolding withdraw with_state order_named
-  withdraw_stands = sound_first (Stands book) book _ _ (stands_same book book refl refl) (λ passed. by (order_named book sender reference) refl (not_false _ passed.1.1.1.0))
+  withdraw_stands = sound_first (Stands book) book _ _ (stands_same book book refl refl)
+      (λ passed. by (order_named book sender reference) refl (not_false _ passed.1.1.1.0))
     where
-      by : (found : Option Order) → order_named book sender reference ≡ found → is_queued_order found ≡ true → Stands book (with_state book (has_number (number_of found)) Withdrawn)
+      by : (found : Option Order) → order_named book sender reference ≡ found → is_queued_order found ≡ true
+          → Stands book (with_state book (has_number (number_of found)) Withdrawn)
       by None e q = absurd (true≢false (sym q))
       by (Some o) e q = stands_restated book _ (has_number o.number) Withdrawn
-          (found_by_number (λ other. is_queued other ≡ true) (is_order_named sender reference) 1 book.orders o (h.orders_numbered.0 ∙ ap (range_with_len 1) (length-map book.orders (λ (o : Order). o.number))) e q) [] (sym (append-nil book.marks)) refl
+          (found_by_number (λ other. is_queued other ≡ true) (is_order_named sender reference) 1 book.orders o
+          (h.orders_numbered.0 ∙ ap (range_with_len 1) (length-map book.orders (λ (o : Order). o.number))) e q) []
+          (sym (append-nil book.marks)) refl
 
-stays : (old new : Book) (reply : Reply) (outcome : Outcome) → record { reply = reply; book = new } ≡ outcome → Stands old outcome.book → Stands old new
+stays : (old new : Book) (reply : Reply) (outcome : Outcome) → record { reply = reply; book = new } ≡ outcome
+    → Stands old outcome.book → Stands old new
 stays old new reply outcome e h = subst (λ (o : Outcome). Stands old o.book) (sym e) h
 
-pub step_stands : (old new : Book) (command : Command) (reply : Reply) → IsSound old → Step old command reply new → Stands old new
+pub step_stands : (old new : Book) (command : Command) (reply : Reply) → IsSound old → Step old command reply new
+    → Stands old new
 unfolding add with_participant set_credit with_credit post open_day order with_state cut_off resolve close_day
-step_stands old new (Add code name key) reply h e = stays old new reply _ e (book_first_of (Stands old) old _ _ (stands_same old old refl refl) (stands_same old _ refl refl))
-step_stands old new (SetCredit code credit) reply h e = stays old new reply _ e (book_first_of (Stands old) old _ _ (stands_same old old refl refl) (stands_same old _ refl refl))
-step_stands old new (Post code reference cents) reply h e = stays old new reply _ e (book_first_of (Stands old) old _ _ (stands_same old old refl refl) (stands_same old _ refl refl))
-step_stands old new (OpenDay date) reply h e = stays old new reply _ e (book_first_of (Stands old) old _ _ (stands_same old old refl refl) (stands_same old _ refl refl))
-step_stands old new (PlaceOrder sender reference receiver amount) reply h e = stays old new reply _ e (book_first_of (Stands old) old _ _ (stands_same old old refl refl) (takes_stands old sender reference receiver amount h))
-step_stands old new (Withdraw sender reference) reply h e = stays old new reply _ e (withdraw_stands old sender reference [] 0 h)
-step_stands old new Resolve reply h e = stays old new reply _ e.2 (book_first_of (Stands old) old _ _ (stands_same old old refl refl)
-    (choose_book (Stands old) (is_empty (chosen old e.0)) _ _ (stands_same old old refl refl) (stands_settle old (is_chosen old e.0) (all_of (λ o. is_chosen old e.0 o ≡ true → is_queued o ≡ true) (chosen_queued old e.0) old.orders))))
-step_stands old new (CutOff date) reply h e = stays old new reply _ e (book_first_of (Stands old) old _ _ (stands_same old old refl refl) (stands_same old _ refl refl))
-step_stands old new (CloseDay date) reply h e = stays old new reply _ e.2 (book_first_of (Stands old) old _ _ (stands_same old old refl refl)
+step_stands old new (Add code name key) reply h e = stays old new reply _ e
+    (book_first_of (Stands old) old _ _ (stands_same old old refl refl) (stands_same old _ refl refl))
+step_stands old new (SetCredit code credit) reply h e = stays old new reply _ e
+    (book_first_of (Stands old) old _ _ (stands_same old old refl refl) (stands_same old _ refl refl))
+step_stands old new (Post code reference cents) reply h e = stays old new reply _ e
+    (book_first_of (Stands old) old _ _ (stands_same old old refl refl) (stands_same old _ refl refl))
+step_stands old new (OpenDay date) reply h e = stays old new reply _ e
+    (book_first_of (Stands old) old _ _ (stands_same old old refl refl) (stands_same old _ refl refl))
+step_stands old new (PlaceOrder sender reference receiver amount) reply h e =
+    stays old new reply _ e (book_first_of (Stands old) old _ _ (stands_same old old refl refl)
+    (takes_stands old sender reference receiver amount h))
+step_stands old new (Withdraw sender reference) reply h e = stays old new reply _ e
+    (withdraw_stands old sender reference [] 0 h)
+step_stands old new Resolve reply h e = stays old new reply _ e.2
+    (book_first_of (Stands old) old _ _ (stands_same old old refl refl)
+    (choose_book (Stands old) (is_empty (chosen old e.0)) _ _ (stands_same old old refl refl)
+    (stands_settle old (is_chosen old e.0) (all_of (λ o. is_chosen old e.0 o ≡ true → is_queued o ≡ true)
+    (chosen_queued old e.0) old.orders))))
+step_stands old new (CutOff date) reply h e = stays old new reply _ e
+    (book_first_of (Stands old) old _ _ (stands_same old old refl refl) (stands_same old _ refl refl))
+step_stands old new (CloseDay date) reply h e = stays old new reply _ e.2
+    (book_first_of (Stands old) old _ _ (stands_same old old refl refl)
     (stands_restated old _ is_queued Rejected (all_queued old.orders) [] (sym (append-nil old.marks)) refl))
 
-pub run_stands : (old new : Book) (commands : List Command) (replies : List Reply) → IsSound old → Run old commands replies new → Stands old new
+pub run_stands : (old new : Book) (commands : List Command) (replies : List Reply) → IsSound old
+    → Run old commands replies new → Stands old new
 run_stands old new [] [] h r = subst (Stands old) (sym r) (stands_same old old refl refl)
 run_stands old new [] (reply ∷ replies) h r = absurd r
 run_stands old new (command ∷ commands) [] h r = absurd r
@@ -202,20 +285,29 @@ run_stands old new (command ∷ commands) (reply ∷ replies) h r =
     let one = step_stands old r.0 command reply h r.1 in
     let rest = run_stands r.0 new commands replies (step_sound old r.0 command reply h r.1) r.2 in
     record {
-      marks = (one.marks.0 ++ rest.marks.0, rest.marks.1 ∙ ap (λ ms. ms ++ rest.marks.0) one.marks.1 ∙ append_assoc old.marks one.marks.0 rest.marks.0);
+      marks = (
+        one.marks.0 ++ rest.marks.0,
+        rest.marks.1 ∙ ap (λ ms. ms ++ rest.marks.0) one.marks.1
+            ∙ append_assoc old.marks one.marks.0 rest.marks.0,
+      );
       orders = λ o has settled. rest.orders o (one.orders o has settled) settled;
     }
 
 -- ---- amounts keep their ranges
 
-fits_orders : (old : Book) (is_in : Order → Bool) (s : OrderState) → AllByRecursion (λ (o : Order). IsAmount o.amount) old.orders → AllByRecursion (λ (o : Order). IsAmount o.amount) (map (restated is_in s) old.orders)
-fits_orders old is_in s h = all_map (λ (o : Order). IsAmount o.amount) (restated is_in s) old.orders (all_weaker (λ (o : Order). IsAmount o.amount) (λ o. IsAmount (restated is_in s o).amount) (λ o k. by o (is_in o) k) old.orders h)
+fits_orders : (old : Book) (is_in : Order → Bool) (s : OrderState)
+    → AllByRecursion (λ (o : Order). IsAmount o.amount) old.orders
+    → AllByRecursion (λ (o : Order). IsAmount o.amount) (map (restated is_in s) old.orders)
+fits_orders old is_in s h = all_map (λ (o : Order). IsAmount o.amount) (restated is_in s) old.orders
+    (all_weaker (λ (o : Order). IsAmount o.amount) (λ o. IsAmount (restated is_in s o).amount) (λ o k. by o (is_in o) k)
+    old.orders h)
   where
     by : (o : Order) (b : Bool) → IsAmount o.amount → IsAmount (cond b (record o { state = s }) o).amount
     by o true k = k
     by o false k = k
 
-fits_as : (old new : Book) → new.participants ≡ old.participants → new.postings ≡ old.postings → AllByRecursion (λ (o : Order). IsAmount o.amount) new.orders → Fits old → Fits new
+fits_as : (old new : Book) → new.participants ≡ old.participants → new.postings ≡ old.postings
+    → AllByRecursion (λ (o : Order). IsAmount o.amount) new.orders → Fits old → Fits new
 fits_as old new p q orders h = record {
   credits = subst (AllByRecursion (λ (p : Participant). IsCredit p.credit)) (sym p) h.credits;
   postings = subst (AllByRecursion (λ (p : Posting). IsPostingAmount p.cents)) (sym q) h.postings;
@@ -231,17 +323,26 @@ fits_settle old is_in h =
 fits_add : (book : Book) (new : Participant) → IsCredit new.credit → Fits book → Fits (with_participant book new)
 unfolding with_participant
 fits_add book new credit h = record {
-  credits = all_append (λ (p : Participant). IsCredit p.credit) (filter (λ (p : Participant). is_before p.code new.code) book.participants) _ (all_filter (λ (p : Participant). IsCredit p.credit) (λ p. is_before p.code new.code) book.participants h.credits)
-      (credit, all_filter (λ (p : Participant). IsCredit p.credit) (λ p. not (is_before p.code new.code)) book.participants h.credits);
+  credits = all_append (λ (p : Participant). IsCredit p.credit)
+      (filter (λ (p : Participant). is_before p.code new.code) book.participants) _
+      (all_filter (λ (p : Participant). IsCredit p.credit) (λ p. is_before p.code new.code) book.participants h.credits) (
+        credit,
+        all_filter (λ (p : Participant). IsCredit p.credit) (λ p. not (is_before p.code new.code))
+            book.participants h.credits,
+      );
   postings = h.postings;
   orders = h.orders;
 }
 
-fits_credit : (book : Book) (code : List ℕ) (credit : ℕ) → IsCredit credit → Fits book → Fits (with_credit book code credit)
+fits_credit : (book : Book) (code : List ℕ) (credit : ℕ) → IsCredit credit → Fits book
+    → Fits (with_credit book code credit)
 unfolding with_credit
 fits_credit book code credit k h = record {
-  credits = all_map (λ (p : Participant). IsCredit p.credit) (λ p. cond (has_code code p) (record p { credit = credit }) p) book.participants
-      (all_weaker (λ (p : Participant). IsCredit p.credit) (λ p. IsCredit (cond (has_code code p) (record p { credit = credit }) p).credit) (λ p x. by p (has_code code p) x) book.participants h.credits);
+  credits = all_map (λ (p : Participant). IsCredit p.credit)
+      (λ p. cond (has_code code p) (record p { credit = credit }) p) book.participants
+      (all_weaker (λ (p : Participant). IsCredit p.credit) (λ p. IsCredit
+      (cond (has_code code p) (record p { credit = credit }) p).credit) (λ p x. by p (has_code code p) x)
+      book.participants h.credits);
   postings = h.postings;
   orders = h.orders;
 }
@@ -253,46 +354,74 @@ fits_credit book code credit k h = record {
 fits_takes : (book : Book) (o : Order) → IsAmount o.amount → Fits book → Fits (takes book o).book
 unfolding takes
 fits_takes book o amount h =
-    let queued = fits_as book (with_order book o) refl refl (all_push (λ (o : Order). IsAmount o.amount) book.orders o h.orders amount) h in
-    choose_book Fits (settles_at_once book o.sender o.amount) _ _ (fits_settle (with_order book o) (has_number o.number) queued) queued
+    let queued = fits_as book (with_order book o) refl refl (all_push (λ (o : Order). IsAmount o.amount) book.orders o
+    h.orders amount) h in
+    choose_book Fits (settles_at_once book o.sender o.amount) _ _
+    (fits_settle (with_order book o) (has_number o.number) queued) queued
 
-fitting : (new : Book) (reply : Reply) (outcome : Outcome) → record { reply = reply; book = new } ≡ outcome → Fits outcome.book → Fits new
+fitting : (new : Book) (reply : Reply) (outcome : Outcome) → record { reply = reply; book = new } ≡ outcome
+    → Fits outcome.book → Fits new
 fitting new reply outcome e h = subst (λ (o : Outcome). Fits o.book) (sym e) h
 
-pub step_fits : (old new : Book) (command : Command) (reply : Reply) → CommandFits command → Fits old → Step old command reply new → Fits new
+pub step_fits : (old new : Book) (command : Command) (reply : Reply) → CommandFits command → Fits old
+    → Step old command reply new → Fits new
 unfolding add set_credit post open_day order withdraw with_state cut_off resolve close_day
-step_fits old new (Add code name key) reply fits h e = fitting new reply _ e (book_first_of Fits old _ _ h (fits_add old (record { code = code; name = name; key = key; credit = 0 }) (omega arith) h))
-step_fits old new (SetCredit code credit) reply fits h e = fitting new reply _ e (book_first_of Fits old _ _ h (fits_credit old code credit fits h))
-step_fits old new (Post code reference cents) reply fits h e = fitting new reply _ e (book_first_of Fits old _ _ h (record { credits = h.credits; postings = all_push (λ (p : Posting). IsPostingAmount p.cents) old.postings _ h.postings fits; orders = h.orders }))
-step_fits old new (OpenDay date) reply fits h e = fitting new reply _ e (book_first_of Fits old _ _ h (fits_as old _ refl refl h.orders h))
-step_fits old new (PlaceOrder sender reference receiver amount) reply fits h e = fitting new reply _ e (book_first_of Fits old _ _ h (fits_takes old (new_order old sender reference receiver amount) fits h))
-step_fits old new (Withdraw sender reference) reply fits h e = fitting new reply _ e (book_first_of Fits old _ _ h (fits_as old _ refl refl (fits_orders old (has_number (number_of (order_named old sender reference))) Withdrawn h.orders) h))
-step_fits old new Resolve reply fits h e = fitting new reply _ e.2 (book_first_of Fits old _ _ h (choose_book Fits (is_empty (chosen old e.0)) _ _ h (fits_settle old (is_chosen old e.0) h)))
-step_fits old new (CutOff date) reply fits h e = fitting new reply _ e (book_first_of Fits old _ _ h (fits_as old _ refl refl h.orders h))
-step_fits old new (CloseDay date) reply fits h e = fitting new reply _ e.2 (book_first_of Fits old _ _ h (fits_as old _ refl refl (fits_orders old is_queued Rejected h.orders) h))
+step_fits old new (Add code name key) reply fits h e = fitting new reply _ e
+    (book_first_of Fits old _ _ h (fits_add old (record { code = code; name = name; key = key; credit = 0 })
+    (omega arith) h))
+step_fits old new (SetCredit code credit) reply fits h e = fitting new reply _ e
+    (book_first_of Fits old _ _ h (fits_credit old code credit fits h))
+step_fits old new (Post code reference cents) reply fits h e =
+    fitting new reply _ e (book_first_of Fits old _ _ h (record {
+      credits = h.credits;
+      postings = all_push (λ (p : Posting). IsPostingAmount p.cents) old.postings _ h.postings fits;
+      orders = h.orders;
+    }))
+step_fits old new (OpenDay date) reply fits h e = fitting new reply _ e
+    (book_first_of Fits old _ _ h (fits_as old _ refl refl h.orders h))
+step_fits old new (PlaceOrder sender reference receiver amount) reply fits h e =
+    fitting new reply _ e (book_first_of Fits old _ _ h (fits_takes old (new_order old sender reference receiver amount)
+    fits h))
+step_fits old new (Withdraw sender reference) reply fits h e =
+    fitting new reply _ e (book_first_of Fits old _ _ h (fits_as old _ refl refl
+    (fits_orders old (has_number (number_of (order_named old sender reference))) Withdrawn h.orders) h))
+step_fits old new Resolve reply fits h e = fitting new reply _ e.2
+    (book_first_of Fits old _ _ h (choose_book Fits (is_empty (chosen old e.0)) _ _ h
+    (fits_settle old (is_chosen old e.0) h)))
+step_fits old new (CutOff date) reply fits h e = fitting new reply _ e
+    (book_first_of Fits old _ _ h (fits_as old _ refl refl h.orders h))
+step_fits old new (CloseDay date) reply fits h e = fitting new reply _ e.2
+    (book_first_of Fits old _ _ h (fits_as old _ refl refl (fits_orders old is_queued Rejected h.orders) h))
 
 -- ---- marks, and settling
 
 pub few_marks : (book : Book) → IsSound book → length book.marks ≤ length book.orders
 few_marks book h =
-    let le = marks_le book (λ o. false) h.marks_numbered h.marks.1 (all_of (λ o. false ≡ true → is_queued o ≡ true) (λ o e. absurd (true≢false (sym e))) book.orders) in
+    let le = marks_le book (λ o. false) h.marks_numbered h.marks.1
+    (all_of (λ o. false ≡ true → is_queued o ≡ true) (λ o e. absurd (true≢false (sym e))) book.orders) in
     omega arith
 
-length-filter-within : (is_in : Order → Bool) (os : List Order) → AllByRecursion (λ o. is_in o ≡ true → is_queued o ≡ true) os → length (filter is_in os) ≤ length (filter is_queued os)
+length-filter-within : (is_in : Order → Bool) (os : List Order)
+    → AllByRecursion (λ o. is_in o ≡ true → is_queued o ≡ true) os
+    → length (filter is_in os) ≤ length (filter is_queued os)
 length-filter-within is_in [] h = omega arith
 length-filter-within is_in (o ∷ os) h = by (is_in o) (is_queued o) h.0 (length-filter-within is_in os h.1)
   where
-    by : (b q : Bool) → (b ≡ true → q ≡ true) → length (filter is_in os) ≤ length (filter is_queued os) → length (cond b (o ∷ filter is_in os) (filter is_in os)) ≤ length (cond q (o ∷ filter is_queued os) (filter is_queued os))
+    by : (b q : Bool) → (b ≡ true → q ≡ true) → length (filter is_in os) ≤ length (filter is_queued os)
+        → length (cond b (o ∷ filter is_in os) (filter is_in os))
+        ≤ length (cond q (o ∷ filter is_queued os) (filter is_queued os))
     by true true f rest = omega arith
     by true false f rest = absurd (true≢false (sym (f refl)))
     by false true f rest = omega arith
     by false false f rest = rest
 
-pub settle_total : (book : Book) (is_in : Order → Bool) → IsSound book → AllByRecursion (λ o. is_in o ≡ true → is_queued o ≡ true) book.orders → total (settle book is_in) ≡ total book
+pub settle_total : (book : Book) (is_in : Order → Bool) → IsSound book
+    → AllByRecursion (λ o. is_in o ≡ true → is_queued o ≡ true) book.orders → total (settle book is_in) ≡ total book
 settle_total book is_in h queued =
     ⊎_elim (λ same. ap total same) (λ k. by (is_closed book.day.phase) refl k.0 k.1) (settle_cases book is_in)
   where
-    by : (b : Bool) → is_closed book.day.phase ≡ b → settle book is_in ≡ with_batch book is_in → 1 ≤ length (filter is_in book.orders) → total (settle book is_in) ≡ total book
+    by : (b : Bool) → is_closed book.day.phase ≡ b → settle book is_in ≡ with_batch book is_in
+        → 1 ≤ length (filter is_in book.orders) → total (settle book is_in) ≡ total book
     by true closed is some =
         let none : length (filter is_queued book.orders) ≡ 0 = ap length (h.queues.closed closed) in
         let le = length-filter-within is_in book.orders queued in

@@ -1,5 +1,8 @@
 -- What sums under keys hold.
-use Rattle.std.proofs.Common.{◌≡◌, ℕ, zero, suc, ◌||◌, map, ◌+◌, ◌<◌, ◌≤◌, ◌*◌, ◌^◌, ℤ, pos, neg_ℤ, ◌+ℤ◌, ◌-ℤ◌, Bool, true, false, cond, List, [], ◌∷◌, ◌++◌, Option, Some, None, Ordering, filter, length, take, get_or, sum_by, FitsSigned, unsigned_abs, w64, to_z, of_z, nat_cmp, refl, sym, ap, ◌∙◌, subst, arith}
+use Rattle.std.proofs.Common.{◌≡◌, ℕ, zero, suc, ◌||◌, map, ◌+◌, ◌<◌, ◌≤◌, ◌*◌, ◌^◌, ℤ, pos, neg_ℤ, ◌+ℤ◌, ◌-ℤ◌, Bool}
+use Rattle.std.proofs.Common.{true, false, cond, List, [], ◌∷◌, ◌++◌, Option, Some, None, Ordering, filter, length}
+use Rattle.std.proofs.Common.{take, get_or, sum_by, FitsSigned, unsigned_abs, w64, to_z, of_z, nat_cmp, refl, sym, ap}
+use Rattle.std.proofs.Common.{◌∙◌, subst, arith}
 use Rattle.std.proofs.lemmas.Int.{ints, to_z-of_z}
 use Rattle.std.proofs.lemmas.List.{take_more, take_all}
 use Rattle.std.proofs.lemmas.List.Elements.{filter-append}
@@ -35,21 +38,26 @@ module _ {K : Type 0} (cmp : K → K → Ordering) (keys : List K) where
   abbrev pub with_term : (K → ℤ) → K → ℤ → K → ℤ
   with_term f k by q = f q +ℤ cond (eq_by_cmp cmp k q) by (pos 0)
 
-  pub totals_added : (same : (a b : K) → eq_by_cmp cmp a b ≡ true → a ≡ b) (f : K → ℤ) (m n : BTreeMap K ℤ) (k : K) (by : ℤ) → Totals cmp keys f m
-      → ((q : K) → get cmp n q ≡ cond (is_at (cmp k) q) (option_map (λ total. total +ℤ by) (get cmp m k)) (get cmp m q)) → Totals cmp keys (with_term f k by) n
+  pub totals_added : (same : (a b : K) → eq_by_cmp cmp a b ≡ true → a ≡ b) (f : K → ℤ) (m n : BTreeMap K ℤ) (k : K)
+      (by : ℤ) → Totals cmp keys f m
+      → ((q : K) → get cmp n q ≡ cond (is_at (cmp k) q) (option_map (λ total. total +ℤ by) (get cmp m k)) (get cmp m q))
+      → Totals cmp keys (with_term f k by) n
   totals_added same f m n k by h adds q = at (eq_by_cmp cmp k q) refl
     where
-      moved : (c : Bool) (y : ℤ) → option_map (λ total. total +ℤ by) (cond c (Some y) None) ≡ cond c (Some (y +ℤ by)) None
+      moved : (c : Bool) (y : ℤ) → option_map (λ total. total +ℤ by) (cond c (Some y) None)
+          ≡ cond c (Some (y +ℤ by)) None
       moved true y = refl
       moved false y = refl
 
       kept : (y : ℤ) → y ≡ y +ℤ pos 0
       kept y = omega (arith, ints)
 
-      at : (b : Bool) → eq_by_cmp cmp k q ≡ b → get cmp n q ≡ cond (is_member (eq_by_cmp cmp) keys q) (Some (f q +ℤ cond b by (pos 0))) None
+      at : (b : Bool) → eq_by_cmp cmp k q ≡ b → get cmp n q ≡ cond (is_member (eq_by_cmp cmp) keys q)
+          (Some (f q +ℤ cond b by (pos 0))) None
       at true e =
           let one : k ≡ q = same k q e in
-          adds q ∙ ap (λ b. cond b (option_map (λ total. total +ℤ by) (get cmp m k)) (get cmp m q)) e ∙ ap (option_map (λ total. total +ℤ by)) (h k) ∙ moved _ (f k)
+          adds q ∙ ap (λ b. cond b (option_map (λ total. total +ℤ by) (get cmp m k)) (get cmp m q)) e
+          ∙ ap (option_map (λ total. total +ℤ by)) (h k) ∙ moved _ (f k)
           ∙ ap (λ x. cond (is_member (eq_by_cmp cmp) keys x) (Some (f x +ℤ by)) None) one
       at false e =
           adds q ∙ ap (λ b. cond b (option_map (λ total. total +ℤ by) (get cmp m k)) (get cmp m q)) e ∙ h q
@@ -70,18 +78,21 @@ module _ {X : Type 0} (p : X → Bool) (g : X → ℤ) (xs : List X) where
   one_of true x = omega (arith, ints)
   one_of false x = refl
 
-  pub sum_more : (i : ℕ) (x : X) → i < length xs → x ≡ get_or xs i x → sum_first (i + 1) ≡ sum_first i +ℤ cond (p x) (g x) (pos 0)
+  pub sum_more : (i : ℕ) (x : X) → i < length xs → x ≡ get_or xs i x
+      → sum_first (i + 1) ≡ sum_first i +ℤ cond (p x) (g x) (pos 0)
   sum_more i x less is =
       ap (λ ys. int_sum_by g (filter p ys)) (take_more xs i x less ∙ ap (λ y. take i xs ++ y ∷ []) (sym is))
       ∙ ap (int_sum_by g) (filter-append p (take i xs) (x ∷ []))
       ∙ int_sum_by-append g (filter p (take i xs)) (filter p (x ∷ []))
       ∙ ap (λ z. sum_first i +ℤ z) (one_of (p x) x)
 
-pub sum_within : {X : Type 0} (p : X → Bool) (g : X → ℤ) (n : ℕ) (xs : List X) → AllByRecursion (λ x. Within n (g x)) xs → Within (length xs * n) (int_sum_by g (filter p xs))
+pub sum_within : {X : Type 0} (p : X → Bool) (g : X → ℤ) (n : ℕ) (xs : List X) → AllByRecursion (λ x. Within n (g x)) xs
+    → Within (length xs * n) (int_sum_by g (filter p xs))
 sum_within p g n [] h = (omega (arith, ints), omega (arith, ints))
 sum_within p g n (x ∷ xs) h = by (p x) (sum_within p g n xs h.1)
   where
-    by : (b : Bool) → Within (length xs * n) (int_sum_by g (filter p xs)) → Within (suc (length xs) * n) (int_sum_by g (cond b (x ∷ filter p xs) (filter p xs)))
+    by : (b : Bool) → Within (length xs * n) (int_sum_by g (filter p xs))
+        → Within (suc (length xs) * n) (int_sum_by g (cond b (x ∷ filter p xs) (filter p xs)))
     by true r = let low = h.0.0 in let high = h.0.1 in (omega (arith, ints), omega (arith, ints))
     by false r = (omega (arith, ints), omega (arith, ints))
 
@@ -95,11 +106,15 @@ amounts_are_sum f [] = refl
 amounts_are_sum f (x ∷ xs) = let h = amounts_are_sum f xs in let s = sum_by-cons f x xs in omega (arith, ints)
 
 -- one more term leaves each sum within a larger bound
-pub within_added : {K : Type 0} (cmp : K → K → Ordering) (bound more : ℕ) (m n : BTreeMap K ℤ) (k : K) (by : ℤ) → Within more by → AreWithin cmp bound m
-    → ((q : K) → get cmp n q ≡ cond (is_at (cmp k) q) (option_map (λ total. total +ℤ by) (get cmp m k)) (get cmp m q)) → AreWithin cmp (bound + more) n
-within_added cmp bound more m n k by fits h adds q z e = at (is_at (cmp k) q) (get cmp m k) (get cmp m q) (h k) (h q) (sym (adds q) ∙ e)
+pub within_added : {K : Type 0} (cmp : K → K → Ordering) (bound more : ℕ) (m n : BTreeMap K ℤ) (k : K) (by : ℤ)
+    → Within more by → AreWithin cmp bound m
+    → ((q : K) → get cmp n q ≡ cond (is_at (cmp k) q) (option_map (λ total. total +ℤ by) (get cmp m k)) (get cmp m q))
+    → AreWithin cmp (bound + more) n
+within_added cmp bound more m n k by fits h adds q z e = at (is_at (cmp k) q) (get cmp m k) (get cmp m q) (h k) (h q)
+    (sym (adds q) ∙ e)
   where
-    at : (b : Bool) (x y : Option ℤ) → ((t : ℤ) → x ≡ Some t → Within bound t) → ((t : ℤ) → y ≡ Some t → Within bound t) → cond b (option_map (λ total. total +ℤ by) x) y ≡ Some z → Within (bound + more) z
+    at : (b : Bool) (x y : Option ℤ) → ((t : ℤ) → x ≡ Some t → Within bound t) → ((t : ℤ) → y ≡ Some t → Within bound t)
+        → cond b (option_map (λ total. total +ℤ by) x) y ≡ Some z → Within (bound + more) z
     at true None y f g e = absurd (cc)
     at true (Some t) y f g e =
         let r = f t refl in
@@ -110,7 +125,8 @@ within_added cmp bound more m n k by fits h adds q z e = at (is_at (cmp k) q) (g
 
 -- what an addition leaves
 abbrev pub Adds : {K : Type 0} → (K → K → Ordering) → BTreeMap K ℤ → K → ℤ → BTreeMap K ℤ → Type 0
-Adds {K} cmp m k by n = (q : K) → get cmp n q ≡ cond (is_at (cmp k) q) (option_map (λ total. total +ℤ by) (get cmp m k)) (get cmp m q)
+Adds {K} cmp m k by n = (q : K) → get cmp n q ≡ cond (is_at (cmp k) q) (option_map (λ total. total +ℤ by) (get cmp m k))
+    (get cmp m q)
 
 -- far within 128 bits
 pub fits_wide : (z : ℤ) → Within (10 ^ 30) z → FitsSigned w128 z
@@ -121,7 +137,8 @@ pub wide : (z : ℤ) → Within (10 ^ 30) z → to_z w128 (of_z w128 z) ≡ z
 wide z h = to_z-of_z w128 z (fits_wide z h)
 
 -- a posting's amount, as a value of 128 bits
-pub cents_are : (cents : ℤ) (c : ℤ) (a : ℤ) → a ≡ to_z w64 (of_z w64 c) → c ≡ cents → unsigned_abs cents ≤ PostingAmount.MAX → Within PostingAmount.MAX cents × (to_z w128 (of_z w128 a) ≡ cents)
+pub cents_are : (cents : ℤ) (c : ℤ) (a : ℤ) → a ≡ to_z w64 (of_z w64 c) → c ≡ cents
+    → unsigned_abs cents ≤ PostingAmount.MAX → Within PostingAmount.MAX cents × (to_z w128 (of_z w128 a) ≡ cents)
 cents_are cents c a e f few =
     let fits : Within PostingAmount.MAX cents = (omega (arith, ints), omega (arith, ints)) in
     let narrow : to_z w64 (of_z w64 c) ≡ c = to_z-of_z w64 c (omega (arith, ints)) in
@@ -131,39 +148,49 @@ cents_are cents c a e f few =
 exact_text : (a b : List ℕ) → eq_by_cmp (slice_cmp nat_cmp) a b ≡ true → a ≡ b
 exact_text a b e = (bytes_decides a b).0 (texts_ties a b ∙ e)
 
-pub texts_added : (codes : List (List ℕ)) (f : List ℕ → ℤ) (m n : BTreeMap (List ℕ) ℤ) (k : List ℕ) (by given : ℤ) → given ≡ by → Totals (slice_cmp nat_cmp) codes f m → Adds (slice_cmp nat_cmp) m k given n
+pub texts_added : (codes : List (List ℕ)) (f : List ℕ → ℤ) (m n : BTreeMap (List ℕ) ℤ) (k : List ℕ) (by given : ℤ)
+    → given ≡ by → Totals (slice_cmp nat_cmp) codes f m → Adds (slice_cmp nat_cmp) m k given n
     → Totals (slice_cmp nat_cmp) codes (λ code. f code +ℤ cond (bytes_eq k code) by (pos 0)) n
 texts_added codes f m n k by given same h adds =
-    totals_same (slice_cmp nat_cmp) codes (with_term (slice_cmp nat_cmp) codes f k given) (λ code. f code +ℤ cond (bytes_eq k code) by (pos 0)) n
+    totals_same (slice_cmp nat_cmp) codes (with_term (slice_cmp nat_cmp) codes f k given)
+    (λ code. f code +ℤ cond (bytes_eq k code) by (pos 0)) n
     (λ q i. f q +ℤ cond (sym (texts_ties k q) i) (same i) (pos 0))
     (totals_added (slice_cmp nat_cmp) codes exact_text f m n k given h adds)
 
-pub order_added : (codes : List (List ℕ)) (f : List ℕ → ℤ) (m n k : BTreeMap (List ℕ) ℤ) (o : Order) (given back : ℤ) → is_settled o ≡ true → given ≡ pos o.amount → back ≡ neg_ℤ (pos o.amount) → Totals (slice_cmp nat_cmp) codes f m
+pub order_added : (codes : List (List ℕ)) (f : List ℕ → ℤ) (m n k : BTreeMap (List ℕ) ℤ) (o : Order) (given back : ℤ)
+    → is_settled o ≡ true → given ≡ pos o.amount → back ≡ neg_ℤ (pos o.amount) → Totals (slice_cmp nat_cmp) codes f m
     → Adds (slice_cmp nat_cmp) m o.receiver given n → Adds (slice_cmp nat_cmp) n o.sender back k
     → Totals (slice_cmp nat_cmp) codes (λ code. f code +ℤ cond (is_settled o) (gain code o) (pos 0)) k
 unfolding gain
 order_added codes f m n k o given back settled forth off h adds takes =
     totals_same (slice_cmp nat_cmp) codes
-    (λ code. f code +ℤ cond (bytes_eq o.receiver code) (pos o.amount) (pos 0) +ℤ cond (bytes_eq o.sender code) (neg_ℤ (pos o.amount)) (pos 0))
+    (λ code. f code +ℤ cond (bytes_eq o.receiver code) (pos o.amount) (pos 0) +ℤ cond (bytes_eq o.sender code)
+    (neg_ℤ (pos o.amount)) (pos 0))
     (λ code. f code +ℤ cond (is_settled o) (gain code o) (pos 0)) k
     (λ q. rw settled (both (f q) o.amount (bytes_eq o.receiver q) (bytes_eq o.sender q)))
-    (texts_added codes (λ code. f code +ℤ cond (bytes_eq o.receiver code) (pos o.amount) (pos 0)) n k o.sender (neg_ℤ (pos o.amount)) back off (texts_added codes f m n o.receiver (pos o.amount) given forth h adds) takes)
+    (texts_added codes (λ code. f code +ℤ cond (bytes_eq o.receiver code) (pos o.amount) (pos 0)) n k o.sender
+    (neg_ℤ (pos o.amount)) back off (texts_added codes f m n o.receiver (pos o.amount) given forth h adds) takes)
   where
-    both : (z : ℤ) (a : ℕ) (r s : Bool) → z +ℤ cond r (pos a) (pos 0) +ℤ cond s (neg_ℤ (pos a)) (pos 0) ≡ z +ℤ (cond r (pos a) (pos 0) -ℤ cond s (pos a) (pos 0))
+    both : (z : ℤ) (a : ℕ) (r s : Bool) → z +ℤ cond r (pos a) (pos 0) +ℤ cond s (neg_ℤ (pos a)) (pos 0)
+        ≡ z +ℤ (cond r (pos a) (pos 0) -ℤ cond s (pos a) (pos 0))
     both z a true true = omega (arith, ints)
     both z a true false = omega (arith, ints)
     both z a false true = omega (arith, ints)
     both z a false false = omega (arith, ints)
 
 -- one more element
-pub all_more : {X : Type 0} (P : X → Type 0) (xs : List X) (i : ℕ) (x : X) → i < length xs → x ≡ get_or xs i x → AllByRecursion P (take i xs) → P x → AllByRecursion P (take (i + 1) xs)
-all_more P xs i x less is h p = subst (AllByRecursion P) (sym (take_more xs i x less ∙ ap (λ y. take i xs ++ y ∷ []) (sym is))) (all_push P (take i xs) x h p)
+pub all_more : {X : Type 0} (P : X → Type 0) (xs : List X) (i : ℕ) (x : X) → i < length xs → x ≡ get_or xs i x
+    → AllByRecursion P (take i xs) → P x → AllByRecursion P (take (i + 1) xs)
+all_more P xs i x less is h p = subst (AllByRecursion P) (sym
+    (take_more xs i x less ∙ ap (λ y. take i xs ++ y ∷ []) (sym is))) (all_push P (take i xs) x h p)
 
 -- all of them
-pub all_of_take : {X : Type 0} (P : X → Type 0) (xs : List X) (i : ℕ) → length xs ≤ i → AllByRecursion P (take i xs) → AllByRecursion P xs
+pub all_of_take : {X : Type 0} (P : X → Type 0) (xs : List X) (i : ℕ) → length xs ≤ i → AllByRecursion P (take i xs)
+    → AllByRecursion P xs
 all_of_take P xs i past h = subst (AllByRecursion P) (take_all i xs past) h
 
-pub sum_all : {X : Type 0} (p : X → Bool) (g : X → ℤ) (xs : List X) (i : ℕ) → length xs ≤ i → sum_first p g xs i ≡ int_sum_by g (filter p xs)
+pub sum_all : {X : Type 0} (p : X → Bool) (g : X → ℤ) (xs : List X) (i : ℕ) → length xs ≤ i
+    → sum_first p g xs i ≡ int_sum_by g (filter p xs)
 sum_all p g xs i past = ap (λ ys. int_sum_by g (filter p ys)) (take_all i xs past)
 
 settled_or_not : (o : Order) → ((mark : ℕ) → o.state ≡ Settled mark → ⊥) → is_settled o ≡ false
@@ -175,13 +202,17 @@ settled_or_not o h = by o.state h
     by Withdrawn h = refl
     by Rejected h = refl
 
-pub not_settled : (codes : List (List ℕ)) (f : List ℕ → ℤ) (m : BTreeMap (List ℕ) ℤ) (o : Order) → ((mark : ℕ) → o.state ≡ Settled mark → ⊥) → Totals (slice_cmp nat_cmp) codes f m → Totals (slice_cmp nat_cmp) codes (λ code. f code +ℤ cond (is_settled o) (gain code o) (pos 0)) m
+pub not_settled : (codes : List (List ℕ)) (f : List ℕ → ℤ) (m : BTreeMap (List ℕ) ℤ) (o : Order)
+    → ((mark : ℕ) → o.state ≡ Settled mark → ⊥) → Totals (slice_cmp nat_cmp) codes f m
+    → Totals (slice_cmp nat_cmp) codes (λ code. f code +ℤ cond (is_settled o) (gain code o) (pos 0)) m
 not_settled codes f m o h holds =
     let not : is_settled o ≡ false = settled_or_not o h in
-    totals_same (slice_cmp nat_cmp) codes f (λ code. f code +ℤ cond (is_settled o) (gain code o) (pos 0)) m (λ q. rw not (omega (arith, ints))) holds
+    totals_same (slice_cmp nat_cmp) codes f (λ code. f code +ℤ cond (is_settled o) (gain code o) (pos 0)) m
+    (λ q. rw not (omega (arith, ints))) holds
 
 -- one element of those of which the fact holds
-pub all_get : {X : Type 0} (P : X → Type 0) (xs : List X) (i : ℕ) (x : X) → i < length xs → x ≡ get_or xs i x → AllByRecursion P xs → P x
+pub all_get : {X : Type 0} (P : X → Type 0) (xs : List X) (i : ℕ) (x : X) → i < length xs → x ≡ get_or xs i x
+    → AllByRecursion P xs → P x
 all_get P xs i x less is h = subst P (sym is) (at xs i less h)
   where
     at : (ys : List _) (k : ℕ) → k < length ys → AllByRecursion P ys → P (get_or ys k x)
@@ -189,11 +220,15 @@ all_get P xs i x less is h = subst P (sym is) (at xs i less h)
     at (y ∷ ys) zero less h = h.0
     at (y ∷ ys) (suc k) less h = at ys k (omega arith) h.1
 
-pub int_sum_more : {X : Type 0} (g : X → ℤ) (xs : List X) (i : ℕ) (x : X) → i < length xs → x ≡ get_or xs i x → int_sum_by g (take (i + 1) xs) ≡ int_sum_by g (take i xs) +ℤ g x
+pub int_sum_more : {X : Type 0} (g : X → ℤ) (xs : List X) (i : ℕ) (x : X) → i < length xs → x ≡ get_or xs i x
+    → int_sum_by g (take (i + 1) xs) ≡ int_sum_by g (take i xs) +ℤ g x
 int_sum_more g xs i x less is =
-    ap (int_sum_by g) (take_more xs i x less ∙ ap (λ y. take i xs ++ y ∷ []) (sym is)) ∙ int_sum_by-append g (take i xs) (x ∷ []) ∙ (let z : g x +ℤ pos 0 ≡ g x = omega (arith, ints) in ap (λ y. int_sum_by g (take i xs) +ℤ y) z)
+    ap (int_sum_by g) (take_more xs i x less ∙ ap (λ y. take i xs ++ y ∷ []) (sym is))
+    ∙ int_sum_by-append g (take i xs) (x ∷ []) ∙ (let z : g x +ℤ pos 0 ≡ g x = omega (arith, ints)
+    in ap (λ y. int_sum_by g (take i xs) +ℤ y) z)
 
-pub int_sum_all : {X : Type 0} (g : X → ℤ) (xs : List X) (i : ℕ) → length xs ≤ i → int_sum_by g (take i xs) ≡ int_sum_by g xs
+pub int_sum_all : {X : Type 0} (g : X → ℤ) (xs : List X) (i : ℕ) → length xs ≤ i
+    → int_sum_by g (take i xs) ≡ int_sum_by g xs
 int_sum_all g xs i past = ap (int_sum_by g) (take_all i xs past)
 
 same_as_itself : (code : List ℕ) → eq_by_cmp (slice_cmp nat_cmp) code code ≡ true
@@ -204,15 +239,20 @@ or_true true = refl
 or_true false = refl
 
 -- each participant's code is one of the codes
-pub codes_have : {X : Type 0} (code : X → List ℕ) (xs : List X) (i : ℕ) (x : X) → i < length xs → x ≡ get_or xs i x → is_member (eq_by_cmp (slice_cmp nat_cmp)) (map code xs) (code x) ≡ true
+pub codes_have : {X : Type 0} (code : X → List ℕ) (xs : List X) (i : ℕ) (x : X) → i < length xs → x ≡ get_or xs i x
+    → is_member (eq_by_cmp (slice_cmp nat_cmp)) (map code xs) (code x) ≡ true
 codes_have code xs i x less is = at xs i less is
   where
-    at : (ys : List _) (k : ℕ) → k < length ys → x ≡ get_or ys k x → is_member (eq_by_cmp (slice_cmp nat_cmp)) (map code ys) (code x) ≡ true
+    at : (ys : List _) (k : ℕ) → k < length ys → x ≡ get_or ys k x
+        → is_member (eq_by_cmp (slice_cmp nat_cmp)) (map code ys) (code x) ≡ true
     at [] k less is = absurd (omega arith)
     at (y ∷ ys) zero less is = rw (ap code (sym is)) (rw (same_as_itself (code x)) refl)
-    at (y ∷ ys) (suc k) less is = rw (at ys k (omega arith) is) (or_true (eq_by_cmp (slice_cmp nat_cmp) (code x) (code y)))
+    at (y ∷ ys) (suc k) less is = rw (at ys k (omega arith) is)
+        (or_true (eq_by_cmp (slice_cmp nat_cmp) (code x) (code y)))
 
-pub total_of : (codes : List (List ℕ)) (f : List ℕ → ℤ) (m : BTreeMap (List ℕ) ℤ) (code : List ℕ) → Totals (slice_cmp nat_cmp) codes f m → is_member (eq_by_cmp (slice_cmp nat_cmp)) codes code ≡ true → get (slice_cmp nat_cmp) m code ≡ Some (f code)
+pub total_of : (codes : List (List ℕ)) (f : List ℕ → ℤ) (m : BTreeMap (List ℕ) ℤ) (code : List ℕ)
+    → Totals (slice_cmp nat_cmp) codes f m → is_member (eq_by_cmp (slice_cmp nat_cmp)) codes code ≡ true
+    → get (slice_cmp nat_cmp) m code ≡ Some (f code)
 total_of codes f m code h e = h code ∙ ap (λ b. cond b (Some (f code)) None) e
 
 -- ---- sums under the numbers of marks
@@ -220,10 +260,12 @@ total_of codes f m code h e = h code ∙ ap (λ b. cond b (Some (f code)) None) 
 exact_number : (a b : ℕ) → eq_by_cmp nat_cmp a b ≡ true → a ≡ b
 exact_number a b e = eqb-true a b (sym (unsigned_tied a b) ∙ e)
 
-pub marked_added : (numbers : List ℕ) (f : ℕ → ℤ) (m n : BTreeMap ℕ ℤ) (state : OrderState) (k : ℕ) (by given : ℤ) → state ≡ Settled k → given ≡ by → Totals nat_cmp numbers f m → Adds nat_cmp m k given n
+pub marked_added : (numbers : List ℕ) (f : ℕ → ℤ) (m n : BTreeMap ℕ ℤ) (state : OrderState) (k : ℕ) (by given : ℤ)
+    → state ≡ Settled k → given ≡ by → Totals nat_cmp numbers f m → Adds nat_cmp m k given n
     → Totals nat_cmp numbers (λ mark. f mark +ℤ cond (is_state_under mark state) by (pos 0)) n
 marked_added numbers f m n state k by given is same h adds =
-    totals_same nat_cmp numbers (with_term nat_cmp numbers f k given) (λ mark. f mark +ℤ cond (is_state_under mark state) by (pos 0)) n
+    totals_same nat_cmp numbers (with_term nat_cmp numbers f k given)
+    (λ mark. f mark +ℤ cond (is_state_under mark state) by (pos 0)) n
     (λ mark. rw is (λ i. f mark +ℤ cond (unsigned_tied k mark i) (same i) (pos 0)))
     (totals_added nat_cmp numbers exact_number f m n k given h adds)
 
@@ -233,21 +275,27 @@ under_none mark (Settled k) h = absurd (h k refl)
 under_none mark Withdrawn h = refl
 under_none mark Rejected h = refl
 
-pub unmarked : (numbers : List ℕ) (f : ℕ → ℤ) (m : BTreeMap ℕ ℤ) (state : OrderState) (by : ℤ) → ((k : ℕ) → state ≡ Settled k → ⊥) → Totals nat_cmp numbers f m → Totals nat_cmp numbers (λ mark. f mark +ℤ cond (is_state_under mark state) by (pos 0)) m
+pub unmarked : (numbers : List ℕ) (f : ℕ → ℤ) (m : BTreeMap ℕ ℤ) (state : OrderState) (by : ℤ)
+    → ((k : ℕ) → state ≡ Settled k → ⊥) → Totals nat_cmp numbers f m
+    → Totals nat_cmp numbers (λ mark. f mark +ℤ cond (is_state_under mark state) by (pos 0)) m
 unmarked numbers f m state by h holds =
-    totals_same nat_cmp numbers f (λ mark. f mark +ℤ cond (is_state_under mark state) by (pos 0)) m (λ mark. rw (under_none mark state h) (omega (arith, ints))) holds
+    totals_same nat_cmp numbers f (λ mark. f mark +ℤ cond (is_state_under mark state) by (pos 0)) m
+    (λ mark. rw (under_none mark state h) (omega (arith, ints))) holds
 
 same_number : (n : ℕ) → eq_by_cmp nat_cmp n n ≡ true
 same_number n = unsigned_tied n n ∙ eq-eqb n n refl
 
 -- each mark's number is one of the numbers
-pub numbers_have : {X : Type 0} (number : X → ℕ) (xs : List X) (i : ℕ) (x : X) → i < length xs → x ≡ get_or xs i x → is_member (eq_by_cmp nat_cmp) (map number xs) (number x) ≡ true
+pub numbers_have : {X : Type 0} (number : X → ℕ) (xs : List X) (i : ℕ) (x : X) → i < length xs → x ≡ get_or xs i x
+    → is_member (eq_by_cmp nat_cmp) (map number xs) (number x) ≡ true
 numbers_have number xs i x less is = at xs i less is
   where
-    at : (ys : List _) (k : ℕ) → k < length ys → x ≡ get_or ys k x → is_member (eq_by_cmp nat_cmp) (map number ys) (number x) ≡ true
+    at : (ys : List _) (k : ℕ) → k < length ys → x ≡ get_or ys k x
+        → is_member (eq_by_cmp nat_cmp) (map number ys) (number x) ≡ true
     at [] k less is = absurd (omega arith)
     at (y ∷ ys) zero less is = rw (ap number (sym is)) (rw (same_number (number x)) refl)
     at (y ∷ ys) (suc k) less is = rw (at ys k (omega arith) is) (or_true (eq_by_cmp nat_cmp (number x) (number y)))
 
-pub sum_of_number : (numbers : List ℕ) (f : ℕ → ℤ) (m : BTreeMap ℕ ℤ) (number : ℕ) → Totals nat_cmp numbers f m → is_member (eq_by_cmp nat_cmp) numbers number ≡ true → get nat_cmp m number ≡ Some (f number)
+pub sum_of_number : (numbers : List ℕ) (f : ℕ → ℤ) (m : BTreeMap ℕ ℤ) (number : ℕ) → Totals nat_cmp numbers f m
+    → is_member (eq_by_cmp nat_cmp) numbers number ≡ true → get nat_cmp m number ≡ Some (f number)
 sum_of_number numbers f m number h e = h number ∙ ap (λ b. cond b (Some (f number)) None) e

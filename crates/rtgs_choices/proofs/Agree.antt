@@ -18,7 +18,8 @@ use Rattle.rtgs_choices.proofs.Told.{length-queues, queue_at, by_code-at}
 use Rattle.rtgs_choices.proofs.Chosen.{ChosenAreBeginnings, Agree, sum_by-chosen, sum_by-beginning, after_is}
 
 -- as many payments as the book has queued for the participant
-pub queue_length : (book : Book) (i : ℕ) → i < length (accounts book) → length (queue_of (queues_of book) i) ≡ length (queue book (code_at book i))
+pub queue_length : (book : Book) (i : ℕ) → i < length (accounts book)
+    → length (queue_of (queues_of book) i) ≡ length (queue book (code_at book i))
 queue_length book i less = ap length (queue_at book i less) ∙ length-map (queue book (code_at book i)) (payment_of book)
 
 pub payments-le : (book : Book) → IsSound book → payment_count (queues_of book) ≤ MOST_QUEUED
@@ -26,13 +27,16 @@ unfolding payment_count
 payments-le book sound =
     let count = length-queues book in
     let codes : length (accounts book) ≤ MOST_PARTICIPANTS = sound.codes_rise.1 in
-    let each = sum_below-bound (length (queues_of book)) (λ i. length (queue_of (queues_of book) i)) (λ i less. short i (omega arith)) in
+    let each = sum_below-bound (length (queues_of book)) (λ i. length (queue_of (queues_of book) i))
+    (λ i less. short i (omega arith)) in
     omega arith
   where
     short : (i : ℕ) → i < length (accounts book) → length (queue_of (queues_of book) i) ≤ LONGEST_QUEUE
     short i less =
         let long = queue_length book i less in
-        let here : length (queue book (code_at book i)) ≤ LONGEST_QUEUE = All-from_recursion (λ code. length (queue book code) ≤ LONGEST_QUEUE) (accounts book) sound.queues.short i [] less in
+        let here : length (queue book (code_at book i)) ≤ LONGEST_QUEUE =
+        All-from_recursion (λ code. length (queue book code) ≤ LONGEST_QUEUE) (accounts book) sound.queues.short i
+        [] less in
         omega arith
 
 pub length_is : {X : Type 0} (xs : List X) → sum_by (λ x. 1) xs ≡ length xs
@@ -43,17 +47,20 @@ module _ (law : ChosenAreBeginnings) (book : Book) (lengths : ℕ → ℕ) (soun
   agree : Agree book (by_code book lengths) lengths
   agree i less = by_code-at book lengths i sound less
 
-  pub balances_agree : (i : ℕ) → i < length (accounts book) → balance_after book (by_code book lengths) (code_at book i) ≡ after (positions_of book) (queues_of book) lengths i
+  pub balances_agree : (i : ℕ) → i < length (accounts book) → balance_after book (by_code book lengths) (code_at book i)
+      ≡ after (positions_of book) (queues_of book) lengths i
   balances_agree i less = sym (after_is law book sound (by_code book lengths) lengths agree i less)
 
-  pub count_is : IsWithin (queues_of book) lengths → length (chosen book (by_code book lengths)) ≡ order_count (queues_of book) lengths
+  pub count_is : IsWithin (queues_of book) lengths → length (chosen book (by_code book lengths))
+      ≡ order_count (queues_of book) lengths
   count_is within =
       sym (length_is (chosen book (by_code book lengths)))
       ∙ sym (sum_by-chosen law book sound (by_code book lengths) (λ o. 1))
       ∙ sum_below-same (length (accounts book)) _ lengths here
       ∙ ap (λ (n : ℕ). sum_below n lengths) (sym (length-queues book))
     where
-      here : (i : ℕ) → i < length (accounts book) → sum_by (λ (o : Order). 1) (take (by_code book lengths (code_at book i)) (queue book (code_at book i))) ≡ lengths i
+      here : (i : ℕ) → i < length (accounts book) → sum_by (λ (o : Order). 1)
+          (take (by_code book lengths (code_at book i)) (queue book (code_at book i))) ≡ lengths i
       here i less =
           let as_long = agree i less in
           let long = queue_length book i less in
@@ -63,9 +70,11 @@ module _ (law : ChosenAreBeginnings) (book : Book) (lengths : ℕ → ℕ) (soun
           ∙ length-take-le (by_code book lengths (code_at book i)) (queue book (code_at book i)) (omega arith)
           ∙ as_long
 
-  pub value_is : sum_by (λ (o : Order). o.amount) (chosen book (by_code book lengths)) ≡ value_of (queues_of book) lengths
+  pub value_is : sum_by (λ (o : Order). o.amount) (chosen book (by_code book lengths))
+      ≡ value_of (queues_of book) lengths
   unfolding sent
   value_is =
       sym (sum_by-chosen law book sound (by_code book lengths) (λ (o : Order). o.amount))
-      ∙ sum_below-same (length (accounts book)) _ _ (λ i less. sym (sum_by-beginning law book sound (by_code book lengths) lengths agree (λ payment. payment.amount) i less))
+      ∙ sum_below-same (length (accounts book)) _ _ (λ i less. sym
+      (sum_by-beginning law book sound (by_code book lengths) lengths agree (λ payment. payment.amount) i less))
       ∙ ap (λ (n : ℕ). sum_below n (sent (queues_of book) lengths)) (sym (length-queues book))

@@ -1,5 +1,6 @@
 -- The closing of a day, and its change.
-use Rattle.std.proofs.Common.{◌≡◌, ℕ, Bool, true, false, List, [], ◌∷◌, ◌++◌, filter, length, Ok, None, Some, cond, refl, sym, ◌∙◌, ap}
+use Rattle.std.proofs.Common.{◌≡◌, ℕ, Bool, true, false, List, [], ◌∷◌, ◌++◌, filter, length, Ok, None, Some, cond}
+use Rattle.std.proofs.Common.{refl, sym, ◌∙◌, ap}
 use Rattle.std.specs.List.{AllByRecursion, flat_map}
 use Rattle.std.specs.Ordering.{int_eq}
 use Rattle.std.specs.Cmp.{int_eq_equiv}
@@ -31,52 +32,73 @@ not_closed Closed e = absurd (cc)
 not_closed Open e = refl
 not_closed CutOff e = refl
 
-pub closing : (book : Book) (choice : Choice) (date : ℕ) → is_cut_off book.day.phase ≡ true → is_on book date ≡ true → IsGreatest book choice → is_empty (chosen book choice) ≡ true → overdrawn book ≡ []
+pub closing : (book : Book) (choice : Choice) (date : ℕ) → is_cut_off book.day.phase ≡ true → is_on book date ≡ true
+    → IsGreatest book choice → is_empty (chosen book choice) ≡ true → overdrawn book ≡ []
     → Step book (CloseDay date) (Ok (answer.Closed (length (filter is_queued book.orders)))) (closed_book book)
 unfolding close_day first_of
-closing book choice date cut same greatest none covered = (choice, greatest, rw (not_closed book.day.phase cut, cut, same, none, covered) refl)
+closing book choice date cut same greatest none covered = (
+  choice,
+  greatest,
+  rw
+      (not_closed book.day.phase cut, cut, same, none, covered) refl,
+)
 
 -- setting the states one by one sets that of all with these numbers
 abbrev StatesOneByOne : Type 0
-StatesOneByOne = (book : Book) (state : OrderState) (numbers : List ℕ) → changed book (state_rows state numbers) ≡ with_state book (is_numbered numbers) state
+StatesOneByOne = (book : Book) (state : OrderState) (numbers : List ℕ)
+    → changed book (state_rows state numbers) ≡ with_state book (is_numbered numbers) state
 
 -- the numbers in the queues are those of the queued orders
 abbrev QueuedAreNumbered : Book → Type 0
-QueuedAreNumbered book = AllByRecursion (λ order. is_queued order ≡ is_numbered (flat_map (queued_numbers book.orders) (accounts book)) order) book.orders
+QueuedAreNumbered book = AllByRecursion (λ order. is_queued order
+    ≡ is_numbered (flat_map (queued_numbers book.orders) (accounts book)) order) book.orders
 
 -- queued orders that get another state, but are not settled, move no balance
 abbrev BalanceAfterRestating : Type 0
-BalanceAfterRestating = (book : Book) (is_in : Order → Bool) (state : OrderState) (code : List ℕ) → AllByRecursion (λ order. is_in order ≡ true → is_queued order ≡ true) book.orders → is_settled_state state ≡ false → balance (with_state book is_in state) code ≡ balance book code
+BalanceAfterRestating = (book : Book) (is_in : Order → Bool) (state : OrderState) (code : List ℕ)
+    → AllByRecursion (λ order. is_in order ≡ true → is_queued order ≡ true) book.orders → is_settled_state state ≡ false
+    → balance (with_state book is_in state) code ≡ balance book code
 
 abbrev numbers : Book → List ℕ
 numbers book = flat_map (queued_numbers book.orders) (accounts book)
 
-pub rejected : (book : Book) → StatesOneByOne → QueuedAreNumbered book → changed book (closing_rows book) ≡ closed_book book
+pub rejected : (book : Book) → StatesOneByOne → QueuedAreNumbered book
+    → changed book (closing_rows book) ≡ closed_book book
 unfolding with_state
 rejected book states queued =
     changed-append book (state_rows Rejected (numbers book)) (SetDay (record book.day { phase = Closed }) ∷ [])
     ∙ ap (λ (b : Book). with_day b (record book.day { phase = Closed })) (states book Rejected (numbers book))
-    ∙ ap (λ (os : List Order). with_day (record book { orders = os }) (record book.day { phase = Closed })) (restated_agrees is_queued (is_numbered (numbers book)) Rejected book.orders queued)
+    ∙ ap (λ (os : List Order). with_day (record book { orders = os }) (record book.day { phase = Closed }))
+    (restated_agrees is_queued (is_numbered (numbers book)) Rejected book.orders queued)
 
 every : {X : Type 0} (P : X → Type 0) → ((x : X) → P x) → (xs : List X) → AllByRecursion P xs
 every P h [] = tt
 every P h (x ∷ xs) = (h x, every P h xs)
 
-same_balance : (book : Book) → BalanceAfterRestating → (code : List ℕ) → balance book code ≡ balance (closed_book book) code
+same_balance : (book : Book) → BalanceAfterRestating → (code : List ℕ)
+    → balance book code ≡ balance (closed_book book) code
 unfolding balance
-same_balance book law code = sym (law book is_queued Rejected code (every (λ o. is_queued o ≡ true → is_queued o ≡ true) (λ o e. e) book.orders) refl)
+same_balance book law code = sym (law book is_queued Rejected code
+    (every (λ o. is_queued o ≡ true → is_queued o ≡ true) (λ o e. e) book.orders) refl)
 
 pub moves_nothing : (book : Book) → BalanceAfterRestating → SetsBalances book (closing_rows book) (closed_book book)
-moves_nothing book law = every (λ code. balance_set code (closing_rows book) ≡ cond (int_eq (balance book code) (balance (closed_book book) code)) None (Some (balance (closed_book book) code))) at (accounts (closed_book book))
+moves_nothing book law = every (λ code. balance_set code (closing_rows book)
+    ≡ cond (int_eq (balance book code) (balance (closed_book book) code)) None (Some (balance (closed_book book) code)))
+    at (accounts (closed_book book))
   where
-    at : (code : List ℕ) → balance_set code (closing_rows book) ≡ cond (int_eq (balance book code) (balance (closed_book book) code)) None (Some (balance (closed_book book) code))
+    at : (code : List ℕ) → balance_set code (closing_rows book)
+        ≡ cond (int_eq (balance book code) (balance (closed_book book) code)) None
+        (Some (balance (closed_book book) code))
     at code =
-        balance_set-states code Rejected (flat_map (queued_numbers book.orders) (accounts book)) (SetDay (record book.day { phase = Closed }) ∷ [])
+        balance_set-states code Rejected (flat_map (queued_numbers book.orders) (accounts book))
+        (SetDay (record book.day { phase = Closed }) ∷ [])
         ∙ rw (← same_balance book law code, int_eq_equiv.refl (balance book code)) refl
 
-pub adds_nobody : (new : Book) (all : List RowChange) (book : Book) → AllByRecursion (StartsEmpty new all) (closing_rows book)
+pub adds_nobody : (new : Book) (all : List RowChange) (book : Book)
+    → AllByRecursion (StartsEmpty new all) (closing_rows book)
 adds_nobody new all book = each (flat_map (queued_numbers book.orders) (accounts book))
   where
-    each : (numbers : List ℕ) → AllByRecursion (StartsEmpty new all) (state_rows Rejected numbers ++ SetDay (record book.day { phase = Closed }) ∷ [])
+    each : (numbers : List ℕ) → AllByRecursion (StartsEmpty new all)
+        (state_rows Rejected numbers ++ SetDay (record book.day { phase = Closed }) ∷ [])
     each [] = (tt, tt)
     each (n ∷ ns) = (tt, each ns)

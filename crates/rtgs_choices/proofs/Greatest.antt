@@ -20,25 +20,32 @@ module _ (law : ChosenAreBeginnings) (book : Book) (sound : IsSound book) where
   is_below p less = let same = length-queues book in omega arith
 
   -- a choice of codes as one of indexes
-  by_index : (other : Choice) → IsFeasible book other → resolver.IsFeasible (positions_of book) (queues_of book) (λ i. other (code_at book i))
+  by_index : (other : Choice) → IsFeasible book other → resolver.IsFeasible (positions_of book) (queues_of book)
+      (λ i. other (code_at book i))
   by_index other feasible = record {
-    within = λ p less. let long = queue_length book p (is_below p less) in let fits = feasible.within (code_at book p) in omega arith;
+    within = λ p less. let long = queue_length book p (is_below p less) in let fits = feasible.within (code_at book p)
+        in omega arith;
     covered = λ p less. covered p (is_below p less);
   }
     where
-      covered : (p : ℕ) → p < length (accounts book) → resolver.IsCovered (positions_of book) (queues_of book) (λ i. other (code_at book i)) p
+      covered : (p : ℕ) → p < length (accounts book) → resolver.IsCovered (positions_of book) (queues_of book)
+          (λ i. other (code_at book i)) p
       covered p less =
           let floors = floor_is law book sound other (λ i. other (code_at book i)) (λ i _. refl) p less in
           let balances = after_is law book sound other (λ i. other (code_at book i)) (λ i _. refl) p less in
-          let holds : floor book (code_at book p) ≤ℤ balance_after book other (code_at book p) = All-from_recursion (λ code. floor book code ≤ℤ balance_after book other code) (accounts book) feasible.covered p [] less in
+          let holds : floor book (code_at book p) ≤ℤ balance_after book other (code_at book p) =
+          All-from_recursion (λ code. floor book code ≤ℤ balance_after book other code) (accounts book)
+          feasible.covered p [] less in
           omega (arith, ints)
 
   module _ (lengths : ℕ → ℕ) where
-    within : resolver.IsWithin (queues_of book) lengths → (code : List ℕ) → by_code book lengths code ≤ length (queue book code)
+    within : resolver.IsWithin (queues_of book) lengths → (code : List ℕ)
+        → by_code book lengths code ≤ length (queue book code)
     unfolding by_code
     within fits code = by (is_participant book code) refl
       where
-        by : (b : Bool) → is_participant book code ≡ b → cond b (lengths (index_of book code)) 0 ≤ length (queue book code)
+        by : (b : Bool) → is_participant book code ≡ b → cond b (lengths (index_of book code)) 0
+            ≤ length (queue book code)
         by true e =
             let less = index_of-lt book code e in
             let long = queue_length book (index_of book code) less in
@@ -47,17 +54,24 @@ module _ (law : ChosenAreBeginnings) (book : Book) (sound : IsSound book) where
             omega arith
         by false e = omega arith
 
-    covered : resolver.IsFeasible (positions_of book) (queues_of book) lengths → AllByRecursion (λ code. floor book code ≤ℤ balance_after book (by_code book lengths) code) (accounts book)
-    covered feasible = recursion_from_All (λ code. floor book code ≤ℤ balance_after book (by_code book lengths) code) (accounts book) (All-from_get_or (λ code. floor book code ≤ℤ balance_after book (by_code book lengths) code) (accounts book) [] here)
+    covered : resolver.IsFeasible (positions_of book) (queues_of book) lengths
+        → AllByRecursion (λ code. floor book code ≤ℤ balance_after book (by_code book lengths) code) (accounts book)
+    covered feasible = recursion_from_All (λ code. floor book code ≤ℤ balance_after book (by_code book lengths) code)
+        (accounts book) (All-from_get_or (λ code. floor book code ≤ℤ balance_after book (by_code book lengths) code)
+        (accounts book) [] here)
       where
-        here : (p : ℕ) → p < length (accounts book) → floor book (code_at book p) ≤ℤ balance_after book (by_code book lengths) (code_at book p)
+        here : (p : ℕ) → p < length (accounts book) → floor book (code_at book p) ≤ℤ balance_after book
+            (by_code book lengths) (code_at book p)
         here p less =
-            let floors = floor_is law book sound (by_code book lengths) lengths (λ i below. by_code-at book lengths i sound below) p less in
-            let balances = after_is law book sound (by_code book lengths) lengths (λ i below. by_code-at book lengths i sound below) p less in
+            let floors = floor_is law book sound (by_code book lengths) lengths
+            (λ i below. by_code-at book lengths i sound below) p less in
+            let balances = after_is law book sound (by_code book lengths) lengths
+            (λ i below. by_code-at book lengths i sound below) p less in
             let holds = feasible.covered p (let count = length-queues book in omega arith) in
             omega (arith, ints)
 
-    at_most : resolver.IsGreatest (positions_of book) (queues_of book) lengths → (other : Choice) → IsFeasible book other → (code : List ℕ) → other code ≤ by_code book lengths code
+    at_most : resolver.IsGreatest (positions_of book) (queues_of book) lengths → (other : Choice)
+        → IsFeasible book other → (code : List ℕ) → other code ≤ by_code book lengths code
     unfolding by_code
     at_most greatest other feasible code = by (is_participant book code) refl
       where
@@ -65,11 +79,13 @@ module _ (law : ChosenAreBeginnings) (book : Book) (sound : IsSound book) where
         by true e =
             let less = index_of-lt book code e in
             let same = ap other (code_at-index_of book code e) in
-            let here = greatest.largest (λ i. other (code_at book i)) (by_index other feasible) (index_of book code) (let count = length-queues book in omega arith) in
+            let here = greatest.largest (λ i. other (code_at book i)) (by_index other feasible) (index_of book code)
+            (let count = length-queues book in omega arith) in
             omega arith
         by false e = let none = no_queue book code sound e in let fits = feasible.within code in omega arith
 
-    pub greatest_by_code : resolver.IsGreatest (positions_of book) (queues_of book) lengths → IsGreatest book (by_code book lengths)
+    pub greatest_by_code : resolver.IsGreatest (positions_of book) (queues_of book) lengths
+        → IsGreatest book (by_code book lengths)
     greatest_by_code greatest = record {
       feasible = record { within = within greatest.feasible.within; covered = covered greatest.feasible };
       largest = at_most greatest;

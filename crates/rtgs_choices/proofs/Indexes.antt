@@ -1,5 +1,6 @@
 -- Codes that rise, and their indexes.
-use Rattle.std.proofs.Common.{◌≡◌, ℕ, zero, suc, ◌<◌, ◌+◌, ◌==◌, Bool, true, false, not, cond, ◌||◌, List, [], ◌∷◌, length, get_or, nat_cmp, Less, refl, sym, ap, ◌∙◌, subst, true≢false, arith}
+use Rattle.std.proofs.Common.{◌≡◌, ℕ, zero, suc, ◌<◌, ◌+◌, ◌==◌, Bool, true, false, not, cond, ◌||◌, List, [], ◌∷◌}
+use Rattle.std.proofs.Common.{length, get_or, nat_cmp, Less, refl, sym, ap, ◌∙◌, subst, true≢false, arith}
 use Rattle.std.proofs.lemmas.Bool.{eqb-true, eq-eqb}
 use Rattle.std.proofs.lemmas.List.Elements.{All-from_recursion}
 use Rattle.std.proofs.lemmas.List.Sums.{passes_at_first}
@@ -16,17 +17,22 @@ abbrev pub index_in : List (List ℕ) → List ℕ → ℕ
 index_in codes code = position_or_len (bytes_eq code) codes
 
 -- a code that is there has an index below the length
-pub index_in-lt : (codes : List (List ℕ)) (code : List ℕ) → list_any (bytes_eq code) codes ≡ true → index_in codes code < length codes
+pub index_in-lt : (codes : List (List ℕ)) (code : List ℕ) → list_any (bytes_eq code) codes ≡ true
+    → index_in codes code < length codes
 index_in-lt [] code e = absurd (true≢false (sym e))
 index_in-lt (c ∷ codes) code e = by (bytes_eq code c) e (index_in-lt codes code)
   where
-    by : (b : Bool) → (b || list_any (bytes_eq code) codes) ≡ true → (list_any (bytes_eq code) codes ≡ true → index_in codes code < length codes) → cond (not b) (1 + index_in codes code) 0 < suc (length codes)
+    by : (b : Bool) → (b || list_any (bytes_eq code) codes) ≡ true
+        → (list_any (bytes_eq code) codes ≡ true → index_in codes code < length codes)
+        → cond (not b) (1 + index_in codes code) 0 < suc (length codes)
     by true e rest = omega arith
     by false e rest = let r = rest e in omega arith
 
 -- and stands there
-pub code_at_index : (codes : List (List ℕ)) (code : List ℕ) → index_in codes code < length codes → code ≡ get_or codes (index_in codes code) []
-code_at_index codes code less = (bytes_decides code (get_or codes (index_in codes code) [])).0 (passes_at_first (bytes_eq code) codes [] less)
+pub code_at_index : (codes : List (List ℕ)) (code : List ℕ) → index_in codes code < length codes
+    → code ≡ get_or codes (index_in codes code) []
+code_at_index codes code less = (bytes_decides code (get_or codes (index_in codes code) [])).0
+    (passes_at_first (bytes_eq code) codes [] less)
 
 less_apart : (a b : List ℕ) → slice_cmp nat_cmp a b ≡ Less → bytes_eq b a ≡ false
 less_apart a b less = by (bytes_eq b a) refl
@@ -35,7 +41,8 @@ less_apart a b less = by (bytes_eq b a) refl
     by true e = absurd (
         let same : b ≡ a = (bytes_decides b a).0 e in
         let here : slice_cmp nat_cmp a a ≡ Less = subst (λ (x : List ℕ). slice_cmp nat_cmp a x ≡ Less) same less in
-        let turned : slice_cmp nat_cmp a a ≡ ordering_reverse (slice_cmp nat_cmp a a) = nat_list_cmp_total.antisymm a a in
+        let turned : slice_cmp nat_cmp a a ≡ ordering_reverse (slice_cmp nat_cmp a a) = nat_list_cmp_total.antisymm a a
+        in
         let back : Less ≡ ordering_reverse Less = sym here ∙ turned ∙ ap ordering_reverse here in
         cc)
     by false e = refl
@@ -44,21 +51,25 @@ same_text : (a : List ℕ) → bytes_eq a a ≡ true
 same_text a = (bytes_decides a a).1 refl
 
 -- the code at an index has that index
-pub index_of_code_at : (codes : List (List ℕ)) (p : ℕ) → Rise codes → p < length codes → index_in codes (get_or codes p []) ≡ p
+pub index_of_code_at : (codes : List (List ℕ)) (p : ℕ) → Rise codes → p < length codes
+    → index_in codes (get_or codes p []) ≡ p
 unfolding IsStrictlySortedBy
 index_of_code_at [] p rise less = absurd (omega arith)
 index_of_code_at (c ∷ codes) zero rise less = rw (same_text c) refl
 index_of_code_at (c ∷ codes) (suc p) rise less =
-    let apart : bytes_eq (get_or codes p []) c ≡ false = less_apart c (get_or codes p []) (All-from_recursion (λ (later : List ℕ). slice_cmp nat_cmp c later ≡ Less) codes rise.0 p [] (omega arith)) in
+    let apart : bytes_eq (get_or codes p []) c ≡ false = less_apart c (get_or codes p [])
+    (All-from_recursion (λ (later : List ℕ). slice_cmp nat_cmp c later ≡ Less) codes rise.0 p [] (omega arith)) in
     let rest : index_in codes (get_or codes p []) ≡ p = index_of_code_at codes p rise.1 (omega arith) in
     rw apart (omega arith)
 
 -- a code has this index just where it stands there
-pub has_index : (codes : List (List ℕ)) (code : List ℕ) (p : ℕ) → Rise codes → p < length codes → (index_in codes code == p) ≡ bytes_eq code (get_or codes p [])
+pub has_index : (codes : List (List ℕ)) (code : List ℕ) (p : ℕ) → Rise codes → p < length codes
+    → (index_in codes code == p) ≡ bytes_eq code (get_or codes p [])
 has_index codes code p rise less = by (bytes_eq code (get_or codes p [])) refl
   where
     by : (t : Bool) → bytes_eq code (get_or codes p []) ≡ t → (index_in codes code == p) ≡ t
-    by true e = eq-eqb _ _ (ap (index_in codes) ((bytes_decides code (get_or codes p [])).0 e) ∙ index_of_code_at codes p rise less)
+    by true e = eq-eqb _ _ (ap (index_in codes) ((bytes_decides code (get_or codes p [])).0 e)
+        ∙ index_of_code_at codes p rise less)
     by false e = other (index_in codes code == p) refl
       where
         other : (t : Bool) → (index_in codes code == p) ≡ t → t ≡ false

@@ -1,10 +1,12 @@
 -- A resolution that settles orders, and its change.
-use Rattle.std.proofs.Common.{◌≡◌, ℕ, Bool, true, false, cond, ◌&&◌, List, [], ◌∷◌, ◌++◌, filter, Ok, refl, sym, ◌∙◌, true≢false}
+use Rattle.std.proofs.Common.{◌≡◌, ℕ, Bool, true, false, cond, ◌&&◌, List, [], ◌∷◌, ◌++◌, filter, Ok, refl, sym, ◌∙◌}
+use Rattle.std.proofs.Common.{true≢false}
 use Rattle.std.specs.List.{AllByRecursion}
 use Rattle.rtgs_book.specs.declared.answer.Answer.TheVariants.{Resolved}
 use Rattle.rtgs_book.specs.declared.book.Book.{Book}
 use Rattle.rtgs_book.specs.declared.change.RowChange.{RowChange}
-use Rattle.rtgs_book.specs.declared.change.RowChange.TheVariants.{AddParticipant, AddPosting, AddOrder, AddMark, SetCredit, SetBalance, SetState, SetDay}
+use Rattle.rtgs_book.specs.declared.change.RowChange.TheVariants.{AddParticipant, AddPosting, AddOrder, AddMark}
+use Rattle.rtgs_book.specs.declared.change.RowChange.TheVariants.{SetCredit, SetBalance, SetState, SetDay}
 use Rattle.rtgs_book.specs.declared.command.Command.TheVariants.{Resolve}
 use Rattle.rtgs_book.specs.declared.mark.Mark.{Mark}
 use Rattle.rtgs_book.specs.declared.order.Order.{Order}
@@ -20,17 +22,20 @@ use Rattle.rtgs_book.specs.Step.{Step}
 use Rattle.rtgs_choices.specs.Settling.{state_rows, IsOfBalance, balance_rows, settling_rows}
 use Rattle.rtgs_choices.proofs.Rows.{of_balances}
 
-none_of_fewer : (p q : Order → Bool) (os : List Order) → filter p os ≡ [] → is_empty (filter (λ o. p o && q o) os) ≡ true
+none_of_fewer : (p q : Order → Bool) (os : List Order) → filter p os ≡ []
+    → is_empty (filter (λ o. p o && q o) os) ≡ true
 none_of_fewer p q [] e = refl
 none_of_fewer p q (o ∷ os) e = by (p o) e (none_of_fewer p q os)
   where
-    by : (b : Bool) → cond b (o ∷ filter p os) (filter p os) ≡ [] → (filter p os ≡ [] → is_empty (filter (λ o. p o && q o) os) ≡ true)
+    by : (b : Bool) → cond b (o ∷ filter p os) (filter p os) ≡ []
+        → (filter p os ≡ [] → is_empty (filter (λ o. p o && q o) os) ≡ true)
         → is_empty (cond (b && q o) (o ∷ filter (λ o. p o && q o) os) (filter (λ o. p o && q o) os)) ≡ true
     by true e rest = absurd (cc)
     by false e rest = rest e
 
 -- a desk that has chosen orders is not closed
-not_closed : (book : Book) (choice : Choice) → IsSound book → is_empty (chosen book choice) ≡ false → is_closed book.day.phase ≡ false
+not_closed : (book : Book) (choice : Choice) → IsSound book → is_empty (chosen book choice) ≡ false
+    → is_closed book.day.phase ≡ false
 unfolding chosen is_chosen
 not_closed book choice sound some = by (is_closed book.day.phase) refl
   where
@@ -38,12 +43,18 @@ not_closed book choice sound some = by (is_closed book.day.phase) refl
     by true e = absurd (true≢false (sym (none_of_fewer is_queued _ book.orders (sound.queues.closed e)) ∙ some))
     by false e = refl
 
-module _ (book : Book) (choice : Choice) (mark : Mark) (sound : IsSound book) (greatest : IsGreatest book choice) (some : is_empty (chosen book choice) ≡ false) (is : mark ≡ mark_of book (chosen book choice)) where
-  resolved : record { reply = Ok (Resolved mark.number mark.count mark.value); book = settle book (is_chosen book choice) } ≡ resolve book choice
+module _ (book : Book) (choice : Choice) (mark : Mark) (sound : IsSound book) (greatest : IsGreatest book choice)
+    (some : is_empty (chosen book choice) ≡ false) (is : mark ≡ mark_of book (chosen book choice)) where
+  resolved : record {
+    reply = Ok (Resolved mark.number mark.count mark.value);
+    book = settle book (is_chosen book choice);
+  } ≡ resolve book choice
   unfolding resolve first_of
-  resolved = rw (not_closed book choice sound some, some) (λ i. record { reply = Ok (Resolved (is i).number (is i).count (is i).value); book = settle book (is_chosen book choice) })
+  resolved = rw (not_closed book choice sound some, some) (λ i. record
+      { reply = Ok (Resolved (is i).number (is i).count (is i).value); book = settle book (is_chosen book choice) })
 
-  pub resolution : Step book Resolve (Ok (Resolved mark.number mark.count mark.value)) (settle book (is_chosen book choice))
+  pub resolution : Step book Resolve (Ok (Resolved mark.number mark.count mark.value))
+      (settle book (is_chosen book choice))
   resolution = (choice, greatest, resolved)
 
   pub mark-number : mark.number ≡ next_mark book
@@ -51,7 +62,8 @@ module _ (book : Book) (choice : Choice) (mark : Mark) (sound : IsSound book) (g
   mark-number i = (is i).number
 
 -- no row adds a participant
-start_empty : (new : Book) (all rows : List RowChange) → AllByRecursion IsOfBalance rows → AllByRecursion (StartsEmpty new all) rows
+start_empty : (new : Book) (all rows : List RowChange) → AllByRecursion IsOfBalance rows
+    → AllByRecursion (StartsEmpty new all) rows
 start_empty new all [] h = tt
 start_empty new all (SetBalance code cents ∷ rows) h = (tt, start_empty new all rows h.1)
 start_empty new all (AddParticipant participant ∷ rows) h = absurd h.0
@@ -62,9 +74,16 @@ start_empty new all (SetCredit code credit ∷ rows) h = absurd h.0
 start_empty new all (SetState number state ∷ rows) h = absurd h.0
 start_empty new all (SetDay day ∷ rows) h = absurd h.0
 
-pub added : (new book : Book) (choice : Choice) (numbers : List ℕ) (mark : Mark) → AllByRecursion (StartsEmpty new (settling_rows book choice numbers mark)) (settling_rows book choice numbers mark)
+pub added : (new book : Book) (choice : Choice) (numbers : List ℕ) (mark : Mark)
+    → AllByRecursion (StartsEmpty new (settling_rows book choice numbers mark)) (settling_rows book choice numbers mark)
 added new book choice numbers mark = states _ numbers
   where
-    states : (state : OrderState) (ns : List ℕ) → AllByRecursion (StartsEmpty new (settling_rows book choice numbers mark)) (state_rows state ns ++ AddMark mark ∷ balance_rows book choice)
-    states state [] = (tt, start_empty new (settling_rows book choice numbers mark) (balance_rows book choice) (of_balances book choice))
+    states : (state : OrderState) (ns : List ℕ) → AllByRecursion
+        (StartsEmpty new (settling_rows book choice numbers mark))
+        (state_rows state ns ++ AddMark mark ∷ balance_rows book choice)
+    states state [] = (
+      tt,
+      start_empty new (settling_rows book choice numbers mark) (balance_rows book choice)
+          (of_balances book choice),
+    )
     states state (n ∷ ns) = (tt, states state ns)

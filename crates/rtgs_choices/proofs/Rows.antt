@@ -1,5 +1,6 @@
 -- The rows that settle a choice, one after another.
-use Rattle.std.proofs.Common.{◌≡◌, ℕ, ℤ, Bool, true, false, not, cond, ◌&&◌, ◌||◌, List, [], ◌∷◌, ◌++◌, map, filter, Option, Some, None, refl, sym, ap, ◌∙◌, subst, true≢false}
+use Rattle.std.proofs.Common.{◌≡◌, ℕ, ℤ, Bool, true, false, not, cond, ◌&&◌, ◌||◌, List, [], ◌∷◌, ◌++◌, map, filter}
+use Rattle.std.proofs.Common.{Option, Some, None, refl, sym, ap, ◌∙◌, subst, true≢false}
 use Rattle.std.proofs.lemmas.List.{map-id}
 use Rattle.std.proofs.lemmas.List.Elements.{recursion_from_All, All-from_get_or}
 use Rattle.std.specs.List.{AllByRecursion, list_any}
@@ -8,7 +9,8 @@ use Rattle.std.specs.Str.{bytes_eq}
 use Rattle.std.specs.Cmp.Lexicographic.{bytes_decides}
 use Rattle.rtgs_book.specs.declared.book.Book.{Book}
 use Rattle.rtgs_book.specs.declared.change.RowChange.{RowChange}
-use Rattle.rtgs_book.specs.declared.change.RowChange.TheVariants.{AddParticipant, AddPosting, AddOrder, AddMark, SetCredit, SetBalance, SetState, SetDay}
+use Rattle.rtgs_book.specs.declared.change.RowChange.TheVariants.{AddParticipant, AddPosting, AddOrder, AddMark}
+use Rattle.rtgs_book.specs.declared.change.RowChange.TheVariants.{SetCredit, SetBalance, SetState, SetDay}
 use Rattle.rtgs_book.specs.declared.mark.Mark.{Mark}
 use Rattle.rtgs_book.specs.declared.order.Order.{Order}
 use Rattle.rtgs_book.specs.declared.order_state.OrderState.{OrderState}
@@ -27,7 +29,8 @@ use Rattle.rtgs_choices.proofs.Told.{in_codes, all_weaker}
 
 -- one number more
 restated_more : (number : ℕ) (numbers : List ℕ) (state : OrderState) (os : List Order)
-    → map (restated (is_numbered numbers) state) (map (restated (has_number number) state) os) ≡ map (restated (is_numbered (number ∷ numbers)) state) os
+    → map (restated (is_numbered numbers) state) (map (restated (has_number number) state) os)
+    ≡ map (restated (is_numbered (number ∷ numbers)) state) os
 restated_more number numbers state [] = refl
 restated_more number numbers state (o ∷ os) = λ i. by (has_number number o) i ∷ restated_more number numbers state os i
   where
@@ -35,11 +38,13 @@ restated_more number numbers state (o ∷ os) = λ i. by (has_number number o) i
     again true = refl
     again false = refl
 
-    by : (b : Bool) → restated (is_numbered numbers) state (cond b (record o { state = state }) o) ≡ cond (b || is_numbered numbers o) (record o { state = state }) o
+    by : (b : Bool) → restated (is_numbered numbers) state (cond b (record o { state = state }) o)
+        ≡ cond (b || is_numbered numbers o) (record o { state = state }) o
     by true = again (is_numbered numbers o)
     by false = refl
 
-pub changed-states : (book : Book) (state : OrderState) (numbers : List ℕ) → changed book (state_rows state numbers) ≡ with_state book (is_numbered numbers) state
+pub changed-states : (book : Book) (state : OrderState) (numbers : List ℕ)
+    → changed book (state_rows state numbers) ≡ with_state book (is_numbered numbers) state
 unfolding with_state
 changed-states book state [] = ap (λ (os : List Order). record book { orders = os }) (sym (map-id book.orders))
 changed-states book state (number ∷ numbers) =
@@ -48,7 +53,8 @@ changed-states book state (number ∷ numbers) =
 
 -- ---- the book
 
-pub changed-append : (book : Book) (rows more : List RowChange) → changed book (rows ++ more) ≡ changed (changed book rows) more
+pub changed-append : (book : Book) (rows more : List RowChange)
+    → changed book (rows ++ more) ≡ changed (changed book rows) more
 changed-append book [] more = refl
 changed-append book (row ∷ rows) more = changed-append (with_row book row) rows more
 
@@ -63,28 +69,50 @@ changed-balances book (SetCredit code credit ∷ rows) h = absurd h.0
 changed-balances book (SetState number state ∷ rows) h = absurd h.0
 changed-balances book (SetDay day ∷ rows) h = absurd h.0
 
-pub restated_agrees : (p q : Order → Bool) (state : OrderState) (os : List Order) → AllByRecursion (λ o. p o ≡ q o) os → map (restated q state) os ≡ map (restated p state) os
+pub restated_agrees : (p q : Order → Bool) (state : OrderState) (os : List Order) → AllByRecursion (λ o. p o ≡ q o) os
+    → map (restated q state) os ≡ map (restated p state) os
 restated_agrees p q state [] h = refl
-restated_agrees p q state (o ∷ os) h = λ i. cond (sym h.0 i) (record o { state = state }) o ∷ restated_agrees p q state os h.1 i
+restated_agrees p q state (o ∷ os) h = λ i. cond (sym h.0 i) (record o { state = state }) o
+    ∷ restated_agrees p q state os h.1 i
 
-module _ (book : Book) (choice : Choice) (numbers : List ℕ) (by_number : AllByRecursion (λ o. is_chosen book choice o ≡ is_numbered numbers o) book.orders) (some : is_empty (chosen book choice) ≡ false) where
-  -- all states set and the mark added
-  settled_with_mark : with_row (with_state book (is_numbered numbers) (Settled (next_mark book))) (AddMark (mark_of book (chosen book choice))) ≡ settle book (is_chosen book choice)
-  unfolding with_state settle chosen
-  settled_with_mark = by (chosen book choice) some
-    where
-      by : (batch : List Order) → is_empty batch ≡ false
-          → record book { orders = map (restated (is_numbered numbers) (Settled (next_mark book))) book.orders; marks = book.marks ++ mark_of book batch ∷ [] }
-          ≡ cond (is_empty batch) book (record book { orders = map (restated (is_chosen book choice) (Settled (next_mark book))) book.orders; marks = book.marks ++ mark_of book batch ∷ [] })
-      by [] e = absurd (true≢false e)
-      by (o ∷ os) e = ap (λ (orders : List Order). record book { orders = orders; marks = book.marks ++ mark_of book (o ∷ os) ∷ [] }) (restated_agrees (is_chosen book choice) (is_numbered numbers) (Settled (next_mark book)) book.orders by_number)
+module _ (book : Book) (choice : Choice) (numbers : List ℕ) (by_number : AllByRecursion
+    (λ o. is_chosen book choice o ≡ is_numbered numbers o) book.orders) (some : is_empty (chosen book choice) ≡ false)
+  where
+    -- all states set and the mark added
+    settled_with_mark : with_row (with_state book (is_numbered numbers) (Settled (next_mark book)))
+        (AddMark (mark_of book (chosen book choice))) ≡ settle book (is_chosen book choice)
+    unfolding with_state settle chosen
+    settled_with_mark = by (chosen book choice) some
+      where
+        by : (batch : List Order) → is_empty batch ≡ false
+            → record book {
+              orders = map (restated (is_numbered numbers) (Settled (next_mark book))) book.orders;
+              marks = book.marks ++ mark_of book batch ∷ [];
+            }
+            ≡ cond (is_empty batch) book (record book {
+              orders =
+                  map (restated (is_chosen book choice) (Settled (next_mark book))) book.orders;
+              marks = book.marks ++ mark_of book batch ∷ [];
+            })
+        by [] e = absurd (true≢false e)
+        by (o ∷ os) e = ap (λ (orders : List Order). record book {
+          orders = orders;
+          marks = book.marks ++ mark_of book (o ∷ os) ∷ [];
+        })
+            (restated_agrees (is_chosen book choice) (is_numbered numbers) (Settled (next_mark book)) book.orders
+            by_number)
 
-  pub changed-settled : (balances : List RowChange) → AllByRecursion IsOfBalance balances → changed book (state_rows (Settled (next_mark book)) numbers ++ AddMark (mark_of book (chosen book choice)) ∷ balances) ≡ settle book (is_chosen book choice)
-  changed-settled balances h =
-      changed-append book (state_rows (Settled (next_mark book)) numbers) (AddMark (mark_of book (chosen book choice)) ∷ balances)
-      ∙ ap (λ (b : Book). changed b (AddMark (mark_of book (chosen book choice)) ∷ balances)) (changed-states book (Settled (next_mark book)) numbers)
-      ∙ changed-balances (with_row (with_state book (is_numbered numbers) (Settled (next_mark book))) (AddMark (mark_of book (chosen book choice)))) balances h
-      ∙ settled_with_mark
+    pub changed-settled : (balances : List RowChange) → AllByRecursion IsOfBalance balances
+        → changed book (state_rows (Settled (next_mark book)) numbers ++ AddMark (mark_of book (chosen book choice))
+        ∷ balances) ≡ settle book (is_chosen book choice)
+    changed-settled balances h =
+        changed-append book (state_rows (Settled (next_mark book)) numbers)
+        (AddMark (mark_of book (chosen book choice)) ∷ balances)
+        ∙ ap (λ (b : Book). changed b (AddMark (mark_of book (chosen book choice)) ∷ balances))
+        (changed-states book (Settled (next_mark book)) numbers)
+        ∙ changed-balances (with_row (with_state book (is_numbered numbers) (Settled (next_mark book)))
+        (AddMark (mark_of book (chosen book choice)))) balances h
+        ∙ settled_with_mark
 
 -- ---- the balances
 
@@ -92,17 +120,20 @@ pub of_balances : (book : Book) (choice : Choice) → AllByRecursion IsOfBalance
 unfolding balance_rows
 of_balances book choice = each (filter (moves book choice) (accounts book))
   where
-    each : (codes : List (List ℕ)) → AllByRecursion IsOfBalance (map (λ code. SetBalance code (balance_after book choice code)) codes)
+    each : (codes : List (List ℕ)) → AllByRecursion IsOfBalance
+        (map (λ code. SetBalance code (balance_after book choice code)) codes)
     each [] = tt
     each (code ∷ codes) = (tt, each codes)
 
-pub balance_set-states : (code : List ℕ) (state : OrderState) (numbers : List ℕ) (rows : List RowChange) → balance_set code (state_rows state numbers ++ rows) ≡ balance_set code rows
+pub balance_set-states : (code : List ℕ) (state : OrderState) (numbers : List ℕ) (rows : List RowChange)
+    → balance_set code (state_rows state numbers ++ rows) ≡ balance_set code rows
 balance_set-states code state [] rows = refl
 balance_set-states code state (number ∷ numbers) rows = balance_set-states code state numbers rows
 
 -- a row for each code that passes sets its balance, and no other
 balance_set-rows : (passes : List ℕ → Bool) (new : List ℕ → ℤ) (code : List ℕ) (codes : List (List ℕ))
-    → balance_set code (map (λ c. SetBalance c (new c)) (filter passes codes)) ≡ cond (list_any (bytes_eq code) codes && passes code) (Some (new code)) None
+    → balance_set code (map (λ c. SetBalance c (new c)) (filter passes codes))
+    ≡ cond (list_any (bytes_eq code) codes && passes code) (Some (new code)) None
 balance_set-rows passes new code [] = refl
 balance_set-rows passes new code (c ∷ codes) = by (bytes_eq c code) refl (balance_set-rows passes new code codes)
   where
@@ -115,7 +146,8 @@ balance_set-rows passes new code (c ∷ codes) = by (bytes_eq c code) refl (bala
         other false f = refl
 
     -- the row of this very code
-    own : (p any : Bool) (rest : Option ℤ) → rest ≡ cond (any && p) (Some (new code)) None → cond p (or_else rest (Some (new code))) rest ≡ cond p (Some (new code)) None
+    own : (p any : Bool) (rest : Option ℤ) → rest ≡ cond (any && p) (Some (new code)) None
+        → cond p (or_else rest (Some (new code))) rest ≡ cond p (Some (new code)) None
     own true true rest r = rw r refl
     own true false rest r = rw r refl
     own false true rest r = r
@@ -127,38 +159,56 @@ balance_set-rows passes new code (c ∷ codes) = by (bytes_eq c code) refl (bala
     others true (Some z) = refl
     others false rest = refl
 
-    opened : (p : Bool) → balance_set code (map (λ c. SetBalance c (new c)) (cond p (c ∷ filter passes codes) (filter passes codes)))
-        ≡ cond p (or_else (balance_set code (map (λ c. SetBalance c (new c)) (filter passes codes))) (cond (bytes_eq c code) (Some (new c)) None)) (balance_set code (map (λ c. SetBalance c (new c)) (filter passes codes)))
+    opened : (p : Bool) → balance_set code (map (λ c. SetBalance c (new c))
+        (cond p (c ∷ filter passes codes) (filter passes codes)))
+        ≡ cond p (or_else (balance_set code (map (λ c. SetBalance c (new c)) (filter passes codes)))
+        (cond (bytes_eq c code) (Some (new c)) None)) (balance_set code
+        (map (λ c. SetBalance c (new c)) (filter passes codes)))
     opened true = refl
     opened false = refl
 
     by : (b : Bool) → bytes_eq c code ≡ b
-        → balance_set code (map (λ c. SetBalance c (new c)) (filter passes codes)) ≡ cond (list_any (bytes_eq code) codes && passes code) (Some (new code)) None
-        → balance_set code (map (λ c. SetBalance c (new c)) (cond (passes c) (c ∷ filter passes codes) (filter passes codes))) ≡ cond ((bytes_eq code c || list_any (bytes_eq code) codes) && passes code) (Some (new code)) None
+        → balance_set code (map (λ c. SetBalance c (new c)) (filter passes codes))
+        ≡ cond (list_any (bytes_eq code) codes && passes code) (Some (new code)) None
+        → balance_set code (map (λ c. SetBalance c (new c)) (cond (passes c) (c ∷ filter passes codes)
+        (filter passes codes))) ≡ cond ((bytes_eq code c || list_any (bytes_eq code) codes) && passes code)
+        (Some (new code)) None
     by true e r =
         let same : c ≡ code = (bytes_decides c code).0 e in
         opened (passes c)
-        ∙ (λ i. cond (passes (same i)) (or_else (balance_set code (map (λ c. SetBalance c (new c)) (filter passes codes))) (cond (e i) (Some (new (same i))) None)) (balance_set code (map (λ c. SetBalance c (new c)) (filter passes codes))))
-        ∙ own (passes code) (list_any (bytes_eq code) codes) (balance_set code (map (λ c. SetBalance c (new c)) (filter passes codes))) r
-        ∙ (λ i. cond ((sym (same_test true e) i || list_any (bytes_eq code) codes) && passes code) (Some (new code)) None)
+        ∙ (λ i. cond (passes (same i)) (or_else (balance_set code
+        (map (λ c. SetBalance c (new c)) (filter passes codes))) (cond (e i) (Some (new (same i))) None))
+        (balance_set code (map (λ c. SetBalance c (new c)) (filter passes codes))))
+        ∙ own (passes code) (list_any (bytes_eq code) codes)
+        (balance_set code (map (λ c. SetBalance c (new c)) (filter passes codes))) r
+        ∙ (λ i. cond ((sym (same_test true e) i || list_any (bytes_eq code) codes) && passes code) (Some (new code))
+        None)
     by false e r =
         opened (passes c)
-        ∙ (λ i. cond (passes c) (or_else (balance_set code (map (λ c. SetBalance c (new c)) (filter passes codes))) (cond (e i) (Some (new c)) None)) (balance_set code (map (λ c. SetBalance c (new c)) (filter passes codes))))
+        ∙ (λ i. cond (passes c) (or_else (balance_set code (map (λ c. SetBalance c (new c)) (filter passes codes)))
+        (cond (e i) (Some (new c)) None)) (balance_set code
+        (map (λ c. SetBalance c (new c)) (filter passes codes))))
         ∙ others (passes c) (balance_set code (map (λ c. SetBalance c (new c)) (filter passes codes)))
         ∙ r
-        ∙ (λ i. cond ((sym (same_test false e) i || list_any (bytes_eq code) codes) && passes code) (Some (new code)) None)
+        ∙ (λ i. cond ((sym (same_test false e) i || list_any (bytes_eq code) codes) && passes code) (Some (new code))
+        None)
 
 accounts-settle : (book : Book) (is_in : Order → Bool) → accounts (settle book is_in) ≡ accounts book
 unfolding settle accounts
 accounts-settle book is_in = by (is_empty (filter is_in book.orders))
   where
-    by : (b : Bool) → accounts (cond b book (record book { orders = map (restated is_in (Settled (next_mark book))) book.orders; marks = book.marks ++ mark_of book (filter is_in book.orders) ∷ [] })) ≡ accounts book
+    by : (b : Bool) → accounts (cond b book (record book {
+      orders =
+          map (restated is_in (Settled (next_mark book))) book.orders;
+      marks = book.marks ++ mark_of book (filter is_in book.orders) ∷ [];
+    })) ≡ accounts book
     by true = refl
     by false = refl
 
 -- settling the chosen orders leaves the balances that the choice was judged by
 abbrev pub SettledBalances : Type 0
-SettledBalances = (book : Book) (choice : Choice) (code : List ℕ) → balance (settle book (is_chosen book choice)) code ≡ balance_after book choice code
+SettledBalances = (book : Book) (choice : Choice) (code : List ℕ)
+    → balance (settle book (is_chosen book choice)) code ≡ balance_after book choice code
 
 module _ (law : SettledBalances) (book : Book) (choice : Choice) (numbers : List ℕ) (mark : Mark) where
   turned : (b : Bool) (z : ℤ) → cond (not b) (Some z) None ≡ cond b None (Some z)
@@ -167,7 +217,9 @@ module _ (law : SettledBalances) (book : Book) (choice : Choice) (numbers : List
 
   -- the rows set the balance as it is after settling, if it moves
   abbrev SetRight : List ℕ → Type 0
-  SetRight code = balance_set code (settling_rows book choice numbers mark) ≡ cond (int_eq (balance book code) (balance (settle book (is_chosen book choice)) code)) None (Some (balance (settle book (is_chosen book choice)) code))
+  SetRight code = balance_set code (settling_rows book choice numbers mark)
+      ≡ cond (int_eq (balance book code) (balance (settle book (is_chosen book choice)) code)) None
+      (Some (balance (settle book (is_chosen book choice)) code))
 
   set_right : (code : List ℕ) → list_any (bytes_eq code) (accounts book) ≡ true → SetRight code
   unfolding balance_rows
@@ -176,11 +228,13 @@ module _ (law : SettledBalances) (book : Book) (choice : Choice) (numbers : List
       ∙ balance_set-rows (moves book choice) (balance_after book choice) code (accounts book)
       ∙ (λ i. cond (known i && moves book choice code) (Some (balance_after book choice code)) None)
       ∙ turned (int_eq (balance book code) (balance_after book choice code)) (balance_after book choice code)
-      ∙ (λ i. cond (int_eq (balance book code) (sym (law book choice code) i)) None (Some (sym (law book choice code) i)))
+      ∙ (λ i. cond (int_eq (balance book code) (sym (law book choice code) i)) None
+      (Some (sym (law book choice code) i)))
 
   pub sets_balances : SetsBalances book (settling_rows book choice numbers mark) (settle book (is_chosen book choice))
   sets_balances =
       subst (AllByRecursion SetRight) (sym (accounts-settle book (is_chosen book choice)))
       (all_weaker (λ code. list_any (bytes_eq code) (accounts book) ≡ true) SetRight set_right (accounts book)
       (recursion_from_All (λ code. list_any (bytes_eq code) (accounts book) ≡ true) (accounts book)
-      (All-from_get_or (λ code. list_any (bytes_eq code) (accounts book) ≡ true) (accounts book) [] (λ i less. in_codes (accounts book) i less))))
+      (All-from_get_or (λ code. list_any (bytes_eq code) (accounts book) ≡ true) (accounts book) []
+      (λ i less. in_codes (accounts book) i less))))

@@ -1,5 +1,6 @@
 -- Which answers a command can have.
-use Rattle.std.proofs.Common.{◌≡◌, ℕ, ℤ, Bool, true, false, ◌∷◌, [], List, Option, Some, None, Ok, Err, if◌then◌else◌, refl, ap, ◌∙◌}
+use Rattle.std.proofs.Common.{◌≡◌, ℕ, ℤ, Bool, true, false, ◌∷◌, [], List, Option, Some, None, Ok, Err, if◌then◌else◌}
+use Rattle.std.proofs.Common.{refl, ap, ◌∙◌}
 use Rattle.std.specs.List.{AllByRecursion}
 use Rattle.rtgs_book.specs.declared.Book.{Book}
 use Rattle.rtgs_book.specs.declared.Answer.{Answer}
@@ -9,7 +10,8 @@ use Rattle.rtgs_book.specs.declared.Order.{Order}
 use Rattle.rtgs_book.specs.declared.Posting.{Posting}
 use Rattle.rtgs_book.specs.Books.{is_empty}
 use Rattle.rtgs_book.specs.Choice.{Choice, is_chosen, chosen}
-use Rattle.rtgs_book.specs.Commands.{is_same_posting, known_posting, is_same_order, is_withdrawn_order, known_order, takes, settles_at_once}
+use Rattle.rtgs_book.specs.Commands.{is_same_posting, known_posting, is_same_order, is_withdrawn_order, known_order}
+use Rattle.rtgs_book.specs.Commands.{takes, settles_at_once}
 use Rattle.rtgs_book.specs.Commands.{add, set_credit, post, open_day, order, withdraw, resolve, cut_off, close_day}
 use Rattle.rtgs_book.specs.Outcome.{Outcome, Reply, accepts, first_of}
 use Rattle.rtgs_book.specs.Settle.{mark_of, settle}
@@ -31,7 +33,8 @@ first_fits command book [] outcome all last = last
 first_fits command book (row ∷ rows) outcome all last = by row.0 refl (first_fits command book rows outcome all.1 last)
   where
     by : (b : Bool) → row.0 ≡ b → fits command (first_of book rows outcome).reply ≡ true
-        → fits command (if◌then◌else◌ {A = Outcome} b (record { reply = row.1; book = book }) (first_of book rows outcome)).reply
+        → fits command (if◌then◌else◌ {A = Outcome} b (record { reply = row.1; book = book })
+        (first_of book rows outcome)).reply
         ≡ true
     by true e later = all.0 e
     by false e later = later
@@ -74,7 +77,8 @@ takes_fits : (book : Book) (new : Order) (sender reference receiver : List ℕ) 
     → fits (command.Order sender reference receiver amount) (takes book new).reply ≡ true
 unfolding takes
 takes_fits book new sender reference receiver amount =
-    either_fits (command.Order sender reference receiver amount) (settles_at_once book new.sender new.amount) _ _ refl refl
+    either_fits (command.Order sender reference receiver amount) (settles_at_once book new.sender new.amount) _ _ refl
+    refl
 
 order_fits : (book : Book) (sender reference receiver : List ℕ) (amount : ℕ)
     → fits (command.Order sender reference receiver amount) (order book sender reference receiver amount).reply ≡ true

@@ -2,12 +2,14 @@
 #![tactic(auto)]
 
 use clap::{Arg, ArgAction, ArgMatches, Command, Error};
-use rtgs_desk_requests::{CommandWords, Words};
+use rtgs_desk_requests::{CommandWords, ReadingWords, Words};
 use std::alloc::{AllocError, Global};
 
 mod accounts;
 mod days;
-mod texts;
+mod orders;
+mod readings;
+mod serving;
 
 /// The book's file, which each subcommand takes first.
 fn file_argument<'a>(alloc: Global) -> Arg<'a> {
@@ -31,6 +33,16 @@ fn word_argument<'a>(alloc: Global, id: &'a str, shown: &'a str, help: &'a str) 
 /// The code of a participant that is there.
 fn code_argument<'a>(alloc: Global) -> Arg<'a> {
     word_argument(alloc, "code", "CODE", "The participant")
+}
+
+/// The reference of an order that is there.
+fn reference_argument<'a>(alloc: Global) -> Arg<'a> {
+    word_argument(
+        alloc,
+        "reference",
+        "REFERENCE",
+        "The reference of the order",
+    )
 }
 
 /// A business date.
@@ -73,7 +85,8 @@ fn with_participants<'a>(alloc: Global) -> Result<Command<'a>, AllocError> {
 fn with_days<'a>(alloc: Global) -> Result<Command<'a>, AllocError> {
     let desk = with_participants(alloc)?;
     let desk = joined(desk, days::open_command(alloc))?;
-    let desk = joined(desk, texts::import_command(alloc))?;
+    let desk = joined(desk, orders::import_command(alloc))?;
+    let desk = joined(desk, orders::withdraw_command(alloc))?;
     let desk = joined(desk, days::resolve_command(alloc))?;
     let desk = joined(desk, days::cut_off_command(alloc))?;
     joined(desk, days::close_command(alloc))
@@ -82,8 +95,12 @@ fn with_days<'a>(alloc: Global) -> Result<Command<'a>, AllocError> {
 /// The command line of the desk, with all its subcommands.
 fn desk_command<'a>(alloc: Global) -> Result<Command<'a>, AllocError> {
     let desk = with_days(alloc)?;
-    let desk = joined(desk, texts::statement_command(alloc))?;
-    joined(desk, texts::report_command(alloc))
+    let desk = joined(desk, readings::account_command(alloc))?;
+    let desk = joined(desk, readings::queue_command(alloc))?;
+    let desk = joined(desk, readings::order_command(alloc))?;
+    let desk = joined(desk, readings::statement_command(alloc))?;
+    let desk = joined(desk, readings::report_command(alloc))?;
+    joined(desk, serving::serve_command(alloc))
 }
 
 /// The word that was given for an argument. One that is missing reads as no characters, which no form takes.
@@ -102,10 +119,23 @@ fn command_words<'a>(name: &str, given: &ArgMatches<'a>) -> Option<CommandWords<
         "add" => Some(accounts::add_words(given)),
         "credit" => Some(accounts::credit_words(given)),
         "post" => Some(accounts::post_words(given)),
+        "withdraw" => Some(orders::withdraw_words(given)),
         "open" => Some(days::open_words(given)),
         "resolve" => Some(CommandWords::Resolve),
         "cutoff" => Some(days::cut_off_words(given)),
         "close" => Some(days::close_words(given)),
+        _ => None,
+    }
+}
+
+/// The words of a reading.
+fn reading_words<'a>(name: &str, given: &ArgMatches<'a>) -> Option<ReadingWords<'a>> {
+    match name {
+        "account" => Some(readings::account_words(given)),
+        "queue" => Some(readings::queue_words(given)),
+        "order" => Some(readings::order_words(given)),
+        "statement" => Some(readings::statement_words(given)),
+        "report" => Some(readings::report_words(given)),
         _ => None,
     }
 }
@@ -115,13 +145,15 @@ fn words_of<'a>(matches: &ArgMatches<'a>) -> Option<Words<'a>> {
     let file = file_word(given);
     match name {
         "init" => Some(Words::Init { file }),
-        "import" => Some(texts::import_words(given)),
-        "statement" => Some(texts::statement_words(given)),
-        "report" => Some(texts::report_words(given)),
-        _ => Some(Words::Submit {
-            file,
-            command: command_words(name, given)?,
-        }),
+        "import" => Some(orders::import_words(given)),
+        "serve" => serving::serve_words(given),
+        _ => match reading_words(name, given) {
+            Some(reading) => Some(Words::Read { file, reading }),
+            None => Some(Words::Submit {
+                file,
+                command: command_words(name, given)?,
+            }),
+        },
     }
 }
 

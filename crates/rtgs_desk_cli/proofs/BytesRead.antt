@@ -1,36 +1,82 @@
 -- What a reading tells is told by its bytes.
-use Rattle.std.proofs.Common.{◌≡◌, ℕ, List, Result, Ok, Err, ap, subst}
-use Rattle.rtgs_book.specs.declared.Book.{Book}
+use Rattle.std.proofs.Common.{◌≡◌, ◌⊎◌, ℕ, List, Result, Ok, Err, ap, subst, inl, inr}
 use Rattle.rtgs_book.specs.declared.Refusal.{Refusal}
+use Rattle.rtgs_book.specs.declared.refusal.Refusal.TheVariants.{StoreFault}
+use Rattle.rtgs_book.specs.declared.reading.Reading.{Reading}
+use Rattle.rtgs_book.specs.declared.reading.Reading.TheVariants as reading
 use Rattle.rtgs_desk.specs.Readings.{Tells}
+use Rattle.rtgs_desk.specs.Seen.{Seen}
+use Rattle.rtgs_desk_texts.specs.Readings.{Fails, text_wanted}
+use Rattle.rtgs_keeper.specs.declared.keeper.Keeper.{Ghosts}
 use Rattle.rtgs_book_file.specs.OverFile.{OverFile}
 use Rattle.rtgs_desk_cli.specs.Did.{IsRead}
 
-tells_bytes : {V : Type 0} (bytes_of : V → List ℕ) (wanted : Result (List ℕ) Refusal) (text : V) → Tells bytes_of wanted (Ok text) → Tells (λ read. read) wanted (Ok (bytes_of text))
+tells_bytes : {V : Type 0} (bytes_of : V → List ℕ) (wanted : Result (List ℕ) Refusal) (text : V)
+    → Tells bytes_of wanted (Ok text) → Tells (λ read. read) wanted (Ok (bytes_of text))
 tells_bytes bytes_of (Ok x) text told = told
 tells_bytes bytes_of (Err why) text told =
     let no : ⊥ = cc in
     absurd no
 
-tells_refusal : {V : Type 0} (bytes_of : V → List ℕ) (wanted : Result (List ℕ) Refusal) (why : Refusal) → Tells bytes_of wanted (Err why) → Tells {Y = List ℕ} (λ read. read) wanted (Err why)
+tells_refusal : {V : Type 0} (bytes_of : V → List ℕ) (wanted : Result (List ℕ) Refusal) (why : Refusal)
+    → Tells bytes_of wanted (Err why) → Tells {Y = List ℕ} (λ read. read) wanted (Err why)
 tells_refusal bytes_of (Ok x) why told = told
 tells_refusal bytes_of (Err first) why told =
     let same : why ≡ first = cc in
     ap Err same
 
-module _ {K : Type 0} (file : OverFile K) {V : Type 0} (bytes_of : V → List ℕ) (wanted : Book → Result (List ℕ) Refusal) (read : Result V Refusal) (did : IsRead file bytes_of wanted read) where
-  pub bytes_read : (text : V) → read ≡ Ok text → IsRead file (λ bytes. bytes) wanted (Ok (bytes_of text))
+-- what failed was not read
+fails_unread : {K V : Type 0} (g : Ghosts K) (asked : Reading) (desk : Seen K) (text : V) → Fails g asked desk (Ok text)
+    → ⊥
+fails_unread g (reading.Order sender reference) desk text fails =
+    let fault = fails.1 in
+    cc
+fails_unread g (reading.Account code) desk text fails = fails
+fails_unread g (reading.Queue code) desk text fails = fails
+fails_unread g (reading.Statement code date) desk text fails = fails
+fails_unread g (reading.Report date) desk text fails = fails
+
+fails_alike : {K : Type 0} (V : Type 0) (g : Ghosts K) (asked : Reading) (desk : Seen K) (why : Refusal)
+    → Fails {V = V} g asked desk (Err why) → Fails {V = List ℕ} g asked desk (Err why)
+fails_alike V g (reading.Order sender reference) desk why fails =
+    let fault = fails.1 in
+    let same : why ≡ StoreFault = cc in
+    (fails.0, ap Err same)
+fails_alike V g (reading.Account code) desk why fails = fails
+fails_alike V g (reading.Queue code) desk why fails = fails
+fails_alike V g (reading.Statement code date) desk why fails = fails
+fails_alike V g (reading.Report date) desk why fails = fails
+
+module _ {K : Type 0} (file : OverFile K) {V : Type 0} (bytes_of : V → List ℕ) (asked : Reading)
+    (read : Result V Refusal) (did : IsRead file bytes_of asked read) where
+  pub bytes_read : (text : V) → read ≡ Ok text → IsRead file (λ bytes. bytes) asked (Ok (bytes_of text))
   bytes_read text is = record {
     opened = did.opened;
     closed = did.closed;
     over = did.over;
-    did = λ honest book held. tells_bytes bytes_of (wanted book) text (subst (Tells bytes_of (wanted book)) is (did.did honest book held));
+    did = λ honest book held.
+        by (text_wanted book asked) (subst (λ read. Tells bytes_of (text_wanted book asked) read
+        ⊎ Fails file.keeper asked did.closed read) is (did.did honest book held));
   }
+    where
+      by : (wanted : Result (List ℕ) Refusal) → Tells bytes_of wanted (Ok text)
+          ⊎ Fails file.keeper asked did.closed (Ok text) → Tells (λ bytes. bytes) wanted (Ok (bytes_of text))
+          ⊎ Fails file.keeper asked did.closed (Ok (bytes_of text))
+      by wanted (inl told) = inl (tells_bytes bytes_of wanted text told)
+      by wanted (inr fails) = absurd (fails_unread file.keeper asked did.closed text fails)
 
-  pub refusal_read : (why : Refusal) → read ≡ Err why → IsRead file (λ bytes. bytes) wanted (Err why)
+  pub refusal_read : (why : Refusal) → read ≡ Err why → IsRead file (λ bytes. bytes) asked (Err why)
   refusal_read why is = record {
     opened = did.opened;
     closed = did.closed;
     over = did.over;
-    did = λ honest book held. tells_refusal bytes_of (wanted book) why (subst (Tells bytes_of (wanted book)) is (did.did honest book held));
+    did = λ honest book held.
+        by (text_wanted book asked) (subst (λ read. Tells bytes_of (text_wanted book asked) read
+        ⊎ Fails file.keeper asked did.closed read) is (did.did honest book held));
   }
+    where
+      by : (wanted : Result (List ℕ) Refusal) → Tells bytes_of wanted (Err why)
+          ⊎ Fails {V = V} file.keeper asked did.closed (Err why) → Tells {Y = List ℕ} (λ bytes. bytes) wanted (Err why)
+          ⊎ Fails {V = List ℕ} file.keeper asked did.closed (Err why)
+      by wanted (inl told) = inl (tells_refusal bytes_of wanted why told)
+      by wanted (inr fails) = inr (fails_alike V file.keeper asked did.closed why fails)

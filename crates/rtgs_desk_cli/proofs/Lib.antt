@@ -1,2 +1,4 @@
 pub mod BytesRead
 pub mod ForRequest
+pub mod PrintedAfter
+pub mod ServerPrints

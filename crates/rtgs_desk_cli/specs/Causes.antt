@@ -4,14 +4,11 @@ use Rattle.std.specs.IoError.{error_kind}
 use Rattle.std.specs.declared.io.Error.{Error}
 use Rattle.std.specs.declared.io.ErrorKind.{ErrorKind}
 use Rattle.std.specs.declared.io.ErrorKind.TheVariants as kind
-use Rattle.rtgs_book.specs.declared.refusal.Refusal.{Refusal}
 use Rattle.rtgs_book.specs.declared.refusal.Refusal.TheVariants.{OutOfMemory}
 use Rattle.rtgs_exchange.specs.declared.limits.TheConstants.{MOST_BYTES}
-use Rattle.rtgs_desk_texts.specs.declared.fault.DeskTextFault.{DeskTextFault}
-use Rattle.rtgs_desk_texts.specs.declared.fault.DeskTextFault.TheVariants as text
 use Rattle.rtgs_desk_lines.specs.declared.failure.Failure.{Failure}
 use Rattle.rtgs_desk_lines.specs.declared.failure.Failure.TheVariants.{Refused, Opening, InUse, FileExists}
-use Rattle.rtgs_desk_lines.specs.declared.failure.Failure.TheVariants.{OrdersTooLong, NoOrders}
+use Rattle.rtgs_desk_lines.specs.declared.failure.Failure.TheVariants.{OrdersTooLong, NoOrders, NoListen}
 use Rattle.rtgs_book_file.specs.declared.file_fault.FileFault.{FileFault}
 use Rattle.rtgs_book_file.specs.declared.file_fault.FileFault.TheVariants as file
 
@@ -33,7 +30,7 @@ failure_of_file file.InUse = InUse
 failure_of_file file.FileExists = FileExists
 failure_of_file (file.Book fault) = Opening fault
 
--- why a text is not made in memory, where its writer wants memory and nothing else
-abbrev pub refusal_of_text : DeskTextFault → Refusal
-refusal_of_text (text.Refused refusal) = refusal
-refusal_of_text (text.Text fault) = OutOfMemory
+-- lack of memory, or a port that cannot be had
+abbrev pub failure_of_listening : ErrorKind → Failure
+failure_of_listening kind.OutOfMemory = Refused OutOfMemory
+failure_of_listening _ = NoListen

@@ -1,13 +1,13 @@
 -- What a run has to print for its request, why it is refused, and what it leaves on its two writers.
-use Rattle.std.specs.Prelude.{◌≡◌, ◌≢◌, ◌⊎◌, ◌++◌, ◌∷◌, [], ℕ, Bool, true, false, List, Option, None, Result, Ok, Err}
-use Rattle.std.specs.Prelude.{length}
+use Rattle.std.specs.Prelude.{◌≡◌, ◌≢◌, ◌⊎◌, ◌++◌, ◌∷◌, [], ℕ, Bool, true, false, List, Option, None, Ok, Err}
+use Rattle.std.specs.Prelude.{length, Some, if◌then◌else◌}
 use Rattle.clap.specs.declared.error.kind.ErrorKind.{ErrorKind}
 use Rattle.clap.specs.declared.error.kind.ErrorKind.TheVariants as kind
 use Rattle.rtgs_money.specs.declared.lexical.Lexical.{Lexical}
 use Rattle.rtgs_book.specs.declared.answer.Answer.{Answer}
 use Rattle.rtgs_book.specs.declared.fault.Fault.{Fault}
 use Rattle.rtgs_book.specs.declared.refusal.Refusal.{Refusal}
-use Rattle.rtgs_book.specs.declared.refusal.Refusal.TheVariants.{OutOfMemory}
+use Rattle.rtgs_book.specs.declared.refusal.Refusal.TheVariants.{OutOfMemory, Failed}
 use Rattle.rtgs_desk.specs.Replies.{answers_its_kind}
 use Rattle.rtgs_exchange.specs.Batches.{StopsAfter}
 use Rattle.rtgs_exchange.specs.OrderFile.{IsOrderFile, IsFaultOf}
@@ -15,24 +15,23 @@ use Rattle.rtgs_exchange.specs.Results.{results_text}
 use Rattle.rtgs_exchange.specs.declared.batch_fault.BatchFault.{BatchFault}
 use Rattle.rtgs_exchange.specs.declared.batch_result.RowReply.{RowReply}
 use Rattle.rtgs_exchange.specs.declared.order_row.OrderRow.{OrderRow}
-use Rattle.rtgs_desk_texts.specs.Written.{statement_wanted, report_wanted}
 use Rattle.rtgs_desk_requests.specs.Requests.{Reads}
 use Rattle.rtgs_desk_requests.specs.declared.words.Words.{Words}
 use Rattle.rtgs_desk_requests.specs.declared.request.Request.{Request}
-use Rattle.rtgs_desk_requests.specs.declared.request.Request.TheVariants.{Make, Submit, Import, Statement, Report}
+use Rattle.rtgs_desk_requests.specs.declared.request.Request.TheVariants.{Make, Submit, Import, Read, Serve}
 use Rattle.rtgs_desk_lines.specs.Failures.{line_of as refusal_line}
 use Rattle.rtgs_desk_lines.specs.Lines.{line_of}
 use Rattle.rtgs_desk_lines.specs.Texts.{Prints}
 use Rattle.rtgs_desk_lines.specs.Told.{IsTold}
-use Rattle.rtgs_desk_lines.specs.declared.done.Done.TheVariants.{Made, Answered}
+use Rattle.rtgs_desk_lines.specs.declared.done.Done.TheVariants.{Made, Answered, Listening, Served}
 use Rattle.rtgs_desk_lines.specs.declared.ended.Ended.{Ended}
 use Rattle.rtgs_desk_lines.specs.declared.ended.Ended.TheVariants as ended
 use Rattle.rtgs_desk_lines.specs.declared.printed.Printed.{Printed}
 use Rattle.rtgs_desk_lines.specs.declared.failure.Failure.{Failure}
 use Rattle.rtgs_desk_lines.specs.declared.failure.Failure.TheVariants.{Form, Refused, Opening, InUse, FileExists}
-use Rattle.rtgs_desk_lines.specs.declared.failure.Failure.TheVariants.{Orders, OrdersTooLong, NoOrders}
+use Rattle.rtgs_desk_lines.specs.declared.failure.Failure.TheVariants.{Orders, OrdersTooLong, NoOrders, NoListen}
 use Rattle.rtgs_book_file.specs.OverFile.{OverFile}
-use Rattle.rtgs_desk_cli.specs.Did.{IsSubmitted, IsSent, IsRead}
+use Rattle.rtgs_desk_cli.specs.Did.{IsSubmitted, IsSent, IsRead, IsServed}
 
 -- a line with its end
 abbrev pub ended_line : List ℕ → List ℕ
@@ -50,6 +49,19 @@ IsNotMade why = (why ≡ FileExists) ⊎ IsNotOpened why
 abbrev pub IsNotSent : Failure → Type 0
 IsNotSent why = (why ≡ NoOrders) ⊎ ((why ≡ OrdersTooLong) ⊎ ((why ≡ Refused OutOfMemory)
     ⊎ ((bytes : List ℕ) × (fault : BatchFault) × IsFaultOf bytes fault × (why ≡ Orders fault))))
+
+-- the port cannot be had, or memory is wanting
+abbrev pub IsNotListening : Failure → Type 0
+IsNotListening why = (why ≡ NoListen) ⊎ (why ≡ Refused OutOfMemory)
+
+-- that connections are taken on this port, and then how many were served, unless the desk has failed
+abbrev pub server_text : ℕ → ℕ → Bool → List ℕ
+server_text port count failed = ended_line (line_of (Listening port))
+    ++ (if failed then [] else ended_line (line_of (Served count)))
+
+-- a server stops where its desk has failed
+abbrev pub stop_of_desk : Bool → Option Refusal
+stop_of_desk failed = if failed then Some Failed else None
 
 -- help, or the version, and no fault of the command line
 abbrev pub is_help : ErrorKind → Bool
@@ -73,7 +85,7 @@ IsExplained what contents told (ended.Misused sent) out out' err err' =
 
 module _ {K : Type 0} (book_file : OverFile K) where
   -- What a run with this request has to print, and where its batch stopped: the line of what it did, the results of its
-  -- batch, or the text that it read.
+  -- batch, the text that it read, or the lines of its server.
   abbrev pub HasToPrint : Request → List ℕ → Option Refusal → Type 0
   HasToPrint (Make file) text stopped =
       book_file.was_made × (text ≡ ended_line (line_of Made)) × (stopped ≡ None)
@@ -84,10 +96,11 @@ module _ {K : Type 0} (book_file : OverFile K) where
       (rows : List OrderRow) × (replies : List RowReply) × IsSent book_file sender rows replies stopped
       × ((bytes : List ℕ) × IsOrderFile bytes rows) × StopsAfter (length replies) (length rows) stopped
       × (text ≡ results_text rows replies stopped)
-  HasToPrint (Statement file code date) text stopped =
-      IsRead book_file (λ read. read) (λ book. statement_wanted book code date) (Ok text) × (stopped ≡ None)
-  HasToPrint (Report file date) text stopped =
-      IsRead book_file (λ read. read) (λ book. report_wanted book date) (Ok text) × (stopped ≡ None)
+  HasToPrint (Read file reading) text stopped =
+      IsRead book_file (λ read. read) reading (Ok text) × (stopped ≡ None)
+  HasToPrint (Serve file port count operator) text stopped =
+      (failed : Bool) × IsServed book_file failed × (text ≡ server_text port count failed)
+      × (stopped ≡ stop_of_desk failed)
 
   -- why a run with this request is refused
   abbrev pub IsRefused : Request → Failure → Type 0
@@ -95,11 +108,9 @@ module _ {K : Type 0} (book_file : OverFile K) where
   IsRefused (Submit file command) why =
       IsNotOpened why ⊎ ((refusal : Refusal) × IsSubmitted book_file command (Err refusal) × (why ≡ Refused refusal))
   IsRefused (Import file sender orders) why = IsNotOpened why ⊎ IsNotSent why
-  IsRefused (Statement file code date) why = IsNotOpened why ⊎ ((refusal : Refusal)
-      × IsRead book_file (λ read. read) (λ book. statement_wanted book code date) (Err refusal)
-      × (why ≡ Refused refusal))
-  IsRefused (Report file date) why = IsNotOpened why ⊎ ((refusal : Refusal)
-      × IsRead book_file (λ read. read) (λ book. report_wanted book date) (Err refusal) × (why ≡ Refused refusal))
+  IsRefused (Read file reading) why = IsNotOpened why ⊎ ((refusal : Refusal)
+      × IsRead book_file (λ read. read) reading (Err refusal) × (why ≡ Refused refusal))
+  IsRefused (Serve file port count operator) why = IsNotOpened why ⊎ IsNotListening why
 
   -- the run printed what it had to, as far as standard output took it
   abbrev pub PrintsFor : Request → Printed → Option (List ℕ) → Option (List ℕ) → Type 0

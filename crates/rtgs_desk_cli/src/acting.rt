@@ -8,7 +8,7 @@ ghost use Rattle.rtgs_desk_cli.specs.Did.{IsSubmitted};
 ghost use Rattle.rtgs_desk_cli.specs.Runs.{ended_line, IsNotOpened, IsRefused, PrintsFor};
 
 use crate::files::{make, open};
-use crate::texts;
+use crate::{serving, texts};
 use rtgs_book::{Answer, Command, Refusal};
 use rtgs_book_file::{FileKeeper, Start};
 use rtgs_desk_lines::{Done, Failure, Printed};
@@ -38,10 +38,13 @@ pub fn act<S: Start, O: Write>(
             sender,
             orders,
         } => texts::import(rt, file, sender, orders, start, out),
-        Request::Statement { file, code, date } => texts::statement(
-            rt, file, code, date, start, out,
-        ),
-        Request::Report { file, date } => texts::report(rt, file, date, start, out),
+        Request::Read { file, reading } => texts::show(rt, file, reading, start, out),
+        Request::Serve {
+            file,
+            port,
+            count,
+            operator,
+        } => serving::serve(rt, file, port, count, operator, start, out),
     }
 }
 
@@ -72,8 +75,8 @@ fn answer<S: Start, O: Write>(
     out: &mut O,
 ) -> Result<Printed, Failure>
     ensures printed { IfOk result (λ printed. PrintsFor
-        (file_from ⟦<FileKeeper<S> as Keeper>⟧ S.Start (λ keeper. keeper.conn)) (Request.Submit file.entry command) printed
-        (O.contents out.old) (O.contents out.new)) }
+        (file_from ⟦<FileKeeper<S> as Keeper>⟧ S.Start (λ keeper. keeper.conn)) (Request.Submit file.entry command)
+        printed (O.contents out.old) (O.contents out.new)) }
     ensures refused { IfErr result (IsRefused (file_from ⟦<FileKeeper<S> as Keeper>⟧ S.Start (λ keeper. keeper.conn))
         (Request.Submit file.entry command)) }
     ensures unchanged { OnErr result (out.new ≡ out.old) }

@@ -5,8 +5,8 @@ mod acting;
 mod batches;
 mod files;
 mod order_file;
-mod readings;
 mod run;
+mod serving;
 mod texts;
 
 pub use crate::run::run_words;

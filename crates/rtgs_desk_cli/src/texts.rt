@@ -1,11 +1,10 @@
-//! Runs that print a text: the results of a file of orders, a statement, a report.
+//! Runs that print a text: the results of a file of orders, and what the desk tells.
 ghost use Rattle.std.specs.Prelude.{◌≡◌, ◌⊎◌, ℕ, List, None, length, IfOk, IfErr, OnErr};
 ghost use Rattle.rtgs_book_file.specs.OverFile.{file_from};
 ghost use Rattle.rtgs_book.specs.declared.Book.{Book};
 ghost use Rattle.rtgs_desk.specs.Holding.{Holds};
 ghost use Rattle.rtgs_exchange.specs.Batches.{StopsAfter};
 ghost use Rattle.rtgs_exchange.specs.OrderFile.{IsOrderFile};
-ghost use Rattle.rtgs_desk_texts.specs.Written.{statement_wanted, report_wanted};
 ghost use Rattle.rtgs_desk_lines.specs.Texts.{Prints};
 ghost use Rattle.rtgs_desk_cli.specs.Did.{IsSent, IsRead, SentOver};
 ghost use Rattle.rtgs_desk_cli.specs.Runs.{IsNotOpened, IsNotSent, IsRefused, PrintsFor};
@@ -13,15 +12,15 @@ ghost use Rattle.rtgs_desk_cli.specs.Runs.{IsNotOpened, IsNotSent, IsRefused, Pr
 use crate::batches::{print_results, submit_orders};
 use crate::files::open;
 use crate::order_file::read_file;
-use crate::readings::{report_of, statement_of};
-use rtgs_book::Refusal;
+use rtgs_book::{Reading, Refusal};
 use rtgs_book_file::{FileKeeper, Start};
 use rtgs_desk::Desk;
 use rtgs_desk_lines::{Failure, Printed};
 use rtgs_desk_requests::Request;
+use rtgs_desk_texts::text_of;
 use rtgs_exchange::{BatchResult, OrderRow};
 use rtgs_keeper::Keeper;
-use rtgs_money::{BusinessDate, Code};
+use rtgs_money::Code;
 use rtgs_output::send_all;
 use rtgs_stored_desk::laws::what_a_session_leaves;
 use std::io::Write;
@@ -47,44 +46,22 @@ pub fn import<S: Start, O: Write>(
     print_results(rt.alloc(), out, rows.as_slice(), &batch)
 }
 
-/// Prints a participant's statement of a date, as the desk over a file has it.
-pub fn statement<S: Start, O: Write>(
+/// Prints what the desk over a file tells of a reading.
+pub fn show<S: Start, O: Write>(
     rt: &HostRuntime,
     file: &str,
-    code: Code,
-    date: BusinessDate,
+    reading: Reading,
     start: S,
     out: &mut O,
 ) -> Result<Printed, Failure>
     ensures printed { IfOk result (λ printed. PrintsFor
         (file_from ⟦<FileKeeper<S> as Keeper>⟧ S.Start (λ keeper. keeper.conn))
-        (Request.Statement file.entry code date) printed (O.contents out.old) (O.contents out.new)) }
+        (Request.Read file.entry reading) printed (O.contents out.old) (O.contents out.new)) }
     ensures refused { IfErr result (IsRefused (file_from ⟦<FileKeeper<S> as Keeper>⟧ S.Start (λ keeper. keeper.conn))
-        (Request.Statement file.entry code date)) }
+        (Request.Read file.entry reading)) }
     ensures unchanged { OnErr result (out.new ≡ out.old) }
 {
-    match read_statement(rt, file, &code, date, start)? {
-        Ok(text) => Ok(print_text(out, text.as_slice())),
-        Err(refusal) => Err(Failure::Refused(refusal)),
-    }
-}
-
-/// Prints the report of a day, as the desk over a file has it.
-pub fn report<S: Start, O: Write>(
-    rt: &HostRuntime,
-    file: &str,
-    date: BusinessDate,
-    start: S,
-    out: &mut O,
-) -> Result<Printed, Failure>
-    ensures printed { IfOk result (λ printed. PrintsFor
-        (file_from ⟦<FileKeeper<S> as Keeper>⟧ S.Start (λ keeper. keeper.conn)) (Request.Report file.entry date) printed
-        (O.contents out.old) (O.contents out.new)) }
-    ensures refused { IfErr result (IsRefused (file_from ⟦<FileKeeper<S> as Keeper>⟧ S.Start (λ keeper. keeper.conn))
-        (Request.Report file.entry date)) }
-    ensures unchanged { OnErr result (out.new ≡ out.old) }
-{
-    match read_report(rt, file, date, start)? {
+    match read(rt, file, reading, start)? {
         Ok(text) => Ok(print_text(out, text.as_slice())),
         Err(refusal) => Err(Failure::Refused(refusal)),
     }
@@ -136,37 +113,19 @@ fn submit_file<S: Start>(
     sent
 }
 
-// Opens the book in a file, reads a participant's statement, and closes it.
-fn read_statement<S: Start>(
+// Opens the book in a file, reads what its desk tells, and closes it.
+fn read<S: Start>(
     rt: &HostRuntime,
     file: &str,
-    code: &Code,
-    date: BusinessDate,
+    reading: Reading,
     start: S,
 ) -> Result<Result<Vec<u8>, Refusal>, Failure>
     ensures read { IfOk result (λ read. IsRead (file_from ⟦<FileKeeper<S> as Keeper>⟧ S.Start (λ keeper. keeper.conn))
-        (λ text. text.items) (λ book. statement_wanted book code.now date) read) }
+        (λ text. text.items) reading read) }
     ensures refused { IfErr result IsNotOpened }
 {
     let mut book = open(rt, file, start)?;
-    let read = statement_of(rt.alloc(), book.desk(), code, date);
-    book.close();
-    Ok(read)
-}
-
-// Opens the book in a file, reads the report of a day, and closes it.
-fn read_report<S: Start>(
-    rt: &HostRuntime,
-    file: &str,
-    date: BusinessDate,
-    start: S,
-) -> Result<Result<Vec<u8>, Refusal>, Failure>
-    ensures read { IfOk result (λ read. IsRead (file_from ⟦<FileKeeper<S> as Keeper>⟧ S.Start (λ keeper. keeper.conn))
-        (λ text. text.items) (λ book. report_wanted book date) read) }
-    ensures refused { IfErr result IsNotOpened }
-{
-    let mut book = open(rt, file, start)?;
-    let read = report_of(rt.alloc(), book.desk(), date);
+    let read = text_of(rt.alloc(), book.desk(), &reading);
     book.close();
     Ok(read)
 }

@@ -13,7 +13,8 @@ use Rattle.rtgs_exchange.specs.BatchFaults.{batch_kind_of}
 use Rattle.rtgs_exchange.specs.declared.batch_fault.BatchFault.{BatchFault}
 use Rattle.rtgs_exchange.specs.declared.batch_fault.BatchFault.TheVariants as batch
 use Rattle.rtgs_desk_lines.specs.declared.failure.Failure.{Failure}
-use Rattle.rtgs_desk_lines.specs.declared.failure.Failure.TheVariants.{Form, Refused, Opening, InUse, FileExists, Orders, OrdersTooLong, NoOrders}
+use Rattle.rtgs_desk_lines.specs.declared.failure.Failure.TheVariants.{Form, Refused, Opening, InUse, FileExists}
+use Rattle.rtgs_desk_lines.specs.declared.failure.Failure.TheVariants.{Orders, OrdersTooLong, NoOrders, NoListen}
 use Rattle.rtgs_desk_lines.specs.Failures.{failure_entry_of}
 
 form_ends : (form : Lexical) → IsSome (entry_of (lexical_kind_of form)).exit_status
@@ -69,3 +70,4 @@ failure_ends FileExists = refl
 failure_ends (Orders fault) = batch_ends fault
 failure_ends OrdersTooLong = refl
 failure_ends NoOrders = refl
+failure_ends NoListen = refl

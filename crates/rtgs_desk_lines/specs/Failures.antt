@@ -12,7 +12,7 @@ use Rattle.rtgs_book.specs.declared.fault.Fault.{Fault}
 use Rattle.rtgs_book.specs.declared.fault.Fault.TheVariants as fault
 use Rattle.rtgs_desk_lines.specs.declared.failure.Failure.{Failure}
 use Rattle.rtgs_desk_lines.specs.declared.failure.Failure.TheVariants.{Form, Refused, Opening, InUse, FileExists}
-use Rattle.rtgs_desk_lines.specs.declared.failure.Failure.TheVariants.{Orders, OrdersTooLong, NoOrders}
+use Rattle.rtgs_desk_lines.specs.declared.failure.Failure.TheVariants.{Orders, OrdersTooLong, NoOrders, NoListen}
 use Rattle.rtgs_exchange.specs.BatchFaults.{batch_kind_of}
 use Rattle.rtgs_exchange.specs.declared.batch_fault.BatchFault.{BatchFault}
 use Rattle.rtgs_exchange.specs.declared.batch_fault.BatchFault.TheVariants.{BadRow}
@@ -26,6 +26,7 @@ failure_kind_of FileExists = kind.FileExists
 failure_kind_of (Orders fault) = batch_kind_of fault
 failure_kind_of OrdersTooLong = kind.BodyTooLong
 failure_kind_of NoOrders = kind.NoOrderFile
+failure_kind_of NoListen = kind.NoListen
 
 abbrev pub failure_entry_of : Failure → Entry
 failure_entry_of failure = entry_of (failure_kind_of failure)
@@ -55,6 +56,7 @@ detail_of FileExists = []
 detail_of (Orders fault) = batch_detail fault
 detail_of OrdersTooLong = []
 detail_of NoOrders = []
+detail_of NoListen = []
 
 -- the number in two digits
 abbrev pub two_digits : ℕ → List ℕ

@@ -8,7 +8,7 @@ use Rattle.rtgs_book.specs.declared.answer.Answer.TheVariants.{Repeated}
 use Rattle.rtgs_book.specs.declared.standing.Standing.TheVariants as standing
 use Rattle.rtgs_book.specs.Standings.{word_of}
 use Rattle.rtgs_desk_lines.specs.declared.done.Done.{Done}
-use Rattle.rtgs_desk_lines.specs.declared.done.Done.TheVariants.{Made, Answered}
+use Rattle.rtgs_desk_lines.specs.declared.done.Done.TheVariants.{Made, Answered, Listening, Served}
 
 abbrev pub answer_line : Answer → List ℕ
 answer_line Added = codes "added"
@@ -31,3 +31,5 @@ answer_line (Repeated known) = codes "repeated"
 abbrev pub line_of : Done → List ℕ
 line_of Made = codes "initialised"
 line_of (Answered answer) = answer_line answer
+line_of (Listening port) = codes "listening " ++ decimal port
+line_of (Served count) = codes "served " ++ decimal count

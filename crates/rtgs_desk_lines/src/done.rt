@@ -17,6 +17,10 @@ pub enum Done {
     Made,
     /// The desk answered.
     Answered(Answer),
+    /// The server waits for connections on this port.
+    Listening { port: u16 },
+    /// The server has served so many connections, all that it was to serve.
+    Served { count: u32 },
 }
 
 impl Done {
@@ -35,6 +39,8 @@ impl Done {
         match self {
             Done::Made => Line::of("initialised"),
             Done::Answered(answer) => answer_line(answer),
+            Done::Listening { port } => Line::of("listening ").number(port),
+            Done::Served { count } => Line::of("served ").number(count),
         }
     }
 }

@@ -38,6 +38,8 @@ pub enum Failure {
     OrdersTooLong,
     /// The file of orders cannot be read.
     NoOrders,
+    /// The port cannot be had.
+    NoListen,
 }
 
 impl Failure {
@@ -54,6 +56,7 @@ impl Failure {
             Failure::Orders(fault) => fault.kind(),
             Failure::OrdersTooLong => RefusalKind::BodyTooLong,
             Failure::NoOrders => RefusalKind::NoOrderFile,
+            Failure::NoListen => RefusalKind::NoListen,
         }
     }
 
@@ -98,7 +101,8 @@ impl Failure {
             | Failure::InUse
             | Failure::FileExists
             | Failure::OrdersTooLong
-            | Failure::NoOrders => Line::of(""),
+            | Failure::NoOrders
+            | Failure::NoListen => Line::of(""),
         }
     }
 }

@@ -11,7 +11,8 @@ use rtgs_refusals::exit_status::{DONE, FAILED};
 pub enum Printed {
     /// It was printed whole, and all was done.
     Whole,
-    /// The batch stopped at this refusal, and its results were printed whole.
+    /// The run stopped at this refusal, and what it had to print until then was printed whole: the results of its
+    /// batch, or the first line of its server.
     Stopped(Refusal),
     /// Standard output took no more: a beginning was printed, and not all.
     Lost(WriterFailed),

@@ -4,15 +4,20 @@ use Rattle.std.specs.Result.{result_map_both}
 use Rattle.rtgs_money.specs.declared.lexical.Lexical.{Lexical}
 use Rattle.rtgs_book.specs.declared.command.Command.{Command}
 use Rattle.rtgs_book.specs.declared.command.Command.TheVariants as command
+use Rattle.rtgs_book.specs.declared.reading.Reading.{Reading}
+use Rattle.rtgs_book.specs.declared.reading.Reading.TheVariants as reading
 use Rattle.rtgs_desk_requests.specs.declared.command_words.CommandWords.{CommandWords}
 use Rattle.rtgs_desk_requests.specs.declared.command_words.CommandWords.TheVariants.{Add, Credit, Post, Open, Resolve}
-use Rattle.rtgs_desk_requests.specs.declared.command_words.CommandWords.TheVariants.{CutOff, Close}
+use Rattle.rtgs_desk_requests.specs.declared.command_words.CommandWords.TheVariants.{CutOff, Close, Withdraw}
+use Rattle.rtgs_desk_requests.specs.declared.reading_words.ReadingWords.{ReadingWords}
+use Rattle.rtgs_desk_requests.specs.declared.reading_words.ReadingWords.TheVariants.{Order, Account, Queue, Statement}
+use Rattle.rtgs_desk_requests.specs.declared.reading_words.ReadingWords.TheVariants.{Report}
 use Rattle.rtgs_desk_requests.specs.declared.words.Words.{Words}
 use Rattle.rtgs_desk_requests.specs.declared.words.Words.TheVariants as words
 use Rattle.rtgs_desk_requests.specs.declared.request.Request.{Request}
-use Rattle.rtgs_desk_requests.specs.declared.request.Request.TheVariants.{Make, Submit, Import, Statement, Report}
+use Rattle.rtgs_desk_requests.specs.declared.request.Request.TheVariants.{Make, Submit, Import, Read, Serve}
 use Rattle.rtgs_desk_requests.specs.Words.{ReadsAdd, ReadsCode, ReadsCredit, ReadsPost, ReadsDate, ReadsDay}
-use Rattle.rtgs_desk_requests.specs.Words.{ReadsStatement}
+use Rattle.rtgs_desk_requests.specs.Words.{ReadsKey, ReadsOrderName, ReadsStatement}
 
 -- What is read like this is made into the result. Where a word is not of its form, that is the result.
 abbrev pub Makes : {A B : Type 0} → (Result A Lexical → Type 0) → (A → B) → Result B Lexical → Type 0
@@ -24,16 +29,28 @@ abbrev pub ReadsCommand : CommandWords → Result Command Lexical → Type 0
 ReadsCommand (Add code name key) result = ReadsAdd code.now name.now key.now result
 ReadsCommand (Credit code cents) result = ReadsCredit code.now cents.now result
 ReadsCommand (Post code reference cents debit) result = ReadsPost code.now reference.now cents.now debit result
+ReadsCommand (Withdraw code reference) result = Makes (ReadsOrderName code.now reference.now)
+    (λ order. command.Withdraw order.0 order.1) result
 ReadsCommand (Open date) result = ReadsDay command.OpenDay date.now result
 ReadsCommand Resolve result = result ≡ Ok command.Resolve
 ReadsCommand (CutOff date) result = ReadsDay command.CutOff date.now result
 ReadsCommand (Close date) result = ReadsDay command.CloseDay date.now result
+
+-- the reading that the words spell
+abbrev pub ReadsReading : ReadingWords → Result Reading Lexical → Type 0
+ReadsReading (Order code reference) result = Makes (ReadsOrderName code.now reference.now)
+    (λ order. reading.Order order.0 order.1) result
+ReadsReading (Account code) result = Makes (ReadsCode code.now) (λ code. reading.Account code) result
+ReadsReading (Queue code) result = Makes (ReadsCode code.now) (λ code. reading.Queue code) result
+ReadsReading (Statement code date) result = Makes (ReadsStatement code.now date.now)
+    (λ read. reading.Statement read.0 read.1) result
+ReadsReading (Report date) result = Makes (ReadsDate date.now) (λ day. reading.Report day) result
 
 -- what the words ask for, or the refusal of the first word that is not of its form, and nothing else
 abbrev pub Reads : Words → Result Request Lexical → Type 0
 Reads (words.Init file) result = result ≡ Ok (Make file)
 Reads (words.Submit file spelt) result = Makes (ReadsCommand spelt) (λ c. Submit file c) result
 Reads (words.Import file code orders) result = Makes (ReadsCode code.now) (λ sender. Import file sender orders) result
-Reads (words.Statement file code date) result = Makes (ReadsStatement code.now date.now)
-    (λ read. Statement file read.0 read.1) result
-Reads (words.Report file date) result = Makes (ReadsDate date.now) (λ day. Report file day) result
+Reads (words.Read file spelt) result = Makes (ReadsReading spelt) (λ reading. Read file reading) result
+Reads (words.Serve file port count key) result = Makes (ReadsKey key.now)
+    (λ operator. Serve file port count operator) result

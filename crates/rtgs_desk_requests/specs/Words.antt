@@ -57,6 +57,17 @@ pub record ReadsCode (code : List ℕ) (result : Result (List ℕ) Lexical) : Ty
   pub found : IsCode code → result ≡ Ok code
   pub bad_code : ¬ IsCode code → result ≡ Err BadCode
 
+-- the words of an order's sender and reference, judged from left to right
+pub record ReadsOrderName (code reference : List ℕ) (result : Result (List ℕ × List ℕ) Lexical) : Type 0 where
+  pub found : IsCode code → IsReference reference → result ≡ Ok (code, reference)
+  pub bad_code : ¬ IsCode code → result ≡ Err BadCode
+  pub bad_reference : IsCode code → ¬ IsReference reference → result ≡ Err BadReference
+
+-- the word of a key, which becomes its digest
+pub record ReadsKey (key : List ℕ) (result : Result (List ℕ) Lexical) : Type 0 where
+  pub found : IsKey key → result ≡ Ok (sha256 key)
+  pub bad_key : ¬ IsKey key → result ≡ Err BadKey
+
 -- the word is no date
 abbrev pub IsNoDate : List ℕ → Type 0
 IsNoDate date = (day : ℕ) → ¬ (IsBusinessDate day × (date ≡ date_text day))

@@ -1,7 +1,9 @@
 //! The words of a command.
 ghost use Rattle.rtgs_desk_requests.specs.Requests.{ReadsCommand};
 
-use crate::spelling::{read_add, read_close, read_credit, read_cut_off, read_open, read_post};
+use crate::spelling::{
+    read_add, read_close, read_credit, read_cut_off, read_open, read_order_name, read_post,
+};
 use rtgs_book::Command;
 use rtgs_money::Lexical;
 
@@ -22,6 +24,10 @@ pub enum CommandWords<'a> {
         reference: &'a str,
         cents: &'a str,
         debit: bool,
+    },
+    Withdraw {
+        code: &'a str,
+        reference: &'a str,
     },
     Open {
         date: &'a str,
@@ -49,6 +55,10 @@ impl CommandWords<'_> {
                 cents,
                 debit,
             } => read_post(code, reference, cents, debit),
+            CommandWords::Withdraw { code, reference } => {
+                let (sender, reference) = read_order_name(code, reference)?;
+                Ok(Command::Withdraw { sender, reference })
+            }
             CommandWords::Open { date } => read_open(date),
             CommandWords::Resolve => Ok(Command::Resolve),
             CommandWords::CutOff { date } => read_cut_off(date),

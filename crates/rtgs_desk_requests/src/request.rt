@@ -1,10 +1,10 @@
 //! A run's request, each word in its form.
 ghost use Rattle.std.specs.Prelude.{◌≡◌};
 
-use crate::spelling::{read_code, read_date, read_statement};
+use crate::spelling::{read_code, read_key};
 use crate::words::Words;
-use rtgs_book::Command;
-use rtgs_money::{BusinessDate, Code, Lexical};
+use rtgs_book::{Command, Reading};
+use rtgs_money::{Code, KeyDigest, Lexical};
 
 /// What a run is to do with the book in a file.
 #[derive(Clone, Copy, Debug)]
@@ -24,16 +24,17 @@ pub enum Request<'a> {
         sender: Code,
         orders: &'a str,
     },
-    /// To show a participant's day.
-    Statement {
+    /// To show what its desk tells.
+    Read {
         file: &'a str,
-        code: Code,
-        date: BusinessDate,
+        reading: Reading,
     },
-    /// To show the day of all participants.
-    Report {
+    /// To serve so many connections to its desk on a port, one after another. The operator's key has this digest.
+    Serve {
         file: &'a str,
-        date: BusinessDate,
+        port: u16,
+        count: u32,
+        operator: KeyDigest,
     },
 }
 
@@ -58,13 +59,23 @@ impl<'a> Request<'a> {
                     orders,
                 })
             }
-            Words::Statement { file, code, date } => {
-                let (code, date) = read_statement(code, date)?;
-                Ok(Request::Statement { file, code, date })
+            Words::Read { file, reading } => {
+                let reading = reading.read()?;
+                Ok(Request::Read { file, reading })
             }
-            Words::Report { file, date } => {
-                let date = read_date(date)?;
-                Ok(Request::Report { file, date })
+            Words::Serve {
+                file,
+                port,
+                count,
+                key,
+            } => {
+                let operator = read_key(key)?;
+                Ok(Request::Serve {
+                    file,
+                    port,
+                    count,
+                    operator,
+                })
             }
         }
     }

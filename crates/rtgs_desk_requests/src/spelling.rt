@@ -2,10 +2,12 @@
 ghost use Rattle.std.specs.Prelude.{◌≡◌};
 ghost use Rattle.rtgs_book.specs.declared.command.Command.TheVariants.{OpenDay, CutOff, CloseDay};
 ghost use Rattle.rtgs_desk_requests.specs.Words.{ReadsAdd, ReadsCode, ReadsCredit, ReadsPost, ReadsCents, ReadsDate};
-ghost use Rattle.rtgs_desk_requests.specs.Words.{ReadsDay, ReadsStatement};
+ghost use Rattle.rtgs_desk_requests.specs.Words.{ReadsDay, ReadsKey, ReadsOrderName, ReadsStatement};
 
 use rtgs_book::Command;
-use rtgs_money::{BusinessDate, Code, Credit, Key, Lexical, Name, PostingAmount, Reference};
+use rtgs_money::{
+    BusinessDate, Code, Credit, Key, KeyDigest, Lexical, Name, PostingAmount, Reference,
+};
 
 /// The addition that the words spell.
 pub fn read_add(code: &str, name: &str, key: &str) -> Result<Command, Lexical>
@@ -96,4 +98,20 @@ pub fn read_statement(code: &str, date: &str) -> Result<(Code, BusinessDate), Le
     let code = Code::read(code.as_bytes())?;
     let date = BusinessDate::read(date.as_bytes())?;
     Ok((code, date))
+}
+
+/// The sender and the reference of an order that the words spell.
+pub fn read_order_name(code: &str, reference: &str) -> Result<(Code, Reference), Lexical>
+    ensures { ReadsOrderName code.now reference.now result }
+{
+    let code = Code::read(code.as_bytes())?;
+    let reference = Reference::read(reference.as_bytes())?;
+    Ok((code, reference))
+}
+
+/// The digest of the key that the word spells.
+pub fn read_key(key: &str) -> Result<KeyDigest, Lexical>
+    ensures { ReadsKey key.now result }
+{
+    Ok(Key::read(key.as_bytes())?.digest())
 }

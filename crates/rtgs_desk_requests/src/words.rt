@@ -1,5 +1,6 @@
 //! The words of a run.
 use crate::command_words::CommandWords;
+use crate::reading_words::ReadingWords;
 
 /// What a run was asked for, in words that have not been judged.
 #[derive(Clone, Copy, Debug)]
@@ -16,13 +17,14 @@ pub enum Words<'a> {
         code: &'a str,
         orders: &'a str,
     },
-    Statement {
+    Read {
         file: &'a str,
-        code: &'a str,
-        date: &'a str,
+        reading: ReadingWords<'a>,
     },
-    Report {
+    Serve {
         file: &'a str,
-        date: &'a str,
+        port: u16,
+        count: u32,
+        key: &'a str,
     },
 }

@@ -26,3 +26,8 @@ Writes old (Err refusal) result new = (result ≡ Err (Refused refusal)) × (new
 Writes old (Ok text) (Ok done) new = Appends old new text
 Writes old (Ok text) (Err (Refused refusal)) new = (refusal ≡ OutOfMemory) × (new ≡ old)
 Writes old (Ok text) (Err (Text fault)) new = AppendsPart old new text
+
+-- why a text is not made in memory, where its writer wants memory and nothing else
+abbrev pub refusal_of_text : DeskTextFault → Refusal
+refusal_of_text (Refused refusal) = refusal
+refusal_of_text (Text fault) = OutOfMemory

@@ -1,8 +1,11 @@
-//! The texts of a desk's book: a participant's statement and the day report, from the book to the bytes.
+//! The texts of a desk's book, from the book to the bytes: a participant's statement and the day report, and what is
+//! told of an account, a queue and an order.
 #![tactic(auto)]
 
 mod fault;
+mod readings;
 mod texts;
 
 pub use crate::fault::DeskTextFault;
+pub use crate::readings::text_of;
 pub use crate::texts::{write_report, write_statement};

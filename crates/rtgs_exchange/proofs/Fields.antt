@@ -10,7 +10,8 @@ missing (f ∷ fields) zero e = cc
 missing (f ∷ fields) (suc i) e = let h = missing fields i e in omega arith
 
 -- three fields are those at the first three places
-pub three : (fields : List (List ℕ)) (a b c : List ℕ) → length fields ≡ 3 → field_at fields 0 ≡ Some a → field_at fields 1 ≡ Some b → field_at fields 2 ≡ Some c → fields ≡ a ∷ b ∷ c ∷ []
+pub three : (fields : List (List ℕ)) (a b c : List ℕ) → length fields ≡ 3 → field_at fields 0 ≡ Some a
+    → field_at fields 1 ≡ Some b → field_at fields 2 ≡ Some c → fields ≡ a ∷ b ∷ c ∷ []
 unfolding field_at
 three [] a b c n ea eb ec = absurd (omega arith)
 three (x ∷ []) a b c n ea eb ec = absurd (omega arith)

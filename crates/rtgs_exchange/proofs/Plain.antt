@@ -1,5 +1,6 @@
 -- Why no line of a result file has quotes.
-use Rattle.std.proofs.Common.{◌≡◌, ◌≢◌, ℕ, ◌<◌, ◌^◌, ◌&&◌, Bool, true, false, List, [], ◌∷◌, decimal, refl, subst, append-nil, arith}
+use Rattle.std.proofs.Common.{◌≡◌, ◌≢◌, ℕ, ◌<◌, ◌^◌, ◌&&◌, Bool, true, false, List, [], ◌∷◌, decimal, refl, subst}
+use Rattle.std.proofs.Common.{append-nil, arith}
 use Rattle.std.proofs.lemmas.Bool.{ne_eqb}
 use Rattle.std.proofs.lemmas.Fmt.{decimal_is_IsNumeral}
 use Rattle.std.specs.List.{list_all, list_any}
@@ -11,15 +12,24 @@ use Rattle.rtgs_exchange.specs.Plain.{IsPlain, joined}
 use Rattle.rtgs_exchange.specs.Results.{line}
 
 byte_plain : (b : ℕ) → b ≢ 44 → b ≢ 34 → b ≢ 13 → b ≢ 10 → needs_byte default_writer b ≡ false
-byte_plain b comma quote return feed = rw (ne_eqb b 44 comma, ne_eqb b 34 quote, ne_eqb b 13 return, ne_eqb b 10 feed) refl
+byte_plain b comma quote return feed = rw (ne_eqb b 44 comma, ne_eqb b 34 quote, ne_eqb b 13 return, ne_eqb b 10 feed)
+    refl
 
 field_plain : (field : List ℕ) → IsPlain field → list_any (needs_byte default_writer) field ≡ false
 field_plain [] all = refl
 field_plain (b ∷ field) all = rw (byte_plain b all.0.0 all.0.1 all.0.2 all.0.3) (field_plain field all.1)
 
-pub plain_line : (reference result number detail : List ℕ) → IsPlain reference → IsPlain result → IsPlain number → IsPlain detail → line reference result number detail ≡ joined reference result number detail
+pub plain_line : (reference result number detail : List ℕ) → IsPlain reference → IsPlain result → IsPlain number
+    → IsPlain detail → line reference result number detail ≡ joined reference result number detail
 unfolding fields_text is_blank
-plain_line reference result number detail p q s t = rw (field_plain reference p, field_plain result q, field_plain number s, field_plain detail t, append-nil detail) refl
+plain_line reference result number detail p q s t = rw (
+  field_plain reference p,
+  field_plain result q,
+  field_plain
+      number s,
+  field_plain detail t,
+  append-nil detail,
+) refl
 
 both : (a b : Bool) → (a && b) ≡ true → (a ≡ true) × (b ≡ true)
 both true b e = (refl, e)
@@ -35,7 +45,8 @@ letter b e = (
 
 letters : (bytes : List ℕ) → list_all is_reference_byte bytes ≡ true → IsPlain bytes
 letters [] e = tt
-letters (b ∷ bytes) e = let h = both (is_reference_byte b) (list_all is_reference_byte bytes) e in (letter b h.0, letters bytes h.1)
+letters (b ∷ bytes) e = let h = both (is_reference_byte b) (list_all is_reference_byte bytes) e
+    in (letter b h.0, letters bytes h.1)
 
 pub plain_reference : (reference : List ℕ) → IsReference reference → IsPlain reference
 unfolding is_reference

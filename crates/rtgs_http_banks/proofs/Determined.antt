@@ -29,7 +29,7 @@ use Rattle.rtgs_http_requests.specs.Same.{AreTheSame}
 use Rattle.rtgs_http_requests.specs.declared.asked.Asked.TheVariants.{Submit, Batch, Read}
 use Rattle.rtgs_http_requests.specs.declared.http_fault.HttpFault.{HttpFault}
 use Rattle.rtgs_http_requests.specs.declared.http_fault.HttpFault.TheVariants.{OutOfMemory}
-use Rattle.rtgs_http_requests.specs.declared.reading.Reading.{Reading}
+use Rattle.rtgs_book.specs.declared.reading.Reading.{Reading}
 use Rattle.rtgs_http_banks.specs.Alike.{EndAlike}
 use Rattle.rtgs_http_banks.specs.Dealings.{ComesTo, Submits, SubmitsAll, Reads, IsReadOf}
 use Rattle.rtgs_http_banks.specs.Exchange.{Deals}

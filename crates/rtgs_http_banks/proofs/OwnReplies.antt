@@ -11,7 +11,7 @@ use Rattle.rtgs_http_requests.specs.Meaning.{Answer}
 use Rattle.rtgs_http_requests.specs.Same.{AreTheSame}
 use Rattle.rtgs_http_requests.specs.declared.asked.Asked.{Asked}
 use Rattle.rtgs_http_requests.specs.declared.asked.Asked.TheVariants.{Submit, Batch, Read}
-use Rattle.rtgs_http_requests.specs.declared.reading.Reading.{Reading}
+use Rattle.rtgs_book.specs.declared.reading.Reading.{Reading}
 use Rattle.rtgs_keeper.specs.declared.keeper.Keeper.{Ghosts}
 use Rattle.rtgs_ledger.specs.Keys.{code_under}
 use Rattle.rtgs_http_banks.specs.Dealings.{ComesTo, Reads}

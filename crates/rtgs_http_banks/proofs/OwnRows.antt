@@ -14,8 +14,8 @@ use Rattle.rtgs_book.specs.declared.order.Order.{Order}
 use Rattle.rtgs_desk.specs.Dated.{statement_told}
 use Rattle.rtgs_desk.specs.Readings.{account_told, queue_told, order_told}
 use Rattle.rtgs_http_requests.specs.Access.{IsReadingOf}
-use Rattle.rtgs_http_requests.specs.declared.reading.Reading.{Reading}
-use Rattle.rtgs_http_requests.specs.declared.reading.Reading.TheVariants as reading
+use Rattle.rtgs_book.specs.declared.reading.Reading.{Reading}
+use Rattle.rtgs_book.specs.declared.reading.Reading.TheVariants as reading
 use Rattle.rtgs_statements.specs.Records.{is_posting_of, is_order_of, is_posted_on, is_ordered_on}
 use Rattle.rtgs_http_banks.specs.Own.{AgreeFor, concerns, is_posted_to}
 use Rattle.rtgs_http_banks.specs.Sayings.{reading_message}

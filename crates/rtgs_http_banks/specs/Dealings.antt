@@ -24,7 +24,7 @@ use Rattle.rtgs_http_replies.specs.declared.content_type.ContentType.TheVariants
 use Rattle.rtgs_http_requests.specs.declared.asked.Asked.{Asked}
 use Rattle.rtgs_http_requests.specs.declared.asked.Asked.TheVariants.{Submit, Batch, Read}
 use Rattle.rtgs_http_requests.specs.declared.http_fault.HttpFault.{HttpFault}
-use Rattle.rtgs_http_requests.specs.declared.reading.Reading.{Reading}
+use Rattle.rtgs_book.specs.declared.reading.Reading.{Reading}
 use Rattle.rtgs_http_banks.specs.Sayings.{IsSaid, IsTold, fault_message, reply_message, reading_message}
 
 -- nothing was done to the book: the desk holds it, unless the store failed, and a crash leaves it and no other, whole

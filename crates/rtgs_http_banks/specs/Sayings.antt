@@ -16,8 +16,8 @@ use Rattle.rtgs_http_replies.specs.declared.content_type.ContentType.TheVariants
 use Rattle.rtgs_http_requests.specs.Faults.{http_kind_of}
 use Rattle.rtgs_http_requests.specs.declared.http_fault.HttpFault.{HttpFault}
 use Rattle.rtgs_http_requests.specs.declared.http_fault.HttpFault.TheVariants.{Batch}
-use Rattle.rtgs_http_requests.specs.declared.reading.Reading.{Reading}
-use Rattle.rtgs_http_requests.specs.declared.reading.Reading.TheVariants as reading
+use Rattle.rtgs_book.specs.declared.reading.Reading.{Reading}
+use Rattle.rtgs_book.specs.declared.reading.Reading.TheVariants as reading
 use Rattle.rtgs_statements.specs.Texts.{statement_text, report_text}
 
 -- What is sent is this, or that there was no memory for it. No command was given.

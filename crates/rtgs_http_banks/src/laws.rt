@@ -10,7 +10,7 @@ ghost use Rattle.rtgs_desk.specs.Holding.{Holds};
 ghost use Rattle.rtgs_desk.specs.Seen.{Seen};
 ghost use Rattle.rtgs_http_banks.specs.Again.{IsToldAgain};
 ghost use Rattle.rtgs_http_banks.specs.Alike.{EndAlike};
-ghost use Rattle.rtgs_http_banks.specs.Dealings.{Makes};
+ghost use Rattle.rtgs_http_banks.specs.Dealings.{Makes, Works};
 ghost use Rattle.rtgs_http_banks.specs.Exchange.{Deals};
 ghost use Rattle.rtgs_http_banks.specs.Own.{AgreeFor, IsSentBy};
 ghost use Rattle.rtgs_http_banks.specs.Sayings.{reading_message};
@@ -18,10 +18,11 @@ ghost use Rattle.rtgs_http_replies.specs.Messages.{Message};
 ghost use Rattle.rtgs_http_requests.specs.Access.{IsReadingOf};
 ghost use Rattle.rtgs_http_requests.specs.Exchange.{AsksFor};
 ghost use Rattle.rtgs_http_requests.specs.declared.asked.Asked.{Asked};
-ghost use Rattle.rtgs_http_requests.specs.declared.reading.Reading.{Reading};
+ghost use Rattle.rtgs_book.specs.declared.reading.Reading.{Reading};
 ghost use Rattle.rtgs_ledger.specs.Keys.{code_under};
 ghost use Rattle.rtgs_repeats.specs.Repeats.{answered_number};
 
+use crate::readings::stands;
 use rtgs_book::laws::step_is_determined;
 use rtgs_desk::Desk;
 use rtgs_http_feeds::laws::regions_are_determined;
@@ -84,6 +85,13 @@ pub fn requests_that_come_again_are_told_so<K: Keeper>()
     participants_ask_for_their_own();
     step_is_determined();
     acted_is_repeated();
+}
+
+/// A desk that was asked for nothing yet has done what it was asked for: its commands are none, and a session.
+pub fn a_desk_at_rest_works<K: Keeper>(desk: &Desk<K>)
+    ensures { (book : Book) → Holds K.Keeper desk.now book → Works K.Keeper book desk.now }
+{
+    stands(desk);
 }
 
 /// Requests join: the commands of one that left this desk working, and those of the next, are one session from the book

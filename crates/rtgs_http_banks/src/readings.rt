@@ -8,11 +8,11 @@ ghost use Rattle.rtgs_http_banks.specs.Sayings.{IsSaid, told_message, order_mess
 ghost use Rattle.rtgs_http_banks.specs.Sayings.{statement_message, report_message};
 
 use crate::faults::refused;
+use rtgs_book::Reading;
 use rtgs_desk::Desk;
 use rtgs_http_bodies::laws::queued_values_fit;
 use rtgs_http_bodies::{account_reply, order_reply, queue_reply, report_reply, statement_reply};
 use rtgs_http_replies::Reply;
-use rtgs_http_requests::Reading;
 use rtgs_keeper::Keeper;
 use rtgs_money::{BusinessDate, Code, Reference};
 use std::alloc::Global;

@@ -1,27 +1,37 @@
-//! Replies that tell an account.
+//! What a participant is told of its account.
 ghost use Rattle.std.specs.Prelude.{◌≡◌, FitsSigned, Some, None, IfOk};
 ghost use Rattle.std.specs.Int.{w64};
 ghost use Rattle.serde_json.specs.View.{view};
+ghost use Rattle.serde_json.specs.Written.{compact_text};
 ghost use Rattle.rtgs_http_bodies.specs.Readings.{account_data, account_with, phase_name};
 ghost use Rattle.rtgs_http_replies.specs.Messages.{json_message};
 
 use http::StatusCode;
 use rtgs_book::Phase;
 use rtgs_desk::AccountReading;
-use rtgs_http_replies::Reply;
+use rtgs_http_replies::{ContentType, Reply};
 use rtgs_money::BusinessDate;
 use serde_json::{Value, json};
 use std::alloc::{AllocError, Global};
 
-/// The reply that tells a participant its account, with the date once a day was opened. What its queue pays together
-/// is told up to 2^63 - 1 cents, and no queue of a desk pays more. The only error is lack of memory.
+/// The reply that tells a participant its account. The only error is lack of memory.
 pub fn account_reply(alloc: Global, reading: &AccountReading) -> Result<Reply, AllocError>
     ensures { FitsSigned w64 reading.now.queued_value
         → IfOk result (λ reply. reply ≡ json_message 200 (account_data reading.now)) }
 {
+    let text = account_text(alloc, reading)?;
+    Reply::new(alloc, StatusCode::OK, ContentType::Json, text.as_slice())
+}
+
+/// What a participant is told of its account, as JSON, with the date once a day was opened. What its queue pays
+/// together is told up to 2^63 - 1 cents, and no queue of a desk pays more. The only error is lack of memory.
+pub fn account_text(alloc: Global, reading: &AccountReading) -> Result<Vec<u8>, AllocError>
+    ensures { FitsSigned w64 reading.now.queued_value
+        → IfOk result (λ text. text.items ≡ compact_text (account_data reading.now)) }
+{
     let queued_value = in_64_bits(reading.queued_value.cents());
     let value = account_value(alloc, reading, queued_value)?;
-    Reply::json(alloc, StatusCode::OK, &value)
+    value.to_vec(alloc)
 }
 
 // So many cents, where 64 bits hold them, and else the most that they hold.

@@ -12,11 +12,11 @@ mod refused;
 mod report;
 mod statement;
 
-pub use crate::account::account_reply;
+pub use crate::account::{account_reply, account_text};
 pub use crate::answered::answer_reply;
 pub use crate::batch::batch_reply;
-pub use crate::order::order_reply;
-pub use crate::queue::queue_reply;
+pub use crate::order::{order_reply, order_text};
+pub use crate::queue::{queue_reply, queue_text};
 pub use crate::refused::{batch_fault_reply, kind_reply, refusal_reply};
 pub use crate::report::report_reply;
 pub use crate::statement::statement_reply;

@@ -1,21 +1,31 @@
-//! Replies that tell an order.
+//! What its sender is told of an order.
 ghost use Rattle.std.specs.Prelude.{◌≡◌, IfOk};
 ghost use Rattle.serde_json.specs.View.{view};
+ghost use Rattle.serde_json.specs.Written.{compact_text};
 ghost use Rattle.rtgs_http_bodies.specs.Readings.{order_data, settled_order, unsettled_order};
 ghost use Rattle.rtgs_http_replies.specs.Messages.{json_message};
 
 use http::StatusCode;
 use rtgs_book::{Order, OrderState, Standing};
-use rtgs_http_replies::Reply;
+use rtgs_http_replies::{ContentType, Reply};
 use serde_json::{Value, json};
 use std::alloc::{AllocError, Global};
 
-/// The reply that tells this order to its sender, with its mark where it has settled. The only error is lack of memory.
+/// The reply that tells this order to its sender. The only error is lack of memory.
 pub fn order_reply(alloc: Global, order: &Order) -> Result<Reply, AllocError>
     ensures { IfOk result (λ reply. reply ≡ json_message 200 (order_data order.now)) }
 {
+    let text = order_text(alloc, order)?;
+    Reply::new(alloc, StatusCode::OK, ContentType::Json, text.as_slice())
+}
+
+/// What its sender is told of this order, as JSON, with its mark where it has settled. The only error is lack of
+/// memory.
+pub fn order_text(alloc: Global, order: &Order) -> Result<Vec<u8>, AllocError>
+    ensures { IfOk result (λ text. text.items ≡ compact_text (order_data order.now)) }
+{
     let value = order_value(alloc, order)?;
-    Reply::json(alloc, StatusCode::OK, &value)
+    value.to_vec(alloc)
 }
 
 // What is told of an order.

@@ -1,12 +1,13 @@
-//! Replies that tell a queue.
+//! What a participant is told of its queue.
 ghost use Rattle.std.specs.Prelude.{◌≡◌, map, IfOk};
 ghost use Rattle.serde_json.specs.View.{view};
+ghost use Rattle.serde_json.specs.Written.{compact_text};
 ghost use Rattle.rtgs_http_bodies.specs.Readings.{queue_data, queued_data, queued_from};
 ghost use Rattle.rtgs_http_replies.specs.Messages.{json_message};
 
 use http::StatusCode;
 use rtgs_book::Order;
-use rtgs_http_replies::Reply;
+use rtgs_http_replies::{ContentType, Reply};
 use serde_json::{Value, json};
 use std::alloc::{AllocError, Global};
 
@@ -14,8 +15,16 @@ use std::alloc::{AllocError, Global};
 pub fn queue_reply(alloc: Global, orders: &[Order]) -> Result<Reply, AllocError>
     ensures { IfOk result (λ reply. reply ≡ json_message 200 (queue_data orders.now)) }
 {
+    let text = queue_text(alloc, orders)?;
+    Reply::new(alloc, StatusCode::OK, ContentType::Json, text.as_slice())
+}
+
+/// What a participant is told of its queue, as JSON, in order. The only error is lack of memory.
+pub fn queue_text(alloc: Global, orders: &[Order]) -> Result<Vec<u8>, AllocError>
+    ensures { IfOk result (λ text. text.items ≡ compact_text (queue_data orders.now)) }
+{
     let value = queue_value(alloc, orders)?;
-    Reply::json(alloc, StatusCode::OK, &value)
+    value.to_vec(alloc)
 }
 
 // What is told of a queue.

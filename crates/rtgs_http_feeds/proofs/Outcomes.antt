@@ -1,5 +1,6 @@
 -- Each input has an outcome: the shortest beginning that ends a region is looked for.
-use Rattle.std.proofs.Common.{◌≡◌, ◌<◌, ◌≤◌, ◌⊎◌, inl, inr, ℕ, zero, suc, List, Bool, true, false, length, take, drop, refl}
+use Rattle.std.proofs.Common.{◌≡◌, ◌<◌, ◌≤◌, ◌⊎◌, inl, inr, ℕ, zero, suc, List, Bool, true, false, length, take, drop}
+use Rattle.std.proofs.Common.{refl}
 use Rattle.std.proofs.Common.{sym, ap, ◌∙◌, arith}
 use Rattle.std.proofs.lemmas.Bool.{cases_lt}
 use Rattle.std.proofs.lemmas.List.{length-take-le, take-append-drop, take-take}
@@ -8,7 +9,8 @@ use Rattle.rtgs_http_feeds.specs.Region.{IsOpen, IsTooLong, IsRegion, StartsWith
 
 -- the shortest beginning that ends a region, among those with fewer bytes than this
 abbrev Ends : List ℕ → ℕ → Type 0
-Ends input n = (m : ℕ) × (m < n) × (ends_region (take m input) ≡ true) × ((k : ℕ) → k < m → ends_region (take k input) ≡ false)
+Ends input n = (m : ℕ) × (m < n) × (ends_region (take m input) ≡ true)
+    × ((k : ℕ) → k < m → ends_region (take k input) ≡ false)
 
 abbrev EndsNowhere : List ℕ → ℕ → Type 0
 EndsNowhere input n = (k : ℕ) → k < n → ends_region (take k input) ≡ false
@@ -17,7 +19,8 @@ is_or_not : (b : Bool) → (b ≡ true) ⊎ (b ≡ false)
 is_or_not true = inl refl
 is_or_not false = inr refl
 
-one_more : (input : List ℕ) (n : ℕ) → EndsNowhere input n → ends_region (take n input) ≡ false → EndsNowhere input (suc n)
+one_more : (input : List ℕ) (n : ℕ) → EndsNowhere input n → ends_region (take n input) ≡ false
+    → EndsNowhere input (suc n)
 one_more input n none last k lt = by (cases_lt k n)
   where
     by : (k < n) ⊎ (n ≤ k) → ends_region (take k input) ≡ false
@@ -42,11 +45,14 @@ starts : (input : List ℕ) (n : ℕ) → n ≤ length input → n ≤ LONGEST_H
 starts input n fits short x =
     let size : length (take x.0 input) ≡ x.0 = length-take-le x.0 input (omega (arith, x.1, fits)) in
     let first : (k : ℕ) → k < length (take x.0 input) → ends_region (take k (take x.0 input)) ≡ false =
-    λ k lt. ap (λ t. ends_region t) (take-take k x.0 input (omega (arith, lt, size))) ∙ x.3 k (omega (arith, lt, size)) in
-    let is : IsRegion (take x.0 input) = record { ends = x.2; first = first; short = omega (arith, size, x.1, short) } in
+    λ k lt. ap (λ t. ends_region t) (take-take k x.0 input (omega (arith, lt, size))) ∙ x.3 k (omega (arith, lt, size))
+    in
+    let is : IsRegion (take x.0 input) = record { ends = x.2; first = first; short = omega (arith, size, x.1, short) }
+    in
     (take x.0 input, drop x.0 input, (sym (take-append-drop x.0 input), is))
 
-pub outcome : (input : List ℕ) → ((region : List ℕ) × (rest : List ℕ) × StartsWith input region rest) ⊎ (IsTooLong input ⊎ IsOpen input)
+pub outcome : (input : List ℕ) → ((region : List ℕ) × (rest : List ℕ) × StartsWith input region rest)
+    ⊎ (IsTooLong input ⊎ IsOpen input)
 outcome input = by (cases_lt (length input) LONGEST_HEAD)
   where
     unfinished : length input < LONGEST_HEAD → Ends input (suc (length input)) ⊎ EndsNowhere input (suc (length input))
@@ -63,7 +69,8 @@ outcome input = by (cases_lt (length input) LONGEST_HEAD)
     long ge (inr none) = inr (inl (
       ge,
       λ m le.
-          ap (λ t. ends_region t) (take-take m LONGEST_HEAD input (omega (arith, le, size ge))) ∙ none m (omega (arith, le, size ge)),
+          ap (λ t. ends_region t) (take-take m LONGEST_HEAD input (omega (arith, le, size ge)))
+          ∙ none m (omega (arith, le, size ge)),
     ))
 
     by : (length input < LONGEST_HEAD) ⊎ (LONGEST_HEAD ≤ length input)

@@ -10,7 +10,8 @@ use Rattle.rtgs_http_heads.specs.Heads.{IsGoodHead, fields_of}
 same_value : (values : List (List ℕ)) (one other : List ℕ) → values ≡ one ∷ [] → values ≡ other ∷ [] → one ≡ other
 same_value values one other x y = cc
 
-declared_once : (values : List (List ℕ)) (one other : Option ℕ) → Declares values one → Declares values other → one ≡ other
+declared_once : (values : List (List ℕ)) (one other : Option ℕ) → Declares values one → Declares values other
+    → one ≡ other
 declared_once values None None x y = refl
 declared_once values None (Some n) x y = let no : ⊥ = cc (x, y.1) in absurd no
 declared_once values (Some n) None x y = let no : ⊥ = cc (x.1, y) in absurd no

@@ -66,7 +66,7 @@ fn add_operator(
     add(router, path, Route::Operator(route))
 }
 
-// Adds a path and its route. A path that conflicts with another would be told as a lack of memory too; the tests of each
+// Adds a path and its route. A path that conflicts with another would be told as lack of memory too; the tests of each
 // route show that none does.
 fn add(router: &mut Router<Route>, path: &str, route: Route) -> Result<(), AllocError>
     ensures { OnOk result (router.new ≡ with_path (parse_route path.now) route router.old) }

@@ -26,7 +26,7 @@ pub(crate) fn read_piece<R: Read>(
     }
 }
 
-// How many bytes a reader gave, by its answer. It failed where the answer is an error, and no other answer is called so.
+// How many bytes a reader gave, by its answer. It failed where the answer is an error, and none else is called so.
 fn given_of(answer: io::Result<usize>) -> Result<usize, ReaderFailed>
     ensures given { IfOk result (λ many. answer ≡ Ok many) }
     ensures failed { OnErr result (IsErr answer) }

@@ -35,7 +35,8 @@ told_once Holds bad same one other (inr (inl x)) (inr (inr e)) = inr (inl e)
 told_once Holds bad same one other (inr (inr e)) _ = inl e
 
 -- one step and then the next: where each is determined, so is the whole
-pub then_once : {A B : Type 0} (R : Result B HttpFault → Result B HttpFault → Type 0) → ((bad : HttpFault) → R (Err bad) (Err bad))
+pub then_once : {A B : Type 0} (R : Result B HttpFault → Result B HttpFault → Type 0)
+    → ((bad : HttpFault) → R (Err bad) (Err bad))
     → (Step : Result A HttpFault → Type 0) (next : A → Result B HttpFault → Type 0) → IsDetermined Step
     → ((value : A) (one other : Result B HttpFault) → next value one → next value other → Agree R one other)
     → (one other : Result B HttpFault) → Then Step next one → Then Step next other → Agree R one other
@@ -58,5 +59,6 @@ pub then_determined : {A B : Type 0} (Step : Result A HttpFault → Type 0) (nex
 then_determined {A} {B} Step next once go = then_once Equal (λ bad. refl) Step next once go
 
 -- an equation determines
-pub told_equal : {A : Type 0} (answer one other : Result A HttpFault) → one ≡ answer → other ≡ answer → Agree Equal one other
+pub told_equal : {A : Type 0} (answer one other : Result A HttpFault) → one ≡ answer → other ≡ answer
+    → Agree Equal one other
 told_equal answer one other p q = inr (inr (p ∙ sym q))

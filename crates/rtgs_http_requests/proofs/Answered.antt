@@ -18,7 +18,8 @@ then_answered {A} {B} Step next step go none = step by
         ap (λ f. Err f) same
 
 -- a value where one is, and else a fault
-pub told_answered : {A : Type 0} (Holds : A → Type 0) (bad : HttpFault) (Step : Result A HttpFault → Type 0) → bad ≢ OutOfMemory
+pub told_answered : {A : Type 0} (Holds : A → Type 0) (bad : HttpFault) (Step : Result A HttpFault → Type 0)
+    → bad ≢ OutOfMemory
     → ((value : A) → Holds value → Step (Ok value)) → (((value : A) → ¬ Holds value) → Step (Err bad)) → HasAnswer Step
 told_answered {A} Holds bad Step other good fails none = other same
   where
@@ -29,7 +30,8 @@ told_answered {A} Holds bad Step other good fails none = other same
     same = let told = none (Err bad) (fails no_value) in cc
 
 -- this answer, which is no lack of memory
-pub equal_answered : {A : Type 0} (answer : Result A HttpFault) → answer ≢ Err OutOfMemory → HasAnswer (λ (told : Result A HttpFault). told ≡ answer)
+pub equal_answered : {A : Type 0} (answer : Result A HttpFault) → answer ≢ Err OutOfMemory
+    → HasAnswer (λ (told : Result A HttpFault). told ≡ answer)
 equal_answered answer other none = other (none answer refl)
 
 -- a value that follows

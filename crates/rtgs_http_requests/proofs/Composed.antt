@@ -23,18 +23,38 @@ use Rattle.rtgs_http_requests.specs.Plans.{Plans, MayLookUp, admitted_by}
 use Rattle.rtgs_http_requests.specs.declared.plan.Plan.{Plan}
 
 -- the fault of a head is that of each input that starts with it
-pub head_fails : (operator region : List ℕ) (bad : HeadFault) → ReadsHead region (Err bad) → Plans operator region (Err (of_head bad))
-head_fails operator region head.BadHead told code_of input rest starts = (Ok (region, rest), starts, (Err fault.BadHead, told, refl))
+pub head_fails : (operator region : List ℕ) (bad : HeadFault) → ReadsHead region (Err bad)
+    → Plans operator region (Err (of_head bad))
+head_fails operator region head.BadHead told code_of input rest starts =
+    (Ok (region, rest), starts, (Err fault.BadHead, told, refl))
 head_fails operator region head.NoSuchRoute told code_of input rest starts =
     (Ok (region, rest), starts, (Ok (told.0, told.1), told.2, (Err fault.NoSuchRoute, told.3, refl)))
 head_fails operator region head.OutOfMemory told code_of input rest starts = (Err fault.OutOfMemory, tt, refl)
 
 -- so is the fault of its key
-pub key_fails : (operator region : List ℕ) (read : Head) (bad : HttpFault) → ReadsHead region (Ok read) → Leads operator read.route read.key (Err bad) → Plans operator region (Err bad)
-key_fails operator region read bad told leads code_of input rest starts =
-    (Ok (region, rest), starts, (Ok (told.0, told.1), told.2, (Ok (read.route, read.parameter.now), told.3.route, (Err bad, (read.key, told.3.key, sym (leads code_of)), refl))))
+pub key_fails : (operator region : List ℕ) (read : Head) (bad : HttpFault) → ReadsHead region (Ok read)
+    → Leads operator read.route read.key (Err bad) → Plans operator region (Err bad)
+key_fails operator region read bad told leads code_of input rest starts = (
+  Ok (region, rest),
+  starts,
+  (
+    Ok (told.0, told.1),
+    told.2,
+    (
+      Ok (read.route, read.parameter.now),
+      told.3.route,
+      (
+        Err bad,
+        (read.key, told.3.key, sym (leads code_of)),
+        refl,
+      ),
+    ),
+  ),
+)
 
-led : (operator : List ℕ) (read : Head) (known : Admission) (code_of : CodeOf) → Leads operator read.route read.key (Ok known) → caller_under operator code_of read.route read.key ≡ admitted_by code_of known
+led : (operator : List ℕ) (read : Head) (known : Admission) (code_of : CodeOf)
+    → Leads operator read.route read.key (Ok known) → caller_under operator code_of read.route read.key
+    ≡ admitted_by code_of known
 led operator read (admission.Operator route) code_of leads = leads code_of
 led operator read (admission.LookUp route digest) code_of leads = leads.3 code_of
 
@@ -44,20 +64,40 @@ behind posts length parameter rest caller =
     Then (HasBody rest size) (λ body.
     Means caller parameter body))
 
-same_behind : (posts other : Bool) (length declared : Option ℕ) (parameter rest : List ℕ) (told : Result Admitted HttpFault) (answer : Answer)
-    → posts ≡ other → length ≡ declared → Goes (behind posts length parameter rest) answer told → Goes (behind other declared parameter rest) answer told
+same_behind : (posts other : Bool) (length declared : Option ℕ) (parameter rest : List ℕ)
+    (told : Result Admitted HttpFault) (answer : Answer)
+    → posts ≡ other → length ≡ declared → Goes (behind posts length parameter rest) answer told
+    → Goes (behind other declared parameter rest) answer told
 same_behind posts other length declared parameter rest told answer p l goes =
     let P : Bool → Type 0 = λ b. Goes (behind b length parameter rest) answer told in
     let Q : Option ℕ → Type 0 = λ n. Goes (behind other n parameter rest) answer told in
     subst Q l (subst P p goes)
 
 -- what is asked under a plan is asked by each input that starts with its region
-pub planned : (operator region : List ℕ) (read : Head) (plan : Plan) → ReadsHead region (Ok read) → Leads operator read.route read.key (Ok plan.admission)
-    → plan.parameter.now ≡ read.parameter.now → plan.posts ≡ read.posts → plan.length ≡ read.length → Plans operator region (Ok plan)
+pub planned : (operator region : List ℕ) (read : Head) (plan : Plan) → ReadsHead region (Ok read)
+    → Leads operator read.route read.key (Ok plan.admission)
+    → plan.parameter.now ≡ read.parameter.now → plan.posts ≡ read.posts → plan.length ≡ read.length
+    → Plans operator region (Ok plan)
 planned operator region read plan told leads parameter posts length code_of input rest answer starts after =
     let P : List ℕ → Type 0 = λ p. Goes (behind plan.posts plan.length p rest) answer after.0 in
-    let goes = same_behind plan.posts (is_post told.0.method) plan.length told.1 read.parameter.now rest after.0 answer (posts ∙ told.3.posts) (length ∙ told.3.length) (subst P parameter after.2) in
-    (Ok (region, rest), starts, (Ok (told.0, told.1), told.2, (Ok (read.route, read.parameter.now), told.3.route, (after.0, (read.key, told.3.key, after.1 ∙ sym (led operator read plan.admission code_of leads)), goes))))
+    let goes = same_behind plan.posts (is_post told.0.method) plan.length told.1 read.parameter.now rest after.0 answer
+    (posts ∙ told.3.posts) (length ∙ told.3.length) (subst P parameter after.2) in (
+      Ok (region, rest),
+      starts,
+      (
+        Ok (told.0, told.1),
+        told.2,
+        (
+          Ok (read.route, read.parameter.now),
+          told.3.route,
+          (
+            after.0,
+            (read.key, told.3.key, after.1 ∙ sym (led operator read plan.admission code_of leads)),
+            goes,
+          ),
+        ),
+      ),
+    )
 
 -- where a key leaves its bearer to be looked up, each input that starts with the region does
 pub looked_up : (operator region : List ℕ) (read : Head) (known : Admission) → ReadsHead region (Ok read)

@@ -22,7 +22,8 @@ use Rattle.rtgs_http_requests.proofs.Lower.{LowerLaws}
 abbrev Spells : List ℕ → Data → Type 0
 Spells body value = IsUtf8 body × (read body ≡ Some value)
 
-tells_json : (body : List ℕ) (told : Result Data HttpFault) → ReadsJson body told → Tells (Spells body) fault.BadJson told
+tells_json : (body : List ℕ) (told : Result Data HttpFault) → ReadsJson body told
+    → Tells (Spells body) fault.BadJson told
 tells_json body (Ok value) x = inl (value, refl, x)
 tells_json body (Err fault.BadJson) none = inr (inl (refl, λ value has. let no : ⊥ = cc (has.1, none has.0) in no))
 tells_json body (Err fault.OutOfMemory) x = inr (inr refl)
@@ -34,7 +35,8 @@ one_value body one other x y =
     cc
 
 pub json_once : (body : List ℕ) → IsDetermined (ReadsJson body)
-json_once body one other x y = told_once (Spells body) fault.BadJson (one_value body) one other (tells_json body one x) (tells_json body other y)
+json_once body one other x y = told_once (Spells body) fault.BadJson (one_value body) one other (tells_json body one x)
+    (tells_json body other y)
 
 -- ---- the content of a value
 
@@ -45,11 +47,14 @@ tells_content Has value (Err fault.WrongFields) none = inr (inl (refl, none))
 tells_content Has value (Err _) x = absurd x
 
 pub content_once : {A : Type 0} (Has : A → Data → Type 0)
-    → ((value : Data) (one other : A) → Has one value → Has other value → one ≡ other) → (value : Data) → IsDetermined (Finds Has value)
+    → ((value : Data) (one other : A) → Has one value → Has other value → one ≡ other) → (value : Data)
+    → IsDetermined (Finds Has value)
 content_once Has same value one other x y =
-    told_once (λ content. Has content value) fault.WrongFields (same value) one other (tells_content Has value one x) (tells_content Has value other y)
+    told_once (λ content. Has content value) fault.WrongFields (same value) one other (tells_content Has value one x)
+    (tells_content Has value other y)
 
-same_three : {A B C : Type 0} (one other : A × B × C) → one.0 ≡ other.0 → one.1 ≡ other.1 → one.2 ≡ other.2 → one ≡ other
+same_three : {A B C : Type 0} (one other : A × B × C) → one.0 ≡ other.0 → one.1 ≡ other.1 → one.2 ≡ other.2
+    → one ≡ other
 same_three {A} {B} {C} one other p q r =
     let first : A → A × B × C = λ a. (a, one.1, one.2) in
     let second : B → A × B × C = λ b. (other.0, b, one.2) in
@@ -62,14 +67,16 @@ same_two {A} {B} one other p q =
     let second : B → A × B = λ b. (other.0, b) in
     ap first p ∙ ap second q
 
-pub one_order : (value : Data) (one other : List ℕ × List ℕ × ℕ) → HasOrder one value → HasOrder other value → one ≡ other
+pub one_order : (value : Data) (one other : List ℕ × List ℕ × ℕ) → HasOrder one value → HasOrder other value
+    → one ≡ other
 one_order value one other x y =
     let reference : one.0 ≡ other.0 = cc (x, y) in
     let to : one.1 ≡ other.1 = cc (x, y) in
     let amount : one.2 ≡ other.2 = cc (x, y) in
     same_three one other reference to amount
 
-pub one_posting : (value : Data) (one other : List ℕ × List ℕ × ℤ) → HasPosting one value → HasPosting other value → one ≡ other
+pub one_posting : (value : Data) (one other : List ℕ × List ℕ × ℤ) → HasPosting one value → HasPosting other value
+    → one ≡ other
 one_posting value one other x y =
     let code : one.0 ≡ other.0 = cc (x.2, y.2) in
     let reference : one.1 ≡ other.1 = cc (x.2, y.2) in
@@ -95,27 +102,31 @@ one_nothing value one other x y = refl
 pub reference_once : (text : List ℕ) → IsDetermined (SpellsReference text)
 reference_once text one other x y = by (truth (is_reference text))
   where
-    by : IsReference text ⊎ (¬ IsReference text) → (one ≡ Err fault.OutOfMemory) ⊎ ((other ≡ Err fault.OutOfMemory) ⊎ (one ≡ other))
+    by : IsReference text ⊎ (¬ IsReference text) → (one ≡ Err fault.OutOfMemory)
+        ⊎ ((other ≡ Err fault.OutOfMemory) ⊎ (one ≡ other))
     by (inl good) = told_equal _ one other (x.found good) (y.found good)
     by (inr bad) = told_equal _ one other (x.refused bad) (y.refused bad)
 
 abbrev IsDateOf : List ℕ → ℕ → Type 0
 IsDateOf text date = IsBusinessDate date × (text ≡ date_text date)
 
-tells_date : (text : List ℕ) (told : Result ℕ HttpFault) → SpellsDate text told → Tells (IsDateOf text) (fault.Form BadDate) told
+tells_date : (text : List ℕ) (told : Result ℕ HttpFault) → SpellsDate text told
+    → Tells (IsDateOf text) (fault.Form BadDate) told
 tells_date text (Ok date) x = inl (date, refl, x)
 tells_date text (Err (fault.Form BadDate)) none = inr (inl (refl, λ date has. none date has.0 has.1))
 tells_date text (Err _) x = absurd x
 
 pub date_once : LowerLaws → (text : List ℕ) → IsDetermined (SpellsDate text)
 date_once laws text one other x y =
-    told_once (IsDateOf text) (fault.Form BadDate) (λ a b p q. laws.dates a b p.0 q.0 (sym p.1 ∙ q.1)) one other (tells_date text one x) (tells_date text other y)
+    told_once (IsDateOf text) (fault.Form BadDate) (λ a b p q. laws.dates a b p.0 q.0 (sym p.1 ∙ q.1)) one other
+    (tells_date text one x) (tells_date text other y)
 
 pub order_once : (caller : List ℕ) (values : List ℕ × List ℕ × ℕ) → IsDetermined (SpellsOrder caller values)
 order_once caller values one other x y = by (truth (is_reference values.0)) (truth (is_code values.1)) (amount values.2)
   where
     by : IsReference values.0 ⊎ (¬ IsReference values.0) → IsCode values.1 ⊎ (¬ IsCode values.1)
-        → IsAmount values.2 ⊎ (¬ IsAmount values.2) → (one ≡ Err fault.OutOfMemory) ⊎ ((other ≡ Err fault.OutOfMemory) ⊎ (one ≡ other))
+        → IsAmount values.2 ⊎ (¬ IsAmount values.2) → (one ≡ Err fault.OutOfMemory)
+        ⊎ ((other ≡ Err fault.OutOfMemory) ⊎ (one ≡ other))
     by (inl r) (inl t) (inl a) = told_equal _ one other (x.found r t a) (y.found r t a)
     by (inl r) (inl t) (inr a) = told_equal _ one other (x.bad_amount r t a) (y.bad_amount r t a)
     by (inl r) (inr t) _ = told_equal _ one other (x.bad_code r t) (y.bad_code r t)
@@ -125,7 +136,8 @@ pub posting_once : (values : List ℕ × List ℕ × ℤ) → IsDetermined (Spel
 posting_once values one other x y = by (truth (is_code values.0)) (truth (is_reference values.1)) (posting values.2)
   where
     by : IsCode values.0 ⊎ (¬ IsCode values.0) → IsReference values.1 ⊎ (¬ IsReference values.1)
-        → IsPostingAmount values.2 ⊎ (¬ IsPostingAmount values.2) → (one ≡ Err fault.OutOfMemory) ⊎ ((other ≡ Err fault.OutOfMemory) ⊎ (one ≡ other))
+        → IsPostingAmount values.2 ⊎ (¬ IsPostingAmount values.2)
+        → (one ≡ Err fault.OutOfMemory) ⊎ ((other ≡ Err fault.OutOfMemory) ⊎ (one ≡ other))
     by (inl t) (inl r) (inl a) = told_equal _ one other (x.found t r a) (y.found t r a)
     by (inl t) (inl r) (inr a) = told_equal _ one other (x.bad_amount t r a) (y.bad_amount t r a)
     by (inl t) (inr r) _ = told_equal _ one other (x.bad_reference t r) (y.bad_reference t r)

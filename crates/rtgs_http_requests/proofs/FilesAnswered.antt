@@ -33,7 +33,8 @@ abbrev Judged : ℕ → List Fields → Type 0
 Judged n records = AllRows n records ⊎ (BadAmong n records ⊎ MoreThan n records)
 
 -- a row before the others
-begun : (row : OrderRow) (fields : Fields) (rows : List OrderRow) (rest records : List Fields) → IsRow row → fields ≡ fields_of_row row
+begun : (row : OrderRow) (fields : Fields) (rows : List OrderRow) (rest records : List Fields) → IsRow row
+    → fields ≡ fields_of_row row
     → BeginWith rows rest records → BeginWith (row ∷ rows) rest (fields ∷ records)
 begun row fields rows rest records is e x =
     (ap (λ f. f ∷ records) e ∙ ap (λ r. fields_of_row row ∷ r) x.0, (is, x.1))
@@ -56,7 +57,15 @@ judged (suc n) (fields ∷ rest) none =
 -- rows, in memory
 kept : Global → (rows : List OrderRow) → length rows ≤ MOST_ROWS → Vec OrderRow
 kept alloc rows few =
-    record { ptr = null_ptr; len = length rows; cap = length rows; alloc = alloc; items = rows; ok = (refl, omega arith); small = omega (arith, few) }
+    record {
+      ptr = null_ptr;
+      len = length rows;
+      cap = length rows;
+      alloc = alloc;
+      items = rows;
+      ok = (refl, omega arith);
+      small = omega (arith, few);
+    }
 
 pub file_answered : Global → (caller body : List ℕ) → HasAnswer (AsksBatch caller body)
 unfolding kept
@@ -68,14 +77,19 @@ file_answered alloc caller body none = no_fault batch.BadHeader (λ e. cc) by_he
     no_file : (rows : List OrderRow) → length rows ≤ MOST_ROWS → ¬ IsOrderFile body rows
     no_file rows few is = let told = none (Ok (Batch caller (kept alloc rows few))) (refl, is) in cc
 
-    all_rows : (under : List Fields) → HasUnderHeader body under → (rows : List OrderRow) → BeginWith rows [] under → length rows ≤ MOST_ROWS → ⊥
+    all_rows : (under : List Fields) → HasUnderHeader body under → (rows : List OrderRow) → BeginWith rows [] under
+        → length rows ≤ MOST_ROWS → ⊥
     all_rows under has [] x few = no_fault batch.BadCount (λ e. cc) (under, has, inl x.0)
     all_rows under has (row ∷ rows) x few = no_file (row ∷ rows) few (under, has, (x, omega arith, few))
 
     by : (under : List Fields) → HasUnderHeader body under → ¬ Judged MOST_ROWS under
     by under has (inl x) = all_rows under has x.0 x.1 x.2
     by under has (inr (inl x)) =
-        no_fault (batch.BadRow (length x.0 + 1)) (λ e. cc) (under, has, (x.0, x.1, x.2, x.3, x.4, refl, omega (arith, x.5)))
+        no_fault (batch.BadRow (length x.0 + 1)) (λ e. cc) (
+          under,
+          has,
+          (x.0, x.1, x.2, x.3, x.4, refl, omega (arith, x.5)),
+        )
     by under has (inr (inr x)) = no_fault batch.BadCount (λ e. cc) (under, has, inr (x.0, x.1, x.2, x.3, x.4))
 
     by_header : (under : List Fields) → HasUnderHeader body under → ⊥

@@ -12,13 +12,16 @@ use Rattle.rtgs_http_heads.specs.Fields.{Fields, HasKey}
 use Rattle.rtgs_http_heads.specs.Heads.{IsGoodHead}
 
 pub record LowerLaws : Type 0 where
-  pub dates : (one other : ℕ) → IsBusinessDate one → IsBusinessDate other → date_text one ≡ date_text other → one ≡ other
-  pub rows : (bytes : List ℕ) (one other : List OrderRow) → IsOrderFile bytes one → IsOrderFile bytes other → one ≡ other
+  pub dates : (one other : ℕ) → IsBusinessDate one → IsBusinessDate other → date_text one ≡ date_text other
+      → one ≡ other
+  pub rows : (bytes : List ℕ) (one other : List OrderRow) → IsOrderFile bytes one → IsOrderFile bytes other
+      → one ≡ other
   pub files : (bytes : List ℕ) (rows : List OrderRow) (fault : BatchFault)
       → IsOrderFile bytes rows → IsFaultOf bytes fault → fault ≡ OutOfMemory
   pub faults : (bytes : List ℕ) (one other : BatchFault)
       → IsFaultOf bytes one → IsFaultOf bytes other → one ≢ OutOfMemory → other ≢ OutOfMemory → one ≡ other
-  pub regions : (input one other rest more : List ℕ) → StartsWith input one rest → StartsWith input other more → one ≡ other
+  pub regions : (input one other rest more : List ℕ) → StartsWith input one rest → StartsWith input other more
+      → one ≡ other
   pub not_long : (input region rest : List ℕ) → StartsWith input region rest → ¬ IsTooLong input
   pub not_open : (input region rest : List ℕ) → StartsWith input region rest → ¬ IsOpen input
   pub long_is_not_open : (input : List ℕ) → IsTooLong input → ¬ IsOpen input

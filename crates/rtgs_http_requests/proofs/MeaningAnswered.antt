@@ -26,7 +26,7 @@ use Rattle.rtgs_http_requests.specs.declared.asked.Asked.{Asked}
 use Rattle.rtgs_http_requests.specs.declared.asked.Asked.TheVariants.{Submit, Read}
 use Rattle.rtgs_http_requests.specs.declared.http_fault.HttpFault.{HttpFault}
 use Rattle.rtgs_http_requests.specs.declared.http_fault.HttpFault.TheVariants as fault
-use Rattle.rtgs_http_requests.specs.declared.reading.Reading.TheVariants as reading
+use Rattle.rtgs_book.specs.declared.reading.Reading.TheVariants as reading
 use Rattle.rtgs_http_requests.proofs.Answered.{then_answered, told_answered, value_answered}
 use Rattle.rtgs_http_requests.proofs.Decisions.{truth, amount, credit, posting}
 use Rattle.rtgs_http_requests.proofs.FilesAnswered.{file_answered}
@@ -36,21 +36,25 @@ use Rattle.rtgs_http_requests.proofs.FilesAnswered.{file_answered}
 abbrev Spells : List ℕ → Data → Type 0
 Spells body value = IsUtf8 body × (read body ≡ Some value)
 
-no_json : (body : List ℕ) (value : Option Data) → read body ≡ value → ((given : Data) → ¬ Spells body given) → IsUtf8 body → read body ≡ None
+no_json : (body : List ℕ) (value : Option Data) → read body ≡ value → ((given : Data) → ¬ Spells body given)
+    → IsUtf8 body → read body ≡ None
 no_json body None e none text = e
 no_json body (Some value) e none text = absurd (none value (text, e))
 
 json_answered : (body : List ℕ) → HasAnswer (ReadsJson body)
 json_answered body =
-    told_answered (Spells body) fault.BadJson (ReadsJson body) (λ e. cc) (λ value has. has) (λ none text. no_json body (read body) refl none text)
+    told_answered (Spells body) fault.BadJson (ReadsJson body) (λ e. cc) (λ value has. has)
+    (λ none text. no_json body (read body) refl none text)
 
 content_answered : {A : Type 0} (Has : A → Data → Type 0) (value : Data) → HasAnswer (Finds Has value)
 content_answered Has value =
-    told_answered (λ content. Has content value) fault.WrongFields (Finds Has value) (λ e. cc) (λ content has. has) (λ none. none)
+    told_answered (λ content. Has content value) fault.WrongFields (Finds Has value) (λ e. cc) (λ content has. has)
+    (λ none. none)
 
 -- the value of a body, its content, and what is made of it
 spelt_answered : {A B : Type 0} (Has : A → Data → Type 0) (next : A → Result B HttpFault → Type 0) (body : List ℕ)
-    → ((content : A) → HasAnswer (next content)) → HasAnswer (Then (ReadsJson body) (λ value. Then (Finds Has value) next))
+    → ((content : A) → HasAnswer (next content)) → HasAnswer
+    (Then (ReadsJson body) (λ value. Then (Finds Has value) next))
 spelt_answered Has next body go =
     then_answered (ReadsJson body) (λ value. Then (Finds Has value) next) (json_answered body) (λ value.
     then_answered (Finds Has value) next (content_answered Has value) go)
@@ -62,14 +66,16 @@ reference_answered text none = by (truth (is_reference text))
   where
     by : ¬ (IsReference text ⊎ (¬ IsReference text))
     by (inl good) = let told = none (Ok text) (record { found = λ _. refl; refused = λ bad. absurd (bad good) }) in cc
-    by (inr bad) = let told = none (Err (fault.Form BadReference)) (record { found = λ good. absurd (bad good); refused = λ _. refl }) in cc
+    by (inr bad) = let told = none (Err (fault.Form BadReference))
+        (record { found = λ good. absurd (bad good); refused = λ _. refl }) in cc
 
 abbrev IsDateOf : List ℕ → ℕ → Type 0
 IsDateOf text date = IsBusinessDate date × (text ≡ date_text date)
 
 date_answered : (text : List ℕ) → HasAnswer (SpellsDate text)
 date_answered text =
-    told_answered (IsDateOf text) (fault.Form BadDate) (SpellsDate text) (λ e. cc) (λ date has. has) (λ none date is e. none date (is, e))
+    told_answered (IsDateOf text) (fault.Form BadDate) (SpellsDate text) (λ e. cc) (λ date has. has)
+    (λ none date is e. none date (is, e))
 
 order_answered : (caller : List ℕ) (values : List ℕ × List ℕ × ℕ) → HasAnswer (SpellsOrder caller values)
 order_answered caller values none = by (truth (is_reference values.0)) (truth (is_code values.1)) (amount values.2)
@@ -177,40 +183,51 @@ credit_answered values none = by (truth (is_code values.0)) (credit values.1)
 
 plainly_answered : (body : List ℕ) (asked : Asked) → HasAnswer (AsksPlainly body asked)
 plainly_answered body asked =
-    spelt_answered (λ (_ : Unit {0}) given. HasNothing given) (λ (_ : Unit {0}) (answer : Answer). answer ≡ Ok asked) body (λ _. value_answered asked)
+    spelt_answered (λ (_ : Unit {0}) given. HasNothing given) (λ (_ : Unit {0}) (answer : Answer). answer ≡ Ok asked)
+    body (λ _. value_answered asked)
 
-day_answered : (body : List ℕ) (asked : ℕ → Asked) → HasAnswer (Then (AsksDay body) (λ date (told : Answer). told ≡ Ok (asked date)))
+day_answered : (body : List ℕ) (asked : ℕ → Asked) → HasAnswer
+    (Then (AsksDay body) (λ date (told : Answer). told ≡ Ok (asked date)))
 day_answered body asked =
     then_answered (AsksDay body) (λ date (told : Answer). told ≡ Ok (asked date))
     (spelt_answered HasDate (λ text. SpellsDate text) body date_answered) (λ date. value_answered (asked date))
 
-dated_answered : (parameter : List ℕ) (asked : ℕ → Asked) → HasAnswer (Then (SpellsDate parameter) (λ date (told : Answer). told ≡ Ok (asked date)))
+dated_answered : (parameter : List ℕ) (asked : ℕ → Asked) → HasAnswer
+    (Then (SpellsDate parameter) (λ date (told : Answer). told ≡ Ok (asked date)))
 dated_answered parameter asked =
-    then_answered (SpellsDate parameter) (λ date (told : Answer). told ≡ Ok (asked date)) (date_answered parameter) (λ date. value_answered (asked date))
+    then_answered (SpellsDate parameter) (λ date (told : Answer). told ≡ Ok (asked date)) (date_answered parameter)
+    (λ date. value_answered (asked date))
 
 referred_answered : (parameter : List ℕ) (asked : List ℕ → Asked)
     → HasAnswer (Then (SpellsReference parameter) (λ reference (told : Answer). told ≡ Ok (asked reference)))
 referred_answered parameter asked =
-    then_answered (SpellsReference parameter) (λ reference (told : Answer). told ≡ Ok (asked reference)) (reference_answered parameter)
+    then_answered (SpellsReference parameter) (λ reference (told : Answer). told ≡ Ok (asked reference))
+    (reference_answered parameter)
     (λ reference. value_answered (asked reference))
 
 withdrawal_answered : (caller parameter body : List ℕ) → HasAnswer (MeansBank WithdrawOrder caller parameter body)
 withdrawal_answered caller parameter body =
-    then_answered (SpellsReference parameter) (λ reference. AsksPlainly body (Submit (command.Withdraw caller reference))) (reference_answered parameter)
+    then_answered (SpellsReference parameter) (λ reference. AsksPlainly body
+    (Submit (command.Withdraw caller reference))) (reference_answered parameter)
     (λ reference. plainly_answered body (Submit (command.Withdraw caller reference)))
 
-bank_answered : Global → (route : BankRoute) (caller parameter body : List ℕ) → HasAnswer (MeansBank route caller parameter body)
-bank_answered alloc SendOrder caller parameter body = spelt_answered HasOrder (λ values. SpellsOrder caller values) body (order_answered caller)
+bank_answered : Global → (route : BankRoute) (caller parameter body : List ℕ)
+    → HasAnswer (MeansBank route caller parameter body)
+bank_answered alloc SendOrder caller parameter body = spelt_answered HasOrder (λ values. SpellsOrder caller values) body
+    (order_answered caller)
 bank_answered alloc WithdrawOrder caller parameter body = withdrawal_answered caller parameter body
 bank_answered alloc SendBatch caller parameter body = file_answered alloc caller body
-bank_answered alloc ReadOrder caller parameter body = referred_answered parameter (λ reference. Read (reading.Order caller reference))
+bank_answered alloc ReadOrder caller parameter body = referred_answered parameter
+    (λ reference. Read (reading.Order caller reference))
 bank_answered alloc ReadAccount caller parameter body = value_answered (Read (reading.Account caller))
 bank_answered alloc ReadQueue caller parameter body = value_answered (Read (reading.Queue caller))
-bank_answered alloc ReadStatement caller parameter body = dated_answered parameter (λ date. Read (reading.Statement caller date))
+bank_answered alloc ReadStatement caller parameter body = dated_answered parameter
+    (λ date. Read (reading.Statement caller date))
 
 operator_answered : (route : OperatorRoute) (parameter body : List ℕ) → HasAnswer (MeansOperator route parameter body)
 operator_answered Post parameter body = spelt_answered HasPosting (λ values. SpellsPosting values) body posting_answered
-operator_answered SetCredit parameter body = spelt_answered HasCredit (λ values. SpellsCredit values) body credit_answered
+operator_answered SetCredit parameter body = spelt_answered HasCredit (λ values. SpellsCredit values) body
+    credit_answered
 operator_answered OpenDay parameter body = day_answered body (λ date. Submit (command.OpenDay date))
 operator_answered Resolve parameter body = plainly_answered body (Submit command.Resolve)
 operator_answered CutOff parameter body = day_answered body (λ date. Submit (command.CutOff date))

@@ -23,7 +23,7 @@ use Rattle.rtgs_http_requests.specs.declared.asked.Asked.{Asked}
 use Rattle.rtgs_http_requests.specs.declared.asked.Asked.TheVariants.{Submit, Batch, Read}
 use Rattle.rtgs_http_requests.specs.declared.http_fault.HttpFault.{HttpFault}
 use Rattle.rtgs_http_requests.specs.declared.http_fault.HttpFault.TheVariants as fault
-use Rattle.rtgs_http_requests.specs.declared.reading.Reading.TheVariants as reading
+use Rattle.rtgs_book.specs.declared.reading.Reading.TheVariants as reading
 use Rattle.rtgs_http_requests.proofs.Agreement.{Agree, Equal, IsDetermined, then_determined, told_equal}
 use Rattle.rtgs_http_requests.proofs.ContentsOnce.{json_once, content_once, one_order, one_posting, one_credit}
 use Rattle.rtgs_http_requests.proofs.ContentsOnce.{one_date, one_nothing, reference_once, date_once, order_once}
@@ -43,51 +43,61 @@ the_same one other (inr (inr e)) = inr (inr (subst (λ t. AreTheSame one t) e (s
 
 -- the value of a body, its content, and what is made of it
 spelt_once : {A B : Type 0} (Has : A → Data → Type 0) (next : A → Result B HttpFault → Type 0) (body : List ℕ)
-    → ((value : Data) (one other : A) → Has one value → Has other value → one ≡ other) → ((content : A) → IsDetermined (next content))
+    → ((value : Data) (one other : A) → Has one value → Has other value → one ≡ other)
+    → ((content : A) → IsDetermined (next content))
     → IsDetermined (Then (ReadsJson body) (λ value. Then (Finds Has value) next))
 spelt_once Has next body one_content once =
     then_determined (ReadsJson body) (λ value. Then (Finds Has value) next) (json_once body) (λ value.
     then_determined (Finds Has value) next (content_once Has one_content value) once)
 
 -- the answer is this one, whatever the step before told
-equal_once : {A B : Type 0} (answer : A → Result B HttpFault) (value : A) → IsDetermined (λ (told : Result B HttpFault). told ≡ answer value)
+equal_once : {A B : Type 0} (answer : A → Result B HttpFault) (value : A)
+    → IsDetermined (λ (told : Result B HttpFault). told ≡ answer value)
 equal_once answer value one other x y = told_equal (answer value) one other x y
 
 plainly_once : (body : List ℕ) (asked : Asked) → IsDetermined (AsksPlainly body asked)
 plainly_once body asked =
-    spelt_once (λ (_ : Unit {0}) given. HasNothing given) (λ (_ : Unit {0}) (answer : Answer). answer ≡ Ok asked) body one_nothing
+    spelt_once (λ (_ : Unit {0}) given. HasNothing given) (λ (_ : Unit {0}) (answer : Answer). answer ≡ Ok asked) body
+    one_nothing
     (equal_once (λ (_ : Unit {0}). Ok asked))
 
 referred_once : (parameter : List ℕ) (answer : List ℕ → Answer)
     → IsDetermined (Then (SpellsReference parameter) (λ reference (told : Answer). told ≡ answer reference))
 referred_once parameter answer =
-    then_determined (SpellsReference parameter) (λ reference (told : Answer). told ≡ answer reference) (reference_once parameter) (equal_once answer)
+    then_determined (SpellsReference parameter) (λ reference (told : Answer). told ≡ answer reference)
+    (reference_once parameter) (equal_once answer)
 
 dated_once : LowerLaws → (parameter : List ℕ) (answer : ℕ → Answer)
     → IsDetermined (Then (SpellsDate parameter) (λ date (told : Answer). told ≡ answer date))
 dated_once laws parameter answer =
-    then_determined (SpellsDate parameter) (λ date (told : Answer). told ≡ answer date) (date_once laws parameter) (equal_once answer)
+    then_determined (SpellsDate parameter) (λ date (told : Answer). told ≡ answer date) (date_once laws parameter)
+    (equal_once answer)
 
-day_once : LowerLaws → (body : List ℕ) (answer : ℕ → Answer) → IsDetermined (Then (AsksDay body) (λ date (told : Answer). told ≡ answer date))
+day_once : LowerLaws → (body : List ℕ) (answer : ℕ → Answer)
+    → IsDetermined (Then (AsksDay body) (λ date (told : Answer). told ≡ answer date))
 day_once laws body answer =
     then_determined (AsksDay body) (λ date (told : Answer). told ≡ answer date)
     (spelt_once HasDate (λ text. SpellsDate text) body one_date (date_once laws)) (equal_once answer)
 
 withdrawal_once : (caller parameter body : List ℕ) → IsDetermined (MeansBank WithdrawOrder caller parameter body)
 withdrawal_once caller parameter body =
-    then_determined (SpellsReference parameter) (λ reference. AsksPlainly body (Submit (command.Withdraw caller reference))) (reference_once parameter)
+    then_determined (SpellsReference parameter) (λ reference. AsksPlainly body
+    (Submit (command.Withdraw caller reference))) (reference_once parameter)
     (λ reference. plainly_once body (Submit (command.Withdraw caller reference)))
 
-batch_once : LowerLaws → (caller body : List ℕ) (one other : Answer) → AsksBatch caller body one → AsksBatch caller body other → Agree AreTheSame one other
+batch_once : LowerLaws → (caller body : List ℕ) (one other : Answer) → AsksBatch caller body one
+    → AsksBatch caller body other → Agree AreTheSame one other
 batch_once laws caller body (Ok (Batch sender rows)) (Ok (Batch also more)) x y =
     inr (inr (x.0 ∙ sym y.0, laws.rows body rows.items more.items x.1 y.1))
-batch_once laws caller body (Ok (Batch sender rows)) (Err (fault.Batch bad)) x y = absurd (y.1 (laws.files body rows.items bad x.1 y.0))
+batch_once laws caller body (Ok (Batch sender rows)) (Err (fault.Batch bad)) x y =
+    absurd (y.1 (laws.files body rows.items bad x.1 y.0))
 batch_once laws caller body (Ok (Batch sender rows)) (Err fault.OutOfMemory) x y = inr (inl refl)
 batch_once laws caller body (Ok (Batch sender rows)) (Ok (Submit submitted)) x y = absurd y
 batch_once laws caller body (Ok (Batch sender rows)) (Ok (Read read)) x y = absurd y
 batch_once laws caller body (Ok (Batch sender rows)) (Err _) x y = absurd y
 batch_once laws caller body (Err fault.OutOfMemory) other x y = inl refl
-batch_once laws caller body (Err (fault.Batch bad)) (Ok (Batch sender rows)) x y = absurd (x.1 (laws.files body rows.items bad y.1 x.0))
+batch_once laws caller body (Err (fault.Batch bad)) (Ok (Batch sender rows)) x y =
+    absurd (x.1 (laws.files body rows.items bad y.1 x.0))
 batch_once laws caller body (Err (fault.Batch bad)) (Err (fault.Batch worse)) x y =
     inr (inr (ap (λ b. fault.Batch b) (laws.faults body bad worse x.0 y.0 x.1 y.1)))
 batch_once laws caller body (Err (fault.Batch bad)) (Err fault.OutOfMemory) x y = inr (inl refl)
@@ -99,10 +109,13 @@ batch_once laws caller body (Ok (Read read)) other x y = absurd x
 batch_once laws caller body (Err _) other x y = absurd x
 
 bank_once : LowerLaws → (route : BankRoute) (caller parameter body : List ℕ) (one other : Answer)
-    → MeansBank route caller parameter body one → MeansBank route caller parameter body other → Agree AreTheSame one other
+    → MeansBank route caller parameter body one → MeansBank route caller parameter body other
+    → Agree AreTheSame one other
 bank_once laws SendOrder caller parameter body one other x y =
-    the_same one other (spelt_once HasOrder (λ values. SpellsOrder caller values) body one_order (order_once caller) one other x y)
-bank_once laws WithdrawOrder caller parameter body one other x y = the_same one other (withdrawal_once caller parameter body one other x y)
+    the_same one other (spelt_once HasOrder (λ values. SpellsOrder caller values) body one_order (order_once caller) one
+    other x y)
+bank_once laws WithdrawOrder caller parameter body one other x y =
+    the_same one other (withdrawal_once caller parameter body one other x y)
 bank_once laws SendBatch caller parameter body one other x y = batch_once laws caller body one other x y
 bank_once laws ReadOrder caller parameter body one other x y =
     the_same one other (referred_once parameter (λ reference. Ok (Read (reading.Order caller reference))) one other x y)
@@ -111,9 +124,12 @@ bank_once laws ReadQueue caller parameter body one other x y = the_same one othe
 bank_once laws ReadStatement caller parameter body one other x y =
     the_same one other (dated_once laws parameter (λ date. Ok (Read (reading.Statement caller date))) one other x y)
 
-operator_once : LowerLaws → (route : OperatorRoute) (parameter body : List ℕ) → IsDetermined (MeansOperator route parameter body)
-operator_once laws Post parameter body = spelt_once HasPosting (λ values. SpellsPosting values) body one_posting posting_once
-operator_once laws SetCredit parameter body = spelt_once HasCredit (λ values. SpellsCredit values) body one_credit credit_once
+operator_once : LowerLaws → (route : OperatorRoute) (parameter body : List ℕ)
+    → IsDetermined (MeansOperator route parameter body)
+operator_once laws Post parameter body = spelt_once HasPosting (λ values. SpellsPosting values) body one_posting
+    posting_once
+operator_once laws SetCredit parameter body = spelt_once HasCredit (λ values. SpellsCredit values) body one_credit
+    credit_once
 operator_once laws OpenDay parameter body = day_once laws body (λ date. Ok (Submit (command.OpenDay date)))
 operator_once laws Resolve parameter body = plainly_once body (Submit command.Resolve)
 operator_once laws CutOff parameter body = day_once laws body (λ date. Ok (Submit (command.CutOff date)))
@@ -122,5 +138,7 @@ operator_once laws ReadReport parameter body = dated_once laws parameter (λ dat
 
 pub meant_once : LowerLaws → (caller : Admitted) (parameter body : List ℕ) (one other : Answer)
     → Means caller parameter body one → Means caller parameter body other → Agree AreTheSame one other
-meant_once laws (admitted.Bank route caller) parameter body one other x y = bank_once laws route caller parameter body one other x y
-meant_once laws (admitted.Operator route) parameter body one other x y = the_same one other (operator_once laws route parameter body one other x y)
+meant_once laws (admitted.Bank route caller) parameter body one other x y =
+    bank_once laws route caller parameter body one other x y
+meant_once laws (admitted.Operator route) parameter body one other x y =
+    the_same one other (operator_once laws route parameter body one other x y)

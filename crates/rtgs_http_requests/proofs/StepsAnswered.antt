@@ -1,5 +1,6 @@
 -- Each input asks for something, or has a fault.
-use Rattle.std.proofs.Common.{◌≡◌, ◌≤◌, ◌<◌, ◌⊎◌, ◌∷◌, [], inl, inr, ℕ, List, Bool, true, false, length, take, codes, Option, Some, None}
+use Rattle.std.proofs.Common.{◌≡◌, ◌≤◌, ◌<◌, ◌⊎◌, ◌∷◌, [], inl, inr, ℕ, List, Bool, true, false, length, take, codes}
+use Rattle.std.proofs.Common.{Option, Some, None}
 use Rattle.std.proofs.Common.{Result, Ok, Err, refl, Global, if◌then◌else◌, nat_le}
 use Rattle.std.specs.Prelude.{◌≢◌}
 use Rattle.std.specs.Str.{bytes_eq}
@@ -40,7 +41,8 @@ IsHeadOf region read = IsGoodHead region read.0 read.1
 
 head_answered : (region : List ℕ) → HasAnswer (HasHead region)
 head_answered region =
-    told_answered (IsHeadOf region) fault.BadHead (HasHead region) (λ e. cc) (λ read has. has) (λ none head declared. none (head, declared))
+    told_answered (IsHeadOf region) fault.BadHead (HasHead region) (λ e. cc) (λ read has. has)
+    (λ none head declared. none (head, declared))
 
 route_answered : (head : RequestHead) → HasAnswer (HasRoute head)
 route_answered head none = by (routed head.method head.target) refl
@@ -54,24 +56,29 @@ known_told : (route : BankRoute) (code : Option (List ℕ)) → known route code
 known_told route None e = cc
 known_told route (Some code) e = cc
 
-caller_told : (operator : List ℕ) (code_of : CodeOf) (route : Route) (key : Option (List ℕ)) → caller_under operator code_of route key ≢ Err fault.OutOfMemory
+caller_told : (operator : List ℕ) (code_of : CodeOf) (route : Route) (key : Option (List ℕ))
+    → caller_under operator code_of route key ≢ Err fault.OutOfMemory
 caller_told operator code_of route None = λ e. cc
 caller_told operator code_of (Operator route) (Some digest) = by (bytes_eq digest operator)
   where
-    by : (same : Bool) → ◌≢◌ {A = Result Admitted HttpFault} (if same then Ok (admitted.Operator route) else Err fault.NoKey) (Err fault.OutOfMemory)
+    by : (same : Bool) → ◌≢◌ {A = Result Admitted HttpFault}
+        (if same then Ok (admitted.Operator route) else Err fault.NoKey) (Err fault.OutOfMemory)
     by true e = cc
     by false e = cc
 caller_told operator code_of (Bank route) (Some digest) = by (bytes_eq digest operator)
   where
-    by : (same : Bool) → ◌≢◌ {A = Result Admitted HttpFault} (if same then Err fault.NoKey else known route (code_of digest)) (Err fault.OutOfMemory)
+    by : (same : Bool) → ◌≢◌ {A = Result Admitted HttpFault}
+        (if same then Err fault.NoKey else known route (code_of digest)) (Err fault.OutOfMemory)
     by true e = cc
     by false e = known_told route (code_of digest) e
 
-caller_answered : (operator : List ℕ) (code_of : CodeOf) (route : Route) (head : RequestHead) → HasAnswer (HasCaller operator code_of route head)
+caller_answered : (operator : List ℕ) (code_of : CodeOf) (route : Route) (head : RequestHead)
+    → HasAnswer (HasCaller operator code_of route head)
 caller_answered operator code_of route head none = with None no_key
   where
     with : (key : Option (List ℕ)) → ¬ HasKey (fields_of head) key
-    with key has = caller_told operator code_of route key (none (caller_under operator code_of route key) (key, has, refl))
+    with key has = caller_told operator code_of route key (none (caller_under operator code_of route key)
+        (key, has, refl))
 
     no_key : (key : List ℕ) → values_of (codes "desk-key") (fields_of head) ≡ key ∷ [] → ¬ IsKey key
     no_key key e is = with (Some _) (key, e, is, refl)
@@ -81,7 +88,8 @@ length_told false declared = λ e. cc
 length_told true None = λ e. cc
 length_told true (Some size) = by (nat_le size LONGEST_BODY)
   where
-    by : (fits : Bool) → ◌≢◌ {A = Result ℕ HttpFault} (if fits then Ok size else Err fault.BodyTooLong) (Err fault.OutOfMemory)
+    by : (fits : Bool) → ◌≢◌ {A = Result ℕ HttpFault} (if fits then Ok size else Err fault.BodyTooLong)
+        (Err fault.OutOfMemory)
     by true e = cc
     by false e = cc
 
@@ -93,30 +101,40 @@ body_answered rest size none = by (cases_lt (length rest) size)
     by (inr enough) = let told = none (Ok (take size rest)) (enough, refl) in cc
 
 -- the steps from the length on, from the caller on, and so on
-size_on : Global → (rest parameter : List ℕ) (caller : Admitted) (size : ℕ) → HasAnswer (after_size rest parameter caller size)
+size_on : Global → (rest parameter : List ℕ) (caller : Admitted) (size : ℕ)
+    → HasAnswer (after_size rest parameter caller size)
 size_on alloc rest parameter caller size =
-    then_answered (HasBody rest size) (λ body. Means caller parameter body) (body_answered rest size) (λ body. meaning_answered alloc caller parameter body)
+    then_answered (HasBody rest size) (λ body. Means caller parameter body) (body_answered rest size)
+    (λ body. meaning_answered alloc caller parameter body)
 
-caller_on : Global → (head : RequestHead) (declared : Option ℕ) (rest parameter : List ℕ) (caller : Admitted) → HasAnswer (after_caller head declared rest parameter caller)
+caller_on : Global → (head : RequestHead) (declared : Option ℕ) (rest parameter : List ℕ) (caller : Admitted)
+    → HasAnswer (after_caller head declared rest parameter caller)
 caller_on alloc head declared rest parameter caller =
     then_answered (λ told. told ≡ body_length (is_post head.method) declared) (after_size rest parameter caller)
-    (equal_answered (body_length (is_post head.method) declared) (length_told (is_post head.method) declared)) (size_on alloc rest parameter caller)
+    (equal_answered (body_length (is_post head.method) declared) (length_told (is_post head.method) declared))
+    (size_on alloc rest parameter caller)
 
-route_on : Global → (operator : List ℕ) (code_of : CodeOf) (rest : List ℕ) (head : RequestHead) (declared : Option ℕ) (found : Route × List ℕ)
+route_on : Global → (operator : List ℕ) (code_of : CodeOf) (rest : List ℕ) (head : RequestHead) (declared : Option ℕ)
+    (found : Route × List ℕ)
     → HasAnswer (after_route operator code_of rest head declared found)
 route_on alloc operator code_of rest head declared found =
     then_answered (HasCaller operator code_of found.0 head) (after_caller head declared rest found.1)
     (caller_answered operator code_of found.0 head) (caller_on alloc head declared rest found.1)
 
-head_on : Global → (operator : List ℕ) (code_of : CodeOf) (rest : List ℕ) (read : RequestHead × Option ℕ) → HasAnswer (after_head operator code_of rest read)
+head_on : Global → (operator : List ℕ) (code_of : CodeOf) (rest : List ℕ) (read : RequestHead × Option ℕ)
+    → HasAnswer (after_head operator code_of rest read)
 head_on alloc operator code_of rest read =
     then_answered (HasRoute read.0) (after_route operator code_of rest read.0 read.1)
     (route_answered read.0) (route_on alloc operator code_of rest read.0 read.1)
 
-region_on : Global → (operator : List ℕ) (code_of : CodeOf) (parts : List ℕ × List ℕ) → HasAnswer (after_region operator code_of parts)
+region_on : Global → (operator : List ℕ) (code_of : CodeOf) (parts : List ℕ × List ℕ)
+    → HasAnswer (after_region operator code_of parts)
 region_on alloc operator code_of parts =
-    then_answered (HasHead parts.0) (after_head operator code_of parts.1) (head_answered parts.0) (head_on alloc operator code_of parts.1)
+    then_answered (HasHead parts.0) (after_head operator code_of parts.1) (head_answered parts.0)
+    (head_on alloc operator code_of parts.1)
 
-pub input_answered : Global → ((input : List ℕ) → Outcome input) → (operator : List ℕ) (code_of : CodeOf) (input : List ℕ) → HasAnswer (AsksFor operator code_of input)
+pub input_answered : Global → ((input : List ℕ) → Outcome input)
+    → (operator : List ℕ) (code_of : CodeOf) (input : List ℕ) → HasAnswer (AsksFor operator code_of input)
 input_answered alloc outcome operator code_of input =
-    then_answered (HasRegion input) (after_region operator code_of) (region_answered input (outcome input)) (region_on alloc operator code_of)
+    then_answered (HasRegion input) (after_region operator code_of) (region_answered input (outcome input))
+    (region_on alloc operator code_of)

@@ -49,7 +49,8 @@ region_once laws input (Err _) other x y = absurd x
 abbrev IsHeadOf : List ℕ → RequestHead × Option ℕ → Type 0
 IsHeadOf region read = IsGoodHead region read.0 read.1
 
-tells_head : (region : List ℕ) (told : Result (RequestHead × Option ℕ) HttpFault) → HasHead region told → Tells (IsHeadOf region) fault.BadHead told
+tells_head : (region : List ℕ) (told : Result (RequestHead × Option ℕ) HttpFault) → HasHead region told
+    → Tells (IsHeadOf region) fault.BadHead told
 tells_head region (Ok read) x = inl (read, refl, x)
 tells_head region (Err fault.BadHead) none = inr (inl (refl, λ read. none read.0 read.1))
 tells_head region (Err _) x = absurd x
@@ -63,12 +64,14 @@ head_once laws region one other x y =
 abbrev IsRouteOf : RequestHead → Route × List ℕ → Type 0
 IsRouteOf head found = routed head.method head.target ≡ Some found
 
-no_route : (head : RequestHead) (found : Route × List ℕ) → routed head.method head.target ≡ None → ¬ IsRouteOf head found
+no_route : (head : RequestHead) (found : Route × List ℕ) → routed head.method head.target ≡ None
+    → ¬ IsRouteOf head found
 no_route head found none some =
     let clash : ◌≡◌ {A = Option (Route × List ℕ)} None (Some found) = sym none ∙ some in
     cc
 
-tells_route : (head : RequestHead) (told : Result (Route × List ℕ) HttpFault) → HasRoute head told → Tells (IsRouteOf head) fault.NoSuchRoute told
+tells_route : (head : RequestHead) (told : Result (Route × List ℕ) HttpFault) → HasRoute head told
+    → Tells (IsRouteOf head) fault.NoSuchRoute told
 tells_route head (Ok found) x = inl (found, refl, x)
 tells_route head (Err fault.NoSuchRoute) none = inr (inl (refl, λ found. no_route head found none))
 tells_route head (Err fault.OutOfMemory) x = inr (inr refl)
@@ -81,9 +84,11 @@ one_route head one other x y =
 
 route_once : (head : RequestHead) → IsDetermined (HasRoute head)
 route_once head one other x y =
-    told_once (IsRouteOf head) fault.NoSuchRoute (one_route head) one other (tells_route head one x) (tells_route head other y)
+    told_once (IsRouteOf head) fault.NoSuchRoute (one_route head) one other (tells_route head one x)
+    (tells_route head other y)
 
-caller_once : LowerLaws → (operator : List ℕ) (code_of : CodeOf) (route : Route) (head : RequestHead) → IsDetermined (HasCaller operator code_of route head)
+caller_once : LowerLaws → (operator : List ℕ) (code_of : CodeOf) (route : Route) (head : RequestHead)
+    → IsDetermined (HasCaller operator code_of route head)
 caller_once laws operator code_of route head one other x y =
     let key : x.0 ≡ y.0 = laws.keys (fields_of head) x.0 y.0 x.1 y.1 in
     inr (inr (x.2 ∙ ap (λ k. caller_under operator code_of route k) key ∙ sym y.2))
@@ -91,7 +96,8 @@ caller_once laws operator code_of route head one other x y =
 abbrev IsBodyOf : List ℕ → ℕ → List ℕ → Type 0
 IsBodyOf rest size body = (size ≤ length rest) × (body ≡ take size rest)
 
-tells_body : (rest : List ℕ) (size : ℕ) (told : Result (List ℕ) HttpFault) → HasBody rest size told → Tells (IsBodyOf rest size) fault.Truncated told
+tells_body : (rest : List ℕ) (size : ℕ) (told : Result (List ℕ) HttpFault) → HasBody rest size told
+    → Tells (IsBodyOf rest size) fault.Truncated told
 tells_body rest size (Ok body) x = inl (body, refl, x)
 tells_body rest size (Err fault.Truncated) short = inr (inl (refl, λ body has. omega (arith, short, has.0)))
 tells_body rest size (Err fault.OutOfMemory) x = inr (inr refl)
@@ -99,32 +105,41 @@ tells_body rest size (Err _) x = absurd x
 
 body_once : (rest : List ℕ) (size : ℕ) → IsDetermined (HasBody rest size)
 body_once rest size one other x y =
-    told_once (IsBodyOf rest size) fault.Truncated (λ a b p q. p.1 ∙ sym q.1) one other (tells_body rest size one x) (tells_body rest size other y)
+    told_once (IsBodyOf rest size) fault.Truncated (λ a b p q. p.1 ∙ sym q.1) one other (tells_body rest size one x)
+    (tells_body rest size other y)
 
 fault_same : (bad : HttpFault) → AreTheSame (Err bad) (Err bad)
 fault_same bad = refl
 
 -- the steps from the length on, from the caller on, and so on
 size_on : LowerLaws → (rest parameter : List ℕ) (caller : Admitted) (size : ℕ) (one other : Answer)
-    → after_size rest parameter caller size one → after_size rest parameter caller size other → Agree AreTheSame one other
+    → after_size rest parameter caller size one → after_size rest parameter caller size other
+    → Agree AreTheSame one other
 size_on laws rest parameter caller size one other x y =
     then_once AreTheSame fault_same (HasBody rest size) (λ body. Means caller parameter body) (body_once rest size)
     (λ body. meant_once laws caller parameter body) one other x y
 
-caller_on : LowerLaws → (head : RequestHead) (declared : Option ℕ) (rest parameter : List ℕ) (caller : Admitted) (one other : Answer)
-    → after_caller head declared rest parameter caller one → after_caller head declared rest parameter caller other → Agree AreTheSame one other
+caller_on : LowerLaws → (head : RequestHead) (declared : Option ℕ) (rest parameter : List ℕ) (caller : Admitted)
+    (one other : Answer)
+    → after_caller head declared rest parameter caller one → after_caller head declared rest parameter caller other
+    → Agree AreTheSame one other
 caller_on laws head declared rest parameter caller one other x y =
-    then_once AreTheSame fault_same (λ told. told ≡ body_length (is_post head.method) declared) (after_size rest parameter caller)
+    then_once AreTheSame fault_same (λ told. told ≡ body_length (is_post head.method) declared)
+    (after_size rest parameter caller)
     (told_equal (body_length (is_post head.method) declared)) (size_on laws rest parameter caller) one other x y
 
-route_on : LowerLaws → (operator : List ℕ) (code_of : CodeOf) (rest : List ℕ) (head : RequestHead) (declared : Option ℕ) (found : Route × List ℕ) (one other : Answer)
-    → after_route operator code_of rest head declared found one → after_route operator code_of rest head declared found other → Agree AreTheSame one other
+route_on : LowerLaws → (operator : List ℕ) (code_of : CodeOf) (rest : List ℕ) (head : RequestHead) (declared : Option ℕ)
+    (found : Route × List ℕ) (one other : Answer)
+    → after_route operator code_of rest head declared found one
+    → after_route operator code_of rest head declared found other → Agree AreTheSame one other
 route_on laws operator code_of rest head declared found one other x y =
     then_once AreTheSame fault_same (HasCaller operator code_of found.0 head) (after_caller head declared rest found.1)
     (caller_once laws operator code_of found.0 head) (caller_on laws head declared rest found.1) one other x y
 
-head_on : LowerLaws → (operator : List ℕ) (code_of : CodeOf) (rest : List ℕ) (read : RequestHead × Option ℕ) (one other : Answer)
-    → after_head operator code_of rest read one → after_head operator code_of rest read other → Agree AreTheSame one other
+head_on : LowerLaws → (operator : List ℕ) (code_of : CodeOf) (rest : List ℕ) (read : RequestHead × Option ℕ)
+    (one other : Answer)
+    → after_head operator code_of rest read one → after_head operator code_of rest read other
+    → Agree AreTheSame one other
 head_on laws operator code_of rest read one other x y =
     then_once AreTheSame fault_same (HasRoute read.0) (after_route operator code_of rest read.0 read.1)
     (route_once read.0) (route_on laws operator code_of rest read.0 read.1) one other x y
@@ -139,7 +154,8 @@ pub answered_once : LowerLaws → (operator : List ℕ) (code_of : CodeOf) (inpu
     → AsksFor operator code_of input one → AsksFor operator code_of input other
     → one ≢ Err fault.OutOfMemory → other ≢ Err fault.OutOfMemory → AreTheSame one other
 answered_once laws operator code_of input one other x y enough also =
-    by (then_once AreTheSame fault_same (HasRegion input) (after_region operator code_of) (region_once laws input) (region_on laws operator code_of) one other x y)
+    by (then_once AreTheSame fault_same (HasRegion input) (after_region operator code_of) (region_once laws input)
+    (region_on laws operator code_of) one other x y)
   where
     by : Agree AreTheSame one other → AreTheSame one other
     by (inl e) = absurd (enough e)

@@ -10,8 +10,8 @@ use Rattle.rtgs_http_heads.specs.Heads.{IsGoodHead, fields_of}
 use Rattle.rtgs_http_requests.specs.Callers.{CodeOf}
 use Rattle.rtgs_http_requests.specs.declared.asked.Asked.{Asked}
 use Rattle.rtgs_http_requests.specs.declared.asked.Asked.TheVariants.{Submit, Batch, Read}
-use Rattle.rtgs_http_requests.specs.declared.reading.Reading.{Reading}
-use Rattle.rtgs_http_requests.specs.declared.reading.Reading.TheVariants as reading
+use Rattle.rtgs_book.specs.declared.reading.Reading.{Reading}
+use Rattle.rtgs_book.specs.declared.reading.Reading.TheVariants as reading
 
 -- The command is an order or a withdrawal of this sender.
 abbrev pub IsCommandOf : List ℕ → Command → Type 0

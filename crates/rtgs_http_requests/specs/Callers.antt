@@ -32,7 +32,8 @@ abbrev pub caller_under : List ℕ → CodeOf → Route → Option (List ℕ) �
 caller_under operator code_of route None = Err NoKey
 caller_under operator code_of route (Some digest) = bearer operator code_of route digest
 
--- What is known before the participants are, whoever they are. A caller is to be looked up under a route of banks, with a
+-- What is known before the participants are, whoever they are. A caller is to be looked up under a route of banks, with
+-- a
 -- key that is not the operator's.
 abbrev pub Leads : List ℕ → Route → Option (List ℕ) → Result Admission HttpFault → Type 0
 Leads operator route key (Ok (admission.Operator served)) =

@@ -42,7 +42,8 @@ Plans operator region (Ok plan) = (code_of : CodeOf) (input rest : List ℕ) (an
 Plans operator region (Err fault) = (code_of : CodeOf) (input rest : List ℕ)
     → StartsWith input region rest → AsksFor operator code_of input (Err fault)
 
--- The input's head is good, its route is one of banks, and its only key is not the operator's: so the next step looks up
+-- The input's head is good, its route is one of banks, and its only key is not the operator's: so the next step looks
+-- up
 -- whose the key is.
 pub record LooksUp (operator input : List ℕ) : Type 0 where
   pub region : List ℕ

@@ -13,7 +13,6 @@ pub mod laws;
 mod meaning;
 mod operator_requests;
 mod plan;
-mod reading;
 mod spelling;
 
 pub use crate::admission::Admission;
@@ -23,4 +22,3 @@ pub use crate::body::body_length;
 pub use crate::http_fault::HttpFault;
 pub use crate::meaning::read_asked;
 pub use crate::plan::Plan;
-pub use crate::reading::Reading;

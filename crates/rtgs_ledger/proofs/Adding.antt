@@ -1,5 +1,6 @@
 -- What adding a participant comes to, test by test, and its change.
-use Rattle.std.proofs.Common.{◌≡◌, ℕ, ◌≤◌, pos, true, false, ◌&&◌, if◌then◌else◌, nat_le, List, [], ◌∷◌, length, find, Ok, Err, Some, None, refl, sym, ◌∙◌}
+use Rattle.std.proofs.Common.{◌≡◌, ℕ, ◌≤◌, pos, true, false, ◌&&◌, if◌then◌else◌, nat_le, List, [], ◌∷◌, length, find}
+use Rattle.std.proofs.Common.{Ok, Err, Some, None, refl, sym, ◌∙◌}
 use Rattle.std.specs.List.{list_any}
 use Rattle.std.specs.Str.{bytes_eq}
 use Rattle.rtgs_book.specs.declared.command.Command.TheVariants.{Add}
@@ -24,27 +25,36 @@ use Rattle.rtgs_ledger.specs.Accounts.{AccountList, code_of, is_of, has_key, wit
 use Rattle.rtgs_ledger.specs.Kept.{AreBalanced, IsKept, IsPrepared}
 use Rattle.rtgs_ledger.specs.Records.{held_of, book_of}
 use Rattle.rtgs_ledger.proofs.Balances.{same_int, all_same, balance_unknown}
-use Rattle.rtgs_ledger.proofs.Kept.{StepKeepsRanges, StepKeepsSoundness, participant_none, is_unknown, any-participants, length-participants, prepared_done}
+use Rattle.rtgs_ledger.proofs.Kept.{StepKeepsRanges, StepKeepsSoundness, participant_none, is_unknown, any-participants}
+use Rattle.rtgs_ledger.proofs.Kept.{length-participants, prepared_done}
 use Rattle.rtgs_ledger.proofs.Lists.{every, all_put_in}
 
 module _ (book : Book) (code name key : List ℕ) where
-  pub repeats : (p : Participant) → lookup.participant_of book code ≡ Some p → (bytes_eq p.name name && bytes_eq p.key key) ≡ true → Step book (Add code name key) (Ok (Repeated Nothing)) book
+  pub repeats : (p : Participant) → lookup.participant_of book code ≡ Some p
+      → (bytes_eq p.name name && bytes_eq p.key key) ≡ true → Step book (Add code name key) (Ok (Repeated Nothing)) book
   unfolding add first_of
   repeats p found same = rw (found, same) refl
 
-  pub code_taken : (p : Participant) → lookup.participant_of book code ≡ Some p → (bytes_eq p.name name && bytes_eq p.key key) ≡ false → Step book (Add code name key) (Err CodeTaken) book
+  pub code_taken : (p : Participant) → lookup.participant_of book code ≡ Some p
+      → (bytes_eq p.name name && bytes_eq p.key key) ≡ false → Step book (Add code name key) (Err CodeTaken) book
   unfolding add first_of
   code_taken p found other = rw (found, other) refl
 
-  pub key_taken : lookup.participant_of book code ≡ None → list_any (λ (p : Participant). bytes_eq p.key key) book.participants ≡ true → Step book (Add code name key) (Err KeyTaken) book
+  pub key_taken : lookup.participant_of book code ≡ None → list_any (λ (p : Participant). bytes_eq p.key key)
+      book.participants ≡ true → Step book (Add code name key) (Err KeyTaken) book
   unfolding add first_of
   key_taken absent taken = rw (absent, taken) refl
 
-  pub too_many : lookup.participant_of book code ≡ None → list_any (λ (p : Participant). bytes_eq p.key key) book.participants ≡ false → nat_le MOST_PARTICIPANTS (length book.participants) ≡ true → Step book (Add code name key) (Err TooManyParticipants) book
+  pub too_many : lookup.participant_of book code ≡ None → list_any (λ (p : Participant). bytes_eq p.key key)
+      book.participants ≡ false → nat_le MOST_PARTICIPANTS (length book.participants) ≡ true
+      → Step book (Add code name key) (Err TooManyParticipants) book
   unfolding add first_of
   too_many absent free many = rw (absent, free, many) refl
 
-  pub adds : lookup.participant_of book code ≡ None → list_any (λ (p : Participant). bytes_eq p.key key) book.participants ≡ false → nat_le MOST_PARTICIPANTS (length book.participants) ≡ false → Step book (Add code name key) (Ok Added) (with_participant book (record { code = code; name = name; key = key; credit = 0 }))
+  pub adds : lookup.participant_of book code ≡ None → list_any (λ (p : Participant). bytes_eq p.key key)
+      book.participants ≡ false → nat_le MOST_PARTICIPANTS (length book.participants) ≡ false
+      → Step book (Add code name key) (Ok Added) (with_participant book
+      (record { code = code; name = name; key = key; credit = 0 }))
   unfolding add first_of
   adds absent free few = rw (absent, free, few) refl
 
@@ -52,7 +62,8 @@ module _ (r : Records) (kept : IsKept (held_of r)) (new : AccountList) (same : n
   pub kept_with_room : IsKept (held_of (record r { accounts = new }))
   kept_with_room = record { sound = rw same kept.sound; balanced = rw same kept.balanced; fits = rw same kept.fits }
 
-module _ (r : Records) (kept : IsKept (held_of r)) (code name key : List ℕ) (absent : find (is_of code) r.accounts.accounts ≡ None) where
+module _ (r : Records) (kept : IsKept (held_of r)) (code name key : List ℕ)
+    (absent : find (is_of code) r.accounts.accounts ≡ None) where
   abbrev p : Participant
   p = record { code = code; name = name; key = key; credit = 0 }
 
@@ -63,18 +74,29 @@ module _ (r : Records) (kept : IsKept (held_of r)) (code name key : List ℕ) (a
   leads_to_it : Leads (book_of r) (AddParticipant p ∷ []) (with_participant (book_of r) p)
   leads_to_it = record {
     book = refl;
-    balances = every (λ c. balance_set c (AddParticipant p ∷ []) ≡ (if int_eq (balance (book_of r) c) (balance (with_participant (book_of r) p) c) then None else Some (balance (with_participant (book_of r) p) c))) (λ c. rw (balance_same c, same_int (balance (book_of r) c)) refl) (accounts (with_participant (book_of r) p));
+    balances = every (λ c. balance_set c (AddParticipant p ∷ [])
+        ≡ (if int_eq (balance (book_of r) c) (balance (with_participant (book_of r) p) c) then None else Some
+        (balance (with_participant (book_of r) p) c))) (λ c. rw (balance_same c, same_int (balance (book_of r) c)) refl)
+        (accounts (with_participant (book_of r) p));
   }
 
   no_balance : balance (book_of r) code ≡ pos 0
   no_balance = balance_unknown (book_of r) code kept.sound.parties (is_unknown r kept code absent)
 
-  stays_balanced : AreBalanced (with_participant (book_of r) p) (with_account (record { participant = p; balance = pos 0 }) r.accounts.accounts)
-  stays_balanced = all_put_in (λ a. a.balance ≡ balance (with_participant (book_of r) p) (code_of a)) (λ a. is_before (code_of a) code) (record { participant = p; balance = pos 0 }) r.accounts.accounts
-      (all_same (balance (book_of r)) (balance (with_participant (book_of r) p)) (λ c. sym (balance_same c)) r.accounts.accounts kept.balanced)
+  stays_balanced : AreBalanced (with_participant (book_of r) p)
+      (with_account (record { participant = p; balance = pos 0 }) r.accounts.accounts)
+  stays_balanced = all_put_in (λ a. a.balance ≡ balance (with_participant (book_of r) p) (code_of a))
+      (λ a. is_before (code_of a) code) (record { participant = p; balance = pos 0 }) r.accounts.accounts
+      (all_same (balance (book_of r)) (balance (with_participant (book_of r) p)) (λ c. sym (balance_same c))
+      r.accounts.accounts kept.balanced)
       (sym (balance_same code ∙ no_balance))
 
-  pub prepared_add : StepKeepsRanges → StepKeepsSoundness → list_any (has_key key) r.accounts.accounts ≡ false → nat_le MOST_PARTICIPANTS (length r.accounts.accounts) ≡ false → 1 ≤ r.accounts.room → IsPrepared (held_of r) (Add code name key) Added (AddParticipant p ∷ [])
+  pub prepared_add : StepKeepsRanges → StepKeepsSoundness → list_any (has_key key) r.accounts.accounts ≡ false
+      → nat_le MOST_PARTICIPANTS (length r.accounts.accounts) ≡ false → 1 ≤ r.accounts.room
+      → IsPrepared (held_of r) (Add code name key) Added (AddParticipant p ∷ [])
   prepared_add ranges soundness free few room =
-      let step = adds (book_of r) code name key (participant_none r kept code absent) (any-participants key r.accounts.accounts ∙ free) (rw (length-participants r.accounts.accounts) few) in
-      prepared_done (held_of r) (Add code name key) Added (AddParticipant p ∷ []) (with_participant (book_of r) p) kept ranges soundness tt step leads_to_it ((refl, balance_same code ∙ no_balance), tt) stays_balanced ((absent, room), tt) (λ k e. absurd (cc)) (λ e. absurd (cc))
+      let step = adds (book_of r) code name key (participant_none r kept code absent)
+      (any-participants key r.accounts.accounts ∙ free) (rw (length-participants r.accounts.accounts) few) in
+      prepared_done (held_of r) (Add code name key) Added (AddParticipant p ∷ []) (with_participant (book_of r) p) kept
+      ranges soundness tt step leads_to_it ((refl, balance_same code ∙ no_balance), tt) stays_balanced
+      ((absent, room), tt) (λ k e. absurd (cc)) (λ e. absurd (cc))

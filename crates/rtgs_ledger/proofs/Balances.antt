@@ -1,5 +1,6 @@
 -- How balances move, and the rows that set them.
-use Rattle.std.proofs.Common.{◌≡◌, ℕ, ℤ, pos, ◌+ℤ◌, Bool, true, false, cond, ◌&&◌, if◌then◌else◌, List, [], ◌∷◌, ◌++◌, filter, refl, sym, ap, ◌∙◌, true≢false, rules, arith}
+use Rattle.std.proofs.Common.{◌≡◌, ℕ, ℤ, pos, ◌+ℤ◌, Bool, true, false, cond, ◌&&◌, if◌then◌else◌, List, [], ◌∷◌, ◌++◌}
+use Rattle.std.proofs.Common.{filter, refl, sym, ap, ◌∙◌, true≢false, rules, arith}
 use Rattle.std.proofs.lemmas.Int.{ints}
 use Rattle.std.proofs.lemmas.Bool.Decides.{Decides-int_eq}
 use Rattle.std.proofs.lemmas.List.Elements.{filter-append}
@@ -42,59 +43,78 @@ other_int x y apart = by (int_eq x y) refl
 abbrev pub moved : List ℕ → ℤ → (List ℕ → ℤ) → List ℕ → ℤ
 moved code b f c = if bytes_eq code c then b else f c
 
-one_moved : (code : List ℕ) (b : ℤ) (f : List ℕ → ℤ) (x : Account) → x.balance ≡ f (code_of x) → (rebalanced code b x).balance ≡ moved code b f (code_of (rebalanced code b x))
+one_moved : (code : List ℕ) (b : ℤ) (f : List ℕ → ℤ) (x : Account) → x.balance ≡ f (code_of x)
+    → (rebalanced code b x).balance ≡ moved code b f (code_of (rebalanced code b x))
 one_moved code b f x e = by (is_of code x) refl
   where
-    by : (t : Bool) → is_of code x ≡ t → (cond t (record x { balance = b }) x).balance ≡ moved code b f (code_of (cond t (record x { balance = b }) x))
+    by : (t : Bool) → is_of code x ≡ t → (cond t (record x { balance = b }) x).balance
+        ≡ moved code b f (code_of (cond t (record x { balance = b }) x))
     by true g = rw (bytes_eq_comm code (code_of x), g) refl
     by false g = rw (bytes_eq_comm code (code_of x), g) e
 
-pub all_moved : (code : List ℕ) (b : ℤ) (f : List ℕ → ℤ) (xs : List Account) → AllByRecursion (λ a. a.balance ≡ f (code_of a)) xs → AllByRecursion (λ a. a.balance ≡ moved code b f (code_of a)) (with_balance code b xs)
+pub all_moved : (code : List ℕ) (b : ℤ) (f : List ℕ → ℤ) (xs : List Account)
+    → AllByRecursion (λ a. a.balance ≡ f (code_of a)) xs → AllByRecursion (λ a. a.balance ≡ moved code b f (code_of a))
+    (with_balance code b xs)
 all_moved code b f [] h = tt
 all_moved code b f (x ∷ xs) h = (one_moved code b f x h.0, all_moved code b f xs h.1)
 
-pub all_same : (f g : List ℕ → ℤ) → ((c : List ℕ) → f c ≡ g c) → (xs : List Account) → AllByRecursion (λ a. a.balance ≡ f (code_of a)) xs → AllByRecursion (λ a. a.balance ≡ g (code_of a)) xs
-all_same f g same xs = weaker (λ a. a.balance ≡ f (code_of a)) (λ a. a.balance ≡ g (code_of a)) (λ a e. e ∙ same (code_of a)) xs
+pub all_same : (f g : List ℕ → ℤ) → ((c : List ℕ) → f c ≡ g c) → (xs : List Account)
+    → AllByRecursion (λ a. a.balance ≡ f (code_of a)) xs → AllByRecursion (λ a. a.balance ≡ g (code_of a)) xs
+all_same f g same xs = weaker (λ a. a.balance ≡ f (code_of a)) (λ a. a.balance ≡ g (code_of a))
+    (λ a e. e ∙ same (code_of a)) xs
 
 -- ---- balances of a book with one record more
 
-one_more : (posting : Posting) (all gains : ℤ) (b : Bool) → (all +ℤ int_sum_by (λ (p : Posting). p.cents) (cond b (posting ∷ []) [])) +ℤ gains ≡ (all +ℤ gains) +ℤ cond b posting.cents (pos 0)
+one_more : (posting : Posting) (all gains : ℤ) (b : Bool) → (all +ℤ int_sum_by (λ (p : Posting). p.cents)
+    (cond b (posting ∷ []) [])) +ℤ gains ≡ (all +ℤ gains) +ℤ cond b posting.cents (pos 0)
 one_more posting all gains true = omega (arith, ints)
 one_more posting all gains false = omega (arith, ints)
 
-pub balance-with_posting : (book : Book) (posting : Posting) (code : List ℕ) → balance (record book { postings = book.postings ++ posting ∷ [] }) code ≡ balance book code +ℤ (if bytes_eq posting.code code then posting.cents else pos 0)
+pub balance-with_posting : (book : Book) (posting : Posting) (code : List ℕ)
+    → balance (record book { postings = book.postings ++ posting ∷ [] }) code
+    ≡ balance book code +ℤ (if bytes_eq posting.code code then posting.cents else pos 0)
 unfolding balance
 balance-with_posting book posting code =
-    rw (filter-append (λ (p : Posting). bytes_eq p.code code) book.postings (posting ∷ []), int_sum_by-append) (one_more posting _ _ (bytes_eq posting.code code))
+    rw (filter-append (λ (p : Posting). bytes_eq p.code code) book.postings (posting ∷ []), int_sum_by-append)
+    (one_more posting _ _ (bytes_eq posting.code code))
 
-one_order : (f : Order → ℤ) (o : Order) (all gains : ℤ) (b : Bool) → all +ℤ (gains +ℤ int_sum_by f (cond b (o ∷ []) [])) ≡ (all +ℤ gains) +ℤ cond b (f o) (pos 0)
+one_order : (f : Order → ℤ) (o : Order) (all gains : ℤ) (b : Bool)
+    → all +ℤ (gains +ℤ int_sum_by f (cond b (o ∷ []) [])) ≡ (all +ℤ gains) +ℤ cond b (f o) (pos 0)
 one_order f o all gains true = omega (arith, ints)
 one_order f o all gains false = omega (arith, ints)
 
-pub balance-with_order : (book : Book) (o : Order) (marks : List Mark) (code : List ℕ) → balance (record book { orders = book.orders ++ o ∷ []; marks = marks }) code ≡ balance book code +ℤ (if is_settled o then gain code o else pos 0)
+pub balance-with_order : (book : Book) (o : Order) (marks : List Mark) (code : List ℕ)
+    → balance (record book { orders = book.orders ++ o ∷ []; marks = marks }) code
+    ≡ balance book code +ℤ (if is_settled o then gain code o else pos 0)
 unfolding balance
 balance-with_order book o marks code =
     rw (filter-append is_settled book.orders (o ∷ []), int_sum_by-append) (one_order (gain code) o _ _ (is_settled o))
 
 -- ---- a code that no participant has
 
-apart_from : (c code : List ℕ) (codes : List (List ℕ)) → list_any (bytes_eq code) codes ≡ false → list_any (bytes_eq c) codes ≡ true → bytes_eq c code ≡ false
+apart_from : (c code : List ℕ) (codes : List (List ℕ)) → list_any (bytes_eq code) codes ≡ false
+    → list_any (bytes_eq c) codes ≡ true → bytes_eq c code ≡ false
 apart_from c code codes none some = by (bytes_eq c code) refl
   where
     by : (b : Bool) → bytes_eq c code ≡ b → b ≡ false
-    by true e = absurd (true≢false (sym some ∙ ap (λ x. list_any (bytes_eq x) codes) ((bytes_decides c code).0 e) ∙ none))
+    by true e = absurd (true≢false (sym some ∙ ap (λ x. list_any (bytes_eq x) codes) ((bytes_decides c code).0 e)
+        ∙ none))
     by false e = refl
 
-no_postings : (code : List ℕ) (ps : List Posting) → AllByRecursion (λ (p : Posting). bytes_eq p.code code ≡ false) ps → filter (λ (p : Posting). bytes_eq p.code code) ps ≡ []
+no_postings : (code : List ℕ) (ps : List Posting) → AllByRecursion (λ (p : Posting). bytes_eq p.code code ≡ false) ps
+    → filter (λ (p : Posting). bytes_eq p.code code) ps ≡ []
 no_postings code [] h = refl
 no_postings code (p ∷ ps) h = rw (h.0, no_postings code ps h.1) refl
 
-no_gains : (code : List ℕ) (os : List Order) → AllByRecursion (λ (o : Order). (bytes_eq o.sender code ≡ false) × (bytes_eq o.receiver code ≡ false)) os → int_sum_by (gain code) (filter is_settled os) ≡ pos 0
+no_gains : (code : List ℕ) (os : List Order) → AllByRecursion
+    (λ (o : Order). (bytes_eq o.sender code ≡ false) × (bytes_eq o.receiver code ≡ false)) os
+    → int_sum_by (gain code) (filter is_settled os) ≡ pos 0
 unfolding gain
 no_gains code [] h = refl
 no_gains code (o ∷ os) h = by (is_settled o) (no_gains code os h.1)
   where
-    by : (b : Bool) → int_sum_by (gain code) (filter is_settled os) ≡ pos 0 → int_sum_by (gain code) (cond b (o ∷ filter is_settled os) (filter is_settled os)) ≡ pos 0
+    by : (b : Bool) → int_sum_by (gain code) (filter is_settled os) ≡ pos 0
+        → int_sum_by (gain code) (cond b (o ∷ filter is_settled os) (filter is_settled os)) ≡ pos 0
     by true rest = rw (h.0.0, h.0.1) (omega (arith, ints))
     by false rest = rest
 
@@ -107,10 +127,18 @@ second_true true true c e = refl
 second_true true false c e = e
 second_true false b c e = absurd (true≢false (sym e))
 
-pub balance_unknown : (book : Book) (code : List ℕ) → PartiesAreKnown book → is_participant book code ≡ false → balance book code ≡ pos 0
+pub balance_unknown : (book : Book) (code : List ℕ) → PartiesAreKnown book → is_participant book code ≡ false
+    → balance book code ≡ pos 0
 unfolding balance is_participant
 balance_unknown book code parties none =
-    let postings = no_postings code book.postings (weaker (λ (p : Posting). list_any (bytes_eq p.code) (accounts book) ≡ true) (λ (p : Posting). bytes_eq p.code code ≡ false) (λ p e. apart_from p.code code (accounts book) none e) book.postings parties.1) in
-    let orders = no_gains code book.orders (weaker (λ o. has_parties book o ≡ true) (λ (o : Order). (bytes_eq o.sender code ≡ false) × (bytes_eq o.receiver code ≡ false))
-    (λ o e. (apart_from o.sender code (accounts book) none (first_true _ _ _ e), apart_from o.receiver code (accounts book) none (second_true _ _ _ e))) book.orders parties.0) in
+    let postings = no_postings code book.postings (weaker (λ (p : Posting). list_any (bytes_eq p.code) (accounts book)
+    ≡ true) (λ (p : Posting). bytes_eq p.code code ≡ false) (λ p e. apart_from p.code code (accounts book) none e)
+    book.postings parties.1) in
+    let orders = no_gains code book.orders (weaker (λ o. has_parties book o ≡ true)
+    (λ (o : Order). (bytes_eq o.sender code ≡ false) × (bytes_eq o.receiver code ≡ false))
+    (λ o e. (
+      apart_from o.sender code (accounts book) none (first_true _ _ _ e),
+      apart_from o.receiver code
+          (accounts book) none (second_true _ _ _ e),
+    )) book.orders parties.0) in
     rw (postings, orders) refl

@@ -1,5 +1,6 @@
 -- What closing a day comes to, test by test, and its change.
-use Rattle.std.proofs.Common.{◌≡◌, ℕ, pos, Bool, true, false, ◌&&◌, cond, if◌then◌else◌, List, [], ◌∷◌, ◌++◌, map, filter, length, find, Ok, Err, Some, None, refl, sym, ap, subst, ◌∙◌}
+use Rattle.std.proofs.Common.{◌≡◌, ℕ, pos, Bool, true, false, ◌&&◌, cond, if◌then◌else◌, List, [], ◌∷◌, ◌++◌, map}
+use Rattle.std.proofs.Common.{filter, length, find, Ok, Err, Some, None, refl, sym, ap, subst, ◌∙◌}
 use Rattle.std.specs.Prelude.{int_lt}
 use Rattle.std.proofs.lemmas.List.{length-map}
 use Rattle.std.specs.List.{flat_map}
@@ -46,8 +47,15 @@ pub record IsClosable (book : Book) (date : ℕ) : Type 0 where
   pub cut : is_cut_off book.day.phase ≡ true
   pub same : is_on book date ≡ true
 
-pub closable : (book : Book) (date : ℕ) → is_cut_off book.day.phase ≡ true → is_on book date ≡ true → (choice : Choice) × IsGreatest book choice × (is_empty (chosen book choice) ≡ true) → IsClosable book date
-closable book date cut same nothing = record { choice = nothing.0; greatest = nothing.1; none = nothing.2; cut = cut; same = same }
+pub closable : (book : Book) (date : ℕ) → is_cut_off book.day.phase ≡ true → is_on book date ≡ true
+    → (choice : Choice) × IsGreatest book choice × (is_empty (chosen book choice) ≡ true) → IsClosable book date
+closable book date cut same nothing = record {
+  choice = nothing.0;
+  greatest = nothing.1;
+  none = nothing.2;
+  cut = cut;
+  same = same;
+}
 
 not_closed : (p : Phase) → is_cut_off p ≡ true → is_closed p ≡ false
 not_closed Closed e = absurd (cc)
@@ -55,11 +63,13 @@ not_closed Open e = refl
 not_closed CutOff e = refl
 
 module _ (book : Book) (date : ℕ) (choice : Choice) (greatest : IsGreatest book choice) where
-  pub repeats : (is_closed book.day.phase && is_date book.day.date date) ≡ true → Step book (command.CloseDay date) (Ok (answer.Repeated Nothing)) book
+  pub repeats : (is_closed book.day.phase && is_date book.day.date date) ≡ true
+      → Step book (command.CloseDay date) (Ok (answer.Repeated Nothing)) book
   unfolding close_day first_of
   repeats same = (choice, greatest, rw same refl)
 
-  pub wrong_phase : (is_closed book.day.phase && is_date book.day.date date) ≡ false → is_cut_off book.day.phase ≡ false → Step book (command.CloseDay date) (Err WrongPhase) book
+  pub wrong_phase : (is_closed book.day.phase && is_date book.day.date date) ≡ false → is_cut_off book.day.phase ≡ false
+      → Step book (command.CloseDay date) (Err WrongPhase) book
   unfolding close_day first_of
   wrong_phase new other = (choice, greatest, rw (new, other) refl)
 
@@ -73,27 +83,40 @@ module _ (book : Book) (date : ℕ) (choice : Choice) (greatest : IsGreatest boo
       unfolding close_day first_of
       resolvable some = (choice, greatest, rw (not_closed book.day.phase cut, cut, same, some) refl)
 
-      pub somebody_overdrawn : is_empty (chosen book choice) ≡ true → (code : List ℕ) (codes : List (List ℕ)) → overdrawn book ≡ code ∷ codes → Step book (command.CloseDay date) (Err (Overdrawn code (length (code ∷ codes)))) book
+      pub somebody_overdrawn : is_empty (chosen book choice) ≡ true → (code : List ℕ) (codes : List (List ℕ))
+          → overdrawn book ≡ code ∷ codes → Step book (command.CloseDay date)
+          (Err (Overdrawn code (length (code ∷ codes)))) book
       unfolding close_day first_of
-      somebody_overdrawn none code codes some = (choice, greatest, rw (not_closed book.day.phase cut, cut, same, none, some) refl)
+      somebody_overdrawn none code codes some = (
+        choice,
+        greatest,
+        rw
+            (not_closed book.day.phase cut, cut, same, none, some) refl,
+      )
 
 module _ (r : Records) (kept : IsKept (held_of r)) where
   pub not_cut_off_now : (if is_cut_off r.day.phase then r.day.date else None) ≡ None → is_cut_off r.day.phase ≡ false
-  not_cut_off_now e = is_shut (is_cut_off r.day.phase) r.day.date e (λ cut. let s = kept.sound in s.dates.dated (not_closed r.day.phase cut))
+  not_cut_off_now e = is_shut (is_cut_off r.day.phase) r.day.date e
+      (λ cut. let s = kept.sound in s.dates.dated (not_closed r.day.phase cut))
 
-  pub cut_off_now : (date : ℕ) → (if is_cut_off r.day.phase then r.day.date else None) ≡ Some date → is_cut_off r.day.phase ≡ true
+  pub cut_off_now : (date : ℕ) → (if is_cut_off r.day.phase then r.day.date else None) ≡ Some date
+      → is_cut_off r.day.phase ≡ true
   cut_off_now date e = is_opened (is_cut_off r.day.phase) r.day.date date e
 
-  pub cut_off_today : (date : ℕ) → (if is_cut_off r.day.phase then r.day.date else None) ≡ Some date → r.day.date ≡ Some date
+  pub cut_off_today : (date : ℕ) → (if is_cut_off r.day.phase then r.day.date else None) ≡ Some date
+      → r.day.date ≡ Some date
   cut_off_today date e = is_day (is_cut_off r.day.phase) r.day.date date e
 
 -- ---- who is below zero
 
-first_of_filter : {X : Type 0} (p : X → Bool) (xs : List X) (x : X) → find p xs ≡ Some x → (rest : List X) × (filter p xs ≡ x ∷ rest)
+first_of_filter : {X : Type 0} (p : X → Bool) (xs : List X) (x : X) → find p xs ≡ Some x
+    → (rest : List X) × (filter p xs ≡ x ∷ rest)
 first_of_filter p [] x e = absurd (cc)
 first_of_filter {X} p (y ∷ ys) x e = by (p y) e (first_of_filter p ys x)
   where
-    by : (b : Bool) → cond b (Some y) (find p ys) ≡ Some x → (find p ys ≡ Some x → (rest : List X) × (filter p ys ≡ x ∷ rest)) → (rest : List X) × (cond b (y ∷ filter p ys) (filter p ys) ≡ x ∷ rest)
+    by : (b : Bool) → cond b (Some y) (find p ys) ≡ Some x → (find p ys ≡ Some x
+        → (rest : List X) × (filter p ys ≡ x ∷ rest)) → (rest : List X)
+        × (cond b (y ∷ filter p ys) (filter p ys) ≡ x ∷ rest)
     by true f more = let same : y ≡ x = cc in (filter p ys, ap (λ z. z ∷ filter p ys) same)
     by false f more = more f
 
@@ -101,18 +124,29 @@ none_of_filter : {X : Type 0} (p : X → Bool) (xs : List X) → find p xs ≡ N
 none_of_filter p [] e = refl
 none_of_filter {X} p (y ∷ ys) e = by (p y) e (none_of_filter p ys)
   where
-    by : (b : Bool) → cond b (Some y) (find p ys) ≡ None → (find p ys ≡ None → filter p ys ≡ []) → cond b (y ∷ filter p ys) (filter p ys) ≡ []
+    by : (b : Bool) → cond b (Some y) (find p ys) ≡ None → (find p ys ≡ None → filter p ys ≡ [])
+        → cond b (y ∷ filter p ys) (filter p ys) ≡ []
     by true f more = absurd (cc)
     by false f more = more f
 
-codes_below : (book : Book) (xs : List Account) → AreBalanced book xs → filter (λ code. int_lt (balance book code) (pos 0)) (map (λ (p : Participant). p.code) (map participant_of xs)) ≡ map code_of (filter is_overdrawn xs)
+codes_below : (book : Book) (xs : List Account) → AreBalanced book xs
+    → filter (λ code. int_lt (balance book code) (pos 0)) (map (λ (p : Participant). p.code) (map participant_of xs))
+    ≡ map code_of (filter is_overdrawn xs)
 codes_below book [] h = refl
 codes_below book (x ∷ xs) h =
-    ap (λ z. cond (int_lt z (pos 0)) (code_of x ∷ filter (λ code. int_lt (balance book code) (pos 0)) (map (λ (p : Participant). p.code) (map participant_of xs))) (filter (λ code. int_lt (balance book code) (pos 0)) (map (λ (p : Participant). p.code) (map participant_of xs)))) (sym h.0)
+    ap (λ z. cond (int_lt z (pos 0)) (code_of x ∷ filter (λ code. int_lt (balance book code) (pos 0))
+    (map (λ (p : Participant). p.code) (map participant_of xs)))
+    (filter (λ code. int_lt (balance book code) (pos 0))
+    (map (λ (p : Participant). p.code) (map participant_of xs)))) (sym h.0)
     ∙ by (is_overdrawn x) (codes_below book xs h.1)
   where
-    by : (b : Bool) → filter (λ code. int_lt (balance book code) (pos 0)) (map (λ (p : Participant). p.code) (map participant_of xs)) ≡ map code_of (filter is_overdrawn xs)
-        → cond b (code_of x ∷ filter (λ code. int_lt (balance book code) (pos 0)) (map (λ (p : Participant). p.code) (map participant_of xs))) (filter (λ code. int_lt (balance book code) (pos 0)) (map (λ (p : Participant). p.code) (map participant_of xs))) ≡ map code_of (cond b (x ∷ filter is_overdrawn xs) (filter is_overdrawn xs))
+    by : (b : Bool) → filter (λ code. int_lt (balance book code) (pos 0))
+        (map (λ (p : Participant). p.code) (map participant_of xs)) ≡ map code_of (filter is_overdrawn xs)
+        → cond b (code_of x ∷ filter (λ code. int_lt (balance book code) (pos 0))
+        (map (λ (p : Participant). p.code) (map participant_of xs)))
+        (filter (λ code. int_lt (balance book code) (pos 0))
+        (map (λ (p : Participant). p.code) (map participant_of xs)))
+        ≡ map code_of (cond b (x ∷ filter is_overdrawn xs) (filter is_overdrawn xs))
     by true e = ap (λ cs. code_of x ∷ cs) e
     by false e = e
 
@@ -124,22 +158,29 @@ module _ (r : Records) (kept : IsKept (held_of r)) where
   pub nobody_below : find is_overdrawn r.accounts.accounts ≡ None → overdrawn (book_of r) ≡ []
   nobody_below none = below_zero ∙ ap (map code_of) (none_of_filter is_overdrawn r.accounts.accounts none)
 
-  pub overdraws : (date : ℕ) → IsClosable (book_of r) date → (a : Account) → find is_overdrawn r.accounts.accounts ≡ Some a → Step (book_of r) (command.CloseDay date) (Err (Overdrawn (code_of a) (length (filter is_overdrawn r.accounts.accounts)))) (book_of r)
+  pub overdraws : (date : ℕ) → IsClosable (book_of r) date → (a : Account)
+      → find is_overdrawn r.accounts.accounts ≡ Some a → Step (book_of r) (command.CloseDay date)
+      (Err (Overdrawn (code_of a) (length (filter is_overdrawn r.accounts.accounts)))) (book_of r)
   overdraws date at a found =
       let parts = first_of_filter is_overdrawn r.accounts.accounts a found in
       let there : overdrawn (book_of r) ≡ code_of a ∷ map code_of parts.0 = below_zero ∙ ap (map code_of) parts.1 in
-      let count : length (filter is_overdrawn r.accounts.accounts) ≡ length (code_of a ∷ map code_of parts.0) = sym (length-map (filter is_overdrawn r.accounts.accounts) code_of) ∙ ap (λ xs. length (map code_of xs)) parts.1 in
+      let count : length (filter is_overdrawn r.accounts.accounts)
+      ≡ length (code_of a ∷ map code_of parts.0) = sym (length-map (filter is_overdrawn r.accounts.accounts)
+      code_of) ∙ ap (λ xs. length (map code_of xs)) parts.1 in
       subst (λ n. Step (book_of r) (command.CloseDay date) (Err (Overdrawn (code_of a) n)) (book_of r)) (sym count)
-      (somebody_overdrawn (book_of r) date at.choice at.greatest at.cut at.same at.none (code_of a) (map code_of parts.0) there)
+      (somebody_overdrawn (book_of r) date at.choice at.greatest at.cut at.same at.none (code_of a)
+      (map code_of parts.0) there)
 
 -- ---- what is queued
 
-queues_are : (book : Book) (xs : List Account) → flat_map (λ a. queued_numbers book.orders (code_of a)) xs ≡ flat_map (queued_numbers book.orders) (map (λ (p : Participant). p.code) (map participant_of xs))
+queues_are : (book : Book) (xs : List Account) → flat_map (λ a. queued_numbers book.orders (code_of a)) xs
+    ≡ flat_map (queued_numbers book.orders) (map (λ (p : Participant). p.code) (map participant_of xs))
 unfolding queue
 queues_are book [] = refl
 queues_are book (x ∷ xs) = ap (λ ns. queued_numbers book.orders (code_of x) ++ ns) (queues_are book xs)
 
-pub all_queued : (r : Records) → flat_map (λ a. queued_numbers r.orders.orders (code_of a)) r.accounts.accounts ≡ flat_map (queued_numbers (book_of r).orders) (accounts (book_of r))
+pub all_queued : (r : Records) → flat_map (λ a. queued_numbers r.orders.orders (code_of a)) r.accounts.accounts
+    ≡ flat_map (queued_numbers (book_of r).orders) (accounts (book_of r))
 unfolding accounts
 all_queued r = queues_are (book_of r) r.accounts.accounts
 
@@ -148,23 +189,33 @@ all_queued r = queues_are (book_of r) r.accounts.accounts
 module _ (held : Held) (kept : IsKept held) (law : BalanceAfterRestating) where
   balance_same : (c : List ℕ) → balance held.content c ≡ balance (closed_book held.content) c
   unfolding balance
-  balance_same c = sym (law held.content is_queued Rejected c (every (λ o. is_queued o ≡ true → is_queued o ≡ true) (λ o e. e) held.content.orders) refl)
+  balance_same c = sym (law held.content is_queued Rejected c
+      (every (λ o. is_queued o ≡ true → is_queued o ≡ true) (λ o e. e) held.content.orders) refl)
 
   accounts_stay : (after held (closing_rows held.content)).accounts ≡ held.accounts
   accounts_stay =
-      ap (λ (h : Held). h.accounts) (after-append held (state_rows Rejected (flat_map (queued_numbers held.content.orders) (accounts held.content))) (SetDay (record held.content.day { phase = Closed }) ∷ []))
+      ap (λ (h : Held). h.accounts) (after-append held (state_rows Rejected
+      (flat_map (queued_numbers held.content.orders) (accounts held.content)))
+      (SetDay (record held.content.day { phase = Closed }) ∷ []))
       ∙ accounts_after-states Rejected (flat_map (queued_numbers held.content.orders) (accounts held.content)) held
 
-  pub prepared_closing : StepKeepsRanges → (date : ℕ) → Step held.content (command.CloseDay date) (Ok (answer.Closed (length (filter is_queued held.content.orders)))) (closed_book held.content) → IsChange held.content (closing_rows held.content) (closed_book held.content)
-      → IsPrepared held (command.CloseDay date) (answer.Closed (length (filter is_queued held.content.orders))) (closing_rows held.content)
+  pub prepared_closing : StepKeepsRanges → (date : ℕ) → Step held.content (command.CloseDay date)
+      (Ok (answer.Closed (length (filter is_queued held.content.orders)))) (closed_book held.content)
+      → IsChange held.content (closing_rows held.content) (closed_book held.content)
+      → IsPrepared held (command.CloseDay date) (answer.Closed (length (filter is_queued held.content.orders)))
+      (closing_rows held.content)
   prepared_closing ranges date step change = record {
     book = closed_book held.content;
     prepares = record {
       step = step;
       change = change;
-      fits = ranges held.content (closed_book held.content) (command.CloseDay date) (Ok (answer.Closed (length (filter is_queued held.content.orders)))) tt kept.fits step;
-      balanced = subst (AreBalanced (closed_book held.content)) (sym accounts_stay) (all_same (balance held.content) (balance (closed_book held.content)) balance_same held.accounts kept.balanced);
-      room = room_for_states Rejected refl (flat_map (queued_numbers held.content.orders) (accounts held.content)) held (SetDay (record held.content.day { phase = Closed }) ∷ []) (tt, tt);
+      fits = ranges held.content (closed_book held.content) (command.CloseDay date)
+          (Ok (answer.Closed (length (filter is_queued held.content.orders)))) tt kept.fits step;
+      balanced = subst (AreBalanced (closed_book held.content)) (sym accounts_stay)
+          (all_same (balance held.content) (balance (closed_book held.content)) balance_same held.accounts
+          kept.balanced);
+      room = room_for_states Rejected refl (flat_map (queued_numbers held.content.orders) (accounts held.content)) held
+          (SetDay (record held.content.day { phase = Closed }) ∷ []) (tt, tt);
     };
     repeated = λ k e. absurd (cc);
     nothing = λ e. absurd (cc);

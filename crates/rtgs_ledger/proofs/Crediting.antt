@@ -1,5 +1,6 @@
 -- What setting a credit limit comes to, test by test, and its change.
-use Rattle.std.proofs.Common.{◌≡◌, ℕ, ℤ, pos, neg_ℤ, Bool, true, false, not, ◌&&◌, cond, if◌then◌else◌, List, [], ◌∷◌, Ok, Err, Some, None, refl}
+use Rattle.std.proofs.Common.{◌≡◌, ℕ, ℤ, pos, neg_ℤ, Bool, true, false, not, ◌&&◌, cond, if◌then◌else◌, List, [], ◌∷◌}
+use Rattle.std.proofs.Common.{Ok, Err, Some, None, refl}
 use Rattle.std.specs.Prelude.{int_lt}
 use Rattle.std.specs.List.{AllByRecursion}
 use Rattle.std.specs.Ordering.{int_eq}
@@ -25,25 +26,31 @@ use Rattle.rtgs_ledger.proofs.Kept.{StepKeepsRanges, StepKeepsSoundness, prepare
 use Rattle.rtgs_ledger.proofs.Lists.{every}
 
 module _ (book : Book) (code : List ℕ) (credit : ℕ) where
-  pub unknown : is_participant book code ≡ false → Step book (command.SetCredit code credit) (Err UnknownParticipant) book
+  pub unknown : is_participant book code ≡ false → Step book (command.SetCredit code credit) (Err UnknownParticipant)
+      book
   unfolding set_credit first_of
   unknown e = rw e refl
 
   module _ (known : is_participant book code ≡ true) where
-    pub no_cover : (not (is_closed book.day.phase) && int_lt (balance book code) (neg_ℤ (pos credit))) ≡ true → Step book (command.SetCredit code credit) (Err NoCover) book
+    pub no_cover : (not (is_closed book.day.phase) && int_lt (balance book code) (neg_ℤ (pos credit))) ≡ true
+        → Step book (command.SetCredit code credit) (Err NoCover) book
     unfolding set_credit first_of
     no_cover past = rw (known, past) refl
 
-    pub sets : (not (is_closed book.day.phase) && int_lt (balance book code) (neg_ℤ (pos credit))) ≡ false → Step book (command.SetCredit code credit) (Ok CreditSet) (with_credit book code credit)
+    pub sets : (not (is_closed book.day.phase) && int_lt (balance book code) (neg_ℤ (pos credit))) ≡ false
+        → Step book (command.SetCredit code credit) (Ok CreditSet) (with_credit book code credit)
     unfolding set_credit first_of
     sets within = rw (known, within) refl
 
 -- a limit moves no balance
-balanced_limit : (f : List ℕ → ℤ) (code : List ℕ) (credit : ℕ) (xs : List Account) → AllByRecursion (λ a. a.balance ≡ f (code_of a)) xs → AllByRecursion (λ a. a.balance ≡ f (code_of a)) (with_limit code credit xs)
+balanced_limit : (f : List ℕ → ℤ) (code : List ℕ) (credit : ℕ) (xs : List Account)
+    → AllByRecursion (λ a. a.balance ≡ f (code_of a)) xs → AllByRecursion (λ a. a.balance ≡ f (code_of a))
+    (with_limit code credit xs)
 balanced_limit f code credit [] h = tt
 balanced_limit f code credit (x ∷ xs) h = (by (is_of code x), balanced_limit f code credit xs h.1)
   where
-    by : (b : Bool) → (cond b (record x { participant = record x.participant { credit = credit } }) x).balance ≡ f (code_of (cond b (record x { participant = record x.participant { credit = credit } }) x))
+    by : (b : Bool) → (cond b (record x { participant = record x.participant { credit = credit } }) x).balance
+        ≡ f (code_of (cond b (record x { participant = record x.participant { credit = credit } }) x))
     by true = h.0
     by false = h.0
 
@@ -55,12 +62,21 @@ module _ (held : Held) (kept : IsKept held) (code : List ℕ) (credit : ℕ) whe
   leads_to_it : Leads held.content (SetCredit code credit ∷ []) (with_credit held.content code credit)
   leads_to_it = record {
     book = refl;
-    balances = every (λ c. balance_set c (SetCredit code credit ∷ []) ≡ (if int_eq (balance held.content c) (balance (with_credit held.content code credit) c) then None else Some (balance (with_credit held.content code credit) c))) (λ c. rw (← balance_same c, same_int (balance held.content c)) refl) (accounts (with_credit held.content code credit));
+    balances = every (λ c. balance_set c (SetCredit code credit ∷ [])
+        ≡ (if int_eq (balance held.content c) (balance (with_credit held.content code credit) c) then None else Some
+        (balance (with_credit held.content code credit) c)))
+        (λ c. rw (← balance_same c, same_int (balance held.content c)) refl)
+        (accounts (with_credit held.content code credit));
   }
 
-  pub prepared_credit : StepKeepsRanges → StepKeepsSoundness → IsCredit credit → is_participant held.content code ≡ true → (not (is_closed held.content.day.phase) && int_lt (balance held.content code) (neg_ℤ (pos credit))) ≡ false
+  pub prepared_credit : StepKeepsRanges → StepKeepsSoundness → IsCredit credit → is_participant held.content code ≡ true
+      → (not (is_closed held.content.day.phase) && int_lt (balance held.content code) (neg_ℤ (pos credit))) ≡ false
       → IsPrepared held (command.SetCredit code credit) CreditSet (SetCredit code credit ∷ [])
   prepared_credit ranges soundness fits known within =
-      prepared_done held (command.SetCredit code credit) CreditSet (SetCredit code credit ∷ []) (with_credit held.content code credit) kept ranges soundness fits (sets held.content code credit known within) leads_to_it (tt, tt)
-      (all_same (balance held.content) (balance (with_credit held.content code credit)) balance_same (with_limit code credit held.accounts) (balanced_limit (balance held.content) code credit held.accounts kept.balanced))
+      prepared_done held (command.SetCredit code credit) CreditSet (SetCredit code credit ∷ [])
+      (with_credit held.content code credit) kept ranges soundness fits (sets held.content code credit known within)
+      leads_to_it (tt, tt)
+      (all_same (balance held.content) (balance (with_credit held.content code credit)) balance_same
+      (with_limit code credit held.accounts) (balanced_limit (balance held.content) code credit held.accounts
+      kept.balanced))
       (tt, tt) (λ k e. absurd (cc)) (λ e. absurd (cc))

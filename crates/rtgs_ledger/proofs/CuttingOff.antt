@@ -1,5 +1,6 @@
 -- What cutting off a day comes to, test by test, and its change.
-use Rattle.std.proofs.Common.{◌≡◌, ◌==◌, ℕ, Bool, true, false, not, ◌&&◌, true≢false, sym, if◌then◌else◌, List, [], ◌∷◌, Ok, Err, Some, None, refl}
+use Rattle.std.proofs.Common.{◌≡◌, ◌==◌, ℕ, Bool, true, false, not, ◌&&◌, true≢false, sym, if◌then◌else◌, List, [], ◌∷◌}
+use Rattle.std.proofs.Common.{Ok, Err, Some, None, refl}
 use Rattle.std.specs.Ordering.{int_eq}
 use Rattle.rtgs_book.specs.declared.command.Command.TheVariants as command
 use Rattle.rtgs_book.specs.declared.answer.Answer.TheVariants.{CutOffDone, Repeated}
@@ -38,7 +39,8 @@ same_date day date e = by (day == date) e
     by false f = absurd (true≢false f)
 
 module _ (book : Book) (date : ℕ) where
-  pub repeats : (is_cut_off book.day.phase && is_date book.day.date date) ≡ true → Step book (command.CutOff date) (Ok (Repeated Nothing)) book
+  pub repeats : (is_cut_off book.day.phase && is_date book.day.date date) ≡ true
+      → Step book (command.CutOff date) (Ok (Repeated Nothing)) book
   unfolding cut_off first_of
   repeats same = rw same refl
 
@@ -47,11 +49,13 @@ module _ (book : Book) (date : ℕ) where
     unfolding cut_off first_of
     wrong_phase shut = rw (new, shut) refl
 
-    pub wrong_date : is_open book.day.phase ≡ true → is_date book.day.date date ≡ false → Step book (command.CutOff date) (Err WrongDate) book
+    pub wrong_date : is_open book.day.phase ≡ true → is_date book.day.date date ≡ false
+        → Step book (command.CutOff date) (Err WrongDate) book
     unfolding cut_off first_of
     wrong_date opened other = rw (new, opened, other) refl
 
-    pub cuts_off : is_open book.day.phase ≡ true → is_date book.day.date date ≡ true → Step book (command.CutOff date) (Ok CutOffDone) (with_day book (record book.day { phase = CutOff }))
+    pub cuts_off : is_open book.day.phase ≡ true → is_date book.day.date date ≡ true
+        → Step book (command.CutOff date) (Ok CutOffDone) (with_day book (record book.day { phase = CutOff }))
     unfolding cut_off first_of
     cuts_off opened same = rw (new, opened, same) refl
 
@@ -66,11 +70,17 @@ module _ (held : Held) (kept : IsKept held) (date : ℕ) where
   leads_to_it : Leads held.content (SetDay day ∷ []) (with_day held.content day)
   leads_to_it = record {
     book = refl;
-    balances = every (λ c. balance_set c (SetDay day ∷ []) ≡ (if int_eq (balance held.content c) (balance (with_day held.content day) c) then None else Some (balance (with_day held.content day) c))) (λ c. rw (← balance_same c, same_int (balance held.content c)) refl) (accounts (with_day held.content day));
+    balances = every (λ c. balance_set c (SetDay day ∷ []) ≡ (if int_eq (balance held.content c)
+        (balance (with_day held.content day) c) then None else Some (balance (with_day held.content day) c)))
+        (λ c. rw (← balance_same c, same_int (balance held.content c)) refl) (accounts (with_day held.content day));
   }
 
-  pub prepared_cut_off : StepKeepsRanges → StepKeepsSoundness → (is_cut_off held.content.day.phase && is_date held.content.day.date date) ≡ false → is_open held.content.day.phase ≡ true → is_date held.content.day.date date ≡ true
+  pub prepared_cut_off : StepKeepsRanges → StepKeepsSoundness
+      → (is_cut_off held.content.day.phase && is_date held.content.day.date date) ≡ false
+      → is_open held.content.day.phase ≡ true → is_date held.content.day.date date ≡ true
       → IsPrepared held (command.CutOff date) CutOffDone (SetDay day ∷ [])
   prepared_cut_off ranges soundness new opened same =
-      prepared_done held (command.CutOff date) CutOffDone (SetDay day ∷ []) (with_day held.content day) kept ranges soundness tt (cuts_off held.content date new opened same) leads_to_it (tt, tt)
-      (all_same (balance held.content) (balance (with_day held.content day)) balance_same held.accounts kept.balanced) (tt, tt) (λ k e. absurd (cc)) (λ e. absurd (cc))
+      prepared_done held (command.CutOff date) CutOffDone (SetDay day ∷ []) (with_day held.content day) kept ranges
+      soundness tt (cuts_off held.content date new opened same) leads_to_it (tt, tt)
+      (all_same (balance held.content) (balance (with_day held.content day)) balance_same held.accounts kept.balanced)
+      (tt, tt) (λ k e. absurd (cc)) (λ e. absurd (cc))

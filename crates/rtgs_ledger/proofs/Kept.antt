@@ -1,5 +1,7 @@
 -- What the accounts of a kept ledger say of its book.
-use Rattle.std.proofs.Common.{◌≡◌, ℕ, ℤ, pos, neg_ℤ, ◌+ℤ◌, Bool, true, false, ◌||◌, cond, if◌then◌else◌, List, [], ◌∷◌, map, length, find, Ok, Some, None, option_map, refl, sym, ap, ◌∙◌, subst, get_or, ◌<◌, suc, zero, Ordering, Less, Equal, Greater, nat_cmp, arith}
+use Rattle.std.proofs.Common.{◌≡◌, ℕ, ℤ, pos, neg_ℤ, ◌+ℤ◌, Bool, true, false, ◌||◌, cond, if◌then◌else◌, List, [], ◌∷◌}
+use Rattle.std.proofs.Common.{map, length, find, Ok, Some, None, option_map, refl, sym, ap, ◌∙◌, subst, get_or, ◌<◌}
+use Rattle.std.proofs.Common.{suc, zero, Ordering, Less, Equal, Greater, nat_cmp, arith}
 use Rattle.std.proofs.lemmas.List.{length-map}
 use Rattle.std.specs.List.{list_any, AllByRecursion}
 use Rattle.std.specs.Str.{bytes_eq}
@@ -37,31 +39,38 @@ use Rattle.rtgs_ledger.specs.Records.{held_of, book_of}
 
 -- ---- the accounts and the participants
 
-pub find-participants : (code : List ℕ) (xs : List Account) → find (has_code code) (map participant_of xs) ≡ option_map participant_of (find (is_of code) xs)
+pub find-participants : (code : List ℕ) (xs : List Account) → find (has_code code) (map participant_of xs)
+    ≡ option_map participant_of (find (is_of code) xs)
 find-participants code [] = refl
 find-participants code (x ∷ xs) = by (is_of code x) (find-participants code xs)
   where
-    by : (b : Bool) → find (has_code code) (map participant_of xs) ≡ option_map participant_of (find (is_of code) xs) → cond b (Some (participant_of x)) (find (has_code code) (map participant_of xs)) ≡ option_map participant_of (cond b (Some x) (find (is_of code) xs))
+    by : (b : Bool) → find (has_code code) (map participant_of xs) ≡ option_map participant_of (find (is_of code) xs)
+        → cond b (Some (participant_of x)) (find (has_code code) (map participant_of xs))
+        ≡ option_map participant_of (cond b (Some x) (find (is_of code) xs))
     by true e = refl
     by false e = e
 
-pub any-participants : (key : List ℕ) (xs : List Account) → list_any (λ (p : Participant). bytes_eq p.key key) (map participant_of xs) ≡ list_any (has_key key) xs
+pub any-participants : (key : List ℕ) (xs : List Account) → list_any (λ (p : Participant). bytes_eq p.key key)
+    (map participant_of xs) ≡ list_any (has_key key) xs
 any-participants key [] = refl
 any-participants key (x ∷ xs) = ap (λ b. has_key key x || b) (any-participants key xs)
 
 pub length-participants : (xs : List Account) → length (map participant_of xs) ≡ length xs
 length-participants xs = length-map xs participant_of
 
-pub all_participants : (P : Participant → Type 0) (xs : List Account) → AllByRecursion (λ a. P (participant_of a)) xs → AllByRecursion P (map participant_of xs)
+pub all_participants : (P : Participant → Type 0) (xs : List Account) → AllByRecursion (λ a. P (participant_of a)) xs
+    → AllByRecursion P (map participant_of xs)
 all_participants P [] h = tt
 all_participants P (x ∷ xs) h = (h.0, all_participants P xs h.1)
 
 -- what holds of each code holds of that of an account that is found, which is the code
-found_code : (P : List ℕ → Type 0) (code : List ℕ) (xs : List Account) (a : Account) → find (is_of code) xs ≡ Some a → AllByRecursion P (map (λ (p : Participant). p.code) (map participant_of xs)) → P code
+found_code : (P : List ℕ → Type 0) (code : List ℕ) (xs : List Account) (a : Account) → find (is_of code) xs ≡ Some a
+    → AllByRecursion P (map (λ (p : Participant). p.code) (map participant_of xs)) → P code
 found_code P code [] a e h = absurd (let f : None ≡ Some a = e in cc)
 found_code P code (x ∷ xs) a e h = by (is_of code x) refl e (λ f. found_code P code xs a f h.1)
   where
-    by : (b : Bool) → is_of code x ≡ b → cond b (Some x) (find (is_of code) xs) ≡ Some a → (find (is_of code) xs ≡ Some a → P code) → P code
+    by : (b : Bool) → is_of code x ≡ b → cond b (Some x) (find (is_of code) xs) ≡ Some a
+        → (find (is_of code) xs ≡ Some a → P code) → P code
     by true f g rest = subst P ((bytes_decides (code_of x) code).0 f) h.0
     by false f g rest = rest g
 
@@ -69,52 +78,71 @@ pub found_is : (code : List ℕ) (xs : List Account) (a : Account) → find (is_
 found_is code [] a e = absurd (let f : None ≡ Some a = e in cc)
 found_is code (x ∷ xs) a e = by (is_of code x) refl e (λ f. found_is code xs a f)
   where
-    by : (b : Bool) → is_of code x ≡ b → cond b (Some x) (find (is_of code) xs) ≡ Some a → (find (is_of code) xs ≡ Some a → code_of a ≡ code) → code_of a ≡ code
+    by : (b : Bool) → is_of code x ≡ b → cond b (Some x) (find (is_of code) xs) ≡ Some a
+        → (find (is_of code) xs ≡ Some a → code_of a ≡ code) → code_of a ≡ code
     by true f g rest = let same : x ≡ a = cc in ap code_of (sym same) ∙ (bytes_decides (code_of x) code).0 f
     by false f g rest = rest g
 
-pub found_balance : (book : Book) (code : List ℕ) (xs : List Account) (a : Account) → find (is_of code) xs ≡ Some a → AreBalanced book xs → a.balance ≡ balance book code
+pub found_balance : (book : Book) (code : List ℕ) (xs : List Account) (a : Account) → find (is_of code) xs ≡ Some a
+    → AreBalanced book xs → a.balance ≡ balance book code
 found_balance book code [] a e h = absurd (let f : None ≡ Some a = e in cc)
 found_balance book code (x ∷ xs) a e h = by (is_of code x) refl e (λ f. found_balance book code xs a f h.1)
   where
-    by : (b : Bool) → is_of code x ≡ b → cond b (Some x) (find (is_of code) xs) ≡ Some a → (find (is_of code) xs ≡ Some a → a.balance ≡ balance book code) → a.balance ≡ balance book code
-    by true f g rest = let same : x ≡ a = cc in ap (λ (y : Account). y.balance) (sym same) ∙ h.0 ∙ ap (balance book) ((bytes_decides (code_of x) code).0 f)
+    by : (b : Bool) → is_of code x ≡ b → cond b (Some x) (find (is_of code) xs) ≡ Some a
+        → (find (is_of code) xs ≡ Some a → a.balance ≡ balance book code) → a.balance ≡ balance book code
+    by true f g rest = let same : x ≡ a = cc in ap (λ (y : Account). y.balance) (sym same) ∙ h.0
+        ∙ ap (balance book) ((bytes_decides (code_of x) code).0 f)
     by false f g rest = rest g
 
-found_any : (code : List ℕ) (xs : List Account) (a : Account) → find (is_of code) xs ≡ Some a → list_any (bytes_eq code) (map (λ (p : Participant). p.code) (map participant_of xs)) ≡ true
+found_any : (code : List ℕ) (xs : List Account) (a : Account) → find (is_of code) xs ≡ Some a
+    → list_any (bytes_eq code) (map (λ (p : Participant). p.code) (map participant_of xs)) ≡ true
 found_any code [] a e = absurd (let f : None ≡ Some a = e in cc)
 found_any code (x ∷ xs) a e = by (is_of code x) refl e (λ f. found_any code xs a f)
   where
-    by : (b : Bool) → is_of code x ≡ b → cond b (Some x) (find (is_of code) xs) ≡ Some a → (find (is_of code) xs ≡ Some a → list_any (bytes_eq code) (map (λ (p : Participant). p.code) (map participant_of xs)) ≡ true) → list_any (bytes_eq code) (map (λ (p : Participant). p.code) (map participant_of (x ∷ xs))) ≡ true
+    by : (b : Bool) → is_of code x ≡ b → cond b (Some x) (find (is_of code) xs) ≡ Some a
+        → (find (is_of code) xs ≡ Some a → list_any (bytes_eq code)
+        (map (λ (p : Participant). p.code) (map participant_of xs)) ≡ true)
+        → list_any (bytes_eq code) (map (λ (p : Participant). p.code) (map participant_of (x ∷ xs))) ≡ true
     by true f g rest = rw (bytes_eq_comm code (code_of x), f) refl
     by false f g rest = rw (bytes_eq_comm code (code_of x), f) (rest g)
 
-pub none_of : (code : List ℕ) (xs : List Account) → find (is_of code) xs ≡ None → AllByRecursion (λ a. is_of code a ≡ false) xs
+pub none_of : (code : List ℕ) (xs : List Account) → find (is_of code) xs ≡ None
+    → AllByRecursion (λ a. is_of code a ≡ false) xs
 none_of code [] e = tt
 none_of code (x ∷ xs) e = by (is_of code x) refl e (none_of code xs)
   where
-    by : (b : Bool) → is_of code x ≡ b → cond b (Some x) (find (is_of code) xs) ≡ None → (find (is_of code) xs ≡ None → AllByRecursion (λ a. is_of code a ≡ false) xs) → AllByRecursion (λ a. is_of code a ≡ false) (x ∷ xs)
+    by : (b : Bool) → is_of code x ≡ b → cond b (Some x) (find (is_of code) xs) ≡ None
+        → (find (is_of code) xs ≡ None → AllByRecursion (λ a. is_of code a ≡ false) xs)
+        → AllByRecursion (λ a. is_of code a ≡ false) (x ∷ xs)
     by true f g rest = absurd (let h : Some x ≡ None = g in cc)
     by false f g rest = (f, rest g)
 
-none_any : (code : List ℕ) (xs : List Account) → AllByRecursion (λ a. is_of code a ≡ false) xs → list_any (bytes_eq code) (map (λ (p : Participant). p.code) (map participant_of xs)) ≡ false
+none_any : (code : List ℕ) (xs : List Account) → AllByRecursion (λ a. is_of code a ≡ false) xs
+    → list_any (bytes_eq code) (map (λ (p : Participant). p.code) (map participant_of xs)) ≡ false
 none_any code [] h = refl
 none_any code (x ∷ xs) h = rw (bytes_eq_comm code (code_of x), h.0) (none_any code xs h.1)
 
-sum_of_balances : (book : Book) (xs : List Account) → AreBalanced book xs → int_sum_by balance_of xs ≡ int_sum_by (balance book) (map (λ (p : Participant). p.code) (map participant_of xs))
+sum_of_balances : (book : Book) (xs : List Account) → AreBalanced book xs
+    → int_sum_by balance_of xs ≡ int_sum_by (balance book) (map (λ (p : Participant). p.code) (map participant_of xs))
 sum_of_balances book [] h = refl
 sum_of_balances book (x ∷ xs) h = λ i. h.0 i +ℤ sum_of_balances book xs h.1 i
 
 -- a change of no row, to the same book
 pub no_balance_set : (book : Book) → SetsBalances book [] book
-no_balance_set book = every (λ code. balance_set code [] ≡ (if int_eq (balance book code) (balance book code) then None else Some (balance book code))) (λ code. rw (same_int (balance book code)) refl) (accounts book)
+no_balance_set book = every (λ code. balance_set code [] ≡ (if int_eq (balance book code) (balance book code) then None
+    else Some (balance book code))) (λ code. rw (same_int (balance book code)) refl) (accounts book)
 
-pub prepared_repeat : (held : Held) (c : Command) (k : Known) → IsKept held → Step held.content c (Ok (Repeated k)) held.content → IsPrepared held c (Repeated k) []
+pub prepared_repeat : (held : Held) (c : Command) (k : Known) → IsKept held
+    → Step held.content c (Ok (Repeated k)) held.content → IsPrepared held c (Repeated k) []
 prepared_repeat held c k kept step = record {
   book = held.content;
   prepares = record {
     step = step;
-    change = record { leads = record { book = refl; balances = no_balance_set held.content }; added = tt; sound = kept.sound };
+    change = record {
+      leads = record { book = refl; balances = no_balance_set held.content };
+      added = tt;
+      sound = kept.sound;
+    };
     fits = kept.fits;
     balanced = kept.balanced;
     room = tt;
@@ -124,31 +152,39 @@ prepared_repeat held c k kept step = record {
 }
 
 module _ (r : Records) (kept : IsKept (held_of r)) where
-  pub participant_at : (code : List ℕ) (a : Account) → find (is_of code) r.accounts.accounts ≡ Some a → lookup.participant_of (book_of r) code ≡ Some a.participant
+  pub participant_at : (code : List ℕ) (a : Account) → find (is_of code) r.accounts.accounts ≡ Some a
+      → lookup.participant_of (book_of r) code ≡ Some a.participant
   unfolding lookup.participant_of
   participant_at code a e = find-participants code r.accounts.accounts ∙ ap (option_map participant_of) e
 
-  pub participant_none : (code : List ℕ) → find (is_of code) r.accounts.accounts ≡ None → lookup.participant_of (book_of r) code ≡ None
+  pub participant_none : (code : List ℕ) → find (is_of code) r.accounts.accounts ≡ None
+      → lookup.participant_of (book_of r) code ≡ None
   unfolding lookup.participant_of
   participant_none code e = find-participants code r.accounts.accounts ∙ ap (option_map participant_of) e
 
-  pub is_known : (code : List ℕ) (a : Account) → find (is_of code) r.accounts.accounts ≡ Some a → is_participant (book_of r) code ≡ true
+  pub is_known : (code : List ℕ) (a : Account) → find (is_of code) r.accounts.accounts ≡ Some a
+      → is_participant (book_of r) code ≡ true
   unfolding is_participant accounts
   is_known code a e = found_any code r.accounts.accounts a e
 
-  pub is_unknown : (code : List ℕ) → find (is_of code) r.accounts.accounts ≡ None → is_participant (book_of r) code ≡ false
+  pub is_unknown : (code : List ℕ) → find (is_of code) r.accounts.accounts ≡ None
+      → is_participant (book_of r) code ≡ false
   unfolding is_participant accounts
   is_unknown code e = none_any code r.accounts.accounts (none_of code r.accounts.accounts e)
 
-  pub balance_at : (code : List ℕ) (a : Account) → find (is_of code) r.accounts.accounts ≡ Some a → a.balance ≡ balance (book_of r) code
+  pub balance_at : (code : List ℕ) (a : Account) → find (is_of code) r.accounts.accounts ≡ Some a
+      → a.balance ≡ balance (book_of r) code
   balance_at code a e = found_balance (book_of r) code r.accounts.accounts a e kept.balanced
 
   -- the balance is far from the ends of 64 bits
-  pub balance_fits : BalancesFit (book_of r) → (code : List ℕ) (a : Account) → find (is_of code) r.accounts.accounts ≡ Some a → Within LARGEST_BALANCE a.balance
+  pub balance_fits : BalancesFit (book_of r) → (code : List ℕ) (a : Account)
+      → find (is_of code) r.accounts.accounts ≡ Some a → Within LARGEST_BALANCE a.balance
   unfolding accounts
-  balance_fits small code a e = subst (Within LARGEST_BALANCE) (sym (balance_at code a e)) (found_code (λ c. Within LARGEST_BALANCE (balance (book_of r) c)) code r.accounts.accounts a e small)
+  balance_fits small code a e = subst (Within LARGEST_BALANCE) (sym (balance_at code a e))
+      (found_code (λ c. Within LARGEST_BALANCE (balance (book_of r) c)) code r.accounts.accounts a e small)
 
-  pub floor_at : (code : List ℕ) (a : Account) → find (is_of code) r.accounts.accounts ≡ Some a → floor (book_of r) code ≡ (if is_closed r.day.phase then pos 0 else neg_ℤ (pos a.participant.credit))
+  pub floor_at : (code : List ℕ) (a : Account) → find (is_of code) r.accounts.accounts ≡ Some a
+      → floor (book_of r) code ≡ (if is_closed r.day.phase then pos 0 else neg_ℤ (pos a.participant.credit))
   unfolding floor credit_of
   floor_at code a e = rw (participant_at code a e) refl
 
@@ -158,19 +194,27 @@ module _ (r : Records) (kept : IsKept (held_of r)) where
 
 -- room is no part of what is kept
 pub kept_same : (held new : Held) → new.content ≡ held.content → new.accounts ≡ held.accounts → IsKept held → IsKept new
-kept_same held new e f kept = record { sound = rw e kept.sound; balanced = rw (e, f) kept.balanced; fits = rw e kept.fits }
+kept_same held new e f kept = record {
+  sound = rw e kept.sound;
+  balanced = rw (e, f) kept.balanced;
+  fits = rw e kept.fits;
+}
 
 -- the law that amounts stay in their ranges
 abbrev pub StepKeepsRanges : Type 0
-StepKeepsRanges = (old new : Book) (c : Command) (reply : Reply) → CommandFits c → Fits old → Step old c reply new → Fits new
+StepKeepsRanges = (old new : Book) (c : Command) (reply : Reply) → CommandFits c → Fits old → Step old c reply new
+    → Fits new
 
 -- and that books stay sound
 abbrev pub StepKeepsSoundness : Type 0
 StepKeepsSoundness = (old new : Book) (c : Command) (reply : Reply) → IsSound old → Step old c reply new → IsSound new
 
 -- a change that leads on, where the laws say that the book stays sound and in range
-pub prepared_done : (held : Held) (c : Command) (a : Answer) (rows : List RowChange) (book : Book) → IsKept held → StepKeepsRanges → StepKeepsSoundness → CommandFits c → Step held.content c (Ok a) book
-    → Leads held.content rows book → AllByRecursion (StartsEmpty book rows) rows → AreBalanced book (after held rows).accounts → HasRoom held rows → ((k : Known) → a ≡ Repeated k → ⊥) → (a ≡ Nothing → ⊥) → IsPrepared held c a rows
+pub prepared_done : (held : Held) (c : Command) (a : Answer) (rows : List RowChange) (book : Book) → IsKept held
+    → StepKeepsRanges → StepKeepsSoundness → CommandFits c → Step held.content c (Ok a) book
+    → Leads held.content rows book → AllByRecursion (StartsEmpty book rows) rows
+    → AreBalanced book (after held rows).accounts → HasRoom held rows → ((k : Known) → a ≡ Repeated k → ⊥)
+    → (a ≡ Nothing → ⊥) → IsPrepared held c a rows
 prepared_done held c a rows book kept ranges soundness in_range step leads added balanced room new some = record {
   book = book;
   prepares = record {
@@ -197,38 +241,49 @@ self_equal a = by (slice_cmp nat_cmp a a) (nat_list_cmp_total.antisymm a a)
 abbrev code_at : List Participant → ℕ → Participant → List ℕ
 code_at ps i d = (get_or ps i d).code
 
-member_at : (ps : List Participant) (i : ℕ) (d : Participant) → i < length ps → list_any (eq_by_cmp (slice_cmp nat_cmp) (code_at ps i d)) (map (λ (p : Participant). p.code) ps) ≡ true
+member_at : (ps : List Participant) (i : ℕ) (d : Participant) → i < length ps
+    → list_any (eq_by_cmp (slice_cmp nat_cmp) (code_at ps i d)) (map (λ (p : Participant). p.code) ps) ≡ true
 member_at [] i d lt = absurd (omega arith)
 member_at (p ∷ ps) zero d lt = rw (self_equal p.code) refl
-member_at (p ∷ ps) (suc i) d lt = by (eq_by_cmp (slice_cmp nat_cmp) (code_at ps i d) p.code) (member_at ps i d (omega arith))
+member_at (p ∷ ps) (suc i) d lt = by (eq_by_cmp (slice_cmp nat_cmp) (code_at ps i d) p.code)
+    (member_at ps i d (omega arith))
   where
-    by : (b : Bool) → list_any (eq_by_cmp (slice_cmp nat_cmp) (code_at ps i d)) (map (λ (p : Participant). p.code) ps) ≡ true → (b || list_any (eq_by_cmp (slice_cmp nat_cmp) (code_at ps i d)) (map (λ (p : Participant). p.code) ps)) ≡ true
+    by : (b : Bool) → list_any (eq_by_cmp (slice_cmp nat_cmp) (code_at ps i d)) (map (λ (p : Participant). p.code) ps)
+        ≡ true → (b || list_any (eq_by_cmp (slice_cmp nat_cmp) (code_at ps i d)) (map (λ (p : Participant). p.code) ps))
+        ≡ true
     by true e = refl
     by false e = e
 
-all_codes_at : (P : List ℕ → Type 0) (ps : List Participant) (i : ℕ) (d : Participant) → i < length ps → AllByRecursion P (map (λ (p : Participant). p.code) ps) → P (code_at ps i d)
+all_codes_at : (P : List ℕ → Type 0) (ps : List Participant) (i : ℕ) (d : Participant) → i < length ps
+    → AllByRecursion P (map (λ (p : Participant). p.code) ps) → P (code_at ps i d)
 all_codes_at P [] i d lt h = absurd (omega arith)
 all_codes_at P (p ∷ ps) zero d lt h = h.0
 all_codes_at P (p ∷ ps) (suc i) d lt h = all_codes_at P ps i d (omega arith) h.1
 
-module _ (book : Book) (balances : BTreeMap (List ℕ) ℤ) (totals : Totals (slice_cmp nat_cmp) (accounts book) (balance book) balances) (i : ℕ) (d : Participant) (within : i < length book.participants) where
-  pub balance_there : get (slice_cmp nat_cmp) balances (code_at book.participants i d) ≡ Some (balance book (code_at book.participants i d))
+module _ (book : Book) (balances : BTreeMap (List ℕ) ℤ) (totals : Totals (slice_cmp nat_cmp) (accounts book)
+    (balance book) balances) (i : ℕ) (d : Participant) (within : i < length book.participants) where
+  pub balance_there : get (slice_cmp nat_cmp) balances (code_at book.participants i d)
+      ≡ Some (balance book (code_at book.participants i d))
   unfolding accounts
   balance_there = rw (totals (code_at book.participants i d), member_at book.participants i d within) refl
 
   pub balance_there_fits : BalancesFit book → Within LARGEST_BALANCE (balance book (code_at book.participants i d))
   unfolding accounts
-  balance_there_fits small = all_codes_at (λ c. Within LARGEST_BALANCE (balance book c)) book.participants i d within small
+  balance_there_fits small = all_codes_at (λ c. Within LARGEST_BALANCE (balance book c)) book.participants i d within
+      small
 
-pub codes-participants : (xs : List Account) → map code_of xs ≡ map (λ (p : Participant). p.code) (map participant_of xs)
+pub codes-participants : (xs : List Account) → map code_of xs
+    ≡ map (λ (p : Participant). p.code) (map participant_of xs)
 codes-participants [] = refl
 codes-participants (x ∷ xs) = λ i. code_of x ∷ codes-participants xs i
 
-pub loaded_in_order : (book : Book) (xs : List Account) → map participant_of xs ≡ book.participants → IsSound book → AreInCodeOrder xs
+pub loaded_in_order : (book : Book) (xs : List Account) → map participant_of xs ≡ book.participants → IsSound book
+    → AreInCodeOrder xs
 unfolding accounts
 loaded_in_order book xs e sound = rw (codes-participants xs, e) sound.codes_rise.0
 
-pub loaded_kept : (book : Book) (r : Records) → book_of r ≡ book → IsSound book → Fits book → AreBalanced book r.accounts.accounts → IsKept (held_of r)
+pub loaded_kept : (book : Book) (r : Records) → book_of r ≡ book → IsSound book → Fits book
+    → AreBalanced book r.accounts.accounts → IsKept (held_of r)
 loaded_kept book r e sound fits balanced = record {
   sound = subst IsSound (sym e) sound;
   balanced = subst (λ b. AreBalanced b r.accounts.accounts) (sym e) balanced;

@@ -24,7 +24,8 @@ use Rattle.rtgs_ledger.proofs.Kept.{StepKeepsRanges, StepKeepsSoundness, prepare
 use Rattle.rtgs_ledger.proofs.Lists.{every}
 
 module _ (book : Book) (date : ℕ) where
-  pub repeats : (is_open book.day.phase && is_date book.day.date date) ≡ true → Step book (OpenDay date) (Ok (Repeated Nothing)) book
+  pub repeats : (is_open book.day.phase && is_date book.day.date date) ≡ true
+      → Step book (OpenDay date) (Ok (Repeated Nothing)) book
   unfolding open_day first_of
   repeats same = rw same refl
 
@@ -33,15 +34,18 @@ module _ (book : Book) (date : ℕ) where
     unfolding open_day first_of
     wrong_phase not_closed = rw (new, not_closed) refl
 
-    pub wrong_date : is_closed book.day.phase ≡ true → is_later date book.day.date ≡ false → Step book (OpenDay date) (Err WrongDate) book
+    pub wrong_date : is_closed book.day.phase ≡ true → is_later date book.day.date ≡ false
+        → Step book (OpenDay date) (Err WrongDate) book
     unfolding open_day first_of
     wrong_date closed early = rw (new, closed, early) refl
 
-    pub weekend : is_closed book.day.phase ≡ true → is_later date book.day.date ≡ true → is_weekend date ≡ true → Step book (OpenDay date) (Err Weekend) book
+    pub weekend : is_closed book.day.phase ≡ true → is_later date book.day.date ≡ true → is_weekend date ≡ true
+        → Step book (OpenDay date) (Err Weekend) book
     unfolding open_day first_of
     weekend closed later free = rw (new, closed, later, free) refl
 
-    pub opens : is_closed book.day.phase ≡ true → is_later date book.day.date ≡ true → is_weekend date ≡ false → Step book (OpenDay date) (Ok Opened) (with_day book (record { date = Some date; phase = Open }))
+    pub opens : is_closed book.day.phase ≡ true → is_later date book.day.date ≡ true → is_weekend date ≡ false
+        → Step book (OpenDay date) (Ok Opened) (with_day book (record { date = Some date; phase = Open }))
     unfolding open_day first_of
     opens closed later working = rw (new, closed, later, working) refl
 
@@ -56,11 +60,17 @@ module _ (held : Held) (kept : IsKept held) (date : ℕ) where
   leads_to_it : Leads held.content (SetDay day ∷ []) (with_day held.content day)
   leads_to_it = record {
     book = refl;
-    balances = every (λ c. balance_set c (SetDay day ∷ []) ≡ (if int_eq (balance held.content c) (balance (with_day held.content day) c) then None else Some (balance (with_day held.content day) c))) (λ c. rw (← balance_same c, same_int (balance held.content c)) refl) (accounts (with_day held.content day));
+    balances = every (λ c. balance_set c (SetDay day ∷ []) ≡ (if int_eq (balance held.content c)
+        (balance (with_day held.content day) c) then None else Some (balance (with_day held.content day) c)))
+        (λ c. rw (← balance_same c, same_int (balance held.content c)) refl) (accounts (with_day held.content day));
   }
 
-  pub prepared_open : StepKeepsRanges → StepKeepsSoundness → (is_open held.content.day.phase && is_date held.content.day.date date) ≡ false → is_closed held.content.day.phase ≡ true → is_later date held.content.day.date ≡ true → is_weekend date ≡ false
+  pub prepared_open : StepKeepsRanges → StepKeepsSoundness → (is_open held.content.day.phase && is_date
+      held.content.day.date date) ≡ false → is_closed held.content.day.phase ≡ true
+      → is_later date held.content.day.date ≡ true → is_weekend date ≡ false
       → IsPrepared held (OpenDay date) Opened (SetDay day ∷ [])
   prepared_open ranges soundness new closed later working =
-      prepared_done held (OpenDay date) Opened (SetDay day ∷ []) (with_day held.content day) kept ranges soundness tt (opens held.content date new closed later working) leads_to_it (tt, tt)
-      (all_same (balance held.content) (balance (with_day held.content day)) balance_same held.accounts kept.balanced) (tt, tt) (λ k e. absurd (cc)) (λ e. absurd (cc))
+      prepared_done held (OpenDay date) Opened (SetDay day ∷ []) (with_day held.content day) kept ranges soundness tt
+      (opens held.content date new closed later working) leads_to_it (tt, tt)
+      (all_same (balance held.content) (balance (with_day held.content day)) balance_same held.accounts kept.balanced)
+      (tt, tt) (λ k e. absurd (cc)) (λ e. absurd (cc))

@@ -1,5 +1,8 @@
 -- What an order comes to, test by test, and its change.
-use Rattle.std.proofs.Common.{◌≡◌, ℕ, ◌+◌, ◌≤◌, ℤ, pos, ◌+ℤ◌, ◌-ℤ◌, Bool, true, false, not, ◌&&◌, if◌then◌else◌, nat_le, ◌==◌, List, [], ◌∷◌, ◌++◌, map, filter, length, find, Option, unwrap_or, is_some, IsTrue, int_le, Ok, Err, Some, None, refl, sym, ap, subst, ◌∙◌, true≢false, length-append, zero-add, arith}
+use Rattle.std.proofs.Common.{◌≡◌, ℕ, ◌+◌, ◌≤◌, ℤ, pos, ◌+ℤ◌, ◌-ℤ◌, Bool, true, false, not, ◌&&◌, if◌then◌else◌, nat_le}
+use Rattle.std.proofs.Common.{◌==◌, List, [], ◌∷◌, ◌++◌, map, filter, length, find, Option, unwrap_or, is_some, IsTrue}
+use Rattle.std.proofs.Common.{int_le, Ok, Err, Some, None, refl, sym, ap, subst, ◌∙◌, true≢false, length-append}
+use Rattle.std.proofs.Common.{zero-add, arith}
 use Rattle.std.proofs.lemmas.Int.{ints}
 use Rattle.std.proofs.lemmas.Bool.Decides.{nat_tests}
 use Rattle.std.proofs.lemmas.List.{length-map, map-append}
@@ -12,7 +15,8 @@ use Rattle.rtgs_money.specs.Amounts.{IsAmount}
 use Rattle.rtgs_book.specs.declared.command.Command.TheVariants as command
 use Rattle.rtgs_book.specs.declared.answer.Answer.TheVariants as answer
 use Rattle.rtgs_book.specs.declared.answer.Known.TheVariants as known
-use Rattle.rtgs_book.specs.declared.refusal.Refusal.TheVariants.{UnknownParticipant, ReferenceUsed, NotOpen, UnknownReceiver, SameParty, NumbersUsedUp, QueueFull}
+use Rattle.rtgs_book.specs.declared.refusal.Refusal.TheVariants.{UnknownParticipant, ReferenceUsed, NotOpen}
+use Rattle.rtgs_book.specs.declared.refusal.Refusal.TheVariants.{UnknownReceiver, SameParty, NumbersUsedUp, QueueFull}
 use Rattle.rtgs_book.specs.declared.change.RowChange.{RowChange}
 use Rattle.rtgs_book.specs.declared.change.RowChange.TheVariants.{AddOrder, AddMark, SetBalance}
 use Rattle.rtgs_book.specs.declared.book.Book.{Book}
@@ -40,60 +44,87 @@ use Rattle.rtgs_ledger.specs.Held.{Held}
 use Rattle.rtgs_ledger.specs.Kept.{IsKept, IsPrepared}
 use Rattle.rtgs_ledger.specs.Ordering.{IsTaken}
 use Rattle.rtgs_ledger.proofs.Balances.{same_int, other_int, moved, all_moved, all_same, balance-with_order}
-use Rattle.rtgs_ledger.proofs.Kept.{StepKeepsRanges, StepKeepsSoundness, found_balance, found_is, is_known, balance_at, floor_at as floor_is, prepared_done}
+use Rattle.rtgs_ledger.proofs.Kept.{StepKeepsRanges, StepKeepsSoundness, found_balance, found_is, is_known, balance_at}
+use Rattle.rtgs_ledger.proofs.Kept.{floor_at as floor_is, prepared_done}
 use Rattle.rtgs_ledger.proofs.Lists.{every, filter_none, self_number}
 
 module _ (book : Book) (sender reference receiver : List ℕ) (amount : ℕ) where
-  pub unknown : is_participant book sender ≡ false → Step book (command.Order sender reference receiver amount) (Err UnknownParticipant) book
+  pub unknown : is_participant book sender ≡ false → Step book (command.Order sender reference receiver amount)
+      (Err UnknownParticipant) book
   unfolding order first_of
   unknown e = rw e refl
 
-  pub repeats : is_participant book sender ≡ true → (o : Order) → order_named book sender reference ≡ Some o → (bytes_eq o.receiver receiver && (o.amount == amount)) ≡ true → Step book (command.Order sender reference receiver amount) (Ok (answer.Repeated (known.Order o.number o.state))) book
+  pub repeats : is_participant book sender ≡ true → (o : Order) → order_named book sender reference ≡ Some o
+      → (bytes_eq o.receiver receiver && (o.amount == amount)) ≡ true
+      → Step book (command.Order sender reference receiver amount) (Ok (answer.Repeated (known.Order o.number o.state)))
+      book
   unfolding order first_of
   repeats e o found same = rw (e, found, same) refl
 
-  pub reference_used : is_participant book sender ≡ true → (o : Order) → order_named book sender reference ≡ Some o → (bytes_eq o.receiver receiver && (o.amount == amount)) ≡ false → Step book (command.Order sender reference receiver amount) (Err ReferenceUsed) book
+  pub reference_used : is_participant book sender ≡ true → (o : Order) → order_named book sender reference ≡ Some o
+      → (bytes_eq o.receiver receiver && (o.amount == amount)) ≡ false
+      → Step book (command.Order sender reference receiver amount) (Err ReferenceUsed) book
   unfolding order first_of
   reference_used e o found other = rw (e, found, other) refl
 
   module _ (known : is_participant book sender ≡ true) (unused : order_named book sender reference ≡ None) where
-    pub not_open : is_open book.day.phase ≡ false → Step book (command.Order sender reference receiver amount) (Err NotOpen) book
+    pub not_open : is_open book.day.phase ≡ false → Step book (command.Order sender reference receiver amount)
+        (Err NotOpen) book
     unfolding order first_of
     not_open shut = rw (known, unused, shut) refl
 
     module _ (opened : is_open book.day.phase ≡ true) where
-      pub unknown_receiver : is_participant book receiver ≡ false → Step book (command.Order sender reference receiver amount) (Err UnknownReceiver) book
+      pub unknown_receiver : is_participant book receiver ≡ false
+          → Step book (command.Order sender reference receiver amount) (Err UnknownReceiver) book
       unfolding order first_of
       unknown_receiver e = rw (known, unused, opened, e) refl
 
       module _ (there : is_participant book receiver ≡ true) where
-        pub same_party : bytes_eq sender receiver ≡ true → Step book (command.Order sender reference receiver amount) (Err SameParty) book
+        pub same_party : bytes_eq sender receiver ≡ true → Step book (command.Order sender reference receiver amount)
+            (Err SameParty) book
         unfolding order first_of
         same_party same = rw (known, unused, opened, there, same) refl
 
         module _ (apart : bytes_eq sender receiver ≡ false) where
-          pub numbers_used_up : nat_le LARGEST_NUMBER (length book.orders) ≡ true → Step book (command.Order sender reference receiver amount) (Err NumbersUsedUp) book
+          pub numbers_used_up : nat_le LARGEST_NUMBER (length book.orders) ≡ true
+              → Step book (command.Order sender reference receiver amount) (Err NumbersUsedUp) book
           unfolding order first_of
           numbers_used_up many = rw (known, unused, opened, there, apart, many) refl
 
-          pub queue_full : nat_le LARGEST_NUMBER (length book.orders) ≡ false → settles_at_once book sender amount ≡ false → nat_le LONGEST_QUEUE (length (queue book sender)) ≡ true → Step book (command.Order sender reference receiver amount) (Err QueueFull) book
+          pub queue_full : nat_le LARGEST_NUMBER (length book.orders) ≡ false
+              → settles_at_once book sender amount ≡ false → nat_le LONGEST_QUEUE (length (queue book sender)) ≡ true
+              → Step book (command.Order sender reference receiver amount) (Err QueueFull) book
           unfolding order first_of
           queue_full few waits full = rw (known, unused, opened, there, apart, few, waits, full) refl
 
-          taken : nat_le LARGEST_NUMBER (length book.orders) ≡ false → (not (settles_at_once book sender amount) && nat_le LONGEST_QUEUE (length (queue book sender))) ≡ false → order book sender reference receiver amount ≡ takes book (new_order book sender reference receiver amount)
+          taken : nat_le LARGEST_NUMBER (length book.orders) ≡ false
+              → (not (settles_at_once book sender amount) && nat_le LONGEST_QUEUE (length (queue book sender))) ≡ false
+              → order book sender reference receiver amount ≡ takes book
+              (new_order book sender reference receiver amount)
           unfolding order first_of
           taken few room = rw (known, unused, opened, there, apart, few, room) refl
 
-          pub is_taken : IsAmount amount → nat_le LARGEST_NUMBER (length book.orders) ≡ false → (not (settles_at_once book sender amount) && nat_le LONGEST_QUEUE (length (queue book sender))) ≡ false → IsTaken book (new_order book sender reference receiver amount)
-          is_taken fits few room = record { next = refl; unused = unused; fits = fits; apart = apart; taken = taken few room }
+          pub is_taken : IsAmount amount → nat_le LARGEST_NUMBER (length book.orders) ≡ false
+              → (not (settles_at_once book sender amount) && nat_le LONGEST_QUEUE (length (queue book sender))) ≡ false
+              → IsTaken book (new_order book sender reference receiver amount)
+          is_taken fits few room = record {
+            next = refl;
+            unused = unused;
+            fits = fits;
+            apart = apart;
+            taken = taken few room;
+          }
 
 -- ---- its sender's queue
 
-pub queued_length : (book : Book) (sender : List ℕ) → length (queued_numbers book.orders sender) ≡ length (queue book sender)
+pub queued_length : (book : Book) (sender : List ℕ) → length (queued_numbers book.orders sender)
+    ≡ length (queue book sender)
 unfolding queue
-queued_length book sender = length-map (filter (λ o. is_queued o && bytes_eq o.sender sender) book.orders) (λ (o : Order). o.number)
+queued_length book sender = length-map (filter (λ o. is_queued o && bytes_eq o.sender sender) book.orders)
+    (λ (o : Order). o.number)
 
-pub queued_none : (book : Book) (sender : List ℕ) → is_empty (queued_numbers book.orders sender) ≡ is_empty (queue book sender)
+pub queued_none : (book : Book) (sender : List ℕ) → is_empty (queued_numbers book.orders sender)
+    ≡ is_empty (queue book sender)
 unfolding queue
 queued_none book sender = by (filter (λ o. is_queued o && bytes_eq o.sender sender) book.orders)
   where
@@ -116,48 +147,83 @@ pub is_day : (b : Bool) (day : Option ℕ) (date : ℕ) → (if b then day else 
 is_day true day date e = e
 is_day false day date e = absurd (let f : None ≡ Some date = e in cc)
 
-pub is_shut : (b : Bool) (day : Option ℕ) → (if b then day else None) ≡ None → (b ≡ true → IsTrue (is_some day)) → b ≡ false
+pub is_shut : (b : Bool) (day : Option ℕ) → (if b then day else None) ≡ None → (b ≡ true → IsTrue (is_some day))
+    → b ≡ false
 is_shut true None e dated = absurd (true≢false (sym (dated refl)))
 is_shut true (Some date) e dated = absurd (let f : Some date ≡ None = e in cc)
 is_shut false day e dated = refl
 
 module _ (r : Records) (kept : IsKept (held_of r)) where
   pub shut_now : (if is_open r.day.phase then r.day.date else None) ≡ None → is_open r.day.phase ≡ false
-  shut_now e = is_shut (is_open r.day.phase) r.day.date e (λ opened. let s = kept.sound in s.dates.dated (open_not_closed r.day.phase opened))
+  shut_now e = is_shut (is_open r.day.phase) r.day.date e (λ opened. let s = kept.sound
+      in s.dates.dated (open_not_closed r.day.phase opened))
 
-  pub open_now : (date : ℕ) → (if is_open r.day.phase then r.day.date else None) ≡ Some date → is_open r.day.phase ≡ true
+  pub open_now : (date : ℕ) → (if is_open r.day.phase then r.day.date else None) ≡ Some date
+      → is_open r.day.phase ≡ true
   open_now date e = is_opened (is_open r.day.phase) r.day.date date e
 
   pub is_today : (date : ℕ) → (if is_open r.day.phase then r.day.date else None) ≡ Some date → r.day.date ≡ Some date
   is_today date e = is_day (is_open r.day.phase) r.day.date date e
 
-  pub settles_is : (sender : List ℕ) (debtor : Account) (amount : ℕ) → find (is_of sender) r.accounts.accounts ≡ Some debtor
-      → settles_at_once (book_of r) sender amount ≡ (is_empty (queued_numbers r.orders.orders (code_of debtor)) && int_le (floor_at r.day.phase debtor.participant.credit) (debtor.balance -ℤ pos amount))
+  pub settles_is : (sender : List ℕ) (debtor : Account) (amount : ℕ)
+      → find (is_of sender) r.accounts.accounts ≡ Some debtor
+      → settles_at_once (book_of r) sender amount ≡ (is_empty (queued_numbers r.orders.orders (code_of debtor)) &&
+      int_le (floor_at r.day.phase debtor.participant.credit) (debtor.balance -ℤ pos amount))
   unfolding settles_at_once
   settles_is sender debtor amount from =
-      rw (floor_is r kept sender debtor from, ← balance_at r kept sender debtor from, found_is sender r.accounts.accounts debtor from, queued_none (book_of r) sender) refl
+      rw (
+        floor_is r kept sender debtor from,
+        ← balance_at r kept sender debtor from,
+        found_is sender
+            r.accounts.accounts debtor from,
+        queued_none (book_of r) sender,
+      ) refl
 
   -- the next order, where no test but the last refuses it
-  pub taken_now : (sender reference receiver : List ℕ) (amount date : ℕ) (debtor creditor : Account) → find (is_of sender) r.accounts.accounts ≡ Some debtor → order_named (book_of r) sender reference ≡ None → (if is_open r.day.phase then r.day.date else None) ≡ Some date
-      → find (is_of receiver) r.accounts.accounts ≡ Some creditor → bytes_eq sender receiver ≡ false → nat_le LARGEST_NUMBER (length r.orders.orders) ≡ false → IsAmount amount
-      → (not (settles_at_once (book_of r) sender amount) && nat_le LONGEST_QUEUE (length (queue (book_of r) sender))) ≡ false
-      → IsTaken (book_of r) (record { number = length r.orders.orders + 1; sender = sender; reference = reference; receiver = receiver; amount = amount; date = date; state = Queued })
+  pub taken_now : (sender reference receiver : List ℕ) (amount date : ℕ) (debtor creditor : Account)
+      → find (is_of sender) r.accounts.accounts ≡ Some debtor → order_named (book_of r) sender reference ≡ None
+      → (if is_open r.day.phase then r.day.date else None) ≡ Some date
+      → find (is_of receiver) r.accounts.accounts ≡ Some creditor → bytes_eq sender receiver ≡ false
+      → nat_le LARGEST_NUMBER (length r.orders.orders) ≡ false → IsAmount amount
+      → (not (settles_at_once (book_of r) sender amount) && nat_le LONGEST_QUEUE (length (queue (book_of r) sender)))
+      ≡ false
+      → IsTaken (book_of r) (record {
+        number = length r.orders.orders + 1;
+        sender = sender;
+        reference = reference;
+        receiver = receiver;
+        amount = amount;
+        date = date;
+        state = Queued;
+      })
   taken_now sender reference receiver amount date debtor creditor from unused day to apart few fits room =
-      let today_is : today (book_of r) ≡ date = ap (λ (d : Option ℕ). unwrap_or d 0) (is_day (is_open r.day.phase) r.day.date date day) in
-      subst (IsTaken (book_of r)) (λ i. record { number = length r.orders.orders + 1; sender = sender; reference = reference; receiver = receiver; amount = amount; date = today_is i; state = Queued })
-      (is_taken (book_of r) sender reference receiver amount (is_known r kept sender debtor from) unused (open_now date day) (is_known r kept receiver creditor to) apart fits few room)
+      let today_is : today (book_of r) ≡ date = ap (λ (d : Option ℕ). unwrap_or d 0)
+      (is_day (is_open r.day.phase) r.day.date date day) in
+      subst (IsTaken (book_of r)) (λ i. record {
+        number = length r.orders.orders + 1;
+        sender = sender;
+        reference = reference;
+        receiver = receiver;
+        amount = amount;
+        date = today_is i;
+        state = Queued;
+      })
+      (is_taken (book_of r) sender reference receiver amount (is_known r kept sender debtor from) unused
+      (open_now date day) (is_known r kept receiver creditor to) apart fits few room)
 
 -- ---- the book after it
 
 -- numbers that rise from one on come before the number after them
-later_number : (number k : ℕ) (os : List Order) → map (λ (o : Order). o.number) os ≡ range_with_len k (length os) → k + length os ≤ number → AllByRecursion (λ o. has_number number o ≡ false) os
+later_number : (number k : ℕ) (os : List Order) → map (λ (o : Order). o.number) os ≡ range_with_len k (length os)
+    → k + length os ≤ number → AllByRecursion (λ o. has_number number o ≡ false) os
 later_number number k [] e le = tt
 later_number number k (o ∷ os) e le =
     let first : o.number ≡ k = cc in
     let rest : map (λ (o : Order). o.number) os ≡ range_with_len (k + 1) (length os) = cc in
     (grind (arith, nat_tests), later_number number (k + 1) os rest (omega arith))
 
-map_none : (is_in : Order → Bool) (state : OrderState) (os : List Order) → AllByRecursion (λ o. is_in o ≡ false) os → map (restated is_in state) os ≡ os
+map_none : (is_in : Order → Bool) (state : OrderState) (os : List Order) → AllByRecursion (λ o. is_in o ≡ false) os
+    → map (restated is_in state) os ≡ os
 map_none is_in state [] h = refl
 map_none is_in state (o ∷ os) h = rw h.0 (ap (λ xs. o ∷ xs) (map_none is_in state os h.1))
 
@@ -166,12 +232,17 @@ abbrev pub settled_order : Book → Order → Order
 settled_order book o = record o { state = Settled (next_mark book) }
 
 abbrev pub with_settled : Book → Order → Book
-with_settled book o = record book { orders = book.orders ++ settled_order book o ∷ []; marks = book.marks ++ mark_of book (o ∷ []) ∷ [] }
+with_settled book o = record book {
+  orders = book.orders ++ settled_order book o ∷ [];
+  marks = book.marks ++ mark_of book (o ∷ []) ∷ [];
+}
 
-settle_new : (book : Book) → OrdersAreNumbered book → (o : Order) → o.number ≡ length book.orders + 1 → settle (with_order book o) (has_number o.number) ≡ with_settled book o
+settle_new : (book : Book) → OrdersAreNumbered book → (o : Order) → o.number ≡ length book.orders + 1
+    → settle (with_order book o) (has_number o.number) ≡ with_settled book o
 unfolding settle mark_of
 settle_new book numbered o next =
-    let others = later_number o.number 1 book.orders (numbered.0 ∙ ap (range_with_len 1) (length-map book.orders (λ (o : Order). o.number))) (omega arith) in
+    let others = later_number o.number 1 book.orders (numbered.0
+    ∙ ap (range_with_len 1) (length-map book.orders (λ (o : Order). o.number))) (omega arith) in
     rw (
       filter-append (has_number o.number) book.orders (o ∷ []),
       map-append (restated (has_number o.number) (Settled (next_mark book))) book.orders (o ∷ []),
@@ -180,9 +251,15 @@ settle_new book numbered o next =
       self_number o.number,
     ) refl
 
-pub one_mark : (book : Book) (o : Order) → o ≡ new_order book o.sender o.reference o.receiver o.amount → mark_of book (o ∷ []) ≡ record { number = length book.marks + 1; date = o.date; count = 1; value = pos o.amount }
+pub one_mark : (book : Book) (o : Order) → o ≡ new_order book o.sender o.reference o.receiver o.amount
+    → mark_of book (o ∷ []) ≡ record { number = length book.marks + 1; date = o.date; count = 1; value = pos o.amount }
 unfolding mark_of
-one_mark book o next = λ i. record { number = length book.marks + 1; date = ap (λ (x : Order). x.date) (sym next) i; count = 1; value = pos (zero-add o.amount i) }
+one_mark book o next = λ i. record {
+  number = length book.marks + 1;
+  date = ap (λ (x : Order). x.date) (sym next) i;
+  count = 1;
+  value = pos (zero-add o.amount i);
+}
 
 -- ---- its change
 
@@ -196,87 +273,142 @@ module _ (held : Held) (kept : IsKept held) (o : Order) (taken : IsTaken held.co
   queued_place : length (queue (with_order held.content o) o.sender) ≡ length (queue held.content o.sender) + 1
   unfolding queue
   queued_place =
-      let here : (is_queued o && bytes_eq o.sender o.sender) ≡ true = rw (ap is_queued taken.next, (bytes_decides o.sender o.sender).1 refl) refl in
-      rw (filter-append (λ x. is_queued x && bytes_eq x.sender o.sender) held.content.orders (o ∷ []), here) (length-append (filter (λ x. is_queued x && bytes_eq x.sender o.sender) held.content.orders) (o ∷ []))
+      let here : (is_queued o && bytes_eq o.sender o.sender)
+      ≡ true = rw (ap is_queued taken.next, (bytes_decides o.sender o.sender).1 refl) refl in
+      rw (filter-append (λ x. is_queued x && bytes_eq x.sender o.sender) held.content.orders (o ∷ []), here)
+      (length-append (filter (λ x. is_queued x && bytes_eq x.sender o.sender) held.content.orders) (o ∷ []))
 
-  step_queued : settles_at_once held.content o.sender o.amount ≡ false → Step held.content (command.Order o.sender o.reference o.receiver o.amount) (Ok (answer.Queued o.number (length (queue held.content o.sender) + 1))) (with_order held.content o)
+  step_queued : settles_at_once held.content o.sender o.amount ≡ false
+      → Step held.content (command.Order o.sender o.reference o.receiver o.amount)
+      (Ok (answer.Queued o.number (length (queue held.content o.sender) + 1))) (with_order held.content o)
   unfolding takes
   step_queued waits = rw (taken.taken, waits, queued_place) refl
 
-  step_settled : settles_at_once held.content o.sender o.amount ≡ true → Step held.content (command.Order o.sender o.reference o.receiver o.amount) (Ok (answer.Settled o.number (next_mark held.content))) (with_settled held.content o)
+  step_settled : settles_at_once held.content o.sender o.amount ≡ true
+      → Step held.content (command.Order o.sender o.reference o.receiver o.amount)
+      (Ok (answer.Settled o.number (next_mark held.content))) (with_settled held.content o)
   unfolding takes
-  step_settled settles = rw (taken.taken, settles, settle_new held.content (let s = kept.sound in s.orders_numbered) o number) refl
+  step_settled settles = rw (
+    taken.taken,
+    settles,
+    settle_new held.content (let s = kept.sound in s.orders_numbered) o
+        number,
+  ) refl
 
   same_balance : (c : List ℕ) → balance held.content c ≡ balance (with_order held.content o) c
   same_balance c =
       let queued : is_settled o ≡ false = ap is_settled taken.next in
       sym (rw (balance-with_order held.content o held.content.marks c, queued) (omega (arith, ints)))
 
-  pub prepared_queued : StepKeepsRanges → StepKeepsSoundness → settles_at_once held.content o.sender o.amount ≡ false → 1 ≤ held.room.orders → held.room.awaited_order ≡ Some (o.sender, o.reference)
-      → IsPrepared held (command.Order o.sender o.reference o.receiver o.amount) (answer.Queued o.number (length (queue held.content o.sender) + 1)) (AddOrder o ∷ [])
+  pub prepared_queued : StepKeepsRanges → StepKeepsSoundness → settles_at_once held.content o.sender o.amount ≡ false
+      → 1 ≤ held.room.orders → held.room.awaited_order ≡ Some (o.sender, o.reference)
+      → IsPrepared held (command.Order o.sender o.reference o.receiver o.amount)
+      (answer.Queued o.number (length (queue held.content o.sender) + 1)) (AddOrder o ∷ [])
   prepared_queued ranges soundness waits room awaited =
       let leads : Leads held.content (AddOrder o ∷ []) (with_order held.content o) = record {
         book = refl;
-        balances = every (λ c. balance_set c (AddOrder o ∷ []) ≡ (if int_eq (balance held.content c) (balance (with_order held.content o) c) then None else Some (balance (with_order held.content o) c))) (λ c. rw (← same_balance c, same_int (balance held.content c)) refl) (accounts (with_order held.content o));
+        balances = every (λ c. balance_set c (AddOrder o ∷ [])
+            ≡ (if int_eq (balance held.content c) (balance (with_order held.content o) c) then None else Some
+            (balance (with_order held.content o) c))) (λ c. rw (← same_balance c, same_int (balance held.content c))
+            refl) (accounts (with_order held.content o));
       } in
-      prepared_done held (command.Order o.sender o.reference o.receiver o.amount) (answer.Queued o.number (length (queue held.content o.sender) + 1)) (AddOrder o ∷ []) (with_order held.content o) kept ranges soundness taken.fits (step_queued waits) leads (tt, tt)
+      prepared_done held (command.Order o.sender o.reference o.receiver o.amount)
+      (answer.Queued o.number (length (queue held.content o.sender) + 1)) (AddOrder o ∷ [])
+      (with_order held.content o) kept ranges soundness taken.fits (step_queued waits) leads (tt, tt)
       (all_same (balance held.content) (balance (with_order held.content o)) same_balance held.accounts kept.balanced)
       ((room, awaited, number), tt) (λ k e. absurd (cc)) (λ e. absurd (cc))
 
-  moves : (c : List ℕ) → balance (with_settled held.content o) c ≡ balance held.content c +ℤ ((if bytes_eq o.receiver c then pos o.amount else pos 0) -ℤ (if bytes_eq o.sender c then pos o.amount else pos 0))
+  moves : (c : List ℕ) → balance (with_settled held.content o) c
+      ≡ balance held.content c +ℤ ((if bytes_eq o.receiver c then pos o.amount else pos 0) -ℤ
+      (if bytes_eq o.sender c then pos o.amount else pos 0))
   unfolding gain
-  moves c = balance-with_order held.content (settled_order held.content o) (held.content.marks ++ mark_of held.content (o ∷ []) ∷ []) c
+  moves c = balance-with_order held.content (settled_order held.content o)
+      (held.content.marks ++ mark_of held.content (o ∷ []) ∷ []) c
 
-  moves_at : (c : List ℕ) (a b : Bool) → bytes_eq o.receiver c ≡ a → bytes_eq o.sender c ≡ b → balance (with_settled held.content o) c ≡ balance held.content c +ℤ ((if a then pos o.amount else pos 0) -ℤ (if b then pos o.amount else pos 0))
+  moves_at : (c : List ℕ) (a b : Bool) → bytes_eq o.receiver c ≡ a → bytes_eq o.sender c ≡ b
+      → balance (with_settled held.content o) c ≡ balance held.content c +ℤ
+      ((if a then pos o.amount else pos 0) -ℤ (if b then pos o.amount else pos 0))
   moves_at c a b e f =
-      subst (λ x. balance (with_settled held.content o) c ≡ balance held.content c +ℤ ((if a then pos o.amount else pos 0) -ℤ (if x then pos o.amount else pos 0))) f
-      (subst (λ x. balance (with_settled held.content o) c ≡ balance held.content c +ℤ ((if x then pos o.amount else pos 0) -ℤ (if bytes_eq o.sender c then pos o.amount else pos 0))) e (moves c))
+      subst (λ x. balance (with_settled held.content o) c ≡ balance held.content c +ℤ
+      ((if a then pos o.amount else pos 0) -ℤ (if x then pos o.amount else pos 0))) f
+      (subst (λ x. balance (with_settled held.content o) c ≡ balance held.content c +ℤ
+      ((if x then pos o.amount else pos 0) -ℤ (if bytes_eq o.sender c then pos o.amount else pos 0))) e (moves c))
 
   -- no code is that of both
   not_both : (c : List ℕ) → bytes_eq o.receiver c ≡ true → bytes_eq o.sender c ≡ false
   not_both c e = subst (λ x. bytes_eq o.sender x ≡ false) ((bytes_decides o.receiver c).0 e) taken.apart
 
-  module _ (debtor creditor : Account) (from : find (is_of o.sender) held.accounts ≡ Some debtor) (to : find (is_of o.receiver) held.accounts ≡ Some creditor) (less more : ℤ) (is_less : less ≡ debtor.balance -ℤ pos o.amount) (is_more : more ≡ creditor.balance +ℤ pos o.amount) where
-    balance_of_sender : (c : List ℕ) → bytes_eq o.receiver c ≡ false → bytes_eq o.sender c ≡ true → less ≡ balance (with_settled held.content o) c
+  module _ (debtor creditor : Account) (from : find (is_of o.sender) held.accounts ≡ Some debtor)
+      (to : find (is_of o.receiver) held.accounts ≡ Some creditor) (less more : ℤ)
+      (is_less : less ≡ debtor.balance -ℤ pos o.amount) (is_more : more ≡ creditor.balance +ℤ pos o.amount) where
+    balance_of_sender : (c : List ℕ) → bytes_eq o.receiver c ≡ false → bytes_eq o.sender c ≡ true
+        → less ≡ balance (with_settled held.content o) c
     balance_of_sender c e f =
-        let old : debtor.balance ≡ balance held.content c = found_balance held.content o.sender held.accounts debtor from kept.balanced ∙ ap (balance held.content) ((bytes_decides o.sender c).0 f) in
+        let old : debtor.balance ≡ balance held.content c = found_balance held.content o.sender held.accounts debtor
+        from kept.balanced ∙ ap (balance held.content) ((bytes_decides o.sender c).0 f) in
         let new = moves_at c false true e f in
         omega (arith, ints)
 
     balance_of_receiver : (c : List ℕ) → bytes_eq o.receiver c ≡ true → more ≡ balance (with_settled held.content o) c
     balance_of_receiver c e =
-        let old : creditor.balance ≡ balance held.content c = found_balance held.content o.receiver held.accounts creditor to kept.balanced ∙ ap (balance held.content) ((bytes_decides o.receiver c).0 e) in
+        let old : creditor.balance ≡ balance held.content c =
+        found_balance held.content o.receiver held.accounts creditor to kept.balanced
+        ∙ ap (balance held.content) ((bytes_decides o.receiver c).0 e) in
         let new = moves_at c true false e (not_both c e) in
         omega (arith, ints)
 
-    balance_of_other : (c : List ℕ) → bytes_eq o.receiver c ≡ false → bytes_eq o.sender c ≡ false → balance held.content c ≡ balance (with_settled held.content o) c
+    balance_of_other : (c : List ℕ) → bytes_eq o.receiver c ≡ false → bytes_eq o.sender c ≡ false
+        → balance held.content c ≡ balance (with_settled held.content o) c
     balance_of_other c e f = let new = moves_at c false false e f in omega (arith, ints)
 
-    is_moved : (c : List ℕ) → moved o.receiver more (moved o.sender less (balance held.content)) c ≡ balance (with_settled held.content o) c
+    is_moved : (c : List ℕ) → moved o.receiver more (moved o.sender less (balance held.content)) c
+        ≡ balance (with_settled held.content o) c
     is_moved c = by (bytes_eq o.receiver c) (bytes_eq o.sender c) refl refl
       where
-        by : (a b : Bool) → bytes_eq o.receiver c ≡ a → bytes_eq o.sender c ≡ b → (if a then more else (if b then less else balance held.content c)) ≡ balance (with_settled held.content o) c
+        by : (a b : Bool) → bytes_eq o.receiver c ≡ a → bytes_eq o.sender c ≡ b
+            → (if a then more else (if b then less else balance held.content c))
+            ≡ balance (with_settled held.content o) c
         by true b e f = balance_of_receiver c e
         by false true e f = balance_of_sender c e f
         by false false e f = balance_of_other c e f
 
     abbrev pub rows : List RowChange
-    rows = AddOrder (settled_order held.content o) ∷ AddMark (mark_of held.content (o ∷ [])) ∷ SetBalance o.sender less ∷ SetBalance o.receiver more ∷ []
+    rows = AddOrder (settled_order held.content o) ∷ AddMark (mark_of held.content (o ∷ [])) ∷ SetBalance o.sender less
+        ∷ SetBalance o.receiver more ∷ []
 
-    sets : 1 ≤ o.amount → (c : List ℕ) → balance_set c rows ≡ (if int_eq (balance held.content c) (balance (with_settled held.content o) c) then None else Some (balance (with_settled held.content o) c))
+    sets : 1 ≤ o.amount → (c : List ℕ) → balance_set c rows ≡ (if int_eq (balance held.content c)
+        (balance (with_settled held.content o) c) then None else Some (balance (with_settled held.content o) c))
     sets some c = by (bytes_eq o.receiver c) (bytes_eq o.sender c) refl refl
       where
-        by : (a b : Bool) → bytes_eq o.receiver c ≡ a → bytes_eq o.sender c ≡ b → or_else (if a then Some more else None) (if b then Some less else None) ≡ (if int_eq (balance held.content c) (balance (with_settled held.content o) c) then None else Some (balance (with_settled held.content o) c))
+        by : (a b : Bool) → bytes_eq o.receiver c ≡ a → bytes_eq o.sender c ≡ b
+            → or_else (if a then Some more else None) (if b then Some less else None)
+            ≡ (if int_eq (balance held.content c) (balance (with_settled held.content o) c) then None else Some
+            (balance (with_settled held.content o) c))
         by true true e f = absurd (true≢false (sym f ∙ not_both c e))
-        by true false e f = rw (differs (balance held.content c) (balance (with_settled held.content o) c) (pos o.amount -ℤ pos 0) (moves_at c true false e f) (λ z. omega (arith, ints))) (ap Some (balance_of_receiver c e))
-        by false true e f = rw (differs (balance held.content c) (balance (with_settled held.content o) c) (pos 0 -ℤ pos o.amount) (moves_at c false true e f) (λ z. omega (arith, ints))) (ap Some (balance_of_sender c e f))
+        by true false e f = rw (differs (balance held.content c) (balance (with_settled held.content o) c)
+            (pos o.amount -ℤ pos 0) (moves_at c true false e f) (λ z. omega (arith, ints)))
+            (ap Some (balance_of_receiver c e))
+        by false true e f = rw (differs (balance held.content c) (balance (with_settled held.content o) c)
+            (pos 0 -ℤ pos o.amount) (moves_at c false true e f) (λ z. omega (arith, ints)))
+            (ap Some (balance_of_sender c e f))
         by false false e f = rw (← balance_of_other c e f, same_int (balance held.content c)) refl
 
-    pub prepared_settled : StepKeepsRanges → StepKeepsSoundness → settles_at_once held.content o.sender o.amount ≡ true → 1 ≤ held.room.orders → held.room.awaited_order ≡ Some (o.sender, o.reference) → 1 ≤ held.room.marks
-        → IsPrepared held (command.Order o.sender o.reference o.receiver o.amount) (answer.Settled o.number (next_mark held.content)) rows
+    pub prepared_settled : StepKeepsRanges → StepKeepsSoundness → settles_at_once held.content o.sender o.amount ≡ true
+        → 1 ≤ held.room.orders → held.room.awaited_order ≡ Some (o.sender, o.reference) → 1 ≤ held.room.marks
+        → IsPrepared held (command.Order o.sender o.reference o.receiver o.amount)
+        (answer.Settled o.number (next_mark held.content)) rows
     prepared_settled ranges soundness settles room awaited mark_room =
-        let leads : Leads held.content rows (with_settled held.content o) = record { book = refl; balances = every _ (sets (let f = taken.fits in f.0)) (accounts (with_settled held.content o)) } in
-        prepared_done held (command.Order o.sender o.reference o.receiver o.amount) (answer.Settled o.number (next_mark held.content)) rows (with_settled held.content o) kept ranges soundness taken.fits (step_settled settles) leads (tt, (tt, (tt, (tt, tt))))
-        (all_same (moved o.receiver more (moved o.sender less (balance held.content))) (balance (with_settled held.content o)) is_moved (with_balance o.receiver more (with_balance o.sender less held.accounts))
-        (all_moved o.receiver more (moved o.sender less (balance held.content)) (with_balance o.sender less held.accounts) (all_moved o.sender less (balance held.content) held.accounts kept.balanced)))
+        let leads : Leads held.content rows (with_settled held.content o) = record {
+          book = refl;
+          balances = every _ (sets (let f = taken.fits in f.0)) (accounts (with_settled held.content o));
+        } in
+        prepared_done held (command.Order o.sender o.reference o.receiver o.amount)
+        (answer.Settled o.number (next_mark held.content)) rows (with_settled held.content o) kept ranges soundness
+        taken.fits (step_settled settles) leads (tt, (tt, (tt, (tt, tt))))
+        (all_same (moved o.receiver more (moved o.sender less (balance held.content)))
+        (balance (with_settled held.content o)) is_moved
+        (with_balance o.receiver more (with_balance o.sender less held.accounts))
+        (all_moved o.receiver more (moved o.sender less (balance held.content))
+        (with_balance o.sender less held.accounts) (all_moved o.sender less (balance held.content) held.accounts
+        kept.balanced)))
         ((room, awaited, number), (mark_room, (tt, (tt, tt)))) (λ k e. absurd (cc)) (λ e. absurd (cc))

@@ -1,5 +1,6 @@
 -- What a posting comes to, test by test, and its change.
-use Rattle.std.proofs.Common.{◌≡◌, ℕ, ◌+◌, ◌≤◌, ℤ, pos, ◌+ℤ◌, Bool, true, false, ◌&&◌, if◌then◌else◌, nat_le, List, [], ◌∷◌, ◌++◌, length, find, Ok, Err, Some, None, refl, sym, ap, subst, ◌∙◌, arith}
+use Rattle.std.proofs.Common.{◌≡◌, ℕ, ◌+◌, ◌≤◌, ℤ, pos, ◌+ℤ◌, Bool, true, false, ◌&&◌, if◌then◌else◌, nat_le, List, []}
+use Rattle.std.proofs.Common.{◌∷◌, ◌++◌, length, find, Ok, Err, Some, None, refl, sym, ap, subst, ◌∙◌, arith}
 use Rattle.std.proofs.lemmas.Int.{ints}
 use Rattle.std.specs.Cmp.Lexicographic.{bytes_decides}
 use Rattle.std.specs.Prelude.{int_lt}
@@ -8,7 +9,8 @@ use Rattle.std.specs.Ordering.{int_eq}
 use Rattle.rtgs_book.specs.declared.command.Command.TheVariants as command
 use Rattle.rtgs_book.specs.declared.answer.Answer.TheVariants.{Posted, Repeated}
 use Rattle.rtgs_book.specs.declared.answer.Known.TheVariants as known
-use Rattle.rtgs_book.specs.declared.refusal.Refusal.TheVariants.{UnknownParticipant, ReferenceUsed, NumbersUsedUp, TotalTooLarge, NoCover}
+use Rattle.rtgs_book.specs.declared.refusal.Refusal.TheVariants.{UnknownParticipant, ReferenceUsed, NumbersUsedUp}
+use Rattle.rtgs_book.specs.declared.refusal.Refusal.TheVariants.{TotalTooLarge, NoCover}
 use Rattle.rtgs_book.specs.declared.book.Book.{Book}
 use Rattle.rtgs_book.specs.declared.posting.Posting.{Posting}
 use Rattle.rtgs_book.specs.Balance.{balance, floor, total}
@@ -33,38 +35,59 @@ use Rattle.rtgs_ledger.proofs.Lists.{every}
 
 -- the posting that is added
 abbrev pub next_posting : Book → List ℕ → List ℕ → ℤ → Posting
-next_posting book code reference cents = record { number = length book.postings + 1; code = code; reference = reference; cents = cents; date = book.day.date }
+next_posting book code reference cents = record {
+  number = length book.postings + 1;
+  code = code;
+  reference = reference;
+  cents = cents;
+  date = book.day.date;
+}
 
 abbrev pub with_posting : Book → Posting → Book
 with_posting book posting = record book { postings = book.postings ++ posting ∷ [] }
 
 module _ (book : Book) (code reference : List ℕ) (cents : ℤ) where
-  pub unknown : is_participant book code ≡ false → Step book (command.Post code reference cents) (Err UnknownParticipant) book
+  pub unknown : is_participant book code ≡ false → Step book (command.Post code reference cents)
+      (Err UnknownParticipant) book
   unfolding post first_of
   unknown e = rw e refl
 
-  pub repeats : is_participant book code ≡ true → (p : Posting) → posting_named book reference ≡ Some p → (bytes_eq p.code code && int_eq p.cents cents) ≡ true → Step book (command.Post code reference cents) (Ok (Repeated (known.Posting p.number))) book
+  pub repeats : is_participant book code ≡ true → (p : Posting) → posting_named book reference ≡ Some p
+      → (bytes_eq p.code code && int_eq p.cents cents) ≡ true
+      → Step book (command.Post code reference cents) (Ok (Repeated (known.Posting p.number))) book
   unfolding post first_of
   repeats e p found same = rw (e, found, same) refl
 
-  pub reference_used : is_participant book code ≡ true → (p : Posting) → posting_named book reference ≡ Some p → (bytes_eq p.code code && int_eq p.cents cents) ≡ false → Step book (command.Post code reference cents) (Err ReferenceUsed) book
+  pub reference_used : is_participant book code ≡ true → (p : Posting) → posting_named book reference ≡ Some p
+      → (bytes_eq p.code code && int_eq p.cents cents) ≡ false
+      → Step book (command.Post code reference cents) (Err ReferenceUsed) book
   unfolding post first_of
   reference_used e p found other = rw (e, found, other) refl
 
   module _ (known : is_participant book code ≡ true) (absent : posting_named book reference ≡ None) where
-    pub numbers_used_up : nat_le LARGEST_NUMBER (length book.postings) ≡ true → Step book (command.Post code reference cents) (Err NumbersUsedUp) book
+    pub numbers_used_up : nat_le LARGEST_NUMBER (length book.postings) ≡ true
+        → Step book (command.Post code reference cents) (Err NumbersUsedUp) book
     unfolding post first_of
     numbers_used_up many = rw (known, absent, many) refl
 
-    pub total_too_large : nat_le LARGEST_NUMBER (length book.postings) ≡ false → (int_lt (pos 0) cents && int_lt (pos LARGEST_TOTAL) (total book +ℤ cents)) ≡ true → Step book (command.Post code reference cents) (Err TotalTooLarge) book
+    pub total_too_large : nat_le LARGEST_NUMBER (length book.postings) ≡ false
+        → (int_lt (pos 0) cents && int_lt (pos LARGEST_TOTAL) (total book +ℤ cents)) ≡ true
+        → Step book (command.Post code reference cents) (Err TotalTooLarge) book
     unfolding post first_of
     total_too_large few large = rw (known, absent, few, large) refl
 
-    pub no_cover : nat_le LARGEST_NUMBER (length book.postings) ≡ false → (int_lt (pos 0) cents && int_lt (pos LARGEST_TOTAL) (total book +ℤ cents)) ≡ false → (int_lt cents (pos 0) && int_lt (balance book code +ℤ cents) (floor book code)) ≡ true → Step book (command.Post code reference cents) (Err NoCover) book
+    pub no_cover : nat_le LARGEST_NUMBER (length book.postings) ≡ false
+        → (int_lt (pos 0) cents && int_lt (pos LARGEST_TOTAL) (total book +ℤ cents)) ≡ false
+        → (int_lt cents (pos 0) && int_lt (balance book code +ℤ cents) (floor book code)) ≡ true
+        → Step book (command.Post code reference cents) (Err NoCover) book
     unfolding post first_of
     no_cover few small short = rw (known, absent, few, small, short) refl
 
-    pub posts : nat_le LARGEST_NUMBER (length book.postings) ≡ false → (int_lt (pos 0) cents && int_lt (pos LARGEST_TOTAL) (total book +ℤ cents)) ≡ false → (int_lt cents (pos 0) && int_lt (balance book code +ℤ cents) (floor book code)) ≡ false → Step book (command.Post code reference cents) (Ok (Posted (length book.postings + 1))) (with_posting book (next_posting book code reference cents))
+    pub posts : nat_le LARGEST_NUMBER (length book.postings) ≡ false
+        → (int_lt (pos 0) cents && int_lt (pos LARGEST_TOTAL) (total book +ℤ cents)) ≡ false
+        → (int_lt cents (pos 0) && int_lt (balance book code +ℤ cents) (floor book code)) ≡ false
+        → Step book (command.Post code reference cents) (Ok (Posted (length book.postings + 1)))
+        (with_posting book (next_posting book code reference cents))
     unfolding post first_of
     posts few small covered = rw (known, absent, few, small, covered) refl
 
@@ -75,38 +98,59 @@ module _ (r : Records) (kept : IsKept (held_of r)) (new : PostingList) (same : n
   pub kept_with_postings : IsKept (held_of (record r { postings = new }))
   kept_with_postings = record { sound = rw same kept.sound; balanced = rw same kept.balanced; fits = rw same kept.fits }
 
-module _ (r : Records) (kept : IsKept (held_of r)) (code reference : List ℕ) (cents : ℤ) (a : Account) (found : find (is_of code) r.accounts.accounts ≡ Some a) (b : ℤ) (sum : b ≡ a.balance +ℤ cents) where
+module _ (r : Records) (kept : IsKept (held_of r)) (code reference : List ℕ) (cents : ℤ) (a : Account)
+    (found : find (is_of code) r.accounts.accounts ≡ Some a) (b : ℤ) (sum : b ≡ a.balance +ℤ cents) where
   abbrev q : Posting
   q = next_posting (book_of r) code reference cents
 
-  balance_new : (c : List ℕ) (t : Bool) → bytes_eq code c ≡ t → balance (with_posting (book_of r) q) c ≡ balance (book_of r) c +ℤ (if t then cents else pos 0)
-  balance_new c t e = subst (λ t. balance (with_posting (book_of r) q) c ≡ balance (book_of r) c +ℤ (if t then cents else pos 0)) e (balance-with_posting (book_of r) q c)
+  balance_new : (c : List ℕ) (t : Bool) → bytes_eq code c ≡ t
+      → balance (with_posting (book_of r) q) c ≡ balance (book_of r) c +ℤ (if t then cents else pos 0)
+  balance_new c t e = subst (λ t. balance (with_posting (book_of r) q) c
+      ≡ balance (book_of r) c +ℤ (if t then cents else pos 0)) e (balance-with_posting (book_of r) q c)
 
   balance_of_it : (c : List ℕ) → bytes_eq code c ≡ true → b ≡ balance (with_posting (book_of r) q) c
-  balance_of_it c e = sum ∙ ap (λ z. z +ℤ cents) (balance_at r kept code a found ∙ ap (balance (book_of r)) ((bytes_decides code c).0 e)) ∙ sym (balance_new c true e)
+  balance_of_it c e = sum ∙ ap (λ z. z +ℤ cents) (balance_at r kept code a found
+      ∙ ap (balance (book_of r)) ((bytes_decides code c).0 e)) ∙ sym (balance_new c true e)
 
-  balance_of_other : (c : List ℕ) → bytes_eq code c ≡ false → balance (with_posting (book_of r) q) c ≡ balance (book_of r) c
+  balance_of_other : (c : List ℕ) → bytes_eq code c ≡ false → balance (with_posting (book_of r) q) c
+      ≡ balance (book_of r) c
   balance_of_other c e = balance_new c false e ∙ omega (arith, ints)
 
-  sets_one : (cents ≡ pos 0 → ⊥) → (c : List ℕ) → balance_set c (AddPosting q ∷ SetBalance code b ∷ []) ≡ (if int_eq (balance (book_of r) c) (balance (with_posting (book_of r) q) c) then None else Some (balance (with_posting (book_of r) q) c))
+  sets_one : (cents ≡ pos 0 → ⊥) → (c : List ℕ) → balance_set c (AddPosting q ∷ SetBalance code b ∷ [])
+      ≡ (if int_eq (balance (book_of r) c) (balance (with_posting (book_of r) q) c) then None else Some
+      (balance (with_posting (book_of r) q) c))
   sets_one apart c = by (bytes_eq code c) refl
     where
-      by : (t : Bool) → bytes_eq code c ≡ t → (if t then Some b else None) ≡ (if int_eq (balance (book_of r) c) (balance (with_posting (book_of r) q) c) then None else Some (balance (with_posting (book_of r) q) c))
-      by true e = rw (balance_new c true e, moved_int (balance (book_of r) c) cents apart) (ap Some (balance_of_it c e ∙ balance_new c true e))
+      by : (t : Bool) → bytes_eq code c ≡ t → (if t then Some b else None)
+          ≡ (if int_eq (balance (book_of r) c) (balance (with_posting (book_of r) q) c) then None else Some
+          (balance (with_posting (book_of r) q) c))
+      by true e = rw (balance_new c true e, moved_int (balance (book_of r) c) cents apart)
+          (ap Some (balance_of_it c e ∙ balance_new c true e))
       by false e = rw (balance_of_other c e, same_int (balance (book_of r) c)) refl
 
   is_moved : (c : List ℕ) → moved code b (balance (book_of r)) c ≡ balance (with_posting (book_of r) q) c
   is_moved c = by (bytes_eq code c) refl
     where
-      by : (t : Bool) → bytes_eq code c ≡ t → (if t then b else balance (book_of r) c) ≡ balance (with_posting (book_of r) q) c
+      by : (t : Bool) → bytes_eq code c ≡ t → (if t then b else balance (book_of r) c)
+          ≡ balance (with_posting (book_of r) q) c
       by true e = balance_of_it c e
       by false e = sym (balance_of_other c e)
 
-  pub prepared_post : StepKeepsRanges → StepKeepsSoundness → IsPostingAmount cents → posting_named (book_of r) reference ≡ None → nat_le LARGEST_NUMBER (length r.postings.postings) ≡ false → (int_lt (pos 0) cents && int_lt (pos LARGEST_TOTAL) (total (book_of r) +ℤ cents)) ≡ false → (int_lt cents (pos 0) && int_lt (balance (book_of r) code +ℤ cents) (floor (book_of r) code)) ≡ false
-      → 1 ≤ r.postings.room → r.postings.awaited ≡ Some reference → IsPrepared (held_of r) (command.Post code reference cents) (Posted (length r.postings.postings + 1)) (AddPosting q ∷ SetBalance code b ∷ [])
+  pub prepared_post : StepKeepsRanges → StepKeepsSoundness → IsPostingAmount cents
+      → posting_named (book_of r) reference ≡ None → nat_le LARGEST_NUMBER (length r.postings.postings) ≡ false
+      → (int_lt (pos 0) cents && int_lt (pos LARGEST_TOTAL) (total (book_of r) +ℤ cents)) ≡ false
+      → (int_lt cents (pos 0) && int_lt (balance (book_of r) code +ℤ cents) (floor (book_of r) code)) ≡ false
+      → 1 ≤ r.postings.room → r.postings.awaited ≡ Some reference
+      → IsPrepared (held_of r) (command.Post code reference cents) (Posted (length r.postings.postings + 1))
+      (AddPosting q ∷ SetBalance code b ∷ [])
   prepared_post ranges soundness in_range absent few small covered room awaited =
       let step = posts (book_of r) code reference cents (is_known r kept code a found) absent few small covered in
-      let leads : Leads (book_of r) (AddPosting q ∷ SetBalance code b ∷ []) (with_posting (book_of r) q) = record { book = refl; balances = every _ (sets_one in_range.0) (accounts (with_posting (book_of r) q)) } in
-      prepared_done (held_of r) (command.Post code reference cents) (Posted (length r.postings.postings + 1)) (AddPosting q ∷ SetBalance code b ∷ []) (with_posting (book_of r) q) kept ranges soundness in_range step leads (tt, (tt, tt))
-      (all_same (moved code b (balance (book_of r))) (balance (with_posting (book_of r) q)) is_moved (with_balance code b r.accounts.accounts) (all_moved code b (balance (book_of r)) r.accounts.accounts kept.balanced))
+      let leads : Leads (book_of r) (AddPosting q ∷ SetBalance code b ∷ []) (with_posting (book_of r) q) =
+      record { book = refl; balances = every _ (sets_one in_range.0) (accounts (with_posting (book_of r) q)) } in
+      prepared_done (held_of r) (command.Post code reference cents) (Posted (length r.postings.postings + 1))
+      (AddPosting q ∷ SetBalance code b ∷ []) (with_posting (book_of r) q) kept ranges soundness in_range step leads
+      (tt, (tt, tt))
+      (all_same (moved code b (balance (book_of r))) (balance (with_posting (book_of r) q)) is_moved
+      (with_balance code b r.accounts.accounts) (all_moved code b (balance (book_of r)) r.accounts.accounts
+      kept.balanced))
       ((room, awaited), (tt, tt)) (λ k e. absurd (cc)) (λ e. absurd (cc))

@@ -13,20 +13,35 @@ use Rattle.rtgs_ledger.specs.Records.{held_of}
 use Rattle.rtgs_book.specs.declared.change.RowChange.{RowChange}
 use Rattle.rtgs_book.specs.Changes.{changed}
 use Rattle.rtgs_ledger.specs.Held.{Held, after_row, after}
-use Rattle.rtgs_ledger.proofs.AccountLemmas.{participant_of-with_account, participant_of-with_balance, participant_of-with_limit}
+use Rattle.rtgs_ledger.proofs.AccountLemmas.{participant_of-with_account, participant_of-with_balance}
+use Rattle.rtgs_ledger.proofs.AccountLemmas.{participant_of-with_limit}
 
-pub participant_added : (r : Records) (p : Participant) (new : AccountList) → new.accounts ≡ with_account (record { participant = p; balance = pos 0 }) r.accounts.accounts → new.room ≡ r.accounts.room - 1 → held_of (record r { accounts = new }) ≡ after_row (held_of r) (AddParticipant p)
+pub participant_added : (r : Records) (p : Participant) (new : AccountList)
+    → new.accounts ≡ with_account (record { participant = p; balance = pos 0 }) r.accounts.accounts
+    → new.room ≡ r.accounts.room - 1 → held_of (record r { accounts = new }) ≡ after_row (held_of r) (AddParticipant p)
 unfolding with_participant
-participant_added r p new e f = rw (e, f, participant_of-with_account (record { participant = p; balance = pos 0 }) r.accounts.accounts) refl
+participant_added r p new e f = rw (
+  e,
+  f,
+  participant_of-with_account (record { participant = p; balance = pos 0 })
+      r.accounts.accounts,
+) refl
 
-pub balance_set : (r : Records) (code : List ℕ) (balance : ℤ) (new : AccountList) → new.accounts ≡ with_balance code balance r.accounts.accounts → new.room ≡ r.accounts.room → held_of (record r { accounts = new }) ≡ after_row (held_of r) (SetBalance code balance)
+pub balance_set : (r : Records) (code : List ℕ) (balance : ℤ) (new : AccountList)
+    → new.accounts ≡ with_balance code balance r.accounts.accounts → new.room ≡ r.accounts.room
+    → held_of (record r { accounts = new }) ≡ after_row (held_of r) (SetBalance code balance)
 balance_set r code balance new e f = rw (e, f, participant_of-with_balance code balance r.accounts.accounts) refl
 
-pub credit_set : (r : Records) (code : List ℕ) (credit : ℕ) (new : AccountList) → new.accounts ≡ with_limit code credit r.accounts.accounts → new.room ≡ r.accounts.room → held_of (record r { accounts = new }) ≡ after_row (held_of r) (SetCredit code credit)
+pub credit_set : (r : Records) (code : List ℕ) (credit : ℕ) (new : AccountList)
+    → new.accounts ≡ with_limit code credit r.accounts.accounts → new.room ≡ r.accounts.room
+    → held_of (record r { accounts = new }) ≡ after_row (held_of r) (SetCredit code credit)
 unfolding with_credit
 credit_set r code credit new e f = rw (e, f, participant_of-with_limit code credit r.accounts.accounts) refl
 
-pub state_set : (r : Records) (number : ℕ) (state : OrderState) (new : OrderList) → new.orders ≡ map (restated (has_number number) state) r.orders.orders → new.room ≡ r.orders.room → new.awaited ≡ r.orders.awaited → held_of (record r { orders = new }) ≡ after_row (held_of r) (SetState number state)
+pub state_set : (r : Records) (number : ℕ) (state : OrderState) (new : OrderList)
+    → new.orders ≡ map (restated (has_number number) state) r.orders.orders → new.room ≡ r.orders.room
+    → new.awaited ≡ r.orders.awaited → held_of (record r { orders = new })
+    ≡ after_row (held_of r) (SetState number state)
 unfolding with_state
 state_set r number state new e f g = rw (e, f, g) refl
 
@@ -35,5 +50,6 @@ pub content-after : (held : Held) (rows : List RowChange) → (after held rows).
 content-after held [] = refl
 content-after held (row ∷ rows) = content-after (after_row held row) rows
 
-pub arrived : (now current : Held) (items change : List RowChange) (i : ℕ) → length items ≤ i → after current (drop i items) ≡ after now items → items ≡ change → current ≡ after now change
+pub arrived : (now current : Held) (items change : List RowChange) (i : ℕ) → length items ≤ i
+    → after current (drop i items) ≡ after now items → items ≡ change → current ≡ after now change
 arrived now current items change i past rest same = (rw (drop_all i items past) at rest) ∙ ap (after now) same

@@ -1,5 +1,7 @@
 -- A resolution: its rows, the room that they find, and the balances that they leave.
-use Rattle.std.proofs.Common.{◌≡◌, ℕ, ◌≤◌, ◌+◌, ℤ, pos, ◌+ℤ◌, Bool, true, false, not, cond, if◌then◌else◌, List, [], ◌∷◌, ◌++◌, map, filter, length, sum_by, Option, Some, None, unwrap_or, IsTrue, is_some, Ok, Err, refl, sym, ap, ◌∙◌, subst, true≢false, arith}
+use Rattle.std.proofs.Common.{◌≡◌, ℕ, ◌≤◌, ◌+◌, ℤ, pos, ◌+ℤ◌, Bool, true, false, not, cond, if◌then◌else◌, List, []}
+use Rattle.std.proofs.Common.{◌∷◌, ◌++◌, map, filter, length, sum_by, Option, Some, None, unwrap_or, IsTrue, is_some}
+use Rattle.std.proofs.Common.{Ok, Err, refl, sym, ap, ◌∙◌, subst, true≢false, arith}
 use Rattle.std.specs.Prelude.{⊤}
 use Rattle.std.proofs.lemmas.List.{length-map}
 use Rattle.std.specs.List.{AllByRecursion}
@@ -8,7 +10,8 @@ use Rattle.std.specs.Str.{bytes_eq}
 use Rattle.rtgs_book.specs.declared.answer.Answer.TheVariants as answer
 use Rattle.rtgs_book.specs.declared.book.Book.{Book}
 use Rattle.rtgs_book.specs.declared.change.RowChange.{RowChange}
-use Rattle.rtgs_book.specs.declared.change.RowChange.TheVariants.{AddParticipant, AddPosting, AddOrder, AddMark, SetCredit, SetBalance, SetState, SetDay}
+use Rattle.rtgs_book.specs.declared.change.RowChange.TheVariants.{AddParticipant, AddPosting, AddOrder, AddMark}
+use Rattle.rtgs_book.specs.declared.change.RowChange.TheVariants.{SetCredit, SetBalance, SetState, SetDay}
 use Rattle.rtgs_book.specs.declared.command.Command.TheVariants.{Resolve}
 use Rattle.rtgs_book.specs.declared.mark.Mark.{Mark}
 use Rattle.rtgs_book.specs.declared.order.Order.{Order}
@@ -27,7 +30,8 @@ use Rattle.rtgs_book.specs.Outcome.{first_of}
 use Rattle.rtgs_book.specs.Settle.{restated, settle, mark_of, next_mark}
 use Rattle.rtgs_book.specs.Soundness.{IsSound}
 use Rattle.rtgs_book.specs.Step.{Step}
-use Rattle.rtgs_choices.specs.Settling.{orders_taken, numbers_taken, state_rows, IsOfBalance, moves, balance_rows, settling_rows}
+use Rattle.rtgs_choices.specs.Settling.{orders_taken, numbers_taken, state_rows, IsOfBalance, moves, balance_rows}
+use Rattle.rtgs_choices.specs.Settling.{settling_rows}
 use Rattle.rtgs_book.specs.declared.account.Account.{Account}
 use Rattle.rtgs_ledger.specs.declared.records.Records.{Records}
 use Rattle.rtgs_ledger.specs.Accounts.{code_of, participant_of, is_of, with_balance}
@@ -48,18 +52,23 @@ LeavesParticipants (AddParticipant participant) = ⊥
 LeavesParticipants (SetCredit code credit) = ⊥
 LeavesParticipants row = ⊤
 
-set_here : (b old : ℤ) (o : Option ℤ) (t : Bool) → unwrap_or o (if t then b else old) ≡ unwrap_or (or_else o (if t then Some b else None)) old
+set_here : (b old : ℤ) (o : Option ℤ) (t : Bool) → unwrap_or o (if t then b else old)
+    ≡ unwrap_or (or_else o (if t then Some b else None)) old
 set_here b old None true = refl
 set_here b old None false = refl
 set_here b old (Some z) t = refl
 
 -- a running balance becomes what the rows set for it
-pub all_set : (rows : List RowChange) (held : Held) (f : List ℕ → ℤ) → AllByRecursion LeavesParticipants rows → AllByRecursion (λ a. a.balance ≡ f (code_of a)) held.accounts
-    → AllByRecursion (λ a. a.balance ≡ unwrap_or (balance_set (code_of a) rows) (f (code_of a))) (after held rows).accounts
+pub all_set : (rows : List RowChange) (held : Held) (f : List ℕ → ℤ) → AllByRecursion LeavesParticipants rows
+    → AllByRecursion (λ a. a.balance ≡ f (code_of a)) held.accounts
+    → AllByRecursion (λ a. a.balance ≡ unwrap_or (balance_set (code_of a) rows) (f (code_of a)))
+    (after held rows).accounts
 all_set [] held f h e = e
 all_set (SetBalance code b ∷ rows) held f h e =
-    weaker (λ a. a.balance ≡ unwrap_or (balance_set (code_of a) rows) (moved code b f (code_of a))) (λ a. a.balance ≡ unwrap_or (balance_set (code_of a) (SetBalance code b ∷ rows)) (f (code_of a)))
-    (λ a g. g ∙ set_here b (f (code_of a)) (balance_set (code_of a) rows) (bytes_eq code (code_of a))) (after held (SetBalance code b ∷ rows)).accounts
+    weaker (λ a. a.balance ≡ unwrap_or (balance_set (code_of a) rows) (moved code b f (code_of a)))
+    (λ a. a.balance ≡ unwrap_or (balance_set (code_of a) (SetBalance code b ∷ rows)) (f (code_of a)))
+    (λ a g. g ∙ set_here b (f (code_of a)) (balance_set (code_of a) rows) (bytes_eq code (code_of a)))
+    (after held (SetBalance code b ∷ rows)).accounts
     (all_set rows (after_row held (SetBalance code b)) (moved code b f) h.1 (all_moved code b f held.accounts e))
 all_set (AddParticipant participant ∷ rows) held f h e = absurd h.0
 all_set (SetCredit code credit ∷ rows) held f h e = absurd h.0
@@ -77,9 +86,11 @@ same_codes code b (x ∷ xs) = λ i. by (is_of code x) i ∷ same_codes code b x
     by true = refl
     by false = refl
 
-pub codes_stay : (rows : List RowChange) (held : Held) → AllByRecursion LeavesParticipants rows → map code_of (after held rows).accounts ≡ map code_of held.accounts
+pub codes_stay : (rows : List RowChange) (held : Held) → AllByRecursion LeavesParticipants rows
+    → map code_of (after held rows).accounts ≡ map code_of held.accounts
 codes_stay [] held h = refl
-codes_stay (SetBalance code b ∷ rows) held h = codes_stay rows (after_row held (SetBalance code b)) h.1 ∙ same_codes code b held.accounts
+codes_stay (SetBalance code b ∷ rows) held h = codes_stay rows (after_row held (SetBalance code b)) h.1
+    ∙ same_codes code b held.accounts
 codes_stay (AddParticipant participant ∷ rows) held h = absurd h.0
 codes_stay (SetCredit code credit ∷ rows) held h = absurd h.0
 codes_stay (AddPosting posting ∷ rows) held h = codes_stay rows (after_row held (AddPosting posting)) h.1
@@ -95,45 +106,67 @@ set_is_new old new = by (int_eq old new) refl
     by true e = int_eq-same old new e
     by false e = refl
 
-all_new : (old new : Book) (rows : List RowChange) (xs : List Account) → AllByRecursion (λ a. a.balance ≡ unwrap_or (balance_set (code_of a) rows) (balance old (code_of a))) xs
-    → AllByRecursion (λ code. balance_set code rows ≡ (if int_eq (balance old code) (balance new code) then None else Some (balance new code))) (map code_of xs) → AreBalanced new xs
+all_new : (old new : Book) (rows : List RowChange) (xs : List Account)
+    → AllByRecursion (λ a. a.balance ≡ unwrap_or (balance_set (code_of a) rows) (balance old (code_of a))) xs
+    → AllByRecursion (λ code. balance_set code rows ≡ (if int_eq (balance old code) (balance new code) then None else
+    Some (balance new code))) (map code_of xs) → AreBalanced new xs
 all_new old new rows [] h e = tt
-all_new old new rows (x ∷ xs) h e =
-    (h.0 ∙ ap (λ o. unwrap_or o (balance old (code_of x))) e.0 ∙ set_is_new (balance old (code_of x)) (balance new (code_of x)), all_new old new rows xs h.1 e.1)
+all_new old new rows (x ∷ xs) h e = (
+  h.0 ∙ ap (λ o. unwrap_or o (balance old (code_of x))) e.0
+      ∙ set_is_new (balance old (code_of x)) (balance new (code_of x)),
+  all_new old new rows xs h.1 e.1,
+)
 
 -- rows that set the balances that move leave the accounts balanced
-pub balanced_after : (held : Held) (rows : List RowChange) (new : Book) → AllByRecursion LeavesParticipants rows → AreBalanced held.content held.accounts → accounts new ≡ map code_of held.accounts → SetsBalances held.content rows new → AreBalanced new (after held rows).accounts
+pub balanced_after : (held : Held) (rows : List RowChange) (new : Book) → AllByRecursion LeavesParticipants rows
+    → AreBalanced held.content held.accounts → accounts new ≡ map code_of held.accounts
+    → SetsBalances held.content rows new → AreBalanced new (after held rows).accounts
 balanced_after held rows new leaves balanced same sets =
     all_new held.content new rows (after held rows).accounts (all_set rows held (balance held.content) leaves balanced)
-    (subst (AllByRecursion (λ code. balance_set code rows ≡ (if int_eq (balance held.content code) (balance new code) then None else Some (balance new code)))) (same ∙ sym (codes_stay rows held leaves)) sets)
+    (subst (AllByRecursion (λ code. balance_set code rows ≡ (if int_eq (balance held.content code) (balance new code)
+    then None else Some (balance new code)))) (same ∙ sym (codes_stay rows held leaves)) sets)
 
 -- ---- the rows of a resolution
 
-module _ (book : Book) (choice : Choice) (orders : List Order) (gains : (code : List ℕ) → int_sum_by (gain code) orders ≡ int_sum_by (gain code) (chosen book choice)) where
-  balance_is : (a : Account) → a.balance ≡ balance book (code_of a) → (after_orders orders a).balance ≡ balance_after book choice (code_of a)
+module _ (book : Book) (choice : Choice) (orders : List Order)
+    (gains : (code : List ℕ) → int_sum_by (gain code) orders ≡ int_sum_by (gain code) (chosen book choice)) where
+  balance_is : (a : Account) → a.balance ≡ balance book (code_of a)
+      → (after_orders orders a).balance ≡ balance_after book choice (code_of a)
   unfolding balance_after
   balance_is a e = λ i. e i +ℤ gains (code_of a) i
 
-  rows_are : (xs : List Account) → AreBalanced book xs → moved_rows orders xs ≡ map (λ code. SetBalance code (balance_after book choice code)) (filter (moves book choice) (map code_of xs))
+  rows_are : (xs : List Account) → AreBalanced book xs → moved_rows orders xs
+      ≡ map (λ code. SetBalance code (balance_after book choice code)) (filter (moves book choice) (map code_of xs))
   rows_are [] h = refl
   rows_are (x ∷ xs) h =
       let later = balance_is x h.0 in
-      let test : not (int_eq x.balance (after_orders orders x).balance) ≡ moves book choice (code_of x) = λ i. not (int_eq (h.0 i) (later i)) in
-      by later (not (int_eq x.balance (after_orders orders x).balance)) (moves book choice (code_of x)) test (rows_are xs h.1)
+      let test : not (int_eq x.balance (after_orders orders x).balance)
+      ≡ moves book choice (code_of x) = λ i. not (int_eq (h.0 i) (later i)) in
+      by later (not (int_eq x.balance (after_orders orders x).balance)) (moves book choice (code_of x)) test
+      (rows_are xs h.1)
     where
-      by : (after_orders orders x).balance ≡ balance_after book choice (code_of x) → (s t : Bool) → s ≡ t → moved_rows orders xs ≡ map (λ code. SetBalance code (balance_after book choice code)) (filter (moves book choice) (map code_of xs))
-          → map (λ (a : Account). SetBalance (code_of a) a.balance) (map (after_orders orders) (cond s (x ∷ filter (λ (a : Account). not (int_eq a.balance (after_orders orders a).balance)) xs) (filter (λ (a : Account). not (int_eq a.balance (after_orders orders a).balance)) xs)))
-          ≡ map (λ code. SetBalance code (balance_after book choice code)) (cond t (code_of x ∷ filter (moves book choice) (map code_of xs)) (filter (moves book choice) (map code_of xs)))
+      by : (after_orders orders x).balance ≡ balance_after book choice (code_of x) → (s t : Bool) → s ≡ t
+          → moved_rows orders xs ≡ map (λ code. SetBalance code (balance_after book choice code))
+          (filter (moves book choice) (map code_of xs))
+          → map (λ (a : Account). SetBalance (code_of a) a.balance)
+          (map (after_orders orders) (cond s (x ∷ filter
+          (λ (a : Account). not (int_eq a.balance (after_orders orders a).balance)) xs)
+          (filter (λ (a : Account). not (int_eq a.balance (after_orders orders a).balance)) xs)))
+          ≡ map (λ code. SetBalance code (balance_after book choice code))
+          (cond t (code_of x ∷ filter (moves book choice) (map code_of xs))
+          (filter (moves book choice) (map code_of xs)))
       by later true true e rest = λ i. SetBalance (code_of x) (later i) ∷ rest i
       by later false false e rest = rest
       by later true false e rest = absurd (true≢false e)
       by later false true e rest = absurd (true≢false (sym e))
 
-states_are : (state : OrderState) (os : List Order) → map (λ (o : Order). SetState o.number state) os ≡ state_rows state (map (λ (o : Order). o.number) os)
+states_are : (state : OrderState) (os : List Order) → map (λ (o : Order). SetState o.number state) os
+    ≡ state_rows state (map (λ (o : Order). o.number) os)
 states_are state [] = refl
 states_are state (o ∷ os) = ap (λ rows. SetState o.number state ∷ rows) (states_are state os)
 
-set_balances : (f : List ℕ → ℤ) (codes : List (List ℕ)) → AllByRecursion IsOfBalance (map (λ code. SetBalance code (f code)) codes)
+set_balances : (f : List ℕ → ℤ) (codes : List (List ℕ)) → AllByRecursion IsOfBalance
+    (map (λ code. SetBalance code (f code)) codes)
 set_balances f [] = tt
 set_balances f (code ∷ codes) = (tt, set_balances f codes)
 
@@ -152,7 +185,8 @@ balances_leave (AddMark mark ∷ rows) h = absurd h.0
 balances_leave (SetState number state ∷ rows) h = absurd h.0
 balances_leave (SetDay day ∷ rows) h = absurd h.0
 
-pub states_leave : (state : OrderState) (numbers : List ℕ) (rows : List RowChange) → AllByRecursion LeavesParticipants rows → AllByRecursion LeavesParticipants (state_rows state numbers ++ rows)
+pub states_leave : (state : OrderState) (numbers : List ℕ) (rows : List RowChange)
+    → AllByRecursion LeavesParticipants rows → AllByRecursion LeavesParticipants (state_rows state numbers ++ rows)
 states_leave state [] rows h = h
 states_leave state (n ∷ ns) rows h = (tt, states_leave state ns rows h)
 
@@ -167,26 +201,36 @@ balances_fit (AddMark mark ∷ rows) held h = absurd h.0
 balances_fit (SetState number state ∷ rows) held h = absurd h.0
 balances_fit (SetDay day ∷ rows) held h = absurd h.0
 
-settling_fits : (book : Book) (choice : Choice) (numbers : List ℕ) (mark : Mark) (held : Held) → 1 ≤ held.room.marks → HasRoom held (settling_rows book choice numbers mark)
+settling_fits : (book : Book) (choice : Choice) (numbers : List ℕ) (mark : Mark) (held : Held) → 1 ≤ held.room.marks
+    → HasRoom held (settling_rows book choice numbers mark)
 settling_fits book choice numbers mark held room =
     let states = state_rows (Settled mark.number) numbers in
-    room_for_states (Settled mark.number) refl numbers held (AddMark mark ∷ balance_rows book choice)
-    (rw (room_after-states (Settled mark.number) numbers held) room, balances_fit (balance_rows book choice) (after_row (after held states) (AddMark mark)) (of_balance book choice))
+    room_for_states (Settled mark.number) refl numbers held (AddMark mark ∷ balance_rows book choice) (
+      rw (room_after-states (Settled mark.number) numbers held) room,
+      balances_fit (balance_rows book choice)
+          (after_row (after held states) (AddMark mark)) (of_balance book choice),
+    )
 
-settling_leaves : (book : Book) (choice : Choice) (numbers : List ℕ) (mark : Mark) → AllByRecursion LeavesParticipants (settling_rows book choice numbers mark)
-settling_leaves book choice numbers mark = states_leave (Settled mark.number) numbers (AddMark mark ∷ balance_rows book choice) (tt, balances_leave (balance_rows book choice) (of_balance book choice))
+settling_leaves : (book : Book) (choice : Choice) (numbers : List ℕ) (mark : Mark)
+    → AllByRecursion LeavesParticipants (settling_rows book choice numbers mark)
+settling_leaves book choice numbers mark = states_leave (Settled mark.number) numbers
+    (AddMark mark ∷ balance_rows book choice) (tt, balances_leave (balance_rows book choice) (of_balance book choice))
 
 -- ---- a resolution
 
 codes_settled : (book : Book) (is_in : Order → Bool) → accounts (settle book is_in) ≡ accounts book
 unfolding accounts settle
-codes_settled book is_in = by (map (restated is_in (Settled (next_mark book))) book.orders) (book.marks ++ mark_of book (filter is_in book.orders) ∷ []) (is_empty (filter is_in book.orders))
+codes_settled book is_in = by (map (restated is_in (Settled (next_mark book))) book.orders)
+    (book.marks ++ mark_of book (filter is_in book.orders) ∷ []) (is_empty (filter is_in book.orders))
   where
-    by : (orders : List Order) (marks : List Mark) (b : Bool) → map (λ (p : Participant). p.code) (cond b book (record book { orders = orders; marks = marks })).participants ≡ map (λ (p : Participant). p.code) book.participants
+    by : (orders : List Order) (marks : List Mark) (b : Bool)
+        → map (λ (p : Participant). p.code) (cond b book (record book { orders = orders; marks = marks })).participants
+        ≡ map (λ (p : Participant). p.code) book.participants
     by orders marks true = refl
     by orders marks false = refl
 
-is_closed_now : (b : Bool) (day : Option ℕ) → (if b then None else day) ≡ None → (b ≡ false → IsTrue (is_some day)) → b ≡ true
+is_closed_now : (b : Bool) (day : Option ℕ) → (if b then None else day) ≡ None → (b ≡ false → IsTrue (is_some day))
+    → b ≡ true
 is_closed_now true day e dated = refl
 is_closed_now false None e dated = absurd (true≢false (sym (dated refl)))
 is_closed_now false (Some date) e dated = absurd (let f : Some date ≡ None = e in cc)
@@ -203,7 +247,8 @@ module _ (r : Records) (kept : IsKept (held_of r)) where
   pub closed_now : (if is_closed r.day.phase then None else r.day.date) ≡ None → is_closed r.day.phase ≡ true
   closed_now e = is_closed_now (is_closed r.day.phase) r.day.date e kept.sound.dates.dated
 
-  pub open_now : (date : ℕ) → (if is_closed r.day.phase then None else r.day.date) ≡ Some date → is_closed r.day.phase ≡ false
+  pub open_now : (date : ℕ) → (if is_closed r.day.phase then None else r.day.date) ≡ Some date
+      → is_closed r.day.phase ≡ false
   open_now date e = is_not_closed (is_closed r.day.phase) r.day.date date e
 
   pub date_now : (date : ℕ) → (if is_closed r.day.phase then None else r.day.date) ≡ Some date → r.day.date ≡ Some date
@@ -214,7 +259,8 @@ module _ (book : Book) (choice : Choice) (greatest : IsGreatest book choice) whe
   unfolding resolve first_of
   wrong_phase closed = (choice, greatest, rw closed refl)
 
-  pub nothing : is_closed book.day.phase ≡ false → is_empty (chosen book choice) ≡ true → Step book Resolve (Ok answer.Nothing) book
+  pub nothing : is_closed book.day.phase ≡ false → is_empty (chosen book choice) ≡ true
+      → Step book Resolve (Ok answer.Nothing) book
   unfolding resolve first_of
   nothing opened none = (choice, greatest, rw (opened, none) refl)
 
@@ -228,22 +274,31 @@ some_elements (x ∷ xs) e = refl
 
 -- as many orders are taken as are chosen
 abbrev pub Count : Type 0
-Count = (book : Book) (choice : Choice) → IsSound book → length (chosen book choice) ≡ length (numbers_taken book choice)
+Count = (book : Book) (choice : Choice) → IsSound book → length (chosen book choice)
+    ≡ length (numbers_taken book choice)
 
 abbrev pub Numbers : Type 0
-Numbers = (book : Book) (choice : Choice) → IsSound book → numbers_taken book choice ≡ map (λ (o : Order). o.number) (orders_taken book choice)
+Numbers = (book : Book) (choice : Choice) → IsSound book → numbers_taken book choice
+    ≡ map (λ (o : Order). o.number) (orders_taken book choice)
 
-as_many : Count → Numbers → (book : Book) (orders : List Order) (g : AreGreatest book orders) → IsSound book → length orders ≡ length (chosen book g.choice)
+as_many : Count → Numbers → (book : Book) (orders : List Order) (g : AreGreatest book orders) → IsSound book
+    → length orders ≡ length (chosen book g.choice)
 as_many count numbers book orders g sound =
-    ap length g.taken ∙ sym (length-map (orders_taken book g.choice) (λ (o : Order). o.number)) ∙ sym (ap length (numbers book g.choice sound)) ∙ sym (count book g.choice sound)
+    ap length g.taken ∙ sym (length-map (orders_taken book g.choice) (λ (o : Order). o.number))
+    ∙ sym (ap length (numbers book g.choice sound)) ∙ sym (count book g.choice sound)
 
-pub none_chosen : Count → Numbers → (book : Book) (orders : List Order) (g : AreGreatest book orders) → IsSound book → length orders ≡ 0 → is_empty (chosen book g.choice) ≡ true
-none_chosen count numbers book orders g sound none = no_elements (chosen book g.choice) (sym (as_many count numbers book orders g sound) ∙ none)
+pub none_chosen : Count → Numbers → (book : Book) (orders : List Order) (g : AreGreatest book orders) → IsSound book
+    → length orders ≡ 0 → is_empty (chosen book g.choice) ≡ true
+none_chosen count numbers book orders g sound none = no_elements (chosen book g.choice)
+    (sym (as_many count numbers book orders g sound) ∙ none)
 
-pub some_chosen : Count → Numbers → (book : Book) (orders : List Order) (g : AreGreatest book orders) → IsSound book → 1 ≤ length orders → is_empty (chosen book g.choice) ≡ false
-some_chosen count numbers book orders g sound some = some_elements (chosen book g.choice) (let n = as_many count numbers book orders g sound in omega arith)
+pub some_chosen : Count → Numbers → (book : Book) (orders : List Order) (g : AreGreatest book orders) → IsSound book
+    → 1 ≤ length orders → is_empty (chosen book g.choice) ≡ false
+some_chosen count numbers book orders g sound some = some_elements (chosen book g.choice)
+    (let n = as_many count numbers book orders g sound in omega arith)
 
-module _ (held : Held) (kept : IsKept held) (orders : List Order) (g : AreGreatest held.content orders) (count : Count) (numbers : Numbers) where
+module _ (held : Held) (kept : IsKept held) (orders : List Order) (g : AreGreatest held.content orders) (count : Count)
+    (numbers : Numbers) where
   abbrev book : Book
   book = held.content
 
@@ -253,7 +308,11 @@ module _ (held : Held) (kept : IsKept held) (orders : List Order) (g : AreGreate
         book = book;
         prepares = record {
           step = nothing book g.choice g.greatest opened (none_chosen count numbers book orders g kept.sound none);
-          change = record { leads = record { book = refl; balances = no_balance_set book }; added = tt; sound = kept.sound };
+          change = record {
+            leads = record { book = refl; balances = no_balance_set book };
+            added = tt;
+            sound = kept.sound;
+          };
           fits = kept.fits;
           balanced = kept.balanced;
           room = tt;
@@ -262,13 +321,28 @@ module _ (held : Held) (kept : IsKept held) (orders : List Order) (g : AreGreate
         nothing = λ _. refl;
       }
 
-  module _ (same : book.participants ≡ map participant_of held.accounts) (some : 1 ≤ length orders) (mark : Mark) (date : ℕ) (dated : book.day.date ≡ Some date)
-      (is : mark ≡ record { number = length book.marks + 1; date = date; count = length orders; value = pos (sum_by (λ (o : Order). o.amount) orders) })
+  module _ (same : book.participants ≡ map participant_of held.accounts) (some : 1 ≤ length orders) (mark : Mark)
+      (date : ℕ) (dated : book.day.date ≡ Some date)
+      (is : mark ≡ record {
+        number = length book.marks + 1;
+        date = date;
+        count = length orders;
+        value = pos (sum_by (λ (o : Order). o.amount) orders);
+      })
       (ranges : StepKeepsRanges)
-      (value : (book : Book) (choice : Choice) → IsSound book → sum_by (λ (o : Order). o.amount) (orders_taken book choice) ≡ sum_by (λ (o : Order). o.amount) (chosen book choice))
-      (gains : (book : Book) (choice : Choice) (code : List ℕ) → IsSound book → int_sum_by (gain code) (orders_taken book choice) ≡ int_sum_by (gain code) (chosen book choice))
-      (steps : (book : Book) (choice : Choice) (mark : Mark) → IsSound book → IsGreatest book choice → is_empty (chosen book choice) ≡ false → mark ≡ mark_of book (chosen book choice) → Step book Resolve (Ok (answer.Resolved mark.number mark.count mark.value)) (settle book (is_chosen book choice)))
-      (changes : (book : Book) (choice : Choice) (mark : Mark) → IsSound book → IsGreatest book choice → is_empty (chosen book choice) ≡ false → mark ≡ mark_of book (chosen book choice) → IsChange book (settling_rows book choice (numbers_taken book choice) mark) (settle book (is_chosen book choice)))
+      (value : (book : Book) (choice : Choice) → IsSound book
+      → sum_by (λ (o : Order). o.amount) (orders_taken book choice)
+      ≡ sum_by (λ (o : Order). o.amount) (chosen book choice))
+      (gains : (book : Book) (choice : Choice) (code : List ℕ) → IsSound book
+      → int_sum_by (gain code) (orders_taken book choice) ≡ int_sum_by (gain code) (chosen book choice))
+      (steps : (book : Book) (choice : Choice) (mark : Mark) → IsSound book → IsGreatest book choice
+      → is_empty (chosen book choice) ≡ false → mark ≡ mark_of book (chosen book choice)
+      → Step book Resolve (Ok (answer.Resolved mark.number mark.count mark.value))
+      (settle book (is_chosen book choice)))
+      (changes : (book : Book) (choice : Choice) (mark : Mark) → IsSound book → IsGreatest book choice
+      → is_empty (chosen book choice) ≡ false → mark ≡ mark_of book (chosen book choice)
+      → IsChange book (settling_rows book choice (numbers_taken book choice) mark)
+      (settle book (is_chosen book choice)))
       (room : 1 ≤ held.room.marks) where
     is_mark : mark ≡ mark_of book (chosen book g.choice)
     unfolding mark_of
@@ -294,27 +368,35 @@ module _ (held : Held) (kept : IsKept held) (orders : List Order) (g : AreGreate
     unfolding balance_rows
     balances_are =
         rows_are book g.choice orders gains_are held.accounts kept.balanced
-        ∙ ap (λ codes. map (λ code. SetBalance code (balance_after book g.choice code)) (filter (moves book g.choice) codes)) (sym codes_are)
+        ∙ ap (λ codes. map (λ code. SetBalance code (balance_after book g.choice code))
+        (filter (moves book g.choice) codes)) (sym codes_are)
 
-    numbers_are : map (λ (o : Order). SetState o.number (Settled mark.number)) orders ≡ state_rows (Settled mark.number) (numbers_taken book g.choice)
+    numbers_are : map (λ (o : Order). SetState o.number (Settled mark.number)) orders
+        ≡ state_rows (Settled mark.number) (numbers_taken book g.choice)
     numbers_are =
         states_are (Settled mark.number) orders
         ∙ ap (λ os. state_rows (Settled mark.number) (map (λ (o : Order). o.number) os)) g.taken
         ∙ ap (state_rows (Settled mark.number)) (sym (numbers book g.choice kept.sound))
 
-    pub resolved : IsPrepared held Resolve (answer.Resolved mark.number mark.count mark.value) (map (λ (o : Order). SetState o.number (Settled mark.number)) orders ++ AddMark mark ∷ moved_rows orders held.accounts)
+    pub resolved : IsPrepared held Resolve (answer.Resolved mark.number mark.count mark.value)
+        (map (λ (o : Order). SetState o.number (Settled mark.number)) orders ++ AddMark mark
+        ∷ moved_rows orders held.accounts)
     resolved =
         let step = steps book g.choice mark kept.sound g.greatest any is_mark in
         let change = changes book g.choice mark kept.sound g.greatest any is_mark in
         let rows = numbers_taken book g.choice in
-        subst (IsPrepared held Resolve (answer.Resolved mark.number mark.count mark.value)) (λ i. sym numbers_are i ++ AddMark mark ∷ sym balances_are i)
+        subst (IsPrepared held Resolve (answer.Resolved mark.number mark.count mark.value))
+        (λ i. sym numbers_are i ++ AddMark mark ∷ sym balances_are i)
         (record {
           book = settle book (is_chosen book g.choice);
           prepares = record {
             step = step;
             change = change;
-            fits = ranges book (settle book (is_chosen book g.choice)) Resolve (Ok (answer.Resolved mark.number mark.count mark.value)) tt kept.fits step;
-            balanced = balanced_after held (settling_rows book g.choice rows mark) (settle book (is_chosen book g.choice)) (settling_leaves book g.choice rows mark) kept.balanced (codes_settled book (is_chosen book g.choice) ∙ codes_are) change.leads.balances;
+            fits = ranges book (settle book (is_chosen book g.choice)) Resolve
+                (Ok (answer.Resolved mark.number mark.count mark.value)) tt kept.fits step;
+            balanced = balanced_after held (settling_rows book g.choice rows mark)
+                (settle book (is_chosen book g.choice)) (settling_leaves book g.choice rows mark) kept.balanced
+                (codes_settled book (is_chosen book g.choice) ∙ codes_are) change.leads.balances;
             room = settling_fits book g.choice rows mark held room;
           };
           repeated = λ k e. absurd (cc);

@@ -1,5 +1,6 @@
 -- Accounts while orders are settled one after another.
-use Rattle.std.proofs.Common.{◌≡◌, ℕ, ◌+◌, ◌*◌, ◌^◌, ◌≤◌, ◌<◌, ℤ, pos, neg_ℤ, ◌+ℤ◌, ◌-ℤ◌, Bool, true, false, cond, List, [], ◌∷◌, ◌++◌, map, not, length, get_or, drop, append_assoc, refl, sym, ap, ◌∙◌, arith}
+use Rattle.std.proofs.Common.{◌≡◌, ℕ, ◌+◌, ◌*◌, ◌^◌, ◌≤◌, ◌<◌, ℤ, pos, neg_ℤ, ◌+ℤ◌, ◌-ℤ◌, Bool, true, false, cond, List}
+use Rattle.std.proofs.Common.{[], ◌∷◌, ◌++◌, map, not, length, get_or, drop, append_assoc, refl, sym, ap, ◌∙◌, arith}
 use Rattle.std.proofs.lemmas.Int.{ints}
 use Rattle.std.proofs.lemmas.List.{at_drop_more}
 use Rattle.std.specs.Ordering.{int_eq}
@@ -23,33 +24,44 @@ use Rattle.rtgs_ledger.proofs.Lists.{bytes_eq_comm, int_sum_by-append, weaker}
 
 -- ---- one order
 
-moves_once : (o : Order) (less more : ℤ) → less ≡ neg_ℤ (pos o.amount) → more ≡ pos o.amount → (a : Account) → move o.receiver more (move o.sender less a) ≡ after_order o a
+moves_once : (o : Order) (less more : ℤ) → less ≡ neg_ℤ (pos o.amount) → more ≡ pos o.amount → (a : Account)
+    → move o.receiver more (move o.sender less a) ≡ after_order o a
 unfolding gain
 moves_once o less more e f a = by (is_of o.sender a) (is_of o.receiver a) refl refl
   where
-    by : (s r : Bool) → is_of o.sender a ≡ s → is_of o.receiver a ≡ r → move o.receiver more (move o.sender less a) ≡ after_order o a
+    by : (s r : Bool) → is_of o.sender a ≡ s → is_of o.receiver a ≡ r
+        → move o.receiver more (move o.sender less a) ≡ after_order o a
     by true true g h =
         let same : a.balance +ℤ less +ℤ more ≡ a.balance +ℤ (pos o.amount -ℤ pos o.amount) = omega (arith, ints) in
-        rw (bytes_eq_comm o.receiver (code_of a), bytes_eq_comm o.sender (code_of a), g, h) (λ i. record a { balance = same i })
+        rw (bytes_eq_comm o.receiver (code_of a), bytes_eq_comm o.sender (code_of a), g, h)
+        (λ i. record a { balance = same i })
     by true false g h =
         let same : a.balance +ℤ less ≡ a.balance +ℤ (pos 0 -ℤ pos o.amount) = omega (arith, ints) in
-        rw (bytes_eq_comm o.receiver (code_of a), bytes_eq_comm o.sender (code_of a), g, h) (λ i. record a { balance = same i })
+        rw (bytes_eq_comm o.receiver (code_of a), bytes_eq_comm o.sender (code_of a), g, h)
+        (λ i. record a { balance = same i })
     by false true g h =
         let same : a.balance +ℤ more ≡ a.balance +ℤ (pos o.amount -ℤ pos 0) = omega (arith, ints) in
-        rw (bytes_eq_comm o.receiver (code_of a), bytes_eq_comm o.sender (code_of a), g, h) (λ i. record a { balance = same i })
+        rw (bytes_eq_comm o.receiver (code_of a), bytes_eq_comm o.sender (code_of a), g, h)
+        (λ i. record a { balance = same i })
     by false false g h =
         let same : a.balance ≡ a.balance +ℤ (pos 0 -ℤ pos 0) = omega (arith, ints) in
-        rw (bytes_eq_comm o.receiver (code_of a), bytes_eq_comm o.sender (code_of a), g, h) (λ i. record a { balance = same i })
+        rw (bytes_eq_comm o.receiver (code_of a), bytes_eq_comm o.sender (code_of a), g, h)
+        (λ i. record a { balance = same i })
 
-pub moves_all : (o : Order) (less more : ℤ) → less ≡ neg_ℤ (pos o.amount) → more ≡ pos o.amount → (xs : List Account) → with_move o.receiver more (with_move o.sender less xs) ≡ map (after_order o) xs
+pub moves_all : (o : Order) (less more : ℤ) → less ≡ neg_ℤ (pos o.amount) → more ≡ pos o.amount → (xs : List Account)
+    → with_move o.receiver more (with_move o.sender less xs) ≡ map (after_order o) xs
 moves_all o less more e f [] = refl
 moves_all o less more e f (x ∷ xs) = λ i. moves_once o less more e f x i ∷ moves_all o less more e f xs i
 
 -- a balance within the bound takes or gives one amount more
-pub fits_less : (n : ℕ) → n ≤ Amount.MAX → (less : ℤ) → less ≡ neg_ℤ (pos n) → (xs : List Account) → AllByRecursion (λ a. Within (10 ^ 18) a.balance) xs → AllByRecursion (λ a. FitsSigned w64 (a.balance +ℤ less)) xs
-fits_less n small less e = weaker (λ a. Within (10 ^ 18) a.balance) (λ a. FitsSigned w64 (a.balance +ℤ less)) (λ a h. omega (arith, ints))
+pub fits_less : (n : ℕ) → n ≤ Amount.MAX → (less : ℤ) → less ≡ neg_ℤ (pos n) → (xs : List Account)
+    → AllByRecursion (λ a. Within (10 ^ 18) a.balance) xs → AllByRecursion (λ a. FitsSigned w64 (a.balance +ℤ less)) xs
+fits_less n small less e = weaker (λ a. Within (10 ^ 18) a.balance) (λ a. FitsSigned w64 (a.balance +ℤ less))
+    (λ a h. omega (arith, ints))
 
-pub fits_more : (code : List ℕ) (n : ℕ) → n ≤ Amount.MAX → (less more : ℤ) → less ≡ neg_ℤ (pos n) → more ≡ pos n → (xs : List Account) → AllByRecursion (λ a. Within (10 ^ 18) a.balance) xs → AllByRecursion (λ a. FitsSigned w64 (a.balance +ℤ more)) (with_move code less xs)
+pub fits_more : (code : List ℕ) (n : ℕ) → n ≤ Amount.MAX → (less more : ℤ) → less ≡ neg_ℤ (pos n) → more ≡ pos n
+    → (xs : List Account) → AllByRecursion (λ a. Within (10 ^ 18) a.balance) xs
+    → AllByRecursion (λ a. FitsSigned w64 (a.balance +ℤ more)) (with_move code less xs)
 fits_more code n small less more e f [] h = tt
 fits_more code n small less more e f (x ∷ xs) h = (by (is_of code x), fits_more code n small less more e f xs h.1)
   where
@@ -59,19 +71,23 @@ fits_more code n small less more e f (x ∷ xs) h = (by (is_of code x), fits_mor
 
 -- ---- orders one after another
 
-after_more : (os : List Order) (o : Order) (a : Account) → after_order o (after_orders os a) ≡ after_orders (os ++ o ∷ []) a
+after_more : (os : List Order) (o : Order) (a : Account) → after_order o (after_orders os a)
+    ≡ after_orders (os ++ o ∷ []) a
 after_more os o a =
     let sum = int_sum_by-append (gain (code_of a)) os (o ∷ []) in
-    let same : (a.balance +ℤ int_sum_by (gain (code_of a)) os) +ℤ gain (code_of a) o ≡ a.balance +ℤ int_sum_by (gain (code_of a)) (os ++ o ∷ []) = omega (arith, ints) in
+    let same : (a.balance +ℤ int_sum_by (gain (code_of a)) os) +ℤ gain (code_of a) o
+    ≡ a.balance +ℤ int_sum_by (gain (code_of a)) (os ++ o ∷ []) = omega (arith, ints) in
     λ i. record a { balance = same i }
 
-pub all_after_more : (os : List Order) (o : Order) (xs : List Account) → map (after_order o) (map (after_orders os) xs) ≡ map (after_orders (os ++ o ∷ [])) xs
+pub all_after_more : (os : List Order) (o : Order) (xs : List Account)
+    → map (after_order o) (map (after_orders os) xs) ≡ map (after_orders (os ++ o ∷ [])) xs
 all_after_more os o [] = refl
 all_after_more os o (x ∷ xs) = λ i. after_more os o x i ∷ all_after_more os o xs i
 
 pub all_after_none : (xs : List Account) → xs ≡ map (after_orders []) xs
 all_after_none [] = refl
-all_after_none (x ∷ xs) = let same : x.balance ≡ x.balance +ℤ pos 0 = omega (arith, ints) in λ i. record x { balance = same i } ∷ all_after_none xs i
+all_after_none (x ∷ xs) = let same : x.balance ≡ x.balance +ℤ pos 0 = omega (arith, ints)
+    in λ i. record x { balance = same i } ∷ all_after_none xs i
 
 gain_is_small : (code : List ℕ) (o : Order) → o.amount ≤ Amount.MAX → Within Amount.MAX (gain code o)
 unfolding gain
@@ -87,7 +103,8 @@ gain_is_small code o small = by (bytes_eq o.receiver code) (bytes_eq o.sender co
 abbrev pub AreNear : ℕ → List Account → Type 0
 AreNear orders xs = AllByRecursion (λ a. Within (LARGEST_BALANCE + orders * Amount.MAX) a.balance) xs
 
-pub near_more : (n : ℕ) (o : Order) → o.amount ≤ Amount.MAX → (xs : List Account) → AreNear n xs → AreNear (n + 1) (map (after_order o) xs)
+pub near_more : (n : ℕ) (o : Order) → o.amount ≤ Amount.MAX → (xs : List Account) → AreNear n xs
+    → AreNear (n + 1) (map (after_order o) xs)
 near_more n o small [] h = tt
 near_more n o small (x ∷ xs) h =
     let by = gain_is_small (code_of x) o small in
@@ -97,10 +114,15 @@ near_more n o small (x ∷ xs) h =
     let most = by.1 in
     ((omega (arith, ints), omega (arith, ints)), near_more n o small xs h.1)
 
-pub near_is_small : (n : ℕ) → n ≤ MOST_QUEUED → (xs : List Account) → AreNear n xs → AllByRecursion (λ a. Within (10 ^ 18) a.balance) xs
-near_is_small n few = weaker (λ a. Within (LARGEST_BALANCE + n * Amount.MAX) a.balance) (λ a. Within (10 ^ 18) a.balance) (λ a h. let low = h.0 in let high = h.1 in (omega (arith, ints), omega (arith, ints)))
+pub near_is_small : (n : ℕ) → n ≤ MOST_QUEUED → (xs : List Account) → AreNear n xs
+    → AllByRecursion (λ a. Within (10 ^ 18) a.balance) xs
+near_is_small n few = weaker (λ a. Within (LARGEST_BALANCE + n * Amount.MAX) a.balance)
+    (λ a. Within (10 ^ 18) a.balance) (λ a h. let low = h.0 in let high = h.1
+    in (omega (arith, ints), omega (arith, ints)))
 
-pub near_none : (book : Book) (xs : List Account) → AreBalanced book xs → AllByRecursion (λ code. Within LARGEST_BALANCE (balance book code)) (map (λ (p : Participant). p.code) (map participant_of xs)) → AreNear 0 xs
+pub near_none : (book : Book) (xs : List Account) → AreBalanced book xs
+    → AllByRecursion (λ code. Within LARGEST_BALANCE (balance book code))
+    (map (λ (p : Participant). p.code) (map participant_of xs)) → AreNear 0 xs
 near_none book [] h small = tt
 near_none book (x ∷ xs) h small =
     let e = h.0 in
@@ -113,18 +135,25 @@ near_none book (x ∷ xs) h small =
 abbrev pub does_move : List Order → Account → Bool
 does_move orders a = not (int_eq a.balance (after_orders orders a).balance)
 
-moves_there : (orders : List Order) (a : Account) (rest : List Account) → does_move orders a ≡ true → moved_accounts orders (a ∷ rest) ≡ after_orders orders a ∷ moved_accounts orders rest
+moves_there : (orders : List Order) (a : Account) (rest : List Account) → does_move orders a ≡ true
+    → moved_accounts orders (a ∷ rest) ≡ after_orders orders a ∷ moved_accounts orders rest
 moves_there orders a rest e = rw e refl
 
-stays_there : (orders : List Order) (a : Account) (rest : List Account) → does_move orders a ≡ false → moved_accounts orders (a ∷ rest) ≡ moved_accounts orders rest
+stays_there : (orders : List Order) (a : Account) (rest : List Account) → does_move orders a ≡ false
+    → moved_accounts orders (a ∷ rest) ≡ moved_accounts orders rest
 stays_there orders a rest e = rw e refl
 
-module _ (orders : List Order) (xs : List Account) (i : ℕ) (a : Account) (done : List Account) (less : i < length xs) (here : a ≡ get_or xs i a) (so_far : done ++ moved_accounts orders (drop i xs) ≡ moved_accounts orders xs) where
+module _ (orders : List Order) (xs : List Account) (i : ℕ) (a : Account) (done : List Account) (less : i < length xs)
+    (here : a ≡ get_or xs i a) (so_far : done ++ moved_accounts orders (drop i xs) ≡ moved_accounts orders xs) where
   next : done ++ moved_accounts orders (a ∷ drop (i + 1) xs) ≡ moved_accounts orders xs
-  next = ap (λ y. done ++ moved_accounts orders (y ∷ drop (i + 1) xs)) here ∙ ap (λ ys. done ++ ys) (sym (at_drop_more (moved_accounts orders) xs i a less)) ∙ so_far
+  next = ap (λ y. done ++ moved_accounts orders (y ∷ drop (i + 1) xs)) here
+      ∙ ap (λ ys. done ++ ys) (sym (at_drop_more (moved_accounts orders) xs i a less)) ∙ so_far
 
-  pub one_moves : does_move orders a ≡ true → (done ++ after_orders orders a ∷ []) ++ moved_accounts orders (drop (i + 1) xs) ≡ moved_accounts orders xs
-  one_moves e = append_assoc done (after_orders orders a ∷ []) (moved_accounts orders (drop (i + 1) xs)) ∙ ap (λ ys. done ++ ys) (sym (moves_there orders a (drop (i + 1) xs) e)) ∙ next
+  pub one_moves : does_move orders a ≡ true → (done ++ after_orders orders a ∷ [])
+      ++ moved_accounts orders (drop (i + 1) xs) ≡ moved_accounts orders xs
+  one_moves e = append_assoc done (after_orders orders a ∷ []) (moved_accounts orders (drop (i + 1) xs))
+      ∙ ap (λ ys. done ++ ys) (sym (moves_there orders a (drop (i + 1) xs) e)) ∙ next
 
-  pub one_stays : does_move orders a ≡ false → done ++ moved_accounts orders (drop (i + 1) xs) ≡ moved_accounts orders xs
+  pub one_stays : does_move orders a ≡ false → done ++ moved_accounts orders (drop (i + 1) xs)
+      ≡ moved_accounts orders xs
   one_stays e = ap (λ ys. done ++ ys) (sym (stays_there orders a (drop (i + 1) xs) e)) ∙ next

@@ -1,5 +1,6 @@
 -- What withdrawing an order comes to, test by test, and its change.
-use Rattle.std.proofs.Common.{◌≡◌, ℕ, ◌≤◌, Bool, true, false, cond, if◌then◌else◌, List, [], ◌∷◌, find, Ok, Err, Some, None, ◌⊎◌, inl, inr, refl, sym, ap, subst, ◌∙◌, arith}
+use Rattle.std.proofs.Common.{◌≡◌, ℕ, ◌≤◌, Bool, true, false, cond, if◌then◌else◌, List, [], ◌∷◌, find, Ok, Err, Some}
+use Rattle.std.proofs.Common.{None, ◌⊎◌, inl, inr, refl, sym, ap, subst, ◌∙◌, arith}
 use Rattle.std.proofs.lemmas.Bool.Decides.{nat_tests}
 use Rattle.std.proofs.lemmas.List.{length-map}
 use Rattle.std.specs.List.{AllByRecursion, range_with_len}
@@ -29,35 +30,43 @@ use Rattle.rtgs_ledger.proofs.Lists.{every, weaker}
 use Rattle.rtgs_ledger.proofs.Reading.{found_by_number}
 
 module _ (book : Book) (sender reference : List ℕ) where
-  pub unknown : is_participant book sender ≡ false → Step book (command.Withdraw sender reference) (Err UnknownParticipant) book
+  pub unknown : is_participant book sender ≡ false → Step book (command.Withdraw sender reference)
+      (Err UnknownParticipant) book
   unfolding withdraw first_of
   unknown e = rw e refl
 
   module _ (there : is_participant book sender ≡ true) where
-    pub unknown_order : order_named book sender reference ≡ None → Step book (command.Withdraw sender reference) (Err UnknownOrder) book
+    pub unknown_order : order_named book sender reference ≡ None
+        → Step book (command.Withdraw sender reference) (Err UnknownOrder) book
     unfolding withdraw first_of
     unknown_order absent = rw (there, absent) refl
 
     module _ (o : Order) (found : order_named book sender reference ≡ Some o) where
-      pub repeats : is_withdrawn_state o.state ≡ true → Step book (command.Withdraw sender reference) (Ok (answer.Repeated (known.Order o.number o.state))) book
+      pub repeats : is_withdrawn_state o.state ≡ true → Step book (command.Withdraw sender reference)
+          (Ok (answer.Repeated (known.Order o.number o.state))) book
       unfolding withdraw first_of
       repeats back = rw (there, found, back) refl
 
-      pub not_queued : is_withdrawn_state o.state ≡ false → is_queued_state o.state ≡ false → Step book (command.Withdraw sender reference) (Err NotQueued) book
+      pub not_queued : is_withdrawn_state o.state ≡ false → is_queued_state o.state ≡ false
+          → Step book (command.Withdraw sender reference) (Err NotQueued) book
       unfolding withdraw first_of
       not_queued not_back done = rw (there, found, not_back, done) refl
 
-      pub withdraws : is_withdrawn_state o.state ≡ false → is_queued_state o.state ≡ true → Step book (command.Withdraw sender reference) (Ok (answer.Withdrawn o.number)) (with_state book (has_number o.number) Withdrawn)
+      pub withdraws : is_withdrawn_state o.state ≡ false → is_queued_state o.state ≡ true
+          → Step book (command.Withdraw sender reference) (Ok (answer.Withdrawn o.number))
+          (with_state book (has_number o.number) Withdrawn)
       unfolding withdraw first_of
       withdraws not_back waits = rw (there, found, not_back, waits) refl
 
-pub is_done : (state : OrderState) → ((mark : ℕ) × (state ≡ Settled mark)) ⊎ (state ≡ Rejected) → (is_withdrawn_state state ≡ false) × (is_queued_state state ≡ false)
+pub is_done : (state : OrderState) → ((mark : ℕ) × (state ≡ Settled mark)) ⊎ (state ≡ Rejected)
+    → (is_withdrawn_state state ≡ false) × (is_queued_state state ≡ false)
 is_done state (inl settled) = rw settled.1 (refl, refl)
 is_done state (inr rejected) = rw rejected (refl, refl)
 
 -- ---- the order with a number
 
-found_has : {X : Type 0} (P : X → Type 0) (p : X → Bool) (xs : List X) (x : X) → AllByRecursion P xs → find p xs ≡ Some x → P x
+found_has : {X : Type 0} (P : X → Type 0) (p : X → Bool) (xs : List X) (x : X) → AllByRecursion P xs
+    → find p xs ≡ Some x → P x
 found_has P p [] x h e = absurd (cc)
 found_has {X} P p (y ∷ ys) x h e = by (p y) e (found_has P p ys x h.1)
   where
@@ -66,14 +75,20 @@ found_has {X} P p (y ∷ ys) x h e = by (p y) e (found_has P p ys x h.1)
     by false e rest = rest e
 
 -- it is the one that was found
-pub alone_in_number : (book : Book) → OrdersAreNumbered book → (p : Order → Bool) (o : Order) → find p book.orders ≡ Some o → AllByRecursion (λ x. has_number o.number x ≡ true → x ≡ o) book.orders
+pub alone_in_number : (book : Book) → OrdersAreNumbered book → (p : Order → Bool) (o : Order)
+    → find p book.orders ≡ Some o → AllByRecursion (λ x. has_number o.number x ≡ true → x ≡ o) book.orders
 alone_in_number book numbered p o found =
-    let all = weaker (λ x. (1 ≤ x.number) × (find (has_number x.number) book.orders ≡ Some x)) (λ x. find (has_number x.number) book.orders ≡ Some x) (λ x h. h.1) book.orders
-    (found_by_number 1 book.orders (numbered.0 ∙ ap (range_with_len 1) (length-map book.orders (λ (x : Order). x.number)))) in
-    let its : find (has_number o.number) book.orders ≡ Some o = found_has (λ x. find (has_number x.number) book.orders ≡ Some x) p book.orders o all found in
-    weaker (λ x. find (has_number x.number) book.orders ≡ Some x) (λ x. has_number o.number x ≡ true → x ≡ o) (λ x h e. same x its h e) book.orders all
+    let all = weaker (λ x. (1 ≤ x.number) × (find (has_number x.number) book.orders ≡ Some x))
+    (λ x. find (has_number x.number) book.orders ≡ Some x) (λ x h. h.1) book.orders
+    (found_by_number 1 book.orders (numbered.0 ∙ ap (range_with_len 1)
+    (length-map book.orders (λ (x : Order). x.number)))) in
+    let its : find (has_number o.number) book.orders ≡ Some o =
+    found_has (λ x. find (has_number x.number) book.orders ≡ Some x) p book.orders o all found in
+    weaker (λ x. find (has_number x.number) book.orders ≡ Some x) (λ x. has_number o.number x ≡ true → x ≡ o)
+    (λ x h e. same x its h e) book.orders all
   where
-    same : (x : Order) → find (has_number o.number) book.orders ≡ Some o → find (has_number x.number) book.orders ≡ Some x → has_number o.number x ≡ true → x ≡ o
+    same : (x : Order) → find (has_number o.number) book.orders ≡ Some o
+        → find (has_number x.number) book.orders ≡ Some x → has_number o.number x ≡ true → x ≡ o
     same x its h e =
         let number : x.number ≡ o.number = grind (arith, nat_tests) in
         let both : Some x ≡ Some o = sym h ∙ ap (λ n. find (has_number n) book.orders) number ∙ its in
@@ -81,15 +96,19 @@ alone_in_number book numbered p o found =
 
 -- queued orders that get another state, but are not settled, move no balance
 abbrev pub BalanceAfterRestating : Type 0
-BalanceAfterRestating = (book : Book) (is_in : Order → Bool) (state : OrderState) (code : List ℕ) → AllByRecursion (λ order. is_in order ≡ true → is_queued order ≡ true) book.orders → is_settled_state state ≡ false → balance (with_state book is_in state) code ≡ balance book code
+BalanceAfterRestating = (book : Book) (is_in : Order → Bool) (state : OrderState) (code : List ℕ)
+    → AllByRecursion (λ order. is_in order ≡ true → is_queued order ≡ true) book.orders → is_settled_state state ≡ false
+    → balance (with_state book is_in state) code ≡ balance book code
 
-module _ (held : Held) (kept : IsKept held) (law : BalanceAfterRestating) (sender reference : List ℕ) (o : Order) (found : order_named held.content sender reference ≡ Some o) (waits : is_queued_state o.state ≡ true) where
+module _ (held : Held) (kept : IsKept held) (law : BalanceAfterRestating) (sender reference : List ℕ) (o : Order)
+    (found : order_named held.content sender reference ≡ Some o) (waits : is_queued_state o.state ≡ true) where
   abbrev new : Book
   new = with_state held.content (has_number o.number) Withdrawn
 
   all_wait : AllByRecursion (λ x. has_number o.number x ≡ true → is_queued x ≡ true) held.content.orders
   unfolding order_named
-  all_wait = weaker (λ x. has_number o.number x ≡ true → x ≡ o) (λ x. has_number o.number x ≡ true → is_queued x ≡ true) (λ x h e. ap is_queued (h e) ∙ waits) held.content.orders
+  all_wait = weaker (λ x. has_number o.number x ≡ true → x ≡ o) (λ x. has_number o.number x ≡ true → is_queued x ≡ true)
+      (λ x h e. ap is_queued (h e) ∙ waits) held.content.orders
       (alone_in_number held.content (let s = kept.sound in s.orders_numbered) (is_order_named sender reference) o found)
 
   balance_same : (c : List ℕ) → balance held.content c ≡ balance new c
@@ -98,11 +117,18 @@ module _ (held : Held) (kept : IsKept held) (law : BalanceAfterRestating) (sende
   leads_to_it : Leads held.content (SetState o.number Withdrawn ∷ []) new
   leads_to_it = record {
     book = refl;
-    balances = every (λ c. balance_set c (SetState o.number Withdrawn ∷ []) ≡ (if int_eq (balance held.content c) (balance new c) then None else Some (balance new c))) (λ c. rw (← balance_same c, same_int (balance held.content c)) refl) (accounts new);
+    balances = every (λ c. balance_set c (SetState o.number Withdrawn ∷ [])
+        ≡ (if int_eq (balance held.content c) (balance new c) then None else Some (balance new c)))
+        (λ c. rw (← balance_same c, same_int (balance held.content c)) refl) (accounts new);
   }
 
-  pub prepared_withdraw : StepKeepsRanges → StepKeepsSoundness → is_participant held.content sender ≡ true → is_withdrawn_state o.state ≡ false
-      → IsPrepared held (command.Withdraw sender reference) (answer.Withdrawn o.number) (SetState o.number Withdrawn ∷ [])
+  pub prepared_withdraw : StepKeepsRanges → StepKeepsSoundness → is_participant held.content sender ≡ true
+      → is_withdrawn_state o.state ≡ false
+      → IsPrepared held (command.Withdraw sender reference) (answer.Withdrawn o.number)
+      (SetState o.number Withdrawn ∷ [])
   prepared_withdraw ranges soundness there not_back =
-      prepared_done held (command.Withdraw sender reference) (answer.Withdrawn o.number) (SetState o.number Withdrawn ∷ []) new kept ranges soundness tt (withdraws held.content sender reference there o found not_back waits) leads_to_it (tt, tt)
-      (all_same (balance held.content) (balance new) balance_same held.accounts kept.balanced) (refl, tt) (λ k e. absurd (cc)) (λ e. absurd (cc))
+      prepared_done held (command.Withdraw sender reference) (answer.Withdrawn o.number)
+      (SetState o.number Withdrawn ∷ []) new kept ranges soundness tt
+      (withdraws held.content sender reference there o found not_back waits) leads_to_it (tt, tt)
+      (all_same (balance held.content) (balance new) balance_same held.accounts kept.balanced) (refl, tt)
+      (λ k e. absurd (cc)) (λ e. absurd (cc))

@@ -9,7 +9,8 @@ pub appends-more : (old mid new : Option (List ℕ)) (a n : ℕ) (bs : List ℕ)
 appends-more None mid new a n bs p q = tt
 appends-more (Some xs) None new a n bs p q = absurd p
 appends-more (Some xs) (Some ys) None a n bs p q = q
-appends-more (Some xs) (Some ys) (Some zs) a n bs p q = rw (q, p, take-add a n bs) (append_assoc xs (take a bs) (take n (drop a bs)))
+appends-more (Some xs) (Some ys) (Some zs) a n bs p q = rw (q, p, take-add a n bs)
+    (append_assoc xs (take a bs) (take n (drop a bs)))
 
 -- the bytes from a place on
 pub rest-of : (a : ℕ) (bs : List ℕ) → take (length bs - a) (drop a bs) ≡ drop a bs

@@ -3,11 +3,30 @@ use Rattle.std.proofs.Common.{◌≡◌, ℕ, nat_eq, List, [], ◌∷◌, refl,
 use Rattle.std.specs.Prelude.{find, unwrap_or}
 use Rattle.rtgs_refusals.specs.Table.{entry_of}
 use Rattle.rtgs_refusals.specs.declared.refusal_kind.RefusalKind.{RefusalKind}
-use Rattle.rtgs_refusals.specs.declared.refusal_kind.RefusalKind.TheVariants.{UnknownParticipant, UnknownReceiver, SameParty, ReferenceUsed, NotOpen, NoCover, QueueFull, NumbersUsedUp, UnknownOrder, CodeTaken, KeyTaken, TooManyParticipants, TotalTooLarge, WrongPhase, WrongDate, Weekend, NotQueued, Resolvable, Overdrawn, BadCode, BadReference, BadAmount, BadName, BadKey, BadDate, BadHeader, BadRow, BadCount, BadHead, HeadTooLong, NoLength, BodyTooLong, Truncated, BadJson, WrongFields, NoSuchRoute, NoKey, AnswerLost, OutOfMemory, StoreFault, Failed, NotADeskFile, Inconsistent, InUse, FileExists, NoListen, NoOrderFile}
+use Rattle.rtgs_refusals.specs.declared.refusal_kind.RefusalKind.TheVariants.{UnknownParticipant, UnknownReceiver}
+use Rattle.rtgs_refusals.specs.declared.refusal_kind.RefusalKind.TheVariants.{SameParty, ReferenceUsed, NotOpen}
+use Rattle.rtgs_refusals.specs.declared.refusal_kind.RefusalKind.TheVariants.{NoCover, QueueFull, NumbersUsedUp}
+use Rattle.rtgs_refusals.specs.declared.refusal_kind.RefusalKind.TheVariants.{UnknownOrder, CodeTaken, KeyTaken}
+use Rattle.rtgs_refusals.specs.declared.refusal_kind.RefusalKind.TheVariants.{TooManyParticipants, TotalTooLarge}
+use Rattle.rtgs_refusals.specs.declared.refusal_kind.RefusalKind.TheVariants.{WrongPhase, WrongDate, Weekend, NotQueued}
+use Rattle.rtgs_refusals.specs.declared.refusal_kind.RefusalKind.TheVariants.{Resolvable, Overdrawn, BadCode}
+use Rattle.rtgs_refusals.specs.declared.refusal_kind.RefusalKind.TheVariants.{BadReference, BadAmount, BadName, BadKey}
+use Rattle.rtgs_refusals.specs.declared.refusal_kind.RefusalKind.TheVariants.{BadDate, BadHeader, BadRow, BadCount}
+use Rattle.rtgs_refusals.specs.declared.refusal_kind.RefusalKind.TheVariants.{BadHead, HeadTooLong, NoLength}
+use Rattle.rtgs_refusals.specs.declared.refusal_kind.RefusalKind.TheVariants.{BodyTooLong, Truncated, BadJson}
+use Rattle.rtgs_refusals.specs.declared.refusal_kind.RefusalKind.TheVariants.{WrongFields, NoSuchRoute, NoKey}
+use Rattle.rtgs_refusals.specs.declared.refusal_kind.RefusalKind.TheVariants.{AnswerLost, OutOfMemory, StoreFault}
+use Rattle.rtgs_refusals.specs.declared.refusal_kind.RefusalKind.TheVariants.{Failed, NotADeskFile, Inconsistent, InUse}
+use Rattle.rtgs_refusals.specs.declared.refusal_kind.RefusalKind.TheVariants.{FileExists, NoListen, NoOrderFile}
 
 -- all kinds
 abbrev kinds : List RefusalKind
-kinds = UnknownParticipant ∷ UnknownReceiver ∷ SameParty ∷ ReferenceUsed ∷ NotOpen ∷ NoCover ∷ QueueFull ∷ NumbersUsedUp ∷ UnknownOrder ∷ CodeTaken ∷ KeyTaken ∷ TooManyParticipants ∷ TotalTooLarge ∷ WrongPhase ∷ WrongDate ∷ Weekend ∷ NotQueued ∷ Resolvable ∷ Overdrawn ∷ BadCode ∷ BadReference ∷ BadAmount ∷ BadName ∷ BadKey ∷ BadDate ∷ BadHeader ∷ BadRow ∷ BadCount ∷ BadHead ∷ HeadTooLong ∷ NoLength ∷ BodyTooLong ∷ Truncated ∷ BadJson ∷ WrongFields ∷ NoSuchRoute ∷ NoKey ∷ AnswerLost ∷ OutOfMemory ∷ StoreFault ∷ Failed ∷ NotADeskFile ∷ Inconsistent ∷ InUse ∷ FileExists ∷ NoListen ∷ NoOrderFile ∷ []
+kinds = UnknownParticipant ∷ UnknownReceiver ∷ SameParty ∷ ReferenceUsed ∷ NotOpen ∷ NoCover ∷ QueueFull ∷ NumbersUsedUp
+    ∷ UnknownOrder ∷ CodeTaken ∷ KeyTaken ∷ TooManyParticipants ∷ TotalTooLarge ∷ WrongPhase ∷ WrongDate ∷ Weekend
+    ∷ NotQueued ∷ Resolvable ∷ Overdrawn ∷ BadCode ∷ BadReference ∷ BadAmount ∷ BadName ∷ BadKey ∷ BadDate ∷ BadHeader
+    ∷ BadRow ∷ BadCount ∷ BadHead ∷ HeadTooLong ∷ NoLength ∷ BodyTooLong ∷ Truncated ∷ BadJson ∷ WrongFields
+    ∷ NoSuchRoute ∷ NoKey ∷ AnswerLost ∷ OutOfMemory ∷ StoreFault ∷ Failed ∷ NotADeskFile ∷ Inconsistent ∷ InUse
+    ∷ FileExists ∷ NoListen ∷ NoOrderFile ∷ []
 
 -- the kind with a number
 abbrev numbered : ℕ → RefusalKind

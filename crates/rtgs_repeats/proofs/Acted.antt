@@ -1,5 +1,6 @@
 -- A command that acted is known, and where it is known it acts no more.
-use Rattle.std.proofs.Common.{◌≡◌, ℕ, ◌+◌, ◌==◌, Bool, true, false, cond, ◌||◌, List, [], ◌∷◌, ◌++◌, map, length, Option, Some, None, Ok, find, is_some, is_none, refl, sym, ap, ◌∙◌, true≢false, ℤ, arith}
+use Rattle.std.proofs.Common.{◌≡◌, ℕ, ◌+◌, ◌==◌, Bool, true, false, cond, ◌||◌, List, [], ◌∷◌, ◌++◌, map, length}
+use Rattle.std.proofs.Common.{Option, Some, None, Ok, find, is_some, is_none, refl, sym, ap, ◌∙◌, true≢false, ℤ, arith}
 use Rattle.std.proofs.lemmas.Bool.{not-false, and_from, not_from_true}
 use Rattle.std.proofs.lemmas.Int.{ints}
 use Rattle.std.specs.List.{list_any}
@@ -17,8 +18,11 @@ use Rattle.rtgs_book.specs.declared.command.Command.TheVariants.{Add, Post, Orde
 use Rattle.rtgs_book.specs.declared.answer.Answer.TheVariants as answer
 use Rattle.rtgs_book.specs.declared.answer.Known.TheVariants as known
 use Rattle.rtgs_book.specs.Books.{is_queued_state, is_withdrawn_state}
-use Rattle.rtgs_book.specs.Commands.{repeated, add, with_participant, is_same_participant, post, is_same_posting, known_posting, order, is_same_order, known_order, new_order, takes, settles_at_once, has_number, withdraw, is_withdrawn_order, number_of, with_state}
-use Rattle.rtgs_book.specs.Lookup.{has_code, accounts, participant_of, is_participant, is_order_named, order_named, is_posting_named, posting_named}
+use Rattle.rtgs_book.specs.Commands.{repeated, add, with_participant, is_same_participant, post, is_same_posting}
+use Rattle.rtgs_book.specs.Commands.{known_posting, order, is_same_order, known_order, new_order, takes}
+use Rattle.rtgs_book.specs.Commands.{settles_at_once, has_number, withdraw, is_withdrawn_order, number_of, with_state}
+use Rattle.rtgs_book.specs.Lookup.{has_code, accounts, participant_of, is_participant, is_order_named, order_named}
+use Rattle.rtgs_book.specs.Lookup.{is_posting_named, posting_named}
 use Rattle.rtgs_book.specs.Outcome.{Reply, Outcome}
 use Rattle.rtgs_book.specs.Run.{is_accepted}
 use Rattle.rtgs_book.specs.Settle.{restated}
@@ -48,11 +52,14 @@ pub known_participant : (book : Book) (code : List ℕ) → is_participant book 
 unfolding is_participant accounts participant_of
 known_participant book code = by book.participants
   where
-    by : (ps : List Participant) → list_any (bytes_eq code) (map (λ (p : Participant). p.code) ps) ≡ is_some (find (has_code code) ps)
+    by : (ps : List Participant) → list_any (bytes_eq code) (map (λ (p : Participant). p.code) ps)
+        ≡ is_some (find (has_code code) ps)
     by [] = refl
     by (p ∷ ps) = rw (bytes_turn code p.code) (at (bytes_eq p.code code) (by ps))
       where
-        at : (b : Bool) → list_any (bytes_eq code) (map (λ (p : Participant). p.code) ps) ≡ is_some (find (has_code code) ps) → (b || list_any (bytes_eq code) (map (λ (p : Participant). p.code) ps)) ≡ is_some (cond b (Some p) (find (has_code code) ps))
+        at : (b : Bool) → list_any (bytes_eq code) (map (λ (p : Participant). p.code) ps)
+            ≡ is_some (find (has_code code) ps) → (b || list_any (bytes_eq code) (map (λ (p : Participant). p.code) ps))
+            ≡ is_some (cond b (Some p) (find (has_code code) ps))
         at true rest = refl
         at false rest = rest
 
@@ -60,7 +67,8 @@ pub there : {X : Type 0} (o : Option X) → is_some o ≡ true → (x : X) × (o
 there None e = absurd (true≢false (sym e))
 there (Some x) e = (x, refl)
 
-pub participant_kept : (old new : Book) (code : List ℕ) → AreKept old new → is_participant old code ≡ true → is_participant new code ≡ true
+pub participant_kept : (old new : Book) (code : List ℕ) → AreKept old new → is_participant old code ≡ true
+    → is_participant new code ≡ true
 participant_kept old new code kept e =
     let p = there (participant_of old code) (sym (known_participant old code) ∙ e) in
     let q = kept.participants code p.0 p.1 in
@@ -68,16 +76,26 @@ participant_kept old new code kept e =
 
 -- ---- a participant
 
-add_known : (book : Book) (code name key : List ℕ) (p : Participant) → participant_of book code ≡ Some p → p.name ≡ name → p.key ≡ key → Step book (Add code name key) repeated book
+add_known : (book : Book) (code name key : List ℕ) (p : Participant) → participant_of book code ≡ Some p → p.name ≡ name
+    → p.key ≡ key → Step book (Add code name key) repeated book
 unfolding add
-add_known book code name key p e n k = sym (first_holds _ _ _ _ _ (ap (λ found. is_same_participant found name key) e ∙ and_from _ _ ((bytes_decides p.name name).1 n) ((bytes_decides p.key key).1 k)))
+add_known book code name key p e n k = sym (first_holds _ _ _ _ _
+    (ap (λ found. is_same_participant found name key) e ∙ and_from _ _ ((bytes_decides p.name name).1 n)
+    ((bytes_decides p.key key).1 k)))
 
-added_known : (old new : Book) (reply : Reply) (code name key : List ℕ) → is_accepted reply ≡ true → Step old (Add code name key) reply new → (p : Participant) × (participant_of new code ≡ Some p) × (p.name ≡ name) × (p.key ≡ key)
+added_known : (old new : Book) (reply : Reply) (code name key : List ℕ) → is_accepted reply ≡ true
+    → Step old (Add code name key) reply new → (p : Participant) × (participant_of new code ≡ Some p) × (p.name ≡ name)
+    × (p.key ≡ key)
 unfolding add with_participant participant_of
 added_known old new reply code name key accepted s =
     let p = passed_step old new reply _ _ (refl, (refl, (refl, (refl, tt)))) accepted s in
-    let book = ap (λ (o : Outcome). o.book) p.1 in
-    (record { code = code; name = name; key = key; credit = 0 }, ap (λ (b : Book). find (has_code code) b.participants) book ∙ find_added (record { code = code; name = name; key = key; credit = 0 }) old.participants p.0.1.0, refl, refl)
+    let book = ap (λ (o : Outcome). o.book) p.1 in (
+      record { code = code; name = name; key = key; credit = 0 },
+      ap (λ (b : Book). find (has_code code) b.participants)
+          book ∙ find_added (record { code = code; name = name; key = key; credit = 0 }) old.participants p.0.1.0,
+      refl,
+      refl,
+    )
 
 -- ---- a posting
 
@@ -88,24 +106,45 @@ not_accepted_posting : (found : Option Posting) → is_accepted (known_posting f
 not_accepted_posting None = refl
 not_accepted_posting (Some p) = refl
 
-pub posting_same : (p : Posting) (code : List ℕ) (cents : ℤ) → p.code ≡ code → p.cents ≡ cents → is_same_posting (Some p) code cents ≡ true
-posting_same p code cents c z = and_from _ _ ((bytes_decides p.code code).1 c) (ap (int_eq p.cents) (sym z) ∙ int_same p.cents)
+pub posting_same : (p : Posting) (code : List ℕ) (cents : ℤ) → p.code ≡ code → p.cents ≡ cents
+    → is_same_posting (Some p) code cents ≡ true
+posting_same p code cents c z = and_from _ _ ((bytes_decides p.code code).1 c)
+    (ap (int_eq p.cents) (sym z) ∙ int_same p.cents)
 
-post_known : (book : Book) (code reference : List ℕ) (cents : ℤ) (p : Posting) → is_participant book code ≡ true → posting_named book reference ≡ Some p → p.code ≡ code → p.cents ≡ cents
+post_known : (book : Book) (code reference : List ℕ) (cents : ℤ) (p : Posting) → is_participant book code ≡ true
+    → posting_named book reference ≡ Some p → p.code ≡ code → p.cents ≡ cents
     → Step book (Post code reference cents) (Ok (answer.Repeated (known.Posting p.number))) book
 unfolding post
 post_known book code reference cents p has e c z =
-    sym (second_holds _ _ _ _ _ _ _ (not_from_true _ has) (ap (λ found. is_same_posting found code cents) e ∙ posting_same p code cents c z) ∙ (λ i. record { reply = known_posting (e i); book = book }))
+    sym (second_holds _ _ _ _ _ _ _ (not_from_true _ has) (ap (λ found. is_same_posting found code cents) e
+    ∙ posting_same p code cents c z) ∙ (λ i. record { reply = known_posting (e i); book = book }))
 
-pub posted_known : (old new : Book) (reply : Reply) (code reference : List ℕ) (cents : ℤ) → is_accepted reply ≡ true → Step old (Post code reference cents) reply new
-    → (p : Posting) × (posting_named new reference ≡ Some p) × (p.code ≡ code) × (p.cents ≡ cents) × (p.number ≡ answered_number reply) × (is_participant old code ≡ true)
+pub posted_known : (old new : Book) (reply : Reply) (code reference : List ℕ) (cents : ℤ) → is_accepted reply ≡ true
+    → Step old (Post code reference cents) reply new
+    → (p : Posting) × (posting_named new reference ≡ Some p) × (p.code ≡ code) × (p.cents ≡ cents)
+    × (p.number ≡ answered_number reply) × (is_participant old code ≡ true)
 unfolding post posting_named
 posted_known old new reply code reference cents accepted s =
-    let p = passed_step old new reply _ _ (refl, (not_accepted_posting _, (refl, (refl, (refl, (refl, tt)))))) accepted s in
+    let p = passed_step old new reply _ _ (refl, (not_accepted_posting _, (refl, (refl, (refl, (refl, tt)))))) accepted
+    s in
     let book = ap (λ (o : Outcome). o.book) p.1 in
     let number = ap (λ (o : Outcome). answered_number o.reply) p.1 in
-    let posting : Posting = record { number = length old.postings + 1; code = code; reference = reference; cents = cents; date = old.day.date } in
-    (posting, ap (λ (b : Book). find (is_posting_named reference) b.postings) book ∙ find_right (is_posting_named reference) old.postings (posting ∷ []) p.0.1.1.0 ∙ rw (same_bytes reference) refl, refl, refl, sym number, not-false _ p.0.0)
+    let posting : Posting = record {
+      number = length old.postings + 1;
+      code = code;
+      reference = reference;
+      cents = cents;
+      date = old.day.date;
+    } in (
+      posting,
+      ap (λ (b : Book). find (is_posting_named reference) b.postings) book
+          ∙ find_right (is_posting_named reference) old.postings (posting ∷ []) p.0.1.1.0
+          ∙ rw (same_bytes reference) refl,
+      refl,
+      refl,
+      sym number,
+      not-false _ p.0.0,
+    )
 
 -- ---- an order
 
@@ -113,43 +152,74 @@ not_accepted_order : (found : Option Order) → is_accepted (known_order found) 
 not_accepted_order None = refl
 not_accepted_order (Some o) = refl
 
-pub order_same : (o : Order) (receiver : List ℕ) (amount : ℕ) → o.receiver ≡ receiver → o.amount ≡ amount → is_same_order (Some o) receiver amount ≡ true
-order_same o receiver amount r a = and_from _ _ ((bytes_decides o.receiver receiver).1 r) (ap (λ n. o.amount == n) (sym a) ∙ same_number o.amount)
+pub order_same : (o : Order) (receiver : List ℕ) (amount : ℕ) → o.receiver ≡ receiver → o.amount ≡ amount
+    → is_same_order (Some o) receiver amount ≡ true
+order_same o receiver amount r a = and_from _ _ ((bytes_decides o.receiver receiver).1 r)
+    (ap (λ n. o.amount == n) (sym a) ∙ same_number o.amount)
 
-order_known : (book : Book) (sender reference receiver : List ℕ) (amount : ℕ) (o : Order) → is_participant book sender ≡ true → order_named book sender reference ≡ Some o → o.receiver ≡ receiver → o.amount ≡ amount
+order_known : (book : Book) (sender reference receiver : List ℕ) (amount : ℕ) (o : Order)
+    → is_participant book sender ≡ true → order_named book sender reference ≡ Some o → o.receiver ≡ receiver
+    → o.amount ≡ amount
     → Step book (PlaceOrder sender reference receiver amount) (Ok (answer.Repeated (known.Order o.number o.state))) book
 unfolding order
 order_known book sender reference receiver amount o has e r a =
-    sym (second_holds _ _ _ _ _ _ _ (not_from_true _ has) (ap (λ found. is_same_order found receiver amount) e ∙ order_same o receiver amount r a) ∙ (λ i. record { reply = known_order (e i); book = book }))
+    sym (second_holds _ _ _ _ _ _ _ (not_from_true _ has) (ap (λ found. is_same_order found receiver amount) e
+    ∙ order_same o receiver amount r a) ∙ (λ i. record { reply = known_order (e i); book = book }))
 
 taken_number : (book : Book) (o : Order) → answered_number (takes book o).reply ≡ o.number
 unfolding takes
-taken_number book o = choose (λ (out : Outcome). answered_number out.reply ≡ o.number) (settles_at_once book o.sender o.amount) _ _ refl refl
+taken_number book o = choose (λ (out : Outcome). answered_number out.reply ≡ o.number)
+    (settles_at_once book o.sender o.amount) _ _ refl refl
 
-pub ordered_known : (old new : Book) (reply : Reply) (sender reference receiver : List ℕ) (amount : ℕ) → IsSound old → is_accepted reply ≡ true → Step old (PlaceOrder sender reference receiver amount) reply new
-    → (o : Order) × (order_named new sender reference ≡ Some o) × (o.receiver ≡ receiver) × (o.amount ≡ amount) × (o.number ≡ answered_number reply) × (is_participant old sender ≡ true)
+pub ordered_known : (old new : Book) (reply : Reply) (sender reference receiver : List ℕ) (amount : ℕ) → IsSound old
+    → is_accepted reply ≡ true → Step old (PlaceOrder sender reference receiver amount) reply new
+    → (o : Order) × (order_named new sender reference ≡ Some o) × (o.receiver ≡ receiver) × (o.amount ≡ amount)
+    × (o.number ≡ answered_number reply) × (is_participant old sender ≡ true)
 unfolding order order_named
 ordered_known old new reply sender reference receiver amount h accepted s =
-    let p = passed_step old new reply _ _ (refl, (not_accepted_order _, (refl, (refl, (refl, (refl, (refl, (refl, tt)))))))) accepted s in
+    let p = passed_step old new reply _ _ (
+      refl,
+      (
+        not_accepted_order _,
+        (refl, (refl, (refl, (refl, (refl, (refl, tt)))))),
+      ),
+    ) accepted s in
     let book = ap (λ (o : Outcome). o.book) p.1 in
-    let number = ap (λ (o : Outcome). answered_number o.reply) p.1 ∙ taken_number old (new_order old sender reference receiver amount) in
-    let joined : find (is_order_named sender reference) (old.orders ++ new_order old sender reference receiver amount ∷ []) ≡ Some (new_order old sender reference receiver amount) = find_right (is_order_named sender reference) old.orders (new_order old sender reference receiver amount ∷ []) p.0.1.1.0 ∙ rw (same_bytes sender, same_bytes reference) refl in
-    let later = (kept_joined old sender reference receiver amount h.orders_numbered).orders sender reference (new_order old sender reference receiver amount) joined in
-    (later.0, ap (λ (b : Book). find (is_order_named sender reference) b.orders) book ∙ later.1, later.2.receiver, later.2.amount, later.2.number ∙ sym number, not-false _ p.0.0)
+    let number = ap (λ (o : Outcome). answered_number o.reply) p.1
+    ∙ taken_number old (new_order old sender reference receiver amount) in
+    let joined : find (is_order_named sender reference) (old.orders ++ new_order old sender reference receiver amount
+    ∷ []) ≡ Some (new_order old sender reference receiver amount) =
+    find_right (is_order_named sender reference) old.orders (new_order old sender reference receiver amount ∷ [])
+    p.0.1.1.0 ∙ rw (same_bytes sender, same_bytes reference) refl in
+    let later = (kept_joined old sender reference receiver amount h.orders_numbered).orders sender reference
+    (new_order old sender reference receiver amount) joined in (
+      later.0,
+      ap (λ (b : Book). find (is_order_named sender reference) b.orders) book
+          ∙ later.1,
+      later.2.receiver,
+      later.2.amount,
+      later.2.number ∙ sym number,
+      not-false _ p.0.0,
+    )
 
 -- ---- a withdrawal
 
-withdrawn_known : (book : Book) (sender reference : List ℕ) (o : Order) → is_participant book sender ≡ true → order_named book sender reference ≡ Some o → o.state ≡ Withdrawn
+withdrawn_known : (book : Book) (sender reference : List ℕ) (o : Order) → is_participant book sender ≡ true
+    → order_named book sender reference ≡ Some o → o.state ≡ Withdrawn
     → Step book (Withdraw sender reference) (Ok (answer.Repeated (known.Order o.number Withdrawn))) book
 unfolding withdraw
 withdrawn_known book sender reference o has e w =
-    sym (third_holds _ _ _ _ _ _ _ _ _ (not_from_true _ has) (ap is_none e) (ap is_withdrawn_order e ∙ withdrawn o.state w) ∙ (λ i. record { reply = known_order (e i); book = book }) ∙ (λ i. record { reply = Ok (answer.Repeated (known.Order o.number (w i))); book = book }))
+    sym (third_holds _ _ _ _ _ _ _ _ _ (not_from_true _ has) (ap is_none e)
+    (ap is_withdrawn_order e ∙ withdrawn o.state w) ∙ (λ i. record { reply = known_order (e i); book = book })
+    ∙ (λ i. record { reply = Ok (answer.Repeated (known.Order o.number (w i))); book = book }))
   where
     withdrawn : (s : OrderState) → s ≡ Withdrawn → is_withdrawn_state s ≡ true
     withdrawn s same = ap is_withdrawn_state same
 
-took_back : (old new : Book) (reply : Reply) (sender reference : List ℕ) → is_accepted reply ≡ true → Step old (Withdraw sender reference) reply new
-    → (o : Order) × (order_named new sender reference ≡ Some o) × (o.state ≡ Withdrawn) × (o.number ≡ answered_number reply) × (is_participant old sender ≡ true)
+took_back : (old new : Book) (reply : Reply) (sender reference : List ℕ) → is_accepted reply ≡ true
+    → Step old (Withdraw sender reference) reply new
+    → (o : Order) × (order_named new sender reference ≡ Some o) × (o.state ≡ Withdrawn)
+    × (o.number ≡ answered_number reply) × (is_participant old sender ≡ true)
 unfolding withdraw order_named with_state
 took_back old new reply sender reference accepted s =
     let p = passed_step old new reply _ _ (refl, (refl, (not_accepted_order _, (refl, tt)))) accepted s in
@@ -157,12 +227,16 @@ took_back old new reply sender reference accepted s =
     let number = ap (λ (o : Outcome). answered_number o.reply) p.1 in
     by (find (is_order_named sender reference) old.orders) refl p.0.1.0 book number (not-false _ p.0.0)
   where
-    by : (found : Option Order) → find (is_order_named sender reference) old.orders ≡ found → is_none found ≡ false → new ≡ record old { orders = map (restated (has_number (number_of found)) Withdrawn) old.orders } → answered_number reply ≡ number_of found → is_participant old sender ≡ true
-        → (o : Order) × (find (is_order_named sender reference) new.orders ≡ Some o) × (o.state ≡ Withdrawn) × (o.number ≡ answered_number reply) × (is_participant old sender ≡ true)
+    by : (found : Option Order) → find (is_order_named sender reference) old.orders ≡ found → is_none found ≡ false
+        → new ≡ record old { orders = map (restated (has_number (number_of found)) Withdrawn) old.orders }
+        → answered_number reply ≡ number_of found → is_participant old sender ≡ true
+        → (o : Order) × (find (is_order_named sender reference) new.orders ≡ Some o) × (o.state ≡ Withdrawn)
+        × (o.number ≡ answered_number reply) × (is_participant old sender ≡ true)
     by None e some book number has = absurd (true≢false some)
     by (Some o) e some book number has = (
       restated (has_number o.number) Withdrawn o,
-      ap (λ (b : Book). find (is_order_named sender reference) b.orders) book ∙ found_restated sender reference (has_number o.number) Withdrawn old.orders o e,
+      ap (λ (b : Book). find (is_order_named sender reference) b.orders) book
+          ∙ found_restated sender reference (has_number o.number) Withdrawn old.orders o e,
       rw (same_number o.number) refl,
       rw (same_number o.number) (sym number),
       has,
@@ -170,11 +244,13 @@ took_back old new reply sender reference accepted s =
 
 -- ---- each command that acts once
 
-module _ (old mid new : Book) (reply : Reply) (h : IsSound old) (accepted : is_accepted reply ≡ true) (kept : AreKept old mid) (later : AreKept mid new) where
+module _ (old mid new : Book) (reply : Reply) (h : IsSound old) (accepted : is_accepted reply ≡ true)
+    (kept : AreKept old mid) (later : AreKept mid new) where
   still : (code : List ℕ) → is_participant old code ≡ true → is_participant new code ≡ true
   still code e = participant_kept mid new code later (participant_kept old mid code kept e)
 
-  pub acted : (command : Command) → acts_once command ≡ true → Step old command reply mid → (again : Reply) × IsRepeat new command (answered_number reply) again × Step new command again new
+  pub acted : (command : Command) → acts_once command ≡ true → Step old command reply mid
+      → (again : Reply) × IsRepeat new command (answered_number reply) again × Step new command again new
   acted (Add code name key) once s =
       let p = added_known old mid reply code name key accepted s in
       let q = later.participants code p.0 p.1 in
@@ -190,7 +266,8 @@ module _ (old mid new : Book) (reply : Reply) (h : IsSound old) (accepted : is_a
       let q = later.orders sender reference p.0 p.1 in (
         Ok (answer.Repeated (known.Order q.0.number q.0.state)),
         (q.0, q.1, q.2.number ∙ p.4, ap (λ n. Ok (answer.Repeated (known.Order n q.0.state))) (q.2.number ∙ p.4)),
-        order_known new sender reference receiver amount q.0 (still sender p.5) q.1 (q.2.receiver ∙ p.2) (q.2.amount ∙ p.3),
+        order_known new sender reference receiver amount q.0 (still sender p.5) q.1 (q.2.receiver ∙ p.2)
+            (q.2.amount ∙ p.3),
       )
   acted (Withdraw sender reference) once s =
       let p = took_back old mid reply sender reference accepted s in

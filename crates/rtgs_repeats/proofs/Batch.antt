@@ -1,5 +1,6 @@
 -- Orders that come again with nothing but orders between change nothing, whatever they were answered.
-use Rattle.std.proofs.Common.{◌≡◌, ℕ, ◌≤◌, ◌+◌, nat_le, Bool, true, false, not, ◌&&◌, ◌||◌, List, [], ◌∷◌, ◌++◌, map, filter, length, length-append, is_some, refl, sym, ap, ◌∙◌, subst, arith}
+use Rattle.std.proofs.Common.{◌≡◌, ℕ, ◌≤◌, ◌+◌, nat_le, Bool, true, false, not, ◌&&◌, ◌||◌, List, [], ◌∷◌, ◌++◌, map}
+use Rattle.std.proofs.Common.{filter, length, length-append, is_some, refl, sym, ap, ◌∙◌, subst, arith}
 use Rattle.std.proofs.lemmas.Bool.{and_parts}
 use Rattle.std.proofs.lemmas.Bool.Decides.{nat_tests}
 use Rattle.std.proofs.lemmas.List.{length-map, map-append}
@@ -53,7 +54,13 @@ record Follows (old new : Book) : Type 0 where
   pub kept : AreKept old new
 
 follows_itself : (book : Book) → Follows book book
-follows_itself book = record { participants = refl; day = refl; orders = omega arith; queued = λ code. omega arith; kept = kept_itself book }
+follows_itself book = record {
+  participants = refl;
+  day = refl;
+  orders = omega arith;
+  queued = λ code. omega arith;
+  kept = kept_itself book;
+}
 
 follows_through : (old mid new : Book) → Follows old mid → Follows mid new → Follows old new
 follows_through old mid new h k = record {
@@ -81,19 +88,23 @@ some_queued : (os : List Order) → nat_le LONGEST_QUEUE (length os) ≡ true �
 some_queued [] e = absurd (grind (arith, nat_tests))
 some_queued (o ∷ os) e = refl
 
-waits : (book : Book) (sender : List ℕ) (amount : ℕ) → nat_le LONGEST_QUEUE (length (queue book sender)) ≡ true → settles_at_once book sender amount ≡ false
+waits : (book : Book) (sender : List ℕ) (amount : ℕ) → nat_le LONGEST_QUEUE (length (queue book sender)) ≡ true
+    → settles_at_once book sender amount ≡ false
 unfolding settles_at_once
 waits book sender amount e = rw (some_queued (queue book sender) e) refl
 
-same_participant : (old new : Book) (code : List ℕ) → new.participants ≡ old.participants → is_participant new code ≡ is_participant old code
+same_participant : (old new : Book) (code : List ℕ) → new.participants ≡ old.participants
+    → is_participant new code ≡ is_participant old code
 unfolding is_participant accounts
 same_participant old new code same = λ i. list_any (bytes_eq code) (map (λ p. p.code) (same i))
 
-stopped_later : (old new : Book) (sender reference receiver : List ℕ) (amount : ℕ) → Follows old new → is_stopped old sender reference receiver amount ≡ true → is_stopped new sender reference receiver amount ≡ true
+stopped_later : (old new : Book) (sender reference receiver : List ℕ) (amount : ℕ) → Follows old new
+    → is_stopped old sender reference receiver amount ≡ true → is_stopped new sender reference receiver amount ≡ true
 stopped_later old new sender reference receiver amount f =
     or_weaker _ _ _ _ (λ e. ap not (same_participant old new sender f.participants) ∙ e)
     (or_weaker _ _ _ _ (recorded_kept old new (PlaceOrder sender reference receiver amount) f.kept)
-    (or_weaker _ _ _ _ (λ e. let o = there (order_named old sender reference) e in ap is_some (f.kept.orders sender reference o.0 o.1).1)
+    (or_weaker _ _ _ _ (λ e. let o = there (order_named old sender reference) e
+    in ap is_some (f.kept.orders sender reference o.0 o.1).1)
     (or_weaker _ _ _ _ (λ e. (λ i. not (is_open (f.day i).phase)) ∙ e)
     (or_weaker _ _ _ _ (λ e. ap not (same_participant old new receiver f.participants) ∙ e)
     (or_weaker _ _ _ _ (λ e. e)
@@ -101,25 +112,34 @@ stopped_later old new sender reference receiver amount f =
     (or_weaker _ _ _ _ (full (f.queued sender))
     (λ e. e))))))))
   where
-    full : length (queue old sender) ≤ length (queue new sender) → (not (settles_at_once old sender amount) && nat_le LONGEST_QUEUE (length (queue old sender))) ≡ true → (not (settles_at_once new sender amount) && nat_le LONGEST_QUEUE (length (queue new sender))) ≡ true
+    full : length (queue old sender) ≤ length (queue new sender)
+        → (not (settles_at_once old sender amount) && nat_le LONGEST_QUEUE (length (queue old sender))) ≡ true
+        → (not (settles_at_once new sender amount) && nat_le LONGEST_QUEUE (length (queue new sender))) ≡ true
     full le e =
-        let long = more_queued (length (queue old sender)) (length (queue new sender)) le (and_parts (not (settles_at_once old sender amount)) (nat_le LONGEST_QUEUE (length (queue old sender))) e).1 in
+        let long = more_queued (length (queue old sender)) (length (queue new sender)) le
+        (and_parts (not (settles_at_once old sender amount)) (nat_le LONGEST_QUEUE (length (queue old sender))) e).1
+        in
         rw (waits new sender amount long, long) refl
 
 -- ---- one order
 
-stays : (old new : Book) (sender reference receiver : List ℕ) (amount : ℕ) (reply : Reply) → is_stopped old sender reference receiver amount ≡ true → Step old (PlaceOrder sender reference receiver amount) reply new → new ≡ old
+stays : (old new : Book) (sender reference receiver : List ℕ) (amount : ℕ) (reply : Reply)
+    → is_stopped old sender reference receiver amount ≡ true
+    → Step old (PlaceOrder sender reference receiver amount) reply new → new ≡ old
 unfolding order
 stays old new sender reference receiver amount reply e s = book_as old new reply _ s (some_holds old _ _ e)
 
-acts : (old new : Book) (sender reference receiver : List ℕ) (amount : ℕ) (reply : Reply) → is_stopped old sender reference receiver amount ≡ false → Step old (PlaceOrder sender reference receiver amount) reply new
+acts : (old new : Book) (sender reference receiver : List ℕ) (amount : ℕ) (reply : Reply)
+    → is_stopped old sender reference receiver amount ≡ false
+    → Step old (PlaceOrder sender reference receiver amount) reply new
     → record { reply = reply; book = new } ≡ takes old (new_order old sender reference receiver amount)
 unfolding order
 acts old new sender reference receiver amount reply e s = s ∙ none_holds old _ _ e
 
 takes_accepted : (book : Book) (o : Order) → is_accepted (takes book o).reply ≡ true
 unfolding takes
-takes_accepted book o = choose (λ (out : Outcome). is_accepted out.reply ≡ true) (settles_at_once book o.sender o.amount) _ _ refl refl
+takes_accepted book o = choose (λ (out : Outcome). is_accepted out.reply ≡ true)
+    (settles_at_once book o.sender o.amount) _ _ refl refl
 
 -- what a taken order leaves as it was
 abbrev Leaves : Book → Book → Type 0
@@ -131,62 +151,92 @@ takes_leaves book o =
     let long = length-append book.orders (o ∷ []) in
     let joined : Leaves book (with_order book o) = (refl, refl, omega arith) in
     choose_book (Leaves book) (settles_at_once book o.sender o.amount) _ _
-    (by_settling (Leaves book) (with_order book o) (has_number o.number) joined (λ marks. (refl, refl, let same = length-map (book.orders ++ o ∷ []) (restated (has_number o.number) (Settled (next_mark (with_order book o)))) in omega arith))) joined
+    (by_settling (Leaves book) (with_order book o) (has_number o.number) joined
+    (λ marks. (
+      refl,
+      refl,
+      let same = length-map (book.orders ++ o ∷ [])
+          (restated (has_number o.number) (Settled (next_mark (with_order book o)))) in omega arith,
+    ))) joined
 
-queue_joined : (book : Book) (o : Order) (sender : List ℕ) → length (queue book sender) ≤ length (queue (with_order book o) sender)
+queue_joined : (book : Book) (o : Order) (sender : List ℕ) → length (queue book sender)
+    ≤ length (queue (with_order book o) sender)
 unfolding queue
 queue_joined book o sender =
     let test : Order → Bool = λ (x : Order). is_queued x && bytes_eq x.sender sender in
-    let parts : length (filter test (book.orders ++ o ∷ [])) ≡ length (filter test book.orders ++ filter test (o ∷ [])) = ap length (filter-append test book.orders (o ∷ [])) in
+    let parts : length (filter test (book.orders ++ o ∷ []))
+    ≡ length (filter test book.orders ++ filter test (o ∷ [])) = ap length (filter-append test book.orders (o ∷ []))
+    in
     let long = length-append (filter test book.orders) (filter test (o ∷ [])) in
     omega arith
 
-unmoved : (is_in : Order → Bool) (state : OrderState) (os : List Order) → AllByRecursion (λ o. is_in o ≡ false) os → map (restated is_in state) os ≡ os
+unmoved : (is_in : Order → Bool) (state : OrderState) (os : List Order) → AllByRecursion (λ o. is_in o ≡ false) os
+    → map (restated is_in state) os ≡ os
 unmoved is_in state [] h = refl
 unmoved is_in state (o ∷ os) h = rw (h.0, unmoved is_in state os h.1) refl
 
 -- settling the new order alone shortens no queue
-queue_settled : (book : Book) (o : Order) (marks : List Mark) (state : OrderState) (code : List ℕ) → AllByRecursion (λ x. has_number o.number x ≡ false) book.orders
-    → length (queue book code) ≤ length (queue (record book { orders = map (restated (has_number o.number) state) (book.orders ++ o ∷ []); marks = marks }) code)
+queue_settled : (book : Book) (o : Order) (marks : List Mark) (state : OrderState) (code : List ℕ)
+    → AllByRecursion (λ x. has_number o.number x ≡ false) book.orders
+    → length (queue book code) ≤ length (queue (record book {
+      orders =
+          map (restated (has_number o.number) state) (book.orders ++ o ∷ []);
+      marks = marks;
+    }) code)
 unfolding queue
 queue_settled book o marks state code none =
     let test : Order → Bool = λ (x : Order). is_queued x && bytes_eq x.sender code in
     let f : Order → Order = restated (has_number o.number) state in
-    let mapped : map f (book.orders ++ o ∷ []) ≡ book.orders ++ f o ∷ [] = map-append f book.orders (o ∷ []) ∙ ap (λ os. os ++ f o ∷ []) (unmoved (has_number o.number) state book.orders none) in
-    let parts : length (filter test (map f (book.orders ++ o ∷ []))) ≡ length (filter test book.orders ++ filter test (f o ∷ [])) = ap (λ os. length (filter test os)) mapped ∙ ap length (filter-append test book.orders (f o ∷ [])) in
+    let mapped : map f (book.orders ++ o ∷ []) ≡ book.orders ++ f o ∷ [] = map-append f book.orders (o ∷ [])
+    ∙ ap (λ os. os ++ f o ∷ []) (unmoved (has_number o.number) state book.orders none) in
+    let parts : length (filter test (map f (book.orders ++ o ∷ [])))
+    ≡ length (filter test book.orders ++ filter test (f o ∷ [])) = ap (λ os. length (filter test os)) mapped
+    ∙ ap length (filter-append test book.orders (f o ∷ [])) in
     let long = length-append (filter test book.orders) (filter test (f o ∷ [])) in
     omega arith
 
 -- no queue gets shorter
-queue_grows : (book : Book) (sender reference receiver : List ℕ) (amount : ℕ) (code : List ℕ) → OrdersAreNumbered book → length (queue book code) ≤ length (queue (takes book (new_order book sender reference receiver amount)).book code)
+queue_grows : (book : Book) (sender reference receiver : List ℕ) (amount : ℕ) (code : List ℕ) → OrdersAreNumbered book
+    → length (queue book code) ≤ length (queue (takes book (new_order book sender reference receiver amount)).book code)
 unfolding takes
 queue_grows book sender reference receiver amount code h =
     let new = new_order book sender reference receiver amount in
     choose_book (λ b. length (queue book code) ≤ length (queue b code)) (settles_at_once book sender amount) _ _
-    (by_settling (λ b. length (queue book code) ≤ length (queue b code)) (with_order book new) (has_number (length book.orders + 1)) (queue_joined book new code) (λ marks. queue_settled book new marks (Settled (next_mark (with_order book new))) code (none_numbered book h)))
+    (by_settling (λ b. length (queue book code) ≤ length (queue b code)) (with_order book new)
+    (has_number (length book.orders + 1)) (queue_joined book new code)
+    (λ marks. queue_settled book new marks (Settled (next_mark (with_order book new))) code (none_numbered book h)))
     (queue_joined book new code)
 
 -- an order is stopped after it, and what came before follows
-after_order : (old new : Book) (sender reference receiver : List ℕ) (amount : ℕ) (reply : Reply) → IsSound old → Step old (PlaceOrder sender reference receiver amount) reply new
+after_order : (old new : Book) (sender reference receiver : List ℕ) (amount : ℕ) (reply : Reply) → IsSound old
+    → Step old (PlaceOrder sender reference receiver amount) reply new
     → (is_stopped new sender reference receiver amount ≡ true) × Follows old new
-after_order old new sender reference receiver amount reply h s = by (is_stopped old sender reference receiver amount) refl
+after_order old new sender reference receiver amount reply h s =
+    by (is_stopped old sender reference receiver amount) refl
   where
-    by : (b : Bool) → is_stopped old sender reference receiver amount ≡ b → (is_stopped new sender reference receiver amount ≡ true) × Follows old new
+    by : (b : Bool) → is_stopped old sender reference receiver amount ≡ b
+        → (is_stopped new sender reference receiver amount ≡ true) × Follows old new
     by true e =
-        let same = stays old new sender reference receiver amount reply e s in
-        (subst (λ book. is_stopped book sender reference receiver amount ≡ true) (sym same) e, subst (Follows old) (sym same) (follows_itself old))
+        let same = stays old new sender reference receiver amount reply e s in (
+          subst (λ book. is_stopped book sender reference receiver amount ≡ true) (sym same) e,
+          subst (Follows old)
+              (sym same) (follows_itself old),
+        )
     by false e =
         let took = acts old new sender reference receiver amount reply e s in
-        let accepted = ap (λ (o : Outcome). is_accepted o.reply) took ∙ takes_accepted old (new_order old sender reference receiver amount) in
+        let accepted = ap (λ (o : Outcome). is_accepted o.reply) took
+        ∙ takes_accepted old (new_order old sender reference receiver amount) in
         let known = ordered_known old new reply sender reference receiver amount h accepted s in
         let book = ap (λ (o : Outcome). o.book) took in
         let leaves = takes_leaves old (new_order old sender reference receiver amount) in (
-          or_second _ _ _ (ap (λ found. is_same_order found receiver amount) known.1 ∙ order_same known.0 receiver amount known.2 known.3),
+          or_second _ _ _ (ap (λ found. is_same_order found receiver amount) known.1
+              ∙ order_same known.0 receiver amount known.2 known.3),
           record {
             participants = (λ i. (book i).participants) ∙ leaves.0;
             day = (λ i. (book i).day) ∙ leaves.1;
             orders = subst (λ (b : Book). length old.orders ≤ length b.orders) (sym book) leaves.2;
-            queued = λ code. subst (λ (b : Book). length (queue old code) ≤ length (queue b code)) (sym book) (queue_grows old sender reference receiver amount code h.orders_numbered);
+            queued = λ code. subst (λ (b : Book). length (queue old code) ≤ length (queue b code)) (sym book)
+                (queue_grows old sender reference receiver amount code h.orders_numbered);
             kept = step_kept old new (PlaceOrder sender reference receiver amount) reply h s;
           },
         )
@@ -199,14 +249,19 @@ Stopped book (PlaceOrder sender reference receiver amount) = is_stopped book sen
 Stopped book other = ⊥
 
 stopped_after : (old new : Book) (command : Command) → Follows old new → Stopped old command → Stopped new command
-stopped_after old new (PlaceOrder sender reference receiver amount) f h = stopped_later old new sender reference receiver amount f h
+stopped_after old new (PlaceOrder sender reference receiver amount) f h =
+    stopped_later old new sender reference receiver amount f h
 stopped_after old new other f h = absurd h
 
-after_one : (old new : Book) (command : Command) (reply : Reply) → IsSound old → IsOrder command → Step old command reply new → Stopped new command × Follows old new
-after_one old new (PlaceOrder sender reference receiver amount) reply h is s = after_order old new sender reference receiver amount reply h s
+after_one : (old new : Book) (command : Command) (reply : Reply) → IsSound old → IsOrder command
+    → Step old command reply new → Stopped new command × Follows old new
+after_one old new (PlaceOrder sender reference receiver amount) reply h is s =
+    after_order old new sender reference receiver amount reply h s
 after_one old new other reply h is s = absurd is
 
-after_all : StepKeepsSoundness → (old new : Book) (commands : List Command) (replies : List Reply) → IsSound old → AllByRecursion IsOrder commands → Run old commands replies new → AllByRecursion (Stopped new) commands × Follows old new
+after_all : StepKeepsSoundness → (old new : Book) (commands : List Command) (replies : List Reply) → IsSound old
+    → AllByRecursion IsOrder commands → Run old commands replies new
+    → AllByRecursion (Stopped new) commands × Follows old new
 after_all law old new [] [] h is r = (tt, subst (Follows old) (sym r) (follows_itself old))
 after_all law old new [] (reply ∷ replies) h is r = absurd r
 after_all law old new (command ∷ commands) [] h is r = absurd r
@@ -215,11 +270,14 @@ after_all law old new (command ∷ commands) (reply ∷ replies) h is r =
     let rest = after_all law r.0 new commands replies (law old r.0 command reply h r.1) is.1 r.2 in
     ((stopped_after r.0 new command rest.1 one.0, rest.0), follows_through old r.0 new one.1 rest.1)
 
-stays_one : (old new : Book) (command : Command) (reply : Reply) → Stopped old command → Step old command reply new → new ≡ old
-stays_one old new (PlaceOrder sender reference receiver amount) reply h s = stays old new sender reference receiver amount reply h s
+stays_one : (old new : Book) (command : Command) (reply : Reply) → Stopped old command → Step old command reply new
+    → new ≡ old
+stays_one old new (PlaceOrder sender reference receiver amount) reply h s =
+    stays old new sender reference receiver amount reply h s
 stays_one old new other reply h s = absurd h
 
-stays_all : (old new : Book) (commands : List Command) (replies : List Reply) → AllByRecursion (Stopped old) commands → Run old commands replies new → new ≡ old
+stays_all : (old new : Book) (commands : List Command) (replies : List Reply) → AllByRecursion (Stopped old) commands
+    → Run old commands replies new → new ≡ old
 stays_all old new [] [] h r = r
 stays_all old new [] (reply ∷ replies) h r = absurd r
 stays_all old new (command ∷ commands) [] h r = absurd r
@@ -230,9 +288,11 @@ stays_all old new (command ∷ commands) (reply ∷ replies) h r =
 -- ---- a batch that stopped
 
 abbrev pub StepIsDetermined : Type 0
-StepIsDetermined = (old new last : Book) (command : Command) (reply other : Reply) → Step old command reply new → Step old command other last → (reply ≡ other) × (new ≡ last)
+StepIsDetermined = (old new last : Book) (command : Command) (reply other : Reply) → Step old command reply new
+    → Step old command other last → (reply ≡ other) × (new ≡ last)
 
-run_determined : StepIsDetermined → (old new last : Book) (commands : List Command) (replies others : List Reply) → Run old commands replies new → Run old commands others last → new ≡ last
+run_determined : StepIsDetermined → (old new last : Book) (commands : List Command) (replies others : List Reply)
+    → Run old commands replies new → Run old commands others last → new ≡ last
 run_determined law old new last [] [] [] r k = r ∙ sym k
 run_determined law old new last [] [] (other ∷ others) r k = absurd k
 run_determined law old new last [] (reply ∷ replies) others r k = absurd r
@@ -243,7 +303,9 @@ run_determined law old new last (command ∷ commands) (reply ∷ replies) (othe
     run_determined law k.0 new last commands replies others (subst (λ b. Run b commands replies new) same r.2) k.2
 
 -- a run of two lists, one after the other
-pub run_parts : (old new : Book) (first rest : List Command) (replies : List Reply) → Run old (first ++ rest) replies new → (mid : Book) × (one : List Reply) × (two : List Reply) × Run old first one mid × Run mid rest two new
+pub run_parts : (old new : Book) (first rest : List Command) (replies : List Reply)
+    → Run old (first ++ rest) replies new → (mid : Book) × (one : List Reply) × (two : List Reply)
+    × Run old first one mid × Run mid rest two new
 run_parts old new [] rest replies r = (old, [], replies, refl, r)
 run_parts old new (command ∷ first) rest [] r = absurd r
 run_parts old new (command ∷ first) rest (reply ∷ replies) r =
@@ -254,7 +316,8 @@ all_left : {X : Type 0} (P : X → Type 0) (xs ys : List X) → AllByRecursion P
 all_left P [] ys h = tt
 all_left P (x ∷ xs) ys h = (h.0, all_left P xs ys h.1)
 
-pub resumed : StepKeepsSoundness → StepIsDetermined → (old mid last end : Book) (first rest : List Command) (one two three : List Reply) → IsSound old → AllByRecursion IsOrder (first ++ rest)
+pub resumed : StepKeepsSoundness → StepIsDetermined → (old mid last end : Book) (first rest : List Command)
+    (one two three : List Reply) → IsSound old → AllByRecursion IsOrder (first ++ rest)
     → Run old first one mid → Run mid (first ++ rest) two last → Run old (first ++ rest) three end → last ≡ end
 resumed sounds determined old mid last end first rest one two three h is r s t =
     let again = run_parts mid last first rest two s in
@@ -262,4 +325,5 @@ resumed sounds determined old mid last end first rest one two three h is r s t =
     let stopped = after_all sounds old mid first one h (all_left IsOrder first rest is) r in
     let stayed = stays_all mid again.0 first again.1 stopped.0 again.3 in
     let there = run_determined determined old whole.0 mid first whole.1 one whole.3 r in
-    run_determined determined again.0 last end rest again.2 whole.2 again.4 (subst (λ b. Run b rest whole.2 end) (there ∙ sym stayed) whole.4)
+    run_determined determined again.0 last end rest again.2 whole.2 again.4
+    (subst (λ b. Run b rest whole.2 end) (there ∙ sym stayed) whole.4)

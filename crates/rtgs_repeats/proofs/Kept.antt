@@ -1,5 +1,6 @@
 -- What each change to a book keeps of its records.
-use Rattle.std.proofs.Common.{◌≡◌, ℕ, ◌<◌, ◌+◌, ◌==◌, Bool, true, false, cond, not, List, [], ◌∷◌, ◌++◌, map, filter, length, Some, find, is_some, refl, sym, ap, ◌∙◌, true≢false, arith}
+use Rattle.std.proofs.Common.{◌≡◌, ℕ, ◌<◌, ◌+◌, ◌==◌, Bool, true, false, cond, not, List, [], ◌∷◌, ◌++◌, map, filter}
+use Rattle.std.proofs.Common.{length, Some, find, is_some, refl, sym, ap, ◌∙◌, true≢false, arith}
 use Rattle.std.proofs.lemmas.Bool.Decides.{nat_tests}
 use Rattle.std.proofs.lemmas.List.{length-map}
 use Rattle.std.specs.List.{AllByRecursion, range_with_len}
@@ -14,16 +15,19 @@ use Rattle.rtgs_book.specs.declared.order_state.OrderState.{OrderState}
 use Rattle.rtgs_book.specs.declared.order_state.OrderState.TheVariants.{Settled}
 use Rattle.rtgs_book.specs.Books.{is_queued, is_empty}
 use Rattle.rtgs_book.specs.Commands.{is_before, has_number}
-use Rattle.rtgs_book.specs.Lookup.{has_code, participant_of, is_order_named, order_named, is_posting_named, posting_named}
+use Rattle.rtgs_book.specs.Lookup.{has_code, participant_of, is_order_named, order_named, is_posting_named}
+use Rattle.rtgs_book.specs.Lookup.{posting_named}
 use Rattle.rtgs_book.specs.Settle.{restated, settle, mark_of, next_mark}
 use Rattle.rtgs_book.specs.Soundness.{OrdersAreNumbered}
 use Rattle.rtgs_repeats.specs.Kept.{IsKeptParticipant, IsKeptOrder, AreKept}
-use Rattle.rtgs_repeats.proofs.Finds.{all_weaker, find_left, find_right, find_mapped, find_kept, find_dropped, find_none_in, found, all_below}
+use Rattle.rtgs_repeats.proofs.Finds.{all_weaker, find_left, find_right, find_mapped, find_kept, find_dropped}
+use Rattle.rtgs_repeats.proofs.Finds.{find_none_in, found, all_below}
 
 -- ---- orders
 
 abbrev pub OrdersKept : List Order → List Order → Type 0
-OrdersKept old new = (sender reference : List ℕ) (o : Order) → find (is_order_named sender reference) old ≡ Some o → (later : Order) × (find (is_order_named sender reference) new ≡ Some later) × IsKeptOrder o later
+OrdersKept old new = (sender reference : List ℕ) (o : Order) → find (is_order_named sender reference) old ≡ Some o
+    → (later : Order) × (find (is_order_named sender reference) new ≡ Some later) × IsKeptOrder o later
 
 pub itself : (o : Order) → IsKeptOrder o o
 itself o = record { number = refl; receiver = refl; amount = refl; state = λ _. refl }
@@ -32,26 +36,42 @@ itself o = record { number = refl; receiver = refl; amount = refl; state = λ _.
 abbrev pub QueuedAlone : (Order → Bool) → List Order → Type 0
 QueuedAlone is_in os = AllByRecursion (λ o. is_in o ≡ true → is_queued o ≡ true) os
 
-pub restated_kept : (is_in : Order → Bool) (s : OrderState) (o : Order) → (is_in o ≡ true → is_queued o ≡ true) → IsKeptOrder o (restated is_in s o)
+pub restated_kept : (is_in : Order → Bool) (s : OrderState) (o : Order) → (is_in o ≡ true → is_queued o ≡ true)
+    → IsKeptOrder o (restated is_in s o)
 restated_kept is_in s o queued = by (is_in o) queued
   where
     by : (b : Bool) → (b ≡ true → is_queued o ≡ true) → IsKeptOrder o (cond b (record o { state = s }) o)
-    by true q = record { number = refl; receiver = refl; amount = refl; state = λ e. absurd (true≢false (sym (q refl) ∙ e)) }
+    by true q = record {
+      number = refl;
+      receiver = refl;
+      amount = refl;
+      state = λ e. absurd (true≢false (sym (q refl) ∙ e));
+    }
     by false q = itself o
 
-same_name : (sender reference : List ℕ) (is_in : Order → Bool) (s : OrderState) (o : Order) → is_order_named sender reference (restated is_in s o) ≡ is_order_named sender reference o
+same_name : (sender reference : List ℕ) (is_in : Order → Bool) (s : OrderState) (o : Order)
+    → is_order_named sender reference (restated is_in s o) ≡ is_order_named sender reference o
 same_name sender reference is_in s o = by (is_in o)
   where
-    by : (b : Bool) → is_order_named sender reference (cond b (record o { state = s }) o) ≡ is_order_named sender reference o
+    by : (b : Bool) → is_order_named sender reference (cond b (record o { state = s }) o)
+        ≡ is_order_named sender reference o
     by true = refl
     by false = refl
 
-pub found_restated : (sender reference : List ℕ) (is_in : Order → Bool) (s : OrderState) (os : List Order) (o : Order) → find (is_order_named sender reference) os ≡ Some o → find (is_order_named sender reference) (map (restated is_in s) os) ≡ Some (restated is_in s o)
-found_restated sender reference is_in s os o e = find_mapped (is_order_named sender reference) (restated is_in s) (same_name sender reference is_in s) os ∙ ap (option_map (restated is_in s)) e
+pub found_restated : (sender reference : List ℕ) (is_in : Order → Bool) (s : OrderState) (os : List Order) (o : Order)
+    → find (is_order_named sender reference) os ≡ Some o → find (is_order_named sender reference)
+    (map (restated is_in s) os) ≡ Some (restated is_in s o)
+found_restated sender reference is_in s os o e = find_mapped (is_order_named sender reference) (restated is_in s)
+    (same_name sender reference is_in s) os ∙ ap (option_map (restated is_in s)) e
 
-pub orders_restated : (is_in : Order → Bool) (s : OrderState) (os : List Order) → QueuedAlone is_in os → OrdersKept os (map (restated is_in s) os)
-orders_restated is_in s os queued sender reference o e =
-    (restated is_in s o, found_restated sender reference is_in s os o e, restated_kept is_in s o (found (is_order_named sender reference) (λ o. is_in o ≡ true → is_queued o ≡ true) os o queued e).0)
+pub orders_restated : (is_in : Order → Bool) (s : OrderState) (os : List Order) → QueuedAlone is_in os
+    → OrdersKept os (map (restated is_in s) os)
+orders_restated is_in s os queued sender reference o e = (
+  restated is_in s o,
+  found_restated sender reference is_in s os o e,
+  restated_kept is_in s o
+      (found (is_order_named sender reference) (λ o. is_in o ≡ true → is_queued o ≡ true) os o queued e).0,
+)
 
 pub orders_grown : (os later : List Order) → OrdersKept os (os ++ later)
 orders_grown os later sender reference o e = (o, find_left (is_order_named sender reference) os later o e, itself o)
@@ -83,70 +103,97 @@ orders_through old mid new h k sender reference o e =
 new_number : (a n : ℕ) → a < 1 + n → (a == (n + 1)) ≡ false
 new_number a n less = grind (arith, nat_tests)
 
-pub none_numbered : (book : Book) → OrdersAreNumbered book → AllByRecursion (λ o. has_number (length book.orders + 1) o ≡ false) book.orders
-none_numbered book h = all_weaker (λ (o : Order). o.number < 1 + length book.orders) (λ o. has_number (length book.orders + 1) o ≡ false) (λ o less. new_number o.number (length book.orders) less) book.orders
+pub none_numbered : (book : Book) → OrdersAreNumbered book → AllByRecursion
+    (λ o. has_number (length book.orders + 1) o ≡ false) book.orders
+none_numbered book h = all_weaker (λ (o : Order). o.number < 1 + length book.orders)
+    (λ o. has_number (length book.orders + 1) o ≡ false) (λ o less. new_number o.number (length book.orders) less)
+    book.orders
     (all_below 1 book.orders (h.0 ∙ ap (range_with_len 1) (length-map book.orders (λ (o : Order). o.number))))
 
 -- ---- settling
 
 -- what holds of the book, and of the book with these orders settled, holds of the book that is settled
 pub by_settling : (P : Book → Type 0) (book : Book) (is_in : Order → Bool) → P book
-    → ((marks : List Mark) → P (record book { orders = map (restated is_in (Settled (next_mark book))) book.orders; marks = marks })) → P (settle book is_in)
+    → ((marks : List Mark) → P (record book {
+      orders = map (restated is_in (Settled (next_mark book))) book.orders;
+      marks = marks;
+    })) → P (settle book is_in)
 unfolding settle
 by_settling P book is_in h k = by (is_empty (filter is_in book.orders))
   where
-    by : (b : Bool) → P (cond b book (record book { orders = map (restated is_in (Settled (next_mark book))) book.orders; marks = book.marks ++ mark_of book (filter is_in book.orders) ∷ [] }))
+    by : (b : Bool) → P (cond b book (record book {
+      orders =
+          map (restated is_in (Settled (next_mark book))) book.orders;
+      marks = book.marks ++ mark_of book (filter is_in book.orders) ∷ [];
+    }))
     by true = h
     by false = k (book.marks ++ mark_of book (filter is_in book.orders) ∷ [])
 
 -- ---- participants
 
 abbrev pub ParticipantsKept : List Participant → List Participant → Type 0
-ParticipantsKept old new = (code : List ℕ) (p : Participant) → find (has_code code) old ≡ Some p → (q : Participant) × (find (has_code code) new ≡ Some q) × IsKeptParticipant p q
+ParticipantsKept old new = (code : List ℕ) (p : Participant) → find (has_code code) old ≡ Some p
+    → (q : Participant) × (find (has_code code) new ≡ Some q) × IsKeptParticipant p q
 
 pub participants_same : (ps : List Participant) → ParticipantsKept ps ps
 participants_same ps code p e = (p, e, record { name = refl; key = refl })
 
 -- the participant that is put in at its place, where no other has its code
 pub find_added : (new : Participant) (ps : List Participant) → is_some (find (has_code new.code) ps) ≡ false
-    → find (has_code new.code) (filter (λ (p : Participant). is_before p.code new.code) ps ++ new ∷ filter (λ (p : Participant). not (is_before p.code new.code)) ps) ≡ Some new
+    → find (has_code new.code) (filter (λ (p : Participant). is_before p.code new.code) ps ++ new
+    ∷ filter (λ (p : Participant). not (is_before p.code new.code)) ps) ≡ Some new
 find_added new ps none =
-    find_right (has_code new.code) (filter (λ (p : Participant). is_before p.code new.code) ps) (new ∷ filter (λ (p : Participant). not (is_before p.code new.code)) ps) (find_none_in (has_code new.code) (λ (p : Participant). is_before p.code new.code) ps none)
+    find_right (has_code new.code) (filter (λ (p : Participant). is_before p.code new.code) ps)
+    (new ∷ filter (λ (p : Participant). not (is_before p.code new.code)) ps)
+    (find_none_in (has_code new.code) (λ (p : Participant). is_before p.code new.code) ps none)
     ∙ rw ((bytes_decides new.code new.code).1 refl) refl
 
 pub participants_added : (new : Participant) (ps : List Participant) → is_some (find (has_code new.code) ps) ≡ false
-    → ParticipantsKept ps (filter (λ (p : Participant). is_before p.code new.code) ps ++ new ∷ filter (λ (p : Participant). not (is_before p.code new.code)) ps)
+    → ParticipantsKept ps (filter (λ (p : Participant). is_before p.code new.code) ps ++ new
+    ∷ filter (λ (p : Participant). not (is_before p.code new.code)) ps)
 participants_added new ps none code p e = by (is_before code new.code) refl
   where
-    side : (b : Bool) → is_before code new.code ≡ b → (q : Participant) → has_code code q ≡ true → is_before q.code new.code ≡ b
+    side : (b : Bool) → is_before code new.code ≡ b → (q : Participant) → has_code code q ≡ true
+        → is_before q.code new.code ≡ b
     side b f q t = ap (λ c. is_before c new.code) ((bytes_decides q.code code).0 t) ∙ f
 
     another : has_code code new ≡ false
     another = at (has_code code new) refl
       where
         at : (b : Bool) → has_code code new ≡ b → b ≡ false
-        at true t = absurd (true≢false (ap is_some (sym e ∙ ap (λ c. find (has_code c) ps) (sym ((bytes_decides new.code code).0 t))) ∙ none))
+        at true t = absurd (true≢false (ap is_some (sym e ∙ ap (λ c. find (has_code c) ps)
+            (sym ((bytes_decides new.code code).0 t))) ∙ none))
         at false t = refl
 
-    by : (b : Bool) → is_before code new.code ≡ b → (q : Participant) × (find (has_code code) (filter (λ (p : Participant). is_before p.code new.code) ps ++ new ∷ filter (λ (p : Participant). not (is_before p.code new.code)) ps) ≡ Some q) × IsKeptParticipant p q
+    by : (b : Bool) → is_before code new.code ≡ b → (q : Participant)
+        × (find (has_code code) (filter (λ (p : Participant). is_before p.code new.code) ps ++ new
+        ∷ filter (λ (p : Participant). not (is_before p.code new.code)) ps) ≡ Some q) × IsKeptParticipant p q
     by true f = (
       p,
-      find_left (has_code code) (filter (λ (p : Participant). is_before p.code new.code) ps) (new ∷ filter (λ (p : Participant). not (is_before p.code new.code)) ps) p
+      find_left (has_code code) (filter (λ (p : Participant). is_before p.code new.code) ps)
+          (new ∷ filter (λ (p : Participant). not (is_before p.code new.code)) ps) p
           (find_kept (has_code code) (λ (p : Participant). is_before p.code new.code) (side true f) ps ∙ e),
       record { name = refl; key = refl },
     )
     by false f = (
       p,
-      find_right (has_code code) (filter (λ (p : Participant). is_before p.code new.code) ps) (new ∷ filter (λ (p : Participant). not (is_before p.code new.code)) ps)
+      find_right (has_code code) (filter (λ (p : Participant). is_before p.code new.code) ps)
+          (new ∷ filter (λ (p : Participant). not (is_before p.code new.code)) ps)
           (find_dropped (has_code code) (λ (p : Participant). is_before p.code new.code) (side false f) ps)
-          ∙ rw another (find_kept (has_code code) (λ (p : Participant). not (is_before p.code new.code)) (λ q t. ap not (side false f q t)) ps ∙ e),
+          ∙ rw another (find_kept (has_code code) (λ (p : Participant). not (is_before p.code new.code))
+          (λ q t. ap not (side false f q t)) ps ∙ e),
       record { name = refl; key = refl },
     )
 
-pub participants_credited : (code : List ℕ) (credit : ℕ) (ps : List Participant) → ParticipantsKept ps (map (λ (p : Participant). cond (has_code code p) (record p { credit = credit }) p) ps)
+pub participants_credited : (code : List ℕ) (credit : ℕ) (ps : List Participant)
+    → ParticipantsKept ps (map (λ (p : Participant). cond (has_code code p) (record p { credit = credit }) p) ps)
 participants_credited code credit ps other p e =
-    let f : Participant → Participant = λ p. cond (has_code code p) (record p { credit = credit }) p in
-    (f p, find_mapped (has_code other) f (λ q. same q (has_code code q)) ps ∙ ap (option_map f) e, kept (has_code code p))
+    let f : Participant → Participant = λ p. cond (has_code code p) (record p { credit = credit }) p in (
+      f p,
+      find_mapped (has_code other) f (λ q. same q (has_code code q)) ps
+          ∙ ap (option_map f) e,
+      kept (has_code code p),
+    )
   where
     same : (q : Participant) (b : Bool) → has_code other (cond b (record q { credit = credit }) q) ≡ has_code other q
     same q true = refl
@@ -158,7 +205,9 @@ participants_credited code credit ps other p e =
 
 -- ---- books
 
-pub kept_by : (old new : Book) → ParticipantsKept old.participants new.participants → ((reference : List ℕ) (p : Posting) → find (is_posting_named reference) old.postings ≡ Some p → find (is_posting_named reference) new.postings ≡ Some p)
+pub kept_by : (old new : Book) → ParticipantsKept old.participants new.participants
+    → ((reference : List ℕ) (p : Posting) → find (is_posting_named reference) old.postings ≡ Some p
+    → find (is_posting_named reference) new.postings ≡ Some p)
     → OrdersKept old.orders new.orders → AreKept old new
 unfolding participant_of posting_named order_named
 kept_by old new ps qs os = record { participants = ps; postings = qs; orders = os }

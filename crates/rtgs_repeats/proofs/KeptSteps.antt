@@ -1,5 +1,6 @@
 -- Each command, and each list of commands, keeps the records.
-use Rattle.std.proofs.Common.{◌≡◌, ℕ, Bool, true, false, List, [], ◌∷◌, ◌++◌, ◌+◌, length, Option, Some, None, refl, sym, ap, ◌∙◌, subst, true≢false}
+use Rattle.std.proofs.Common.{◌≡◌, ℕ, Bool, true, false, List, [], ◌∷◌, ◌++◌, ◌+◌, length, Option, Some, None, refl}
+use Rattle.std.proofs.Common.{sym, ap, ◌∙◌, subst, true≢false}
 use Rattle.std.proofs.lemmas.Bool.{not-false, and_parts}
 use Rattle.std.proofs.lemmas.List.{length-map}
 use Rattle.std.specs.List.{range_with_len}
@@ -7,10 +8,13 @@ use Rattle.rtgs_book.specs.declared.book.Book.{Book}
 use Rattle.rtgs_book.specs.declared.order.Order.{Order}
 use Rattle.rtgs_book.specs.declared.order_state.OrderState.TheVariants.{Settled, Withdrawn, Rejected}
 use Rattle.rtgs_book.specs.declared.command.Command.{Command}
-use Rattle.rtgs_book.specs.declared.command.Command.TheVariants.{Add, SetCredit, Post, OpenDay, Order as PlaceOrder, Withdraw, Resolve, CutOff, CloseDay}
+use Rattle.rtgs_book.specs.declared.command.Command.TheVariants.{Add, SetCredit, Post, OpenDay, Order as PlaceOrder}
+use Rattle.rtgs_book.specs.declared.command.Command.TheVariants.{Withdraw, Resolve, CutOff, CloseDay}
 use Rattle.rtgs_book.specs.Books.{is_queued, is_empty}
 use Rattle.rtgs_book.specs.Choice.{is_chosen, chosen, Choice}
-use Rattle.rtgs_book.specs.Commands.{add, with_participant, set_credit, with_credit, post, new_order, with_order, has_number, takes, settles_at_once, order, is_queued_order, number_of, with_state, withdraw, open_day, cut_off, resolve, close_day}
+use Rattle.rtgs_book.specs.Commands.{add, with_participant, set_credit, with_credit, post, new_order, with_order}
+use Rattle.rtgs_book.specs.Commands.{has_number, takes, settles_at_once, order, is_queued_order, number_of, with_state}
+use Rattle.rtgs_book.specs.Commands.{withdraw, open_day, cut_off, resolve, close_day}
 use Rattle.rtgs_book.specs.Lookup.{participant_of, is_order_named, order_named, is_posting_named}
 use Rattle.rtgs_book.specs.Outcome.{Reply, Outcome}
 use Rattle.rtgs_book.specs.Run.{Run}
@@ -19,82 +23,126 @@ use Rattle.rtgs_book.specs.Soundness.{OrdersAreNumbered, IsSound}
 use Rattle.rtgs_book.specs.Step.{Step}
 use Rattle.rtgs_repeats.specs.Kept.{AreKept}
 use Rattle.rtgs_repeats.proofs.Finds.{all_of, all_weaker, all_push, find_left, only_one}
-use Rattle.rtgs_repeats.proofs.Kept.{QueuedAlone, orders_same, orders_grown, orders_restated, none_numbered, by_settling, participants_same, participants_added, participants_credited, kept_by, kept_through}
+use Rattle.rtgs_repeats.proofs.Kept.{QueuedAlone, orders_same, orders_grown, orders_restated, none_numbered}
+use Rattle.rtgs_repeats.proofs.Kept.{by_settling, participants_same, participants_added, participants_credited, kept_by}
+use Rattle.rtgs_repeats.proofs.Kept.{kept_through}
 use Rattle.rtgs_repeats.proofs.Passing.{after_tests, choose_book}
 
 pub kept_itself : (book : Book) → AreKept book book
-kept_itself book = kept_by book book (participants_same book.participants) (λ reference p e. e) (orders_same book.orders)
+kept_itself book = kept_by book book (participants_same book.participants) (λ reference p e. e)
+    (orders_same book.orders)
 
 kept_settle : (book : Book) (is_in : Order → Bool) → QueuedAlone is_in book.orders → AreKept book (settle book is_in)
 kept_settle book is_in queued = by_settling (AreKept book) book is_in (kept_itself book)
-    (λ marks. kept_by book _ (participants_same book.participants) (λ reference p e. e) (orders_restated is_in (Settled (next_mark book)) book.orders queued))
+    (λ marks. kept_by book _ (participants_same book.participants) (λ reference p e. e)
+    (orders_restated is_in (Settled (next_mark book)) book.orders queued))
 
 chosen_queued : (book : Book) (choice : Choice) → QueuedAlone (is_chosen book choice) book.orders
 unfolding is_chosen
-chosen_queued book choice = all_of (λ o. is_chosen book choice o ≡ true → is_queued o ≡ true) (λ o e. (and_parts (is_queued o) _ e).0) book.orders
+chosen_queued book choice = all_of (λ o. is_chosen book choice o ≡ true → is_queued o ≡ true)
+    (λ o e. (and_parts (is_queued o) _ e).0) book.orders
 
 kept_order : (book : Book) (o : Order) → AreKept book (with_order book o)
-kept_order book o = kept_by book _ (participants_same book.participants) (λ reference p e. e) (orders_grown book.orders (o ∷ []))
+kept_order book o = kept_by book _ (participants_same book.participants) (λ reference p e. e)
+    (orders_grown book.orders (o ∷ []))
 
 -- ---- an order that is taken, and one that is withdrawn
 
 module _ (book : Book) (sender reference receiver : List ℕ) (amount : ℕ) (h : OrdersAreNumbered book) where
-  pub one_new : QueuedAlone (has_number (length book.orders + 1)) (book.orders ++ new_order book sender reference receiver amount ∷ [])
-  one_new = all_push (λ o. has_number (length book.orders + 1) o ≡ true → is_queued o ≡ true) book.orders (new_order book sender reference receiver amount)
-      (all_weaker (λ o. has_number (length book.orders + 1) o ≡ false) (λ o. has_number (length book.orders + 1) o ≡ true → is_queued o ≡ true) (λ o none e. absurd (true≢false (sym e ∙ none))) book.orders (none_numbered book h)) (λ _. refl)
+  pub one_new : QueuedAlone (has_number (length book.orders + 1))
+      (book.orders ++ new_order book sender reference receiver amount ∷ [])
+  one_new = all_push (λ o. has_number (length book.orders + 1) o ≡ true → is_queued o ≡ true) book.orders
+      (new_order book sender reference receiver amount)
+      (all_weaker (λ o. has_number (length book.orders + 1) o ≡ false)
+      (λ o. has_number (length book.orders + 1) o ≡ true → is_queued o ≡ true)
+      (λ o none e. absurd (true≢false (sym e ∙ none))) book.orders (none_numbered book h)) (λ _. refl)
 
   -- from the order that joined its queue
-  pub kept_joined : AreKept (with_order book (new_order book sender reference receiver amount)) (takes book (new_order book sender reference receiver amount)).book
+  pub kept_joined : AreKept (with_order book (new_order book sender reference receiver amount))
+      (takes book (new_order book sender reference receiver amount)).book
   unfolding takes
   kept_joined =
       let joined = with_order book (new_order book sender reference receiver amount) in
-      choose_book (AreKept joined) (settles_at_once book sender amount) _ _ (kept_settle joined (has_number (length book.orders + 1)) one_new) (kept_itself joined)
+      choose_book (AreKept joined) (settles_at_once book sender amount) _ _
+      (kept_settle joined (has_number (length book.orders + 1)) one_new) (kept_itself joined)
 
   kept_taken : AreKept book (takes book (new_order book sender reference receiver amount)).book
-  kept_taken = kept_through book (with_order book (new_order book sender reference receiver amount)) _ (kept_order book (new_order book sender reference receiver amount)) kept_joined
+  kept_taken = kept_through book (with_order book (new_order book sender reference receiver amount)) _
+      (kept_order book (new_order book sender reference receiver amount)) kept_joined
 
-pub withdrawn_queued : (book : Book) (sender reference : List ℕ) (o : Order) → OrdersAreNumbered book → order_named book sender reference ≡ Some o → is_queued o ≡ true → QueuedAlone (has_number o.number) book.orders
+pub withdrawn_queued : (book : Book) (sender reference : List ℕ) (o : Order) → OrdersAreNumbered book
+    → order_named book sender reference ≡ Some o → is_queued o ≡ true → QueuedAlone (has_number o.number) book.orders
 unfolding order_named
 withdrawn_queued book sender reference o h e q =
-    all_weaker (λ other. has_number o.number other ≡ true → other ≡ o) (λ other. has_number o.number other ≡ true → is_queued other ≡ true) (λ other same t. ap is_queued (same t) ∙ q) book.orders
-    (only_one (is_order_named sender reference) 1 book.orders o (h.0 ∙ ap (range_with_len 1) (length-map book.orders (λ (o : Order). o.number))) e)
+    all_weaker (λ other. has_number o.number other ≡ true → other ≡ o)
+    (λ other. has_number o.number other ≡ true → is_queued other ≡ true) (λ other same t. ap is_queued (same t) ∙ q)
+    book.orders
+    (only_one (is_order_named sender reference) 1 book.orders o
+    (h.0 ∙ ap (range_with_len 1) (length-map book.orders (λ (o : Order). o.number))) e)
 
-kept_withdrawn : (book : Book) (sender reference : List ℕ) → OrdersAreNumbered book → AreKept book (withdraw book sender reference).book
+kept_withdrawn : (book : Book) (sender reference : List ℕ) → OrdersAreNumbered book
+    → AreKept book (withdraw book sender reference).book
 unfolding withdraw with_state
-kept_withdrawn book sender reference h = after_tests (AreKept book) book _ _ (kept_itself book) (λ passed. by (order_named book sender reference) refl (not-false _ passed.1.1.1.0))
+kept_withdrawn book sender reference h = after_tests (AreKept book) book _ _ (kept_itself book)
+    (λ passed. by (order_named book sender reference) refl (not-false _ passed.1.1.1.0))
   where
-    by : (found : Option Order) → order_named book sender reference ≡ found → is_queued_order found ≡ true → AreKept book (with_state book (has_number (number_of found)) Withdrawn)
+    by : (found : Option Order) → order_named book sender reference ≡ found → is_queued_order found ≡ true
+        → AreKept book (with_state book (has_number (number_of found)) Withdrawn)
     by None e q = absurd (true≢false (sym q))
-    by (Some o) e q = kept_by book _ (participants_same book.participants) (λ reference p e. e) (orders_restated (has_number o.number) Withdrawn book.orders (withdrawn_queued book sender reference o h e q))
+    by (Some o) e q = kept_by book _ (participants_same book.participants) (λ reference p e. e)
+        (orders_restated (has_number o.number) Withdrawn book.orders (withdrawn_queued book sender reference o h e q))
 
 -- ---- each command
 
-kept_as : (old new : Book) (reply : Reply) (outcome : Outcome) → record { reply = reply; book = new } ≡ outcome → AreKept old outcome.book → AreKept old new
+kept_as : (old new : Book) (reply : Reply) (outcome : Outcome) → record { reply = reply; book = new } ≡ outcome
+    → AreKept old outcome.book → AreKept old new
 kept_as old new reply outcome e h = subst (λ (o : Outcome). AreKept old o.book) (sym e) h
 
 kept_added : (old : Book) (code name key : List ℕ) → AreKept old (add old code name key).book
 unfolding add with_participant participant_of
-kept_added old code name key = after_tests (AreKept old) old _ _ (kept_itself old) (λ passed. kept_by old _ (participants_added _ old.participants passed.1.0) (λ reference p e. e) (orders_same old.orders))
+kept_added old code name key = after_tests (AreKept old) old _ _ (kept_itself old)
+    (λ passed. kept_by old _ (participants_added _ old.participants passed.1.0) (λ reference p e. e)
+    (orders_same old.orders))
 
-pub step_kept : (old new : Book) (command : Command) (reply : Reply) → IsSound old → Step old command reply new → AreKept old new
+pub step_kept : (old new : Book) (command : Command) (reply : Reply) → IsSound old → Step old command reply new
+    → AreKept old new
 unfolding set_credit with_credit post open_day order with_state cut_off resolve close_day
 step_kept old new (Add code name key) reply h e = kept_as old new reply _ e (kept_added old code name key)
-step_kept old new (SetCredit code credit) reply h e = kept_as old new reply _ e (after_tests (AreKept old) old _ _ (kept_itself old) (λ _. kept_by old _ (participants_credited code credit old.participants) (λ reference p e. e) (orders_same old.orders)))
-step_kept old new (Post code reference cents) reply h e = kept_as old new reply _ e (after_tests (AreKept old) old _ _ (kept_itself old) (λ _. kept_by old _ (participants_same old.participants) (λ reference p e. find_left (is_posting_named reference) old.postings _ p e) (orders_same old.orders)))
-step_kept old new (OpenDay date) reply h e = kept_as old new reply _ e (after_tests (AreKept old) old _ _ (kept_itself old) (λ _. kept_by old _ (participants_same old.participants) (λ reference p e. e) (orders_same old.orders)))
-step_kept old new (PlaceOrder sender reference receiver amount) reply h e = kept_as old new reply _ e (after_tests (AreKept old) old _ _ (kept_itself old) (λ _. kept_taken old sender reference receiver amount h.orders_numbered))
-step_kept old new (Withdraw sender reference) reply h e = kept_as old new reply _ e (kept_withdrawn old sender reference h.orders_numbered)
-step_kept old new Resolve reply h e = kept_as old new reply _ e.2 (after_tests (AreKept old) old _ _ (kept_itself old) (λ _. choose_book (AreKept old) (is_empty (chosen old e.0)) _ _ (kept_itself old) (kept_settle old (is_chosen old e.0) (chosen_queued old e.0))))
-step_kept old new (CutOff date) reply h e = kept_as old new reply _ e (after_tests (AreKept old) old _ _ (kept_itself old) (λ _. kept_by old _ (participants_same old.participants) (λ reference p e. e) (orders_same old.orders)))
-step_kept old new (CloseDay date) reply h e = kept_as old new reply _ e.2 (after_tests (AreKept old) old _ _ (kept_itself old) (λ _. kept_by old _ (participants_same old.participants) (λ reference p e. e)
-    (orders_restated is_queued Rejected old.orders (all_of (λ o. is_queued o ≡ true → is_queued o ≡ true) (λ o t. t) old.orders))))
+step_kept old new (SetCredit code credit) reply h e = kept_as old new reply _ e
+    (after_tests (AreKept old) old _ _ (kept_itself old) (λ _. kept_by old _
+    (participants_credited code credit old.participants) (λ reference p e. e) (orders_same old.orders)))
+step_kept old new (Post code reference cents) reply h e = kept_as old new reply _ e
+    (after_tests (AreKept old) old _ _ (kept_itself old) (λ _. kept_by old _ (participants_same old.participants)
+    (λ reference p e. find_left (is_posting_named reference) old.postings _ p e) (orders_same old.orders)))
+step_kept old new (OpenDay date) reply h e = kept_as old new reply _ e
+    (after_tests (AreKept old) old _ _ (kept_itself old) (λ _. kept_by old _ (participants_same old.participants)
+    (λ reference p e. e) (orders_same old.orders)))
+step_kept old new (PlaceOrder sender reference receiver amount) reply h e =
+    kept_as old new reply _ e (after_tests (AreKept old) old _ _ (kept_itself old)
+    (λ _. kept_taken old sender reference receiver amount h.orders_numbered))
+step_kept old new (Withdraw sender reference) reply h e = kept_as old new reply _ e
+    (kept_withdrawn old sender reference h.orders_numbered)
+step_kept old new Resolve reply h e = kept_as old new reply _ e.2
+    (after_tests (AreKept old) old _ _ (kept_itself old) (λ _. choose_book (AreKept old) (is_empty (chosen old e.0)) _ _
+    (kept_itself old) (kept_settle old (is_chosen old e.0) (chosen_queued old e.0))))
+step_kept old new (CutOff date) reply h e = kept_as old new reply _ e
+    (after_tests (AreKept old) old _ _ (kept_itself old) (λ _. kept_by old _ (participants_same old.participants)
+    (λ reference p e. e) (orders_same old.orders)))
+step_kept old new (CloseDay date) reply h e = kept_as old new reply _ e.2
+    (after_tests (AreKept old) old _ _ (kept_itself old) (λ _. kept_by old _ (participants_same old.participants)
+    (λ reference p e. e)
+    (orders_restated is_queued Rejected old.orders (all_of (λ o. is_queued o ≡ true → is_queued o ≡ true) (λ o t. t)
+    old.orders))))
 
 abbrev pub StepKeepsSoundness : Type 0
-StepKeepsSoundness = (old new : Book) (command : Command) (reply : Reply) → IsSound old → Step old command reply new → IsSound new
+StepKeepsSoundness = (old new : Book) (command : Command) (reply : Reply) → IsSound old → Step old command reply new
+    → IsSound new
 
-pub run_kept : StepKeepsSoundness → (old new : Book) (commands : List Command) (replies : List Reply) → IsSound old → Run old commands replies new → AreKept old new
+pub run_kept : StepKeepsSoundness → (old new : Book) (commands : List Command) (replies : List Reply) → IsSound old
+    → Run old commands replies new → AreKept old new
 run_kept law old new [] [] h r = subst (AreKept old) (sym r) (kept_itself old)
 run_kept law old new [] (reply ∷ replies) h r = absurd r
 run_kept law old new (command ∷ commands) [] h r = absurd r
 run_kept law old new (command ∷ commands) (reply ∷ replies) h r =
-    kept_through old r.0 new (step_kept old r.0 command reply h r.1) (run_kept law r.0 new commands replies (law old r.0 command reply h r.1) r.2)
+    kept_through old r.0 new (step_kept old r.0 command reply h r.1)
+    (run_kept law r.0 new commands replies (law old r.0 command reply h r.1) r.2)

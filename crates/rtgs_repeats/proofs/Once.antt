@@ -1,5 +1,6 @@
 -- Orders and postings that stand but once in a list leave the book that the whole list leaves.
-use Rattle.std.proofs.Common.{◌≡◌, ℕ, ◌==◌, Bool, true, false, cond, ◌&&◌, ◌||◌, ℤ, List, [], ◌∷◌, Option, Some, None, refl, sym, ap, ◌∙◌, subst, ⊎_elim, true≢false, arith}
+use Rattle.std.proofs.Common.{◌≡◌, ℕ, ◌==◌, Bool, true, false, cond, ◌&&◌, ◌||◌, ℤ, List, [], ◌∷◌, Option, Some, None}
+use Rattle.std.proofs.Common.{refl, sym, ap, ◌∙◌, subst, ⊎_elim, true≢false, arith}
 use Rattle.std.proofs.lemmas.Bool.{or_cases}
 use Rattle.std.proofs.lemmas.Bool.Decides.{nat_tests}
 use Rattle.std.proofs.lemmas.Int.{ints}
@@ -30,28 +31,37 @@ pub or_second : (a b c : Bool) → b ≡ true → (a || (b || c)) ≡ true
 or_second true b c e = refl
 or_second false b c e = rw e refl
 
-pub book_as : (old new : Book) (reply : Reply) (outcome : Outcome) → record { reply = reply; book = new } ≡ outcome → outcome.book ≡ old → new ≡ old
+pub book_as : (old new : Book) (reply : Reply) (outcome : Outcome) → record { reply = reply; book = new } ≡ outcome
+    → outcome.book ≡ old → new ≡ old
 book_as old new reply outcome e same = ap (λ (o : Outcome). o.book) e ∙ same
 
 -- what the book has changes nothing
-pub recorded_idle : (old new : Book) (command : Command) (reply : Reply) → is_recorded old command ≡ true → Step old command reply new → new ≡ old
+pub recorded_idle : (old new : Book) (command : Command) (reply : Reply) → is_recorded old command ≡ true
+    → Step old command reply new → new ≡ old
 unfolding post order
-recorded_idle old new (PlaceOrder sender reference receiver amount) reply e s = book_as old new reply _ s (some_holds old _ _ (or_second _ _ _ e))
-recorded_idle old new (Post code reference cents) reply e s = book_as old new reply _ s (some_holds old _ _ (or_second _ _ _ e))
+recorded_idle old new (PlaceOrder sender reference receiver amount) reply e s =
+    book_as old new reply _ s (some_holds old _ _ (or_second _ _ _ e))
+recorded_idle old new (Post code reference cents) reply e s =
+    book_as old new reply _ s (some_holds old _ _ (or_second _ _ _ e))
 recorded_idle old new other reply e s = absurd (true≢false (sym e))
 
 -- what the book has it keeps
-pub recorded_kept : (old new : Book) (command : Command) → AreKept old new → is_recorded old command ≡ true → is_recorded new command ≡ true
-recorded_kept old new (PlaceOrder sender reference receiver amount) kept e = by (order_named old sender reference) refl e
+pub recorded_kept : (old new : Book) (command : Command) → AreKept old new → is_recorded old command ≡ true
+    → is_recorded new command ≡ true
+recorded_kept old new (PlaceOrder sender reference receiver amount) kept e =
+    by (order_named old sender reference) refl e
   where
-    by : (found : Option Order) → order_named old sender reference ≡ found → is_same_order found receiver amount ≡ true → is_same_order (order_named new sender reference) receiver amount ≡ true
+    by : (found : Option Order) → order_named old sender reference ≡ found → is_same_order found receiver amount ≡ true
+        → is_same_order (order_named new sender reference) receiver amount ≡ true
     by None f k = absurd (true≢false (sym k))
     by (Some o) f k =
         let later = kept.orders sender reference o f in
-        ap (λ found. is_same_order found receiver amount) later.1 ∙ (λ i. bytes_eq (later.2.receiver i) receiver && (later.2.amount i == amount)) ∙ k
+        ap (λ found. is_same_order found receiver amount) later.1
+        ∙ (λ i. bytes_eq (later.2.receiver i) receiver && (later.2.amount i == amount)) ∙ k
 recorded_kept old new (Post code reference cents) kept e = by (posting_named old reference) refl e
   where
-    by : (found : Option Posting) → posting_named old reference ≡ found → is_same_posting found code cents ≡ true → is_same_posting (posting_named new reference) code cents ≡ true
+    by : (found : Option Posting) → posting_named old reference ≡ found → is_same_posting found code cents ≡ true
+        → is_same_posting (posting_named new reference) code cents ≡ true
     by None f k = absurd (true≢false (sym k))
     by (Some p) f k = ap (λ found. is_same_posting found code cents) (kept.postings reference p f) ∙ k
 recorded_kept old new other kept e = absurd (true≢false (sym e))
@@ -105,7 +115,8 @@ same_entry (Post code r cents) (Post code' r' cents') e =
 same_entry other one e = absurd (true≢false (sym e))
 
 -- an Order or Post that was accepted is had
-accepted_recorded : (old new : Book) (reply : Reply) (one : Command) → IsSound old → is_accepted reply ≡ true → Step old one reply new → is_entry one ≡ true → is_recorded new one ≡ true
+accepted_recorded : (old new : Book) (reply : Reply) (one : Command) → IsSound old → is_accepted reply ≡ true
+    → Step old one reply new → is_entry one ≡ true → is_recorded new one ≡ true
 accepted_recorded old new reply (PlaceOrder sender reference receiver amount) h accepted s e =
     let p = ordered_known old new reply sender reference receiver amount h accepted s in
     ap (λ found. is_same_order found receiver amount) p.1 ∙ order_same p.0 receiver amount p.2 p.3
@@ -114,20 +125,25 @@ accepted_recorded old new reply (Post code reference cents) h accepted s e =
     ap (λ found. is_same_posting found code cents) p.1 ∙ posting_same p.0 code cents p.2 p.3
 accepted_recorded old new reply other h accepted s e = absurd (true≢false (sym e))
 
-accepted_covered : (old new : Book) (reply : Reply) (one : Command) → IsSound old → is_accepted reply ≡ true → Step old one reply new → Covers new one
+accepted_covered : (old new : Book) (reply : Reply) (one : Command) → IsSound old → is_accepted reply ≡ true
+    → Step old one reply new → Covers new one
 accepted_covered old new reply one h accepted s other e =
     let same = same_entry other one e in
     ap (is_recorded new) same.0 ∙ accepted_recorded old new reply one h accepted s same.1
 
-any_covered : (book : Book) (ones : List Command) (other : Command) → AllByRecursion (Covers book) ones → list_any (is_same_entry other) ones ≡ true → is_recorded book other ≡ true
+any_covered : (book : Book) (ones : List Command) (other : Command) → AllByRecursion (Covers book) ones
+    → list_any (is_same_entry other) ones ≡ true → is_recorded book other ≡ true
 any_covered book [] other h e = absurd (true≢false (sym e))
-any_covered book (one ∷ ones) other h e = ⊎_elim (λ here. h.0 other here) (λ rest. any_covered book ones other h.1 rest) (or_cases (is_same_entry other one) _ e)
+any_covered book (one ∷ ones) other h e = ⊎_elim (λ here. h.0 other here) (λ rest. any_covered book ones other h.1 rest)
+    (or_cases (is_same_entry other one) _ e)
 
 -- ---- the list
 
 module _ (law : StepKeepsSoundness) (start : Book) where
-  pub once_run : (accepted : List Command) (old new : Book) (commands : List Command) (replies : List Reply) → IsSound old → AreKept start old → AllByRecursion (Covers old) accepted
-      → Run old commands replies new → Run old (once_after accepted start commands replies) (once_replies_after accepted start commands replies) new
+  pub once_run : (accepted : List Command) (old new : Book) (commands : List Command) (replies : List Reply)
+      → IsSound old → AreKept start old → AllByRecursion (Covers old) accepted
+      → Run old commands replies new → Run old (once_after accepted start commands replies)
+      (once_replies_after accepted start commands replies) new
   unfolding once_after once_replies_after
   once_run accepted old new [] [] h kept covers r = r
   once_run accepted old new [] (reply ∷ replies) h kept covers r = absurd r
@@ -135,21 +151,36 @@ module _ (law : StepKeepsSoundness) (start : Book) where
   once_run accepted old new (command ∷ commands) (reply ∷ replies) h kept covers r =
       let onward = step_kept old r.0 command reply h r.1 in
       by (is_recorded start command || list_any (is_same_entry command) accepted) refl onward
-      (λ more covered. once_run more r.0 new commands replies (law old r.0 command reply h r.1) (kept_through start old r.0 kept onward) covered r.2)
+      (λ more covered. once_run more r.0 new commands replies (law old r.0 command reply h r.1)
+      (kept_through start old r.0 kept onward) covered r.2)
     where
-      had : (is_recorded start command || list_any (is_same_entry command) accepted) ≡ true → is_recorded old command ≡ true
-      had e = ⊎_elim (λ here. recorded_kept start old command kept here) (λ rest. any_covered old accepted command covers rest) (or_cases (is_recorded start command) _ e)
+      had : (is_recorded start command || list_any (is_same_entry command) accepted) ≡ true
+          → is_recorded old command ≡ true
+      had e = ⊎_elim (λ here. recorded_kept start old command kept here)
+          (λ rest. any_covered old accepted command covers rest) (or_cases (is_recorded start command) _ e)
 
       still : AreKept old r.0 → AllByRecursion (Covers r.0) accepted
       still onward = all_weaker (Covers old) (Covers r.0) (λ one c. covers_kept old r.0 one onward c) accepted covers
 
-      more : AreKept old r.0 → (b : Bool) → is_accepted reply ≡ b → AllByRecursion (Covers r.0) (cond b (command ∷ accepted) accepted)
+      more : AreKept old r.0 → (b : Bool) → is_accepted reply ≡ b
+          → AllByRecursion (Covers r.0) (cond b (command ∷ accepted) accepted)
       more onward true e = (accepted_covered old r.0 reply command h e r.1, still onward)
       more onward false e = still onward
 
       by : (b : Bool) → (is_recorded start command || list_any (is_same_entry command) accepted) ≡ b → AreKept old r.0
-          → ((ones : List Command) → AllByRecursion (Covers r.0) ones → Run r.0 (once_after ones start commands replies) (once_replies_after ones start commands replies) new)
-          → Run old (cond b (once_after accepted start commands replies) (command ∷ once_after (cond (is_accepted reply) (command ∷ accepted) accepted) start commands replies))
-          (cond b (once_replies_after accepted start commands replies) (reply ∷ once_replies_after (cond (is_accepted reply) (command ∷ accepted) accepted) start commands replies)) new
-      by true e onward rest = subst (λ (b : Book). Run b (once_after accepted start commands replies) (once_replies_after accepted start commands replies) new) (recorded_idle old r.0 command reply (had e) r.1) (rest accepted (still onward))
-      by false e onward rest = (r.0, r.1, rest (cond (is_accepted reply) (command ∷ accepted) accepted) (more onward (is_accepted reply) refl))
+          → ((ones : List Command) → AllByRecursion (Covers r.0) ones
+          → Run r.0 (once_after ones start commands replies) (once_replies_after ones start commands replies) new)
+          → Run old (cond b (once_after accepted start commands replies)
+          (command ∷ once_after (cond (is_accepted reply) (command ∷ accepted) accepted) start commands replies))
+          (cond b (once_replies_after accepted start commands replies)
+          (reply ∷ once_replies_after (cond (is_accepted reply) (command ∷ accepted) accepted) start commands
+          replies)) new
+      by true e onward rest = subst (λ (b : Book). Run b (once_after accepted start commands replies)
+          (once_replies_after accepted start commands replies) new) (recorded_idle old r.0 command reply (had e) r.1)
+          (rest accepted (still onward))
+      by false e onward rest = (
+        r.0,
+        r.1,
+        rest (cond (is_accepted reply) (command ∷ accepted) accepted)
+            (more onward (is_accepted reply) refl),
+      )

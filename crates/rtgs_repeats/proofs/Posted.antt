@@ -13,9 +13,11 @@ use Rattle.rtgs_repeats.specs.Lasting.{posted_by}
 use Rattle.rtgs_repeats.proofs.KeptSteps.{StepKeepsSoundness}
 
 abbrev pub TotalMovesByPostings : Type 0
-TotalMovesByPostings = (old new : Book) (command : Command) (reply : Reply) → IsSound old → Step old command reply new → total new ≡ total old +ℤ posted command reply
+TotalMovesByPostings = (old new : Book) (command : Command) (reply : Reply) → IsSound old → Step old command reply new
+    → total new ≡ total old +ℤ posted command reply
 
-pub moved_by : StepKeepsSoundness → TotalMovesByPostings → (old new : Book) (commands : List Command) (replies : List Reply) → IsSound old → Run old commands replies new
+pub moved_by : StepKeepsSoundness → TotalMovesByPostings → (old new : Book) (commands : List Command)
+    (replies : List Reply) → IsSound old → Run old commands replies new
     → total new ≡ total old +ℤ posted_by commands replies
 moved_by sounds moves old new [] [] h r = let same = ap total r in omega (arith, ints)
 moved_by sounds moves old new [] (reply ∷ replies) h r = absurd r

@@ -11,17 +11,23 @@ use Rattle.rtgs_repeats.specs.Batch.{IsOrder}
 use Rattle.rtgs_repeats.proofs.Lives.{run_joined}
 
 abbrev pub ResumedBatchEndsAlike : Type 0
-ResumedBatchEndsAlike = (old mid last end : Book) (first rest : List Command) (one two three : List Reply) → IsSound old → AllByRecursion IsOrder (first ++ rest)
+ResumedBatchEndsAlike = (old mid last end : Book) (first rest : List Command) (one two three : List Reply) → IsSound old
+    → AllByRecursion IsOrder (first ++ rest)
     → Run old first one mid → Run mid (first ++ rest) two last → Run old (first ++ rest) three end → last ≡ end
 
-pub stopped : ResumedBatchEndsAlike → (old mid found last end : Book) (first rest : List Command) (one two three : List Reply) → IsSound old → AllByRecursion IsOrder (first ++ rest)
-    → Run old first one mid → MayFind mid (open_command rest []) found → Run found (first ++ rest) two last → Run old (first ++ rest) three end → last ≡ end
-stopped law old mid found last end first [] one two three h is r may s t = law old mid last end first [] one two three h is r (subst (λ b. Run b (first ++ []) two last) may s) t
+pub stopped : ResumedBatchEndsAlike → (old mid found last end : Book) (first rest : List Command)
+    (one two three : List Reply) → IsSound old → AllByRecursion IsOrder (first ++ rest)
+    → Run old first one mid → MayFind mid (open_command rest []) found → Run found (first ++ rest) two last
+    → Run old (first ++ rest) three end → last ≡ end
+stopped law old mid found last end first [] one two three h is r may s t =
+    law old mid last end first [] one two three h is r (subst (λ b. Run b (first ++ []) two last) may s) t
 stopped law old mid found last end first (command ∷ rest) one two three h is r may s t =
     ⊎_elim
-    (λ same. law old mid last end first (command ∷ rest) one two three h is r (subst (λ b. Run b (first ++ command ∷ rest) two last) same s) t)
+    (λ same. law old mid last end first (command ∷ rest) one two three h is r
+    (subst (λ b. Run b (first ++ command ∷ rest) two last) same s) t)
     (λ step.
-    let joined : first ++ command ∷ rest ≡ (first ++ command ∷ []) ++ rest = sym (append_assoc first (command ∷ []) rest) in
+    let joined : first ++ command ∷ rest ≡ (first ++ command ∷ []) ++ rest =
+    sym (append_assoc first (command ∷ []) rest) in
     law old found last end (first ++ command ∷ []) rest (one ++ step.0 ∷ []) two three h
     (subst (AllByRecursion IsOrder) joined is)
     (run_joined old mid found first (command ∷ []) one (step.0 ∷ []) r (found, step.1, refl))

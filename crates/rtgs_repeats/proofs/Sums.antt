@@ -1,5 +1,6 @@
 -- A sum over orders is the sum over all accounts of what each sends.
-use Rattle.std.proofs.Common.{◌≡◌, ℕ, ℤ, pos, ◌+ℤ◌, Bool, true, false, cond, ◌||◌, List, [], ◌∷◌, ◌++◌, filter, nat_cmp, Less, Equal, refl, sym, ◌∙◌, subst, true≢false, arith}
+use Rattle.std.proofs.Common.{◌≡◌, ℕ, ℤ, pos, ◌+ℤ◌, Bool, true, false, cond, ◌||◌, List, [], ◌∷◌, ◌++◌, filter, nat_cmp}
+use Rattle.std.proofs.Common.{Less, Equal, refl, sym, ◌∙◌, subst, true≢false, arith}
 use Rattle.std.proofs.lemmas.Int.{ints}
 use Rattle.std.proofs.lemmas.Bool.Decides.{nat_tests}
 use Rattle.std.specs.List.{AllByRecursion, list_any}
@@ -9,15 +10,18 @@ use Rattle.std.specs.Cmp.Lexicographic.{slice_cmp, bytes_decides}
 use Rattle.rtgs_book.specs.declared.order.Order.{Order}
 use Rattle.rtgs_book.specs.IntSum.{int_sum_by}
 
-pub int_sum_by-both : {X : Type 0} (f g : X → ℤ) (xs : List X) → int_sum_by (λ x. f x +ℤ g x) xs ≡ int_sum_by f xs +ℤ int_sum_by g xs
+pub int_sum_by-both : {X : Type 0} (f g : X → ℤ) (xs : List X)
+    → int_sum_by (λ x. f x +ℤ g x) xs ≡ int_sum_by f xs +ℤ int_sum_by g xs
 int_sum_by-both f g [] = refl
 int_sum_by-both f g (x ∷ xs) = let h = int_sum_by-both f g xs in omega (arith, ints)
 
-pub int_sum_by-append : {X : Type 0} (f : X → ℤ) (xs ys : List X) → int_sum_by f (xs ++ ys) ≡ int_sum_by f xs +ℤ int_sum_by f ys
+pub int_sum_by-append : {X : Type 0} (f : X → ℤ) (xs ys : List X)
+    → int_sum_by f (xs ++ ys) ≡ int_sum_by f xs +ℤ int_sum_by f ys
 int_sum_by-append f [] ys = omega (arith, ints)
 int_sum_by-append f (x ∷ xs) ys = let h = int_sum_by-append f xs ys in omega (arith, ints)
 
-pub int_sum_by-same : {X : Type 0} (f g : X → ℤ) → ((x : X) → f x ≡ g x) → (xs : List X) → int_sum_by f xs ≡ int_sum_by g xs
+pub int_sum_by-same : {X : Type 0} (f g : X → ℤ) → ((x : X) → f x ≡ g x) → (xs : List X)
+    → int_sum_by f xs ≡ int_sum_by g xs
 int_sum_by-same f g same xs i = int_sum_by (λ x. same x i) xs
 
 cmp_self : (n : ℕ) → nat_cmp n n ≡ Equal
@@ -31,27 +35,36 @@ later_differs : (code later : List ℕ) → slice_cmp nat_cmp code later ≡ Les
 later_differs code later less = by (bytes_eq code later) refl
   where
     by : (b : Bool) → bytes_eq code later ≡ b → b ≡ false
-    by true e = absurd (let same : code ≡ later = (bytes_decides code later).0 e in let equal : slice_cmp nat_cmp code code ≡ Equal = slice_cmp_self code in let h : slice_cmp nat_cmp code code ≡ Less = subst (λ c. slice_cmp nat_cmp code c ≡ Less) (sym same) less in cc)
+    by true e = absurd (let same : code ≡ later = (bytes_decides code later).0 e
+        in let equal : slice_cmp nat_cmp code code ≡ Equal = slice_cmp_self code
+        in let h : slice_cmp nat_cmp code code ≡ Less = subst (λ c. slice_cmp nat_cmp code c ≡ Less) (sym same) less
+        in cc)
     by false e = refl
 
 -- a term at one code alone
 abbrev at_code : List ℕ → ℤ → List ℕ → ℤ
 at_code code v other = cond (bytes_eq code other) v (pos 0)
 
-sum_later : (code : List ℕ) (v : ℤ) (codes : List (List ℕ)) → AllByRecursion (λ later. slice_cmp nat_cmp code later ≡ Less) codes → int_sum_by (at_code code v) codes ≡ pos 0
+sum_later : (code : List ℕ) (v : ℤ) (codes : List (List ℕ)) → AllByRecursion
+    (λ later. slice_cmp nat_cmp code later ≡ Less) codes → int_sum_by (at_code code v) codes ≡ pos 0
 sum_later code v [] h = refl
-sum_later code v (c ∷ codes) h = let rest = sum_later code v codes h.1 in rw (later_differs code c h.0) (omega (arith, ints))
+sum_later code v (c ∷ codes) h = let rest = sum_later code v codes h.1
+    in rw (later_differs code c h.0) (omega (arith, ints))
 
 -- over codes that rise, the term comes once
-sum_at_code : (code : List ℕ) (v : ℤ) (codes : List (List ℕ)) → IsStrictlySortedBy (slice_cmp nat_cmp) codes → list_any (bytes_eq code) codes ≡ true → int_sum_by (at_code code v) codes ≡ v
+sum_at_code : (code : List ℕ) (v : ℤ) (codes : List (List ℕ)) → IsStrictlySortedBy (slice_cmp nat_cmp) codes
+    → list_any (bytes_eq code) codes ≡ true → int_sum_by (at_code code v) codes ≡ v
 unfolding IsStrictlySortedBy
 sum_at_code code v [] rise has = absurd (true≢false (sym has))
 sum_at_code code v (c ∷ codes) rise has = by (bytes_eq code c) refl has (sum_at_code code v codes rise.1)
   where
-    by : (b : Bool) → bytes_eq code c ≡ b → (b || list_any (bytes_eq code) codes) ≡ true → (list_any (bytes_eq code) codes ≡ true → int_sum_by (at_code code v) codes ≡ v) → cond b v (pos 0) +ℤ int_sum_by (at_code code v) codes ≡ v
+    by : (b : Bool) → bytes_eq code c ≡ b → (b || list_any (bytes_eq code) codes) ≡ true
+        → (list_any (bytes_eq code) codes ≡ true → int_sum_by (at_code code v) codes ≡ v)
+        → cond b v (pos 0) +ℤ int_sum_by (at_code code v) codes ≡ v
     by true e h rest =
         let same : code ≡ c = (bytes_decides code c).0 e in
-        let none = sum_later code v codes (subst (λ x. AllByRecursion (λ later. slice_cmp nat_cmp x later ≡ Less) codes) (sym same) rise.0) in
+        let none = sum_later code v codes (subst (λ x. AllByRecursion (λ later. slice_cmp nat_cmp x later ≡ Less) codes)
+        (sym same) rise.0) in
         omega (arith, ints)
     by false e h rest = let r = rest h in omega (arith, ints)
 
@@ -64,14 +77,18 @@ abbrev pub sent_by : List ℕ → List Order → List Order
 sent_by code os = filter (λ (o : Order). bytes_eq o.sender code) os
 
 -- orders whose senders all have accounts
-pub by_senders : (codes : List (List ℕ)) → IsStrictlySortedBy (slice_cmp nat_cmp) codes → (f : Order → ℤ) (os : List Order) → AllByRecursion (λ (o : Order). list_any (bytes_eq o.sender) codes ≡ true) os
+pub by_senders : (codes : List (List ℕ)) → IsStrictlySortedBy (slice_cmp nat_cmp) codes
+    → (f : Order → ℤ) (os : List Order) → AllByRecursion (λ (o : Order). list_any (bytes_eq o.sender) codes ≡ true) os
     → int_sum_by (λ code. int_sum_by f (sent_by code os)) codes ≡ int_sum_by f os
 by_senders codes rise f [] h = zeros codes
 by_senders codes rise f (o ∷ os) h =
-    int_sum_by-same (λ code. int_sum_by f (sent_by code (o ∷ os))) (λ code. at_code o.sender (f o) code +ℤ int_sum_by f (sent_by code os)) (λ code. one (bytes_eq o.sender code) (sent_by code os)) codes
+    int_sum_by-same (λ code. int_sum_by f (sent_by code (o ∷ os)))
+    (λ code. at_code o.sender (f o) code +ℤ int_sum_by f (sent_by code os))
+    (λ code. one (bytes_eq o.sender code) (sent_by code os)) codes
     ∙ int_sum_by-both (at_code o.sender (f o)) (λ code. int_sum_by f (sent_by code os)) codes
     ∙ (λ i. sum_at_code o.sender (f o) codes rise h.0 i +ℤ by_senders codes rise f os h.1 i)
   where
-    one : (b : Bool) (rest : List Order) → int_sum_by f (cond b (o ∷ rest) rest) ≡ cond b (f o) (pos 0) +ℤ int_sum_by f rest
+    one : (b : Bool) (rest : List Order) → int_sum_by f (cond b (o ∷ rest) rest)
+        ≡ cond b (f o) (pos 0) +ℤ int_sum_by f rest
     one true rest = refl
     one false rest = omega (arith, ints)

@@ -12,16 +12,22 @@ use Rattle.rtgs_rows.proofs.Matching.{steps}
 use Rattle.rtgs_rows.proofs.Ordered.{ids_after, all_in_order, keys_of}
 use Rattle.rtgs_rows.proofs.Stored.{balances_after}
 
-records_after : (old new : Book) (rows : List RowChange) (content : Content) → IsBookOf old content → IsChange old rows new → AreOf new (with_changes content rows)
-records_after old new rows content of change = subst (λ b. AreOf b (with_changes content rows)) change.leads.book (steps old content rows of.records)
+records_after : (old new : Book) (rows : List RowChange) (content : Content) → IsBookOf old content
+    → IsChange old rows new → AreOf new (with_changes content rows)
+records_after old new rows content of change = subst (λ b. AreOf b (with_changes content rows)) change.leads.book
+    (steps old content rows of.records)
 
-pub in_order : (old new : Book) (rows : List RowChange) (content : Content) → IsBookOf old content → IsChange old rows new → AreInOrder content rows
-in_order old new rows content of change = all_in_order rows content of.ids (keys_of new (with_changes content rows) (records_after old new rows content of change) change.sound)
+pub in_order : (old new : Book) (rows : List RowChange) (content : Content) → IsBookOf old content
+    → IsChange old rows new → AreInOrder content rows
+in_order old new rows content of change = all_in_order rows content of.ids
+    (keys_of new (with_changes content rows) (records_after old new rows content of change) change.sound)
 
-pub changes : (old new : Book) (rows : List RowChange) (content : Content) → IsBookOf old content → IsChange old rows new → AllByRecursion FitsRow rows → IsBookOf new (with_changes content rows)
+pub changes : (old new : Book) (rows : List RowChange) (content : Content) → IsBookOf old content
+    → IsChange old rows new → AllByRecursion FitsRow rows → IsBookOf new (with_changes content rows)
 changes old new rows content of change forms = record {
   records = records_after old new rows content of change;
-  balances = balances_after old new content rows (records_after old new rows content of change) of.balances change.leads.balances change.added;
+  balances = balances_after old new content rows (records_after old new rows content of change) of.balances
+      change.leads.balances change.added;
   ids = ids_after rows content of.ids;
   sound = change.sound;
   fits = subst Fits change.leads.book (formed_after rows old forms of.fits);

@@ -1,18 +1,22 @@
 -- Changes of a book and of its records go together.
 use Rattle.std.proofs.Common.{◌≡◌, inl, inr, ℕ, ℤ, List, [], ◌∷◌, ◌++◌, map, filter, Bool, not, cond, refl, ap}
 use Rattle.std.specs.List.Sorted.{IsPermutation}
-use Rattle.std.proofs.lemmas.List.Sorted.{IsPermutation-map, IsPermutation-trans, IsPermutation-to_front, IsPermutation-sym, IsPermutation-cons, IsPermutation-filter_both, IsPermutation-middle}
+use Rattle.std.proofs.lemmas.List.Sorted.{IsPermutation-map, IsPermutation-trans, IsPermutation-to_front}
+use Rattle.std.proofs.lemmas.List.Sorted.{IsPermutation-sym, IsPermutation-cons, IsPermutation-filter_both}
+use Rattle.std.proofs.lemmas.List.Sorted.{IsPermutation-middle}
 use Rattle.std.proofs.lemmas.Bool.{cases_Bool}
 use Rattle.std.specs.Str.{bytes_eq}
 use Rattle.rtgs_book.specs.declared.Book.{Book}
 use Rattle.rtgs_book.specs.declared.Participant.{Participant}
 use Rattle.rtgs_book.specs.declared.RowChange.{RowChange}
-use Rattle.rtgs_book.specs.declared.RowChange.TheVariants.{AddParticipant, AddPosting, AddOrder, AddMark, SetCredit, SetBalance, SetState, SetDay}
+use Rattle.rtgs_book.specs.declared.RowChange.TheVariants.{AddParticipant, AddPosting, AddOrder, AddMark, SetCredit}
+use Rattle.rtgs_book.specs.declared.RowChange.TheVariants.{SetBalance, SetState, SetDay}
 use Rattle.rtgs_book.specs.Commands.{is_before, with_participant, with_credit, with_state, has_number}
 use Rattle.rtgs_book.specs.Settle.{restated}
 use Rattle.rtgs_book.specs.Lookup.{has_code}
 use Rattle.rtgs_book.specs.Changes.{with_row, changed}
-use Rattle.rtgs_rows.specs.Content.{Holding, Content, newcomer, with_credit_in, with_balance_in, with_change, with_changes}
+use Rattle.rtgs_rows.specs.Content.{Holding, Content, newcomer, with_credit_in, with_balance_in, with_change}
+use Rattle.rtgs_rows.specs.Content.{with_changes}
 use Rattle.rtgs_rows.specs.Keeping.{AreOf}
 
 abbrev who : Holding → Participant
@@ -23,18 +27,23 @@ map_snoc f [] x = refl
 map_snoc f (y ∷ ys) x = ap (λ more. f y ∷ more) (map_snoc f ys x)
 
 -- put in at its place
-placed : {X : Type 0} (p : X → Bool) (x : X) (xs : List X) → IsPermutation (x ∷ xs) (filter p xs ++ x ∷ filter (λ y. not (p y)) xs)
+placed : {X : Type 0} (p : X → Bool) (x : X) (xs : List X) → IsPermutation (x ∷ xs)
+    (filter p xs ++ x ∷ filter (λ y. not (p y)) xs)
 placed p x xs =
-    IsPermutation-trans _ _ _ (IsPermutation-cons x _ _ (IsPermutation-filter_both p (λ y. not (p y)) (λ y. refl) xs)) (IsPermutation-sym _ _ (IsPermutation-middle (filter p xs) x (filter (λ y. not (p y)) xs)))
+    IsPermutation-trans _ _ _ (IsPermutation-cons x _ _ (IsPermutation-filter_both p (λ y. not (p y)) (λ y. refl) xs))
+    (IsPermutation-sym _ _ (IsPermutation-middle (filter p xs) x (filter (λ y. not (p y)) xs)))
 
-who_credit : (code : List ℕ) (credit : ℕ) (hs : List Holding) → map who (map (with_credit_in code credit) hs) ≡ map (λ p. cond (has_code code p) (record p { credit = credit }) p) (map who hs)
+who_credit : (code : List ℕ) (credit : ℕ) (hs : List Holding)
+    → map who (map (with_credit_in code credit) hs) ≡ map (λ p. cond (has_code code p) (record p { credit = credit }) p)
+    (map who hs)
 who_credit code credit [] = refl
 who_credit code credit (h ∷ hs) = elim (cases_Bool (bytes_eq h.participant.code code)) [
   | inl hit ↦ rw (hit, who_credit code credit hs)
   | inr miss ↦ rw (miss, who_credit code credit hs)
 ]
 
-who_balance : (code : List ℕ) (balance : ℤ) (hs : List Holding) → map who (map (with_balance_in code balance) hs) ≡ map who hs
+who_balance : (code : List ℕ) (balance : ℤ) (hs : List Holding)
+    → map who (map (with_balance_in code balance) hs) ≡ map who hs
 who_balance code balance [] = refl
 who_balance code balance (h ∷ hs) = elim (cases_Bool (bytes_eq h.participant.code code)) [
   | inl hit ↦ rw (hit, who_balance code balance hs)
@@ -48,14 +57,33 @@ step b c (AddParticipant p) are = record {
   participants =
       rw (map_snoc who c.holdings (newcomer c p))
       (IsPermutation-trans _ _ _ (IsPermutation-to_front (map who c.holdings) p)
-      (IsPermutation-trans _ _ _ (IsPermutation-cons p _ _ are.participants) (placed (λ q. is_before q.code p.code) p b.participants)));
+      (IsPermutation-trans _ _ _ (IsPermutation-cons p _ _ are.participants)
+      (placed (λ q. is_before q.code p.code) p b.participants)));
   postings = are.postings;
   orders = are.orders;
   marks = are.marks;
 }
-step b c (AddPosting p) are = record { day = are.day; participants = are.participants; postings = ap (λ l. l ++ p ∷ []) are.postings; orders = are.orders; marks = are.marks }
-step b c (AddOrder o) are = record { day = are.day; participants = are.participants; postings = are.postings; orders = ap (λ l. l ++ o ∷ []) are.orders; marks = are.marks }
-step b c (AddMark m) are = record { day = are.day; participants = are.participants; postings = are.postings; orders = are.orders; marks = ap (λ l. l ++ m ∷ []) are.marks }
+step b c (AddPosting p) are = record {
+  day = are.day;
+  participants = are.participants;
+  postings = ap (λ l. l ++ p ∷ []) are.postings;
+  orders = are.orders;
+  marks = are.marks;
+}
+step b c (AddOrder o) are = record {
+  day = are.day;
+  participants = are.participants;
+  postings = are.postings;
+  orders = ap (λ l. l ++ o ∷ []) are.orders;
+  marks = are.marks;
+}
+step b c (AddMark m) are = record {
+  day = are.day;
+  participants = are.participants;
+  postings = are.postings;
+  orders = are.orders;
+  marks = ap (λ l. l ++ m ∷ []) are.marks;
+}
 step b c (SetCredit code credit) are = record {
   day = are.day;
   participants = rw (who_credit code credit c.holdings) (IsPermutation-map _ _ _ are.participants);
@@ -63,9 +91,27 @@ step b c (SetCredit code credit) are = record {
   orders = are.orders;
   marks = are.marks;
 }
-step b c (SetBalance code balance) are = record { day = are.day; participants = rw (who_balance code balance c.holdings) are.participants; postings = are.postings; orders = are.orders; marks = are.marks }
-step b c (SetState number state) are = record { day = are.day; participants = are.participants; postings = are.postings; orders = ap (map (restated (has_number number) state)) are.orders; marks = are.marks }
-step b c (SetDay day) are = record { day = refl; participants = are.participants; postings = are.postings; orders = are.orders; marks = are.marks }
+step b c (SetBalance code balance) are = record {
+  day = are.day;
+  participants = rw (who_balance code balance c.holdings) are.participants;
+  postings = are.postings;
+  orders = are.orders;
+  marks = are.marks;
+}
+step b c (SetState number state) are = record {
+  day = are.day;
+  participants = are.participants;
+  postings = are.postings;
+  orders = ap (map (restated (has_number number) state)) are.orders;
+  marks = are.marks;
+}
+step b c (SetDay day) are = record {
+  day = refl;
+  participants = are.participants;
+  postings = are.postings;
+  orders = are.orders;
+  marks = are.marks;
+}
 
 pub steps : (b : Book) (c : Content) (rows : List RowChange) → AreOf b c → AreOf (changed b rows) (with_changes c rows)
 steps b c [] are = are

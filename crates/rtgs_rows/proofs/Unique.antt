@@ -1,5 +1,6 @@
 -- The tables hold one book at most.
-use Rattle.std.proofs.Common.{◌≡◌, ℕ, pos, zero, suc, List, [], ◌∷◌, map, Option, Some, None, refl, sym, ap, ap₂, subst, ◌∙◌, arith, add-one}
+use Rattle.std.proofs.Common.{◌≡◌, ℕ, pos, zero, suc, List, [], ◌∷◌, map, Option, Some, None, refl, sym, ap, ap₂, subst}
+use Rattle.std.proofs.Common.{◌∙◌, arith, add-one}
 use Rattle.std.specs.List.{AllByRecursion}
 use Rattle.std.specs.List.Sorted.{IsPermutation, IsSorted, IsStrictlySortedBy}
 use Rattle.std.specs.Ordering.{nat_cmp, ordering_reverse, is_lt}
@@ -28,7 +29,8 @@ use Rattle.rtgs_book.specs.declared.OrderState.{OrderState}
 use Rattle.rtgs_book.specs.declared.OrderState.TheVariants.{Queued, Settled, Withdrawn, Rejected}
 use Rattle.rtgs_book.specs.Lookup.{accounts}
 use Rattle.rtgs_book.specs.Soundness.{CodesRise}
-use Rattle.rtgs_rows.specs.Rows.{date_value, phase_number, state_number, mark_value, day_row, posting_row, payment_row, mark_row}
+use Rattle.rtgs_rows.specs.Rows.{date_value, phase_number, state_number, mark_value, day_row, posting_row, payment_row}
+use Rattle.rtgs_rows.specs.Rows.{mark_row}
 use Rattle.rtgs_rows.specs.Content.{Tables, Holding, Content, holding_row, tables_for}
 use Rattle.rtgs_rows.specs.Fitting.{FitsDate, FitsPosting, FitsOrder, FitsMark}
 use Rattle.rtgs_rows.specs.Keeping.{IsBookOf}
@@ -43,7 +45,8 @@ date_value_once : DatesTell → (a b : Option ℕ) → FitsDate a → FitsDate b
 date_value_once d None None p q e = refl
 date_value_once d None (Some b) p q e = absurd (let clash : ◌≡◌ {A = Value} Null (Text (date_text b)) = e in cc)
 date_value_once d (Some a) None p q e = absurd (let clash : ◌≡◌ {A = Value} (Text (date_text a)) Null = e in cc)
-date_value_once d (Some a) (Some b) p q e = ap Some (d a b p q (let texts : ◌≡◌ {A = Value} (Text (date_text a)) (Text (date_text b)) = e in cc))
+date_value_once d (Some a) (Some b) p q e = ap Some (d a b p q
+    (let texts : ◌≡◌ {A = Value} (Text (date_text a)) (Text (date_text b)) = e in cc))
 
 -- ---- rows
 
@@ -92,7 +95,11 @@ holding_once a b e =
     let key : a.participant.key ≡ b.participant.key = cc in
     let credit : a.participant.credit ≡ b.participant.credit = cc in
     let balance : a.balance ≡ b.balance = cc in
-    λ i. record { id = id i; participant = record { code = code i; name = name i; key = key i; credit = credit i }; balance = balance i }
+    λ i. record {
+      id = id i;
+      participant = record { code = code i; name = name i; key = key i; credit = credit i };
+      balance = balance i;
+    }
 
 pub posting_once : DatesTell → (a b : Posting) → FitsPosting a → FitsPosting b → posting_row a ≡ posting_row b → a ≡ b
 posting_once d a b p q e =
@@ -116,7 +123,15 @@ order_once d a b p q e =
     let marks : mark_value a.state ≡ mark_value b.state = cc in
     let date = d a.date b.date p.date q.date dates in
     let state = state_once a.state b.state states marks in
-    λ i. record { number = number i; sender = sender i; reference = reference i; receiver = receiver i; amount = amount i; date = date i; state = state i }
+    λ i. record {
+      number = number i;
+      sender = sender i;
+      reference = reference i;
+      receiver = receiver i;
+      amount = amount i;
+      date = date i;
+      state = state i;
+    }
 
 pub mark_once : DatesTell → (a b : Mark) → FitsMark a → FitsMark b → mark_row a ≡ mark_row b → a ≡ b
 mark_once d a b p q e =
@@ -127,7 +142,8 @@ mark_once d a b p q e =
     let date = d a.date b.date p.date q.date dates in
     λ i. record { number = number i; date = date i; count = count i; value = value i }
 
-rows_once : {A : Type 0} (row : A → Row) (P : A → Type 0) → ((a b : A) → P a → P b → row a ≡ row b → a ≡ b) → (xs ys : List A) → AllByRecursion P xs → AllByRecursion P ys → map row xs ≡ map row ys → xs ≡ ys
+rows_once : {A : Type 0} (row : A → Row) (P : A → Type 0) → ((a b : A) → P a → P b → row a ≡ row b → a ≡ b)
+    → (xs ys : List A) → AllByRecursion P xs → AllByRecursion P ys → map row xs ≡ map row ys → xs ≡ ys
 rows_once row P once [] [] p q e = refl
 rows_once row P once [] (y ∷ ys) p q e = absurd cc
 rows_once row P once (x ∷ xs) [] p q e = absurd cc
@@ -153,39 +169,61 @@ by_code_total = record {
 }
 
 -- what rises is sorted
-pub sorted_from : {X : Type 0} (cmp : X → X → Ordering) → IsTotalOrder cmp → (xs : List X) → IsAscending (λ a b. cmp a b ≡ Less) xs → IsSorted cmp xs
+pub sorted_from : {X : Type 0} (cmp : X → X → Ordering) → IsTotalOrder cmp → (xs : List X)
+    → IsAscending (λ a b. cmp a b ≡ Less) xs → IsSorted cmp xs
 sorted_from cmp total [] up k d p q = absurd (omega arith)
 sorted_from cmp total (x ∷ []) up k d p q = absurd (omega arith)
 sorted_from cmp total (x ∷ y ∷ ys) up zero d p q = ap is_lt (total.antisymm y x ∙ ap ordering_reverse up.0.0)
-sorted_from cmp total (x ∷ y ∷ ys) up (suc k) d p q = rw add-one (rw add-one at (sorted_from cmp total (y ∷ ys) up.1 k d (omega arith) (omega arith)))
+sorted_from cmp total (x ∷ y ∷ ys) up (suc k) d p q = rw add-one
+    (rw add-one at (sorted_from cmp total (y ∷ ys) up.1 k d (omega arith) (omega arith)))
 
-strict_codes : (xs : List (List ℕ)) → IsStrictlySortedBy (slice_cmp nat_cmp) xs → IsAscending (λ a b. slice_cmp nat_cmp a b ≡ Less) xs
+strict_codes : (xs : List (List ℕ)) → IsStrictlySortedBy (slice_cmp nat_cmp) xs
+    → IsAscending (λ a b. slice_cmp nat_cmp a b ≡ Less) xs
 unfolding IsStrictlySortedBy
 strict_codes [] h = tt
 strict_codes (x ∷ xs) h = (h.0, strict_codes xs h.1)
 
 pub rising : (b : Book) → CodesRise b → IsAscending (λ (p q : Participant). by_code p q ≡ Less) b.participants
 unfolding accounts
-rising b rise = ascending_from_map (λ (x y : List ℕ). slice_cmp nat_cmp x y ≡ Less) (λ (p : Participant). p.code) b.participants (strict_codes _ rise.0)
+rising b rise = ascending_from_map (λ (x y : List ℕ). slice_cmp nat_cmp x y ≡ Less) (λ (p : Participant). p.code)
+    b.participants (strict_codes _ rise.0)
 
-same_participants : (one other : Book) (ps : List Participant) → CodesRise one → CodesRise other → IsPermutation ps one.participants → IsPermutation ps other.participants → other.participants ≡ one.participants
+same_participants : (one other : Book) (ps : List Participant) → CodesRise one → CodesRise other
+    → IsPermutation ps one.participants → IsPermutation ps other.participants → other.participants ≡ one.participants
 same_participants one other ps r s p q =
-    sorted_unique by_code by_code_total one.participants other.participants (rising one r) (IsPermutation-trans _ _ _ (IsPermutation-sym _ _ p) q) (sorted_from by_code by_code_total other.participants (rising other s))
+    sorted_unique by_code by_code_total one.participants other.participants (rising one r)
+    (IsPermutation-trans _ _ _ (IsPermutation-sym _ _ p) q)
+    (sorted_from by_code by_code_total other.participants (rising other s))
 
 -- ---- books
 
-pub once : DatesTell → (one other : Book) (c d : Content) → IsBookOf one c → IsBookOf other d → tables_for c ≡ tables_for d → other ≡ one
+pub once : DatesTell → (one other : Book) (c d : Content) → IsBookOf one c → IsBookOf other d
+    → tables_for c ≡ tables_for d → other ≡ one
 once dates one other c d h k e =
-    let holdings : d.holdings ≡ c.holdings = rows_once holding_row (λ _. Unit {0}) (λ a b _ _. holding_once a b) d.holdings c.holdings (all_true _) (all_true _) (sym (ap (λ (t : Tables). t.participants) e)) in
-    let participants = same_participants one other (map (λ (h : Holding). h.participant) c.holdings) h.sound.codes_rise k.sound.codes_rise h.records.participants
-    (subst (λ hs. IsPermutation (map (λ (h : Holding). h.participant) hs) other.participants) holdings k.records.participants) in
-    let postings = rows_once posting_row FitsPosting (posting_once dates) other.postings one.postings k.fits.postings h.fits.postings
-    (ap (map posting_row) (sym k.records.postings) ∙ sym (ap (λ (t : Tables). t.postings) e) ∙ ap (map posting_row) h.records.postings) in
+    let holdings : d.holdings ≡ c.holdings = rows_once holding_row (λ _. Unit {0}) (λ a b _ _. holding_once a b)
+    d.holdings c.holdings (all_true _) (all_true _) (sym (ap (λ (t : Tables). t.participants) e)) in
+    let participants = same_participants one other (map (λ (h : Holding). h.participant) c.holdings) h.sound.codes_rise
+    k.sound.codes_rise h.records.participants
+    (subst (λ hs. IsPermutation (map (λ (h : Holding). h.participant) hs) other.participants) holdings
+    k.records.participants) in
+    let postings = rows_once posting_row FitsPosting (posting_once dates) other.postings one.postings k.fits.postings
+    h.fits.postings
+    (ap (map posting_row) (sym k.records.postings) ∙ sym (ap (λ (t : Tables). t.postings) e)
+    ∙ ap (map posting_row) h.records.postings) in
     let orders = rows_once payment_row FitsOrder (order_once dates) other.orders one.orders k.fits.orders h.fits.orders
-    (ap (map payment_row) (sym k.records.orders) ∙ sym (ap (λ (t : Tables). t.payments) e) ∙ ap (map payment_row) h.records.orders) in
+    (ap (map payment_row) (sym k.records.orders) ∙ sym (ap (λ (t : Tables). t.payments) e)
+    ∙ ap (map payment_row) h.records.orders) in
     let marks = rows_once mark_row FitsMark (mark_once dates) other.marks one.marks k.fits.marks h.fits.marks
-    (ap (map mark_row) (sym k.records.marks) ∙ sym (ap (λ (t : Tables). t.marks) e) ∙ ap (map mark_row) h.records.marks) in
-    let desks : day_row other.day ∷ [] ≡ day_row one.day ∷ [] = ap (λ day. day_row day ∷ []) (sym k.records.day) ∙ sym (ap (λ (t : Tables). t.desk) e) ∙ ap (λ day. day_row day ∷ []) h.records.day in
+    (ap (map mark_row) (sym k.records.marks) ∙ sym (ap (λ (t : Tables). t.marks) e) ∙ ap (map mark_row) h.records.marks)
+    in
+    let desks : day_row other.day ∷ [] ≡ day_row one.day ∷ [] = ap (λ day. day_row day ∷ []) (sym k.records.day)
+    ∙ sym (ap (λ (t : Tables). t.desk) e) ∙ ap (λ day. day_row day ∷ []) h.records.day in
     let rows : day_row other.day ≡ day_row one.day = cc in
     let day = day_once dates other.day one.day k.fits.day h.fits.day rows in
-    λ i. record { participants = participants i; postings = postings i; orders = orders i; marks = marks i; day = day i }
+    λ i. record {
+      participants = participants i;
+      postings = postings i;
+      orders = orders i;
+      marks = marks i;
+      day = day i;
+    }

@@ -27,19 +27,34 @@ use Rattle.rtgs_stored_desk.specs.Stored.{AreTablesOf, IsAtRest, IsMemoryOrStore
 abbrev pub IsReadAs : Schema → Type 0
 IsReadAs schema = (other : Schema) (trees : Trees) → IsReadBy schema trees → IsReadBy other trees → other ≡ schema
 
-pub held_at_rest : {S : Type 0} (g : Ghosts S) (h : Held S) → IsReadAs desk_schema → IsAtRest (state g h) → (book : Book) → AreTablesOf book (state g h).committed.trees → HoldsBook g h book
+pub held_at_rest : {S : Type 0} (g : Ghosts S) (h : Held S) → IsReadAs desk_schema → IsAtRest (state g h)
+    → (book : Book) → AreTablesOf book (state g h).committed.trees → HoldsBook g h book
 held_at_rest g h as_such rest book tables =
-    let s = state g h in
-    (tables.0, record { is_open = rest.is_open; schema = as_such s.committed.schema s.committed.trees tables.1.sound rest.sound; holds = tables.1; clean = rest.clean }, tables.2)
+    let s = state g h in (
+      tables.0,
+      record {
+        is_open = rest.is_open;
+        schema = as_such s.committed.schema s.committed.trees tables.1.sound
+            rest.sound;
+        holds = tables.1;
+        clean = rest.clean;
+      },
+      tables.2,
+    )
 
 pub blank_at_rest : (s : State) → IsReadAs no_schema → IsAtRest s → HasNoTables s.committed.trees → IsBlank s
-blank_at_rest s as_none rest none = record { is_open = rest.is_open; schema = as_none s.committed.schema s.committed.trees none rest.sound; clean = rest.clean }
+blank_at_rest s as_none rest none = record {
+  is_open = rest.is_open;
+  schema = as_none s.committed.schema s.committed.trees none rest.sound;
+  clean = rest.clean;
+}
 
 pub file_at_rest : (s : State) → IsAtRest s → s.committed.schema ≡ desk_schema → IsDeskFile s.committed.trees s
 file_at_rest s rest schema = record { is_open = rest.is_open; schema = schema; trees_are = refl; clean = rest.clean }
 
 -- what is held is in the tables that are committed
-pub committed_tables : {S : Type 0} (g : Ghosts S) (h : Held S) (book : Book) → HoldsBook g h book → AreTablesOf book (state g h).committed.trees
+pub committed_tables : {S : Type 0} (g : Ghosts S) (h : Held S) (book : Book) → HoldsBook g h book
+    → AreTablesOf book (state g h).committed.trees
 committed_tables g h book holds = (holds.0, holds.1.holds, holds.2)
 
 -- trees that are the committed ones hold the book too
@@ -55,7 +70,8 @@ is_new sound = record {
   fits = record { participants = tt; postings = tt; orders = tt; marks = tt; day = tt };
 }
 
-pub none_or_new : IsSound new_book → (trees : Trees) → IsNoneOrNew trees → HasNoTables trees ⊎ AreTablesOf new_book trees
+pub none_or_new : IsSound new_book → (trees : Trees) → IsNoneOrNew trees
+    → HasNoTables trees ⊎ AreTablesOf new_book trees
 none_or_new sound trees left = elim left [ inl none ↦ inl none | inr made ↦ inr (first_content, made, is_new sound) ]
 
 pub making_cause : (fault : CommitFault) → IsMemoryOrStore (fault_of_making fault)
@@ -67,6 +83,7 @@ pub memory_explains : (trees : Trees) (fault : Fault) → fault ≡ OutOfMemory 
 memory_explains trees fault memory = subst (ExplainsTrees trees) (sym memory) tt
 
 -- what two clauses say of an error together
-pub from_both : {T E : Type 0} (r : Result T E) (P Q R : E → Type 0) → ((e : E) → P e → Q e → R e) → IfErr r P → IfErr r Q → IfErr r R
+pub from_both : {T E : Type 0} (r : Result T E) (P Q R : E → Type 0) → ((e : E) → P e → Q e → R e) → IfErr r P
+    → IfErr r Q → IfErr r R
 from_both (Ok x) P Q R f p q = tt
 from_both (Err e) P Q R f p q = f e p q

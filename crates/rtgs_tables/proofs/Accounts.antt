@@ -23,33 +23,45 @@ use Rattle.rtgs_rows.specs.Keeping.{IsBookOf}
 use Rattle.rtgs_rows.specs.RowLaws.{RecordsStandInOrder}
 use Rattle.rtgs_tables.specs.Accounts.{account_of, accounts_of, stored_account, AreRead, HasRecords, AreBalances}
 
-all_from_map : {A B : Type 0} (P : B → Type 0) (f : A → B) (xs : List A) → AllByRecursion P (map f xs) → AllByRecursion (λ x. P (f x)) xs
+all_from_map : {A B : Type 0} (P : B → Type 0) (f : A → B) (xs : List A) → AllByRecursion P (map f xs)
+    → AllByRecursion (λ x. P (f x)) xs
 all_from_map P f [] all = tt
 all_from_map P f (x ∷ xs) all = (all.0, all_from_map P f xs all.1)
 
-pub accounts_fit : (content : Content) (accounts : List Account) (book : Book) → AreRead content accounts book → AllByRecursion (λ (a : Account). FitsParticipant a.participant) accounts
-accounts_fit content accounts book are = all_from_map FitsParticipant (λ (a : Account). a.participant) accounts (subst (AllByRecursion FitsParticipant) are.participants are.fits.participants)
+pub accounts_fit : (content : Content) (accounts : List Account) (book : Book) → AreRead content accounts book
+    → AllByRecursion (λ (a : Account). FitsParticipant a.participant) accounts
+accounts_fit content accounts book are = all_from_map FitsParticipant (λ (a : Account). a.participant) accounts
+    (subst (AllByRecursion FitsParticipant) are.participants are.fits.participants)
 
-strict_codes : (codes : List (List ℕ)) → IsStrictlySortedBy (slice_cmp nat_cmp) codes → IsAscending (λ a b. slice_cmp nat_cmp a b ≡ Less) codes
+strict_codes : (codes : List (List ℕ)) → IsStrictlySortedBy (slice_cmp nat_cmp) codes
+    → IsAscending (λ a b. slice_cmp nat_cmp a b ≡ Less) codes
 unfolding IsStrictlySortedBy
 strict_codes [] sorted = tt
 strict_codes (x ∷ xs) sorted = (sorted.0, strict_codes xs sorted.1)
 
-in_order_of_codes : (book : Book) → CodesRise book → IsAscending (λ (p q : Participant). slice_cmp nat_cmp p.code q.code ≡ Less) book.participants
+in_order_of_codes : (book : Book) → CodesRise book → IsAscending
+    (λ (p q : Participant). slice_cmp nat_cmp p.code q.code ≡ Less) book.participants
 unfolding accounts
-in_order_of_codes book rise = ascending_from_map (λ (x y : List ℕ). slice_cmp nat_cmp x y ≡ Less) (λ (p : Participant). p.code) book.participants (strict_codes _ rise.0)
+in_order_of_codes book rise = ascending_from_map (λ (x y : List ℕ). slice_cmp nat_cmp x y ≡ Less)
+    (λ (p : Participant). p.code) book.participants (strict_codes _ rise.0)
 
 -- where the stored balances are those of the book, the accounts are those of its participants
-own_accounts : (book : Book) (hs : List Holding) → AllByRecursion (λ (h : Holding). h.balance ≡ balance book h.participant.code) hs → map stored_account hs ≡ map (account_of book) (map (λ (h : Holding). h.participant) hs)
+own_accounts : (book : Book) (hs : List Holding) → AllByRecursion
+    (λ (h : Holding). h.balance ≡ balance book h.participant.code) hs
+    → map stored_account hs ≡ map (account_of book) (map (λ (h : Holding). h.participant) hs)
 own_accounts book [] stored = refl
-own_accounts book (h ∷ hs) stored = ap₂ ◌∷◌ (λ i. record { participant = h.participant; balance = stored.0 i }) (own_accounts book hs stored.1)
+own_accounts book (h ∷ hs) stored = ap₂ ◌∷◌ (λ i. record { participant = h.participant; balance = stored.0 i })
+    (own_accounts book hs stored.1)
 
-are_own : RecordsStandInOrder → (content : Content) (book : Book) → IsBookOf book content → AreRead content (accounts_of book) book
+are_own : RecordsStandInOrder → (content : Content) (book : Book) → IsBookOf book content
+    → AreRead content (accounts_of book) book
 are_own in_order content book of =
     record {
       order = in_order book content of;
-      stored = subst (λ l. IsPermutation l (accounts_of book)) (sym (own_accounts book content.holdings of.balances)) (IsPermutation-map (account_of book) _ _ of.records.participants);
-      rising = ascending-map (λ (a b : Account). slice_cmp nat_cmp a.participant.code b.participant.code ≡ Less) (account_of book) book.participants (in_order_of_codes book of.sound.codes_rise);
+      stored = subst (λ l. IsPermutation l (accounts_of book)) (sym (own_accounts book content.holdings of.balances))
+          (IsPermutation-map (account_of book) _ _ of.records.participants);
+      rising = ascending-map (λ (a b : Account). slice_cmp nat_cmp a.participant.code b.participant.code ≡ Less)
+          (account_of book) book.participants (in_order_of_codes book of.sound.codes_rise);
       participants = sym (map_back (account_of book) (λ (a : Account). a.participant) (λ p. refl) book.participants);
       day = of.records.day;
       postings = of.records.postings;
@@ -58,7 +70,8 @@ are_own in_order content book of =
       fits = of.fits;
     }
 
-pub has_own : RecordsStandInOrder → (s : State) (content : Content) (book : Book) → Rests content s → IsBookOf book content → HasRecords (accounts_of book) book s
+pub has_own : RecordsStandInOrder → (s : State) (content : Content) (book : Book) → Rests content s
+    → IsBookOf book content → HasRecords (accounts_of book) book s
 has_own in_order s content book rests of = (content, rests, are_own in_order content book of)
 
 balances_of : (book : Book) (ps : List Participant) → AreBalances book (map (account_of book) ps)
@@ -69,5 +82,12 @@ pub own_balances : (book : Book) → AreBalances book (accounts_of book)
 own_balances book = balances_of book book.participants
 
 -- the tables keep their records where they keep their rows
-pub kept_on : (accounts : List Account) (book : Book) (old new : State) → ((trees : Trees) → IsDeskFile trees old → IsDeskFile trees new) → HasRecords accounts book old → HasRecords accounts book new
-kept_on accounts book old new kept held = (held.0, rests_of held.0 new old.committed.trees (kept old.committed.trees (file_of held.0 old held.1)) held.1.holds, held.2)
+pub kept_on : (accounts : List Account) (book : Book) (old new : State)
+    → ((trees : Trees) → IsDeskFile trees old → IsDeskFile trees new) → HasRecords accounts book old
+    → HasRecords accounts book new
+kept_on accounts book old new kept held = (
+  held.0,
+  rests_of held.0 new old.committed.trees
+      (kept old.committed.trees (file_of held.0 old held.1)) held.1.holds,
+  held.2,
+)

@@ -1,5 +1,6 @@
 -- Rows as they are read: a number below zero is read as 0.
-use Rattle.std.proofs.Common.{◌≡◌, ℕ, suc, ◌<◌, ℤ, pos, negsuc, Bool, List, [], ◌∷◌, map, length, IsPermutation, Option, Some, None, refl, sym, subst, ap, ap₂, ◌∙◌, arith}
+use Rattle.std.proofs.Common.{◌≡◌, ℕ, suc, ◌<◌, ℤ, pos, negsuc, Bool, List, [], ◌∷◌, map, length, IsPermutation, Option}
+use Rattle.std.proofs.Common.{Some, None, refl, sym, subst, ap, ap₂, ◌∙◌, arith}
 use Rattle.std.specs.List.{AllByRecursion}
 use Rattle.std.proofs.lemmas.List.Sorted.{IsPermutation-sym}
 use Rattle.sqlite.specs.Order.{Row}
@@ -17,7 +18,9 @@ use Rattle.rtgs_money.specs.Date.{date_text, IsBusinessDate}
 use Rattle.rtgs_rows.specs.Fitting.{FitsDate}
 use Rattle.rtgs_rows.specs.Rows.{shown_posting, shown_order, shown_mark, mark_value, date_value, state_number}
 use Rattle.rtgs_tables.proofs.RowColumns.{of_four, of_eight}
-use Rattle.rtgs_tables.specs.Numbers.{number_of, at_least_zero, as_read, counted_of_posting, counted_of_order, counted_of_mark, IsFormed, IsNumberedPosting, IsNumberedState, IsNumberedOrder, IsNumberedMark}
+use Rattle.rtgs_tables.specs.Numbers.{number_of, at_least_zero, as_read, counted_of_posting, counted_of_order}
+use Rattle.rtgs_tables.specs.Numbers.{counted_of_mark, IsFormed, IsNumberedPosting, IsNumberedState, IsNumberedOrder}
+use Rattle.rtgs_tables.specs.Numbers.{IsNumberedMark}
 
 -- what is read as a number is one
 pub number_in : (v : Value) (n : ℕ) → at_least_zero v ≡ Int (pos n) → (m : ℤ) × (v ≡ Int m) × (number_of m ≡ n)
@@ -53,12 +56,15 @@ pub mark_same : (m : Mark) → as_read counted_of_mark (shown_mark m) ≡ shown_
 mark_same m = refl
 
 -- so are the rows of records
-pub rows_same : {A : Type 0} (counted : List Bool) (shown : A → Row) → ((a : A) → as_read counted (shown a) ≡ shown a) → (rows : List Row) (all : List A) → rows ≡ map shown all → map (as_read counted) rows ≡ map shown all
-rows_same counted shown same rows all is = ap (map (as_read counted)) is ∙ map-map (as_read counted) shown all ∙ map_same (λ a. as_read counted (shown a)) shown same all
+pub rows_same : {A : Type 0} (counted : List Bool) (shown : A → Row) → ((a : A) → as_read counted (shown a) ≡ shown a)
+    → (rows : List Row) (all : List A) → rows ≡ map shown all → map (as_read counted) rows ≡ map shown all
+rows_same counted shown same rows all is = ap (map (as_read counted)) is ∙ map-map (as_read counted) shown all
+    ∙ map_same (λ a. as_read counted (shown a)) shown same all
 
 -- ---- where the numbers are above zero, the row is the record's own
 
-state_own : (state : OrderState) (v : Value) → IsNumberedState state → at_least_zero v ≡ mark_value state → v ≡ mark_value state
+state_own : (state : OrderState) (v : Value) → IsNumberedState state → at_least_zero v ≡ mark_value state
+    → v ≡ mark_value state
 state_own Queued Null low e = e
 state_own Queued (Int n) low e = absurd cc
 state_own Queued (Real x) low e = absurd cc
@@ -82,11 +88,13 @@ head_of v u r s e = cc
 tail_of : (v u : Value) (r s : Row) → ◌≡◌ {A = Row} (v ∷ r) (u ∷ s) → r ≡ s
 tail_of v u r s e = cc
 
-pub posting_own : (row : Row) (p : Posting) → IsNumberedPosting p → as_read counted_of_posting row ≡ shown_posting p → row ≡ shown_posting p
+pub posting_own : (row : Row) (p : Posting) → IsNumberedPosting p → as_read counted_of_posting row ≡ shown_posting p
+    → row ≡ shown_posting p
 posting_own [] p low e = absurd cc
 posting_own (v ∷ row) p low e = ap₂ ◌∷◌ (above_in v p.number low (head_of _ _ _ _ e)) (tail_of _ _ _ _ e)
 
-pub order_own : (row : Row) (o : Order) → IsNumberedOrder o → as_read counted_of_order row ≡ shown_order o → row ≡ shown_order o
+pub order_own : (row : Row) (o : Order) → IsNumberedOrder o → as_read counted_of_order row ≡ shown_order o
+    → row ≡ shown_order o
 order_own [] o low e = absurd cc
 order_own (a ∷ []) o low e = absurd cc
 order_own (a ∷ b ∷ []) o low e = absurd cc
@@ -100,7 +108,8 @@ order_own (a ∷ b ∷ c ∷ d ∷ f ∷ g ∷ h ∷ k ∷ rest) o low e =
     let mark = state_own o.state k low.1 (let is : at_least_zero k ≡ mark_value o.state = cc in is) in
     cc
 
-pub mark_own : (row : Row) (m : Mark) → IsNumberedMark m → as_read counted_of_mark row ≡ shown_mark m → row ≡ shown_mark m
+pub mark_own : (row : Row) (m : Mark) → IsNumberedMark m → as_read counted_of_mark row ≡ shown_mark m
+    → row ≡ shown_mark m
 mark_own [] m low e = absurd cc
 mark_own (a ∷ []) m low e = absurd cc
 mark_own (a ∷ b ∷ []) m low e = absurd cc
@@ -110,7 +119,8 @@ mark_own (a ∷ b ∷ c ∷ rest) m low e =
     cc
 
 -- records with numbers above zero are told by their own rows
-module _ {A : Type 0} (counted : List Bool) (shown : A → Row) (numbered : A → Type 0) (own : (row : Row) (a : A) → numbered a → as_read counted row ≡ shown a → row ≡ shown a) where
+module _ {A : Type 0} (counted : List Bool) (shown : A → Row) (numbered : A → Type 0)
+    (own : (row : Row) (a : A) → numbered a → as_read counted row ≡ shown a → row ≡ shown a) where
   abbrev IsOwn : Row → Type 0
   IsOwn read = (row : Row) → as_read counted row ≡ read → row ≡ read
 
@@ -118,17 +128,22 @@ module _ {A : Type 0} (counted : List Bool) (shown : A → Row) (numbered : A �
   owns [] low = tt
   owns (a ∷ all) low = (λ row e. own row a low.0 e, owns all low.1)
 
-  same_rows : (rows : List Row) → AllByRecursion (λ row. IsOwn (as_read counted row)) rows → map (as_read counted) rows ≡ rows
+  same_rows : (rows : List Row) → AllByRecursion (λ row. IsOwn (as_read counted row)) rows
+      → map (as_read counted) rows ≡ rows
   same_rows [] each = refl
   same_rows (row ∷ rows) each = ap₂ ◌∷◌ (sym (each.0 row refl)) (same_rows rows each.1)
 
-  pub told_plainly : (rows : List Row) (all : List A) → AllByRecursion numbered all → IsPermutation (map (as_read counted) rows) (map shown all) → IsPermutation rows (map shown all)
+  pub told_plainly : (rows : List Row) (all : List A) → AllByRecursion numbered all
+      → IsPermutation (map (as_read counted) rows) (map shown all) → IsPermutation rows (map shown all)
   told_plainly rows all low same =
-      let each = all_unmap IsOwn (as_read counted) rows (all-permutation IsOwn _ _ (IsPermutation-sym _ _ same) (owns all low)) in
+      let each = all_unmap IsOwn (as_read counted) rows (all-permutation IsOwn _ _ (IsPermutation-sym _ _ same)
+      (owns all low)) in
       subst (λ rs. IsPermutation rs (map shown all)) (same_rows rows each) same
 
 -- the rows of records are in their forms
-pub are_formed : {A : Type 0} (fits : A → Type 0) (counted : List Bool) (shown : A → Row) (all : List A) → AllByRecursion fits all → (rows : List Row) → map (as_read counted) rows ≡ map shown all → AllByRecursion (IsFormed fits counted shown) rows
+pub are_formed : {A : Type 0} (fits : A → Type 0) (counted : List Bool) (shown : A → Row) (all : List A)
+    → AllByRecursion fits all → (rows : List Row) → map (as_read counted) rows ≡ map shown all
+    → AllByRecursion (IsFormed fits counted shown) rows
 are_formed fits counted shown [] fit [] is = tt
 are_formed fits counted shown [] fit (row ∷ rows) is = absurd cc
 are_formed fits counted shown (a ∷ all) fit [] is = absurd cc
@@ -147,7 +162,8 @@ pub record PostingColumns (row : Row) (p : Posting) : Type 0 where
   pub cents : column row 3 ≡ Int p.cents
   pub date : column row 4 ≡ date_value p.date
 
-pub posting_columns : (row : Row) (p : Posting) → as_read counted_of_posting row ≡ shown_posting p → PostingColumns row p
+pub posting_columns : (row : Row) (p : Posting) → as_read counted_of_posting row ≡ shown_posting p
+    → PostingColumns row p
 posting_columns [] p e = absurd cc
 posting_columns (v ∷ row) p e =
     let rest = tail_of _ _ _ _ e in
@@ -162,7 +178,8 @@ posting_columns (v ∷ row) p e =
 
 pub posting_read : (row : Row) (p : Posting) → PostingColumns row p → as_read counted_of_posting row ≡ shown_posting p
 posting_read [] p at = absurd (let wide = at.wide in omega (arith, wide))
-posting_read (v ∷ row) p at = ap₂ ◌∷◌ at.number (of_four row (let wide = at.wide in omega (arith, wide)) at.code at.reference at.cents at.date)
+posting_read (v ∷ row) p at = ap₂ ◌∷◌ at.number (of_four row (let wide = at.wide in omega (arith, wide)) at.code
+    at.reference at.cents at.date)
 
 pub record OrderColumns (row : Row) (o : Order) : Type 0 where
   pub wide : length row ≡ 8
@@ -208,7 +225,9 @@ order_read row o at = at_eight row at.wide at
     at_eight (a ∷ b ∷ c ∷ d ∷ f ∷ []) wide at = absurd (omega (arith, wide))
     at_eight (a ∷ b ∷ c ∷ d ∷ f ∷ g ∷ []) wide at = absurd (omega (arith, wide))
     at_eight (a ∷ b ∷ c ∷ d ∷ f ∷ g ∷ h ∷ []) wide at = absurd (omega (arith, wide))
-    at_eight (a ∷ b ∷ c ∷ d ∷ f ∷ g ∷ h ∷ k ∷ []) wide at = of_eight (at_least_zero a ∷ b ∷ c ∷ d ∷ f ∷ g ∷ h ∷ at_least_zero k ∷ []) refl at.number at.sender at.reference at.receiver at.amount at.date at.state at.mark
+    at_eight (a ∷ b ∷ c ∷ d ∷ f ∷ g ∷ h ∷ k ∷ []) wide at = of_eight
+        (at_least_zero a ∷ b ∷ c ∷ d ∷ f ∷ g ∷ h ∷ at_least_zero k ∷ []) refl at.number at.sender at.reference
+        at.receiver at.amount at.date at.state at.mark
     at_eight (a ∷ b ∷ c ∷ d ∷ f ∷ g ∷ h ∷ k ∷ l ∷ rest) wide at = absurd (omega (arith, wide))
 
 pub record MarkColumns (row : Row) (m : Mark) : Type 0 where
@@ -237,9 +256,12 @@ mark_read row m at = at_four row at.wide at
     at_four [] wide at = absurd (omega (arith, wide))
     at_four (a ∷ []) wide at = absurd (omega (arith, wide))
     at_four (a ∷ b ∷ []) wide at = absurd (omega (arith, wide))
-    at_four (a ∷ b ∷ c ∷ rest) wide at = of_four (at_least_zero a ∷ b ∷ at_least_zero c ∷ rest) wide at.number at.date at.count at.value
+    at_four (a ∷ b ∷ c ∷ rest) wide at = of_four (at_least_zero a ∷ b ∷ at_least_zero c ∷ rest) wide at.number at.date
+        at.count at.value
 
 -- a date that is there or not
-pub date_found : (row : Row) (date : Option ℕ) (read : Option (Option ℕ)) → (column row 4 ≡ Null → read ≡ Some None) → ((day : ℕ) → IsBusinessDate day → column row 4 ≡ Text (date_text day) → read ≡ Some (Some day)) → FitsDate date → column row 4 ≡ date_value date → read ≡ Some date
+pub date_found : (row : Row) (date : Option ℕ) (read : Option (Option ℕ)) → (column row 4 ≡ Null → read ≡ Some None)
+    → ((day : ℕ) → IsBusinessDate day → column row 4 ≡ Text (date_text day) → read ≡ Some (Some day)) → FitsDate date
+    → column row 4 ≡ date_value date → read ≡ Some date
 date_found row None read none some fits is = none is
 date_found row (Some day) read none some fits is = some day fits is

@@ -17,10 +17,12 @@ no_desk : understood no_schema desk_text ≡ Err NoSuchTable
 unfolding understood listing_schema everything
 no_desk = refl
 
-pub unshown : (old new : State) → IsBlank old → (r : Result (Vec Row Global) Error) → IfOk r (λ rows. Shown desk_text [] old new rows.items) → IfOk r (λ _. ⊥)
+pub unshown : (old new : State) → IsBlank old → (r : Result (Vec Row Global) Error)
+    → IfOk r (λ rows. Shown desk_text [] old new rows.items) → IfOk r (λ _. ⊥)
 unfolding Shown
 unshown old new blank (Ok rows) shown =
     let schema = ap (λ (d : Database). d.schema) blank.clean ∙ blank.schema in
-    let clash : ◌≡◌ {A = Result Compiled CompileError} (Err NoSuchTable) (Ok shown.0) = sym no_desk ∙ sym (ap (λ s. understood s desk_text) schema) ∙ shown.1.is in
+    let clash : ◌≡◌ {A = Result Compiled CompileError} (Err NoSuchTable) (Ok shown.0) = sym no_desk
+    ∙ sym (ap (λ s. understood s desk_text) schema) ∙ shown.1.is in
     cc
 unshown old new blank (Err e) shown = tt

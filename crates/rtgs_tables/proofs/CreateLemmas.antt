@@ -1,5 +1,6 @@
 -- What CREATE TABLE does.
-use Rattle.std.proofs.Common.{◌≡◌, ◌⊎◌, inl, inr, ℕ, pos, List, [], ◌∷◌, ◌++◌, true, false, Option, None, Ok, Err, Result, OnOk, refl, sym, ap, subst, ◌∙◌, arith}
+use Rattle.std.proofs.Common.{◌≡◌, ◌⊎◌, inl, inr, ℕ, pos, List, [], ◌∷◌, ◌++◌, true, false, Option, None, Ok, Err}
+use Rattle.std.proofs.Common.{Result, OnOk, refl, sym, ap, subst, ◌∙◌, arith}
 use Rattle.std.specs.List.{AllByRecursion}
 use Rattle.sqlite.specs.Order.{Row}
 use Rattle.sqlite.specs.declared.error.Error.{Error}
@@ -18,7 +19,8 @@ use Rattle.sqlite.specs.Listing.{understood}
 use Rattle.sqlite.specs.Effect.{Database}
 use Rattle.sqlite.specs.State.{State, mode_of, Writes, ExecutesInside}
 use Rattle.sqlite.proofs.Callers.{statement_of, runs_as}
-use Rattle.rtgs_rows.specs.Tables.{no_schema, with_desk, with_participant, with_posting, with_payment, desk_schema, desk_at, participant_at, posting_at, payment_at, mark_at}
+use Rattle.rtgs_rows.specs.Tables.{no_schema, with_desk, with_participant, with_posting, with_payment, desk_schema}
+use Rattle.rtgs_rows.specs.Tables.{desk_at, participant_at, posting_at, payment_at, mark_at}
 use Rattle.rtgs_rows.specs.Content.{tables_of, tables_for, Stands}
 use Rattle.rtgs_rows.specs.Rows.{day_row}
 use Rattle.rtgs_tables.specs.Building.{IsBuilt, Makes, IsBlank, first_content}
@@ -33,7 +35,10 @@ use Rattle.sqlite.specs.Held.{Held, state}
 use Rattle.rtgs_tables.proofs.Casts.{cast_null, cast_int}
 use Rattle.rtgs_tables.proofs.Steps.{IsPlainTable, inserts}
 use Rattle.rtgs_tables.proofs.StateLemmas.{desk_over, frame_but}
-use Rattle.rtgs_tables.proofs.CreateTexts.{desk_plain, participant_plain, posting_plain, payment_plain, mark_plain, first_day_plain, desk_text, participant_text, posting_text, payment_text, mark_text, first_day_text, desk_is, participant_is, posting_is, payment_is, mark_is, first_day_is}
+use Rattle.rtgs_tables.proofs.CreateTexts.{desk_plain, participant_plain, posting_plain, payment_plain, mark_plain}
+use Rattle.rtgs_tables.proofs.CreateTexts.{first_day_plain, desk_text, participant_text, posting_text, payment_text}
+use Rattle.rtgs_tables.proofs.CreateTexts.{mark_text, first_day_text, desk_is, participant_is, posting_is, payment_is}
+use Rattle.rtgs_tables.proofs.CreateTexts.{mark_is, first_day_is}
 
 -- a part that gave a value did not stop on the way
 went : {B E R : Type 0} {b : B} {Stops : E → Type 0} → ((stop : E) × Stops stop × (Ok b ≡ Err stop)) ⊎ R → R
@@ -48,7 +53,8 @@ record IsMade (db : Database) (table : Table) (after : Database) : Type 0 where
   pub empty : after.trees (next_tree db.schema) ≡ []
   pub others : KeepsRows db.schema.tables db.trees after.trees
 
-makes : (limit : Option ℕ) (mode : Mode) (params : Row) (db : Database) (text : List ℕ) (table : Table) (tally : Tally) (after : Database) → table_defined_by text ≡ Ok table → lacks_sequence (created db.schema table) ≡ false
+makes : (limit : Option ℕ) (mode : Mode) (params : Row) (db : Database) (text : List ℕ) (table : Table) (tally : Tally)
+    (after : Database) → table_defined_by text ≡ Ok table → lacks_sequence (created db.schema table) ≡ false
     → Does limit mode params db text None CreateTable (Ok (tally, after)) → IsMade db table after
 makes limit mode params db text table tally after defined plain h =
     let all = went h in
@@ -57,60 +63,105 @@ makes limit mode params db text table tally after defined plain h =
     let same : made.table ≡ table = same_value (sym made.defined ∙ defined) in
     let schema : first.0.schema ≡ created db.schema table = made.is ∙ ap (created db.schema) same in
     let none : lacks_sequence first.0.schema ≡ false = ap lacks_sequence schema ∙ plain in
-    let now : after ≡ first.0 = ap (λ (p : Tally × Database). p.1) (same_value all.2) ∙ same_value (rw none at first.2) in
+    let now : after ≡ first.0 = ap (λ (p : Tally × Database). p.1) (same_value all.2) ∙ same_value (rw none at first.2)
+    in
     record {
       schema = ap (λ (d : Database). d.schema) now ∙ schema;
       empty = ap (λ (d : Database). d.trees (next_tree db.schema)) now ∙ made.empty;
       others = subst (λ (d : Database). KeepsRows db.schema.tables db.trees d.trees) (sym now) made.others;
     }
 
-still_empty : (tables : List Table) (old new : Trees) → KeepsRows tables old new → AllByRecursion (λ t. old t.tree ≡ []) tables → AllByRecursion (λ t. new t.tree ≡ []) tables
+still_empty : (tables : List Table) (old new : Trees) → KeepsRows tables old new
+    → AllByRecursion (λ t. old t.tree ≡ []) tables → AllByRecursion (λ t. new t.tree ≡ []) tables
 still_empty [] old new kept empty = tt
 still_empty (t ∷ more) old new kept empty = (kept.0 ∙ empty.0, still_empty more old new kept.1 empty.1)
 
-one_more : (tables : List Table) (table : Table) (new : Trees) → AllByRecursion (λ t. new t.tree ≡ []) tables → new table.tree ≡ [] → AllByRecursion (λ t. new t.tree ≡ []) (tables ++ table ∷ [])
+one_more : (tables : List Table) (table : Table) (new : Trees) → AllByRecursion (λ t. new t.tree ≡ []) tables
+    → new table.tree ≡ [] → AllByRecursion (λ t. new t.tree ≡ []) (tables ++ table ∷ [])
 one_more [] table new all one = (one, tt)
 one_more (t ∷ more) table new all one = (all.0, one_more more table new all.1 one)
 
-built : (was : Database) (schema next : Schema) (table : Table) (old new : State) (text : List ℕ) (count : ℕ) → IsBuilt was schema old → Makes text schema table next → ExecutesInside 0 text [] old new (Ok count) → IsBuilt was next new
+built : (was : Database) (schema next : Schema) (table : Table) (old new : State) (text : List ℕ) (count : ℕ)
+    → IsBuilt was schema old → Makes text schema table next → ExecutesInside 0 text [] old new (Ok count)
+    → IsBuilt was next new
 built was schema next table old new text count is it h =
-    let w = subst (λ t. Writes old new None CreateTable t [] count) it.whole (runs_as text [] old new schema is.schema_is CreateTable it.command it.plain count h.0) in
+    let w = subst (λ t. Writes old new None CreateTable t [] count) it.whole
+    (runs_as text [] old new schema is.schema_is CreateTable it.command it.plain count h.0) in
     let db : Database = record { schema = schema; trees = old.now.trees } in
-    let done = subst (λ s. Does old.step_limit (mode_of old) [] (record old.now { schema = s }) text None CreateTable (Ok (w.tally, new.now))) is.schema_is w.changed in
-    let made = makes old.step_limit (mode_of old) [] db text table w.tally new.now it.defined (ap lacks_sequence it.is ∙ it.uncounted) done in
+    let done = subst (λ s. Does old.step_limit (mode_of old) [] (record old.now { schema = s }) text None CreateTable
+    (Ok (w.tally, new.now))) is.schema_is w.changed in
+    let made = makes old.step_limit (mode_of old) [] db text table w.tally new.now it.defined
+    (ap lacks_sequence it.is ∙ it.uncounted) done in
     record {
       is_open = h.1.is_open;
       inside = h.1.mode;
       schema_is = made.schema ∙ it.is;
       empty = subst (λ (s : Schema). AllByRecursion (λ t. new.now.trees t.tree ≡ []) s.tables) it.is
-          (one_more schema.tables (record table { tree = next_tree schema }) new.now.trees (still_empty schema.tables old.now.trees new.now.trees made.others is.empty) made.empty);
+          (one_more schema.tables (record table { tree = next_tree schema }) new.now.trees
+          (still_empty schema.tables old.now.trees new.now.trees made.others is.empty) made.empty);
       committed = h.1.committed_is ∙ is.committed;
     }
 
-pub builds : (was : Database) (schema next : Schema) (table : Table) (old new : State) (text : List ℕ) (r : Result ℕ Error) → IsBuilt was schema old → Makes text schema table next → ExecutesInside 0 text [] old new r
+pub builds : (was : Database) (schema next : Schema) (table : Table) (old new : State) (text : List ℕ)
+    (r : Result ℕ Error) → IsBuilt was schema old → Makes text schema table next → ExecutesInside 0 text [] old new r
     → OnOk r (IsBuilt was next new)
 builds was schema next table old new text (Ok count) is it h = built was schema next table old new text count is it h
 builds was schema next table old new text (Err e) is it h = tt
 
 pub makes_desk : Makes desk_text no_schema (desk_at 0) with_desk
 unfolding with_desk
-makes_desk = record { command = desk_is.0; whole = desk_is.1; plain = desk_plain; defined = desk_is.2; is = refl; uncounted = refl }
+makes_desk = record {
+  command = desk_is.0;
+  whole = desk_is.1;
+  plain = desk_plain;
+  defined = desk_is.2;
+  is = refl;
+  uncounted = refl;
+}
 
 pub makes_participant : Makes participant_text with_desk (participant_at 0) with_participant
 unfolding with_desk with_participant
-makes_participant = record { command = participant_is.0; whole = participant_is.1; plain = participant_plain; defined = participant_is.2; is = refl; uncounted = refl }
+makes_participant = record {
+  command = participant_is.0;
+  whole = participant_is.1;
+  plain = participant_plain;
+  defined = participant_is.2;
+  is = refl;
+  uncounted = refl;
+}
 
 pub makes_posting : Makes posting_text with_participant (posting_at 0) with_posting
 unfolding with_participant with_posting
-makes_posting = record { command = posting_is.0; whole = posting_is.1; plain = posting_plain; defined = posting_is.2; is = refl; uncounted = refl }
+makes_posting = record {
+  command = posting_is.0;
+  whole = posting_is.1;
+  plain = posting_plain;
+  defined = posting_is.2;
+  is = refl;
+  uncounted = refl;
+}
 
 pub makes_payment : Makes payment_text with_posting (payment_at 0) with_payment
 unfolding with_posting with_payment
-makes_payment = record { command = payment_is.0; whole = payment_is.1; plain = payment_plain; defined = payment_is.2; is = refl; uncounted = refl }
+makes_payment = record {
+  command = payment_is.0;
+  whole = payment_is.1;
+  plain = payment_plain;
+  defined = payment_is.2;
+  is = refl;
+  uncounted = refl;
+}
 
 pub makes_mark : Makes mark_text with_payment (mark_at 0) desk_schema
 unfolding with_payment desk_schema
-makes_mark = record { command = mark_is.0; whole = mark_is.1; plain = mark_plain; defined = mark_is.2; is = refl; uncounted = refl }
+makes_mark = record {
+  command = mark_is.0;
+  whole = mark_is.1;
+  plain = mark_plain;
+  defined = mark_is.2;
+  is = refl;
+  uncounted = refl;
+}
 
 desk_is_plain : (trees : Trees) (mode : Mode) → IsPlainTable (desk_over trees) mode 0 (desk_at 0)
 unfolding desk_schema
@@ -119,40 +170,64 @@ desk_is_plain trees mode = record { place = refl; uncounted = refl; still = λ _
 abbrev first_terms : List Term
 first_terms = lit (Int (pos 1)) ∷ lit Null ∷ lit (Int (pos 1)) ∷ lit Null ∷ lit (Int (pos 0)) ∷ []
 
-first_edit : (trees : Trees) → trees 0 ≡ [] → edited trees (edit_of trees (desk_at 0) [] Chosen 0 (value_rows (stamped (desk_at 0) []) 5 1 first_terms)) ≡ (day_row first_content.day ∷ [])
+first_edit : (trees : Trees) → trees 0 ≡ [] → edited trees (edit_of trees (desk_at 0) [] Chosen 0
+    (value_rows (stamped (desk_at 0) []) 5 1 first_terms)) ≡ (day_row first_content.day ∷ [])
 first_edit trees none = rw (cast_int (pos 1), cast_null, cast_int (pos 0), none)
 
-first_frame : (old new : Trees) → AllByRecursion (λ t. old t.tree ≡ []) desk_schema.tables → frame_but 0 old new → new 0 ≡ (day_row first_content.day ∷ []) → tables_of new ≡ tables_for first_content
+first_frame : (old new : Trees) → AllByRecursion (λ t. old t.tree ≡ []) desk_schema.tables → frame_but 0 old new
+    → new 0 ≡ (day_row first_content.day ∷ []) → tables_of new ≡ tables_for first_content
 unfolding desk_schema
 first_frame old new none others here =
     let participants = others.1.0 (λ e. omega arith) ∙ none.1.0 in
     let postings = others.1.1.0 (λ e. omega arith) ∙ none.1.1.0 in
     let payments = others.1.1.1.0 (λ e. omega arith) ∙ none.1.1.1.0 in
     let marks = others.1.1.1.1.0 (λ e. omega arith) ∙ none.1.1.1.1.0 in
-    λ i. record { desk = here i; participants = participants i; postings = postings i; payments = payments i; marks = marks i }
+    λ i. record {
+      desk = here i;
+      participants = participants i;
+      postings = postings i;
+      payments = payments i;
+      marks = marks i;
+    }
 
 desk_empty : (trees : Trees) → AllByRecursion (λ t. trees t.tree ≡ []) desk_schema.tables → trees 0 ≡ []
 unfolding desk_schema
 desk_empty trees none = none.0
 
-begun : (was : Database) (old new : State) (count : ℕ) → IsBuilt was desk_schema old → ExecutesInside 0 first_day_text [] old new (Ok count) → Stands was first_content new
+begun : (was : Database) (old new : State) (count : ℕ) → IsBuilt was desk_schema old
+    → ExecutesInside 0 first_day_text [] old new (Ok count) → Stands was first_content new
 begun was old new count is h =
-    let w = runs_as first_day_text [] old new desk_schema is.schema_is (Insert 0 (Values first_terms 5)) first_day_is first_day_plain count h.0 in
+    let w = runs_as first_day_text [] old new desk_schema is.schema_is (Insert 0 (Values first_terms 5)) first_day_is
+    first_day_plain count h.0 in
     let text = statement_of first_day_text (understood desk_schema first_day_text) in
-    let done = subst (λ s. Does old.step_limit (mode_of old) [] (record old.now { schema = s }) text None (Insert 0 (Values first_terms 5)) (Ok (w.tally, new.now))) is.schema_is w.changed in
-    let step = inserts old.step_limit (mode_of old) [] (desk_over old.now.trees) text 0 (desk_at 0) w.tally new.now (desk_is_plain old.now.trees (mode_of old)) first_terms 5 done in
-    let rows : new.now.trees 0 ≡ (day_row first_content.day ∷ []) = step.applies.rows ∙ first_edit old.now.trees (desk_empty old.now.trees is.empty) in
+    let done = subst (λ s. Does old.step_limit (mode_of old) [] (record old.now { schema = s }) text None
+    (Insert 0 (Values first_terms 5)) (Ok (w.tally, new.now))) is.schema_is w.changed in
+    let step = inserts old.step_limit (mode_of old) [] (desk_over old.now.trees) text 0 (desk_at 0) w.tally new.now
+    (desk_is_plain old.now.trees (mode_of old)) first_terms 5 done in
+    let rows : new.now.trees 0 ≡ (day_row first_content.day ∷ []) = step.applies.rows
+    ∙ first_edit old.now.trees (desk_empty old.now.trees is.empty) in
     record {
       is_open = h.1.is_open;
       inside = h.1.mode;
       schema = step.schema;
-      holds = record { sound = subst (λ s. IsSound s new.now.trees) step.schema w.sound; rows = first_frame old.now.trees new.now.trees is.empty step.applies.tables rows };
+      holds = record {
+        sound = subst (λ s. IsSound s new.now.trees) step.schema w.sound;
+        rows = first_frame old.now.trees new.now.trees is.empty step.applies.tables rows;
+      };
       committed = h.1.committed_is ∙ is.committed;
     }
 
-pub begins : (was : Database) (old new : State) (r : Result ℕ Error) → IsBuilt was desk_schema old → ExecutesInside 0 first_day_text [] old new r → OnOk r (Stands was first_content new)
+pub begins : (was : Database) (old new : State) (r : Result ℕ Error) → IsBuilt was desk_schema old
+    → ExecutesInside 0 first_day_text [] old new r → OnOk r (Stands was first_content new)
 begins was old new (Ok count) is h = begun was old new count is h
 begins was old new (Err e) is h = tt
 
-pub built_begun : {S : Type 0} (g : Ghosts S) (h : Held S) → IsBlank (state g h) → IsBuilt (state g h).committed no_schema (state g (record h { in_transaction = true }))
-built_begun g h blank = record { is_open = blank.is_open; inside = refl; schema_is = ap (λ (d : Database). d.schema) blank.clean ∙ blank.schema; empty = tt; committed = refl }
+pub built_begun : {S : Type 0} (g : Ghosts S) (h : Held S) → IsBlank (state g h)
+    → IsBuilt (state g h).committed no_schema (state g (record h { in_transaction = true }))
+built_begun g h blank = record {
+  is_open = blank.is_open;
+  inside = refl;
+  schema_is = ap (λ (d : Database). d.schema) blank.clean ∙ blank.schema;
+  empty = tt;
+  committed = refl;
+}

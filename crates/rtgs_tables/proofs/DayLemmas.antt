@@ -1,5 +1,6 @@
 -- What the UPDATE of the business day does.
-use Rattle.std.proofs.Common.{◌≡◌, ℕ, pos, List, [], ◌∷◌, map, filter, codes, true, Ok, Err, Result, OnOk, refl, ap, subst, ◌∙◌, arith}
+use Rattle.std.proofs.Common.{◌≡◌, ℕ, pos, List, [], ◌∷◌, map, filter, codes, true, Ok, Err, Result, OnOk, refl, ap}
+use Rattle.std.proofs.Common.{subst, ◌∙◌, arith}
 use Rattle.std.specs.List.Sorted.{IsPermutation}
 use Rattle.sqlite.specs.declared.types.Value.TheVariants.{Null, Int}
 use Rattle.sqlite.specs.declared.error.Error.{Error}
@@ -43,7 +44,8 @@ tests = op2 (Compare Eq Binary) (col 1 0) (lit (Int (pos 1))) ∷ []
 abbrev project : List Term
 project = col 1 0 ∷ col 1 0 ∷ lit Null ∷ col 1 2 ∷ col 0 0 ∷ col 0 1 ∷ []
 
-is : command_of (understood desk_schema set_day_text) ≡ Update 0 (record { lets = []; body = simple 0 tests project [] })
+is : command_of (understood desk_schema set_day_text) ≡ Update 0
+    (record { lets = []; body = simple 0 tests project [] })
 unfolding understood everything desk_schema
 is = refl
 
@@ -55,14 +57,21 @@ desk_is_plain : (trees : Trees) (mode : Mode) → IsPlainTable (desk_over trees)
 unfolding desk_schema
 desk_is_plain trees mode = record { place = refl; uncounted = refl; still = λ _ _. refl }
 
-desk_frame : (old new : Trees) (rows : List Row) → frame_but 0 old new → new 0 ≡ rows → tables_of new ≡ record (tables_of old) { desk = rows }
+desk_frame : (old new : Trees) (rows : List Row) → frame_but 0 old new → new 0 ≡ rows
+    → tables_of new ≡ record (tables_of old) { desk = rows }
 unfolding desk_schema
 desk_frame old new rows others here =
     let participants = others.1.0 (λ e. omega arith) in
     let postings = others.1.1.0 (λ e. omega arith) in
     let payments = others.1.1.1.0 (λ e. omega arith) in
     let marks = others.1.1.1.1.0 (λ e. omega arith) in
-    λ i. record { desk = here i; participants = participants i; postings = postings i; payments = payments i; marks = marks i }
+    λ i. record {
+      desk = here i;
+      participants = participants i;
+      postings = postings i;
+      payments = payments i;
+      marks = marks i;
+    }
 
 abbrev params : Day → Row
 params day = date_value day.date ∷ Int (pos (phase_number day.phase)) ∷ []
@@ -71,26 +80,43 @@ passes_one : (day old : Day) → passes tests (params day) (day_row old) ≡ tru
 unfolding binary
 passes_one day old = truth_of _ ∙ same_number 1 1
 
-edit : (trees : Trees) (old day : Day) (rows : List Row) → trees 0 ≡ day_row old ∷ [] → IsPermutation (map (shows project (params day)) (day_row old ∷ [])) rows
+edit : (trees : Trees) (old day : Day) (rows : List Row) → trees 0 ≡ day_row old ∷ []
+    → IsPermutation (map (shows project (params day)) (day_row old ∷ [])) rows
     → edited trees (edit_of trees (desk_at 0) (ids_of rows) Given 1 rows) ≡ day_row day ∷ []
 edit trees old day rows are same =
     let one : rows ≡ shows project (params day) (day_row old) ∷ [] = one_permutation _ rows same in
-    rw (one, cast_int (pos 1), cast_null, cast_date day.date, cast_int (pos (phase_number day.phase)), are, value_cmp-Int (pos 1) (pos 1))
+    rw (
+      one,
+      cast_int (pos 1),
+      cast_null,
+      cast_date day.date,
+      cast_int (pos (phase_number day.phase)),
+      are,
+      value_cmp-Int (pos 1) (pos 1),
+    )
 
-sets : (was : Database) (content : Content) (old new : State) (day : Day) (count : ℕ) → Stands was content old → ExecutesInside 0 set_day_text (params day) old new (Ok count) → Stands was (with_change content (SetDay day)) new
+sets : (was : Database) (content : Content) (old new : State) (day : Day) (count : ℕ) → Stands was content old
+    → ExecutesInside 0 set_day_text (params day) old new (Ok count) → Stands was (with_change content (SetDay day)) new
 sets was content old new day count stands h =
-    let made = updated set_day_text 0 (desk_at 0) plain desk_is_plain old new (params day) count stands.schema h.0 0 tests project is in
+    let made = updated set_day_text 0 (desk_at 0) plain desk_is_plain old new (params day) count stands.schema h.0 0
+    tests project is in
     let here : old.now.trees 0 ≡ day_row content.day ∷ [] = ap (λ (t : Tables). t.desk) stands.holds.rows in
-    let passed : filter (passes tests (params day)) (old.now.trees 0) ≡ day_row content.day ∷ [] = rw (here, passes_one day content.day) in
-    let rows : new.now.trees 0 ≡ day_row day ∷ [] = made.2.rows ∙ edit old.now.trees content.day day made.0 here (subst (λ f. IsPermutation (map (shows project (params day)) f) made.0) passed made.1) in
+    let passed : filter (passes tests (params day)) (old.now.trees 0)
+    ≡ day_row content.day ∷ [] = rw (here, passes_one day content.day) in
+    let rows : new.now.trees 0 ≡ day_row day ∷ [] = made.2.rows
+    ∙ edit old.now.trees content.day day made.0 here (subst
+    (λ f. IsPermutation (map (shows project (params day)) f) made.0) passed made.1) in
     stands_on was old new content (with_change content (SetDay day)) stands h.1 made.2.schema made.2.sound
-    (desk_frame old.now.trees new.now.trees _ made.2.frame rows ∙ ap (λ (t : Tables). record t { desk = day_row day ∷ [] }) stands.holds.rows)
+    (desk_frame old.now.trees new.now.trees _ made.2.frame rows
+    ∙ ap (λ (t : Tables). record t { desk = day_row day ∷ [] }) stands.holds.rows)
 
 abbrev pub day_given : Day → Row
 day_given day = bound_value (date_value day.date) ∷ Int (pos (phase_number day.phase)) ∷ []
 
-pub sets_day : (was : Database) (content : Content) (old new : State) (day : Day) (r : Result ℕ Error) (values : Row) → values ≡ day_given day → Stands was content old
+pub sets_day : (was : Database) (content : Content) (old new : State) (day : Day) (r : Result ℕ Error) (values : Row)
+    → values ≡ day_given day → Stands was content old
     → ExecutesInside 0 set_day_text values old new r → OnOk r (Stands was (with_change content (SetDay day)) new)
 sets_day was content old new day (Err e) values same stands h = tt
 sets_day was content old new day (Ok count) values same stands h =
-    sets was content old new day count stands (subst (λ all. ExecutesInside 0 set_day_text all old new (Ok count)) (same ∙ ap (λ date. date ∷ Int (pos (phase_number day.phase)) ∷ []) (bound_date day.date)) h)
+    sets was content old new day count stands (subst (λ all. ExecutesInside 0 set_day_text all old new (Ok count))
+    (same ∙ ap (λ date. date ∷ Int (pos (phase_number day.phase)) ∷ []) (bound_date day.date)) h)

@@ -1,5 +1,6 @@
 -- What the statements on participants do.
-use Rattle.std.proofs.Common.{◌≡◌, ◌≢◌, ◌⊎◌, inl, inr, ℕ, ℤ, pos, List, [], ◌∷◌, ◌++◌, map, filter, codes, Bool, true, false, Ok, Err, Result, OnOk, refl, sym, ap, subst, ◌∙◌, arith}
+use Rattle.std.proofs.Common.{◌≡◌, ◌≢◌, ◌⊎◌, inl, inr, ℕ, ℤ, pos, List, [], ◌∷◌, ◌++◌, map, filter, codes, Bool, true}
+use Rattle.std.proofs.Common.{false, Ok, Err, Result, OnOk, refl, sym, ap, subst, ◌∙◌, arith}
 use Rattle.std.specs.List.{AllByRecursion}
 use Rattle.std.specs.List.Sorted.{IsPermutation}
 use Rattle.sqlite.specs.declared.types.Value.{Value}
@@ -39,7 +40,8 @@ use Rattle.rtgs_tables.proofs.Passing.{none_moved, truth_of, same_text, filter_m
 use Rattle.rtgs_book.specs.declared.Participant.{Participant}
 use Rattle.rtgs_book.specs.declared.RowChange.TheVariants.{AddParticipant, SetCredit, SetBalance}
 use Rattle.rtgs_rows.specs.Rows.{participant_row}
-use Rattle.rtgs_rows.specs.Content.{Tables, Holding, Content, holding_row, tables_of, Stands, IsInOrder, with_change, with_credit_in, with_balance_in, newcomer}
+use Rattle.rtgs_rows.specs.Content.{Tables, Holding, Content, holding_row, tables_of, Stands, IsInOrder, with_change}
+use Rattle.rtgs_rows.specs.Content.{with_credit_in, with_balance_in, newcomer}
 use Rattle.rtgs_rows.specs.Tables.{desk_schema, participant_at}
 
 abbrev pub participant_text : List ℕ
@@ -60,7 +62,8 @@ participant_is_plain : (trees : Trees) (mode : Mode) → IsPlainTable (desk_over
 unfolding desk_schema
 participant_is_plain trees mode = record { place = refl; uncounted = refl; still = λ _ _. refl }
 
-participant_frame : (old new : Trees) (rows : List Row) → frame_but 1 old new → new 1 ≡ rows → tables_of new ≡ record (tables_of old) { participants = rows }
+participant_frame : (old new : Trees) (rows : List Row) → frame_but 1 old new → new 1 ≡ rows
+    → tables_of new ≡ record (tables_of old) { participants = rows }
 unfolding desk_schema
 participant_frame old new rows others here =
     let desk = others.0 (λ e. omega arith) in
@@ -72,23 +75,36 @@ participant_frame old new rows others here =
 abbrev pub participant_given : Participant → Row
 participant_given p = Text p.code ∷ Text p.name ∷ Blob p.key ∷ Int (pos p.credit) ∷ []
 
-edit : (trees : Trees) (p : Participant) → edited trees (edit_of trees (participant_at 1) [] Chosen 0 (value_rows (stamped (participant_at 1) (participant_given p)) 6 1 terms)) ≡ put_row (participant_row (next_rowid (trees 1)) p (pos 0)) (trees 1)
+edit : (trees : Trees) (p : Participant) → edited trees (edit_of trees (participant_at 1) [] Chosen 0
+    (value_rows (stamped (participant_at 1) (participant_given p)) 6 1 terms))
+    ≡ put_row (participant_row (next_rowid (trees 1)) p (pos 0)) (trees 1)
 edit trees p = rw (cast_null, cast_int (pos p.credit), cast_int (pos 0))
 
-adds : NextRowIsAbove → (was : Database) (content : Content) (old new : State) (p : Participant) (count : ℕ) → Stands was content old → IsInOrder content → ExecutesInside 0 participant_text (participant_given p) old new (Ok count) → Stands was (with_change content (AddParticipant p)) new
+adds : NextRowIsAbove → (was : Database) (content : Content) (old new : State) (p : Participant) (count : ℕ)
+    → Stands was content old → IsInOrder content → ExecutesInside 0 participant_text (participant_given p) old new
+    (Ok count) → Stands was (with_change content (AddParticipant p)) new
 adds above was content old new p count stands order h =
-    let made = inserted participant_text 1 (participant_at 1) plain participant_is_plain old new (participant_given p) count stands.schema h.0 terms 6 is in
-    let here : old.now.trees 1 ≡ map holding_row content.holdings = ap (λ (t : Tables). t.participants) stands.holds.rows in
+    let made = inserted participant_text 1 (participant_at 1) plain participant_is_plain old new (participant_given p)
+    count stands.schema h.0 terms 6 is in
+    let here : old.now.trees 1 ≡ map holding_row content.holdings =
+    ap (λ (t : Tables). t.participants) stands.holds.rows in
     let fresh = newcomer content p in
     let rows : new.now.trees 1 ≡ map holding_row (content.holdings ++ fresh ∷ []) =
-    made.rows ∙ edit old.now.trees p ∙ ap (λ rows. put_row (participant_row (next_rowid rows) p (pos 0)) rows) here ∙ put_last holding_row (λ q. q.id) (λ _. refl) fresh content.holdings (above content.holdings order.ids) in
+    made.rows ∙ edit old.now.trees p ∙ ap (λ rows. put_row (participant_row (next_rowid rows) p (pos 0)) rows) here
+    ∙ put_last holding_row (λ q. q.id) (λ _. refl) fresh content.holdings (above content.holdings order.ids) in
     stands_on was old new content (with_change content (AddParticipant p)) stands h.1 made.schema made.sound
-    (participant_frame old.now.trees new.now.trees _ made.frame rows ∙ ap (λ (t : Tables). record t { participants = map holding_row (content.holdings ++ fresh ∷ []) }) stands.holds.rows)
+    (participant_frame old.now.trees new.now.trees _ made.frame rows
+    ∙ ap (λ (t : Tables). record t { participants = map holding_row (content.holdings ++ fresh ∷ []) })
+    stands.holds.rows)
 
-pub adds_participant : NextRowIsAbove → (was : Database) (content : Content) (old new : State) (p : Participant) (r : Result ℕ Error) (values : Row) → values ≡ participant_given p → Stands was content old → IsInOrder content
-    → ExecutesInside 0 participant_text values old new r → OnOk r (Stands was (with_change content (AddParticipant p)) new)
+pub adds_participant : NextRowIsAbove → (was : Database) (content : Content) (old new : State) (p : Participant)
+    (r : Result ℕ Error) (values : Row) → values ≡ participant_given p → Stands was content old → IsInOrder content
+    → ExecutesInside 0 participant_text values old new r → OnOk r
+    (Stands was (with_change content (AddParticipant p)) new)
 adds_participant above was content old new p (Err e) values same stands order h = tt
-adds_participant above was content old new p (Ok count) values same stands order h = adds above was content old new p count stands order (subst (λ all. ExecutesInside 0 participant_text all old new (Ok count)) same h)
+adds_participant above was content old new p (Ok count) values same stands order h =
+    adds above was content old new p count stands order (subst
+    (λ all. ExecutesInside 0 participant_text all old new (Ok count)) same h)
 
 -- ---- what a code names
 
@@ -98,21 +114,27 @@ has code h = bytes_eq h.participant.code code
 code_is : (code : List ℕ) (h : Holding) → has code h ≡ true → h.participant.code ≡ code
 code_is code h hit = (bytes_eq-Decides h.participant.code code).0 hit
 
-apart : (code : List ℕ) (x : Holding) (xs : List Holding) → AllByRecursion (λ y. x.participant.code ≢ y.participant.code) xs → AllByRecursion (λ y. has code x ≡ true → has code y ≡ false) xs
+apart : (code : List ℕ) (x : Holding) (xs : List Holding) → AllByRecursion
+    (λ y. x.participant.code ≢ y.participant.code) xs → AllByRecursion (λ y. has code x ≡ true → has code y ≡ false) xs
 apart code x [] differ = tt
 apart code x (y ∷ ys) differ = (
-  λ hit. elim (cases_Bool (has code y)) [ inl both ↦ absurd (differ.0 (code_is code x hit ∙ sym (code_is code y both))) | inr miss ↦ miss ],
+  λ hit. elim (cases_Bool (has code y)) [
+    | inl both ↦ absurd (differ.0 (code_is code x hit ∙ sym (code_is code y both)))
+    | inr miss ↦ miss
+  ],
   apart code x ys differ.1,
 )
 
-differ : (code : List ℕ) (all : List Holding) → IsAscending (λ a b. a.participant.code ≢ b.participant.code) all → IsAscending (λ a b. has code a ≡ true → has code b ≡ false) all
+differ : (code : List ℕ) (all : List Holding) → IsAscending (λ a b. a.participant.code ≢ b.participant.code) all
+    → IsAscending (λ a b. has code a ≡ true → has code b ≡ false) all
 differ code [] codes = tt
 differ code (x ∷ xs) codes = (apart code x xs codes.0, differ code xs codes.1)
 
 abbrev tests : List Term
 tests = op2 (Compare Eq Binary) (col 1 1) (col 0 0) ∷ []
 
-passes_one : (code : List ℕ) (value : Value) (h : Holding) → passes tests (Text code ∷ value ∷ []) (holding_row h) ≡ has code h
+passes_one : (code : List ℕ) (value : Value) (h : Holding) → passes tests (Text code ∷ value ∷ []) (holding_row h)
+    ≡ has code h
 unfolding binary
 passes_one code value h = truth_of _ ∙ same_text h.participant.code code
 
@@ -124,7 +146,8 @@ balance_text = codes "UPDATE participant SET balance = ?2 WHERE code = ?1"
 abbrev balance_project : List Term
 balance_project = col 1 0 ∷ col 1 0 ∷ col 1 1 ∷ col 1 2 ∷ col 1 3 ∷ col 1 4 ∷ col 0 1 ∷ []
 
-balance_is : command_of (understood desk_schema balance_text) ≡ Update 1 (record { lets = []; body = simple 1 tests balance_project [] })
+balance_is : command_of (understood desk_schema balance_text)
+    ≡ Update 1 (record { lets = []; body = simple 1 tests balance_project [] })
 unfolding understood everything desk_schema
 balance_is = refl
 
@@ -140,32 +163,50 @@ module _ (code : List ℕ) (balance : ℤ) where
   balance_given = Text code ∷ Int balance ∷ []
 
   balance_edit : (trees : Trees) (all : List Holding) (rows : List Row) → trees 1 ≡ map holding_row all
-      → ((filter (has code) all ≡ []) × (map holding_row (map (with_balance_in code balance) all) ≡ map holding_row all)) ⊎ Replaces holding_row (λ h. h.id) (λ _. refl) (has code) (balance_set balance) (λ _. refl) all
+      → ((filter (has code) all ≡ []) × (map holding_row (map (with_balance_in code balance) all)
+      ≡ map holding_row all)) ⊎ Replaces holding_row (λ h. h.id) (λ _. refl) (has code) (balance_set balance)
+      (λ _. refl) all
       → IsPermutation (map (shows balance_project balance_given) (map holding_row (filter (has code) all))) rows
-      → edited trees (edit_of trees (participant_at 1) (ids_of rows) Given 1 rows) ≡ map holding_row (map (with_balance_in code balance) all)
+      → edited trees (edit_of trees (participant_at 1) (ids_of rows) Given 1 rows)
+      ≡ map holding_row (map (with_balance_in code balance) all)
   balance_edit trees all rows are (inl none) same =
       let empty : rows ≡ [] = none_moved _ rows (rw none.0) same in
       rw (empty, are, none.1)
   balance_edit trees all rows are (inr it) same =
-      let one : rows ≡ shows balance_project balance_given (holding_row it.one) ∷ [] = one_permutation _ rows (rw it.passed at same) in
+      let one : rows ≡ shows balance_project balance_given (holding_row it.one) ∷ [] =
+      one_permutation _ rows (rw it.passed at same) in
       rw (one, cast_int it.one.id, cast_int (pos it.one.participant.credit), cast_int balance, are) it.put
 
-  balance_sets : (was : Database) (content : Content) (old new : State) (count : ℕ) → Stands was content old → IsInOrder content → ExecutesInside 0 balance_text balance_given old new (Ok count) → Stands was (with_change content (SetBalance code balance)) new
+  balance_sets : (was : Database) (content : Content) (old new : State) (count : ℕ) → Stands was content old
+      → IsInOrder content → ExecutesInside 0 balance_text balance_given old new (Ok count)
+      → Stands was (with_change content (SetBalance code balance)) new
   balance_sets was content old new count stands order h =
       let all = content.holdings in
-      let made = updated balance_text 1 (participant_at 1) balance_plain participant_is_plain old new balance_given count stands.schema h.0 1 tests balance_project balance_is in
+      let made = updated balance_text 1 (participant_at 1) balance_plain participant_is_plain old new balance_given
+      count stands.schema h.0 1 tests balance_project balance_is in
       let here : old.now.trees 1 ≡ map holding_row all = ap (λ (t : Tables). t.participants) stands.holds.rows in
-      let passed : filter (passes tests balance_given) (old.now.trees 1) ≡ map holding_row (filter (has code) all) = rw here (filter_map holding_row _ (has code) (passes_one code (Int balance)) all) in
-      let found = replaces holding_row (λ h. h.id) (λ _. refl) (has code) (balance_set balance) (λ _. refl) all order.ids (differ code all order.codes) in
+      let passed : filter (passes tests balance_given) (old.now.trees 1)
+      ≡ map holding_row (filter (has code) all) = rw here
+      (filter_map holding_row _ (has code) (passes_one code (Int balance)) all) in
+      let found = replaces holding_row (λ h. h.id) (λ _. refl) (has code) (balance_set balance) (λ _. refl) all
+      order.ids (differ code all order.codes) in
       let rows : new.now.trees 1 ≡ map holding_row (map (with_balance_in code balance) all) =
-      made.2.rows ∙ balance_edit old.now.trees all made.0 here found (subst (λ f. IsPermutation (map (shows balance_project balance_given) f) made.0) passed made.1) in
-      stands_on was old new content (with_change content (SetBalance code balance)) stands h.1 made.2.schema made.2.sound
-      (participant_frame old.now.trees new.now.trees _ made.2.frame rows ∙ ap (λ (t : Tables). record t { participants = map holding_row (map (with_balance_in code balance) all) }) stands.holds.rows)
+      made.2.rows ∙ balance_edit old.now.trees all made.0 here found
+      (subst (λ f. IsPermutation (map (shows balance_project balance_given) f) made.0) passed made.1) in
+      stands_on was old new content (with_change content (SetBalance code balance)) stands h.1 made.2.schema
+      made.2.sound
+      (participant_frame old.now.trees new.now.trees _ made.2.frame rows
+      ∙ ap (λ (t : Tables). record t { participants = map holding_row (map (with_balance_in code balance) all) })
+      stands.holds.rows)
 
-  pub sets_balance : (was : Database) (content : Content) (old new : State) (r : Result ℕ Error) (values : Row) → values ≡ balance_given → Stands was content old → IsInOrder content
-      → ExecutesInside 0 balance_text values old new r → OnOk r (Stands was (with_change content (SetBalance code balance)) new)
+  pub sets_balance : (was : Database) (content : Content) (old new : State) (r : Result ℕ Error) (values : Row)
+      → values ≡ balance_given → Stands was content old → IsInOrder content
+      → ExecutesInside 0 balance_text values old new r → OnOk r
+      (Stands was (with_change content (SetBalance code balance)) new)
   sets_balance was content old new (Err e) values same stands order h = tt
-  sets_balance was content old new (Ok count) values same stands order h = balance_sets was content old new count stands order (subst (λ all. ExecutesInside 0 balance_text all old new (Ok count)) same h)
+  sets_balance was content old new (Ok count) values same stands order h =
+      balance_sets was content old new count stands order (subst
+      (λ all. ExecutesInside 0 balance_text all old new (Ok count)) same h)
 
 -- ---- the credit limit
 
@@ -175,7 +216,8 @@ credit_text = codes "UPDATE participant SET credit = ?2 WHERE code = ?1"
 abbrev credit_project : List Term
 credit_project = col 1 0 ∷ col 1 0 ∷ col 1 1 ∷ col 1 2 ∷ col 1 3 ∷ col 0 1 ∷ col 1 5 ∷ []
 
-credit_is : command_of (understood desk_schema credit_text) ≡ Update 1 (record { lets = []; body = simple 1 tests credit_project [] })
+credit_is : command_of (understood desk_schema credit_text) ≡ Update 1
+    (record { lets = []; body = simple 1 tests credit_project [] })
 unfolding understood everything desk_schema
 credit_is = refl
 
@@ -191,29 +233,45 @@ module _ (code : List ℕ) (credit : ℕ) where
   credit_given = Text code ∷ Int (pos credit) ∷ []
 
   credit_edit : (trees : Trees) (all : List Holding) (rows : List Row) → trees 1 ≡ map holding_row all
-      → ((filter (has code) all ≡ []) × (map holding_row (map (with_credit_in code credit) all) ≡ map holding_row all)) ⊎ Replaces holding_row (λ h. h.id) (λ _. refl) (has code) (credit_set credit) (λ _. refl) all
+      → ((filter (has code) all ≡ []) × (map holding_row (map (with_credit_in code credit) all) ≡ map holding_row all))
+      ⊎ Replaces holding_row (λ h. h.id) (λ _. refl) (has code) (credit_set credit) (λ _. refl) all
       → IsPermutation (map (shows credit_project credit_given) (map holding_row (filter (has code) all))) rows
-      → edited trees (edit_of trees (participant_at 1) (ids_of rows) Given 1 rows) ≡ map holding_row (map (with_credit_in code credit) all)
+      → edited trees (edit_of trees (participant_at 1) (ids_of rows) Given 1 rows)
+      ≡ map holding_row (map (with_credit_in code credit) all)
   credit_edit trees all rows are (inl none) same =
       let empty : rows ≡ [] = none_moved _ rows (rw none.0) same in
       rw (empty, are, none.1)
   credit_edit trees all rows are (inr it) same =
-      let one : rows ≡ shows credit_project credit_given (holding_row it.one) ∷ [] = one_permutation _ rows (rw it.passed at same) in
+      let one : rows ≡ shows credit_project credit_given (holding_row it.one) ∷ [] =
+      one_permutation _ rows (rw it.passed at same) in
       rw (one, cast_int it.one.id, cast_int (pos credit), cast_int it.one.balance, are) it.put
 
-  credit_sets : (was : Database) (content : Content) (old new : State) (count : ℕ) → Stands was content old → IsInOrder content → ExecutesInside 0 credit_text credit_given old new (Ok count) → Stands was (with_change content (SetCredit code credit)) new
+  credit_sets : (was : Database) (content : Content) (old new : State) (count : ℕ) → Stands was content old
+      → IsInOrder content → ExecutesInside 0 credit_text credit_given old new (Ok count)
+      → Stands was (with_change content (SetCredit code credit)) new
   credit_sets was content old new count stands order h =
       let all = content.holdings in
-      let made = updated credit_text 1 (participant_at 1) credit_plain participant_is_plain old new credit_given count stands.schema h.0 1 tests credit_project credit_is in
+      let made = updated credit_text 1 (participant_at 1) credit_plain participant_is_plain old new credit_given count
+      stands.schema h.0 1 tests credit_project credit_is in
       let here : old.now.trees 1 ≡ map holding_row all = ap (λ (t : Tables). t.participants) stands.holds.rows in
-      let passed : filter (passes tests credit_given) (old.now.trees 1) ≡ map holding_row (filter (has code) all) = rw here (filter_map holding_row _ (has code) (passes_one code (Int (pos credit))) all) in
-      let found = replaces holding_row (λ h. h.id) (λ _. refl) (has code) (credit_set credit) (λ _. refl) all order.ids (differ code all order.codes) in
+      let passed : filter (passes tests credit_given) (old.now.trees 1)
+      ≡ map holding_row (filter (has code) all) = rw here
+      (filter_map holding_row _ (has code) (passes_one code (Int (pos credit))) all) in
+      let found = replaces holding_row (λ h. h.id) (λ _. refl) (has code) (credit_set credit) (λ _. refl) all order.ids
+      (differ code all order.codes) in
       let rows : new.now.trees 1 ≡ map holding_row (map (with_credit_in code credit) all) =
-      made.2.rows ∙ credit_edit old.now.trees all made.0 here found (subst (λ f. IsPermutation (map (shows credit_project credit_given) f) made.0) passed made.1) in
+      made.2.rows ∙ credit_edit old.now.trees all made.0 here found
+      (subst (λ f. IsPermutation (map (shows credit_project credit_given) f) made.0) passed made.1) in
       stands_on was old new content (with_change content (SetCredit code credit)) stands h.1 made.2.schema made.2.sound
-      (participant_frame old.now.trees new.now.trees _ made.2.frame rows ∙ ap (λ (t : Tables). record t { participants = map holding_row (map (with_credit_in code credit) all) }) stands.holds.rows)
+      (participant_frame old.now.trees new.now.trees _ made.2.frame rows
+      ∙ ap (λ (t : Tables). record t { participants = map holding_row (map (with_credit_in code credit) all) })
+      stands.holds.rows)
 
-  pub sets_credit : (was : Database) (content : Content) (old new : State) (r : Result ℕ Error) (values : Row) → values ≡ credit_given → Stands was content old → IsInOrder content
-      → ExecutesInside 0 credit_text values old new r → OnOk r (Stands was (with_change content (SetCredit code credit)) new)
+  pub sets_credit : (was : Database) (content : Content) (old new : State) (r : Result ℕ Error) (values : Row)
+      → values ≡ credit_given → Stands was content old → IsInOrder content
+      → ExecutesInside 0 credit_text values old new r → OnOk r
+      (Stands was (with_change content (SetCredit code credit)) new)
   sets_credit was content old new (Err e) values same stands order h = tt
-  sets_credit was content old new (Ok count) values same stands order h = credit_sets was content old new count stands order (subst (λ all. ExecutesInside 0 credit_text all old new (Ok count)) same h)
+  sets_credit was content old new (Ok count) values same stands order h =
+      credit_sets was content old new count stands order (subst
+      (λ all. ExecutesInside 0 credit_text all old new (Ok count)) same h)

@@ -17,17 +17,23 @@ keeps_commit : (old new : State) → IsUnchanged old new ⊎ IsRolledBack old ne
 keeps_commit old new (inl same) = record { was_open = λ _. same.0.was_open; committed = λ _. same.0.committed_is }
 keeps_commit old new (inr back) = record { was_open = back.was_open; committed = λ is. (back.undone is).1 }
 
-kept_inside : (sql : List ℕ) (params : Row) (old new : State) (r : Result ℕ Error) → ExecutesInside 0 sql params old new r → KeepsCommit old new
+kept_inside : (sql : List ℕ) (params : Row) (old new : State) (r : Result ℕ Error)
+    → ExecutesInside 0 sql params old new r → KeepsCommit old new
 kept_inside sql params old new (Ok count) h = record { was_open = λ _. h.1.was_open; committed = λ _. h.1.committed_is }
 kept_inside sql params old new (Err e) (inl h) = keeps_commit old new h.1
 kept_inside sql params old new (Err e) (inr h) = keeps_commit old new (inl h.2)
 
 kept_same : (old new : State) → new ≡ old → KeepsCommit old new
-kept_same old new same = record { was_open = λ is. subst (λ (s : State). IsTrue s.is_open) same is; committed = λ _. ap (λ (s : State). s.committed) same }
+kept_same old new same = record {
+  was_open = λ is. subst (λ (s : State). IsTrue s.is_open) same is;
+  committed = λ _. ap (λ (s : State). s.committed) same;
+}
 
 -- in a transaction that goes on, or in one that has ended
-pub kept : {S : Type 0} (g : Ghosts S) (sql : List ℕ) (params : Row) (old new : Held S) (r : Result ℕ Error) (error : Error)
-    → ((state g old).in_transaction ≡ false → (r ≡ Err error) × (new ≡ old)) → (IsTrue (state g old).in_transaction → ExecutesInside 0 sql params (state g old) (state g new) r)
+pub kept : {S : Type 0} (g : Ghosts S) (sql : List ℕ) (params : Row) (old new : Held S) (r : Result ℕ Error)
+    (error : Error)
+    → ((state g old).in_transaction ≡ false → (r ≡ Err error) × (new ≡ old))
+    → (IsTrue (state g old).in_transaction → ExecutesInside 0 sql params (state g old) (state g new) r)
     → KeepsCommit (state g old) (state g new)
 kept g sql params old new r error ended runs = elim (cases_Bool (state g old).in_transaction) [
   | inl on ↦ kept_inside sql params (state g old) (state g new) r (runs on)
@@ -38,11 +44,15 @@ pub survives_on : (a b c : State) → Survives a b (λ _. ⊥) → Survives b c 
 survives_on a b c = survives_then a b c (λ _. ⊥) (λ _. ⊥) (λ _. ⊥) (λ _ db none. none) (λ _ db none. none)
 
 pub keeps_on : (a b c : State) → KeepsCommit a b → KeepsCommit b c → KeepsCommit a c
-keeps_on a b c one two = record { was_open = λ is. one.was_open (two.was_open is); committed = λ is. two.committed is ∙ one.committed (two.was_open is) }
+keeps_on a b c one two = record {
+  was_open = λ is. one.was_open (two.was_open is);
+  committed = λ is. two.committed is ∙ one.committed (two.was_open is);
+}
 
 -- ---- after a query that failed
 
-pub not_foreign : {A : Type 0} (fault : Fault) → (fault ≡ OutOfMemory) ⊎ (fault ≡ StoreFault) → ◌≢◌ {A = Result A Fault} (Err fault) (Err NotADeskFile)
+pub not_foreign : {A : Type 0} (fault : Fault) → (fault ≡ OutOfMemory) ⊎ (fault ≡ StoreFault)
+    → ◌≢◌ {A = Result A Fault} (Err fault) (Err NotADeskFile)
 not_foreign OutOfMemory why e = absurd cc
 not_foreign StoreFault why e = absurd cc
 not_foreign NotADeskFile (inl m) e = absurd cc
@@ -51,13 +61,17 @@ not_foreign (Inconsistent rule) (inl m) e = absurd cc
 not_foreign (Inconsistent rule) (inr m) e = absurd cc
 
 -- memory was refused, and the connection is seen to be open still
-pub file_after : {A : Type 0} (trees : Trees) (mid new : State) (fault : Fault) → (IsTrue mid.is_open → IsDeskFile trees mid) → (fault ≡ OutOfMemory) ⊎ (fault ≡ StoreFault) → (fault ≡ OutOfMemory → IsUnchanged mid new)
+pub file_after : {A : Type 0} (trees : Trees) (mid new : State) (fault : Fault)
+    → (IsTrue mid.is_open → IsDeskFile trees mid) → (fault ≡ OutOfMemory) ⊎ (fault ≡ StoreFault)
+    → (fault ≡ OutOfMemory → IsUnchanged mid new)
     → ◌≢◌ {A = Result A Fault} (Err fault) (Err StoreFault) → IsDeskFile trees new
-file_after trees mid new fault file (inl memory) same other = let on = same memory in file_on trees mid new (file on.0.was_open) (inl on) on.0.is_open
+file_after trees mid new fault file (inl memory) same other = let on = same memory
+    in file_on trees mid new (file on.0.was_open) (inl on) on.0.is_open
 file_after trees mid new fault file (inr failed) same other = absurd (other (ap Err failed))
 
 -- a crash leaves what it could leave before
-pub leaves_on : (old new : State) → Survives old new (λ _. ⊥) → HasCleanDisk new → (trees : Trees) → new.may_leave trees → old.may_leave trees
+pub leaves_on : (old new : State) → Survives old new (λ _. ⊥) → HasCleanDisk new → (trees : Trees) → new.may_leave trees
+    → old.may_leave trees
 leaves_on old new survives clean trees left = elim (survives.crash clean trees left) [
   | inl was ↦ was
   | inr none ↦ absurd none

@@ -8,15 +8,19 @@ use Rattle.sqlite.specs.Order.{Row}
 use Rattle.sqlite_value.proofs.OrderLemmas.{value_cmp-Int}
 use Rattle.sqlite.specs.Tree.{put_row, rowid, IsAscending}
 
-pub put_last : {A : Type 0} (row : A → Row) (id : A → ℤ) → ((a : A) → rowid (row a) ≡ Int (id a)) → (new : A) (all : List A) → AllByRecursion (λ a. int_cmp (id a) (id new) ≡ Less) all → put_row (row new) (map row all) ≡ map row (all ++ new ∷ [])
+pub put_last : {A : Type 0} (row : A → Row) (id : A → ℤ) → ((a : A) → rowid (row a) ≡ Int (id a))
+    → (new : A) (all : List A) → AllByRecursion (λ a. int_cmp (id a) (id new) ≡ Less) all
+    → put_row (row new) (map row all) ≡ map row (all ++ new ∷ [])
 put_last row id is_id new [] low = refl
-put_last row id is_id new (a ∷ all) low = rw (is_id a, is_id new, value_cmp-Int (id a) (id new), low.0) (ap (λ more. row a ∷ more) (put_last row id is_id new all low.1))
+put_last row id is_id new (a ∷ all) low = rw (is_id a, is_id new, value_cmp-Int (id a) (id new), low.0)
+    (ap (λ more. row a ∷ more) (put_last row id is_id new all low.1))
 
 all_last : {A : Type 0} (P : A → Type 0) (xs : List A) (x : A) → AllByRecursion P (xs ++ x ∷ []) → P x
 all_last P [] x h = h.0
 all_last P (y ∷ ys) x h = all_last P ys x h.1
 
 -- in a rising list each one is below the last
-pub before_last : {A : Type 0} (R : A → A → Type 0) (xs : List A) (x : A) → IsAscending R (xs ++ x ∷ []) → AllByRecursion (λ a. R a x) xs
+pub before_last : {A : Type 0} (R : A → A → Type 0) (xs : List A) (x : A) → IsAscending R (xs ++ x ∷ [])
+    → AllByRecursion (λ a. R a x) xs
 before_last R [] x h = tt
 before_last R (y ∷ ys) x h = (all_last (R y) ys x h.0, before_last R ys x h.1)

@@ -23,23 +23,34 @@ is_new sound = record {
   fits = record { participants = tt; postings = tt; orders = tt; marks = tt; day = tt };
 }
 
-pub holds_new : {S : Type 0} (g : Ghosts S) (h : Held S) → IsSound new_book → Rests first_content (state g h) → HoldsBook g h new_book
+pub holds_new : {S : Type 0} (g : Ghosts S) (h : Held S) → IsSound new_book → Rests first_content (state g h)
+    → HoldsBook g h new_book
 holds_new g h sound rests = (first_content, rests, is_new sound)
 
 -- a stop leaves what it could leave before, which is no tables, or those of the new book
-pub leaves_new : {S : Type 0} (g : Ghosts S) (old new : Held S) → Survives (state g old) (state g new) (λ trees. IsBlank (state g old) → Holds first_content trees) → HasCleanDisk (state g new) → IsBlank (state g old)
-    → ((trees : Trees) → (state g old).may_leave trees → HasNoTables trees) → (trees : Trees) → (state g new).may_leave trees → IsNoneOrNew trees
-leaves_new g old new s clean blank none trees left = elim (s.crash clean trees left) [ inl was ↦ inl (none trees was) | inr made ↦ inr (made blank) ]
+pub leaves_new : {S : Type 0} (g : Ghosts S) (old new : Held S)
+    → Survives (state g old) (state g new) (λ trees. IsBlank (state g old) → Holds first_content trees)
+    → HasCleanDisk (state g new) → IsBlank (state g old)
+    → ((trees : Trees) → (state g old).may_leave trees → HasNoTables trees) → (trees : Trees)
+    → (state g new).may_leave trees → IsNoneOrNew trees
+leaves_new g old new s clean blank none trees left = elim (s.crash clean trees left)
+    [ inl was ↦ inl (none trees was) | inr made ↦ inr (made blank) ]
 
 -- and so the new book, if any
-pub only_new : RowsTellTheBook → NoTablesHoldNoBook → {S : Type 0} (g : Ghosts S) (h : Held S) → IsSound new_book → ((trees : Trees) → (state g h).may_leave trees → IsNoneOrNew trees) → (other : Book) → MayLeave g h other → other ≡ new_book
+pub only_new : RowsTellTheBook → NoTablesHoldNoBook → {S : Type 0} (g : Ghosts S) (h : Held S) → IsSound new_book
+    → ((trees : Trees) → (state g h).may_leave trees → IsNoneOrNew trees) → (other : Book) → MayLeave g h other
+    → other ≡ new_book
 only_new tells holds_none g h sound all other left = elim (all left.0 left.1) [
   | inl none ↦ absurd (holds_none left.0 left.2.0 none left.2.1)
   | inr made ↦ tells new_book other first_content left.2.0 (is_new sound) left.2.2 (sym made.rows ∙ left.2.1.rows)
 ]
 
 pub still_blank : (old new : State) → IsBlank old → IsUnchanged old new → IsBlank new
-still_blank old new blank same = record { is_open = same.0.is_open; schema = ap (λ (d : Database). d.schema) same.0.committed_is ∙ blank.schema; clean = same.0.now_is ∙ blank.clean ∙ sym same.0.committed_is }
+still_blank old new blank same = record {
+  is_open = same.0.is_open;
+  schema = ap (λ (d : Database). d.schema) same.0.committed_is ∙ blank.schema;
+  clean = same.0.now_is ∙ blank.clean ∙ sym same.0.committed_is;
+}
 
 -- a database is opened that has no tables
 pub opened_blank : NoTablesAreReadAsNone → (s : State) → Opens s → IsLive s → HasNoTables s.committed.trees → IsBlank s

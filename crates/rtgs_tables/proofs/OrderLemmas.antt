@@ -1,5 +1,6 @@
 -- What the statements on orders do.
-use Rattle.std.proofs.Common.{◌≡◌, ◌⊎◌, inl, inr, ℕ, pos, ◌==◌, List, [], ◌∷◌, ◌++◌, map, filter, codes, true, false, Ok, Err, Result, OnOk, eqb-true, refl, sym, ap, subst, ◌∙◌, arith}
+use Rattle.std.proofs.Common.{◌≡◌, ◌⊎◌, inl, inr, ℕ, pos, ◌==◌, List, [], ◌∷◌, ◌++◌, map, filter, codes, true, false}
+use Rattle.std.proofs.Common.{Ok, Err, Result, OnOk, eqb-true, refl, sym, ap, subst, ◌∙◌, arith}
 use Rattle.std.specs.List.{AllByRecursion}
 use Rattle.std.specs.List.Sorted.{IsPermutation}
 use Rattle.std.specs.Ordering.{int_cmp}
@@ -49,7 +50,8 @@ use Rattle.rtgs_rows.specs.Content.{Tables, Content, tables_of, Stands, IsInOrde
 use Rattle.rtgs_rows.specs.Tables.{desk_schema, payment_at}
 
 abbrev pub order_text : List ℕ
-order_text = codes "INSERT INTO payment (number, sender, reference, receiver, amount, date, state, mark) VALUES (?1, ?2, ?3, ?4, ?5, ?8, ?6, ?7)"
+order_text = codes
+    "INSERT INTO payment (number, sender, reference, receiver, amount, date, state, mark) VALUES (?1, ?2, ?3, ?4, ?5, ?8, ?6, ?7)"
 
 abbrev terms : List Term
 terms = col 0 0 ∷ lit Null ∷ col 0 1 ∷ col 0 2 ∷ col 0 3 ∷ col 0 4 ∷ col 0 7 ∷ col 0 5 ∷ col 0 6 ∷ []
@@ -66,42 +68,67 @@ payment_is_plain : (trees : Trees) (mode : Mode) → IsPlainTable (desk_over tre
 unfolding desk_schema
 payment_is_plain trees mode = record { place = refl; uncounted = refl; still = λ _ _. refl }
 
-payment_frame : (old new : Trees) (rows : List Row) → frame_but 6 old new → new 6 ≡ rows → tables_of new ≡ record (tables_of old) { payments = rows }
+payment_frame : (old new : Trees) (rows : List Row) → frame_but 6 old new → new 6 ≡ rows
+    → tables_of new ≡ record (tables_of old) { payments = rows }
 unfolding desk_schema
 payment_frame old new rows others here =
     let desk = others.0 (λ e. omega arith) in
     let participants = others.1.0 (λ e. omega arith) in
     let postings = others.1.1.0 (λ e. omega arith) in
     let marks = others.1.1.1.1.0 (λ e. omega arith) in
-    λ i. record { desk = desk i; participants = participants i; postings = postings i; payments = here i; marks = marks i }
+    λ i. record {
+      desk = desk i;
+      participants = participants i;
+      postings = postings i;
+      payments = here i;
+      marks = marks i;
+    }
 
 abbrev params : Order → Row
-params o = Int (pos o.number) ∷ Text o.sender ∷ Text o.reference ∷ Text o.receiver ∷ Int (pos o.amount) ∷ Int (pos (state_number o.state)) ∷ mark_value o.state ∷ Text (date_text o.date) ∷ []
+params o = Int (pos o.number) ∷ Text o.sender ∷ Text o.reference ∷ Text o.receiver ∷ Int (pos o.amount)
+    ∷ Int (pos (state_number o.state)) ∷ mark_value o.state ∷ Text (date_text o.date) ∷ []
 
-edit : (trees : Trees) (o : Order) → edited trees (edit_of trees (payment_at 6) [] Chosen 0 (value_rows (stamped (payment_at 6) (params o)) 9 1 terms)) ≡ put_row (payment_row o) (trees 6)
-edit trees o = rw (cast_int (pos o.number), cast_null, cast_int (pos o.amount), cast_int (pos (state_number o.state)), cast_mark o.state)
+edit : (trees : Trees) (o : Order) → edited trees (edit_of trees (payment_at 6) [] Chosen 0
+    (value_rows (stamped (payment_at 6) (params o)) 9 1 terms)) ≡ put_row (payment_row o) (trees 6)
+edit trees o = rw (
+  cast_int (pos o.number),
+  cast_null,
+  cast_int (pos o.amount),
+  cast_int (pos (state_number o.state)),
+  cast_mark o.state,
+)
 
-adds : (was : Database) (content : Content) (old new : State) (o : Order) (count : ℕ) → Stands was content old → IsInOrder (with_change content (AddOrder o)) → ExecutesInside 0 order_text (params o) old new (Ok count) → Stands was (with_change content (AddOrder o)) new
+adds : (was : Database) (content : Content) (old new : State) (o : Order) (count : ℕ) → Stands was content old
+    → IsInOrder (with_change content (AddOrder o)) → ExecutesInside 0 order_text (params o) old new (Ok count)
+    → Stands was (with_change content (AddOrder o)) new
 adds was content old new o count stands order h =
-    let made = inserted order_text 3 (payment_at 6) plain payment_is_plain old new (params o) count stands.schema h.0 terms 9 is in
+    let made = inserted order_text 3 (payment_at 6) plain payment_is_plain old new (params o) count stands.schema h.0
+    terms 9 is in
     let here : old.now.trees 6 ≡ map payment_row content.orders = ap (λ (t : Tables). t.payments) stands.holds.rows in
-    let low = before_last (λ (a b : Order). int_cmp (pos a.number) (pos b.number) ≡ Less) content.orders o order.orders in
+    let low = before_last (λ (a b : Order). int_cmp (pos a.number) (pos b.number) ≡ Less) content.orders o order.orders
+    in
     let rows : new.now.trees 6 ≡ map payment_row (content.orders ++ o ∷ []) =
-    made.rows ∙ edit old.now.trees o ∙ ap (put_row (payment_row o)) here ∙ put_last payment_row (λ q. pos q.number) (λ _. refl) o content.orders low in
+    made.rows ∙ edit old.now.trees o ∙ ap (put_row (payment_row o)) here
+    ∙ put_last payment_row (λ q. pos q.number) (λ _. refl) o content.orders low in
     stands_on was old new content (with_change content (AddOrder o)) stands h.1 made.schema made.sound
-    (payment_frame old.now.trees new.now.trees _ made.frame rows ∙ ap (λ (t : Tables). record t { payments = map payment_row (content.orders ++ o ∷ []) }) stands.holds.rows)
+    (payment_frame old.now.trees new.now.trees _ made.frame rows
+    ∙ ap (λ (t : Tables). record t { payments = map payment_row (content.orders ++ o ∷ []) }) stands.holds.rows)
 
 abbrev pub order_given : Order → Row
-order_given o = Int (pos o.number) ∷ Text o.sender ∷ Text o.reference ∷ Text o.receiver ∷ Int (pos o.amount) ∷ Int (pos (state_number o.state)) ∷ bound_value (mark_value o.state) ∷ Text (date_text o.date) ∷ []
+order_given o = Int (pos o.number) ∷ Text o.sender ∷ Text o.reference ∷ Text o.receiver ∷ Int (pos o.amount)
+    ∷ Int (pos (state_number o.state)) ∷ bound_value (mark_value o.state) ∷ Text (date_text o.date) ∷ []
 
 given_is : (o : Order) → order_given o ≡ params o
-given_is o = ap (λ mark. Int (pos o.number) ∷ Text o.sender ∷ Text o.reference ∷ Text o.receiver ∷ Int (pos o.amount) ∷ Int (pos (state_number o.state)) ∷ mark ∷ Text (date_text o.date) ∷ []) (bound_mark o.state)
+given_is o = ap (λ mark. Int (pos o.number) ∷ Text o.sender ∷ Text o.reference ∷ Text o.receiver ∷ Int (pos o.amount)
+    ∷ Int (pos (state_number o.state)) ∷ mark ∷ Text (date_text o.date) ∷ []) (bound_mark o.state)
 
-pub adds_order : (was : Database) (content : Content) (old new : State) (o : Order) (r : Result ℕ Error) (values : Row) → values ≡ order_given o → Stands was content old → IsInOrder (with_change content (AddOrder o))
+pub adds_order : (was : Database) (content : Content) (old new : State) (o : Order) (r : Result ℕ Error) (values : Row)
+    → values ≡ order_given o → Stands was content old → IsInOrder (with_change content (AddOrder o))
     → ExecutesInside 0 order_text values old new r → OnOk r (Stands was (with_change content (AddOrder o)) new)
 adds_order was content old new o (Err e) values same stands order h = tt
 adds_order was content old new o (Ok count) values same stands order h =
-    adds was content old new o count stands order (subst (λ all. ExecutesInside 0 order_text all old new (Ok count)) (same ∙ given_is o) h)
+    adds was content old new o count stands order (subst (λ all. ExecutesInside 0 order_text all old new (Ok count))
+    (same ∙ given_is o) h)
 
 -- ---- the state of one order
 
@@ -114,7 +141,8 @@ tests = op2 (Compare Eq Binary) (col 1 0) (col 0 0) ∷ []
 abbrev project : List Term
 project = col 1 0 ∷ col 1 0 ∷ lit Null ∷ col 1 2 ∷ col 1 3 ∷ col 1 4 ∷ col 1 5 ∷ col 1 6 ∷ col 0 1 ∷ col 0 2 ∷ []
 
-set_state_is : command_of (understood desk_schema set_state_text) ≡ Update 3 (record { lets = []; body = simple 6 tests project [] })
+set_state_is : command_of (understood desk_schema set_state_text)
+    ≡ Update 3 (record { lets = []; body = simple 6 tests project [] })
 unfolding understood everything desk_schema
 set_state_is = refl
 
@@ -122,7 +150,8 @@ set_state_plain : IsPlain (understood desk_schema set_state_text)
 unfolding understood everything desk_schema
 set_state_plain = (refl, refl)
 
-passes_one : (number : ℕ) (state mark : Value) (o : Order) → passes tests (Int (pos number) ∷ state ∷ mark ∷ []) (payment_row o) ≡ has_number number o
+passes_one : (number : ℕ) (state mark : Value) (o : Order) → passes tests (Int (pos number) ∷ state ∷ mark ∷ [])
+    (payment_row o) ≡ has_number number o
 unfolding binary
 passes_one number state mark o = truth_of _ ∙ same_number o.number number
 
@@ -130,16 +159,20 @@ apart : (number m n : ℕ) → int_cmp (pos m) (pos n) ≡ Less → (m == number
 apart number m n low here = elim (cases_Bool (n == number)) [
   | inl both ↦
       let same : m ≡ n = eqb-true m number here ∙ sym (eqb-true n number both) in
-      let tied : int_cmp (pos m) (pos n) ≡ Equal = subst (λ k. int_cmp (pos m) (pos k) ≡ Equal) same (tied_itself int_cmp_total (pos m)) in
+      let tied : int_cmp (pos m) (pos n) ≡ Equal = subst (λ k. int_cmp (pos m) (pos k) ≡ Equal) same
+      (tied_itself int_cmp_total (pos m)) in
       absurd (let clash : ◌≡◌ {A = Ordering} Less Equal = sym low ∙ tied in cc)
   | inr other ↦ other
 ]
 
-apart_all : (number : ℕ) (o : Order) (all : List Order) → AllByRecursion (λ b. int_cmp (pos o.number) (pos b.number) ≡ Less) all → AllByRecursion (λ b. has_number number o ≡ true → has_number number b ≡ false) all
+apart_all : (number : ℕ) (o : Order) (all : List Order) → AllByRecursion
+    (λ b. int_cmp (pos o.number) (pos b.number) ≡ Less) all → AllByRecursion
+    (λ b. has_number number o ≡ true → has_number number b ≡ false) all
 apart_all number o [] low = tt
 apart_all number o (b ∷ all) low = (apart number o.number b.number low.0, apart_all number o all low.1)
 
-differ : (number : ℕ) (all : List Order) → IsAscending (λ (a b : Order). int_cmp (pos a.number) (pos b.number) ≡ Less) all → IsAscending (λ a b. has_number number a ≡ true → has_number number b ≡ false) all
+differ : (number : ℕ) (all : List Order) → IsAscending (λ (a b : Order). int_cmp (pos a.number) (pos b.number) ≡ Less)
+    all → IsAscending (λ a b. has_number number a ≡ true → has_number number b ≡ false) all
 differ number [] rise = tt
 differ number (o ∷ all) rise = (apart_all number o all rise.0, differ number all rise.1)
 
@@ -154,35 +187,59 @@ module _ (number : ℕ) (state : OrderState) where
   IsOne = Replaces payment_row (λ o. pos o.number) (λ _. refl) (has_number number) (set_to state) (λ _. refl)
 
   state_edit : (trees : Trees) (all : List Order) (rows : List Row) → trees 6 ≡ map payment_row all
-      → ((filter (has_number number) all ≡ []) × (map payment_row (map (restated (has_number number) state) all) ≡ map payment_row all)) ⊎ IsOne all
+      → ((filter (has_number number) all ≡ []) × (map payment_row (map (restated (has_number number) state) all)
+      ≡ map payment_row all)) ⊎ IsOne all
       → IsPermutation (map (shows project state_params) (map payment_row (filter (has_number number) all))) rows
-      → edited trees (edit_of trees (payment_at 6) (ids_of rows) Given 1 rows) ≡ map payment_row (map (restated (has_number number) state) all)
+      → edited trees (edit_of trees (payment_at 6) (ids_of rows) Given 1 rows)
+      ≡ map payment_row (map (restated (has_number number) state) all)
   state_edit trees all rows are (inl none) same =
       let empty : rows ≡ [] = none_moved _ rows (rw none.0) same in
       rw (empty, are, none.1)
   state_edit trees all rows are (inr it) same =
-      let one : rows ≡ shows project state_params (payment_row it.one) ∷ [] = one_permutation _ rows (rw it.passed at same) in
-      rw (one, cast_int (pos it.one.number), cast_null, cast_int (pos it.one.amount), cast_int (pos (state_number state)), cast_mark state, are) it.put
+      let one : rows ≡ shows project state_params (payment_row it.one) ∷ [] =
+      one_permutation _ rows (rw it.passed at same) in
+      rw (
+        one,
+        cast_int (pos it.one.number),
+        cast_null,
+        cast_int (pos it.one.amount),
+        cast_int
+            (pos (state_number state)),
+        cast_mark state,
+        are,
+      ) it.put
 
-  sets : (was : Database) (content : Content) (old new : State) (count : ℕ) → Stands was content old → IsInOrder content → ExecutesInside 0 set_state_text state_params old new (Ok count) → Stands was (with_change content (SetState number state)) new
+  sets : (was : Database) (content : Content) (old new : State) (count : ℕ) → Stands was content old → IsInOrder content
+      → ExecutesInside 0 set_state_text state_params old new (Ok count)
+      → Stands was (with_change content (SetState number state)) new
   sets was content old new count stands order h =
       let all = content.orders in
-      let made = updated set_state_text 3 (payment_at 6) set_state_plain payment_is_plain old new state_params count stands.schema h.0 6 tests project set_state_is in
+      let made = updated set_state_text 3 (payment_at 6) set_state_plain payment_is_plain old new state_params count
+      stands.schema h.0 6 tests project set_state_is in
       let here : old.now.trees 6 ≡ map payment_row all = ap (λ (t : Tables). t.payments) stands.holds.rows in
-      let passed : filter (passes tests state_params) (old.now.trees 6) ≡ map payment_row (filter (has_number number) all) =
-      rw here (filter_map payment_row _ (has_number number) (passes_one number (Int (pos (state_number state))) (mark_value state)) all) in
-      let found = replaces payment_row (λ o. pos o.number) (λ _. refl) (has_number number) (set_to state) (λ _. refl) all order.orders (differ number all order.orders) in
+      let passed : filter (passes tests state_params) (old.now.trees 6)
+      ≡ map payment_row (filter (has_number number) all) =
+      rw here (filter_map payment_row _ (has_number number) (passes_one number (Int (pos (state_number state)))
+      (mark_value state)) all) in
+      let found = replaces payment_row (λ o. pos o.number) (λ _. refl) (has_number number) (set_to state) (λ _. refl)
+      all order.orders (differ number all order.orders) in
       let rows : new.now.trees 6 ≡ map payment_row (map (restated (has_number number) state) all) =
-      made.2.rows ∙ state_edit old.now.trees all made.0 here found (subst (λ f. IsPermutation (map (shows project state_params) f) made.0) passed made.1) in
+      made.2.rows ∙ state_edit old.now.trees all made.0 here found
+      (subst (λ f. IsPermutation (map (shows project state_params) f) made.0) passed made.1) in
       stands_on was old new content (with_change content (SetState number state)) stands h.1 made.2.schema made.2.sound
-      (payment_frame old.now.trees new.now.trees _ made.2.frame rows ∙ ap (λ (t : Tables). record t { payments = map payment_row (map (restated (has_number number) state) all) }) stands.holds.rows)
+      (payment_frame old.now.trees new.now.trees _ made.2.frame rows
+      ∙ ap (λ (t : Tables). record t { payments = map payment_row (map (restated (has_number number) state) all) })
+      stands.holds.rows)
 
   abbrev pub state_given : Row
   state_given = Int (pos number) ∷ Int (pos (state_number state)) ∷ bound_value (mark_value state) ∷ []
 
-  pub sets_state : (was : Database) (content : Content) (old new : State) (r : Result ℕ Error) (values : Row) → values ≡ state_given → Stands was content old → IsInOrder content
-      → ExecutesInside 0 set_state_text values old new r → OnOk r (Stands was (with_change content (SetState number state)) new)
+  pub sets_state : (was : Database) (content : Content) (old new : State) (r : Result ℕ Error) (values : Row)
+      → values ≡ state_given → Stands was content old → IsInOrder content
+      → ExecutesInside 0 set_state_text values old new r → OnOk r
+      (Stands was (with_change content (SetState number state)) new)
   sets_state was content old new (Err e) values same stands order h = tt
   sets_state was content old new (Ok count) values same stands order h =
       sets was content old new count stands order
-      (subst (λ all. ExecutesInside 0 set_state_text all old new (Ok count)) (same ∙ ap (λ mark. Int (pos number) ∷ Int (pos (state_number state)) ∷ mark ∷ []) (bound_mark state)) h)
+      (subst (λ all. ExecutesInside 0 set_state_text all old new (Ok count))
+      (same ∙ ap (λ mark. Int (pos number) ∷ Int (pos (state_number state)) ∷ mark ∷ []) (bound_mark state)) h)

@@ -1,5 +1,6 @@
 -- Which rows a test passes.
-use Rattle.std.proofs.Common.{◌≡◌, ℕ, pos, ◌==◌, List, [], ◌∷◌, map, filter, Bool, true, false, ◌&&◌, cond, Some, length, eq-eqb, eqb-true, refl, ap, ◌∙◌, arith}
+use Rattle.std.proofs.Common.{◌≡◌, ℕ, pos, ◌==◌, List, [], ◌∷◌, map, filter, Bool, true, false, ◌&&◌, cond, Some}
+use Rattle.std.proofs.Common.{length, eq-eqb, eqb-true, refl, ap, ◌∙◌, arith}
 use Rattle.std.specs.List.Sorted.{IsPermutation}
 use Rattle.std.proofs.lemmas.List.Sorted.{length_permutation}
 use Rattle.std.specs.Ordering.{int_cmp, is_eq}
@@ -23,17 +24,20 @@ none_moved xs (y ∷ ys) none same = absurd (omega (arith, length_permutation xs
 pub same_number : (m n : ℕ) → is_eq (value_cmp (Int (pos m)) (Int (pos n))) ≡ (m == n)
 same_number m n =
     let tells = ranked_equal (pos m) (pos n) (int_cmp (pos m) (pos n)) (int_ranks (pos m) (pos n)) in
-    ap is_eq (value_cmp-Int (pos m) (pos n)) ∙ both_ways _ _ (λ e. eq-eqb m n (let same : pos m ≡ pos n = tells.0 e in cc)) (λ e. tells.1 (ap pos (eqb-true m n e)))
+    ap is_eq (value_cmp-Int (pos m) (pos n)) ∙ both_ways _ _
+    (λ e. eq-eqb m n (let same : pos m ≡ pos n = tells.0 e in cc)) (λ e. tells.1 (ap pos (eqb-true m n e)))
 
 -- and texts
 pub same_text : (a b : List ℕ) → is_eq (value_cmp (Text a) (Text b)) ≡ bytes_eq a b
 same_text a b = ap is_eq (value_cmp-Text a b) ∙ is_eq-slice_cmp a b
 
-cond_map : {A B : Type 0} (f : A → B) (b : Bool) (x : A) (xs : List A) → cond b (f x ∷ map f xs) (map f xs) ≡ map f (cond b (x ∷ xs) xs)
+cond_map : {A B : Type 0} (f : A → B) (b : Bool) (x : A) (xs : List A)
+    → cond b (f x ∷ map f xs) (map f xs) ≡ map f (cond b (x ∷ xs) xs)
 cond_map f true x xs = refl
 cond_map f false x xs = refl
 
 -- rows are tested by what they are rows of
-pub filter_map : {A : Type 0} (row : A → Row) (test : Row → Bool) (hit : A → Bool) → ((a : A) → test (row a) ≡ hit a) → (all : List A) → filter test (map row all) ≡ map row (filter hit all)
+pub filter_map : {A : Type 0} (row : A → Row) (test : Row → Bool) (hit : A → Bool) → ((a : A) → test (row a) ≡ hit a)
+    → (all : List A) → filter test (map row all) ≡ map row (filter hit all)
 filter_map row test hit same [] = refl
 filter_map row test hit same (a ∷ all) = rw (same a, filter_map row test hit same all) (cond_map row (hit a) a _)

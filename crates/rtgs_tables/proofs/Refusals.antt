@@ -1,5 +1,6 @@
 -- Why a query that is understood fails.
-use Rattle.std.proofs.Common.{◌≡◌, ◌⊎◌, inl, inr, ℕ, List, length, Option, [], IfErr, Ok, Err, Result, sym, ap, subst, ◌∙◌, arith}
+use Rattle.std.proofs.Common.{◌≡◌, ◌⊎◌, inl, inr, ℕ, List, length, Option, [], IfErr, Ok, Err, Result, sym, ap, subst}
+use Rattle.std.proofs.Common.{◌∙◌, arith}
 use Rattle.sqlite.specs.Order.{Row}
 use Rattle.sqlite.specs.Schema.{Schema}
 use Rattle.sqlite_trees.specs.declared.error.StoreError.{StoreError}
@@ -13,7 +14,8 @@ use Rattle.sqlite.specs.declared.error.Error.{Error}
 use Rattle.sqlite.specs.declared.error.Error.TheVariants.{SqlInputError}
 use Rattle.sqlite.specs.Listing.{understood}
 use Rattle.sqlite.specs.Effect.{Database, RefusesToRead}
-use Rattle.sqlite.specs.State.{State, Fails, IsUnchanged, IsRolledBack, IsNotRun, IsNoStatement, FailsToQuery, FailsToShow, store_error}
+use Rattle.sqlite.specs.State.{State, Fails, IsUnchanged, IsRolledBack, IsNotRun, IsNoStatement, FailsToQuery}
+use Rattle.sqlite.specs.State.{FailsToShow, store_error}
 use Rattle.sqlite.proofs.Callers.{IsPlain, command_of}
 use Rattle.rtgs_tables.specs.Faults.{IsOfStore}
 
@@ -40,7 +42,8 @@ told Full = tt
 told Broken = tt
 told Unstorable = tt
 
-module _ (sql : List ℕ) (params : Row) (old new : State) (q : Program) (names : List (List ℕ)) (asks : Asks old.now.schema sql (length params) q names) (e : Error) where
+module _ (sql : List ℕ) (params : Row) (old new : State) (q : Program) (names : List (List ℕ))
+    (asks : Asks old.now.schema sql (length params) q names) (e : Error) where
   fails : (U : Type 0) → Fails old new U e → IsOfStore e
   fails U h = subst IsOfStore (sym h.1) (told h.0)
 
@@ -55,7 +58,8 @@ module _ (sql : List ℕ) (params : Row) (old new : State) (q : Program) (names 
         | inr (inr timed) ↦ timed.0 (subst IsPlain h.1 asks.plain).1
       ]
 
-  refuses : (limit : Option ℕ) (command : Command) (db : Database) (all : Row) → command ≡ Select q names → RefusesToRead limit command db all e → IsOfStore e
+  refuses : (limit : Option ℕ) (command : Command) (db : Database) (all : Row) → command ≡ Select q names
+      → RefusesToRead limit command db all e → IsOfStore e
   refuses limit command db all is h = elim (subst (λ k. RefusesToRead limit k db all e) is h) [
     | inl bad ↦ subst IsOfStore (sym bad.0) tt
     | inr (inl bad) ↦ subst IsOfStore (sym bad.0) tt
@@ -81,10 +85,13 @@ module _ (sql : List ℕ) (params : Row) (old new : State) (q : Program) (names 
       inl it.3
 
 -- A text that was read and found to be no statement changed nothing: the store was open.
-pub unread_text : {A : Type 0} (old new : State) (sql : List ℕ) (answer : Result A Error) (fault : CompileError) → IfErr answer (λ e. (params : Row) → IsNotRun old new sql params e) → answer ≡ Err (SqlInputError fault) → IsUnchanged old new
+pub unread_text : {A : Type 0} (old new : State) (sql : List ℕ) (answer : Result A Error) (fault : CompileError)
+    → IfErr answer (λ e. (params : Row) → IsNotRun old new sql params e) → answer ≡ Err (SqlInputError fault)
+    → IsUnchanged old new
 unfolding IsNotRun
 unread_text old new sql (Ok a) fault why is = absurd cc
 unread_text {A = A} old new sql (Err e) fault why is = elim (why []) [
   | inl bad ↦ bad.1
-  | inr failed ↦ let same : e ≡ SqlInputError fault = cc in absurd (subst IsOfStore (sym failed.1 ∙ same) (told failed.0))
+  | inr failed ↦ let same : e ≡ SqlInputError fault = cc in absurd
+      (subst IsOfStore (sym failed.1 ∙ same) (told failed.0))
 ]

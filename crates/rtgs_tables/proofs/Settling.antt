@@ -21,31 +21,47 @@ pub record RowLaws : Type 0 where
   pub changes : ChangedRowsAreTheBook
 
 -- what a stop may leave where nothing was committed
-pub leaves_less : {S : Type 0} (g : Ghosts S) (old new : Held S) → Survives (state g old) (state g new) (λ _. ⊥) → HasCleanDisk (state g new) → (other : Book) → MayLeave g new other → MayLeave g old other
-leaves_less g old new s clean other left = elim (s.crash clean left.0 left.1) [ inl was ↦ (left.0, was, left.2) | inr none ↦ absurd none ]
+pub leaves_less : {S : Type 0} (g : Ghosts S) (old new : Held S) → Survives (state g old) (state g new) (λ _. ⊥)
+    → HasCleanDisk (state g new) → (other : Book) → MayLeave g new other → MayLeave g old other
+leaves_less g old new s clean other left = elim (s.crash clean left.0 left.1)
+    [ inl was ↦ (left.0, was, left.2) | inr none ↦ absurd none ]
 
 abbrev pub Made : {S : Type 0} → Ghosts S → Held S → List RowChange → Trees → Type 0
-Made g old rows trees = (content : Content) → Rests content (state g old) → AreInOrder content rows → Holds (with_changes content rows) trees
+Made g old rows trees = (content : Content) → Rests content (state g old) → AreInOrder content rows
+    → Holds (with_changes content rows) trees
 
-pub stops_at : RowLaws → {S : Type 0} (g : Ghosts S) (old new : Held S) (rows : List RowChange) → Survives (state g old) (state g new) (Made g old rows) → HasCleanDisk (state g new)
-    → (before after other : Book) → HoldsBook g old before → IsChange before rows after → AllByRecursion FitsRow rows → MayLeave g new other → MayLeave g old other ⊎ (other ≡ after)
+pub stops_at : RowLaws → {S : Type 0} (g : Ghosts S) (old new : Held S) (rows : List RowChange)
+    → Survives (state g old) (state g new) (Made g old rows) → HasCleanDisk (state g new)
+    → (before after other : Book) → HoldsBook g old before → IsChange before rows after → AllByRecursion FitsRow rows
+    → MayLeave g new other → MayLeave g old other ⊎ (other ≡ after)
 stops_at laws g old new rows first clean before after other holds change forms left =
     elim (first.crash clean left.0 left.1) [
       | inl was ↦ inl (left.0, was, left.2)
       | inr made ↦
           let there = made holds.0 holds.1 (laws.in_order before after rows holds.0 holds.2 change) in
-          inr (laws.tells after other (with_changes holds.0 rows) left.2.0 (laws.changes before after rows holds.0 holds.2 change forms) left.2.2 (sym there.rows ∙ left.2.1.rows))
+          inr (laws.tells after other (with_changes holds.0 rows) left.2.0
+          (laws.changes before after rows holds.0 holds.2 change forms) left.2.2 (sym there.rows ∙ left.2.1.rows))
     ]
 
-pub stops : RowLaws → {S : Type 0} (g : Ghosts S) (old mid new : Held S) (rows : List RowChange) → Survives (state g old) (state g mid) (Made g old rows) → Survives (state g mid) (state g new) (λ _. ⊥) → HasCleanDisk (state g new)
-    → (before after other : Book) → HoldsBook g old before → IsChange before rows after → AllByRecursion FitsRow rows → MayLeave g new other → MayLeave g old other ⊎ (other ≡ after)
+pub stops : RowLaws → {S : Type 0} (g : Ghosts S) (old mid new : Held S) (rows : List RowChange)
+    → Survives (state g old) (state g mid) (Made g old rows) → Survives (state g mid) (state g new) (λ _. ⊥)
+    → HasCleanDisk (state g new)
+    → (before after other : Book) → HoldsBook g old before → IsChange before rows after → AllByRecursion FitsRow rows
+    → MayLeave g new other → MayLeave g old other ⊎ (other ≡ after)
 stops laws g old mid new rows first second clean before after other holds change forms left =
-    stops_at laws g old mid rows first (omega (arith, second.clean)) before after other holds change forms (leaves_less g mid new second clean other left)
+    stops_at laws g old mid rows first (omega (arith, second.clean)) before after other holds change forms
+    (leaves_less g mid new second clean other left)
 
-pub done : RowLaws → {S : Type 0} (g : Ghosts S) (old new : Held S) (rows : List RowChange) → ((content : Content) → Rests content (state g old) → AreInOrder content rows → Rests (with_changes content rows) (state g new))
-    → (before after : Book) → HoldsBook g old before → IsChange before rows after → AllByRecursion FitsRow rows → HoldsBook g new after
-done laws g old new rows made before after holds change forms =
-    (with_changes holds.0 rows, made holds.0 holds.1 (laws.in_order before after rows holds.0 holds.2 change), laws.changes before after rows holds.0 holds.2 change forms)
+pub done : RowLaws → {S : Type 0} (g : Ghosts S) (old new : Held S) (rows : List RowChange)
+    → ((content : Content) → Rests content (state g old) → AreInOrder content rows
+    → Rests (with_changes content rows) (state g new))
+    → (before after : Book) → HoldsBook g old before → IsChange before rows after → AllByRecursion FitsRow rows
+    → HoldsBook g new after
+done laws g old new rows made before after holds change forms = (
+  with_changes holds.0 rows,
+  made holds.0 holds.1 (laws.in_order before after rows holds.0 holds.2 change),
+  laws.changes before after rows holds.0 holds.2 change forms,
+)
 
 pub rests_same : (content : Content) (old new : State) → Rests content old → IsUnchanged old new → Rests content new
 rests_same content old new rests same = record {
@@ -55,32 +71,58 @@ rests_same content old new rests same = record {
   clean = same.0.now_is ∙ rests.clean ∙ sym same.0.committed_is;
 }
 
-pub same_book : {S : Type 0} (g : Ghosts S) (old mid new : Held S) → ((content : Content) → Rests content (state g old) → IsTrue (state g mid).is_open → Rests content (state g mid)) → IsUnchanged (state g mid) (state g new) → (book : Book) → HoldsBook g old book → HoldsBook g new book
-same_book g old mid new undone same book holds = (holds.0, rests_same holds.0 (state g mid) (state g new) (undone holds.0 holds.1 same.0.was_open) same, holds.2)
+pub same_book : {S : Type 0} (g : Ghosts S) (old mid new : Held S)
+    → ((content : Content) → Rests content (state g old) → IsTrue (state g mid).is_open → Rests content (state g mid))
+    → IsUnchanged (state g mid) (state g new) → (book : Book) → HoldsBook g old book → HoldsBook g new book
+same_book g old mid new undone same book holds = (
+  holds.0,
+  rests_same holds.0 (state g mid) (state g new)
+      (undone holds.0 holds.1 same.0.was_open) same,
+  holds.2,
+)
 
 -- ---- a stop leaves a book
 
 -- where nothing was committed
-pub whole_still : {S : Type 0} (g : Ghosts S) (old new : Held S) → Survives (state g old) (state g new) (λ _. ⊥) → HasCleanDisk (state g new) → IsWhole g old → IsWhole g new
-whole_still g old new s clean was trees left = elim (s.crash clean trees left) [ inl old ↦ was trees old | inr none ↦ absurd none ]
+pub whole_still : {S : Type 0} (g : Ghosts S) (old new : Held S) → Survives (state g old) (state g new) (λ _. ⊥)
+    → HasCleanDisk (state g new) → IsWhole g old → IsWhole g new
+whole_still g old new s clean was trees left = elim (s.crash clean trees left)
+    [ inl old ↦ was trees old | inr none ↦ absurd none ]
 
 -- where a change was written
-pub whole_at : RowLaws → {S : Type 0} (g : Ghosts S) (old new : Held S) (rows : List RowChange) → Survives (state g old) (state g new) (Made g old rows) → HasCleanDisk (state g new) → IsWhole g old
-    → (before after : Book) → HoldsBook g old before → IsChange before rows after → AllByRecursion FitsRow rows → IsWhole g new
+pub whole_at : RowLaws → {S : Type 0} (g : Ghosts S) (old new : Held S) (rows : List RowChange)
+    → Survives (state g old) (state g new) (Made g old rows) → HasCleanDisk (state g new) → IsWhole g old
+    → (before after : Book) → HoldsBook g old before → IsChange before rows after → AllByRecursion FitsRow rows
+    → IsWhole g new
 whole_at laws g old new rows first clean was before after holds change forms trees left =
     elim (first.crash clean trees left) [
       | inl old ↦ was trees old
-      | inr made ↦ (after, (with_changes holds.0 rows, made holds.0 holds.1 (laws.in_order before after rows holds.0 holds.2 change), laws.changes before after rows holds.0 holds.2 change forms))
+      | inr made ↦ (
+        after,
+        (
+          with_changes holds.0 rows,
+          made holds.0 holds.1
+              (laws.in_order before after rows holds.0 holds.2 change),
+          laws.changes before after rows holds.0 holds.2
+              change forms,
+        ),
+      )
     ]
 
 -- where a change was written, and the store was asked for no more
-pub whole_then : RowLaws → {S : Type 0} (g : Ghosts S) (old mid new : Held S) (rows : List RowChange) → Survives (state g old) (state g mid) (Made g old rows) → Survives (state g mid) (state g new) (λ _. ⊥) → HasCleanDisk (state g new) → IsWhole g old
-    → (before after : Book) → HoldsBook g old before → IsChange before rows after → AllByRecursion FitsRow rows → IsWhole g new
+pub whole_then : RowLaws → {S : Type 0} (g : Ghosts S) (old mid new : Held S) (rows : List RowChange)
+    → Survives (state g old) (state g mid) (Made g old rows) → Survives (state g mid) (state g new) (λ _. ⊥)
+    → HasCleanDisk (state g new) → IsWhole g old
+    → (before after : Book) → HoldsBook g old before → IsChange before rows after → AllByRecursion FitsRow rows
+    → IsWhole g new
 whole_then laws g old mid new rows first second clean was before after holds change forms =
-    whole_still g mid new second clean (whole_at laws g old mid rows first (omega (arith, second.clean)) was before after holds change forms)
+    whole_still g mid new second clean (whole_at laws g old mid rows first (omega (arith, second.clean)) was before
+    after holds change forms)
 
 -- a database is opened whose tables hold a book
-pub opened : DesksAreReadAsSuch → {S : Type 0} (g : Ghosts S) (h : Held S) (book : Book) (content : Content) → Opens (state g h) → IsLive (state g h) → Holds content (state g h).committed.trees → IsBookOf book content → HoldsBook g h book
+pub opened : DesksAreReadAsSuch → {S : Type 0} (g : Ghosts S) (h : Held S) (book : Book) (content : Content)
+    → Opens (state g h) → IsLive (state g h) → Holds content (state g h).committed.trees → IsBookOf book content
+    → HoldsBook g h book
 opened read g h book content opens live holds is =
     let s = state g h in
     let rests : Rests content s = record {

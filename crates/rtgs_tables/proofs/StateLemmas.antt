@@ -19,7 +19,9 @@ desk_over trees = record { schema = desk_schema; trees = trees }
 abbrev pub frame_but : ℕ → Trees → Trees → Type 0
 frame_but tree old new = AllByRecursion (λ t. t.tree ≢ tree → new t.tree ≡ old t.tree) desk_schema.tables
 
-pub stands_on : (was : Database) (old new : State) (content after : Content) → Stands was content old → Shows old new new.now old.committed true → new.now.schema ≡ desk_schema → IsDatabase new.now → tables_of new.now.trees ≡ tables_for after
+pub stands_on : (was : Database) (old new : State) (content after : Content) → Stands was content old
+    → Shows old new new.now old.committed true → new.now.schema ≡ desk_schema → IsDatabase new.now
+    → tables_of new.now.trees ≡ tables_for after
     → Stands was after new
 stands_on was old new content after stands shown schema sound rows = record {
   is_open = shown.is_open;
@@ -29,7 +31,8 @@ stands_on was old new content after stands shown schema sound rows = record {
   committed = shown.committed_is ∙ stands.committed;
 }
 
-pub stands_begun : {S : Type 0} (g : Ghosts S) (h : Held S) (content : Content) → Rests content (state g h) → Stands (state g h).committed content (state g (record h { in_transaction = true }))
+pub stands_begun : {S : Type 0} (g : Ghosts S) (h : Held S) (content : Content) → Rests content (state g h)
+    → Stands (state g h).committed content (state g (record h { in_transaction = true }))
 stands_begun g h content rests = record {
   is_open = rests.is_open;
   inside = refl;
@@ -38,7 +41,8 @@ stands_begun g h content rests = record {
   committed = refl;
 }
 
-pub rests_committed : (was : Database) (mid new : State) (content : Content) → Stands was content mid → Shows mid new mid.now mid.now false → Rests content new
+pub rests_committed : (was : Database) (mid new : State) (content : Content) → Stands was content mid
+    → Shows mid new mid.now mid.now false → Rests content new
 rests_committed was mid new content stands shown = record {
   is_open = shown.is_open;
   schema = ap (λ (d : Database). d.schema) shown.committed_is ∙ stands.schema;
@@ -47,7 +51,10 @@ rests_committed was mid new content stands shown = record {
 }
 
 -- a transaction in which nothing commits, and then its commit
-pub survives_commit : {S : Type 0} (g : Ghosts S) (old : Held S) (mid new : State) (P : Trees → Type 0) → (HasCleanDisk new → P mid.now.trees)
-    → Survives (state g (record old { in_transaction = true })) mid (λ _. ⊥) → Survives mid new (λ db. db ≡ mid.now.trees) → Survives (state g old) new P
+pub survives_commit : {S : Type 0} (g : Ghosts S) (old : Held S) (mid new : State) (P : Trees → Type 0)
+    → (HasCleanDisk new → P mid.now.trees)
+    → Survives (state g (record old { in_transaction = true })) mid (λ _. ⊥)
+    → Survives mid new (λ db. db ≡ mid.now.trees) → Survives (state g old) new P
 survives_commit g old mid new P made inside ended =
-    survives_then (state g old) mid new (λ _. ⊥) (λ db. db ≡ mid.now.trees) P (λ _ db none. absurd none) (λ clean db is. subst P (sym is) (made clean)) (survives_begin g old mid _ inside) ended
+    survives_then (state g old) mid new (λ _. ⊥) (λ db. db ≡ mid.now.trees) P (λ _ db none. absurd none)
+    (λ clean db is. subst P (sym is) (made clean)) (survives_begin g old mid _ inside) ended

@@ -24,21 +24,28 @@ use Rattle.rtgs_rows.specs.Fitting.{FitsDate, FitsParticipant, FitsPosting, Fits
 use Rattle.rtgs_rows.specs.Querying.{picked, IsDeskFile, AreWhole, ShowsBook, shown_entry, ShowsDesk, ShowsParticipants}
 use Rattle.rtgs_book.specs.declared.account.Account.{Account}
 use Rattle.rtgs_tables.specs.Accounts.{AreBalances, entry_of, AreTold, AreReadOf, IsShown}
-use Rattle.rtgs_tables.specs.Numbers.{counted_of_posting, counted_of_order, counted_of_mark, IsNumberedPosting, IsNumberedOrder, IsNumberedMark, IsNumberedBook}
+use Rattle.rtgs_tables.specs.Numbers.{counted_of_posting, counted_of_order, counted_of_mark, IsNumberedPosting}
+use Rattle.rtgs_tables.specs.Numbers.{IsNumberedOrder, IsNumberedMark, IsNumberedBook}
 use Rattle.rtgs_tables.proofs.AsRead.{told_plainly, posting_own, order_own, mark_own}
 
 -- what is read of each table
-pub are_read_of : (trees : Trees) (accounts : List Account) (book : Book) {postings : List Posting} {orders : List Order} {marks : List Mark}
-    → book.participants ≡ map (λ (a : Account). a.participant) accounts → book.postings ≡ postings → book.orders ≡ orders → book.marks ≡ marks
+pub are_read_of : (trees : Trees) (accounts : List Account) (book : Book) {postings : List Posting}
+    {orders : List Order} {marks : List Mark}
+    → book.participants ≡ map (λ (a : Account). a.participant) accounts → book.postings ≡ postings
+    → book.orders ≡ orders → book.marks ≡ marks
     → FitsDate book.day.date × ShowsDesk trees (shown_day book.day ∷ [])
-    → AllByRecursion (λ (a : Account). FitsParticipant a.participant) accounts × ShowsParticipants trees (map (λ (a : Account). shown_account a.participant a.balance) accounts)
-    → AllByRecursion FitsPosting postings × AreTold (0 ∷ 2 ∷ 3 ∷ 4 ∷ 5 ∷ []) counted_of_posting (trees 4) (map shown_posting postings)
-    → AllByRecursion FitsOrder orders × AreTold (0 ∷ 2 ∷ 3 ∷ 4 ∷ 5 ∷ 6 ∷ 7 ∷ 8 ∷ []) counted_of_order (trees 6) (map shown_order orders)
+    → AllByRecursion (λ (a : Account). FitsParticipant a.participant) accounts
+    × ShowsParticipants trees (map (λ (a : Account). shown_account a.participant a.balance) accounts)
+    → AllByRecursion FitsPosting postings × AreTold (0 ∷ 2 ∷ 3 ∷ 4 ∷ 5 ∷ []) counted_of_posting (trees 4)
+    (map shown_posting postings)
+    → AllByRecursion FitsOrder orders × AreTold (0 ∷ 2 ∷ 3 ∷ 4 ∷ 5 ∷ 6 ∷ 7 ∷ 8 ∷ []) counted_of_order (trees 6)
+    (map shown_order orders)
     → AllByRecursion FitsMark marks × AreTold (0 ∷ 2 ∷ 3 ∷ 4 ∷ []) counted_of_mark (trees 8) (map shown_mark marks)
     → AreReadOf trees accounts book
 are_read_of trees accounts book named postings orders marks day stored some_postings some_orders some_marks = record {
   fits = record {
-    participants = subst (AllByRecursion FitsParticipant) (sym named) (all_map FitsParticipant (λ (a : Account). a.participant) accounts stored.0);
+    participants = subst (AllByRecursion FitsParticipant) (sym named)
+        (all_map FitsParticipant (λ (a : Account). a.participant) accounts stored.0);
     postings = subst (AllByRecursion FitsPosting) (sym postings) some_postings.0;
     orders = subst (AllByRecursion FitsOrder) (sym orders) some_orders.0;
     marks = subst (AllByRecursion FitsMark) (sym marks) some_marks.0;
@@ -47,48 +54,73 @@ are_read_of trees accounts book named postings orders marks day stored some_post
   named = named;
   desk = day.1;
   participants = stored.1;
-  postings = subst (λ all. AreTold (0 ∷ 2 ∷ 3 ∷ 4 ∷ 5 ∷ []) counted_of_posting (trees 4) (map shown_posting all)) (sym postings) some_postings.1;
-  payments = subst (λ all. AreTold (0 ∷ 2 ∷ 3 ∷ 4 ∷ 5 ∷ 6 ∷ 7 ∷ 8 ∷ []) counted_of_order (trees 6) (map shown_order all)) (sym orders) some_orders.1;
-  marks = subst (λ all. AreTold (0 ∷ 2 ∷ 3 ∷ 4 ∷ []) counted_of_mark (trees 8) (map shown_mark all)) (sym marks) some_marks.1;
+  postings = subst (λ all. AreTold (0 ∷ 2 ∷ 3 ∷ 4 ∷ 5 ∷ []) counted_of_posting (trees 4) (map shown_posting all))
+      (sym postings) some_postings.1;
+  payments = subst (λ all. AreTold (0 ∷ 2 ∷ 3 ∷ 4 ∷ 5 ∷ 6 ∷ 7 ∷ 8 ∷ []) counted_of_order (trees 6)
+      (map shown_order all)) (sym orders) some_orders.1;
+  marks = subst (λ all. AreTold (0 ∷ 2 ∷ 3 ∷ 4 ∷ []) counted_of_mark (trees 8) (map shown_mark all)) (sym marks)
+      some_marks.1;
 }
 
 -- where the numbers are above zero, the tables show the records' own rows
-pub shows_of : (trees : Trees) (accounts : List Account) (book : Book) → AreReadOf trees accounts book → IsNumberedBook book → ShowsBook trees book (map entry_of accounts)
+pub shows_of : (trees : Trees) (accounts : List Account) (book : Book) → AreReadOf trees accounts book
+    → IsNumberedBook book → ShowsBook trees book (map entry_of accounts)
 shows_of trees accounts book read numbered = record {
   desk = read.desk;
   participants = subst (ShowsParticipants trees) (sym (map-map shown_entry entry_of accounts)) read.participants;
   named = read.named ∙ sym (map-map (λ (entry : Participant × ℤ). entry.0) entry_of accounts);
-  postings = told_plainly counted_of_posting shown_posting IsNumberedPosting posting_own (map (picked (0 ∷ 2 ∷ 3 ∷ 4 ∷ 5 ∷ [])) (trees 4)) book.postings numbered.postings read.postings;
-  payments = told_plainly counted_of_order shown_order IsNumberedOrder order_own (map (picked (0 ∷ 2 ∷ 3 ∷ 4 ∷ 5 ∷ 6 ∷ 7 ∷ 8 ∷ [])) (trees 6)) book.orders numbered.orders read.payments;
-  marks = told_plainly counted_of_mark shown_mark IsNumberedMark mark_own (map (picked (0 ∷ 2 ∷ 3 ∷ 4 ∷ [])) (trees 8)) book.marks numbered.marks read.marks;
+  postings = told_plainly counted_of_posting shown_posting IsNumberedPosting posting_own
+      (map (picked (0 ∷ 2 ∷ 3 ∷ 4 ∷ 5 ∷ [])) (trees 4)) book.postings numbered.postings read.postings;
+  payments = told_plainly counted_of_order shown_order IsNumberedOrder order_own
+      (map (picked (0 ∷ 2 ∷ 3 ∷ 4 ∷ 5 ∷ 6 ∷ 7 ∷ 8 ∷ [])) (trees 6)) book.orders numbered.orders read.payments;
+  marks = told_plainly counted_of_mark shown_mark IsNumberedMark mark_own (map (picked (0 ∷ 2 ∷ 3 ∷ 4 ∷ [])) (trees 8))
+      book.marks numbered.marks read.marks;
 }
 
 -- what was read, and judged to be sound with its balances stored, is what the tables show
-pub shown_book : (trees : Trees) (accounts : List Account) (book : Book) (answer : Result Book Fault) → AreReadOf trees accounts book → IfOk answer (λ it. it ≡ book) → IfOk answer IsSoundBook → OnOk answer (AreBalances book accounts)
+pub shown_book : (trees : Trees) (accounts : List Account) (book : Book) (answer : Result Book Fault)
+    → AreReadOf trees accounts book → IfOk answer (λ it. it ≡ book) → IfOk answer IsSoundBook
+    → OnOk answer (AreBalances book accounts)
     → IfOk answer (IsShown trees)
 shown_book trees accounts book (Ok it) read is right agree =
     let sound_book = subst IsSoundBook is right in
     let balances = all_map (λ (entry : Participant × ℤ). entry.1 ≡ balance book entry.0.code) entry_of accounts agree in
-    subst (IsShown trees) (sym is) (map entry_of accounts, shows_of trees accounts book read (above_zero book sound_book), balances)
+    subst (IsShown trees) (sym is) (
+      map entry_of accounts,
+      shows_of trees accounts book read
+          (above_zero book sound_book),
+      balances,
+    )
 shown_book trees accounts book (Err fault) read is right agree = tt
 
-module _ (law : (trees : Trees) (book : Book) (entries : List (Participant × ℤ)) → IsSound desk_schema trees → AreWhole trees → IsSoundBook book → Fits book → ShowsBook trees book entries
-    → AllByRecursion (λ (entry : Participant × ℤ). entry.1 ≡ balance book entry.0.code) entries → (content : Content) × Holds content trees × IsBookOf book content) where
+module _ (law : (trees : Trees) (book : Book) (entries : List (Participant × ℤ)) → IsSound desk_schema trees
+    → AreWhole trees → IsSoundBook book → Fits book → ShowsBook trees book entries
+    → AllByRecursion (λ (entry : Participant × ℤ). entry.1 ≡ balance book entry.0.code) entries
+    → (content : Content) × Holds content trees × IsBookOf book content) where
   -- what was read, and judged to be sound with its balances stored, is what the tables hold
-  pub held_book : (trees : Trees) (accounts : List Account) (book : Book) (answer : Result Book Fault) → IsSound desk_schema trees → AreWhole trees → AreReadOf trees accounts book
-      → IfOk answer (λ it. it ≡ book) → IfOk answer IsSoundBook → OnOk answer (AreBalances book accounts) → IfOk answer (λ it. (content : Content) × Holds content trees × IsBookOf it content)
+  pub held_book : (trees : Trees) (accounts : List Account) (book : Book) (answer : Result Book Fault)
+      → IsSound desk_schema trees → AreWhole trees → AreReadOf trees accounts book
+      → IfOk answer (λ it. it ≡ book) → IfOk answer IsSoundBook → OnOk answer (AreBalances book accounts)
+      → IfOk answer (λ it. (content : Content) × Holds content trees × IsBookOf it content)
   held_book trees accounts book (Ok it) sound whole read is right agree =
       let sound_book = subst IsSoundBook is right in
-      let balances = all_map (λ (entry : Participant × ℤ). entry.1 ≡ balance book entry.0.code) entry_of accounts agree in
-      subst (λ b. (content : Content) × Holds content trees × IsBookOf b content) (sym is) (law trees book (map entry_of accounts) sound whole sound_book read.fits (shows_of trees accounts book read (above_zero book sound_book)) balances)
+      let balances = all_map (λ (entry : Participant × ℤ). entry.1 ≡ balance book entry.0.code) entry_of accounts agree
+      in
+      subst (λ b. (content : Content) × Holds content trees × IsBookOf b content) (sym is)
+      (law trees book (map entry_of accounts) sound whole sound_book read.fits
+      (shows_of trees accounts book read (above_zero book sound_book)) balances)
   held_book trees accounts book (Err fault) sound whole read is right agree = tt
 
 -- and the connection goes on to hold it
-pub kept_book : (s : State) (trees : Trees) (answer : Result Book Fault) → IfOk answer (λ it. (content : Content) × Holds content trees × IsBookOf it content) → (answer ≢ Err StoreFault → IsDeskFile trees s)
+pub kept_book : (s : State) (trees : Trees) (answer : Result Book Fault)
+    → IfOk answer (λ it. (content : Content) × Holds content trees × IsBookOf it content)
+    → (answer ≢ Err StoreFault → IsDeskFile trees s)
     → IfOk answer (λ it. (content : Content) × Rests content s × IsBookOf it content)
 kept_book s trees (Ok it) held file = (held.0, rests_of held.0 s trees (file (λ e. cc)) held.1, held.2)
 kept_book s trees (Err fault) held file = tt
 
-pub shown_always : (File : Trees → Type 0) (answer : Result Book Fault) → ((trees : Trees) → File trees → IfOk answer (IsShown trees)) → IfOk answer (λ it. (trees : Trees) → File trees → IsShown trees it)
+pub shown_always : (File : Trees → Type 0) (answer : Result Book Fault)
+    → ((trees : Trees) → File trees → IfOk answer (IsShown trees))
+    → IfOk answer (λ it. (trees : Trees) → File trees → IsShown trees it)
 shown_always File (Ok it) shown = shown
 shown_always File (Err fault) shown = tt

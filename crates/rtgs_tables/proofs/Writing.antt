@@ -32,24 +32,43 @@ pub record Edits (table : Table) (edit : Trees → Edit) (old new : State) : Typ
   pub frame : frame_but table.tree old.now.trees new.now.trees
   pub sound : IsDatabase new.now
 
-module _ (text : List ℕ) (at : ℕ) (table : Table) (plain : IsPlain (understood desk_schema text)) (is_table : (trees : Trees) (mode : Mode) → IsPlainTable (desk_over trees) mode at table) (old new : State) (params : Row) (count : ℕ) (has : old.now.schema ≡ desk_schema) (h : Executes text params old new (Ok count)) where
-  pub inserted : (terms : List Term) (width : ℕ) → command_of (understood desk_schema text) ≡ Insert at (Values terms width)
-      → Edits table (λ trees. edit_of trees table [] Chosen 0 (value_rows (stamped table params) width (length terms / width) terms)) old new
+module _ (text : List ℕ) (at : ℕ) (table : Table) (plain : IsPlain (understood desk_schema text))
+    (is_table : (trees : Trees) (mode : Mode) → IsPlainTable (desk_over trees) mode at table) (old new : State)
+    (params : Row) (count : ℕ) (has : old.now.schema ≡ desk_schema) (h : Executes text params old new (Ok count)) where
+  pub inserted : (terms : List Term) (width : ℕ) → command_of (understood desk_schema text)
+      ≡ Insert at (Values terms width)
+      → Edits table (λ trees. edit_of trees table [] Chosen 0
+      (value_rows (stamped table params) width (length terms / width) terms)) old new
   inserted terms width is =
       let w = runs_as text params old new desk_schema has (Insert at (Values terms width)) is plain count h in
       let whole = statement_of text (understood desk_schema text) in
-      let done = subst (λ s. Does old.step_limit (mode_of old) params (record old.now { schema = s }) whole None (Insert at (Values terms width)) (Ok (w.tally, new.now))) has w.changed in
-      let step = inserts old.step_limit (mode_of old) params (desk_over old.now.trees) whole at table w.tally new.now (is_table old.now.trees (mode_of old)) terms width done in
+      let done = subst (λ s. Does old.step_limit (mode_of old) params (record old.now { schema = s }) whole None
+      (Insert at (Values terms width)) (Ok (w.tally, new.now))) has w.changed in
+      let step = inserts old.step_limit (mode_of old) params (desk_over old.now.trees) whole at table w.tally new.now
+      (is_table old.now.trees (mode_of old)) terms width done in
       record { schema = step.schema; rows = step.applies.rows; frame = step.applies.tables; sound = w.sound }
 
   -- what the query of the update gives, and what is done with it
-  pub updated : (tree : ℕ) (tests project : List Term) → command_of (understood desk_schema text) ≡ Update at (record { lets = []; body = simple tree tests project [] })
-      → (rows : List Row) × IsPermutation (map (shows project params) (filter (passes tests params) (overlay old.now.trees [] tree))) rows × Edits table (λ trees. edit_of trees table (ids_of rows) Given 1 rows) old new
+  pub updated : (tree : ℕ) (tests project : List Term) → command_of (understood desk_schema text)
+      ≡ Update at (record { lets = []; body = simple tree tests project [] })
+      → (rows : List Row) × IsPermutation (map (shows project params)
+      (filter (passes tests params) (overlay old.now.trees [] tree))) rows
+      × Edits table (λ trees. edit_of trees table (ids_of rows) Given 1 rows) old new
   updated tree tests project is =
       let q : Program = record { lets = []; body = simple tree tests project [] } in
       let w = runs_as text params old new desk_schema has (Update at q) is plain count h in
       let whole = statement_of text (understood desk_schema text) in
-      let done = subst (λ s. Does old.step_limit (mode_of old) params (record old.now { schema = s }) whole None (Update at q) (Ok (w.tally, new.now))) has w.changed in
-      let made = updates old.step_limit (mode_of old) params (desk_over old.now.trees) whole at table w.tally new.now (is_table old.now.trees (mode_of old)) q done in
-      let sorted = sorts tree tests project [] _ params made.0 (made.1.answer Null) in
-      (made.0, moved (simple tree tests project []) params _ made.0 sorted, record { schema = made.2.schema; rows = made.2.applies.rows; frame = made.2.applies.tables; sound = w.sound })
+      let done = subst (λ s. Does old.step_limit (mode_of old) params (record old.now { schema = s }) whole None
+      (Update at q) (Ok (w.tally, new.now))) has w.changed in
+      let made = updates old.step_limit (mode_of old) params (desk_over old.now.trees) whole at table w.tally new.now
+      (is_table old.now.trees (mode_of old)) q done in
+      let sorted = sorts tree tests project [] _ params made.0 (made.1.answer Null) in (
+        made.0,
+        moved (simple tree tests project []) params _ made.0 sorted,
+        record {
+          schema = made.2.schema;
+          rows = made.2.applies.rows;
+          frame = made.2.applies.tables;
+          sound = w.sound;
+        },
+      )

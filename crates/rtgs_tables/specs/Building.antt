@@ -42,7 +42,13 @@ pub record IsBlank (s : State) : Type 0 where
 
 -- a new desk: no date, closed, and nothing recorded
 abbrev pub first_content : Content
-first_content = record { day = record { date = None; phase = Closed }; holdings = []; postings = []; orders = []; marks = [] }
+first_content = record {
+  day = record { date = None; phase = Closed };
+  holdings = [];
+  postings = [];
+  orders = [];
+  marks = [];
+}
 
 -- no tables at all, or those of a new desk
 abbrev pub IsNoneOrNew : Trees → Type 0

@@ -1,7 +1,7 @@
 //! What each route asks for.
 use super::{ALFA, GOOD, OPERATOR, asked, get, order, post};
-use rtgs_book::Command;
-use rtgs_http_requests::{Asked, Reading};
+use rtgs_book::{Command, Reading};
+use rtgs_http_requests::Asked;
 use rtgs_money::{Amount, BusinessDate, Code, Credit, PostingAmount, Reference};
 use std::alloc::Global;
 use std::test::Fail;

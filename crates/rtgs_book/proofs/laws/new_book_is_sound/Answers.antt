@@ -19,7 +19,15 @@ returns c = record {
   parties = (tt, tt);
   marks = (tt, tt);
   queues = record { closed = λ _. refl; short = tt; of_the_day = tt };
-  dates = record { dated = λ e. absurd (let clash : ◌≡◌ {A = Bool} true false = e in cc); weekday = λ e. absurd (let clash : ◌≡◌ {A = Bool} false true = e in cc); order_weekdays = tt; mark_weekdays = tt; orders = tt; marks = tt; postings = tt };
+  dates = record {
+    dated = λ e. absurd (let clash : ◌≡◌ {A = Bool} true false = e in cc);
+    weekday = λ e. absurd (let clash : ◌≡◌ {A = Bool} false true = e in cc);
+    order_weekdays = tt;
+    mark_weekdays = tt;
+    orders = tt;
+    marks = tt;
+    postings = tt;
+  };
   floors = tt;
   total_fits = omega (arith, ints);
 }

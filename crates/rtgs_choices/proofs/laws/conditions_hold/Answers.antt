@@ -3,4 +3,10 @@ use Rattle.rtgs_choices.proofs.Told.{length-positions, length-queues, floored, i
 use Rattle.rtgs_choices.proofs.laws.conditions_hold.Goals as goal
 
 pub returns : goal.returns
-returns c = record { positions = length-positions; queues = length-queues; floored = floored; receivers = in_range; payments = payments-le }
+returns c = record {
+  positions = length-positions;
+  queues = length-queues;
+  floored = floored;
+  receivers = in_range;
+  payments = payments-le;
+}

@@ -15,6 +15,8 @@ returns c = record {
       balances = moves_nothing book c.balance_after_restating.ensures;
     };
     added = adds_nobody (closed_book book) (closing_rows book) book;
-    sound = c.step_keeps_soundness.ensures book (closed_book book) (CloseDay date) (Ok (answer.Closed (length (filter is_queued book.orders)))) sound (closing book choice date cut same greatest none covered);
+    sound = c.step_keeps_soundness.ensures book (closed_book book) (CloseDay date)
+        (Ok (answer.Closed (length (filter is_queued book.orders)))) sound
+        (closing book choice date cut same greatest none covered);
   };
 }

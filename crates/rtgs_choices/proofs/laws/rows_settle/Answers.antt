@@ -17,11 +17,14 @@ returns c = record {
   change = λ book choice mark sound greatest some is. record {
     leads = record {
       book =
-          (λ i. changed book (state_rows (Settled (mark-number book choice mark sound greatest some is i)) (numbers_taken book choice) ++ AddMark (is i) ∷ balance_rows book choice))
-          ∙ c.states_one_by_one.ensures.settled book choice (numbers_taken book choice) (balance_rows book choice) (c.chosen_numbers.ensures.numbers book choice sound) some (of_balances book choice);
+          (λ i. changed book (state_rows (Settled (mark-number book choice mark sound greatest some is i))
+          (numbers_taken book choice) ++ AddMark (is i) ∷ balance_rows book choice))
+          ∙ c.states_one_by_one.ensures.settled book choice (numbers_taken book choice) (balance_rows book choice)
+          (c.chosen_numbers.ensures.numbers book choice sound) some (of_balances book choice);
       balances = c.balances_one_by_one.ensures book choice (numbers_taken book choice) mark;
     };
     added = added (settle book (is_chosen book choice)) book choice (numbers_taken book choice) mark;
-    sound = c.step_keeps_soundness.ensures book (settle book (is_chosen book choice)) Resolve (Ok (Resolved mark.number mark.count mark.value)) sound (resolution book choice mark sound greatest some is);
+    sound = c.step_keeps_soundness.ensures book (settle book (is_chosen book choice)) Resolve
+        (Ok (Resolved mark.number mark.count mark.value)) sound (resolution book choice mark sound greatest some is);
   };
 }

@@ -4,5 +4,6 @@ use Rattle.rtgs_choices.proofs.laws.states_one_by_one.Goals as goal
 pub returns : goal.returns
 returns c = record {
   states = changed-states;
-  settled = λ book choice numbers balances by_number some of_balances. changed-settled book choice numbers by_number some balances of_balances;
+  settled = λ book choice numbers balances by_number some of_balances. changed-settled book choice numbers by_number
+      some balances of_balances;
 }

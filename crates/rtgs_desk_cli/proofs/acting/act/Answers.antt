@@ -10,11 +10,14 @@ returns-in-Submit-clause-refused g c = refused_for _ c.in-Submit.is c.answer.res
 pub returns-in-Import-clause-printed : goal.returns-in-Import-clause-printed
 returns-in-Import-clause-printed g c = printed_for _ c.in-Import.is c.import.result _ _ c.import.ensures.printed
 
-pub returns-in-Statement-clause-printed : goal.returns-in-Statement-clause-printed
-returns-in-Statement-clause-printed g c = printed_for _ c.in-Statement.is c.statement.result _ _ c.statement.ensures.printed
+pub returns-in-Read-clause-printed : goal.returns-in-Read-clause-printed
+returns-in-Read-clause-printed g c = printed_for _ c.in-Read.is c.show.result _ _ c.show.ensures.printed
 
-pub returns-in-Statement-clause-refused : goal.returns-in-Statement-clause-refused
-returns-in-Statement-clause-refused g c = refused_for _ c.in-Statement.is c.statement.result c.statement.ensures.refused
+pub returns-in-Read-clause-refused : goal.returns-in-Read-clause-refused
+returns-in-Read-clause-refused g c = refused_for _ c.in-Read.is c.show.result c.show.ensures.refused
 
-pub returns-in-Report-clause-printed : goal.returns-in-Report-clause-printed
-returns-in-Report-clause-printed g c = printed_for _ c.in-Report.is c.report.result _ _ c.report.ensures.printed
+pub returns-in-Serve-clause-printed : goal.returns-in-Serve-clause-printed
+returns-in-Serve-clause-printed g c = printed_for _ c.in-Serve.is c.serve.result _ _ c.serve.ensures.printed
+
+pub returns-in-Serve-clause-refused : goal.returns-in-Serve-clause-refused
+returns-in-Serve-clause-refused g c = refused_for _ c.in-Serve.is c.serve.result c.serve.ensures.refused

@@ -10,7 +10,8 @@ use Rattle.rtgs_desk_cli.proofs.acting.answer.Goals as goal
 pub returns-in-Ok-clause-printed : goal.returns-in-Ok-clause-printed
 returns-in-Ok-clause-printed g c =
     let replied = subst (IsSubmitted _ c.args.command) c.in-Ok.is c.in_ok-answer.ensures.replied in
-    let kind = subst (λ reply. IfOk reply (λ answer. answers_its_kind c.args.command answer ≡ true)) c.in-Ok.is c.in_ok-answer.ensures.of_its_kind in
+    let kind = subst (λ reply. IfOk reply (λ answer. answers_its_kind c.args.command answer ≡ true)) c.in-Ok.is
+    c.in_ok-answer.ensures.of_its_kind in
     (ended_line (line_of (Answered c.in-Ok.answer)), None, (c.in-Ok.answer, replied, kind, refl, refl), c.say.ensures)
 
 pub returns-in-Err-clause-refused : goal.returns-in-Err-clause-refused

@@ -5,6 +5,11 @@ pub returns-clause-replied : goal.returns-clause-replied
 returns-clause-replied g c = record {
   opened = c.desk.result.now;
   closed = c.submit-reply.new.desk;
-  over = λ honest. (rw (sym c.desk.ensures.value) at c.in_ok-book.ensures.opened) (c.submit-reply.ensures.honest honest);
-  did = λ honest book held. (c.submit-reply.ensures.acts honest book held, c.submit-reply.ensures.left honest book held);
+  over = λ honest. (rw (sym c.desk.ensures.value) at c.in_ok-book.ensures.opened)
+      (c.submit-reply.ensures.honest honest);
+  did = λ honest book held. (
+    c.submit-reply.ensures.acts honest book held,
+    c.submit-reply.ensures.left honest book
+        held,
+  );
 }

@@ -10,7 +10,10 @@ returns-clause-printed g c =
     let rows = c.in_ok-rows.rows.items in
     let batch = c.in_ok-rows.batch in
     let it = c.in_ok-rows.ensures in
-    let printed = subst (λ rows. IfOk c.print_results.result (λ printed. Prints (results_text rows batch.replies.items batch.stopped) batch.stopped printed (g.O.Write.contents c.args.out.now) (g.O.Write.contents c.print_results.new.out))) c.as_slice.ensures.value c.print_results.ensures.printed in
+    let printed = subst (λ rows. IfOk c.print_results.result
+    (λ printed. Prints (results_text rows batch.replies.items batch.stopped) batch.stopped printed
+    (g.O.Write.contents c.args.out.now) (g.O.Write.contents c.print_results.new.out))) c.as_slice.ensures.value
+    c.print_results.ensures.printed in
     IfOk-weaker c.print_results.result _ _ (λ printed prints. (
       results_text rows batch.replies.items batch.stopped,
       batch.stopped,

@@ -1,5 +1,4 @@
 use Rattle.std.proofs.lemmas.Result.{IfOk-weaker}
-use Rattle.rtgs_exchange.specs.Batches.{orders_of, replies_of, with_stop}
 use Rattle.rtgs_desk_cli.proofs.texts.submit_file.Goals as goal
 
 pub returns-clause-sent : goal.returns-clause-sent

@@ -9,8 +9,11 @@ use Rattle.rtgs_exchange.proofs.laws.resumed_batches_end_alike.Goals as goal
 
 pub returns : goal.returns
 returns c old mid last end sender rows n first again once sound begun resumed whole =
-    let both : orders_of sender (take n rows) ++ orders_of sender (drop n rows) ≡ orders_of sender rows = sym (map-append (order_of sender) (take n rows) (drop n rows)) ∙ ap (orders_of sender) (take-append-drop n rows) in
-    c.resumed_batch_ends_alike.ensures old mid last end (orders_of sender (take n rows)) (orders_of sender (drop n rows)) first again once sound
+    let both : orders_of sender (take n rows) ++ orders_of sender (drop n rows)
+    ≡ orders_of sender rows = sym (map-append (order_of sender) (take n rows) (drop n rows))
+    ∙ ap (orders_of sender) (take-append-drop n rows) in
+    c.resumed_batch_ends_alike.ensures old mid last end (orders_of sender (take n rows))
+    (orders_of sender (drop n rows)) first again once sound
     (subst (AllByRecursion IsOrder) (sym both) (all_orders sender rows))
     begun
     (subst (λ cs. Run mid cs again last) (sym both) resumed)

@@ -10,8 +10,11 @@ use Rattle.rtgs_exchange.proofs.laws.stopped_batches_end_alike.Goals as goal
 pub returns : goal.returns
 returns c old mid found last end sender rows replies stopped again once sound judged stops begun may resumed whole =
     let n = length replies in
-    let both : orders_of sender (take n rows) ++ orders_of sender (drop n rows) ≡ orders_of sender rows = sym (map-append (order_of sender) (take n rows) (drop n rows)) ∙ ap (orders_of sender) (take-append-drop n rows) in
-    c.stopped_batch_ends_alike.ensures old mid found last end (orders_of sender (take n rows)) (orders_of sender (drop n rows)) (replies_of replies) again once sound
+    let both : orders_of sender (take n rows) ++ orders_of sender (drop n rows)
+    ≡ orders_of sender rows = sym (map-append (order_of sender) (take n rows) (drop n rows))
+    ∙ ap (orders_of sender) (take-append-drop n rows) in
+    c.stopped_batch_ends_alike.ensures old mid found last end (orders_of sender (take n rows))
+    (orders_of sender (drop n rows)) (replies_of replies) again once sound
     (subst (AllByRecursion IsOrder) (sym both) (all_orders sender rows))
     begun
     (next_open sender rows replies stopped mid found judged stops may)

@@ -18,4 +18,5 @@ returns-clause-reading c =
     })
 
 pub returns-clause-left : goal.returns-clause-left
-returns-clause-left c = rw (c.into_byte_records.ensures.rdr, c.from_reader.ensures.state, c.from_reader.ensures.source) refl
+returns-clause-left c = rw (c.into_byte_records.ensures.rdr, c.from_reader.ensures.state, c.from_reader.ensures.source)
+    refl

@@ -9,20 +9,34 @@ use Rattle.rtgs_gridlock.proofs.resolver.turn.Goals as goal
 
 pub take_back-payment-requires-clause-payment : goal.take_back-payment-requires-clause-payment
 take_back-payment-requires-clause-payment c =
-    let short : HasEnough c.covered.new.self.standings c.in-Some.index → ⊥ = λ enough. false≢true (c.if-not-covered.ensures.answer.1 enough) in
-    let testing = IsTesting-tested c.requires.resolving.0 c.args.queues.now c.in-Some.index c.args.workspace.now c.next_waiting.new.self c.covered.new.self c.requires.resolving.1 c.in-Some.ensures.same c.in-Some.ensures.taken c.covered.ensures.tested in
-    CanTakeBack-short c.requires.resolving.0 c.args.queues.now c.in-Some.index c.covered.new.self c.requires.receivers testing short
+    let short : HasEnough c.covered.new.self.standings c.in-Some.index
+    → ⊥ = λ enough. false≢true (c.if-not-covered.ensures.answer.1 enough) in
+    let testing = IsTesting-tested c.requires.resolving.0 c.args.queues.now c.in-Some.index c.args.workspace.now
+    c.next_waiting.new.self c.covered.new.self c.requires.resolving.1 c.in-Some.ensures.same c.in-Some.ensures.taken
+    c.covered.ensures.tested in
+    CanTakeBack-short c.requires.resolving.0 c.args.queues.now c.in-Some.index c.covered.new.self c.requires.receivers
+    testing short
 
 pub returns-then-not-covered-clause-resolving : goal.returns-then-not-covered-clause-resolving
 returns-then-not-covered-clause-resolving c = λ positions is.
-    let short : HasEnough c.covered.new.self.standings c.in-Some.index → ⊥ = λ enough. false≢true (c.if-not-covered.ensures.answer.1 enough) in
-    let testing = IsTesting-tested positions c.args.queues.now c.in-Some.index c.args.workspace.now c.next_waiting.new.self c.covered.new.self is c.in-Some.ensures.same c.in-Some.ensures.taken c.covered.ensures.tested in
-    let receiver = subst (λ (x : Payment). IsWaiting c.list_parties.new.self x.receiver) c.take_back-payment.ensures.payment c.list_parties.ensures.receiver in
+    let short : HasEnough c.covered.new.self.standings c.in-Some.index
+    → ⊥ = λ enough. false≢true (c.if-not-covered.ensures.answer.1 enough) in
+    let testing = IsTesting-tested positions c.args.queues.now c.in-Some.index c.args.workspace.now
+    c.next_waiting.new.self c.covered.new.self is c.in-Some.ensures.same c.in-Some.ensures.taken
+    c.covered.ensures.tested in
+    let receiver = subst (λ (x : Payment). IsWaiting c.list_parties.new.self x.receiver)
+    c.take_back-payment.ensures.payment c.list_parties.ensures.receiver in
     let turned : IsResolving positions c.args.queues.now c.list_parties.new.self =
-    IsResolving-taken positions c.args.queues.now c.in-Some.index c.covered.new.self c.take_back-payment.new.self c.list_parties.new.self testing short c.take_back-payment.ensures.taken_back c.list_parties.ensures.same c.list_parties.ensures.sender receiver c.list_parties.ensures.others c.list_parties.ensures.inside in
+    IsResolving-taken positions c.args.queues.now c.in-Some.index c.covered.new.self c.take_back-payment.new.self
+    c.list_parties.new.self testing short c.take_back-payment.ensures.taken_back c.list_parties.ensures.same
+    c.list_parties.ensures.sender receiver c.list_parties.ensures.others c.list_parties.ensures.inside in
     search rules
 
 pub returns-then-not-covered-clause-steps : goal.returns-then-not-covered-clause-steps
 returns-then-not-covered-clause-steps c =
-    let spent = steps_taken c.args.queues.now c.in-Some.index c.args.workspace.now c.next_waiting.new.self c.covered.new.self c.take_back-payment.new.self c.list_parties.new.self (c.requires.resolving.1.inside c.in-Some.index c.in-Some.ensures.taken.1) c.in-Some.ensures.same c.in-Some.ensures.taken c.covered.ensures.tested c.take_back-payment.ensures.taken_back c.list_parties.ensures.same c.list_parties.ensures.steps in
+    let spent = steps_taken c.args.queues.now c.in-Some.index c.args.workspace.now c.next_waiting.new.self
+    c.covered.new.self c.take_back-payment.new.self c.list_parties.new.self
+    (c.requires.resolving.1.inside c.in-Some.index c.in-Some.ensures.taken.1) c.in-Some.ensures.same
+    c.in-Some.ensures.taken c.covered.ensures.tested c.take_back-payment.ensures.taken_back
+    c.list_parties.ensures.same c.list_parties.ensures.steps in
     omega (arith, spent)

@@ -6,7 +6,9 @@ use Rattle.rtgs_gridlock.proofs.standings.credit_all.Given as goal
 
 abbrev pub invariant-loop-index : goal.invariant-loop-index
 invariant-loop-index l = record {
-  funds : (p : ℕ) → p < length l.queues → funds_of l.standings p ≡ funds_of l.initial.standings p + received_from l.index l.queues (everything l.queues) p;
-  small : (p : ℕ) → p < length l.queues → received_from l.index l.queues (everything l.queues) p ≤ payments_below l.index l.queues * LARGEST_AMOUNT;
+  funds : (p : ℕ) → p < length l.queues → funds_of l.standings p
+      ≡ funds_of l.initial.standings p + received_from l.index l.queues (everything l.queues) p;
+  small : (p : ℕ) → p < length l.queues → received_from l.index l.queues (everything l.queues) p
+      ≤ payments_below l.index l.queues * LARGEST_AMOUNT;
   owed : (p : ℕ) → owed_of l.standings p ≡ owed_of l.initial.standings p;
 }

@@ -4,4 +4,5 @@ use Rattle.rtgs_gridlock.proofs.standings.total_of.Given as goal
 
 abbrev pub invariant-loop-payment : goal.invariant-loop-payment
 invariant-loop-payment l =
-    (l.total ≡ sum_by (λ payment. payment.amount) (take l.payment-index l.payments)) × (l.total ≤ l.payment-index * LARGEST_AMOUNT)
+    (l.total ≡ sum_by (λ payment. payment.amount) (take l.payment-index l.payments))
+    × (l.total ≤ l.payment-index * LARGEST_AMOUNT)

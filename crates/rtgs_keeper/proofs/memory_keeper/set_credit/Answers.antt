@@ -14,11 +14,15 @@ loop-participant-preserved c =
     let ps = c.loop-participant.participants in
     let i = c.loop-participant.participant-index in
     let p = c.participant-item.result in
-    let more = map_over_more (credited code credit) c.args.participants.now ps i p c.loop-participant-test.true c.loop-participant.invariant c.participant-item.is in
-    let same : c.eq.result ≡ bytes_eq p.code code = c.eq.ensures ∙ ap (λ (q : Participant). bytes_eq q.code code) (sym c.participant-item.is) in
+    let more = map_over_more (credited code credit) c.args.participants.now ps i p c.loop-participant-test.true
+    c.loop-participant.invariant c.participant-item.is in
+    let same : c.eq.result ≡ bytes_eq p.code code = c.eq.ensures
+    ∙ ap (λ (q : Participant). bytes_eq q.code code) (sym c.participant-item.is) in
     elim c.if-eq.branch [
-      | then-eq w ↦ w.participants-is ∙ set_hit code credit ps i p (sym same ∙ w.if-eq.true) c.participant-item.is ∙ more
-      | else-eq w ↦ w.participants-is ∙ set_miss code credit ps i p (sym same ∙ w.if-eq.false) c.participant-item.is ∙ more
+      | then-eq w ↦ w.participants-is ∙ set_hit code credit ps i p (sym same ∙ w.if-eq.true) c.participant-item.is
+          ∙ more
+      | else-eq w ↦ w.participants-is ∙ set_miss code credit ps i p (sym same ∙ w.if-eq.false) c.participant-item.is
+          ∙ more
     ]
 
 pub returns : goal.returns

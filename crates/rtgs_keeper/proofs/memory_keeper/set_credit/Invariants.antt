@@ -3,4 +3,5 @@ use Rattle.rtgs_keeper.proofs.Credits.{credited}
 use Rattle.rtgs_keeper.proofs.memory_keeper.set_credit.Given as goal
 
 abbrev pub invariant-loop-participant : goal.invariant-loop-participant
-invariant-loop-participant l = l.participants ≡ map (credited l.code l.credit) (take l.participant-index l.initial.participants) ++ drop l.participant-index l.initial.participants
+invariant-loop-participant l = l.participants ≡ map (credited l.code l.credit)
+    (take l.participant-index l.initial.participants) ++ drop l.participant-index l.initial.participants

@@ -16,13 +16,15 @@ returns-in_err-text-clause-found c n bound e =
 
 pub returns-in_err-n-clause-found : goal.returns-in_err-n-clause-found
 returns-in_err-n-clause-found c n bound e =
-    let read = parse-decimal 64 n c.in_ok-text.text.now c.parse.result bound bound (search (rules, e)) c.parse.ensures.value.0 in
+    let read = parse-decimal 64 n c.in_ok-text.text.now c.parse.result bound bound (search (rules, e))
+    c.parse.ensures.value.0 in
     search (rules, read)
 
 -- what was parsed is the number that the bytes spell
 pub returns-then-ne-clause-found : goal.returns-then-ne-clause-found
 returns-then-ne-clause-found c n bound e =
-    let read = parse-decimal 64 n c.in_ok-text.text.now c.parse.result bound bound (search (rules, e)) c.parse.ensures.value.0 in
+    let read = parse-decimal 64 n c.in_ok-text.text.now c.parse.result bound bound (search (rules, e))
+    c.parse.ensures.value.0 in
     let same : c.in_ok-n.n ≡ n = search (rules, read) in
     let text : c.args.bytes.now ≡ decimal c.in_ok-n.n = e ∙ ap (λ m. decimal m) (sym same) in
     search (rules, text)

@@ -5,6 +5,9 @@ pub returns : goal.returns
 returns c = record {
   run = lived;
   stands = λ book found sessions sound life.
-      let run = lived book found sessions life in
-      (c.run_keeps_soundness.ensures book found run.0 run.1 sound run.3, c.run_keeps_what_is_final.ensures book found run.0 run.1 sound run.3);
+      let run = lived book found sessions life in (
+        c.run_keeps_soundness.ensures book found run.0 run.1 sound run.3,
+        c.run_keeps_what_is_final.ensures book found
+            run.0 run.1 sound run.3,
+      );
 }

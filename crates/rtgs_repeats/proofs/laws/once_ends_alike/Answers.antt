@@ -4,4 +4,5 @@ use Rattle.rtgs_repeats.proofs.Once.{once_run}
 use Rattle.rtgs_repeats.proofs.laws.once_ends_alike.Goals as goal
 
 pub returns : goal.returns
-returns c = λ old new commands replies sound run. once_run c.step_keeps_soundness.ensures old [] old new commands replies sound (kept_itself old) tt run
+returns c = λ old new commands replies sound run. once_run c.step_keeps_soundness.ensures old [] old new commands
+    replies sound (kept_itself old) tt run

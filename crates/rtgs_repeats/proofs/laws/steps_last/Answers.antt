@@ -1,6 +1,7 @@
 use Rattle.std.proofs.Common.{◌≡◌, true}
 use Rattle.rtgs_book.specs.declared.command.Command.{Command}
-use Rattle.rtgs_book.specs.declared.command.Command.TheVariants.{Add, SetCredit, Post, OpenDay, Order, Withdraw, Resolve, CutOff, CloseDay}
+use Rattle.rtgs_book.specs.declared.command.Command.TheVariants.{Add, SetCredit, Post, OpenDay, Order, Withdraw}
+use Rattle.rtgs_book.specs.declared.command.Command.TheVariants.{Resolve, CutOff, CloseDay}
 use Rattle.rtgs_book.specs.Run.{is_accepted}
 use Rattle.rtgs_book.specs.Step.{Step}
 use Rattle.rtgs_repeats.specs.Lasting.{StaysAtOnce}
@@ -10,9 +11,11 @@ pub returns : goal.returns
 returns c old new command reply sound step = record {
   stands = c.step_keeps_what_is_final.ensures old new command reply sound step;
   money = c.total_moves_by_postings.ensures old new command reply sound step;
-  known = λ acts accepted commands replies later run. c.acted_is_repeated.ensures old new later command reply commands replies sound acts accepted step run;
+  known = λ acts accepted commands replies later run. c.acted_is_repeated.ensures old new later command reply commands
+      replies sound acts accepted step run;
   at_once = λ accepted. at_once command accepted step;
-  deadlock = λ date count is_close is_closed choice greatest. c.closing_had_no_gridlock.ensures.choice old new date count choice (rw (is_close, is_closed) at step) greatest;
+  deadlock = λ date count is_close is_closed choice greatest. c.closing_had_no_gridlock.ensures.choice old new date
+      count choice (rw (is_close, is_closed) at step) greatest;
 }
   where
     at_once : (command : Command) → is_accepted reply ≡ true → Step old command reply new → StaysAtOnce new command

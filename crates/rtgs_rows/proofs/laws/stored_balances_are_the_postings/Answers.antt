@@ -15,6 +15,7 @@ returns c book content of =
     let code : Participant → List ℕ = λ p. p.code in
     let who = map (λ (h : Holding). h.participant) content.holdings in
     stored_sum book content.holdings of.balances
-    ∙ sym (int_sum_by-permuted (balance book) (map code who) (map code book.participants) (IsPermutation-map code who book.participants of.records.participants))
+    ∙ sym (int_sum_by-permuted (balance book) (map code who) (map code book.participants)
+    (IsPermutation-map code who book.participants of.records.participants))
     ∙ c.total_is_issued.ensures book of.sound
     ∙ ap (int_sum_by (λ (p : Posting). p.cents)) (sym of.records.postings)

@@ -9,4 +9,5 @@ returns-clause-some g c whole trees left =
 pub returns-clause-all : goal.returns-clause-all
 returns-clause-all g c whole trees left content holds =
     let book = whole trees left in
-    adds_up_alike trees book.1.0 content book.1.1 holds (c.stored_balances_are_the_postings.ensures book.0 book.1.0 book.1.2)
+    adds_up_alike trees book.1.0 content book.1.1 holds (c.stored_balances_are_the_postings.ensures book.0 book.1.0
+    book.1.2)

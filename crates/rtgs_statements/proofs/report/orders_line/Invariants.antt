@@ -10,7 +10,9 @@ use Rattle.rtgs_statements.proofs.report.orders_line.Given as goal
 abbrev pub invariant-loop-order : goal.invariant-loop-order
 invariant-loop-order l = record {
   few : l.count ≤ l.order-index;
-  count : l.count + length (standing_orders l.standing (drop l.order-index l.orders)) ≡ length (standing_orders l.standing l.orders);
-  value : (l.cents +ℤ int_sum_by amount_of (standing_orders l.standing (drop l.order-index l.orders))) ≡ int_sum_by amount_of (standing_orders l.standing l.orders);
+  count : l.count + length (standing_orders l.standing (drop l.order-index l.orders))
+      ≡ length (standing_orders l.standing l.orders);
+  value : (l.cents +ℤ int_sum_by amount_of (standing_orders l.standing (drop l.order-index l.orders)))
+      ≡ int_sum_by amount_of (standing_orders l.standing l.orders);
   within : Within (l.order-index * Amount.MAX) l.cents;
 }

@@ -19,24 +19,31 @@ not_settled Rejected h = refl
 
 pub loop-order-preserved : goal.loop-order-preserved
 loop-order-preserved c =
-    let left = λ (code : List ℕ). sum-left amount_of (λ (order : Order). is_settled order && bytes_eq (code_of c.args.party order) code) c.args.orders.now c.loop-order.order-index c.order-item.result c.loop-order-test.true c.order-item.is in
+    let left = λ (code : List ℕ). sum-left amount_of (λ (order : Order). is_settled order && bytes_eq
+    (code_of c.args.party order) code) c.args.orders.now c.loop-order.order-index c.order-item.result
+    c.loop-order-test.true c.order-item.is in
     elim c.match-order.branch [
       | in-Settled+in_ok-add w ↦
           let settled : is_settled c.order-item.result ≡ true = ap is_settled_state w.in-Settled.is in
           let small : Within Amount.MAX (pos c.order-item.result.amount) = (omega (arith, ints), omega (arith, ints)) in
           rw w.totals-is (record {
             sums = λ code.
-                step-sum _ _ _ _ _ _ (pos c.order-item.result.amount) (bytes_eq w.code.result code) (omega (arith, ints)) (w.in_ok-add.ensures code)
+                step-sum _ _ _ _ _ _ (pos c.order-item.result.amount) (bytes_eq w.code.result code)
+                (omega (arith, ints)) (w.in_ok-add.ensures code)
                 (rw (w.code.ensures) (rw settled at (left code)))
                 (c.loop-order.invariant.sums code);
             within = λ code.
                 wider (c.loop-order.order-index * Amount.MAX + Amount.MAX) _ _ (omega arith)
-                (step-within _ Amount.MAX _ _ _ (pos c.order-item.result.amount) (bytes_eq w.code.result code) small (omega (arith, ints)) (w.in_ok-add.ensures code) (c.loop-order.invariant.within code));
+                (step-within _ Amount.MAX _ _ _ (pos c.order-item.result.amount) (bytes_eq w.code.result code) small
+                (omega (arith, ints)) (w.in_ok-add.ensures code) (c.loop-order.invariant.within code));
           })
       | in_default w ↦
-          let unsettled : is_settled c.order-item.result ≡ false = not_settled c.order-item.result.state w.in_default.not-Settled in
+          let unsettled : is_settled c.order-item.result ≡ false =
+          not_settled c.order-item.result.state w.in_default.not-Settled in
           rw w.totals-is (record {
-            sums = λ code. let more = rw unsettled at (left code) in let before = c.loop-order.invariant.sums code in omega (arith, ints);
-            within = λ code. wider (c.loop-order.order-index * Amount.MAX) _ _ (omega arith) (c.loop-order.invariant.within code);
+            sums = λ code. let more = rw unsettled at (left code) in let before = c.loop-order.invariant.sums code
+                in omega (arith, ints);
+            within = λ code. wider (c.loop-order.order-index * Amount.MAX) _ _ (omega arith)
+                (c.loop-order.invariant.within code);
           })
     ]

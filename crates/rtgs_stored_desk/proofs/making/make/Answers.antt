@@ -11,9 +11,12 @@ use Rattle.rtgs_stored_desk.proofs.making.make.Goals as goal
 pub returns-in-Ok-clause-stops : goal.returns-in-Ok-clause-stops
 returns-in-Ok-clause-stops g c =
     let made = c.in-Ok.keeper.conn in
-    subst (λ h. HasCleanDisk (state g.S.Store h) → IsBlank (state g.S.Store c.args.conn) → (trees : Trees) → (state g.S.Store h).may_leave trees → AreTablesOf new_book trees) (sym c.into_connection.ensures) (λ clean blank trees left.
+    subst (λ h. HasCleanDisk (state g.S.Store h) → IsBlank (state g.S.Store c.args.conn) → (trees : Trees)
+    → (state g.S.Store h).may_leave trees → AreTablesOf new_book trees) (sym c.into_connection.ensures)
+    (λ clean blank trees left.
     let holds = c.in-Ok.ensures.made clean blank in
-    tables_are new_book trees (state g.S.Store made).committed.trees (g.met.S.Store.settled made.store trees holds.1.is_open left) (committed_tables g.S.Store made new_book holds))
+    tables_are new_book trees (state g.S.Store made).committed.trees
+    (g.met.S.Store.settled made.store trees holds.1.is_open left) (committed_tables g.S.Store made new_book holds))
 
 pub returns-in-Err-clause-refused : goal.returns-in-Err-clause-refused
 returns-in-Err-clause-refused g c clean blank = record {

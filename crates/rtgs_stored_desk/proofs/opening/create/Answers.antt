@@ -18,7 +18,8 @@ returns-in-Err-open-clause-refused g c =
     let s = state g.S.Store in
     let made = c.in-Ok.made in
     let it = c.in-Err-open.ensures in
-    subst (λ h. HasCleanDisk (s h) → IsBlank (s c.args.conn) → IsUnmade c.in-Err-open.fault (s h)) (sym c.into_connection.ensures) (λ clean blank.
+    subst (λ h. HasCleanDisk (s h) → IsBlank (s c.args.conn) → IsUnmade c.in-Err-open.fault (s h))
+    (sym c.into_connection.ensures) (λ clean blank.
     let holds = c.in-Ok.ensures.made (it.back clean) blank in
     let there = committed_tables g.S.Store made new_book holds in
     let why = it.refused clean holds.1.is_open in

@@ -9,14 +9,21 @@ returns-in-Ok-clause-opened g c honest rest =
     let was = c.args.keeper.conn in
     let now = c.in-Ok.desk.keeper.conn in
     let it = c.in-Ok.ensures in
-    let same : (trees : Trees) → (state g.S.Store now).may_leave trees → trees ≡ (state g.S.Store was).committed.trees = λ trees left. g.met.S.Store.settled was.store trees rest.is_open (it.untouched honest trees left) in
+    let same : (trees : Trees) → (state g.S.Store now).may_leave trees
+    → trees ≡ (state g.S.Store was).committed.trees = λ trees left. g.met.S.Store.settled was.store trees
+    rest.is_open (it.untouched honest trees left) in
     record {
-      held = λ book tables. it.held honest book (held_at_rest g.S.Store was c.tables_of_a_desk_are_read_as_such.ensures rest book tables);
+      held = λ book tables. it.held honest book (held_at_rest g.S.Store was c.tables_of_a_desk_are_read_as_such.ensures
+          rest book tables);
       kept = λ schema whole.
           let found = it.kept honest (file_at_rest (state g.S.Store was) rest schema, whole) in
-          let left = (c.holds_a_sound_book.ensures.after_a_crash found.0 found.0 found.1).1 refl in
-          (found.0, tables_are found.0 (state g.S.Store was).committed.trees left.0 (sym (same left.0 left.1)) left.2, found.1);
-      some = λ none. it.empty honest (blank_at_rest (state g.S.Store was) c.no_tables_are_read_as_none.ensures rest none);
+          let left = (c.holds_a_sound_book.ensures.after_a_crash found.0 found.0 found.1).1 refl in (
+            found.0,
+            tables_are found.0 (state g.S.Store was).committed.trees left.0 (sym (same left.0 left.1)) left.2,
+            found.1,
+          );
+      some = λ none. it.empty honest (blank_at_rest (state g.S.Store was) c.no_tables_are_read_as_none.ensures rest
+          none);
       leaves = same;
     }
 
@@ -25,9 +32,13 @@ returns-in-Err-clause-refused g c honest rest =
     let was = c.args.keeper.conn in
     let it = c.in-Err.ensures in
     record {
-      cause = λ book tables. it.accepted honest book (held_at_rest g.S.Store was c.tables_of_a_desk_are_read_as_such.ensures rest book tables);
-      explained = λ schema. ⊎_elim (λ memory. memory_explains (state g.S.Store was).committed.trees c.in-Err.fault memory)
-          (λ told. told.1 (state g.S.Store was).committed.trees (file_at_rest (state g.S.Store was) rest schema)) (it.explained honest);
-      no_rule = λ none rule. it.no_rule honest (blank_at_rest (state g.S.Store was) c.no_tables_are_read_as_none.ensures rest none) rule;
+      cause = λ book tables. it.accepted honest book (held_at_rest g.S.Store was
+          c.tables_of_a_desk_are_read_as_such.ensures rest book tables);
+      explained = λ schema. ⊎_elim (λ memory. memory_explains (state g.S.Store was).committed.trees c.in-Err.fault
+          memory)
+          (λ told. told.1 (state g.S.Store was).committed.trees (file_at_rest (state g.S.Store was) rest schema))
+          (it.explained honest);
+      no_rule = λ none rule. it.no_rule honest (blank_at_rest (state g.S.Store was) c.no_tables_are_read_as_none.ensures
+          rest none) rule;
       leaves = λ trees left. g.met.S.Store.settled was.store trees rest.is_open (it.back_untouched honest trees left);
     }

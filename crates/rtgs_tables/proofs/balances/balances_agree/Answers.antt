@@ -6,4 +6,5 @@ use Rattle.rtgs_tables.proofs.balances.balances_agree.Goals as goal
 pub returns : goal.returns
 returns c =
     subst (λ (yes : Bool). (yes ≡ true) ↔ AreBalances c.args.book.now c.args.accounts.now) (sym c.are_stored.ensures)
-    (stored_agree c.args.book.now c.args.accounts.now c.in_ok-balances.balances c.requires.participants c.in_ok-balances.ensures)
+    (stored_agree c.args.book.now c.args.accounts.now c.in_ok-balances.balances c.requires.participants
+    c.in_ok-balances.ensures)

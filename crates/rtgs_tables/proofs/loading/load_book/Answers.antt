@@ -10,7 +10,9 @@ use Rattle.rtgs_tables.proofs.loading.load_book.Goals as goal
 
 pub returns-in_err-stored-clause-explained : goal.returns-in_err-stored-clause-explained
 returns-in_err-stored-clause-explained g c clean accounts book held =
-    unread accounts book c.read_tables.result _ c.from_residual.result (c.read_tables.ensures.right clean accounts book held) c.read_tables.ensures.kinds c.in_err-stored.was c.from_residual.ensures.1
+    unread accounts book c.read_tables.result _ c.from_residual.result
+    (c.read_tables.ensures.right clean accounts book held) c.read_tables.ensures.kinds c.in_err-stored.was
+    c.from_residual.ensures.1
 
 pub returns-clause-read : goal.returns-clause-read
 returns-clause-read g c clean accounts book held =
@@ -25,21 +27,30 @@ returns-clause-explained g c clean accounts book held =
 pub returns-clause-held : goal.returns-clause-held
 returns-clause-held g c clean trees file whole =
     let was = (state g.S.Store c.args.conn.now).committed in
-    let sound = subst (IsSound desk_schema) file.trees_are (subst (λ schema. IsSound schema was.trees) file.schema (c.schema.ensures.live file.is_open).1) in
-    held_book c.shown_records_are_held.ensures trees _ _ c.judged.result sound whole (c.in_ok-stored.ensures.is clean trees file) c.judged.ensures.given c.judged.ensures.sound c.judged.ensures.balances
+    let sound = subst (IsSound desk_schema) file.trees_are (subst (λ schema. IsSound schema was.trees) file.schema
+    (c.schema.ensures.live file.is_open).1) in
+    held_book c.shown_records_are_held.ensures trees _ _ c.judged.result sound whole
+    (c.in_ok-stored.ensures.is clean trees file) c.judged.ensures.given c.judged.ensures.sound
+    c.judged.ensures.balances
 
 pub returns-in_err-stored-clause-same : goal.returns-in_err-stored-clause-same
-returns-in_err-stored-clause-same g c clean trees file other = c.read_tables.ensures.same clean trees file (λ e. other (answered c.read_tables.result _ StoreFault c.from_residual.result c.in_err-stored.was c.from_residual.ensures.1 e))
+returns-in_err-stored-clause-same g c clean trees file other =
+    c.read_tables.ensures.same clean trees file (λ e. other (answered c.read_tables.result _ StoreFault
+    c.from_residual.result c.in_err-stored.was c.from_residual.ensures.1 e))
 
 pub returns-clause-same : goal.returns-clause-same
-returns-clause-same g c clean trees file other = c.read_tables.ensures.same clean trees file (λ e. let is = c.in_ok-stored.was in cc)
+returns-clause-same g c clean trees file other = c.read_tables.ensures.same clean trees file
+    (λ e. let is = c.in_ok-stored.was in cc)
 
 pub returns-in_err-stored-clause-caused : goal.returns-in_err-stored-clause-caused
 returns-in_err-stored-clause-caused g c clean trees file =
-    unread_of trees c.read_tables.result _ c.from_residual.result (c.read_tables.ensures.wrong clean trees file) c.read_tables.ensures.kinds c.in_err-stored.was c.from_residual.ensures.1
+    unread_of trees c.read_tables.result _ c.from_residual.result (c.read_tables.ensures.wrong clean trees file)
+    c.read_tables.ensures.kinds c.in_err-stored.was c.from_residual.ensures.1
 
 pub returns-clause-caused : goal.returns-clause-caused
-returns-clause-caused g c clean trees file = judged_of trees _ _ c.judged.result (c.in_ok-stored.ensures.is clean trees file) c.judged.ensures.explained
+returns-clause-caused g c clean trees file = judged_of trees _ _ c.judged.result
+    (c.in_ok-stored.ensures.is clean trees file) c.judged.ensures.explained
 
 pub returns-clause-shown : goal.returns-clause-shown
-returns-clause-shown g c clean trees file = shown_book trees _ _ c.judged.result (c.in_ok-stored.ensures.is clean trees file) c.judged.ensures.given c.judged.ensures.sound c.judged.ensures.balances
+returns-clause-shown g c clean trees file = shown_book trees _ _ c.judged.result
+    (c.in_ok-stored.ensures.is clean trees file) c.judged.ensures.given c.judged.ensures.sound c.judged.ensures.balances

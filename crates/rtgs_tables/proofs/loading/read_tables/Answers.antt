@@ -10,118 +10,179 @@ use Rattle.rtgs_tables.proofs.loading.read_tables.Goals as goal
 
 pub returns-in_err-day-clause-right : goal.returns-in_err-day-clause-right
 returns-in_err-day-clause-right g c clean accounts book held e =
-    c.read_day.ensures.right clean accounts book held (same_fault c.read_day.result _ NotADeskFile c.from_residual.result c.in_err-day.was c.from_residual.ensures.1 e)
+    c.read_day.ensures.right clean accounts book held (same_fault c.read_day.result _ NotADeskFile
+    c.from_residual.result c.in_err-day.was c.from_residual.ensures.1 e)
 
 pub returns-in_err-accounts-clause-right : goal.returns-in_err-accounts-clause-right
 returns-in_err-accounts-clause-right g c clean accounts book held e =
-    let c0 : HasCleanDisk (state g.S.Store c.read_day.new.conn) = omega (arith, c.read_accounts.ensures.survives.clean) in
-    let h0 = kept_on accounts book (state g.S.Store c.args.conn.now) (state g.S.Store c.read_day.new.conn) (λ trees file. c.read_day.ensures.same c0 trees file (λ e. let is = c.in_ok-day.was in cc)) held in
-    c.read_accounts.ensures.right clean accounts book h0 (same_fault c.read_accounts.result _ NotADeskFile c.from_residual-in_err-accounts.result c.in_err-accounts.was c.from_residual-in_err-accounts.ensures.1 e)
+    let c0 : HasCleanDisk (state g.S.Store c.read_day.new.conn) = omega (arith, c.read_accounts.ensures.survives.clean)
+    in
+    let h0 = kept_on accounts book (state g.S.Store c.args.conn.now) (state g.S.Store c.read_day.new.conn)
+    (λ trees file. c.read_day.ensures.same c0 trees file (λ e. let is = c.in_ok-day.was in cc)) held in
+    c.read_accounts.ensures.right clean accounts book h0 (same_fault c.read_accounts.result _ NotADeskFile
+    c.from_residual-in_err-accounts.result c.in_err-accounts.was c.from_residual-in_err-accounts.ensures.1 e)
 
 pub returns-in_err-postings-clause-right : goal.returns-in_err-postings-clause-right
 returns-in_err-postings-clause-right g c clean accounts book held e =
-    let c1 : HasCleanDisk (state g.S.Store c.read_accounts.new.conn) = omega (arith, c.read_postings.ensures.survives.clean) in
-    let c0 : HasCleanDisk (state g.S.Store c.read_day.new.conn) = omega (arith, c.read_accounts.ensures.survives.clean) in
-    let h0 = kept_on accounts book (state g.S.Store c.args.conn.now) (state g.S.Store c.read_day.new.conn) (λ trees file. c.read_day.ensures.same c0 trees file (λ e. let is = c.in_ok-day.was in cc)) held in
-    let h1 = kept_on accounts book (state g.S.Store c.read_day.new.conn) (state g.S.Store c.read_accounts.new.conn) (λ trees file. c.read_accounts.ensures.same c1 trees file (λ e. let is = c.in_ok-accounts.was in cc)) h0 in
-    c.read_postings.ensures.right clean accounts book h1 (same_fault c.read_postings.result _ NotADeskFile c.from_residual-in_err-postings.result c.in_err-postings.was c.from_residual-in_err-postings.ensures.1 e)
+    let c1 : HasCleanDisk (state g.S.Store c.read_accounts.new.conn) =
+    omega (arith, c.read_postings.ensures.survives.clean) in
+    let c0 : HasCleanDisk (state g.S.Store c.read_day.new.conn) = omega (arith, c.read_accounts.ensures.survives.clean)
+    in
+    let h0 = kept_on accounts book (state g.S.Store c.args.conn.now) (state g.S.Store c.read_day.new.conn)
+    (λ trees file. c.read_day.ensures.same c0 trees file (λ e. let is = c.in_ok-day.was in cc)) held in
+    let h1 = kept_on accounts book (state g.S.Store c.read_day.new.conn) (state g.S.Store c.read_accounts.new.conn)
+    (λ trees file. c.read_accounts.ensures.same c1 trees file (λ e. let is = c.in_ok-accounts.was in cc)) h0 in
+    c.read_postings.ensures.right clean accounts book h1 (same_fault c.read_postings.result _ NotADeskFile
+    c.from_residual-in_err-postings.result c.in_err-postings.was c.from_residual-in_err-postings.ensures.1 e)
 
 pub returns-in_err-orders-clause-right : goal.returns-in_err-orders-clause-right
 returns-in_err-orders-clause-right g c clean accounts book held e =
-    let c2 : HasCleanDisk (state g.S.Store c.read_postings.new.conn) = omega (arith, c.read_orders.ensures.survives.clean) in
-    let c1 : HasCleanDisk (state g.S.Store c.read_accounts.new.conn) = omega (arith, c.read_postings.ensures.survives.clean) in
-    let c0 : HasCleanDisk (state g.S.Store c.read_day.new.conn) = omega (arith, c.read_accounts.ensures.survives.clean) in
-    let h0 = kept_on accounts book (state g.S.Store c.args.conn.now) (state g.S.Store c.read_day.new.conn) (λ trees file. c.read_day.ensures.same c0 trees file (λ e. let is = c.in_ok-day.was in cc)) held in
-    let h1 = kept_on accounts book (state g.S.Store c.read_day.new.conn) (state g.S.Store c.read_accounts.new.conn) (λ trees file. c.read_accounts.ensures.same c1 trees file (λ e. let is = c.in_ok-accounts.was in cc)) h0 in
-    let h2 = kept_on accounts book (state g.S.Store c.read_accounts.new.conn) (state g.S.Store c.read_postings.new.conn) (λ trees file. c.read_postings.ensures.same c2 trees file (λ e. let is = c.in_ok-postings.was in cc)) h1 in
-    c.read_orders.ensures.right clean accounts book h2 (same_fault c.read_orders.result _ NotADeskFile c.from_residual-in_err-orders.result c.in_err-orders.was c.from_residual-in_err-orders.ensures.1 e)
+    let c2 : HasCleanDisk (state g.S.Store c.read_postings.new.conn) =
+    omega (arith, c.read_orders.ensures.survives.clean) in
+    let c1 : HasCleanDisk (state g.S.Store c.read_accounts.new.conn) =
+    omega (arith, c.read_postings.ensures.survives.clean) in
+    let c0 : HasCleanDisk (state g.S.Store c.read_day.new.conn) = omega (arith, c.read_accounts.ensures.survives.clean)
+    in
+    let h0 = kept_on accounts book (state g.S.Store c.args.conn.now) (state g.S.Store c.read_day.new.conn)
+    (λ trees file. c.read_day.ensures.same c0 trees file (λ e. let is = c.in_ok-day.was in cc)) held in
+    let h1 = kept_on accounts book (state g.S.Store c.read_day.new.conn) (state g.S.Store c.read_accounts.new.conn)
+    (λ trees file. c.read_accounts.ensures.same c1 trees file (λ e. let is = c.in_ok-accounts.was in cc)) h0 in
+    let h2 = kept_on accounts book (state g.S.Store c.read_accounts.new.conn) (state g.S.Store c.read_postings.new.conn)
+    (λ trees file. c.read_postings.ensures.same c2 trees file (λ e. let is = c.in_ok-postings.was in cc)) h1 in
+    c.read_orders.ensures.right clean accounts book h2 (same_fault c.read_orders.result _ NotADeskFile
+    c.from_residual-in_err-orders.result c.in_err-orders.was c.from_residual-in_err-orders.ensures.1 e)
 
 pub returns-in_err-marks-clause-right : goal.returns-in_err-marks-clause-right
 returns-in_err-marks-clause-right g c clean accounts book held e =
-    let c3 : HasCleanDisk (state g.S.Store c.read_orders.new.conn) = omega (arith, c.read_marks.ensures.survives.clean) in
-    let c2 : HasCleanDisk (state g.S.Store c.read_postings.new.conn) = omega (arith, c.read_orders.ensures.survives.clean) in
-    let c1 : HasCleanDisk (state g.S.Store c.read_accounts.new.conn) = omega (arith, c.read_postings.ensures.survives.clean) in
-    let c0 : HasCleanDisk (state g.S.Store c.read_day.new.conn) = omega (arith, c.read_accounts.ensures.survives.clean) in
-    let h0 = kept_on accounts book (state g.S.Store c.args.conn.now) (state g.S.Store c.read_day.new.conn) (λ trees file. c.read_day.ensures.same c0 trees file (λ e. let is = c.in_ok-day.was in cc)) held in
-    let h1 = kept_on accounts book (state g.S.Store c.read_day.new.conn) (state g.S.Store c.read_accounts.new.conn) (λ trees file. c.read_accounts.ensures.same c1 trees file (λ e. let is = c.in_ok-accounts.was in cc)) h0 in
-    let h2 = kept_on accounts book (state g.S.Store c.read_accounts.new.conn) (state g.S.Store c.read_postings.new.conn) (λ trees file. c.read_postings.ensures.same c2 trees file (λ e. let is = c.in_ok-postings.was in cc)) h1 in
-    let h3 = kept_on accounts book (state g.S.Store c.read_postings.new.conn) (state g.S.Store c.read_orders.new.conn) (λ trees file. c.read_orders.ensures.same c3 trees file (λ e. let is = c.in_ok-orders.was in cc)) h2 in
-    c.read_marks.ensures.right clean accounts book h3 (same_fault c.read_marks.result _ NotADeskFile c.from_residual-in_err-marks.result c.in_err-marks.was c.from_residual-in_err-marks.ensures.1 e)
+    let c3 : HasCleanDisk (state g.S.Store c.read_orders.new.conn) = omega (arith, c.read_marks.ensures.survives.clean)
+    in
+    let c2 : HasCleanDisk (state g.S.Store c.read_postings.new.conn) =
+    omega (arith, c.read_orders.ensures.survives.clean) in
+    let c1 : HasCleanDisk (state g.S.Store c.read_accounts.new.conn) =
+    omega (arith, c.read_postings.ensures.survives.clean) in
+    let c0 : HasCleanDisk (state g.S.Store c.read_day.new.conn) = omega (arith, c.read_accounts.ensures.survives.clean)
+    in
+    let h0 = kept_on accounts book (state g.S.Store c.args.conn.now) (state g.S.Store c.read_day.new.conn)
+    (λ trees file. c.read_day.ensures.same c0 trees file (λ e. let is = c.in_ok-day.was in cc)) held in
+    let h1 = kept_on accounts book (state g.S.Store c.read_day.new.conn) (state g.S.Store c.read_accounts.new.conn)
+    (λ trees file. c.read_accounts.ensures.same c1 trees file (λ e. let is = c.in_ok-accounts.was in cc)) h0 in
+    let h2 = kept_on accounts book (state g.S.Store c.read_accounts.new.conn) (state g.S.Store c.read_postings.new.conn)
+    (λ trees file. c.read_postings.ensures.same c2 trees file (λ e. let is = c.in_ok-postings.was in cc)) h1 in
+    let h3 = kept_on accounts book (state g.S.Store c.read_postings.new.conn) (state g.S.Store c.read_orders.new.conn)
+    (λ trees file. c.read_orders.ensures.same c3 trees file (λ e. let is = c.in_ok-orders.was in cc)) h2 in
+    c.read_marks.ensures.right clean accounts book h3 (same_fault c.read_marks.result _ NotADeskFile
+    c.from_residual-in_err-marks.result c.in_err-marks.was c.from_residual-in_err-marks.ensures.1 e)
 
 pub returns-clause-read : goal.returns-clause-read
 returns-clause-read g c clean accounts book held =
     let c4 : HasCleanDisk (state g.S.Store c.read_marks.new.conn) = clean in
-    let c3 : HasCleanDisk (state g.S.Store c.read_orders.new.conn) = omega (arith, c.read_marks.ensures.survives.clean) in
-    let c2 : HasCleanDisk (state g.S.Store c.read_postings.new.conn) = omega (arith, c.read_orders.ensures.survives.clean) in
-    let c1 : HasCleanDisk (state g.S.Store c.read_accounts.new.conn) = omega (arith, c.read_postings.ensures.survives.clean) in
-    let c0 : HasCleanDisk (state g.S.Store c.read_day.new.conn) = omega (arith, c.read_accounts.ensures.survives.clean) in
-    let h0 = kept_on accounts book (state g.S.Store c.args.conn.now) (state g.S.Store c.read_day.new.conn) (λ trees file. c.read_day.ensures.same c0 trees file (λ e. let is = c.in_ok-day.was in cc)) held in
-    let h1 = kept_on accounts book (state g.S.Store c.read_day.new.conn) (state g.S.Store c.read_accounts.new.conn) (λ trees file. c.read_accounts.ensures.same c1 trees file (λ e. let is = c.in_ok-accounts.was in cc)) h0 in
-    let h2 = kept_on accounts book (state g.S.Store c.read_accounts.new.conn) (state g.S.Store c.read_postings.new.conn) (λ trees file. c.read_postings.ensures.same c2 trees file (λ e. let is = c.in_ok-postings.was in cc)) h1 in
-    let h3 = kept_on accounts book (state g.S.Store c.read_postings.new.conn) (state g.S.Store c.read_orders.new.conn) (λ trees file. c.read_orders.ensures.same c3 trees file (λ e. let is = c.in_ok-orders.was in cc)) h2 in
+    let c3 : HasCleanDisk (state g.S.Store c.read_orders.new.conn) = omega (arith, c.read_marks.ensures.survives.clean)
+    in
+    let c2 : HasCleanDisk (state g.S.Store c.read_postings.new.conn) =
+    omega (arith, c.read_orders.ensures.survives.clean) in
+    let c1 : HasCleanDisk (state g.S.Store c.read_accounts.new.conn) =
+    omega (arith, c.read_postings.ensures.survives.clean) in
+    let c0 : HasCleanDisk (state g.S.Store c.read_day.new.conn) = omega (arith, c.read_accounts.ensures.survives.clean)
+    in
+    let h0 = kept_on accounts book (state g.S.Store c.args.conn.now) (state g.S.Store c.read_day.new.conn)
+    (λ trees file. c.read_day.ensures.same c0 trees file (λ e. let is = c.in_ok-day.was in cc)) held in
+    let h1 = kept_on accounts book (state g.S.Store c.read_day.new.conn) (state g.S.Store c.read_accounts.new.conn)
+    (λ trees file. c.read_accounts.ensures.same c1 trees file (λ e. let is = c.in_ok-accounts.was in cc)) h0 in
+    let h2 = kept_on accounts book (state g.S.Store c.read_accounts.new.conn) (state g.S.Store c.read_postings.new.conn)
+    (λ trees file. c.read_postings.ensures.same c2 trees file (λ e. let is = c.in_ok-postings.was in cc)) h1 in
+    let h3 = kept_on accounts book (state g.S.Store c.read_postings.new.conn) (state g.S.Store c.read_orders.new.conn)
+    (λ trees file. c.read_orders.ensures.same c3 trees file (λ e. let is = c.in_ok-orders.was in cc)) h2 in
     let v0 = c.in_ok-day.ensures.given c0 accounts book held in
     let v1 = c.in_ok-accounts.ensures.given c1 accounts book h0 in
     let v2 = c.in_ok-postings.ensures.given c2 accounts book h1 in
     let v3 = c.in_ok-orders.ensures.given c3 accounts book h2 in
     let v4 = c.in_ok-marks.ensures.given c4 accounts book h3 in
-    let participants = c.from_vec.ensures ∙ c.in_ok-participants.ensures ∙ ap (map (λ (a : Account). a.participant)) (c.as_slice.ensures.value ∙ v1) ∙ sym held.2.participants in
+    let participants = c.from_vec.ensures ∙ c.in_ok-participants.ensures
+    ∙ ap (map (λ (a : Account). a.participant)) (c.as_slice.ensures.value ∙ v1) ∙ sym held.2.participants in
     let postings = c.from_vec-2.ensures ∙ v2 in
     let orders = c.from_vec-3.ensures ∙ v3 in
-    let marks = c.from_vec-4.ensures ∙ v4 in
-    (λ i. record { participants = participants i; postings = postings i; orders = orders i; marks = marks i; day = v0 i }, v1)
+    let marks = c.from_vec-4.ensures ∙ v4 in (
+      λ i. record {
+        participants = participants i;
+        postings = postings i;
+        orders = orders i;
+        marks = marks i;
+        day = v0 i;
+      },
+      v1,
+    )
 
 pub returns-in_err-day-clause-same : goal.returns-in_err-day-clause-same
 returns-in_err-day-clause-same g c clean trees file other =
     let c0 : HasCleanDisk (state g.S.Store c.read_day.new.conn) = clean in
-    c.read_day.ensures.same c0 trees file (λ e. other (answered c.read_day.result _ StoreFault c.from_residual.result c.in_err-day.was c.from_residual.ensures.1 e))
+    c.read_day.ensures.same c0 trees file (λ e. other (answered c.read_day.result _ StoreFault c.from_residual.result
+    c.in_err-day.was c.from_residual.ensures.1 e))
 
 pub returns-in_err-accounts-clause-same : goal.returns-in_err-accounts-clause-same
 returns-in_err-accounts-clause-same g c clean trees file other =
     let c1 : HasCleanDisk (state g.S.Store c.read_accounts.new.conn) = clean in
-    let c0 : HasCleanDisk (state g.S.Store c.read_day.new.conn) = omega (arith, c.read_accounts.ensures.survives.clean) in
+    let c0 : HasCleanDisk (state g.S.Store c.read_day.new.conn) = omega (arith, c.read_accounts.ensures.survives.clean)
+    in
     let f0 = c.read_day.ensures.same c0 trees file (λ e. let is = c.in_ok-day.was in cc) in
-    c.read_accounts.ensures.same c1 trees f0 (λ e. other (answered c.read_accounts.result _ StoreFault c.from_residual-in_err-accounts.result c.in_err-accounts.was c.from_residual-in_err-accounts.ensures.1 e))
+    c.read_accounts.ensures.same c1 trees f0 (λ e. other (answered c.read_accounts.result _ StoreFault
+    c.from_residual-in_err-accounts.result c.in_err-accounts.was c.from_residual-in_err-accounts.ensures.1 e))
 
 pub returns-in_err-postings-clause-same : goal.returns-in_err-postings-clause-same
 returns-in_err-postings-clause-same g c clean trees file other =
     let c2 : HasCleanDisk (state g.S.Store c.read_postings.new.conn) = clean in
-    let c1 : HasCleanDisk (state g.S.Store c.read_accounts.new.conn) = omega (arith, c.read_postings.ensures.survives.clean) in
-    let c0 : HasCleanDisk (state g.S.Store c.read_day.new.conn) = omega (arith, c.read_accounts.ensures.survives.clean) in
+    let c1 : HasCleanDisk (state g.S.Store c.read_accounts.new.conn) =
+    omega (arith, c.read_postings.ensures.survives.clean) in
+    let c0 : HasCleanDisk (state g.S.Store c.read_day.new.conn) = omega (arith, c.read_accounts.ensures.survives.clean)
+    in
     let f0 = c.read_day.ensures.same c0 trees file (λ e. let is = c.in_ok-day.was in cc) in
     let f1 = c.read_accounts.ensures.same c1 trees f0 (λ e. let is = c.in_ok-accounts.was in cc) in
-    c.read_postings.ensures.same c2 trees f1 (λ e. other (answered c.read_postings.result _ StoreFault c.from_residual-in_err-postings.result c.in_err-postings.was c.from_residual-in_err-postings.ensures.1 e))
+    c.read_postings.ensures.same c2 trees f1 (λ e. other (answered c.read_postings.result _ StoreFault
+    c.from_residual-in_err-postings.result c.in_err-postings.was c.from_residual-in_err-postings.ensures.1 e))
 
 pub returns-in_err-orders-clause-same : goal.returns-in_err-orders-clause-same
 returns-in_err-orders-clause-same g c clean trees file other =
     let c3 : HasCleanDisk (state g.S.Store c.read_orders.new.conn) = clean in
-    let c2 : HasCleanDisk (state g.S.Store c.read_postings.new.conn) = omega (arith, c.read_orders.ensures.survives.clean) in
-    let c1 : HasCleanDisk (state g.S.Store c.read_accounts.new.conn) = omega (arith, c.read_postings.ensures.survives.clean) in
-    let c0 : HasCleanDisk (state g.S.Store c.read_day.new.conn) = omega (arith, c.read_accounts.ensures.survives.clean) in
+    let c2 : HasCleanDisk (state g.S.Store c.read_postings.new.conn) =
+    omega (arith, c.read_orders.ensures.survives.clean) in
+    let c1 : HasCleanDisk (state g.S.Store c.read_accounts.new.conn) =
+    omega (arith, c.read_postings.ensures.survives.clean) in
+    let c0 : HasCleanDisk (state g.S.Store c.read_day.new.conn) = omega (arith, c.read_accounts.ensures.survives.clean)
+    in
     let f0 = c.read_day.ensures.same c0 trees file (λ e. let is = c.in_ok-day.was in cc) in
     let f1 = c.read_accounts.ensures.same c1 trees f0 (λ e. let is = c.in_ok-accounts.was in cc) in
     let f2 = c.read_postings.ensures.same c2 trees f1 (λ e. let is = c.in_ok-postings.was in cc) in
-    c.read_orders.ensures.same c3 trees f2 (λ e. other (answered c.read_orders.result _ StoreFault c.from_residual-in_err-orders.result c.in_err-orders.was c.from_residual-in_err-orders.ensures.1 e))
+    c.read_orders.ensures.same c3 trees f2 (λ e. other (answered c.read_orders.result _ StoreFault
+    c.from_residual-in_err-orders.result c.in_err-orders.was c.from_residual-in_err-orders.ensures.1 e))
 
 pub returns-in_err-marks-clause-same : goal.returns-in_err-marks-clause-same
 returns-in_err-marks-clause-same g c clean trees file other =
     let c4 : HasCleanDisk (state g.S.Store c.read_marks.new.conn) = clean in
-    let c3 : HasCleanDisk (state g.S.Store c.read_orders.new.conn) = omega (arith, c.read_marks.ensures.survives.clean) in
-    let c2 : HasCleanDisk (state g.S.Store c.read_postings.new.conn) = omega (arith, c.read_orders.ensures.survives.clean) in
-    let c1 : HasCleanDisk (state g.S.Store c.read_accounts.new.conn) = omega (arith, c.read_postings.ensures.survives.clean) in
-    let c0 : HasCleanDisk (state g.S.Store c.read_day.new.conn) = omega (arith, c.read_accounts.ensures.survives.clean) in
+    let c3 : HasCleanDisk (state g.S.Store c.read_orders.new.conn) = omega (arith, c.read_marks.ensures.survives.clean)
+    in
+    let c2 : HasCleanDisk (state g.S.Store c.read_postings.new.conn) =
+    omega (arith, c.read_orders.ensures.survives.clean) in
+    let c1 : HasCleanDisk (state g.S.Store c.read_accounts.new.conn) =
+    omega (arith, c.read_postings.ensures.survives.clean) in
+    let c0 : HasCleanDisk (state g.S.Store c.read_day.new.conn) = omega (arith, c.read_accounts.ensures.survives.clean)
+    in
     let f0 = c.read_day.ensures.same c0 trees file (λ e. let is = c.in_ok-day.was in cc) in
     let f1 = c.read_accounts.ensures.same c1 trees f0 (λ e. let is = c.in_ok-accounts.was in cc) in
     let f2 = c.read_postings.ensures.same c2 trees f1 (λ e. let is = c.in_ok-postings.was in cc) in
     let f3 = c.read_orders.ensures.same c3 trees f2 (λ e. let is = c.in_ok-orders.was in cc) in
-    c.read_marks.ensures.same c4 trees f3 (λ e. other (answered c.read_marks.result _ StoreFault c.from_residual-in_err-marks.result c.in_err-marks.was c.from_residual-in_err-marks.ensures.1 e))
+    c.read_marks.ensures.same c4 trees f3 (λ e. other (answered c.read_marks.result _ StoreFault
+    c.from_residual-in_err-marks.result c.in_err-marks.was c.from_residual-in_err-marks.ensures.1 e))
 
 pub returns-in_err-participants-clause-same : goal.returns-in_err-participants-clause-same
 returns-in_err-participants-clause-same g c clean trees file other =
     let c4 : HasCleanDisk (state g.S.Store c.read_marks.new.conn) = clean in
-    let c3 : HasCleanDisk (state g.S.Store c.read_orders.new.conn) = omega (arith, c.read_marks.ensures.survives.clean) in
-    let c2 : HasCleanDisk (state g.S.Store c.read_postings.new.conn) = omega (arith, c.read_orders.ensures.survives.clean) in
-    let c1 : HasCleanDisk (state g.S.Store c.read_accounts.new.conn) = omega (arith, c.read_postings.ensures.survives.clean) in
-    let c0 : HasCleanDisk (state g.S.Store c.read_day.new.conn) = omega (arith, c.read_accounts.ensures.survives.clean) in
+    let c3 : HasCleanDisk (state g.S.Store c.read_orders.new.conn) = omega (arith, c.read_marks.ensures.survives.clean)
+    in
+    let c2 : HasCleanDisk (state g.S.Store c.read_postings.new.conn) =
+    omega (arith, c.read_orders.ensures.survives.clean) in
+    let c1 : HasCleanDisk (state g.S.Store c.read_accounts.new.conn) =
+    omega (arith, c.read_postings.ensures.survives.clean) in
+    let c0 : HasCleanDisk (state g.S.Store c.read_day.new.conn) = omega (arith, c.read_accounts.ensures.survives.clean)
+    in
     let f0 = c.read_day.ensures.same c0 trees file (λ e. let is = c.in_ok-day.was in cc) in
     let f1 = c.read_accounts.ensures.same c1 trees f0 (λ e. let is = c.in_ok-accounts.was in cc) in
     let f2 = c.read_postings.ensures.same c2 trees f1 (λ e. let is = c.in_ok-postings.was in cc) in
@@ -132,10 +193,14 @@ returns-in_err-participants-clause-same g c clean trees file other =
 pub returns-clause-same : goal.returns-clause-same
 returns-clause-same g c clean trees file other =
     let c4 : HasCleanDisk (state g.S.Store c.read_marks.new.conn) = clean in
-    let c3 : HasCleanDisk (state g.S.Store c.read_orders.new.conn) = omega (arith, c.read_marks.ensures.survives.clean) in
-    let c2 : HasCleanDisk (state g.S.Store c.read_postings.new.conn) = omega (arith, c.read_orders.ensures.survives.clean) in
-    let c1 : HasCleanDisk (state g.S.Store c.read_accounts.new.conn) = omega (arith, c.read_postings.ensures.survives.clean) in
-    let c0 : HasCleanDisk (state g.S.Store c.read_day.new.conn) = omega (arith, c.read_accounts.ensures.survives.clean) in
+    let c3 : HasCleanDisk (state g.S.Store c.read_orders.new.conn) = omega (arith, c.read_marks.ensures.survives.clean)
+    in
+    let c2 : HasCleanDisk (state g.S.Store c.read_postings.new.conn) =
+    omega (arith, c.read_orders.ensures.survives.clean) in
+    let c1 : HasCleanDisk (state g.S.Store c.read_accounts.new.conn) =
+    omega (arith, c.read_postings.ensures.survives.clean) in
+    let c0 : HasCleanDisk (state g.S.Store c.read_day.new.conn) = omega (arith, c.read_accounts.ensures.survives.clean)
+    in
     let f0 = c.read_day.ensures.same c0 trees file (λ e. let is = c.in_ok-day.was in cc) in
     let f1 = c.read_accounts.ensures.same c1 trees f0 (λ e. let is = c.in_ok-accounts.was in cc) in
     let f2 = c.read_postings.ensures.same c2 trees f1 (λ e. let is = c.in_ok-postings.was in cc) in
@@ -146,10 +211,14 @@ returns-clause-same g c clean trees file other =
 pub returns-clause-is : goal.returns-clause-is
 returns-clause-is g c clean trees file =
     let c4 : HasCleanDisk (state g.S.Store c.read_marks.new.conn) = clean in
-    let c3 : HasCleanDisk (state g.S.Store c.read_orders.new.conn) = omega (arith, c.read_marks.ensures.survives.clean) in
-    let c2 : HasCleanDisk (state g.S.Store c.read_postings.new.conn) = omega (arith, c.read_orders.ensures.survives.clean) in
-    let c1 : HasCleanDisk (state g.S.Store c.read_accounts.new.conn) = omega (arith, c.read_postings.ensures.survives.clean) in
-    let c0 : HasCleanDisk (state g.S.Store c.read_day.new.conn) = omega (arith, c.read_accounts.ensures.survives.clean) in
+    let c3 : HasCleanDisk (state g.S.Store c.read_orders.new.conn) = omega (arith, c.read_marks.ensures.survives.clean)
+    in
+    let c2 : HasCleanDisk (state g.S.Store c.read_postings.new.conn) =
+    omega (arith, c.read_orders.ensures.survives.clean) in
+    let c1 : HasCleanDisk (state g.S.Store c.read_accounts.new.conn) =
+    omega (arith, c.read_postings.ensures.survives.clean) in
+    let c0 : HasCleanDisk (state g.S.Store c.read_day.new.conn) = omega (arith, c.read_accounts.ensures.survives.clean)
+    in
     let f0 = c.read_day.ensures.same c0 trees file (λ e. let is = c.in_ok-day.was in cc) in
     let f1 = c.read_accounts.ensures.same c1 trees f0 (λ e. let is = c.in_ok-accounts.was in cc) in
     let f2 = c.read_postings.ensures.same c2 trees f1 (λ e. let is = c.in_ok-postings.was in cc) in
@@ -159,45 +228,64 @@ returns-clause-is g c clean trees file =
     let v2 = c.in_ok-postings.ensures.is c2 trees f1 in
     let v3 = c.in_ok-orders.ensures.is c3 trees f2 in
     let v4 = c.in_ok-marks.ensures.is c4 trees f3 in
-    let participants = c.from_vec.ensures ∙ c.in_ok-participants.ensures ∙ ap (map (λ (a : Account). a.participant)) c.as_slice.ensures.value in
+    let participants = c.from_vec.ensures ∙ c.in_ok-participants.ensures
+    ∙ ap (map (λ (a : Account). a.participant)) c.as_slice.ensures.value in
     are_read_of trees _ _ participants c.from_vec-2.ensures c.from_vec-3.ensures c.from_vec-4.ensures v0 v1 v2 v3 v4
 
 pub returns-in_err-day-clause-wrong : goal.returns-in_err-day-clause-wrong
 returns-in_err-day-clause-wrong g c clean trees file e formed =
-    c.read_day.ensures.wrong clean trees file (same_fault c.read_day.result _ NotADeskFile c.from_residual.result c.in_err-day.was c.from_residual.ensures.1 e) formed.desk
+    c.read_day.ensures.wrong clean trees file (same_fault c.read_day.result _ NotADeskFile c.from_residual.result
+    c.in_err-day.was c.from_residual.ensures.1 e) formed.desk
 
 pub returns-in_err-accounts-clause-wrong : goal.returns-in_err-accounts-clause-wrong
 returns-in_err-accounts-clause-wrong g c clean trees file e formed =
-    let c0 : HasCleanDisk (state g.S.Store c.read_day.new.conn) = omega (arith, c.read_accounts.ensures.survives.clean) in
+    let c0 : HasCleanDisk (state g.S.Store c.read_day.new.conn) = omega (arith, c.read_accounts.ensures.survives.clean)
+    in
     let f0 = c.read_day.ensures.same c0 trees file (λ e. let is = c.in_ok-day.was in cc) in
-    c.read_accounts.ensures.wrong clean trees f0 (same_fault c.read_accounts.result _ NotADeskFile c.from_residual-in_err-accounts.result c.in_err-accounts.was c.from_residual-in_err-accounts.ensures.1 e) formed.participants
+    c.read_accounts.ensures.wrong clean trees f0 (same_fault c.read_accounts.result _ NotADeskFile
+    c.from_residual-in_err-accounts.result c.in_err-accounts.was c.from_residual-in_err-accounts.ensures.1 e)
+    formed.participants
 
 pub returns-in_err-postings-clause-wrong : goal.returns-in_err-postings-clause-wrong
 returns-in_err-postings-clause-wrong g c clean trees file e formed =
-    let c1 : HasCleanDisk (state g.S.Store c.read_accounts.new.conn) = omega (arith, c.read_postings.ensures.survives.clean) in
-    let c0 : HasCleanDisk (state g.S.Store c.read_day.new.conn) = omega (arith, c.read_accounts.ensures.survives.clean) in
+    let c1 : HasCleanDisk (state g.S.Store c.read_accounts.new.conn) =
+    omega (arith, c.read_postings.ensures.survives.clean) in
+    let c0 : HasCleanDisk (state g.S.Store c.read_day.new.conn) = omega (arith, c.read_accounts.ensures.survives.clean)
+    in
     let f0 = c.read_day.ensures.same c0 trees file (λ e. let is = c.in_ok-day.was in cc) in
     let f1 = c.read_accounts.ensures.same c1 trees f0 (λ e. let is = c.in_ok-accounts.was in cc) in
-    c.read_postings.ensures.wrong clean trees f1 (same_fault c.read_postings.result _ NotADeskFile c.from_residual-in_err-postings.result c.in_err-postings.was c.from_residual-in_err-postings.ensures.1 e) formed.postings
+    c.read_postings.ensures.wrong clean trees f1 (same_fault c.read_postings.result _ NotADeskFile
+    c.from_residual-in_err-postings.result c.in_err-postings.was c.from_residual-in_err-postings.ensures.1 e)
+    formed.postings
 
 pub returns-in_err-orders-clause-wrong : goal.returns-in_err-orders-clause-wrong
 returns-in_err-orders-clause-wrong g c clean trees file e formed =
-    let c2 : HasCleanDisk (state g.S.Store c.read_postings.new.conn) = omega (arith, c.read_orders.ensures.survives.clean) in
-    let c1 : HasCleanDisk (state g.S.Store c.read_accounts.new.conn) = omega (arith, c.read_postings.ensures.survives.clean) in
-    let c0 : HasCleanDisk (state g.S.Store c.read_day.new.conn) = omega (arith, c.read_accounts.ensures.survives.clean) in
+    let c2 : HasCleanDisk (state g.S.Store c.read_postings.new.conn) =
+    omega (arith, c.read_orders.ensures.survives.clean) in
+    let c1 : HasCleanDisk (state g.S.Store c.read_accounts.new.conn) =
+    omega (arith, c.read_postings.ensures.survives.clean) in
+    let c0 : HasCleanDisk (state g.S.Store c.read_day.new.conn) = omega (arith, c.read_accounts.ensures.survives.clean)
+    in
     let f0 = c.read_day.ensures.same c0 trees file (λ e. let is = c.in_ok-day.was in cc) in
     let f1 = c.read_accounts.ensures.same c1 trees f0 (λ e. let is = c.in_ok-accounts.was in cc) in
     let f2 = c.read_postings.ensures.same c2 trees f1 (λ e. let is = c.in_ok-postings.was in cc) in
-    c.read_orders.ensures.wrong clean trees f2 (same_fault c.read_orders.result _ NotADeskFile c.from_residual-in_err-orders.result c.in_err-orders.was c.from_residual-in_err-orders.ensures.1 e) formed.payments
+    c.read_orders.ensures.wrong clean trees f2 (same_fault c.read_orders.result _ NotADeskFile
+    c.from_residual-in_err-orders.result c.in_err-orders.was c.from_residual-in_err-orders.ensures.1 e)
+    formed.payments
 
 pub returns-in_err-marks-clause-wrong : goal.returns-in_err-marks-clause-wrong
 returns-in_err-marks-clause-wrong g c clean trees file e formed =
-    let c3 : HasCleanDisk (state g.S.Store c.read_orders.new.conn) = omega (arith, c.read_marks.ensures.survives.clean) in
-    let c2 : HasCleanDisk (state g.S.Store c.read_postings.new.conn) = omega (arith, c.read_orders.ensures.survives.clean) in
-    let c1 : HasCleanDisk (state g.S.Store c.read_accounts.new.conn) = omega (arith, c.read_postings.ensures.survives.clean) in
-    let c0 : HasCleanDisk (state g.S.Store c.read_day.new.conn) = omega (arith, c.read_accounts.ensures.survives.clean) in
+    let c3 : HasCleanDisk (state g.S.Store c.read_orders.new.conn) = omega (arith, c.read_marks.ensures.survives.clean)
+    in
+    let c2 : HasCleanDisk (state g.S.Store c.read_postings.new.conn) =
+    omega (arith, c.read_orders.ensures.survives.clean) in
+    let c1 : HasCleanDisk (state g.S.Store c.read_accounts.new.conn) =
+    omega (arith, c.read_postings.ensures.survives.clean) in
+    let c0 : HasCleanDisk (state g.S.Store c.read_day.new.conn) = omega (arith, c.read_accounts.ensures.survives.clean)
+    in
     let f0 = c.read_day.ensures.same c0 trees file (λ e. let is = c.in_ok-day.was in cc) in
     let f1 = c.read_accounts.ensures.same c1 trees f0 (λ e. let is = c.in_ok-accounts.was in cc) in
     let f2 = c.read_postings.ensures.same c2 trees f1 (λ e. let is = c.in_ok-postings.was in cc) in
     let f3 = c.read_orders.ensures.same c3 trees f2 (λ e. let is = c.in_ok-orders.was in cc) in
-    c.read_marks.ensures.wrong clean trees f3 (same_fault c.read_marks.result _ NotADeskFile c.from_residual-in_err-marks.result c.in_err-marks.was c.from_residual-in_err-marks.ensures.1 e) formed.marks
+    c.read_marks.ensures.wrong clean trees f3 (same_fault c.read_marks.result _ NotADeskFile
+    c.from_residual-in_err-marks.result c.in_err-marks.was c.from_residual-in_err-marks.ensures.1 e) formed.marks

@@ -8,36 +8,45 @@ use Rattle.rtgs_tables.proofs.reading.read_day.Goals as goal
 
 pub returns-in-Ok-clause-given : goal.returns-in-Ok-clause-given
 returns-in-Ok-clause-given g c clean accounts book held =
-    let is = c.one_day.ensures.given book.day held.2.fits.day (c.as_slice.ensures.value ∙ c.in-Ok.ensures.rows clean accounts book held) in
+    let is = c.one_day.ensures.given book.day held.2.fits.day
+    (c.as_slice.ensures.value ∙ c.in-Ok.ensures.rows clean accounts book held) in
     rw is refl
 
 pub returns-in-Ok-clause-right : goal.returns-in-Ok-clause-right
 returns-in-Ok-clause-right g c clean accounts book held e =
-    let is = c.one_day.ensures.given book.day held.2.fits.day (c.as_slice.ensures.value ∙ c.in-Ok.ensures.rows clean accounts book held) in
+    let is = c.one_day.ensures.given book.day held.2.fits.day
+    (c.as_slice.ensures.value ∙ c.in-Ok.ensures.rows clean accounts book held) in
     absurd (let clash = sym is ∙ e in cc)
 
 pub returns-in-Ok-clause-is : goal.returns-in-Ok-clause-is
 returns-in-Ok-clause-is g c clean trees file =
     let places = 0 ∷ 2 ∷ 3 ∷ 4 ∷ [] in
-    let seen = subst (IsPermutation (map (picked places) (trees 0))) (sym c.as_slice.ensures.value) (c.in-Ok.ensures.raw clean trees file) in
+    let seen = subst (IsPermutation (map (picked places) (trees 0))) (sym c.as_slice.ensures.value)
+    (c.in-Ok.ensures.raw clean trees file) in
     day_shown places (trees 0) _ c.one_day.result seen c.one_day.ensures.is
 
 pub returns-in-Ok-clause-wrong : goal.returns-in-Ok-clause-wrong
 returns-in-Ok-clause-wrong g c clean trees file e =
     let places = 0 ∷ 2 ∷ 3 ∷ 4 ∷ [] in
-    let seen = subst (IsPermutation (map (picked places) (trees 0))) (sym c.as_slice.ensures.value) (c.in-Ok.ensures.raw clean trees file) in
+    let seen = subst (IsPermutation (map (picked places) (trees 0))) (sym c.as_slice.ensures.value)
+    (c.in-Ok.ensures.raw clean trees file) in
     no_day places (trees 0) _ seen (not_read c.one_day.result _ _ c.one_day.ensures.wrong e)
 
 pub returns-in-Err-clause-wrong : goal.returns-in-Err-clause-wrong
-returns-in-Err-clause-wrong g c clean trees file e = absurd (not_foreign c.fault_of.result (c.fault_of.ensures.right (c.in-Err.ensures.refused (c.fault_of.ensures.honest clean) trees file)) e)
+returns-in-Err-clause-wrong g c clean trees file e = absurd (not_foreign c.fault_of.result
+    (c.fault_of.ensures.right (c.in-Err.ensures.refused (c.fault_of.ensures.honest clean) trees file)) e)
 
 pub returns-in-Ok-clause-same : goal.returns-in-Ok-clause-same
 returns-in-Ok-clause-same g c clean trees file _ = c.in-Ok.ensures.kept clean trees file
 
 pub returns-in-Err-clause-right : goal.returns-in-Err-clause-right
-returns-in-Err-clause-right g c clean accounts book held = not_foreign c.fault_of.result (c.fault_of.ensures.right (c.in-Err.ensures.refused (c.fault_of.ensures.honest clean) _ (file_of held.0 (state g.S.Store c.args.conn.now) held.1)))
+returns-in-Err-clause-right g c clean accounts book held = not_foreign c.fault_of.result
+    (c.fault_of.ensures.right (c.in-Err.ensures.refused (c.fault_of.ensures.honest clean) _
+    (file_of held.0 (state g.S.Store c.args.conn.now) held.1)))
 
 pub returns-in-Err-clause-same : goal.returns-in-Err-clause-same
 returns-in-Err-clause-same g c clean trees file =
     let was = c.fault_of.ensures.honest clean in
-    file_after trees (state g.S.Store c.desk_rows.new.conn) (state g.S.Store c.fault_of.new.conn) c.fault_of.result (c.in-Err.ensures.intact was trees file) (c.fault_of.ensures.right (c.in-Err.ensures.refused was trees file)) (λ memory. c.fault_of.ensures.same memory clean)
+    file_after trees (state g.S.Store c.desk_rows.new.conn) (state g.S.Store c.fault_of.new.conn) c.fault_of.result
+    (c.in-Err.ensures.intact was trees file) (c.fault_of.ensures.right (c.in-Err.ensures.refused was trees file))
+    (λ memory. c.fault_of.ensures.same memory clean)

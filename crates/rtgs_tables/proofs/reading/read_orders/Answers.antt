@@ -12,34 +12,44 @@ use Rattle.rtgs_tables.proofs.reading.read_orders.Goals as goal
 
 pub returns-in-Ok-clause-given : goal.returns-in-Ok-clause-given
 returns-in-Ok-clause-given g c clean accounts book held =
-    c.decode.ensures.given book.orders held.2.fits.orders (rows_same counted_of_order shown_order order_same _ _ (c.as_slice.ensures.value ∙ c.in-Ok.ensures.rows clean accounts book held))
+    c.decode.ensures.given book.orders held.2.fits.orders (rows_same counted_of_order shown_order order_same _ _
+    (c.as_slice.ensures.value ∙ c.in-Ok.ensures.rows clean accounts book held))
 
 pub returns-in-Ok-clause-right : goal.returns-in-Ok-clause-right
 returns-in-Ok-clause-right g c clean accounts book held e =
-    c.decode.ensures.wrong e (are_formed FitsOrder counted_of_order shown_order book.orders held.2.fits.orders _ (rows_same counted_of_order shown_order order_same _ _ (c.as_slice.ensures.value ∙ c.in-Ok.ensures.rows clean accounts book held)))
+    c.decode.ensures.wrong e (are_formed FitsOrder counted_of_order shown_order book.orders held.2.fits.orders _
+    (rows_same counted_of_order shown_order order_same _ _
+    (c.as_slice.ensures.value ∙ c.in-Ok.ensures.rows clean accounts book held)))
 
 pub returns-in-Ok-clause-is : goal.returns-in-Ok-clause-is
 returns-in-Ok-clause-is g c clean trees file =
     let places = 0 ∷ 2 ∷ 3 ∷ 4 ∷ 5 ∷ 6 ∷ 7 ∷ 8 ∷ [] in
-    let seen = subst (IsPermutation (map (picked places) (trees 6))) (sym c.as_slice.ensures.value) (c.in-Ok.ensures.raw clean trees file) in
+    let seen = subst (IsPermutation (map (picked places) (trees 6))) (sym c.as_slice.ensures.value)
+    (c.in-Ok.ensures.raw clean trees file) in
     read_as FitsOrder counted_of_order shown_order places (trees 6) _ c.decode.result seen c.decode.ensures.is
 
 pub returns-in-Ok-clause-wrong : goal.returns-in-Ok-clause-wrong
 returns-in-Ok-clause-wrong g c clean trees file e =
     let places = 0 ∷ 2 ∷ 3 ∷ 4 ∷ 5 ∷ 6 ∷ 7 ∷ 8 ∷ [] in
-    let seen = subst (IsPermutation (map (picked places) (trees 6))) (sym c.as_slice.ensures.value) (c.in-Ok.ensures.raw clean trees file) in
+    let seen = subst (IsPermutation (map (picked places) (trees 6))) (sym c.as_slice.ensures.value)
+    (c.in-Ok.ensures.raw clean trees file) in
     misread FitsOrder counted_of_order shown_order places (trees 6) _ seen (c.decode.ensures.wrong e)
 
 pub returns-in-Err-clause-wrong : goal.returns-in-Err-clause-wrong
-returns-in-Err-clause-wrong g c clean trees file e = absurd (not_foreign c.fault_of.result (c.fault_of.ensures.right (c.in-Err.ensures.refused (c.fault_of.ensures.honest clean) trees file)) e)
+returns-in-Err-clause-wrong g c clean trees file e = absurd (not_foreign c.fault_of.result
+    (c.fault_of.ensures.right (c.in-Err.ensures.refused (c.fault_of.ensures.honest clean) trees file)) e)
 
 pub returns-in-Ok-clause-same : goal.returns-in-Ok-clause-same
 returns-in-Ok-clause-same g c clean trees file _ = c.in-Ok.ensures.kept clean trees file
 
 pub returns-in-Err-clause-right : goal.returns-in-Err-clause-right
-returns-in-Err-clause-right g c clean accounts book held = not_foreign c.fault_of.result (c.fault_of.ensures.right (c.in-Err.ensures.refused (c.fault_of.ensures.honest clean) _ (file_of held.0 (state g.S.Store c.args.conn.now) held.1)))
+returns-in-Err-clause-right g c clean accounts book held = not_foreign c.fault_of.result
+    (c.fault_of.ensures.right (c.in-Err.ensures.refused (c.fault_of.ensures.honest clean) _
+    (file_of held.0 (state g.S.Store c.args.conn.now) held.1)))
 
 pub returns-in-Err-clause-same : goal.returns-in-Err-clause-same
 returns-in-Err-clause-same g c clean trees file =
     let was = c.fault_of.ensures.honest clean in
-    file_after trees (state g.S.Store c.payment_rows.new.conn) (state g.S.Store c.fault_of.new.conn) c.fault_of.result (c.in-Err.ensures.intact was trees file) (c.fault_of.ensures.right (c.in-Err.ensures.refused was trees file)) (λ memory. c.fault_of.ensures.same memory clean)
+    file_after trees (state g.S.Store c.payment_rows.new.conn) (state g.S.Store c.fault_of.new.conn) c.fault_of.result
+    (c.in-Err.ensures.intact was trees file) (c.fault_of.ensures.right (c.in-Err.ensures.refused was trees file))
+    (λ memory. c.fault_of.ensures.same memory clean)

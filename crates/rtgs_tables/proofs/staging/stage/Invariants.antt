@@ -13,5 +13,6 @@ invariant-loop-row g l =
       same_reference : l.tx.conn.ghost_name ≡ l.fn.tx.conn.ghost_name;
       survives : Survives old now (λ _. ⊥);
       kept : HasCleanDisk now → KeepsCommit old now;
-      made : HasCleanDisk now → (was : Database) (content : Content) → Stands was content old → AreInOrder content l.rows → Stands was (with_changes content (take l.row-index l.rows)) now;
+      made : HasCleanDisk now → (was : Database) (content : Content) → Stands was content old
+          → AreInOrder content l.rows → Stands was (with_changes content (take l.row-index l.rows)) now;
     }

@@ -13,7 +13,8 @@ use Rattle.rtgs_book.proofs.rules.balances.add_orders.Given as goal
 abbrev pub invariant-loop-order : goal.invariant-loop-order
 invariant-loop-order l = record {
   sums : (codes : List (List ℕ)) (sum_of : List ℕ → ℤ) → Totals (slice_cmp nat_cmp) codes sum_of l.fn.totals →
-      Totals (slice_cmp nat_cmp) codes (λ code. sum_of code +ℤ sum_first is_settled (gain code) l.orders l.order-index) l.totals;
+      Totals (slice_cmp nat_cmp) codes (λ code. sum_of code +ℤ sum_first is_settled (gain code) l.orders l.order-index)
+      l.totals;
   within : AreWithin (slice_cmp nat_cmp) (10 ^ 27 + l.order-index * (2 * Amount.MAX)) l.totals;
   amounts : AllByRecursion (λ (o : Order). IsAmount o.amount) (take l.order-index l.orders);
 }

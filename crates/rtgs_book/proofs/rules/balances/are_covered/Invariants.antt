@@ -9,7 +9,9 @@ use Rattle.rtgs_book.proofs.rules.balances.are_covered.Given as goal
 
 abbrev pub invariant-loop-participant : goal.invariant-loop-participant
 invariant-loop-participant l = record {
-  covered : (balance_of : List ℕ → ℤ) → Totals (slice_cmp nat_cmp) (map (λ (p : Participant). p.code) l.participants) balance_of l.balances →
-      AllByRecursion (λ (p : Participant). floor_at l.phase p.credit ≤ℤ balance_of p.code) (take l.participant-index l.participants);
+  covered : (balance_of : List ℕ → ℤ) → Totals (slice_cmp nat_cmp) (map (λ (p : Participant). p.code) l.participants)
+      balance_of l.balances →
+      AllByRecursion (λ (p : Participant). floor_at l.phase p.credit ≤ℤ balance_of p.code)
+      (take l.participant-index l.participants);
   credits : AllByRecursion (λ (p : Participant). IsCredit p.credit) (take l.participant-index l.participants);
 }

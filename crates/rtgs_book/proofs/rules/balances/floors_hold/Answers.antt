@@ -12,7 +12,9 @@ pub returns-clause-floors : goal.returns-clause-floors
 unfolding accounts
 returns-clause-floors c =
     let same = c.as_slice-participants.ensures in
-    let sums = subst (λ (ps : List Participant). Totals (slice_cmp nat_cmp) (map (λ (p : Participant). p.code) ps) (balance c.args.book.now) c.in_ok-balances.balances) (sym same) c.in_ok-balances.ensures.sums in
+    let sums = subst (λ (ps : List Participant). Totals (slice_cmp nat_cmp) (map (λ (p : Participant). p.code) ps)
+    (balance c.args.book.now) c.in_ok-balances.balances) (sym same) c.in_ok-balances.ensures.sums in
     floors_of c.args.book.now c.requires.codes c.are_covered.result
-    (subst (λ (ps : List Participant). (c.are_covered.result ≡ true) ↔ AllByRecursion (λ (p : Participant). floor_at c.args.book.now.day.phase p.credit ≤ℤ balance c.args.book.now p.code) ps) same
+    (subst (λ (ps : List Participant). (c.are_covered.result ≡ true) ↔ AllByRecursion
+    (λ (p : Participant). floor_at c.args.book.now.day.phase p.credit ≤ℤ balance c.args.book.now p.code) ps) same
     (c.are_covered.ensures.covered (balance c.args.book.now) sums))

@@ -23,7 +23,8 @@ add_under-requires-in-loop-order-clause-totals c = λ key total e.
     (omega (arith, ints), omega (arith, ints))
 
 -- the amount, as a value of 128 bits
-amount_is : (amount cents : ℕ) (a : ℤ) → a ≡ pos cents → cents ≡ amount → amount ≤ Amount.MAX → to_z w128 (of_z w128 a) ≡ pos amount
+amount_is : (amount cents : ℕ) (a : ℤ) → a ≡ pos cents → cents ≡ amount → amount ≤ Amount.MAX
+    → to_z w128 (of_z w128 a) ≡ pos amount
 amount_is amount cents a e f few =
     let same : a ≡ pos amount = e ∙ ap pos f in
     wide a (omega (arith, ints), omega (arith, ints)) ∙ same
@@ -35,23 +36,39 @@ pub loop-order-preserved : goal.loop-order-preserved
 loop-order-preserved c = record {
   counts = λ numbers count_of holds.
       totals_same nat_cmp numbers
-      (λ mark. count_of mark +ℤ sum_first (λ (o : Order). is_state_under mark o.state) (λ o. pos 1) c.args.orders.now c.loop-order.order-index +ℤ cond (is_state_under mark c.order-item.result.state) (pos 1) (pos 0))
-      (λ mark. count_of mark +ℤ sum_first (λ (o : Order). is_state_under mark o.state) (λ o. pos 1) c.args.orders.now (c.loop-order.order-index + 1)) c.add_under.new.totals
-      (λ mark. in_order _ _ _ refl _ (sum_more (λ (o : Order). is_state_under mark o.state) (λ o. pos 1) c.args.orders.now c.loop-order.order-index c.order-item.result c.loop-order-test.true c.order-item.is) (count_of mark))
-      (c.add_under.ensures.sums numbers (λ mark. count_of mark +ℤ sum_first (λ (o : Order). is_state_under mark o.state) (λ o. pos 1) c.args.orders.now c.loop-order.order-index) (c.loop-order.invariant.counts numbers count_of holds));
+      (λ mark. count_of mark +ℤ sum_first (λ (o : Order). is_state_under mark o.state) (λ o. pos 1) c.args.orders.now
+      c.loop-order.order-index +ℤ cond (is_state_under mark c.order-item.result.state) (pos 1) (pos 0))
+      (λ mark. count_of mark +ℤ sum_first (λ (o : Order). is_state_under mark o.state) (λ o. pos 1) c.args.orders.now
+      (c.loop-order.order-index + 1)) c.add_under.new.totals
+      (λ mark. in_order _ _ _ refl _ (sum_more (λ (o : Order). is_state_under mark o.state) (λ o. pos 1)
+      c.args.orders.now c.loop-order.order-index c.order-item.result c.loop-order-test.true c.order-item.is)
+      (count_of mark))
+      (c.add_under.ensures.sums numbers (λ mark. count_of mark +ℤ sum_first (λ (o : Order). is_state_under mark o.state)
+      (λ o. pos 1) c.args.orders.now c.loop-order.order-index)
+      (c.loop-order.invariant.counts numbers count_of holds));
   values = λ numbers value_of holds.
-      let is = amount_is c.order-item.result.amount c.cents.result c.from.result c.from.ensures c.cents.ensures.value c.cents.ensures.in_range in
+      let is = amount_is c.order-item.result.amount c.cents.result c.from.result c.from.ensures c.cents.ensures.value
+      c.cents.ensures.in_range in
       totals_same nat_cmp numbers
-      (λ mark. value_of mark +ℤ sum_first (λ (o : Order). is_state_under mark o.state) (λ (o : Order). pos o.amount) c.args.orders.now c.loop-order.order-index +ℤ cond (is_state_under mark c.order-item.result.state) (to_z w128 (of_z w128 c.from.result)) (pos 0))
-      (λ mark. value_of mark +ℤ sum_first (λ (o : Order). is_state_under mark o.state) (λ (o : Order). pos o.amount) c.args.orders.now (c.loop-order.order-index + 1)) c.add_under-in-loop-order.new.totals
-      (λ mark. in_order _ _ _ (ap (λ z. cond (is_state_under mark c.order-item.result.state) z (pos 0)) is) _ (sum_more (λ (o : Order). is_state_under mark o.state) (λ (o : Order). pos o.amount) c.args.orders.now c.loop-order.order-index c.order-item.result c.loop-order-test.true c.order-item.is) (value_of mark))
-      (c.add_under-in-loop-order.ensures.sums numbers (λ mark. value_of mark +ℤ sum_first (λ (o : Order). is_state_under mark o.state) (λ (o : Order). pos o.amount) c.args.orders.now c.loop-order.order-index) (c.loop-order.invariant.values numbers value_of holds));
+      (λ mark. value_of mark +ℤ sum_first (λ (o : Order). is_state_under mark o.state) (λ (o : Order). pos o.amount)
+      c.args.orders.now c.loop-order.order-index +ℤ cond (is_state_under mark c.order-item.result.state)
+      (to_z w128 (of_z w128 c.from.result)) (pos 0))
+      (λ mark. value_of mark +ℤ sum_first (λ (o : Order). is_state_under mark o.state) (λ (o : Order). pos o.amount)
+      c.args.orders.now (c.loop-order.order-index + 1)) c.add_under-in-loop-order.new.totals
+      (λ mark. in_order _ _ _ (ap (λ z. cond (is_state_under mark c.order-item.result.state) z (pos 0)) is) _
+      (sum_more (λ (o : Order). is_state_under mark o.state) (λ (o : Order). pos o.amount) c.args.orders.now
+      c.loop-order.order-index c.order-item.result c.loop-order-test.true c.order-item.is) (value_of mark))
+      (c.add_under-in-loop-order.ensures.sums numbers (λ mark. value_of mark +ℤ sum_first
+      (λ (o : Order). is_state_under mark o.state) (λ (o : Order). pos o.amount) c.args.orders.now
+      c.loop-order.order-index) (c.loop-order.invariant.values numbers value_of holds));
   few = λ key total e.
-      let r = c.add_under.ensures.within (c.loop-order.order-index * Amount.MAX) c.loop-order.invariant.few key total e in
+      let r = c.add_under.ensures.within (c.loop-order.order-index * Amount.MAX) c.loop-order.invariant.few key total e
+      in
       let low = r.0 in let high = r.1 in
       (omega (arith, ints), omega (arith, ints));
   small = λ key total e.
-      let r = c.add_under-in-loop-order.ensures.within (c.loop-order.order-index * Amount.MAX) c.loop-order.invariant.small key total e in
+      let r = c.add_under-in-loop-order.ensures.within (c.loop-order.order-index * Amount.MAX)
+      c.loop-order.invariant.small key total e in
       let low = r.0 in let high = r.1 in
       (omega (arith, ints), omega (arith, ints));
 }
@@ -59,11 +76,13 @@ loop-order-preserved c = record {
 pub returns-clause-counts : goal.returns-clause-counts
 returns-clause-counts c = λ numbers count_of holds.
     totals_same nat_cmp numbers _ _ c.loop-order.counts
-    (λ mark. ap (λ z. count_of mark +ℤ z) (sum_all (λ (o : Order). is_state_under mark o.state) (λ o. pos 1) c.args.orders.now c.loop-order.order-index c.loop-order-test.false))
+    (λ mark. ap (λ z. count_of mark +ℤ z) (sum_all (λ (o : Order). is_state_under mark o.state) (λ o. pos 1)
+    c.args.orders.now c.loop-order.order-index c.loop-order-test.false))
     (c.loop-order.invariant.counts numbers count_of holds)
 
 pub returns-clause-values : goal.returns-clause-values
 returns-clause-values c = λ numbers value_of holds.
     totals_same nat_cmp numbers _ _ c.loop-order.values
-    (λ mark. ap (λ z. value_of mark +ℤ z) (sum_all (λ (o : Order). is_state_under mark o.state) (λ (o : Order). pos o.amount) c.args.orders.now c.loop-order.order-index c.loop-order-test.false))
+    (λ mark. ap (λ z. value_of mark +ℤ z) (sum_all (λ (o : Order). is_state_under mark o.state)
+    (λ (o : Order). pos o.amount) c.args.orders.now c.loop-order.order-index c.loop-order-test.false))
     (c.loop-order.invariant.values numbers value_of holds)

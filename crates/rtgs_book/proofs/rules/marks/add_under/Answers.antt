@@ -18,15 +18,19 @@ add-requires c = λ total e.
 
 pub returns-in-Settled-clause-sums : goal.returns-in-Settled-clause-sums
 returns-in-Settled-clause-sums c = λ numbers sum_of holds.
-    marked_added numbers sum_of c.args.totals.now c.add.new.totals c.args.state c.in-Settled.mark c.args.by _ c.in-Settled.is (by_is c.args.by c.requires.by) holds c.add.ensures
+    marked_added numbers sum_of c.args.totals.now c.add.new.totals c.args.state c.in-Settled.mark c.args.by _
+    c.in-Settled.is (by_is c.args.by c.requires.by) holds c.add.ensures
 
 pub returns-in-Settled-clause-within : goal.returns-in-Settled-clause-within
 returns-in-Settled-clause-within c = λ bound holds.
     let is = by_is c.args.by c.requires.by in
-    within_added nat_cmp bound Amount.MAX c.args.totals.now c.add.new.totals c.in-Settled.mark c.args.by c.requires.by holds (rw is at c.add.ensures)
+    within_added nat_cmp bound Amount.MAX c.args.totals.now c.add.new.totals c.in-Settled.mark c.args.by c.requires.by
+    holds (rw is at c.add.ensures)
 
 pub returns-in_default : goal.returns-in_default
 returns-in_default c = record {
-  sums = λ numbers sum_of holds. unmarked numbers sum_of c.args.totals.now c.args.state c.args.by c.in_default.not-Settled holds;
-  within = λ bound holds key total e. let r = holds key total e in let low = r.0 in let high = r.1 in (omega (arith, ints), omega (arith, ints));
+  sums = λ numbers sum_of holds. unmarked numbers sum_of c.args.totals.now c.args.state c.args.by
+      c.in_default.not-Settled holds;
+  within = λ bound holds key total e. let r = holds key total e in let low = r.0 in let high = r.1
+      in (omega (arith, ints), omega (arith, ints));
 }

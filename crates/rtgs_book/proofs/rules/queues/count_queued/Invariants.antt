@@ -10,6 +10,7 @@ use Rattle.rtgs_book.proofs.rules.queues.count_queued.Given as goal
 abbrev pub invariant-loop-order : goal.invariant-loop-order
 invariant-loop-order l = record {
   sums : (codes : List (List ℕ)) (length_of : List ℕ → ℤ) → Totals (slice_cmp nat_cmp) codes length_of l.fn.lengths →
-      Totals (slice_cmp nat_cmp) codes (λ code. length_of code +ℤ sum_first (λ (o : Order). is_queued o && bytes_eq o.sender code) (λ o. pos 1) l.orders l.order-index) l.lengths;
+      Totals (slice_cmp nat_cmp) codes (λ code. length_of code +ℤ sum_first
+      (λ (o : Order). is_queued o && bytes_eq o.sender code) (λ o. pos 1) l.orders l.order-index) l.lengths;
   within : AreWithin (slice_cmp nat_cmp) l.order-index l.lengths;
 }

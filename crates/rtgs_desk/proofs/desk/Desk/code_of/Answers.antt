@@ -3,7 +3,8 @@ use Rattle.rtgs_desk.proofs.HoldingLemmas.{seen_in_memory, remembered, works_hel
 use Rattle.rtgs_desk.proofs.desk.Desk.code_of.Goals as goal
 
 pub returns-then-self-clause-told : goal.returns-then-self-clause-told
-returns-then-self-clause-told g c book held = let works = works_held g.K.Keeper c.args.self.now book held in search rules
+returns-then-self-clause-told g c book held = let works = works_held g.K.Keeper c.args.self.now book held
+    in search rules
 
 pub returns-clause-told : goal.returns-clause-told
 returns-clause-told g c book held = rw (← seen_in_memory g.K.Keeper c.args.self.now book held) (search rules)

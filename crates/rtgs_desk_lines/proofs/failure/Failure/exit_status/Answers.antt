@@ -4,4 +4,5 @@ use Rattle.rtgs_desk_lines.proofs.Statuses.{failure_ends}
 use Rattle.rtgs_desk_lines.proofs.failure.Failure.exit_status.Goals as goal
 
 pub unwrap-requires : goal.unwrap-requires
-unwrap-requires c = subst (λ status. IsSome status) (sym (c.exit_status.ensures.status ∙ ap (λ kind. (entry_of kind).exit_status) c.kind.ensures)) (failure_ends c.args.self.now)
+unwrap-requires c = subst (λ status. IsSome status) (sym (c.exit_status.ensures.status
+    ∙ ap (λ kind. (entry_of kind).exit_status) c.kind.ensures)) (failure_ends c.args.self.now)

@@ -7,4 +7,11 @@ returns-in_default c =
     let queues = c.args.self.now in
     let index = c.loop-index.index in
     let past = c.in_default.ensures in
-    omega (arith, past, ap length c.queue.ensures, c.loop-index.invariant, payments_below_more index queues, payments_below-le (index + 1) queues (omega arith))
+    omega (
+      arith,
+      past,
+      ap length c.queue.ensures,
+      c.loop-index.invariant,
+      payments_below_more index queues,
+      payments_below-le (index + 1) queues (omega arith),
+    )

@@ -17,8 +17,14 @@ returns-in-Err-of_key-clause-plans c =
 
 pub returns-clause-plans : goal.returns-clause-plans
 returns-clause-plans c =
-    let plan : Plan = record { admission = c.in-Ok-of_key.admission; parameter = c.in-Ok.head.parameter; posts = c.in-Ok.head.posts; length = c.in-Ok.head.length } in
-    planned c.args.operator.now c.args.region.now c.in-Ok.head plan c.in-Ok.ensures c.in-Ok-of_key.ensures refl refl refl
+    let plan : Plan = record {
+      admission = c.in-Ok-of_key.admission;
+      parameter = c.in-Ok.head.parameter;
+      posts = c.in-Ok.head.posts;
+      length = c.in-Ok.head.length;
+    } in
+    planned c.args.operator.now c.args.region.now c.in-Ok.head plan c.in-Ok.ensures c.in-Ok-of_key.ensures refl refl
+    refl
 
 pub returns-clause-looks_up : goal.returns-clause-looks_up
 returns-clause-looks_up c =

@@ -8,5 +8,6 @@ use Rattle.rtgs_keeper.proofs.memory_keeper.MemoryKeeper.apply_all.Given as goal
 abbrev pub invariant-loop-row : goal.invariant-loop-row
 invariant-loop-row l = record {
   room : HasRoom l.self (drop l.row-index l.rows);
-  remains : IsSound (book_of l.initial.self) → IsSound (changed (book_of l.initial.self) l.rows) → Remains (book_of l.self) (drop l.row-index l.rows) (changed (book_of l.initial.self) l.rows);
+  remains : IsSound (book_of l.initial.self) → IsSound (changed (book_of l.initial.self) l.rows)
+      → Remains (book_of l.self) (drop l.row-index l.rows) (changed (book_of l.initial.self) l.rows);
 }

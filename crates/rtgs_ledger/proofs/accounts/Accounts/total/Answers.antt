@@ -8,7 +8,8 @@ use Rattle.rtgs_ledger.proofs.accounts.Accounts.total.Goals as goal
 pub loop-account-preserved : goal.loop-account-preserved
 loop-account-preserved c =
     let items = c.deref-account-items.result.now in
-    let more : drop c.loop-account.account-index items ≡ _ = drop_more items c.loop-account.account-index c.account-item.result c.loop-account-test.true in
+    let more : drop c.loop-account.account-index items ≡ _ =
+    drop_more items c.loop-account.account-index c.account-item.result c.loop-account-test.true in
     let sum = ap (int_sum_by balance_of) more in
     let value = ap balance_of c.account-item.is in
     record {

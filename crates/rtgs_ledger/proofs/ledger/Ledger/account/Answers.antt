@@ -11,11 +11,16 @@ use Rattle.rtgs_ledger.proofs.ledger.Ledger.account.Goals as goal
 pub returns-clause-participant : goal.returns-clause-participant
 unfolding lookup.participant_of
 returns-clause-participant c =
-    rw (← c.self.view_is) (ap (option_map participant_of) c.get.ensures ∙ sym (find-participants c.args.code.now c.self.inside.records.accounts.accounts))
+    rw (← c.self.view_is) (ap (option_map participant_of) c.get.ensures
+    ∙ sym (find-participants c.args.code.now c.self.inside.records.accounts.accounts))
 
 pub returns-clause-balance : goal.returns-clause-balance
-returns-clause-balance c = rw (← c.self.view_is, c.get.ensures) (by (find (is_of c.args.code.now) c.self.inside.records.accounts.accounts) (λ a e. balance_at c.self.inside.records c.self.invariant c.args.code.now a e))
+returns-clause-balance c = rw (← c.self.view_is, c.get.ensures)
+    (by (find (is_of c.args.code.now) c.self.inside.records.accounts.accounts)
+    (λ a e. balance_at c.self.inside.records c.self.invariant c.args.code.now a e))
   where
-    by : (found : Option Account) → ((a : Account) → found ≡ Some a → a.balance ≡ balance (book_of c.self.inside.records) c.args.code.now) → IfSome found (λ a. a.balance ≡ balance (book_of c.self.inside.records) c.args.code.now)
+    by : (found : Option Account) → ((a : Account) → found ≡ Some a
+        → a.balance ≡ balance (book_of c.self.inside.records) c.args.code.now)
+        → IfSome found (λ a. a.balance ≡ balance (book_of c.self.inside.records) c.args.code.now)
     by None h = tt
     by (Some a) h = h a refl

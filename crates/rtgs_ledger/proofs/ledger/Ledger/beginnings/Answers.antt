@@ -1,4 +1,5 @@
-use Rattle.std.proofs.Common.{◌≡◌, ◌∙◌, ◌++◌, ◌<◌, ◌≤◌, ap, sym, subst, take, length, get_or, slice_index, length-append, arith}
+use Rattle.std.proofs.Common.{◌≡◌, ◌∙◌, ◌++◌, ◌<◌, ◌≤◌, ap, sym, subst, take, length, get_or, slice_index}
+use Rattle.std.proofs.Common.{length-append, arith}
 use Rattle.std.proofs.lemmas.List.{drop_all, length-take}
 use Rattle.std.specs.List.{flat_map}
 use Rattle.rtgs_book.specs.declared.book.Book.{Book}
@@ -37,17 +38,26 @@ loop-index-preserved c =
     let here : a ≡ get_or r.accounts.accounts i a = c.account-item.is ∙ ap (λ ys. get_or ys i a) items in
     let code : code_at (book_of r) i ≡ code_of a = code_at_is r i a less ∙ ap code_of (sym here) in
     let chosen : by_code (book_of r) lengths (code_of a) ≡ lengths i =
-    ap (by_code (book_of r) lengths) (sym code) ∙ c.choices_agree.ensures.lengths (book_of r) lengths i c.self.invariant.sound (let count = count_is r in omega (arith, less)) in
-    let taken : by_code content lengths (code_of a) ≡ lengths i = ap (λ (b : Book). by_code b lengths (code_of a)) (sym book) ∙ chosen in
+    ap (by_code (book_of r) lengths) (sym code) ∙ c.choices_agree.ensures.lengths (book_of r) lengths i
+    c.self.invariant.sound (let count = count_is r in omega (arith, less)) in
+    let taken : by_code content lengths (code_of a) ≡ lengths i =
+    ap (λ (b : Book). by_code b lengths (code_of a)) (sym book) ∙ chosen in
     let added : c.deref.result.now ≡ beginning_of content (by_code content lengths) a =
-    c.deref.ensures.value ∙ c.truncate.ensures.items ∙ ap (take (lengths i)) c.in_ok-queue.ensures ∙ ap (λ n. take n (queue content (code_of a))) (sym taken) in
-    let new : c.extend_from_slice.new.self.items ≡ c.loop-index.orders.items ++ beginning_of content (by_code content lengths) a = c.in_ok-extend_from_slice.ensures.items ∙ ap (λ ys. c.loop-index.orders.items ++ ys) added in
-    let short : length (queue (book_of r) (code_of a)) ≤ LONGEST_QUEUE = subst (λ (x : Account). length (queue (book_of r) (code_of x)) ≤ LONGEST_QUEUE) (sym here) (short_at r c.self.invariant.sound i a less) in
+    c.deref.ensures.value ∙ c.truncate.ensures.items ∙ ap (take (lengths i)) c.in_ok-queue.ensures
+    ∙ ap (λ n. take n (queue content (code_of a))) (sym taken) in
+    let new : c.extend_from_slice.new.self.items ≡ c.loop-index.orders.items
+    ++ beginning_of content (by_code content lengths) a = c.in_ok-extend_from_slice.ensures.items
+    ∙ ap (λ ys. c.loop-index.orders.items ++ ys) added in
+    let short : length (queue (book_of r) (code_of a)) ≤ LONGEST_QUEUE =
+    subst (λ (x : Account). length (queue (book_of r) (code_of x)) ≤ LONGEST_QUEUE) (sym here)
+    (short_at r c.self.invariant.sound i a less) in
     let queue_is = ap (λ (b : Book). length (queue b (code_of a))) book in
-    let long = ap length new ∙ length-append c.loop-index.orders.items (beginning_of content (by_code content lengths) a) in
+    let long = ap length new ∙ length-append c.loop-index.orders.items
+    (beginning_of content (by_code content lengths) a) in
     let part = length-take (by_code content lengths (code_of a)) (queue content (code_of a)) in
     record {
-      rest = one_queue_more (beginning_of content (by_code content lengths)) xs i a c.loop-index.orders.items c.extend_from_slice.new.self.items c.loop-index-test.true c.account-item.is new c.loop-index.invariant.rest;
+      rest = one_queue_more (beginning_of content (by_code content lengths)) xs i a c.loop-index.orders.items
+          c.extend_from_slice.new.self.items c.loop-index-test.true c.account-item.is new c.loop-index.invariant.rest;
       few = omega (arith, c.loop-index.invariant.few);
     }
 
@@ -56,8 +66,11 @@ returns-clause-orders c =
     let r = c.self.inside.records in
     let book : book_of r ≡ c.args.self.now.content = ap (λ (h : Held). h.content) c.self.view_is in
     let lengths = slice_index c.args.lengths.now in
-    all_done c.loop-index.orders.items _ _ (ap (flat_map (beginning_of c.args.self.now.content (by_code c.args.self.now.content lengths))) (drop_all c.loop-index.index c.as_slice-account-items.result.now c.loop-index-test.false)) c.loop-index.invariant.rest
-    ∙ (λ i. flat_map (beginning_of (sym book i) (by_code (sym book i) lengths)) (c.as_slice-account-items.ensures.value i))
+    all_done c.loop-index.orders.items _ _ (ap (flat_map (beginning_of c.args.self.now.content
+    (by_code c.args.self.now.content lengths))) (drop_all c.loop-index.index c.as_slice-account-items.result.now
+    c.loop-index-test.false)) c.loop-index.invariant.rest
+    ∙ (λ i. flat_map (beginning_of (sym book i) (by_code (sym book i) lengths))
+    (c.as_slice-account-items.ensures.value i))
     ∙ taken_is r (by_code (book_of r) lengths)
     ∙ ap (λ (b : Book). orders_taken b (by_code b lengths)) book
 

@@ -8,6 +8,8 @@ use Rattle.rtgs_ledger.proofs.ledger.Ledger.beginnings.Given as goal
 -- with the beginnings of the queues that are left, those so far are all of them
 abbrev pub invariant-loop-index : goal.invariant-loop-index
 invariant-loop-index l = record {
-  rest : l.orders.items ++ flat_map (beginning_of l.self.content (by_code l.self.content (slice_index l.lengths))) (drop l.index l.account-items) ≡ flat_map (beginning_of l.self.content (by_code l.self.content (slice_index l.lengths))) l.account-items;
+  rest : l.orders.items ++ flat_map (beginning_of l.self.content (by_code l.self.content (slice_index l.lengths)))
+      (drop l.index l.account-items) ≡ flat_map (beginning_of l.self.content
+      (by_code l.self.content (slice_index l.lengths))) l.account-items;
   few : length l.orders.items ≤ l.index * LONGEST_QUEUE;
 }

@@ -6,4 +6,8 @@ use Rattle.rtgs_ledger.proofs.ledger.Ledger.codes.Goals as goal
 
 pub returns : goal.returns
 unfolding accounts
-returns c = rw (← c.self.view_is, map-map (λ (p : Participant). p.code) participant_of c.self.inside.records.accounts.accounts) c.codes.ensures
+returns c = rw (
+  ← c.self.view_is,
+  map-map (λ (p : Participant). p.code) participant_of
+      c.self.inside.records.accounts.accounts,
+) c.codes.ensures

@@ -6,4 +6,6 @@ use Rattle.rtgs_ledger.proofs.ledger.Ledger.payments.Given as goal
 
 -- with the queues of the accounts that are left, those so far are all of them
 abbrev pub invariant-loop-account : goal.invariant-loop-account
-invariant-loop-account l = l.queues ++ map (λ (a : Account). payments_of l.self.content (code_of a)) (drop l.account-index l.account-items) ≡ map (λ (a : Account). payments_of l.self.content (code_of a)) l.account-items
+invariant-loop-account l = l.queues ++ map (λ (a : Account). payments_of l.self.content (code_of a))
+    (drop l.account-index l.account-items) ≡ map (λ (a : Account). payments_of l.self.content (code_of a))
+    l.account-items

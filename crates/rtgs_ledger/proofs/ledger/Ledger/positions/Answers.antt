@@ -10,7 +10,9 @@ pub returns : goal.returns
 returns c =
     let r = c.self.inside.records in
     let items = c.as_slice-account-items.ensures.value in
-    all_done c.loop-account.positions _ _ (ap (map (position_in (book_of r))) (drop_all c.loop-account.account-index c.as_slice-account-items.result.now c.loop-account-test.false)) c.loop-account.invariant
+    all_done c.loop-account.positions _ _ (ap (map (position_in (book_of r)))
+    (drop_all c.loop-account.account-index c.as_slice-account-items.result.now c.loop-account-test.false))
+    c.loop-account.invariant
     ∙ ap (map (position_in (book_of r))) items
     ∙ positions_are r c.self.invariant c.as_slice-account-items.ensures.ordered
     ∙ ap (λ (h : Held). positions_of h.content) c.self.view_is

@@ -22,7 +22,9 @@ returns-clause-prepared c =
     let here : new.content ≡ c.args.self.now.content = same ∙ ap (λ (h : Held). h.content) c.self.view_is in
     let taken = subst (λ b. IsTaken b o) (sym here) c.requires.taken in
     let waits = subst (λ b. settles_at_once b o.sender o.amount ≡ false) (sym here) c.requires.waits in
-    let place : length c.queue.result.now ≡ length (queue new.content o.sender) = ap length c.queue.ensures ∙ queued_length (book_of r) o.sender ∙ ap (λ b. length (queue b o.sender)) (sym same) in
+    let place : length c.queue.result.now ≡ length (queue new.content o.sender) = ap length c.queue.ensures
+    ∙ queued_length (book_of r) o.sender ∙ ap (λ b. length (queue b o.sender)) (sym same) in
     rw (c.from_vec.ensures, c.in_ok-rows.ensures.items, place)
-    (prepared_queued new (kept_same (held_of r) new same refl c.self.invariant) o taken c.step_keeps_ranges.ensures c.step_keeps_soundness.ensures waits
+    (prepared_queued new (kept_same (held_of r) new same refl c.self.invariant) o taken c.step_keeps_ranges.ensures
+    c.step_keeps_soundness.ensures waits
     c.in_ok-reserve.ensures.room c.in_ok-reserve.ensures.awaited)

@@ -12,6 +12,8 @@ pub returns : goal.returns
 returns c =
     let r = c.self.inside.records in
     c.loop-account.invariant.numbers
-    ∙ ap (flat_map (λ a. queued_numbers r.orders.orders (code_of a))) (take_all c.loop-account.account-index c.as_slice-account-items.result.now c.loop-account-test.false ∙ c.as_slice-account-items.ensures.value)
+    ∙ ap (flat_map (λ a. queued_numbers r.orders.orders (code_of a)))
+    (take_all c.loop-account.account-index c.as_slice-account-items.result.now c.loop-account-test.false
+    ∙ c.as_slice-account-items.ensures.value)
     ∙ all_queued r
     ∙ ap (λ (h : Held). flat_map (queued_numbers h.content.orders) (accounts h.content)) c.self.view_is

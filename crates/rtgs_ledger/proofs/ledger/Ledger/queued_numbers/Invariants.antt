@@ -7,5 +7,6 @@ use Rattle.rtgs_ledger.proofs.ledger.Ledger.queued_numbers.Given as goal
 -- the numbers in the queues of the accounts so far
 abbrev pub invariant-loop-account : goal.invariant-loop-account
 invariant-loop-account l = record {
-  numbers : l.numbers.items ≡ flat_map (λ a. queued_numbers l.self-inside.records.orders.orders (code_of a)) (take l.account-index l.account-items);
+  numbers : l.numbers.items ≡ flat_map (λ a. queued_numbers l.self-inside.records.orders.orders (code_of a))
+      (take l.account-index l.account-items);
 }

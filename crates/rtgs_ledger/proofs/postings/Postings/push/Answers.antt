@@ -8,4 +8,5 @@ use Rattle.rtgs_ledger.proofs.postings.Postings.push.Goals as goal
 pub invariant_of-self : goal.invariant_of-self
 invariant_of-self c =
     let same : c.self.inside.awaited ≡ c.args.self.now.awaited = λ i. (c.self.view_is i).awaited in
-    rw c.push_reserved.ensures.items (indexed_push (slice_cmp nat_cmp) reference_of c.self.inside.postings.items c.self.inside.places c.self.inside.awaited c.args.posting c.self.invariant (same ∙ c.requires.awaited))
+    rw c.push_reserved.ensures.items (indexed_push (slice_cmp nat_cmp) reference_of c.self.inside.postings.items
+    c.self.inside.places c.self.inside.awaited c.args.posting c.self.invariant (same ∙ c.requires.awaited))

@@ -10,6 +10,10 @@ use Rattle.rtgs_ledger.proofs.postings.Postings.reserve.Goals as goal
 
 pub invariant_of-self-2 : goal.invariant_of-self-2
 invariant_of-self-2 c =
-    let absent = subst (λ ps. find (is_posting_named c.args.reference) ps ≡ None) (λ i. sym (λ j. (c.self.view_is j).postings) i) c.requires in
+    let absent = subst (λ ps. find (is_posting_named c.args.reference) ps ≡ None)
+    (λ i. sym (λ j. (c.self.view_is j).postings) i) c.requires in
     let here : c.len.result ≡ length c.self.inside.postings.items = search rules in
-    rw c.reserve.ensures.items (indexed_with (slice_cmp nat_cmp) reference_of is_posting_named posting_naming c.self.inside.postings.items c.self.inside.places c.self.invariant.home c.args.reference c.insert.new.self absent (subst (λ n. Updates (slice_cmp nat_cmp) c.self.inside.places c.insert.new.self c.args.reference (Some n)) here c.in_ok-insert.ensures.updates))
+    rw c.reserve.ensures.items (indexed_with (slice_cmp nat_cmp) reference_of is_posting_named posting_naming
+    c.self.inside.postings.items c.self.inside.places c.self.invariant.home c.args.reference c.insert.new.self
+    absent (subst (λ n. Updates (slice_cmp nat_cmp) c.self.inside.places c.insert.new.self c.args.reference
+    (Some n)) here c.in_ok-insert.ensures.updates))

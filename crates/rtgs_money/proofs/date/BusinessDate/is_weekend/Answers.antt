@@ -11,7 +11,8 @@ returns-in-Saturday c =
     let y : c.date.result.year ≡ pos (c.self.inside.number / 10000) = omega (arith, ints) in
     let m : c.date.result.month ≡ c.self.inside.number / 100 % 100 = omega (arith, ints) in
     let d : c.date.result.day ≡ c.self.inside.number % 100 = omega (arith, ints) in
-    sym (ap is_weekend (sym c.self.view_is) ∙ is_weekend-weekday _ c.date.result c.weekday-weekday.result y m d c.weekday-weekday.ensures ∙ late_in_week c.weekday-weekday.result c.in-Saturday.is)
+    sym (ap is_weekend (sym c.self.view_is) ∙ is_weekend-weekday _ c.date.result c.weekday-weekday.result y m d
+    c.weekday-weekday.ensures ∙ late_in_week c.weekday-weekday.result c.in-Saturday.is)
 
 pub returns-in_default : goal.returns-in_default
 returns-in_default c =
@@ -20,4 +21,6 @@ returns-in_default c =
     let y : c.date.result.year ≡ pos (c.self.inside.number / 10000) = omega (arith, ints) in
     let m : c.date.result.month ≡ c.self.inside.number / 100 % 100 = omega (arith, ints) in
     let d : c.date.result.day ≡ c.self.inside.number % 100 = omega (arith, ints) in
-    sym (ap is_weekend (sym c.self.view_is) ∙ is_weekend-weekday _ c.date.result c.weekday-weekday.result y m d c.weekday-weekday.ensures ∙ early_in_week c.weekday-weekday.result c.in_default.not-Saturday c.in_default.not-Sunday)
+    sym (ap is_weekend (sym c.self.view_is) ∙ is_weekend-weekday _ c.date.result c.weekday-weekday.result y m d
+    c.weekday-weekday.ensures ∙ early_in_week c.weekday-weekday.result c.in_default.not-Saturday
+    c.in_default.not-Sunday)

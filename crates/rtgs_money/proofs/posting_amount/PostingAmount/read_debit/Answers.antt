@@ -2,7 +2,8 @@ use Rattle.std.proofs.Common.{rules, ◌≡◌, pos, ◌∷◌, ◌-ℤ◌, to_z
 use Rattle.std.proofs.lemmas.Fmt.{signed_decimal_injective}
 use Rattle.std.specs.Fmt.{signed_decimal}
 use Rattle.rtgs_money.proofs.Debits.{below_zero}
-use Rattle.rtgs_money.proofs.posting_amount.PostingAmount.read_debit.Goals.{then-cents-eq0-via-then-cents-eq0, then-cents-eq0-via-else-cents-eq0+then-cents-gt-MAX}
+use Rattle.rtgs_money.proofs.posting_amount.PostingAmount.read_debit.Goals.{then-cents-eq0-via-then-cents-eq0}
+use Rattle.rtgs_money.proofs.posting_amount.PostingAmount.read_debit.Goals.{then-cents-eq0-via-else-cents-eq0+then-cents-gt-MAX}
 use Rattle.rtgs_money.proofs.posting_amount.PostingAmount.read_debit.Goals as goal
 
 pub returns-in_default-clause-found : goal.returns-in_default-clause-found
@@ -24,5 +25,6 @@ returns-then-cents-eq0-clause-found c posting is e =
 -- what is answered spells the same text
 pub returns-clause-found : goal.returns-clause-found
 returns-clause-found c posting is e =
-    let made : 45 ∷ c.args.bytes.now ≡ signed_decimal (to_z w64 (of_z w64 (pos 0 -ℤ to_z w64 c.in-Some.cents))) = search rules in
+    let made : 45 ∷ c.args.bytes.now ≡ signed_decimal (to_z w64 (of_z w64 (pos 0 -ℤ to_z w64 c.in-Some.cents))) =
+    search rules in
     ap (λ z. Ok z) (signed_decimal_injective _ posting (search rules) (search rules) (sym made ∙ e))

@@ -6,8 +6,25 @@ use Rattle.rtgs_tables.proofs.rows.OrderTableRow.from_row.Goals as goal
 
 pub returns-clause-is : goal.returns-clause-is
 returns-clause-is c = (
-  record { sender = c.in_ok-code.ensures.is.0; reference = c.in_ok-reference.ensures.is.0; receiver = c.in_ok-code-2.ensures.is.0; amount = search rules; date = c.in_ok-date.ensures.is.0 },
-  order_read c.args.row.now _ (record { wide = c.in_ok-width.ensures.is; number = c.in_ok-number.ensures.is; sender = c.in_ok-code.ensures.is.1; reference = c.in_ok-reference.ensures.is.1; receiver = c.in_ok-code-2.ensures.is.1; amount = c.in_ok-unsigned.ensures.is ∙ ap (λ n. Int (pos n)) (sym c.in_ok-from_cents.ensures.value); date = c.in_ok-date.ensures.is.1; state = c.in_ok-state.ensures.is.0; mark = c.in_ok-state.ensures.is.1 }),
+  record {
+    sender = c.in_ok-code.ensures.is.0;
+    reference = c.in_ok-reference.ensures.is.0;
+    receiver = c.in_ok-code-2.ensures.is.0;
+    amount = search rules;
+    date = c.in_ok-date.ensures.is.0;
+  },
+  order_read c.args.row.now _ (record {
+    wide = c.in_ok-width.ensures.is;
+    number = c.in_ok-number.ensures.is;
+    sender = c.in_ok-code.ensures.is.1;
+    reference = c.in_ok-reference.ensures.is.1;
+    receiver = c.in_ok-code-2.ensures.is.1;
+    amount = c.in_ok-unsigned.ensures.is
+        ∙ ap (λ n. Int (pos n)) (sym c.in_ok-from_cents.ensures.value);
+    date = c.in_ok-date.ensures.is.1;
+    state = c.in_ok-state.ensures.is.0;
+    mark = c.in_ok-state.ensures.is.1;
+  }),
 )
 
 pub returns-in_err-date-clause-found : goal.returns-in_err-date-clause-found
@@ -42,13 +59,20 @@ returns-clause-found c it fits same =
     let low5 : 5 < length row = omega (arith, wide) in
     let low6 : 6 < length row = omega (arith, wide) in
     let low7 : 7 < length row = omega (arith, wide) in
-    let n : ◌≡◌ {A = Option ℕ} (Some c.in_ok-number.field-0) (Some it.number) = c.in_ok-number.ensures.found it.number low0 at.number in
-    let s : ◌≡◌ {A = Option (List ℕ)} (Some c.in_ok-code.field-0) (Some it.sender) = c.in_ok-code.ensures.found it.sender fits.sender low1 at.sender in
-    let r : ◌≡◌ {A = Option (List ℕ)} (Some c.in_ok-reference.field-0) (Some it.reference) = c.in_ok-reference.ensures.found it.reference fits.reference low2 at.reference in
-    let t : ◌≡◌ {A = Option (List ℕ)} (Some c.in_ok-code-2.field-0) (Some it.receiver) = c.in_ok-code-2.ensures.found it.receiver fits.receiver low3 at.receiver in
-    let v : ◌≡◌ {A = Option ℕ} (Some c.in_ok-unsigned.field-0) (Some it.amount) = c.in_ok-unsigned.ensures.found it.amount low4 at.amount in
-    let d : ◌≡◌ {A = Option ℕ} (Some c.in_ok-date.field-0) (Some it.date) = c.in_ok-date.ensures.found it.date fits.date low5 at.date in
-    let k : ◌≡◌ {A = Option OrderState} (Some c.in_ok-state.field-0) (Some it.state) = c.in_ok-state.ensures.found it.state low6 low7 at.state at.mark in
+    let n : ◌≡◌ {A = Option ℕ} (Some c.in_ok-number.field-0) (Some it.number) =
+    c.in_ok-number.ensures.found it.number low0 at.number in
+    let s : ◌≡◌ {A = Option (List ℕ)} (Some c.in_ok-code.field-0) (Some it.sender) =
+    c.in_ok-code.ensures.found it.sender fits.sender low1 at.sender in
+    let r : ◌≡◌ {A = Option (List ℕ)} (Some c.in_ok-reference.field-0) (Some it.reference) =
+    c.in_ok-reference.ensures.found it.reference fits.reference low2 at.reference in
+    let t : ◌≡◌ {A = Option (List ℕ)} (Some c.in_ok-code-2.field-0) (Some it.receiver) =
+    c.in_ok-code-2.ensures.found it.receiver fits.receiver low3 at.receiver in
+    let v : ◌≡◌ {A = Option ℕ} (Some c.in_ok-unsigned.field-0) (Some it.amount) =
+    c.in_ok-unsigned.ensures.found it.amount low4 at.amount in
+    let d : ◌≡◌ {A = Option ℕ} (Some c.in_ok-date.field-0) (Some it.date) =
+    c.in_ok-date.ensures.found it.date fits.date low5 at.date in
+    let k : ◌≡◌ {A = Option OrderState} (Some c.in_ok-state.field-0) (Some it.state) =
+    c.in_ok-state.ensures.found it.state low6 low7 at.state at.mark in
     let number : c.in_ok-number.field-0 ≡ it.number = cc in
     let sender : c.in_ok-code.field-0 ≡ it.sender = cc in
     let reference : c.in_ok-reference.field-0 ≡ it.reference = cc in
@@ -57,4 +81,12 @@ returns-clause-found c it fits same =
     let amount : c.in_ok-from_cents.field-0 ≡ it.amount = c.in_ok-from_cents.ensures.value ∙ many in
     let date : c.in_ok-date.field-0 ≡ it.date = cc in
     let state : c.in_ok-state.field-0 ≡ it.state = cc in
-    λ i. Some (record { number = number i; sender = sender i; reference = reference i; receiver = receiver i; amount = amount i; date = date i; state = state i })
+    λ i. Some (record {
+      number = number i;
+      sender = sender i;
+      reference = reference i;
+      receiver = receiver i;
+      amount = amount i;
+      date = date i;
+      state = state i;
+    })

@@ -9,14 +9,17 @@ use Rattle.rtgs_tables.proofs.statements.adding.add_mark.Goals as goal
 
 pub returns-clause-kept : goal.returns-clause-kept
 returns-clause-kept g c clean =
-    kept g.S.Store _ _ c.args.tx.now.conn.now c.execute.new.self.conn.now c.execute.result _ c.execute.ensures.ended (c.execute.ensures.runs clean)
+    kept g.S.Store _ _ c.args.tx.now.conn.now c.execute.new.self.conn.now c.execute.result _ c.execute.ensures.ended
+    (c.execute.ensures.runs clean)
 
 pub returns-clause-made : goal.returns-clause-made
 returns-clause-made g c clean was content stands order =
     let number = ap bound_value c.number_value.ensures in
-    let date = ap bound_value (c.text_or_null.ensures ∙ ap (or_null Text) c.text_of-date.ensures ∙ date_bound (Some c.args.mark.now.date)) in
+    let date = ap bound_value (c.text_or_null.ensures ∙ ap (or_null Text) c.text_of-date.ensures
+    ∙ date_bound (Some c.args.mark.now.date)) in
     let count = ap bound_value c.number_value-2.ensures in
     let value = ap bound_value c.cents_value.ensures in
-    adds_mark was content (state g.S.Store c.args.tx.now.conn.now) (state g.S.Store c.execute.new.self.conn.now) c.args.mark.now c.execute.result _
+    adds_mark was content (state g.S.Store c.args.tx.now.conn.now) (state g.S.Store c.execute.new.self.conn.now)
+    c.args.mark.now c.execute.result _
     (λ i. number i ∷ date i ∷ count i ∷ value i ∷ []) stands order
     (c.execute.ensures.runs clean (rw stands.inside))

@@ -9,7 +9,8 @@ use Rattle.rtgs_tables.proofs.statements.adding.add_order.Goals as goal
 
 pub returns-clause-kept : goal.returns-clause-kept
 returns-clause-kept g c clean =
-    kept g.S.Store _ _ c.args.tx.now.conn.now c.execute.new.self.conn.now c.execute.result _ c.execute.ensures.ended (c.execute.ensures.runs clean)
+    kept g.S.Store _ _ c.args.tx.now.conn.now c.execute.new.self.conn.now c.execute.result _ c.execute.ensures.ended
+    (c.execute.ensures.runs clean)
 
 pub returns-clause-made : goal.returns-clause-made
 returns-clause-made g c clean was content stands order =
@@ -20,7 +21,9 @@ returns-clause-made g c clean was content stands order =
     let amount = ap bound_value c.amount_value.ensures in
     let stage = ap bound_value c.state_value.ensures in
     let mark = ap bound_value c.mark_value.ensures in
-    let date = ap bound_value (c.text_or_null.ensures ∙ ap (or_null Text) c.text_of-date.ensures ∙ date_bound (Some c.args.order.now.date)) in
-    adds_order was content (state g.S.Store c.args.tx.now.conn.now) (state g.S.Store c.execute.new.self.conn.now) c.args.order.now c.execute.result _
+    let date = ap bound_value (c.text_or_null.ensures ∙ ap (or_null Text) c.text_of-date.ensures
+    ∙ date_bound (Some c.args.order.now.date)) in
+    adds_order was content (state g.S.Store c.args.tx.now.conn.now) (state g.S.Store c.execute.new.self.conn.now)
+    c.args.order.now c.execute.result _
     (λ i. number i ∷ sender i ∷ reference i ∷ receiver i ∷ amount i ∷ stage i ∷ mark i ∷ date i ∷ []) stands order
     (c.execute.ensures.runs clean (rw stands.inside))

@@ -8,7 +8,8 @@ use Rattle.rtgs_tables.proofs.statements.adding.add_participant.Goals as goal
 
 pub returns-clause-kept : goal.returns-clause-kept
 returns-clause-kept g c clean =
-    kept g.S.Store _ _ c.args.tx.now.conn.now c.execute.new.self.conn.now c.execute.result _ c.execute.ensures.ended (c.execute.ensures.runs clean)
+    kept g.S.Store _ _ c.args.tx.now.conn.now c.execute.new.self.conn.now c.execute.result _ c.execute.ensures.ended
+    (c.execute.ensures.runs clean)
 
 pub returns-clause-made : goal.returns-clause-made
 returns-clause-made g c clean was content stands order =
@@ -16,6 +17,7 @@ returns-clause-made g c clean was content stands order =
     let name = ap bound_value (c.text-2.ensures ∙ ap Text c.as_bytes-2.ensures.value) in
     let key = ap bound_value (c.blob.ensures ∙ ap Blob c.as_bytes-3.ensures.value) in
     let credit = ap bound_value c.credit_value.ensures in
-    adds_participant c.next_row_is_above.ensures was content (state g.S.Store c.args.tx.now.conn.now) (state g.S.Store c.execute.new.self.conn.now) c.args.participant.now c.execute.result _
+    adds_participant c.next_row_is_above.ensures was content (state g.S.Store c.args.tx.now.conn.now)
+    (state g.S.Store c.execute.new.self.conn.now) c.args.participant.now c.execute.result _
     (λ i. code i ∷ name i ∷ key i ∷ credit i ∷ []) stands order
     (c.execute.ensures.runs clean (rw stands.inside))

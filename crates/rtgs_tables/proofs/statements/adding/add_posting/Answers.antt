@@ -9,7 +9,8 @@ use Rattle.rtgs_tables.proofs.statements.adding.add_posting.Goals as goal
 
 pub returns-clause-kept : goal.returns-clause-kept
 returns-clause-kept g c clean =
-    kept g.S.Store _ _ c.args.tx.now.conn.now c.execute.new.self.conn.now c.execute.result _ c.execute.ensures.ended (c.execute.ensures.runs clean)
+    kept g.S.Store _ _ c.args.tx.now.conn.now c.execute.new.self.conn.now c.execute.result _ c.execute.ensures.ended
+    (c.execute.ensures.runs clean)
 
 pub returns-clause-made : goal.returns-clause-made
 returns-clause-made g c clean was content stands order =
@@ -18,6 +19,7 @@ returns-clause-made g c clean was content stands order =
     let reference = ap bound_value (c.text-2.ensures ∙ ap Text c.as_bytes-2.ensures.value) in
     let cents = ap bound_value c.posting_value.ensures in
     let date = ap bound_value (c.text_or_null.ensures ∙ ap (or_null Text) c.text_of-date.ensures ∙ date_bound _) in
-    adds_posting was content (state g.S.Store c.args.tx.now.conn.now) (state g.S.Store c.execute.new.self.conn.now) c.args.posting.now c.execute.result _
+    adds_posting was content (state g.S.Store c.args.tx.now.conn.now) (state g.S.Store c.execute.new.self.conn.now)
+    c.args.posting.now c.execute.result _
     (λ i. number i ∷ code i ∷ reference i ∷ cents i ∷ date i ∷ []) stands order
     (c.execute.ensures.runs clean (rw stands.inside))

@@ -1,0 +1,124 @@
+//! Runs that serve connections to the desk over a file.
+ghost use Rattle.std.specs.Prelude.{◌≡◌, false, IfOk, IfErr, OnErr};
+ghost use Rattle.rtgs_book.specs.declared.Book.{Book};
+ghost use Rattle.rtgs_book_file.specs.OverFile.{file_from};
+ghost use Rattle.rtgs_desk.specs.Holding.{Holds};
+ghost use Rattle.rtgs_desk_lines.specs.Texts.{Prints};
+ghost use Rattle.rtgs_http_banks.specs.Dealings.{Works};
+ghost use Rattle.rtgs_desk_cli.specs.Causes.{failure_of_listening};
+ghost use Rattle.rtgs_desk_cli.specs.Did.{ServedOver};
+ghost use Rattle.rtgs_desk_cli.specs.Runs.{IsNotListening, IsRefused, PrintsFor, server_text, stop_of_desk};
+
+use crate::files::open;
+use rtgs_book::Refusal;
+use rtgs_book_file::{FileKeeper, Start};
+use rtgs_desk::Desk;
+use rtgs_desk_lines::{Done, Failure, Printed};
+use rtgs_desk_requests::Request;
+use rtgs_http_banks::laws::a_desk_at_rest_works;
+use rtgs_http_server::{Connections, Port, serve_connections};
+use rtgs_keeper::Keeper;
+use rtgs_money::KeyDigest;
+use rtgs_stored_desk::laws::what_a_session_leaves;
+use std::alloc::Global;
+use std::io::{ErrorKind, Write};
+
+/// Serves so many connections to the desk over a file on a port of this machine, one after another, and says so. A run
+/// whose desk fails ends as stopped, after the connection on which it failed.
+pub fn serve<S: Start, O: Write>(
+    rt: &HostRuntime,
+    file: &str,
+    port: u16,
+    count: u32,
+    operator: KeyDigest,
+    start: S,
+    out: &mut O,
+) -> Result<Printed, Failure>
+    ensures printed { IfOk result (λ printed. PrintsFor
+        (file_from ⟦<FileKeeper<S> as Keeper>⟧ S.Start (λ keeper. keeper.conn))
+        (Request.Serve file.entry port count operator) printed (O.contents out.old) (O.contents out.new)) }
+    ensures refused { IfErr result (IsRefused (file_from ⟦<FileKeeper<S> as Keeper>⟧ S.Start (λ keeper. keeper.conn))
+        (Request.Serve file.entry port count operator)) }
+    ensures unchanged { OnErr result (out.new ≡ out.old) }
+{
+    let mut book = open(rt, file, start)?;
+    let printed = serve_desk(rt, book.desk(), port, count, &operator, out);
+    book.close();
+    printed
+}
+
+// Serves connections to the desk over a file.
+fn serve_desk<S: Start, O: Write>(
+    rt: &HostRuntime,
+    desk: &mut Desk<FileKeeper<S>>,
+    port: u16,
+    count: u32,
+    operator: &KeyDigest,
+    out: &mut O,
+) -> Result<Printed, Failure>
+    ensures served { IfOk result (λ printed. (⟦<FileKeeper<S> as Keeper>⟧.is_honest desk.new.keeper
+        → (book : Book) → Holds ⟦<FileKeeper<S> as Keeper>⟧ desk.old book
+        → ServedOver (file_from ⟦<FileKeeper<S> as Keeper>⟧ S.Start (λ keeper. keeper.conn)) book desk.new)
+        × Prints (server_text port count (⟦<FileKeeper<S> as Keeper>⟧.has_failed desk.new.keeper))
+        (stop_of_desk (⟦<FileKeeper<S> as Keeper>⟧.has_failed desk.new.keeper)) printed (O.contents out.old)
+        (O.contents out.new)) }
+    ensures honest { ⟦<FileKeeper<S> as Keeper>⟧.is_honest desk.new.keeper
+        → ⟦<FileKeeper<S> as Keeper>⟧.is_honest desk.old.keeper }
+    ensures refused { IfErr result IsNotListening }
+    ensures unchanged { OnErr result (out.new ≡ out.old) }
+{
+    let mut connections = listen(rt, port, count)?;
+    let printed = serve_all(rt.alloc(), &mut connections, desk, operator, port, out);
+    what_a_session_leaves(desk);
+    Ok(printed)
+}
+
+// Listens on a port for so many connections. Refused where it cannot be had, or for lack of memory.
+fn listen(rt: &HostRuntime, port: u16, count: u32) -> Result<Port, Failure>
+    ensures left { IfOk result (λ port. ⟦<Port as Connections>⟧.to_come port ≡ count) }
+    ensures refused { IfErr result IsNotListening }
+{
+    match Port::listen(rt, port, count) {
+        Ok(port) => Ok(port),
+        Err(error) => Err(failure_of(error.kind())),
+    }
+}
+
+// What an error of listening comes to.
+fn failure_of(kind: ErrorKind) -> Failure
+    ensures { result ≡ failure_of_listening kind }
+{
+    match kind {
+        ErrorKind::OutOfMemory => Failure::Refused(Refusal::OutOfMemory),
+        _ => Failure::NoListen,
+    }
+}
+
+// Says on which port connections are taken, serves them, and says how many they were, unless the desk has failed. Where
+// the first is not printed whole, none is served.
+fn serve_all<C: Connections, K: Keeper, O: Write>(
+    alloc: Global,
+    connections: &mut C,
+    desk: &mut Desk<K>,
+    operator: &KeyDigest,
+    port: u16,
+    out: &mut O,
+) -> Printed
+    ensures works { K.is_honest desk.new.keeper → (book : Book) → Holds K.Keeper desk.old book
+        → Works K.Keeper book desk.new }
+    ensures honest { K.is_honest desk.new.keeper → K.is_honest desk.old.keeper }
+    ensures printed { Prints (server_text port (C.to_come connections.old) (K.has_failed desk.new.keeper))
+        (stop_of_desk (K.has_failed desk.new.keeper)) result (O.contents out.old) (O.contents out.new) }
+    ensures all { result ≡ Printed.Whole → C.to_come connections.new ≡ 0 }
+{
+    a_desk_at_rest_works(desk);
+    let count = connections.left();
+    if let Err(failed) = (Done::Listening { port }).print(out) {
+        return Printed::Lost(failed);
+    }
+    serve_connections(alloc, connections, desk, operator);
+    if desk.failed() {
+        return Printed::Stopped(Refusal::Failed);
+    }
+    Printed::sent(Done::Served { count }.print(out))
+}

@@ -1,0 +1,33 @@
+-- The texts of readings, as they are printed. `g` has the members of the keeper's trait.
+use Rattle.std.specs.Prelude.{◌≡◌, ◌++◌, ◌∷◌, [], ℕ, true, List, Result, Ok, Err}
+use Rattle.serde_json.specs.Data.{Data}
+use Rattle.serde_json.specs.Written.{compact_text}
+use Rattle.rtgs_book.specs.declared.book.Book.{Book}
+use Rattle.rtgs_book.specs.declared.reading.Reading.{Reading}
+use Rattle.rtgs_book.specs.declared.reading.Reading.TheVariants as reading
+use Rattle.rtgs_book.specs.declared.refusal.Refusal.{Refusal}
+use Rattle.rtgs_book.specs.declared.refusal.Refusal.TheVariants.{StoreFault}
+use Rattle.rtgs_keeper.specs.declared.keeper.Keeper.{Ghosts}
+use Rattle.rtgs_desk.specs.Readings.{account_told, order_told, queue_told}
+use Rattle.rtgs_desk.specs.Seen.{Seen}
+use Rattle.rtgs_http_bodies.specs.Readings.{account_data, order_data, queue_data}
+use Rattle.rtgs_desk_texts.specs.Written.{statement_wanted, report_wanted}
+
+-- what is told, as JSON without spaces, and a line feed
+abbrev pub json_line : {X : Type 0} → (X → Data) → Result X Refusal → Result (List ℕ) Refusal
+json_line value_of (Ok x) = Ok (compact_text (value_of x) ++ 10 ∷ [])
+json_line value_of (Err refusal) = Err refusal
+
+-- the text of a reading, or what refuses it
+abbrev pub text_wanted : Book → Reading → Result (List ℕ) Refusal
+text_wanted book (reading.Order sender reference) = json_line order_data (order_told book sender reference)
+text_wanted book (reading.Account code) = json_line account_data (account_told book code)
+text_wanted book (reading.Queue code) = json_line queue_data (queue_told book code)
+text_wanted book (reading.Statement code date) = statement_wanted book code date
+text_wanted book (reading.Report date) = report_wanted book date
+
+-- the store failed: the reading of an order asks it, and no other
+abbrev pub Fails : {K V : Type 0} → Ghosts K → Reading → Seen K → Result V Refusal → Type 0
+Fails g (reading.Order sender reference) desk result =
+    (g.has_failed desk.keeper ≡ true) × (result ≡ Err StoreFault)
+Fails g _ desk result = ⊥

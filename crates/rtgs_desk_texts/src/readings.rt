@@ -1,0 +1,135 @@
+//! What a desk tells of its book, as it is printed, made in memory.
+ghost use Rattle.std.specs.Prelude.{◌≡◌, ◌⊎◌, ◌++◌, ◌∷◌, [], true, Ok, Err, IfOk};
+ghost use Rattle.rtgs_book.specs.declared.Book.{Book};
+ghost use Rattle.rtgs_book.specs.declared.Refusal.{Refusal};
+ghost use Rattle.rtgs_desk.specs.Holding.{Holds};
+ghost use Rattle.rtgs_desk.specs.Readings.{Tells, account_told, order_told, queue_told};
+ghost use Rattle.rtgs_http_bodies.specs.Readings.{account_data, order_data, queue_data};
+ghost use Rattle.rtgs_desk_texts.specs.Readings.{Fails, json_line, text_wanted};
+ghost use Rattle.rtgs_desk_texts.specs.Written.{statement_wanted, report_wanted, refusal_of_text};
+
+use crate::fault::DeskTextFault;
+use crate::texts::{write_report, write_statement};
+use rtgs_book::{Reading, Refusal};
+use rtgs_desk::Desk;
+use rtgs_http_bodies::laws::queued_values_fit;
+use rtgs_http_bodies::{account_text, order_text, queue_text};
+use rtgs_keeper::Keeper;
+use rtgs_money::{BusinessDate, Code, Reference};
+use std::alloc::{AllocError, Global};
+
+/// The text of a reading, as the book that the desk holds has it: a statement, a report, or JSON and a line feed.
+/// Refused as the desk refuses the reading, or for lack of memory. Only the reading of an order asks the store, and can
+/// meet a fault of it.
+pub fn text_of<K: Keeper>(
+    alloc: Global,
+    desk: &mut Desk<K>,
+    reading: &Reading,
+) -> Result<Vec<u8>, Refusal>
+    ensures told { K.is_honest desk.new.keeper → (book : Book) → Holds K.Keeper desk.old book
+        → Tells (λ text. text.items) (text_wanted book reading.now) result
+        ⊎ Fails K.Keeper reading.now desk.new result }
+    ensures failed { K.has_failed desk.old.keeper ≡ true → (result ≡ Err Refusal.Failed) × (desk.new ≡ desk.old) }
+    ensures honest { K.is_honest desk.new.keeper → K.is_honest desk.old.keeper }
+{
+    match *reading {
+        Reading::Order { sender, reference } => order_line(alloc, desk, &sender, &reference),
+        Reading::Account { code } => account_line(alloc, desk, &code),
+        Reading::Queue { code } => queue_line(alloc, desk, &code),
+        Reading::Statement { code, date } => statement_of(alloc, desk, &code, date),
+        Reading::Report { date } => report_of(alloc, desk, date),
+    }
+}
+
+// What is told of an order, as a line.
+fn order_line<K: Keeper>(
+    alloc: Global,
+    desk: &mut Desk<K>,
+    sender: &Code,
+    reference: &Reference,
+) -> Result<Vec<u8>, Refusal>
+    ensures told { K.is_honest desk.new.keeper → (book : Book) → Holds K.Keeper desk.old book
+        → Tells (λ text. text.items) (json_line order_data (order_told book sender.now reference.now)) result
+        ⊎ ((K.has_failed desk.new.keeper ≡ true) × (result ≡ Err Refusal.StoreFault)) }
+    ensures failed { K.has_failed desk.old.keeper ≡ true → (result ≡ Err Refusal.Failed) × (desk.new ≡ desk.old) }
+    ensures honest { K.is_honest desk.new.keeper → K.is_honest desk.old.keeper }
+{
+    let order = desk.order_of(sender, reference)?;
+    Ok(ended(order_text(alloc, &order)?)?)
+}
+
+// What is told of an account, as a line.
+fn account_line<K: Keeper>(alloc: Global, desk: &Desk<K>, code: &Code) -> Result<Vec<u8>, Refusal>
+    ensures told { (book : Book) → Holds K.Keeper desk.now book
+        → Tells (λ text. text.items) (json_line account_data (account_told book code.now)) result }
+    ensures failed { K.has_failed desk.now.keeper ≡ true → result ≡ Err Refusal.Failed }
+{
+    desk.holds_a_sound_book();
+    queued_values_fit();
+    let account = desk.account(code)?;
+    Ok(ended(account_text(alloc, &account)?)?)
+}
+
+// What is told of a queue, as a line.
+fn queue_line<K: Keeper>(alloc: Global, desk: &Desk<K>, code: &Code) -> Result<Vec<u8>, Refusal>
+    ensures told { (book : Book) → Holds K.Keeper desk.now book
+        → Tells (λ text. text.items) (json_line queue_data (queue_told book code.now)) result }
+    ensures failed { K.has_failed desk.now.keeper ≡ true → result ≡ Err Refusal.Failed }
+{
+    let orders = desk.queue_of(code)?;
+    Ok(ended(queue_text(alloc, &orders)?)?)
+}
+
+// The text with a line feed behind it.
+fn ended(text: Vec<u8>) -> Result<Vec<u8>, AllocError>
+    ensures { IfOk result (λ line. line.items ≡ text.items ++ 10 ∷ []) }
+{
+    let mut line = text;
+    line.push(b'\n')?;
+    Ok(line)
+}
+
+// The statement of a participant for a date.
+fn statement_of<K: Keeper>(
+    alloc: Global,
+    desk: &Desk<K>,
+    code: &Code,
+    date: BusinessDate,
+) -> Result<Vec<u8>, Refusal>
+    ensures told { (book : Book) → Holds K.Keeper desk.now book
+        → Tells (λ text. text.items) (statement_wanted book code.now date) result }
+    ensures failed { K.has_failed desk.now.keeper ≡ true → result ≡ Err Refusal.Failed }
+{
+    let mut text = Vec::new(alloc);
+    match write_statement(alloc, &mut text, desk, code, date) {
+        Ok(()) => Ok(text),
+        Err(fault) => Err(refusal_of(fault)),
+    }
+}
+
+// The report of a day.
+fn report_of<K: Keeper>(
+    alloc: Global,
+    desk: &Desk<K>,
+    date: BusinessDate,
+) -> Result<Vec<u8>, Refusal>
+    ensures told { (book : Book) → Holds K.Keeper desk.now book
+        → Tells (λ text. text.items) (report_wanted book date) result }
+    ensures failed { K.has_failed desk.now.keeper ≡ true → result ≡ Err Refusal.Failed }
+{
+    let mut text = Vec::new(alloc);
+    match write_report(alloc, &mut text, desk, date) {
+        Ok(()) => Ok(text),
+        Err(fault) => Err(refusal_of(fault)),
+    }
+}
+
+// Why a text was not made in memory. A writer in memory fails where memory is refused, and nowhere else.
+fn refusal_of(fault: DeskTextFault) -> Refusal
+    ensures { result ≡ refusal_of_text fault }
+{
+    match fault {
+        DeskTextFault::Refused(refusal) => refusal,
+        DeskTextFault::Text(_) => Refusal::OutOfMemory,
+    }
+}
