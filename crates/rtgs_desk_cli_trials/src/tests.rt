@@ -10,7 +10,9 @@ mod gridlocks;
 mod helps;
 mod imports;
 mod openings;
+mod readings;
 mod refusals;
+mod serving;
 mod stops;
 
 const KEY_A: &str = "0000000000000000000000000000000a";
