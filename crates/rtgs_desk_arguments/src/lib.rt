@@ -11,6 +11,10 @@ mod orders;
 mod readings;
 mod serving;
 
+/// What `--version` says behind the program's name: its version, that of the tables that it keeps a book in, and the kit
+/// that it is proved with, as `rt version` prints it.
+const VERSION: &str = "0.9.0, tables 1, rattle-kit-13f logic dac8208d650f15bf";
+
 /// The book's file, which each subcommand takes first.
 fn file_argument<'a>(alloc: Global) -> Arg<'a> {
     Arg::new(alloc, "file")
@@ -68,6 +72,7 @@ fn joined<'a>(
 fn bare_command<'a>(alloc: Global) -> Result<Command<'a>, AllocError> {
     let desk = Command::new(alloc, "desk")
         .about("The settlement desk of a central bank")
+        .version(VERSION)
         .bin_name("desk")?;
     Ok(desk.no_binary_name(true).subcommand_required(true))
 }

@@ -1,6 +1,8 @@
 //! Help, and faults of the command line.
+use super::prints;
 use rtgs_desk_cli::{Unknown, run_words};
 use rtgs_desk_lines::Ended;
+use sqlite::Connection;
 use std::test::Fail;
 
 /// Whether these words ask for help that names each of these, and for nothing else.
@@ -32,6 +34,25 @@ fn helps_name_the_commands_and_the_forms_of_their_words(rt: HostRuntime) -> Resu
         "--debit",
     ];
     assert!(rt; helps(&rt, &["post", "--help"], post.as_slice())?);
+    Ok(())
+}
+
+/// The version of the tables that a new book has.
+fn tables_version(rt: &HostRuntime, file: &str) -> Result<i64, Fail> {
+    prints(rt, &["init", file], "initialised\n", 0)?;
+    let mut conn = Connection::open(rt, file)?;
+    let row = conn.query_row("SELECT version FROM desk", &[])?;
+    let version = row.get::<i64>(0)?;
+    conn.close()?;
+    Ok(version)
+}
+
+#[test]
+fn version_names_the_program_its_tables_and_the_kit(rt: HostRuntime) -> Result<(), Fail> {
+    let version = tables_version(&rt, "version")?;
+    let tables = format!(in rt.alloc(); ", tables {version}, ")?;
+    let named = ["desk 0.9.0", tables.as_str(), "rattle-kit-"];
+    assert!(rt; helps(&rt, &["--version"], named.as_slice())?);
     Ok(())
 }
 
