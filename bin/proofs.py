@@ -32,6 +32,8 @@ class Proofs:
         """Proves what is not proved already, and returns whether all is."""
         # (its first call sets a signal's handler, which only the main thread may)
         self.rt.rtlib.guarded()
+        # (what another checkout on this machine proved of the same text is taken from it, and this one's is offered)
+        self.rt.share_work(True)
         held = self.rt.rtlib.lock(self.crates)
         is_proved = all(self.rt.in_lanes(self.tasks()).values())
         for it in held:
