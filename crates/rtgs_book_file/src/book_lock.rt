@@ -1,5 +1,5 @@
 //! The lock of a book's file.
-ghost use Rattle.std.specs.Prelude.{◌≡◌, ◌⊎◌, IfErr};
+ghost use Rattle.std.specs.Prelude.{◌≡◌, ◌⊎◌, IfOk, IfErr};
 ghost use Rattle.rtgs_book_file.specs.Files.{fault_of_lock};
 
 use crate::file_fault::FileFault;
@@ -22,6 +22,7 @@ impl<'a> BookLock<'a> {
     pub fn take(rt: &HostRuntime, path: &'a str) -> Result<BookLock<'a>, FileFault>
         ensures refused { IfErr result (λ fault.
             (fault ≡ FileFault.InUse) ⊎ (fault ≡ FileFault.Book Fault.OutOfMemory)) }
+        ensures at { IfOk result (λ lock. lock.path.now ≡ path.now) }
     {
         let beside = format!(in rt.alloc(); "{path}.lock")?;
         let file = match open_lock(rt, beside.as_str()) {
@@ -43,7 +44,9 @@ impl<'a> BookLock<'a> {
     }
 
     /// The lock's own file, which holds the lock until it is dropped.
-    pub(crate) fn into_file(self) -> File {
+    pub(crate) fn into_file(self) -> File
+        ensures { result ≡ self.entry.file }
+    {
         let BookLock { path: _, file } = self;
         file
     }

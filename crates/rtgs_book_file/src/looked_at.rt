@@ -1,6 +1,7 @@
 //! What stands at a path, which is looked at before anything opens it that could write into it.
-ghost use Rattle.std.specs.Prelude.{◌≡◌, ◌⊎◌, IfErr};
+ghost use Rattle.std.specs.Prelude.{◌≡◌, ◌≢◌, ◌⊎◌, IfOk, IfErr};
 ghost use Rattle.rtgs_book.specs.declared.Fault.{Fault as FaultSpec};
+ghost use Rattle.rtgs_book.specs.declared.Rule.{Rule};
 ghost use Rattle.rtgs_book_file.specs.Files.{vacancy_of, opening_of};
 
 use crate::book_lock::BookLock;
@@ -26,6 +27,7 @@ impl<'a> BookLock<'a> {
     pub(crate) fn with_nothing(self, rt: &HostRuntime) -> Result<LookedAt<'a>, FileFault>
         ensures refused { IfErr result (λ fault.
             (fault ≡ FileFault.FileExists) ⊎ ((why : FaultSpec) × (fault ≡ FileFault.Book why))) }
+        ensures same { IfOk result (λ file. file.lock ≡ self.entry) }
     {
         if !vacancy(length(rt, self.path()))? {
             return Err(FileFault::FileExists);
@@ -35,7 +37,10 @@ impl<'a> BookLock<'a> {
 
     /// Looks whether the file begins as a database does: a fault where it does not, is missing or shorter, or cannot be
     /// read.
-    pub(crate) fn with_database(self, rt: &HostRuntime) -> Result<LookedAt<'a>, Fault> {
+    pub(crate) fn with_database(self, rt: &HostRuntime) -> Result<LookedAt<'a>, Fault>
+        ensures refused { IfErr result (λ fault. (rule : Rule) → fault ≢ Fault.Inconsistent rule) }
+        ensures same { IfOk result (λ file. file.lock ≡ self.entry) }
+    {
         opening(read_beginning(rt, self.path()))?;
         Ok(LookedAt { lock: self })
     }
@@ -50,7 +55,9 @@ impl<'a> LookedAt<'a> {
     }
 
     /// The lock's own file, which holds the lock until it is dropped.
-    pub(crate) fn into_file(self) -> File {
+    pub(crate) fn into_file(self) -> File
+        ensures { result ≡ self.entry.lock.file }
+    {
         let LookedAt { lock } = self;
         lock.into_file()
     }
@@ -84,7 +91,8 @@ fn read_beginning(rt: &HostRuntime, file: &str) -> io::Result<[u8; 16]> {
 
 // What it means for a book that its file begins so.
 fn opening(beginning: io::Result<[u8; 16]>) -> Result<(), Fault>
-    ensures { result ≡ opening_of beginning }
+    ensures is { result ≡ opening_of beginning }
+    ensures kinds { IfErr result (λ fault. (rule : Rule) → fault ≢ Fault.Inconsistent rule) }
 {
     match beginning {
         Ok(beginning) if beginning == *MAGIC => Ok(()),

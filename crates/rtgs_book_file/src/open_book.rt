@@ -39,6 +39,7 @@ impl BookLock<'_> {
     ) -> Result<OpenBook<FileKeeper<S>>, FileFault>
         ensures opened { IfOk result (λ book. HasCleanDisk (file_state book.desk.keeper.conn)
             → WasOpened ⟦<FileKeeper<S> as Keeper>⟧ (image_at S.Start) book.desk book.desk.keeper.conn) }
+        ensures held { IfOk result (λ book. book.lock ≡ self.entry.file) }
         ensures refused { IfErr result (λ fault. (why : FaultSpec) × (fault ≡ FileFault.Book why)) }
     {
         let file = self.with_database(rt)?;

@@ -6,6 +6,7 @@ use Rattle.sqlite_catalog.specs.Listing.{IsSound as IsReadBy}
 use Rattle.sqlite_trees.specs.declared.store.Store.{Ghosts}
 use Rattle.sqlite.specs.Held.{Held, state}
 use Rattle.sqlite.specs.Schema.{Schema}
+use Rattle.sqlite.specs.Effect.{Database}
 use Rattle.sqlite.specs.State.{State}
 use Rattle.sqlite.specs.Tree.{Trees}
 use Rattle.rtgs_book.specs.declared.Book.{Book}
@@ -20,6 +21,7 @@ use Rattle.rtgs_rows.specs.Keeping.{IsBookOf, HoldsBook}
 use Rattle.rtgs_rows.specs.Querying.{IsDeskFile}
 use Rattle.rtgs_rows.specs.Tables.{no_schema, desk_schema}
 use Rattle.rtgs_tables.specs.Accounts.{ExplainsTrees}
+use Rattle.rtgs_tables.specs.Displaying.{ExplainsDatabase}
 use Rattle.rtgs_tables.specs.Building.{IsBlank, IsNoneOrNew, first_content}
 use Rattle.rtgs_stored_desk.specs.Stored.{AreTablesOf, IsAtRest, IsMemoryOrStore, fault_of_making}
 
@@ -87,3 +89,6 @@ pub from_both : {T E : Type 0} (r : Result T E) (P Q R : E → Type 0) → ((e :
     → IfErr r Q → IfErr r R
 from_both (Ok x) P Q R f p q = tt
 from_both (Err e) P Q R f p q = f e p q
+
+pub memory_tells : (db : Database) (fault : Fault) → fault ≡ OutOfMemory → ExplainsDatabase db fault
+memory_tells db fault memory = subst (ExplainsDatabase db) (sym memory) tt

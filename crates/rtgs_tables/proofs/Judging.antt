@@ -29,6 +29,8 @@ use Rattle.rtgs_book.specs.Soundness.{IsSound}
 use Rattle.rtgs_book.specs.declared.account.Account.{Account}
 use Rattle.rtgs_tables.specs.Accounts.{AreBalances, AreReadOf, AreFormed, is_stored, ExplainsRead, ExplainsTrees}
 use Rattle.sqlite.specs.Tree.{Trees}
+use Rattle.sqlite.specs.Effect.{Database}
+use Rattle.rtgs_tables.specs.Displaying.{ExplainsDatabase}
 
 -- a sound book keeps each rule of a book
 keeps_all : (book : Book) → IsSound book → (rule : Rule) → Keeps book rule
@@ -109,13 +111,15 @@ judged_of trees accounts book (Err NotADeskFile) read why = absurd why
 judged_of trees accounts book (Err (Inconsistent rule)) read why = (accounts, book, read, why)
 
 -- the same fault explains whatever records there are
-pub explained : (Are : List Account → Book → Type 0) (File : Trees → Type 0) (answer : Result Book Fault)
+pub explained : (Are : List Account → Book → Type 0) (File : Trees → Type 0) (db : Database)
+    (answer : Result Book Fault)
     → ((accounts : List Account) (book : Book) → Are accounts book → IfErr answer (ExplainsRead accounts book))
-    → ((trees : Trees) → File trees → IfErr answer (ExplainsTrees trees))
+    → ((trees : Trees) → File trees → IfErr answer (ExplainsTrees trees)) → IfErr answer (ExplainsDatabase db)
     → IfErr answer (λ fault. ((accounts : List Account) (book : Book) → Are accounts book
-    → ExplainsRead accounts book fault) × ((trees : Trees) → File trees → ExplainsTrees trees fault))
-explained Are File (Ok it) why all = tt
-explained Are File (Err fault) why all = (why, all)
+    → ExplainsRead accounts book fault) × (((trees : Trees) → File trees → ExplainsTrees trees fault)
+    × ExplainsDatabase db fault))
+explained Are File db (Ok it) why all told = tt
+explained Are File db (Err fault) why all told = (why, (all, told))
 
 pub accepted : (accounts : List Account) (book : Book) (answer : Result Book Fault) → IsSound book
     → AreBalances book accounts → IfErr answer (ExplainsRead accounts book)

@@ -32,3 +32,4 @@ pub mod Together
 pub mod Lists
 pub mod Resting
 pub mod Settling
+pub mod Displaying

@@ -13,7 +13,7 @@ use Rattle.sqlite_resolve.specs.declared.compiled.Compiled.{Compiled}
 use Rattle.sqlite_resolve.specs.Lowering.{Checked, and_then}
 use Rattle.sqlite_resolve.specs.Compile.{first, command, returning, timed, meaning, planned, with_command, compiled}
 use Rattle.sqlite_tied.specs.Compute.{everything}
-use Rattle.rtgs_tables.proofs.Selecting.{desk_text, participants_text, postings_text, payments_text, marks_text}
+use Rattle.rtgs_tables.specs.Displaying.{desk_text, participants_text, postings_text, payments_text, marks_text}
 
 -- the statement gives back no rows of a write
 abbrev pub Returnless : Checked Parsed → Type 0
@@ -21,15 +21,15 @@ Returnless (Ok p) = (schema : Schema) (base : ℕ) → returning schema base p.s
 Returnless (Err e) = Unit {0}
 
 -- what comes of a step that went well
-stepped : {A B : Type 0} (r : Checked A) (next : A → Checked B) (b : B) → and_then r next ≡ Ok b
+pub stepped : {A B : Type 0} (r : Checked A) (next : A → Checked B) (b : B) → and_then r next ≡ Ok b
     → (a : A) × (r ≡ Ok a) × (next a ≡ Ok b)
 stepped (Ok a) next b h = (a, refl, h)
 stepped {B = B} (Err e) next b h = absurd (let clash : ◌≡◌ {A = Checked B} (Err e) (Ok b) = h in cc)
 
-same_value : {A : Type 0} {a b : A} → ◌≡◌ {A = Checked A} (Ok a) (Ok b) → a ≡ b
+pub same_value : {A : Type 0} {a b : A} → ◌≡◌ {A = Checked A} (Ok a) (Ok b) → a ≡ b
 same_value e = cc
 
-planned_none : (schema : Schema) (p : Parsed) (plan : List (List ℕ) × (Command × Option Returning))
+pub planned_none : (schema : Schema) (p : Parsed) (plan : List (List ℕ) × (Command × Option Returning))
     → ((base : ℕ) → returning schema base p.statement ≡ Ok None) → planned schema p ≡ Ok plan → plan.1.1 ≡ None
 unfolding planned meaning
 planned_none schema p plan none h =

@@ -1,6 +1,6 @@
 -- Why a query that is understood fails.
 use Rattle.std.proofs.Common.{◌≡◌, ◌⊎◌, inl, inr, ℕ, List, length, Option, [], IfErr, Ok, Err, Result, sym, ap, subst}
-use Rattle.std.proofs.Common.{◌∙◌, arith}
+use Rattle.std.proofs.Common.{◌∙◌, arith, true, false, subst₂, true≢false, append-nil}
 use Rattle.sqlite.specs.Order.{Row}
 use Rattle.sqlite.specs.Schema.{Schema}
 use Rattle.sqlite_trees.specs.declared.error.StoreError.{StoreError}
@@ -12,7 +12,10 @@ use Rattle.sqlite_resolve.specs.declared.compiled.Compiled.{Compiled}
 use Rattle.sqlite_resolve.specs.declared.error.CompileError.{CompileError}
 use Rattle.sqlite.specs.declared.error.Error.{Error}
 use Rattle.sqlite.specs.declared.error.Error.TheVariants.{SqlInputError}
-use Rattle.sqlite.specs.Listing.{understood}
+use Rattle.sqlite.specs.Listing.{understood, reads_listing, IsSourceOf}
+use Rattle.sqlite_typing.specs.Types.{accepts_program}
+use Rattle.sqlite_schema.specs.Program.{lets_of}
+use Rattle.sqlite_sql.specs.Program.{ProgramOverflows}
 use Rattle.sqlite.specs.Effect.{Database, RefusesToRead}
 use Rattle.sqlite.specs.State.{State, Fails, IsUnchanged, IsRolledBack, IsNotRun, IsNoStatement, FailsToQuery}
 use Rattle.sqlite.specs.State.{FailsToShow, store_error}
@@ -34,7 +37,7 @@ pub record Asks (schema : Schema) (sql : List ℕ) (count : ℕ) (q : Program) (
   pub whole : tail_of (understood schema sql) ≡ length sql
   pub given : count_of (understood schema sql) ≡ count
 
-told : (cause : StoreError) → IsOfStore (store_error cause)
+pub told : (cause : StoreError) → IsOfStore (store_error cause)
 told OutOfMemory = tt
 told Io = tt
 told Corrupt = tt
@@ -58,22 +61,28 @@ module _ (sql : List ℕ) (params : Row) (old new : State) (q : Program) (names 
         | inr (inr timed) ↦ timed.0 (subst IsPlain h.1 asks.plain).1
       ]
 
-  refuses : (limit : Option ℕ) (command : Command) (db : Database) (all : Row) → command ≡ Select q names
-      → RefusesToRead limit command db all e → IsOfStore e
-  refuses limit command db all is h = elim (subst (λ k. RefusesToRead limit k db all e) is h) [
-    | inl bad ↦ subst IsOfStore (sym bad.0) tt
-    | inr (inl bad) ↦ subst IsOfStore (sym bad.0) tt
+  refuses : (limit : Option ℕ) (command : Command) (db : Database) → command ≡ Select q names → db ≡ old.now
+      → accepts_program old.now.schema (lets_of q) q.body params ≡ true
+      → ¬ ProgramOverflows old.now.trees params [] (lets_of q) q.body
+      → RefusesToRead limit command db params e → IsOfStore e
+  refuses limit command db is same typed calm h = elim (subst₂ (λ k d. RefusesToRead limit k d params e) is same h) [
+    | inl bad ↦ absurd (true≢false (sym typed ∙ bad.1))
+    | inr (inl bad) ↦ absurd (calm bad.1)
     | inr (inr bad) ↦ subst IsOfStore (sym bad.0) tt
   ]
 
-  pub of_store : FailsToQuery sql params old new e → IsOfStore e
+  -- what the query names is there, and the engine can compute it
+  pub of_store : reads_listing old.now.schema sql ≡ false
+      → accepts_program old.now.schema (lets_of q) q.body params ≡ true
+      → ¬ ProgramOverflows old.now.trees params [] (lets_of q) q.body → FailsToQuery sql params old new e → IsOfStore e
   unfolding FailsToQuery IsNotRun
-  of_store (inl (inl h)) = absurd (no_statement h.0)
-  of_store (inl (inr h)) = fails _ h
-  of_store (inr h) =
-      let none = (subst IsPlain h.1.is asks.plain).0 in
-      let it = subst (FailsToShow old new sql h.0 _ e) none h.2 in
-      refuses old.step_limit h.0.command it.0 _ (sym (ap command_of h.1.is) ∙ asks.command) it.2
+  of_store unlisted typed calm (inl (inl h)) = absurd (no_statement h.0)
+  of_store unlisted typed calm (inl (inr h)) = fails _ h
+  of_store unlisted typed calm (inr h) =
+      let bare = subst IsPlain h.1.is asks.plain in
+      let it = rw (bare.0, bare.1, append-nil params) at h.2 in
+      refuses old.step_limit h.0.command it.0 (sym (ap command_of h.1.is) ∙ asks.command)
+      (subst (λ b. IsSourceOf b old.now it.0) unlisted it.1) typed calm it.2
 
   pub intact : FailsToQuery sql params old new e → IsUnchanged old new ⊎ IsRolledBack old new
   unfolding FailsToQuery IsNotRun

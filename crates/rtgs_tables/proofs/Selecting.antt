@@ -31,11 +31,9 @@ use Rattle.rtgs_book.specs.declared.account.Account.{Account}
 use Rattle.rtgs_tables.specs.Accounts.{stored_account, AreRead}
 use Rattle.rtgs_rows.specs.Querying.{IsDeskFile}
 use Rattle.rtgs_tables.proofs.Resting.{file_of}
+pub use Rattle.rtgs_tables.specs.Displaying.{desk_text, participants_text, postings_text, payments_text, marks_text}
 use Rattle.rtgs_tables.proofs.Queries.{simple}
 use Rattle.rtgs_tables.proofs.Showing.{Selects, first_up, numbered, shown_are}
-
-abbrev pub desk_text : List ℕ
-desk_text = codes "SELECT id, version, date, phase FROM desk ORDER BY id"
 
 abbrev pub desk_project : List Term
 desk_project = col 1 0 ∷ col 1 2 ∷ col 1 3 ∷ col 1 4 ∷ []
@@ -51,10 +49,8 @@ unfolding understood everything desk_schema
 desk_selects = record {
   asks = record { command = refl; plain = (refl, refl); whole = refl; given = refl };
   unlisted = refl;
+  typed = refl;
 }
-
-abbrev pub participants_text : List ℕ
-participants_text = codes "SELECT code, name, key, credit, balance FROM participant ORDER BY code"
 
 abbrev pub participants_project : List Term
 participants_project = col 1 1 ∷ col 1 2 ∷ col 1 3 ∷ col 1 4 ∷ col 1 5 ∷ []
@@ -70,10 +66,8 @@ unfolding understood everything desk_schema
 participants_selects = record {
   asks = record { command = refl; plain = (refl, refl); whole = refl; given = refl };
   unlisted = refl;
+  typed = refl;
 }
-
-abbrev pub postings_text : List ℕ
-postings_text = codes "SELECT number, code, reference, cents, date FROM posting ORDER BY number"
 
 abbrev pub postings_project : List Term
 postings_project = col 1 0 ∷ col 1 2 ∷ col 1 3 ∷ col 1 4 ∷ col 1 5 ∷ []
@@ -89,11 +83,8 @@ unfolding understood everything desk_schema
 postings_selects = record {
   asks = record { command = refl; plain = (refl, refl); whole = refl; given = refl };
   unlisted = refl;
+  typed = refl;
 }
-
-abbrev pub payments_text : List ℕ
-payments_text = codes
-    "SELECT number, sender, reference, receiver, amount, date, state, mark FROM payment ORDER BY number"
 
 abbrev pub payments_project : List Term
 payments_project = col 1 0 ∷ col 1 2 ∷ col 1 3 ∷ col 1 4 ∷ col 1 5 ∷ col 1 6 ∷ col 1 7 ∷ col 1 8 ∷ []
@@ -110,10 +101,8 @@ unfolding understood everything desk_schema
 payments_selects = record {
   asks = record { command = refl; plain = (refl, refl); whole = refl; given = refl };
   unlisted = refl;
+  typed = refl;
 }
-
-abbrev pub marks_text : List ℕ
-marks_text = codes "SELECT number, date, many, value FROM mark ORDER BY number"
 
 abbrev pub marks_project : List Term
 marks_project = col 1 0 ∷ col 1 2 ∷ col 1 3 ∷ col 1 4 ∷ []
@@ -129,6 +118,7 @@ unfolding understood everything desk_schema
 marks_selects = record {
   asks = record { command = refl; plain = (refl, refl); whole = refl; given = refl };
   unlisted = refl;
+  typed = refl;
 }
 
 pub postings_shown : (old new : State) (content : Content) (accounts : List Account) (book : Book) → Rests content old

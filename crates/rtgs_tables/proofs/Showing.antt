@@ -1,6 +1,6 @@
 -- What a query of one whole table shows, and what it leaves.
-use Rattle.std.proofs.Common.{◌≡◌, ◌⊎◌, inl, inr, ℕ, ℤ, List, [], ◌∷◌, map, filter, false, Ok, Err, Result, IsTrue}
-use Rattle.std.proofs.Common.{IfOk, IfErr, OnOk, Vec, Global, refl, sym, ap, subst, ◌∙◌}
+use Rattle.std.proofs.Common.{◌≡◌, ◌⊎◌, inl, inr, ℕ, ℤ, List, [], ◌∷◌, map, filter, true, false, Ok, Err, Result}
+use Rattle.std.proofs.Common.{IsTrue, IfOk, IfErr, OnOk, Vec, Global, refl, sym, ap, subst, ◌∙◌}
 use Rattle.std.specs.List.Sorted.{IsPermutation}
 use Rattle.std.proofs.lemmas.List.Sorted.{IsPermutation-trans}
 use Rattle.std.specs.declared.cmp.Ordering.TheVariants.{Less}
@@ -22,11 +22,12 @@ use Rattle.sqlite.specs.Effect.{Database}
 use Rattle.sqlite.specs.State.{State, Shown, FailsToQuery, IsUnchanged, IsRolledBack}
 use Rattle.sqlite.proofs.Callers.{reads_as, IsPlain}
 use Rattle.sqlite.specs.Listing.{understood, reads_listing}
+use Rattle.sqlite_typing.specs.Types.{accepts_program}
 use Rattle.rtgs_rows.specs.Tables.{desk_schema}
 use Rattle.rtgs_rows.specs.Querying.{IsDeskFile}
 use Rattle.rtgs_tables.specs.Faults.{IsOfStore}
 use Rattle.rtgs_tables.proofs.Refusals.{Asks, of_store, intact}
-use Rattle.rtgs_tables.proofs.Queries.{simple, passes, shows, sorts, moved}
+use Rattle.rtgs_tables.proofs.Queries.{simple, passes, shows, sorts, moved, overflows_never}
 
 -- the tables are kept, where the connection stays open
 pub file_on : (trees : Trees) (old new : State) → IsDeskFile trees old → IsUnchanged old new ⊎ IsRolledBack old new
@@ -52,6 +53,7 @@ pub record Selects (text : List ℕ) (tree : ℕ) (project : List Term) (order :
     0 where
   pub asks : Asks desk_schema text 0 (record { lets = []; body = simple tree [] project (order ∷ []) }) names
   pub unlisted : reads_listing desk_schema text ≡ false
+  pub typed : accepts_program desk_schema [] (simple tree [] project (order ∷ [])) [] ≡ true
 
 all_pass : (rows : List Row) → filter (passes [] []) rows ≡ rows
 all_pass [] = refl
@@ -81,7 +83,10 @@ module _ (text : List ℕ) (tree : ℕ) (project : List Term) (order : Term × K
 
   pub refused : (r : Result (Vec Row Global) Error) → IfErr r (FailsToQuery text [] old new) → IfErr r IsOfStore
   refused (Ok rows) h = tt
-  refused (Err e) h = of_store text [] old new _ names asked e h
+  refused (Err e) h = of_store text [] old new _ names asked e
+      (subst (λ s. reads_listing s text ≡ false) (sym schema_is) is.unlisted)
+      (subst (λ s. accepts_program s [] query [] ≡ true) (sym schema_is) is.typed)
+      (overflows_never tree project (order ∷ []) (overlay old.now.trees []) []) h
 
   pub intact_after : (r : Result (Vec Row Global) Error) → IfOk r (λ rows. Shown text [] old new rows.items)
       → IfErr r (FailsToQuery text [] old new) → IsTrue new.is_open → IsDeskFile trees new

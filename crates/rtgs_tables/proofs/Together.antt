@@ -3,6 +3,8 @@ use Rattle.std.proofs.Common.{◌≡◌, ◌≢◌, ℤ, List, [], ◌∷◌, ma
 use Rattle.std.specs.List.{AllByRecursion}
 use Rattle.sqlite.specs.Tree.{Trees}
 use Rattle.sqlite.specs.State.{State}
+use Rattle.sqlite.specs.Effect.{Database}
+use Rattle.rtgs_tables.specs.Displaying.{IsDisplayed}
 use Rattle.sqlite_keyed.proofs.ListLemmas.{map-map, all_map}
 use Rattle.sqlite_catalog.specs.Listing.{IsSound}
 use Rattle.rtgs_book.specs.declared.Book.{Book}
@@ -119,8 +121,8 @@ pub kept_book : (s : State) (trees : Trees) (answer : Result Book Fault)
 kept_book s trees (Ok it) held file = (held.0, rests_of held.0 s trees (file (λ e. cc)) held.1, held.2)
 kept_book s trees (Err fault) held file = tt
 
-pub shown_always : (File : Trees → Type 0) (answer : Result Book Fault)
-    → ((trees : Trees) → File trees → IfOk answer (IsShown trees))
-    → IfOk answer (λ it. (trees : Trees) → File trees → IsShown trees it)
-shown_always File (Ok it) shown = shown
-shown_always File (Err fault) shown = tt
+pub shown_always : (File : Trees → Type 0) (db : Database) (answer : Result Book Fault)
+    → ((trees : Trees) → File trees → IfOk answer (IsShown trees)) → IfOk answer (IsDisplayed db)
+    → IfOk answer (λ it. ((trees : Trees) → File trees → IsShown trees it) × IsDisplayed db it)
+shown_always File db (Ok it) shown displays = (shown, displays)
+shown_always File db (Err fault) shown displays = tt

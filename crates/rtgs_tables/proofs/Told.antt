@@ -26,7 +26,7 @@ read_as fits counted shown places stored rows (Ok v) same told = (
 read_as fits counted shown places stored rows (Err e) same told = tt
 
 -- where no number is read in another way
-as_they_are : (rows : List Row) → map (as_read []) rows ≡ rows
+pub as_they_are : (rows : List Row) → map (as_read []) rows ≡ rows
 as_they_are [] = refl
 as_they_are (row ∷ rows) = ap (λ rs. row ∷ rs) (as_they_are rows)
 

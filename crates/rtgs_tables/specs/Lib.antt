@@ -3,3 +3,4 @@ pub mod Faults
 pub mod Building
 pub mod Accounts
 pub mod Numbers
+pub mod Displaying

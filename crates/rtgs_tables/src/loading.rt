@@ -6,6 +6,7 @@ ghost use Rattle.rtgs_book.specs.declared.account.Account.{Account as AccountSpe
 ghost use Rattle.rtgs_tables.specs.Accounts.{HasRecords, AreBalances, AreReadOf, AreFormed, ExplainsRead};
 ghost use Rattle.rtgs_tables.specs.Accounts.{ExplainsTrees, IsShown};
 ghost use Rattle.rtgs_tables.specs.Building.{IsBlank};
+ghost use Rattle.rtgs_tables.specs.Displaying.{AreDisplayed, IsDisplayed, IsIllegible, ExplainsDatabase};
 ghost use Rattle.rtgs_book.specs.Soundness.{IsSound};
 ghost use Rattle.rtgs_rows.specs.Content.{Content, Holds};
 ghost use Rattle.rtgs_rows.specs.Keeping.{IsBookOf};
@@ -41,6 +42,10 @@ fn read_tables<S: Alter>(alloc: Global, conn: &mut Connection<S>) -> Result<Stor
     ensures wrong { HasCleanDisk (state S.Store conn.new) → (trees : Trees) → IsDeskFile trees (state S.Store conn.old)
         → result ≡ Err Fault.NotADeskFile → ¬ AreFormed trees }
     ensures kinds { (rule : Rule) → result ≢ Err (Fault.Inconsistent rule) }
+    ensures displayed { HasCleanDisk (state S.Store conn.new) → IfOk result (λ stored.
+        AreDisplayed (state S.Store conn.old).now stored.accounts.items stored.book) }
+    ensures illegible { HasCleanDisk (state S.Store conn.new) → result ≡ Err Fault.NotADeskFile
+        → IsIllegible (state S.Store conn.old).now }
     ensures blank { HasCleanDisk (state S.Store conn.new) → IsBlank (state S.Store conn.old) → IfOk result (λ _. ⊥) }
     ensures same { HasCleanDisk (state S.Store conn.new) → (trees : Trees) → IsDeskFile trees (state S.Store conn.old)
         → result ≢ Err Fault.StoreFault → IsDeskFile trees (state S.Store conn.new) }
@@ -108,6 +113,10 @@ pub(crate) fn load_book<S: Alter>(alloc: Global, conn: &mut Connection<S>) -> Re
         → HasRecords accounts book (state S.Store conn.old) → IfErr result (ExplainsRead accounts book) }
     ensures caused { HasCleanDisk (state S.Store conn.new) → (trees : Trees) → IsDeskFile trees (state S.Store conn.old)
         → IfErr result (ExplainsTrees trees) }
+    ensures displayed { HasCleanDisk (state S.Store conn.new)
+        → IfOk result (IsDisplayed (state S.Store conn.old).now) }
+    ensures told { HasCleanDisk (state S.Store conn.new)
+        → IfErr result (ExplainsDatabase (state S.Store conn.old).now) }
     ensures blank { HasCleanDisk (state S.Store conn.new) → IsBlank (state S.Store conn.old)
         → IfOk result (λ _. ⊥) × ((rule : Rule) → result ≢ Err (Fault.Inconsistent rule)) }
     ensures same { HasCleanDisk (state S.Store conn.new) → (trees : Trees) → IsDeskFile trees (state S.Store conn.old)

@@ -11,6 +11,9 @@ ghost use Rattle.rtgs_tables.specs.Building.{IsBlank};
 ghost use Rattle.rtgs_rows.specs.Rows.{shown_day, shown_account, shown_posting, shown_order, shown_mark};
 ghost use Rattle.rtgs_rows.specs.Querying.{picked, IsDeskFile, ShowsDesk, ShowsParticipants, ShowsPostings};
 ghost use Rattle.rtgs_rows.specs.Querying.{ShowsPayments, ShowsMarks};
+ghost use Rattle.rtgs_tables.specs.Displaying.{desk_text, participants_text, postings_text, payments_text, marks_text};
+ghost use Rattle.rtgs_tables.specs.Displaying.{Displays, DisplaysAs, HasNoAnswer, IsUnread, IsOneDay};
+ghost use Rattle.rtgs_tables.specs.Displaying.{AreAccounts, ArePostings, AreOrders, AreMarks};
 ghost use Rattle.rtgs_tables.specs.Faults.{IsOfStore, LookFailed};
 ghost use Rattle.rtgs_tables.specs.Numbers.{counted_of_posting, counted_of_order, counted_of_mark, IsFormed};
 ghost use Rattle.sqlite.specs.State.{HasCleanDisk, IsUnchanged, Survives};
@@ -39,6 +42,11 @@ fn desk_rows<S: Alter>(conn: &mut Connection<S>) -> Result<Vec<Row>, Error>
     ensures intact { HasCleanDisk (state S.Store conn.new) → (trees : Trees) → IsDeskFile trees (state S.Store conn.old)
         → IsTrue (state S.Store conn.new).is_open → IsDeskFile trees (state S.Store conn.new) }
     ensures blank { HasCleanDisk (state S.Store conn.new) → IsBlank (state S.Store conn.old) → IfOk result (λ _. ⊥) }
+    ensures answered { HasCleanDisk (state S.Store conn.new) → IfOk result (λ rows.
+        Displays (state S.Store conn.old).now desk_text rows.items
+        × ((state S.Store conn.new).now ≡ (state S.Store conn.old).now)) }
+    ensures unanswered { HasCleanDisk (state S.Store conn.new) → IfErr result (λ error.
+        IsOfStore error ⊎ HasNoAnswer (state S.Store conn.old).now desk_text) }
     ensures survives { Survives (state S.Store conn.old) (state S.Store conn.new) (λ _. ⊥) }
     ensures mode { conn.old.in_transaction ≡ false → conn.new.in_transaction ≡ false }
     ensures honest { HasCleanDisk (state S.Store conn.new) → HasCleanDisk (state S.Store conn.old) }
@@ -59,6 +67,11 @@ fn participant_rows<S: Alter>(conn: &mut Connection<S>) -> Result<Vec<Row>, Erro
         → IsDeskFile trees (state S.Store conn.old) → IfErr result IsOfStore }
     ensures intact { HasCleanDisk (state S.Store conn.new) → (trees : Trees) → IsDeskFile trees (state S.Store conn.old)
         → IsTrue (state S.Store conn.new).is_open → IsDeskFile trees (state S.Store conn.new) }
+    ensures answered { HasCleanDisk (state S.Store conn.new) → IfOk result (λ rows.
+        Displays (state S.Store conn.old).now participants_text rows.items
+        × ((state S.Store conn.new).now ≡ (state S.Store conn.old).now)) }
+    ensures unanswered { HasCleanDisk (state S.Store conn.new) → IfErr result (λ error.
+        IsOfStore error ⊎ HasNoAnswer (state S.Store conn.old).now participants_text) }
     ensures survives { Survives (state S.Store conn.old) (state S.Store conn.new) (λ _. ⊥) }
     ensures mode { conn.old.in_transaction ≡ false → conn.new.in_transaction ≡ false }
     ensures honest { HasCleanDisk (state S.Store conn.new) → HasCleanDisk (state S.Store conn.old) }
@@ -82,6 +95,11 @@ fn posting_rows<S: Alter>(conn: &mut Connection<S>) -> Result<Vec<Row>, Error>
         → IsDeskFile trees (state S.Store conn.old) → IfErr result IsOfStore }
     ensures intact { HasCleanDisk (state S.Store conn.new) → (trees : Trees) → IsDeskFile trees (state S.Store conn.old)
         → IsTrue (state S.Store conn.new).is_open → IsDeskFile trees (state S.Store conn.new) }
+    ensures answered { HasCleanDisk (state S.Store conn.new) → IfOk result (λ rows.
+        Displays (state S.Store conn.old).now postings_text rows.items
+        × ((state S.Store conn.new).now ≡ (state S.Store conn.old).now)) }
+    ensures unanswered { HasCleanDisk (state S.Store conn.new) → IfErr result (λ error.
+        IsOfStore error ⊎ HasNoAnswer (state S.Store conn.old).now postings_text) }
     ensures survives { Survives (state S.Store conn.old) (state S.Store conn.new) (λ _. ⊥) }
     ensures mode { conn.old.in_transaction ≡ false → conn.new.in_transaction ≡ false }
     ensures honest { HasCleanDisk (state S.Store conn.new) → HasCleanDisk (state S.Store conn.old) }
@@ -105,6 +123,11 @@ fn payment_rows<S: Alter>(conn: &mut Connection<S>) -> Result<Vec<Row>, Error>
         → IsDeskFile trees (state S.Store conn.old) → IfErr result IsOfStore }
     ensures intact { HasCleanDisk (state S.Store conn.new) → (trees : Trees) → IsDeskFile trees (state S.Store conn.old)
         → IsTrue (state S.Store conn.new).is_open → IsDeskFile trees (state S.Store conn.new) }
+    ensures answered { HasCleanDisk (state S.Store conn.new) → IfOk result (λ rows.
+        Displays (state S.Store conn.old).now payments_text rows.items
+        × ((state S.Store conn.new).now ≡ (state S.Store conn.old).now)) }
+    ensures unanswered { HasCleanDisk (state S.Store conn.new) → IfErr result (λ error.
+        IsOfStore error ⊎ HasNoAnswer (state S.Store conn.old).now payments_text) }
     ensures survives { Survives (state S.Store conn.old) (state S.Store conn.new) (λ _. ⊥) }
     ensures mode { conn.old.in_transaction ≡ false → conn.new.in_transaction ≡ false }
     ensures honest { HasCleanDisk (state S.Store conn.new) → HasCleanDisk (state S.Store conn.old) }
@@ -128,6 +151,11 @@ fn mark_rows<S: Alter>(conn: &mut Connection<S>) -> Result<Vec<Row>, Error>
         → IsDeskFile trees (state S.Store conn.old) → IfErr result IsOfStore }
     ensures intact { HasCleanDisk (state S.Store conn.new) → (trees : Trees) → IsDeskFile trees (state S.Store conn.old)
         → IsTrue (state S.Store conn.new).is_open → IsDeskFile trees (state S.Store conn.new) }
+    ensures answered { HasCleanDisk (state S.Store conn.new) → IfOk result (λ rows.
+        Displays (state S.Store conn.old).now marks_text rows.items
+        × ((state S.Store conn.new).now ≡ (state S.Store conn.old).now)) }
+    ensures unanswered { HasCleanDisk (state S.Store conn.new) → IfErr result (λ error.
+        IsOfStore error ⊎ HasNoAnswer (state S.Store conn.old).now marks_text) }
     ensures survives { Survives (state S.Store conn.old) (state S.Store conn.new) (λ _. ⊥) }
     ensures mode { conn.old.in_transaction ≡ false → conn.new.in_transaction ≡ false }
     ensures honest { HasCleanDisk (state S.Store conn.new) → HasCleanDisk (state S.Store conn.old) }
@@ -159,7 +187,8 @@ pub(crate) fn is_alive<S: Alter>(conn: &mut Connection<S>) -> bool
 }
 
 /// What the failure of a query says of the file: lack of memory, where the connection is seen to be open still; else a
-/// fault of the store, where the store or its engine failed; else that the tables are not those of a desk.
+/// fault of the store, where that failed; else that the tables are not those of a desk, as where the engine finds no
+/// such table, or cannot compute what a view of that name asks for.
 fn fault_of<S: Alter>(conn: &mut Connection<S>, error: &Error) -> Fault
     ensures mode { conn.old.in_transaction ≡ false → conn.new.in_transaction ≡ false }
     ensures honest { HasCleanDisk (state S.Store conn.new) → HasCleanDisk (state S.Store conn.old) }
@@ -168,12 +197,17 @@ fn fault_of<S: Alter>(conn: &mut Connection<S>, error: &Error) -> Fault
     ensures must { HasCleanDisk (state S.Store conn.new) → error.now ≡ Error.SqliteFailure ErrorCode.OutOfMemory
         → (result ≡ Fault.OutOfMemory) ⊎ LookFailed (state S.Store conn.old) (state S.Store conn.new) }
     ensures right { IsOfStore error.now → (result ≡ Fault.OutOfMemory) ⊎ (result ≡ Fault.StoreFault) }
+    ensures wrong { result ≡ Fault.NotADeskFile → ¬ IsOfStore error.now }
+    ensures foreign { ¬ IsOfStore error.now → result ≡ Fault.NotADeskFile }
     ensures same { result ≡ Fault.OutOfMemory → HasCleanDisk (state S.Store conn.new)
         → IsUnchanged (state S.Store conn.old) (state S.Store conn.new) }
     ensures survives { Survives (state S.Store conn.old) (state S.Store conn.new) (λ _. ⊥) }
 {
     match error {
         Error::SqliteFailure(ErrorCode::OutOfMemory) if is_alive(conn) => Fault::OutOfMemory,
+        Error::SqliteFailure(ErrorCode::TypeMismatch | ErrorCode::IntegerOverflow) => {
+            Fault::NotADeskFile
+        }
         Error::SqliteFailure(_) => Fault::StoreFault,
         _ => Fault::NotADeskFile,
     }
@@ -206,6 +240,11 @@ pub(crate) fn read_day<S: Alter>(conn: &mut Connection<S>) -> Result<Day, Fault>
     ensures wrong { HasCleanDisk (state S.Store conn.new) → (trees : Trees) → IsDeskFile trees (state S.Store conn.old)
         → result ≡ Err Fault.NotADeskFile → ¬ ((day : DaySpec) × FitsDate day.date
         × ShowsDesk trees (shown_day day ∷ [])) }
+    ensures told { HasCleanDisk (state S.Store conn.new) → IfOk result (λ day. FitsDate day.date
+        × Displays (state S.Store conn.old).now desk_text (shown_day day ∷ [])
+        × ((state S.Store conn.new).now ≡ (state S.Store conn.old).now)) }
+    ensures unread { HasCleanDisk (state S.Store conn.new) → result ≡ Err Fault.NotADeskFile
+        → IsUnread (state S.Store conn.old).now desk_text IsOneDay }
     ensures kinds { (rule : Rule) → result ≢ Err (Fault.Inconsistent rule) }
     ensures same { HasCleanDisk (state S.Store conn.new) → (trees : Trees) → IsDeskFile trees (state S.Store conn.old)
         → result ≢ Err Fault.StoreFault → IsDeskFile trees (state S.Store conn.new) }
@@ -237,6 +276,13 @@ pub(crate) fn read_accounts<S: Alter>(
         (IsFormed (λ (a : AccountSpec). FitsParticipant a.participant) []
         (λ (a : AccountSpec). shown_account a.participant a.balance))
         (map (picked (1 ∷ 2 ∷ 3 ∷ 4 ∷ 5 ∷ [])) (trees 1)) }
+    ensures told { HasCleanDisk (state S.Store conn.new) → IfOk result (λ v.
+        AllByRecursion (λ (a : AccountSpec). FitsParticipant a.participant) v.items
+        × Displays (state S.Store conn.old).now participants_text
+        (map (λ (a : AccountSpec). shown_account a.participant a.balance) v.items)
+        × ((state S.Store conn.new).now ≡ (state S.Store conn.old).now)) }
+    ensures unread { HasCleanDisk (state S.Store conn.new) → result ≡ Err Fault.NotADeskFile
+        → IsUnread (state S.Store conn.old).now participants_text AreAccounts }
     ensures kinds { (rule : Rule) → result ≢ Err (Fault.Inconsistent rule) }
     ensures same { HasCleanDisk (state S.Store conn.new) → (trees : Trees) → IsDeskFile trees (state S.Store conn.old)
         → result ≢ Err Fault.StoreFault → IsDeskFile trees (state S.Store conn.new) }
@@ -265,6 +311,11 @@ pub(crate) fn read_postings<S: Alter>(
     ensures wrong { HasCleanDisk (state S.Store conn.new) → (trees : Trees) → IsDeskFile trees (state S.Store conn.old)
         → result ≡ Err Fault.NotADeskFile → ¬ AllByRecursion (IsFormed FitsPosting counted_of_posting shown_posting)
         (map (picked (0 ∷ 2 ∷ 3 ∷ 4 ∷ 5 ∷ [])) (trees 4)) }
+    ensures told { HasCleanDisk (state S.Store conn.new) → IfOk result (λ v. AllByRecursion FitsPosting v.items
+        × DisplaysAs (state S.Store conn.old).now postings_text counted_of_posting (map shown_posting v.items)
+        × ((state S.Store conn.new).now ≡ (state S.Store conn.old).now)) }
+    ensures unread { HasCleanDisk (state S.Store conn.new) → result ≡ Err Fault.NotADeskFile
+        → IsUnread (state S.Store conn.old).now postings_text ArePostings }
     ensures kinds { (rule : Rule) → result ≢ Err (Fault.Inconsistent rule) }
     ensures same { HasCleanDisk (state S.Store conn.new) → (trees : Trees) → IsDeskFile trees (state S.Store conn.old)
         → result ≢ Err Fault.StoreFault → IsDeskFile trees (state S.Store conn.new) }
@@ -293,6 +344,11 @@ pub(crate) fn read_orders<S: Alter>(
     ensures wrong { HasCleanDisk (state S.Store conn.new) → (trees : Trees) → IsDeskFile trees (state S.Store conn.old)
         → result ≡ Err Fault.NotADeskFile → ¬ AllByRecursion (IsFormed FitsOrder counted_of_order shown_order)
         (map (picked (0 ∷ 2 ∷ 3 ∷ 4 ∷ 5 ∷ 6 ∷ 7 ∷ 8 ∷ [])) (trees 6)) }
+    ensures told { HasCleanDisk (state S.Store conn.new) → IfOk result (λ v. AllByRecursion FitsOrder v.items
+        × DisplaysAs (state S.Store conn.old).now payments_text counted_of_order (map shown_order v.items)
+        × ((state S.Store conn.new).now ≡ (state S.Store conn.old).now)) }
+    ensures unread { HasCleanDisk (state S.Store conn.new) → result ≡ Err Fault.NotADeskFile
+        → IsUnread (state S.Store conn.old).now payments_text AreOrders }
     ensures kinds { (rule : Rule) → result ≢ Err (Fault.Inconsistent rule) }
     ensures same { HasCleanDisk (state S.Store conn.new) → (trees : Trees) → IsDeskFile trees (state S.Store conn.old)
         → result ≢ Err Fault.StoreFault → IsDeskFile trees (state S.Store conn.new) }
@@ -321,6 +377,11 @@ pub(crate) fn read_marks<S: Alter>(
     ensures wrong { HasCleanDisk (state S.Store conn.new) → (trees : Trees) → IsDeskFile trees (state S.Store conn.old)
         → result ≡ Err Fault.NotADeskFile → ¬ AllByRecursion (IsFormed FitsMark counted_of_mark shown_mark)
         (map (picked (0 ∷ 2 ∷ 3 ∷ 4 ∷ [])) (trees 8)) }
+    ensures told { HasCleanDisk (state S.Store conn.new) → IfOk result (λ v. AllByRecursion FitsMark v.items
+        × DisplaysAs (state S.Store conn.old).now marks_text counted_of_mark (map shown_mark v.items)
+        × ((state S.Store conn.new).now ≡ (state S.Store conn.old).now)) }
+    ensures unread { HasCleanDisk (state S.Store conn.new) → result ≡ Err Fault.NotADeskFile
+        → IsUnread (state S.Store conn.old).now marks_text AreMarks }
     ensures kinds { (rule : Rule) → result ≢ Err (Fault.Inconsistent rule) }
     ensures same { HasCleanDisk (state S.Store conn.new) → (trees : Trees) → IsDeskFile trees (state S.Store conn.old)
         → result ≢ Err Fault.StoreFault → IsDeskFile trees (state S.Store conn.new) }

@@ -109,6 +109,7 @@ impl<S: Alter + Drop> Keeper for SqlKeeper<S> {
     ghost use Rattle.rtgs_tables.specs.Building.{IsBlank};
     ghost use Rattle.rtgs_book.specs.declared.account.Account.{Account as AccountSpec};
     ghost use Rattle.rtgs_tables.specs.Accounts.{HasRecords, ExplainsRead, ExplainsTrees, IsShown};
+    ghost use Rattle.rtgs_tables.specs.Displaying.{IsDisplayed, ExplainsDatabase};
     ghost use Rattle.std.specs.Prelude.{List};
 
     ghost content = { λ k. HoldsBook S.Store k.conn };
@@ -125,9 +126,11 @@ impl<S: Alter + Drop> Keeper for SqlKeeper<S> {
 
     ghost explains = { λ k fault. ((accounts : List AccountSpec) (book : Book)
         → HasRecords accounts book (state S.Store k.conn) → ExplainsRead accounts book fault)
-        × ((trees : Trees) → IsDeskFile trees (state S.Store k.conn) → ExplainsTrees trees fault) };
+        × (((trees : Trees) → IsDeskFile trees (state S.Store k.conn) → ExplainsTrees trees fault)
+        × ExplainsDatabase (state S.Store k.conn).now fault) };
 
-    ghost shows = { λ k book. (trees : Trees) → IsDeskFile trees (state S.Store k.conn) → IsShown trees book };
+    ghost shows = { λ k book. ((trees : Trees) → IsDeskFile trees (state S.Store k.conn) → IsShown trees book)
+        × IsDisplayed (state S.Store k.conn).now book };
 
     ghost leaves_no_more = { λ old new. (trees : Trees) → (state S.Store new.conn).may_leave trees
         → (state S.Store old.conn).may_leave trees };

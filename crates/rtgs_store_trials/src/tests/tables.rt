@@ -1,5 +1,6 @@
 //! Books kept in tables, found again, and refused where they are meddled with, over a store in memory.
 mod memory_keeper;
+mod no_memory;
 mod stored_numbers;
 
 use super::setting::{change, code, participant, posting};
@@ -111,6 +112,9 @@ fn tables_of_something_else_are_no_desk(rt: HostRuntime) -> Result<(), Fail> {
     let alloc = rt.alloc();
     for sql in [
         "DROP TABLE mark",
+        "DROP TABLE mark; CREATE VIEW mark AS SELECT number, date, cents AS value FROM posting",
+        "CREATE TABLE large (a INTEGER); INSERT INTO large VALUES (9223372036854775807), (1); \
+         DROP TABLE mark; CREATE VIEW mark AS SELECT sum(a) AS number, '' AS date, 1 AS many, 1 AS value FROM large",
         "DELETE FROM desk",
         "UPDATE desk SET version = 2",
         "UPDATE desk SET id = 2",
@@ -230,6 +234,19 @@ fn tables_without_keys_are_judged(rt: HostRuntime) -> Result<(), Fail> {
             Some(Fault::Inconsistent { rule }),
             "{sql}"
         );
+    }
+    Ok(())
+}
+
+#[test]
+fn other_tables_that_show_a_book_are_read(rt: HostRuntime) -> Result<(), Fail> {
+    let alloc = rt.alloc();
+    for sql in [
+        "DROP TABLE mark; CREATE TABLE mark (number INTEGER, date TEXT, many INTEGER, value INTEGER, more TEXT)",
+        "DROP TABLE mark; CREATE VIEW mark AS SELECT number, date, 1 AS many, cents AS value FROM posting \
+         WHERE number > 1",
+    ] {
+        assert_eq!(rt; fault_after(alloc, sql)?, None, "{sql}");
     }
     Ok(())
 }

@@ -2,6 +2,7 @@ use Rattle.std.proofs.Common.{◌≡◌, refl, sym, ⊎_elim}
 use Rattle.sqlite.specs.Held.{state}
 use Rattle.sqlite.specs.Tree.{Trees}
 use Rattle.rtgs_stored_desk.proofs.Resting.{held_at_rest, blank_at_rest, file_at_rest, tables_are, memory_explains}
+use Rattle.rtgs_stored_desk.proofs.Resting.{memory_tells}
 use Rattle.rtgs_stored_desk.proofs.opening.desk_over.Goals as goal
 
 pub returns-in-Ok-clause-opened : goal.returns-in-Ok-clause-opened
@@ -22,6 +23,7 @@ returns-in-Ok-clause-opened g c honest rest =
             tables_are found.0 (state g.S.Store was).committed.trees left.0 (sym (same left.0 left.1)) left.2,
             found.1,
           );
+      shown = let seen = it.shown honest in (seen.0, seen.1, seen.2.1);
       some = λ none. it.empty honest (blank_at_rest (state g.S.Store was) c.no_tables_are_read_as_none.ensures rest
           none);
       leaves = same;
@@ -36,7 +38,9 @@ returns-in-Err-clause-refused g c honest rest =
           c.tables_of_a_desk_are_read_as_such.ensures rest book tables);
       explained = λ schema. ⊎_elim (λ memory. memory_explains (state g.S.Store was).committed.trees c.in-Err.fault
           memory)
-          (λ told. told.1 (state g.S.Store was).committed.trees (file_at_rest (state g.S.Store was) rest schema))
+          (λ told. told.1.0 (state g.S.Store was).committed.trees (file_at_rest (state g.S.Store was) rest schema))
+          (it.explained honest);
+      told = ⊎_elim (λ memory. memory_tells (state g.S.Store was).now c.in-Err.fault memory) (λ told. told.1.1)
           (it.explained honest);
       no_rule = λ none rule. it.no_rule honest (blank_at_rest (state g.S.Store was) c.no_tables_are_read_as_none.ensures
           rest none) rule;

@@ -6,6 +6,7 @@ use Rattle.rtgs_rows.specs.Tables.{desk_schema}
 use Rattle.rtgs_tables.specs.Accounts.{ExplainsRead}
 use Rattle.rtgs_tables.proofs.Judging.{judged_book, judged_of, unread, unread_of, answered}
 use Rattle.rtgs_tables.proofs.Together.{held_book, shown_book}
+use Rattle.rtgs_tables.proofs.Displaying.{displayed_book, told_of_book, told_of_none}
 use Rattle.rtgs_tables.proofs.loading.load_book.Goals as goal
 
 pub returns-in_err-stored-clause-explained : goal.returns-in_err-stored-clause-explained
@@ -54,3 +55,16 @@ returns-clause-caused g c clean trees file = judged_of trees _ _ c.judged.result
 pub returns-clause-shown : goal.returns-clause-shown
 returns-clause-shown g c clean trees file = shown_book trees _ _ c.judged.result
     (c.in_ok-stored.ensures.is clean trees file) c.judged.ensures.given c.judged.ensures.sound c.judged.ensures.balances
+
+pub returns-in_err-stored-clause-told : goal.returns-in_err-stored-clause-told
+returns-in_err-stored-clause-told g c clean =
+    told_of_none (state g.S.Store c.args.conn.now).now c.read_tables.result _ c.from_residual.result
+    (c.read_tables.ensures.illegible clean) c.read_tables.ensures.kinds c.in_err-stored.was c.from_residual.ensures.1
+
+pub returns-clause-told : goal.returns-clause-told
+returns-clause-told g c clean = told_of_book (state g.S.Store c.args.conn.now).now _ _ c.judged.result
+    (c.in_ok-stored.ensures.displayed clean) c.judged.ensures.explained
+
+pub returns-clause-displayed : goal.returns-clause-displayed
+returns-clause-displayed g c clean = displayed_book (state g.S.Store c.args.conn.now).now _ _ c.judged.result
+    (c.in_ok-stored.ensures.displayed clean) c.judged.ensures.given c.judged.ensures.sound c.judged.ensures.balances

@@ -1,4 +1,4 @@
-use Rattle.std.proofs.Common.{arith, map, sym, ap, ◌∙◌}
+use Rattle.std.proofs.Common.{arith, inl, inr, map, sym, ap, subst, ◌∙◌}
 use Rattle.rtgs_book.specs.declared.account.Account.{Account}
 use Rattle.sqlite.specs.State.{HasCleanDisk}
 use Rattle.sqlite.specs.Held.{state}
@@ -6,6 +6,9 @@ use Rattle.rtgs_book.specs.declared.Fault.TheVariants.{NotADeskFile, StoreFault}
 use Rattle.rtgs_tables.proofs.Accounts.{kept_on}
 use Rattle.rtgs_tables.proofs.Judging.{same_fault, answered}
 use Rattle.rtgs_tables.proofs.Together.{are_read_of}
+use Rattle.rtgs_tables.specs.Displaying.{IsUnread, participants_text, postings_text, payments_text, marks_text}
+use Rattle.rtgs_tables.specs.Displaying.{AreAccounts, ArePostings, AreOrders, AreMarks}
+use Rattle.rtgs_tables.proofs.Displaying.{are_displayed}
 use Rattle.rtgs_tables.proofs.loading.read_tables.Goals as goal
 
 pub returns-in_err-day-clause-right : goal.returns-in_err-day-clause-right
@@ -289,3 +292,78 @@ returns-in_err-marks-clause-wrong g c clean trees file e formed =
     let f3 = c.read_orders.ensures.same c3 trees f2 (λ e. let is = c.in_ok-orders.was in cc) in
     c.read_marks.ensures.wrong clean trees f3 (same_fault c.read_marks.result _ NotADeskFile
     c.from_residual-in_err-marks.result c.in_err-marks.was c.from_residual-in_err-marks.ensures.1 e) formed.marks
+
+pub returns-clause-displayed : goal.returns-clause-displayed
+returns-clause-displayed g c clean =
+    let c4 : HasCleanDisk (state g.S.Store c.read_marks.new.conn) = clean in
+    let c3 : HasCleanDisk (state g.S.Store c.read_orders.new.conn) =
+    omega (arith, c.read_marks.ensures.survives.clean) in
+    let c2 : HasCleanDisk (state g.S.Store c.read_postings.new.conn) =
+    omega (arith, c.read_orders.ensures.survives.clean) in
+    let c1 : HasCleanDisk (state g.S.Store c.read_accounts.new.conn) =
+    omega (arith, c.read_postings.ensures.survives.clean) in
+    let c0 : HasCleanDisk (state g.S.Store c.read_day.new.conn) =
+    omega (arith, c.read_accounts.ensures.survives.clean) in
+    let participants = c.from_vec.ensures ∙ c.in_ok-participants.ensures
+    ∙ ap (map (λ (a : Account). a.participant)) c.as_slice.ensures.value in
+    are_displayed (state g.S.Store c.args.conn.now).now (state g.S.Store c.read_day.new.conn).now
+    (state g.S.Store c.read_accounts.new.conn).now (state g.S.Store c.read_postings.new.conn).now
+    (state g.S.Store c.read_orders.new.conn).now (state g.S.Store c.read_marks.new.conn).now _ _ participants
+    c.from_vec-2.ensures c.from_vec-3.ensures c.from_vec-4.ensures (c.in_ok-day.ensures.told c0)
+    (c.in_ok-accounts.ensures.told c1) (c.in_ok-postings.ensures.told c2) (c.in_ok-orders.ensures.told c3)
+    (c.in_ok-marks.ensures.told c4)
+
+pub returns-in_err-day-clause-illegible : goal.returns-in_err-day-clause-illegible
+returns-in_err-day-clause-illegible g c clean e =
+    inl (c.read_day.ensures.unread clean (same_fault c.read_day.result _ NotADeskFile c.from_residual.result
+    c.in_err-day.was c.from_residual.ensures.1 e))
+
+pub returns-in_err-accounts-clause-illegible : goal.returns-in_err-accounts-clause-illegible
+returns-in_err-accounts-clause-illegible g c clean e =
+    let c0 : HasCleanDisk (state g.S.Store c.read_day.new.conn) =
+    omega (arith, c.read_accounts.ensures.survives.clean) in
+    let same = (c.in_ok-day.ensures.told c0).2 in
+    inr (inl (subst (λ k. IsUnread k participants_text AreAccounts) same
+    (c.read_accounts.ensures.unread clean (same_fault c.read_accounts.result _ NotADeskFile
+    c.from_residual-in_err-accounts.result c.in_err-accounts.was c.from_residual-in_err-accounts.ensures.1 e))))
+
+pub returns-in_err-postings-clause-illegible : goal.returns-in_err-postings-clause-illegible
+returns-in_err-postings-clause-illegible g c clean e =
+    let c1 : HasCleanDisk (state g.S.Store c.read_accounts.new.conn) =
+    omega (arith, c.read_postings.ensures.survives.clean) in
+    let c0 : HasCleanDisk (state g.S.Store c.read_day.new.conn) =
+    omega (arith, c.read_accounts.ensures.survives.clean) in
+    let same = (c.in_ok-accounts.ensures.told c1).2 ∙ (c.in_ok-day.ensures.told c0).2 in
+    inr (inr (inl (subst (λ k. IsUnread k postings_text ArePostings) same
+    (c.read_postings.ensures.unread clean (same_fault c.read_postings.result _ NotADeskFile
+    c.from_residual-in_err-postings.result c.in_err-postings.was c.from_residual-in_err-postings.ensures.1 e)))))
+
+pub returns-in_err-orders-clause-illegible : goal.returns-in_err-orders-clause-illegible
+returns-in_err-orders-clause-illegible g c clean e =
+    let c2 : HasCleanDisk (state g.S.Store c.read_postings.new.conn) =
+    omega (arith, c.read_orders.ensures.survives.clean) in
+    let c1 : HasCleanDisk (state g.S.Store c.read_accounts.new.conn) =
+    omega (arith, c.read_postings.ensures.survives.clean) in
+    let c0 : HasCleanDisk (state g.S.Store c.read_day.new.conn) =
+    omega (arith, c.read_accounts.ensures.survives.clean) in
+    let same = (c.in_ok-postings.ensures.told c2).2 ∙ (c.in_ok-accounts.ensures.told c1).2
+    ∙ (c.in_ok-day.ensures.told c0).2 in
+    inr (inr (inr (inl (subst (λ k. IsUnread k payments_text AreOrders) same
+    (c.read_orders.ensures.unread clean (same_fault c.read_orders.result _ NotADeskFile
+    c.from_residual-in_err-orders.result c.in_err-orders.was c.from_residual-in_err-orders.ensures.1 e))))))
+
+pub returns-in_err-marks-clause-illegible : goal.returns-in_err-marks-clause-illegible
+returns-in_err-marks-clause-illegible g c clean e =
+    let c3 : HasCleanDisk (state g.S.Store c.read_orders.new.conn) =
+    omega (arith, c.read_marks.ensures.survives.clean) in
+    let c2 : HasCleanDisk (state g.S.Store c.read_postings.new.conn) =
+    omega (arith, c.read_orders.ensures.survives.clean) in
+    let c1 : HasCleanDisk (state g.S.Store c.read_accounts.new.conn) =
+    omega (arith, c.read_postings.ensures.survives.clean) in
+    let c0 : HasCleanDisk (state g.S.Store c.read_day.new.conn) =
+    omega (arith, c.read_accounts.ensures.survives.clean) in
+    let same = (c.in_ok-orders.ensures.told c3).2 ∙ (c.in_ok-postings.ensures.told c2).2
+    ∙ (c.in_ok-accounts.ensures.told c1).2 ∙ (c.in_ok-day.ensures.told c0).2 in
+    inr (inr (inr (inr (subst (λ k. IsUnread k marks_text AreMarks) same
+    (c.read_marks.ensures.unread clean (same_fault c.read_marks.result _ NotADeskFile
+    c.from_residual-in_err-marks.result c.in_err-marks.was c.from_residual-in_err-marks.ensures.1 e))))))

@@ -6,6 +6,7 @@ use Rattle.rtgs_tables.proofs.Selecting.{desk_text, desk_project, desk_order, de
 use Rattle.rtgs_tables.proofs.Selecting.{stored_here}
 use Rattle.rtgs_tables.proofs.Blank.{unshown}
 use Rattle.rtgs_tables.proofs.ReadingAlone.{commits_nothing, desk_reads}
+use Rattle.rtgs_tables.proofs.Displaying.{displayed, unanswered, desk_query, desk_unlisted}
 use Rattle.rtgs_tables.proofs.reading.desk_rows.Goals as goal
 
 pub returns-clause-rows : goal.returns-clause-rows
@@ -41,3 +42,11 @@ returns-clause-survives g c = survives_weaker (state g.S.Store c.args.conn.now) 
 pub returns-clause-blank : goal.returns-clause-blank
 returns-clause-blank g c clean blank = unshown (state g.S.Store c.args.conn.now) (state g.S.Store c.query_all.new.self)
     blank c.query_all.result (c.query_all.ensures.ok clean)
+
+pub returns-clause-answered : goal.returns-clause-answered
+returns-clause-answered g c clean = displayed desk_text desk_query desk_unlisted (state g.S.Store c.args.conn.now)
+    (state g.S.Store c.query_all.new.self) c.query_all.result (c.query_all.ensures.ok clean)
+
+pub returns-clause-unanswered : goal.returns-clause-unanswered
+returns-clause-unanswered g c clean = unanswered desk_text desk_query desk_unlisted (state g.S.Store c.args.conn.now)
+    (state g.S.Store c.query_all.new.self) c.query_all.result (c.query_all.ensures.err clean)

@@ -5,6 +5,7 @@ use Rattle.rtgs_tables.proofs.Showing.{shows_all, refused, intact_after, kept_af
 use Rattle.rtgs_tables.proofs.Selecting.{participants_text, participants_project, participants_order}
 use Rattle.rtgs_tables.proofs.Selecting.{participants_names, participants_selects, participants_shown, stored_here}
 use Rattle.rtgs_tables.proofs.ReadingAlone.{commits_nothing, participants_read}
+use Rattle.rtgs_tables.proofs.Displaying.{displayed, unanswered, participants_query, participants_unlisted}
 use Rattle.rtgs_tables.proofs.reading.participant_rows.Goals as goal
 
 pub returns-clause-rows : goal.returns-clause-rows
@@ -38,3 +39,13 @@ pub returns-clause-survives : goal.returns-clause-survives
 returns-clause-survives g c = survives_weaker (state g.S.Store c.args.conn.now) (state g.S.Store c.query_all.new.self) _
     _ (λ _ db commits. commits_nothing participants_text [] (state g.S.Store c.args.conn.now) db participants_read
     commits) c.query_all.ensures.survives
+
+pub returns-clause-answered : goal.returns-clause-answered
+returns-clause-answered g c clean = displayed participants_text participants_query participants_unlisted
+    (state g.S.Store c.args.conn.now) (state g.S.Store c.query_all.new.self) c.query_all.result
+    (c.query_all.ensures.ok clean)
+
+pub returns-clause-unanswered : goal.returns-clause-unanswered
+returns-clause-unanswered g c clean = unanswered participants_text participants_query participants_unlisted
+    (state g.S.Store c.args.conn.now) (state g.S.Store c.query_all.new.self) c.query_all.result
+    (c.query_all.ensures.err clean)

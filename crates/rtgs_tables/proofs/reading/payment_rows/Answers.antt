@@ -5,6 +5,7 @@ use Rattle.rtgs_tables.proofs.Showing.{shows_all, refused, intact_after, kept_af
 use Rattle.rtgs_tables.proofs.Selecting.{payments_text, payments_project, payments_order, payments_names}
 use Rattle.rtgs_tables.proofs.Selecting.{payments_selects, payments_shown, stored_here}
 use Rattle.rtgs_tables.proofs.ReadingAlone.{commits_nothing, payments_read}
+use Rattle.rtgs_tables.proofs.Displaying.{displayed, unanswered, payments_query, payments_unlisted}
 use Rattle.rtgs_tables.proofs.reading.payment_rows.Goals as goal
 
 pub returns-clause-rows : goal.returns-clause-rows
@@ -36,3 +37,13 @@ pub returns-clause-survives : goal.returns-clause-survives
 returns-clause-survives g c = survives_weaker (state g.S.Store c.args.conn.now) (state g.S.Store c.query_all.new.self) _
     _ (λ _ db commits. commits_nothing payments_text [] (state g.S.Store c.args.conn.now) db payments_read commits)
     c.query_all.ensures.survives
+
+pub returns-clause-answered : goal.returns-clause-answered
+returns-clause-answered g c clean = displayed payments_text payments_query payments_unlisted
+    (state g.S.Store c.args.conn.now) (state g.S.Store c.query_all.new.self) c.query_all.result
+    (c.query_all.ensures.ok clean)
+
+pub returns-clause-unanswered : goal.returns-clause-unanswered
+returns-clause-unanswered g c clean = unanswered payments_text payments_query payments_unlisted
+    (state g.S.Store c.args.conn.now) (state g.S.Store c.query_all.new.self) c.query_all.result
+    (c.query_all.ensures.err clean)

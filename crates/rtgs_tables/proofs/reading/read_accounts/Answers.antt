@@ -10,6 +10,8 @@ use Rattle.rtgs_tables.proofs.AsRead.{rows_same, are_formed}
 use Rattle.sqlite.specs.Held.{state}
 use Rattle.rtgs_tables.proofs.Resting.{file_of}
 use Rattle.rtgs_tables.proofs.Keeps.{not_foreign, file_after}
+use Rattle.rtgs_tables.specs.Displaying.{participants_text, AreAccounts}
+use Rattle.rtgs_tables.proofs.Displaying.{recorded_plainly, without_form, without_answer}
 use Rattle.rtgs_tables.proofs.reading.read_accounts.Goals as goal
 
 abbrev fits : Account → Type 0
@@ -61,3 +63,20 @@ returns-in-Err-clause-same g c clean trees file =
     c.fault_of.result (c.in-Err.ensures.intact was trees file)
     (c.fault_of.ensures.right (c.in-Err.ensures.refused was trees file))
     (λ memory. c.fault_of.ensures.same memory clean)
+
+pub returns-in-Ok-clause-told : goal.returns-in-Ok-clause-told
+returns-in-Ok-clause-told g c clean =
+    recorded_plainly (λ (a : Account). FitsParticipant a.participant)
+    (λ (a : Account). shown_account a.participant a.balance)
+    (state g.S.Store c.args.conn.now).now (state g.S.Store c.participant_rows.new.conn).now participants_text _ _
+    c.decode.result c.as_slice.ensures.value (c.in-Ok.ensures.answered clean) c.decode.ensures.is
+
+pub returns-in-Ok-clause-unread : goal.returns-in-Ok-clause-unread
+returns-in-Ok-clause-unread g c clean e =
+    without_form (state g.S.Store c.args.conn.now).now participants_text AreAccounts _ _ c.as_slice.ensures.value
+    (c.in-Ok.ensures.answered clean).0 (c.decode.ensures.wrong e)
+
+pub returns-in-Err-clause-unread : goal.returns-in-Err-clause-unread
+returns-in-Err-clause-unread g c clean =
+    without_answer (state g.S.Store c.args.conn.now).now participants_text AreAccounts c.fault_of.result _
+    c.fault_of.ensures.wrong (c.in-Err.ensures.unanswered (c.fault_of.ensures.honest clean))

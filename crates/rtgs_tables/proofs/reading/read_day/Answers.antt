@@ -4,6 +4,8 @@ use Rattle.rtgs_tables.proofs.Told.{day_shown, no_day, not_read}
 use Rattle.sqlite.specs.Held.{state}
 use Rattle.rtgs_tables.proofs.Resting.{file_of}
 use Rattle.rtgs_tables.proofs.Keeps.{not_foreign, file_after}
+use Rattle.rtgs_tables.specs.Displaying.{desk_text, IsOneDay}
+use Rattle.rtgs_tables.proofs.Displaying.{day_displayed, without_form, without_answer}
 use Rattle.rtgs_tables.proofs.reading.read_day.Goals as goal
 
 pub returns-in-Ok-clause-given : goal.returns-in-Ok-clause-given
@@ -50,3 +52,20 @@ returns-in-Err-clause-same g c clean trees file =
     file_after trees (state g.S.Store c.desk_rows.new.conn) (state g.S.Store c.fault_of.new.conn) c.fault_of.result
     (c.in-Err.ensures.intact was trees file) (c.fault_of.ensures.right (c.in-Err.ensures.refused was trees file))
     (λ memory. c.fault_of.ensures.same memory clean)
+
+pub returns-in-Ok-clause-told : goal.returns-in-Ok-clause-told
+returns-in-Ok-clause-told g c clean =
+    let seen = c.in-Ok.ensures.answered clean in
+    day_displayed (state g.S.Store c.args.conn.now).now (state g.S.Store c.desk_rows.new.conn).now desk_text _ _
+    c.one_day.result c.as_slice.ensures.value seen c.one_day.ensures.is
+
+pub returns-in-Ok-clause-unread : goal.returns-in-Ok-clause-unread
+returns-in-Ok-clause-unread g c clean e =
+    let none = not_read c.one_day.result _ _ c.one_day.ensures.wrong e in
+    without_form (state g.S.Store c.args.conn.now).now desk_text IsOneDay _ _ c.as_slice.ensures.value
+    (c.in-Ok.ensures.answered clean).0 (λ found. none found.0 found.1 found.2)
+
+pub returns-in-Err-clause-unread : goal.returns-in-Err-clause-unread
+returns-in-Err-clause-unread g c clean =
+    without_answer (state g.S.Store c.args.conn.now).now desk_text IsOneDay c.fault_of.result _
+    c.fault_of.ensures.wrong (c.in-Err.ensures.unanswered (c.fault_of.ensures.honest clean))

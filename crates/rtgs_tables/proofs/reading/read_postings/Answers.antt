@@ -8,6 +8,8 @@ use Rattle.rtgs_tables.proofs.Told.{read_as, misread}
 use Rattle.sqlite.specs.Held.{state}
 use Rattle.rtgs_tables.proofs.Resting.{file_of}
 use Rattle.rtgs_tables.proofs.Keeps.{not_foreign, file_after}
+use Rattle.rtgs_tables.specs.Displaying.{postings_text, ArePostings}
+use Rattle.rtgs_tables.proofs.Displaying.{recorded, without_form, without_answer}
 use Rattle.rtgs_tables.proofs.reading.read_postings.Goals as goal
 
 pub returns-in-Ok-clause-given : goal.returns-in-Ok-clause-given
@@ -54,3 +56,19 @@ returns-in-Err-clause-same g c clean trees file =
     file_after trees (state g.S.Store c.posting_rows.new.conn) (state g.S.Store c.fault_of.new.conn) c.fault_of.result
     (c.in-Err.ensures.intact was trees file) (c.fault_of.ensures.right (c.in-Err.ensures.refused was trees file))
     (λ memory. c.fault_of.ensures.same memory clean)
+
+pub returns-in-Ok-clause-told : goal.returns-in-Ok-clause-told
+returns-in-Ok-clause-told g c clean =
+    recorded FitsPosting counted_of_posting shown_posting
+    (state g.S.Store c.args.conn.now).now (state g.S.Store c.posting_rows.new.conn).now postings_text _ _
+    c.decode.result c.as_slice.ensures.value (c.in-Ok.ensures.answered clean) c.decode.ensures.is
+
+pub returns-in-Ok-clause-unread : goal.returns-in-Ok-clause-unread
+returns-in-Ok-clause-unread g c clean e =
+    without_form (state g.S.Store c.args.conn.now).now postings_text ArePostings _ _ c.as_slice.ensures.value
+    (c.in-Ok.ensures.answered clean).0 (c.decode.ensures.wrong e)
+
+pub returns-in-Err-clause-unread : goal.returns-in-Err-clause-unread
+returns-in-Err-clause-unread g c clean =
+    without_answer (state g.S.Store c.args.conn.now).now postings_text ArePostings c.fault_of.result _
+    c.fault_of.ensures.wrong (c.in-Err.ensures.unanswered (c.fault_of.ensures.honest clean))

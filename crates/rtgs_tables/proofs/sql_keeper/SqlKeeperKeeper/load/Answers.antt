@@ -44,12 +44,14 @@ returns-else-self-clause-stops g c clean other left = leaves_less g.S.Store c.ar
 pub returns-else-self-2-clause-explained : goal.returns-else-self-2-clause-explained
 returns-else-self-2-clause-explained g c clean = explained (λ accounts book. HasRecords accounts book
     (state g.S.Store c.args.self.now.conn)) (λ trees. IsDeskFile trees (state g.S.Store c.args.self.now.conn))
-    c.load_book-loaded.result (c.load_book-loaded.ensures.explained clean) (c.load_book-loaded.ensures.caused clean)
+    (state g.S.Store c.args.self.now.conn).now c.load_book-loaded.result (c.load_book-loaded.ensures.explained clean)
+    (c.load_book-loaded.ensures.caused clean) (c.load_book-loaded.ensures.told clean)
 
 pub returns-else-self-clause-explained : goal.returns-else-self-clause-explained
 returns-else-self-clause-explained g c clean = explained (λ accounts book. HasRecords accounts book
     (state g.S.Store c.args.self.now.conn)) (λ trees. IsDeskFile trees (state g.S.Store c.args.self.now.conn))
-    c.load_book-loaded.result (c.load_book-loaded.ensures.explained clean) (c.load_book-loaded.ensures.caused clean)
+    (state g.S.Store c.args.self.now.conn).now c.load_book-loaded.result (c.load_book-loaded.ensures.explained clean)
+    (c.load_book-loaded.ensures.caused clean) (c.load_book-loaded.ensures.told clean)
 
 pub returns-else-self-2-clause-kept : goal.returns-else-self-2-clause-kept
 returns-else-self-2-clause-kept g c clean tables =
@@ -103,8 +105,10 @@ returns-in-Err-StoreFault-clause-untouched g c clean trees left =
 
 pub returns-else-self-2-clause-shown : goal.returns-else-self-2-clause-shown
 returns-else-self-2-clause-shown g c clean = shown_always (λ trees. IsDeskFile trees
-    (state g.S.Store c.args.self.now.conn)) c.load_book-loaded.result (c.load_book-loaded.ensures.shown clean)
+    (state g.S.Store c.args.self.now.conn)) (state g.S.Store c.args.self.now.conn).now c.load_book-loaded.result
+    (c.load_book-loaded.ensures.shown clean) (c.load_book-loaded.ensures.displayed clean)
 
 pub returns-else-self-clause-shown : goal.returns-else-self-clause-shown
 returns-else-self-clause-shown g c clean = shown_always (λ trees. IsDeskFile trees
-    (state g.S.Store c.args.self.now.conn)) c.load_book-loaded.result (c.load_book-loaded.ensures.shown clean)
+    (state g.S.Store c.args.self.now.conn)) (state g.S.Store c.args.self.now.conn).now c.load_book-loaded.result
+    (c.load_book-loaded.ensures.shown clean) (c.load_book-loaded.ensures.displayed clean)

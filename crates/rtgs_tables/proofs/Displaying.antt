@@ -1,0 +1,387 @@
+-- What the five queries show of a database, and why they show nothing, whatever its schema is.
+use Rattle.std.proofs.Common.{◌≡◌, ◌⊎◌, inl, inr, ℕ, Bool, true, false, List, [], ◌∷◌, map, length, Option, None, Ok}
+use Rattle.std.proofs.Common.{◌≢◌, Err, Result, IfOk, IfErr, OnOk, Vec, Global, refl, sym, ap, ap₂, subst, subst₂, ◌∙◌}
+use Rattle.std.proofs.Common.{arith}
+use Rattle.std.specs.Result.{IsErrAnd}
+use Rattle.std.proofs.lemmas.Bool.{cases_Bool}
+use Rattle.std.specs.List.{AllByRecursion}
+use Rattle.sqlite.specs.Order.{Row}
+use Rattle.sqlite.specs.Schema.{Schema}
+use Rattle.sqlite.specs.Effect.{Database, Reads, RefusesToRead}
+use Rattle.sqlite.specs.Listing.{understood, reads_listing, if_select, listing_schema, IsSourceOf}
+use Rattle.sqlite.specs.State.{State, Shown, FailsToQuery, IsNotRun}
+use Rattle.sqlite.specs.declared.error.Error.{Error}
+use Rattle.sqlite_ast.specs.declared.Select.{Select as Selection}
+use Rattle.sqlite_ast.specs.declared.Statement.{Statement}
+use Rattle.sqlite_ast.specs.declared.Statement.TheVariants as written
+use Rattle.sqlite_schema.specs.declared.command.Command.{Command}
+use Rattle.sqlite_schema.specs.declared.command.Command.TheVariants.{Select}
+use Rattle.sqlite_schema.specs.declared.command.Returning.{Returning}
+use Rattle.sqlite_schema.specs.declared.program.Program.{Program}
+use Rattle.sqlite_syntax.specs.declared.statement.Parsed.{Parsed}
+use Rattle.sqlite_resolve.specs.declared.compiled.Compiled.{Compiled}
+use Rattle.sqlite_resolve.specs.declared.error.CompileError.TheVariants.{NoSuchTable}
+use Rattle.sqlite_resolve.specs.Lowering.{Checked, and_then}
+use Rattle.sqlite_resolve.specs.Program.{query, program}
+use Rattle.sqlite_resolve.specs.Compile.{first, command, read, returning, timed, meaning, planned, with_command}
+use Rattle.sqlite_resolve.specs.Compile.{compiled}
+use Rattle.sqlite_tied.specs.Compute.{everything}
+use Rattle.sqlite_keyed.proofs.ListLemmas.{all_map}
+use Rattle.rtgs_book.specs.declared.Book.{Book}
+use Rattle.rtgs_book.specs.declared.Day.{Day}
+use Rattle.rtgs_book.specs.declared.Posting.{Posting}
+use Rattle.rtgs_book.specs.declared.Order.{Order}
+use Rattle.rtgs_book.specs.declared.Mark.{Mark}
+use Rattle.rtgs_book.specs.declared.Rule.{Rule}
+use Rattle.rtgs_book.specs.declared.account.Account.{Account}
+use Rattle.rtgs_book.specs.declared.Fault.{Fault}
+use Rattle.rtgs_book.specs.declared.Fault.TheVariants.{OutOfMemory, StoreFault, NotADeskFile, Inconsistent}
+use Rattle.rtgs_book.specs.Soundness.{IsSound}
+use Rattle.rtgs_rows.specs.Fitting.{FitsDate, FitsParticipant, FitsPosting, FitsOrder, FitsMark}
+use Rattle.rtgs_rows.specs.Rows.{shown_day, shown_account, shown_posting, shown_order, shown_mark}
+use Rattle.rtgs_tables.specs.Accounts.{AreBalances, ExplainsRead}
+use Rattle.rtgs_tables.specs.Faults.{IsOfStore}
+use Rattle.rtgs_tables.specs.Displaying.{desk_text, participants_text, postings_text, payments_text, marks_text}
+use Rattle.rtgs_tables.specs.Displaying.{Displays, DisplaysAs, HasNoAnswer, IsUnread, IsIllegible, ExplainsDatabase}
+use Rattle.rtgs_tables.specs.Displaying.{AreDisplayed, IsDisplayed}
+use Rattle.rtgs_tables.specs.Numbers.{as_read, counted_of_posting, counted_of_order, counted_of_mark, IsNumberedPosting}
+use Rattle.rtgs_tables.specs.Numbers.{IsNumberedOrder, IsNumberedMark}
+use Rattle.rtgs_tables.proofs.AboveZero.{above_zero}
+use Rattle.rtgs_tables.proofs.AsRead.{posting_own, order_own, mark_own}
+use Rattle.rtgs_tables.proofs.ReadingAlone.{stepped, same_value}
+use Rattle.rtgs_tables.proofs.Refusals.{told}
+use Rattle.rtgs_tables.proofs.Told.{as_they_are}
+
+abbrev pub is_selection : Statement → Bool
+is_selection (written.Select s) = true
+is_selection _ = false
+
+-- the text is one query, without parameters, which reads no time
+abbrev pub IsQueryText : List ℕ → Checked Parsed → Type 0
+IsQueryText text (Ok p) = (is_selection p.statement ≡ true) × (p.names ≡ []) × (p.formats ≡ []) × (p.tail ≡ length text)
+IsQueryText text (Err e) = ⊥
+
+-- so it is, however it is understood
+record IsPlainQuery (text : List ℕ) (c : Compiled) : Type 0 where
+  pub returning : c.returning ≡ None
+  pub formats : c.formats ≡ []
+  pub names : c.names ≡ []
+  pub whole : c.tail ≡ length text
+  pub selects : (q : Program) × (names : List (List ℕ)) × (c.command ≡ Select q names)
+
+selection : (st : Statement) → is_selection st ≡ true → (s : Selection) × (st ≡ written.Select s)
+selection (written.Select s) is = (s, refl)
+selection _ is = absurd cc
+
+read_selects : (schema : Schema) (s : Selection) (c : Command) → read schema s ≡ Ok c
+    → (q : Program) × (names : List (List ℕ)) × (c ≡ Select q names)
+unfolding read
+read_selects schema s c h =
+    let found = stepped (query schema s) _ c h in
+    let made = stepped (program schema found.0.1 found.0.0.0) _ c found.2 in
+    (made.0, found.0.0.1, sym (same_value made.2))
+
+meant : (schema : Schema) (formats : List (List ℕ)) (base : ℕ) (st : Statement) (c : Command)
+    → is_selection st ≡ true → command schema formats base st ≡ Ok c
+    → (q : Program) × (names : List (List ℕ)) × (c ≡ Select q names)
+unfolding command
+meant schema formats base st c is h =
+    let it = selection st is in
+    read_selects schema it.0 c (subst (λ s. command schema formats base s ≡ Ok c) it.1 h)
+
+returns_nothing : (schema : Schema) (base : ℕ) (st : Statement) → is_selection st ≡ true
+    → returning schema base st ≡ Ok None
+unfolding returning
+returns_nothing schema base st is =
+    let it = selection st is in
+    subst (λ s. returning schema base s ≡ Ok None) (sym it.1) refl
+
+times_nothing : (schema : Schema) (formats : List (List ℕ)) (st : Statement) → is_selection st ≡ true
+    → timed schema formats st ≡ formats
+unfolding timed
+times_nothing schema formats st is =
+    let it = selection st is in
+    subst (λ s. timed schema formats s ≡ formats) (sym it.1) refl
+
+plain_query : (schema : Schema) (text : List ℕ) (c : Compiled) → IsQueryText text (first text)
+    → compiled schema text ≡ Ok c → IsPlainQuery text c
+unfolding compiled planned meaning
+plain_query schema text c is h =
+    let parsed = stepped (first text) _ c h in
+    let p = parsed.0 in
+    let facts = subst (IsQueryText text) parsed.1 is in
+    let plan = stepped (planned schema p) _ c parsed.2 in
+    let outer = stepped (meaning schema p _) _ plan.0 plan.1 in
+    let inner = stepped (returning schema _ p.statement) _ outer.0 outer.1 in
+    let last = stepped (command schema p.formats _ p.statement) _ outer.0 inner.2 in
+    let none : ◌≡◌ {A = Checked (Option Returning)} (Ok None) (Ok inner.0) =
+    sym (returns_nothing schema _ p.statement facts.0) ∙ inner.1 in
+    let found : (last.0, inner.0) ≡ outer.0 = same_value last.2 in
+    let whole : (timed schema p.formats p.statement, outer.0) ≡ plan.0 = same_value outer.2 in
+    let is_it : with_command p plan.0 ≡ c = same_value plan.2 in
+    let selects = meant schema p.formats _ p.statement last.0 facts.0 last.1 in
+    record {
+      returning = ap (λ (d : Compiled). d.returning) (sym is_it)
+          ∙ ap (λ (q : List (List ℕ) × (Command × Option Returning)). q.1.1) (sym whole)
+          ∙ ap (λ (q : Command × Option Returning). q.1) (sym found) ∙ sym (same_value none);
+      formats = ap (λ (d : Compiled). d.formats) (sym is_it)
+          ∙ ap (λ (q : List (List ℕ) × (Command × Option Returning)). q.0) (sym whole)
+          ∙ times_nothing schema p.formats p.statement facts.0 ∙ facts.2;
+      names = ap (λ (d : Compiled). d.names) (sym is_it) ∙ facts.1;
+      whole = ap (λ (d : Compiled). d.tail) (sym is_it) ∙ facts.3;
+      selects = (
+        selects.0,
+        selects.1,
+        ap (λ (d : Compiled). d.command) (sym is_it)
+            ∙ ap (λ (q : List (List ℕ) × (Command × Option Returning)). q.1.0) (sym whole)
+            ∙ ap (λ (q : Command × Option Returning). q.0) (sym found) ∙ selects.2,
+      );
+    }
+
+-- it names no table of the engine's own
+own_schema : (schema : Schema) (text : List ℕ) (c : Compiled) → compiled listing_schema text ≡ Err NoSuchTable
+    → understood schema text ≡ Ok c → (compiled schema text ≡ Ok c) × (reads_listing schema text ≡ false)
+unfolding understood
+own_schema schema text c none h = elim (cases_Bool (reads_listing schema text)) [
+  | inl listing ↦ absurd (let clash = rw (listing, none) at h in cc)
+  | inr own ↦ (rw own at h, own)
+]
+
+-- a refusal that has nothing to do with a limit on steps
+unlimited : (limit : Option ℕ) (c : Command) (db : Database) (e : Error)
+    → ((q : Program) × (names : List (List ℕ)) × (c ≡ Select q names)) → RefusesToRead limit c db [] e
+    → IsOfStore e ⊎ RefusesToRead None c db [] e
+unlimited limit c db e is h = elim (subst (λ k. RefusesToRead limit k db [] e) is.2 h) [
+  | inl bad ↦ inr (subst (λ k. RefusesToRead None k db [] e) (sym is.2) (inl bad))
+  | inr (inl bad) ↦ inr (subst (λ k. RefusesToRead None k db [] e) (sym is.2) (inr (inl bad)))
+  | inr (inr bad) ↦ inl (subst IsOfStore (sym bad.0) tt)
+]
+
+module _ (text : List ℕ) (is : IsQueryText text (first text)) (none : compiled listing_schema text ≡ Err NoSuchTable)
+    (old new : State) where
+  shown_rows : (rows : List Row) → Shown text [] old new rows → Displays old.now text rows × (new.now ≡ old.now)
+  unfolding Shown
+  shown_rows rows h =
+      let own = own_schema old.now.schema text h.0 none h.1.is in
+      let plain = plain_query old.now.schema text h.0 is own.0 in
+      let it = rw (plain.returning, plain.formats) at h.2 in
+      let db : it.0 ≡ old.now = subst (λ b. IsSourceOf b old.now it.0) own.1 it.1 in
+      ((h.0, h.1.is, subst (λ d. Reads h.0.command d [] rows) db it.2), it.3.0.now_is)
+
+  no_answer : (e : Error) → FailsToQuery text [] old new e → IsOfStore e ⊎ HasNoAnswer old.now text
+  unfolding FailsToQuery IsNotRun
+  no_answer e (inl (inl (inl bad, same))) = inr (inl (bad.0, bad.1))
+  no_answer e (inl (inl (inr read, same))) =
+      let own = own_schema old.now.schema text read.0 none read.1 in
+      let plain = plain_query old.now.schema text read.0 is own.0 in
+      absurd (elim read.2 [
+        | inl part ↦ part.0 (let whole = plain.whole in omega (arith, whole))
+        | inr (inl wrong) ↦ wrong.0 (sym (ap length plain.names))
+        | inr (inr timed) ↦ timed.0 plain.formats
+      ])
+  no_answer e (inl (inr failed)) = inl (subst IsOfStore (sym failed.1) (told failed.0))
+  no_answer e (inr h) =
+      let own = own_schema old.now.schema text h.0 none h.1.is in
+      let plain = plain_query old.now.schema text h.0 is own.0 in
+      let it = rw (plain.returning, plain.formats) at h.2 in
+      let db : it.0 ≡ old.now = subst (λ b. IsSourceOf b old.now it.0) own.1 it.1 in
+      elim (unlimited old.step_limit h.0.command old.now e plain.selects
+      (subst (λ d. RefusesToRead old.step_limit h.0.command d [] e) db it.2)) [
+        | inl store ↦ inl store
+        | inr why ↦ inr (inr (h.0, h.1.is, e, why))
+      ]
+
+  -- an answer is one of the database, which stays as it is
+  pub displayed : (r : Result (Vec Row Global) Error) → IfOk r (λ rows. Shown text [] old new rows.items)
+      → IfOk r (λ rows. Displays old.now text rows.items × (new.now ≡ old.now))
+  displayed (Ok rows) h = shown_rows rows.items h
+  displayed (Err e) h = tt
+
+  -- the store failed, or the text has none
+  pub unanswered : (r : Result (Vec Row Global) Error) → IfErr r (FailsToQuery text [] old new)
+      → IfErr r (λ e. IsOfStore e ⊎ HasNoAnswer old.now text)
+  unanswered (Ok rows) h = tt
+  unanswered (Err e) h = no_answer e h
+
+-- ---- the five queries
+
+pub desk_query : IsQueryText desk_text (first desk_text)
+unfolding everything
+desk_query = (refl, refl, refl, refl)
+
+pub desk_unlisted : compiled listing_schema desk_text ≡ Err NoSuchTable
+unfolding listing_schema everything
+desk_unlisted = refl
+
+pub participants_query : IsQueryText participants_text (first participants_text)
+unfolding everything
+participants_query = (refl, refl, refl, refl)
+
+pub participants_unlisted : compiled listing_schema participants_text ≡ Err NoSuchTable
+unfolding listing_schema everything
+participants_unlisted = refl
+
+pub postings_query : IsQueryText postings_text (first postings_text)
+unfolding everything
+postings_query = (refl, refl, refl, refl)
+
+pub postings_unlisted : compiled listing_schema postings_text ≡ Err NoSuchTable
+unfolding listing_schema everything
+postings_unlisted = refl
+
+pub payments_query : IsQueryText payments_text (first payments_text)
+unfolding everything
+payments_query = (refl, refl, refl, refl)
+
+pub payments_unlisted : compiled listing_schema payments_text ≡ Err NoSuchTable
+unfolding listing_schema everything
+payments_unlisted = refl
+
+pub marks_query : IsQueryText marks_text (first marks_text)
+unfolding everything
+marks_query = (refl, refl, refl, refl)
+
+pub marks_unlisted : compiled listing_schema marks_text ≡ Err NoSuchTable
+unfolding listing_schema everything
+marks_unlisted = refl
+
+-- ---- records that are read of the rows
+
+pub recorded : {A : Type 0} (fits : A → Type 0) (counted : List Bool) (shown : A → Row) (db new : Database)
+    (text : List ℕ) (rows seen : List Row) (r : Result (Vec A Global) Fault) → seen ≡ rows
+    → Displays db text rows × (new ≡ db)
+    → IfOk r (λ v. AllByRecursion fits v.items × (map (as_read counted) seen ≡ map shown v.items))
+    → IfOk r (λ v. AllByRecursion fits v.items × DisplaysAs db text counted (map shown v.items) × (new ≡ db))
+recorded fits counted shown db new text rows seen (Ok v) same shows is =
+    (is.0, (seen, subst (Displays db text) (sym same) shows.0, is.1), shows.1)
+recorded fits counted shown db new text rows seen (Err e) same shows is = tt
+
+-- The query has no answer, or one that is in no form.
+pub without_answer : {A : Type 0} (db : Database) (text : List ℕ) (AreFormed : List Row → Type 0) (fault : Fault)
+    (error : Error) → (fault ≡ NotADeskFile → ¬ IsOfStore error) → IsOfStore error ⊎ HasNoAnswer db text
+    → ◌≡◌ {A = Result A Fault} (Err fault) (Err NotADeskFile) → IsUnread db text AreFormed
+without_answer db text AreFormed fault error wrong (inl store) e =
+    let is : fault ≡ NotADeskFile = cc in
+    absurd (wrong is store)
+without_answer db text AreFormed fault error wrong (inr none) e = inl none
+
+pub without_form : (db : Database) (text : List ℕ) (AreFormed : List Row → Type 0) (rows seen : List Row)
+    → seen ≡ rows → Displays db text rows → ¬ AreFormed seen → IsUnread db text AreFormed
+without_form db text AreFormed rows seen same shows not = inr (seen, subst (Displays db text) (sym same) shows, not)
+
+pub recorded_plainly : {A : Type 0} (fits : A → Type 0) (shown : A → Row) (db new : Database) (text : List ℕ)
+    (rows seen : List Row) (r : Result (Vec A Global) Fault) → seen ≡ rows → Displays db text rows × (new ≡ db)
+    → IfOk r (λ v. AllByRecursion fits v.items × (map (as_read []) seen ≡ map shown v.items))
+    → IfOk r (λ v. AllByRecursion fits v.items × Displays db text (map shown v.items) × (new ≡ db))
+recorded_plainly fits shown db new text rows seen (Ok v) same shows is = (
+  is.0,
+  subst (Displays db text) (sym same ∙ sym (as_they_are seen) ∙ is.1) shows.0,
+  shows.1,
+)
+recorded_plainly fits shown db new text rows seen (Err e) same shows is = tt
+
+pub day_displayed : (db new : Database) (text : List ℕ) (rows seen : List Row) (r : Result Day Fault) → seen ≡ rows
+    → Displays db text rows × (new ≡ db)
+    → IfOk r (λ (day : Day). FitsDate day.date × (seen ≡ shown_day day ∷ []))
+    → IfOk r (λ (day : Day). FitsDate day.date × Displays db text (shown_day day ∷ []) × (new ≡ db))
+day_displayed db new text rows seen (Ok day) same shows is =
+    (is.0, subst (Displays db text) (sym same ∙ is.1) shows.0, shows.1)
+day_displayed db new text rows seen (Err e) same shows is = tt
+
+-- ---- the five together
+
+-- each is shown by the database as it was before the first
+pub are_displayed : (db a b c d e : Database) (accounts : List Account) (book : Book) {postings : List Posting}
+    {orders : List Order} {marks : List Mark}
+    → book.participants ≡ map (λ (a : Account). a.participant) accounts → book.postings ≡ postings
+    → book.orders ≡ orders → book.marks ≡ marks
+    → FitsDate book.day.date × Displays db desk_text (shown_day book.day ∷ []) × (a ≡ db)
+    → AllByRecursion (λ (a : Account). FitsParticipant a.participant) accounts
+    × Displays a participants_text (map (λ (a : Account). shown_account a.participant a.balance) accounts) × (b ≡ a)
+    → AllByRecursion FitsPosting postings × DisplaysAs b postings_text counted_of_posting (map shown_posting postings)
+    × (c ≡ b)
+    → AllByRecursion FitsOrder orders × DisplaysAs c payments_text counted_of_order (map shown_order orders) × (d ≡ c)
+    → AllByRecursion FitsMark marks × DisplaysAs d marks_text counted_of_mark (map shown_mark marks) × (e ≡ d)
+    → AreDisplayed db accounts book
+are_displayed db a b c d e accounts book named postings orders marks day stored some_postings some_orders some_marks =
+    let from_a : a ≡ db = day.2 in
+    let from_b : b ≡ db = stored.2 ∙ from_a in
+    let from_c : c ≡ db = some_postings.2 ∙ from_b in
+    let from_d : d ≡ db = some_orders.2 ∙ from_c in
+    record {
+      fits = record {
+        participants = subst (AllByRecursion FitsParticipant) (sym named)
+            (all_map FitsParticipant (λ (a : Account). a.participant) accounts stored.0);
+        postings = subst (AllByRecursion FitsPosting) (sym postings) some_postings.0;
+        orders = subst (AllByRecursion FitsOrder) (sym orders) some_orders.0;
+        marks = subst (AllByRecursion FitsMark) (sym marks) some_marks.0;
+        day = day.0;
+      };
+      named = named;
+      desk = day.1;
+      participants = subst (λ k. Displays k participants_text
+          (map (λ (a : Account). shown_account a.participant a.balance) accounts)) from_a stored.1;
+      postings = subst₂ (λ k all. DisplaysAs k postings_text counted_of_posting (map shown_posting all)) from_b
+          (sym postings) some_postings.1;
+      payments = subst₂ (λ k all. DisplaysAs k payments_text counted_of_order (map shown_order all)) from_c (sym orders)
+          some_orders.1;
+      marks = subst₂ (λ k all. DisplaysAs k marks_text counted_of_mark (map shown_mark all)) from_d (sym marks)
+          some_marks.1;
+    }
+
+-- where the numbers of records are above zero, the rows are their own
+module _ {A : Type 0} (counted : List Bool) (shown : A → Row) (numbered : A → Type 0)
+    (own : (row : Row) (a : A) → numbered a → as_read counted row ≡ shown a → row ≡ shown a) where
+  own_rows : (rows : List Row) (all : List A) → AllByRecursion numbered all
+      → map (as_read counted) rows ≡ map shown all → rows ≡ map shown all
+  own_rows [] [] low is = refl
+  own_rows [] (a ∷ all) low is = absurd cc
+  own_rows (row ∷ rows) [] low is = absurd cc
+  own_rows (row ∷ rows) (a ∷ all) low is =
+      let head : as_read counted row ≡ shown a = cc in
+      let tail : map (as_read counted) rows ≡ map shown all = cc in
+      ap₂ ◌∷◌ (own row a low.0 head) (own_rows rows all low.1 tail)
+
+  displays_own : (db : Database) (text : List ℕ) (all : List A) → AllByRecursion numbered all
+      → DisplaysAs db text counted (map shown all) → Displays db text (map shown all)
+  displays_own db text all low it = subst (Displays db text) (own_rows it.0 all low it.2) it.1
+
+-- what was read, and judged to be sound with its balances stored, is what the database shows
+pub displayed_book : (db : Database) (accounts : List Account) (book : Book) (answer : Result Book Fault)
+    → AreDisplayed db accounts book → IfOk answer (λ it. it ≡ book) → IfOk answer IsSound
+    → OnOk answer (AreBalances book accounts) → IfOk answer (IsDisplayed db)
+displayed_book db accounts book (Ok it) read is sound agree =
+    let low = above_zero book (subst IsSound is sound) in
+    subst (IsDisplayed db) (sym is) (record {
+      accounts = accounts;
+      named = read.named;
+      balances = agree;
+      desk = read.desk;
+      participants = read.participants;
+      postings = displays_own counted_of_posting shown_posting IsNumberedPosting posting_own db postings_text
+          book.postings low.postings read.postings;
+      payments = displays_own counted_of_order shown_order IsNumberedOrder order_own db payments_text book.orders
+          low.orders read.payments;
+      marks = displays_own counted_of_mark shown_mark IsNumberedMark mark_own db marks_text book.marks low.marks
+          read.marks;
+    })
+displayed_book db accounts book (Err fault) read is sound agree = tt
+
+-- what was read was judged
+pub told_of_book : (db : Database) (accounts : List Account) (book : Book) (answer : Result Book Fault)
+    → AreDisplayed db accounts book → IfErr answer (ExplainsRead accounts book) → IfErr answer (ExplainsDatabase db)
+told_of_book db accounts book (Ok it) read why = tt
+told_of_book db accounts book (Err OutOfMemory) read why = tt
+told_of_book db accounts book (Err StoreFault) read why = tt
+told_of_book db accounts book (Err NotADeskFile) read why = absurd why
+told_of_book db accounts book (Err (Inconsistent rule)) read why = (accounts, book, read, why)
+
+-- nothing was read
+pub told_of_none : {A : Type 0} (db : Database) (read : Result A Fault) (fault : Fault) (answer : Result Book Fault)
+    → (read ≡ Err NotADeskFile → IsIllegible db) → ((rule : Rule) → read ≢ Err (Inconsistent rule))
+    → read ≡ Err fault → IsErrAnd answer (λ told. told ≡ fault) → IfErr answer (ExplainsDatabase db)
+told_of_none db read fault (Ok it) wrong rules was told = tt
+told_of_none db read OutOfMemory (Err it) wrong rules was told = subst (ExplainsDatabase db) (sym told) tt
+told_of_none db read StoreFault (Err it) wrong rules was told = subst (ExplainsDatabase db) (sym told) tt
+told_of_none db read NotADeskFile (Err it) wrong rules was told = subst (ExplainsDatabase db) (sym told) (wrong was)
+told_of_none db read (Inconsistent rule) (Err it) wrong rules was told = absurd (rules rule was)
