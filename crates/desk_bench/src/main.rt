@@ -1,9 +1,8 @@
 #![tactic(auto)]
-//! Opens a desk over books of growing size, and submits orders to it one by one, beside the bare store
-//! with the same rows; then reports a day of a book of two, imports a file of orders, settles rings of
-//! queued ones, and serves orders and readings of an account as HTTP requests. It prints how many orders
-//! there are, which is the same in every run, and with the argument `times`, over larger books, how long
-//! it all took.
+//! Opens a desk over books of growing size, and submits orders to it one by one, beside the bare store with the same
+//! rows; then reports a day of a book of two, imports a file of orders, settles rings of queued ones, and serves orders
+//! and readings of an account and of a queue as HTTP requests. It prints how many orders there are, which is the same in
+//! every run, and with the argument `times`, over larger books, how long it all took.
 mod bare;
 mod books;
 mod business;
@@ -107,15 +106,15 @@ fn measure_requests(rt: &HostRuntime, orders: u64, more: u64, timed: bool) -> Re
     Ok(())
 }
 
-/// Measures readings of an account, where each bank has queued so many orders.
+/// Measures readings of an account and of a queue, where each bank has queued so many orders.
 fn measure_readings(rt: &HostRuntime, queued: u64, readings: u64, timed: bool) -> Result<()>
     requires { queued ≤ 500 }
 {
-    let read = requests::reading(rt, queued, readings)?;
-    print!(rt; "{readings} readings of an account with {queued} queued orders")?;
+    let (account, queue) = requests::reading(rt, queued, readings)?;
+    print!(rt; "{readings} readings of an account and of its queue with {queued} queued orders")?;
     if timed {
-        let read = read.as_micros();
-        print!(rt; ": {read} us")?;
+        let (account, queue) = (account.as_micros(), queue.as_micros());
+        print!(rt; ": {account} us, {queue} us")?;
     }
     println!(rt;)?;
     Ok(())

@@ -1,4 +1,4 @@
-//! How long requests of banks take: orders one by one, and readings of an account.
+//! How long requests of banks take: orders one by one, and readings of an account or a queue.
 ghost use Rattle.std.specs.Prelude.{◌≤◌};
 
 use crate::books::{FileDesk, open_book};
@@ -62,10 +62,10 @@ fn serve_orders(alloc: Global, desk: &mut FileDesk, from: u64, orders: u64) -> R
     Ok(())
 }
 
-/// Serves so many readings of one account.
-fn serve_readings(alloc: Global, desk: &mut FileDesk, readings: u64) -> Result<()> {
+/// Serves so many readings of one bank, by the route of this line.
+fn serve_readings(alloc: Global, desk: &mut FileDesk, line: &str, readings: u64) -> Result<()> {
     let operator = operator()?;
-    let request = request_of(alloc, 1, "GET /account", "")?;
+    let request = request_of(alloc, 1, line, "")?;
     for _ in 0..readings {
         serve(alloc, desk, &operator, request.as_str())?;
     }
@@ -81,10 +81,15 @@ fn time_orders(rt: &HostRuntime, desk: &mut FileDesk, from: u64, orders: u64) ->
     Ok(start.elapsed(rt)?)
 }
 
-/// How long a desk takes to serve so many readings of one account.
-fn time_readings(rt: &HostRuntime, desk: &mut FileDesk, readings: u64) -> Result<Duration> {
+/// How long a desk takes to serve so many readings of one bank, by the route of this line.
+fn time_readings(
+    rt: &HostRuntime,
+    desk: &mut FileDesk,
+    line: &str,
+    readings: u64,
+) -> Result<Duration> {
     let start = Instant::now(rt)?;
-    serve_readings(rt.alloc(), desk, readings)?;
+    serve_readings(rt.alloc(), desk, line, readings)?;
     Ok(start.elapsed(rt)?)
 }
 
@@ -98,14 +103,16 @@ pub fn ordering(rt: &HostRuntime, file: &str, from: u64, orders: u64) -> Result<
     took
 }
 
-/// How long so many readings of one account take as requests, where each bank has queued so many orders.
-pub fn reading(rt: &HostRuntime, queued: u64, readings: u64) -> Result<Duration>
+/// How long so many readings of one bank's account, and of its queue, take as requests, where each bank has queued so
+/// many orders.
+pub fn reading(rt: &HostRuntime, queued: u64, readings: u64) -> Result<(Duration, Duration)>
     requires { queued ≤ 500 }
 {
     let file = format!(in rt.alloc(); "queues-{queued}.desk")?;
     fill(rt, file.as_str(), queued)?;
     let mut book = open_book(rt, file.as_str())?;
-    let took = time_readings(rt, book.desk(), readings);
+    let account = time_readings(rt, book.desk(), "GET /account", readings);
+    let queue = time_readings(rt, book.desk(), "GET /queue", readings);
     book.close();
-    took
+    Ok((account?, queue?))
 }

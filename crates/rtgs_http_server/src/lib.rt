@@ -3,6 +3,7 @@
 
 mod connections;
 mod deadline;
+mod farewell;
 mod port;
 mod reply_writer;
 mod request_reader;

@@ -1,5 +1,6 @@
 //! Replies, to the byte, of a desk in memory that serves one request after another.
 mod batches;
+mod beyond_reach;
 mod connections;
 mod counted_reader;
 mod counting_keeper;
@@ -9,6 +10,7 @@ mod failing_keeper;
 mod first_day;
 mod forms;
 mod gridlocks;
+mod heads_of_routes;
 mod hostile;
 mod keys;
 mod lengths;
@@ -16,6 +18,7 @@ mod long_names;
 mod once;
 mod order_of_events;
 mod own_orders;
+mod ports;
 mod queues;
 mod readers;
 mod refusals;

@@ -19,7 +19,8 @@ const FAULT: &str = "{\"code\":91,\"name\":\"StoreFault\"}";
 
 const FAILED: &str = "{\"code\":92,\"name\":\"Failed\"}";
 
-const READINGS: [(&str, &str); 5] = [
+/// The routes of readings, each with its caller's key.
+pub const READINGS: [(&str, &str); 5] = [
     (ALFA, "GET /orders/A-1"),
     (ALFA, "GET /account"),
     (ALFA, "GET /queue"),
