@@ -1,0 +1,44 @@
+//! What is called, and what its answers come to.
+use std::alloc::Global;
+use std::fmt::Debug;
+use std::test::Fail;
+
+/// What a call came to.
+#[derive(Clone, Copy, Debug, PartialEq, Eq)]
+pub enum Outcome {
+    /// The answer with ample memory.
+    Ample,
+    /// It is refused for lack of memory (90), and nothing has changed.
+    Refused,
+    /// The store has failed (91), since it found no memory where it commits or rolls back. Its state is the one before
+    /// or the one after.
+    Faulted,
+    /// All is done, and the answer is lost for lack of memory (69).
+    Lost,
+    /// A part is done, for lack of memory for the next one.
+    Stopped,
+    /// None of these.
+    Other,
+}
+
+/// A call from a state, which can be made again and again.
+pub trait Call {
+    type State: Drop;
+
+    type Answer: Debug + Drop;
+
+    /// The state from which it is called.
+    fn begin(&self, alloc: Global) -> Result<Self::State, Fail>;
+
+    /// The call itself.
+    fn call(&self, alloc: Global, state: &mut Self::State) -> Self::Answer;
+
+    /// What an answer comes to that is not the one with ample memory.
+    fn outcome(&self, answer: &Self::Answer) -> Outcome;
+
+    /// The state as it is found after a crash.
+    fn reopened(&self, alloc: Global, state: Self::State) -> Result<Self::State, Fail>;
+
+    /// All that can be seen of the state.
+    fn seen(&self, alloc: Global, state: &mut Self::State) -> Result<String, Fail>;
+}
