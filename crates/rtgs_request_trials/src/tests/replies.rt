@@ -1,0 +1,107 @@
+//! What may be told of an input, and whether the bytes of a reply tell it.
+use std::alloc::{AllocError, Global};
+use std::test::Fail;
+
+/// What is told where nothing is done: the status with its reason, and the number and the name of the refusal.
+const REFUSED: [(&str, u8, &str); 33] = [
+    ("404 Not Found", 1, "UnknownParticipant"),
+    ("409 Conflict", 2, "UnknownReceiver"),
+    ("409 Conflict", 3, "SameParty"),
+    ("409 Conflict", 4, "ReferenceUsed"),
+    ("409 Conflict", 5, "NotOpen"),
+    ("409 Conflict", 6, "NoCover"),
+    ("409 Conflict", 7, "QueueFull"),
+    ("409 Conflict", 8, "NumbersUsedUp"),
+    ("404 Not Found", 9, "UnknownOrder"),
+    ("409 Conflict", 13, "TotalTooLarge"),
+    ("409 Conflict", 14, "WrongPhase"),
+    ("409 Conflict", 15, "WrongDate"),
+    ("409 Conflict", 16, "Weekend"),
+    ("409 Conflict", 17, "NotQueued"),
+    ("409 Conflict", 18, "Resolvable"),
+    ("409 Conflict", 19, "Overdrawn"),
+    ("400 Bad Request", 30, "BadCode"),
+    ("400 Bad Request", 31, "BadReference"),
+    ("400 Bad Request", 32, "BadAmount"),
+    ("400 Bad Request", 35, "BadDate"),
+    ("400 Bad Request", 40, "BadHeader"),
+    ("400 Bad Request", 41, "BadRow"),
+    ("400 Bad Request", 42, "BadCount"),
+    ("400 Bad Request", 60, "BadHead"),
+    ("413 Content Too Large", 61, "HeadTooLong"),
+    ("411 Length Required", 62, "NoLength"),
+    ("413 Content Too Large", 63, "BodyTooLong"),
+    ("400 Bad Request", 64, "Truncated"),
+    ("400 Bad Request", 65, "BadJson"),
+    ("400 Bad Request", 66, "WrongFields"),
+    ("404 Not Found", 67, "NoSuchRoute"),
+    ("403 Forbidden", 68, "NoKey"),
+    ("503 Service Unavailable", 90, "OutOfMemory"),
+];
+
+/// How the body begins that tells what was done or read, the type of such a body, and whether it tells of a command.
+const DONE: [(&str, &str, bool); 7] = [
+    ("{\"answer\":\"", "application/json", true),
+    ("{\"amount\":", "application/json", false),
+    ("{\"balance\":", "application/json", false),
+    ("{\"orders\":[", "application/json", false),
+    ("reference,result,number,detail\n", "text/csv", true),
+    ("statement ALFA 2", "text/plain", false),
+    ("report 2", "text/plain", false),
+];
+
+/// What a reply tells.
+#[derive(Clone, Copy, Debug, PartialEq, Eq)]
+pub enum Told {
+    /// That it was refused, by this number.
+    Refused(u8),
+    /// What was read.
+    Read,
+    /// What came of commands.
+    Done,
+}
+
+/// What this body tells, if it tells anything: the status with its reason, the type of the body, and the meaning.
+fn meaning(
+    alloc: Global,
+    body: &str,
+) -> Result<Option<(&'static str, &'static str, Told)>, AllocError> {
+    for (status, number, name) in REFUSED {
+        let first = format!(in alloc; "{{\"code\":{number},")?;
+        let last = format!(in alloc; "\"name\":\"{name}\"}}")?;
+        let row = format!(in alloc; "\"name\":\"{name}\",\"row\":")?;
+        let is_row = number == 41 && body.contains(row.as_str());
+        if body.starts_with(first.as_str()) && (body.ends_with(last.as_str()) || is_row) {
+            return Ok(Some((status, "application/json", Told::Refused(number))));
+        }
+    }
+    for (first, content, is_done) in DONE {
+        if body.starts_with(first) {
+            let told = if is_done { Told::Done } else { Told::Read };
+            return Ok(Some(("200 OK", content, told)));
+        }
+    }
+    Ok(None)
+}
+
+// The bytes behind the first empty line.
+fn body_of(reply: &str) -> Result<&str, Fail> {
+    let (_, body) = reply.split_once("\r\n\r\n").ok_or("no body")?;
+    Ok(body)
+}
+
+/// What a whole reply tells. Each of its bytes is as its body wants it.
+pub fn told_by(alloc: Global, reply: &[u8]) -> Result<Told, Fail> {
+    let reply = std::str::from_utf8(reply)?;
+    let body = body_of(reply)?;
+    let length = body.len();
+    let (status, content, told) = meaning(alloc, body)?.ok_or("a body that tells nothing")?;
+    let whole = format!(in alloc;
+        "HTTP/1.1 {status}\r\nContent-Type: {content}\r\nContent-Length: {length}\r\nConnection: close\r\n\r\n{body}"
+    )?;
+    if whole.as_str() == reply {
+        return Ok(told);
+    }
+    let said = format!(in alloc; "{reply:?}, not {whole:?}")?;
+    Err(Fail::from(said))
+}
