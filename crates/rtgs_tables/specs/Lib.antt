@@ -3,3 +3,5 @@ pub mod Faults
 pub mod Building
 pub mod Accounts
 pub mod Numbers
+pub mod Finding
+pub mod Seeking
