@@ -7,6 +7,11 @@ pub mod Refusals
 pub mod Looking
 pub mod Showing
 pub mod Selecting
+pub mod FindingTexts
+pub mod FindingLemmas
+pub mod SeekingLemmas
+pub mod ListingLemmas
+pub mod KeepingLooks
 pub mod StateLemmas
 pub mod Writing
 pub mod PostingLemmas

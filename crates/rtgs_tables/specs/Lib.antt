@@ -4,3 +4,5 @@ pub mod Building
 pub mod Accounts
 pub mod Numbers
 pub mod Displaying
+pub mod Finding
+pub mod Seeking

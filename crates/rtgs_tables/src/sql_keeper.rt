@@ -12,6 +12,8 @@ ghost use Rattle.rtgs_tables.specs.Faults.{LookFailed};
 ghost use Rattle.rtgs_tables.specs.Stops.{IsBefore};
 ghost use Rattle.rtgs_rows.specs.RowLaws.{RowsTellTheBook, TablesOfABookAreWhole, TablesOfABookAreWhole-prop};
 
+mod looking;
+
 use crate::create::create_tables;
 use crate::forms::rows_fit;
 use crate::loading::load_book;

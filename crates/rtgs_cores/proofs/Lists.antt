@@ -1,0 +1,79 @@
+-- Lists of records in rising number.
+use Rattle.std.proofs.Common.{◌≡◌, ℕ, zero, suc, ◌+◌, ◌<◌, ◌≤◌, ◌==◌, Bool, true, false, ◌&&◌, cond, List, [], ◌∷◌}
+use Rattle.std.proofs.Common.{map, length, Option, Some, None, nat_lt, refl, sym, ap, subst, ◌∙◌, arith, inl, inr}
+use Rattle.std.specs.List.{AllByRecursion, find, range_with_len}
+use Rattle.std.proofs.lemmas.Bool.{cases_Bool}
+use Rattle.std.proofs.lemmas.List.{length-map}
+use Rattle.rtgs_book.specs.declared.limits.TheConstants.{LARGEST_NUMBER}
+use Rattle.rtgs_book.specs.Soundness.{AreNumbered, NeverFall}
+use Rattle.rtgs_cores.specs.Nexts.{AreListed}
+
+module _ {A : Type 0} (number date : A → ℕ) where
+  above_all : (k m : ℕ) (xs : List A) → map number xs ≡ range_with_len k (length xs) → m < k
+      → AllByRecursion (λ y. m < number y) xs
+  above_all k m [] is low = tt
+  above_all k m (x ∷ xs) is low =
+      let first : number x ≡ k = cc in
+      let rest : map number xs ≡ range_with_len (k + 1) (length xs) = cc in
+      (omega arith, above_all (k + 1) m xs rest (omega arith))
+
+  late_all : (d : ℕ) (xs : List A) → AllByRecursion (λ later. d ≤ later) (map date xs)
+      → AllByRecursion (λ y. d ≤ date y) xs
+  late_all d [] late = tt
+  late_all d (x ∷ xs) late = (late.0, late_all d xs late.1)
+
+  listed : (k last : ℕ) (xs : List A) → map number xs ≡ range_with_len k (length xs)
+      → k + length xs ≤ LARGEST_NUMBER + 1 → NeverFall last (map date xs) → AreListed number date xs
+  listed k last [] is small dates = tt
+  listed k last (x ∷ xs) is small dates =
+      let first : number x ≡ k = cc in
+      let rest : map number xs ≡ range_with_len (k + 1) (length xs) = cc in (
+        omega arith,
+        above_all (k + 1) (number x) xs rest (omega arith),
+        late_all (date x) xs dates.0,
+        listed (k + 1) last xs rest (omega arith) dates.2,
+      )
+
+  pub are_listed : (last : ℕ) (xs : List A) → AreNumbered (map number xs) → NeverFall last (map date xs)
+      → AreListed number date xs
+  are_listed last xs numbered dates =
+      let long = length-map xs number in
+      listed 1 last xs (subst (λ n. map number xs ≡ range_with_len 1 n) long numbered.0)
+      (let small = numbered.1 in omega arith) dates
+
+-- ---- the first that passes a test has the least number of those that pass
+
+-- what is found passes the test
+pub found_passes : {A : Type 0} (hit : A → Bool) (a : A) (xs : List A) → find hit xs ≡ Some a → hit a ≡ true
+found_passes hit a [] is = absurd cc
+found_passes hit a (x ∷ xs) is = elim (cases_Bool (hit x)) [
+  | inl here ↦ let same : x ≡ a = (let e = rw here at is in cc) in subst (λ y. hit y ≡ true) same here
+  | inr other ↦ found_passes hit a xs (rw other at is)
+]
+
+above_least : {A : Type 0} (number : A → ℕ) (hit : A → Bool) (a : A) (xs : List A)
+    → AllByRecursion (λ y. number a < number y) xs → AllByRecursion (λ y. hit y ≡ true → number a ≤ number y) xs
+above_least number hit a [] low = tt
+above_least number hit a (y ∷ ys) low = ((λ _. let l = low.0 in omega arith), above_least number hit a ys low.1)
+
+pub found_least : {A : Type 0} (number date : A → ℕ) (hit : A → Bool) (a : A) (xs : List A)
+    → AreListed number date xs → find hit xs ≡ Some a → AllByRecursion (λ y. hit y ≡ true → number a ≤ number y) xs
+found_least number date hit a [] listed is = tt
+found_least number date hit a (x ∷ xs) listed is = elim (cases_Bool (hit x)) [
+  | inl here ↦
+      let same : x ≡ a = (let e = rw here at is in cc) in
+      subst (λ b. AllByRecursion (λ y. hit y ≡ true → number b ≤ number y) (x ∷ xs)) same
+      ((λ _. omega arith), above_least number hit x xs listed.1)
+  | inr other ↦ (
+    (λ on. absurd (let clash : ◌≡◌ {A = Bool} true false = sym on ∙ other in cc)),
+    found_least number date hit a xs listed.3 (rw other at is),
+  )
+]
+
+pub weaker : {X : Type 0} (P Q : X → Type 0) → ((x : X) → P x → Q x) → (xs : List X) → AllByRecursion P xs
+    → AllByRecursion Q xs
+weaker P Q by [] all = tt
+weaker P Q by (x ∷ xs) all = (by x all.0, weaker P Q by xs all.1)
+
+pub both : (x y : Bool) → x ≡ true → y ≡ true → (x && y) ≡ true
+both x y one two = rw (one, two) refl
