@@ -3,7 +3,6 @@
 
 mod connections;
 mod deadline;
-mod farewell;
 mod port;
 mod reply_writer;
 mod request_reader;

@@ -2,12 +2,17 @@
 ghost use Rattle.std.specs.Prelude.{◌≡◌, ◌+◌, IfOk};
 
 use crate::connections::Connections;
-use crate::farewell::Farewell;
 use crate::reply_writer::ReplyWriter;
 use crate::request_reader::RequestReader;
 use std::io;
-use std::io::ErrorKind;
-use std::net::{Ipv4Addr, TcpListener, TcpStream};
+use std::io::Read;
+use std::net::{Ipv4Addr, TcpListener};
+
+/// How many pieces are read and dropped after a reply, at most.
+const MOST_PIECES_DROPPED: usize = 64;
+
+/// The most bytes of such a piece.
+const PIECE: usize = 4096;
 
 /// A port of this machine at its own address, 127.0.0.1, on which a number of connections is taken.
 #[derive(Drop)]
@@ -15,8 +20,6 @@ pub struct Port {
     rt: HostRuntime,
     listener: TcpListener,
     left: u32,
-    // the last connection with a reply, where it is not closed yet
-    farewell: Option<Farewell>,
 }
 
 impl Port {
@@ -29,44 +32,14 @@ impl Port {
             rt: *rt,
             listener: TcpListener::bind(rt, (Ipv4Addr::LOCALHOST, number))?,
             left: count,
-            farewell: None,
         })
     }
 
     // The next connection: what its request is read from, and what its reply is written to.
-    fn next(&mut self) -> io::Result<(RequestReader, ReplyWriter)>
-        ensures { self.new.left ≡ self.old.left }
-    {
-        let stream = self.take()?;
+    fn next(&self) -> io::Result<(RequestReader, ReplyWriter)> {
+        let (stream, _) = self.listener.accept()?;
         let writer = ReplyWriter::new(&self.rt, stream.try_clone()?);
         Ok((RequestReader::new(&self.rt, stream)?, writer))
-    }
-
-    // A connection that waits. Where none does, the last one is closed before the next is waited for.
-    fn take(&mut self) -> io::Result<TcpStream>
-        ensures { self.new.left ≡ self.old.left }
-    {
-        if let Some(stream) = self.waiting()? {
-            return Ok(stream);
-        }
-        self.farewell = None;
-        let (stream, _) = self.listener.accept()?;
-        Ok(stream)
-    }
-
-    // A connection that waits while the last one is not closed yet.
-    fn waiting(&self) -> io::Result<Option<TcpStream>> {
-        if self.farewell.is_none() {
-            return Ok(None);
-        }
-        self.listener.set_nonblocking(true)?;
-        let taken = self.listener.accept();
-        self.listener.set_nonblocking(false)?;
-        match taken {
-            Ok((stream, _)) => Ok(Some(stream)),
-            Err(error) if error.kind() == ErrorKind::WouldBlock => Ok(None),
-            Err(error) => Err(error),
-        }
     }
 }
 
@@ -86,9 +59,22 @@ impl Connections for Port {
         self.next().ok()
     }
 
-    // The writing side is ended at once. The connection is closed when the next one has its reply, or when none waits:
-    // its peer has that time to close it first, and no other is held up meanwhile. The one before it is closed now.
-    fn close(&mut self, reader: RequestReader, writer: ReplyWriter) {
-        self.farewell = Farewell::begin(reader, writer).ok();
+    // The writing side is ended first, which tells the peer that the reply is whole. What the peer still sends is read
+    // and dropped: a connection that is closed with bytes unread may lose the reply (RFC 9112, section 9.6).
+    fn close(&mut self, mut reader: RequestReader, writer: ReplyWriter) {
+        if writer.end().is_ok() && reader.linger().is_ok() {
+            drop_rest(&mut reader);
+        }
+    }
+}
+
+// Reads and drops what a peer still sends, up to its end, a time, or a number of pieces.
+fn drop_rest(reader: &mut RequestReader) {
+    let mut piece = [0; PIECE];
+    for _ in 0..MOST_PIECES_DROPPED {
+        match reader.read(&mut piece) {
+            Ok(0) | Err(_) => return,
+            Ok(_) => {}
+        }
     }
 }

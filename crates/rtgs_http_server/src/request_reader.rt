@@ -7,7 +7,7 @@ use std::net::TcpStream;
 /// How many seconds all reads of one request may take together.
 const SECONDS_FOR_A_REQUEST: u64 = 5;
 
-/// How many seconds what the peer sends after its reply is waited for.
+/// How many seconds the peer may go on sending after its reply.
 const SECONDS_AFTER_A_REPLY: u64 = 1;
 
 /// A connection of which one request is read. All reads together have a few seconds: a read that waits longer, or comes
