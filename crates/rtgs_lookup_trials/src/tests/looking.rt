@@ -1,12 +1,27 @@
 //! Records found by their names, and the next records of a date, in tables in memory.
-use super::super::setting::{FRIDAY, MONDAY, SATURDAY, TUESDAY, code, date, reference};
-use super::two_banks;
 use rtgs_book::Fault;
 use rtgs_keeper::Keeper;
+use rtgs_money::{BusinessDate, Code, Reference};
 use rtgs_tables::SqlKeeper;
-use sqlite::MemStore;
+use sqlite::{Connection, MemStore};
 use std::alloc::Global;
 use std::test::Fail;
+
+/// The Friday before the week.
+const FRIDAY: u32 = 20240301;
+
+/// The day after it, on which nothing opens.
+const SATURDAY: u32 = 20240302;
+
+/// The first day of the week.
+const MONDAY: u32 = 20240304;
+
+/// The second.
+const TUESDAY: u32 = 20240305;
+
+/// A posting from before all days.
+const FIRST: &str =
+    "INSERT INTO posting (number, code, reference, cents, date) VALUES (1, 'ALFA', 'P-1', 1000, NULL)";
 
 /// Three days, on the second of which nothing was settled. The first posting is from before them all.
 const THREE_DAYS: &str = "
@@ -17,9 +32,33 @@ const THREE_DAYS: &str = "
         (3, 'ALFA', 'A-2', 'BETA', 7, '2024-03-04', 3, NULL), (4, 'ALFA', 'A-3', 'BETA', 8, '2024-03-05', 1, 2);
     INSERT INTO mark (number, date, many, value) VALUES (1, '2024-03-01', 1, 5), (2, '2024-03-05', 1, 8)";
 
-/// The keeper of two banks, once this was done to their tables.
-fn banks_after(alloc: Global, sql: &str) -> Result<SqlKeeper<MemStore>, Fail> {
-    let mut conn = two_banks(alloc)?.into_connection();
+/// The code of this text.
+fn code(text: &str) -> Result<Code, Fail> {
+    Ok(Code::read(text.as_bytes())?)
+}
+
+/// The reference of this text.
+fn reference(text: &str) -> Result<Reference, Fail> {
+    Ok(Reference::read(text.as_bytes())?)
+}
+
+/// The date of this number, as 20240304.
+fn date(day: u32) -> Result<BusinessDate, Fail> {
+    Ok(BusinessDate::from_number(day).ok_or("a date")?)
+}
+
+/// The tables of a new book.
+fn new_tables(alloc: Global) -> Result<Connection<MemStore>, Fail> {
+    match SqlKeeper::create(Connection::open_in_memory(alloc)?) {
+        Ok(keeper) => Ok(keeper.into_connection()),
+        Err((fault, _)) => Err(Fail::from(fault)),
+    }
+}
+
+/// The keeper of tables with the first posting, once this was done to them.
+fn keeper_after(alloc: Global, sql: &str) -> Result<SqlKeeper<MemStore>, Fail> {
+    let mut conn = new_tables(alloc)?;
+    conn.execute_batch(FIRST)?;
     conn.execute_batch(sql)?;
     if !conn.is_autocommit() {
         return Err(Fail::from("in a transaction"));
@@ -75,14 +114,13 @@ fn marks_of(alloc: Global, keeper: &mut SqlKeeper<MemStore>, day: u32) -> Result
 
 #[test]
 fn an_order_is_found_by_its_sender_and_reference(rt: HostRuntime) -> Result<(), Fail> {
-    let mut keeper = banks_after(rt.alloc(), THREE_DAYS)?;
+    let mut keeper = keeper_after(rt.alloc(), THREE_DAYS)?;
     for (sender, name, number) in [
         ("ALFA", "A-1", Some(1)),
         ("BETA", "A-1", Some(2)),
         ("ALFA", "A-3", Some(4)),
         ("BETA", "A-2", None),
         ("GAMA", "A-1", None),
-        ("ALFA", "a-1", None),
     ] {
         let found = keeper.find_order(&code(sender)?, &reference(name)?)?;
         assert_eq!(rt; found.map(|order| order.number), number, "{sender} {name}");
@@ -92,7 +130,7 @@ fn an_order_is_found_by_its_sender_and_reference(rt: HostRuntime) -> Result<(), 
 
 #[test]
 fn a_posting_is_found_by_its_reference(rt: HostRuntime) -> Result<(), Fail> {
-    let mut keeper = banks_after(rt.alloc(), THREE_DAYS)?;
+    let mut keeper = keeper_after(rt.alloc(), THREE_DAYS)?;
     for (name, number) in [
         ("P-1", Some(1)),
         ("P-5", Some(5)),
@@ -108,7 +146,7 @@ fn a_posting_is_found_by_its_reference(rt: HostRuntime) -> Result<(), Fail> {
 #[test]
 fn the_records_of_a_day_come_one_after_another(rt: HostRuntime) -> Result<(), Fail> {
     let alloc = rt.alloc();
-    let mut keeper = banks_after(alloc, THREE_DAYS)?;
+    let mut keeper = keeper_after(alloc, THREE_DAYS)?;
     assert_eq!(rt;
         postings_of(alloc, &mut keeper, FRIDAY)?.as_slice(),
         [2].as_slice()
@@ -143,7 +181,7 @@ fn the_records_of_a_day_come_one_after_another(rt: HostRuntime) -> Result<(), Fa
 #[test]
 fn a_day_without_marks_has_no_next(rt: HostRuntime) -> Result<(), Fail> {
     let alloc = rt.alloc();
-    let mut keeper = banks_after(alloc, THREE_DAYS)?;
+    let mut keeper = keeper_after(alloc, THREE_DAYS)?;
     assert_eq!(rt;
         marks_of(alloc, &mut keeper, FRIDAY)?.as_slice(),
         [1].as_slice()
@@ -161,7 +199,7 @@ fn a_day_without_marks_has_no_next(rt: HostRuntime) -> Result<(), Fail> {
 
 #[test]
 fn nothing_comes_after_the_last_number(rt: HostRuntime) -> Result<(), Fail> {
-    let mut keeper = banks_after(rt.alloc(), THREE_DAYS)?;
+    let mut keeper = keeper_after(rt.alloc(), THREE_DAYS)?;
     let tuesday = date(TUESDAY)?;
     for number in [5, 999_999_998, 999_999_999, 1 << 63, u64::MAX] {
         assert_eq!(rt; keeper.next_posting(tuesday, number)?, None, "{number}");
@@ -180,7 +218,7 @@ fn earlier_days_are_passed_over(rt: HostRuntime) -> Result<(), Fail> {
             INSERT INTO mark (number, date, many, value) SELECT i, '2024-03-01', 1, 5 FROM n;
             INSERT INTO mark (number, date, many, value) VALUES ({earlier} + 1, '2024-03-05', 1, 5)"
         )?;
-        let mut keeper = banks_after(alloc, sql.as_str())?;
+        let mut keeper = keeper_after(alloc, sql.as_str())?;
         let found = keeper.next_mark(date(TUESDAY)?, 0)?;
         assert_eq!(rt; found.map(|mark| mark.number), Some(earlier + 1));
         assert_eq!(rt; keeper.next_mark(date(MONDAY)?, 0)?, None);
@@ -192,7 +230,7 @@ fn earlier_days_are_passed_over(rt: HostRuntime) -> Result<(), Fail> {
 #[test]
 fn a_row_in_no_form_fails_the_keeper(rt: HostRuntime) -> Result<(), Fail> {
     let alloc = rt.alloc();
-    let mut keeper = banks_after(alloc, "UPDATE posting SET cents = 0")?;
+    let mut keeper = keeper_after(alloc, "UPDATE posting SET cents = 0")?;
     let unread = keeper.find_posting(&reference("P-1")?);
     assert_eq!(rt; unread.err(), Some(Fault::StoreFault));
     let after = keeper.next_mark(date(MONDAY)?, 0);
