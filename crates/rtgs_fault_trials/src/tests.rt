@@ -1,4 +1,5 @@
 //! Disks in memory that fail, keepers that fail, and what is found then; and the same commands over two keepers.
+mod batch_rows;
 mod boundaries;
 mod business;
 mod creation;

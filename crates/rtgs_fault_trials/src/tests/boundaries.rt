@@ -21,10 +21,10 @@ const LONGEST_REFERENCE: &str = "Z-0123456789ABC9";
 fn answer_alike(
     held: &mut Desk<MemoryKeeper>,
     kept: &mut DiskDesk,
-    command: Command,
+    command: &Command,
 ) -> Result<Reply, Fail> {
-    let reply = held.submit(command);
-    let other = kept.submit(command);
+    let reply = held.submit(*command);
+    let other = kept.submit(*command);
     if other == reply {
         Ok(reply)
     } else {
@@ -38,13 +38,13 @@ fn refuse_the_last(alloc: Global, commands: &[Command], refusal: Refusal) -> Res
     let mut held = desk_over(alloc, MemoryKeeper::new(alloc))?;
     let mut kept = desk_again(alloc, new_disks(alloc)?)?;
     for command in accepted {
-        match answer_alike(&mut held, &mut kept, *command)? {
+        match answer_alike(&mut held, &mut kept, command)? {
             Ok(Answer::Repeated(_)) => return Err(Fail::from("repeated")),
             Ok(_) => (),
             Err(refusal) => return Err(Fail::from(refusal)),
         }
     }
-    let reply = answer_alike(&mut held, &mut kept, *last)?;
+    let reply = answer_alike(&mut held, &mut kept, last)?;
     let in_memory = held.into_keeper().load(alloc)?;
     let on_disks = book_on(alloc, closed(kept.into_keeper())?)?;
     Ok(reply == Err(refusal) && are_same_books(&on_disks, &in_memory))

@@ -12,12 +12,12 @@ use std::test::Fail;
 
 /// How far the making of a desk came on these disks.
 fn made(alloc: Global, files: Files<Disked>) -> Result<(Progress, Files<Disked>), Fail> {
-    let conn = match connected(alloc, files) {
+    let conn = match connected(alloc, files)? {
         Ok(conn) => conn,
-        Err((_, left)) => return Ok((Progress::Unopened, left)),
+        Err(left) => return Ok((Progress::Unopened, left)),
     };
     match create(alloc, conn) {
-        Ok(desk) => Ok(ended(desk.into_keeper())),
+        Ok(desk) => ended(desk.into_keeper()),
         Err((Fault::StoreFault, conn)) => Ok((Progress::Failed(0), conn.into_store().close())),
         Err((fault, _)) => Err(Fail::from(fault)),
     }
@@ -25,7 +25,7 @@ fn made(alloc: Global, files: Files<Disked>) -> Result<(Progress, Files<Disked>)
 
 /// The book that is found after a crash, or none where there are no tables.
 fn found(alloc: Global, files: Files<Disked>) -> Result<Option<Book>, Fail> {
-    let Ok(conn) = connected(alloc, crashed(files)) else {
+    let Ok(conn) = connected(alloc, crashed(files))? else {
         return Err(Fail::from("not opened again"));
     };
     match open(alloc, conn) {

@@ -1,7 +1,7 @@
 //! Trials on disks of which one fails, and what is found on them after a crash.
 use super::disks::{
-    DiskStore, Disked, Failing, Fuses, WHOLE, closed, crashed, desk_again, desk_on, disks_of,
-    new_desk,
+    DISK_FAILED, DiskStore, Disked, Failing, Fuses, WHOLE, closed, crashed, desk_again, desk_on,
+    disks_of, new_desk,
 };
 use super::found::Found;
 use super::image::Image;
@@ -38,17 +38,18 @@ fn run(
     let progress = trial.work(alloc, &mut desk)?;
     let keeper = desk.into_keeper();
     if progress == Progress::Whole {
-        Ok(ended(keeper))
+        ended(keeper)
     } else {
         Ok((progress, disks_of(keeper)))
     }
 }
 
 /// Closes a database whose desk answered all.
-pub fn ended(keeper: SqlKeeper<DiskStore>) -> (Progress, Files<Disked>) {
+pub fn ended(keeper: SqlKeeper<DiskStore>) -> Result<(Progress, Files<Disked>), Fail> {
     match keeper.into_connection().close_files() {
-        Ok(files) => (Progress::Whole, files),
-        Err((_, store)) => (Progress::Unclosed, store.close()),
+        Ok(files) => Ok((Progress::Whole, files)),
+        Err((error, store)) if error == DISK_FAILED => Ok((Progress::Unclosed, store.close())),
+        Err((error, _)) => Err(Fail::from(error)),
     }
 }
 
@@ -108,7 +109,8 @@ impl<'a> DiskTrial<'a> {
         let mut desk = desk_again(alloc, self.image.on_disks(alloc, WHOLE)?)?;
         let progress = part.work(alloc, &mut desk)?;
         let (found, _) = found_on(alloc, disks_of(desk.into_keeper()))?;
-        Ok(progress == Progress::Whole && part.may_find(self.books.as_slice(), progress, &found))
+        let place = part.place_of(self.books.as_slice(), progress, &found);
+        Ok(progress == Progress::Whole && place.is_some())
     }
 
     // How far the trial came with these fuses, where a book was found that may be.
@@ -116,8 +118,10 @@ impl<'a> DiskTrial<'a> {
         let books = self.books.as_slice();
         let (progress, left) = run(alloc, self.image.on_disks(alloc, fuses)?, &self.trial)?;
         let (found, keeper) = found_on(alloc, left)?;
-        let holds = self.trial.may_find(books, progress, &found)
-            && self.trial.ends_alike(alloc, books, keeper)?;
-        Ok(if holds { Some(progress) } else { None })
+        let Some(place) = self.trial.place_of(books, progress, &found) else {
+            return Ok(None);
+        };
+        let is_alike = self.trial.ends_alike(alloc, books, keeper, place)?;
+        Ok(if is_alike { Some(progress) } else { None })
     }
 }

@@ -7,7 +7,7 @@ use rtgs_desk::Desk;
 use rtgs_keeper::Keeper;
 use rtgs_stored_desk::{create, open};
 use rtgs_tables::SqlKeeper;
-use sqlite::{Connection, Error, FileStore, Files, Options};
+use sqlite::{Connection, Error, ErrorCode, FileStore, Files, Options};
 use sqlite_disk::{Crash, Disk, Fuse, Memory};
 use std::alloc::Global;
 use std::test::Fail;
@@ -20,6 +20,9 @@ pub type DiskStore = FileStore<Disked>;
 
 /// A desk over such a database.
 pub type DiskDesk = Desk<SqlKeeper<DiskStore>>;
+
+/// What a store answers whose disk fails.
+pub const DISK_FAILED: Error = Error::SqliteFailure(ErrorCode::SystemIoFailure);
 
 /// How many calls the log and the database file pass on.
 #[derive(Clone, Copy, Debug)]
@@ -62,22 +65,23 @@ pub fn blank(alloc: Global, fuses: Fuses) -> Files<Disked> {
     }
 }
 
-/// Opens the database. Where the store refuses, the disks come back.
+/// Opens the database. Where a disk fails, and for no other reason, the disks come back.
 pub fn connected(
     alloc: Global,
     files: Files<Disked>,
-) -> Result<Connection<DiskStore>, (Option<Error>, Files<Disked>)>
-    ensures { IfOk result (λ conn. conn.in_transaction ≡ false) }
+) -> Result<Result<Connection<DiskStore>, Files<Disked>>, Fail>
+    ensures { IfOk result (λ opened. IfOk opened (λ conn. conn.in_transaction ≡ false)) }
 {
     if !files.log.may_be_used() {
-        return Err((None, files));
+        return Err(Fail::from("a log that may not be used"));
     }
     if !files.db.may_be_used() {
-        return Err((None, files));
+        return Err(Fail::from("a file that may not be used"));
     }
     match Connection::open_files(alloc, files, Options::new(1)) {
-        Ok(conn) => Ok(conn),
-        Err((error, left)) => Err((Some(error), left.into_files())),
+        Ok(conn) => Ok(Ok(conn)),
+        Err((error, left)) if error == DISK_FAILED => Ok(Err(left.into_files())),
+        Err((error, _)) => Err(Fail::from(error)),
     }
 }
 
@@ -86,9 +90,9 @@ pub fn desk_on(
     alloc: Global,
     files: Files<Disked>,
 ) -> Result<Result<DiskDesk, Files<Disked>>, Fail> {
-    let conn = match connected(alloc, files) {
+    let conn = match connected(alloc, files)? {
         Ok(conn) => conn,
-        Err((_, left)) => return Ok(Err(left)),
+        Err(left) => return Ok(Err(left)),
     };
     match open(alloc, conn) {
         Ok(desk) => Ok(Ok(desk)),
@@ -128,7 +132,7 @@ pub fn desk_again(alloc: Global, files: Files<Disked>) -> Result<DiskDesk, Fail>
 
 /// New disks on which the tables of a desk were made.
 pub fn new_desk(alloc: Global) -> Result<DiskDesk, Fail> {
-    let Ok(conn) = connected(alloc, blank(alloc, WHOLE)) else {
+    let Ok(conn) = connected(alloc, blank(alloc, WHOLE))? else {
         return Err(Fail::from("not opened"));
     };
     match create(alloc, conn) {

@@ -5,7 +5,7 @@ use super::disks::Failing;
 use super::failing_keeper::Trouble;
 use super::keeper_runs::keeper_failures;
 use super::setting::{
-    MONDAY, Row, Standings, date, limits, opened, pays, posts, queued, resolved, settled,
+    MONDAY, Reply, Row, Standings, date, limits, opened, pays, posts, queued, resolved, settled,
 };
 use super::trial::Trial;
 use rtgs_book::{Answer, Command, Known, OrderState};
@@ -19,12 +19,19 @@ struct Failures {
     keeper: usize,
 }
 
+/// Tries the commands with each failure of the keeper, before a call is passed on and after.
+fn each_of_the_keeper(rt: &HostRuntime, trial: &Trial<'_>) -> Result<usize, Fail> {
+    let calls = keeper_failures(rt.alloc(), trial, Trouble::Lost)?;
+    if calls == keeper_failures(rt.alloc(), trial, Trouble::Kept)? {
+        Ok(calls)
+    } else {
+        Err(Fail::from("other calls"))
+    }
+}
+
 /// Tries the commands with each failure.
 fn each_failure(rt: &HostRuntime, trial: Trial<'_>) -> Result<Failures, Fail> {
-    let keeper = keeper_failures(rt.alloc(), &trial, Trouble::Lost)?;
-    if keeper != keeper_failures(rt.alloc(), &trial, Trouble::Kept)? {
-        return Err(Fail::from("as many calls"));
-    }
+    let keeper = each_of_the_keeper(rt, &trial)?;
     let disks = DiskTrial::new(rt.alloc(), trial, true)?;
     if !disks.stops(rt.alloc())? {
         return Err(Fail::from("another book after a stop"));
@@ -32,6 +39,11 @@ fn each_failure(rt: &HostRuntime, trial: Trial<'_>) -> Result<Failures, Fail> {
     let log = disks.failures(rt, Failing::Log)?;
     let db = disks.failures(rt, Failing::Database)?;
     Ok(Failures { log, db, keeper })
+}
+
+/// What an order is answered that was taken under this number.
+fn taken(number: u64, state: OrderState) -> Reply {
+    Ok(Answer::Repeated(Known::Order { number, state }))
 }
 
 /// Orders of which two can settle together: ALFA has 10, and each of the three waits.
@@ -56,6 +68,7 @@ fn a_resolution_is_found_whole_or_not_at_all(rt: HostRuntime) -> Result<(), Fail
     let trial = Trial {
         before: &cascade()?,
         rows: &[(Command::Resolve, resolved(1, 2, 110))],
+        again: &[Ok(Answer::Nothing)],
         is_batch: false,
         standings: &[WAITING, SETTLED],
     };
@@ -75,6 +88,11 @@ fn a_batch_is_found_up_to_a_row(rt: HostRuntime) -> Result<(), Fail> {
             (pays("ALFA", "A-1", "BETA", 100)?, settled(1, 1)),
             (pays("ALFA", "A-2", "GAMA", 50)?, settled(2, 2)),
             (pays("ALFA", "A-3", "BETA", 25)?, queued(3, 1)),
+        ],
+        again: &[
+            taken(1, OrderState::Settled(1)),
+            taken(2, OrderState::Settled(2)),
+            taken(3, OrderState::Queued),
         ],
         is_batch: true,
         standings: &[
@@ -103,6 +121,7 @@ fn a_close_rejects_all_or_nothing(rt: HostRuntime) -> Result<(), Fail> {
             Command::CloseDay(monday),
             Ok(Answer::Closed { rejected: 2 }),
         )],
+        again: &[Ok(Answer::Repeated(Known::Nothing))],
         is_batch: false,
         standings: &[[(0, 1), (0, 1), (0, 0)], [(0, 0), (0, 0), (0, 0)]],
     };
@@ -118,6 +137,7 @@ fn a_new_order_is_found_or_not(rt: HostRuntime) -> Result<(), Fail> {
     let trial = Trial {
         before: &[opened()?, (limits("ALFA", 100)?, Ok(Answer::CreditSet))],
         rows: &[(pays("ALFA", "A-1", "BETA", 100)?, settled(1, 1))],
+        again: &[taken(1, OrderState::Settled(1))],
         is_batch: false,
         standings: &[[(0, 0), (0, 0), (0, 0)], PAID],
     };
@@ -127,19 +147,31 @@ fn a_new_order_is_found_or_not(rt: HostRuntime) -> Result<(), Fail> {
 }
 
 #[test]
+fn an_order_that_waits_is_found_or_not(rt: HostRuntime) -> Result<(), Fail> {
+    let trial = Trial {
+        before: &[opened()?, (limits("ALFA", 100)?, Ok(Answer::CreditSet))],
+        rows: &[(pays("ALFA", "A-1", "BETA", 101)?, queued(1, 1))],
+        again: &[taken(1, OrderState::Queued)],
+        is_batch: false,
+        standings: &[[(0, 0), (0, 0), (0, 0)], [(0, 1), (0, 0), (0, 0)]],
+    };
+    let calls = each_of_the_keeper(&rt, &trial)?;
+    rt.println(format_args!("waiting order: {calls} at the keeper"))?;
+    Ok(())
+}
+
+#[test]
 fn an_order_that_comes_again_changes_nothing(rt: HostRuntime) -> Result<(), Fail> {
     let order = pays("ALFA", "A-1", "BETA", 100)?;
-    let known = Known::Order {
-        number: 1,
-        state: OrderState::Settled(1),
-    };
+    let known = taken(1, OrderState::Settled(1));
     let trial = Trial {
         before: &[
             opened()?,
             (limits("ALFA", 100)?, Ok(Answer::CreditSet)),
             (order, settled(1, 1)),
         ],
-        rows: &[(order, Ok(Answer::Repeated(known)))],
+        rows: &[(order, known)],
+        again: &[known],
         is_batch: false,
         standings: &[PAID, PAID],
     };
@@ -153,6 +185,7 @@ fn an_opening_leaves_the_book(rt: HostRuntime) -> Result<(), Fail> {
     let trial = Trial {
         before: &cascade()?,
         rows: &[],
+        again: &[],
         is_batch: false,
         standings: &[WAITING],
     };

@@ -35,10 +35,10 @@ pub fn keeper_failures(alloc: Global, trial: &Trial<'_>, trouble: Trouble) -> Re
     for calls in 0..100 {
         let (progress, kept) = run(alloc, trial, calls, trouble)?;
         let (found, kept) = Found::of(alloc, desk_over(alloc, kept)?)?;
-        if !trial.may_find(books.as_slice(), progress, &found) {
+        let Some(place) = trial.place_of(books.as_slice(), progress, &found) else {
             return Err(Fail::from("another book"));
-        }
-        if !trial.ends_alike(alloc, books.as_slice(), kept)? {
+        };
+        if !trial.ends_alike(alloc, books.as_slice(), kept, place)? {
             return Err(Fail::from("another end"));
         }
         if progress == Progress::Whole {

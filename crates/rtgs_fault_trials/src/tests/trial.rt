@@ -1,9 +1,11 @@
 //! Commands during which the store fails, and the books that may be found then.
+use super::batch_rows::sent;
 use super::found::Found;
-use super::setting::{KEY, MONDAY, Row, Standings, adds_three, code, date, desk_over, reference};
+use super::setting::{
+    KEY, MONDAY, Reply, Row, Standings, adds_three, code, date, desk_over, reference,
+};
 use rtgs_book::{Command, Refusal};
 use rtgs_desk::Desk;
-use rtgs_exchange::{BatchResult, OrderRow, submit_batch};
 use rtgs_keeper::{Keeper, MemoryKeeper};
 use rtgs_money::Key;
 use std::alloc::Global;
@@ -16,6 +18,8 @@ pub struct Trial<'a> {
     pub before: &'a [Row],
     /// Commands while it fails.
     pub rows: &'a [Row],
+    /// What each of these is answered when it comes again.
+    pub again: &'a [Reply],
     /// These are orders of ALFA, and come in one batch.
     pub is_batch: bool,
     /// How the banks stand before the first of these, and after each.
@@ -92,32 +96,53 @@ impl Trial<'_> {
         }
     }
 
-    /// Whether this may be found: a book with all that was answered, and at most the one command more that was open.
-    pub fn may_find(&self, books: &[Found], progress: Progress, found: &Found) -> bool {
+    /// Behind how many of the commands this is found, where it may be: with all that was answered, and with at most the
+    /// one command more that was open.
+    pub fn place_of(&self, books: &[Found], progress: Progress, found: &Found) -> Option<usize> {
         let all = self.rows.len();
         let (least, most) = match progress {
             Progress::Unopened => (0, 0),
             Progress::Failed(count) => (count, count.saturating_add(1)),
             Progress::Unclosed | Progress::Whole => (all, all),
         };
-        is_at(books, least, found) || is_at(books, most, found)
+        if is_at(books, least, found) {
+            return Some(least);
+        }
+        if is_at(books, most, found) {
+            Some(most)
+        } else {
+            None
+        }
     }
 
-    /// Whether the commands, given once more from what is found, end in the last of the books.
+    /// Whether the commands, given once more behind so many of them, end in the last of the books. Those are answered as
+    /// what comes again, and the others as the first time.
     pub fn ends_alike<K: Keeper + Drop>(
         &self,
         alloc: Global,
         books: &[Found],
         keeper: K,
+        place: usize,
     ) -> Result<bool, Fail> {
         let mut desk = desk_over(alloc, keeper)?;
+        let rows = self.rows_behind(alloc, place)?;
         let count = if self.is_batch {
-            sent(alloc, &mut desk, self.rows)?
+            sent(alloc, &mut desk, rows.as_slice())?
         } else {
-            accepted(&mut desk, self.rows)?
+            answered(&mut desk, rows.as_slice())?
         };
         let (found, _) = Found::of(alloc, desk)?;
         Ok(count == self.rows.len() && is_at(books, count, &found))
+    }
+
+    // The commands, and what they are answered behind so many of them.
+    fn rows_behind(&self, alloc: Global, place: usize) -> Result<Vec<Row>, Fail> {
+        let mut rows = Vec::new(alloc);
+        for ((command, reply), again) in self.rows.iter().zip(self.again) {
+            let expected = if rows.len() < place { *again } else { *reply };
+            rows.push((*command, expected))?;
+        }
+        Ok(rows)
     }
 }
 
@@ -142,52 +167,6 @@ fn answered<K: Keeper>(desk: &mut Desk<K>, rows: &[Row]) -> Result<usize, Fail> 
         count = count.saturating_add(1);
     }
     Ok(count)
-}
-
-// How many commands are accepted, or answered as repeats.
-fn accepted<K: Keeper>(desk: &mut Desk<K>, rows: &[Row]) -> Result<usize, Fail> {
-    let mut count = 0usize;
-    for (command, _) in rows {
-        desk.submit(*command)?;
-        count = count.saturating_add(1);
-    }
-    Ok(count)
-}
-
-// The same of a batch, whatever the replies.
-fn sent<K: Keeper>(alloc: Global, desk: &mut Desk<K>, rows: &[Row]) -> Result<usize, Fail> {
-    let orders = orders_of(alloc, rows)?;
-    let BatchResult { replies, stopped } = submit_batch(
-        alloc,
-        desk,
-        code("ALFA")?,
-        orders.as_slice(),
-    )?;
-    match stopped {
-        None | Some(Refusal::StoreFault) => Ok(replies.len()),
-        Some(refusal) => Err(Fail::from(refusal)),
-    }
-}
-
-fn orders_of(alloc: Global, rows: &[Row]) -> Result<Vec<OrderRow>, Fail> {
-    let mut orders = Vec::new(alloc);
-    for (command, _) in rows {
-        let Command::Order {
-            reference,
-            receiver,
-            amount,
-            ..
-        } = *command
-        else {
-            return Err(Fail::from("no order"));
-        };
-        orders.push(OrderRow {
-            reference,
-            receiver,
-            amount,
-        })?;
-    }
-    Ok(orders)
 }
 
 // Whether a desk answers nothing but that it has failed.
