@@ -6,6 +6,9 @@ use super::setting::{book_bytes, keeps, remove, write};
 use std::alloc::{AllocError, Global};
 use std::test::Fail;
 
+// How often the book is changed by each test.
+const TIMES: usize = 250;
+
 // The book with one to three changes.
 fn file_of(alloc: Global, draw: &mut Draw, book: &[u8]) -> Result<Vec<u8>, AllocError> {
     let mut bytes = changed(alloc, draw, book)?;
@@ -32,14 +35,14 @@ fn met(rt: &HostRuntime, file: &str, seed: u64, times: usize) -> Result<Met, Fai
 
 #[test]
 fn files_with_changes(rt: HostRuntime) -> Result<(), Fail> {
-    let met = met(&rt, "changes", 1, 200)?;
+    let met = met(&rt, "changes", 1, TIMES)?;
     assert!(rt; met.reported > 0 && met.failed > 0, "{met:?}");
     Ok(())
 }
 
 #[test]
 fn more_files_with_changes(rt: HostRuntime) -> Result<(), Fail> {
-    let met = met(&rt, "more_changes", 2, 200)?;
+    let met = met(&rt, "more_changes", 2, TIMES)?;
     assert!(rt; met.reported > 0 && met.failed > 0, "{met:?}");
     Ok(())
 }

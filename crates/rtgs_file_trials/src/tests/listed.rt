@@ -57,12 +57,18 @@ fn whose_tables_are_no_desks(rt: HostRuntime) -> Result<(), Fail> {
     changed(&rt, "no_desk", &NO_DESK)
 }
 
+// Leaves the orders numbered 1 and 3, of which the first has settled, with its mark and the balances that it gave.
+const ONE_AND_THREE: &str =
+    "DELETE FROM payment WHERE number = 2 OR number = 4; DELETE FROM mark WHERE number = 2;
+    UPDATE participant SET balance = 50 WHERE code = 'ALFA'; UPDATE participant SET balance = 0 WHERE code = 'GAMA'";
+
 // In each but the last nothing else is broken.
-const UNSOUND: [(&str, &str); 5] = [
+const UNSOUND: [(&str, &str); 6] = [
     (
         "UPDATE participant SET balance = balance + 1 WHERE code = 'GAMA'",
         "refused 94 Inconsistent 14\n",
     ),
+    (ONE_AND_THREE, "refused 94 Inconsistent 1\n"),
     (
         "UPDATE payment SET number = 5 WHERE number = 4",
         "refused 94 Inconsistent 1\n",
@@ -84,7 +90,7 @@ fn whose_book_is_unsound(rt: HostRuntime) -> Result<(), Fail> {
     changed(&rt, "unsound", &UNSOUND)
 }
 
-// Orders 1 and 3 alone, of which one has settled; and a queued order once the day is closed.
+// Orders without a third one, and a queued order once the day is closed. In the last row nothing adds up besides.
 const ENDED: [(&str, &str); 3] = [
     (
         "DELETE FROM payment WHERE number = 4; UPDATE payment SET number = 4 WHERE number = 3",
