@@ -1,12 +1,18 @@
 //! Commands of every kind.
 use super::call::{Call, Outcome};
-use super::limit::for_each_refusal;
-use super::setting::{MONDAY, date, desk_after, desk_over, limits, pays, seen_of};
+use super::limit::{in_a_process, refuse_each};
+use super::over_sql::OverSql;
+use super::setting::{
+    MONDAY, adds, date, desk_after, desk_over, limits, opens, pays, posts, seen_of, withdraws,
+};
 use super::store::{InMemory, Store};
 use rtgs_book::{Answer, Command, Refusal};
 use rtgs_desk::Desk;
 use std::alloc::Global;
 use std::test::Fail;
+
+/// By how many blocks a step over tables grows.
+const BLOCKS: usize = 16;
 
 /// A command to a desk with three banks, after other commands.
 #[derive(Clone, Copy)]
@@ -47,12 +53,110 @@ impl<S: Store> Call for Submits<'_, S> {
     }
 }
 
-#[test]
-fn an_order_that_settles(rt: HostRuntime) -> Result<(), Fail> {
+// Tries a command over this store, by so many blocks a step.
+fn tries_over<S: Store + Copy>(
+    rt: &HostRuntime,
+    name: &str,
+    store: S,
+    blocks: usize,
+    before: &[Command],
+    command: &Command,
+) -> Result<(), Fail> {
     let call = Submits {
-        store: InMemory,
-        before: &[limits("ALFA", 100)?, Command::OpenDay(date(MONDAY)?)],
-        command: pays("ALFA", "A-1", "BETA", 100)?,
+        store,
+        before,
+        command: *command,
     };
-    for_each_refusal(&rt, "tests::commands::an_order_that_settles", &call, 1)
+    refuse_each(rt, name, &call, blocks)
+}
+
+// Tries a command over memory and over tables. The name is that of the test.
+fn tries(rt: &HostRuntime, name: &str, before: &[Command], command: &Command) -> Result<(), Fail> {
+    tries_over(rt, "over memory", InMemory, 1, before, command)?;
+    tries_over(rt, "over tables", OverSql, BLOCKS, before, command)?;
+    in_a_process(rt, name)
+}
+
+#[test]
+fn add(rt: HostRuntime) -> Result<(), Fail> {
+    let adds = adds("DELT", "0000000000000000000000000000000d")?;
+    tries(&rt, "tests::commands::add", &[], &adds)
+}
+
+#[test]
+fn set_credit(rt: HostRuntime) -> Result<(), Fail> {
+    tries(
+        &rt,
+        "tests::commands::set_credit",
+        &[],
+        &limits("ALFA", 100)?,
+    )
+}
+
+#[test]
+fn post(rt: HostRuntime) -> Result<(), Fail> {
+    tries(
+        &rt,
+        "tests::commands::post",
+        &[],
+        &posts("ALFA", "P-1", 10)?,
+    )
+}
+
+#[test]
+fn open_day(rt: HostRuntime) -> Result<(), Fail> {
+    tries(&rt, "tests::commands::open_day", &[], &opens()?)
+}
+
+#[test]
+fn order_that_settles(rt: HostRuntime) -> Result<(), Fail> {
+    let before = [limits("ALFA", 100)?, opens()?];
+    let pays = pays("ALFA", "A-1", "BETA", 100)?;
+    tries(&rt, "tests::commands::order_that_settles", &before, &pays)
+}
+
+#[test]
+fn order_that_waits(rt: HostRuntime) -> Result<(), Fail> {
+    let pays = pays("ALFA", "A-1", "BETA", 100)?;
+    tries(&rt, "tests::commands::order_that_waits", &[opens()?], &pays)
+}
+
+#[test]
+fn withdraw(rt: HostRuntime) -> Result<(), Fail> {
+    let before = [opens()?, pays("ALFA", "A-1", "BETA", 100)?];
+    tries(
+        &rt,
+        "tests::commands::withdraw",
+        &before,
+        &withdraws("ALFA", "A-1")?,
+    )
+}
+
+#[test]
+fn resolve(rt: HostRuntime) -> Result<(), Fail> {
+    let before = [
+        opens()?,
+        pays("ALFA", "A-1", "BETA", 100)?,
+        pays("BETA", "B-1", "GAMA", 100)?,
+        pays("GAMA", "G-1", "ALFA", 100)?,
+    ];
+    tries(&rt, "tests::commands::resolve", &before, &Command::Resolve)
+}
+
+#[test]
+fn cut_off(rt: HostRuntime) -> Result<(), Fail> {
+    let cuts_off = Command::CutOff(date(MONDAY)?);
+    tries(&rt, "tests::commands::cut_off", &[opens()?], &cuts_off)
+}
+
+#[test]
+fn close_day(rt: HostRuntime) -> Result<(), Fail> {
+    let before = [
+        opens()?,
+        pays("ALFA", "A-1", "BETA", 100)?,
+        pays("BETA", "B-1", "GAMA", 90)?,
+        Command::CutOff(date(MONDAY)?),
+    ];
+    let closes = Command::CloseDay(date(MONDAY)?);
+    tries(&rt, "tests::commands::close_day", &before, &closes)
 }
