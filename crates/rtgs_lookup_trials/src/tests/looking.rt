@@ -128,6 +128,14 @@ fn an_order_is_found_by_its_sender_and_reference(rt: HostRuntime) -> Result<(), 
     Ok(())
 }
 
+/// The number of the posting with this reference.
+fn posting_of(keeper: &mut SqlKeeper<MemStore>, name: &str) -> Result<Option<u64>, Fail> {
+    let Some(posting) = keeper.find_posting(&reference(name)?)? else {
+        return Ok(None);
+    };
+    Ok(Some(posting.number))
+}
+
 #[test]
 fn a_posting_is_found_by_its_reference(rt: HostRuntime) -> Result<(), Fail> {
     let mut keeper = keeper_after(rt.alloc(), THREE_DAYS)?;
@@ -137,8 +145,7 @@ fn a_posting_is_found_by_its_reference(rt: HostRuntime) -> Result<(), Fail> {
         ("P-6", None),
         ("A-1", None),
     ] {
-        let found = keeper.find_posting(&reference(name)?)?;
-        assert_eq!(rt; found.map(|posting| posting.number), number, "{name}");
+        assert_eq!(rt; posting_of(&mut keeper, name)?, number, "{name}");
     }
     Ok(())
 }
