@@ -1,2 +1,0 @@
-//! Records found by name, and the next records of a date.
-mod looking;
