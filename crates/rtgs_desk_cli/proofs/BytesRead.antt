@@ -55,8 +55,11 @@ module _ {K : Type 0} (file : OverFile K) {V : Type 0} (bytes_of : V → List �
     closed = did.closed;
     over = did.over;
     did = λ honest book held.
-        by (text_wanted book asked) (subst (λ read. Tells bytes_of (text_wanted book asked) read
-        ⊎ Fails file.keeper asked did.closed read) is (did.did honest book held));
+        let it = did.did honest book held in (
+          it.0,
+          by (text_wanted book asked) (subst (λ read. Tells bytes_of (text_wanted book asked) read
+              ⊎ Fails file.keeper asked did.closed read) is it.1),
+        );
   }
     where
       by : (wanted : Result (List ℕ) Refusal) → Tells bytes_of wanted (Ok text)
@@ -71,8 +74,11 @@ module _ {K : Type 0} (file : OverFile K) {V : Type 0} (bytes_of : V → List �
     closed = did.closed;
     over = did.over;
     did = λ honest book held.
-        by (text_wanted book asked) (subst (λ read. Tells bytes_of (text_wanted book asked) read
-        ⊎ Fails file.keeper asked did.closed read) is (did.did honest book held));
+        let it = did.did honest book held in (
+          it.0,
+          by (text_wanted book asked) (subst (λ read. Tells bytes_of (text_wanted book asked) read
+              ⊎ Fails file.keeper asked did.closed read) is it.1),
+        );
   }
     where
       by : (wanted : Result (List ℕ) Refusal) → Tells bytes_of wanted (Err why)

@@ -9,7 +9,8 @@ use Rattle.rtgs_desk.specs.Holding.{Holds, Acts}
 use Rattle.rtgs_desk.specs.Readings.{Tells}
 use Rattle.rtgs_desk.specs.Seen.{Seen}
 use Rattle.rtgs_desk_texts.specs.Readings.{Fails, text_wanted}
-use Rattle.rtgs_http_banks.specs.Dealings.{Makes}
+use Rattle.rtgs_http_banks.specs.Dealings.{Makes, Stands}
+use Rattle.rtgs_http_server.specs.Requests.{AreAsked}
 use Rattle.rtgs_book_file.specs.OverFile.{OverFile}
 use Rattle.rtgs_exchange.specs.Batches.{orders_of, replies_of, with_stop}
 use Rattle.rtgs_exchange.specs.Sent.{Sent}
@@ -24,10 +25,12 @@ SentOver file book sender rows replies stopped desk =
     × file.stop_leaves desk book (orders_of sender (take (length (with_stop (replies_of replies) stopped)) rows))
     (with_stop (replies_of replies) stopped)
 
--- what requests that were served make of a book that the desk over the file held, and what a stop then leaves
-abbrev pub ServedOver : {K : Type 0} → OverFile K → Book → Seen K → Type 0
-ServedOver file book desk = (commands : List Command) × (replies : List Reply)
-    × Makes file.keeper book commands replies desk × file.stop_leaves desk book commands replies
+-- what requests that were served make of a book that the desk over the file held, with the commands that they asked for
+-- under the operator's digest and no others, and what a stop then leaves
+abbrev pub ServedOver : {K : Type 0} → OverFile K → List ℕ → Book → Seen K → Type 0
+ServedOver file operator book desk = (commands : List Command) × (replies : List Reply)
+    × AreAsked operator book commands replies × Makes file.keeper book commands replies desk
+    × file.stop_leaves desk book commands replies
 
 module _ {K : Type 0} (file : OverFile K) where
   -- A desk was opened over what the files held, and closed again. Where the disk gave back what was written to it, this
@@ -47,13 +50,14 @@ module _ {K : Type 0} (file : OverFile K) where
   abbrev pub IsSent : List ℕ → List OrderRow → List RowReply → Option Refusal → Type 0
   IsSent sender rows replies stopped = IsDone (λ book desk. SentOver file book sender rows replies stopped desk)
 
-  -- The text that is wanted of the book was read, or what refuses it; or the store failed. `text_of` gives the bytes of
-  -- what was read.
+  -- The text that is wanted of the book was read, or what refuses it; or the store failed. Nothing was done to the
+  -- book. `text_of` gives the bytes of what was read.
   abbrev pub IsRead : {V : Type 0} → (V → List ℕ) → Reading → Result V Refusal → Type 0
-  IsRead text_of reading read = IsDone (λ book desk.
-      Tells text_of (text_wanted book reading) read ⊎ Fails file.keeper reading desk read)
+  IsRead text_of reading read = IsDone (λ book desk. Stands file.keeper book desk
+      × (Tells text_of (text_wanted book reading) read ⊎ Fails file.keeper reading desk read))
 
-  -- Requests were served: the commands of all of them are one session, and a stop leaves a book that it may find. The
-  -- desk then had failed, or it had not.
-  abbrev pub IsServed : Bool → Type 0
-  IsServed failed = IsDone (λ book desk. ServedOver file book desk × (file.keeper.has_failed desk.keeper ≡ failed))
+  -- Requests were served under the operator's digest: the commands that they asked for, and no others, are one session,
+  -- and a stop leaves a book that it may find. The desk then had failed, or it had not.
+  abbrev pub IsServed : List ℕ → Bool → Type 0
+  IsServed operator failed = IsDone (λ book desk. ServedOver file operator book desk
+      × (file.keeper.has_failed desk.keeper ≡ failed))

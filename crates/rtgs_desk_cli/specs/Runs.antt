@@ -99,7 +99,7 @@ module _ {K : Type 0} (book_file : OverFile K) where
   HasToPrint (Read file reading) text stopped =
       IsRead book_file (λ read. read) reading (Ok text) × (stopped ≡ None)
   HasToPrint (Serve file port count operator) text stopped =
-      (failed : Bool) × IsServed book_file failed × (text ≡ server_text port count failed)
+      (failed : Bool) × IsServed book_file operator failed × (text ≡ server_text port count failed)
       × (stopped ≡ stop_of_desk failed)
 
   -- why a run with this request is refused

@@ -4,7 +4,7 @@ ghost use Rattle.rtgs_book.specs.declared.Book.{Book};
 ghost use Rattle.rtgs_book_file.specs.OverFile.{file_from};
 ghost use Rattle.rtgs_desk.specs.Holding.{Holds};
 ghost use Rattle.rtgs_desk_lines.specs.Texts.{Prints};
-ghost use Rattle.rtgs_http_banks.specs.Dealings.{Works};
+ghost use Rattle.rtgs_http_server.specs.Requests.{WorksForAll};
 ghost use Rattle.rtgs_desk_cli.specs.Causes.{failure_of_listening};
 ghost use Rattle.rtgs_desk_cli.specs.Did.{ServedOver};
 ghost use Rattle.rtgs_desk_cli.specs.Runs.{IsNotListening, IsRefused, PrintsFor, server_text, stop_of_desk};
@@ -15,7 +15,7 @@ use rtgs_book_file::{FileKeeper, Start};
 use rtgs_desk::Desk;
 use rtgs_desk_lines::{Done, Failure, Printed};
 use rtgs_desk_requests::Request;
-use rtgs_http_banks::laws::a_desk_at_rest_works;
+use rtgs_http_server::laws::a_desk_at_rest_works_for_all;
 use rtgs_http_server::{Connections, Port, serve_connections};
 use rtgs_keeper::Keeper;
 use rtgs_money::KeyDigest;
@@ -58,7 +58,8 @@ fn serve_desk<S: Start, O: Write>(
 ) -> Result<Printed, Failure>
     ensures served { IfOk result (λ printed. (⟦<FileKeeper<S> as Keeper>⟧.is_honest desk.new.keeper
         → (book : Book) → Holds ⟦<FileKeeper<S> as Keeper>⟧ desk.old book
-        → ServedOver (file_from ⟦<FileKeeper<S> as Keeper>⟧ S.Start (λ keeper. keeper.conn)) book desk.new)
+        → ServedOver (file_from ⟦<FileKeeper<S> as Keeper>⟧ S.Start (λ keeper. keeper.conn)) operator.now book
+        desk.new)
         × Prints (server_text port count (⟦<FileKeeper<S> as Keeper>⟧.has_failed desk.new.keeper))
         (stop_of_desk (⟦<FileKeeper<S> as Keeper>⟧.has_failed desk.new.keeper)) printed (O.contents out.old)
         (O.contents out.new)) }
@@ -105,13 +106,13 @@ fn serve_all<C: Connections, K: Keeper, O: Write>(
     out: &mut O,
 ) -> Printed
     ensures works { K.is_honest desk.new.keeper → (book : Book) → Holds K.Keeper desk.old book
-        → Works K.Keeper book desk.new }
+        → WorksForAll K.Keeper operator.now book desk.new }
     ensures honest { K.is_honest desk.new.keeper → K.is_honest desk.old.keeper }
     ensures printed { Prints (server_text port (C.to_come connections.old) (K.has_failed desk.new.keeper))
         (stop_of_desk (K.has_failed desk.new.keeper)) result (O.contents out.old) (O.contents out.new) }
     ensures all { result ≡ Printed.Whole → C.to_come connections.new ≡ 0 }
 {
-    a_desk_at_rest_works(desk);
+    a_desk_at_rest_works_for_all(desk);
     let count = connections.left();
     if let Err(failed) = (Done::Listening { port }).print(out) {
         return Printed::Lost(failed);

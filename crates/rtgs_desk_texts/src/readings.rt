@@ -1,5 +1,5 @@
 //! What a desk tells of its book, as it is printed, made in memory.
-ghost use Rattle.std.specs.Prelude.{◌≡◌, ◌⊎◌, ◌++◌, ◌∷◌, [], true, Ok, Err, IfOk};
+ghost use Rattle.std.specs.Prelude.{◌≡◌, ◌⊎◌, ◌++◌, ◌∷◌, [], true, false, Ok, Err, IfOk};
 ghost use Rattle.rtgs_book.specs.declared.Book.{Book};
 ghost use Rattle.rtgs_book.specs.declared.Refusal.{Refusal};
 ghost use Rattle.rtgs_desk.specs.Holding.{Holds};
@@ -20,7 +20,7 @@ use std::alloc::{AllocError, Global};
 
 /// The text of a reading, as the book that the desk holds has it: a statement, a report, or JSON and a line feed.
 /// Refused as the desk refuses the reading, or for lack of memory. Only the reading of an order asks the store, and can
-/// meet a fault of it.
+/// meet a fault of it. Nothing is done to the book.
 pub fn text_of<K: Keeper>(
     alloc: Global,
     desk: &mut Desk<K>,
@@ -30,8 +30,17 @@ pub fn text_of<K: Keeper>(
         → Tells (λ text. text.items) (text_wanted book reading.now) result
         ⊎ Fails K.Keeper reading.now desk.new result }
     ensures failed { K.has_failed desk.old.keeper ≡ true → (result ≡ Err Refusal.Failed) × (desk.new ≡ desk.old) }
+    // A reading does nothing to the book: the desk holds it unless the store failed, and a crash leaves it and no
+    // other, whole.
+    ensures kept { K.is_honest desk.new.keeper → (book : Book) → Holds K.Keeper desk.old book
+        → K.has_failed desk.new.keeper ≡ false → Holds K.Keeper desk.new book }
+    ensures after_a_crash { K.is_honest desk.new.keeper → (book found : Book) → Holds K.Keeper desk.old book
+        → K.leaves desk.new.keeper found → found ≡ book }
+    ensures whole_after_a_crash { K.is_honest desk.new.keeper → (book : Book) → Holds K.Keeper desk.old book
+        → K.is_whole desk.new.keeper }
     ensures honest { K.is_honest desk.new.keeper → K.is_honest desk.old.keeper }
 {
+    desk.holds_a_sound_book();
     match *reading {
         Reading::Order { sender, reference } => order_line(alloc, desk, &sender, &reference),
         Reading::Account { code } => account_line(alloc, desk, &code),
@@ -41,7 +50,7 @@ pub fn text_of<K: Keeper>(
     }
 }
 
-// What is told of an order, as a line.
+// What is told of an order, as a line. The book stays as it is.
 fn order_line<K: Keeper>(
     alloc: Global,
     desk: &mut Desk<K>,
@@ -52,6 +61,12 @@ fn order_line<K: Keeper>(
         → Tells (λ text. text.items) (json_line order_data (order_told book sender.now reference.now)) result
         ⊎ ((K.has_failed desk.new.keeper ≡ true) × (result ≡ Err Refusal.StoreFault)) }
     ensures failed { K.has_failed desk.old.keeper ≡ true → (result ≡ Err Refusal.Failed) × (desk.new ≡ desk.old) }
+    ensures kept { K.is_honest desk.new.keeper → (book : Book) → Holds K.Keeper desk.old book
+        → K.has_failed desk.new.keeper ≡ false → Holds K.Keeper desk.new book }
+    ensures after_a_crash { K.is_honest desk.new.keeper → (book found : Book) → Holds K.Keeper desk.old book
+        → K.leaves desk.new.keeper found → found ≡ book }
+    ensures whole_after_a_crash { K.is_honest desk.new.keeper → (book : Book) → Holds K.Keeper desk.old book
+        → K.is_whole desk.new.keeper }
     ensures honest { K.is_honest desk.new.keeper → K.is_honest desk.old.keeper }
 {
     let order = desk.order_of(sender, reference)?;

@@ -3,6 +3,7 @@
 
 mod connections;
 mod deadline;
+pub mod laws;
 mod port;
 mod reply_writer;
 mod request_reader;

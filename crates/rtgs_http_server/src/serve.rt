@@ -2,11 +2,12 @@
 ghost use Rattle.std.specs.Prelude.{◌≡◌, ◌+◌, ◌<◌, true, false};
 ghost use Rattle.rtgs_book.specs.declared.Book.{Book};
 ghost use Rattle.rtgs_desk.specs.Holding.{Holds};
-ghost use Rattle.rtgs_http_banks.specs.Dealings.{Works};
+ghost use Rattle.rtgs_http_server.specs.Requests.{WorksForAll};
 
 use crate::connections::Connections;
+use crate::laws::a_desk_at_rest_works_for_all;
 use rtgs_desk::Desk;
-use rtgs_http_banks::laws::{a_desk_at_rest_works, requests_join};
+use rtgs_http_banks::laws::requests_join;
 use rtgs_http_banks::{Served, serve_one};
 use rtgs_keeper::Keeper;
 use rtgs_money::KeyDigest;
@@ -20,9 +21,10 @@ pub fn serve_connections<C: Connections, K: Keeper>(
     desk: &mut Desk<K>,
     operator: &KeyDigest,
 )
-    // The commands of all requests together are one session from the book that the desk held.
+    // Each command was asked for by a request, under this operator's digest. The commands of all requests together are
+    // one session from the book that the desk held.
     ensures works { K.is_honest desk.new.keeper → (book : Book) → Holds K.Keeper desk.old book
-        → Works K.Keeper book desk.new }
+        → WorksForAll K.Keeper operator.now book desk.new }
     ensures honest { K.is_honest desk.new.keeper → K.is_honest desk.old.keeper }
     // While the desk works all connections are taken.
     ensures all { K.has_failed desk.new.keeper ≡ false → C.to_come connections.new ≡ 0 }
@@ -30,7 +32,7 @@ pub fn serve_connections<C: Connections, K: Keeper>(
     ensures failed { K.has_failed desk.old.keeper ≡ true
         → (desk.new ≡ desk.old) × (connections.new ≡ connections.old) }
 {
-    a_desk_at_rest_works(desk);
+    a_desk_at_rest_works_for_all(desk);
     for _ in 0..connections.left() {
         if desk.failed() {
             return;
@@ -39,7 +41,8 @@ pub fn serve_connections<C: Connections, K: Keeper>(
     }
 }
 
-// Takes the next connection, and serves it: its commands are of one session with those before it.
+// Takes the next connection, and serves it: its commands are those that its request asks for, and of one session with
+// those before it.
 fn serve_next<C: Connections, K: Keeper>(
     alloc: Global,
     connections: &mut C,
@@ -48,10 +51,11 @@ fn serve_next<C: Connections, K: Keeper>(
 )
     requires { 0 < C.to_come connections.old }
     ensures works { K.is_honest desk.new.keeper → K.has_failed desk.old.keeper ≡ false → (book : Book)
-        → Works K.Keeper book desk.old → Works K.Keeper book desk.new }
+        → WorksForAll K.Keeper operator.now book desk.old → WorksForAll K.Keeper operator.now book desk.new }
     ensures honest { K.is_honest desk.new.keeper → K.is_honest desk.old.keeper }
     ensures left { C.to_come connections.new + 1 ≡ C.to_come connections.old }
 {
+    desk.holds_a_sound_book();
     requests_join(desk);
     let Some((mut reader, mut writer)) = connections.accept() else {
         return;

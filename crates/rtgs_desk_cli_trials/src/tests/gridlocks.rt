@@ -87,3 +87,51 @@ fn no_order_passes_its_senders_queue(rt: HostRuntime) -> Result<(), Fail> {
     sends(&rt, "queue", "ALFA", orders, results)?;
     prints(&rt, &["resolve", "queue"], "nothing\n", 0)
 }
+
+const RING_ORDER: &str = concat!(
+    "{\"amount\":100,\"date\":\"2024-03-04\",\"number\":1,\"reference\":\"A-1\",",
+    "\"state\":\"queued\",\"to\":\"BETA\"}\n"
+);
+
+const RING_ACCOUNT: &str = concat!(
+    "{\"balance\":0,\"code\":\"ALFA\",\"credit\":0,\"date\":\"2024-03-04\",\"name\":\"Alfa Bank\",",
+    "\"phase\":\"OPEN\",\"queued\":1,\"queued_value\":100}\n"
+);
+
+const RING_QUEUE: &str = concat!(
+    "{\"orders\":[{\"amount\":100,\"number\":1,\"place\":1,\"reference\":\"A-1\",\"to\":\"BETA\"}]}\n"
+);
+
+const RING_STATEMENT: &str = concat!(
+    "statement ALFA 2024-03-04\n",
+    "queued     000000001 A-1              BETA                     1.00         -\n",
+    "sum-posted                           0.00\n",
+    "sum-sent                             0.00\n",
+    "sum-recv                             0.00\n",
+    "net                                  0.00\n"
+);
+
+#[test]
+fn what_is_read_settles_nothing(rt: HostRuntime) -> Result<(), Fail> {
+    let file = "read";
+    begin_day(&rt, file)?;
+    sends(&rt, file, "ALFA", "A-1,BETA,100\n", "A-1,queued,1,1\n")?;
+    sends(&rt, file, "BETA", "B-1,GAMA,100\n", "B-1,queued,2,1\n")?;
+    sends(&rt, file, "GAMA", "G-1,ALFA,100\n", "G-1,queued,3,1\n")?;
+    let resolved = "resolved mark 1 count 3 value 300\n";
+    follows(
+        &rt,
+        &[
+            (&["account", file, "ALFA"], RING_ACCOUNT, 0),
+            (&["queue", file, "ALFA"], RING_QUEUE, 0),
+            (
+                &["statement", file, "ALFA", "2024-03-04"],
+                RING_STATEMENT,
+                0,
+            ),
+            (&["order", file, "ALFA", "A-1"], RING_ORDER, 0),
+            (&["order", file, "ALFA", "A-1"], RING_ORDER, 0),
+            (&["resolve", file], resolved, 0),
+        ],
+    )
+}

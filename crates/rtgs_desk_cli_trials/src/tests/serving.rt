@@ -4,10 +4,11 @@ use super::{KEY_A, prints};
 use rtgs_desk_cli::{Unknown, run_words};
 use rtgs_desk_lines::Ended;
 use std::env;
-use std::io::{Read, Write};
+use std::io::{ErrorKind, Read, Write};
 use std::net::{Ipv4Addr, TcpListener, TcpStream};
 use std::process::{Child, Command, Stdio};
 use std::test::Fail;
+use std::time::Duration;
 
 /// The port of the server. It is set where the test that serves was started by another one.
 const PORT: &str = "DESK_PORT";
@@ -21,7 +22,7 @@ const SETTLED: &str = "{\"answer\":\"settled\",\"mark\":1,\"number\":1}";
 const REPEATED: &str = "{\"answer\":\"repeated\",\"mark\":1,\"number\":1,\"state\":\"settled\"}";
 
 #[test]
-fn serve_three(rt: HostRuntime) -> Result<(), Fail> {
+fn serve_six(rt: HostRuntime) -> Result<(), Fail> {
     let Ok(port) = env::var(&rt, PORT) else {
         return Ok(());
     };
@@ -31,7 +32,7 @@ fn serve_three(rt: HostRuntime) -> Result<(), Fail> {
         "--port",
         port.as_str(),
         "--count",
-        "3",
+        "6",
         "--operator-key",
         OPERATOR,
     ];
@@ -51,7 +52,7 @@ fn free_port(rt: &HostRuntime) -> Result<u16, Fail> {
 /// Starts the server, and waits until it says that it listens.
 fn start(rt: &HostRuntime, port: u16) -> Result<Child, Fail> {
     let mut program = Command::new(rt.alloc(), env::current_exe(rt)?)?;
-    program.arg("tests::serving::serve_three")?;
+    program.arg("tests::serving::serve_six")?;
     program.env(PORT, format!(in rt.alloc(); "{port}")?)?;
     program.stdout(Stdio::piped());
     let mut server = program.spawn(rt)?;
@@ -79,6 +80,34 @@ fn asks(rt: &HostRuntime, port: u16, request: &str) -> Result<String, Fail> {
     Ok(reply)
 }
 
+/// What the server replies to a resolution that bears this key.
+fn asks_to_resolve(rt: &HostRuntime, port: u16, key: &str) -> Result<String, Fail> {
+    let request = format!(in rt.alloc();
+        "POST /desk/resolve HTTP/1.1\r\ndesk-key: {key}\r\nContent-Length: 2\r\n\r\n{{}}"
+    )?;
+    asks(rt, port, &request)
+}
+
+/// Whether a wait for one more byte ran out of its time.
+fn waits(stream: &mut TcpStream) -> bool {
+    match stream.read(&mut [0]) {
+        Ok(_) => false,
+        Err(error) => matches!(error.kind(), ErrorKind::WouldBlock | ErrorKind::TimedOut),
+    }
+}
+
+/// Whether a peer that sends a byte a second is let go within nine seconds.
+fn is_let_go(rt: &HostRuntime, port: u16) -> Result<bool, Fail> {
+    let mut stream = TcpStream::connect(rt, (Ipv4Addr::LOCALHOST, port))?;
+    stream.set_read_timeout(Some(Duration::from_secs(1)))?;
+    for _ in 0..9 {
+        if stream.write_all(b"G").is_err() || !waits(&mut stream) {
+            return Ok(true);
+        }
+    }
+    Ok(false)
+}
+
 /// A reply with this body, whole.
 fn replied(rt: &HostRuntime, body: &str) -> Result<String, Fail> {
     let length = body.len();
@@ -89,9 +118,7 @@ fn replied(rt: &HostRuntime, body: &str) -> Result<String, Fail> {
 }
 
 #[test]
-fn a_request_is_replied_to_and_repeated_and_a_silent_peer_is_let_go(
-    rt: HostRuntime,
-) -> Result<(), Fail> {
+fn requests_are_replied_to_and_slow_peers_are_let_go(rt: HostRuntime) -> Result<(), Fail> {
     begin_day(&rt, "served")?;
     let port = free_port(&rt)?;
     let mut server = start(&rt, port)?;
@@ -101,13 +128,24 @@ fn a_request_is_replied_to_and_repeated_and_a_silent_peer_is_let_go(
     )?;
     assert_eq!(rt; asks(&rt, port, &request)?, replied(&rt, SETTLED)?);
     assert_eq!(rt; asks(&rt, port, &request)?, replied(&rt, REPEATED)?);
+    let nothing = "{\"answer\":\"nothing\"}";
+    assert_eq!(rt;
+        asks_to_resolve(&rt, port, OPERATOR)?,
+        replied(&rt, nothing)?
+    );
+    let refused = asks_to_resolve(&rt, port, KEY_A)?;
+    assert!(rt;
+        refused.as_str().starts_with("HTTP/1.1 403 Forbidden\r\n"),
+        "{refused}"
+    );
     assert_eq!(rt; asks(&rt, port, "")?.as_str(), "");
+    assert!(rt; is_let_go(&rt, port)?);
     let mut said = String::new(rt.alloc());
     if let Some(out) = server.stdout.as_mut() {
         out.read_to_string(&mut said)?;
     }
     assert!(rt; server.wait()?.success());
-    assert!(rt; said.as_str().contains("served 3\n"), "{said}");
+    assert!(rt; said.as_str().contains("served 6\n"), "{said}");
     prints(
         &rt,
         &["withdraw", "served", "ALFA", "A-1"],
@@ -131,7 +169,18 @@ fn a_port_that_is_taken_is_refused(rt: HostRuntime) -> Result<(), Fail> {
         "--operator-key",
         OPERATOR,
     ];
-    prints(&rt, &words, "refused 97 NoListen\n", 3)
+    prints(&rt, &words, "refused 97 NoListen\n", 3)?;
+    let words = [
+        "serve",
+        "missing",
+        "--port",
+        port.as_str(),
+        "--count",
+        "1",
+        "--operator-key",
+        OPERATOR,
+    ];
+    prints(&rt, &words, "refused 93 NotADeskFile\n", 3)
 }
 
 #[test]

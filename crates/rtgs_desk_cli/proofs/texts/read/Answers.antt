@@ -7,5 +7,12 @@ returns-clause-read g c = record {
   closed = c.text_of-read.new.desk;
   over = λ honest. (rw (sym c.desk.ensures.value) at c.in_ok-book.ensures.opened)
       (c.text_of-read.ensures.honest honest);
-  did = c.text_of-read.ensures.told;
+  did = λ honest book held. (
+    record {
+      kept = c.text_of-read.ensures.kept honest book held;
+      after_a_crash = λ found. c.text_of-read.ensures.after_a_crash honest book found held;
+      whole_after_a_crash = c.text_of-read.ensures.whole_after_a_crash honest book held;
+    },
+    c.text_of-read.ensures.told honest book held,
+  );
 }

@@ -1,7 +1,8 @@
 //! Connections served one after another.
-use super::super::GOOD;
+use super::super::{ALFA, GOOD};
 use super::failing_keeper::{FailingKeeper, Trouble};
-use super::{OPERATOR, begin_day, desk_over, digest, open_desk};
+use super::{BETA, GAMA, OPERATOR, begin_day, desk_over, digest, open_desk, request};
+use rtgs_book::{Answer, Command};
 use rtgs_http_server::{Connections, serve_connections};
 use rtgs_keeper::MemoryKeeper;
 use std::alloc::Global;
@@ -89,5 +90,53 @@ fn none_is_served_once_the_desk_has_failed(rt: HostRuntime) -> Result<(), Fail> 
     serve_connections(alloc, &mut connections, &mut desk, &operator);
     assert_eq!(rt; connections.left, 1);
     assert!(rt; connections.replied(&["HTTP/1.1 503 Service Unavailable\r\n"]));
+    Ok(())
+}
+
+// A key that is the operator's in one test alone.
+const OTHER: &str = "0000000000000000000000000000000e";
+
+// Whether an operator with this key is told so of a resolution that bears the usual key, and of one that bears the
+// other.
+fn operates(alloc: Global, key: &str, beginnings: &[&str]) -> Result<bool, Fail> {
+    let mut desk = open_desk(alloc)?;
+    let usual = request(alloc, OPERATOR, "POST /desk/resolve", "{}")?;
+    let other = request(alloc, OTHER, "POST /desk/resolve", "{}")?;
+    let inputs = [Some(usual.as_bytes()), Some(other.as_bytes())];
+    let mut connections = Scripted::new(alloc, &inputs, 2);
+    let operator = digest(key.as_bytes())?;
+    serve_connections(alloc, &mut connections, &mut desk, &operator);
+    Ok(connections.replied(beginnings))
+}
+
+#[test]
+fn the_operator_bears_the_key_that_was_given(rt: HostRuntime) -> Result<(), Fail> {
+    let taken = "HTTP/1.1 200 OK\r\n";
+    let refused = "HTTP/1.1 403 Forbidden\r\n";
+    assert!(rt; operates(rt.alloc(), OPERATOR, &[taken, refused])?);
+    assert!(rt; operates(rt.alloc(), OTHER, &[refused, taken])?);
+    Ok(())
+}
+
+#[test]
+fn orders_in_a_ring_wait_until_somebody_resolves(rt: HostRuntime) -> Result<(), Fail> {
+    let alloc = rt.alloc();
+    let mut desk = open_desk(alloc)?;
+    let body = "{\"amount\":100,\"reference\":\"R-1\",\"to\":\"BETA\"}";
+    let first = request(alloc, ALFA, "POST /orders", body)?;
+    let body = "{\"amount\":100,\"reference\":\"R-1\",\"to\":\"GAMA\"}";
+    let second = request(alloc, BETA, "POST /orders", body)?;
+    let body = "{\"amount\":100,\"reference\":\"R-1\",\"to\":\"ALFA\"}";
+    let third = request(alloc, GAMA, "POST /orders", body)?;
+    let inputs = [
+        Some(first.as_bytes()),
+        Some(second.as_bytes()),
+        Some(third.as_bytes()),
+    ];
+    let mut connections = Scripted::new(alloc, &inputs, 3);
+    let operator = digest(OPERATOR.as_bytes())?;
+    serve_connections(alloc, &mut connections, &mut desk, &operator);
+    let resolved = desk.submit(Command::Resolve);
+    assert!(rt; matches!(resolved, Ok(Answer::Resolved { count: 3, .. })));
     Ok(())
 }

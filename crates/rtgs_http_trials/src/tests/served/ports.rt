@@ -51,3 +51,14 @@ fn each_peer_gets_its_reply_whatever_more_it_sent(rt: HostRuntime) -> Result<(),
     assert_eq!(rt; gets(alloc, &mut third)?.as_str(), repeated.as_str());
     Ok(())
 }
+
+// Only the machine's own address is listened on: at another one the same number stays with whoever has it.
+#[test]
+fn a_port_is_taken_at_one_address_alone(rt: HostRuntime) -> Result<(), Fail> {
+    let elsewhere = TcpListener::bind(&rt, (Ipv4Addr::new(127, 0, 0, 2), 0))?;
+    let number = elsewhere.local_addr()?.port();
+    let port = Port::listen(&rt, number, 1)?;
+    drop(port);
+    drop(elsewhere);
+    Ok(())
+}
