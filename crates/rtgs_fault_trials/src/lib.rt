@@ -1,4 +1,4 @@
-//! Desks over stores that fail or stop at each of their calls, and the same commands over two keepers.
+//! Desks over stores that fail or stop at each of their calls.
 #![tactic(auto)]
 
 #[cfg(test)]

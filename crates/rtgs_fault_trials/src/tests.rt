@@ -1,7 +1,5 @@
-//! Disks in memory that fail, keepers that fail, and what is found then; and the same commands over two keepers.
+//! Disks in memory that fail, keepers that fail, and what is found then.
 mod batch_rows;
-mod boundaries;
-mod business;
 mod creation;
 mod disk_runs;
 mod disks;
@@ -12,7 +10,5 @@ mod faults;
 mod found;
 mod image;
 mod keeper_runs;
-mod seen;
 mod setting;
 mod trial;
-mod two_keepers;

@@ -36,8 +36,8 @@ pub fn date(day: u32) -> Result<BusinessDate, Fail> {
     Ok(BusinessDate::from_number(day).ok_or("a date")?)
 }
 
-/// Adds a participant with this code, name and key.
-pub fn adds(participant: &str, name: &str, key: &str) -> Result<Command, Fail> {
+// Adds a participant with this code, name and key.
+fn adds(participant: &str, name: &str, key: &str) -> Result<Command, Fail> {
     Ok(Command::Add {
         code: code(participant)?,
         name: Name::read(name.as_bytes())?,

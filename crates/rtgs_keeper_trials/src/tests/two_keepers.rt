@@ -1,14 +1,14 @@
 //! Ten thousand commands over both keepers: in memory, and on disks that are closed and opened again every hundred.
 use super::business::Business;
-use super::disks::{DiskStore, Disked, book_on, closed, desk_again, new_disks};
+use super::disks::{DiskDesk, book_on, closed, desk_again, new_disks};
 use super::found::are_same_books;
 use super::seen::Seen;
 use super::setting::desk_over;
 use rtgs_book::{Answer, Refusal};
 use rtgs_desk::Desk;
 use rtgs_keeper::{Keeper, MemoryKeeper};
-use rtgs_tables::SqlKeeper;
 use sqlite::Files;
+use sqlite_disk::Memory;
 use std::test::Fail;
 
 /// Whether a reply says that the desk has judged the command.
@@ -25,7 +25,7 @@ fn hundred(
     business: &mut Business,
     seen: &mut Seen,
     one: &mut Desk<MemoryKeeper>,
-    other: &mut Desk<SqlKeeper<DiskStore>>,
+    other: &mut DiskDesk,
 ) -> Result<(), Fail> {
     for _ in 0..100 {
         let command = business.command()?;
@@ -47,8 +47,8 @@ fn hundred_on_disks(
     business: &mut Business,
     seen: &mut Seen,
     held: &mut Desk<MemoryKeeper>,
-    files: Files<Disked>,
-) -> Result<Files<Disked>, Fail> {
+    files: Files<Memory>,
+) -> Result<Files<Memory>, Fail> {
     let mut desk = desk_again(rt.alloc(), files)?;
     hundred(rt, business, seen, held, &mut desk)?;
     closed(desk.into_keeper())

@@ -1,0 +1,5 @@
+//! The same commands given to a desk over memory and to a desk over tables on disks.
+#![tactic(auto)]
+
+#[cfg(test)]
+mod tests;
