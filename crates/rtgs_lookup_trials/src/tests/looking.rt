@@ -143,24 +143,28 @@ fn an_order_is_found_by_its_sender_and_reference(rt: HostRuntime) -> Result<(), 
     Ok(())
 }
 
-/// The number of the posting with this reference.
-fn posting_of(keeper: &mut SqlKeeper<MemStore>, name: &str) -> Result<Option<u64>, Fail> {
+/// The number of the posting with this reference, and its date where it has one.
+fn posting_of(
+    keeper: &mut SqlKeeper<MemStore>,
+    name: &str,
+) -> Result<Option<(u64, Option<BusinessDate>)>, Fail> {
     let Some(posting) = keeper.find_posting(&reference(name)?)? else {
         return Ok(None);
     };
-    Ok(Some(posting.number))
+    Ok(Some((posting.number, posting.date)))
 }
 
 #[test]
 fn a_posting_is_found_by_its_reference(rt: HostRuntime) -> Result<(), Fail> {
     let mut keeper = keeper_after(rt.alloc(), THREE_DAYS)?;
-    for (name, number) in [
-        ("P-1", Some(1)),
-        ("P-5", Some(5)),
+    let tuesday = date(TUESDAY)?;
+    for (name, found) in [
+        ("P-1", Some((1, None))),
+        ("P-5", Some((5, Some(tuesday)))),
         ("P-6", None),
         ("A-1", None),
     ] {
-        assert_eq!(rt; posting_of(&mut keeper, name)?, number, "{name}");
+        assert_eq!(rt; posting_of(&mut keeper, name)?, found, "{name}");
     }
     Ok(())
 }
