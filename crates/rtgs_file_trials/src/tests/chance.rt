@@ -36,6 +36,7 @@ fn met(rt: &HostRuntime, file: &str, seed: u64, times: usize) -> Result<Met, Fai
 #[test]
 fn files_with_changes(rt: HostRuntime) -> Result<(), Fail> {
     let met = met(&rt, "changes", 1, TIMES)?;
+    rt.println(format_args!("files with changes: {met:?}"))?;
     assert!(rt; met.reported > 0 && met.failed > 0, "{met:?}");
     Ok(())
 }
@@ -43,6 +44,7 @@ fn files_with_changes(rt: HostRuntime) -> Result<(), Fail> {
 #[test]
 fn more_files_with_changes(rt: HostRuntime) -> Result<(), Fail> {
     let met = met(&rt, "more_changes", 2, TIMES)?;
+    rt.println(format_args!("more files with changes: {met:?}"))?;
     assert!(rt; met.reported > 0 && met.failed > 0, "{met:?}");
     Ok(())
 }

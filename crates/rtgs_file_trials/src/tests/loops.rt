@@ -67,6 +67,7 @@ fn met(rt: &HostRuntime, file: &str, place: usize, behind: u32) -> Result<Met, F
 fn that_lead_to_themselves(rt: HostRuntime) -> Result<(), Fail> {
     for place in [0, 4, 8] {
         let met = met(&rt, "themselves", place, 0)?;
+        rt.println(format_args!("pages that lead to themselves, at {place}: {met:?}"))?;
         assert!(rt; met.failed > 0, "{met:?}");
     }
     Ok(())
@@ -76,6 +77,7 @@ fn that_lead_to_themselves(rt: HostRuntime) -> Result<(), Fail> {
 fn that_lead_to_the_next(rt: HostRuntime) -> Result<(), Fail> {
     for place in [0, 4, 8] {
         let met = met(&rt, "to_the_next", place, 1)?;
+        rt.println(format_args!("pages that lead to the next, at {place}: {met:?}"))?;
         assert!(rt; met.failed > 0, "{met:?}");
     }
     Ok(())
