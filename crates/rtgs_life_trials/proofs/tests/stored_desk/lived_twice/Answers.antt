@@ -1,13 +1,14 @@
 use Rattle.std.proofs.Common.{refl}
-use Rattle.std.specs.Prelude.{[], ◌∷◌}
+use Rattle.std.specs.Prelude.{List, [], ◌∷◌}
 use Rattle.rtgs_book.specs.Books.{new_book}
+use Rattle.rtgs_book.specs.Session.{Session, IsLife}
 use Rattle.rtgs_life_trials.proofs.tests.stored_desk.lived_twice.Goals as goal
 
 pub returns : goal.returns
 returns g c clean blank =
     let one = c.in_ok-replies.ensures (c.in_ok-others.ensures.honest clean) blank in
     let two = c.in_ok-others.ensures.found clean one.0 one.1 in
-    let sessions = record {
+    let sessions : List Session = record {
       start = new_book;
       commands = c.args.commands.now;
       replies = c.in_ok-replies.replies.items;
@@ -18,7 +19,7 @@ returns g c clean blank =
       replies = c.in_ok-others.others.items;
       found = two.0;
     } ∷ [] in
-    let life = (refl, one.2, refl, two.2, refl) in
+    let life : IsLife new_book sessions two.0 = (refl, one.2, refl, two.2, refl) in
     let run = c.life_is_a_run.ensures.run new_book two.0 sessions life in
     let stands = c.life_is_a_run.ensures.stands new_book two.0 sessions c.new_book_is_sound.ensures life in (
       two.0,
