@@ -266,15 +266,22 @@ fn nothing_comes_after_the_last_number(rt: HostRuntime) -> Result<(), Fail> {
     Ok(())
 }
 
+/// Adds so many marks of Friday, and then one of Tuesday.
+fn marks_of_friday(alloc: Global, earlier: u64) -> Result<String, Fail> {
+    let mut sql = format!(in alloc;
+        "INSERT INTO mark (number, date, many, value) VALUES ({earlier} + 1, '2024-03-05', 1, 5)"
+    )?;
+    for number in 1..=earlier {
+        sql = format!(in alloc; "{sql}, ({number}, '2024-03-01', 1, 5)")?;
+    }
+    Ok(sql)
+}
+
 #[test]
 fn earlier_days_are_passed_over(rt: HostRuntime) -> Result<(), Fail> {
     let alloc = rt.alloc();
     for earlier in [1, 2, 3, 7, 8, 9] {
-        let sql = format!(in alloc;
-            "WITH RECURSIVE n(i) AS (SELECT 1 UNION ALL SELECT i + 1 FROM n WHERE i < {earlier})
-            INSERT INTO mark (number, date, many, value) SELECT i, '2024-03-01', 1, 5 FROM n;
-            INSERT INTO mark (number, date, many, value) VALUES ({earlier} + 1, '2024-03-05', 1, 5)"
-        )?;
+        let sql = marks_of_friday(alloc, earlier)?;
         let mut keeper = keeper_after(alloc, sql.as_str())?;
         assert_eq!(rt; mark_after(&mut keeper, TUESDAY, 0)?, Some(earlier + 1));
         assert_eq!(rt; mark_after(&mut keeper, MONDAY, 0)?, None);

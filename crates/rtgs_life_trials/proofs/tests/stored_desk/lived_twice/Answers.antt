@@ -19,7 +19,7 @@ returns g c clean blank =
       replies = c.in_ok-others.others.items;
       found = two.0;
     } ∷ [] in
-    let life : IsLife new_book sessions two.0 = (refl, one.2, refl, two.2, refl) in
+    let life : IsLife new_book sessions two.0 = (refl, one.2, (refl, two.2, refl)) in
     let run = c.life_is_a_run.ensures.run new_book two.0 sessions life in
     let stands = c.life_is_a_run.ensures.stands new_book two.0 sessions c.new_book_is_sound.ensures life in (
       two.0,
