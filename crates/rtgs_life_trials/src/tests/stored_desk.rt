@@ -138,7 +138,8 @@ fn lived<S: Alter + Reopen + Drop>(
         })) }
 {
     let desk = created(alloc, conn)?;
-    session(alloc, desk, commands)
+    let (replies, next) = session(alloc, desk, commands)?;
+    Ok((replies, next))
 }
 
 // Makes a desk in an empty database, and has two sessions with it, of which a stop ends each. They are a life: the book
