@@ -48,8 +48,14 @@ fn run(
 pub fn ended(keeper: SqlKeeper<DiskStore>) -> Result<(Progress, Files<Disked>), Fail> {
     match keeper.into_connection().close_files() {
         Ok(files) => Ok((Progress::Whole, files)),
-        Err((error, store)) if error == DISK_FAILED => Ok((Progress::Unclosed, store.close())),
-        Err((error, _)) => Err(Fail::from(error)),
+        Err((error, store)) => {
+            let files = store.close();
+            if error == DISK_FAILED {
+                Ok((Progress::Unclosed, files))
+            } else {
+                Err(Fail::from(error))
+            }
+        }
     }
 }
 

@@ -118,7 +118,10 @@ pub fn crashed(files: Files<Disked>) -> Files<Disked> {
 pub fn closed(keeper: SqlKeeper<DiskStore>) -> Result<Files<Disked>, Fail> {
     match keeper.into_connection().close_files() {
         Ok(files) => Ok(files),
-        Err((error, _)) => Err(Fail::from(error)),
+        Err((error, store)) => {
+            let _ = store.close();
+            Err(Fail::from(error))
+        }
     }
 }
 

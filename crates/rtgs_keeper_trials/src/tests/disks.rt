@@ -45,7 +45,10 @@ pub fn desk_again(alloc: Global, files: Files<Memory>) -> Result<DiskDesk, Fail>
 pub fn closed(keeper: SqlKeeper<DiskStore>) -> Result<Files<Memory>, Fail> {
     match keeper.into_connection().close_files() {
         Ok(files) => Ok(files),
-        Err((error, _)) => Err(Fail::from(error)),
+        Err((error, store)) => {
+            let _ = store.close();
+            Err(Fail::from(error))
+        }
     }
 }
 
