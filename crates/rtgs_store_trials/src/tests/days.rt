@@ -1,9 +1,5 @@
-//! The same commands over a file and over memory, short days answer by answer, and a ring of many orders.
-mod business;
+//! Short days answer by answer, and a ring of many orders over a file and over memory.
 mod closings;
 mod gridlocks;
 mod orders;
 mod ring;
-mod seen;
-mod stops;
-mod two_keepers;

@@ -5,16 +5,12 @@ mod order_files;
 mod results;
 mod sessions;
 
-use super::failing_keeper::{FailingKeeper, Trouble};
 use super::setting::{MONDAY, adds_three, amount, code, desk_over, opens, posts, reference};
 use rtgs_desk::Desk;
 use rtgs_exchange::{BatchResult, OrderRow, submit_batch, write_results};
-use rtgs_keeper::{Keeper, MemoryKeeper};
+use rtgs_keeper::Keeper;
 use std::alloc::Global;
 use std::test::Fail;
-
-// How many calls of its keeper a desk makes, once it is open and has three banks and a day.
-const BEFORE_THE_ORDERS: usize = 6;
 
 fn row(name: &str, receiver: &str, cents: u64) -> Result<OrderRow, Fail> {
     Ok(OrderRow {
@@ -42,13 +38,6 @@ fn open_desk<K: Keeper + Drop>(alloc: Global, keeper: K) -> Result<Desk<K>, Fail
         desk.submit(*command)?;
     }
     Ok(desk)
-}
-
-// A desk like that, whose store fails after so many orders.
-fn failing_desk(alloc: Global, orders: usize) -> Result<Desk<FailingKeeper<MemoryKeeper>>, Fail> {
-    let calls = BEFORE_THE_ORDERS.saturating_add(orders);
-    let keeper = FailingKeeper::new(MemoryKeeper::new(alloc), calls, Trouble::Lost);
-    open_desk(alloc, keeper)
 }
 
 // Submits the rows of ALFA.

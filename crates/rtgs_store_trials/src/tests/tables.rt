@@ -1,5 +1,6 @@
 //! Books kept in tables, found again, and refused where they are meddled with, over a store in memory.
 mod memory_keeper;
+mod no_memory;
 mod stored_numbers;
 
 use super::setting::{change, code, participant, posting};

@@ -1,10 +1,8 @@
 //! Orders that wait for each other, and what a resolution settles of them.
-use super::super::failing_keeper::Trouble;
 use super::super::setting::{
-    EMPTY, Row, Standings, after, limits, opened, pays, posts, queued, resolved, settled,
+    EMPTY, Row, after, desk_after, follows, opened, pays, posts, queued, resolved, standings,
 };
-use super::stops::{Sent, sent_again, sent_once};
-use rtgs_book::{Answer, Command, Known, OrderState};
+use rtgs_book::{Answer, Command};
 use std::test::Fail;
 
 #[test]
@@ -59,91 +57,12 @@ fn cascade() -> Result<[Row; 7], Fail> {
     ])
 }
 
-const WAITING: Standings = [(10, 2), (0, 2), (0, 1)];
-
-const SETTLED: Standings = [(0, 1), (10, 1), (0, 1)];
-
 #[test]
 fn one_order_taken_back_takes_others_back(rt: HostRuntime) -> Result<(), Fail> {
-    let sent = sent_once(&rt, &cascade()?, Command::Resolve)?;
-    assert_eq!(rt;
-        sent,
-        Sent {
-            found: WAITING,
-            reply: resolved(1, 2, 110),
-            left: SETTLED
-        }
-    );
-    Ok(())
-}
-
-#[test]
-fn a_stop_leaves_all_of_a_resolution_or_nothing(rt: HostRuntime) -> Result<(), Fail> {
     let rows = cascade()?;
-    let before = sent_again(&rt, &rows, Trouble::Lost, Command::Resolve)?;
-    assert_eq!(rt;
-        before,
-        Sent {
-            found: WAITING,
-            reply: resolved(1, 2, 110),
-            left: SETTLED
-        }
-    );
-    let after = sent_again(&rt, &rows, Trouble::Kept, Command::Resolve)?;
-    assert_eq!(rt;
-        after,
-        Sent {
-            found: SETTLED,
-            reply: Ok(Answer::Nothing),
-            left: SETTLED
-        }
-    );
-    Ok(())
-}
-
-/// ALFA, with a credit of 100, pays BETA so much, meets a fault of the store, and sends the order again.
-fn paid_again(rt: &HostRuntime, trouble: Trouble, cents: u64) -> Result<Sent, Fail> {
-    let rows = [opened()?, (limits("ALFA", 100)?, Ok(Answer::CreditSet))];
-    let order = pays("ALFA", "A-1", "BETA", cents)?;
-    sent_again(rt, &rows, trouble, order)
-}
-
-#[test]
-fn an_order_is_sent_again_after_a_stop(rt: HostRuntime) -> Result<(), Fail> {
-    let paid = [(-100, 0), (100, 0), (0, 0)];
-    let waits = [(0, 1), (0, 0), (0, 0)];
-    let is_settled = Known::Order {
-        number: 1,
-        state: OrderState::Settled(1),
-    };
-    let is_queued = Known::Order {
-        number: 1,
-        state: OrderState::Queued,
-    };
-    let rows = [
-        (Trouble::Lost, 100, EMPTY, settled(1, 1), paid),
-        (Trouble::Lost, 101, EMPTY, queued(1, 1), waits),
-        (
-            Trouble::Kept,
-            100,
-            paid,
-            Ok(Answer::Repeated(is_settled)),
-            paid,
-        ),
-        (
-            Trouble::Kept,
-            101,
-            waits,
-            Ok(Answer::Repeated(is_queued)),
-            waits,
-        ),
-    ];
-    for (trouble, cents, found, reply, left) in rows {
-        assert_eq!(rt;
-            paid_again(&rt, trouble, cents)?,
-            Sent { found, reply, left },
-            "{trouble:?} {cents}"
-        );
-    }
+    let mut desk = desk_after(&rt, &rows)?;
+    assert_eq!(rt; standings(&desk)?, [(10, 2), (0, 2), (0, 1)]);
+    follows(&rt, &mut desk, &[(Command::Resolve, resolved(1, 2, 110))])?;
+    assert_eq!(rt; standings(&desk)?, [(0, 1), (10, 1), (0, 1)]);
     Ok(())
 }

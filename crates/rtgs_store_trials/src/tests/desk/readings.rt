@@ -1,9 +1,7 @@
 //! What a desk tells of its book.
-use super::super::failing_keeper::Trouble;
 use super::super::setting::{
     MONDAY, adds_alfa, change, code, date, desk_over, order, participant, reference,
 };
-use super::failing;
 use rtgs_book::{Day, Order, OrderState, Phase, Refusal, RowChange};
 use rtgs_desk::{AccountReading, Desk};
 use rtgs_keeper::{Keeper, MemoryKeeper};
@@ -85,25 +83,5 @@ fn an_order_is_told_by_its_name(rt: HostRuntime) -> Result<(), Fail> {
     assert_eq!(rt; found, Err(Refusal::UnknownOrder));
     let found = desk.order_of(&unknown, &reference);
     assert_eq!(rt; found, Err(Refusal::UnknownParticipant));
-    Ok(())
-}
-
-#[test]
-fn a_failed_desk_tells_nothing(rt: HostRuntime) -> Result<(), Fail> {
-    let command = adds_alfa()?;
-    let sender = code("ALFA")?;
-    let reference = reference("O-1")?;
-    let monday = date(MONDAY)?;
-    let mut desk = desk_over(rt.alloc(), failing(rt.alloc(), 1, Trouble::Lost))?;
-    assert_eq!(rt; desk.submit(command), Err(Refusal::StoreFault));
-    assert_eq!(rt; desk.account(&sender), Err(Refusal::Failed));
-    assert_eq!(rt; desk.queue_of(&sender).err(), Some(Refusal::Failed));
-    let found = desk.order_of(&sender, &reference);
-    assert_eq!(rt; found, Err(Refusal::Failed));
-    assert_eq!(rt;
-        desk.statement_of(&sender, monday).err(),
-        Some(Refusal::Failed)
-    );
-    assert_eq!(rt; desk.report_of(monday).err(), Some(Refusal::Failed));
     Ok(())
 }

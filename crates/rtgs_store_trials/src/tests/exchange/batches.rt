@@ -1,7 +1,6 @@
-//! Batches over a keeper in memory, and over one that fails.
-use super::super::setting::desk_over;
-use super::{failing_desk, open_desk, result_file, row, submitted, three_rows};
-use rtgs_book::{OrderState, Refusal};
+//! Batches over a keeper in memory.
+use super::{open_desk, result_file, row, submitted, three_rows};
+use rtgs_book::OrderState;
 use rtgs_exchange::RowReply;
 use rtgs_keeper::MemoryKeeper;
 use std::test::Fail;
@@ -37,33 +36,6 @@ fn a_batch_that_comes_again_changes_nothing(rt: HostRuntime) -> Result<(), Fail>
     ];
     let replies = replies.map(|(number, state)| RowReply::Repeated { number, state });
     assert_eq!(rt; again.replies.as_slice(), replies.as_slice());
-    Ok(())
-}
-
-#[test]
-fn a_batch_stops_where_the_store_fails(rt: HostRuntime) -> Result<(), Fail> {
-    let rows = three_rows()?;
-    let mut desk = failing_desk(rt.alloc(), 1)?;
-    let batch = submitted(rt.alloc(), &mut desk, &rows)?;
-    assert_eq!(rt; batch.replies.len(), 1);
-    assert_eq!(rt; batch.stopped, Some(Refusal::StoreFault));
-    let later = submitted(rt.alloc(), &mut desk, &rows)?;
-    assert_eq!(rt; later.replies.len(), 0);
-    assert_eq!(rt; later.stopped, Some(Refusal::Failed));
-    Ok(())
-}
-
-#[test]
-fn a_stopped_batch_is_sent_again_after_a_restart(rt: HostRuntime) -> Result<(), Fail> {
-    let rows = three_rows()?;
-    let mut desk = failing_desk(rt.alloc(), 2)?;
-    submitted(rt.alloc(), &mut desk, &rows)?;
-    let found = desk.into_keeper().into_kept();
-    let mut desk = desk_over(rt.alloc(), found)?;
-    let text = result_file(rt.alloc(), &mut desk, &rows)?;
-    let expected =
-        b"reference,result,number,detail\nA-1,repeated,1,settled\nA-2,repeated,2,settled\nA-3,queued,3,1\n";
-    assert_eq!(rt; text.as_slice(), expected.as_slice());
     Ok(())
 }
 

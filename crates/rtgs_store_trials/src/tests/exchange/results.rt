@@ -1,6 +1,6 @@
 //! The text of result files, and writers that fail.
 use super::cut_writer::CutWriter;
-use super::{failing_desk, open_desk, result_file, submitted, three_rows};
+use super::{open_desk, result_file, submitted, three_rows};
 use rtgs_book::{OrderState, Refusal};
 use rtgs_exchange::{BatchResult, RowReply, write_results};
 use rtgs_keeper::MemoryKeeper;
@@ -18,16 +18,6 @@ fn a_line_tells_what_became_of_a_row(rt: HostRuntime) -> Result<(), Fail> {
     let expected =
         b"reference,result,number,detail\nA-1,repeated,1,settled\nA-2,repeated,2,settled\nA-3,repeated,3,queued\n";
     assert_eq!(rt; again.as_slice(), expected.as_slice());
-    Ok(())
-}
-
-#[test]
-fn no_line_follows_a_stop(rt: HostRuntime) -> Result<(), Fail> {
-    let rows = three_rows()?;
-    let mut desk = failing_desk(rt.alloc(), 1)?;
-    let text = result_file(rt.alloc(), &mut desk, &rows)?;
-    let expected = b"reference,result,number,detail\nA-1,settled,1,1\nA-2,stopped,,91\n";
-    assert_eq!(rt; text.as_slice(), expected.as_slice());
     Ok(())
 }
 

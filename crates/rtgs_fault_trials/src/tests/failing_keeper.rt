@@ -8,7 +8,7 @@ use std::alloc::Global;
 /// What a call meets.
 #[derive(Clone, Copy, Debug)]
 pub enum Trouble {
-    /// A fault of the store before anything was done.
+    /// A fault of the store before anything was done. What is kept then is what a stop at this call leaves.
     Lost,
     /// A fault of the store after all was done, so that the answer is lost.
     Kept,

@@ -10,12 +10,15 @@ ghost use Rattle.rtgs_book.specs.Books.{new_book};
 ghost use Rattle.rtgs_book.specs.Session.{IsSession};
 ghost use Rattle.rtgs_desk.specs.Holding.{Holds};
 ghost use Rattle.rtgs_tables.specs.Building.{IsBlank};
+ghost use Rattle.rtgs_fault_trials.specs.Lives.{AreTwoSessions};
 ghost use Rattle.rtgs_stored_desk.specs.Stored.{AreTablesOf};
 
-use super::setting::{Reply, adds_three, follows, posts, standings};
+use super::setting::{Reply, adds_three, posts, standings};
+use rtgs_book::laws::new_book_is_sound;
 use rtgs_book::{Answer, Command, Fault};
 use rtgs_desk::Desk;
 use rtgs_keeper::Keeper;
+use rtgs_repeats::laws::life_is_a_run;
 use rtgs_stored_desk::laws::what_a_session_leaves;
 use rtgs_stored_desk::{create, make, open};
 use rtgs_tables::SqlKeeper;
@@ -94,8 +97,31 @@ fn created<S: Alter + Drop>(alloc: Global, conn: Connection<S>) -> Result<Desk<S
     }
 }
 
-// Makes a desk in an empty database, does commands, stops it, and opens it again: it then holds a book that the session
-// of those commands may leave.
+// Does commands, stops the desk, and opens it again: it then holds a book that the session of those commands may leave.
+fn session<S: Alter + Reopen + Drop>(
+    alloc: Global,
+    desk: Desk<SqlKeeper<S>>,
+    commands: &[Command],
+) -> Result<(Vec<Reply>, Desk<SqlKeeper<S>>), Fail>
+    ensures found { IfOk result (λ (replies, next). HasCleanDisk (state S.Store next.keeper.conn) → (book : Book)
+        → Holds ⟦<SqlKeeper<S> as Keeper>⟧ desk book
+        → (found : Book) × Holds ⟦<SqlKeeper<S> as Keeper>⟧ next found × IsSession (record {
+          start = book;
+          commands = commands.now;
+          replies = replies.items;
+          found = found;
+        })) }
+    ensures honest { IfOk result (λ (_, next). HasCleanDisk (state S.Store next.keeper.conn)
+        → HasCleanDisk (state S.Store desk.keeper.conn)) }
+{
+    let mut desk = desk;
+    let replies = desk.run(commands)?;
+    what_a_session_leaves(&desk);
+    let next = found_again(alloc, desk)?;
+    Ok((replies, next))
+}
+
+// Makes a desk in an empty database, and has one session with it.
 fn lived<S: Alter + Reopen + Drop>(
     alloc: Global,
     conn: Connection<S>,
@@ -111,43 +137,58 @@ fn lived<S: Alter + Reopen + Drop>(
           found = found;
         })) }
 {
-    let mut desk = created(alloc, conn)?;
-    let replies = desk.run(commands)?;
-    what_a_session_leaves(&desk);
-    let next = found_again(alloc, desk)?;
-    Ok((replies, next))
+    let desk = created(alloc, conn)?;
+    session(alloc, desk, commands)
+}
+
+// Makes a desk in an empty database, and has two sessions with it, of which a stop ends each. They are a life: the book
+// found in the end is that of one list of commands, which has every answered command of both in order with its reply,
+// and of each at most the one more that nobody heard of.
+fn lived_twice<S: Alter + Reopen + Drop>(
+    alloc: Global,
+    conn: Connection<S>,
+    commands: &[Command],
+    more: &[Command],
+) -> Result<(Vec<Reply>, Vec<Reply>, Desk<SqlKeeper<S>>), Fail>
+    requires { conn.in_transaction ≡ false }
+    ensures { IfOk result (λ (replies, others, desk). HasCleanDisk (state S.Store desk.keeper.conn)
+        → IsBlank (state S.Store conn)
+        → (found : Book) × Holds ⟦<SqlKeeper<S> as Keeper>⟧ desk found
+        × AreTwoSessions commands.now replies.items more.now others.items found) }
+{
+    life_is_a_run();
+    new_book_is_sound();
+    let (replies, desk) = lived(alloc, conn, commands)?;
+    let (others, last) = session(alloc, desk, more)?;
+    Ok((replies, others, last))
 }
 
 // The same in memory, where no premise is left.
-fn lived_in_memory(
+fn lived_twice_in_memory(
     alloc: Global,
     commands: &[Command],
-) -> Result<(Vec<Reply>, Desk<SqlKeeper<MemStore>>), Fail>
-    ensures { IfOk result (λ (replies, desk). (found : Book)
-        × Holds ⟦<SqlKeeper<MemStore> as Keeper>⟧ desk found × IsSession (record {
-          start = new_book;
-          commands = commands.now;
-          replies = replies.items;
-          found = found;
-        })) }
+    more: &[Command],
+) -> Result<(Vec<Reply>, Vec<Reply>, Desk<SqlKeeper<MemStore>>), Fail>
+    ensures { IfOk result (λ (replies, others, desk). (found : Book)
+        × Holds ⟦<SqlKeeper<MemStore> as Keeper>⟧ desk found
+        × AreTwoSessions commands.now replies.items more.now others.items found) }
 {
-    lived(alloc, Connection::open_in_memory(alloc)?, commands)
+    lived_twice(alloc, Connection::open_in_memory(alloc)?, commands, more)
 }
 
 #[test]
-fn a_desk_is_found_again(rt: HostRuntime) -> Result<(), Fail> {
+fn a_desk_is_found_again_and_again(rt: HostRuntime) -> Result<(), Fail> {
     let [alfa, beta, gama] = adds_three()?;
-    let (replies, mut desk) = lived_in_memory(
+    let (replies, others, desk) = lived_twice_in_memory(
         rt.alloc(),
         &[alfa, beta, gama, posts("ALFA", "P-1", 1000)?],
+        &[posts("BETA", "P-2", 5)?],
     )?;
     assert_eq!(rt; replies.len(), 4);
-    assert_eq!(rt; standings(&desk)?, [(1000, 0), (0, 0), (0, 0)]);
-    follows(
-        &rt,
-        &mut desk,
-        &[(posts("BETA", "P-2", 5)?, Ok(Answer::Posted { number: 2 }))],
-    )
+    let posted = [Ok(Answer::Posted { number: 2 })];
+    assert_eq!(rt; others.as_slice(), posted.as_slice());
+    assert_eq!(rt; standings(&desk)?, [(1000, 0), (5, 0), (0, 0)]);
+    Ok(())
 }
 
 #[test]

@@ -7,7 +7,7 @@ use Rattle.sqlite.specs.Steps.{over_memory, IsEmpty}
 use Rattle.sqlite_trees.specs.View.{doubt}
 use Rattle.sqlite_trees.specs.declared.memory.MemStore.{MemStore}
 use Rattle.rtgs_tables.specs.Building.{IsBlank}
-use Rattle.rtgs_store_trials.proofs.tests.stored_desk.lived_in_memory.Goals as goal
+use Rattle.rtgs_fault_trials.proofs.tests.stored_desk.lived_twice_in_memory.Goals as goal
 
 -- memory gives back what it took
 memory_is_clean : (h : Held MemStore) → HasCleanDisk (state over_memory h)
@@ -21,4 +21,4 @@ pub returns : goal.returns
 returns c =
     let conn = c.in_ok-open_in_memory in
     let blank = new_is_blank (state over_memory conn.field-0) conn.ensures.empty in
-    IfOk-weaker c.lived.result _ _ (λ it lived. lived (memory_is_clean it.1.keeper.conn) blank) c.lived.ensures
+    IfOk-weaker c.lived_twice.result _ _ (λ it lived. lived (memory_is_clean it.2.keeper.conn) blank) c.lived_twice.ensures

@@ -1,0 +1,102 @@
+//! A batch whose store fails, and its result files before and after the desk is opened again.
+use super::failing_keeper::{FailingKeeper, Trouble};
+use super::setting::{adds_three, code, desk_over, opened, posts, reference};
+use rtgs_book::Refusal;
+use rtgs_desk::Desk;
+use rtgs_exchange::{BatchResult, OrderRow, submit_batch, write_results};
+use rtgs_keeper::{Keeper, MemoryKeeper};
+use rtgs_money::Amount;
+use std::alloc::Global;
+use std::test::Fail;
+
+// How many calls of its keeper a desk makes, once it is open and has three banks and a day.
+const BEFORE_THE_ORDERS: usize = 6;
+
+fn row(name: &str, receiver: &str, cents: u64) -> Result<OrderRow, Fail> {
+    Ok(OrderRow {
+        reference: reference(name)?,
+        receiver: code(receiver)?,
+        amount: Amount::from_cents(cents).ok_or("an amount")?,
+    })
+}
+
+// ALFA can pay the first two of them from 150 cents.
+fn three_rows() -> Result<[OrderRow; 3], Fail> {
+    Ok([
+        row("A-1", "BETA", 100)?,
+        row("A-2", "GAMA", 50)?,
+        row("A-3", "BETA", 25)?,
+    ])
+}
+
+// A desk with three banks on an open day, of which ALFA has 150 cents, and whose store fails after so many orders.
+fn failing_desk(alloc: Global, orders: usize) -> Result<Desk<FailingKeeper<MemoryKeeper>>, Fail> {
+    let calls = BEFORE_THE_ORDERS.saturating_add(orders);
+    let keeper = FailingKeeper::new(MemoryKeeper::new(alloc), calls, Trouble::Lost);
+    let mut desk = desk_over(alloc, keeper)?;
+    for command in adds_three()? {
+        desk.submit(command)?;
+    }
+    desk.submit(posts("ALFA", "P-1", 150)?)?;
+    desk.submit(opened()?.0)?;
+    Ok(desk)
+}
+
+// Submits the rows of ALFA.
+fn submitted<K: Keeper>(
+    alloc: Global,
+    desk: &mut Desk<K>,
+    rows: &[OrderRow],
+) -> Result<BatchResult, Fail> {
+    let sender = code("ALFA")?;
+    Ok(submit_batch(alloc, desk, sender, rows)?)
+}
+
+// The result file of the rows of ALFA.
+fn result_file<K: Keeper>(
+    alloc: Global,
+    desk: &mut Desk<K>,
+    rows: &[OrderRow],
+) -> Result<Vec<u8>, Fail> {
+    let batch = submitted(alloc, desk, rows)?;
+    let mut text = Vec::new(alloc);
+    write_results(alloc, &mut text, rows, &batch)?;
+    Ok(text)
+}
+
+#[test]
+fn a_batch_stops_where_the_store_fails(rt: HostRuntime) -> Result<(), Fail> {
+    let rows = three_rows()?;
+    let mut desk = failing_desk(rt.alloc(), 1)?;
+    let batch = submitted(rt.alloc(), &mut desk, &rows)?;
+    assert_eq!(rt; batch.replies.len(), 1);
+    assert_eq!(rt; batch.stopped, Some(Refusal::StoreFault));
+    let later = submitted(rt.alloc(), &mut desk, &rows)?;
+    assert_eq!(rt; later.replies.len(), 0);
+    assert_eq!(rt; later.stopped, Some(Refusal::Failed));
+    Ok(())
+}
+
+#[test]
+fn a_stopped_batch_is_sent_again_after_a_restart(rt: HostRuntime) -> Result<(), Fail> {
+    let rows = three_rows()?;
+    let mut desk = failing_desk(rt.alloc(), 2)?;
+    submitted(rt.alloc(), &mut desk, &rows)?;
+    let found = desk.into_keeper().into_kept();
+    let mut desk = desk_over(rt.alloc(), found)?;
+    let text = result_file(rt.alloc(), &mut desk, &rows)?;
+    let expected =
+        b"reference,result,number,detail\nA-1,repeated,1,settled\nA-2,repeated,2,settled\nA-3,queued,3,1\n";
+    assert_eq!(rt; text.as_slice(), expected.as_slice());
+    Ok(())
+}
+
+#[test]
+fn no_line_follows_a_stop(rt: HostRuntime) -> Result<(), Fail> {
+    let rows = three_rows()?;
+    let mut desk = failing_desk(rt.alloc(), 1)?;
+    let text = result_file(rt.alloc(), &mut desk, &rows)?;
+    let expected = b"reference,result,number,detail\nA-1,settled,1,1\nA-2,stopped,,91\n";
+    assert_eq!(rt; text.as_slice(), expected.as_slice());
+    Ok(())
+}

@@ -1,0 +1,92 @@
+//! Loading and committing while all memory is taken, in a process of its own.
+use super::{posts, two_banks};
+use rtgs_book::Fault;
+use rtgs_keeper::{CommitFault, Keeper};
+use std::alloc::Global;
+use std::process::Command;
+use std::test::Fail;
+use std::{env, fs};
+
+/// Set where the test under a limit was started by the other one.
+const UNDER_A_LIMIT: &str = "DESK_UNDER_A_LIMIT";
+
+/// The process may have 64 mebibytes.
+const LIMITED: &str =
+    "ulimit -v 65536; exec \"$0\" tests::tables::no_memory::calls_while_all_memory_is_taken";
+
+/// What the process writes once it has seen all answers.
+const SEEN: &str = "no_memory";
+
+/// How many blocks are taken at most.
+const MOST_BLOCKS: usize = 100_000;
+
+/// The sizes in bytes of the larger blocks.
+const LARGE: [usize; 3] = [1 << 20, 1 << 16, 1 << 12];
+
+/// The size of the largest of the smaller blocks, which fall by 16 bytes to 1 byte: an allocator keeps a list for each.
+const SMALL: usize = 1057;
+
+/// Takes blocks of this size until memory is refused.
+fn take_blocks(alloc: Global, taken: &mut Vec<Vec<u8>>, size: usize) {
+    for _ in taken.len()..MOST_BLOCKS {
+        let Ok(block) = Vec::with_capacity(alloc, size) else {
+            return;
+        };
+        if taken.push(block).is_err() {
+            return;
+        }
+    }
+}
+
+/// Takes the smaller blocks.
+fn take_small(alloc: Global, taken: &mut Vec<Vec<u8>>) {
+    for step in 0..=66usize {
+        take_blocks(alloc, taken, SMALL - 16 * step);
+    }
+}
+
+/// Takes blocks of every size, so that no request is granted any more.
+fn take_all(alloc: Global, taken: &mut Vec<Vec<u8>>) {
+    for size in LARGE {
+        take_blocks(alloc, taken, size);
+    }
+    take_small(alloc, taken);
+}
+
+#[test]
+fn calls_while_all_memory_is_taken(rt: HostRuntime) -> Result<(), Fail> {
+    if env::var(&rt, UNDER_A_LIMIT).is_err() {
+        return Ok(());
+    }
+    let alloc = rt.alloc();
+    let mut keeper = two_banks(alloc)?;
+    let change = posts(alloc, 2, "P-2", 5, 1005)?;
+    let mut taken = Vec::with_capacity(alloc, MOST_BLOCKS)?;
+    take_all(alloc, &mut taken);
+    let loaded = keeper.load(alloc).err();
+    let committed = keeper.commit(&change).err();
+    drop(taken);
+    assert_eq!(rt; loaded, Some(Fault::OutOfMemory));
+    assert_eq!(rt; committed, Some(CommitFault::OutOfMemory));
+    keeper.commit(&change)?;
+    assert_eq!(rt; keeper.load(alloc)?.postings.len(), 2);
+    fs::write(&rt, SEEN, "90")?;
+    Ok(())
+}
+
+#[test]
+fn lack_of_memory_is_never_a_fault_of_the_store(rt: HostRuntime) -> Result<(), Fail> {
+    let mut program = Command::new(rt.alloc(), "sh")?;
+    program.arg("-c")?;
+    program.arg(LIMITED)?;
+    program.arg(env::current_exe(&rt)?)?;
+    program.env(UNDER_A_LIMIT, "1")?;
+    let ran = program.output(&rt)?;
+    assert!(rt;
+        ran.status.success(),
+        "{:?}",
+        std::str::from_utf8(ran.stderr.as_slice())
+    );
+    assert!(rt; fs::metadata(&rt, SEEN).is_ok());
+    Ok(())
+}
