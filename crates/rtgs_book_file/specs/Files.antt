@@ -1,7 +1,9 @@
 -- What an error says of a book's file: of looking at it, of reading its beginning, of its lock, and of the store.
 use Rattle.std.specs.Prelude.{◌==◌, ◌++◌, ◌∷◌, [], ℕ, ⊤, Bool, true, List, Result, Ok, Err, codes, if◌then◌else◌}
+use Rattle.std.specs.Fs.{metadata_len}
 use Rattle.std.specs.IoError.{error_kind}
 use Rattle.std.specs.Str.{bytes_eq}
+use Rattle.std.specs.declared.fs.Metadata.{Metadata}
 use Rattle.std.specs.declared.io.Error.{Error}
 use Rattle.std.specs.declared.io.ErrorKind.{ErrorKind}
 use Rattle.std.specs.declared.io.ErrorKind.TheVariants as kind
@@ -19,9 +21,9 @@ vacancy_without kind.NotFound = Ok true
 vacancy_without kind.OutOfMemory = Err OutOfMemory
 vacancy_without _ = Err StoreFault
 
--- whether a file of this length is missing or empty
-abbrev pub vacancy_of : Result ℕ Error → Result Bool Fault
-vacancy_of (Ok length) = Ok (length == 0)
+-- whether a file at which this look was taken is missing or empty
+abbrev pub vacancy_of : Result Metadata Error → Result Bool Fault
+vacancy_of (Ok metadata) = Ok (metadata_len metadata == 0)
 vacancy_of (Err error) = vacancy_without (error_kind error)
 
 -- how a database begins

@@ -1,13 +1,13 @@
 //! What stands at a path, which is looked at before anything opens it that could write into it.
-ghost use Rattle.std.specs.Prelude.{◌≡◌, ◌≢◌, ◌⊎◌, IfOk, IfErr};
-ghost use Rattle.rtgs_book.specs.declared.Fault.{Fault as FaultSpec};
-ghost use Rattle.rtgs_book.specs.declared.Rule.{Rule};
+ghost use Rattle.std.specs.Prelude.{◌≡◌, IfOk, IfErr};
 ghost use Rattle.rtgs_book_file.specs.Files.{vacancy_of, opening_of};
+ghost use Rattle.rtgs_book_file.specs.Refused.{IsNotVacant, IsUnread};
 
 use crate::book_lock::BookLock;
 use crate::file_fault::FileFault;
 use rtgs_book::Fault;
-use std::fs::File;
+use sqlite::Start;
+use std::fs::{File, Metadata};
 use std::io::{ErrorKind, Read};
 use std::{fs, io};
 
@@ -17,63 +17,54 @@ const MAGIC: &[u8; 16] = b"SQLite format 3\0";
 /// The lock of a book's file that was looked at, and may be opened: it begins as a database does, or there is none, or
 /// an empty one. Only a lock makes one.
 #[derive(Drop)]
-pub struct LookedAt<'a> {
-    lock: BookLock<'a>,
+pub struct LookedAt<'a, S: Start> {
+    lock: BookLock<'a, S>,
 }
 
-impl<'a> BookLock<'a> {
+impl<'a, S: Start> BookLock<'a, S> {
     /// Looks whether there is no file, or an empty one. `FileExists` where it has anything, and a fault where the path
     /// cannot be looked at.
-    pub(crate) fn with_nothing(self, rt: &HostRuntime) -> Result<LookedAt<'a>, FileFault>
-        ensures refused { IfErr result (λ fault.
-            (fault ≡ FileFault.FileExists) ⊎ ((why : FaultSpec) × (fault ≡ FileFault.Book why))) }
+    pub(crate) fn with_nothing(self, rt: &HostRuntime) -> Result<LookedAt<'a, S>, FileFault>
+        ensures refused { IfErr result IsNotVacant }
         ensures same { IfOk result (λ file. file.lock ≡ self.entry) }
     {
-        if !vacancy(length(rt, self.path()))? {
-            return Err(FileFault::FileExists);
+        match vacancy(fs::metadata(rt, self.path())) {
+            Ok(true) => Ok(LookedAt { lock: self }),
+            Ok(false) => Err(FileFault::FileExists),
+            Err(fault) => Err(FileFault::Book(fault)),
         }
-        Ok(LookedAt { lock: self })
     }
 
     /// Looks whether the file begins as a database does: a fault where it does not, is missing or shorter, or cannot be
     /// read.
-    pub(crate) fn with_database(self, rt: &HostRuntime) -> Result<LookedAt<'a>, Fault>
-        ensures refused { IfErr result (λ fault. (rule : Rule) → fault ≢ Fault.Inconsistent rule) }
+    pub(crate) fn with_database(self, rt: &HostRuntime) -> Result<LookedAt<'a, S>, Fault>
+        ensures refused { IfErr result IsUnread }
         ensures same { IfOk result (λ file. file.lock ≡ self.entry) }
     {
-        opening(read_beginning(rt, self.path()))?;
-        Ok(LookedAt { lock: self })
+        match opening(read_beginning(rt, self.path())) {
+            Ok(()) => Ok(LookedAt { lock: self }),
+            Err(fault) => Err(fault),
+        }
     }
 }
 
-impl<'a> LookedAt<'a> {
-    /// Where the book's file is.
-    pub(crate) fn path(&self) -> &'a str
-        ensures { result.now ≡ self.now.lock.path.now }
-    {
-        self.lock.path()
-    }
-
-    /// The lock's own file, which holds the lock until it is dropped.
-    pub(crate) fn into_file(self) -> File
-        ensures { result ≡ self.entry.lock.file }
+impl<'a, S: Start> LookedAt<'a, S> {
+    /// Where the book's file is, the lock's own file, and what the book's file held.
+    pub(crate) fn into_parts(self) -> (&'a str, File, S)
+        ensures path { result.0.now ≡ self.entry.lock.path.now }
+        ensures file { result.1 ≡ self.entry.lock.file }
     {
         let LookedAt { lock } = self;
-        lock.into_file()
+        lock.into_parts()
     }
 }
 
-// The length of a file, in bytes.
-fn length(rt: &HostRuntime, file: &str) -> io::Result<u64> {
-    Ok(fs::metadata(rt, file)?.len())
-}
-
-// Whether a file of this length is missing or empty.
-fn vacancy(length: io::Result<u64>) -> Result<bool, Fault>
-    ensures { result ≡ vacancy_of length }
+// Whether a file at which this look was taken is missing or empty.
+fn vacancy(looked: io::Result<Metadata>) -> Result<bool, Fault>
+    ensures { result ≡ vacancy_of looked }
 {
-    match length {
-        Ok(length) => Ok(length == 0),
+    match looked {
+        Ok(metadata) => Ok(metadata.len() == 0),
         Err(error) => match error.kind() {
             ErrorKind::NotFound => Ok(true),
             ErrorKind::OutOfMemory => Err(Fault::OutOfMemory),
@@ -91,8 +82,7 @@ fn read_beginning(rt: &HostRuntime, file: &str) -> io::Result<[u8; 16]> {
 
 // What it means for a book that its file begins so.
 fn opening(beginning: io::Result<[u8; 16]>) -> Result<(), Fault>
-    ensures is { result ≡ opening_of beginning }
-    ensures kinds { IfErr result (λ fault. (rule : Rule) → fault ≢ Fault.Inconsistent rule) }
+    ensures { result ≡ opening_of beginning }
 {
     match beginning {
         Ok(beginning) if beginning == *MAGIC => Ok(()),

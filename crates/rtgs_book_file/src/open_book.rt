@@ -1,66 +1,63 @@
 //! The book in a file.
-ghost use Rattle.std.specs.Prelude.{◌≡◌, ◌⊎◌, false, IfOk, IfErr, IsTrue};
+ghost use Rattle.std.specs.Prelude.{◌≡◌, ◌⊎◌, IfOk, IfErr};
 ghost use Rattle.std.specs.Borrow.{sem};
 ghost use Rattle.sqlite.specs.Files.{file_state};
-ghost use Rattle.sqlite.specs.Held.{state};
 ghost use Rattle.sqlite.specs.State.{HasCleanDisk};
 ghost use Rattle.sqlite.specs.WalFiles.{image_at};
 ghost use Rattle.rtgs_book.specs.declared.Fault.{Fault as FaultSpec};
-ghost use Rattle.rtgs_stored_desk.specs.Stored.{IsOver};
 ghost use Rattle.rtgs_book_file.specs.Lending.{LendsDesk};
 ghost use Rattle.rtgs_book_file.specs.Opened.{WasOpened, WasMade};
+ghost use Rattle.rtgs_book_file.specs.Refused.{HasNoBook, IsNoBook, IsNotMade, WasRefused, WasUnmade};
 
 use crate::book_lock::BookLock;
+use crate::closed_store::ClosedStore;
 use crate::file_fault::FileFault;
+use crate::finished_book::FinishedBook;
+use crate::held_lock::HeldLock;
 use crate::looked_at::LookedAt;
-use crate::store::{FileKeeper, close, connect};
+use crate::store::{FileKeeper, connect};
+use crate::unopened::Unopened;
 use rtgs_book::Fault;
 use rtgs_desk::Desk;
 use rtgs_keeper::Keeper;
-use rtgs_tables::SqlKeeper;
-use sqlite::{Alter, Connection, Start};
-use std::alloc::Global;
-use std::fs::File;
+use sqlite::{FileFrom, Start};
+use sqlite_disk::Disk;
 
 /// A desk over the book in a file, and the lock of the file. Only a lock makes one, and as it cannot be dropped, it
-/// ends by `close` alone: so the lock is taken before the file is touched, and let go after the file was closed.
+/// ends by `finish` alone.
 pub struct OpenBook<K: Keeper> {
     desk: Desk<K>,
-    lock: File,
+    lock: HeldLock,
 }
 
-impl BookLock<'_> {
+impl<S: Start> BookLock<'_, S> {
     /// Opens the book in the file, which held what `S` says. A fault where there is no book, or none that is sound;
     /// the lock is then let go.
-    pub fn open<S: Start>(
-        self,
-        rt: &HostRuntime,
-        start: S,
-    ) -> Result<OpenBook<FileKeeper<S>>, FileFault>
+    pub fn open(self, rt: &HostRuntime) -> Result<OpenBook<FileKeeper<S>>, Unopened<S>>
         ensures opened { IfOk result (λ book. HasCleanDisk (file_state book.desk.keeper.conn)
             → WasOpened ⟦<FileKeeper<S> as Keeper>⟧ (image_at S.Start) book.desk book.desk.keeper.conn) }
-        ensures held { IfOk result (λ book. book.lock ≡ self.entry.file) }
-        ensures refused { IfErr result (λ fault. (why : FaultSpec) × (fault ≡ FileFault.Book why)) }
+        ensures held { IfOk result (λ book. book.lock.file ≡ self.entry.file) }
+        ensures refused { IfErr result (λ unopened. (fault : FaultSpec) × (unopened.fault ≡ FileFault.Book fault)
+            × HasNoBook ⟦<FileKeeper<S> as Keeper>⟧ (λ keeper. keeper.conn) (image_at S.Start) fault) }
     {
-        let file = self.with_database(rt)?;
-        let desk = open_desk(rt, &file, start)?;
-        Ok(OpenBook {
-            desk,
-            lock: file.into_file(),
-        })
+        match open_book(rt, self) {
+            Ok(book) => Ok(book),
+            Err(fault) => Err(Unopened::of(FileFault::Book(fault))),
+        }
     }
 
     /// Makes the tables of a new book in the file, closes it, and lets the lock go. `FileExists` where the file holds
     /// anything, and a fault of the book where the file cannot be looked at, or the store fails.
-    pub fn make<S: Start>(self, rt: &HostRuntime, start: S) -> Result<(), FileFault>
+    pub fn make(self, rt: &HostRuntime) -> Result<(), Unopened<S>>
         ensures made { IfOk result (λ _.
             WasMade ⟦<FileKeeper<S> as Keeper>⟧ (λ keeper. keeper.conn) (image_at S.Start)) }
-        ensures refused { IfErr result (λ fault.
-            (fault ≡ FileFault.FileExists) ⊎ ((why : FaultSpec) × (fault ≡ FileFault.Book why))) }
+        ensures refused { IfErr result (λ unopened.
+            IsNotMade ⟦<FileKeeper<S> as Keeper>⟧ (λ keeper. keeper.conn) (image_at S.Start) unopened.fault) }
     {
-        let file = self.with_nothing(rt)?;
-        make_tables(rt, file, start)?;
-        Ok(())
+        match make_book(rt, self) {
+            Ok(()) => Ok(()),
+            Err(fault) => Err(Unopened::of(fault)),
+        }
     }
 }
 
@@ -72,58 +69,84 @@ impl<K: Keeper> OpenBook<K> {
     {
         &mut self.desk
     }
-}
 
-impl<S: Start> OpenBook<FileKeeper<S>> {
-    /// Copies the log into the file, and then lets the lock go. What was committed stands in the log where the first
-    /// fails.
-    pub fn close(self) {
+    /// The book, when nothing more is done with it.
+    pub fn finish(self) -> FinishedBook<K>
+        ensures desk { result.desk ≡ self.desk }
+        ensures held { result.lock ≡ self.lock }
+    {
         let OpenBook { desk, lock } = self;
-        close(desk.into_keeper().into_connection(), lock);
+        FinishedBook::of(desk, lock)
     }
 }
 
-// The desk over the book in a file.
-fn open_desk<S: Start>(
+// Opens the book in a file whose lock was taken.
+fn open_book<S: Start>(
     rt: &HostRuntime,
-    file: &LookedAt<'_>,
-    start: S,
-) -> Result<Desk<FileKeeper<S>>, Fault>
-    ensures { IfOk result (λ desk. HasCleanDisk (file_state desk.keeper.conn)
-        → WasOpened ⟦<FileKeeper<S> as Keeper>⟧ (image_at S.Start) desk desk.keeper.conn) }
+    lock: BookLock<'_, S>,
+) -> Result<OpenBook<FileKeeper<S>>, Fault>
+    ensures opened { IfOk result (λ book. HasCleanDisk (file_state book.desk.keeper.conn)
+        → WasOpened ⟦<FileKeeper<S> as Keeper>⟧ (image_at S.Start) book.desk book.desk.keeper.conn) }
+    ensures held { IfOk result (λ book. book.lock.file ≡ lock.entry.file) }
+    ensures refused { IfErr result (HasNoBook ⟦<FileKeeper<S> as Keeper>⟧ (λ keeper. keeper.conn) (image_at S.Start)) }
 {
-    match connect(rt, file, start) {
-        Ok(conn) => desk_over(rt.alloc(), conn),
+    let file = lock.with_database(rt)?;
+    match open_desk(rt, file) {
+        Ok(book) => Ok(book),
         Err(fault) => Err(fault),
     }
 }
 
-// The desk over the tables of a store.
-fn desk_over<S: Alter + Drop>(
-    alloc: Global,
-    conn: Connection<S>,
-) -> Result<Desk<SqlKeeper<S>>, Fault>
-    requires { conn.in_transaction ≡ false }
-    ensures { IfOk result (λ desk. HasCleanDisk (state S.Store desk.keeper.conn)
-        → HasCleanDisk (state S.Store conn) × (IsTrue (state S.Store conn).is_open
-        → IsOver ⟦<SqlKeeper<S> as Keeper>⟧ (state S.Store conn) desk (state S.Store desk.keeper.conn))) }
+// The desk over the book in a file that was looked at.
+fn open_desk<S: Start>(
+    rt: &HostRuntime,
+    file: LookedAt<'_, S>,
+) -> Result<OpenBook<FileKeeper<S>>, Fault>
+    ensures opened { IfOk result (λ book. HasCleanDisk (file_state book.desk.keeper.conn)
+        → WasOpened ⟦<FileKeeper<S> as Keeper>⟧ (image_at S.Start) book.desk book.desk.keeper.conn) }
+    ensures held { IfOk result (λ book. book.lock.file ≡ file.entry.lock.file) }
+    ensures refused { IfErr result (λ fault. IsNoBook ⟦<FileFrom<S> as Disk>⟧ (image_at S.Start) fault
+        ⊎ WasRefused ⟦<FileKeeper<S> as Keeper>⟧ (λ keeper. keeper.conn) (image_at S.Start) fault) }
 {
-    match rtgs_stored_desk::open(alloc, conn) {
-        Ok(desk) => Ok(desk),
-        Err((fault, _)) => Err(fault),
+    let (conn, lock) = connect(rt, file)?;
+    match rtgs_stored_desk::open(rt.alloc(), conn) {
+        Ok(desk) => Ok(OpenBook { desk, lock }),
+        Err((fault, keeper)) => {
+            lock.let_go(ClosedStore::given_up(keeper.into_connection()));
+            Err(fault)
+        }
+    }
+}
+
+// Makes the tables of a new book in a file whose lock was taken, closes it, and lets its lock go.
+fn make_book<S: Start>(rt: &HostRuntime, lock: BookLock<'_, S>) -> Result<(), FileFault>
+    ensures made { IfOk result (λ _.
+        WasMade ⟦<FileKeeper<S> as Keeper>⟧ (λ keeper. keeper.conn) (image_at S.Start)) }
+    ensures refused { IfErr result (IsNotMade ⟦<FileKeeper<S> as Keeper>⟧ (λ keeper. keeper.conn) (image_at S.Start)) }
+{
+    let file = lock.with_nothing(rt)?;
+    match make_tables(rt, file) {
+        Ok(()) => Ok(()),
+        Err(fault) => Err(FileFault::Book(fault)),
     }
 }
 
 // Makes the tables of a new book in a file that has none, closes it, and lets its lock go.
-fn make_tables<S: Start>(rt: &HostRuntime, file: LookedAt<'_>, start: S) -> Result<(), Fault>
-    ensures { IfOk result (λ _.
+fn make_tables<S: Start>(rt: &HostRuntime, file: LookedAt<'_, S>) -> Result<(), Fault>
+    ensures made { IfOk result (λ _.
         WasMade ⟦<FileKeeper<S> as Keeper>⟧ (λ keeper. keeper.conn) (image_at S.Start)) }
+    ensures refused { IfErr result (λ fault. IsNoBook ⟦<FileFrom<S> as Disk>⟧ (image_at S.Start) fault
+        ⊎ WasUnmade ⟦<FileKeeper<S> as Keeper>⟧ (λ keeper. keeper.conn) (image_at S.Start) fault) }
 {
-    match rtgs_stored_desk::make(connect(rt, &file, start)?) {
+    let (conn, lock) = connect(rt, file)?;
+    match rtgs_stored_desk::make(conn) {
         Ok(made) => {
-            close(made, file.into_file());
+            lock.let_go(ClosedStore::copied(made));
             Ok(())
         }
-        Err((fault, _)) => Err(fault),
+        Err((fault, left)) => {
+            lock.let_go(ClosedStore::given_up(left));
+            Err(fault)
+        }
     }
 }

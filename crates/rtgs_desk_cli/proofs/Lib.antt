@@ -1,4 +1,5 @@
 pub mod BytesRead
+pub mod Finished
 pub mod ForRequest
 pub mod PrintedAfter
 pub mod ServerPrints

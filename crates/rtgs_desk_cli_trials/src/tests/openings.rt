@@ -39,9 +39,9 @@ fn overlap(rt: &HostRuntime, post: &[&str]) -> Result<(), Fail> {
 fn runs_that_overlap_are_refused(rt: HostRuntime) -> Result<(), Fail> {
     let post = ["post", "overlap", "ALFA", "P-1", "1"];
     begin(&rt, "overlap")?;
-    let held = BookLock::take(&rt, "overlap")?.open(&rt, Unknown)?;
+    let held = BookLock::take(&rt, "overlap", Unknown)?.open(&rt)?;
     let refused = overlap(&rt, &post);
-    held.close();
+    held.finish().close();
     refused?;
     prints(&rt, &post, "posted 1\n", 0)
 }

@@ -4,7 +4,6 @@ use Rattle.rtgs_desk_cli.proofs.acting.submit.Goals as goal
 pub returns-clause-replied : goal.returns-clause-replied
 returns-clause-replied g c = record {
   opened = c.desk.result.now;
-  closed = c.submit-reply.new.desk;
   over = λ honest. (rw (sym c.desk.ensures.value) at c.in_ok-book.ensures.opened)
       (c.submit-reply.ensures.honest honest);
   did = λ honest book held. (
