@@ -1,11 +1,14 @@
 //! The lock of a book's file.
 ghost use Rattle.std.specs.Prelude.{◌≡◌, IfOk, IfErr};
+ghost use Rattle.sqlite.specs.WalFiles.{image_at};
 ghost use Rattle.rtgs_book_file.specs.Files.{fault_of_lock};
-ghost use Rattle.rtgs_book_file.specs.Refused.{IsNotLocked};
+ghost use Rattle.rtgs_book_file.specs.Refused.{IsNotLocked, IsUnopened, IsUnmadeIn};
 
 use crate::file_fault::FileFault;
+use crate::store::FileKeeper;
 use crate::unopened::Unopened;
 use rtgs_book::Fault;
+use rtgs_keeper::Keeper;
 use sqlite::Start;
 use std::fs::{File, OpenOptions, TryLockError};
 use std::io;
@@ -24,12 +27,12 @@ pub struct BookLock<'a, S: Start> {
 impl<'a, S: Start> BookLock<'a, S> {
     /// Takes the lock of the book's file at this path. `InUse` where another run holds it, or where it cannot be made,
     /// and a fault of the book for lack of memory alone.
-    pub fn take(
-        rt: &HostRuntime,
-        path: &'a str,
-        start: S,
-    ) -> Result<BookLock<'a, S>, Unopened<S>>
+    pub fn take(rt: &HostRuntime, path: &'a str, start: S) -> Result<BookLock<'a, S>, Unopened<S>>
         ensures refused { IfErr result (λ unopened. IsNotLocked unopened.fault) }
+        ensures unopened { IfErr result (λ unopened. IsUnopened ⟦<FileKeeper<S> as Keeper>⟧ (λ keeper. keeper.conn)
+            (image_at S.Start) unopened.fault) }
+        ensures unmade { IfErr result (λ unopened. IsUnmadeIn ⟦<FileKeeper<S> as Keeper>⟧ (λ keeper. keeper.conn)
+            (image_at S.Start) unopened.fault) }
         ensures at { IfOk result (λ lock. lock.path.now ≡ path.now) }
     {
         match locked(rt, path) {

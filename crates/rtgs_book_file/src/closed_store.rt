@@ -1,13 +1,13 @@
 //! What is left of a store that was closed.
-ghost use Rattle.std.specs.Prelude.{◌≡◌, Some};
-ghost use Rattle.rtgs_book_file.specs.Closed.{LeavesClosed};
+ghost use Rattle.std.specs.Prelude.{◌≡◌};
+ghost use Rattle.rtgs_book_file.specs.Closed.{LeavesClosed, LeavesNoMore};
 
-use sqlite::{Connection, FileFrom, FileStore, Files, Leftover, Start};
+use sqlite::{Connection, FileFrom, FileStore, Files, Start};
 
-/// What is left of a store that was closed: its files, if it had any. Only to close a store makes one.
+/// What is left of a store that was closed: its files. Only to close a store makes one.
 #[derive(Drop)]
 pub(crate) struct ClosedStore<S: Start> {
-    files: Option<Files<FileFrom<S>>>,
+    files: Files<FileFrom<S>>,
 }
 
 impl<S: Start> ClosedStore<S> {
@@ -15,23 +15,20 @@ impl<S: Start> ClosedStore<S> {
     pub(crate) fn copied(conn: Connection<FileStore<FileFrom<S>>>) -> ClosedStore<S>
         ensures { LeavesClosed conn result.files }
     {
-        let files = match conn.close_files() {
-            Ok(files) => files,
-            Err((_, store)) => store.close(),
-        };
-        ClosedStore { files: Some(files) }
+        match conn.close_files() {
+            Ok(files) => ClosedStore { files },
+            Err((_, store)) => ClosedStore {
+                files: store.close(),
+            },
+        }
     }
 
     /// Leaves the files as they are.
-    pub(crate) fn given_up(conn: Connection<FileStore<FileFrom<S>>>) -> ClosedStore<S> {
-        let files = conn.into_store().close();
-        ClosedStore { files: Some(files) }
-    }
-
-    /// Leaves the files as they are, of a store that was not opened.
-    pub(crate) fn unopened(left: Option<Leftover<FileFrom<S>>>) -> ClosedStore<S> {
+    pub(crate) fn given_up(conn: Connection<FileStore<FileFrom<S>>>) -> ClosedStore<S>
+        ensures { LeavesNoMore conn result.files }
+    {
         ClosedStore {
-            files: left.map(|left| left.into_files()),
+            files: conn.into_store().close(),
         }
     }
 }

@@ -7,7 +7,8 @@ ghost use Rattle.sqlite.specs.WalFiles.{image_at};
 ghost use Rattle.rtgs_book.specs.declared.Fault.{Fault as FaultSpec};
 ghost use Rattle.rtgs_book_file.specs.Lending.{LendsDesk};
 ghost use Rattle.rtgs_book_file.specs.Opened.{WasOpened, WasMade};
-ghost use Rattle.rtgs_book_file.specs.Refused.{HasNoBook, IsNoBook, IsNotMade, WasRefused, WasUnmade};
+ghost use Rattle.rtgs_book_file.specs.Refused.{HasNoBook, IsNoBook, IsNotMade, IsUnopened, IsUnmadeIn};
+ghost use Rattle.rtgs_book_file.specs.Refused.{WasRefused, WasUnmade};
 
 use crate::book_lock::BookLock;
 use crate::closed_store::ClosedStore;
@@ -39,6 +40,8 @@ impl<S: Start> BookLock<'_, S> {
         ensures held { IfOk result (λ book. book.lock.file ≡ self.entry.file) }
         ensures refused { IfErr result (λ unopened. (fault : FaultSpec) × (unopened.fault ≡ FileFault.Book fault)
             × HasNoBook ⟦<FileKeeper<S> as Keeper>⟧ (λ keeper. keeper.conn) (image_at S.Start) fault) }
+        ensures unopened { IfErr result (λ unopened.
+            IsUnopened ⟦<FileKeeper<S> as Keeper>⟧ (λ keeper. keeper.conn) (image_at S.Start) unopened.fault) }
     {
         match open_book(rt, self) {
             Ok(book) => Ok(book),
@@ -53,6 +56,8 @@ impl<S: Start> BookLock<'_, S> {
             WasMade ⟦<FileKeeper<S> as Keeper>⟧ (λ keeper. keeper.conn) (image_at S.Start)) }
         ensures refused { IfErr result (λ unopened.
             IsNotMade ⟦<FileKeeper<S> as Keeper>⟧ (λ keeper. keeper.conn) (image_at S.Start) unopened.fault) }
+        ensures unmade { IfErr result (λ unopened.
+            IsUnmadeIn ⟦<FileKeeper<S> as Keeper>⟧ (λ keeper. keeper.conn) (image_at S.Start) unopened.fault) }
     {
         match make_book(rt, self) {
             Ok(()) => Ok(()),

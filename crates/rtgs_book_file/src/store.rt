@@ -7,7 +7,6 @@ ghost use Rattle.sqlite.specs.WalFiles.{image_at};
 ghost use Rattle.rtgs_book_file.specs.Files.{fault_of_store};
 ghost use Rattle.rtgs_book_file.specs.Refused.{IsNoBook};
 
-use crate::closed_store::ClosedStore;
 use crate::held_lock::HeldLock;
 use crate::looked_at::LookedAt;
 use rtgs_book::Fault;
@@ -43,11 +42,11 @@ pub(crate) fn connect<S: Start>(
     ensures refused { IfErr result (IsNoBook ⟦<FileFrom<S> as Disk>⟧ (image_at S.Start)) }
 {
     let (path, lock, start) = file.into_parts();
-    let lock = HeldLock::of(lock);
     match Connection::open_from(rt, path, false, start) {
-        Ok(conn) => Ok((conn, lock)),
+        Ok(conn) => Ok((conn, HeldLock::of(lock))),
         Err((error, left)) => {
-            lock.let_go(ClosedStore::unopened(left));
+            drop(left);
+            drop(lock);
             Err(fault_of(&error))
         }
     }

@@ -1,6 +1,6 @@
 //! How files are opened, held and closed by runs.
 use super::{begin, prints};
-use rtgs_book_file::{BookLock, Unknown};
+use rtgs_book_file::{BookLock, FileFault, Unknown};
 use sqlite::Connection;
 use std::fs;
 use std::test::Fail;
@@ -33,6 +33,25 @@ fn overlap(rt: &HostRuntime, post: &[&str]) -> Result<(), Fail> {
     let text = "refused 95 InUse\n";
     prints(rt, &["init", "overlap"], text, 3)?;
     prints(rt, post, text, 3)
+}
+
+/// Why the lock of a file is not taken, if it is not.
+fn not_locked(rt: &HostRuntime, file: &str) -> Option<FileFault> {
+    match BookLock::take(rt, file, Unknown) {
+        Ok(_) => None,
+        Err(unopened) => Some(unopened.fault()),
+    }
+}
+
+#[test]
+fn a_lock_is_held_until_the_book_was_closed(rt: HostRuntime) -> Result<(), Fail> {
+    begin(&rt, "held")?;
+    let held = BookLock::take(&rt, "held", Unknown)?.open(&rt)?;
+    let while_open = not_locked(&rt, "held");
+    held.finish().close();
+    assert_eq!(rt; while_open, Some(FileFault::InUse));
+    assert_eq!(rt; not_locked(&rt, "held"), None);
+    Ok(())
 }
 
 #[test]
