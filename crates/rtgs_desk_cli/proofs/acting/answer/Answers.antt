@@ -12,10 +12,9 @@ pub returns-in-Ok-clause-printed : goal.returns-in-Ok-clause-printed
 returns-in-Ok-clause-printed g c =
     let (book, is) = c.in_ok-answer.ensures.done in
     let replied = when_done c.submit.result (λ p. IsSubmitted _ c.args.command p.1 p.0.desk) c.submit.ensures.replied book
-        _ is in
+    _ is in
     let of_kind = when_done c.submit.result (λ p. IfOk p.1 (λ answer. answers_its_kind c.args.command answer ≡ true))
-        c.submit.ensures.of_its_kind book _ is in
-    (
+    c.submit.ensures.of_its_kind book _ is in (
       ended_line (line_of (Answered c.in-Ok.answer)),
       None,
       (
@@ -33,7 +32,7 @@ pub returns-in-Err-clause-refused : goal.returns-in-Err-clause-refused
 returns-in-Err-clause-refused g c =
     let (book, is) = c.in_ok-answer.ensures.done in
     let replied = when_done c.submit.result (λ p. IsSubmitted _ c.args.command p.1 p.0.desk) c.submit.ensures.replied book
-        _ is in
+    _ is in
     inr (
       c.in-Err.refusal,
       book.desk,

@@ -9,8 +9,7 @@ pub returns-in-Ok-clause-printed : goal.returns-in-Ok-clause-printed
 returns-in-Ok-clause-printed g c =
     let (book, is) = c.in_ok-text.ensures.done in
     let read = when_done c.read.result (λ p. IsRead _ (λ text. text.items) c.args.reading p.1 p.0.desk) c.read.ensures.read
-        book _ is in
-    (
+    book _ is in (
       c.in-Ok.text.items,
       None,
       (book.desk, bytes_read _ (λ text. text.items) c.args.reading _ book.desk read c.in-Ok.text c.in-Ok.is, refl),
@@ -22,7 +21,7 @@ pub returns-in-Err-clause-refused : goal.returns-in-Err-clause-refused
 returns-in-Err-clause-refused g c =
     let (book, is) = c.in_ok-text.ensures.done in
     let read = when_done c.read.result (λ p. IsRead _ (λ text. text.items) c.args.reading p.1 p.0.desk) c.read.ensures.read
-        book _ is in
+    book _ is in
     inr (
       c.in-Err.refusal,
       book.desk,
