@@ -1,4 +1,4 @@
-//! Each request for memory that a call makes, refused in turn.
+//! Each request for memory refused in turn, of calls to desks in memory.
 #![tactic(auto)]
 
 #[cfg(test)]

@@ -1,9 +1,8 @@
 //! Calls whose requests for memory are refused in turn, and what they answer.
-mod call;
+mod batches;
 mod commands;
-mod held;
-mod judged;
-mod limit;
+mod nothing;
+mod openings;
 mod readings;
-mod setting;
-mod store;
+mod serving;
+mod stopped_rows;

@@ -1,58 +1,72 @@
 //! Commands of every kind.
-use super::call::{Call, Outcome};
-use super::limit::for_each_refusal;
-use super::setting::{MONDAY, date, desk_after, desk_over, limits, pays, seen_of};
-use super::store::{InMemory, Store};
-use rtgs_book::{Answer, Command, Refusal};
-use rtgs_desk::Desk;
-use std::alloc::Global;
+use rtgs_scarce_memory::{InMemory, Submits, Worked, for_each_refusal};
 use std::test::Fail;
 
-/// A command to a desk with three banks, after other commands.
-#[derive(Clone, Copy)]
-struct Submits<'a, S> {
-    store: S,
-    before: &'a [Command],
-    command: Command,
-}
-
-impl<S: Store> Call for Submits<'_, S> {
-    type State = Desk<S::Kept>;
-
-    type Answer = Result<Answer, Refusal>;
-
-    fn begin(&self, alloc: Global) -> Result<Desk<S::Kept>, Fail> {
-        desk_after(alloc, self.store.keeper(alloc)?, self.before)
-    }
-
-    fn call(&self, _alloc: Global, desk: &mut Desk<S::Kept>) -> Result<Answer, Refusal> {
-        desk.submit(self.command)
-    }
-
-    fn outcome(&self, answer: &Result<Answer, Refusal>) -> Outcome {
-        match answer {
-            Err(Refusal::OutOfMemory) => Outcome::Refused,
-            Err(Refusal::StoreFault) => Outcome::Faulted,
-            _ => Outcome::Other,
-        }
-    }
-
-    fn reopened(&self, alloc: Global, desk: Desk<S::Kept>) -> Result<Desk<S::Kept>, Fail> {
-        let keeper = self.store.restarted(alloc, desk.into_keeper())?;
-        desk_over(alloc, keeper)
-    }
-
-    fn seen(&self, alloc: Global, desk: &mut Desk<S::Kept>) -> Result<String, Fail> {
-        seen_of(alloc, desk)
-    }
+// Tries a command to a desk in memory. The name is that of the test.
+fn tries(rt: &HostRuntime, name: &str, worked: &Worked) -> Result<(), Fail> {
+    let call = Submits {
+        store: InMemory,
+        worked,
+    };
+    for_each_refusal(rt, name, &call, 1)
 }
 
 #[test]
-fn an_order_that_settles(rt: HostRuntime) -> Result<(), Fail> {
-    let call = Submits {
-        store: InMemory,
-        before: &[limits("ALFA", 100)?, Command::OpenDay(date(MONDAY)?)],
-        command: pays("ALFA", "A-1", "BETA", 100)?,
-    };
-    for_each_refusal(&rt, "tests::commands::an_order_that_settles", &call, 1)
+fn add(rt: HostRuntime) -> Result<(), Fail> {
+    let worked = Worked::add(rt.alloc())?;
+    tries(&rt, "tests::commands::add", &worked)
+}
+
+#[test]
+fn set_credit(rt: HostRuntime) -> Result<(), Fail> {
+    let worked = Worked::set_credit(rt.alloc())?;
+    tries(&rt, "tests::commands::set_credit", &worked)
+}
+
+#[test]
+fn post(rt: HostRuntime) -> Result<(), Fail> {
+    let worked = Worked::post(rt.alloc())?;
+    tries(&rt, "tests::commands::post", &worked)
+}
+
+#[test]
+fn open_day(rt: HostRuntime) -> Result<(), Fail> {
+    let worked = Worked::open_day(rt.alloc())?;
+    tries(&rt, "tests::commands::open_day", &worked)
+}
+
+#[test]
+fn order_that_settles(rt: HostRuntime) -> Result<(), Fail> {
+    let worked = Worked::order_that_settles(rt.alloc())?;
+    tries(&rt, "tests::commands::order_that_settles", &worked)
+}
+
+#[test]
+fn order_that_waits(rt: HostRuntime) -> Result<(), Fail> {
+    let worked = Worked::order_that_waits(rt.alloc())?;
+    tries(&rt, "tests::commands::order_that_waits", &worked)
+}
+
+#[test]
+fn withdraw(rt: HostRuntime) -> Result<(), Fail> {
+    let worked = Worked::withdraw(rt.alloc())?;
+    tries(&rt, "tests::commands::withdraw", &worked)
+}
+
+#[test]
+fn resolve(rt: HostRuntime) -> Result<(), Fail> {
+    let worked = Worked::resolve(rt.alloc())?;
+    tries(&rt, "tests::commands::resolve", &worked)
+}
+
+#[test]
+fn cut_off(rt: HostRuntime) -> Result<(), Fail> {
+    let worked = Worked::cut_off(rt.alloc())?;
+    tries(&rt, "tests::commands::cut_off", &worked)
+}
+
+#[test]
+fn close_day(rt: HostRuntime) -> Result<(), Fail> {
+    let worked = Worked::close_day(rt.alloc())?;
+    tries(&rt, "tests::commands::close_day", &worked)
 }

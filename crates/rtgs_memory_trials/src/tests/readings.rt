@@ -1,13 +1,12 @@
 //! Readings.
-use super::call::{Call, Outcome};
-use super::limit::for_each_refusal;
-use super::setting::{
-    KEYS, MONDAY, code, date, desk_after, limits, pays, posts, reference, seen_of,
-};
-use rtgs_book::{Command, Order, Reading, Refusal};
+use rtgs_book::{Order, Reading, Refusal};
 use rtgs_desk::{AccountReading, Desk};
 use rtgs_keeper::MemoryKeeper;
 use rtgs_money::{Code, Key, KeyDigest};
+use rtgs_scarce_memory::setting::{
+    KEYS, MONDAY, code, date, desk_after, limits, opens, pays, posts, reference, seen_of,
+};
+use rtgs_scarce_memory::{Call, Outcome, for_each_refusal};
 use rtgs_statements::{Report, Statement};
 use std::alloc::Global;
 use std::test::Fail;
@@ -57,7 +56,7 @@ impl Call for Asks {
     fn begin(&self, alloc: Global) -> Result<Desk<MemoryKeeper>, Fail> {
         let before = [
             limits("ALFA", 100)?,
-            Command::OpenDay(date(MONDAY)?),
+            opens()?,
             posts("ALFA", "P-1", 5)?,
             pays("ALFA", "A-1", "BETA", 100)?,
             pays("ALFA", "A-2", "BETA", 7)?,

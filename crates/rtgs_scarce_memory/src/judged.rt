@@ -1,5 +1,5 @@
 //! Whether what a call came to, where memory was refused, is one of the outcomes that there may be.
-use super::call::{Call, Outcome};
+use crate::call::{Call, Outcome};
 use std::alloc::Global;
 use std::test::Fail;
 

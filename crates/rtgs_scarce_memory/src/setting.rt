@@ -62,6 +62,11 @@ pub fn posts(participant: &str, name: &str, cents: i64) -> Result<Command, Fail>
     })
 }
 
+/// Opens Monday.
+pub fn opens() -> Result<Command, Fail> {
+    Ok(Command::OpenDay(date(MONDAY)?))
+}
+
 /// An order of the sender to pay the receiver.
 pub fn pays(sender: &str, name: &str, receiver: &str, cents: u64) -> Result<Command, Fail> {
     Ok(Command::Order {
@@ -69,6 +74,14 @@ pub fn pays(sender: &str, name: &str, receiver: &str, cents: u64) -> Result<Comm
         reference: reference(name)?,
         receiver: code(receiver)?,
         amount: amount(cents)?,
+    })
+}
+
+/// Withdraws the sender's order of this reference.
+pub fn withdraws(sender: &str, name: &str) -> Result<Command, Fail> {
+    Ok(Command::Withdraw {
+        sender: code(sender)?,
+        reference: reference(name)?,
     })
 }
 

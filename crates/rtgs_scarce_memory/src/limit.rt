@@ -1,7 +1,7 @@
 //! Requests for memory, refused in turn in a process of their own.
-use super::call::{Call, Outcome};
-use super::held::Held;
-use super::judged::{Ample, judge};
+use crate::call::{Call, Outcome};
+use crate::held::Held;
+use crate::judged::{Ample, judge};
 use std::alloc::Global;
 use std::env;
 use std::process::Command;
@@ -9,6 +9,9 @@ use std::test::Fail;
 
 /// Set in the process whose memory is limited.
 const UNDER_A_LIMIT: &str = "DESK_MEMORY_LIMITED";
+
+/// Set where nothing is to be run but the test itself.
+const ONCE: &str = "DESK_CALLED_ONCE";
 
 /// Runs one test with so many kibibytes of memory.
 const LIMITED: &str = "ulimit -v 65536; exec \"$0\" \"$1\"";
@@ -69,7 +72,12 @@ fn try_with<C: Call>(
 
 // There is memory for no request, and then for more and more, by so many blocks a step: so each is refused that finds
 // less than all before it have taken, and each after it that finds no room either.
-fn refuse_each<C: Call>(rt: &HostRuntime, name: &str, call: &C, blocks: usize) -> Result<(), Fail> {
+fn refuse_in_turn<C: Call>(
+    rt: &HostRuntime,
+    name: &str,
+    call: &C,
+    blocks: usize,
+) -> Result<(), Fail> {
     let ample = Ample::of(rt.alloc(), call)?;
     let mut counts = Counts::default();
     for step in 0..MOST_STEPS {
@@ -101,16 +109,53 @@ fn run_limited(rt: &HostRuntime, name: &str) -> Result<(), Fail> {
     Err(Fail::new(std::str::from_utf8(ran.stderr.as_slice())?))
 }
 
-/// Refuses each request for memory that the call makes in turn, in a process of its own: by so many blocks a step, until
-/// the call is answered as with ample memory. The name is that of the test.
+// Calls once, and says how far it comes: one request may be refused by whoever runs the test.
+fn call_once<C: Call>(rt: &HostRuntime, name: &str, call: &C) -> Result<(), Fail> {
+    rt.println(format_args!("{name}: begins"))?;
+    let mut state = call.begin(rt.alloc())?;
+    rt.println(format_args!("{name}: called"))?;
+    let answer = call.call(rt.alloc(), &mut state);
+    let ample = Ample::of(rt.alloc(), call)?;
+    rt.println(format_args!("{name}: answered"))?;
+    let outcome = judge(rt.alloc(), call, state, &answer, false, &ample)?;
+    rt.println(format_args!("{name}: {outcome:?}"))?;
+    Ok(())
+}
+
+/// Whether the memory of this process is limited.
+pub fn is_limited(rt: &HostRuntime) -> bool {
+    env::var(rt, UNDER_A_LIMIT).is_ok()
+}
+
+/// In a process whose memory is limited each request for memory that the call makes is refused in turn, by so many
+/// blocks a step, until the call is answered as with ample memory. In another process it is called once.
+pub fn refuse_each<C: Call>(
+    rt: &HostRuntime,
+    name: &str,
+    call: &C,
+    blocks: usize,
+) -> Result<(), Fail> {
+    if is_limited(rt) {
+        return refuse_in_turn(rt, name, call, blocks);
+    }
+    call_once(rt, name, call)
+}
+
+/// Runs the test of this name in a process whose memory is limited, where this is not one.
+pub fn in_a_process(rt: &HostRuntime, name: &str) -> Result<(), Fail> {
+    if is_limited(rt) || env::var(rt, ONCE).is_ok() {
+        return Ok(());
+    }
+    run_limited(rt, name)
+}
+
+/// `refuse_each` for a test of one call, in a process of its own. The name is that of the test.
 pub fn for_each_refusal<C: Call>(
     rt: &HostRuntime,
     name: &str,
     call: &C,
     blocks: usize,
 ) -> Result<(), Fail> {
-    if env::var(rt, UNDER_A_LIMIT).is_ok() {
-        return refuse_each(rt, name, call, blocks);
-    }
-    run_limited(rt, name)
+    refuse_each(rt, "call", call, blocks)?;
+    in_a_process(rt, name)
 }

@@ -1,0 +1,55 @@
+//! Order files, and batches of orders.
+use rtgs_exchange::{BatchFault, OrderRow, read_orders};
+use rtgs_scarce_memory::setting::code;
+use rtgs_scarce_memory::{Call, InMemory, ORDERS, Outcome, Sends, for_each_refusal};
+use std::alloc::Global;
+use std::test::Fail;
+
+/// The file, read.
+#[derive(Clone, Copy)]
+struct Reads;
+
+impl Call for Reads {
+    type State = ();
+
+    type Answer = Result<Vec<OrderRow>, BatchFault>;
+
+    fn begin(&self, _alloc: Global) -> Result<(), Fail> {
+        Ok(())
+    }
+
+    fn call(&self, alloc: Global, _state: &mut ()) -> Result<Vec<OrderRow>, BatchFault> {
+        read_orders(alloc, ORDERS)
+    }
+
+    fn outcome(&self, answer: &Result<Vec<OrderRow>, BatchFault>) -> Outcome {
+        match answer {
+            Err(BatchFault::OutOfMemory) => Outcome::Refused,
+            _ => Outcome::Other,
+        }
+    }
+
+    fn reopened(&self, _alloc: Global, _state: ()) -> Result<(), Fail> {
+        Ok(())
+    }
+
+    fn seen(&self, alloc: Global, _state: &mut ()) -> Result<String, Fail> {
+        Ok(String::new(alloc))
+    }
+}
+
+#[test]
+fn a_file_is_read(rt: HostRuntime) -> Result<(), Fail> {
+    for_each_refusal(&rt, "tests::batches::a_file_is_read", &Reads, 1)
+}
+
+#[test]
+fn a_batch(rt: HostRuntime) -> Result<(), Fail> {
+    let rows = read_orders(rt.alloc(), ORDERS)?;
+    let sends = Sends {
+        store: InMemory,
+        sender: code("ALFA")?,
+        rows: rows.as_slice(),
+    };
+    for_each_refusal(&rt, "tests::batches::a_batch", &sends, 1)
+}

@@ -1,0 +1,115 @@
+//! Calls that make no request for memory: they go well where there is none.
+use rtgs_book::{Book, Day, Order, Phase, Rows};
+use rtgs_gridlock::{Payment, Position, Positions, Queues, Workspace, greatest};
+use rtgs_http_replies::Reply;
+use rtgs_ledger::Ledger;
+use rtgs_scarce_memory::setting::{KEYS, adds, code, limits, opens, pays, reference};
+use rtgs_scarce_memory::{Held, in_a_process, is_limited};
+use std::alloc::Global;
+use std::test::Fail;
+
+// Two participants, of which the first can pay one of its three payments.
+fn positions_and_queues(alloc: Global) -> Result<(Positions, Queues), Fail> {
+    let mut positions = Positions::new(alloc);
+    for floor in [-30, 0] {
+        positions.push(Position { balance: 0, floor })?;
+    }
+    let payment = Payment {
+        receiver: 1,
+        amount: 20,
+    };
+    let mut queues = Queues::new(alloc);
+    queues.push(vec![in alloc; payment, payment, payment]?)?;
+    queues.push(Vec::new(alloc))?;
+    Ok((positions, queues))
+}
+
+#[test]
+fn greatest_choice(rt: HostRuntime) -> Result<(), Fail> {
+    if !is_limited(&rt) {
+        return in_a_process(&rt, "tests::nothing::greatest_choice");
+    }
+    let (positions, queues) = positions_and_queues(rt.alloc())?;
+    let mut workspace = Workspace::reserve(rt.alloc(), 2, 3)?;
+    assert_eq!(rt; positions.len(), 2);
+    assert_eq!(rt; queues.len(), 2);
+    assert!(rt; positions.are_floored());
+    assert!(rt; queues.are_in_range());
+    assert!(rt; queues.payment_count() == Some(3));
+    let held = Held::all_but(rt.alloc(), 0)?;
+    greatest(&positions, &queues, &mut workspace);
+    held.free();
+    assert_eq!(rt; workspace.lengths(), [1, 0].as_slice());
+    Ok(())
+}
+
+// The book of a new desk.
+fn no_records(alloc: Global) -> Book {
+    Book {
+        participants: Rows::new(alloc),
+        postings: Rows::new(alloc),
+        orders: Rows::new(alloc),
+        marks: Rows::new(alloc),
+        day: Day {
+            date: None,
+            phase: Phase::Closed,
+        },
+    }
+}
+
+// A ledger of two banks, on an open day.
+fn ledger_of_two(alloc: Global) -> Result<Ledger, Fail> {
+    let mut ledger = Ledger::load(alloc, no_records(alloc))?;
+    let commands = [
+        adds("ALFA", KEYS[0])?,
+        adds("BETA", KEYS[1])?,
+        limits("ALFA", 100)?,
+        opens()?,
+    ];
+    for command in commands {
+        let (_, change) = ledger.prepare(&command)?;
+        ledger.adopt(change);
+    }
+    Ok(ledger)
+}
+
+// Prepares an order that settles, and adopts it while there is no memory.
+fn order_adopted(alloc: Global) -> Result<Option<Order>, Fail> {
+    let mut ledger = ledger_of_two(alloc)?;
+    let (_, change) = ledger.prepare(&pays("ALFA", "A-1", "BETA", 100)?)?;
+    let held = Held::all_but(alloc, 0)?;
+    ledger.adopt(change);
+    held.free();
+    Ok(ledger.order(&code("ALFA")?, &reference("A-1")?))
+}
+
+#[test]
+fn adopt(rt: HostRuntime) -> Result<(), Fail> {
+    if !is_limited(&rt) {
+        return in_a_process(&rt, "tests::nothing::adopt");
+    }
+    let order = order_adopted(rt.alloc())?;
+    assert!(rt; order.is_some_and(|order| order.number == 1));
+    Ok(())
+}
+
+#[test]
+fn fixed_replies(rt: HostRuntime) -> Result<(), Fail> {
+    if !is_limited(&rt) {
+        return in_a_process(&rt, "tests::nothing::fixed_replies");
+    }
+    let mut written = Vec::with_capacity(rt.alloc(), 1024)?;
+    let held = Held::all_but(rt.alloc(), 0)?;
+    let sent = Reply::out_of_memory().send(&mut written);
+    let also_sent = Reply::answer_lost().send(&mut written);
+    held.free();
+    sent?;
+    also_sent?;
+    let told =
+        "HTTP/1.1 503 Service Unavailable\r\nContent-Type: application/json\r\nContent-Length: 32\r\n\
+                Connection: close\r\n\r\n{\"code\":90,\"name\":\"OutOfMemory\"}\
+                HTTP/1.1 503 Service Unavailable\r\nContent-Type: application/json\r\nContent-Length: 31\r\n\
+                Connection: close\r\n\r\n{\"code\":69,\"name\":\"AnswerLost\"}";
+    assert_eq!(rt; std::str::from_utf8(written.as_slice())?, told);
+    Ok(())
+}

@@ -1,0 +1,63 @@
+//! A batch whose second row is refused for lack of memory, and what its file of results says.
+use rtgs_desk::Desk;
+use rtgs_exchange::{BatchResult, OrderRow, read_orders, submit_batch, write_results};
+use rtgs_keeper::MemoryKeeper;
+use rtgs_scarce_memory::setting::code;
+use rtgs_scarce_memory::{Held, ORDERS, in_a_process, is_limited, orders_desk};
+use std::alloc::Global;
+use std::test::Fail;
+
+/// The results where the second row is refused.
+const STOPPED: &[u8] = b"reference,result,number,detail\nA-1,settled,1,1\nA-2,stopped,,90\n";
+
+/// The results when the file is sent again.
+const AGAIN: &[u8] =
+    b"reference,result,number,detail\nA-1,repeated,1,settled\nA-2,settled,2,2\nA-3,queued,3,1\n";
+
+// The file of these results.
+fn file_of(alloc: Global, rows: &[OrderRow], batch: &BatchResult) -> Result<Vec<u8>, Fail> {
+    let mut text = Vec::new(alloc);
+    write_results(alloc, &mut text, rows, batch)?;
+    Ok(text)
+}
+
+// Submits the rows with so many small blocks of memory. Gives the results where one row is answered, and no more.
+fn one_answered(
+    alloc: Global,
+    desk: &mut Desk<MemoryKeeper>,
+    rows: &[OrderRow],
+    given: usize,
+) -> Result<Option<BatchResult>, Fail> {
+    let sender = code("ALFA")?;
+    let held = Held::all_but(alloc, given)?;
+    let batch = submit_batch(alloc, desk, sender, rows);
+    held.free();
+    match batch {
+        Ok(batch) if batch.replies.len() == 1 => Ok(Some(batch)),
+        _ => Ok(None),
+    }
+}
+
+#[test]
+fn second_row(rt: HostRuntime) -> Result<(), Fail> {
+    if !is_limited(&rt) {
+        return in_a_process(&rt, "tests::stopped_rows::second_row");
+    }
+    let alloc = rt.alloc();
+    let rows = read_orders(alloc, ORDERS)?;
+    let mut met = 0usize;
+    for given in 0..512usize {
+        let mut desk = orders_desk(alloc, MemoryKeeper::new(alloc))?;
+        if let Some(batch) = one_answered(alloc, &mut desk, rows.as_slice(), given)? {
+            assert_eq!(rt;
+                file_of(alloc, rows.as_slice(), &batch)?.as_slice(),
+                STOPPED
+            );
+            let again = submit_batch(alloc, &mut desk, code("ALFA")?, rows.as_slice())?;
+            assert_eq!(rt; file_of(alloc, rows.as_slice(), &again)?.as_slice(), AGAIN);
+            met = met.saturating_add(1);
+        }
+    }
+    assert!(rt; met > 0);
+    Ok(())
+}
