@@ -127,20 +127,6 @@ pub fn is_limited(rt: &HostRuntime) -> bool {
     env::var(rt, UNDER_A_LIMIT).is_ok()
 }
 
-/// In a process whose memory is limited each request for memory that the call makes is refused in turn, by so many
-/// blocks a step, until the call is answered as with ample memory. In another process it is called once.
-pub fn refuse_each<C: Call>(
-    rt: &HostRuntime,
-    name: &str,
-    call: &C,
-    blocks: usize,
-) -> Result<(), Fail> {
-    if is_limited(rt) {
-        return refuse_in_turn(rt, name, call, blocks);
-    }
-    call_once(rt, name, call)
-}
-
 /// Runs the test of this name in a process whose memory is limited, where this is not one.
 pub fn in_a_process(rt: &HostRuntime, name: &str) -> Result<(), Fail> {
     if is_limited(rt) || env::var(rt, ONCE).is_ok() {
@@ -149,13 +135,18 @@ pub fn in_a_process(rt: &HostRuntime, name: &str) -> Result<(), Fail> {
     run_limited(rt, name)
 }
 
-/// `refuse_each` for a test of one call, in a process of its own. The name is that of the test.
+/// Calls once, and then, in a process of its own whose memory is limited, refuses each request for memory that the call
+/// makes in turn, by so many blocks a step, until the call is answered as with ample memory. The name is that of the
+/// test.
 pub fn for_each_refusal<C: Call>(
     rt: &HostRuntime,
     name: &str,
     call: &C,
     blocks: usize,
 ) -> Result<(), Fail> {
-    refuse_each(rt, "call", call, blocks)?;
+    if is_limited(rt) {
+        return refuse_in_turn(rt, name, call, blocks);
+    }
+    call_once(rt, name, call)?;
     in_a_process(rt, name)
 }

@@ -2,7 +2,7 @@
 use rtgs_desk::Desk;
 use rtgs_exchange::{BatchResult, OrderRow, read_orders, submit_batch, write_results};
 use rtgs_keeper::MemoryKeeper;
-use rtgs_scarce_memory::setting::code;
+use rtgs_scarce_memory::setting::{code, seen_of};
 use rtgs_scarce_memory::{Held, ORDERS, in_a_process, is_limited, orders_desk};
 use std::alloc::Global;
 use std::test::Fail;
@@ -38,23 +38,30 @@ fn one_answered(
     }
 }
 
+// What is seen of a desk that was sent the rows once.
+fn seen_once(alloc: Global, rows: &[OrderRow]) -> Result<String, Fail> {
+    let mut desk = orders_desk(alloc, MemoryKeeper::new(alloc))?;
+    submit_batch(alloc, &mut desk, code("ALFA")?, rows)?;
+    seen_of(alloc, &desk)
+}
+
 #[test]
 fn second_row(rt: HostRuntime) -> Result<(), Fail> {
     if !is_limited(&rt) {
         return in_a_process(&rt, "tests::stopped_rows::second_row");
     }
     let alloc = rt.alloc();
-    let rows = read_orders(alloc, ORDERS)?;
+    let read = read_orders(alloc, ORDERS)?;
+    let rows = read.as_slice();
+    let once = seen_once(alloc, rows)?;
     let mut met = 0usize;
     for given in 0..512usize {
         let mut desk = orders_desk(alloc, MemoryKeeper::new(alloc))?;
-        if let Some(batch) = one_answered(alloc, &mut desk, rows.as_slice(), given)? {
-            assert_eq!(rt;
-                file_of(alloc, rows.as_slice(), &batch)?.as_slice(),
-                STOPPED
-            );
-            let again = submit_batch(alloc, &mut desk, code("ALFA")?, rows.as_slice())?;
-            assert_eq!(rt; file_of(alloc, rows.as_slice(), &again)?.as_slice(), AGAIN);
+        if let Some(batch) = one_answered(alloc, &mut desk, rows, given)? {
+            assert_eq!(rt; file_of(alloc, rows, &batch)?.as_slice(), STOPPED);
+            let again = submit_batch(alloc, &mut desk, code("ALFA")?, rows)?;
+            assert_eq!(rt; file_of(alloc, rows, &again)?.as_slice(), AGAIN);
+            assert_eq!(rt; seen_of(alloc, &desk)?.as_str(), once.as_str());
             met = met.saturating_add(1);
         }
     }
