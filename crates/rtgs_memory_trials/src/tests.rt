@@ -5,4 +5,3 @@ mod nothing;
 mod openings;
 mod readings;
 mod serving;
-mod stopped_rows;

@@ -10,16 +10,16 @@ use std::test::Fail;
 struct Reads;
 
 impl Call for Reads {
-    type State = ();
+    type State = Vec<u8>;
 
     type Answer = Result<Vec<OrderRow>, BatchFault>;
 
-    fn begin(&self, _alloc: Global) -> Result<(), Fail> {
-        Ok(())
+    fn begin(&self, alloc: Global) -> Result<Vec<u8>, Fail> {
+        Ok(Vec::from_slice(alloc, ORDERS)?)
     }
 
-    fn call(&self, alloc: Global, _state: &mut ()) -> Result<Vec<OrderRow>, BatchFault> {
-        read_orders(alloc, ORDERS)
+    fn call(&self, alloc: Global, file: &mut Vec<u8>) -> Result<Vec<OrderRow>, BatchFault> {
+        read_orders(alloc, file.as_slice())
     }
 
     fn outcome(&self, answer: &Result<Vec<OrderRow>, BatchFault>) -> Outcome {
@@ -29,12 +29,12 @@ impl Call for Reads {
         }
     }
 
-    fn reopened(&self, _alloc: Global, _state: ()) -> Result<(), Fail> {
-        Ok(())
+    fn reopened(&self, _alloc: Global, file: Vec<u8>) -> Result<Vec<u8>, Fail> {
+        Ok(file)
     }
 
-    fn seen(&self, alloc: Global, _state: &mut ()) -> Result<String, Fail> {
-        Ok(String::new(alloc))
+    fn seen(&self, alloc: Global, file: &mut Vec<u8>) -> Result<String, Fail> {
+        Ok(String::from_str(alloc, std::str::from_utf8(file.as_slice())?)?)
     }
 }
 
