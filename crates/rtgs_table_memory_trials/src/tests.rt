@@ -4,3 +4,4 @@ mod commands;
 mod openings;
 mod over_sql;
 mod serving;
+mod stopped_rows;

@@ -11,7 +11,7 @@ use std::alloc::Global;
 use std::test::Fail;
 
 /// By how many blocks a step grows.
-pub const BLOCKS: usize = 16;
+pub const BLOCKS: usize = 1;
 
 /// The tables of a database in memory.
 #[derive(Clone, Copy)]
