@@ -10,6 +10,8 @@ import threading
 import time
 from concurrent.futures import ThreadPoolExecutor
 
+import kit
+
 # what a proof takes of memory, as a part of what rt reckons: a quarter at most, as measured
 MEMORY = 1 / 3
 # how much a proof gives way that fewer crates wait for
@@ -32,8 +34,7 @@ class Proofs:
         """Proves what is not proved already, and returns whether all is."""
         # (its first call sets a signal's handler, which only the main thread may)
         self.rt.rtlib.guarded()
-        # (what another checkout on this machine proved of the same text is taken from it, and this one's is offered)
-        self.rt.share_work(True)
+        kit.share_work(self.rt)
         held = self.rt.rtlib.lock(self.crates)
         is_proved = all(self.rt.in_lanes(self.tasks()).values())
         for it in held:
