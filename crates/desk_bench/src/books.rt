@@ -4,7 +4,7 @@ ghost use Rattle.std.specs.Prelude.{◌≤◌};
 use crate::business::{BANKS, addition, endowment, opening, payment, turning};
 use anyhow::{Result, anyhow};
 use rtgs_book::Command;
-use rtgs_book_file::{BookLock, FileFault, FileKeeper, OpenBook, Unknown};
+use rtgs_book_file::{BookLock, FileKeeper, OpenBook, Unknown, Unopened};
 use rtgs_desk::Desk;
 use std::alloc::Global;
 
@@ -15,20 +15,20 @@ pub type FileDesk = Desk<FileKeeper<Unknown>>;
 pub type FileBook = OpenBook<FileKeeper<Unknown>>;
 
 /// The book in a file.
-fn open(rt: &HostRuntime, file: &str) -> std::result::Result<FileBook, FileFault> {
-    BookLock::take(rt, file)?.open(rt, Unknown)
+fn open(rt: &HostRuntime, file: &str) -> std::result::Result<FileBook, Unopened<Unknown>> {
+    BookLock::take(rt, file, Unknown)?.open(rt)
 }
 
 /// Makes a book in a file.
-fn make(rt: &HostRuntime, file: &str) -> std::result::Result<(), FileFault> {
-    BookLock::take(rt, file)?.make(rt, Unknown)
+fn make(rt: &HostRuntime, file: &str) -> std::result::Result<(), Unopened<Unknown>> {
+    BookLock::take(rt, file, Unknown)?.make(rt)
 }
 
 /// The book in a file.
 pub fn open_book(rt: &HostRuntime, file: &str) -> Result<FileBook> {
     match open(rt, file) {
         Ok(book) => Ok(book),
-        Err(fault) => Err(anyhow!("the book: {fault:?}")),
+        Err(unopened) => Err(anyhow!("the book: {unopened:?}")),
     }
 }
 
@@ -36,7 +36,7 @@ pub fn open_book(rt: &HostRuntime, file: &str) -> Result<FileBook> {
 pub fn new_book(rt: &HostRuntime, file: &str) -> Result<FileBook> {
     match make(rt, file) {
         Ok(()) => open_book(rt, file),
-        Err(fault) => Err(anyhow!("a new book: {fault:?}")),
+        Err(unopened) => Err(anyhow!("a new book: {unopened:?}")),
     }
 }
 
@@ -100,7 +100,7 @@ pub fn fill(rt: &HostRuntime, file: &str, orders: u64) -> Result<()>
 {
     let mut book = new_book(rt, file)?;
     let begun = begin(rt.alloc(), book.desk(), orders);
-    book.close();
+    book.finish().close();
     begun
 }
 
@@ -111,6 +111,6 @@ pub fn fill_two_days(rt: &HostRuntime, file: &str, first: u64, second: u64) -> R
     fill(rt, file, first)?;
     let mut book = open_book(rt, file)?;
     let turned = turn(rt.alloc(), book.desk(), first, second);
-    book.close();
+    book.finish().close();
     turned
 }

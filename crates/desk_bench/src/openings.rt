@@ -21,7 +21,7 @@ fn open_the_desk(rt: &HostRuntime, file: &str) -> Result<Duration> {
     let start = Instant::now(rt)?;
     let book = open_book(rt, file)?;
     let took = start.elapsed(rt);
-    book.close();
+    book.finish().close();
     Ok(took?)
 }
 

@@ -38,7 +38,7 @@ pub fn paying(rt: &HostRuntime, file: &str, from: u64, orders: u64) -> Result<Du
 {
     let mut book = open_book(rt, file)?;
     let took = time_orders(rt, book.desk(), from, orders);
-    book.close();
+    book.finish().close();
     took
 }
 

@@ -99,7 +99,7 @@ pub fn ordering(rt: &HostRuntime, file: &str, from: u64, orders: u64) -> Result<
 {
     let mut book = open_book(rt, file)?;
     let took = time_orders(rt, book.desk(), from, orders);
-    book.close();
+    book.finish().close();
     took
 }
 
@@ -113,6 +113,6 @@ pub fn reading(rt: &HostRuntime, queued: u64, readings: u64) -> Result<(Duration
     let mut book = open_book(rt, file.as_str())?;
     let account = time_readings(rt, book.desk(), "GET /account", readings);
     let queue = time_readings(rt, book.desk(), "GET /queue", readings);
-    book.close();
+    book.finish().close();
     Ok((account?, queue?))
 }

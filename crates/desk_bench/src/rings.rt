@@ -39,7 +39,7 @@ pub fn fill(rt: &HostRuntime, file: &str, queued: u64) -> Result<()>
 {
     let mut book = new_book(rt, file)?;
     let begun = begin(rt.alloc(), book.desk(), queued);
-    book.close();
+    book.finish().close();
     begun
 }
 
@@ -91,7 +91,7 @@ fn time_resolution(rt: &HostRuntime, desk: &mut FileDesk) -> Result<(u64, Durati
 fn resolve(rt: &HostRuntime, file: &str) -> Result<(u64, Duration)> {
     let mut book = open_book(rt, file)?;
     let resolved = time_resolution(rt, book.desk());
-    book.close();
+    book.finish().close();
     resolved
 }
 

@@ -55,7 +55,7 @@ pub fn importing(rt: &HostRuntime, orders: u64, rows: u64) -> Result<(Duration, 
     let text = order_file(rt.alloc(), rows)?;
     let mut book = open_book(rt, file.as_str())?;
     let took = time_import(rt, book.desk(), text.as_str());
-    book.close();
+    book.finish().close();
     let written = writing(rt, file.as_str(), orders + rows, rows)?;
     Ok((took?, written))
 }
@@ -78,6 +78,6 @@ fn time_report(rt: &HostRuntime, desk: &FileDesk, date: BusinessDate) -> Result<
 pub fn reporting(rt: &HostRuntime, file: &str, date: BusinessDate) -> Result<(Duration, usize)> {
     let mut book = open_book(rt, file)?;
     let reported = time_report(rt, book.desk(), date);
-    book.close();
+    book.finish().close();
     reported
 }

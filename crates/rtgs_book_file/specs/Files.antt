@@ -1,7 +1,12 @@
--- What an error says of a book's file: of looking at it, of reading its beginning, of its lock, and of the store.
+-- What an answer says of a book's file: to looking at it, to reading its beginning, to taking its lock, and to opening
+-- the store.
 use Rattle.std.specs.Prelude.{◌==◌, ◌++◌, ◌∷◌, [], ℕ, ⊤, Bool, true, List, Result, Ok, Err, codes, if◌then◌else◌}
+use Rattle.std.specs.Fs.{metadata_len}
 use Rattle.std.specs.IoError.{error_kind}
 use Rattle.std.specs.Str.{bytes_eq}
+use Rattle.std.specs.declared.fs.Metadata.{Metadata}
+use Rattle.std.specs.declared.fs.TryLockError.{TryLockError}
+use Rattle.std.specs.declared.fs.TryLockError.TheVariants as try
 use Rattle.std.specs.declared.io.Error.{Error}
 use Rattle.std.specs.declared.io.ErrorKind.{ErrorKind}
 use Rattle.std.specs.declared.io.ErrorKind.TheVariants as kind
@@ -19,9 +24,9 @@ vacancy_without kind.NotFound = Ok true
 vacancy_without kind.OutOfMemory = Err OutOfMemory
 vacancy_without _ = Err StoreFault
 
--- whether a file of this length is missing or empty
-abbrev pub vacancy_of : Result ℕ Error → Result Bool Fault
-vacancy_of (Ok length) = Ok (length == 0)
+-- whether a file at which this look was taken is missing or empty
+abbrev pub vacancy_of : Result Metadata Error → Result Bool Fault
+vacancy_of (Ok metadata) = Ok (metadata_len metadata == 0)
 vacancy_of (Err error) = vacancy_without (error_kind error)
 
 -- how a database begins
@@ -44,6 +49,15 @@ opening_of (Err error) = Err (fault_of_reading (error_kind error))
 abbrev pub fault_of_lock : ErrorKind → FileFault
 fault_of_lock kind.OutOfMemory = Book OutOfMemory
 fault_of_lock _ = InUse
+
+-- why a lock is not taken that is tried: another run holds it, or it cannot be had
+abbrev pub fault_of_trying : TryLockError → FileFault
+fault_of_trying try.WouldBlock = InUse
+fault_of_trying (try.Error error) = fault_of_lock (error_kind error)
+
+-- the name of a lock's own file, which stands beside the book's
+abbrev pub lock_name : List ℕ → List ℕ
+lock_name path = path ++ codes ".lock"
 
 -- what an error of the store's opening says of a file
 abbrev pub fault_of_store : SqlError → Fault

@@ -13,6 +13,8 @@ use Rattle.rtgs_keeper.specs.declared.keeper.Keeper.{Ghosts}
 use Rattle.rtgs_desk.specs.Seen.{Seen}
 use Rattle.rtgs_stored_desk.specs.Stored.{StopLeaves}
 use Rattle.rtgs_book_file.specs.Opened.{WasOpened, WasMade}
+use Rattle.rtgs_book_file.specs.Refused.{IsUnopened, IsUnmadeIn}
+use Rattle.rtgs_book_file.specs.declared.file_fault.FileFault.{FileFault}
 
 -- the file of a book, whose keeper is a K
 pub record OverFile (K : Type 0) : Type 1 where
@@ -20,8 +22,12 @@ pub record OverFile (K : Type 0) : Type 1 where
   pub keeper : Ghosts K
   -- the desk was opened over what the files held
   pub was_opened : Seen K → Type 0
+  -- no desk was opened over it, for this
+  pub was_unopened : FileFault → Type 0
   -- the tables of a new book were made over what the files held
   pub was_made : Type 0
+  -- no book was made in it, for this
+  pub was_unmade : FileFault → Type 0
   -- Whatever a stop leaves of the desk's file is a book that a session of these commands may find, in its tables,
   -- whole.
   pub stop_leaves : Seen K → Book → List Command → List Reply → Type 0
@@ -32,6 +38,8 @@ abbrev pub file_from : {K D S : Type 0} {g : disk.Ghosts D} → Ghosts K → sta
 file_from k first conn = record {
   keeper = k;
   was_opened = λ desk. WasOpened k (image_at first) desk (conn desk.keeper);
-  was_made = WasMade k conn (image_at first);
+  was_unopened = IsUnopened k conn (image_at first);
+  was_made = (files : _) × WasMade k conn (image_at first) files;
+  was_unmade = IsUnmadeIn k conn (image_at first);
   stop_leaves = λ desk book commands replies. StopLeaves book commands replies (file_state (conn desk.keeper));
 }

@@ -1,38 +1,51 @@
 //! The lock of a book's file.
-ghost use Rattle.std.specs.Prelude.{◌≡◌, ◌⊎◌, IfOk, IfErr};
-ghost use Rattle.rtgs_book_file.specs.Files.{fault_of_lock};
+ghost use Rattle.std.specs.Prelude.{◌≡◌, string_bytes, IfOk, IfErr};
+ghost use Rattle.sqlite.specs.WalFiles.{image_at};
+ghost use Rattle.rtgs_book_file.specs.Files.{lock_name};
+ghost use Rattle.rtgs_book_file.specs.Refused.{IsNotLocked, IsUnopened, IsUnmadeIn};
+ghost use Rattle.rtgs_book_file.specs.Causes.{IsOfItsLock};
 
-use crate::file_fault::FileFault;
-use rtgs_book::Fault;
-use std::fs::{File, OpenOptions, TryLockError};
+use crate::cause::Cause;
+use crate::locked::Locked;
+use crate::not_locked::NotLocked;
+use crate::store::FileKeeper;
+use crate::unopened::Unopened;
+use rtgs_keeper::Keeper;
+use sqlite::Start;
+use std::alloc::{AllocError, Global};
+use std::fs::{File, OpenOptions};
 use std::io;
-use std::io::ErrorKind;
 
-/// The lock of a book's file. It stands beside the file and is held until the value is dropped, and only `take` makes
-/// one: who has the value holds the lock.
+/// The lock of a book's file, which held what `S` says. It stands beside the file and is held until the value is
+/// dropped, and only `take` makes one: who has the value holds the lock. It keeps the only `Start` of its run, so that
+/// at most one desk is opened by it.
 #[derive(Drop)]
-pub struct BookLock<'a> {
+pub struct BookLock<'a, S: Start> {
     path: &'a str,
-    file: File,
+    locked: Locked,
+    start: S,
 }
 
-impl<'a> BookLock<'a> {
+impl<'a, S: Start> BookLock<'a, S> {
     /// Takes the lock of the book's file at this path. `InUse` where another run holds it, or where it cannot be made,
     /// and a fault of the book for lack of memory alone.
-    pub fn take(rt: &HostRuntime, path: &'a str) -> Result<BookLock<'a>, FileFault>
-        ensures refused { IfErr result (λ fault.
-            (fault ≡ FileFault.InUse) ⊎ (fault ≡ FileFault.Book Fault.OutOfMemory)) }
+    pub fn take(rt: &HostRuntime, path: &'a str, start: S) -> Result<BookLock<'a, S>, Unopened<S>>
+        ensures refused { IfErr result (λ unopened. IsNotLocked unopened.fault) }
+        ensures cause { IfErr result (λ unopened. IsOfItsLock unopened.cause) }
+        ensures unopened { IfErr result (λ unopened. IsUnopened ⟦<FileKeeper<S> as Keeper>⟧ (λ keeper. keeper.conn)
+            (image_at S.Start) unopened.fault) }
+        ensures unmade { IfErr result (λ unopened. IsUnmadeIn ⟦<FileKeeper<S> as Keeper>⟧ (λ keeper. keeper.conn)
+            (image_at S.Start) unopened.fault) }
         ensures at { IfOk result (λ lock. lock.path.now ≡ path.now) }
+        ensures named { IfOk result (λ lock. string_bytes lock.locked.name ≡ lock_name path.now) }
     {
-        let beside = format!(in rt.alloc(); "{path}.lock")?;
-        let file = match open_lock(rt, beside.as_str()) {
-            Ok(file) => file,
-            Err(error) => return Err(fault_of(error.kind())),
-        };
-        match file.try_lock() {
-            Ok(()) => Ok(BookLock { path, file }),
-            Err(TryLockError::WouldBlock) => Err(FileFault::InUse),
-            Err(TryLockError::Error(error)) => Err(fault_of(error.kind())),
+        match locked(rt, path) {
+            Ok(locked) => Ok(BookLock {
+                path,
+                locked,
+                start,
+            }),
+            Err(refused) => Err(Unopened::of(Cause::NotLocked(refused))),
         }
     }
 
@@ -43,30 +56,43 @@ impl<'a> BookLock<'a> {
         self.path
     }
 
-    /// The lock's own file, which holds the lock until it is dropped.
-    pub(crate) fn into_file(self) -> File
-        ensures { result ≡ self.entry.file }
+    /// Where the book's file is, the lock's own file, and what the book's file held.
+    pub(crate) fn into_parts(self) -> (&'a str, Locked, S)
+        ensures path { result.0.now ≡ self.entry.path.now }
+        ensures locked { result.1 ≡ self.entry.locked }
     {
-        let BookLock { path: _, file } = self;
-        file
+        let BookLock {
+            path,
+            locked,
+            start,
+        } = self;
+        (path, locked, start)
     }
 }
 
+// The lock's own file, locked.
+fn locked(rt: &HostRuntime, path: &str) -> Result<Locked, NotLocked>
+    ensures named { IfOk result (λ locked. string_bytes locked.name ≡ lock_name path.now) }
+    ensures refused { IfErr result (λ refused. IsNotLocked refused.fault) }
+{
+    let name = lock_name(rt.alloc(), path)?;
+    let file = open_lock(rt, name.as_str())?;
+    let answer = file.try_lock();
+    Locked::taken(name, file, answer)
+}
+
+// The name of the lock's own file, which stands beside the book's.
+fn lock_name(alloc: Global, path: &str) -> Result<String, AllocError>
+    ensures { IfOk result (λ name. string_bytes name ≡ lock_name path.now) }
+{
+    format!(in alloc; "{path}.lock")
+}
+
 // The lock's own file, which is made where it is missing.
-fn open_lock(rt: &HostRuntime, beside: &str) -> io::Result<File> {
+fn open_lock(rt: &HostRuntime, name: &str) -> io::Result<File> {
     OpenOptions::new()
         .read(true)
         .write(true)
         .create(true)
-        .open(rt, beside)
-}
-
-// Why a lock cannot be taken.
-fn fault_of(kind: ErrorKind) -> FileFault
-    ensures { result ≡ fault_of_lock kind }
-{
-    match kind {
-        ErrorKind::OutOfMemory => FileFault::Book(Fault::OutOfMemory),
-        _ => FileFault::InUse,
-    }
+        .open(rt, name)
 }

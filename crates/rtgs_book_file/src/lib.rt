@@ -2,13 +2,27 @@
 #![tactic(auto)]
 
 mod book_lock;
+mod cause;
+mod closed_book;
 mod file_fault;
+mod finished_book;
+mod held_lock;
+mod locked;
 mod looked_at;
+mod looks;
+mod not_locked;
+mod not_reached;
+mod not_vacant;
 mod open_book;
 mod store;
+mod unopened;
+mod unread;
 
 pub use crate::book_lock::BookLock;
+pub use crate::closed_book::ClosedBook;
 pub use crate::file_fault::FileFault;
+pub use crate::finished_book::FinishedBook;
 pub use crate::open_book::OpenBook;
 pub use crate::store::FileKeeper;
+pub use crate::unopened::Unopened;
 pub use sqlite::{Start, Unknown};

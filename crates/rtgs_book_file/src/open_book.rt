@@ -1,66 +1,76 @@
 //! The book in a file.
-ghost use Rattle.std.specs.Prelude.{◌≡◌, ◌⊎◌, false, IfOk, IfErr, IsTrue};
+ghost use Rattle.std.specs.Prelude.{◌≡◌, ◌⊎◌, IfOk, IfErr};
 ghost use Rattle.std.specs.Borrow.{sem};
 ghost use Rattle.sqlite.specs.Files.{file_state};
-ghost use Rattle.sqlite.specs.Held.{state};
 ghost use Rattle.sqlite.specs.State.{HasCleanDisk};
 ghost use Rattle.sqlite.specs.WalFiles.{image_at};
 ghost use Rattle.rtgs_book.specs.declared.Fault.{Fault as FaultSpec};
-ghost use Rattle.rtgs_stored_desk.specs.Stored.{IsOver};
+ghost use Rattle.rtgs_book_file.specs.declared.file_fault.FileFault.TheVariants.{Book};
 ghost use Rattle.rtgs_book_file.specs.Lending.{LendsDesk};
 ghost use Rattle.rtgs_book_file.specs.Opened.{WasOpened, WasMade};
+ghost use Rattle.rtgs_book_file.specs.Refused.{HasNoBook, IsNotMade, IsUnopened, IsUnmadeIn};
+ghost use Rattle.rtgs_book_file.specs.Causes.{fault_of_cause, ShowsNoBook, BarsBook};
 
 use crate::book_lock::BookLock;
-use crate::file_fault::FileFault;
+use crate::cause::Cause;
+use crate::closed_book::ClosedBook;
+use crate::finished_book::FinishedBook;
+use crate::held_lock::HeldLock;
 use crate::looked_at::LookedAt;
-use crate::store::{FileKeeper, close, connect};
-use rtgs_book::Fault;
+use crate::store::{FileKeeper, connect};
+use crate::unopened::Unopened;
 use rtgs_desk::Desk;
 use rtgs_keeper::Keeper;
-use rtgs_tables::SqlKeeper;
-use sqlite::{Alter, Connection, Start};
-use std::alloc::Global;
-use std::fs::File;
+use sqlite::Start;
 
 /// A desk over the book in a file, and the lock of the file. Only a lock makes one, and as it cannot be dropped, it
-/// ends by `close` alone: so the lock is taken before the file is touched, and let go after the file was closed.
+/// ends by `finish` alone.
 pub struct OpenBook<K: Keeper> {
     desk: Desk<K>,
-    lock: File,
+    lock: HeldLock,
 }
 
-impl BookLock<'_> {
+impl<S: Start> BookLock<'_, S> {
     /// Opens the book in the file, which held what `S` says. A fault where there is no book, or none that is sound;
-    /// the lock is then let go.
-    pub fn open<S: Start>(
-        self,
-        rt: &HostRuntime,
-        start: S,
-    ) -> Result<OpenBook<FileKeeper<S>>, FileFault>
+    /// the lock is then let go with the refusal.
+    pub fn open(self, rt: &HostRuntime) -> Result<OpenBook<FileKeeper<S>>, Unopened<S>>
         ensures opened { IfOk result (λ book. HasCleanDisk (file_state book.desk.keeper.conn)
             → WasOpened ⟦<FileKeeper<S> as Keeper>⟧ (image_at S.Start) book.desk book.desk.keeper.conn) }
-        ensures held { IfOk result (λ book. book.lock ≡ self.entry.file) }
-        ensures refused { IfErr result (λ fault. (why : FaultSpec) × (fault ≡ FileFault.Book why)) }
+        ensures held { IfOk result (λ book. book.lock.locked ≡ self.entry.locked) }
+        ensures refused { IfErr result (λ unopened. (fault : FaultSpec) × (unopened.fault ≡ Book fault)
+            × HasNoBook ⟦<FileKeeper<S> as Keeper>⟧ (λ keeper. keeper.conn) (image_at S.Start) fault) }
+        ensures cause { IfErr result (λ unopened. ShowsNoBook ⟦<FileKeeper<S> as Keeper>⟧ (λ keeper. keeper.conn)
+            (image_at S.Start) (λ closed. closed.files) unopened.cause) }
+        ensures told { IfErr result (λ unopened. unopened.fault ≡ fault_of_cause unopened.cause) }
+        ensures unopened { IfErr result (λ unopened.
+            IsUnopened ⟦<FileKeeper<S> as Keeper>⟧ (λ keeper. keeper.conn) (image_at S.Start) unopened.fault) }
     {
-        let file = self.with_database(rt)?;
-        let desk = open_desk(rt, &file, start)?;
-        Ok(OpenBook {
-            desk,
-            lock: file.into_file(),
-        })
+        match open_book(rt, self) {
+            Ok(book) => Ok(book),
+            Err(cause) => Err(Unopened::of(cause)),
+        }
     }
 
     /// Makes the tables of a new book in the file, closes it, and lets the lock go. `FileExists` where the file holds
     /// anything, and a fault of the book where the file cannot be looked at, or the store fails.
-    pub fn make<S: Start>(self, rt: &HostRuntime, start: S) -> Result<(), FileFault>
-        ensures made { IfOk result (λ _.
-            WasMade ⟦<FileKeeper<S> as Keeper>⟧ (λ keeper. keeper.conn) (image_at S.Start)) }
-        ensures refused { IfErr result (λ fault.
-            (fault ≡ FileFault.FileExists) ⊎ ((why : FaultSpec) × (fault ≡ FileFault.Book why))) }
+    pub fn make(self, rt: &HostRuntime) -> Result<(), Unopened<S>>
+        ensures made { IfOk result (λ _. (files : _)
+            × WasMade ⟦<FileKeeper<S> as Keeper>⟧ (λ keeper. keeper.conn) (image_at S.Start) files) }
+        ensures refused { IfErr result (λ unopened.
+            IsNotMade ⟦<FileKeeper<S> as Keeper>⟧ (λ keeper. keeper.conn) (image_at S.Start) unopened.fault) }
+        ensures cause { IfErr result (λ unopened. BarsBook ⟦<FileKeeper<S> as Keeper>⟧ (λ keeper. keeper.conn)
+            (image_at S.Start) (λ closed. closed.files) unopened.cause) }
+        ensures told { IfErr result (λ unopened. unopened.fault ≡ fault_of_cause unopened.cause) }
+        ensures unmade { IfErr result (λ unopened.
+            IsUnmadeIn ⟦<FileKeeper<S> as Keeper>⟧ (λ keeper. keeper.conn) (image_at S.Start) unopened.fault) }
     {
-        let file = self.with_nothing(rt)?;
-        make_tables(rt, file, start)?;
-        Ok(())
+        match make_book(rt, self) {
+            Ok(closed) => {
+                drop(closed);
+                Ok(())
+            }
+            Err(cause) => Err(Unopened::of(cause)),
+        }
     }
 }
 
@@ -72,58 +82,80 @@ impl<K: Keeper> OpenBook<K> {
     {
         &mut self.desk
     }
-}
 
-impl<S: Start> OpenBook<FileKeeper<S>> {
-    /// Copies the log into the file, and then lets the lock go. What was committed stands in the log where the first
-    /// fails.
-    pub fn close(self) {
+    /// The book, when nothing more is done with it.
+    pub fn finish(self) -> FinishedBook<K>
+        ensures desk { result.desk ≡ self.desk }
+        ensures held { result.lock ≡ self.lock }
+    {
         let OpenBook { desk, lock } = self;
-        close(desk.into_keeper().into_connection(), lock);
+        FinishedBook::of(desk, lock)
     }
 }
 
-// The desk over the book in a file.
+// Opens the book in a file whose lock was taken.
+fn open_book<S: Start>(
+    rt: &HostRuntime,
+    lock: BookLock<'_, S>,
+) -> Result<OpenBook<FileKeeper<S>>, Cause<ClosedBook<S>>>
+    ensures opened { IfOk result (λ book. HasCleanDisk (file_state book.desk.keeper.conn)
+        → WasOpened ⟦<FileKeeper<S> as Keeper>⟧ (image_at S.Start) book.desk book.desk.keeper.conn) }
+    ensures held { IfOk result (λ book. book.lock.locked ≡ lock.entry.locked) }
+    ensures refused { IfErr result (ShowsNoBook ⟦<FileKeeper<S> as Keeper>⟧ (λ keeper. keeper.conn)
+        (image_at S.Start) (λ closed. closed.files)) }
+{
+    let file = lock.with_database(rt)?;
+    open_desk(rt, file)
+}
+
+// The desk over the book in a file that was looked at.
 fn open_desk<S: Start>(
     rt: &HostRuntime,
-    file: &LookedAt<'_>,
-    start: S,
-) -> Result<Desk<FileKeeper<S>>, Fault>
-    ensures { IfOk result (λ desk. HasCleanDisk (file_state desk.keeper.conn)
-        → WasOpened ⟦<FileKeeper<S> as Keeper>⟧ (image_at S.Start) desk desk.keeper.conn) }
+    file: LookedAt<'_, S>,
+) -> Result<OpenBook<FileKeeper<S>>, Cause<ClosedBook<S>>>
+    ensures opened { IfOk result (λ book. HasCleanDisk (file_state book.desk.keeper.conn)
+        → WasOpened ⟦<FileKeeper<S> as Keeper>⟧ (image_at S.Start) book.desk book.desk.keeper.conn) }
+    ensures held { IfOk result (λ book. book.lock.locked ≡ file.entry.lock.locked) }
+    ensures refused { IfErr result (ShowsNoBook ⟦<FileKeeper<S> as Keeper>⟧ (λ keeper. keeper.conn)
+        (image_at S.Start) (λ closed. closed.files)) }
 {
-    match connect(rt, file, start) {
-        Ok(conn) => desk_over(rt.alloc(), conn),
-        Err(fault) => Err(fault),
-    }
-}
-
-// The desk over the tables of a store.
-fn desk_over<S: Alter + Drop>(
-    alloc: Global,
-    conn: Connection<S>,
-) -> Result<Desk<SqlKeeper<S>>, Fault>
-    requires { conn.in_transaction ≡ false }
-    ensures { IfOk result (λ desk. HasCleanDisk (state S.Store desk.keeper.conn)
-        → HasCleanDisk (state S.Store conn) × (IsTrue (state S.Store conn).is_open
-        → IsOver ⟦<SqlKeeper<S> as Keeper>⟧ (state S.Store conn) desk (state S.Store desk.keeper.conn))) }
-{
-    match rtgs_stored_desk::open(alloc, conn) {
-        Ok(desk) => Ok(desk),
-        Err((fault, _)) => Err(fault),
-    }
-}
-
-// Makes the tables of a new book in a file that has none, closes it, and lets its lock go.
-fn make_tables<S: Start>(rt: &HostRuntime, file: LookedAt<'_>, start: S) -> Result<(), Fault>
-    ensures { IfOk result (λ _.
-        WasMade ⟦<FileKeeper<S> as Keeper>⟧ (λ keeper. keeper.conn) (image_at S.Start)) }
-{
-    match rtgs_stored_desk::make(connect(rt, &file, start)?) {
-        Ok(made) => {
-            close(made, file.into_file());
-            Ok(())
+    let (conn, lock) = connect(rt, file)?;
+    match rtgs_stored_desk::open(rt.alloc(), conn) {
+        Ok(desk) => Ok(OpenBook { desk, lock }),
+        Err((fault, keeper)) => {
+            let closed = ClosedBook::given_up(keeper.into_connection(), lock);
+            Err(Cause::GivenUp(fault, closed))
         }
-        Err((fault, _)) => Err(fault),
+    }
+}
+
+// Makes the tables of a new book in a file whose lock was taken, and closes it.
+fn make_book<S: Start>(
+    rt: &HostRuntime,
+    lock: BookLock<'_, S>,
+) -> Result<ClosedBook<S>, Cause<ClosedBook<S>>>
+    ensures made { IfOk result (λ closed.
+        WasMade ⟦<FileKeeper<S> as Keeper>⟧ (λ keeper. keeper.conn) (image_at S.Start) closed.files) }
+    ensures refused { IfErr result (BarsBook ⟦<FileKeeper<S> as Keeper>⟧ (λ keeper. keeper.conn)
+        (image_at S.Start) (λ closed. closed.files)) }
+{
+    let file = lock.with_nothing(rt)?;
+    make_tables(rt, file)
+}
+
+// Makes the tables of a new book in a file that has none, and closes it.
+fn make_tables<S: Start>(
+    rt: &HostRuntime,
+    file: LookedAt<'_, S>,
+) -> Result<ClosedBook<S>, Cause<ClosedBook<S>>>
+    ensures made { IfOk result (λ closed.
+        WasMade ⟦<FileKeeper<S> as Keeper>⟧ (λ keeper. keeper.conn) (image_at S.Start) closed.files) }
+    ensures refused { IfErr result (BarsBook ⟦<FileKeeper<S> as Keeper>⟧ (λ keeper. keeper.conn)
+        (image_at S.Start) (λ closed. closed.files)) }
+{
+    let (conn, lock) = connect(rt, file)?;
+    match rtgs_stored_desk::make(conn) {
+        Ok(made) => Ok(ClosedBook::copied(made, lock)),
+        Err((fault, left)) => Err(Cause::GivenUp(fault, ClosedBook::given_up(left, lock))),
     }
 }

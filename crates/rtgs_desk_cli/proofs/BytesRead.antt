@@ -48,41 +48,39 @@ fails_alike V g (reading.Statement code date) desk why fails = fails
 fails_alike V g (reading.Report date) desk why fails = fails
 
 module _ {K : Type 0} (file : OverFile K) {V : Type 0} (bytes_of : V → List ℕ) (asked : Reading)
-    (read : Result V Refusal) (did : IsRead file bytes_of asked read) where
-  pub bytes_read : (text : V) → read ≡ Ok text → IsRead file (λ bytes. bytes) asked (Ok (bytes_of text))
+    (read : Result V Refusal) (left : Seen K) (did : IsRead file bytes_of asked read left) where
+  pub bytes_read : (text : V) → read ≡ Ok text → IsRead file (λ bytes. bytes) asked (Ok (bytes_of text)) left
   bytes_read text is = record {
     opened = did.opened;
-    closed = did.closed;
     over = did.over;
     did = λ honest book held.
         let it = did.did honest book held in (
           it.0,
           by (text_wanted book asked) (subst (λ read. Tells bytes_of (text_wanted book asked) read
-              ⊎ Fails file.keeper asked did.closed read) is it.1),
+              ⊎ Fails file.keeper asked left read) is it.1),
         );
   }
     where
       by : (wanted : Result (List ℕ) Refusal) → Tells bytes_of wanted (Ok text)
-          ⊎ Fails file.keeper asked did.closed (Ok text) → Tells (λ bytes. bytes) wanted (Ok (bytes_of text))
-          ⊎ Fails file.keeper asked did.closed (Ok (bytes_of text))
+          ⊎ Fails file.keeper asked left (Ok text) → Tells (λ bytes. bytes) wanted (Ok (bytes_of text))
+          ⊎ Fails file.keeper asked left (Ok (bytes_of text))
       by wanted (inl told) = inl (tells_bytes bytes_of wanted text told)
-      by wanted (inr fails) = absurd (fails_unread file.keeper asked did.closed text fails)
+      by wanted (inr fails) = absurd (fails_unread file.keeper asked left text fails)
 
-  pub refusal_read : (why : Refusal) → read ≡ Err why → IsRead file (λ bytes. bytes) asked (Err why)
+  pub refusal_read : (why : Refusal) → read ≡ Err why → IsRead file (λ bytes. bytes) asked (Err why) left
   refusal_read why is = record {
     opened = did.opened;
-    closed = did.closed;
     over = did.over;
     did = λ honest book held.
         let it = did.did honest book held in (
           it.0,
           by (text_wanted book asked) (subst (λ read. Tells bytes_of (text_wanted book asked) read
-              ⊎ Fails file.keeper asked did.closed read) is it.1),
+              ⊎ Fails file.keeper asked left read) is it.1),
         );
   }
     where
       by : (wanted : Result (List ℕ) Refusal) → Tells bytes_of wanted (Err why)
-          ⊎ Fails {V = V} file.keeper asked did.closed (Err why) → Tells {Y = List ℕ} (λ bytes. bytes) wanted (Err why)
-          ⊎ Fails {V = List ℕ} file.keeper asked did.closed (Err why)
+          ⊎ Fails {V = V} file.keeper asked left (Err why) → Tells {Y = List ℕ} (λ bytes. bytes) wanted (Err why)
+          ⊎ Fails {V = List ℕ} file.keeper asked left (Err why)
       by wanted (inl told) = inl (tells_refusal bytes_of wanted why told)
-      by wanted (inr fails) = inr (fails_alike V file.keeper asked did.closed why fails)
+      by wanted (inr fails) = inr (fails_alike V file.keeper asked left why fails)

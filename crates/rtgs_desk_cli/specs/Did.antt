@@ -1,5 +1,5 @@
 -- What a run did with the file of a book.
-use Rattle.std.specs.Prelude.{◌≡◌, ◌⊎◌, [], ◌∷◌, ℕ, Bool, List, length, take, Option, Result}
+use Rattle.std.specs.Prelude.{◌⊎◌, [], ◌∷◌, ℕ, List, length, take, Option, Result}
 use Rattle.rtgs_book.specs.declared.book.Book.{Book}
 use Rattle.rtgs_book.specs.declared.command.Command.{Command}
 use Rattle.rtgs_book.specs.declared.reading.Reading.{Reading}
@@ -33,31 +33,33 @@ ServedOver file operator book desk = (commands : List Command) × (replies : Lis
     × file.stop_leaves desk book commands replies
 
 module _ {K : Type 0} (file : OverFile K) where
-  -- A desk was opened over what the files held, and closed again. Where the disk gave back what was written to it, this
-  -- is so of each book that the desk held, and of the desk as it was closed.
-  pub record IsDone (Does : Book → Seen K → Type 0) : Type 0 where
+  -- A desk was opened over what the files held, and this is the desk as it was left. Where the disk gave back what was
+  -- written to it, this is so of each book that the desk held.
+  pub record IsDone (left : Seen K) (Does : Book → Type 0) : Type 0 where
     pub opened : Seen K
-    pub closed : Seen K
-    pub over : file.keeper.is_honest closed.keeper → file.was_opened opened
-    pub did : file.keeper.is_honest closed.keeper → (book : Book) → Holds file.keeper opened book → Does book closed
+    pub over : file.keeper.is_honest left.keeper → file.was_opened opened
+    pub did : file.keeper.is_honest left.keeper → (book : Book) → Holds file.keeper opened book → Does book
+
+  -- nothing was done with the desk that was opened over what the files held: it was left as it was opened
+  pub record IsIdle (left : Seen K) : Type 0 where
+    pub over : file.keeper.is_honest left.keeper → file.was_opened left
 
   -- the desk gave the command this reply, and a stop leaves the book before it or the one that it leads to
-  abbrev pub IsSubmitted : Command → Reply → Type 0
-  IsSubmitted command reply = IsDone (λ book desk.
-      Acts file.keeper book command reply desk × file.stop_leaves desk book (command ∷ []) (reply ∷ []))
+  abbrev pub IsSubmitted : Command → Reply → Seen K → Type 0
+  IsSubmitted command reply left = IsDone left (λ book.
+      Acts file.keeper book command reply left × file.stop_leaves left book (command ∷ []) (reply ∷ []))
 
   -- the rows of a batch were submitted, with these replies, and it stopped so, if it did
-  abbrev pub IsSent : List ℕ → List OrderRow → List RowReply → Option Refusal → Type 0
-  IsSent sender rows replies stopped = IsDone (λ book desk. SentOver file book sender rows replies stopped desk)
+  abbrev pub IsSent : List ℕ → List OrderRow → List RowReply → Option Refusal → Seen K → Type 0
+  IsSent sender rows replies stopped left = IsDone left (λ book. SentOver file book sender rows replies stopped left)
 
   -- The text that is wanted of the book was read, or what refuses it; or the store failed. Nothing was done to the
   -- book. `text_of` gives the bytes of what was read.
-  abbrev pub IsRead : {V : Type 0} → (V → List ℕ) → Reading → Result V Refusal → Type 0
-  IsRead text_of reading read = IsDone (λ book desk. Stands file.keeper book desk
-      × (Tells text_of (text_wanted book reading) read ⊎ Fails file.keeper reading desk read))
+  abbrev pub IsRead : {V : Type 0} → (V → List ℕ) → Reading → Result V Refusal → Seen K → Type 0
+  IsRead text_of reading read left = IsDone left (λ book. Stands file.keeper book left
+      × (Tells text_of (text_wanted book reading) read ⊎ Fails file.keeper reading left read))
 
   -- Requests were served under the operator's digest: the commands that they asked for, and no others, are one session,
-  -- and a stop leaves a book that it may find. The desk then had failed, or it had not.
-  abbrev pub IsServed : List ℕ → Bool → Type 0
-  IsServed operator failed = IsDone (λ book desk. ServedOver file operator book desk
-      × (file.keeper.has_failed desk.keeper ≡ failed))
+  -- and a stop leaves a book that it may find.
+  abbrev pub IsServed : List ℕ → Seen K → Type 0
+  IsServed operator left = IsDone left (λ book. ServedOver file operator book left)

@@ -5,10 +5,10 @@ use Rattle.clap.specs.declared.error.kind.ErrorKind.{ErrorKind}
 use Rattle.clap.specs.declared.error.kind.ErrorKind.TheVariants as kind
 use Rattle.rtgs_money.specs.declared.lexical.Lexical.{Lexical}
 use Rattle.rtgs_book.specs.declared.answer.Answer.{Answer}
-use Rattle.rtgs_book.specs.declared.fault.Fault.{Fault}
 use Rattle.rtgs_book.specs.declared.refusal.Refusal.{Refusal}
 use Rattle.rtgs_book.specs.declared.refusal.Refusal.TheVariants.{OutOfMemory, Failed}
 use Rattle.rtgs_desk.specs.Replies.{answers_its_kind}
+use Rattle.rtgs_desk.specs.Seen.{Seen}
 use Rattle.rtgs_exchange.specs.Batches.{StopsAfter}
 use Rattle.rtgs_exchange.specs.OrderFile.{IsOrderFile, IsFaultOf}
 use Rattle.rtgs_exchange.specs.Results.{results_text}
@@ -28,22 +28,16 @@ use Rattle.rtgs_desk_lines.specs.declared.ended.Ended.{Ended}
 use Rattle.rtgs_desk_lines.specs.declared.ended.Ended.TheVariants as ended
 use Rattle.rtgs_desk_lines.specs.declared.printed.Printed.{Printed}
 use Rattle.rtgs_desk_lines.specs.declared.failure.Failure.{Failure}
-use Rattle.rtgs_desk_lines.specs.declared.failure.Failure.TheVariants.{Form, Refused, Opening, InUse, FileExists}
+use Rattle.rtgs_desk_lines.specs.declared.failure.Failure.TheVariants.{Form, Refused}
 use Rattle.rtgs_desk_lines.specs.declared.failure.Failure.TheVariants.{Orders, OrdersTooLong, NoOrders, NoListen}
 use Rattle.rtgs_book_file.specs.OverFile.{OverFile}
-use Rattle.rtgs_desk_cli.specs.Did.{IsSubmitted, IsSent, IsRead, IsServed}
+use Rattle.rtgs_book_file.specs.declared.FileFault.{FileFault}
+use Rattle.rtgs_desk_cli.specs.Causes.{failure_of_file}
+use Rattle.rtgs_desk_cli.specs.Did.{IsSubmitted, IsSent, IsRead, IsServed, IsIdle}
 
 -- a line with its end
 abbrev pub ended_line : List ℕ → List ℕ
 ended_line line = line ++ 10 ∷ []
-
--- another run has the lock, or it cannot be made; or the book could not be read
-abbrev pub IsNotOpened : Failure → Type 0
-IsNotOpened why = (why ≡ InUse) ⊎ ((fault : Fault) × (why ≡ Opening fault))
-
--- the same, or there is a file that holds something
-abbrev pub IsNotMade : Failure → Type 0
-IsNotMade why = (why ≡ FileExists) ⊎ IsNotOpened why
 
 -- The file of orders could not be read, or is too long; its bytes are no order file; or memory is wanting.
 abbrev pub IsNotSent : Failure → Type 0
@@ -84,33 +78,56 @@ IsExplained what contents told (ended.Misused sent) out out' err err' =
     × (out' ≡ out)
 
 module _ {K : Type 0} (book_file : OverFile K) where
+  -- no desk was opened over the file, and this tells why
+  abbrev pub IsNotOpened : Failure → Type 0
+  IsNotOpened why = (fault : FileFault) × book_file.was_unopened fault × (why ≡ failure_of_file fault)
+
+  -- no book was made in the file, and this tells why
+  abbrev pub IsNotMade : Failure → Type 0
+  IsNotMade why = (fault : FileFault) × book_file.was_unmade fault × (why ≡ failure_of_file fault)
+
+  -- the rows of an order file were submitted, with these replies, and the batch stopped so, if it did
+  abbrev pub IsImported : List ℕ → List OrderRow → List RowReply → Option Refusal → Type 0
+  IsImported sender rows replies stopped =
+      (left : Seen K) × IsSent book_file sender rows replies stopped left
+      × ((bytes : List ℕ) × IsOrderFile bytes rows) × StopsAfter (length replies) (length rows) stopped
+
   -- What a run with this request has to print, and where its batch stopped: the line of what it did, the results of its
   -- batch, the text that it read, or the lines of its server.
   abbrev pub HasToPrint : Request → List ℕ → Option Refusal → Type 0
   HasToPrint (Make file) text stopped =
       book_file.was_made × (text ≡ ended_line (line_of Made)) × (stopped ≡ None)
   HasToPrint (Submit file command) text stopped =
-      (answer : Answer) × IsSubmitted book_file command (Ok answer) × (answers_its_kind command answer ≡ true)
-      × (text ≡ ended_line (line_of (Answered answer))) × (stopped ≡ None)
+      (answer : Answer) × (left : Seen K) × IsSubmitted book_file command (Ok answer) left
+      × (answers_its_kind command answer ≡ true) × (text ≡ ended_line (line_of (Answered answer))) × (stopped ≡ None)
   HasToPrint (Import file sender orders) text stopped =
-      (rows : List OrderRow) × (replies : List RowReply) × IsSent book_file sender rows replies stopped
-      × ((bytes : List ℕ) × IsOrderFile bytes rows) × StopsAfter (length replies) (length rows) stopped
+      (rows : List OrderRow) × (replies : List RowReply) × IsImported sender rows replies stopped
       × (text ≡ results_text rows replies stopped)
   HasToPrint (Read file reading) text stopped =
-      IsRead book_file (λ read. read) reading (Ok text) × (stopped ≡ None)
+      (left : Seen K) × IsRead book_file (λ read. read) reading (Ok text) left × (stopped ≡ None)
   HasToPrint (Serve file port count operator) text stopped =
-      (failed : Bool) × IsServed book_file operator failed × (text ≡ server_text port count failed)
-      × (stopped ≡ stop_of_desk failed)
+      (left : Seen K) × IsServed book_file operator left
+      × (text ≡ server_text port count (book_file.keeper.has_failed left.keeper))
+      × (stopped ≡ stop_of_desk (book_file.keeper.has_failed left.keeper))
+
+  -- the rows of an order file were submitted, and memory was wanting for their results
+  abbrev pub IsUntold : List ℕ → Failure → Type 0
+  IsUntold sender why =
+      (why ≡ Refused OutOfMemory) × (rows : List OrderRow) × (replies : List RowReply) × (stopped : Option Refusal)
+      × IsImported sender rows replies stopped
 
   -- why a run with this request is refused
   abbrev pub IsRefused : Request → Failure → Type 0
   IsRefused (Make file) why = IsNotMade why
   IsRefused (Submit file command) why =
-      IsNotOpened why ⊎ ((refusal : Refusal) × IsSubmitted book_file command (Err refusal) × (why ≡ Refused refusal))
-  IsRefused (Import file sender orders) why = IsNotOpened why ⊎ IsNotSent why
-  IsRefused (Read file reading) why = IsNotOpened why ⊎ ((refusal : Refusal)
-      × IsRead book_file (λ read. read) reading (Err refusal) × (why ≡ Refused refusal))
-  IsRefused (Serve file port count operator) why = IsNotOpened why ⊎ IsNotListening why
+      IsNotOpened why ⊎ ((refusal : Refusal) × (left : Seen K) × IsSubmitted book_file command (Err refusal) left
+      × (why ≡ Refused refusal))
+  IsRefused (Import file sender orders) why =
+      IsNotOpened why ⊎ ((IsNotSent why × (left : Seen K) × IsIdle book_file left) ⊎ IsUntold sender why)
+  IsRefused (Read file reading) why = IsNotOpened why ⊎ ((refusal : Refusal) × (left : Seen K)
+      × IsRead book_file (λ read. read) reading (Err refusal) left × (why ≡ Refused refusal))
+  IsRefused (Serve file port count operator) why =
+      IsNotOpened why ⊎ (IsNotListening why × (left : Seen K) × IsIdle book_file left)
 
   -- the run printed what it had to, as far as standard output took it
   abbrev pub PrintsFor : Request → Printed → Option (List ℕ) → Option (List ℕ) → Type 0

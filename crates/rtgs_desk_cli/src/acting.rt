@@ -5,9 +5,9 @@ ghost use Rattle.rtgs_desk.specs.Replies.{answers_its_kind};
 ghost use Rattle.rtgs_desk_lines.specs.Lines.{line_of};
 ghost use Rattle.rtgs_desk_lines.specs.Texts.{Prints};
 ghost use Rattle.rtgs_desk_cli.specs.Did.{IsSubmitted};
-ghost use Rattle.rtgs_desk_cli.specs.Runs.{ended_line, IsNotOpened, IsRefused, PrintsFor};
+ghost use Rattle.rtgs_desk_cli.specs.Runs.{ended_line, IsRefused, PrintsFor};
 
-use crate::files::{make, open};
+use crate::files::{Finished, close_book, make, open};
 use crate::{serving, texts};
 use rtgs_book::{Answer, Command, Refusal};
 use rtgs_book_file::{FileKeeper, Start};
@@ -81,28 +81,29 @@ fn answer<S: Start, O: Write>(
         (Request.Submit file.entry command)) }
     ensures unchanged { OnErr result (out.new ≡ out.old) }
 {
-    match submit(rt, file, command, start)? {
+    match close_book(submit(rt, file, command, start))? {
         Ok(answer) => Ok(say(Done::Answered(answer), out)),
         Err(refusal) => Err(Failure::Refused(refusal)),
     }
 }
 
-// Opens the book in a file, gives its desk one command and closes it.
+// Opens the book in a file, and gives its desk one command.
 fn submit<S: Start>(
     rt: &HostRuntime,
     file: &str,
     command: Command,
     start: S,
-) -> Result<Result<Answer, Refusal>, Failure>
-    ensures replied { IfOk result (λ reply. IsSubmitted
-        (file_from ⟦<FileKeeper<S> as Keeper>⟧ S.Start (λ keeper. keeper.conn)) command reply) }
-    ensures of_its_kind { IfOk result (λ reply. IfOk reply (λ answer. answers_its_kind command answer ≡ true)) }
-    ensures refused { IfErr result IsNotOpened }
+) -> Finished<S, Result<Answer, Refusal>>
+    ensures replied { IfOk result (λ (book, reply). IsSubmitted
+        (file_from ⟦<FileKeeper<S> as Keeper>⟧ S.Start (λ keeper. keeper.conn)) command reply book.desk) }
+    ensures of_its_kind { IfOk result (λ (_, reply).
+        IfOk reply (λ answer. answers_its_kind command answer ≡ true)) }
+    ensures unopened { IfErr result (λ unopened.
+        (file_from ⟦<FileKeeper<S> as Keeper>⟧ S.Start (λ keeper. keeper.conn)).was_unopened unopened.fault) }
 {
     let mut book = open(rt, file, start)?;
     let reply = rtgs_stored_desk::submit(book.desk(), command);
-    book.close();
-    Ok(reply)
+    Ok((book.finish(), reply))
 }
 
 // Prints the line of what was done.

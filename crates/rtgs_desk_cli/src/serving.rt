@@ -6,10 +6,10 @@ ghost use Rattle.rtgs_desk.specs.Holding.{Holds};
 ghost use Rattle.rtgs_desk_lines.specs.Texts.{Prints};
 ghost use Rattle.rtgs_http_server.specs.Requests.{WorksForAll};
 ghost use Rattle.rtgs_desk_cli.specs.Causes.{failure_of_listening};
-ghost use Rattle.rtgs_desk_cli.specs.Did.{ServedOver};
+ghost use Rattle.rtgs_desk_cli.specs.Did.{IsIdle, IsServed, ServedOver};
 ghost use Rattle.rtgs_desk_cli.specs.Runs.{IsNotListening, IsRefused, PrintsFor, server_text, stop_of_desk};
 
-use crate::files::open;
+use crate::files::{Finished, close_book, open};
 use rtgs_book::Refusal;
 use rtgs_book_file::{FileKeeper, Start};
 use rtgs_desk::Desk;
@@ -41,10 +41,34 @@ pub fn serve<S: Start, O: Write>(
         (Request.Serve file.entry port count operator)) }
     ensures unchanged { OnErr result (out.new ≡ out.old) }
 {
+    close_book(serve_book(rt, file, port, count, &operator, start, out))?
+}
+
+// Opens the book in a file, and serves connections to its desk.
+fn serve_book<S: Start, O: Write>(
+    rt: &HostRuntime,
+    file: &str,
+    port: u16,
+    count: u32,
+    operator: &KeyDigest,
+    start: S,
+    out: &mut O,
+) -> Finished<S, Result<Printed, Failure>>
+    ensures served { IfOk result (λ (book, served). IfOk served (λ printed.
+        IsServed (file_from ⟦<FileKeeper<S> as Keeper>⟧ S.Start (λ keeper. keeper.conn)) operator.now book.desk
+        × Prints (server_text port count (⟦<FileKeeper<S> as Keeper>⟧.has_failed book.desk.keeper))
+        (stop_of_desk (⟦<FileKeeper<S> as Keeper>⟧.has_failed book.desk.keeper)) printed (O.contents out.old)
+        (O.contents out.new))) }
+    ensures refused { IfOk result (λ (book, served). IfErr served (λ why. IsNotListening why
+        × IsIdle (file_from ⟦<FileKeeper<S> as Keeper>⟧ S.Start (λ keeper. keeper.conn)) book.desk)) }
+    ensures unopened { IfErr result (λ unopened.
+        (file_from ⟦<FileKeeper<S> as Keeper>⟧ S.Start (λ keeper. keeper.conn)).was_unopened unopened.fault) }
+    ensures unchanged { OnErr result (out.new ≡ out.old) }
+    ensures silent { IfOk result (λ (_, served). OnErr served (out.new ≡ out.old)) }
+{
     let mut book = open(rt, file, start)?;
-    let printed = serve_desk(rt, book.desk(), port, count, &operator, out);
-    book.close();
-    printed
+    let served = serve_desk(rt, book.desk(), port, count, operator, out);
+    Ok((book.finish(), served))
 }
 
 // Serves connections to the desk over a file.
@@ -66,6 +90,7 @@ fn serve_desk<S: Start, O: Write>(
     ensures honest { ⟦<FileKeeper<S> as Keeper>⟧.is_honest desk.new.keeper
         → ⟦<FileKeeper<S> as Keeper>⟧.is_honest desk.old.keeper }
     ensures refused { IfErr result IsNotListening }
+    ensures idle { OnErr result (desk.new ≡ desk.old) }
     ensures unchanged { OnErr result (out.new ≡ out.old) }
 {
     let mut connections = listen(rt, port, count)?;

@@ -1,16 +1,16 @@
 //! Runs that print a text: the results of a file of orders, and what the desk tells.
-ghost use Rattle.std.specs.Prelude.{◌≡◌, ◌⊎◌, ℕ, List, None, length, IfOk, IfErr, OnErr};
+ghost use Rattle.std.specs.Prelude.{◌≡◌, ℕ, List, None, length, IfOk, IfErr, OnErr};
 ghost use Rattle.rtgs_book_file.specs.OverFile.{file_from};
 ghost use Rattle.rtgs_book.specs.declared.Book.{Book};
 ghost use Rattle.rtgs_desk.specs.Holding.{Holds};
 ghost use Rattle.rtgs_exchange.specs.Batches.{StopsAfter};
 ghost use Rattle.rtgs_exchange.specs.OrderFile.{IsOrderFile};
 ghost use Rattle.rtgs_desk_lines.specs.Texts.{Prints};
-ghost use Rattle.rtgs_desk_cli.specs.Did.{IsSent, IsRead, SentOver};
-ghost use Rattle.rtgs_desk_cli.specs.Runs.{IsNotOpened, IsNotSent, IsRefused, PrintsFor};
+ghost use Rattle.rtgs_desk_cli.specs.Did.{IsIdle, IsSent, IsRead, SentOver};
+ghost use Rattle.rtgs_desk_cli.specs.Runs.{IsNotSent, IsRefused, PrintsFor};
 
 use crate::batches::{print_results, submit_orders};
-use crate::files::open;
+use crate::files::{Finished, close_book, open};
 use crate::order_file::read_file;
 use rtgs_book::{Reading, Refusal};
 use rtgs_book_file::{FileKeeper, Start};
@@ -42,8 +42,10 @@ pub fn import<S: Start, O: Write>(
         (Request.Import file.entry sender orders.entry)) }
     ensures unchanged { OnErr result (out.new ≡ out.old) }
 {
-    let (rows, batch) = send(rt, file, sender, orders, start)?;
-    print_results(rt.alloc(), out, rows.as_slice(), &batch)
+    match close_book(send(rt, file, sender, orders, start))? {
+        Ok((rows, batch)) => print_results(rt.alloc(), out, rows.as_slice(), &batch),
+        Err(failure) => Err(failure),
+    }
 }
 
 /// Prints what the desk over a file tells of a reading.
@@ -61,32 +63,35 @@ pub fn show<S: Start, O: Write>(
         (Request.Read file.entry reading)) }
     ensures unchanged { OnErr result (out.new ≡ out.old) }
 {
-    match read(rt, file, reading, start)? {
+    match close_book(read(rt, file, reading, start))? {
         Ok(text) => Ok(print_text(out, text.as_slice())),
         Err(refusal) => Err(Failure::Refused(refusal)),
     }
 }
 
-// Opens the book in a file, submits a participant's file of orders to its desk, and closes it.
+// Opens the book in a file, and submits a participant's file of orders to its desk.
 fn send<S: Start>(
     rt: &HostRuntime,
     file: &str,
     sender: Code,
     orders: &str,
     start: S,
-) -> Result<(Vec<OrderRow>, BatchResult), Failure>
-    ensures rows { IfOk result (λ (rows, batch). (bytes : List ℕ) × IsOrderFile bytes rows.items) }
-    ensures stopped { IfOk result (λ (rows, batch).
-        StopsAfter (length batch.replies.items) (length rows.items) batch.stopped) }
-    ensures sent { IfOk result (λ (rows, batch). IsSent
+) -> Finished<S, Result<(Vec<OrderRow>, BatchResult), Failure>>
+    ensures rows { IfOk result (λ (_, sent).
+        IfOk sent (λ (rows, batch). (bytes : List ℕ) × IsOrderFile bytes rows.items)) }
+    ensures stopped { IfOk result (λ (_, sent). IfOk sent (λ (rows, batch).
+        StopsAfter (length batch.replies.items) (length rows.items) batch.stopped)) }
+    ensures sent { IfOk result (λ (book, sent). IfOk sent (λ (rows, batch). IsSent
         (file_from ⟦<FileKeeper<S> as Keeper>⟧ S.Start
-        (λ keeper. keeper.conn)) sender rows.items batch.replies.items batch.stopped) }
-    ensures refused { IfErr result (λ why. IsNotOpened why ⊎ IsNotSent why) }
+        (λ keeper. keeper.conn)) sender rows.items batch.replies.items batch.stopped book.desk)) }
+    ensures refused { IfOk result (λ (book, sent). IfErr sent (λ why. IsNotSent why
+        × IsIdle (file_from ⟦<FileKeeper<S> as Keeper>⟧ S.Start (λ keeper. keeper.conn)) book.desk)) }
+    ensures unopened { IfErr result (λ unopened.
+        (file_from ⟦<FileKeeper<S> as Keeper>⟧ S.Start (λ keeper. keeper.conn)).was_unopened unopened.fault) }
 {
     let mut book = open(rt, file, start)?;
     let sent = submit_file(rt, book.desk(), sender, orders);
-    book.close();
-    sent
+    Ok((book.finish(), sent))
 }
 
 // Submits the orders of a file.
@@ -104,6 +109,7 @@ fn submit_file<S: Start>(
         → SentOver (file_from ⟦<FileKeeper<S> as Keeper>⟧ S.Start (λ keeper. keeper.conn))
         book sender rows.items batch.replies.items batch.stopped desk.new) }
     ensures refused { IfErr result IsNotSent }
+    ensures unchanged { OnErr result (desk.new ≡ desk.old) }
     ensures honest { ⟦<FileKeeper<S> as Keeper>⟧.is_honest desk.new.keeper
         → ⟦<FileKeeper<S> as Keeper>⟧.is_honest desk.old.keeper }
 {
@@ -113,21 +119,22 @@ fn submit_file<S: Start>(
     sent
 }
 
-// Opens the book in a file, reads what its desk tells, and closes it.
+// Opens the book in a file, and reads what its desk tells.
 fn read<S: Start>(
     rt: &HostRuntime,
     file: &str,
     reading: Reading,
     start: S,
-) -> Result<Result<Vec<u8>, Refusal>, Failure>
-    ensures read { IfOk result (λ read. IsRead (file_from ⟦<FileKeeper<S> as Keeper>⟧ S.Start (λ keeper. keeper.conn))
-        (λ text. text.items) reading read) }
-    ensures refused { IfErr result IsNotOpened }
+) -> Finished<S, Result<Vec<u8>, Refusal>>
+    ensures read { IfOk result (λ (book, read). IsRead
+        (file_from ⟦<FileKeeper<S> as Keeper>⟧ S.Start (λ keeper. keeper.conn))
+        (λ text. text.items) reading read book.desk) }
+    ensures unopened { IfErr result (λ unopened.
+        (file_from ⟦<FileKeeper<S> as Keeper>⟧ S.Start (λ keeper. keeper.conn)).was_unopened unopened.fault) }
 {
     let mut book = open(rt, file, start)?;
     let read = text_of(rt.alloc(), book.desk(), &reading);
-    book.close();
-    Ok(read)
+    Ok((book.finish(), read))
 }
 
 // Prints a text.

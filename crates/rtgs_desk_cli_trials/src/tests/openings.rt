@@ -1,6 +1,6 @@
 //! How files are opened, held and closed by runs.
 use super::{begin, prints};
-use rtgs_book_file::{BookLock, Unknown};
+use rtgs_book_file::{BookLock, FileFault, Unknown};
 use sqlite::Connection;
 use std::fs;
 use std::test::Fail;
@@ -35,13 +35,54 @@ fn overlap(rt: &HostRuntime, post: &[&str]) -> Result<(), Fail> {
     prints(rt, post, text, 3)
 }
 
+/// Why the lock of a file is not taken, if it is not.
+fn not_locked(rt: &HostRuntime, file: &str) -> Option<FileFault> {
+    match BookLock::take(rt, file, Unknown) {
+        Ok(_) => None,
+        Err(unopened) => Some(unopened.fault()),
+    }
+}
+
+#[test]
+fn a_lock_is_held_until_the_files_are_let_go(rt: HostRuntime) -> Result<(), Fail> {
+    begin(&rt, "held")?;
+    let held = BookLock::take(&rt, "held", Unknown)?.open(&rt)?;
+    let while_open = not_locked(&rt, "held");
+    let closed = held.finish().close();
+    let once_closed = not_locked(&rt, "held");
+    drop(closed);
+    assert_eq!(rt; while_open, Some(FileFault::InUse));
+    assert_eq!(rt; once_closed, Some(FileFault::InUse));
+    assert_eq!(rt; not_locked(&rt, "held"), None);
+    Ok(())
+}
+
+/// Whether the lock of a file that holds no book is let go with what refused it, and not before.
+fn is_held_by_its_refusal(rt: &HostRuntime, file: &str) -> Result<bool, Fail> {
+    match BookLock::take(rt, file, Unknown)?.open(rt) {
+        Ok(book) => {
+            book.finish().close();
+            Ok(false)
+        }
+        Err(_unopened) => Ok(not_locked(rt, file) == Some(FileFault::InUse)),
+    }
+}
+
+#[test]
+fn a_refused_book_lets_its_lock_go_with_the_refusal(rt: HostRuntime) -> Result<(), Fail> {
+    Connection::open(&rt, "no_tables")?.close()?;
+    assert!(rt; is_held_by_its_refusal(&rt, "no_tables")?);
+    assert_eq!(rt; not_locked(&rt, "no_tables"), None);
+    Ok(())
+}
+
 #[test]
 fn runs_that_overlap_are_refused(rt: HostRuntime) -> Result<(), Fail> {
     let post = ["post", "overlap", "ALFA", "P-1", "1"];
     begin(&rt, "overlap")?;
-    let held = BookLock::take(&rt, "overlap")?.open(&rt, Unknown)?;
+    let held = BookLock::take(&rt, "overlap", Unknown)?.open(&rt)?;
     let refused = overlap(&rt, &post);
-    held.close();
+    held.finish().close();
     refused?;
     prints(&rt, &post, "posted 1\n", 0)
 }

@@ -1,10 +1,21 @@
 use Rattle.rtgs_book_file.proofs.open_book.make_tables.Goals as goal
 
-pub returns-in-Ok : goal.returns-in-Ok
-returns-in-Ok g c = record {
-  was = c.in_ok-connect.field-0;
+pub returns-in-Ok-clause-made : goal.returns-in-Ok-clause-made
+returns-in-Ok-clause-made g c = record {
+  was = c.in_ok-conn.conn;
   now = c.in-Ok.made;
-  opened = c.in_ok-connect.ensures.opened;
-  found = c.in_ok-connect.ensures.found;
+  opened = c.in_ok-conn.ensures.opened;
+  found = c.in_ok-conn.ensures.found;
   leaves = c.in-Ok.ensures.stops;
+  closed = c.copied.ensures.closed;
+}
+
+pub returns-in-Err-clause-refused : goal.returns-in-Err-clause-refused
+returns-in-Err-clause-refused g c = record {
+  was = c.in_ok-conn.conn;
+  left = c.in-Err.left;
+  opened = c.in_ok-conn.ensures.opened;
+  found = c.in_ok-conn.ensures.found;
+  refused = c.in-Err.ensures.refused;
+  given_up = c.given_up.ensures.given_up;
 }

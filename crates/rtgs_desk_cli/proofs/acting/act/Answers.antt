@@ -10,6 +10,9 @@ returns-in-Submit-clause-refused g c = refused_for _ c.in-Submit.is c.answer.res
 pub returns-in-Import-clause-printed : goal.returns-in-Import-clause-printed
 returns-in-Import-clause-printed g c = printed_for _ c.in-Import.is c.import.result _ _ c.import.ensures.printed
 
+pub returns-in-Import-clause-refused : goal.returns-in-Import-clause-refused
+returns-in-Import-clause-refused g c = refused_for _ c.in-Import.is c.import.result c.import.ensures.refused
+
 pub returns-in-Read-clause-printed : goal.returns-in-Read-clause-printed
 returns-in-Read-clause-printed g c = printed_for _ c.in-Read.is c.show.result _ _ c.show.ensures.printed
 

@@ -1,15 +1,8 @@
-use Rattle.std.proofs.Common.{sym}
+use Rattle.rtgs_desk_cli.proofs.Doing.{submitted}
 use Rattle.rtgs_desk_cli.proofs.acting.submit.Goals as goal
 
 pub returns-clause-replied : goal.returns-clause-replied
-returns-clause-replied g c = record {
-  opened = c.desk.result.now;
-  closed = c.submit-reply.new.desk;
-  over = λ honest. (rw (sym c.desk.ensures.value) at c.in_ok-book.ensures.opened)
-      (c.submit-reply.ensures.honest honest);
-  did = λ honest book held. (
-    c.submit-reply.ensures.acts honest book held,
-    c.submit-reply.ensures.left honest book
-        held,
-  );
-}
+returns-clause-replied g c =
+    let it = c.submit-reply in
+    submitted _ c.desk.ensures.value c.finish.ensures.desk c.in_ok-book.ensures.opened it.ensures.honest c.args.command
+    it.result it.ensures.acts it.ensures.left

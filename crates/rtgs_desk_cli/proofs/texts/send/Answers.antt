@@ -1,16 +1,15 @@
-use Rattle.std.proofs.Common.{sym, inr}
-use Rattle.std.proofs.lemmas.Result.{IfOk-weaker, IfErr-weaker}
+use Rattle.rtgs_desk_cli.specs.Runs.{IsNotSent}
+use Rattle.rtgs_desk_cli.proofs.Doing.{was_sent, was_refused}
 use Rattle.rtgs_desk_cli.proofs.texts.send.Goals as goal
 
 pub returns-clause-sent : goal.returns-clause-sent
-returns-clause-sent g c = IfOk-weaker c.submit_file-sent.result _ _ (λ sent did. record {
-  opened = c.desk.result.now;
-  closed = c.submit_file-sent.new.desk;
-  over = λ honest. (rw (sym c.desk.ensures.value) at c.in_ok-book.ensures.opened)
-      (c.submit_file-sent.ensures.honest honest);
-  did = did;
-}) c.submit_file-sent.ensures.sent
+returns-clause-sent g c =
+    let it = c.submit_file-sent in
+    was_sent _ c.desk.ensures.value c.finish.ensures.desk c.in_ok-book.ensures.opened it.ensures.honest it.result
+    c.args.sender (λ sent. sent.0.items) (λ sent. sent.1.replies.items) (λ sent. sent.1.stopped) it.ensures.sent
 
 pub returns-clause-refused : goal.returns-clause-refused
-returns-clause-refused g c = IfErr-weaker c.submit_file-sent.result _ _ (λ why not. inr not)
-    c.submit_file-sent.ensures.refused
+returns-clause-refused g c =
+    let it = c.submit_file-sent in
+    was_refused _ c.desk.ensures.value c.finish.ensures.desk c.in_ok-book.ensures.opened it.ensures.honest it.result
+    IsNotSent it.ensures.refused it.ensures.unchanged

@@ -101,15 +101,15 @@ fn keep_ring<K: Keeper>(alloc: Global, keeper: &mut K) -> Result<(), Fail> {
 
 /// What the desk over the file, opened for it, answers a command.
 fn submitted(rt: &HostRuntime, command: Command) -> Result<Reply, Fail> {
-    let mut book = BookLock::take(rt, FILE)?.open(rt, Unknown)?;
+    let mut book = BookLock::take(rt, FILE, Unknown)?.open(rt)?;
     let reply = book.desk().submit(command);
-    book.close();
+    book.finish().close();
     Ok(reply)
 }
 
 #[test]
 fn a_ring_of_33000_orders_is_settled_under_one_mark(rt: HostRuntime) -> Result<(), Fail> {
-    BookLock::take(&rt, FILE)?.make(&rt, Unknown)?;
+    BookLock::take(&rt, FILE, Unknown)?.make(&rt)?;
     fill(&rt)?;
     let settled = submitted(&rt, Command::Resolve)?;
     assert_eq!(rt; settled, resolved(1, ORDERS, ORDERS as i64));

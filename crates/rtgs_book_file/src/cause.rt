@@ -1,0 +1,66 @@
+//! What refused a book's file.
+ghost use Rattle.std.specs.Prelude.{◌≡◌};
+ghost use Rattle.rtgs_book_file.specs.Causes.{fault_of_cause};
+ghost use Rattle.rtgs_book_file.specs.declared.cause.Cause.TheVariants as cause;
+
+use crate::file_fault::FileFault;
+use crate::not_locked::NotLocked;
+use crate::not_reached::NotReached;
+use crate::not_vacant::NotVacant;
+use crate::unread::Unread;
+use rtgs_book::Fault;
+
+/// What refused a book's file. All but the last are made of the system's answers alone. `B` is what is left of a book
+/// that was closed.
+#[derive(Drop)]
+pub(crate) enum Cause<B> {
+    /// The lock was not taken.
+    NotLocked(NotLocked),
+    /// A book was to be made where something stands, or where no look could be taken.
+    NotVacant(NotVacant),
+    /// The file does not begin as a database does, or its beginning could not be read.
+    Unread(Unread),
+    /// The store did not open.
+    NotReached(NotReached),
+    /// The store opened, and was given up with this fault.
+    GivenUp(Fault, B),
+}
+
+impl<B> Cause<B> {
+    /// How it is told.
+    pub(crate) fn fault(&self) -> FileFault
+        ensures { result ≡ fault_of_cause self.now }
+    {
+        match self {
+            Cause::NotLocked(refused) => refused.fault(),
+            Cause::NotVacant(taken) => taken.fault(),
+            Cause::Unread(unread) => FileFault::from(unread.fault()),
+            Cause::NotReached(unreached) => FileFault::from(unreached.fault()),
+            Cause::GivenUp(fault, _) => FileFault::from(*fault),
+        }
+    }
+}
+
+impl<B> From<NotVacant> for Cause<B> {
+    ghost from_gives = { λ taken answer. answer ≡ cause.NotVacant taken };
+
+    fn from(taken: NotVacant) -> Cause<B> {
+        Cause::NotVacant(taken)
+    }
+}
+
+impl<B> From<Unread> for Cause<B> {
+    ghost from_gives = { λ unread answer. answer ≡ cause.Unread unread };
+
+    fn from(unread: Unread) -> Cause<B> {
+        Cause::Unread(unread)
+    }
+}
+
+impl<B> From<NotReached> for Cause<B> {
+    ghost from_gives = { λ unreached answer. answer ≡ cause.NotReached unreached };
+
+    fn from(unreached: NotReached) -> Cause<B> {
+        Cause::NotReached(unreached)
+    }
+}

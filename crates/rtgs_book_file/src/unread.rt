@@ -1,0 +1,51 @@
+//! Why a book's file is not opened, by its beginning.
+ghost use Rattle.std.specs.Prelude.{◌≡◌, Ok, Err, IfOk, IfErr};
+ghost use Rattle.rtgs_book_file.specs.Files.{opening_of};
+
+use rtgs_book::Fault;
+use std::io;
+use std::io::ErrorKind;
+
+/// How each file of the `sqlite` crate begins.
+const MAGIC: &[u8; 16] = b"SQLite format 3\0";
+
+/// Why a book's file is not opened, by its beginning. Only an answer to reading a beginning makes one.
+#[derive(Drop)]
+pub(crate) struct Unread {
+    fault: Fault,
+}
+
+impl Unread {
+    /// Whether a file that was read to begin so begins as a database does, or why it is not opened.
+    pub(crate) fn unless_database(beginning: io::Result<[u8; 16]>) -> Result<(), Unread>
+        ensures database { IfOk result (λ _. opening_of beginning ≡ Ok tt) }
+        ensures refused { IfErr result (λ unread. opening_of beginning ≡ Err unread.fault) }
+    {
+        match opening(beginning) {
+            Ok(()) => Ok(()),
+            Err(fault) => Err(Unread { fault }),
+        }
+    }
+
+    /// How it is told.
+    pub(crate) fn fault(&self) -> Fault
+        ensures { result ≡ self.now.fault }
+    {
+        self.fault
+    }
+}
+
+// What it means for a book that its file begins so.
+fn opening(beginning: io::Result<[u8; 16]>) -> Result<(), Fault>
+    ensures { result ≡ opening_of beginning }
+{
+    match beginning {
+        Ok(beginning) if beginning == *MAGIC => Ok(()),
+        Ok(_) => Err(Fault::NotADeskFile),
+        Err(error) => match error.kind() {
+            ErrorKind::NotFound | ErrorKind::UnexpectedEof => Err(Fault::NotADeskFile),
+            ErrorKind::OutOfMemory => Err(Fault::OutOfMemory),
+            _ => Err(Fault::StoreFault),
+        },
+    }
+}

@@ -1,0 +1,98 @@
+-- What is said of a book with which something was done, once it was closed.
+use Rattle.std.proofs.Common.{◌≡◌, ℕ, Bool, List, length, Option, Result, Ok, Err, refl, sym}
+use Rattle.std.proofs.Common.{subst}
+use Rattle.std.specs.Result.{IfOk, IfErr, OnErr}
+use Rattle.std.proofs.lemmas.Result.{IfOk-weaker, IfErr-weaker}
+use Rattle.rtgs_book.specs.Outcome.{Reply}
+use Rattle.rtgs_book.specs.declared.command.Command.{Command}
+use Rattle.rtgs_book.specs.declared.reading.Reading.{Reading}
+use Rattle.rtgs_book.specs.declared.refusal.Refusal.{Refusal}
+use Rattle.rtgs_desk.specs.Seen.{Seen}
+use Rattle.rtgs_desk_lines.specs.Texts.{Prints}
+use Rattle.rtgs_desk_lines.specs.declared.printed.Printed.{Printed}
+use Rattle.rtgs_exchange.specs.Batches.{StopsAfter}
+use Rattle.rtgs_exchange.specs.OrderFile.{IsOrderFile}
+use Rattle.rtgs_exchange.specs.declared.batch_result.RowReply.{RowReply}
+use Rattle.rtgs_exchange.specs.declared.order_row.OrderRow.{OrderRow}
+use Rattle.rtgs_book_file.specs.OverFile.{OverFile}
+use Rattle.rtgs_desk_cli.specs.Did.{IsIdle, IsRead, IsSent, IsServed, IsSubmitted}
+use Rattle.rtgs_desk_cli.specs.Runs.{IsImported, server_text, stop_of_desk}
+
+-- what is so of each book and what was done with it, is so of these
+pub when_done : {B T E : Type 0} (finished : Result (B × T) E) (P : B × T → Type 0) → IfOk finished P → (book : B)
+    (done : T) → finished ≡ Ok (book, done) → P (book, done)
+when_done finished P all book done is = subst (λ r. IfOk r P) is all
+
+-- where this refusal is the only one, what is so of it is so of any
+pub refused_as : {T E : Type 0} (result : Result T E) (why : E) (S : Type 0) (P : E → Type 0)
+    → OnErr result ((result ≡ Err why) × S) → P why → IfErr result P
+refused_as (Ok done) why S P told it = tt
+refused_as (Err other) why S P told it =
+    let is = told.0 in
+    let same : other ≡ why = cc in
+    subst P (sym same) it
+
+module _ {K B E : Type 0} (file : OverFile K) where
+  module _ (desk_of : B → Seen K) where
+    -- the book with which a command was submitted
+    pub submitted_with : (command : Command) (finished : Result (B × Reply) E)
+        → IfOk finished (λ p. IsSubmitted file command p.1 (desk_of p.0)) → (book : B) (done reply : Reply)
+        → finished ≡ Ok (book, done) → done ≡ reply → IsSubmitted file command reply (desk_of book)
+    submitted_with command finished all book done reply is same = subst
+        (λ reply. IsSubmitted file command reply (desk_of book)) same
+        (when_done finished (λ p. IsSubmitted file command p.1 (desk_of p.0)) all book done is)
+
+    -- the book of which something was read
+    pub read_with : {V : Type 0} (text_of : V → List ℕ) (reading : Reading) (finished : Result (B × Result V Refusal) E)
+        → IfOk finished (λ p. IsRead file text_of reading p.1 (desk_of p.0)) → (book : B) (done : Result V Refusal)
+        → finished ≡ Ok (book, done) → IsRead file text_of reading done (desk_of book)
+    read_with text_of reading finished all book done is =
+        when_done finished (λ p. IsRead file text_of reading p.1 (desk_of p.0)) all book done is
+
+    module _ {V W : Type 0} (finished : Result (B × Result V W) E) (book : B) (done : Result V W)
+        (is : finished ≡ Ok (book, done)) where
+      -- the book to which the rows of a batch were sent
+      pub imported_with : (sender : List ℕ) (rows_of : V → List OrderRow) (replies_of : V → List RowReply)
+          (stop_of : V → Option Refusal)
+          → IfOk finished (λ p. IfOk p.1 (λ it. (bytes : List ℕ) × IsOrderFile bytes (rows_of it)))
+          → IfOk finished (λ p. IfOk p.1 (λ it.
+          StopsAfter (length (replies_of it)) (length (rows_of it)) (stop_of it)))
+          → IfOk finished (λ p. IfOk p.1 (λ it.
+          IsSent file sender (rows_of it) (replies_of it) (stop_of it) (desk_of p.0)))
+          → (it : V) → done ≡ Ok it → IsImported file sender (rows_of it) (replies_of it) (stop_of it)
+      imported_with sender rows_of replies_of stop_of rows stops sent it well =
+          let so : (P : B → V → Type 0) → IfOk finished (λ p. IfOk p.1 (P p.0)) → P book it = λ P all.
+          subst (λ r. IfOk r (P book)) well (when_done finished (λ p. IfOk p.1 (P p.0)) all book done is) in (
+            desk_of book,
+            so (λ book it. IsSent file sender (rows_of it) (replies_of it) (stop_of it) (desk_of book)) sent,
+            so (λ _ it. (bytes : List ℕ) × IsOrderFile bytes (rows_of it)) rows,
+            so (λ _ it. StopsAfter (length (replies_of it)) (length (rows_of it)) (stop_of it)) stops,
+          )
+
+      -- the book with which nothing was done
+      pub idle_with : (Why : W → Type 0) → IfOk finished (λ p. IfErr p.1 (λ why. Why why × IsIdle file (desk_of p.0)))
+          → IfErr done (λ why. Why why × (left : Seen K) × IsIdle file left)
+      idle_with Why all = IfErr-weaker done _ _ (λ why it. (it.0, desk_of book, it.1))
+          (when_done finished (λ p. IfErr p.1 (λ why. Why why × IsIdle file (desk_of p.0))) all book done is)
+
+      pub idle_for : (Why : W → Type 0) → IfOk finished (λ p. IfErr p.1 (λ why. Why why × IsIdle file (desk_of p.0)))
+          → (why : W) → done ≡ Err why → Why why × (left : Seen K) × IsIdle file left
+      idle_for Why all why refused =
+          subst (λ r. IfErr r (λ why. Why why × (left : Seen K) × IsIdle file left)) refused (idle_with Why all)
+
+    module _ {W : Type 0} (finished : Result (B × Result Printed W) E) (book : B) (done : Result Printed W)
+        (is : finished ≡ Ok (book, done)) (port count : ℕ) (old new : Option (List ℕ)) where
+      -- what a server whose desk failed, or did not, has to print, and where it stops
+      abbrev IsSaid : Bool → Printed → Type 0
+      IsSaid failed printed = Prints (server_text port count failed) (stop_of_desk failed) printed old new
+
+      -- the book whose desk was served
+      pub served_with : (operator : List ℕ) → IfOk finished (λ p. IfOk p.1 (λ printed.
+          IsServed file operator (desk_of p.0) × IsSaid (file.keeper.has_failed (desk_of p.0).keeper) printed))
+          → IfOk done (λ printed. (text : List ℕ) × (stopped : Option Refusal) × ((left : Seen K)
+          × IsServed file operator left × (text ≡ server_text port count (file.keeper.has_failed left.keeper))
+          × (stopped ≡ stop_of_desk (file.keeper.has_failed left.keeper))) × Prints text stopped printed old new)
+      served_with operator all =
+          IfOk-weaker done _ _ (λ printed it. (_, _, (desk_of book, it.0, refl, refl), it.1))
+          (when_done finished (λ p. IfOk p.1 (λ printed. IsServed file operator (desk_of p.0)
+          × IsSaid (file.keeper.has_failed (desk_of p.0).keeper) printed)) all book done is)
