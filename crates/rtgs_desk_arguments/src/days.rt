@@ -1,4 +1,9 @@
 //! The course of a business day, as the command line names it.
+ghost use Rattle.std.specs.Prelude.{IfOk, ◌∷◌, [], codes};
+ghost use Rattle.clap.specs.Words.{found_of, rows_of};
+ghost use Rattle.rtgs_desk_arguments.specs.Asked.{IsCommand};
+ghost use Rattle.rtgs_desk_arguments.specs.CommandLine as line;
+
 use crate::{date_argument, file_argument, word};
 use clap::{ArgMatches, Command};
 use rtgs_desk_requests::CommandWords;
@@ -9,7 +14,9 @@ fn dated_command<'a>(
     alloc: Global,
     name: &'a str,
     about: &'a str,
-) -> Result<Command<'a>, AllocError> {
+) -> Result<Command<'a>, AllocError>
+    ensures { IfOk result (line.IsSubcommand (line.subcommand name.now (line.word (codes "date") ∷ []))) }
+{
     Command::new(alloc, name)
         .about(about)
         .arg(file_argument(alloc))?
@@ -17,43 +24,57 @@ fn dated_command<'a>(
 }
 
 /// The subcommand that opens a business day: a book's file and a date.
-pub fn open_command<'a>(alloc: Global) -> Result<Command<'a>, AllocError> {
+pub fn open_command<'a>(alloc: Global) -> Result<Command<'a>, AllocError>
+    ensures { IfOk result (line.IsSubcommand line.open_day) }
+{
     dated_command(alloc, "open", "Opens a business day")
 }
 
 /// The date of the day to open, as it was given.
-pub fn open_words<'a>(given: &ArgMatches<'a>) -> CommandWords<'a> {
+pub fn open_words<'a>(given: &ArgMatches<'a>) -> CommandWords<'a>
+    ensures { IsCommand (codes "open") (rows_of (found_of given.now)) result }
+{
     CommandWords::Open {
         date: word(given, "date"),
     }
 }
 
 /// The subcommand that settles queued orders together: a book's file alone.
-pub fn resolve_command<'a>(alloc: Global) -> Result<Command<'a>, AllocError> {
+pub fn resolve_command<'a>(alloc: Global) -> Result<Command<'a>, AllocError>
+    ensures { IfOk result (line.IsSubcommand line.resolve) }
+{
     Command::new(alloc, "resolve")
         .about("Settles as many queued orders together as there is cover for")
         .arg(file_argument(alloc))
 }
 
 /// The subcommand that ends the taking of orders: a book's file and a date.
-pub fn cut_off_command<'a>(alloc: Global) -> Result<Command<'a>, AllocError> {
+pub fn cut_off_command<'a>(alloc: Global) -> Result<Command<'a>, AllocError>
+    ensures { IfOk result (line.IsSubcommand line.cut_off) }
+{
     dated_command(alloc, "cutoff", "Ends the taking of orders")
 }
 
 /// The date of the day that takes no more orders, as it was given.
-pub fn cut_off_words<'a>(given: &ArgMatches<'a>) -> CommandWords<'a> {
+pub fn cut_off_words<'a>(given: &ArgMatches<'a>) -> CommandWords<'a>
+    ensures { IsCommand (codes "cutoff") (rows_of (found_of given.now)) result }
+{
     CommandWords::CutOff {
         date: word(given, "date"),
     }
 }
 
 /// The subcommand that closes a business day: a book's file and a date.
-pub fn close_command<'a>(alloc: Global) -> Result<Command<'a>, AllocError> {
+pub fn close_command<'a>(alloc: Global) -> Result<Command<'a>, AllocError>
+    ensures { IfOk result (line.IsSubcommand line.close_day) }
+{
     dated_command(alloc, "close", "Closes the day and rejects what is queued")
 }
 
 /// The date of the day to close, as it was given.
-pub fn close_words<'a>(given: &ArgMatches<'a>) -> CommandWords<'a> {
+pub fn close_words<'a>(given: &ArgMatches<'a>) -> CommandWords<'a>
+    ensures { IsCommand (codes "close") (rows_of (found_of given.now)) result }
+{
     CommandWords::Close {
         date: word(given, "date"),
     }

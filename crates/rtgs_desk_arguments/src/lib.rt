@@ -1,6 +1,12 @@
 //! The arguments of the program, as the command line names them.
 #![tactic(auto)]
 
+ghost use Rattle.std.specs.Prelude.{◌≡◌, ◌++◌, IfOk, codes, false, true};
+ghost use Rattle.clap.specs.Words.{App, Shape, found_of, rows_of, rule_of, subcommand_rows_of, with_subcommand};
+ghost use Rattle.clap.specs.declared.parser.matches.ArgMatches.{ArgMatches as Found};
+ghost use Rattle.rtgs_desk_arguments.specs.Asked.{Asks, IsChosen, IsCommand, IsFlag, IsReading, IsWord};
+ghost use Rattle.rtgs_desk_arguments.specs.CommandLine as line;
+
 use clap::{Arg, ArgAction, ArgMatches, Command, Error};
 use rtgs_desk_requests::{CommandWords, ReadingWords, Words};
 use std::alloc::{AllocError, Global};
@@ -11,12 +17,15 @@ mod orders;
 mod readings;
 mod serving;
 
-/// What `--version` says behind the program's name: its version, that of the tables that it keeps a book in, and the kit
-/// that it is proved with, as `rt version` prints it.
-const VERSION: &str = "0.9.0, tables 1, rattle-kit-13f logic dac8208d650f15bf";
+/// What `--version` says behind the program's name: its version, that of the tables that it keeps a book in, and the
+/// kit that it is proved with, as `rt version` prints it.
+const VERSION: &str = "0.9.0, tables 1, rattle-kit-13b logic dac8208d650f15bf";
 
 /// The book's file, which each subcommand takes first.
-fn file_argument<'a>(alloc: Global) -> Arg<'a> {
+fn file_argument<'a>(alloc: Global) -> Arg<'a>
+    ensures rule { rule_of result ≡ line.file }
+    ensures local { result.global ≡ false }
+{
     Arg::new(alloc, "file")
         .value_name("FILE")
         .help("The file of the book")
@@ -25,7 +34,12 @@ fn file_argument<'a>(alloc: Global) -> Arg<'a> {
 }
 
 /// A word that its own form judges, also where it begins with a dash.
-fn word_argument<'a>(alloc: Global, id: &'a str, shown: &'a str, help: &'a str) -> Arg<'a> {
+fn word_argument<'a>(alloc: Global, id: &'a str, shown: &'a str, help: &'a str) -> Arg<'a>
+    ensures rule { rule_of result ≡ line.word id.now }
+    ensures dash { result.allow_hyphen_values ≡ true }
+    ensures plain { rule_of (record result { allow_hyphen_values = false }) ≡ line.needed id.now }
+    ensures local { result.global ≡ false }
+{
     Arg::new(alloc, id)
         .value_name(shown)
         .help(help)
@@ -35,12 +49,18 @@ fn word_argument<'a>(alloc: Global, id: &'a str, shown: &'a str, help: &'a str) 
 }
 
 /// The code of a participant that is there.
-fn code_argument<'a>(alloc: Global) -> Arg<'a> {
+fn code_argument<'a>(alloc: Global) -> Arg<'a>
+    ensures rule { rule_of result ≡ line.word (codes "code") }
+    ensures local { result.global ≡ false }
+{
     word_argument(alloc, "code", "CODE", "The participant")
 }
 
 /// The reference of an order that is there.
-fn reference_argument<'a>(alloc: Global) -> Arg<'a> {
+fn reference_argument<'a>(alloc: Global) -> Arg<'a>
+    ensures rule { rule_of result ≡ line.word (codes "reference") }
+    ensures local { result.global ≡ false }
+{
     word_argument(
         alloc,
         "reference",
@@ -50,11 +70,16 @@ fn reference_argument<'a>(alloc: Global) -> Arg<'a> {
 }
 
 /// A business date.
-fn date_argument<'a>(alloc: Global) -> Arg<'a> {
+fn date_argument<'a>(alloc: Global) -> Arg<'a>
+    ensures rule { rule_of result ≡ line.word (codes "date") }
+    ensures local { result.global ≡ false }
+{
     word_argument(alloc, "date", "DATE", "The business date, as YYYY-MM-DD")
 }
 
-fn init_command<'a>(alloc: Global) -> Result<Command<'a>, AllocError> {
+fn init_command<'a>(alloc: Global) -> Result<Command<'a>, AllocError>
+    ensures { IfOk result (line.IsSubcommand line.init) }
+{
     Command::new(alloc, "init")
         .about("Makes a new book, without participants")
         .arg(file_argument(alloc))
@@ -64,12 +89,17 @@ fn init_command<'a>(alloc: Global) -> Result<Command<'a>, AllocError> {
 fn joined<'a>(
     command: Command<'a>,
     subcommand: Result<Command<'a>, AllocError>,
-) -> Result<Command<'a>, AllocError> {
+) -> Result<Command<'a>, AllocError>
+    ensures { (above : App) (below : Shape) → line.IsLine above command.entry
+        → IfOk subcommand.entry (line.IsSubcommand below) → IfOk result (line.IsLine (with_subcommand above below)) }
+{
     command.subcommand(subcommand?)
 }
 
 /// The command line of the desk, without its subcommands.
-fn bare_command<'a>(alloc: Global) -> Result<Command<'a>, AllocError> {
+fn bare_command<'a>(alloc: Global) -> Result<Command<'a>, AllocError>
+    ensures { IfOk result (line.IsSubcommand line.program) }
+{
     let desk = Command::new(alloc, "desk")
         .about("The settlement desk of a central bank")
         .version(VERSION)
@@ -78,7 +108,9 @@ fn bare_command<'a>(alloc: Global) -> Result<Command<'a>, AllocError> {
 }
 
 /// The command line of the desk, with the subcommands of participants.
-fn with_participants<'a>(alloc: Global) -> Result<Command<'a>, AllocError> {
+fn with_participants<'a>(alloc: Global) -> Result<Command<'a>, AllocError>
+    ensures { IfOk result (line.IsLine (line.desk_with line.of_participants)) }
+{
     let desk = bare_command(alloc)?;
     let desk = joined(desk, init_command(alloc))?;
     let desk = joined(desk, accounts::add_command(alloc))?;
@@ -87,7 +119,9 @@ fn with_participants<'a>(alloc: Global) -> Result<Command<'a>, AllocError> {
 }
 
 /// The command line of the desk, with the subcommands of a business day too.
-fn with_days<'a>(alloc: Global) -> Result<Command<'a>, AllocError> {
+fn with_days<'a>(alloc: Global) -> Result<Command<'a>, AllocError>
+    ensures { IfOk result (line.IsLine (line.desk_with (line.of_participants ++ line.of_days))) }
+{
     let desk = with_participants(alloc)?;
     let desk = joined(desk, days::open_command(alloc))?;
     let desk = joined(desk, orders::import_command(alloc))?;
@@ -98,7 +132,9 @@ fn with_days<'a>(alloc: Global) -> Result<Command<'a>, AllocError> {
 }
 
 /// The command line of the desk, with all its subcommands.
-fn desk_command<'a>(alloc: Global) -> Result<Command<'a>, AllocError> {
+fn desk_command<'a>(alloc: Global) -> Result<Command<'a>, AllocError>
+    ensures { IfOk result (line.IsLine line.desk) }
+{
     let desk = with_days(alloc)?;
     let desk = joined(desk, readings::account_command(alloc))?;
     let desk = joined(desk, readings::queue_command(alloc))?;
@@ -109,17 +145,30 @@ fn desk_command<'a>(alloc: Global) -> Result<Command<'a>, AllocError> {
 }
 
 /// The word that was given for an argument. One that is missing reads as no characters, which no form takes.
-fn word<'a>(matches: &ArgMatches<'a>, id: &str) -> &'a str {
+fn word<'a>(matches: &ArgMatches<'a>, id: &str) -> &'a str
+    ensures { IsWord (rows_of (found_of matches.now)) id.now result }
+{
     matches.get_str(id).unwrap_or("")
 }
 
+/// Whether a flag was given.
+fn flag(matches: &ArgMatches<'_>, id: &str) -> bool
+    ensures { IsFlag (rows_of (found_of matches.now)) id.now result }
+{
+    matches.get_flag(id)
+}
+
 /// The book's file, as it was given.
-fn file_word<'a>(matches: &ArgMatches<'a>) -> &'a str {
+fn file_word<'a>(matches: &ArgMatches<'a>) -> &'a str
+    ensures { IsWord (rows_of (found_of matches.now)) (codes "file") result }
+{
     word(matches, "file")
 }
 
 /// The words of a command.
-fn command_words<'a>(name: &str, given: &ArgMatches<'a>) -> Option<CommandWords<'a>> {
+fn command_words<'a>(name: &str, given: &ArgMatches<'a>) -> Option<CommandWords<'a>>
+    ensures { IsChosen (IsCommand name.now (rows_of (found_of given.now))) result }
+{
     match name {
         "add" => Some(accounts::add_words(given)),
         "credit" => Some(accounts::credit_words(given)),
@@ -134,7 +183,9 @@ fn command_words<'a>(name: &str, given: &ArgMatches<'a>) -> Option<CommandWords<
 }
 
 /// The words of a reading.
-fn reading_words<'a>(name: &str, given: &ArgMatches<'a>) -> Option<ReadingWords<'a>> {
+fn reading_words<'a>(name: &str, given: &ArgMatches<'a>) -> Option<ReadingWords<'a>>
+    ensures { IsChosen (IsReading name.now (rows_of (found_of given.now))) result }
+{
     match name {
         "account" => Some(readings::account_words(given)),
         "queue" => Some(readings::queue_words(given)),
@@ -145,7 +196,10 @@ fn reading_words<'a>(name: &str, given: &ArgMatches<'a>) -> Option<ReadingWords<
     }
 }
 
-fn words_of<'a>(matches: &ArgMatches<'a>) -> Option<Words<'a>> {
+/// What the matches ask for.
+fn words_of<'a>(matches: &ArgMatches<'a>) -> Option<Words<'a>>
+    ensures { Asks (subcommand_rows_of matches.now) result }
+{
     let (name, given) = matches.subcommand()?;
     let file = file_word(given);
     match name {
@@ -163,7 +217,9 @@ fn words_of<'a>(matches: &ArgMatches<'a>) -> Option<Words<'a>> {
 }
 
 /// What the words ask for, or the fault or the help of the command line.
-pub fn read_words<'a>(alloc: Global, words: &'a [&'a str]) -> Result<Option<Words<'a>>, Error> {
+pub fn read_words<'a>(alloc: Global, words: &'a [&'a str]) -> Result<Option<Words<'a>>, Error>
+    ensures { IfOk result (λ asked. (found : Found) × line.MeetsOne found × Asks (subcommand_rows_of found) asked) }
+{
     let matches = desk_command(alloc)?.try_get_matches_from(words)?;
     Ok(words_of(&matches))
 }

@@ -1,11 +1,18 @@
 //! Files of orders and withdrawals, as the command line names them.
+ghost use Rattle.std.specs.Prelude.{IfOk, codes};
+ghost use Rattle.clap.specs.Words.{found_of, rows_of};
+ghost use Rattle.rtgs_desk_arguments.specs.Asked.{IsAsked, IsCommand};
+ghost use Rattle.rtgs_desk_arguments.specs.CommandLine as line;
+
 use crate::{code_argument, file_argument, file_word, reference_argument, word, word_argument};
 use clap::{ArgMatches, Command};
 use rtgs_desk_requests::{CommandWords, Words};
 use std::alloc::{AllocError, Global};
 
 /// The subcommand that submits a file of orders: a book's file, a participant and the file of orders.
-pub fn import_command<'a>(alloc: Global) -> Result<Command<'a>, AllocError> {
+pub fn import_command<'a>(alloc: Global) -> Result<Command<'a>, AllocError>
+    ensures { IfOk result (line.IsSubcommand line.import_orders) }
+{
     let orders = "The file of orders, as CSV";
     Command::new(alloc, "import")
         .about("Submits a participant's file of orders")
@@ -15,7 +22,9 @@ pub fn import_command<'a>(alloc: Global) -> Result<Command<'a>, AllocError> {
 }
 
 /// The book's file, the participant and the file of orders, as they were given.
-pub fn import_words<'a>(given: &ArgMatches<'a>) -> Words<'a> {
+pub fn import_words<'a>(given: &ArgMatches<'a>) -> Words<'a>
+    ensures { IsAsked (codes "import") (rows_of (found_of given.now)) result }
+{
     Words::Import {
         file: file_word(given),
         code: word(given, "code"),
@@ -24,7 +33,9 @@ pub fn import_words<'a>(given: &ArgMatches<'a>) -> Words<'a> {
 }
 
 /// The subcommand that takes a queued order back: a book's file, its sender and its reference.
-pub fn withdraw_command<'a>(alloc: Global) -> Result<Command<'a>, AllocError> {
+pub fn withdraw_command<'a>(alloc: Global) -> Result<Command<'a>, AllocError>
+    ensures { IfOk result (line.IsSubcommand line.withdraw) }
+{
     Command::new(alloc, "withdraw")
         .about("Takes back a queued order of a participant")
         .arg(file_argument(alloc))?
@@ -33,7 +44,9 @@ pub fn withdraw_command<'a>(alloc: Global) -> Result<Command<'a>, AllocError> {
 }
 
 /// The sender and the reference of an order, as they were given.
-pub fn withdraw_words<'a>(given: &ArgMatches<'a>) -> CommandWords<'a> {
+pub fn withdraw_words<'a>(given: &ArgMatches<'a>) -> CommandWords<'a>
+    ensures { IsCommand (codes "withdraw") (rows_of (found_of given.now)) result }
+{
     CommandWords::Withdraw {
         code: word(given, "code"),
         reference: word(given, "reference"),

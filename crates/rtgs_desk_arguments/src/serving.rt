@@ -1,11 +1,19 @@
 //! The server, as the command line names it.
+ghost use Rattle.std.specs.Prelude.{◌≡◌, IfOk, codes, false, true};
+ghost use Rattle.clap.specs.Words.{found_of, rows_of, rule_of};
+ghost use Rattle.rtgs_desk_arguments.specs.Asked.{IsAsked, IsChosen, IsNumber};
+ghost use Rattle.rtgs_desk_arguments.specs.CommandLine as line;
+
 use crate::{file_argument, file_word, word};
 use clap::{Arg, ArgAction, ArgMatches, Command, value_parser};
 use rtgs_desk_requests::Words;
 use std::alloc::{AllocError, Global};
 
 /// An option that a run needs.
-fn needed_option<'a>(alloc: Global, name: &'a str, shown: &'a str, help: &'a str) -> Arg<'a> {
+fn needed_option<'a>(alloc: Global, name: &'a str, shown: &'a str, help: &'a str) -> Arg<'a>
+    ensures rule { rule_of result ≡ line.named (line.needed name.now) }
+    ensures local { result.global ≡ false }
+{
     Arg::new(alloc, name)
         .long(name)
         .value_name(shown)
@@ -15,14 +23,20 @@ fn needed_option<'a>(alloc: Global, name: &'a str, shown: &'a str, help: &'a str
 }
 
 /// The port, 1 to 65535.
-fn port_option<'a>(alloc: Global) -> Arg<'a> {
+fn port_option<'a>(alloc: Global) -> Arg<'a>
+    ensures rule { rule_of result ≡ line.port }
+    ensures local { result.global ≡ false }
+{
     needed_option(alloc, "port", "P", "The port on 127.0.0.1, 1 to 65535").value_parser(
         value_parser!(u16).range(1..=65535),
     )
 }
 
 /// How many connections are served, 1 to 1000000.
-fn count_option<'a>(alloc: Global) -> Arg<'a> {
+fn count_option<'a>(alloc: Global) -> Arg<'a>
+    ensures rule { rule_of result ≡ line.count }
+    ensures local { result.global ≡ false }
+{
     needed_option(
         alloc,
         "count",
@@ -33,7 +47,13 @@ fn count_option<'a>(alloc: Global) -> Arg<'a> {
 }
 
 /// The key of the operator, which its own form judges.
-fn key_option<'a>(alloc: Global) -> Arg<'a> {
+fn key_option<'a>(alloc: Global) -> Arg<'a>
+    ensures rule { rule_of result ≡ line.named (line.word (codes "operator-key")) }
+    ensures dash { result.allow_hyphen_values ≡ true }
+    ensures plain { rule_of (record result { allow_hyphen_values = false })
+        ≡ line.named (line.needed (codes "operator-key")) }
+    ensures local { result.global ≡ false }
+{
     needed_option(
         alloc,
         "operator-key",
@@ -44,7 +64,9 @@ fn key_option<'a>(alloc: Global) -> Arg<'a> {
 }
 
 /// The subcommand that serves connections: a book's file, a port, their number and the operator's key.
-pub fn serve_command<'a>(alloc: Global) -> Result<Command<'a>, AllocError> {
+pub fn serve_command<'a>(alloc: Global) -> Result<Command<'a>, AllocError>
+    ensures { IfOk result (line.IsSubcommand line.serve) }
+{
     Command::new(alloc, "serve")
         .about("Serves connections over HTTP, one after the other")
         .arg(file_argument(alloc))?
@@ -53,12 +75,28 @@ pub fn serve_command<'a>(alloc: Global) -> Result<Command<'a>, AllocError> {
         .arg(key_option(alloc))
 }
 
+/// The port that was given.
+fn port_number(given: &ArgMatches<'_>) -> Option<u16>
+    ensures { IsChosen (IsNumber 16 (rows_of (found_of given.now)) (codes "port")) result }
+{
+    given.get_one::<u16>("port")
+}
+
+/// The number of connections that was given.
+fn count_number(given: &ArgMatches<'_>) -> Option<u32>
+    ensures { IsChosen (IsNumber 32 (rows_of (found_of given.now)) (codes "count")) result }
+{
+    given.get_one::<u32>("count")
+}
+
 /// The book's file, the port, the number of connections and the operator's key, as they were given.
-pub fn serve_words<'a>(given: &ArgMatches<'a>) -> Option<Words<'a>> {
+pub fn serve_words<'a>(given: &ArgMatches<'a>) -> Option<Words<'a>>
+    ensures { IsChosen (IsAsked (codes "serve") (rows_of (found_of given.now))) result }
+{
     Some(Words::Serve {
         file: file_word(given),
-        port: given.get_one::<u16>("port")?,
-        count: given.get_one::<u32>("count")?,
+        port: port_number(given)?,
+        count: count_number(given)?,
         key: word(given, "operator-key"),
     })
 }

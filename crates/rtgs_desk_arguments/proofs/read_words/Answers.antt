@@ -1,0 +1,9 @@
+use Rattle.rtgs_desk_arguments.proofs.Commands.{meets_one}
+use Rattle.rtgs_desk_arguments.proofs.read_words.Goals as goal
+
+pub returns : goal.returns
+returns c =
+    let is = c.in_ok-desk_command.ensures in
+    let parse = c.in_ok-matches.ensures in
+    let met = meets_one _ c.in_ok-matches.matches is parse.parsed (parse.subcommand is.1) in
+    (c.in_ok-matches.matches, met, c.words_of.ensures)
