@@ -1,5 +1,6 @@
 //! Texts and values from outside, each call on its happy path, and proved uses of the clauses.
 mod book;
+mod cores;
 mod limits;
 mod money;
 mod refusals;
