@@ -1,6 +1,8 @@
 -- What a run has to print for its request, why it is refused, and what it leaves on its two writers.
 use Rattle.std.specs.Prelude.{◌≡◌, ◌≢◌, ◌⊎◌, ◌++◌, ◌∷◌, [], ℕ, Bool, true, false, List, Option, None, Ok, Err}
-use Rattle.std.specs.Prelude.{length, Some, if◌then◌else◌}
+use Rattle.std.specs.Prelude.{length, Some, Result, if◌then◌else◌}
+use Rattle.clap.specs.Words.{kind_of}
+use Rattle.clap.specs.declared.error.Error.{Error}
 use Rattle.clap.specs.declared.error.kind.ErrorKind.{ErrorKind}
 use Rattle.clap.specs.declared.error.kind.ErrorKind.TheVariants as kind
 use Rattle.rtgs_money.specs.declared.lexical.Lexical.{Lexical}
@@ -145,15 +147,28 @@ module _ {K : Type 0} (book_file : OverFile K) where
   IsDenied words why = ((form : Lexical) × Reads words (Err form) × (why ≡ Form form))
       ⊎ ((request : Request) × Reads words (Ok request) × IsRefused request why)
 
-  -- What a run that ended so did and leaves on its writers. What was printed for the request that its words spell
-  -- stands on the first alone, and why it was refused on the second alone; or the command line itself was answered.
+  -- What a run that was given these words did, by how it ended, and leaves on its writers: what was printed for the
+  -- request that they spell stands on the first alone, and why it was refused on the second alone.
+  abbrev pub EndsFor : {O E : Type 0} → Words → (O → Option (List ℕ)) → (E → Option (List ℕ)) → Ended → O → O → E → E
+      → Type 0
+  EndsFor words contents told (ended.Printed printed) out out' err err' =
+      IsObeyed words printed (contents out) (contents out') × (err' ≡ err)
+  EndsFor words contents told (ended.Refused failure sent) out out' err err' =
+      IsTold sent (told err) (told err') (ended_line (refusal_line failure)) × (out' ≡ out) × IsDenied words failure
+  EndsFor words contents told (ended.Helped sent) out out' err err' = ⊥
+  EndsFor words contents told (ended.Misused sent) out out' err err' = ⊥
+
+  -- The same of a run whose command line was read so: the words of a request, none, or what the command line itself
+  -- has to say.
+  abbrev pub EndsAfter : {O E : Type 0} → Result (Option Words) Error → (O → Option (List ℕ)) → (E → Option (List ℕ))
+      → Ended → O → O → E → E → Type 0
+  EndsAfter (Ok (Some words)) contents told ends out out' err err' = EndsFor words contents told ends out out' err err'
+  EndsAfter (Ok None) contents told ends out out' err err' =
+      (ends ≡ ended.Misused (Ok _)) × (out' ≡ out) × (err' ≡ err)
+  EndsAfter (Err error) contents told ends out out' err err' =
+      IsExplained (kind_of error) contents told ends out out' err err'
+
+  -- the same of a run whose command line was read in some way
   abbrev pub Ends : {O E : Type 0} → (O → Option (List ℕ)) → (E → Option (List ℕ)) → Ended → O → O → E → E → Type 0
-  Ends contents told (ended.Printed printed) out out' err err' =
-      ((words : Words) × IsObeyed words printed (contents out) (contents out')) × (err' ≡ err)
-  Ends contents told (ended.Refused failure sent) out out' err err' =
-      IsTold sent (told err) (told err') (ended_line (refusal_line failure)) × (out' ≡ out)
-      × (((words : Words) × IsDenied words failure) ⊎ (failure ≡ Refused OutOfMemory))
-  Ends contents told (ended.Helped sent) out out' err err' =
-      (what : ErrorKind) × IsExplained what contents told (ended.Helped sent) out out' err err'
-  Ends contents told (ended.Misused sent) out out' err err' =
-      ((text : List ℕ) × IsTold sent (told err) (told err') text) × (out' ≡ out)
+  Ends contents told ends out out' err err' =
+      (read : Result (Option Words) Error) × EndsAfter read contents told ends out out' err err'

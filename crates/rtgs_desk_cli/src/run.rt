@@ -5,7 +5,7 @@ ghost use Rattle.clap.specs.Words.{kind_of};
 ghost use Rattle.rtgs_output.specs.declared.WriterFailed.{WriterFailed};
 ghost use Rattle.rtgs_desk_lines.specs.Failures.{line_of as refusal_line};
 ghost use Rattle.rtgs_desk_lines.specs.Told.{IsTold};
-ghost use Rattle.rtgs_desk_cli.specs.Runs.{ended_line, Ends, IsDenied, IsObeyed, IsExplained};
+ghost use Rattle.rtgs_desk_cli.specs.Runs.{ended_line, Ends, EndsAfter, IsDenied, IsObeyed, IsExplained};
 
 use crate::acting::act;
 use clap::Error;
@@ -62,6 +62,27 @@ fn obey<S: Start, O: Write>(
     }
 }
 
+/// Does what the words of a command line ask for that was read so, and tells how that ended.
+fn end<S: Start, O: Write, E: Write>(
+    rt: &HostRuntime,
+    read: Result<Option<Words<'_>>, Error>,
+    start: S,
+    out: &mut O,
+    err: &mut E,
+) -> Ended
+    ensures { EndsAfter (file_from ⟦<FileKeeper<S> as Keeper>⟧ S.Start (λ keeper. keeper.conn))
+        read.entry O.contents E.contents result out.old out.new err.old err.new }
+{
+    match read {
+        Ok(Some(words)) => match obey(rt, &words, start, out) {
+            Ok(printed) => Ended::Printed(printed),
+            Err(failure) => refused(failure, err),
+        },
+        Ok(None) => Ended::Misused(Ok(())),
+        Err(error) => explain(rt.alloc(), &error, out, err),
+    }
+}
+
 /// One run of the program with the words after its name, over a book's file that held what `S` says. What was done and
 /// help are printed on `out`, refusals and faults of the command line on `err`, each line with its end. The result says
 /// what became of that, and has the exit status.
@@ -75,12 +96,5 @@ pub fn run_words<S: Start, O: Write, E: Write>(
     ensures { Ends (file_from ⟦<FileKeeper<S> as Keeper>⟧ S.Start (λ keeper. keeper.conn))
         O.contents E.contents result out.old out.new err.old err.new }
 {
-    match read_words(rt.alloc(), words) {
-        Ok(Some(words)) => match obey(rt, &words, start, out) {
-            Ok(printed) => Ended::Printed(printed),
-            Err(failure) => refused(failure, err),
-        },
-        Ok(None) => Ended::Misused(Ok(())),
-        Err(error) => explain(rt.alloc(), &error, out, err),
-    }
+    end(rt, read_words(rt.alloc(), words), start, out, err)
 }
