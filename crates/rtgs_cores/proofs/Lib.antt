@@ -1,1 +1,3 @@
+pub mod Balances
+pub mod Following
 pub mod Lists

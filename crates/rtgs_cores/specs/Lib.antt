@@ -1,1 +1,3 @@
+pub mod Cores
+pub mod Following
 pub mod Nexts

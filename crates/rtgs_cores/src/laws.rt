@@ -1,12 +1,18 @@
 //! Laws of the definitions. Each function does nothing: its contract is the law.
-ghost use Rattle.std.specs.Prelude.{◌≡◌, ℕ, ◌<◌, ◌≤◌, true, Some};
+ghost use Rattle.std.specs.Prelude.{◌≡◌, ℕ, ◌<◌, ◌≤◌, true, List, Some};
 ghost use Rattle.std.specs.List.{AllByRecursion};
 ghost use Rattle.rtgs_book.specs.declared.Book.{Book};
 ghost use Rattle.rtgs_book.specs.declared.Posting.{Posting};
 ghost use Rattle.rtgs_book.specs.declared.Order.{Order};
 ghost use Rattle.rtgs_book.specs.declared.Mark.{Mark};
+ghost use Rattle.rtgs_book.specs.declared.RowChange.{RowChange};
+ghost use Rattle.rtgs_book.specs.Changes.{Leads};
 ghost use Rattle.rtgs_book.specs.Commands.{is_date};
+ghost use Rattle.rtgs_book.specs.Ranges.{Fits};
 ghost use Rattle.rtgs_book.specs.Soundness.{IsSound};
+ghost use Rattle.rtgs_cores.specs.declared.cores.Core.{Core};
+ghost use Rattle.rtgs_cores.specs.Cores.{IsCoreOf};
+ghost use Rattle.rtgs_cores.specs.Following.{core_after, AreBalanced, QueuesNoneAgain};
 ghost use Rattle.rtgs_cores.specs.Nexts.{posting_after, order_after, mark_after, date_of_posting, AreListed};
 
 /// In a sound book the numbers of the postings rise, and their dates never fall; so it is with orders and marks.
@@ -37,3 +43,11 @@ pub fn nexts_are_the_least()
 {
     records_are_listed();
 }
+
+/// Rows that lead from a book to another lead from the core of the one to that of the other, where they set its balances
+/// right and put no order back into a queue.
+pub fn cores_follow_changes()
+    ensures { (old new : Book) (core : Core) (rows : List RowChange) → IsCoreOf old core → Leads old rows new
+        → IsSound new → Fits new → AllByRecursion QueuesNoneAgain rows
+        → AreBalanced new (core_after core rows).accounts → IsCoreOf new (core_after core rows) }
+{}

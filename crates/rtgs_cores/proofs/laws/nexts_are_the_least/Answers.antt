@@ -1,5 +1,4 @@
-use Rattle.std.proofs.Common.{◌≡◌, ◌<◌, ◌≤◌, ◌==◌, true, ◌&&◌, nat_lt, Some, List, [], ◌∷◌, Bool, eqb-true, eq-eqb}
-use Rattle.std.specs.List.{AllByRecursion}
+use Rattle.std.proofs.Common.{◌≡◌, ◌<◌, ◌≤◌, ◌==◌, true, eqb-true, eq-eqb}
 use Rattle.std.proofs.lemmas.Bool.{and_parts, ltb-true, lt-ltb}
 use Rattle.rtgs_book.specs.declared.Posting.{Posting}
 use Rattle.rtgs_book.specs.declared.Order.{Order}
@@ -7,7 +6,7 @@ use Rattle.rtgs_book.specs.declared.Mark.{Mark}
 use Rattle.rtgs_book.specs.Commands.{is_date}
 use Rattle.rtgs_cores.specs.Nexts.{posting_after, order_after, mark_after, is_posting_after, is_order_after}
 use Rattle.rtgs_cores.specs.Nexts.{is_mark_after, date_of_posting}
-use Rattle.rtgs_cores.proofs.Lists.{are_listed, found_passes, found_least, weaker, both}
+use Rattle.rtgs_cores.proofs.Lists.{found_passes, found_least, weaker, both}
 use Rattle.rtgs_cores.proofs.laws.nexts_are_the_least.Goals as goal
 
 pub returns-clause-posting : goal.returns-clause-posting
