@@ -22,12 +22,11 @@ use Rattle.rtgs_book.specs.Lookup.{accounts, is_participant, order_named, is_ord
 use Rattle.rtgs_book.specs.Outcome.{first_of}
 use Rattle.rtgs_book.specs.Soundness.{OrdersAreNumbered}
 use Rattle.rtgs_book.specs.Step.{Step}
-use Rattle.rtgs_ledger.specs.Held.{Held}
-use Rattle.rtgs_ledger.specs.Kept.{IsKept, IsPrepared}
 use Rattle.rtgs_ledger.proofs.Balances.{same_int, all_same}
 use Rattle.rtgs_ledger.proofs.Kept.{StepKeepsRanges, StepKeepsSoundness, prepared_done}
 use Rattle.rtgs_ledger.proofs.Lists.{every, weaker}
 use Rattle.rtgs_ledger.proofs.Reading.{found_by_number}
+use Rattle.rtgs_ledger.proofs.Whole.{Held, IsKept, IsPrepared}
 
 module _ (book : Book) (sender reference : List ℕ) where
   pub unknown : is_participant book sender ≡ false → Step book (command.Withdraw sender reference)
@@ -130,5 +129,5 @@ module _ (held : Held) (kept : IsKept held) (law : BalanceAfterRestating) (sende
       prepared_done held (command.Withdraw sender reference) (answer.Withdrawn o.number)
       (SetState o.number Withdrawn ∷ []) new kept ranges soundness tt
       (withdraws held.content sender reference there o found not_back waits) leads_to_it (tt, tt)
-      (all_same (balance held.content) (balance new) balance_same held.accounts kept.balanced) (refl, tt)
+      (all_same (balance held.content) (balance new) balance_same held.accounts kept.balanced)
       (λ k e. absurd (cc)) (λ e. absurd (cc))

@@ -1,5 +1,8 @@
 //! Opening a business day.
 ghost use Rattle.std.specs.Prelude.{◌≡◌, IfOk, IfErr};
+ghost use Rattle.rtgs_book.specs.declared.book.Book.{Book};
+ghost use Rattle.rtgs_cores.specs.Cores.{IsCoreOf};
+ghost use Rattle.rtgs_ledger.specs.Held.{HasRoom};
 ghost use Rattle.rtgs_ledger.specs.Kept.{IsPrepared, IsRefused};
 
 use super::Ledger;
@@ -12,9 +15,11 @@ impl Ledger {
         &mut self,
         date: BusinessDate,
     ) -> Result<(Answer, Change), Refusal>
-        ensures content { self.new.content ≡ self.old.content }
-        ensures prepared { IfOk result (λ (answer, change). IsPrepared self.new (Command.OpenDay date) answer change) }
-        ensures refused { IfErr result (IsRefused self.old.content (Command.OpenDay date)) }
+        ensures core { self.new.core ≡ self.old.core }
+        ensures room { IfOk result (λ (answer, change). HasRoom self.new change) }
+        ensures prepared { (book : Book) → IsCoreOf book self.old.core → IfOk result (λ (answer, change). IsPrepared book self.old.core
+            (Command.OpenDay date) answer change) }
+        ensures refused { (book : Book) → IsCoreOf book self.old.core → IfErr result (IsRefused book (Command.OpenDay date)) }
     {
         if self.records.is_open_on(date) {
             return Ok(self.repeated(Known::Nothing));
