@@ -14,16 +14,11 @@ const KEYS: [(&str, &str); 3] = [
 /// What is printed of a file that is no book's.
 pub const NO_BOOK: &str = "refused 93 NotADeskFile\n";
 
-// A run over these words. The tests have no other, since each proof over it takes in all that a run does.
-fn ran(rt: &HostRuntime, words: &[&str], out: &mut Vec<u8>, err: &mut Vec<u8>) -> Ended {
-    run_words(rt, words, Unknown, out, err)
-}
-
 /// A run over these words ends with 0.
 fn does(rt: &HostRuntime, words: &[&str]) -> Result<(), Fail> {
     let mut out = Vec::new(rt.alloc());
     let mut err = Vec::new(rt.alloc());
-    let ended = ran(rt, words, &mut out, &mut err);
+    let ended = run_words(rt, words, Unknown, &mut out, &mut err);
     if matches!(ended, Ended::Printed(Printed::Whole)) && err.is_empty() {
         return Ok(());
     }
@@ -95,7 +90,7 @@ pub fn reports(rt: &HostRuntime, file: &str) -> Result<(String, u8), Fail> {
     let mut out = Vec::new(rt.alloc());
     let mut err = Vec::new(rt.alloc());
     let words = ["report", file, "2024-03-04"];
-    let status = ran(rt, &words, &mut out, &mut err).exit_status();
+    let status = run_words(rt, &words, Unknown, &mut out, &mut err).exit_status();
     let (said, silent) = if status == 0 { (out, err) } else { (err, out) };
     if !silent.is_empty() {
         return Err(Fail::from("both streams were printed on"));

@@ -1,79 +1,70 @@
-//! Databases on two disks in memory, their file and their log, each behind a fuse that passes so many calls on and
-//! fails each later one.
-use super::fuses::Fuses;
-use sqlite::{Connection, Error, ErrorCode, FileStore, Files, Options};
-use sqlite_disk::{Crash, Disk, Fuse, Memory};
+//! A desk over two disks in memory: a database file and its log.
+ghost use Rattle.std.specs.Prelude.{◌≡◌, false, IfOk};
+
+use rtgs_book::Book;
+use rtgs_desk::Desk;
+use rtgs_keeper::Keeper;
+use rtgs_stored_desk::{create, open};
+use rtgs_tables::SqlKeeper;
+use sqlite::{Connection, FileStore, Files, Options};
+use sqlite_disk::{Disk, Memory};
 use std::alloc::Global;
 use std::test::Fail;
 
-/// The two disks of a database.
-pub type Disks = Files<Fuse<Memory>>;
+/// A database on two disks in memory.
+pub type DiskStore = FileStore<Memory>;
 
-/// The store of a database on two disks.
-pub type DiskStore = FileStore<Fuse<Memory>>;
+/// A desk over such a database.
+pub type DiskDesk = Desk<SqlKeeper<DiskStore>>;
 
-/// What a store answers whose disk fails.
-const DISK_FAILED: Error = Error::SqliteFailure(ErrorCode::SystemIoFailure);
-
-/// New disks.
-pub fn blank(alloc: Global, fuses: Fuses) -> Disks {
-    Files {
-        log: Fuse::new(Memory::new(alloc), fuses.log),
-        db: Fuse::new(Memory::new(alloc), fuses.db),
+// Opens the database.
+fn connected(alloc: Global, files: Files<Memory>) -> Result<Connection<DiskStore>, Fail>
+    ensures { IfOk result (λ conn. conn.in_transaction ≡ false) }
+{
+    if !files.log.may_be_used() {
+        return Err(Fail::from("a log that may not be used"));
+    }
+    if !files.db.may_be_used() {
+        return Err(Fail::from("a file that may not be used"));
+    }
+    match Connection::open_files(alloc, files, Options::new(1)) {
+        Ok(conn) => Ok(conn),
+        Err((error, _)) => Err(Fail::from(error)),
     }
 }
 
-/// What a crash leaves: all that was synced. The fuses are new and do not blow.
-pub fn crashed(disks: Disks) -> Disks {
-    let mut disks = disks;
-    disks.log.crash();
-    disks.db.crash();
-    disks
+/// Opens the desk, whose tables were made.
+pub fn desk_again(alloc: Global, files: Files<Memory>) -> Result<DiskDesk, Fail> {
+    match open(alloc, connected(alloc, files)?) {
+        Ok(desk) => Ok(desk),
+        Err((fault, _)) => Err(Fail::from(fault)),
+    }
 }
 
-/// A store on two disks, whose databases are open as `C`. There is one. What is done with it goes by this trait, since
-/// each proof over the store by name takes in all that it and its disks do.
-pub trait OnDisks<C>: Sized {
-    /// Opens the database. Where a disk fails, and for no other reason, the disks come back.
-    fn opened(alloc: Global, disks: Disks) -> Result<Result<C, Disks>, Fail>;
-
-    /// Closes the database. Where a disk fails, and for no other reason, the disks come back as an error.
-    fn closed(conn: C) -> Result<Result<Disks, Disks>, Fail>;
-
-    /// The disks of a store of which nothing is closed.
-    fn into_disks(self) -> Disks;
+/// Closes a database.
+pub fn closed(keeper: SqlKeeper<DiskStore>) -> Result<Files<Memory>, Fail> {
+    match keeper.into_connection().close_files() {
+        Ok(files) => Ok(files),
+        Err((error, store)) => {
+            let _ = store.close();
+            Err(Fail::from(error))
+        }
+    }
 }
 
-impl OnDisks<Connection<DiskStore>> for DiskStore {
-    fn opened(alloc: Global, disks: Disks) -> Result<Result<Connection<DiskStore>, Disks>, Fail> {
-        if !disks.log.may_be_used() {
-            return Err(Fail::from("a log that may not be used"));
-        }
-        if !disks.db.may_be_used() {
-            return Err(Fail::from("a file that may not be used"));
-        }
-        match Connection::open_files(alloc, disks, Options::new(1)) {
-            Ok(conn) => Ok(Ok(conn)),
-            Err((error, left)) if error == DISK_FAILED => Ok(Err(left.into_files())),
-            Err((error, _)) => Err(Fail::from(error)),
-        }
+/// New disks with an empty book, which were closed.
+pub fn new_disks(alloc: Global) -> Result<Files<Memory>, Fail> {
+    let files = Files {
+        log: Memory::new(alloc),
+        db: Memory::new(alloc),
+    };
+    match create(alloc, connected(alloc, files)?) {
+        Ok(desk) => closed(desk.into_keeper()),
+        Err((fault, _)) => Err(Fail::from(fault)),
     }
+}
 
-    fn closed(conn: Connection<DiskStore>) -> Result<Result<Disks, Disks>, Fail> {
-        match conn.close_files() {
-            Ok(disks) => Ok(Ok(disks)),
-            Err((error, store)) => {
-                let left = store.close();
-                if error == DISK_FAILED {
-                    Ok(Err(left))
-                } else {
-                    Err(Fail::from(error))
-                }
-            }
-        }
-    }
-
-    fn into_disks(self) -> Disks {
-        self.close()
-    }
+/// The book on these disks.
+pub fn book_on(alloc: Global, files: Files<Memory>) -> Result<Book, Fail> {
+    Ok(desk_again(alloc, files)?.into_keeper().load(alloc)?)
 }

@@ -13,6 +13,9 @@ use std::alloc::Global;
 use std::cell::Cell;
 use std::test::Fail;
 
+/// A desk of which the commits are counted.
+pub type Counted<'a> = Desk<CountingKeeper<'a, MemoryKeeper>>;
+
 fn digest(key: &str) -> Result<KeyDigest, Fail> {
     Ok(Key::read(key.as_bytes())?.digest())
 }
@@ -56,8 +59,9 @@ fn commands() -> Result<[Command; 9], Fail> {
     ])
 }
 
-// A desk over a new keeper after these commands.
-fn desk_over<K: Keeper + Drop>(alloc: Global, keeper: K) -> Result<Desk<K>, Fail> {
+/// A desk after these commands. It adds to the count.
+pub fn desk_of<'a>(alloc: Global, commits: &'a Cell<usize>) -> Result<Counted<'a>, Fail> {
+    let keeper = CountingKeeper::new(MemoryKeeper::new(alloc), commits);
     let mut desk = match Desk::open(alloc, keeper) {
         Ok(desk) => desk,
         Err((fault, _)) => return Err(Fail::from(fault)),
@@ -68,13 +72,14 @@ fn desk_over<K: Keeper + Drop>(alloc: Global, keeper: K) -> Result<Desk<K>, Fail
     Ok(desk)
 }
 
-fn book_of<K: Keeper + Drop>(alloc: Global, desk: Desk<K>) -> Result<Book, Fail> {
-    Ok(desk.into_keeper().load(alloc)?)
-}
-
 /// The book that the desk begins with.
 pub fn book_before(alloc: Global) -> Result<Book, Fail> {
-    book_of(alloc, desk_over(alloc, MemoryKeeper::new(alloc))?)
+    let commits = Cell::new(0);
+    book_after(alloc, desk_of(alloc, &commits)?)
+}
+
+fn book_after(alloc: Global, desk: Counted<'_>) -> Result<Book, Fail> {
+    Ok(desk.into_keeper().load(alloc)?)
 }
 
 fn are_same<T: PartialEq>(one: &Rows<T>, other: &Rows<T>) -> bool {
@@ -90,7 +95,7 @@ fn is_same_book(one: &Book, other: &Book) -> bool {
 }
 
 // What the desk tells of an input, in a reply that is written whole and bears the status that is told.
-fn served<K: Keeper + Drop>(alloc: Global, desk: &mut Desk<K>, input: &[u8]) -> Result<Told, Fail> {
+fn served(alloc: Global, desk: &mut Counted<'_>, input: &[u8]) -> Result<Told, Fail> {
     let operator = digest(OPERATOR)?;
     let mut reader = input;
     let mut written = Vec::new(alloc);
@@ -105,31 +110,18 @@ fn served<K: Keeper + Drop>(alloc: Global, desk: &mut Desk<K>, input: &[u8]) -> 
     told_by(alloc, written.as_slice())
 }
 
-// What a desk over a new keeper tells of an input. Where it did not tell of a command its keeper, which counts its
-// commits, made none, and has the book that it began with.
-fn served_over<K: Keeper + Drop>(
-    alloc: Global,
-    keeper: K,
-    commits: &Cell<usize>,
-    before: &Book,
-    input: &[u8],
-) -> Result<Told, Fail> {
-    let mut desk = desk_over(alloc, keeper)?;
+/// What a desk tells of an input. A desk that did not tell of a command made no commit, and has the book that it began
+/// with.
+pub fn serve(alloc: Global, before: &Book, input: &[u8]) -> Result<Told, Fail> {
+    let commits = Cell::new(0);
+    let mut desk = desk_of(alloc, &commits)?;
     let begun = commits.get();
     let told = served(alloc, &mut desk, input)?;
     let made = commits.get().saturating_sub(begun);
-    let is_same = is_same_book(&book_of(alloc, desk)?, before);
+    let is_same = is_same_book(&book_after(alloc, desk)?, before);
     if told == Told::Done || (made == 0 && is_same) {
         return Ok(told);
     }
     let said = format!(in alloc; "{told:?}, {made} commits, the same book: {is_same}")?;
     Err(Fail::from(said))
-}
-
-/// What a desk tells of an input. A desk that did not tell of a command made no commit, and has the book that it began
-/// with.
-pub fn serve(alloc: Global, before: &Book, input: &[u8]) -> Result<Told, Fail> {
-    let commits = Cell::new(0);
-    let keeper = CountingKeeper::new(MemoryKeeper::new(alloc), &commits);
-    served_over(alloc, keeper, &commits, before, input)
 }
