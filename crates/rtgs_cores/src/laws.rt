@@ -44,8 +44,8 @@ pub fn nexts_are_the_least()
     records_are_listed();
 }
 
-/// Rows that lead from a book to another lead from the core of the one to that of the other, where they set its balances
-/// right and put no order back into a queue.
+/// Rows that lead from a book to another lead from the core of the one to that of the other, where they set its
+/// balances right and put no order back into a queue.
 pub fn cores_follow_changes()
     ensures { (old new : Book) (core : Core) (rows : List RowChange) → IsCoreOf old core → Leads old rows new
         → IsSound new → Fits new → AllByRecursion QueuesNoneAgain rows
