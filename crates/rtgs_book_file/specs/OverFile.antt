@@ -1,7 +1,10 @@
 -- What crates that know no store say of the file of a book.
-use Rattle.std.specs.Prelude.{List}
+use Rattle.std.specs.Prelude.{◌≡◌, ◌⊎◌, List}
 use Rattle.sqlite_disk.specs.declared.Disk as disk
 use Rattle.sqlite_disk.specs.declared.Start as start
+use Rattle.sqlite_disk.specs.declared.modelled.Modelled.{Modelled}
+use Rattle.sqlite_std_file.specs.declared.host.Host.{Host}
+use Rattle.sqlite_std_file.specs.contracts.host.HostCalls.TheImpl as host_calls
 use Rattle.sqlite.specs.Files.{file_state}
 use Rattle.sqlite.specs.Held.{Held}
 use Rattle.sqlite.specs.WalFiles.{image_at}
@@ -12,34 +15,49 @@ use Rattle.rtgs_book.specs.Outcome.{Reply}
 use Rattle.rtgs_keeper.specs.declared.keeper.Keeper.{Ghosts}
 use Rattle.rtgs_desk.specs.Seen.{Seen}
 use Rattle.rtgs_stored_desk.specs.Stored.{StopLeaves}
+use Rattle.rtgs_book_file.specs.Causes.{fault_of_cause, IsOfItsLock, ShowsNoBook, BarsBook}
+use Rattle.rtgs_book_file.specs.Closed.{LeavesClosed}
 use Rattle.rtgs_book_file.specs.Opened.{WasOpened, WasMade}
-use Rattle.rtgs_book_file.specs.Refused.{IsUnopened, IsUnmadeIn}
 use Rattle.rtgs_book_file.specs.declared.file_fault.FileFault.{FileFault}
+use Rattle.rtgs_book_file.specs.declared.let_go.LetGo.{LetGo}
+use Rattle.rtgs_book_file.specs.declared.unopened.Unopened.{Unopened}
 
--- the file of a book, whose keeper is a K
-pub record OverFile (K : Type 0) : Type 1 where
+-- the file of a book, whose keeper is a K; a U is the file over which no desk was opened, and a C the one that was closed
+pub record OverFile (K U C : Type 0) : Type 1 where
   -- the members of the keeper's trait
   pub keeper : Ghosts K
   -- the desk was opened over what the files held
   pub was_opened : Seen K → Type 0
-  -- no desk was opened over it, for this
-  pub was_unopened : FileFault → Type 0
-  -- the tables of a new book were made over what the files held
-  pub was_made : Type 0
-  -- no book was made in it, for this
-  pub was_unmade : FileFault → Type 0
+  -- the desk was left so, and then the file was closed
+  pub was_closed : Seen K → C → Type 0
+  -- no desk was opened over it, and what refused it
+  pub was_unopened : U → Type 0
+  -- the tables of a new book were made over what the files held, and then the file was closed
+  pub was_made : C → Type 0
+  -- no book was made in it, and what refused it
+  pub was_unmade : U → Type 0
+  -- how it is told that no desk was opened over it, or no book made in it
+  pub fault_of : U → FileFault
   -- Whatever a stop leaves of the desk's file is a book that a session of these commands may find, in its tables,
   -- whole.
   pub stop_leaves : Seen K → Book → List Command → List Reply → Type 0
 
 -- a file that held what the second says, with the keeper's trait and its connection
-abbrev pub file_from : {K D S : Type 0} {g : disk.Ghosts D} → Ghosts K → start.Ghosts S → (K → Held (FileStore D g))
-    → OverFile K
+abbrev pub file_from : {K S : Type 0} → Ghosts K → (first : start.Ghosts S)
+    → {g : disk.Ghosts (Modelled Host S host_calls.ghosts first)}
+    → (K → Held (FileStore (Modelled Host S host_calls.ghosts first) g))
+    → OverFile K (Unopened S first) (LetGo S first)
 file_from k first conn = record {
   keeper = k;
   was_opened = λ desk. WasOpened k (image_at first) desk (conn desk.keeper);
-  was_unopened = IsUnopened k conn (image_at first);
-  was_made = (files : _) × WasMade k conn (image_at first) files;
-  was_unmade = IsUnmadeIn k conn (image_at first);
+  was_closed = λ desk closed. LeavesClosed (conn desk.keeper) closed.files.value;
+  was_unopened = λ unopened. (IsOfItsLock unopened.cause
+      ⊎ ShowsNoBook k conn (image_at first) (λ closed. closed.files.value) unopened.cause)
+      × (unopened.fault ≡ fault_of_cause unopened.cause);
+  was_made = λ made. WasMade k conn (image_at first) made.files.value;
+  was_unmade = λ unmade. (IsOfItsLock unmade.cause
+      ⊎ BarsBook k conn (image_at first) (λ closed. closed.files.value) unmade.cause)
+      × (unmade.fault ≡ fault_of_cause unmade.cause);
+  fault_of = λ unopened. unopened.fault;
   stop_leaves = λ desk book commands replies. StopLeaves book commands replies (file_state (conn desk.keeper));
 }

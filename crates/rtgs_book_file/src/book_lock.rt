@@ -3,7 +3,7 @@ ghost use Rattle.std.specs.Prelude.{◌≡◌, string_bytes, IfOk, IfErr};
 ghost use Rattle.sqlite.specs.WalFiles.{image_at};
 ghost use Rattle.rtgs_book_file.specs.Files.{lock_name};
 ghost use Rattle.rtgs_book_file.specs.Refused.{IsNotLocked, IsUnopened, IsUnmadeIn};
-ghost use Rattle.rtgs_book_file.specs.Causes.{IsOfItsLock};
+ghost use Rattle.rtgs_book_file.specs.Causes.{IsOfItsLock, fault_of_cause};
 
 use crate::cause::Cause;
 use crate::locked::Locked;
@@ -32,6 +32,7 @@ impl<'a, S: Start> BookLock<'a, S> {
     pub fn take(rt: &HostRuntime, path: &'a str, start: S) -> Result<BookLock<'a, S>, Unopened<S>>
         ensures refused { IfErr result (λ unopened. IsNotLocked unopened.fault) }
         ensures cause { IfErr result (λ unopened. IsOfItsLock unopened.cause) }
+        ensures told { IfErr result (λ unopened. unopened.fault ≡ fault_of_cause unopened.cause) }
         ensures unopened { IfErr result (λ unopened. IsUnopened ⟦<FileKeeper<S> as Keeper>⟧ (λ keeper. keeper.conn)
             (image_at S.Start) unopened.fault) }
         ensures unmade { IfErr result (λ unopened. IsUnmadeIn ⟦<FileKeeper<S> as Keeper>⟧ (λ keeper. keeper.conn)

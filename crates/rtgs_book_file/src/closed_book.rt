@@ -10,7 +10,7 @@ use sqlite::{Connection, FileFrom, FileStore, Files, Start};
 /// the files are let go, and then the lock.
 #[derive(Drop)]
 pub struct ClosedBook<S: Start> {
-    files: Files<FileFrom<S>>,
+    pub(crate) files: Files<FileFrom<S>>,
     lock: Locked,
 }
 

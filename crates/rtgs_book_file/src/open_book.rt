@@ -16,6 +16,7 @@ use crate::cause::Cause;
 use crate::closed_book::ClosedBook;
 use crate::finished_book::FinishedBook;
 use crate::held_lock::HeldLock;
+use crate::let_go::LetGo;
 use crate::looked_at::LookedAt;
 use crate::store::{FileKeeper, connect};
 use crate::unopened::Unopened;
@@ -40,7 +41,7 @@ impl<S: Start> BookLock<'_, S> {
         ensures refused { IfErr result (λ unopened. (fault : FaultSpec) × (unopened.fault ≡ Book fault)
             × HasNoBook ⟦<FileKeeper<S> as Keeper>⟧ (λ keeper. keeper.conn) (image_at S.Start) fault) }
         ensures cause { IfErr result (λ unopened. ShowsNoBook ⟦<FileKeeper<S> as Keeper>⟧ (λ keeper. keeper.conn)
-            (image_at S.Start) (λ closed. closed.files) unopened.cause) }
+            (image_at S.Start) (λ closed. closed.files.value) unopened.cause) }
         ensures told { IfErr result (λ unopened. unopened.fault ≡ fault_of_cause unopened.cause) }
         ensures unopened { IfErr result (λ unopened.
             IsUnopened ⟦<FileKeeper<S> as Keeper>⟧ (λ keeper. keeper.conn) (image_at S.Start) unopened.fault) }
@@ -53,22 +54,19 @@ impl<S: Start> BookLock<'_, S> {
 
     /// Makes the tables of a new book in the file, closes it, and lets the lock go. `FileExists` where the file holds
     /// anything, and a fault of the book where the file cannot be looked at, or the store fails.
-    pub fn make(self, rt: &HostRuntime) -> Result<(), Unopened<S>>
-        ensures made { IfOk result (λ _. (files : _)
-            × WasMade ⟦<FileKeeper<S> as Keeper>⟧ (λ keeper. keeper.conn) (image_at S.Start) files) }
+    pub fn make(self, rt: &HostRuntime) -> Result<LetGo<S>, Unopened<S>>
+        ensures made { IfOk result (λ made. WasMade ⟦<FileKeeper<S> as Keeper>⟧ (λ keeper. keeper.conn)
+            (image_at S.Start) made.files.value) }
         ensures refused { IfErr result (λ unopened.
             IsNotMade ⟦<FileKeeper<S> as Keeper>⟧ (λ keeper. keeper.conn) (image_at S.Start) unopened.fault) }
         ensures cause { IfErr result (λ unopened. BarsBook ⟦<FileKeeper<S> as Keeper>⟧ (λ keeper. keeper.conn)
-            (image_at S.Start) (λ closed. closed.files) unopened.cause) }
+            (image_at S.Start) (λ closed. closed.files.value) unopened.cause) }
         ensures told { IfErr result (λ unopened. unopened.fault ≡ fault_of_cause unopened.cause) }
         ensures unmade { IfErr result (λ unopened.
             IsUnmadeIn ⟦<FileKeeper<S> as Keeper>⟧ (λ keeper. keeper.conn) (image_at S.Start) unopened.fault) }
     {
         match make_book(rt, self) {
-            Ok(closed) => {
-                drop(closed);
-                Ok(())
-            }
+            Ok(made) => Ok(made),
             Err(cause) => Err(Unopened::of(cause)),
         }
     }
@@ -97,12 +95,12 @@ impl<K: Keeper> OpenBook<K> {
 fn open_book<S: Start>(
     rt: &HostRuntime,
     lock: BookLock<'_, S>,
-) -> Result<OpenBook<FileKeeper<S>>, Cause<ClosedBook<S>>>
+) -> Result<OpenBook<FileKeeper<S>>, Cause<LetGo<S>>>
     ensures opened { IfOk result (λ book. HasCleanDisk (file_state book.desk.keeper.conn)
         → WasOpened ⟦<FileKeeper<S> as Keeper>⟧ (image_at S.Start) book.desk book.desk.keeper.conn) }
     ensures held { IfOk result (λ book. book.lock.locked ≡ lock.entry.locked) }
     ensures refused { IfErr result (ShowsNoBook ⟦<FileKeeper<S> as Keeper>⟧ (λ keeper. keeper.conn)
-        (image_at S.Start) (λ closed. closed.files)) }
+        (image_at S.Start) (λ closed. closed.files.value)) }
 {
     let file = lock.with_database(rt)?;
     open_desk(rt, file)
@@ -112,32 +110,29 @@ fn open_book<S: Start>(
 fn open_desk<S: Start>(
     rt: &HostRuntime,
     file: LookedAt<'_, S>,
-) -> Result<OpenBook<FileKeeper<S>>, Cause<ClosedBook<S>>>
+) -> Result<OpenBook<FileKeeper<S>>, Cause<LetGo<S>>>
     ensures opened { IfOk result (λ book. HasCleanDisk (file_state book.desk.keeper.conn)
         → WasOpened ⟦<FileKeeper<S> as Keeper>⟧ (image_at S.Start) book.desk book.desk.keeper.conn) }
     ensures held { IfOk result (λ book. book.lock.locked ≡ file.entry.lock.locked) }
     ensures refused { IfErr result (ShowsNoBook ⟦<FileKeeper<S> as Keeper>⟧ (λ keeper. keeper.conn)
-        (image_at S.Start) (λ closed. closed.files)) }
+        (image_at S.Start) (λ closed. closed.files.value)) }
 {
     let (conn, lock) = connect(rt, file)?;
     match rtgs_stored_desk::open(rt.alloc(), conn) {
         Ok(desk) => Ok(OpenBook { desk, lock }),
         Err((fault, keeper)) => {
             let closed = ClosedBook::given_up(keeper.into_connection(), lock);
-            Err(Cause::GivenUp(fault, closed))
+            Err(Cause::GivenUp(fault, closed.let_go()))
         }
     }
 }
 
 // Makes the tables of a new book in a file whose lock was taken, and closes it.
-fn make_book<S: Start>(
-    rt: &HostRuntime,
-    lock: BookLock<'_, S>,
-) -> Result<ClosedBook<S>, Cause<ClosedBook<S>>>
+fn make_book<S: Start>(rt: &HostRuntime, lock: BookLock<'_, S>) -> Result<LetGo<S>, Cause<LetGo<S>>>
     ensures made { IfOk result (λ closed.
-        WasMade ⟦<FileKeeper<S> as Keeper>⟧ (λ keeper. keeper.conn) (image_at S.Start) closed.files) }
+        WasMade ⟦<FileKeeper<S> as Keeper>⟧ (λ keeper. keeper.conn) (image_at S.Start) closed.files.value) }
     ensures refused { IfErr result (BarsBook ⟦<FileKeeper<S> as Keeper>⟧ (λ keeper. keeper.conn)
-        (image_at S.Start) (λ closed. closed.files)) }
+        (image_at S.Start) (λ closed. closed.files.value)) }
 {
     let file = lock.with_nothing(rt)?;
     make_tables(rt, file)
@@ -147,15 +142,15 @@ fn make_book<S: Start>(
 fn make_tables<S: Start>(
     rt: &HostRuntime,
     file: LookedAt<'_, S>,
-) -> Result<ClosedBook<S>, Cause<ClosedBook<S>>>
+) -> Result<LetGo<S>, Cause<LetGo<S>>>
     ensures made { IfOk result (λ closed.
-        WasMade ⟦<FileKeeper<S> as Keeper>⟧ (λ keeper. keeper.conn) (image_at S.Start) closed.files) }
+        WasMade ⟦<FileKeeper<S> as Keeper>⟧ (λ keeper. keeper.conn) (image_at S.Start) closed.files.value) }
     ensures refused { IfErr result (BarsBook ⟦<FileKeeper<S> as Keeper>⟧ (λ keeper. keeper.conn)
-        (image_at S.Start) (λ closed. closed.files)) }
+        (image_at S.Start) (λ closed. closed.files.value)) }
 {
     let (conn, lock) = connect(rt, file)?;
     match rtgs_stored_desk::make(conn) {
-        Ok(made) => Ok(ClosedBook::copied(made, lock)),
-        Err((fault, left)) => Err(Cause::GivenUp(fault, ClosedBook::given_up(left, lock))),
+        Ok(made) => Ok(ClosedBook::copied(made, lock).let_go()),
+        Err((fault, left)) => Err(Cause::GivenUp(fault, ClosedBook::given_up(left, lock).let_go())),
     }
 }

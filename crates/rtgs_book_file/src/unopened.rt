@@ -3,24 +3,24 @@ ghost use Rattle.std.specs.Prelude.{◌≡◌};
 ghost use Rattle.rtgs_book_file.specs.Causes.{fault_of_cause};
 
 use crate::cause::Cause;
-use crate::closed_book::ClosedBook;
 use crate::file_fault::FileFault;
+use crate::let_go::LetGo;
 use sqlite::Start;
 use std::fmt;
 
 /// A book's file over which no desk was opened, how that is told, and what refused it. Only a lock that was not taken,
 /// or that did not lead to a desk, makes one, and each of them took the only `Start` of its run: so a run that has this
-/// value has opened no desk over the file, and opens none. Where the store was opened, its files and its lock are let
-/// go with the value.
+/// value has opened no desk over the file, and opens none. Where the store was opened, its files were let go, and then
+/// its lock.
 #[derive(Drop)]
 pub struct Unopened<S: Start> {
     fault: FileFault,
-    cause: Cause<ClosedBook<S>>,
+    cause: Cause<LetGo<S>>,
 }
 
 impl<S: Start> Unopened<S> {
     /// No desk was opened, for this.
-    pub(crate) fn of(cause: Cause<ClosedBook<S>>) -> Unopened<S>
+    pub(crate) fn of(cause: Cause<LetGo<S>>) -> Unopened<S>
         ensures cause { result.cause ≡ cause }
         ensures told { result.fault ≡ fault_of_cause cause }
     {

@@ -1,3 +1,5 @@
+use Rattle.std.proofs.Common.{sym, subst}
+use Rattle.rtgs_book_file.specs.Closed.{LeavesClosed, LeavesNoMore}
 use Rattle.rtgs_book_file.proofs.open_book.make_tables.Goals as goal
 
 pub returns-in-Ok-clause-made : goal.returns-in-Ok-clause-made
@@ -7,7 +9,7 @@ returns-in-Ok-clause-made g c = record {
   opened = c.in_ok-conn.ensures.opened;
   found = c.in_ok-conn.ensures.found;
   leaves = c.in-Ok.ensures.stops;
-  closed = c.copied.ensures.closed;
+  closed = subst (LeavesClosed c.in-Ok.made) (sym c.let_go.ensures) c.copied.ensures.closed;
 }
 
 pub returns-in-Err-clause-refused : goal.returns-in-Err-clause-refused
@@ -17,5 +19,5 @@ returns-in-Err-clause-refused g c = record {
   opened = c.in_ok-conn.ensures.opened;
   found = c.in_ok-conn.ensures.found;
   refused = c.in-Err.ensures.refused;
-  given_up = c.given_up.ensures.given_up;
+  given_up = subst (LeavesNoMore c.in-Err.left) (sym c.let_go-in-Err.ensures) c.given_up.ensures.given_up;
 }

@@ -1,0 +1,24 @@
+//! A book's file that was closed and let go.
+use crate::closed_book::ClosedBook;
+use sqlite::{FileFrom, Files, Start};
+use std::snapshot::Snapshot;
+
+/// A book's file that was closed and let go, with its lock. It has no bytes: it is there for contracts, which name by
+/// it what was left of the files. Only a book that was closed makes one.
+#[derive(Drop)]
+pub struct LetGo<S: Start> {
+    files: Snapshot<Files<FileFrom<S>>>,
+}
+
+impl<S: Start> ClosedBook<S> {
+    ghost use Rattle.std.specs.Prelude.{◌≡◌};
+
+    /// Lets the files go, and then the lock.
+    pub fn let_go(self) -> LetGo<S>
+        ensures { result.files.value ≡ self.files }
+    {
+        let files = Snapshot::of(&self.files);
+        drop(self);
+        LetGo { files }
+    }
+}
