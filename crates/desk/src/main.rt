@@ -24,7 +24,8 @@ fn run(rt: &HostRuntime, args: Args<Global>) -> Result<u8, AllocError> {
     let words = words_of(rt.alloc(), given.as_slice())?;
     let mut out = rt.stdout();
     let mut err = rt.stderr();
-    Ok(run_words(rt, words.as_slice(), Unknown, &mut out, &mut err).exit_status())
+    let (ended, _) = run_words(rt, words.as_slice(), Unknown, &mut out, &mut err);
+    Ok(ended.exit_status())
 }
 
 fn main(rt: HostRuntime) -> ExitCode {

@@ -21,7 +21,8 @@ fn open(rt: &HostRuntime, file: &str) -> std::result::Result<FileBook, Unopened<
 
 /// Makes a book in a file.
 fn make(rt: &HostRuntime, file: &str) -> std::result::Result<(), Unopened<Unknown>> {
-    BookLock::take(rt, file, Unknown)?.make(rt)
+    BookLock::take(rt, file, Unknown)?.make(rt)?;
+    Ok(())
 }
 
 /// The book in a file.

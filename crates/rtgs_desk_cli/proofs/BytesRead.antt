@@ -47,7 +47,7 @@ fails_alike V g (reading.Queue code) desk why fails = fails
 fails_alike V g (reading.Statement code date) desk why fails = fails
 fails_alike V g (reading.Report date) desk why fails = fails
 
-module _ {K : Type 0} (file : OverFile K) {V : Type 0} (bytes_of : V → List ℕ) (asked : Reading)
+module _ {K U C : Type 0} (file : OverFile K U C) {V : Type 0} (bytes_of : V → List ℕ) (asked : Reading)
     (read : Result V Refusal) (left : Seen K) (did : IsRead file bytes_of asked read left) where
   pub bytes_read : (text : V) → read ≡ Ok text → IsRead file (λ bytes. bytes) asked (Ok (bytes_of text)) left
   bytes_read text is = record {

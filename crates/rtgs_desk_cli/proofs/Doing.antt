@@ -16,7 +16,7 @@ use Rattle.rtgs_http_banks.specs.Dealings.{Stands}
 use Rattle.rtgs_book_file.specs.OverFile.{OverFile}
 use Rattle.rtgs_desk_cli.specs.Did.{IsDone, IsIdle, IsRead, IsSent, IsServed, IsSubmitted, SentOver, ServedOver}
 
-module _ {K : Type 0} (file : OverFile K) {opened lent left finished : Seen K} (lends : lent ≡ opened)
+module _ {K U C : Type 0} (file : OverFile K U C) {opened lent left finished : Seen K} (lends : lent ≡ opened)
     (same : finished ≡ left) (over : file.keeper.is_honest opened.keeper → file.was_opened opened)
     (honest : file.keeper.is_honest left.keeper → file.keeper.is_honest lent.keeper) where
   -- a promise of each book that the desk held when it was lent

@@ -1,5 +1,5 @@
 -- What is said of a book with which something was done, once it was closed.
-use Rattle.std.proofs.Common.{◌≡◌, ℕ, Bool, List, length, Option, Result, Ok, Err, refl, sym}
+use Rattle.std.proofs.Common.{◌≡◌, ◌⊎◌, inl, inr, ℕ, Bool, List, length, Option, Result, Ok, Err, refl, sym}
 use Rattle.std.proofs.Common.{subst}
 use Rattle.std.specs.Result.{IfOk, IfErr, OnErr}
 use Rattle.std.proofs.lemmas.Result.{IfOk-weaker, IfErr-weaker}
@@ -16,7 +16,8 @@ use Rattle.rtgs_exchange.specs.declared.batch_result.RowReply.{RowReply}
 use Rattle.rtgs_exchange.specs.declared.order_row.OrderRow.{OrderRow}
 use Rattle.rtgs_book_file.specs.OverFile.{OverFile}
 use Rattle.rtgs_desk_cli.specs.Did.{IsIdle, IsRead, IsSent, IsServed, IsSubmitted}
-use Rattle.rtgs_desk_cli.specs.Runs.{IsImported, server_text, stop_of_desk}
+use Rattle.rtgs_desk_cli.specs.Runs.{IsClosed, IsImported, server_text, stop_of_desk}
+use Rattle.rtgs_desk_cli.specs.declared.touched.Touched.{Touched}
 
 -- what is so of each book and what was done with it, is so of these
 pub when_done : {B T E : Type 0} (finished : Result (B × T) E) (P : B × T → Type 0) → IfOk finished P → (book : B)
@@ -32,7 +33,26 @@ refused_as (Err other) why S P told it =
     let same : other ≡ why = cc in
     subst P (sym same) it
 
-module _ {K B E : Type 0} (file : OverFile K) where
+-- each of two cases leads to one of two others
+pub either_way : {P Q R S : Type 0} → (P → R) → (Q → S) → P ⊎ Q → R ⊎ S
+either_way first second (inl p) = inl (first p)
+either_way first second (inr q) = inr (second q)
+
+-- what is so of this refusal is so of a result that is it
+pub refused_with : {T E : Type 0} (result : Result T E) (why : E) (P : E → Type 0) → result ≡ Err why → P why
+    → IfErr result P
+refused_with result why P is it = subst (λ r. IfErr r P) (sym is) it
+
+-- what is so of a refusal is so of this one
+pub when_refused : {T E : Type 0} (result : Result T E) (P : E → Type 0) → IfErr result P → (why : E)
+    → result ≡ Err why → P why
+when_refused result P all why is = subst (λ r. IfErr r P) is all
+
+-- a result that is a refusal is nothing else
+pub not_done : {T E : Type 0} (result : Result T E) (why : E) (P : T → Type 0) → result ≡ Err why → IfOk result P
+not_done result why P is = subst (λ r. IfOk r P) (sym is) tt
+
+module _ {K B U C E : Type 0} (file : OverFile K U C) where
   module _ (desk_of : B → Seen K) where
     -- the book with which a command was submitted
     pub submitted_with : (command : Command) (finished : Result (B × Reply) E)
@@ -49,8 +69,8 @@ module _ {K B E : Type 0} (file : OverFile K) where
     read_with text_of reading finished all book done is =
         when_done finished (λ p. IsRead file text_of reading p.1 (desk_of p.0)) all book done is
 
-    module _ {V W : Type 0} (finished : Result (B × Result V W) E) (book : B) (done : Result V W)
-        (is : finished ≡ Ok (book, done)) where
+    module _ {A V W : Type 0} {touched : Touched A U C} (finished : Result (B × Result V W) E) (book : B)
+        (done : Result V W) (is : finished ≡ Ok (book, done)) (closed : IsClosed file (desk_of book) touched) where
       -- the book to which the rows of a batch were sent
       pub imported_with : (sender : List ℕ) (rows_of : V → List OrderRow) (replies_of : V → List RowReply)
           (stop_of : V → Option Refusal)
@@ -59,11 +79,12 @@ module _ {K B E : Type 0} (file : OverFile K) where
           StopsAfter (length (replies_of it)) (length (rows_of it)) (stop_of it)))
           → IfOk finished (λ p. IfOk p.1 (λ it.
           IsSent file sender (rows_of it) (replies_of it) (stop_of it) (desk_of p.0)))
-          → (it : V) → done ≡ Ok it → IsImported file sender (rows_of it) (replies_of it) (stop_of it)
+          → (it : V) → done ≡ Ok it → IsImported file touched sender (rows_of it) (replies_of it) (stop_of it)
       imported_with sender rows_of replies_of stop_of rows stops sent it well =
           let so : (P : B → V → Type 0) → IfOk finished (λ p. IfOk p.1 (P p.0)) → P book it = λ P all.
           subst (λ r. IfOk r (P book)) well (when_done finished (λ p. IfOk p.1 (P p.0)) all book done is) in (
             desk_of book,
+            closed,
             so (λ book it. IsSent file sender (rows_of it) (replies_of it) (stop_of it) (desk_of book)) sent,
             so (λ _ it. (bytes : List ℕ) × IsOrderFile bytes (rows_of it)) rows,
             so (λ _ it. StopsAfter (length (replies_of it)) (length (rows_of it)) (stop_of it)) stops,
@@ -71,17 +92,19 @@ module _ {K B E : Type 0} (file : OverFile K) where
 
       -- the book with which nothing was done
       pub idle_with : (Why : W → Type 0) → IfOk finished (λ p. IfErr p.1 (λ why. Why why × IsIdle file (desk_of p.0)))
-          → IfErr done (λ why. Why why × (left : Seen K) × IsIdle file left)
-      idle_with Why all = IfErr-weaker done _ _ (λ why it. (it.0, desk_of book, it.1))
+          → IfErr done (λ why. Why why × (left : Seen K) × IsClosed file left touched × IsIdle file left)
+      idle_with Why all = IfErr-weaker done _ _ (λ why it. (it.0, desk_of book, closed, it.1))
           (when_done finished (λ p. IfErr p.1 (λ why. Why why × IsIdle file (desk_of p.0))) all book done is)
 
       pub idle_for : (Why : W → Type 0) → IfOk finished (λ p. IfErr p.1 (λ why. Why why × IsIdle file (desk_of p.0)))
-          → (why : W) → done ≡ Err why → Why why × (left : Seen K) × IsIdle file left
+          → (why : W) → done ≡ Err why → Why why × (left : Seen K) × IsClosed file left touched × IsIdle file left
       idle_for Why all why refused =
-          subst (λ r. IfErr r (λ why. Why why × (left : Seen K) × IsIdle file left)) refused (idle_with Why all)
+          subst (λ r. IfErr r (λ why. Why why × (left : Seen K) × IsClosed file left touched × IsIdle file left)) refused
+          (idle_with Why all)
 
-    module _ {W : Type 0} (finished : Result (B × Result Printed W) E) (book : B) (done : Result Printed W)
-        (is : finished ≡ Ok (book, done)) (port count : ℕ) (old new : Option (List ℕ)) where
+    module _ {A W : Type 0} {touched : Touched A U C} (finished : Result (B × Result Printed W) E) (book : B)
+        (done : Result Printed W) (is : finished ≡ Ok (book, done)) (closed : IsClosed file (desk_of book) touched)
+        (port count : ℕ) (old new : Option (List ℕ)) where
       -- what a server whose desk failed, or did not, has to print, and where it stops
       abbrev IsSaid : Bool → Printed → Type 0
       IsSaid failed printed = Prints (server_text port count failed) (stop_of_desk failed) printed old new
@@ -90,9 +113,10 @@ module _ {K B E : Type 0} (file : OverFile K) where
       pub served_with : (operator : List ℕ) → IfOk finished (λ p. IfOk p.1 (λ printed.
           IsServed file operator (desk_of p.0) × IsSaid (file.keeper.has_failed (desk_of p.0).keeper) printed))
           → IfOk done (λ printed. (text : List ℕ) × (stopped : Option Refusal) × ((left : Seen K)
-          × IsServed file operator left × (text ≡ server_text port count (file.keeper.has_failed left.keeper))
+          × IsClosed file left touched × IsServed file operator left
+          × (text ≡ server_text port count (file.keeper.has_failed left.keeper))
           × (stopped ≡ stop_of_desk (file.keeper.has_failed left.keeper))) × Prints text stopped printed old new)
       served_with operator all =
-          IfOk-weaker done _ _ (λ printed it. (_, _, (desk_of book, it.0, refl, refl), it.1))
+          IfOk-weaker done _ _ (λ printed it. (_, _, (desk_of book, closed, it.0, refl, refl), it.1))
           (when_done finished (λ p. IfOk p.1 (λ printed. IsServed file operator (desk_of p.0)
           × IsSaid (file.keeper.has_failed (desk_of p.0).keeper) printed)) all book done is)

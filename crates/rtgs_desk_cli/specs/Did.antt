@@ -18,7 +18,7 @@ use Rattle.rtgs_exchange.specs.declared.batch_result.RowReply.{RowReply}
 use Rattle.rtgs_exchange.specs.declared.order_row.OrderRow.{OrderRow}
 
 -- what rows that were submitted make of a book that the desk over the file held, and what a stop then leaves
-abbrev pub SentOver : {K : Type 0} → OverFile K → Book → List ℕ → List OrderRow → List RowReply → Option Refusal
+abbrev pub SentOver : {K U C : Type 0} → OverFile K U C → Book → List ℕ → List OrderRow → List RowReply → Option Refusal
     → Seen K → Type 0
 SentOver file book sender rows replies stopped desk =
     Sent file.keeper book sender rows replies stopped desk
@@ -27,12 +27,12 @@ SentOver file book sender rows replies stopped desk =
 
 -- what requests that were served make of a book that the desk over the file held, with the commands that they asked for
 -- under the operator's digest and no others, and what a stop then leaves
-abbrev pub ServedOver : {K : Type 0} → OverFile K → List ℕ → Book → Seen K → Type 0
+abbrev pub ServedOver : {K U C : Type 0} → OverFile K U C → List ℕ → Book → Seen K → Type 0
 ServedOver file operator book desk = (commands : List Command) × (replies : List Reply)
     × AreAsked operator book commands replies × Makes file.keeper book commands replies desk
     × file.stop_leaves desk book commands replies
 
-module _ {K : Type 0} (file : OverFile K) where
+module _ {K U C : Type 0} (file : OverFile K U C) where
   -- A desk was opened over what the files held, and this is the desk as it was left. Where the disk gave back what was
   -- written to it, this is so of each book that the desk held.
   pub record IsDone (left : Seen K) (Does : Book → Type 0) : Type 0 where

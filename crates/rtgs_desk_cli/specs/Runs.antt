@@ -33,7 +33,8 @@ use Rattle.rtgs_desk_lines.specs.declared.failure.Failure.{Failure}
 use Rattle.rtgs_desk_lines.specs.declared.failure.Failure.TheVariants.{Form, Refused}
 use Rattle.rtgs_desk_lines.specs.declared.failure.Failure.TheVariants.{Orders, OrdersTooLong, NoOrders, NoListen}
 use Rattle.rtgs_book_file.specs.OverFile.{OverFile}
-use Rattle.rtgs_book_file.specs.declared.FileFault.{FileFault}
+use Rattle.rtgs_desk_cli.specs.declared.touched.Touched.{Touched}
+use Rattle.rtgs_desk_cli.specs.declared.touched.Touched.TheVariants as traces
 use Rattle.rtgs_desk_cli.specs.Causes.{failure_of_file}
 use Rattle.rtgs_desk_cli.specs.Did.{IsSubmitted, IsSent, IsRead, IsServed, IsIdle}
 
@@ -79,96 +80,114 @@ IsExplained what contents told (ended.Misused sent) out out' err err' =
     (is_help what ≡ false) × (what ≢ kind.OutOfMemory) × ((text : List ℕ) × IsTold sent (told err) (told err') text)
     × (out' ≡ out)
 
-module _ {K : Type 0} (book_file : OverFile K) where
-  -- no desk was opened over the file, and this tells why
-  abbrev pub IsNotOpened : Failure → Type 0
-  IsNotOpened why = (fault : FileFault) × book_file.was_unopened fault × (why ≡ failure_of_file fault)
+module _ {A K U C : Type 0} (book_file : OverFile K U C) where
+  -- no desk was opened over the file, and what is told is what refused it
+  abbrev pub IsNotOpened : Touched A U C → Failure → Type 0
+  IsNotOpened touched why = (unopened : U) × (touched ≡ traces.Refused unopened) × book_file.was_unopened unopened
+      × (why ≡ failure_of_file (book_file.fault_of unopened))
 
-  -- no book was made in the file, and this tells why
-  abbrev pub IsNotMade : Failure → Type 0
-  IsNotMade why = (fault : FileFault) × book_file.was_unmade fault × (why ≡ failure_of_file fault)
+  -- no book was made in the file, and what is told is what refused it
+  abbrev pub IsNotMade : Touched A U C → Failure → Type 0
+  IsNotMade touched why = (unmade : U) × (touched ≡ traces.Refused unmade) × book_file.was_unmade unmade
+      × (why ≡ failure_of_file (book_file.fault_of unmade))
+
+  -- the desk was left so, and then the file was closed, which is this one
+  abbrev pub IsClosed : Seen K → Touched A U C → Type 0
+  IsClosed left touched = (closed : C) × (touched ≡ traces.Book closed) × book_file.was_closed left closed
+
+  -- the file was not touched
+  abbrev pub IsUntouched : Touched A U C → Type 0
+  IsUntouched touched = (start : A) × (touched ≡ traces.Nothing start)
 
   -- the rows of an order file were submitted, with these replies, and the batch stopped so, if it did
-  abbrev pub IsImported : List ℕ → List OrderRow → List RowReply → Option Refusal → Type 0
-  IsImported sender rows replies stopped =
-      (left : Seen K) × IsSent book_file sender rows replies stopped left
+  abbrev pub IsImported : Touched A U C → List ℕ → List OrderRow → List RowReply → Option Refusal → Type 0
+  IsImported touched sender rows replies stopped =
+      (left : Seen K) × IsClosed left touched × IsSent book_file sender rows replies stopped left
       × ((bytes : List ℕ) × IsOrderFile bytes rows) × StopsAfter (length replies) (length rows) stopped
 
   -- What a run with this request has to print, and where its batch stopped: the line of what it did, the results of its
   -- batch, the text that it read, or the lines of its server.
-  abbrev pub HasToPrint : Request → List ℕ → Option Refusal → Type 0
-  HasToPrint (Make file) text stopped =
-      book_file.was_made × (text ≡ ended_line (line_of Made)) × (stopped ≡ None)
-  HasToPrint (Submit file command) text stopped =
-      (answer : Answer) × (left : Seen K) × IsSubmitted book_file command (Ok answer) left
+  abbrev pub HasToPrint : Request → Touched A U C → List ℕ → Option Refusal → Type 0
+  HasToPrint (Make file) touched text stopped =
+      ((made : C) × (touched ≡ traces.Book made) × book_file.was_made made)
+      × (text ≡ ended_line (line_of Made)) × (stopped ≡ None)
+  HasToPrint (Submit file command) touched text stopped =
+      (answer : Answer) × (left : Seen K) × IsClosed left touched × IsSubmitted book_file command (Ok answer) left
       × (answers_its_kind command answer ≡ true) × (text ≡ ended_line (line_of (Answered answer))) × (stopped ≡ None)
-  HasToPrint (Import file sender orders) text stopped =
-      (rows : List OrderRow) × (replies : List RowReply) × IsImported sender rows replies stopped
+  HasToPrint (Import file sender orders) touched text stopped =
+      (rows : List OrderRow) × (replies : List RowReply) × IsImported touched sender rows replies stopped
       × (text ≡ results_text rows replies stopped)
-  HasToPrint (Read file reading) text stopped =
-      (left : Seen K) × IsRead book_file (λ read. read) reading (Ok text) left × (stopped ≡ None)
-  HasToPrint (Serve file port count operator) text stopped =
-      (left : Seen K) × IsServed book_file operator left
+  HasToPrint (Read file reading) touched text stopped =
+      (left : Seen K) × IsClosed left touched × IsRead book_file (λ read. read) reading (Ok text) left
+      × (stopped ≡ None)
+  HasToPrint (Serve file port count operator) touched text stopped =
+      (left : Seen K) × IsClosed left touched × IsServed book_file operator left
       × (text ≡ server_text port count (book_file.keeper.has_failed left.keeper))
       × (stopped ≡ stop_of_desk (book_file.keeper.has_failed left.keeper))
 
   -- the rows of an order file were submitted, and memory was wanting for their results
-  abbrev pub IsUntold : List ℕ → Failure → Type 0
-  IsUntold sender why =
+  abbrev pub IsUntold : Touched A U C → List ℕ → Failure → Type 0
+  IsUntold touched sender why =
       (why ≡ Refused OutOfMemory) × (rows : List OrderRow) × (replies : List RowReply) × (stopped : Option Refusal)
-      × IsImported sender rows replies stopped
+      × IsImported touched sender rows replies stopped
 
   -- why a run with this request is refused
-  abbrev pub IsRefused : Request → Failure → Type 0
-  IsRefused (Make file) why = IsNotMade why
-  IsRefused (Submit file command) why =
-      IsNotOpened why ⊎ ((refusal : Refusal) × (left : Seen K) × IsSubmitted book_file command (Err refusal) left
-      × (why ≡ Refused refusal))
-  IsRefused (Import file sender orders) why =
-      IsNotOpened why ⊎ ((IsNotSent why × (left : Seen K) × IsIdle book_file left) ⊎ IsUntold sender why)
-  IsRefused (Read file reading) why = IsNotOpened why ⊎ ((refusal : Refusal) × (left : Seen K)
-      × IsRead book_file (λ read. read) reading (Err refusal) left × (why ≡ Refused refusal))
-  IsRefused (Serve file port count operator) why =
-      IsNotOpened why ⊎ (IsNotListening why × (left : Seen K) × IsIdle book_file left)
+  abbrev pub IsRefused : Request → Touched A U C → Failure → Type 0
+  IsRefused (Make file) touched why = IsNotMade touched why
+  IsRefused (Submit file command) touched why =
+      IsNotOpened touched why ⊎ ((refusal : Refusal) × (left : Seen K) × IsClosed left touched
+      × IsSubmitted book_file command (Err refusal) left × (why ≡ Refused refusal))
+  IsRefused (Import file sender orders) touched why =
+      IsNotOpened touched why
+      ⊎ ((IsNotSent why × (left : Seen K) × IsClosed left touched × IsIdle book_file left)
+      ⊎ IsUntold touched sender why)
+  IsRefused (Read file reading) touched why = IsNotOpened touched why ⊎ ((refusal : Refusal) × (left : Seen K)
+      × IsClosed left touched × IsRead book_file (λ read. read) reading (Err refusal) left × (why ≡ Refused refusal))
+  IsRefused (Serve file port count operator) touched why =
+      IsNotOpened touched why ⊎ (IsNotListening why × (left : Seen K) × IsClosed left touched × IsIdle book_file left)
 
   -- the run printed what it had to, as far as standard output took it
-  abbrev pub PrintsFor : Request → Printed → Option (List ℕ) → Option (List ℕ) → Type 0
-  PrintsFor request printed old new =
-      (text : List ℕ) × (stopped : Option Refusal) × HasToPrint request text stopped
+  abbrev pub PrintsFor : Request → Touched A U C → Printed → Option (List ℕ) → Option (List ℕ) → Type 0
+  PrintsFor request touched printed old new =
+      (text : List ℕ) × (stopped : Option Refusal) × HasToPrint request touched text stopped
       × Prints text stopped printed old new
 
   -- the words spell a request for which this was printed
-  abbrev pub IsObeyed : Words → Printed → Option (List ℕ) → Option (List ℕ) → Type 0
-  IsObeyed words printed old new =
-      (request : Request) × Reads words (Ok request) × PrintsFor request printed old new
+  abbrev pub IsObeyed : Words → Touched A U C → Printed → Option (List ℕ) → Option (List ℕ) → Type 0
+  IsObeyed words touched printed old new =
+      (request : Request) × Reads words (Ok request) × PrintsFor request touched printed old new
 
   -- a word is not of its form, or the request that the words spell is refused
-  abbrev pub IsDenied : Words → Failure → Type 0
-  IsDenied words why = ((form : Lexical) × Reads words (Err form) × (why ≡ Form form))
-      ⊎ ((request : Request) × Reads words (Ok request) × IsRefused request why)
+  abbrev pub IsDenied : Words → Touched A U C → Failure → Type 0
+  IsDenied words touched why =
+      ((form : Lexical) × Reads words (Err form) × (why ≡ Form form) × IsUntouched touched)
+      ⊎ ((request : Request) × Reads words (Ok request) × IsRefused request touched why)
 
   -- What a run that was given these words did, by how it ended, and leaves on its writers: what was printed for the
   -- request that they spell stands on the first alone, and why it was refused on the second alone.
-  abbrev pub EndsFor : {O E : Type 0} → Words → (O → Option (List ℕ)) → (E → Option (List ℕ)) → Ended → O → O → E → E
-      → Type 0
-  EndsFor words contents told (ended.Printed printed) out out' err err' =
-      IsObeyed words printed (contents out) (contents out') × (err' ≡ err)
-  EndsFor words contents told (ended.Refused failure sent) out out' err err' =
-      IsTold sent (told err) (told err') (ended_line (refusal_line failure)) × (out' ≡ out) × IsDenied words failure
-  EndsFor words contents told (ended.Helped sent) out out' err err' = ⊥
-  EndsFor words contents told (ended.Misused sent) out out' err err' = ⊥
+  abbrev pub EndsFor : {O E : Type 0} → Words → (O → Option (List ℕ)) → (E → Option (List ℕ)) → Ended
+      → Touched A U C → O → O → E → E → Type 0
+  EndsFor words contents told (ended.Printed printed) touched out out' err err' =
+      IsObeyed words touched printed (contents out) (contents out') × (err' ≡ err)
+  EndsFor words contents told (ended.Refused failure sent) touched out out' err err' =
+      IsTold sent (told err) (told err') (ended_line (refusal_line failure)) × (out' ≡ out)
+      × IsDenied words touched failure
+  EndsFor words contents told (ended.Helped sent) touched out out' err err' = ⊥
+  EndsFor words contents told (ended.Misused sent) touched out out' err err' = ⊥
 
   -- The same of a run whose command line was read so: the words of a request, none, or what the command line itself
   -- has to say.
   abbrev pub EndsAfter : {O E : Type 0} → Result (Option Words) Error → (O → Option (List ℕ)) → (E → Option (List ℕ))
-      → Ended → O → O → E → E → Type 0
-  EndsAfter (Ok (Some words)) contents told ends out out' err err' = EndsFor words contents told ends out out' err err'
-  EndsAfter (Ok None) contents told ends out out' err err' =
-      (ends ≡ ended.Misused (Ok _)) × (out' ≡ out) × (err' ≡ err)
-  EndsAfter (Err error) contents told ends out out' err err' =
-      IsExplained (kind_of error) contents told ends out out' err err'
+      → Ended → Touched A U C → O → O → E → E → Type 0
+  EndsAfter (Ok (Some words)) contents told ends touched out out' err err' =
+      EndsFor words contents told ends touched out out' err err'
+  EndsAfter (Ok None) contents told ends touched out out' err err' =
+      (ends ≡ ended.Misused (Ok _)) × (out' ≡ out) × (err' ≡ err) × IsUntouched touched
+  EndsAfter (Err error) contents told ends touched out out' err err' =
+      IsExplained (kind_of error) contents told ends out out' err err' × IsUntouched touched
 
   -- the same of a run whose command line was read in some way
-  abbrev pub Ends : {O E : Type 0} → (O → Option (List ℕ)) → (E → Option (List ℕ)) → Ended → O → O → E → E → Type 0
-  Ends contents told ends out out' err err' =
-      (read : Result (Option Words) Error) × EndsAfter read contents told ends out out' err err'
+  abbrev pub Ends : {O E : Type 0} → (O → Option (List ℕ)) → (E → Option (List ℕ)) → Ended
+      → Touched A U C → O → O → E → E → Type 0
+  Ends contents told ends touched out out' err err' =
+      (read : Result (Option Words) Error) × EndsAfter read contents told ends touched out out' err err'

@@ -1,5 +1,5 @@
 //! What a request is answered with: the line of what was done.
-ghost use Rattle.std.specs.Prelude.{◌≡◌, true, None, IfOk, IfErr, OnErr};
+ghost use Rattle.std.specs.Prelude.{◌≡◌, true, None, Ok, Err, IfOk, IfErr, OnErr};
 ghost use Rattle.rtgs_book_file.specs.OverFile.{file_from};
 ghost use Rattle.rtgs_desk.specs.Replies.{answers_its_kind};
 ghost use Rattle.rtgs_desk_lines.specs.Lines.{line_of};
@@ -7,7 +7,8 @@ ghost use Rattle.rtgs_desk_lines.specs.Texts.{Prints};
 ghost use Rattle.rtgs_desk_cli.specs.Did.{IsSubmitted};
 ghost use Rattle.rtgs_desk_cli.specs.Runs.{ended_line, IsRefused, PrintsFor};
 
-use crate::files::{Finished, close_book, make, open};
+use crate::files::{Acted, Finished, close_book, make, open, refused_file};
+use crate::touched::Touched;
 use crate::{serving, texts};
 use rtgs_book::{Answer, Command, Refusal};
 use rtgs_book_file::{FileKeeper, Start};
@@ -22,13 +23,13 @@ pub fn act<S: Start, O: Write>(
     request: &Request<'_>,
     start: S,
     out: &mut O,
-) -> Result<Printed, Failure>
-    ensures printed { IfOk result (λ printed. PrintsFor
-        (file_from ⟦<FileKeeper<S> as Keeper>⟧ S.Start (λ keeper. keeper.conn)) request.now printed (O.contents out.old)
-        (O.contents out.new)) }
-    ensures refused { IfErr result (IsRefused (file_from ⟦<FileKeeper<S> as Keeper>⟧ S.Start
-        (λ keeper. keeper.conn)) request.now) }
-    ensures unchanged { OnErr result (out.new ≡ out.old) }
+) -> Acted<S>
+    ensures printed { IfOk result.0 (λ printed. PrintsFor
+        (file_from ⟦<FileKeeper<S> as Keeper>⟧ S.Start (λ keeper. keeper.conn)) request.now result.1 printed
+        (O.contents out.old) (O.contents out.new)) }
+    ensures refused { IfErr result.0 (IsRefused (file_from ⟦<FileKeeper<S> as Keeper>⟧ S.Start
+        (λ keeper. keeper.conn)) request.now result.1) }
+    ensures unchanged { OnErr result.0 (out.new ≡ out.old) }
 {
     match *request {
         Request::Make { file } => make_book(rt, file, start, out),
@@ -49,21 +50,18 @@ pub fn act<S: Start, O: Write>(
 }
 
 // Makes a new book in a file, and says so.
-fn make_book<S: Start, O: Write>(
-    rt: &HostRuntime,
-    file: &str,
-    start: S,
-    out: &mut O,
-) -> Result<Printed, Failure>
-    ensures printed { IfOk result (λ printed. PrintsFor
-        (file_from ⟦<FileKeeper<S> as Keeper>⟧ S.Start (λ keeper. keeper.conn)) (Request.Make file.entry) printed
-        (O.contents out.old) (O.contents out.new)) }
-    ensures refused { IfErr result (IsRefused (file_from ⟦<FileKeeper<S> as Keeper>⟧ S.Start (λ keeper. keeper.conn))
-        (Request.Make file.entry)) }
-    ensures unchanged { OnErr result (out.new ≡ out.old) }
+fn make_book<S: Start, O: Write>(rt: &HostRuntime, file: &str, start: S, out: &mut O) -> Acted<S>
+    ensures printed { IfOk result.0 (λ printed. PrintsFor
+        (file_from ⟦<FileKeeper<S> as Keeper>⟧ S.Start (λ keeper. keeper.conn)) (Request.Make file.entry) result.1
+        printed (O.contents out.old) (O.contents out.new)) }
+    ensures refused { IfErr result.0 (IsRefused (file_from ⟦<FileKeeper<S> as Keeper>⟧ S.Start (λ keeper. keeper.conn))
+        (Request.Make file.entry) result.1) }
+    ensures unchanged { OnErr result.0 (out.new ≡ out.old) }
 {
-    make(rt, file, start)?;
-    Ok(say(Done::Made, out))
+    match make(rt, file, start) {
+        Ok(made) => (Ok(say(Done::Made, out)), Touched::Book(made)),
+        Err(unmade) => refused_file(unmade),
+    }
 }
 
 // Gives the desk over a file one command, and prints its answer.
@@ -73,17 +71,17 @@ fn answer<S: Start, O: Write>(
     command: Command,
     start: S,
     out: &mut O,
-) -> Result<Printed, Failure>
-    ensures printed { IfOk result (λ printed. PrintsFor
+) -> Acted<S>
+    ensures printed { IfOk result.0 (λ printed. PrintsFor
         (file_from ⟦<FileKeeper<S> as Keeper>⟧ S.Start (λ keeper. keeper.conn)) (Request.Submit file.entry command)
-        printed (O.contents out.old) (O.contents out.new)) }
-    ensures refused { IfErr result (IsRefused (file_from ⟦<FileKeeper<S> as Keeper>⟧ S.Start (λ keeper. keeper.conn))
-        (Request.Submit file.entry command)) }
-    ensures unchanged { OnErr result (out.new ≡ out.old) }
+        result.1 printed (O.contents out.old) (O.contents out.new)) }
+    ensures refused { IfErr result.0 (IsRefused (file_from ⟦<FileKeeper<S> as Keeper>⟧ S.Start (λ keeper. keeper.conn))
+        (Request.Submit file.entry command) result.1) }
+    ensures unchanged { OnErr result.0 (out.new ≡ out.old) }
 {
-    match close_book(submit(rt, file, command, start))? {
-        Ok(answer) => Ok(say(Done::Answered(answer), out)),
-        Err(refusal) => Err(Failure::Refused(refusal)),
+    match close_book(submit(rt, file, command, start)) {
+        Ok((closed, reply)) => (told(reply, out), Touched::Book(closed)),
+        Err(unopened) => refused_file(unopened),
     }
 }
 
@@ -99,11 +97,24 @@ fn submit<S: Start>(
     ensures of_its_kind { IfOk result (λ (_, reply).
         IfOk reply (λ answer. answers_its_kind command answer ≡ true)) }
     ensures unopened { IfErr result (λ unopened.
-        (file_from ⟦<FileKeeper<S> as Keeper>⟧ S.Start (λ keeper. keeper.conn)).was_unopened unopened.fault) }
+        (file_from ⟦<FileKeeper<S> as Keeper>⟧ S.Start (λ keeper. keeper.conn)).was_unopened unopened) }
 {
     let mut book = open(rt, file, start)?;
     let reply = rtgs_stored_desk::submit(book.desk(), command);
     Ok((book.finish(), reply))
+}
+
+// Prints the line of what the desk answered. Where it refused the command, nothing is printed.
+fn told<O: Write>(reply: Result<Answer, Refusal>, out: &mut O) -> Result<Printed, Failure>
+    ensures printed { IfOk result (λ printed. (answer : _) × (reply ≡ Ok answer)
+        × Prints (ended_line (line_of (Done.Answered answer))) None printed (O.contents out.old) (O.contents out.new)) }
+    ensures refused { IfErr result (λ why. (refusal : _) × (reply ≡ Err refusal) × (why ≡ Failure.Refused refusal)) }
+    ensures unchanged { OnErr result (out.new ≡ out.old) }
+{
+    match reply {
+        Ok(answer) => Ok(say(Done::Answered(answer), out)),
+        Err(refusal) => Err(Failure::Refused(refusal)),
+    }
 }
 
 // Prints the line of what was done.

@@ -2,32 +2,32 @@
 ghost use Rattle.std.specs.Prelude.{◌≡◌, Ok, Err, IfOk, IfErr};
 ghost use Rattle.rtgs_book_file.specs.OverFile.{file_from};
 ghost use Rattle.rtgs_desk_cli.specs.Causes.{failure_of_file};
-ghost use Rattle.rtgs_desk_cli.specs.Runs.{IsNotMade};
 
-use rtgs_book_file::{BookLock, FileFault, FileKeeper, FinishedBook, OpenBook, Start, Unopened};
-use rtgs_desk_lines::Failure;
+use crate::touched::Touched;
+use rtgs_book_file::{
+    BookLock, FileFault, FileKeeper, FinishedBook, LetGo, OpenBook, Start, Unopened,
+};
+use rtgs_desk_lines::{Failure, Printed};
 use rtgs_keeper::Keeper;
 
 /// What was done with the book in a file, and the book as it was left; or why no desk was opened over the file.
 pub type Finished<S, T> = Result<(FinishedBook<FileKeeper<S>>, T), Unopened<S>>;
 
-/// Makes a new book in a file that is missing or empty. Refused where there is another file, or where it fails.
-pub fn make<S: Start>(rt: &HostRuntime, file: &str, start: S) -> Result<(), Failure>
-    ensures made { IfOk result (λ _. (file_from ⟦<FileKeeper<S> as Keeper>⟧ S.Start (λ keeper. keeper.conn)).was_made) }
-    ensures refused { IfErr result (IsNotMade
-        (file_from ⟦<FileKeeper<S> as Keeper>⟧ S.Start (λ keeper. keeper.conn))) }
-{
-    match make_locked(rt, file, start) {
-        Ok(()) => Ok(()),
-        Err(unopened) => Err(failure_of(unopened.fault())),
-    }
-}
+/// The same, once the book was closed and let go.
+pub type Closed<S, T> = Result<(LetGo<S>, T), Unopened<S>>;
 
-// Takes the lock of a file, and makes a new book in it.
-fn make_locked<S: Start>(rt: &HostRuntime, file: &str, start: S) -> Result<(), Unopened<S>>
-    ensures made { IfOk result (λ _. (file_from ⟦<FileKeeper<S> as Keeper>⟧ S.Start (λ keeper. keeper.conn)).was_made) }
-    ensures refused { IfErr result (λ unopened.
-        (file_from ⟦<FileKeeper<S> as Keeper>⟧ S.Start (λ keeper. keeper.conn)).was_unmade unopened.fault) }
+/// What a run touched of a book's file that held what `S` says.
+pub type Traces<S> = Touched<S, Unopened<S>, LetGo<S>>;
+
+/// What a run printed, or why it was refused, and what it touched of the file.
+pub type Acted<S> = (Result<Printed, Failure>, Traces<S>);
+
+/// Makes a new book in a file that is missing or empty. Refused where there is another file, or where it fails.
+pub fn make<S: Start>(rt: &HostRuntime, file: &str, start: S) -> Result<LetGo<S>, Unopened<S>>
+    ensures made { IfOk result (λ made.
+        (file_from ⟦<FileKeeper<S> as Keeper>⟧ S.Start (λ keeper. keeper.conn)).was_made made) }
+    ensures refused { IfErr result (λ unmade.
+        (file_from ⟦<FileKeeper<S> as Keeper>⟧ S.Start (λ keeper. keeper.conn)).was_unmade unmade) }
 {
     let lock = BookLock::take(rt, file, start)?;
     lock.make(rt)
@@ -42,25 +42,31 @@ pub fn open<S: Start>(
     ensures opened { IfOk result (λ book. ⟦<FileKeeper<S> as Keeper>⟧.is_honest book.desk.keeper
         → (file_from ⟦<FileKeeper<S> as Keeper>⟧ S.Start (λ keeper. keeper.conn)).was_opened book.desk) }
     ensures refused { IfErr result (λ unopened.
-        (file_from ⟦<FileKeeper<S> as Keeper>⟧ S.Start (λ keeper. keeper.conn)).was_unopened unopened.fault) }
+        (file_from ⟦<FileKeeper<S> as Keeper>⟧ S.Start (λ keeper. keeper.conn)).was_unopened unopened) }
 {
     let lock = BookLock::take(rt, file, start)?;
     lock.open(rt)
 }
 
-/// Closes the book with which something was done, and gives what that was; or tells why no desk was opened.
-pub fn close_book<S: Start, T>(finished: Finished<S, T>) -> Result<T, Failure>
-    ensures done { IfOk result (λ done. (book : _) × (finished ≡ Ok (book, done))) }
-    ensures unopened { IfErr result (λ why. (unopened : _) × (finished ≡ Err unopened)
-        × (why ≡ failure_of_file unopened.fault)) }
+/// Closes the book with which something was done, lets it go, and gives what that was.
+pub fn close_book<S: Start, T>(finished: Finished<S, T>) -> Closed<S, T>
+    ensures done { IfOk result (λ (closed, done). (book : _) × (finished ≡ Ok (book, done))
+        × (file_from ⟦<FileKeeper<S> as Keeper>⟧ S.Start (λ keeper. keeper.conn)).was_closed book.desk closed) }
+    ensures unopened { IfErr result (λ unopened. finished ≡ Err unopened) }
 {
     match finished {
-        Ok((book, done)) => {
-            book.close();
-            Ok(done)
-        }
-        Err(unopened) => Err(failure_of(unopened.fault())),
+        Ok((book, done)) => Ok((book.close().let_go(), done)),
+        Err(unopened) => Err(unopened),
     }
+}
+
+/// What a run comes to whose file was refused.
+pub fn refused_file<S: Start>(unopened: Unopened<S>) -> Acted<S>
+    ensures told { result.0 ≡ Err (failure_of_file unopened.fault) }
+    ensures touched { result.1 ≡ Touched.Refused unopened }
+{
+    let failure = failure_of(unopened.fault());
+    (Err(failure), Touched::Refused(unopened))
 }
 
 // How a fault of a book's file is told.

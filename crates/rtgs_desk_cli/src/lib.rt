@@ -8,6 +8,8 @@ mod order_file;
 mod run;
 mod serving;
 mod texts;
+mod touched;
 
 pub use crate::run::run_words;
+pub use crate::touched::Touched;
 pub use rtgs_book_file::Unknown;

@@ -8,6 +8,8 @@ ghost use Rattle.rtgs_desk_lines.specs.Told.{IsTold};
 ghost use Rattle.rtgs_desk_cli.specs.Runs.{ended_line, Ends, EndsAfter, IsDenied, IsObeyed, IsExplained};
 
 use crate::acting::act;
+use crate::files::{Acted, Traces};
+use crate::touched::Touched;
 use clap::Error;
 use clap::error::ErrorKind;
 use rtgs_book_file::{FileKeeper, Start};
@@ -43,58 +45,59 @@ fn refused<E: Write>(failure: Failure, err: &mut E) -> Ended
 }
 
 /// Reads the words' forms, and does what they ask for.
-fn obey<S: Start, O: Write>(
-    rt: &HostRuntime,
-    words: &Words<'_>,
-    start: S,
-    out: &mut O,
-) -> Result<Printed, Failure>
-    ensures printed { IfOk result (λ printed. IsObeyed
-        (file_from ⟦<FileKeeper<S> as Keeper>⟧ S.Start (λ keeper. keeper.conn)) words.now printed (O.contents out.old)
-        (O.contents out.new)) }
-    ensures refused { IfErr result (IsDenied (file_from ⟦<FileKeeper<S> as Keeper>⟧ S.Start
-        (λ keeper. keeper.conn)) words.now) }
-    ensures unchanged { OnErr result (out.new ≡ out.old) }
+fn obey<S: Start, O: Write>(rt: &HostRuntime, words: &Words<'_>, start: S, out: &mut O) -> Acted<S>
+    ensures printed { IfOk result.0 (λ printed. IsObeyed
+        (file_from ⟦<FileKeeper<S> as Keeper>⟧ S.Start (λ keeper. keeper.conn)) words.now result.1 printed
+        (O.contents out.old) (O.contents out.new)) }
+    ensures refused { IfErr result.0 (IsDenied (file_from ⟦<FileKeeper<S> as Keeper>⟧ S.Start
+        (λ keeper. keeper.conn)) words.now result.1) }
+    ensures unchanged { OnErr result.0 (out.new ≡ out.old) }
 {
     match Request::read(words) {
         Ok(request) => act(rt, &request, start, out),
-        Err(form) => Err(Failure::Form(form)),
+        Err(form) => (Err(Failure::Form(form)), Touched::Nothing(start)),
     }
 }
 
-/// Does what the words of a command line ask for that was read so, and tells how that ended.
+/// Does what the words of a command line ask for that was read so, and tells how that ended, and what was touched.
 fn end<S: Start, O: Write, E: Write>(
     rt: &HostRuntime,
     read: Result<Option<Words<'_>>, Error>,
     start: S,
     out: &mut O,
     err: &mut E,
-) -> Ended
+) -> (Ended, Traces<S>)
     ensures { EndsAfter (file_from ⟦<FileKeeper<S> as Keeper>⟧ S.Start (λ keeper. keeper.conn))
-        read.entry O.contents E.contents result out.old out.new err.old err.new }
+        read.entry O.contents E.contents result.0 result.1 out.old out.new err.old err.new }
 {
     match read {
-        Ok(Some(words)) => match obey(rt, &words, start, out) {
-            Ok(printed) => Ended::Printed(printed),
-            Err(failure) => refused(failure, err),
-        },
-        Ok(None) => Ended::Misused(Ok(())),
-        Err(error) => explain(rt.alloc(), &error, out, err),
+        Ok(Some(words)) => {
+            let (acted, touched) = obey(rt, &words, start, out);
+            match acted {
+                Ok(printed) => (Ended::Printed(printed), touched),
+                Err(failure) => (refused(failure, err), touched),
+            }
+        }
+        Ok(None) => (Ended::Misused(Ok(())), Touched::Nothing(start)),
+        Err(error) => {
+            let ended = explain(rt.alloc(), &error, out, err);
+            (ended, Touched::Nothing(start))
+        }
     }
 }
 
 /// One run of the program with the words after its name, over a book's file that held what `S` says. What was done and
 /// help are printed on `out`, refusals and faults of the command line on `err`, each line with its end. The result says
-/// what became of that, and has the exit status.
+/// what became of that, and has the exit status; and beside it stands what the run touched of the file.
 pub fn run_words<S: Start, O: Write, E: Write>(
     rt: &HostRuntime,
     words: &[&str],
     start: S,
     out: &mut O,
     err: &mut E,
-) -> Ended
+) -> (Ended, Traces<S>)
     ensures { Ends (file_from ⟦<FileKeeper<S> as Keeper>⟧ S.Start (λ keeper. keeper.conn))
-        O.contents E.contents result out.old out.new err.old err.new }
+        O.contents E.contents result.0 result.1 out.old out.new err.old err.new }
 {
     end(rt, read_words(rt.alloc(), words), start, out, err)
 }

@@ -9,7 +9,8 @@ ghost use Rattle.rtgs_desk_cli.specs.Causes.{failure_of_listening};
 ghost use Rattle.rtgs_desk_cli.specs.Did.{IsIdle, IsServed, ServedOver};
 ghost use Rattle.rtgs_desk_cli.specs.Runs.{IsNotListening, IsRefused, PrintsFor, server_text, stop_of_desk};
 
-use crate::files::{Finished, close_book, open};
+use crate::files::{Acted, Finished, close_book, open, refused_file};
+use crate::touched::Touched;
 use rtgs_book::Refusal;
 use rtgs_book_file::{FileKeeper, Start};
 use rtgs_desk::Desk;
@@ -33,15 +34,19 @@ pub fn serve<S: Start, O: Write>(
     operator: KeyDigest,
     start: S,
     out: &mut O,
-) -> Result<Printed, Failure>
-    ensures printed { IfOk result (λ printed. PrintsFor
+) -> Acted<S>
+    ensures printed { IfOk result.0 (λ printed. PrintsFor
         (file_from ⟦<FileKeeper<S> as Keeper>⟧ S.Start (λ keeper. keeper.conn))
-        (Request.Serve file.entry port count operator) printed (O.contents out.old) (O.contents out.new)) }
-    ensures refused { IfErr result (IsRefused (file_from ⟦<FileKeeper<S> as Keeper>⟧ S.Start (λ keeper. keeper.conn))
-        (Request.Serve file.entry port count operator)) }
-    ensures unchanged { OnErr result (out.new ≡ out.old) }
+        (Request.Serve file.entry port count operator) result.1 printed (O.contents out.old)
+        (O.contents out.new)) }
+    ensures refused { IfErr result.0 (IsRefused (file_from ⟦<FileKeeper<S> as Keeper>⟧ S.Start (λ keeper. keeper.conn))
+        (Request.Serve file.entry port count operator) result.1) }
+    ensures unchanged { OnErr result.0 (out.new ≡ out.old) }
 {
-    close_book(serve_book(rt, file, port, count, &operator, start, out))?
+    match close_book(serve_book(rt, file, port, count, &operator, start, out)) {
+        Ok((closed, served)) => (served, Touched::Book(closed)),
+        Err(unopened) => refused_file(unopened),
+    }
 }
 
 // Opens the book in a file, and serves connections to its desk.
@@ -62,7 +67,7 @@ fn serve_book<S: Start, O: Write>(
     ensures refused { IfOk result (λ (book, served). IfErr served (λ why. IsNotListening why
         × IsIdle (file_from ⟦<FileKeeper<S> as Keeper>⟧ S.Start (λ keeper. keeper.conn)) book.desk)) }
     ensures unopened { IfErr result (λ unopened.
-        (file_from ⟦<FileKeeper<S> as Keeper>⟧ S.Start (λ keeper. keeper.conn)).was_unopened unopened.fault) }
+        (file_from ⟦<FileKeeper<S> as Keeper>⟧ S.Start (λ keeper. keeper.conn)).was_unopened unopened) }
     ensures unchanged { OnErr result (out.new ≡ out.old) }
     ensures silent { IfOk result (λ (_, served). OnErr served (out.new ≡ out.old)) }
 {

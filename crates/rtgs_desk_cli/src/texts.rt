@@ -1,17 +1,20 @@
 //! Runs that print a text: the results of a file of orders, and what the desk tells.
-ghost use Rattle.std.specs.Prelude.{◌≡◌, ℕ, List, None, length, IfOk, IfErr, OnErr};
+ghost use Rattle.std.specs.Prelude.{◌≡◌, ◌⊎◌, ℕ, List, None, length, Ok, Err, IfOk, IfErr, OnErr};
 ghost use Rattle.rtgs_book_file.specs.OverFile.{file_from};
 ghost use Rattle.rtgs_book.specs.declared.Book.{Book};
 ghost use Rattle.rtgs_desk.specs.Holding.{Holds};
 ghost use Rattle.rtgs_exchange.specs.Batches.{StopsAfter};
 ghost use Rattle.rtgs_exchange.specs.OrderFile.{IsOrderFile};
+ghost use Rattle.rtgs_exchange.specs.Results.{results_text};
+ghost use Rattle.rtgs_book.specs.declared.Refusal.{Refusal as RefusalSpec};
 ghost use Rattle.rtgs_desk_lines.specs.Texts.{Prints};
 ghost use Rattle.rtgs_desk_cli.specs.Did.{IsIdle, IsSent, IsRead, SentOver};
 ghost use Rattle.rtgs_desk_cli.specs.Runs.{IsNotSent, IsRefused, PrintsFor};
 
 use crate::batches::{print_results, submit_orders};
-use crate::files::{Finished, close_book, open};
+use crate::files::{Acted, Finished, close_book, open, refused_file};
 use crate::order_file::read_file;
+use crate::touched::Touched;
 use rtgs_book::{Reading, Refusal};
 use rtgs_book_file::{FileKeeper, Start};
 use rtgs_desk::Desk;
@@ -34,17 +37,18 @@ pub fn import<S: Start, O: Write>(
     orders: &str,
     start: S,
     out: &mut O,
-) -> Result<Printed, Failure>
-    ensures printed { IfOk result (λ printed. PrintsFor
+) -> Acted<S>
+    ensures printed { IfOk result.0 (λ printed. PrintsFor
         (file_from ⟦<FileKeeper<S> as Keeper>⟧ S.Start (λ keeper. keeper.conn))
-        (Request.Import file.entry sender orders.entry) printed (O.contents out.old) (O.contents out.new)) }
-    ensures refused { IfErr result (IsRefused (file_from ⟦<FileKeeper<S> as Keeper>⟧ S.Start (λ keeper. keeper.conn))
-        (Request.Import file.entry sender orders.entry)) }
-    ensures unchanged { OnErr result (out.new ≡ out.old) }
+        (Request.Import file.entry sender orders.entry) result.1 printed (O.contents out.old)
+        (O.contents out.new)) }
+    ensures refused { IfErr result.0 (IsRefused (file_from ⟦<FileKeeper<S> as Keeper>⟧ S.Start (λ keeper. keeper.conn))
+        (Request.Import file.entry sender orders.entry) result.1) }
+    ensures unchanged { OnErr result.0 (out.new ≡ out.old) }
 {
-    match close_book(send(rt, file, sender, orders, start))? {
-        Ok((rows, batch)) => print_results(rt.alloc(), out, rows.as_slice(), &batch),
-        Err(failure) => Err(failure),
+    match close_book(send(rt, file, sender, orders, start)) {
+        Ok((closed, sent)) => (print_sent(rt, sent, out), Touched::Book(closed)),
+        Err(unopened) => refused_file(unopened),
     }
 }
 
@@ -55,17 +59,18 @@ pub fn show<S: Start, O: Write>(
     reading: Reading,
     start: S,
     out: &mut O,
-) -> Result<Printed, Failure>
-    ensures printed { IfOk result (λ printed. PrintsFor
+) -> Acted<S>
+    ensures printed { IfOk result.0 (λ printed. PrintsFor
         (file_from ⟦<FileKeeper<S> as Keeper>⟧ S.Start (λ keeper. keeper.conn))
-        (Request.Read file.entry reading) printed (O.contents out.old) (O.contents out.new)) }
-    ensures refused { IfErr result (IsRefused (file_from ⟦<FileKeeper<S> as Keeper>⟧ S.Start (λ keeper. keeper.conn))
-        (Request.Read file.entry reading)) }
-    ensures unchanged { OnErr result (out.new ≡ out.old) }
+        (Request.Read file.entry reading) result.1 printed (O.contents out.old)
+        (O.contents out.new)) }
+    ensures refused { IfErr result.0 (IsRefused (file_from ⟦<FileKeeper<S> as Keeper>⟧ S.Start (λ keeper. keeper.conn))
+        (Request.Read file.entry reading) result.1) }
+    ensures unchanged { OnErr result.0 (out.new ≡ out.old) }
 {
-    match close_book(read(rt, file, reading, start))? {
-        Ok(text) => Ok(print_text(out, text.as_slice())),
-        Err(refusal) => Err(Failure::Refused(refusal)),
+    match close_book(read(rt, file, reading, start)) {
+        Ok((closed, read)) => (print_read(read, out), Touched::Book(closed)),
+        Err(unopened) => refused_file(unopened),
     }
 }
 
@@ -87,7 +92,7 @@ fn send<S: Start>(
     ensures refused { IfOk result (λ (book, sent). IfErr sent (λ why. IsNotSent why
         × IsIdle (file_from ⟦<FileKeeper<S> as Keeper>⟧ S.Start (λ keeper. keeper.conn)) book.desk)) }
     ensures unopened { IfErr result (λ unopened.
-        (file_from ⟦<FileKeeper<S> as Keeper>⟧ S.Start (λ keeper. keeper.conn)).was_unopened unopened.fault) }
+        (file_from ⟦<FileKeeper<S> as Keeper>⟧ S.Start (λ keeper. keeper.conn)).was_unopened unopened) }
 {
     let mut book = open(rt, file, start)?;
     let sent = submit_file(rt, book.desk(), sender, orders);
@@ -130,11 +135,43 @@ fn read<S: Start>(
         (file_from ⟦<FileKeeper<S> as Keeper>⟧ S.Start (λ keeper. keeper.conn))
         (λ text. text.items) reading read book.desk) }
     ensures unopened { IfErr result (λ unopened.
-        (file_from ⟦<FileKeeper<S> as Keeper>⟧ S.Start (λ keeper. keeper.conn)).was_unopened unopened.fault) }
+        (file_from ⟦<FileKeeper<S> as Keeper>⟧ S.Start (λ keeper. keeper.conn)).was_unopened unopened) }
 {
     let mut book = open(rt, file, start)?;
     let read = text_of(rt.alloc(), book.desk(), &reading);
     Ok((book.finish(), read))
+}
+
+// Prints the results of orders that were sent. Where they were refused, nothing is printed.
+fn print_sent<O: Write>(
+    rt: &HostRuntime,
+    sent: Result<(Vec<OrderRow>, BatchResult), Failure>,
+    out: &mut O,
+) -> Result<Printed, Failure>
+    ensures printed { IfOk result (λ printed. (it : _) × (sent ≡ Ok it)
+        × Prints (results_text it.0.items it.1.replies.items it.1.stopped) it.1.stopped printed (O.contents out.old)
+        (O.contents out.new)) }
+    ensures refused { IfErr result (λ why. (sent ≡ Err why)
+        ⊎ ((it : _) × (sent ≡ Ok it) × (why ≡ Failure.Refused RefusalSpec.OutOfMemory))) }
+    ensures unchanged { OnErr result (out.new ≡ out.old) }
+{
+    match sent {
+        Ok((rows, batch)) => print_results(rt.alloc(), out, rows.as_slice(), &batch),
+        Err(failure) => Err(failure),
+    }
+}
+
+// Prints a text that was read. Where that was refused, nothing is printed.
+fn print_read<O: Write>(read: Result<Vec<u8>, Refusal>, out: &mut O) -> Result<Printed, Failure>
+    ensures printed { IfOk result (λ printed. (text : _) × (read ≡ Ok text)
+        × Prints text.items None printed (O.contents out.old) (O.contents out.new)) }
+    ensures refused { IfErr result (λ why. (refusal : _) × (read ≡ Err refusal) × (why ≡ Failure.Refused refusal)) }
+    ensures unchanged { OnErr result (out.new ≡ out.old) }
+{
+    match read {
+        Ok(text) => Ok(print_text(out, text.as_slice())),
+        Err(refusal) => Err(Failure::Refused(refusal)),
+    }
 }
 
 // Prints a text.

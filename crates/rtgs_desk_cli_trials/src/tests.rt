@@ -24,7 +24,8 @@ fn prints(rt: &HostRuntime, words: &[&str], text: &str, status: u8) -> Result<()
     let alloc = rt.alloc();
     let mut out = Vec::new(alloc);
     let mut err = Vec::new(alloc);
-    let ended = run_words(rt, words, Unknown, &mut out, &mut err).exit_status();
+    let (ended, _) = run_words(rt, words, Unknown, &mut out, &mut err);
+    let ended = ended.exit_status();
     let (said, silent) = if status == 0 { (out, err) } else { (err, out) };
     let said = std::str::from_utf8(said.as_slice())?;
     if said == text && silent.is_empty() && ended == status {
@@ -85,7 +86,7 @@ fn a_run_ends_alike_where_nobody_hears_it(rt: HostRuntime) -> Result<(), Fail> {
     let mut room = [0u8; 4];
     let mut out = room.as_mut_slice();
     let mut err = Vec::new(rt.alloc());
-    let ended = run_words(&rt, &words, Unknown, &mut out, &mut err);
+    let (ended, _) = run_words(&rt, &words, Unknown, &mut out, &mut err);
     assert!(rt; matches!(ended, Ended::Printed(Printed::Lost(_))));
     assert_eq!(rt; ended.exit_status(), 3);
     assert_eq!(rt; room.as_slice(), b"post".as_slice());
@@ -93,7 +94,7 @@ fn a_run_ends_alike_where_nobody_hears_it(rt: HostRuntime) -> Result<(), Fail> {
     let mut deaf = room.as_mut_slice();
     let mut out = Vec::new(rt.alloc());
     let words = ["post", "unheard", "ALFA", "P-1", "2"];
-    let ended = run_words(&rt, &words, Unknown, &mut out, &mut deaf);
+    let (ended, _) = run_words(&rt, &words, Unknown, &mut out, &mut deaf);
     assert_eq!(rt; ended.exit_status(), 1);
     assert!(rt; out.is_empty());
     assert_eq!(rt; room.as_slice(), b"refu".as_slice());

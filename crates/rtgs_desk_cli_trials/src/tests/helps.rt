@@ -9,7 +9,7 @@ use std::test::Fail;
 fn helps(rt: &HostRuntime, words: &[&str], named: &[&str]) -> Result<bool, Fail> {
     let mut out = Vec::new(rt.alloc());
     let mut err = Vec::new(rt.alloc());
-    let ended = run_words(rt, words, Unknown, &mut out, &mut err);
+    let (ended, _) = run_words(rt, words, Unknown, &mut out, &mut err);
     let text = std::str::from_utf8(out.as_slice())?;
     Ok(
         matches!(ended, Ended::Helped(Ok(())))
@@ -63,7 +63,7 @@ fn words_that_are_no_command_line_are_told_on_standard_error(rt: HostRuntime) ->
     let none: &[&str] = &[];
     for words in [none, &["init"], &["pay", "F"], &["init", "F", "G"]] {
         err.clear();
-        let ended = run_words(&rt, words, Unknown, &mut out, &mut err);
+        let (ended, _) = run_words(&rt, words, Unknown, &mut out, &mut err);
         assert!(rt; matches!(ended, Ended::Misused(Ok(()))), "{words:?}");
         assert_eq!(rt; ended.exit_status(), 2, "{words:?}");
         assert!(rt; out.is_empty());
@@ -77,7 +77,7 @@ fn help_that_nobody_takes_fails(rt: HostRuntime) -> Result<(), Fail> {
     let mut room = [0u8; 4];
     let mut out = room.as_mut_slice();
     let mut err = Vec::new(rt.alloc());
-    let ended = run_words(&rt, &["--help"], Unknown, &mut out, &mut err);
+    let (ended, _) = run_words(&rt, &["--help"], Unknown, &mut out, &mut err);
     assert!(rt; matches!(ended, Ended::Helped(Err(_))));
     assert_eq!(rt; ended.exit_status(), 3);
     assert!(rt; err.is_empty());

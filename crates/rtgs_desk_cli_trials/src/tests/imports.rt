@@ -115,7 +115,7 @@ fn orders_stand_where_their_results_are_lost(rt: HostRuntime) -> Result<(), Fail
     let mut out = room.as_mut_slice();
     let mut err = Vec::new(rt.alloc());
     let words = ["import", "lost", "ALFA", "lost.csv"];
-    let ended = run_words(&rt, &words, Unknown, &mut out, &mut err);
+    let (ended, _) = run_words(&rt, &words, Unknown, &mut out, &mut err);
     assert!(rt; matches!(ended, Ended::Printed(Printed::Lost(_))));
     assert_eq!(rt; ended.exit_status(), 3);
     let again = "reference,result,number,detail\nA-1,repeated,1,settled\n";

@@ -37,7 +37,7 @@ fn serve_six(rt: HostRuntime) -> Result<(), Fail> {
         OPERATOR,
     ];
     let mut err = Vec::new(rt.alloc());
-    let ended = run_words(&rt, &words, Unknown, &mut rt.stdout(), &mut err);
+    let (ended, _) = run_words(&rt, &words, Unknown, &mut rt.stdout(), &mut err);
     assert_eq!(rt; ended.exit_status(), 0);
     assert!(rt; err.is_empty());
     Ok(())
@@ -203,7 +203,7 @@ fn ports_and_counts_have_their_ranges(rt: HostRuntime) -> Result<(), Fail> {
             "--operator-key",
             OPERATOR,
         ];
-        let ended = run_words(&rt, &words, Unknown, &mut out, &mut err);
+        let (ended, _) = run_words(&rt, &words, Unknown, &mut out, &mut err);
         assert!(rt; matches!(ended, Ended::Misused(Ok(()))), "{port} {count}");
     }
     let words = [

@@ -23,7 +23,7 @@ fn run_under_a_limit(rt: HostRuntime) -> Result<(), Fail> {
     }
     let mut out = Vec::new(rt.alloc());
     let mut err = Vec::new(rt.alloc());
-    let ended = run_words(&rt, &IMPORT, Unknown, &mut out, &mut err);
+    let (ended, _) = run_words(&rt, &IMPORT, Unknown, &mut out, &mut err);
     assert!(rt; matches!(ended, Ended::Printed(Printed::Stopped(Refusal::StoreFault))));
     assert_eq!(rt; ended.exit_status(), 3);
     assert!(rt; err.is_empty());
@@ -61,7 +61,7 @@ fn a_batch_that_stops_ends_its_run_with_3(rt: HostRuntime) -> Result<(), Fail> {
     );
     let mut out = Vec::new(rt.alloc());
     let mut err = Vec::new(rt.alloc());
-    let again = run_words(&rt, &IMPORT, Unknown, &mut out, &mut err);
+    let (again, _) = run_words(&rt, &IMPORT, Unknown, &mut out, &mut err);
     assert!(rt; matches!(again, Ended::Printed(Printed::Whole)));
     let text = std::str::from_utf8(out.as_slice())?;
     assert!(rt; text.contains("\nA-1,repeated,1,settled\n"));

@@ -18,7 +18,7 @@ pub const NO_BOOK: &str = "refused 93 NotADeskFile\n";
 fn does(rt: &HostRuntime, words: &[&str]) -> Result<(), Fail> {
     let mut out = Vec::new(rt.alloc());
     let mut err = Vec::new(rt.alloc());
-    let ended = run_words(rt, words, Unknown, &mut out, &mut err);
+    let (ended, _) = run_words(rt, words, Unknown, &mut out, &mut err);
     if matches!(ended, Ended::Printed(Printed::Whole)) && err.is_empty() {
         return Ok(());
     }
@@ -90,7 +90,8 @@ pub fn reports(rt: &HostRuntime, file: &str) -> Result<(String, u8), Fail> {
     let mut out = Vec::new(rt.alloc());
     let mut err = Vec::new(rt.alloc());
     let words = ["report", file, "2024-03-04"];
-    let status = run_words(rt, &words, Unknown, &mut out, &mut err).exit_status();
+    let (status, _) = run_words(rt, &words, Unknown, &mut out, &mut err);
+    let status = status.exit_status();
     let (said, silent) = if status == 0 { (out, err) } else { (err, out) };
     if !silent.is_empty() {
         return Err(Fail::from("both streams were printed on"));

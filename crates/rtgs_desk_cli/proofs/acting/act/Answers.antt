@@ -2,25 +2,25 @@ use Rattle.rtgs_desk_cli.proofs.ForRequest.{printed_for, refused_for}
 use Rattle.rtgs_desk_cli.proofs.acting.act.Goals as goal
 
 pub returns-in-Submit-clause-printed : goal.returns-in-Submit-clause-printed
-returns-in-Submit-clause-printed g c = printed_for _ c.in-Submit.is c.answer.result _ _ c.answer.ensures.printed
+returns-in-Submit-clause-printed g c = printed_for _ _ c.in-Submit.is c.answer.result.0 _ _ c.answer.ensures.printed
 
 pub returns-in-Submit-clause-refused : goal.returns-in-Submit-clause-refused
-returns-in-Submit-clause-refused g c = refused_for _ c.in-Submit.is c.answer.result c.answer.ensures.refused
+returns-in-Submit-clause-refused g c = refused_for _ _ c.in-Submit.is c.answer.result.0 c.answer.ensures.refused
 
 pub returns-in-Import-clause-printed : goal.returns-in-Import-clause-printed
-returns-in-Import-clause-printed g c = printed_for _ c.in-Import.is c.import.result _ _ c.import.ensures.printed
+returns-in-Import-clause-printed g c = printed_for _ _ c.in-Import.is c.import.result.0 _ _ c.import.ensures.printed
 
 pub returns-in-Import-clause-refused : goal.returns-in-Import-clause-refused
-returns-in-Import-clause-refused g c = refused_for _ c.in-Import.is c.import.result c.import.ensures.refused
+returns-in-Import-clause-refused g c = refused_for _ _ c.in-Import.is c.import.result.0 c.import.ensures.refused
 
 pub returns-in-Read-clause-printed : goal.returns-in-Read-clause-printed
-returns-in-Read-clause-printed g c = printed_for _ c.in-Read.is c.show.result _ _ c.show.ensures.printed
+returns-in-Read-clause-printed g c = printed_for _ _ c.in-Read.is c.show.result.0 _ _ c.show.ensures.printed
 
 pub returns-in-Read-clause-refused : goal.returns-in-Read-clause-refused
-returns-in-Read-clause-refused g c = refused_for _ c.in-Read.is c.show.result c.show.ensures.refused
+returns-in-Read-clause-refused g c = refused_for _ _ c.in-Read.is c.show.result.0 c.show.ensures.refused
 
 pub returns-in-Serve-clause-printed : goal.returns-in-Serve-clause-printed
-returns-in-Serve-clause-printed g c = printed_for _ c.in-Serve.is c.serve.result _ _ c.serve.ensures.printed
+returns-in-Serve-clause-printed g c = printed_for _ _ c.in-Serve.is c.serve.result.0 _ _ c.serve.ensures.printed
 
 pub returns-in-Serve-clause-refused : goal.returns-in-Serve-clause-refused
-returns-in-Serve-clause-refused g c = refused_for _ c.in-Serve.is c.serve.result c.serve.ensures.refused
+returns-in-Serve-clause-refused g c = refused_for _ _ c.in-Serve.is c.serve.result.0 c.serve.ensures.refused

@@ -1,18 +1,30 @@
-use Rattle.std.proofs.Common.{inr}
+use Rattle.std.proofs.Common.{refl, inl, inr}
 use Rattle.std.proofs.lemmas.Result.{IfErr-weaker}
 use Rattle.rtgs_desk_cli.specs.Runs.{IsNotListening}
-use Rattle.rtgs_desk_cli.proofs.Finished.{served_with, idle_with}
+use Rattle.rtgs_desk_cli.proofs.Finished.{served_with, idle_with, not_done, refused_with, when_refused}
 use Rattle.rtgs_desk_cli.proofs.serving.serve.Goals as goal
 
-pub returns-clause-printed : goal.returns-clause-printed
-returns-clause-printed g c =
-    let (book, is) = c.in_ok-close_book.ensures.done in
-    served_with _ (λ book. book.desk) c.serve_book.result book _ is c.args.port c.args.count
+pub returns-in-Ok-clause-printed : goal.returns-in-Ok-clause-printed
+returns-in-Ok-clause-printed g c =
+    let (book, is, shut) = c.in-Ok.ensures.done in
+    served_with _ (λ book. book.desk) c.serve_book.result book _ is (c.in-Ok.closed, refl, shut) c.args.port c.args.count
     (g.O.Write.contents c.args.out.now) (g.O.Write.contents c.serve_book.new.out) c.args.operator
     c.serve_book.ensures.served
 
-pub returns-clause-refused : goal.returns-clause-refused
-returns-clause-refused g c =
-    let (book, is) = c.in_ok-close_book.ensures.done in
+pub returns-in-Ok-clause-refused : goal.returns-in-Ok-clause-refused
+returns-in-Ok-clause-refused g c =
+    let (book, is, shut) = c.in-Ok.ensures.done in
     IfErr-weaker _ _ _ (λ why it. inr it)
-    (idle_with _ (λ book. book.desk) c.serve_book.result book _ is IsNotListening c.serve_book.ensures.refused)
+    (idle_with _ (λ book. book.desk) c.serve_book.result book _ is (c.in-Ok.closed, refl, shut) IsNotListening
+    c.serve_book.ensures.refused)
+
+pub returns-in-Err-clause-printed : goal.returns-in-Err-clause-printed
+returns-in-Err-clause-printed g c = not_done c.refused_file.result.0 _ _ c.refused_file.ensures.told
+
+pub returns-in-Err-clause-refused : goal.returns-in-Err-clause-refused
+returns-in-Err-clause-refused g c = refused_with c.refused_file.result.0 _ _ c.refused_file.ensures.told (inl (
+  c.in-Err.unopened,
+  c.refused_file.ensures.touched,
+  when_refused c.serve_book.result _ c.serve_book.ensures.unopened c.in-Err.unopened c.in-Err.ensures.unopened,
+  refl,
+))

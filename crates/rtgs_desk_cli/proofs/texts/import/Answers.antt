@@ -1,55 +1,50 @@
-use Rattle.std.proofs.Common.{refl, inl, inr, subst}
-use Rattle.std.specs.Result.{IfOk}
-use Rattle.std.proofs.lemmas.Result.{IfOk-weaker}
-use Rattle.rtgs_book.specs.declared.refusal.Refusal.TheVariants.{OutOfMemory}
-use Rattle.rtgs_desk_lines.specs.Texts.{Prints}
-use Rattle.rtgs_desk_lines.specs.declared.failure.Failure.TheVariants.{Refused}
+use Rattle.std.proofs.Common.{refl, inl, inr}
+use Rattle.std.proofs.lemmas.Result.{IfOk-weaker, IfErr-weaker}
 use Rattle.rtgs_exchange.specs.Results.{results_text}
 use Rattle.rtgs_desk_cli.specs.Runs.{IsNotSent}
-use Rattle.rtgs_desk_cli.proofs.Finished.{imported_with, idle_for, refused_as}
+use Rattle.rtgs_desk_cli.proofs.Finished.{imported_with, idle_for, either_way, not_done, refused_with, when_refused}
 use Rattle.rtgs_desk_cli.proofs.texts.import.Goals as goal
 
 pub returns-in-Ok-clause-printed : goal.returns-in-Ok-clause-printed
 returns-in-Ok-clause-printed g c =
-    let (book, is) = c.in_ok-rows.ensures.done in
-    let rows = c.in-Ok.rows.items in
-    let batch = c.in-Ok.batch in
+    let (book, is, shut) = c.in-Ok.ensures.done in
     let send = c.send.ensures in
-    let printed = subst (λ rows. IfOk c.print_results.result
-    (λ printed. Prints (results_text rows batch.replies.items batch.stopped) batch.stopped printed
-    (g.O.Write.contents c.args.out.now) (g.O.Write.contents c.print_results.new.out))) c.as_slice.ensures.value
-    c.print_results.ensures.printed in
-    IfOk-weaker c.print_results.result _ _ (λ printed prints. (
-      results_text rows batch.replies.items batch.stopped,
-      batch.stopped,
+    IfOk-weaker c.print_sent.result _ _ (λ printed it. (
+      results_text it.0.0.items it.0.1.replies.items it.0.1.stopped,
+      it.0.1.stopped,
       (
-        rows,
-        batch.replies.items,
-        imported_with _ (λ book. book.desk) c.send.result book _ is c.args.sender (λ it. it.0.items)
-            (λ it. it.1.replies.items) (λ it. it.1.stopped) send.rows send.stopped send.sent
-            (c.in-Ok.rows, c.in-Ok.batch) c.in-Ok.is,
+        it.0.0.items,
+        it.0.1.replies.items,
+        imported_with _ (λ book. book.desk) c.send.result book _ is (c.in-Ok.closed, refl, shut) c.args.sender
+            (λ it. it.0.items) (λ it. it.1.replies.items) (λ it. it.1.stopped) send.rows send.stopped send.sent it.0 it.1,
         refl,
       ),
-      prints,
-    )) printed
+      it.2,
+    )) c.print_sent.ensures.printed
 
 pub returns-in-Ok-clause-refused : goal.returns-in-Ok-clause-refused
 returns-in-Ok-clause-refused g c =
-    let (book, is) = c.in_ok-rows.ensures.done in
-    let batch = c.in-Ok.batch in
+    let (book, is, shut) = c.in-Ok.ensures.done in
     let send = c.send.ensures in
-    refused_as c.print_results.result (Refused OutOfMemory) _ _ c.print_results.ensures.refused (inr (inr (
-      refl,
-      c.in-Ok.rows.items,
-      batch.replies.items,
-      batch.stopped,
-      imported_with _ (λ book. book.desk) c.send.result book _ is c.args.sender (λ it. it.0.items)
-          (λ it. it.1.replies.items) (λ it. it.1.stopped) send.rows send.stopped send.sent
-          (c.in-Ok.rows, c.in-Ok.batch) c.in-Ok.is,
-    )))
+    IfErr-weaker c.print_sent.result _ _ (λ why cause. inr (either_way
+    (λ refused. idle_for _ (λ book. book.desk) c.send.result book _ is (c.in-Ok.closed, refl, shut) IsNotSent
+    send.refused why refused)
+    (λ it. (
+      it.2,
+      it.0.0.items,
+      it.0.1.replies.items,
+      it.0.1.stopped,
+      imported_with _ (λ book. book.desk) c.send.result book _ is (c.in-Ok.closed, refl, shut) c.args.sender
+          (λ it. it.0.items) (λ it. it.1.replies.items) (λ it. it.1.stopped) send.rows send.stopped send.sent it.0 it.1,
+    )) cause)) c.print_sent.ensures.refused
+
+pub returns-in-Err-clause-printed : goal.returns-in-Err-clause-printed
+returns-in-Err-clause-printed g c = not_done c.refused_file.result.0 _ _ c.refused_file.ensures.told
 
 pub returns-in-Err-clause-refused : goal.returns-in-Err-clause-refused
-returns-in-Err-clause-refused g c =
-    let (book, is) = c.in_ok-rows.ensures.done in
-    inr (inl (idle_for _ (λ book. book.desk) c.send.result book _ is IsNotSent c.send.ensures.refused c.in-Err.failure
-    c.in-Err.is))
+returns-in-Err-clause-refused g c = refused_with c.refused_file.result.0 _ _ c.refused_file.ensures.told (inl (
+  c.in-Err.unopened,
+  c.refused_file.ensures.touched,
+  when_refused c.send.result _ c.send.ensures.unopened c.in-Err.unopened c.in-Err.ensures.unopened,
+  refl,
+))

@@ -1,0 +1,13 @@
+//! What a run touched of a book's file.
+
+/// What a run touched of a book's file. `A` is what the file is opened with, `U` a file over which no desk was opened
+/// and in which no book was made, and `C` a file that was closed.
+#[derive(Drop)]
+pub enum Touched<A, U, C> {
+    /// Nothing: what the file is opened with is still there.
+    Nothing(A),
+    /// The file was refused.
+    Refused(U),
+    /// A desk was opened over the file, or a book made in it, and the file was closed.
+    Book(C),
+}
