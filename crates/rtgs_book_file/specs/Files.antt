@@ -1,6 +1,7 @@
 -- What an answer says of a book's file: to looking at it, to reading its beginning, to taking its lock, and to opening
 -- the store.
-use Rattle.std.specs.Prelude.{◌==◌, ◌++◌, ◌∷◌, [], ℕ, ⊤, Bool, true, List, Result, Ok, Err, codes, if◌then◌else◌}
+use Rattle.std.specs.Prelude.{◌==◌, ◌++◌, ◌∷◌, [], ℕ, ◌≤◌, ⊤, Bool, true, List, Option, Result, Ok, Err, IfSome, codes}
+use Rattle.std.specs.Prelude.{if◌then◌else◌}
 use Rattle.std.specs.Fs.{metadata_len}
 use Rattle.std.specs.IoError.{error_kind}
 use Rattle.std.specs.Str.{bytes_eq}
@@ -44,6 +45,14 @@ fault_of_reading _ = StoreFault
 abbrev pub opening_of : Result (List ℕ) Error → Result ⊤ Fault
 opening_of (Ok bytes) = if bytes_eq bytes magic then Ok tt else Err NotADeskFile
 opening_of (Err error) = Err (fault_of_reading (error_kind error))
+
+-- no desk's file has more tables, indexes, views and triggers
+abbrev pub most_objects : ℕ
+most_objects = 100
+
+-- a file of which the store read that it lists so many, or could not read how many, may be a desk's
+abbrev pub MayBeADesks : Option ℕ → Type 0
+MayBeADesks listed = IfSome listed (λ count. count ≤ most_objects)
 
 -- why a lock cannot be taken
 abbrev pub fault_of_lock : ErrorKind → FileFault

@@ -1,6 +1,6 @@
 -- Why no desk was opened over the file of a book, and why no book was made in one. `held` is what the files held, `k`
 -- has the members of the keeper's trait, and `conn` gives a keeper's connection.
-use Rattle.std.specs.Prelude.{◌≡◌, ◌≢◌, ◌⊎◌, ℕ, true, false, List, Result, Ok, Err, IsTrue}
+use Rattle.std.specs.Prelude.{◌≡◌, ◌≢◌, ◌⊎◌, ◌<◌, ℕ, true, false, List, Option, Result, Ok, Err, IsTrue, IsSomeAnd}
 use Rattle.std.specs.declared.fs.Metadata.{Metadata}
 use Rattle.std.specs.declared.io.Error.{Error}
 use Rattle.sqlite_disk.specs.declared.Disk as disk
@@ -17,12 +17,12 @@ use Rattle.sqlite.specs.declared.error.Error.{Error as SqlError}
 use Rattle.sqlite.specs.declared.error.Error.TheVariants.{SqliteFailure}
 use Rattle.sqlite.specs.declared.error.ErrorCode.TheVariants as code
 use Rattle.rtgs_book.specs.declared.fault.Fault.{Fault}
-use Rattle.rtgs_book.specs.declared.fault.Fault.TheVariants.{OutOfMemory, StoreFault}
+use Rattle.rtgs_book.specs.declared.fault.Fault.TheVariants.{OutOfMemory, StoreFault, NotADeskFile}
 use Rattle.rtgs_keeper.specs.declared.keeper.Keeper.{Ghosts}
 use Rattle.rtgs_tables.specs.Building.{IsBlank}
 use Rattle.rtgs_stored_desk.specs.Stored.{IsRefused, IsUnmade}
 use Rattle.rtgs_book_file.specs.Closed.{LeavesNoMore}
-use Rattle.rtgs_book_file.specs.Files.{vacancy_of, opening_of, fault_of_store}
+use Rattle.rtgs_book_file.specs.Files.{vacancy_of, opening_of, most_objects, fault_of_store}
 use Rattle.rtgs_book_file.specs.declared.file_fault.FileFault.{FileFault}
 use Rattle.rtgs_book_file.specs.declared.file_fault.FileFault.TheVariants.{InUse, FileExists, Book}
 
@@ -43,8 +43,16 @@ abbrev pub IsNotVacant : FileFault → Type 0
 IsNotVacant fault = (looked : Result Metadata Error) × IsBarredBy looked fault
 
 -- the file's beginning is none of a database, or could not be read
+abbrev pub IsOfItsBeginning : Fault → Type 0
+IsOfItsBeginning fault = (beginning : Result (List ℕ) Error) × (opening_of beginning ≡ Err fault)
+
+-- the store read that the file lists more objects than a desk's file does
+abbrev pub IsCrowded : Option ℕ → Fault → Type 0
+IsCrowded listed fault = IsSomeAnd listed (λ count. most_objects < count) × (fault ≡ NotADeskFile)
+
+-- a look at the file showed the one or the other
 abbrev pub IsUnread : Fault → Type 0
-IsUnread fault = (beginning : Result (List ℕ) Error) × (opening_of beginning ≡ Err fault)
+IsUnread fault = IsOfItsBeginning fault ⊎ ((listed : Option ℕ) × IsCrowded listed fault)
 
 -- no file was opened: it cannot be, memory was wanting, or another program has it open
 abbrev pub IsOutOfReach : SqlError → Type 0

@@ -15,6 +15,7 @@ mod not_locked;
 mod not_reached;
 mod not_vacant;
 mod open_book;
+mod schema_size;
 mod store;
 mod unopened;
 mod unread;

@@ -1,7 +1,7 @@
 //! A book's file that was looked at.
-ghost use Rattle.std.specs.Prelude.{◌≡◌, true, Ok, Err, IfOk, IfErr};
-ghost use Rattle.rtgs_book_file.specs.Files.{vacancy_of, opening_of};
-ghost use Rattle.rtgs_book_file.specs.Refused.{IsBarredBy};
+ghost use Rattle.std.specs.Prelude.{◌≡◌, true, Ok, Err, IfOk, IfErr, OnOk};
+ghost use Rattle.rtgs_book_file.specs.Files.{vacancy_of, opening_of, MayBeADesks};
+ghost use Rattle.rtgs_book_file.specs.Refused.{IsBarredBy, IsCrowded};
 
 use crate::book_lock::BookLock;
 use crate::locked::Locked;
@@ -45,6 +45,18 @@ impl<'a, S: Start> LookedAt<'a, S> {
     {
         match Unread::unless_database(beginning) {
             Ok(()) => Ok(LookedAt { lock }),
+            Err(unread) => Err(unread),
+        }
+    }
+
+    /// The same, where the store read of the file that it lists so many objects, and a desk's file may.
+    pub(crate) fn if_few(self, listed: Option<usize>) -> Result<LookedAt<'a, S>, Unread>
+        ensures few { OnOk result (MayBeADesks listed) }
+        ensures refused { IfErr result (λ unread. IsCrowded listed unread.fault) }
+        ensures same { IfOk result (λ file. file.lock ≡ self.entry.lock) }
+    {
+        match Unread::unless_crowded(listed) {
+            Ok(()) => Ok(self),
             Err(unread) => Err(unread),
         }
     }

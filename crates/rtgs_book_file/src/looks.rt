@@ -5,6 +5,7 @@ ghost use Rattle.rtgs_book_file.specs.Refused.{IsNotVacant, IsUnread};
 use crate::book_lock::BookLock;
 use crate::looked_at::LookedAt;
 use crate::not_vacant::NotVacant;
+use crate::schema_size::listed;
 use crate::unread::Unread;
 use sqlite::Start;
 use std::fs::File;
@@ -22,14 +23,15 @@ impl<'a, S: Start> BookLock<'a, S> {
         LookedAt::if_vacant(self, looked)
     }
 
-    /// Looks whether the file begins as a database does: a fault where it does not, is missing or shorter, or cannot be
-    /// read.
+    /// Looks whether the file begins as a database does, and whether it lists no more objects than a desk's may: a
+    /// fault where it does not, is missing or shorter, or cannot be read.
     pub(crate) fn with_database(self, rt: &HostRuntime) -> Result<LookedAt<'a, S>, Unread>
         ensures refused { IfErr result (λ unread. IsUnread unread.fault) }
         ensures same { IfOk result (λ file. file.lock ≡ self.entry) }
     {
-        let beginning = read_beginning(rt, self.path());
-        LookedAt::if_database(self, beginning)
+        let path = self.path();
+        let file = LookedAt::if_database(self, read_beginning(rt, path))?;
+        file.if_few(listed(rt, path))
     }
 }
 

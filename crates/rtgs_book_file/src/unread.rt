@@ -1,6 +1,7 @@
-//! Why a book's file is not opened, by its beginning.
-ghost use Rattle.std.specs.Prelude.{◌≡◌, Ok, Err, IfOk, IfErr};
-ghost use Rattle.rtgs_book_file.specs.Files.{opening_of};
+//! Why a book's file is not opened, by its beginning, or by how many objects it lists.
+ghost use Rattle.std.specs.Prelude.{◌≡◌, Ok, Err, IfOk, IfErr, OnOk};
+ghost use Rattle.rtgs_book_file.specs.Files.{opening_of, MayBeADesks};
+ghost use Rattle.rtgs_book_file.specs.Refused.{IsCrowded};
 
 use rtgs_book::Fault;
 use std::io;
@@ -9,7 +10,12 @@ use std::io::ErrorKind;
 /// How each file of the `sqlite` crate begins.
 const MAGIC: &[u8; 16] = b"SQLite format 3\0";
 
-/// Why a book's file is not opened, by its beginning. Only an answer to reading a beginning makes one.
+/// No desk's file has more tables, indexes, views and triggers: it has five tables, four indexes, and what other tools
+/// made in it. The time of an opening grows with the square of their number.
+const MOST_OBJECTS: usize = 100;
+
+/// Why a book's file is not opened, by its beginning, or by how many objects it lists. Only an answer to reading a
+/// beginning, or a count of what the store read, makes one.
 #[derive(Drop)]
 pub(crate) struct Unread {
     fault: Fault,
@@ -24,6 +30,19 @@ impl Unread {
         match opening(beginning) {
             Ok(()) => Ok(()),
             Err(fault) => Err(Unread { fault }),
+        }
+    }
+
+    /// Whether a file of which the store read that it lists so many objects may be a desk's, or why it is not opened.
+    pub(crate) fn unless_crowded(listed: Option<usize>) -> Result<(), Unread>
+        ensures few { OnOk result (MayBeADesks listed) }
+        ensures refused { IfErr result (λ unread. IsCrowded listed unread.fault) }
+    {
+        match listed {
+            Some(count) if count > MOST_OBJECTS => Err(Unread {
+                fault: Fault::NotADeskFile,
+            }),
+            _ => Ok(()),
         }
     }
 
