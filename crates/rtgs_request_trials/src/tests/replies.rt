@@ -61,27 +61,49 @@ pub enum Told {
     Done,
 }
 
-/// What this body tells, if it tells anything: the status with its reason, the type of the body, and the meaning.
-fn meaning(
+/// What a body means: the status with its reason, the type of the body, and what it tells.
+type Meaning = (&'static str, &'static str, Told);
+
+// Whether the body is that of the refusal with this number and name.
+fn is_refusal(alloc: Global, body: &str, number: u8, name: &str) -> Result<bool, AllocError> {
+    let first = format!(in alloc; "{{\"code\":{number},")?;
+    let last = format!(in alloc; "\"name\":\"{name}\"}}")?;
+    let row = format!(in alloc; "\"name\":\"{name}\",\"row\":")?;
+    let is_row = number == 41 && body.contains(row.as_str());
+    Ok(body.starts_with(first.as_str()) && (body.ends_with(last.as_str()) || is_row))
+}
+
+// What the body means, if it is that of one of these refusals.
+fn refused(
     alloc: Global,
     body: &str,
-) -> Result<Option<(&'static str, &'static str, Told)>, AllocError> {
-    for (status, number, name) in REFUSED {
-        let first = format!(in alloc; "{{\"code\":{number},")?;
-        let last = format!(in alloc; "\"name\":\"{name}\"}}")?;
-        let row = format!(in alloc; "\"name\":\"{name}\",\"row\":")?;
-        let is_row = number == 41 && body.contains(row.as_str());
-        if body.starts_with(first.as_str()) && (body.ends_with(last.as_str()) || is_row) {
-            return Ok(Some((status, "application/json", Told::Refused(number))));
-        }
-    }
-    for (first, content, is_done) in DONE {
-        if body.starts_with(first) {
-            let told = if is_done { Told::Done } else { Told::Read };
-            return Ok(Some(("200 OK", content, told)));
+    refusals: &[(&'static str, u8, &'static str)],
+) -> Result<Option<Meaning>, AllocError> {
+    for (status, number, name) in refusals {
+        if is_refusal(alloc, body, *number, name)? {
+            return Ok(Some((*status, "application/json", Told::Refused(*number))));
         }
     }
     Ok(None)
+}
+
+// What the body means, if it begins in one of these ways.
+fn done(body: &str, beginnings: &[(&str, &'static str, bool)]) -> Option<Meaning> {
+    for (first, content, is_done) in beginnings {
+        if body.starts_with(*first) {
+            let told = if *is_done { Told::Done } else { Told::Read };
+            return Some(("200 OK", *content, told));
+        }
+    }
+    None
+}
+
+// What this body means, if it means anything.
+fn meaning(alloc: Global, body: &str) -> Result<Option<Meaning>, AllocError> {
+    match refused(alloc, body, &REFUSED)? {
+        Some(meaning) => Ok(Some(meaning)),
+        None => Ok(done(body, &DONE)),
+    }
 }
 
 // The bytes behind the first empty line.

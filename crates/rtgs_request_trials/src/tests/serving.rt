@@ -13,8 +13,8 @@ use std::alloc::Global;
 use std::cell::Cell;
 use std::test::Fail;
 
-/// A desk of which the commits are counted.
-pub type Counted<'a> = Desk<CountingKeeper<'a, MemoryKeeper>>;
+// A desk of which the commits are counted.
+type Counted<'a> = Desk<CountingKeeper<'a, MemoryKeeper>>;
 
 fn digest(key: &str) -> Result<KeyDigest, Fail> {
     Ok(Key::read(key.as_bytes())?.digest())
@@ -25,6 +25,21 @@ fn adds(code: &str, key: &str) -> Result<Command, Fail> {
         code: Code::read(code.as_bytes())?,
         name: Name::read(b"A Bank")?,
         key: digest(key)?,
+    })
+}
+
+fn posts(code: &str, reference: &str, cents: i64) -> Result<Command, Fail> {
+    Ok(Command::Post {
+        code: Code::read(code.as_bytes())?,
+        reference: Reference::read(reference.as_bytes())?,
+        cents: PostingAmount::from_cents(cents).ok_or("a posting")?,
+    })
+}
+
+fn credits(code: &str, cents: u64) -> Result<Command, Fail> {
+    Ok(Command::SetCredit {
+        code: Code::read(code.as_bytes())?,
+        credit: Credit::from_cents(cents).ok_or("a limit")?,
     })
 }
 
@@ -43,15 +58,8 @@ fn commands() -> Result<[Command; 9], Fail> {
         adds("ALFA", ALFA)?,
         adds("BETA", "0000000000000000000000000000000b")?,
         adds("GAMA", "0000000000000000000000000000000c")?,
-        Command::Post {
-            code: Code::read(b"ALFA")?,
-            reference: Reference::read(b"P-1")?,
-            cents: PostingAmount::from_cents(100).ok_or("a posting")?,
-        },
-        Command::SetCredit {
-            code: Code::read(b"ALFA")?,
-            credit: Credit::from_cents(50).ok_or("a limit")?,
-        },
+        posts("ALFA", "P-1", 100)?,
+        credits("ALFA", 50)?,
         Command::OpenDay(BusinessDate::read(b"2024-03-04")?),
         pays("A-1", "BETA", 100)?,
         pays("A-2", "GAMA", 500)?,
@@ -59,27 +67,56 @@ fn commands() -> Result<[Command; 9], Fail> {
     ])
 }
 
-/// A desk after these commands. It adds to the count.
-pub fn desk_of<'a>(alloc: Global, commits: &'a Cell<usize>) -> Result<Counted<'a>, Fail> {
-    let keeper = CountingKeeper::new(MemoryKeeper::new(alloc), commits);
-    let mut desk = match Desk::open(alloc, keeper) {
-        Ok(desk) => desk,
-        Err((fault, _)) => return Err(Fail::from(fault)),
-    };
+// Gives the desk these commands.
+fn begin<K: Keeper>(desk: &mut Desk<K>) -> Result<(), Fail> {
     for command in commands()? {
         desk.submit(command)?;
     }
-    Ok(desk)
+    Ok(())
+}
+
+// The status that the desk tells of an input, and the bytes of its reply.
+fn reply<K: Keeper>(
+    alloc: Global,
+    desk: &mut Desk<K>,
+    operator: &KeyDigest,
+    input: &[u8],
+) -> Option<(u16, Vec<u8>)> {
+    let mut reader = input;
+    let mut written = Vec::new(alloc);
+    match serve_one(alloc, &mut reader, &mut written, desk, operator) {
+        Served::Answered(status) => Some((status.as_u16(), written)),
+        _ => None,
+    }
+}
+
+// What a reply tells that was written whole and bears the status that is told.
+fn told(alloc: Global, reply: Option<(u16, Vec<u8>)>) -> Result<Told, Fail> {
+    let (status, written) = reply.ok_or("not answered")?;
+    let head = format!(in alloc; "HTTP/1.1 {status} ")?;
+    if !written.as_slice().starts_with(head.as_bytes()) {
+        return Err(Fail::from("another status was told"));
+    }
+    told_by(alloc, written.as_slice())
+}
+
+// A desk over a new keeper. It adds to the count.
+fn opened(alloc: Global, commits: &Cell<usize>) -> Result<Counted<'_>, Fail> {
+    let keeper = CountingKeeper::new(MemoryKeeper::new(alloc), commits);
+    match Desk::open(alloc, keeper) {
+        Ok(desk) => Ok(desk),
+        Err((fault, _)) => Err(Fail::from(fault)),
+    }
 }
 
 /// The book that the desk begins with.
 pub fn book_before(alloc: Global) -> Result<Book, Fail> {
     let commits = Cell::new(0);
-    book_after(alloc, desk_of(alloc, &commits)?)
-}
-
-fn book_after(alloc: Global, desk: Counted<'_>) -> Result<Book, Fail> {
-    Ok(desk.into_keeper().load(alloc)?)
+    let mut desk = opened(alloc, &commits)?;
+    let begun = begin(&mut desk);
+    let kept = desk.into_keeper().load(alloc);
+    begun?;
+    Ok(kept?)
 }
 
 fn are_same<T: PartialEq>(one: &Rows<T>, other: &Rows<T>) -> bool {
@@ -94,34 +131,31 @@ fn is_same_book(one: &Book, other: &Book) -> bool {
         && one.day == other.day
 }
 
-// What the desk tells of an input, in a reply that is written whole and bears the status that is told.
-fn served(alloc: Global, desk: &mut Counted<'_>, input: &[u8]) -> Result<Told, Fail> {
-    let operator = digest(OPERATOR)?;
-    let mut reader = input;
-    let mut written = Vec::new(alloc);
-    let Served::Answered(status) = serve_one(alloc, &mut reader, &mut written, desk, &operator)
-    else {
-        return Err(Fail::from("not answered"));
-    };
-    let head = format!(in alloc; "HTTP/1.1 {} ", status.as_u16())?;
-    if !written.as_slice().starts_with(head.as_bytes()) {
-        return Err(Fail::from("another status was told"));
-    }
-    told_by(alloc, written.as_slice())
-}
-
-/// What a desk tells of an input. A desk that did not tell of a command made no commit, and has the book that it began
-/// with.
-pub fn serve(alloc: Global, before: &Book, input: &[u8]) -> Result<Told, Fail> {
-    let commits = Cell::new(0);
-    let mut desk = desk_of(alloc, &commits)?;
-    let begun = commits.get();
-    let told = served(alloc, &mut desk, input)?;
-    let made = commits.get().saturating_sub(begun);
-    let is_same = is_same_book(&book_after(alloc, desk)?, before);
+// What was told, where that was of commands, or no commit was made and the book is the same.
+fn judged(alloc: Global, told: Told, made: usize, is_same: bool) -> Result<Told, Fail> {
     if told == Told::Done || (made == 0 && is_same) {
         return Ok(told);
     }
     let said = format!(in alloc; "{told:?}, {made} commits, the same book: {is_same}")?;
     Err(Fail::from(said))
+}
+
+/// What a desk tells of an input. A desk that did not tell of a command made no commit, and has the book that it began
+/// with.
+pub fn serve(alloc: Global, before: &Book, input: &[u8]) -> Result<Told, Fail> {
+    let operator = digest(OPERATOR)?;
+    let commits = Cell::new(0);
+    let mut desk = opened(alloc, &commits)?;
+    let begun = begin(&mut desk);
+    let made_before = commits.get();
+    let replied = reply(alloc, &mut desk, &operator, input);
+    let made = commits.get().saturating_sub(made_before);
+    let kept = desk.into_keeper().load(alloc);
+    begun?;
+    judged(
+        alloc,
+        told(alloc, replied)?,
+        made,
+        is_same_book(&kept?, before),
+    )
 }
