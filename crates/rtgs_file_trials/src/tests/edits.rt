@@ -1,9 +1,8 @@
 //! Changes of a file, as chance would have them, in which a page is one of 4096 bytes.
 use super::draw::Draw;
 use super::limits::LIMITS;
+use super::pages::PAGE;
 use std::alloc::{AllocError, Global};
-
-const PAGE: usize = 4096;
 
 /// The file with one change: of bytes, cut, with a page again or in another's place, or with another number.
 pub fn changed(alloc: Global, draw: &mut Draw, file: &[u8]) -> Result<Vec<u8>, AllocError> {

@@ -1,10 +1,11 @@
 //! Files in which a page is told to stand behind another, or under it, that it cannot.
 use super::met::Met;
-use super::setting::{begin_day, keeps, meddle, remove, write};
+use super::pages::{PAGE, put};
+use super::setting;
+use super::setting::{begin_day, is_refused, keeps, meddle, remove, write};
+use super::views::with_circles;
 use std::fs;
 use std::test::Fail;
-
-const PAGE: usize = 4096;
 
 // How many pages there are at least.
 const PAGES: u32 = 20;
@@ -39,12 +40,7 @@ fn book_bytes(rt: &HostRuntime, file: &str) -> Result<Vec<u8>, Fail> {
 fn point(bytes: &mut [u8], page: u32, place: usize, number: u32) {
     let before = page.saturating_sub(1) as usize;
     let at = before.saturating_mul(PAGE).saturating_add(place);
-    let big = number.to_be_bytes();
-    for (offset, byte) in big.iter().enumerate() {
-        if let Some(room) = bytes.get_mut(at.saturating_add(offset)) {
-            *room = *byte;
-        }
-    }
+    put(bytes, at, &number.to_be_bytes());
 }
 
 // Has each page but the first, one a file, point at the page that is so many behind it, and counts the answers.
@@ -81,4 +77,16 @@ fn that_lead_to_the_next(rt: HostRuntime) -> Result<(), Fail> {
         assert!(rt; met.failed > 0, "{met:?}");
     }
     Ok(())
+}
+
+// A page leads to itself, to the pages behind it, or to pages far from it.
+#[test]
+fn of_ten_megabytes(rt: HostRuntime) -> Result<(), Fail> {
+    let book = setting::book_bytes(&rt, "ten_megabytes")?;
+    for step in [0, 1, 37] {
+        let file = with_circles(rt.alloc(), book.as_slice(), step)?;
+        write(&rt, "ten_megabytes", file.as_slice())?;
+        is_refused(&rt, "ten_megabytes", "refused 91 StoreFault\n")?;
+    }
+    remove(&rt, "ten_megabytes")
 }

@@ -5,49 +5,96 @@ use sqlite::Connection;
 use std::fs;
 use std::test::Fail;
 
-const KEYS: [(&str, &str); 3] = [
-    ("ALFA", "0000000000000000000000000000000a"),
-    ("BETA", "0000000000000000000000000000000b"),
-    ("GAMA", "0000000000000000000000000000000c"),
-];
-
 /// What is printed of a file that is no book's.
 pub const NO_BOOK: &str = "refused 93 NotADeskFile\n";
 
-/// A run over these words ends with 0.
-fn does(rt: &HostRuntime, words: &[&str]) -> Result<(), Fail> {
+/// What a run printed, and how it ended.
+struct Run {
+    out: Vec<u8>,
+    err: Vec<u8>,
+    /// All was done, and printed whole.
+    is_done: bool,
+    status: u8,
+}
+
+// A run over these words.
+fn ran(rt: &HostRuntime, words: &[&str]) -> Run {
     let mut out = Vec::new(rt.alloc());
     let mut err = Vec::new(rt.alloc());
     let (ended, _) = run_words(rt, words, Unknown, &mut out, &mut err);
-    if matches!(ended, Ended::Printed(Printed::Whole)) && err.is_empty() {
+    Run {
+        out,
+        err,
+        is_done: matches!(ended, Ended::Printed(Printed::Whole)),
+        status: ended.exit_status(),
+    }
+}
+
+// A run over this command on the file, with the words behind it, ends with 0.
+fn does(rt: &HostRuntime, command: &str, file: &str, rest: &[&str]) -> Result<(), Fail> {
+    let mut words = Vec::from_slice(rt.alloc(), &[command, file])?;
+    words.extend_from_slice(rest)?;
+    let Run {
+        out: _,
+        err,
+        is_done,
+        status: _,
+    } = ran(rt, words.as_slice());
+    if is_done && err.is_empty() {
         return Ok(());
     }
-    let said = format!(in rt.alloc(); "{words:?} said {:?}", std::str::from_utf8(err.as_slice()))?;
+    let said = format!(in rt.alloc(); "{command} said {:?}", std::str::from_utf8(err.as_slice()))?;
     Err(Fail::from(said))
 }
+
+// Each of these, in turn.
+fn does_all(rt: &HostRuntime, file: &str, runs: &[(&str, &[&str])]) -> Result<(), Fail> {
+    for (command, rest) in runs {
+        does(rt, command, file, rest)?;
+    }
+    Ok(())
+}
+
+const BEGUN: [(&str, &[&str]); 6] = [
+    ("init", &[]),
+    (
+        "add",
+        &["ALFA", "A Bank", "0000000000000000000000000000000a"],
+    ),
+    (
+        "add",
+        &["BETA", "A Bank", "0000000000000000000000000000000b"],
+    ),
+    (
+        "add",
+        &["GAMA", "A Bank", "0000000000000000000000000000000c"],
+    ),
+    ("post", &["ALFA", "P-1", "150"]),
+    ("open", &["2024-03-04"]),
+];
+
+const ORDERS: &str = "reference,to,amount\nA-1,BETA,100\nA-2,GAMA,50\nA-3,BETA,25\nA-4,GAMA,25\n";
+
+const CLOSED: [(&str, &[&str]); 3] = [
+    ("cutoff", &["2024-03-04"]),
+    ("close", &["2024-03-04"]),
+    ("post", &["BETA", "P-2", "7"]),
+];
 
 /// Makes a book with three banks and a day, in which two orders have settled under two marks, one is withdrawn and one
 /// waits.
 pub fn begin_day(rt: &HostRuntime, file: &str) -> Result<(), Fail> {
-    does(rt, &["init", file])?;
-    for (code, key) in KEYS {
-        does(rt, &["add", file, code, "A Bank", key])?;
-    }
-    does(rt, &["post", file, "ALFA", "P-1", "150"])?;
-    does(rt, &["open", file, "2024-03-04"])?;
+    does_all(rt, file, &BEGUN)?;
     let orders = format!(in rt.alloc(); "{file}.csv")?;
-    let rows = "reference,to,amount\nA-1,BETA,100\nA-2,GAMA,50\nA-3,BETA,25\nA-4,GAMA,25\n";
-    fs::write(rt, orders.as_str(), rows)?;
-    does(rt, &["import", file, "ALFA", orders.as_str()])?;
-    does(rt, &["withdraw", file, "ALFA", "A-3"])
+    fs::write(rt, orders.as_str(), ORDERS)?;
+    does(rt, "import", file, &["ALFA", orders.as_str()])?;
+    does(rt, "withdraw", file, &["ALFA", "A-3"])
 }
 
 /// Makes such a book, closes its day, and posts once more.
 pub fn end_day(rt: &HostRuntime, file: &str) -> Result<(), Fail> {
     begin_day(rt, file)?;
-    does(rt, &["cutoff", file, "2024-03-04"])?;
-    does(rt, &["close", file, "2024-03-04"])?;
-    does(rt, &["post", file, "BETA", "P-2", "7"])
+    does_all(rt, file, &CLOSED)
 }
 
 /// The bytes of such a book whose day is open. Its file is gone then.
@@ -87,11 +134,12 @@ pub fn meddle(rt: &HostRuntime, file: &str, sql: &str) -> Result<(), Fail> {
 /// What a run prints that reports on a file, and the status that it ends with. It prints on standard output with status
 /// 0 and else on standard error.
 pub fn reports(rt: &HostRuntime, file: &str) -> Result<(String, u8), Fail> {
-    let mut out = Vec::new(rt.alloc());
-    let mut err = Vec::new(rt.alloc());
-    let words = ["report", file, "2024-03-04"];
-    let (status, _) = run_words(rt, &words, Unknown, &mut out, &mut err);
-    let status = status.exit_status();
+    let Run {
+        out,
+        err,
+        is_done: _,
+        status,
+    } = ran(rt, &["report", file, "2024-03-04"]);
     let (said, silent) = if status == 0 { (out, err) } else { (err, out) };
     if !silent.is_empty() {
         return Err(Fail::from("both streams were printed on"));
