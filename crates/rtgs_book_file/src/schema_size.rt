@@ -16,8 +16,9 @@ const WITH_SUMS: u32 = 0x0840_2020;
 // The size of the page that an opening leaves which was cut short.
 const NEW_SIZE: usize = 4096;
 
-/// How many tables, indexes, views and triggers the file at this path lists, with what is in its log. None where a
-/// store that is opened over it does not come to read its list, and then it does not open. The files are let go again.
+/// How many tables, indexes, views and triggers the file at this path lists, with what is in its log. None where that
+/// could not be read, or where an opening would make a new database: what the file is, its opening tells then. The
+/// files are let go again.
 pub(crate) fn listed(rt: &HostRuntime, path: &str) -> Option<usize> {
     let files = sqlite_std_file::open(rt, path, Unknown).ok()?;
     let mut unopened = unopened(rt.alloc(), files)?;
