@@ -18,6 +18,7 @@ use Rattle.rtgs_book.specs.declared.fault.Fault.{Fault}
 use Rattle.rtgs_book.specs.declared.fault.Fault.TheVariants.{OutOfMemory, StoreFault, NotADeskFile}
 use Rattle.rtgs_book_file.specs.declared.file_fault.FileFault.{FileFault}
 use Rattle.rtgs_book_file.specs.declared.file_fault.FileFault.TheVariants.{InUse, Book}
+use Rattle.rtgs_book_file.specs.declared.limits.TheConstants.{MOST_OBJECTS}
 
 -- no file, or a fault: memory was refused, or the path cannot be looked at
 abbrev pub vacancy_without : ErrorKind → Result Bool Fault
@@ -46,13 +47,9 @@ abbrev pub opening_of : Result (List ℕ) Error → Result ⊤ Fault
 opening_of (Ok bytes) = if bytes_eq bytes magic then Ok tt else Err NotADeskFile
 opening_of (Err error) = Err (fault_of_reading (error_kind error))
 
--- no desk's file has more tables, indexes, views and triggers
-abbrev pub most_objects : ℕ
-most_objects = 100
-
 -- a file of which the store read that it lists so many, or could not read how many, may be a desk's
 abbrev pub MayBeADesks : Option ℕ → Type 0
-MayBeADesks listed = IfSome listed (λ count. count ≤ most_objects)
+MayBeADesks listed = IfSome listed (λ count. count ≤ MOST_OBJECTS)
 
 -- why a lock cannot be taken
 abbrev pub fault_of_lock : ErrorKind → FileFault

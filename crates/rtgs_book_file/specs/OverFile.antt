@@ -22,7 +22,8 @@ use Rattle.rtgs_book_file.specs.declared.file_fault.FileFault.{FileFault}
 use Rattle.rtgs_book_file.specs.declared.let_go.LetGo.{LetGo}
 use Rattle.rtgs_book_file.specs.declared.unopened.Unopened.{Unopened}
 
--- the file of a book, whose keeper is a K; a U is the file over which no desk was opened, and a C the one that was closed
+-- the file of a book, whose keeper is a K; a U is the file over which no desk was opened, and a C the one that was
+-- closed
 pub record OverFile (K U C : Type 0) : Type 1 where
   -- the members of the keeper's trait
   pub keeper : Ghosts K

@@ -22,9 +22,10 @@ use Rattle.rtgs_keeper.specs.declared.keeper.Keeper.{Ghosts}
 use Rattle.rtgs_tables.specs.Building.{IsBlank}
 use Rattle.rtgs_stored_desk.specs.Stored.{IsRefused, IsUnmade}
 use Rattle.rtgs_book_file.specs.Closed.{LeavesNoMore}
-use Rattle.rtgs_book_file.specs.Files.{vacancy_of, opening_of, most_objects, fault_of_store}
+use Rattle.rtgs_book_file.specs.Files.{vacancy_of, opening_of, fault_of_store}
 use Rattle.rtgs_book_file.specs.declared.file_fault.FileFault.{FileFault}
 use Rattle.rtgs_book_file.specs.declared.file_fault.FileFault.TheVariants.{InUse, FileExists, Book}
+use Rattle.rtgs_book_file.specs.declared.limits.TheConstants.{MOST_OBJECTS}
 
 -- another run holds the lock, or it cannot be made; or memory was wanting for it
 abbrev pub IsNotLocked : FileFault → Type 0
@@ -48,7 +49,7 @@ IsOfItsBeginning fault = (beginning : Result (List ℕ) Error) × (opening_of be
 
 -- the store read that the file lists more objects than a desk's file does
 abbrev pub IsCrowded : Option ℕ → Fault → Type 0
-IsCrowded listed fault = IsSomeAnd listed (λ count. most_objects < count) × (fault ≡ NotADeskFile)
+IsCrowded listed fault = IsSomeAnd listed (λ count. MOST_OBJECTS < count) × (fault ≡ NotADeskFile)
 
 -- a look at the file showed the one or the other
 abbrev pub IsUnread : Fault → Type 0
@@ -117,7 +118,8 @@ module _ {K D : Type 0} {g : disk.Ghosts D} (k : Ghosts K) (conn : K → Held (F
   abbrev pub IsNotMade : FileFault → Type 0
   IsNotMade InUse = ⊥
   IsNotMade FileExists = IsNotVacant FileExists
-  IsNotMade (Book fault) = IsNotVacant (Book fault) ⊎ (IsNoBook g held fault ⊎ ((files : Files D) × WasUnmade fault files))
+  IsNotMade (Book fault) =
+      IsNotVacant (Book fault) ⊎ (IsNoBook g held fault ⊎ ((files : Files D) × WasUnmade fault files))
 
   -- why no book was made in a file
   abbrev pub IsUnmadeIn : FileFault → Type 0

@@ -8,6 +8,7 @@ mod file_fault;
 mod finished_book;
 mod held_lock;
 mod let_go;
+mod limits;
 mod locked;
 mod looked_at;
 mod looks;

@@ -3,16 +3,13 @@ ghost use Rattle.std.specs.Prelude.{◌≡◌, Ok, Err, IfOk, IfErr, OnOk};
 ghost use Rattle.rtgs_book_file.specs.Files.{opening_of, MayBeADesks};
 ghost use Rattle.rtgs_book_file.specs.Refused.{IsCrowded};
 
+use crate::limits::MOST_OBJECTS;
 use rtgs_book::Fault;
 use std::io;
 use std::io::ErrorKind;
 
 /// How each file of the `sqlite` crate begins.
 const MAGIC: &[u8; 16] = b"SQLite format 3\0";
-
-/// No desk's file has more tables, indexes, views and triggers: it has five tables, four indexes, and what other tools
-/// made in it. The time of an opening grows with the square of their number.
-const MOST_OBJECTS: usize = 100;
 
 /// Why a book's file is not opened, by its beginning, or by how many objects it lists. Only an answer to reading a
 /// beginning, or a count of what the store read, makes one.

@@ -8,11 +8,13 @@ use Rattle.rtgs_book_file.specs.OverFile.{OverFile}
 use Rattle.rtgs_desk_cli.specs.declared.touched.Touched.{Touched}
 use Rattle.rtgs_desk_cli.specs.Runs.{IsRefused, PrintsFor}
 
-module _ {A K U C : Type 0} (file : OverFile K U C) (touched : Touched A U C) {asked other : Request} (same : asked ≡ other) where
+module _ {A K U C : Type 0} (file : OverFile K U C) (touched : Touched A U C) {asked other : Request}
+    (same : asked ≡ other) where
   pub printed_for : (result : Result Printed Failure) (old new : Option (List ℕ))
       → IfOk result (λ printed. PrintsFor file other touched printed old new)
       → IfOk result (λ printed. PrintsFor file asked touched printed old new)
-  printed_for result old new = subst (λ request. IfOk result (λ printed. PrintsFor file request touched printed old new))
+  printed_for result old new =
+      subst (λ request. IfOk result (λ printed. PrintsFor file request touched printed old new))
       (sym same)
 
   pub refused_for : (result : Result Printed Failure) → IfErr result (λ why. IsRefused file other touched why)

@@ -1,6 +1,7 @@
-//! The shortest and longest texts, the least and greatest numbers, the first and last days, and as many participants and
-//! queued orders as there may be, over both keepers.
-use super::disks::{DiskDesk, book_on, closed, desk_again, new_disks};
+//! The shortest and longest texts, the least and greatest numbers, the first and last days, and as many participants
+//! and queued orders as there may be, over both keepers.
+use super::disk_desk::{closed, desk_again, new_desk};
+use super::disk_keeper::{DiskKeeper, Work, on_disks};
 use super::found::are_same_books;
 use super::setting::{Reply, adds, date, desk_over, limits, pays, posts};
 use rtgs_book::{Answer, Command, Refusal};
@@ -18,9 +19,9 @@ const LONGEST_NAME: &str = "~ 23456789 123456789 123456789 123456789";
 const LONGEST_REFERENCE: &str = "Z-0123456789ABC9";
 
 /// What a desk in memory and one on disks both answer to a command.
-fn answer_alike(
-    held: &mut Desk<MemoryKeeper>,
-    kept: &mut DiskDesk,
+fn answer_alike<M: Keeper, K: Keeper>(
+    held: &mut Desk<M>,
+    kept: &mut Desk<K>,
     command: &Command,
 ) -> Result<Reply, Fail> {
     let reply = held.submit(*command);
@@ -32,11 +33,17 @@ fn answer_alike(
     }
 }
 
-/// Whether two new desks answer the commands alike, accept all but the last, which is refused so, and end with one book.
-fn refuse_the_last(alloc: Global, commands: &[Command], refusal: Refusal) -> Result<bool, Fail> {
+/// Whether two new desks answer the commands alike, accept all but the last, which is refused so, and end with one
+/// book.
+fn refuse_the_last_over<M: Keeper + Drop, K: Keeper + DiskKeeper + Drop>(
+    alloc: Global,
+    memory: M,
+    commands: &[Command],
+    refusal: Refusal,
+) -> Result<bool, Fail> {
     let (last, accepted) = commands.split_last().ok_or("no command")?;
-    let mut held = desk_over(alloc, MemoryKeeper::new(alloc))?;
-    let mut kept = desk_again(alloc, new_disks(alloc)?)?;
+    let mut held = desk_over(alloc, memory)?;
+    let mut kept = new_desk::<K>(alloc)?;
     for command in accepted {
         match answer_alike(&mut held, &mut kept, command)? {
             Ok(Answer::Repeated(_)) => return Err(Fail::from("repeated")),
@@ -46,8 +53,29 @@ fn refuse_the_last(alloc: Global, commands: &[Command], refusal: Refusal) -> Res
     }
     let reply = answer_alike(&mut held, &mut kept, last)?;
     let in_memory = held.into_keeper().load(alloc)?;
-    let on_disks = book_on(alloc, closed(kept.into_keeper())?)?;
+    let disks = closed(kept.into_keeper())?;
+    let on_disks = desk_again::<K>(alloc, disks)?.into_keeper().load(alloc)?;
     Ok(reply == Err(refusal) && are_same_books(&on_disks, &in_memory))
+}
+
+// Commands of which the last alone is refused, and how.
+#[derive(Clone, Copy)]
+struct Bounded<'a> {
+    commands: &'a [Command],
+    refusal: Refusal,
+}
+
+impl Work for Bounded<'_> {
+    type Seen = bool;
+
+    fn done_with<K: Keeper + DiskKeeper + Drop>(self, alloc: Global) -> Result<bool, Fail> {
+        let memory = MemoryKeeper::new(alloc);
+        refuse_the_last_over::<MemoryKeeper, K>(alloc, memory, self.commands, self.refusal)
+    }
+}
+
+fn refuse_the_last(alloc: Global, commands: &[Command], refusal: Refusal) -> Result<bool, Fail> {
+    on_disks(alloc, Bounded { commands, refusal })
 }
 
 #[test]

@@ -1,5 +1,32 @@
-//! Whether two books have the same records.
+//! What is found of a desk: its book, and how its banks stand.
+use super::setting::{Standings, standings};
 use rtgs_book::{Book, Rows};
+use rtgs_desk::Desk;
+use rtgs_keeper::Keeper;
+use std::alloc::Global;
+use std::test::Fail;
+
+/// The three balances and queues of a desk, and its records.
+#[derive(Drop)]
+pub struct Found {
+    pub standings: Standings,
+    pub book: Book,
+}
+
+impl Found {
+    /// Of a desk with three banks, which ends so.
+    pub fn of<K: Keeper + Drop>(alloc: Global, desk: Desk<K>) -> Result<(Found, K), Fail> {
+        let standings = standings(&desk)?;
+        let mut keeper = desk.into_keeper();
+        let book = keeper.load(alloc)?;
+        Ok((Found { standings, book }, keeper))
+    }
+
+    /// Whether both are alike.
+    pub fn is_like(&self, other: &Found) -> bool {
+        self.standings == other.standings && are_same_books(&self.book, &other.book)
+    }
+}
 
 fn are_same<T: PartialEq>(one: &Rows<T>, other: &Rows<T>) -> bool {
     one.as_slice() == other.as_slice()

@@ -1,21 +1,33 @@
-//! Commands of banks, and a desk that is given them.
+//! Banks, their commands, and how they stand.
 use rtgs_book::{Answer, Command, Refusal};
 use rtgs_desk::Desk;
 use rtgs_keeper::Keeper;
-use rtgs_money::{Amount, BusinessDate, Code, Credit, Key, Name, PostingAmount, Reference};
+use rtgs_money::{Amount, BusinessDate, Cents, Code, Credit, Key, Name, PostingAmount, Reference};
 use std::alloc::Global;
 use std::test::Fail;
 
 /// What a command is answered.
 pub type Reply = Result<Answer, Refusal>;
 
-// The code of this text.
-fn code(text: &str) -> Result<Code, Fail> {
+/// A command, and what it is answered.
+pub type Row = (Command, Reply);
+
+/// The three balances in cents, and how many orders each of the three has in its queue.
+pub type Standings = [(i64, usize); 3];
+
+/// A day on which desks open.
+pub const MONDAY: u32 = 20240304;
+
+/// ALFA's key.
+pub const KEY: &str = "0000000000000000000000000000000a";
+
+/// The code of this text.
+pub fn code(text: &str) -> Result<Code, Fail> {
     Ok(Code::read(text.as_bytes())?)
 }
 
-// The reference of this text.
-fn reference(text: &str) -> Result<Reference, Fail> {
+/// The reference of this text.
+pub fn reference(text: &str) -> Result<Reference, Fail> {
     Ok(Reference::read(text.as_bytes())?)
 }
 
@@ -31,6 +43,20 @@ pub fn adds(participant: &str, name: &str, key: &str) -> Result<Command, Fail> {
         name: Name::read(name.as_bytes())?,
         key: Key::read(key.as_bytes())?.digest(),
     })
+}
+
+/// Adds ALFA.
+pub fn adds_alfa() -> Result<Command, Fail> {
+    adds("ALFA", "A Bank", KEY)
+}
+
+/// Adds ALFA, BETA and GAMA.
+pub fn adds_three() -> Result<[Command; 3], Fail> {
+    Ok([
+        adds_alfa()?,
+        adds("BETA", "A Bank", "0000000000000000000000000000000b")?,
+        adds("GAMA", "A Bank", "0000000000000000000000000000000c")?,
+    ])
 }
 
 /// Sets a participant's credit limit.
@@ -60,10 +86,51 @@ pub fn pays(sender: &str, name: &str, receiver: &str, cents: u64) -> Result<Comm
     })
 }
 
+/// Opens Monday.
+pub fn opened() -> Result<Row, Fail> {
+    Ok((Command::OpenDay(date(MONDAY)?), Ok(Answer::Opened)))
+}
+
+/// The order has this number, and waits at this place of its queue.
+pub fn queued(number: u64, place: u64) -> Reply {
+    Ok(Answer::Queued { number, place })
+}
+
+/// The order has this number, and settled at once under this mark.
+pub fn settled(number: u64, mark: u64) -> Reply {
+    Ok(Answer::Settled { number, mark })
+}
+
+/// So many orders of this value in cents settled under this mark.
+pub fn resolved(mark: u64, count: u64, cents: i64) -> Reply {
+    Ok(Answer::Resolved {
+        mark,
+        count,
+        value: Cents::new(cents),
+    })
+}
+
 /// A desk over a keeper.
 pub fn desk_over<K: Keeper + Drop>(alloc: Global, keeper: K) -> Result<Desk<K>, Fail> {
     match Desk::open(alloc, keeper) {
         Ok(desk) => Ok(desk),
         Err((fault, _)) => Err(Fail::from(fault)),
     }
+}
+
+/// The balance of a participant in cents, and how many orders its queue has.
+fn standing<K: Keeper>(desk: &Desk<K>, of: &str) -> Result<(i64, usize), Fail> {
+    match desk.account(&code(of)?) {
+        Ok(account) => Ok((account.balance.cents(), account.queued)),
+        Err(refusal) => Err(Fail::from(refusal)),
+    }
+}
+
+/// How the three stand.
+pub fn standings<K: Keeper>(desk: &Desk<K>) -> Result<Standings, Fail> {
+    Ok([
+        standing(desk, "ALFA")?,
+        standing(desk, "BETA")?,
+        standing(desk, "GAMA")?,
+    ])
 }

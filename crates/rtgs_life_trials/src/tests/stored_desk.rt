@@ -192,24 +192,41 @@ fn a_desk_is_found_again_and_again(rt: HostRuntime) -> Result<(), Fail> {
     Ok(())
 }
 
-#[test]
-fn a_desk_is_opened_over_tables_that_were_made(rt: HostRuntime) -> Result<(), Fail> {
-    let made = match make(Connection::open_in_memory(rt.alloc())?) {
+// Whether a desk is opened over tables that were made just now, and has not failed.
+fn works_over_made_tables<S: Alter + Drop>(alloc: Global, conn: Connection<S>) -> Result<bool, Fail>
+    requires { conn.in_transaction ≡ false }
+{
+    let made = match make(conn) {
         Ok(made) => made,
         Err((fault, _)) => return Err(Fail::from(fault)),
     };
-    let desk = opened(rt.alloc(), made)?;
-    assert!(rt; !desk.failed());
+    let desk = opened(alloc, made)?;
+    Ok(!desk.failed())
+}
+
+#[test]
+fn a_desk_is_opened_over_tables_that_were_made(rt: HostRuntime) -> Result<(), Fail> {
+    let conn = Connection::open_in_memory(rt.alloc())?;
+    assert!(rt; works_over_made_tables(rt.alloc(), conn)?);
     Ok(())
+}
+
+// Why no desk is opened over this database.
+fn fault_of_opening<S: Alter + Drop>(alloc: Global, conn: Connection<S>) -> Option<Fault>
+    requires { conn.in_transaction ≡ false }
+{
+    match open(alloc, conn) {
+        Ok(_) => None,
+        Err((fault, _)) => Some(fault),
+    }
 }
 
 #[test]
 fn an_empty_database_is_no_desk(rt: HostRuntime) -> Result<(), Fail> {
-    match open(rt.alloc(), Connection::open_in_memory(rt.alloc())?) {
-        Ok(_) => Err(Fail::from("a desk")),
-        Err((fault, _)) => {
-            assert_eq!(rt; fault, Fault::NotADeskFile);
-            Ok(())
-        }
-    }
+    let conn = Connection::open_in_memory(rt.alloc())?;
+    assert_eq!(rt;
+        fault_of_opening(rt.alloc(), conn),
+        Some(Fault::NotADeskFile)
+    );
+    Ok(())
 }

@@ -29,10 +29,14 @@ fn three_rows() -> Result<[OrderRow; 3], Fail> {
     ])
 }
 
-// A desk with three banks on an open day, of which ALFA has 150 cents, and whose store fails after so many orders.
-fn failing_desk(alloc: Global, orders: usize) -> Result<Desk<FailingKeeper<MemoryKeeper>>, Fail> {
+// A new keeper that fails after so many orders of a desk that is prepared.
+fn failing(alloc: Global, orders: usize) -> FailingKeeper<MemoryKeeper> {
     let calls = BEFORE_THE_ORDERS.saturating_add(orders);
-    let keeper = FailingKeeper::new(MemoryKeeper::new(alloc), calls, Trouble::Lost);
+    FailingKeeper::new(MemoryKeeper::new(alloc), calls, Trouble::Lost)
+}
+
+// A desk over a new keeper with three banks on an open day, of which ALFA has 150 cents.
+fn prepared<K: Keeper + Drop>(alloc: Global, keeper: K) -> Result<Desk<K>, Fail> {
     let mut desk = desk_over(alloc, keeper)?;
     for command in adds_three()? {
         desk.submit(command)?;
@@ -64,38 +68,70 @@ fn result_file<K: Keeper>(
     Ok(text)
 }
 
+// What comes of the rows and of the same rows again, over a new keeper.
+fn submitted_twice<K: Keeper + Drop>(
+    alloc: Global,
+    keeper: K,
+    rows: &[OrderRow],
+) -> Result<(BatchResult, BatchResult), Fail> {
+    let mut desk = prepared(alloc, keeper)?;
+    let first = submitted(alloc, &mut desk, rows)?;
+    Ok((first, submitted(alloc, &mut desk, rows)?))
+}
+
 #[test]
 fn a_batch_stops_where_the_store_fails(rt: HostRuntime) -> Result<(), Fail> {
-    let rows = three_rows()?;
-    let mut desk = failing_desk(rt.alloc(), 1)?;
-    let batch = submitted(rt.alloc(), &mut desk, &rows)?;
+    let (batch, later) = submitted_twice(rt.alloc(), failing(rt.alloc(), 1), &three_rows()?)?;
     assert_eq!(rt; batch.replies.len(), 1);
     assert_eq!(rt; batch.stopped, Some(Refusal::StoreFault));
-    let later = submitted(rt.alloc(), &mut desk, &rows)?;
     assert_eq!(rt; later.replies.len(), 0);
     assert_eq!(rt; later.stopped, Some(Refusal::Failed));
     Ok(())
 }
 
+// The keeper, which was new, after a desk was given the rows.
+fn after_the_rows<K: Keeper + Drop>(
+    alloc: Global,
+    keeper: K,
+    rows: &[OrderRow],
+) -> Result<K, Fail> {
+    let mut desk = prepared(alloc, keeper)?;
+    submitted(alloc, &mut desk, rows)?;
+    Ok(desk.into_keeper())
+}
+
+// The result file of the rows, of a desk that finds this keeper.
+fn found_file<K: Keeper + Drop>(
+    alloc: Global,
+    keeper: K,
+    rows: &[OrderRow],
+) -> Result<Vec<u8>, Fail> {
+    result_file(alloc, &mut desk_over(alloc, keeper)?, rows)
+}
+
 #[test]
 fn a_stopped_batch_is_sent_again_after_a_restart(rt: HostRuntime) -> Result<(), Fail> {
     let rows = three_rows()?;
-    let mut desk = failing_desk(rt.alloc(), 2)?;
-    submitted(rt.alloc(), &mut desk, &rows)?;
-    let found = desk.into_keeper().into_kept();
-    let mut desk = desk_over(rt.alloc(), found)?;
-    let text = result_file(rt.alloc(), &mut desk, &rows)?;
+    let found = after_the_rows(rt.alloc(), failing(rt.alloc(), 2), &rows)?.into_kept();
+    let text = found_file(rt.alloc(), found, &rows)?;
     let expected =
         b"reference,result,number,detail\nA-1,repeated,1,settled\nA-2,repeated,2,settled\nA-3,queued,3,1\n";
     assert_eq!(rt; text.as_slice(), expected.as_slice());
     Ok(())
 }
 
+// The result file of the rows, over a new keeper.
+fn first_file<K: Keeper + Drop>(
+    alloc: Global,
+    keeper: K,
+    rows: &[OrderRow],
+) -> Result<Vec<u8>, Fail> {
+    result_file(alloc, &mut prepared(alloc, keeper)?, rows)
+}
+
 #[test]
 fn no_line_follows_a_stop(rt: HostRuntime) -> Result<(), Fail> {
-    let rows = three_rows()?;
-    let mut desk = failing_desk(rt.alloc(), 1)?;
-    let text = result_file(rt.alloc(), &mut desk, &rows)?;
+    let text = first_file(rt.alloc(), failing(rt.alloc(), 1), &three_rows()?)?;
     let expected = b"reference,result,number,detail\nA-1,settled,1,1\nA-2,stopped,,91\n";
     assert_eq!(rt; text.as_slice(), expected.as_slice());
     Ok(())

@@ -78,13 +78,18 @@ impl Trial<'_> {
     pub fn books(&self, alloc: Global) -> Result<Vec<Found>, Fail> {
         let mut books = Vec::new(alloc);
         for count in 0..=self.rows.len() {
-            books.push(self.book_after(alloc, count)?)?;
+            books.push(self.book_after(alloc, MemoryKeeper::new(alloc), count)?)?;
         }
         Ok(books)
     }
 
-    fn book_after(&self, alloc: Global, count: usize) -> Result<Found, Fail> {
-        let mut desk = desk_over(alloc, MemoryKeeper::new(alloc))?;
+    fn book_after<K: Keeper + Drop>(
+        &self,
+        alloc: Global,
+        keeper: K,
+        count: usize,
+    ) -> Result<Found, Fail> {
+        let mut desk = desk_over(alloc, keeper)?;
         self.prepare(&mut desk)?;
         let rows = self.rows.get(..count).ok_or("rows")?;
         answered(&mut desk, rows)?;
@@ -115,8 +120,8 @@ impl Trial<'_> {
         }
     }
 
-    /// Whether the commands, given once more behind so many of them, end in the last of the books. Those are answered as
-    /// what comes again, and the others as the first time.
+    /// Whether the commands, given once more behind so many of them, end in the last of the books. Those are answered
+    /// as what comes again, and the others as the first time.
     pub fn ends_alike<K: Keeper + Drop>(
         &self,
         alloc: Global,
@@ -169,18 +174,22 @@ fn answered<K: Keeper>(desk: &mut Desk<K>, rows: &[Row]) -> Result<usize, Fail> 
     Ok(count)
 }
 
+fn is_failed<T: Drop>(reply: Result<T, Refusal>) -> bool {
+    matches!(reply, Err(Refusal::Failed))
+}
+
 // Whether a desk answers nothing but that it has failed.
 fn is_silent<K: Keeper>(desk: &mut Desk<K>) -> Result<bool, Fail> {
     let (alfa, name, monday) = (code("ALFA")?, reference("A-1")?, date(MONDAY)?);
     let key = Key::read(KEY.as_bytes())?.digest();
-    let replies = [
-        desk.submit(Command::Resolve).err(),
-        desk.account(&alfa).err(),
-        desk.queue_of(&alfa).err(),
-        desk.order_of(&alfa, &name).err(),
-        desk.statement_of(&alfa, monday).err(),
-        desk.report_of(monday).err(),
-        desk.code_of(&key).err(),
-    ];
-    Ok(desk.failed() && replies.iter().all(|reply| *reply == Some(Refusal::Failed)))
+    Ok(
+        desk.failed()
+            && is_failed(desk.submit(Command::Resolve))
+            && is_failed(desk.account(&alfa))
+            && is_failed(desk.queue_of(&alfa))
+            && is_failed(desk.order_of(&alfa, &name))
+            && is_failed(desk.statement_of(&alfa, monday))
+            && is_failed(desk.report_of(monday))
+            && is_failed(desk.code_of(&key)),
+    )
 }

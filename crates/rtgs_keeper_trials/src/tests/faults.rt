@@ -1,14 +1,17 @@
 //! Commands that meet a failure at each call of their store in turn: on the log, on the database file, at the keeper,
 //! before the call is passed on or after. Just the books are found that may be.
+use super::disk_keeper::{DiskKeeper, Work, on_disks};
 use super::disk_runs::DiskTrial;
-use super::disks::Failing;
 use super::failing_keeper::Trouble;
+use super::fuses::Failing;
 use super::keeper_runs::keeper_failures;
 use super::setting::{
     MONDAY, Reply, Row, Standings, date, limits, opened, pays, posts, queued, resolved, settled,
 };
 use super::trial::Trial;
 use rtgs_book::{Answer, Command, Known, OrderState};
+use rtgs_keeper::Keeper;
+use std::alloc::Global;
 use std::test::Fail;
 
 /// In how many runs the commands met a failure of the log, of the database file, and at the keeper.
@@ -29,15 +32,31 @@ fn each_of_the_keeper(rt: &HostRuntime, trial: &Trial<'_>) -> Result<usize, Fail
     }
 }
 
-/// Tries the commands with each failure.
-fn each_failure(rt: &HostRuntime, trial: Trial<'_>) -> Result<Failures, Fail> {
-    let keeper = each_of_the_keeper(rt, &trial)?;
-    let disks = DiskTrial::new(rt.alloc(), trial, true)?;
-    if !disks.stops(rt.alloc())? {
-        return Err(Fail::from("another book after a stop"));
+/// Commands at each failure of a disk, from a book that was closed before them, or of which a crash left a log.
+#[derive(Clone, Copy)]
+struct OfTheDisks<'a> {
+    trial: Trial<'a>,
+    is_closed: bool,
+}
+
+impl Work for OfTheDisks<'_> {
+    type Seen = (u64, u64);
+
+    fn done_with<K: Keeper + DiskKeeper + Drop>(self, alloc: Global) -> Result<(u64, u64), Fail> {
+        let disks = DiskTrial::new::<K>(alloc, self.trial, self.is_closed)?;
+        if !disks.stops::<K>(alloc)? {
+            return Err(Fail::from("another book after a stop"));
+        }
+        let log = disks.failures::<K>(alloc, Failing::Log)?;
+        let db = disks.failures::<K>(alloc, Failing::Database)?;
+        Ok((log, db))
     }
-    let log = disks.failures(rt, Failing::Log)?;
-    let db = disks.failures(rt, Failing::Database)?;
+}
+
+/// Tries the commands with each failure.
+fn each_failure(rt: &HostRuntime, trial: Trial<'_>, is_closed: bool) -> Result<Failures, Fail> {
+    let keeper = each_of_the_keeper(rt, &trial)?;
+    let (log, db) = on_disks(rt.alloc(), OfTheDisks { trial, is_closed })?;
     Ok(Failures { log, db, keeper })
 }
 
@@ -72,7 +91,7 @@ fn a_resolution_is_found_whole_or_not_at_all(rt: HostRuntime) -> Result<(), Fail
         is_batch: false,
         standings: &[WAITING, SETTLED],
     };
-    let seen = each_failure(&rt, trial)?;
+    let seen = each_failure(&rt, trial, true)?;
     rt.println(format_args!("resolution: {seen:?}"))?;
     Ok(())
 }
@@ -102,7 +121,7 @@ fn a_batch_is_found_up_to_a_row(rt: HostRuntime) -> Result<(), Fail> {
             [(0, 1), (100, 0), (50, 0)],
         ],
     };
-    let seen = each_failure(&rt, trial)?;
+    let seen = each_failure(&rt, trial, true)?;
     rt.println(format_args!("batch: {seen:?}"))?;
     Ok(())
 }
@@ -125,7 +144,7 @@ fn a_close_rejects_all_or_nothing(rt: HostRuntime) -> Result<(), Fail> {
         is_batch: false,
         standings: &[[(0, 1), (0, 1), (0, 0)], [(0, 0), (0, 0), (0, 0)]],
     };
-    let seen = each_failure(&rt, trial)?;
+    let seen = each_failure(&rt, trial, true)?;
     rt.println(format_args!("close: {seen:?}"))?;
     Ok(())
 }
@@ -141,7 +160,7 @@ fn a_new_order_is_found_or_not(rt: HostRuntime) -> Result<(), Fail> {
         is_batch: false,
         standings: &[[(0, 0), (0, 0), (0, 0)], PAID],
     };
-    let seen = each_failure(&rt, trial)?;
+    let seen = each_failure(&rt, trial, true)?;
     rt.println(format_args!("new order: {seen:?}"))?;
     Ok(())
 }
@@ -175,7 +194,7 @@ fn an_order_that_comes_again_changes_nothing(rt: HostRuntime) -> Result<(), Fail
         is_batch: false,
         standings: &[PAID, PAID],
     };
-    let seen = each_failure(&rt, trial)?;
+    let seen = each_failure(&rt, trial, true)?;
     rt.println(format_args!("repeated order: {seen:?}"))?;
     Ok(())
 }
@@ -189,11 +208,9 @@ fn an_opening_leaves_the_book(rt: HostRuntime) -> Result<(), Fail> {
         is_batch: false,
         standings: &[WAITING],
     };
-    let seen = each_failure(&rt, trial)?;
+    let seen = each_failure(&rt, trial, true)?;
     rt.println(format_args!("opening: {seen:?}"))?;
-    let disks = DiskTrial::new(rt.alloc(), trial, false)?;
-    let log = disks.failures(&rt, Failing::Log)?;
-    let db = disks.failures(&rt, Failing::Database)?;
-    rt.println(format_args!("opening after a crash: log {log}, database {db}"))?;
+    let seen = each_failure(&rt, trial, false)?;
+    rt.println(format_args!("opening after a crash: {seen:?}"))?;
     Ok(())
 }

@@ -16,7 +16,8 @@ pub enum Trouble {
     OutOfMemory,
 }
 
-/// Passes calls on to another keeper, until one meets trouble. After a fault of the store it answers that it has failed.
+/// Passes calls on to another keeper, until one meets trouble. After a fault of the store it answers that it has
+/// failed.
 #[derive(Drop)]
 pub struct FailingKeeper<K> {
     kept: K,

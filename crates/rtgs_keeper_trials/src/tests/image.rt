@@ -1,5 +1,6 @@
 //! The bytes of a database, put on new disks as often as they are wanted.
-use super::disks::{Disked, Fuses};
+use super::disks::Disks;
+use super::fuses::Fuses;
 use sqlite::Files;
 use sqlite_disk::{Disk, Fuse, Memory};
 use std::alloc::Global;
@@ -13,16 +14,16 @@ pub struct Image {
 }
 
 impl Image {
-    /// The bytes that these files have.
-    pub fn of(alloc: Global, files: &Files<Disked>) -> Result<Image, Fail> {
+    /// The bytes that these disks have.
+    pub fn of(alloc: Global, disks: &Disks) -> Result<Image, Fail> {
         Ok(Image {
-            log: Vec::from_slice(alloc, files.log.inner().bytes())?,
-            db: Vec::from_slice(alloc, files.db.inner().bytes())?,
+            log: Vec::from_slice(alloc, disks.log.inner().bytes())?,
+            db: Vec::from_slice(alloc, disks.db.inner().bytes())?,
         })
     }
 
     /// New disks with these bytes, behind these fuses.
-    pub fn on_disks(&self, alloc: Global, fuses: Fuses) -> Result<Files<Disked>, Fail> {
+    pub fn on_disks(&self, alloc: Global, fuses: Fuses) -> Result<Disks, Fail> {
         Ok(Files {
             log: Fuse::new(written(alloc, self.log.as_slice())?, fuses.log),
             db: Fuse::new(written(alloc, self.db.as_slice())?, fuses.db),

@@ -1,0 +1,115 @@
+//! A desk over a keeper that fails, and opened again over what it kept.
+use super::failing_keeper::{FailingKeeper, Trouble};
+use super::setting::{Reply, adds_alfa, desk_over, posts};
+use rtgs_book::{Answer, Command, Fault, Known, Refusal};
+use rtgs_desk::Desk;
+use rtgs_keeper::{Keeper, MemoryKeeper};
+use std::alloc::Global;
+use std::test::Fail;
+
+// A keeper of a new book, which meets trouble after so many calls. A desk loads the book when it is opened.
+fn failing(alloc: Global, calls: usize, trouble: Trouble) -> FailingKeeper<MemoryKeeper> {
+    FailingKeeper::new(MemoryKeeper::new(alloc), calls, trouble)
+}
+
+// The replies of a desk over this keeper to a list of commands.
+fn replies_over<K: Keeper + Drop>(
+    alloc: Global,
+    keeper: K,
+    commands: &[Command],
+) -> Result<Vec<Reply>, Fail> {
+    let mut desk = desk_over(alloc, keeper)?;
+    Ok(desk.run(commands)?)
+}
+
+#[test]
+fn a_fault_of_the_store_fails_the_rest_of_a_list(rt: HostRuntime) -> Result<(), Fail> {
+    let commands = [adds_alfa()?, posts("ALFA", "P-1", 100)?, adds_alfa()?];
+    let answers = replies_over(rt.alloc(), failing(rt.alloc(), 2, Trouble::Kept), &commands)?;
+    let expected = [
+        Ok(Answer::Added),
+        Err(Refusal::StoreFault),
+        Err(Refusal::Failed),
+    ];
+    assert_eq!(rt; answers.as_slice(), expected.as_slice());
+    Ok(())
+}
+
+// The keeper of a desk whose second commit met a fault.
+fn after_a_fault<K: Keeper + Drop>(alloc: Global, keeper: K) -> Result<K, Fail> {
+    let (add, post) = (adds_alfa()?, posts("ALFA", "P-1", 100)?);
+    let mut desk = desk_over(alloc, keeper)?;
+    let is_added = desk.submit(add) == Ok(Answer::Added);
+    let is_fault = desk.submit(post) == Err(Refusal::StoreFault);
+    let has_failed = desk.submit(add) == Err(Refusal::Failed) && desk.failed();
+    if is_added && is_fault && has_failed {
+        Ok(desk.into_keeper())
+    } else {
+        Err(Fail::from("other replies"))
+    }
+}
+
+// What a posting is answered, by a desk over what a keeper kept that met this trouble at the same posting before.
+fn posted_again(alloc: Global, trouble: Trouble) -> Result<Reply, Fail> {
+    let found = after_a_fault(alloc, failing(alloc, 2, trouble))?.into_kept();
+    let post = [posts("ALFA", "P-1", 100)?];
+    let replies = replies_over(alloc, found, &post)?;
+    Ok(*replies.as_slice().first().ok_or("no reply")?)
+}
+
+#[test]
+fn a_change_that_was_lost_is_made_again(rt: HostRuntime) -> Result<(), Fail> {
+    let reply = posted_again(rt.alloc(), Trouble::Lost)?;
+    assert_eq!(rt; reply, Ok(Answer::Posted { number: 1 }));
+    Ok(())
+}
+
+#[test]
+fn a_change_that_was_kept_is_not_made_again(rt: HostRuntime) -> Result<(), Fail> {
+    let reply = posted_again(rt.alloc(), Trouble::Kept)?;
+    assert_eq!(rt; reply, Ok(Answer::Repeated(Known::Posting { number: 1 })));
+    Ok(())
+}
+
+// Whether a command that lacked memory leaves the desk as it was, and goes well when it comes again.
+fn is_sent_again<K: Keeper + Drop>(alloc: Global, keeper: K) -> Result<bool, Fail> {
+    let (add, post) = (adds_alfa()?, posts("ALFA", "P-1", 100)?);
+    let mut desk = desk_over(alloc, keeper)?;
+    let is_added = desk.submit(add) == Ok(Answer::Added);
+    let is_refused = desk.submit(post) == Err(Refusal::OutOfMemory) && !desk.failed();
+    Ok(is_added && is_refused && desk.submit(post) == Ok(Answer::Posted { number: 1 }))
+}
+
+#[test]
+fn a_command_that_lacked_memory_is_sent_again(rt: HostRuntime) -> Result<(), Fail> {
+    let keeper = failing(rt.alloc(), 2, Trouble::OutOfMemory);
+    assert!(rt; is_sent_again(rt.alloc(), keeper)?);
+    Ok(())
+}
+
+// Why no desk is opened over this keeper.
+fn fault_of<K: Keeper + Drop>(alloc: Global, keeper: K) -> Option<Fault> {
+    match Desk::open(alloc, keeper) {
+        Ok(_) => None,
+        Err((fault, _)) => Some(fault),
+    }
+}
+
+#[test]
+fn a_failed_keeper_opens_no_desk(rt: HostRuntime) -> Result<(), Fail> {
+    let failed = after_a_fault(rt.alloc(), failing(rt.alloc(), 2, Trouble::Lost))?;
+    assert_eq!(rt; fault_of(rt.alloc(), failed), Some(Fault::StoreFault));
+    Ok(())
+}
+
+#[test]
+fn a_keeper_that_fails_at_the_opening_opens_no_desk(rt: HostRuntime) {
+    for (trouble, fault) in [
+        (Trouble::Lost, Fault::StoreFault),
+        (Trouble::Kept, Fault::StoreFault),
+        (Trouble::OutOfMemory, Fault::OutOfMemory),
+    ] {
+        let keeper = failing(rt.alloc(), 0, trouble);
+        assert_eq!(rt; fault_of(rt.alloc(), keeper), Some(fault), "{trouble:?}");
+    }
+}
