@@ -43,7 +43,8 @@ fn refuse_the_last_over<M: Keeper + Drop, K: Keeper + DiskKeeper + Drop>(
 ) -> Result<bool, Fail> {
     let (last, accepted) = commands.split_last().ok_or("no command")?;
     let mut held = desk_over(alloc, memory)?;
-    let mut kept = new_desk::<K>(alloc)?;
+    let disks = closed(new_desk::<K>(alloc)?.into_keeper())?;
+    let mut kept = desk_again::<K>(alloc, disks)?;
     for command in accepted {
         match answer_alike(&mut held, &mut kept, command)? {
             Ok(Answer::Repeated(_)) => return Err(Fail::from("repeated")),

@@ -2,7 +2,7 @@
 use rtgs_book::{Answer, Refusal};
 
 /// How often each kind of answer was given.
-#[derive(Debug, Default, Drop)]
+#[derive(Default, Drop)]
 pub struct Seen {
     added: u32,
     credit_set: u32,

@@ -27,7 +27,7 @@ pub struct Trial<'a> {
 }
 
 /// How far a trial came.
-#[derive(Clone, Copy, Debug, PartialEq, Eq)]
+#[derive(Clone, Copy, PartialEq, Eq)]
 pub enum Progress {
     /// The desk could not be opened.
     Unopened,
