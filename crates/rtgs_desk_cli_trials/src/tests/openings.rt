@@ -57,22 +57,21 @@ fn a_lock_is_held_until_the_files_are_let_go(rt: HostRuntime) -> Result<(), Fail
     Ok(())
 }
 
-/// Whether the lock of a file that holds no book is let go with what refused it, and not before.
-fn is_held_by_its_refusal(rt: &HostRuntime, file: &str) -> Result<bool, Fail> {
+/// Why the lock of a file that holds no book is not taken, if it is not, while what refused the file is still there.
+fn not_locked_once_refused(rt: &HostRuntime, file: &str) -> Result<Option<FileFault>, Fail> {
     match BookLock::take(rt, file, Unknown)?.open(rt) {
         Ok(book) => {
             book.finish().close();
-            Ok(false)
+            Err(Fail::from("opened"))
         }
-        Err(_unopened) => Ok(not_locked(rt, file) == Some(FileFault::InUse)),
+        Err(_unopened) => Ok(not_locked(rt, file)),
     }
 }
 
 #[test]
-fn a_refused_book_lets_its_lock_go_with_the_refusal(rt: HostRuntime) -> Result<(), Fail> {
+fn a_refused_book_lets_its_lock_go_at_once(rt: HostRuntime) -> Result<(), Fail> {
     Connection::open(&rt, "no_tables")?.close()?;
-    assert!(rt; is_held_by_its_refusal(&rt, "no_tables")?);
-    assert_eq!(rt; not_locked(&rt, "no_tables"), None);
+    assert_eq!(rt; not_locked_once_refused(&rt, "no_tables")?, None);
     Ok(())
 }
 
