@@ -6,7 +6,7 @@ use Rattle.rtgs_cores.specs.Nexts.{date_of_posting}
 use Rattle.rtgs_tables.specs.Seeking.{first_of_date}
 use Rattle.rtgs_tables.proofs.FindingLemmas.{holds_on}
 use Rattle.rtgs_tables.proofs.KeepingLooks.{posting_of_date, some_date}
-use Rattle.rtgs_tables.proofs.sql_keeper.SqlKeeper.next_posting.Goals as goal
+use Rattle.rtgs_tables.proofs.sql_keeper.SqlKeeperKeeper.next_posting.Goals as goal
 
 pub returns-clause-found : goal.returns-clause-found
 returns-clause-found g c clean book held =

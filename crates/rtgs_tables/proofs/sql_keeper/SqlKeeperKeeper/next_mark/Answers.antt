@@ -4,7 +4,7 @@ use Rattle.rtgs_book.specs.declared.Mark.{Mark}
 use Rattle.rtgs_cores.specs.Nexts.{mark_after}
 use Rattle.rtgs_tables.specs.Seeking.{first_of_date}
 use Rattle.rtgs_tables.proofs.FindingLemmas.{holds_on}
-use Rattle.rtgs_tables.proofs.sql_keeper.SqlKeeper.next_mark.Goals as goal
+use Rattle.rtgs_tables.proofs.sql_keeper.SqlKeeperKeeper.next_mark.Goals as goal
 
 pub returns-clause-found : goal.returns-clause-found
 unfolding mark_after
