@@ -9,12 +9,11 @@ pub mod Indexes
 pub mod Kept
 pub mod Keys
 pub mod Lists
+pub mod Loading
 pub mod Opening
 pub mod OrderLemmas
 pub mod Ordering
-pub mod Places
 pub mod Posting
-pub mod PostingLemmas
 pub mod QueueLemmas
 pub mod Reading
 pub mod RecordLemmas
@@ -23,3 +22,4 @@ pub mod Rooms
 pub mod Settling
 pub mod Telling
 pub mod Withdrawing
+pub mod Whole
