@@ -1,2 +1,4 @@
 //! Records found by name, and the next records of a date.
+mod both;
 mod looking;
+mod setting;

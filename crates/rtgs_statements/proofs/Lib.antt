@@ -1,6 +1,11 @@
 pub mod Agreement
+pub mod Begins
 pub mod Groups
 pub mod Growth
+pub mod Leaving
+pub mod Nexts
 pub mod Pads
+pub mod Statements
 pub mod Terms
+pub mod Told
 pub mod Widths

@@ -164,8 +164,8 @@ fn order_lines(alloc: Global, code: &Code, orders: &[Order]) -> Result<Vec<Line>
         .collect(alloc)
 }
 
-// The four sums.
-fn sum_lines(sums: Sums) -> [Line; 4]
+/// The four sums.
+pub fn sum_lines(sums: Sums) -> [Line; 4]
     requires posted { IsSmall sums.posted }
     requires sent { IsSmall sums.sent }
     requires received { IsSmall sums.received }
