@@ -17,7 +17,6 @@ use Rattle.rtgs_book_file.specs.OverFile.{OverFile}
 use Rattle.rtgs_desk_cli.specs.Did.{IsIdle, IsRead, IsSent, IsServed, IsSubmitted}
 use Rattle.rtgs_desk_cli.specs.Runs.{AreReadFrom, IsClosed, IsImported, TakesAt, server_text, stop_of_desk}
 use Rattle.rtgs_desk_cli.specs.declared.met.Met.{Met}
-use Rattle.rtgs_desk_cli.specs.declared.touched.Touched.{Touched}
 use Rattle.rtgs_desk_cli.specs.declared.touched.Touched.TheVariants as traces
 
 -- what is so of each book and what was done with it, is so of these

@@ -1,6 +1,6 @@
 -- What a server prints, from its two lines.
-use Rattle.std.proofs.Common.{◌≡◌, ◌⊎◌, ◌++◌, [], inl, inr, ℕ, Bool, true, false, List, take, Option, None, Result, Ok, Err}
-use Rattle.std.proofs.Common.{append-nil, refl, sym, subst}
+use Rattle.std.proofs.Common.{◌≡◌, ◌++◌, [], inl, inr, ℕ, Bool, true, false, List, take, Option, None}
+use Rattle.std.proofs.Common.{Result, Ok, Err, append-nil, refl, sym, subst}
 use Rattle.std.specs.Bool.{⊤}
 use Rattle.std.specs.Io.KnownBytes.{Appends}
 use Rattle.rtgs_book.specs.declared.refusal.Refusal.TheVariants.{Failed}

@@ -16,7 +16,8 @@ returns-in-Ok-clause-printed g c =
         it.0.0.items,
         it.0.1.replies.items,
         imported_with _ (λ book. book.desk) c.send.result book _ _ is c.in-Ok.closed shut _ c.args.sender
-            (λ it. it.0.items) (λ it. it.1.replies.items) (λ it. it.1.stopped) send.rows send.stopped send.sent it.0 it.1,
+            (λ it. it.0.items) (λ it. it.1.replies.items) (λ it. it.1.stopped) send.rows send.stopped send.sent it.0
+            it.1,
         refl,
       ),
       it.2,

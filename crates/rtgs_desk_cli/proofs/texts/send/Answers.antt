@@ -1,7 +1,6 @@
 use Rattle.std.proofs.Common.{sym, subst}
 use Rattle.std.specs.Result.{IfOk, IfErr}
 use Rattle.rtgs_desk_cli.specs.Causes.{AreRowsOf, RefusesRows}
-use Rattle.rtgs_desk_cli.specs.Runs.{IsNotSent}
 use Rattle.rtgs_desk_cli.proofs.Doing.{was_sent, was_refused}
 use Rattle.rtgs_desk_cli.proofs.texts.send.Goals as goal
 

@@ -5,7 +5,7 @@ use Rattle.rtgs_book.specs.declared.refusal.Refusal.TheVariants.{OutOfMemory}
 use Rattle.rtgs_desk_lines.specs.declared.failure.Failure.TheVariants.{Refused, Orders}
 use Rattle.rtgs_exchange.specs.OrderFile.{IsFaultOf}
 use Rattle.rtgs_exchange.specs.declared.batch_fault.BatchFault.{BatchFault}
-use Rattle.rtgs_desk_cli.proofs.OrdersRead.{rows_taken, not_taken, taken_refused}
+use Rattle.rtgs_desk_cli.proofs.OrdersRead.{taken_refused}
 use Rattle.rtgs_desk_cli.proofs.texts.submit_file.Goals as goal
 
 pub returns-clause-sent : goal.returns-clause-sent
@@ -15,7 +15,8 @@ returns-clause-sent g c = IfOk-weaker c.submit_orders-sent.result _ _ (λ sent d
 
 pub returns-clause-refused : goal.returns-clause-refused
 returns-clause-refused g c =
-    taken_refused (λ bytes. bytes.items) c.args.read c.in_ok-bytes.bytes c.in_ok-bytes.ensures c.submit_orders-sent.result
+    taken_refused (λ bytes. bytes.items) c.args.read c.in_ok-bytes.bytes c.in_ok-bytes.ensures
+    c.submit_orders-sent.result
     (subst (λ bytes. IfErr c.submit_orders-sent.result (λ why. (why ≡ Refused OutOfMemory)
     ⊎ ((fault : BatchFault) × IsFaultOf bytes fault × (why ≡ Orders fault)))) c.as_slice.ensures.value
     c.submit_orders-sent.ensures.refused)
