@@ -1,6 +1,6 @@
 -- What an answer says of a book's file: to looking at it, to reading its beginning, to taking its lock, and to opening
 -- the store.
-use Rattle.std.specs.Prelude.{◌==◌, ◌++◌, ◌∷◌, [], ℕ, ◌≤◌, ⊤, Bool, true, List, Option, Result, Ok, Err, IfSome, codes}
+use Rattle.std.specs.Prelude.{◌==◌, ◌++◌, ◌∷◌, [], ℕ, ◌≤◌, ⊤, Bool, true, List, Result, Ok, Err, codes}
 use Rattle.std.specs.Prelude.{if◌then◌else◌}
 use Rattle.std.specs.Fs.{metadata_len}
 use Rattle.std.specs.IoError.{error_kind}
@@ -19,6 +19,8 @@ use Rattle.rtgs_book.specs.declared.fault.Fault.TheVariants.{OutOfMemory, StoreF
 use Rattle.rtgs_book_file.specs.declared.file_fault.FileFault.{FileFault}
 use Rattle.rtgs_book_file.specs.declared.file_fault.FileFault.TheVariants.{InUse, Book}
 use Rattle.rtgs_book_file.specs.declared.limits.TheConstants.{MOST_OBJECTS}
+use Rattle.rtgs_book_file.specs.declared.listed.Listed.{Listed}
+use Rattle.rtgs_book_file.specs.declared.listed.Listed.TheVariants.{Objects, WithoutSums, Unknown}
 
 -- no file, or a fault: memory was refused, or the path cannot be looked at
 abbrev pub vacancy_without : ErrorKind → Result Bool Fault
@@ -47,9 +49,11 @@ abbrev pub opening_of : Result (List ℕ) Error → Result ⊤ Fault
 opening_of (Ok bytes) = if bytes_eq bytes magic then Ok tt else Err NotADeskFile
 opening_of (Err error) = Err (fault_of_reading (error_kind error))
 
--- a file of which the store read that it lists so many, or could not read how many, may be a desk's
-abbrev pub MayBeADesks : Option ℕ → Type 0
-MayBeADesks listed = IfSome listed (λ count. count ≤ MOST_OBJECTS)
+-- a file of which this was read may be a desk's
+abbrev pub MayBeADesks : Listed → Type 0
+MayBeADesks (Objects count) = count ≤ MOST_OBJECTS
+MayBeADesks WithoutSums = ⊥
+MayBeADesks Unknown = Unit {0}
 
 -- why a lock cannot be taken
 abbrev pub fault_of_lock : ErrorKind → FileFault

@@ -1,5 +1,6 @@
 pub mod Causes
 pub mod Closed
+pub mod Counting
 pub mod Files
 pub mod Lending
 pub mod Opened

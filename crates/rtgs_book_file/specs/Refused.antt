@@ -1,6 +1,6 @@
 -- Why no desk was opened over the file of a book, and why no book was made in one. `held` is what the files held, `k`
 -- has the members of the keeper's trait, and `conn` gives a keeper's connection.
-use Rattle.std.specs.Prelude.{◌≡◌, ◌≢◌, ◌⊎◌, ◌<◌, ℕ, true, false, List, Option, Result, Ok, Err, IsTrue, IsSomeAnd}
+use Rattle.std.specs.Prelude.{◌≡◌, ◌≢◌, ◌⊎◌, ◌<◌, ℕ, true, false, List, Result, Ok, Err, IsTrue}
 use Rattle.std.specs.declared.fs.Metadata.{Metadata}
 use Rattle.std.specs.declared.io.Error.{Error}
 use Rattle.sqlite_disk.specs.declared.Disk as disk
@@ -26,6 +26,8 @@ use Rattle.rtgs_book_file.specs.Files.{vacancy_of, opening_of, fault_of_store}
 use Rattle.rtgs_book_file.specs.declared.file_fault.FileFault.{FileFault}
 use Rattle.rtgs_book_file.specs.declared.file_fault.FileFault.TheVariants.{InUse, FileExists, Book}
 use Rattle.rtgs_book_file.specs.declared.limits.TheConstants.{MOST_OBJECTS}
+use Rattle.rtgs_book_file.specs.declared.listed.Listed.{Listed}
+use Rattle.rtgs_book_file.specs.declared.listed.Listed.TheVariants.{Objects, WithoutSums, Unknown}
 
 -- another run holds the lock, or it cannot be made; or memory was wanting for it
 abbrev pub IsNotLocked : FileFault → Type 0
@@ -47,13 +49,15 @@ IsNotVacant fault = (looked : Result Metadata Error) × IsBarredBy looked fault
 abbrev pub IsOfItsBeginning : Fault → Type 0
 IsOfItsBeginning fault = (beginning : Result (List ℕ) Error) × (opening_of beginning ≡ Err fault)
 
--- the store read that the file lists more objects than a desk's file does
-abbrev pub IsCrowded : Option ℕ → Fault → Type 0
-IsCrowded listed fault = IsSomeAnd listed (λ count. MOST_OBJECTS < count) × (fault ≡ NotADeskFile)
+-- the file lists more objects than a desk's file does, or its pages are to end in sums and do not
+abbrev pub IsCrowded : Listed → Fault → Type 0
+IsCrowded (Objects count) fault = (MOST_OBJECTS < count) × (fault ≡ NotADeskFile)
+IsCrowded WithoutSums fault = fault ≡ NotADeskFile
+IsCrowded Unknown fault = ⊥
 
 -- a look at the file showed the one or the other
 abbrev pub IsUnread : Fault → Type 0
-IsUnread fault = IsOfItsBeginning fault ⊎ ((listed : Option ℕ) × IsCrowded listed fault)
+IsUnread fault = IsOfItsBeginning fault ⊎ ((listed : Listed) × IsCrowded listed fault)
 
 -- no file was opened: it cannot be, memory was wanting, or another program has it open
 abbrev pub IsOutOfReach : SqlError → Type 0

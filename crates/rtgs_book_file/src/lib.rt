@@ -10,6 +10,7 @@ mod given_up_book;
 mod held_lock;
 mod let_go;
 mod limits;
+mod listed;
 mod locked;
 mod looked_at;
 mod looks;

@@ -4,6 +4,7 @@ ghost use Rattle.rtgs_book_file.specs.Files.{vacancy_of, opening_of, MayBeADesks
 ghost use Rattle.rtgs_book_file.specs.Refused.{IsBarredBy, IsCrowded};
 
 use crate::book_lock::BookLock;
+use crate::listed::Listed;
 use crate::locked::Locked;
 use crate::not_vacant::NotVacant;
 use crate::unread::Unread;
@@ -49,8 +50,8 @@ impl<'a, S: Start> LookedAt<'a, S> {
         }
     }
 
-    /// The same, where the store read of the file that it lists so many objects, and a desk's file may.
-    pub(crate) fn if_few(self, listed: Option<usize>) -> Result<LookedAt<'a, S>, Unread>
+    /// The same, where this was read of what the file lists, and a desk's file may list that.
+    pub(crate) fn if_few(self, listed: Listed) -> Result<LookedAt<'a, S>, Unread>
         ensures few { OnOk result (MayBeADesks listed) }
         ensures refused { IfErr result (λ unread. IsCrowded listed unread.fault) }
         ensures same { IfOk result (λ file. file.lock ≡ self.entry.lock) }

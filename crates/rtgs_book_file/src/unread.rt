@@ -4,6 +4,7 @@ ghost use Rattle.rtgs_book_file.specs.Files.{opening_of, MayBeADesks};
 ghost use Rattle.rtgs_book_file.specs.Refused.{IsCrowded};
 
 use crate::limits::MOST_OBJECTS;
+use crate::listed::Listed;
 use rtgs_book::Fault;
 use std::io;
 use std::io::ErrorKind;
@@ -30,16 +31,17 @@ impl Unread {
         }
     }
 
-    /// Whether a file of which the store read that it lists so many objects may be a desk's, or why it is not opened.
-    pub(crate) fn unless_crowded(listed: Option<usize>) -> Result<(), Unread>
+    /// Whether a file of which this was read may be a desk's, or why it is not opened.
+    pub(crate) fn unless_crowded(listed: Listed) -> Result<(), Unread>
         ensures few { OnOk result (MayBeADesks listed) }
         ensures refused { IfErr result (λ unread. IsCrowded listed unread.fault) }
     {
         match listed {
-            Some(count) if count > MOST_OBJECTS => Err(Unread {
+            Listed::Unknown => Ok(()),
+            Listed::Objects(count) if count <= MOST_OBJECTS => Ok(()),
+            Listed::Objects(_) | Listed::WithoutSums => Err(Unread {
                 fault: Fault::NotADeskFile,
             }),
-            _ => Ok(()),
         }
     }
 

@@ -1,4 +1,5 @@
 //! Files that list more objects than a desk's file does.
+use super::pages::put;
 use super::setting::{NO_BOOK, begin_day, book_bytes, is_refused, keeps, remove, reports, write};
 use super::views::with_views;
 use sqlite::Connection;
@@ -57,4 +58,17 @@ fn with_objects_in_the_log(rt: HostRuntime) -> Result<(), Fail> {
     leave_views(&rt, "logged", 92, 92)?;
     is_refused(&rt, "logged", NO_BOOK)?;
     remove(&rt, "logged")
+}
+
+// The header says that each page ends in a checksum, and none does.
+#[test]
+fn with_pages_that_lack_their_sums(rt: HostRuntime) -> Result<(), Fail> {
+    let book = book_bytes(&rt, "sums")?;
+    for count in [1, 8000] {
+        let mut file = with_views(rt.alloc(), book.as_slice(), count)?;
+        put(file.as_mut_slice(), 20, &[8, 64, 32, 32]);
+        write(&rt, "sums", file.as_slice())?;
+        is_refused(&rt, "sums", NO_BOOK)?;
+    }
+    remove(&rt, "sums")
 }

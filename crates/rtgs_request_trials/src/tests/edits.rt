@@ -6,6 +6,9 @@ use std::alloc::{AllocError, Global};
 /// What stands between two lines, or in its place.
 const JOINTS: [&[u8]; 8] = [b"", b" ", b"\n", b"\r", b", ", b"\r\n\r\n", b"\r\n ", b"\0"];
 
+// What stands before a value.
+const MARKS: &[u8] = b":,\n";
+
 /// The text with one change: of bytes, cut, without a part or with one twice, with two lines joined, or of a value.
 pub fn changed(alloc: Global, draw: &mut Draw, text: &[u8]) -> Result<Vec<u8>, AllocError> {
     match draw.below(6) {
@@ -54,7 +57,7 @@ fn flipped(alloc: Global, draw: &mut Draw, text: &[u8]) -> Result<Vec<u8>, Alloc
     let mut bytes = Vec::from_slice(alloc, text)?;
     for _ in 0..=draw.below(3) {
         let bit = 1u8 << (draw.below(8) & 7);
-        let other = draw.byte();
+        let other = (draw.below(256) & 255) as u8;
         let by_bit = draw.below(2) == 0;
         if let Some(byte) = bytes.as_mut_slice().get_mut(draw.below(text.len())) {
             *byte = if by_bit { *byte ^ bit } else { other };
@@ -85,9 +88,7 @@ fn repeated(alloc: Global, draw: &mut Draw, text: &[u8]) -> Result<Vec<u8>, Allo
 fn joined(alloc: Global, draw: &mut Draw, text: &[u8]) -> Result<Vec<u8>, AllocError> {
     let (before, rest) = parts(text, draw.below(text.len()));
     let joint = JOINTS[draw.below(8) & 7];
-    let length = rest
-        .iter()
-        .position(|byte| matches!(*byte, b'\r' | b'\n' | b','));
+    let length = first(rest, b"\r\n,", true);
     let (line, behind) = parts(rest, length.unwrap_or(0));
     let (_, behind) = parts(behind, if behind.starts_with(b"\r\n") { 2 } else { 1 });
     sum_of(alloc, &[before, line, joint, behind])
@@ -97,9 +98,9 @@ fn joined(alloc: Global, draw: &mut Draw, text: &[u8]) -> Result<Vec<u8>, AllocE
 fn renumbered(alloc: Global, draw: &mut Draw, text: &[u8]) -> Result<Vec<u8>, AllocError> {
     let (before, rest) = parts(text, draw.below(text.len()));
     let limit = LIMITS[draw.below(32) & 31].as_bytes();
-    let length = rest.iter().position(|byte| byte.is_ascii_digit());
+    let length = first(rest, b"0123456789", true);
     let (others, behind) = parts(rest, length.unwrap_or(0));
-    let digits = behind.iter().position(|byte| !byte.is_ascii_digit());
+    let digits = first(behind, b"0123456789", false);
     let (_, behind) = parts(behind, digits.unwrap_or(behind.len()));
     sum_of(alloc, &[before, others, limit, behind])
 }
@@ -109,9 +110,7 @@ fn reworded(alloc: Global, draw: &mut Draw, text: &[u8]) -> Result<Vec<u8>, Allo
     let (before, behind) = at_a_value(draw, text);
     let among = if behind.starts_with(b"\"") { 13 } else { 32 };
     let word = WORDS[draw.below(among) & 31].as_bytes();
-    let end = behind
-        .iter()
-        .position(|byte| matches!(*byte, b',' | b'}' | b'\n' | b'\r'));
+    let end = first(behind, b",}\n\r", true);
     let (_, behind) = parts(behind, end.unwrap_or(behind.len()));
     sum_of(alloc, &[before, word, behind])
 }
@@ -120,13 +119,23 @@ fn reworded(alloc: Global, draw: &mut Draw, text: &[u8]) -> Result<Vec<u8>, Allo
 fn at_a_value<'a>(draw: &mut Draw, text: &'a [u8]) -> (&'a [u8], &'a [u8]) {
     let at = draw.below(text.len());
     let (_, rest) = parts(text, at);
-    match mark(rest) {
+    match first(rest, MARKS, true) {
         Some(length) => parts(text, at.saturating_add(length).saturating_add(1)),
-        None => parts(text, mark(text).unwrap_or(0).saturating_add(1)),
+        None => parts(
+            text,
+            first(text, MARKS, true).unwrap_or(0).saturating_add(1),
+        ),
     }
 }
 
-fn mark(text: &[u8]) -> Option<usize> {
-    text.iter()
-        .position(|byte| matches!(*byte, b':' | b',' | b'\n'))
+// Where the first byte stands that is one of these, or the first that is not.
+fn first(text: &[u8], these: &[u8], is_one: bool) -> Option<usize> {
+    let mut place = 0usize;
+    for byte in text {
+        if these.contains(byte) == is_one {
+            return Some(place);
+        }
+        place = place.saturating_add(1);
+    }
+    None
 }

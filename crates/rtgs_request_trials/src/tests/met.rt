@@ -1,8 +1,8 @@
 //! How often each answer was met.
-use super::replies::Told;
-use std::alloc::{AllocError, Global};
+use std::alloc::Global;
+use std::test::Fail;
 
-/// How often each answer was met: by number, with 0 for what was read, and 255 for what was done.
+/// How often each answer was met, by what is told.
 #[derive(Drop)]
 pub struct Met {
     counts: [usize; 256],
@@ -14,30 +14,19 @@ impl Met {
     }
 
     /// Counts this answer.
-    pub fn count(&mut self, told: Told) {
-        let number = match told {
-            Told::Refused(number) => number,
-            Told::Read => 0,
-            Told::Done => 255,
-        };
-        let at = number as usize;
+    pub fn count(&mut self, told: u8) {
+        let at = told as usize;
         self.counts[at] = self.counts[at].saturating_add(1);
     }
 
-    /// How often this number was met.
-    pub fn times(&self, number: u8) -> usize {
-        self.counts[number as usize]
-    }
-
-    /// How often each was met that was met at all, as a text.
-    pub fn text(&self, alloc: Global) -> Result<String, AllocError> {
-        let mut text = String::new(alloc);
-        for (number, count) in self.counts.iter().enumerate() {
-            if *count > 0 {
-                let one = format!(in alloc; "{number}: {count}, ")?;
-                text.push_str(one.as_str())?;
+    /// Each of these was met.
+    pub fn has(&self, alloc: Global, all: &[u8]) -> Result<(), Fail> {
+        for told in all {
+            if self.counts[*told as usize] == 0 {
+                let said = format!(in alloc; "{told} was not met: {:?}", self.counts)?;
+                return Err(Fail::from(said));
             }
         }
-        Ok(text)
+        Ok(())
     }
 }

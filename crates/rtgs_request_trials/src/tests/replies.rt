@@ -2,6 +2,12 @@
 use std::alloc::{AllocError, Global};
 use std::test::Fail;
 
+/// What is told by a reply with what was read.
+pub const READ: u8 = 0;
+
+/// What is told by a reply with what came of commands.
+pub const DONE: u8 = 255;
+
 /// What is told where nothing is done: the status with its reason, and the number and the name of the refusal.
 const REFUSED: [(&str, u8, &str); 33] = [
     ("404 Not Found", 1, "UnknownParticipant"),
@@ -40,7 +46,7 @@ const REFUSED: [(&str, u8, &str); 33] = [
 ];
 
 /// How the body begins that tells what was done or read, the type of such a body, and whether it tells of a command.
-const DONE: [(&str, &str, bool); 7] = [
+const DID: [(&str, &str, bool); 7] = [
     ("{\"answer\":\"", "application/json", true),
     ("{\"amount\":", "application/json", false),
     ("{\"balance\":", "application/json", false),
@@ -50,19 +56,8 @@ const DONE: [(&str, &str, bool); 7] = [
     ("report 2", "text/plain", false),
 ];
 
-/// What a reply tells.
-#[derive(Clone, Copy, Debug, PartialEq, Eq)]
-pub enum Told {
-    /// That it was refused, by this number.
-    Refused(u8),
-    /// What was read.
-    Read,
-    /// What came of commands.
-    Done,
-}
-
 /// What a body means: the status with its reason, the type of the body, and what it tells.
-type Meaning = (&'static str, &'static str, Told);
+type Meaning = (&'static str, &'static str, u8);
 
 // Whether the body is that of the refusal with this number and name.
 fn is_refusal(alloc: Global, body: &str, number: u8, name: &str) -> Result<bool, AllocError> {
@@ -81,7 +76,7 @@ fn refused(
 ) -> Result<Option<Meaning>, AllocError> {
     for (status, number, name) in refusals {
         if is_refusal(alloc, body, *number, name)? {
-            return Ok(Some((*status, "application/json", Told::Refused(*number))));
+            return Ok(Some((*status, "application/json", *number)));
         }
     }
     Ok(None)
@@ -91,7 +86,7 @@ fn refused(
 fn done(body: &str, beginnings: &[(&str, &'static str, bool)]) -> Option<Meaning> {
     for (first, content, is_done) in beginnings {
         if body.starts_with(*first) {
-            let told = if *is_done { Told::Done } else { Told::Read };
+            let told = if *is_done { DONE } else { READ };
             return Some(("200 OK", *content, told));
         }
     }
@@ -102,28 +97,24 @@ fn done(body: &str, beginnings: &[(&str, &'static str, bool)]) -> Option<Meaning
 fn meaning(alloc: Global, body: &str) -> Result<Option<Meaning>, AllocError> {
     match refused(alloc, body, &REFUSED)? {
         Some(meaning) => Ok(Some(meaning)),
-        None => Ok(done(body, &DONE)),
+        None => Ok(done(body, &DID)),
     }
 }
 
-// The bytes behind the first empty line.
-fn body_of(reply: &str) -> Result<&str, Fail> {
-    let (_, body) = reply.split_once("\r\n\r\n").ok_or("no body")?;
-    Ok(body)
-}
-
-/// What a whole reply tells. Each of its bytes is as its body wants it.
-pub fn told_by(alloc: Global, reply: &[u8]) -> Result<Told, Fail> {
+/// What a whole reply tells, which bears this status: a number of a refusal, or what was read or done. Each of its bytes
+/// is as its body wants it.
+pub fn told_by(alloc: Global, status: u16, reply: &[u8]) -> Result<u8, Fail> {
     let reply = std::str::from_utf8(reply)?;
-    let body = body_of(reply)?;
+    let (_, body) = reply.split_once("\r\n\r\n").ok_or("no body")?;
     let length = body.len();
-    let (status, content, told) = meaning(alloc, body)?.ok_or("a body that tells nothing")?;
+    let (line, content, told) = meaning(alloc, body)?.ok_or("a body that tells nothing")?;
     let whole = format!(in alloc;
-        "HTTP/1.1 {status}\r\nContent-Type: {content}\r\nContent-Length: {length}\r\nConnection: close\r\n\r\n{body}"
+        "HTTP/1.1 {line}\r\nContent-Type: {content}\r\nContent-Length: {length}\r\nConnection: close\r\n\r\n{body}"
     )?;
-    if whole.as_str() == reply {
+    let head = format!(in alloc; "HTTP/1.1 {status} ")?;
+    if whole.as_str() == reply && reply.starts_with(head.as_str()) {
         return Ok(told);
     }
-    let said = format!(in alloc; "{reply:?}, not {whole:?}")?;
+    let said = format!(in alloc; "{status}: {reply:?}, not {whole:?}")?;
     Err(Fail::from(said))
 }

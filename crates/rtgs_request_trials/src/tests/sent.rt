@@ -55,9 +55,3 @@ pub fn with_body(alloc: Global, sent: Sent, body: &[u8]) -> Result<Vec<u8>, Allo
     bytes.extend_from_slice(body)?;
     Ok(bytes)
 }
-
-/// All bytes of a request.
-pub fn bytes_of(alloc: Global, sent: Sent) -> Result<Vec<u8>, AllocError> {
-    let (_, _, body) = sent;
-    with_body(alloc, sent, body.as_bytes())
-}
