@@ -1,15 +1,18 @@
--- Four groups of lines that make up a report.
+-- The lines that make up a report and a statement.
 use Rattle.std.proofs.Common.{◌≡◌, ◌<◌, ℕ, List, [], ◌∷◌, ◌++◌, map, length, refl}
 use Rattle.rtgs_book.specs.declared.Book.{Book}
 use Rattle.rtgs_book.specs.declared.posting.Posting.{Posting}
 use Rattle.rtgs_book.specs.declared.order.Order.{Order}
 use Rattle.rtgs_book.specs.declared.mark.Mark.{Mark}
 use Rattle.rtgs_statements.specs.declared.line.Line.{Line}
-use Rattle.rtgs_statements.specs.declared.line.Line.TheVariants.{ReportOf, Marks}
+use Rattle.rtgs_statements.specs.declared.line.Line.TheVariants.{ReportOf, Marks, Record, StatementOf}
 use Rattle.rtgs_book.specs.declared.standing.Standing.TheVariants.{Settled, Queued, Withdrawn, Rejected}
 use Rattle.rtgs_book.specs.Lookup.{accounts}
-use Rattle.rtgs_statements.specs.Records.{postings_on, orders_on, marks_on}
-use Rattle.rtgs_statements.specs.Texts.{text_of, account_line, orders_line, report, report_text}
+use Rattle.rtgs_statements.specs.Lines.{row_of_posting, row_of_order}
+use Rattle.rtgs_statements.specs.Records.{postings_on, orders_on, marks_on, postings_of, orders_of}
+use Rattle.rtgs_statements.specs.Sums.{sums_of}
+use Rattle.rtgs_statements.specs.Texts.{text_of, account_line, orders_line, report, report_text, sum_lines}
+use Rattle.rtgs_statements.specs.Texts.{statement, statement_text}
 use Rattle.rtgs_statements.proofs.Growth.{lines-have_bytes}
 
 pub report_is : (date : ℕ) (codes : List (List ℕ)) (postings : List Posting) (orders : List Order) (marks : List Mark)
@@ -26,3 +29,11 @@ report-has_bytes book date =
     lines-have_bytes (ReportOf date) ((map (account_line (postings_on date book.postings) (orders_on date book.orders))
     (accounts book) ++ map (orders_line (orders_on date book.orders)) (Settled ∷ Queued ∷ Withdrawn ∷ Rejected ∷ []))
     ++ (Marks (length (marks_on date book.marks)) ∷ []))
+
+pub statement-has_bytes : (book : Book) (code : List ℕ) (date : ℕ) → 0 < length (statement book code date)
+unfolding statement_text
+statement-has_bytes book code date =
+    let postings = postings_of code date book.postings in
+    let orders = orders_of code date book.orders in
+    lines-have_bytes (StatementOf code date) (map (λ posting. Record (row_of_posting posting)) postings
+    ++ map (λ order. Record (row_of_order code order)) orders ++ sum_lines (sums_of code postings orders))

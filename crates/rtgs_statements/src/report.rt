@@ -1,5 +1,5 @@
 //! Day reports.
-ghost use Rattle.std.specs.Prelude.{◌≡◌, IfErr, IfOk, OnOk, OnErr, string_bytes};
+ghost use Rattle.std.specs.Prelude.{◌≡◌, ◌≢◌, IfErr, IfOk, OnOk, OnErr, string_bytes};
 ghost use Rattle.std.specs.Io.KnownBytes.{Appends};
 ghost use Rattle.rtgs_book.specs.declared.Book.{Book};
 ghost use Rattle.rtgs_book.specs.declared.refusal.Refusal.{Refusal};
@@ -32,6 +32,7 @@ pub fn write_report<S: Source, W: Write>(
         → OnErr result (AppendsPart (W.contents out.old) (W.contents out.new) (report book date)) }
     ensures refused { (refusal : Refusal) → IfErr result (λ fault. fault ≡ BookTextFault.Refused refusal
         → out.new ≡ out.old) }
+    ensures memory { IfErr result (λ fault. fault ≢ BookTextFault.Text TextFault.OutOfMemory) }
     ensures read { IsRead S.holds S.leaves S.is_honest S.has_failed source.old source.new (read_refused_by result) }
 {
     let text = match text_of(alloc, source, date) {
