@@ -26,8 +26,8 @@ text_wanted book (reading.Queue code) = json_line queue_data (queue_told book co
 text_wanted book (reading.Statement code date) = statement_wanted book code date
 text_wanted book (reading.Report date) = report_wanted book date
 
--- the store failed: the reading of an order asks it, and no other
+-- the store failed: an account and a queue are read without asking it
 abbrev pub Fails : {K V : Type 0} → Ghosts K → Reading → Seen K → Result V Refusal → Type 0
-Fails g (reading.Order sender reference) desk result =
-    (g.has_failed desk.keeper ≡ true) × (result ≡ Err StoreFault)
-Fails g _ desk result = ⊥
+Fails g (reading.Account code) desk result = ⊥
+Fails g (reading.Queue code) desk result = ⊥
+Fails g _ desk result = (g.has_failed desk.keeper ≡ true) × (result ≡ Err StoreFault)
