@@ -59,7 +59,8 @@ fn order_line<K: Keeper>(
 ) -> Result<Vec<u8>, Refusal>
     ensures told { K.is_honest desk.new.keeper → (book : Book) → Holds K.Keeper desk.old book
         → Tells (λ text. text.items) (json_line order_data (order_told book sender.now reference.now)) result
-        ⊎ ((K.has_failed desk.new.keeper ≡ true) × (result ≡ Err Refusal.StoreFault)) }
+        ⊎ ((result ≡ Err Refusal.OutOfMemory)
+        ⊎ ((K.has_failed desk.new.keeper ≡ true) × (result ≡ Err Refusal.StoreFault))) }
     ensures failed { K.has_failed desk.old.keeper ≡ true → (result ≡ Err Refusal.Failed) × (desk.new ≡ desk.old) }
     ensures kept { K.is_honest desk.new.keeper → (book : Book) → Holds K.Keeper desk.old book
         → K.has_failed desk.new.keeper ≡ false → Holds K.Keeper desk.new book }

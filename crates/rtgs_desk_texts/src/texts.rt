@@ -37,10 +37,10 @@ pub fn write_statement<K: Keeper, W: Write>(
 {
     desk.holds_a_sound_book();
     texts_have_bytes();
-    if let Err(refusal) = desk.account(code) {
-        return Err(BookTextFault::Refused(refusal));
+    match desk.account(code) {
+        Ok(_) => rtgs_statements::write_statement(alloc, out, desk, code, date),
+        Err(refusal) => Err(BookTextFault::Refused(refusal)),
     }
-    rtgs_statements::write_statement(alloc, out, desk, code, date)
 }
 
 /// Writes the report of a day, as the book that the desk holds has it. It is refused before a byte is written where
