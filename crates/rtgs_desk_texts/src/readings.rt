@@ -70,7 +70,10 @@ fn order_line<K: Keeper>(
         → K.is_whole desk.new.keeper }
     ensures honest { K.is_honest desk.new.keeper → K.is_honest desk.old.keeper }
 {
-    let order = desk.order_of(sender, reference)?;
+    let order = match desk.order_of(sender, reference) {
+        Ok(order) => order,
+        Err(refusal) => return Err(refusal),
+    };
     Ok(ended(order_text(alloc, &order)?)?)
 }
 
