@@ -1,4 +1,4 @@
-use Rattle.std.proofs.Common.{◌∙◌, ap, inl, inr}
+use Rattle.std.proofs.Common.{◌∙◌, ap}
 use Rattle.rtgs_desk_texts.specs.Written.{report_wanted}
 use Rattle.rtgs_http_banks.specs.Sayings.{text_message}
 use Rattle.rtgs_http_banks.proofs.Told.{refused_text, text_said, stands_after}
@@ -9,12 +9,6 @@ returns-in-Err-clause-reads g c honest book held = (
   stands_after g.K.Keeper _ _ book c.in-Err.ensures.leaves honest held,
   refused_text g.K.Keeper (λ text. text.items) (report_wanted book c.args.date) text_message c.report_text.new.desk c.refused.result
       c.in-Err.refusal (c.in-Err.ensures.told honest book held) c.refused.ensures,
-)
-
-pub returns-in-Err-text_reply-clause-reads : goal.returns-in-Err-text_reply-clause-reads
-returns-in-Err-text_reply-clause-reads g c honest book held = (
-  stands_after g.K.Keeper _ _ book c.in-Ok.ensures.leaves honest held,
-  inl (inr c.out_of_memory.ensures),
 )
 
 pub returns-in-Ok-text_reply-clause-reads : goal.returns-in-Ok-text_reply-clause-reads

@@ -11,7 +11,7 @@ pub returns-in-Ok-clause-reply : goal.returns-in-Ok-clause-reply
 returns-in-Ok-clause-reply g c = λ operator input says.
     asked_exchange g.K.Keeper operator input c.args.desk.now c.answer.new.desk c.in-Ok.asked c.answer.result
     c.participants_ask_for_their_own.ensures c.holds_a_sound_book.ensures.in_memory
-        c.holds_a_sound_book.ensures.participants
+    c.holds_a_sound_book.ensures.participants
     (subst (λ (r : Result Asked Unread). Requests (KnowsOf g.K.Keeper c.args.desk.now) operator input r) c.in-Ok.is
     says)
     c.answer.ensures.comes c.answer.ensures.failed
