@@ -1,5 +1,6 @@
 pub mod AccountLemmas
 pub mod Adding
+pub mod Alone
 pub mod Balances
 pub mod Closing
 pub mod Crediting
@@ -21,5 +22,5 @@ pub mod Resolving
 pub mod Rooms
 pub mod Settling
 pub mod Telling
-pub mod Withdrawing
 pub mod Whole
+pub mod Withdrawing

@@ -2,15 +2,17 @@
 use Rattle.std.proofs.Common.{◌≡◌, ℕ, ◌+◌, ◌<◌, ◌≤◌, List, [], ◌∷◌, map, filter, length, refl, sym, ap, subst, ◌∙◌}
 use Rattle.std.proofs.Common.{arith}
 use Rattle.std.proofs.lemmas.List.{length-map}
-use Rattle.std.specs.List.{AllByRecursion, range_with_len}
+use Rattle.std.specs.List.{AllByRecursion, IsDistinct, range_with_len}
+use Rattle.std.specs.Str.{bytes_eq}
 use Rattle.rtgs_book.specs.declared.book.Book.{Book}
 use Rattle.rtgs_book.specs.declared.order.Order.{Order}
+use Rattle.rtgs_book.specs.declared.limits.TheConstants.{MOST_PARTICIPANTS}
 use Rattle.rtgs_book.specs.declared.participant.Participant.{Participant}
 use Rattle.rtgs_book.specs.Books.{is_queued}
 use Rattle.rtgs_book.specs.Lookup.{accounts}
 use Rattle.rtgs_cores.specs.declared.Core.{Core}
 use Rattle.rtgs_cores.specs.Cores.{account_of, core_of, IsCoreOf}
-use Rattle.rtgs_ledger.specs.Accounts.{AreInCodeOrder, code_of}
+use Rattle.rtgs_ledger.specs.Accounts.{AreInCodeOrder, AreOfABook, code_of, key_of}
 use Rattle.rtgs_ledger.specs.Orders.{AreRising}
 use Rattle.rtgs_ledger.proofs.OrderLemmas.{all_filter, rising_filter, queued_twice}
 
@@ -18,6 +20,11 @@ own_codes : (book : Book) (ps : List Participant) → map code_of (map (account_
     (p : Participant). p.code) ps
 own_codes book [] = refl
 own_codes book (p ∷ ps) = ap (λ cs. p.code ∷ cs) (own_codes book ps)
+
+own_keys : (book : Book) (ps : List Participant) → map key_of (map (account_of book) ps) ≡ map (λ (p : Participant). p.key)
+    ps
+own_keys book [] = refl
+own_keys book (p ∷ ps) = ap (λ ks. p.key ∷ ks) (own_keys book ps)
 
 -- numbers one after another
 numbers_from : (k : ℕ) (os : List Order) → map (λ (o : Order). o.number) os ≡ range_with_len k (length os)
@@ -66,6 +73,19 @@ module _ (book : Book) (core : Core) (is : IsCoreOf book core) where
   unfolding core_of accounts
   in_order = subst AreInCodeOrder (sym (ap (λ (c : Core). c.accounts) is.is))
       (rw (own_codes book book.participants) is.sound.codes_rise.0)
+
+  pub of_a_book : AreOfABook core.accounts
+  unfolding core_of accounts
+  of_a_book =
+      let own : core.accounts ≡ map (account_of book) book.participants = ap (λ (c : Core). c.accounts) is.is in
+      record {
+        ordered = in_order;
+        keys = subst (λ xs. IsDistinct bytes_eq (map key_of xs)) (sym own)
+            (rw (own_keys book book.participants) is.sound.keys_distinct);
+        few = subst (λ xs. length xs ≤ MOST_PARTICIPANTS) (sym own)
+            (rw (length-map book.participants (account_of book))
+            (rw (length-map book.participants (λ (p : Participant). p.code)) at is.sound.codes_rise.1));
+      }
 
   pub rising : AreRising core.queued
   rising = subst AreRising (sym queued) (rising_filter is_queued book.orders (rising_from 1 book.orders numbered))

@@ -192,7 +192,7 @@ module _ (number : ℕ) (state : OrderState) where
       by false e = rw e refl
 
   pub none_restated : (os : List Order) → AllByRecursion (is_not number) os → map (restated
-    (has_number number) state) os ≡ os
+      (has_number number) state) os ≡ os
   none_restated [] h = refl
   none_restated (o ∷ os) h = λ i. unchanged o h.0 i ∷ none_restated os h.1 i
 

@@ -1,11 +1,12 @@
 -- Accounts, as contracts see them.
 use Rattle.std.specs.Prelude.{true, false, ◌≡◌, ℕ, ◌≤◌, ℤ, ◌+ℤ◌, Bool, true, List, map}
 use Rattle.std.specs.Prelude.{if◌then◌else◌, length, slice_index_or, ◌<◌}
-use Rattle.std.specs.List.{AllByRecursion}
+use Rattle.std.specs.List.{AllByRecursion, IsDistinct}
 use Rattle.std.specs.List.Sorted.{IsStrictlySortedBy}
 use Rattle.std.specs.Ordering.{nat_cmp}
 use Rattle.std.specs.Cmp.Lexicographic.{slice_cmp}
 use Rattle.std.specs.Str.{bytes_eq}
+use Rattle.rtgs_book.specs.declared.limits.TheConstants.{MOST_PARTICIPANTS}
 use Rattle.rtgs_book.specs.declared.order.Order.{Order}
 use Rattle.rtgs_book.specs.Balance.{gain}
 use Rattle.rtgs_book.specs.Commands.{is_before}
@@ -18,6 +19,9 @@ pub record AccountList : Type 0 where
   pub accounts : List Account
   pub room : ℕ
 
+abbrev pub key_of : Account → List ℕ
+key_of a = a.participant.key
+
 abbrev pub has_key : List ℕ → Account → Bool
 has_key key a = bytes_eq a.participant.key key
 
@@ -27,6 +31,12 @@ balance_of a = a.balance
 -- codes rise strictly
 abbrev pub AreInCodeOrder : List Account → Type 0
 AreInCodeOrder accounts = IsStrictlySortedBy (slice_cmp nat_cmp) (map code_of accounts)
+
+-- Their participants can be those of a sound book: codes rise, no two have a key, and they are not too many.
+pub record AreOfABook (accounts : List Account) : Type 0 where
+  pub ordered : AreInCodeOrder accounts
+  pub keys : IsDistinct bytes_eq (map key_of accounts)
+  pub few : length accounts ≤ MOST_PARTICIPANTS
 
 abbrev pub move : List ℕ → ℤ → Account → Account
 move code cents a = if is_of code a then record a { balance = a.balance +ℤ cents } else a

@@ -1,14 +1,15 @@
 -- A ledger, as contracts see it, and the room that the rows of a change find, one after another.
 use Rattle.std.specs.Prelude.{◌≡◌, ℕ, ◌-◌, ◌≤◌, ◌<◌, ◌^◌, true, false, List, [], ◌∷◌, Option, Some, None, if◌then◌else◌}
-use Rattle.std.specs.Prelude.{⊤}
-use Rattle.std.specs.List.{find}
+use Rattle.std.specs.Prelude.{⊤, length}
+use Rattle.std.specs.List.{find, list_any}
 use Rattle.rtgs_book.specs.declared.change.RowChange.{RowChange}
 use Rattle.rtgs_book.specs.declared.change.RowChange.TheVariants.{AddParticipant, AddPosting, AddOrder, AddMark}
 use Rattle.rtgs_book.specs.declared.change.RowChange.TheVariants.{SetCredit, SetBalance, SetState, SetDay}
-use Rattle.rtgs_book.specs.declared.limits.TheConstants.{LARGEST_NUMBER}
+use Rattle.rtgs_book.specs.declared.limits.TheConstants.{LARGEST_NUMBER, MOST_PARTICIPANTS}
 use Rattle.rtgs_book.specs.Books.{is_queued, is_queued_state}
 use Rattle.rtgs_cores.specs.declared.Core.{Core}
 use Rattle.rtgs_cores.specs.Following.{is_of, core_after_row}
+use Rattle.rtgs_ledger.specs.Accounts.{has_key}
 
 -- how many participants and queued orders can be added without memory, and the sender whose queue has room for one more
 pub record Room : Type 0 where
@@ -21,10 +22,12 @@ pub record Held : Type 0 where
   pub core : Core
   pub room : Room
 
--- The row can be made: what it adds is new, bears the next number, and finds its room. No order becomes queued again.
+-- The row can be made: what it adds is new, bears the next number, and finds its room. No order becomes queued again, and
+-- no two participants get a key.
 abbrev pub FindsRoom : Held → RowChange → Type 0
 FindsRoom held (AddParticipant participant) = (find (is_of participant.code) held.core.accounts ≡ None)
-    × (1 ≤ held.room.participants)
+    × (list_any (has_key participant.key) held.core.accounts ≡ false)
+    × (length held.core.accounts < MOST_PARTICIPANTS) × (1 ≤ held.room.participants)
 FindsRoom held (AddPosting posting) = held.core.next_posting ≤ LARGEST_NUMBER
 FindsRoom held (AddOrder order) = (order.number ≡ held.core.next_order) × (held.core.next_order ≤ LARGEST_NUMBER)
     × (is_queued order ≡ true → (1 ≤ held.room.orders) × (held.room.awaited ≡ Some order.sender))

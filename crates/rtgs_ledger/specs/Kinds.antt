@@ -1,10 +1,12 @@
--- Which answers a command can have, and which of them change nothing.
+-- Which answers and refusals a command can have, and which answers change nothing.
 use Rattle.std.specs.Prelude.{◌≡◌, Bool, true, false, List, [], ⊤}
 use Rattle.rtgs_book.specs.declared.Answer.{Answer}
 use Rattle.rtgs_book.specs.declared.Answer.TheVariants as answer
 use Rattle.rtgs_book.specs.declared.Command.{Command}
 use Rattle.rtgs_book.specs.declared.Command.TheVariants as command
 use Rattle.rtgs_book.specs.declared.Known.TheVariants as known
+use Rattle.rtgs_book.specs.declared.Refusal.{Refusal}
+use Rattle.rtgs_book.specs.declared.Refusal.TheVariants.{StoreFault, Failed}
 use Rattle.rtgs_book.specs.declared.RowChange.{RowChange}
 
 -- an order can have this answer
@@ -43,3 +45,9 @@ IsQuiet other rows = ⊤
 -- the command can have this answer, with this change
 abbrev pub CanAnswer : Command → Answer → List RowChange → Type 0
 CanAnswer command given rows = (answers_its_kind command given ≡ true) × IsQuiet given rows
+
+-- a refusal that tells of a store, and of no command
+abbrev pub is_of_the_store : Refusal → Bool
+is_of_the_store StoreFault = true
+is_of_the_store Failed = true
+is_of_the_store other = false

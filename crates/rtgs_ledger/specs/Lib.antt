@@ -1,4 +1,5 @@
 pub mod Accounts
+pub mod Alone
 pub mod Choosing
 pub mod Closing
 pub mod Held

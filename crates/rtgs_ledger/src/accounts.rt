@@ -1,15 +1,16 @@
 //! Accounts in the order of their codes.
-ghost use Rattle.std.specs.Prelude.{◌≡◌, ◌-◌, ◌≤◌, ◌^◌, ◌+ℤ◌, [], ℤ, length, map, filter, Some, None, OnOk, IfOk};
-ghost use Rattle.std.specs.Prelude.{IfErr, FitsSigned};
+ghost use Rattle.std.specs.Prelude.{◌≡◌, ◌-◌, ◌≤◌, ◌<◌, ◌^◌, ◌+ℤ◌, [], ℤ, length, map, filter, false, Some, None};
+ghost use Rattle.std.specs.Prelude.{OnOk, IfOk, IfErr, FitsSigned, slice_get};
 ghost use Rattle.std.specs.Int.{w64};
 ghost use Rattle.std.specs.List.{find, list_any, position_or_len, AllByRecursion};
 ghost use Rattle.std.specs.Str.{bytes_eq};
 ghost use Rattle.rtgs_money.specs.Amounts.{IsAmount};
+ghost use Rattle.rtgs_book.specs.declared.limits.TheConstants.{MOST_PARTICIPANTS};
 ghost use Rattle.rtgs_book.specs.Totals.{Within};
 ghost use Rattle.rtgs_book.specs.IntSum.{int_sum_by};
 ghost use Rattle.rtgs_book.specs.Accounts.{is_overdrawn};
-ghost use Rattle.rtgs_ledger.specs.Accounts.{AreInCodeOrder, IsAt, IsGapFor, is_of, code_of, balance_of};
-ghost use Rattle.rtgs_ledger.specs.Accounts.{has_key, with_account, with_balance, with_move};
+ghost use Rattle.rtgs_ledger.specs.Accounts.{AreOfABook, IsAt, IsGapFor, is_of, code_of, key_of};
+ghost use Rattle.rtgs_ledger.specs.Accounts.{balance_of, has_key, with_account, with_balance, with_move};
 ghost use Rattle.rtgs_ledger.specs.Accounts.{with_limit, after_order};
 
 use crate::sums::moved;
@@ -25,7 +26,7 @@ pub struct Accounts {
 }
 
 impl Model for Accounts {
-    ghost use Rattle.rtgs_ledger.specs.Accounts.{AccountList, AreInCodeOrder};
+    ghost use Rattle.rtgs_ledger.specs.Accounts.{AccountList, AreOfABook};
     ghost use Rattle.std.specs.Prelude.{◌-◌, vec_len};
     ghost use Rattle.std.specs.Vec.{vec_capacity};
 
@@ -33,13 +34,13 @@ impl Model for Accounts {
 
     ghost view = { λ a. record { accounts = a.accounts.items; room = vec_capacity a.accounts - vec_len a.accounts } };
 
-    ghost invariant = { λ a. AreInCodeOrder a.accounts.items };
+    ghost invariant = { λ a. AreOfABook a.accounts.items };
 }
 
 impl Accounts {
     /// These accounts, in code order.
     pub fn load(accounts: Rows<Account>) -> Accounts
-        requires { AreInCodeOrder accounts }
+        requires { AreOfABook accounts }
         ensures { result.accounts ≡ accounts }
     {
         Accounts {
@@ -58,7 +59,7 @@ impl Accounts {
     /// The accounts in code order.
     pub fn as_slice(&self) -> &[Account]
         ensures value { result.now ≡ self.now.accounts }
-        ensures ordered { AreInCodeOrder self.now.accounts }
+        ensures of_a_book { AreOfABook self.now.accounts }
     {
         self.accounts.as_slice()
     }
@@ -70,14 +71,15 @@ impl Accounts {
         self.accounts.len()
     }
 
-    /// Their codes, in order. It answers lack of memory.
-    pub fn codes(&self, alloc: Global) -> Result<Vec<Code>, AllocError>
-        ensures { IfOk result (λ codes. codes.items ≡ map code_of self.now.accounts) }
+    /// The code at this place, in order; past the last there is none.
+    pub fn code_at(&self, index: usize) -> Option<Code>
+        ensures { result ≡ slice_get (map code_of self.now.accounts) index }
     {
-        self.accounts
-            .iter()
-            .map(|account| account.participant.code)
-            .collect(alloc)
+        if index < self.accounts.len() {
+            Some(self.accounts[index].participant.code)
+        } else {
+            None
+        }
     }
 
     /// The account with this code, if there is one.
@@ -153,6 +155,8 @@ impl Accounts {
     /// Adds an account, in the room that was made for it.
     pub fn insert(&mut self, account: Account)
         requires absent { find (is_of (code_of account)) self.old.accounts ≡ None }
+        requires unused { list_any (has_key (key_of account)) self.old.accounts ≡ false }
+        requires few { length self.old.accounts < MOST_PARTICIPANTS }
         requires room { 1 ≤ self.old.room }
         ensures accounts { self.new.accounts ≡ with_account account self.old.accounts }
         ensures room { self.new.room ≡ self.old.room - 1 }

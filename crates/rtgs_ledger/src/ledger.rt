@@ -1,11 +1,11 @@
 //! The ledger.
-ghost use Rattle.std.specs.Prelude.{◌≡◌, [], IfOk, IfErr};
+ghost use Rattle.std.specs.Prelude.{◌≡◌, [], IfOk, IfErr, false};
 ghost use Rattle.rtgs_book.specs.declared.book.Book.{Book};
 ghost use Rattle.rtgs_cores.specs.Cores.{IsCoreOf, found_for};
 ghost use Rattle.rtgs_cores.specs.Following.{core_after};
 ghost use Rattle.rtgs_ledger.specs.Held.{HasRoom};
 ghost use Rattle.rtgs_ledger.specs.Kept.{IsPrepared, IsRefused};
-ghost use Rattle.rtgs_ledger.specs.Kinds.{CanAnswer};
+ghost use Rattle.rtgs_ledger.specs.Kinds.{CanAnswer, is_of_the_store};
 
 mod adding;
 mod choosing;
@@ -74,6 +74,7 @@ impl Ledger {
         ensures core { self.new.core ≡ self.old.core }
         ensures room { IfOk result (λ (answer, change). HasRoom self.new change) }
         ensures answered { IfOk result (λ (answer, change). CanAnswer command.now answer change) }
+        ensures of_the_command { IfErr result (λ refusal. is_of_the_store refusal ≡ false) }
         ensures prepared { (book : Book) → IsCoreOf book self.old.core → found.now ≡ found_for book command.now
             → IfOk result (λ (answer, change). IsPrepared book self.old.core command.now answer change) }
         ensures refused { (book : Book) → IsCoreOf book self.old.core → found.now ≡ found_for book command.now

@@ -1,14 +1,15 @@
 //! What texts are read from.
-ghost use Rattle.std.specs.Prelude.{◌≡◌, Bool, IfOk};
+ghost use Rattle.std.specs.Prelude.{◌≡◌, Bool, IfOk, slice_get};
 ghost use Rattle.rtgs_book.specs.declared.Book.{Book};
+ghost use Rattle.rtgs_book.specs.Lookup.{accounts};
 ghost use Rattle.rtgs_book.specs.Soundness.{IsSound};
 ghost use Rattle.rtgs_cores.specs.Nexts.{posting_after, order_after, mark_after};
 ghost use Rattle.rtgs_statements.specs.Reads.{IsRead, refused_by};
 
 use rtgs_book::{Mark, Order, Posting, Refusal};
-use rtgs_money::BusinessDate;
+use rtgs_money::{BusinessDate, Code};
 
-/// What texts are read from: the records of a date, one after another by their numbers.
+/// What texts are read from: the participants' codes, and the records of a date, one after another by their numbers.
 pub trait Source {
     // It reads from this book.
     ghost holds: { Self → Book → Type 0 };
@@ -39,6 +40,10 @@ pub trait Source {
         ensures read { IsRead holds leaves is_honest has_failed self.old self.new (refused_by result) }
         ensures told { is_honest self.new → (book : Book) → holds self.old book
             → IfOk result (λ next. next ≡ mark_after book date number) };
+
+    /// The code of the participant at this place, from 0 on, in the order of the codes; past the last there is none.
+    fn code_at(&self, index: usize) -> Option<Code>
+        ensures { (book : Book) → holds self.now book → result ≡ slice_get (accounts book) index };
 
     /// The book is a sound one. Does nothing.
     fn reads_a_sound_book(&self)

@@ -1,5 +1,5 @@
 //! Closing a business day.
-ghost use Rattle.std.specs.Prelude.{◌≡◌, ◌++◌, ◌∷◌, [], true, IfOk, IfErr};
+ghost use Rattle.std.specs.Prelude.{◌≡◌, ◌++◌, ◌∷◌, [], true, IfOk, IfErr, false};
 ghost use Rattle.std.specs.List.{flat_map};
 ghost use Rattle.rtgs_book.specs.Queue.{queued_numbers};
 ghost use Rattle.rtgs_choices.specs.Settling.{state_rows};
@@ -9,7 +9,7 @@ ghost use Rattle.rtgs_ledger.specs.Accounts.{code_of};
 ghost use Rattle.rtgs_ledger.specs.Closing.{IsClosable};
 ghost use Rattle.rtgs_ledger.specs.Held.{HasRoom};
 ghost use Rattle.rtgs_ledger.specs.Kept.{IsPrepared, IsRefused};
-ghost use Rattle.rtgs_ledger.specs.Kinds.{CanAnswer};
+ghost use Rattle.rtgs_ledger.specs.Kinds.{CanAnswer, is_of_the_store};
 
 use super::Ledger;
 use rtgs_book::{
@@ -29,6 +29,7 @@ impl Ledger {
         ensures core { self.new.core ≡ self.old.core }
         ensures room { IfOk result (λ (answer, change). HasRoom self.new change) }
         ensures answered { IfOk result (λ (answer, change). CanAnswer (Command.CloseDay date) answer change) }
+        ensures of_the_command { IfErr result (λ refusal. is_of_the_store refusal ≡ false) }
         ensures prepared { (book : Book) → IsCoreOf book self.old.core
             → IfOk result (λ (answer, change). IsPrepared book self.old.core (Command.CloseDay date) answer change) }
         ensures refused { (book : Book) → IsCoreOf book self.old.core
@@ -60,6 +61,7 @@ impl Ledger {
         ensures core { self.new.core ≡ self.old.core }
         ensures room { IfOk result (λ (answer, change). HasRoom self.new change) }
         ensures answered { IfOk result (λ (answer, change). CanAnswer (Command.CloseDay date) answer change) }
+        ensures of_the_command { IfErr result (λ refusal. is_of_the_store refusal ≡ false) }
         ensures prepared { (book : Book) → IsCoreOf book self.old.core → IsClosable book date
             → IfOk result (λ (answer, change). IsPrepared book self.old.core (Command.CloseDay date) answer change) }
         ensures refused { (book : Book) → IsCoreOf book self.old.core → IsClosable book date

@@ -9,7 +9,7 @@ ghost use Rattle.rtgs_book.specs.Lookup.{order_named};
 ghost use Rattle.rtgs_cores.specs.Cores.{IsCoreOf};
 ghost use Rattle.rtgs_ledger.specs.Held.{HasRoom};
 ghost use Rattle.rtgs_ledger.specs.Kept.{IsPrepared, IsRefused};
-ghost use Rattle.rtgs_ledger.specs.Kinds.{CanAnswer};
+ghost use Rattle.rtgs_ledger.specs.Kinds.{CanAnswer, is_of_the_store};
 ghost use Rattle.rtgs_ledger.specs.Ordering.{IsTaken};
 
 use super::Ledger;
@@ -35,6 +35,7 @@ impl Ledger {
         ensures room { IfOk result (λ (answer, change). HasRoom self.new change) }
         ensures answered { IfOk result (λ (answer, change). CanAnswer
             (Command.Order sender reference receiver amount) answer change) }
+        ensures of_the_command { IfErr result (λ refusal. is_of_the_store refusal ≡ false) }
         ensures prepared { (book : Book) → IsCoreOf book self.old.core → found ≡ order_named book sender reference
             → IfOk result (λ (answer, change). IsPrepared book self.old.core
             (Command.Order sender reference receiver amount) answer change) }
@@ -90,6 +91,7 @@ impl Ledger {
         ensures room { IfOk result (λ (answer, change). HasRoom self.new change) }
         ensures answered { IfOk result (λ (answer, change). CanAnswer
             (Command.Order order.now.sender order.now.reference order.now.receiver order.now.amount) answer change) }
+        ensures of_the_command { IfErr result (λ refusal. is_of_the_store refusal ≡ false) }
         ensures prepared { (book : Book) → IsCoreOf book self.old.core → IsTaken book order.now
             → settles_at_once book order.now.sender order.now.amount ≡ true
             → find (is_of order.now.sender) self.old.core.accounts ≡ Some debtor.now

@@ -1,13 +1,15 @@
 //! What the desk reads.
-ghost use Rattle.std.specs.Prelude.{◌≡◌, map, IfOk, IfSome};
+ghost use Rattle.std.specs.Prelude.{◌≡◌, map, IfOk, IfSome, slice_get};
 ghost use Rattle.std.specs.Option.{option_map};
 ghost use Rattle.rtgs_book.specs.declared.book.Book.{Book};
 ghost use Rattle.rtgs_book.specs.Balance.{balance};
 ghost use Rattle.rtgs_book.specs.Lookup.{accounts};
 ghost use Rattle.rtgs_book.specs.Lookup as lookup;
 ghost use Rattle.rtgs_book.specs.Queue.{queue, queued_among};
+ghost use Rattle.rtgs_book.specs.Soundness.{IsSound};
 ghost use Rattle.rtgs_cores.specs.Cores.{IsCoreOf};
 ghost use Rattle.rtgs_ledger.specs.Accounts.{participant_of};
+ghost use Rattle.rtgs_ledger.specs.Alone.{book_of};
 ghost use Rattle.rtgs_ledger.specs.Keys.{code_under};
 
 use super::Ledger;
@@ -28,7 +30,8 @@ impl Ledger {
 
     /// The code of the participant whose key has this digest, if there is one.
     pub fn code_of(&self, digest: &KeyDigest) -> Option<Code>
-        ensures { (book : Book) → IsCoreOf book self.now.core → result ≡ code_under book digest.now }
+        ensures { (book : Book) → map participant_of self.now.core.accounts ≡ book.participants
+            → result ≡ code_under book digest.now }
     {
         match self.records.accounts.bearer(digest) {
             Some(account) => Some(account.participant.code),
@@ -50,12 +53,18 @@ impl Ledger {
         Ok(queue)
     }
 
-    /// The participants' codes in their order. It answers lack of memory.
-    pub fn codes(&self) -> Result<Vec<Code>, AllocError>
-        ensures { (book : Book) → IsCoreOf book self.now.core
-            → IfOk result (λ codes. codes.items ≡ accounts book) }
+    /// The code of the participant at this place, in the order of the codes; past the last there is none.
+    pub fn code_at(&self, index: usize) -> Option<Code>
+        ensures { (book : Book) → IsCoreOf book self.now.core → result ≡ slice_get (accounts book) index }
     {
-        self.records.accounts.codes(self.alloc)
+        self.records.accounts.code_at(index)
+    }
+
+    /// Whatever was looked up and adopted, the participants are those of a sound book.
+    pub fn holds_participants_of_a_sound_book(&self)
+        ensures { IsSound (book_of (map participant_of self.now.core.accounts)) }
+    {
+        let _accounts = self.records.accounts.as_slice();
     }
 
     /// The business day.

@@ -1,5 +1,5 @@
 //! Resolving a gridlock.
-ghost use Rattle.std.specs.Prelude.{◌≡◌, ◌≤◌, List, map, length, Some, IfOk, IfErr};
+ghost use Rattle.std.specs.Prelude.{◌≡◌, ◌≤◌, List, map, length, Some, IfOk, IfErr, false};
 ghost use Rattle.std.specs.List.{AllByRecursion};
 ghost use Rattle.rtgs_book.specs.declared.limits.TheConstants.{MOST_QUEUED};
 ghost use Rattle.rtgs_book.specs.declared.account.Account.{Account as AccountSpec};
@@ -9,7 +9,7 @@ ghost use Rattle.rtgs_book.specs.declared.book.Book.{Book};
 ghost use Rattle.rtgs_cores.specs.Cores.{IsCoreOf};
 ghost use Rattle.rtgs_ledger.specs.Held.{HasRoom};
 ghost use Rattle.rtgs_ledger.specs.Kept.{IsPrepared, IsRefused};
-ghost use Rattle.rtgs_ledger.specs.Kinds.{CanAnswer};
+ghost use Rattle.rtgs_ledger.specs.Kinds.{CanAnswer, is_of_the_store};
 ghost use Rattle.rtgs_choices.specs.Settling.{IsOfBalance};
 ghost use Rattle.rtgs_ledger.specs.Resolving.{AreGreatest, AreSmall, after_orders, moved_accounts, moved_rows};
 
@@ -29,6 +29,7 @@ impl Ledger {
         ensures core { self.new.core ≡ self.old.core }
         ensures room { IfOk result (λ (answer, change). HasRoom self.new change) }
         ensures answered { IfOk result (λ (answer, change). CanAnswer Command.Resolve answer change) }
+        ensures of_the_command { IfErr result (λ refusal. is_of_the_store refusal ≡ false) }
         ensures prepared { (book : Book) → IsCoreOf book self.old.core
             → IfOk result (λ (answer, change). IsPrepared book self.old.core Command.Resolve answer change) }
         ensures refused { (book : Book) → IsCoreOf book self.old.core
@@ -59,6 +60,7 @@ impl Ledger {
         ensures core { self.new.core ≡ self.old.core }
         ensures room { IfOk result (λ (answer, change). HasRoom self.new change) }
         ensures answered { IfOk result (λ (answer, change). CanAnswer Command.Resolve answer change) }
+        ensures of_the_command { IfErr result (λ refusal. is_of_the_store refusal ≡ false) }
         ensures prepared { (book : Book) → IsCoreOf book self.old.core → AreGreatest book orders.now
             → book.day.date ≡ Some date
             → IfOk result (λ (answer, change). IsPrepared book self.old.core Command.Resolve answer change) }

@@ -6,8 +6,8 @@ use Rattle.std.specs.Prelude.{FitsSigned}
 use Rattle.std.specs.Int.{w64}
 use Rattle.std.specs.List.{AllByRecursion}
 use Rattle.rtgs_book.specs.declared.account.Account.{Account}
-use Rattle.rtgs_ledger.specs.Accounts.{AreInCodeOrder, IsAt, with_move, with_balance, rebalanced}
-use Rattle.rtgs_ledger.proofs.AccountLemmas.{altered_at, altered_in_gap, ordered_altered}
+use Rattle.rtgs_ledger.specs.Accounts.{AreOfABook, IsAt, with_move, with_balance, rebalanced}
+use Rattle.rtgs_ledger.proofs.AccountLemmas.{altered_at, altered_in_gap, of_a_book_altered}
 use Rattle.rtgs_ledger.proofs.Lists.{all_at}
 use Rattle.rtgs_ledger.proofs.accounts.Accounts.move_balance.Goals as goal
 
@@ -27,12 +27,12 @@ written : (c : goal.After-self-1) → set c.self.inside.accounts.items c.in-Ok.a
 written c =
     ap (λ (x : Account). set c.self.inside.accounts.items c.in-Ok.at (rebalance c.moved.result x))
     c.index_mut.ensures.value
-    ∙ altered_at (rebalance c.moved.result) (λ a. refl) c.args.code.now c.self.inside.accounts.items c.self.invariant
-    c.in-Ok.at (at_items c) c.index_mut.result.now
+    ∙ altered_at (rebalance c.moved.result) (λ a. refl) c.args.code.now c.self.inside.accounts.items
+    c.self.invariant.ordered c.in-Ok.at (at_items c) c.index_mut.result.now
 
 pub invariant_of-self : goal.invariant_of-self
-invariant_of-self c = subst AreInCodeOrder (sym (written c))
-    (ordered_altered (rebalance c.moved.result) (λ a. refl) c.args.code.now c.self.inside.accounts.items
+invariant_of-self c = subst AreOfABook (sym (written c))
+    (of_a_book_altered (rebalance c.moved.result) (λ a. refl) (λ a. refl) c.args.code.now c.self.inside.accounts.items
     c.self.invariant)
 
 pub returns-in-Ok-clause-moved : goal.returns-in-Ok-clause-moved
@@ -55,7 +55,7 @@ returns-in-Ok-clause-moved c fits =
     ∙ ap (λ (a : Account). a.balance +ℤ c.args.cents) again in
     (λ i. set items c.in-Ok.at (record { participant = c.index_mut.result.now.participant; balance = sum i }))
     ∙ ap (λ (x : Account). set items c.in-Ok.at (change c.args.cents x)) c.index_mut.ensures.value
-    ∙ altered_at (change c.args.cents) (λ a. refl) c.args.code.now items c.self.invariant c.in-Ok.at at
+    ∙ altered_at (change c.args.cents) (λ a. refl) c.args.code.now items c.self.invariant.ordered c.in-Ok.at at
     c.index_mut.result.now
     ∙ ap (with_move c.args.code.now c.args.cents) same
 

@@ -1,9 +1,9 @@
 use Rattle.std.proofs.Common.{◌∙◌}
-use Rattle.rtgs_ledger.proofs.Loading.{in_order, rising, before, all_queued}
+use Rattle.rtgs_ledger.proofs.Loading.{of_a_book, rising, before, all_queued}
 use Rattle.rtgs_ledger.proofs.ledger.Ledger.load.Goals as goal
 
 pub load-requires : goal.load-requires
-load-requires c = in_order c.requires.0 c.args.core c.requires.1
+load-requires c = of_a_book c.requires.0 c.args.core c.requires.1
 
 pub load-requires-2-clause-rising : goal.load-requires-2-clause-rising
 load-requires-2-clause-rising c = rising c.requires.0 c.args.core c.requires.1
