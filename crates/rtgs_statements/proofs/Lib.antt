@@ -1,5 +1,6 @@
 pub mod Agreement
 pub mod Begins
+pub mod Days
 pub mod Groups
 pub mod Growth
 pub mod Leaving

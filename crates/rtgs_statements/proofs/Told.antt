@@ -1,18 +1,21 @@
 -- The records of a date, as they are read one after another, and the rows of those that a participant is told of.
-use Rattle.std.proofs.Common.{◌≡◌, ◌<◌, ℕ, ◌++◌, Bool, true, false, cond, ◌&&◌, ◌+ℤ◌, pos, List, [], ◌∷◌, map, filter, length, Some, None}
+use Rattle.std.proofs.Common.{◌≡◌, ◌<◌, ◌≤◌, ◌+◌, ℕ, ◌++◌, take, slice_get, arith, Bool, true, false, cond, ◌&&◌, ◌+ℤ◌, pos, List, [], ◌∷◌, map, filter, length, Some, None}
 use Rattle.std.proofs.Common.{refl, sym, ap, subst, ◌∙◌}
-use Rattle.std.proofs.lemmas.List.{length-map}
+use Rattle.std.proofs.lemmas.List.{length-map, take_more}
+use Rattle.std.proofs.lemmas.Option.{slice_get_within, get_or_from_slice_get}
 use Rattle.std.specs.List.{range_with_len}
 use Rattle.std.specs.Str.{bytes_eq}
 use Rattle.rtgs_book.specs.Books.{is_settled}
 use Rattle.rtgs_book.specs.declared.Book.{Book}
 use Rattle.rtgs_book.specs.declared.Posting.{Posting}
 use Rattle.rtgs_book.specs.declared.Order.{Order}
+use Rattle.rtgs_book.specs.declared.Mark.{Mark}
 use Rattle.rtgs_book.specs.Soundness.{IsSound, AreNumbered}
 use Rattle.rtgs_cores.specs.Nexts.{AreListed, date_of_posting, posting_after, order_after, is_posting_after, is_order_after}
+use Rattle.rtgs_cores.specs.Nexts.{mark_after, is_mark_after}
 use Rattle.rtgs_statements.specs.Lines.{row_of_posting, row_of_order, row_text}
 use Rattle.rtgs_statements.specs.declared.line.Line.TheVariants.{Record}
-use Rattle.rtgs_statements.specs.Records.{is_posted_on, is_ordered_on, postings_on, orders_on, postings_of, orders_of}
+use Rattle.rtgs_statements.specs.Records.{is_posted_on, is_ordered_on, is_marked_on, postings_on, orders_on, marks_on, postings_of, orders_of}
 use Rattle.rtgs_statements.specs.Rows.{is_to, is_told_to, posting_row, order_row, posting_rows, order_rows}
 use Rattle.rtgs_statements.specs.Rows.{settled_by}
 use Rattle.rtgs_statements.specs.declared.party.Party.{Party}
@@ -139,3 +142,41 @@ module _ (code : List ℕ) (date number : ℕ) (book : Book) (next : Order) (lis
 pub orders_of_are : (code : List ℕ) (date : ℕ) (os : List Order) → filter (is_told_to code) (orders_on date os)
     ≡ orders_of code date os
 orders_of_are code date os = filter_twice (is_ordered_on date) (is_told_to code) os
+
+-- ---- marks
+
+abbrev pub marks_left : ℕ → ℕ → Book → List Mark
+marks_left date number book = filter (is_mark_after date number) book.marks
+
+pub marks_begin : (date : ℕ) (book : Book) → IsSound book → marks_left date 0 book ≡ marks_on date book.marks
+marks_begin date book sound = all_left (λ (m : Mark). m.number) (λ (m : Mark). m.date) (is_marked_on date)
+    book.marks (numbers_from_one (λ (m : Mark). m.number) book.marks sound.marks_numbered)
+
+module _ (date number : ℕ) (book : Book) where
+  pub mark_splits : (next : Mark) → AreListed (λ (m : Mark). m.number) (λ (m : Mark). m.date) book.marks
+      → mark_after book date number ≡ Some next
+      → marks_left date number book ≡ next ∷ marks_left date next.number book
+  unfolding mark_after
+  mark_splits next listed is = next_splits (λ (m : Mark). m.number) (λ (m : Mark). m.date) (is_marked_on date)
+      number next book.marks listed is
+
+  pub marks_end : mark_after book date number ≡ None → marks_left date number book ≡ []
+  unfolding mark_after
+  marks_end is = next_ends (λ (m : Mark). m.number) (λ (m : Mark). m.date) (is_marked_on date) number book.marks is
+
+  pub mark_is_above : (next : Mark) → mark_after book date number ≡ Some next → number < next.number
+  unfolding mark_after
+  mark_is_above next is = next_above (λ (m : Mark). m.number) (λ (m : Mark). m.date) (is_marked_on date) number
+      next book.marks is
+
+-- ---- codes
+
+pub one_code_more : (codes all more : List (List ℕ)) (i : ℕ) (code : List ℕ) → slice_get all i ≡ Some code
+    → codes ≡ take i all → more ≡ codes ++ code ∷ [] → (more ≡ take (i + 1) all) × (i + 1 ≤ length all)
+one_code_more codes all more i code there before is =
+    let less = slice_get_within all i code there in (
+      is ∙ ap (λ t. t ++ code ∷ []) before
+          ∙ ap (λ c. take i all ++ c ∷ []) (sym (get_or_from_slice_get all i code code there))
+          ∙ sym (take_more all i code less),
+      omega (arith, less),
+    )
