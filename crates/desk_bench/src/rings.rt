@@ -44,13 +44,18 @@ pub fn fill(rt: &HostRuntime, file: &str, queued: u64) -> Result<()>
     begun
 }
 
-/// The rows that settle the rings of a book, and how long the ledger takes to prepare them.
-fn prepare<K: Keeper>(rt: &HostRuntime, keeper: &mut K) -> Result<(Change, Duration)> {
-    let core = match keeper.core(rt.alloc()) {
+/// The ledger of the book that a keeper has.
+fn ledger_of<K: Keeper>(alloc: Global, keeper: &mut K) -> Result<Ledger> {
+    let core = match keeper.core(alloc) {
         Ok(core) => core,
         Err(fault) => return Err(anyhow!("the book: {fault:?}")),
     };
-    let mut ledger = Ledger::load(rt.alloc(), core)?;
+    Ok(Ledger::load(alloc, core)?)
+}
+
+/// The rows that settle the rings of a book, and how long the ledger takes to prepare them.
+fn prepare<K: Keeper>(rt: &HostRuntime, keeper: &mut K) -> Result<(Change, Duration)> {
+    let mut ledger = ledger_of(rt.alloc(), keeper)?;
     let start = Instant::now(rt)?;
     match ledger.prepare(&Command::Resolve, &Found::NOTHING) {
         Ok((_, change)) => Ok((change, start.elapsed(rt)?)),

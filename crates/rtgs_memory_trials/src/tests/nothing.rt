@@ -44,9 +44,18 @@ fn greatest_choice(rt: HostRuntime) -> Result<(), Fail> {
     Ok(())
 }
 
+// The ledger of the book that a keeper has.
+fn ledger_of<K: Keeper>(alloc: Global, keeper: &mut K) -> Result<Ledger, Fail> {
+    let core = match keeper.core(alloc) {
+        Ok(core) => core,
+        Err(fault) => return Err(Fail::from(fault)),
+    };
+    Ok(Ledger::load(alloc, core)?)
+}
+
 // A ledger of two banks, on an open day.
 fn ledger_of_two(alloc: Global) -> Result<Ledger, Fail> {
-    let mut ledger = Ledger::load(alloc, MemoryKeeper::new(alloc).core(alloc)?)?;
+    let mut ledger = ledger_of(alloc, &mut MemoryKeeper::new(alloc))?;
     let commands = [
         adds("ALFA", KEYS[0])?,
         adds("BETA", KEYS[1])?,

@@ -18,9 +18,18 @@ struct Kept {
     keeper: MemoryKeeper,
 }
 
+// The ledger of the book that a keeper has.
+fn ledger_of<K: Keeper>(alloc: Global, keeper: &mut K) -> Result<Ledger, Fail> {
+    let core = match keeper.core(alloc) {
+        Ok(core) => core,
+        Err(fault) => return Err(Fail::from(fault)),
+    };
+    Ok(Ledger::load(alloc, core)?)
+}
+
 // The ledger of a new book.
 fn new_ledger(alloc: Global) -> Result<Ledger, Fail> {
-    Ok(Ledger::load(alloc, MemoryKeeper::new(alloc).core(alloc)?)?)
+    ledger_of(alloc, &mut MemoryKeeper::new(alloc))
 }
 
 // What the keeper finds for the command.
