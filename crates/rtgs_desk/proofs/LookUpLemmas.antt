@@ -37,7 +37,8 @@ pub failed_before : {K : Type 0} (g : Ghosts K) (keeper : K) (core : Core) (desk
     → record { keeper = keeper; core = core } ≡ desk → failed ≡ g.has_failed keeper → failed ≡ true
     → LooksUp g desk desk (Some Failed)
 failed_before {K} g keeper core desk failed view says fails =
-    let gone : g.has_failed desk.keeper ≡ true = ap (λ (s : Seen K). g.has_failed s.keeper) (sym view) ∙ sym says ∙ fails in
+    let gone : g.has_failed desk.keeper ≡ true = ap (λ (s : Seen K). g.has_failed s.keeper) (sym view) ∙ sym says ∙
+        fails in
     record {
       core = refl;
       honest = λ h. h;
@@ -89,8 +90,10 @@ looked g laws X old new result ended looks core works quiet ends = record {
   fault = λ e. absurd (⊎_elim (λ f. let no : ⊥ = cc in no) (λ f. let no : ⊥ = cc in no) ends);
   only_fault = λ no. looks.only_fault quiet;
   failed = λ e. absurd (cc);
-  kinds = λ e. ⊎_elim (λ f. subst (λ o. IfSome o (λ refusal. (refusal ≡ OutOfMemory) ⊎ (refusal ≡ StoreFault))) (sym f) tt)
-      (λ f. subst (λ o. IfSome o (λ refusal. (refusal ≡ OutOfMemory) ⊎ (refusal ≡ StoreFault))) (sym f) (inl refl)) ends;
+  kinds = λ e. ⊎_elim (λ f. subst (λ o. IfSome o (λ refusal. (refusal ≡ OutOfMemory) ⊎ (refusal ≡ StoreFault))) (sym
+      f) tt)
+      (λ f. subst (λ o. IfSome o (λ refusal. (refusal ≡ OutOfMemory) ⊎ (refusal ≡ StoreFault))) (sym f) (inl refl))
+          ends;
 }
 
 module _ {K : Type 0} (g : Ghosts K) (laws : KeeperLaws g) {X : Type 0} (keeper new : K) (core : Core) (old : Seen K)

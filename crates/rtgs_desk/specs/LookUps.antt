@@ -25,4 +25,5 @@ pub record LooksUp {K : Type 0} (g : Ghosts K) (old new : Seen K) (ended : Optio
   pub only_fault : ended ≢ Some StoreFault → g.has_failed new.keeper ≡ g.has_failed old.keeper
   pub failed : g.has_failed old.keeper ≡ true → (ended ≡ Some Failed) × (new ≡ old)
   -- lack of memory, or a fault of the store
-  pub kinds : g.has_failed old.keeper ≡ false → IfSome ended (λ refusal. (refusal ≡ OutOfMemory) ⊎ (refusal ≡ StoreFault))
+  pub kinds : g.has_failed old.keeper ≡ false → IfSome ended (λ refusal. (refusal ≡ OutOfMemory) ⊎ (refusal ≡
+      StoreFault))

@@ -57,7 +57,8 @@ sound_alone xs of = record {
     marks = tt;
     postings = tt;
   };
-  floors = every (λ code. floor (book_of (map participant_of xs)) code ≤ℤ balance (book_of (map participant_of xs)) code)
+  floors = every (λ code. floor (book_of (map participant_of xs)) code ≤ℤ balance (book_of (map participant_of xs))
+      code)
       (λ code. omega (arith, ints)) (accounts (book_of (map participant_of xs)));
   total_fits = let none = nothing (map participant_of xs) (accounts (book_of (map participant_of xs)))
       in omega (arith, ints, none);

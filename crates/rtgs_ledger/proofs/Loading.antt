@@ -21,7 +21,8 @@ own_codes : (book : Book) (ps : List Participant) → map code_of (map (account_
 own_codes book [] = refl
 own_codes book (p ∷ ps) = ap (λ cs. p.code ∷ cs) (own_codes book ps)
 
-own_keys : (book : Book) (ps : List Participant) → map key_of (map (account_of book) ps) ≡ map (λ (p : Participant). p.key)
+own_keys : (book : Book) (ps : List Participant) → map key_of (map (account_of book) ps) ≡ map (λ (p : Participant).
+    p.key)
     ps
 own_keys book [] = refl
 own_keys book (p ∷ ps) = ap (λ ks. p.key ∷ ks) (own_keys book ps)

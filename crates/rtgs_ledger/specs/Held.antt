@@ -22,7 +22,8 @@ pub record Held : Type 0 where
   pub core : Core
   pub room : Room
 
--- The row can be made: what it adds is new, bears the next number, and finds its room. No order becomes queued again, and
+-- The row can be made: what it adds is new, bears the next number, and finds its room. No order becomes queued again,
+-- and
 -- no two participants get a key.
 abbrev pub FindsRoom : Held → RowChange → Type 0
 FindsRoom held (AddParticipant participant) = (find (is_of participant.code) held.core.accounts ≡ None)

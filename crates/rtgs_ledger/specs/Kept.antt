@@ -15,7 +15,8 @@ use Rattle.rtgs_book.specs.Step.{Step}
 use Rattle.rtgs_cores.specs.declared.Core.{Core}
 use Rattle.rtgs_cores.specs.Following.{AreBalanced, core_after}
 
--- What a prepared command is answered, and what its change is: it leads from the book to the one that the command leaves
+-- What a prepared command is answered, and what its change is: it leads from the book to the one that the command
+-- leaves
 -- with this answer, and its rows set the running balances right.
 pub record IsPrepared (old : Book) (core : Core) (command : Command) (answer : Answer) (rows : List RowChange) : Type 0
   where

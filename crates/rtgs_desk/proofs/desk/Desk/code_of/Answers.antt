@@ -1,4 +1,4 @@
-use Rattle.std.proofs.Common.{rules, ap, ◌∙◌}
+use Rattle.std.proofs.Common.{rules}
 use Rattle.rtgs_desk.proofs.HoldingLemmas.{known_participants, participants_held, works_held}
 use Rattle.rtgs_desk.proofs.desk.Desk.code_of.Goals as goal
 

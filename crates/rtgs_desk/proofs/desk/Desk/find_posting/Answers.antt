@@ -1,7 +1,6 @@
-use Rattle.std.proofs.Common.{ap, sym, subst, ◌∙◌, Option, Some}
+use Rattle.std.proofs.Common.{sym, subst, Some}
 use Rattle.rtgs_book.specs.declared.Refusal.{Refusal}
 use Rattle.rtgs_desk.specs.LookUps.{LooksUp}
-use Rattle.rtgs_desk.specs.Seen.{Seen}
 use Rattle.rtgs_desk.proofs.HoldingLemmas.{kept_inside}
 use Rattle.rtgs_desk.proofs.LookUpLemmas.{failed_before, looked_up, not_looked_up}
 use Rattle.rtgs_desk.proofs.desk.Desk.find_posting.Goals as goal
@@ -13,7 +12,8 @@ returns-then-self-clause-looked g c = failed_before g.K.Keeper c.self.inside.kee
 pub returns-in-Ok-clause-looked : goal.returns-in-Ok-clause-looked
 returns-in-Ok-clause-looked g c = looked_up g.K.Keeper
     (record { settled = g.met.K.Keeper.settled; whole = g.met.K.Keeper.whole })
-    c.self.inside.keeper c.find_posting.new.self c.self.inside.ledger.core c.args.self.now c.self.inside.failed c.find_posting.result
+    c.self.inside.keeper c.find_posting.new.self c.self.inside.ledger.core c.args.self.now c.self.inside.failed
+        c.find_posting.result
     c.self.view_is c.self.invariant c.if-self.false
     (record {
       honest = c.find_posting.ensures.honest;
@@ -33,9 +33,11 @@ returns-in-Ok-clause-found g c honest book held = c.in-Ok.ensures.found honest b
 pub returns-in-Err-clause-looked : goal.returns-in-Err-clause-looked
 returns-in-Err-clause-looked g c = subst
     (λ (r : Refusal). LooksUp g.K.Keeper c.args.self.now
-    (record { keeper = c.find_posting.new.self; core = c.self.inside.ledger.core }) (Some r)) (sym c.refused.ensures.refusal)
+    (record { keeper = c.find_posting.new.self; core = c.self.inside.ledger.core }) (Some r)) (sym
+        c.refused.ensures.refusal)
     (not_looked_up g.K.Keeper (record { settled = g.met.K.Keeper.settled; whole = g.met.K.Keeper.whole })
-    c.self.inside.keeper c.find_posting.new.self c.self.inside.ledger.core c.args.self.now c.self.inside.failed c.find_posting.result
+    c.self.inside.keeper c.find_posting.new.self c.self.inside.ledger.core c.args.self.now c.self.inside.failed
+        c.find_posting.result
     c.self.view_is c.self.invariant c.if-self.false
     (record {
       honest = c.find_posting.ensures.honest;

@@ -1,9 +1,8 @@
-use Rattle.std.proofs.Common.{◌≡◌, ◌∙◌, List, ℕ, Option, Some, None, Ok, Err, refl, sym, ap, subst, option_map}
+use Rattle.std.proofs.Common.{◌≡◌, ◌∙◌, List, ℕ, Option, Some, None, Ok, Err, refl, sym, subst, option_map}
 use Rattle.std.specs.Prelude.{IfSome, ok_or}
 use Rattle.rtgs_book.specs.declared.Account.{Account}
 use Rattle.rtgs_book.specs.declared.Book.{Book}
 use Rattle.rtgs_book.specs.declared.Participant.{Participant}
-use Rattle.rtgs_book.specs.declared.Refusal.{Refusal}
 use Rattle.rtgs_book.specs.declared.Refusal.TheVariants.{UnknownParticipant}
 use Rattle.rtgs_book.specs.Balance.{balance}
 use Rattle.rtgs_book.specs.Lookup as lookup
@@ -29,5 +28,6 @@ pub returns-clause-told : goal.returns-clause-told
 returns-clause-told g c book memory works =
     let core = subst (λ (s : Seen g.row.K.Denot). IsCoreOf book s.core) (sym c.self.view_is)
     (remembered c.args.self.now book memory) in
-    c.ok_or.ensures.value ∙ known_account book c.args.code.now c.account.result (c.account.ensures.participant book core)
+    c.ok_or.ensures.value ∙ known_account book c.args.code.now c.account.result (c.account.ensures.participant book
+        core)
     (c.account.ensures.balance book core)

@@ -5,7 +5,6 @@ use Rattle.rtgs_book.specs.declared.Command.TheVariants as command
 use Rattle.rtgs_book.specs.declared.Order.{Order}
 use Rattle.rtgs_book.specs.declared.Posting.{Posting}
 use Rattle.rtgs_book.specs.Lookup.{order_named, posting_named}
-use Rattle.rtgs_cores.specs.declared.Found.{Found}
 use Rattle.rtgs_cores.specs.Cores.{found_for}
 use Rattle.rtgs_desk.specs.LookUps.{LooksUp}
 use Rattle.rtgs_desk.specs.Seen.{Seen}
@@ -68,7 +67,8 @@ returns-clause-looked g c = elim c.match-command.branch [
       w.in_ok-found-in-Post.ensures.looked
   | in_default w ↦ subst (λ (s : Seen g.row.K.Denot). LooksUp g.K.Keeper c.args.self.now s None) (sym w.self-is)
       (looks_at_nothing g.K.Keeper (record { settled = g.met.K.Keeper.settled; whole = g.met.K.Keeper.whole })
-      c.self.inside.keeper c.self.inside.ledger.core c.args.self.now c.self.inside.failed c.self.view_is c.self.invariant
+      c.self.inside.keeper c.self.inside.ledger.core c.args.self.now c.self.inside.failed c.self.view_is
+          c.self.invariant
       c.if-self.false)
 ]
 
@@ -87,7 +87,8 @@ returns-clause-found g c honest book held = elim c.match-command.branch [
   | in-Post+in_ok-found-in-Post w ↦
       let found = w.in_ok-found-in-Post.ensures.found
       (subst (λ (s : Seen g.row.K.Denot). g.K.Keeper.is_honest s.keeper) w.self-is honest) book held in
-      w.found-is ∙ found_posting book w.in-Post.code w.in-Post.reference w.in-Post.cents w.in_ok-found-in-Post.field-0 found
+      w.found-is ∙ found_posting book w.in-Post.code w.in-Post.reference w.in-Post.cents w.in_ok-found-in-Post.field-0
+          found
       ∙ ap (found_for book) (sym w.in-Post.is)
   | in_default w ↦ w.found-is ∙ found_nothing book c.args.command.now w.in_default.not-Post w.in_default.not-Order
       w.in_default.not-Withdraw

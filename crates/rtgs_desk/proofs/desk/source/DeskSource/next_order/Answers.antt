@@ -1,19 +1,20 @@
-use Rattle.std.proofs.Common.{ap, sym, subst, ◌∙◌, Option, Some}
+use Rattle.std.proofs.Common.{sym, subst, Some}
 use Rattle.rtgs_book.specs.declared.Refusal.{Refusal}
 use Rattle.rtgs_desk.specs.LookUps.{LooksUp}
-use Rattle.rtgs_desk.specs.Seen.{Seen}
 use Rattle.rtgs_desk.proofs.HoldingLemmas.{kept_inside}
 use Rattle.rtgs_desk.proofs.LookUpLemmas.{failed_before, looked_up, not_looked_up, reads}
 use Rattle.rtgs_desk.proofs.desk.source.DeskSource.next_order.Goals as goal
 
 pub returns-then-self-clause-read : goal.returns-then-self-clause-read
-returns-then-self-clause-read g c = reads g.K.Keeper _ _ _ (failed_before g.K.Keeper c.self.inside.keeper c.self.inside.ledger.core
+returns-then-self-clause-read g c = reads g.K.Keeper _ _ _ (failed_before g.K.Keeper c.self.inside.keeper
+    c.self.inside.ledger.core
     c.args.self.now c.self.inside.failed c.self.view_is c.self.invariant c.if-self.true)
 
 pub returns-in-Ok-clause-read : goal.returns-in-Ok-clause-read
 returns-in-Ok-clause-read g c = reads g.K.Keeper _ _ _ (looked_up g.K.Keeper
     (record { settled = g.met.K.Keeper.settled; whole = g.met.K.Keeper.whole })
-    c.self.inside.keeper c.next_order.new.self c.self.inside.ledger.core c.args.self.now c.self.inside.failed c.next_order.result
+    c.self.inside.keeper c.next_order.new.self c.self.inside.ledger.core c.args.self.now c.self.inside.failed
+        c.next_order.result
     c.self.view_is c.self.invariant c.if-self.false
     (record {
       honest = c.next_order.ensures.honest;
@@ -33,9 +34,11 @@ returns-in-Ok-clause-told g c honest book held = c.in-Ok.ensures.found honest bo
 pub returns-in-Err-clause-read : goal.returns-in-Err-clause-read
 returns-in-Err-clause-read g c = reads g.K.Keeper _ _ _ (subst
     (λ (r : Refusal). LooksUp g.K.Keeper c.args.self.now
-    (record { keeper = c.next_order.new.self; core = c.self.inside.ledger.core }) (Some r)) (sym c.refused.ensures.refusal)
+    (record { keeper = c.next_order.new.self; core = c.self.inside.ledger.core }) (Some r)) (sym
+        c.refused.ensures.refusal)
     (not_looked_up g.K.Keeper (record { settled = g.met.K.Keeper.settled; whole = g.met.K.Keeper.whole })
-    c.self.inside.keeper c.next_order.new.self c.self.inside.ledger.core c.args.self.now c.self.inside.failed c.next_order.result
+    c.self.inside.keeper c.next_order.new.self c.self.inside.ledger.core c.args.self.now c.self.inside.failed
+        c.next_order.result
     c.self.view_is c.self.invariant c.if-self.false
     (record {
       honest = c.next_order.ensures.honest;
