@@ -47,16 +47,28 @@ fn adds_mark(number: u64, day: BusinessDate) -> RowChange {
     })
 }
 
-/// Adds a posting, an order and a mark of each of these numbers, all of one day.
-fn adds_each(alloc: Global, numbers: &[u64], day: u32) -> Result<Change, Fail> {
-    let day = date(day)?;
-    let mut rows = Vec::new(alloc);
-    for number in numbers {
-        rows.push(adds_posting(alloc, *number, Some(day))?)?;
-        rows.push(adds_order(alloc, *number, day)?)?;
-        rows.push(adds_mark(*number, day))?;
-    }
+/// Adds a posting, an order and a mark of this number and day.
+fn adds_three(alloc: Global, number: u64, day: BusinessDate) -> Result<Change, Fail> {
+    let rows = vec![in alloc;
+        adds_posting(alloc, number, Some(day))?,
+        adds_order(alloc, number, day)?,
+        adds_mark(number, day),
+    ]?;
     Ok(Rows::from_vec(rows))
+}
+
+/// Keeps a posting, an order and a mark of each of these numbers, all of one day.
+fn keep_each<K: Keeper>(
+    alloc: Global,
+    keeper: &mut K,
+    numbers: &[u64],
+    day: u32,
+) -> Result<(), Fail> {
+    let day = date(day)?;
+    for number in numbers {
+        keeper.commit(&adds_three(alloc, *number, day)?)?;
+    }
+    Ok(())
 }
 
 /// The numbers of the posting, the order and the mark that come next on a day.
@@ -95,8 +107,8 @@ fn passes_over<K: Keeper + Drop>(
     last: u64,
 ) -> Result<(), Fail> {
     let mut keeper = keeper;
-    keeper.commit(&adds_each(rt.alloc(), earlier, FRIDAY)?)?;
-    keeper.commit(&adds_each(rt.alloc(), &[last], TUESDAY)?)?;
+    keep_each(rt.alloc(), &mut keeper, earlier, FRIDAY)?;
+    keep_each(rt.alloc(), &mut keeper, &[last], TUESDAY)?;
     for number in 0..last {
         assert_eq!(rt;
             nexts(&mut keeper, TUESDAY, number)?,
@@ -146,8 +158,8 @@ fn reaches_the_last<K: Keeper + Drop>(
     keeper: K,
 ) -> Result<(), Fail> {
     let mut keeper = keeper;
-    keeper.commit(&adds_each(rt.alloc(), &[1], FRIDAY)?)?;
-    keeper.commit(&adds_each(rt.alloc(), &[LAST], TUESDAY)?)?;
+    keep_each(rt.alloc(), &mut keeper, &[1], FRIDAY)?;
+    keep_each(rt.alloc(), &mut keeper, &[LAST], TUESDAY)?;
     for number in [0, 1, 2, LAST - 1] {
         assert_eq!(rt;
             nexts(&mut keeper, TUESDAY, number)?,
