@@ -145,9 +145,9 @@ fn records_of_earlier_days_are_passed_over(rt: HostRuntime) -> Result<(), Fail> 
     let alloc = rt.alloc();
     for earlier in [0, 1, 2, 3, 7, 8, 9, 20] {
         let numbers = up_to(alloc, earlier)?;
-        let memory = MemoryKeeper::new(alloc);
-        passes_over(&rt, memory, numbers.as_slice(), earlier + 1)?;
-        passes_over(&rt, new_keeper(alloc)?, numbers.as_slice(), earlier + 1)?;
+        let last = earlier.saturating_add(1);
+        passes_over(&rt, MemoryKeeper::new(alloc), numbers.as_slice(), last)?;
+        passes_over(&rt, new_keeper(alloc)?, numbers.as_slice(), last)?;
     }
     Ok(())
 }
