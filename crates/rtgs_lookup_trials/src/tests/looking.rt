@@ -1,5 +1,5 @@
 //! Records found by their names, and the next records of a date, in tables in memory.
-use super::setting::{MONDAY, TUESDAY, code, date, new_keeper, reference};
+use super::setting::{FRIDAY, MONDAY, TUESDAY, code, date, new_keeper, reference};
 use rtgs_book::Fault;
 use rtgs_keeper::Keeper;
 use rtgs_money::BusinessDate;
@@ -7,9 +7,6 @@ use rtgs_tables::SqlKeeper;
 use sqlite::MemStore;
 use std::alloc::Global;
 use std::test::Fail;
-
-/// The Friday before the week.
-const FRIDAY: u32 = 20240301;
 
 /// The day after it, on which nothing opens.
 const SATURDAY: u32 = 20240302;

@@ -5,6 +5,9 @@ use sqlite::{Connection, MemStore};
 use std::alloc::Global;
 use std::test::Fail;
 
+/// The Friday before the week.
+pub const FRIDAY: u32 = 20240301;
+
 /// The first day of the week.
 pub const MONDAY: u32 = 20240304;
 
