@@ -10,8 +10,8 @@ use crate::not_vacant::NotVacant;
 use crate::unread::Unread;
 use rtgs_book::Fault;
 
-/// What refused a book's file. All but the last are made of the system's answers alone. `B` is what is left of a book
-/// that was closed.
+/// What refused a book's file. All but the last are made of the system's answers alone. `B` is what is left of a file
+/// that was given up.
 #[derive(Drop)]
 pub(crate) enum Cause<B> {
     /// The lock was not taken.

@@ -1,13 +1,13 @@
 //! What is left of a book's file that was closed.
 ghost use Rattle.std.specs.Prelude.{◌≡◌};
-ghost use Rattle.rtgs_book_file.specs.Closed.{LeavesClosed, LeavesNoMore};
+ghost use Rattle.rtgs_book_file.specs.Closed.{LeavesClosed};
 
 use crate::held_lock::HeldLock;
 use crate::locked::Locked;
 use sqlite::{Connection, FileFrom, FileStore, Files, Start};
 
-/// What is left of a book's file that was closed, and its lock. Only to close the store makes one. As it is dropped,
-/// the files are let go, and then the lock.
+/// What is left of a book's file that was closed, and its lock. Only to copy the store's log makes one, or to fail at
+/// it. As it is dropped, the files are let go, and then the lock.
 #[derive(Drop)]
 pub struct ClosedBook<S: Start> {
     pub(crate) files: Files<FileFrom<S>>,
@@ -24,19 +24,6 @@ impl<S: Start> ClosedBook<S> {
         let lock = lock.into_locked();
         ClosedBook { files, lock }
     }
-
-    /// Leaves the files as they are.
-    pub(crate) fn given_up(
-        conn: Connection<FileStore<FileFrom<S>>>,
-        lock: HeldLock,
-    ) -> ClosedBook<S>
-        ensures given_up { LeavesNoMore conn result.files }
-        ensures held { result.lock ≡ lock.locked }
-    {
-        let files = files_given_up(conn);
-        let lock = lock.into_locked();
-        ClosedBook { files, lock }
-    }
 }
 
 // The files of a store, once the log was copied into the file.
@@ -47,11 +34,4 @@ fn copied_files<S: Start>(conn: Connection<FileStore<FileFrom<S>>>) -> Files<Fil
         Ok(files) => files,
         Err((_, store)) => store.close(),
     }
-}
-
-// The files of a store, as they are.
-fn files_given_up<S: Start>(conn: Connection<FileStore<FileFrom<S>>>) -> Files<FileFrom<S>>
-    ensures { LeavesNoMore conn result }
-{
-    conn.into_store().close()
 }

@@ -15,6 +15,7 @@ use crate::book_lock::BookLock;
 use crate::cause::Cause;
 use crate::closed_book::ClosedBook;
 use crate::finished_book::FinishedBook;
+use crate::given_up_book::GivenUpBook;
 use crate::held_lock::HeldLock;
 use crate::let_go::LetGo;
 use crate::looked_at::LookedAt;
@@ -95,7 +96,7 @@ impl<K: Keeper> OpenBook<K> {
 fn open_book<S: Start>(
     rt: &HostRuntime,
     lock: BookLock<'_, S>,
-) -> Result<OpenBook<FileKeeper<S>>, Cause<LetGo<S>>>
+) -> Result<OpenBook<FileKeeper<S>>, Cause<GivenUpBook<S>>>
     ensures opened { IfOk result (λ book. HasCleanDisk (file_state book.desk.keeper.conn)
         → WasOpened ⟦<FileKeeper<S> as Keeper>⟧ (image_at S.Start) book.desk book.desk.keeper.conn) }
     ensures held { IfOk result (λ book. book.lock.locked ≡ lock.entry.locked) }
@@ -110,7 +111,7 @@ fn open_book<S: Start>(
 fn open_desk<S: Start>(
     rt: &HostRuntime,
     file: LookedAt<'_, S>,
-) -> Result<OpenBook<FileKeeper<S>>, Cause<LetGo<S>>>
+) -> Result<OpenBook<FileKeeper<S>>, Cause<GivenUpBook<S>>>
     ensures opened { IfOk result (λ book. HasCleanDisk (file_state book.desk.keeper.conn)
         → WasOpened ⟦<FileKeeper<S> as Keeper>⟧ (image_at S.Start) book.desk book.desk.keeper.conn) }
     ensures held { IfOk result (λ book. book.lock.locked ≡ file.entry.lock.locked) }
@@ -121,14 +122,17 @@ fn open_desk<S: Start>(
     match rtgs_stored_desk::open(rt.alloc(), conn) {
         Ok(desk) => Ok(OpenBook { desk, lock }),
         Err((fault, keeper)) => {
-            let closed = ClosedBook::given_up(keeper.into_connection(), lock);
-            Err(Cause::GivenUp(fault, closed.let_go()))
+            let left = GivenUpBook::of(keeper.into_connection(), lock);
+            Err(Cause::GivenUp(fault, left))
         }
     }
 }
 
 // Makes the tables of a new book in a file whose lock was taken, and closes it.
-fn make_book<S: Start>(rt: &HostRuntime, lock: BookLock<'_, S>) -> Result<LetGo<S>, Cause<LetGo<S>>>
+fn make_book<S: Start>(
+    rt: &HostRuntime,
+    lock: BookLock<'_, S>,
+) -> Result<LetGo<S>, Cause<GivenUpBook<S>>>
     ensures made { IfOk result (λ closed.
         WasMade ⟦<FileKeeper<S> as Keeper>⟧ (λ keeper. keeper.conn) (image_at S.Start) closed.files.value) }
     ensures refused { IfErr result (BarsBook ⟦<FileKeeper<S> as Keeper>⟧ (λ keeper. keeper.conn)
@@ -142,7 +146,7 @@ fn make_book<S: Start>(rt: &HostRuntime, lock: BookLock<'_, S>) -> Result<LetGo<
 fn make_tables<S: Start>(
     rt: &HostRuntime,
     file: LookedAt<'_, S>,
-) -> Result<LetGo<S>, Cause<LetGo<S>>>
+) -> Result<LetGo<S>, Cause<GivenUpBook<S>>>
     ensures made { IfOk result (λ closed.
         WasMade ⟦<FileKeeper<S> as Keeper>⟧ (λ keeper. keeper.conn) (image_at S.Start) closed.files.value) }
     ensures refused { IfErr result (BarsBook ⟦<FileKeeper<S> as Keeper>⟧ (λ keeper. keeper.conn)
@@ -151,6 +155,6 @@ fn make_tables<S: Start>(
     let (conn, lock) = connect(rt, file)?;
     match rtgs_stored_desk::make(conn) {
         Ok(made) => Ok(ClosedBook::copied(made, lock).let_go()),
-        Err((fault, left)) => Err(Cause::GivenUp(fault, ClosedBook::given_up(left, lock).let_go())),
+        Err((fault, left)) => Err(Cause::GivenUp(fault, GivenUpBook::of(left, lock))),
     }
 }

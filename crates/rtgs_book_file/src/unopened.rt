@@ -4,7 +4,7 @@ ghost use Rattle.rtgs_book_file.specs.Causes.{fault_of_cause};
 
 use crate::cause::Cause;
 use crate::file_fault::FileFault;
-use crate::let_go::LetGo;
+use crate::given_up_book::GivenUpBook;
 use sqlite::Start;
 use std::fmt;
 
@@ -15,12 +15,12 @@ use std::fmt;
 #[derive(Drop)]
 pub struct Unopened<S: Start> {
     fault: FileFault,
-    cause: Cause<LetGo<S>>,
+    cause: Cause<GivenUpBook<S>>,
 }
 
 impl<S: Start> Unopened<S> {
     /// No desk was opened, for this.
-    pub(crate) fn of(cause: Cause<LetGo<S>>) -> Unopened<S>
+    pub(crate) fn of(cause: Cause<GivenUpBook<S>>) -> Unopened<S>
         ensures cause { result.cause ≡ cause }
         ensures told { result.fault ≡ fault_of_cause cause }
     {

@@ -11,18 +11,24 @@ use Rattle.rtgs_desk.specs.Seen.{Seen}
 use Rattle.rtgs_desk_lines.specs.Texts.{Prints}
 use Rattle.rtgs_desk_lines.specs.declared.printed.Printed.{Printed}
 use Rattle.rtgs_exchange.specs.Batches.{StopsAfter}
-use Rattle.rtgs_exchange.specs.OrderFile.{IsOrderFile}
 use Rattle.rtgs_exchange.specs.declared.batch_result.RowReply.{RowReply}
 use Rattle.rtgs_exchange.specs.declared.order_row.OrderRow.{OrderRow}
 use Rattle.rtgs_book_file.specs.OverFile.{OverFile}
 use Rattle.rtgs_desk_cli.specs.Did.{IsIdle, IsRead, IsSent, IsServed, IsSubmitted}
-use Rattle.rtgs_desk_cli.specs.Runs.{IsClosed, IsImported, server_text, stop_of_desk}
-use Rattle.rtgs_desk_cli.specs.declared.touched.Touched.{Touched}
+use Rattle.rtgs_desk_cli.specs.Runs.{AreReadFrom, IsClosed, IsImported, TakesAt, server_text, stop_of_desk}
+use Rattle.rtgs_desk_cli.specs.declared.met.Met.{Met}
+use Rattle.rtgs_desk_cli.specs.declared.touched.Touched.TheVariants as traces
 
 -- what is so of each book and what was done with it, is so of these
 pub when_done : {B T E : Type 0} (finished : Result (B × T) E) (P : B × T → Type 0) → IfOk finished P → (book : B)
     (done : T) → finished ≡ Ok (book, done) → P (book, done)
 when_done finished P all book done is = subst (λ r. IfOk r P) is all
+
+-- two things that are so of what was done are so together
+pub both : {T E : Type 0} (result : Result T E) (P Q : T → Type 0) → IfOk result P → IfOk result Q
+    → IfOk result (λ done. P done × Q done)
+both (Ok done) P Q one two = (one, two)
+both (Err why) P Q one two = tt
 
 -- where this refusal is the only one, what is so of it is so of any
 pub refused_as : {T E : Type 0} (result : Result T E) (why : E) (S : Type 0) (P : E → Type 0)
@@ -69,54 +75,65 @@ module _ {K B U C E : Type 0} (file : OverFile K U C) where
     read_with text_of reading finished all book done is =
         when_done finished (λ p. IsRead file text_of reading p.1 (desk_of p.0)) all book done is
 
-    module _ {A V W : Type 0} {touched : Touched A U C} (finished : Result (B × Result V W) E) (book : B)
-        (done : Result V W) (is : finished ≡ Ok (book, done)) (closed : IsClosed file (desk_of book) touched) where
+    module _ {V W : Type 0} (finished : Result (B × (Result V W × Met)) E) (book : B) (done : Result V W)
+        (beside : Met) (is : finished ≡ Ok (book, (done, beside))) (closed : C)
+        (shut : file.was_closed (desk_of book) closed) where
       -- the book to which the rows of a batch were sent
-      pub imported_with : (sender : List ℕ) (rows_of : V → List OrderRow) (replies_of : V → List RowReply)
-          (stop_of : V → Option Refusal)
-          → IfOk finished (λ p. IfOk p.1 (λ it. (bytes : List ℕ) × IsOrderFile bytes (rows_of it)))
-          → IfOk finished (λ p. IfOk p.1 (λ it.
+      pub imported_with : (A : Type 0) (sender : List ℕ) (rows_of : V → List OrderRow) (replies_of : V → List RowReply)
+          (stop_of : V → Option Refusal) → IfOk finished (λ p. IfOk p.1.0 (λ it. AreReadFrom p.1.1 (rows_of it)))
+          → IfOk finished (λ p. IfOk p.1.0 (λ it.
           StopsAfter (length (replies_of it)) (length (rows_of it)) (stop_of it)))
-          → IfOk finished (λ p. IfOk p.1 (λ it.
+          → IfOk finished (λ p. IfOk p.1.0 (λ it.
           IsSent file sender (rows_of it) (replies_of it) (stop_of it) (desk_of p.0)))
-          → (it : V) → done ≡ Ok it → IsImported file touched sender (rows_of it) (replies_of it) (stop_of it)
-      imported_with sender rows_of replies_of stop_of rows stops sent it well =
-          let so : (P : B → V → Type 0) → IfOk finished (λ p. IfOk p.1 (P p.0)) → P book it = λ P all.
-          subst (λ r. IfOk r (P book)) well (when_done finished (λ p. IfOk p.1 (P p.0)) all book done is) in (
+          → (it : V) → done ≡ Ok it
+          → IsImported {A = A} file (traces.Book closed beside) sender (rows_of it) (replies_of it) (stop_of it)
+      imported_with A sender rows_of replies_of stop_of rows stops sent it well =
+          let so : (P : B → Met → V → Type 0) → IfOk finished (λ p. IfOk p.1.0 (P p.0 p.1.1)) → P book beside it
+          = λ P all. subst (λ r. IfOk r (P book beside)) well
+          (when_done finished (λ p. IfOk p.1.0 (P p.0 p.1.1)) all book (done, beside) is) in (
             desk_of book,
-            closed,
-            so (λ book it. IsSent file sender (rows_of it) (replies_of it) (stop_of it) (desk_of book)) sent,
-            so (λ _ it. (bytes : List ℕ) × IsOrderFile bytes (rows_of it)) rows,
-            so (λ _ it. StopsAfter (length (replies_of it)) (length (rows_of it)) (stop_of it)) stops,
+            (closed, refl, shut),
+            so (λ book _ it. IsSent file sender (rows_of it) (replies_of it) (stop_of it) (desk_of book)) sent,
+            so (λ _ beside it. AreReadFrom beside (rows_of it)) rows,
+            so (λ _ _ it. StopsAfter (length (replies_of it)) (length (rows_of it)) (stop_of it)) stops,
           )
 
       -- the book with which nothing was done
-      pub idle_with : (Why : W → Type 0) → IfOk finished (λ p. IfErr p.1 (λ why. Why why × IsIdle file (desk_of p.0)))
-          → IfErr done (λ why. Why why × (left : Seen K) × IsClosed file left touched × IsIdle file left)
-      idle_with Why all = IfErr-weaker done _ _ (λ why it. (it.0, desk_of book, closed, it.1))
-          (when_done finished (λ p. IfErr p.1 (λ why. Why why × IsIdle file (desk_of p.0))) all book done is)
+      pub idle_with : (A : Type 0) (Why : Met → W → Type 0)
+          → IfOk finished (λ p. IfErr p.1.0 (λ why. Why p.1.1 why × IsIdle file (desk_of p.0)))
+          → IfErr done (λ why. Why beside why × (left : Seen K)
+          × IsClosed {A = A} file left beside (traces.Book closed beside) × IsIdle file left)
+      idle_with A Why all = IfErr-weaker done _ _ (λ why it. (it.0, desk_of book, (closed, refl, shut), it.1))
+          (when_done finished (λ p. IfErr p.1.0 (λ why. Why p.1.1 why × IsIdle file (desk_of p.0))) all book
+          (done, beside) is)
 
-      pub idle_for : (Why : W → Type 0) → IfOk finished (λ p. IfErr p.1 (λ why. Why why × IsIdle file (desk_of p.0)))
-          → (why : W) → done ≡ Err why → Why why × (left : Seen K) × IsClosed file left touched × IsIdle file left
-      idle_for Why all why refused =
-          subst (λ r. IfErr r (λ why. Why why × (left : Seen K) × IsClosed file left touched × IsIdle file left)) refused
-          (idle_with Why all)
+      pub idle_for : (A : Type 0) (Why : Met → W → Type 0)
+          → IfOk finished (λ p. IfErr p.1.0 (λ why. Why p.1.1 why × IsIdle file (desk_of p.0)))
+          → (why : W) → done ≡ Err why → Why beside why × (left : Seen K)
+          × IsClosed {A = A} file left beside (traces.Book closed beside) × IsIdle file left
+      idle_for A Why all why refused = when_refused done (λ why. Why beside why × (left : Seen K)
+          × IsClosed {A = A} file left beside (traces.Book closed beside) × IsIdle file left) (idle_with A Why all) why
+          refused
 
-    module _ {A W : Type 0} {touched : Touched A U C} (finished : Result (B × Result Printed W) E) (book : B)
-        (done : Result Printed W) (is : finished ≡ Ok (book, done)) (closed : IsClosed file (desk_of book) touched)
-        (port count : ℕ) (old new : Option (List ℕ)) where
+    module _ {W : Type 0} (finished : Result (B × (Result Printed W × Met)) E) (book : B)
+        (done : Result Printed W) (beside : Met) (is : finished ≡ Ok (book, (done, beside))) (closed : C)
+        (shut : file.was_closed (desk_of book) closed) (port count : ℕ) (old new : Option (List ℕ)) where
       -- what a server whose desk failed, or did not, has to print, and where it stops
       abbrev IsSaid : Bool → Printed → Type 0
       IsSaid failed printed = Prints (server_text port count failed) (stop_of_desk failed) printed old new
 
       -- the book whose desk was served
-      pub served_with : (operator : List ℕ) → IfOk finished (λ p. IfOk p.1 (λ printed.
+      pub served_with : (A : Type 0) (operator : List ℕ) → IfOk finished (λ p. IfOk p.1.0 (λ printed.
           IsServed file operator (desk_of p.0) × IsSaid (file.keeper.has_failed (desk_of p.0).keeper) printed))
-          → IfOk done (λ printed. (text : List ℕ) × (stopped : Option Refusal) × ((left : Seen K)
-          × IsClosed file left touched × IsServed file operator left
+          → IfOk finished (λ p. IfOk p.1.0 (λ printed. TakesAt port count p.1.1 printed old new))
+          → IfOk done (λ printed. ((text : List ℕ) × (stopped : Option Refusal) × ((left : Seen K)
+          × IsClosed {A = A} file left beside (traces.Book closed beside) × IsServed file operator left
           × (text ≡ server_text port count (file.keeper.has_failed left.keeper))
           × (stopped ≡ stop_of_desk (file.keeper.has_failed left.keeper))) × Prints text stopped printed old new)
-      served_with operator all =
-          IfOk-weaker done _ _ (λ printed it. (_, _, (desk_of book, closed, it.0, refl, refl), it.1))
-          (when_done finished (λ p. IfOk p.1 (λ printed. IsServed file operator (desk_of p.0)
-          × IsSaid (file.keeper.has_failed (desk_of p.0).keeper) printed)) all book done is)
+          × TakesAt port count beside printed old new)
+      served_with A operator all takes = both done _ _
+          (IfOk-weaker done _ _ (λ printed it. (_, _, (desk_of book, (closed, refl, shut), it.0, refl, refl), it.1))
+          (when_done finished (λ p. IfOk p.1.0 (λ printed. IsServed file operator (desk_of p.0)
+          × IsSaid (file.keeper.has_failed (desk_of p.0).keeper) printed)) all book (done, beside) is))
+          (when_done finished (λ p. IfOk p.1.0 (λ printed. TakesAt port count p.1.1 printed old new)) takes book
+          (done, beside) is)

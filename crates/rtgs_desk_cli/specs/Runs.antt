@@ -1,6 +1,8 @@
 -- What a run has to print for its request, why it is refused, and what it leaves on its two writers.
 use Rattle.std.specs.Prelude.{◌≡◌, ◌≢◌, ◌⊎◌, ◌++◌, ◌∷◌, [], ℕ, Bool, true, false, List, Option, None, Ok, Err}
 use Rattle.std.specs.Prelude.{length, Some, Result, if◌then◌else◌}
+use Rattle.std.specs.Io.KnownBytes.{Appends}
+use Rattle.std.specs.IoError.{error_kind}
 use Rattle.clap.specs.Words.{kind_of}
 use Rattle.clap.specs.declared.error.Error.{Error}
 use Rattle.clap.specs.declared.error.kind.ErrorKind.{ErrorKind}
@@ -12,9 +14,7 @@ use Rattle.rtgs_book.specs.declared.refusal.Refusal.TheVariants.{OutOfMemory, Fa
 use Rattle.rtgs_desk.specs.Replies.{answers_its_kind}
 use Rattle.rtgs_desk.specs.Seen.{Seen}
 use Rattle.rtgs_exchange.specs.Batches.{StopsAfter}
-use Rattle.rtgs_exchange.specs.OrderFile.{IsOrderFile, IsFaultOf}
 use Rattle.rtgs_exchange.specs.Results.{results_text}
-use Rattle.rtgs_exchange.specs.declared.batch_fault.BatchFault.{BatchFault}
 use Rattle.rtgs_exchange.specs.declared.batch_result.RowReply.{RowReply}
 use Rattle.rtgs_exchange.specs.declared.order_row.OrderRow.{OrderRow}
 use Rattle.rtgs_desk_requests.specs.Requests.{Reads}
@@ -29,32 +29,51 @@ use Rattle.rtgs_desk_lines.specs.declared.done.Done.TheVariants.{Made, Answered,
 use Rattle.rtgs_desk_lines.specs.declared.ended.Ended.{Ended}
 use Rattle.rtgs_desk_lines.specs.declared.ended.Ended.TheVariants as ended
 use Rattle.rtgs_desk_lines.specs.declared.printed.Printed.{Printed}
+use Rattle.rtgs_desk_lines.specs.declared.printed.Printed.TheVariants.{Whole}
 use Rattle.rtgs_desk_lines.specs.declared.failure.Failure.{Failure}
 use Rattle.rtgs_desk_lines.specs.declared.failure.Failure.TheVariants.{Form, Refused}
-use Rattle.rtgs_desk_lines.specs.declared.failure.Failure.TheVariants.{Orders, OrdersTooLong, NoOrders, NoListen}
 use Rattle.rtgs_book_file.specs.OverFile.{OverFile}
+use Rattle.rtgs_desk_cli.specs.declared.met.Met.{Met}
+use Rattle.rtgs_desk_cli.specs.declared.met.Met.TheVariants as met
 use Rattle.rtgs_desk_cli.specs.declared.touched.Touched.{Touched}
 use Rattle.rtgs_desk_cli.specs.declared.touched.Touched.TheVariants as traces
-use Rattle.rtgs_desk_cli.specs.Causes.{failure_of_file}
+use Rattle.rtgs_desk_cli.specs.Causes.{failure_of_file, failure_of_listening, AreRowsOf, RefusesRows}
 use Rattle.rtgs_desk_cli.specs.Did.{IsSubmitted, IsSent, IsRead, IsServed, IsIdle}
 
 -- a line with its end
 abbrev pub ended_line : List ℕ → List ℕ
 ended_line line = line ++ 10 ∷ []
 
--- The file of orders could not be read, or is too long; its bytes are no order file; or memory is wanting.
-abbrev pub IsNotSent : Failure → Type 0
-IsNotSent why = (why ≡ NoOrders) ⊎ ((why ≡ OrdersTooLong) ⊎ ((why ≡ Refused OutOfMemory)
-    ⊎ ((bytes : List ℕ) × (fault : BatchFault) × IsFaultOf bytes fault × (why ≡ Orders fault))))
+-- the run met a file of orders, and these are its rows, as it was read
+abbrev pub AreReadFrom : Met → List OrderRow → Type 0
+AreReadFrom (met.Orders read) rows = AreRowsOf (λ bytes. bytes.items) read.value rows
+AreReadFrom _ rows = ⊥
 
--- the port cannot be had, or memory is wanting
-abbrev pub IsNotListening : Failure → Type 0
-IsNotListening why = (why ≡ NoListen) ⊎ (why ≡ Refused OutOfMemory)
+-- the run met a file of orders, and what reading it answered refuses it so
+abbrev pub IsNotSent : Met → Failure → Type 0
+IsNotSent (met.Orders read) why = RefusesRows (λ bytes. bytes.items) read.value why
+IsNotSent _ why = ⊥
+
+-- the run did not have its port, and what listening answered is told so
+abbrev pub IsNotListening : Met → Failure → Type 0
+IsNotListening (met.NoPort error) why = why ≡ failure_of_listening (error_kind error.value)
+IsNotListening _ why = ⊥
 
 -- that connections are taken on this port, and then how many were served, unless the desk has failed
 abbrev pub server_text : ℕ → ℕ → Bool → List ℕ
 server_text port count failed = ended_line (line_of (Listening port))
     ++ (if failed then [] else ended_line (line_of (Served count)))
+
+-- Of so many connections on a port some are left. None is where all was printed; and all are, where the line that says
+-- on which port they are taken was not printed whole.
+abbrev pub TakesAsTold : ℕ → ℕ → ℕ → Printed → Option (List ℕ) → Option (List ℕ) → Type 0
+TakesAsTold port count left printed old new = (printed ≡ Whole → left ≡ 0)
+    × ((left ≡ count) ⊎ ((rest : List ℕ) × Appends old new (ended_line (line_of (Listening port)) ++ rest)))
+
+-- the same of the port that a run met
+abbrev pub TakesAt : ℕ → ℕ → Met → Printed → Option (List ℕ) → Option (List ℕ) → Type 0
+TakesAt port count (met.Port left) printed old new = TakesAsTold port count left.value.left printed old new
+TakesAt port count _ printed old new = ⊥
 
 -- a server stops where its desk has failed
 abbrev pub stop_of_desk : Bool → Option Refusal
@@ -80,6 +99,11 @@ IsExplained what contents told (ended.Misused sent) out out' err err' =
     (is_help what ≡ false) × (what ≢ kind.OutOfMemory) × ((text : List ℕ) × IsTold sent (told err) (told err') text)
     × (out' ≡ out)
 
+-- what a run met beside the file of its book
+abbrev pub met_of : {A U C : Type 0} → Touched A U C → Met
+met_of (traces.Book closed beside) = beside
+met_of _ = met.Nothing
+
 module _ {A K U C : Type 0} (book_file : OverFile K U C) where
   -- no desk was opened over the file, and what is told is what refused it
   abbrev pub IsNotOpened : Touched A U C → Failure → Type 0
@@ -91,9 +115,9 @@ module _ {A K U C : Type 0} (book_file : OverFile K U C) where
   IsNotMade touched why = (unmade : U) × (touched ≡ traces.Refused unmade) × book_file.was_unmade unmade
       × (why ≡ failure_of_file (book_file.fault_of unmade))
 
-  -- the desk was left so, and then the file was closed, which is this one
-  abbrev pub IsClosed : Seen K → Touched A U C → Type 0
-  IsClosed left touched = (closed : C) × (touched ≡ traces.Book closed) × book_file.was_closed left closed
+  -- the desk was left so, and then the file was closed, which is this one; and beside it the run met this
+  abbrev pub IsClosed : Seen K → Met → Touched A U C → Type 0
+  IsClosed left beside touched = (closed : C) × (touched ≡ traces.Book closed beside) × book_file.was_closed left closed
 
   -- the file was not touched
   abbrev pub IsUntouched : Touched A U C → Type 0
@@ -102,26 +126,27 @@ module _ {A K U C : Type 0} (book_file : OverFile K U C) where
   -- the rows of an order file were submitted, with these replies, and the batch stopped so, if it did
   abbrev pub IsImported : Touched A U C → List ℕ → List OrderRow → List RowReply → Option Refusal → Type 0
   IsImported touched sender rows replies stopped =
-      (left : Seen K) × IsClosed left touched × IsSent book_file sender rows replies stopped left
-      × ((bytes : List ℕ) × IsOrderFile bytes rows) × StopsAfter (length replies) (length rows) stopped
+      (left : Seen K) × IsClosed left (met_of touched) touched × IsSent book_file sender rows replies stopped left
+      × AreReadFrom (met_of touched) rows × StopsAfter (length replies) (length rows) stopped
 
   -- What a run with this request has to print, and where its batch stopped: the line of what it did, the results of its
   -- batch, the text that it read, or the lines of its server.
   abbrev pub HasToPrint : Request → Touched A U C → List ℕ → Option Refusal → Type 0
   HasToPrint (Make file) touched text stopped =
-      ((made : C) × (touched ≡ traces.Book made) × book_file.was_made made)
+      ((made : C) × (touched ≡ traces.Book made met.Nothing) × book_file.was_made made)
       × (text ≡ ended_line (line_of Made)) × (stopped ≡ None)
   HasToPrint (Submit file command) touched text stopped =
-      (answer : Answer) × (left : Seen K) × IsClosed left touched × IsSubmitted book_file command (Ok answer) left
+      (answer : Answer) × (left : Seen K) × IsClosed left met.Nothing touched
+      × IsSubmitted book_file command (Ok answer) left
       × (answers_its_kind command answer ≡ true) × (text ≡ ended_line (line_of (Answered answer))) × (stopped ≡ None)
   HasToPrint (Import file sender orders) touched text stopped =
       (rows : List OrderRow) × (replies : List RowReply) × IsImported touched sender rows replies stopped
       × (text ≡ results_text rows replies stopped)
   HasToPrint (Read file reading) touched text stopped =
-      (left : Seen K) × IsClosed left touched × IsRead book_file (λ read. read) reading (Ok text) left
+      (left : Seen K) × IsClosed left met.Nothing touched × IsRead book_file (λ read. read) reading (Ok text) left
       × (stopped ≡ None)
   HasToPrint (Serve file port count operator) touched text stopped =
-      (left : Seen K) × IsClosed left touched × IsServed book_file operator left
+      (left : Seen K) × IsClosed left (met_of touched) touched × IsServed book_file operator left
       × (text ≡ server_text port count (book_file.keeper.has_failed left.keeper))
       × (stopped ≡ stop_of_desk (book_file.keeper.has_failed left.keeper))
 
@@ -135,22 +160,32 @@ module _ {A K U C : Type 0} (book_file : OverFile K U C) where
   abbrev pub IsRefused : Request → Touched A U C → Failure → Type 0
   IsRefused (Make file) touched why = IsNotMade touched why
   IsRefused (Submit file command) touched why =
-      IsNotOpened touched why ⊎ ((refusal : Refusal) × (left : Seen K) × IsClosed left touched
+      IsNotOpened touched why ⊎ ((refusal : Refusal) × (left : Seen K) × IsClosed left met.Nothing touched
       × IsSubmitted book_file command (Err refusal) left × (why ≡ Refused refusal))
   IsRefused (Import file sender orders) touched why =
       IsNotOpened touched why
-      ⊎ ((IsNotSent why × (left : Seen K) × IsClosed left touched × IsIdle book_file left)
+      ⊎ ((IsNotSent (met_of touched) why × (left : Seen K) × IsClosed left (met_of touched) touched
+      × IsIdle book_file left)
       ⊎ IsUntold touched sender why)
   IsRefused (Read file reading) touched why = IsNotOpened touched why ⊎ ((refusal : Refusal) × (left : Seen K)
-      × IsClosed left touched × IsRead book_file (λ read. read) reading (Err refusal) left × (why ≡ Refused refusal))
+      × IsClosed left met.Nothing touched × IsRead book_file (λ read. read) reading (Err refusal) left
+      × (why ≡ Refused refusal))
   IsRefused (Serve file port count operator) touched why =
-      IsNotOpened touched why ⊎ (IsNotListening why × (left : Seen K) × IsClosed left touched × IsIdle book_file left)
+      IsNotOpened touched why ⊎ (IsNotListening (met_of touched) why × (left : Seen K)
+      × IsClosed left (met_of touched) touched × IsIdle book_file left)
 
   -- the run printed what it had to, as far as standard output took it
-  abbrev pub PrintsFor : Request → Touched A U C → Printed → Option (List ℕ) → Option (List ℕ) → Type 0
-  PrintsFor request touched printed old new =
+  abbrev pub PrintsText : Request → Touched A U C → Printed → Option (List ℕ) → Option (List ℕ) → Type 0
+  PrintsText request touched printed old new =
       (text : List ℕ) × (stopped : Option Refusal) × HasToPrint request touched text stopped
       × Prints text stopped printed old new
+
+  -- the same, and a server took its connections as it said
+  abbrev pub PrintsFor : Request → Touched A U C → Printed → Option (List ℕ) → Option (List ℕ) → Type 0
+  PrintsFor (Serve file port count operator) touched printed old new =
+      PrintsText (Serve file port count operator) touched printed old new
+      × TakesAt port count (met_of touched) printed old new
+  PrintsFor request touched printed old new = PrintsText request touched printed old new
 
   -- the words spell a request for which this was printed
   abbrev pub IsObeyed : Words → Touched A U C → Printed → Option (List ℕ) → Option (List ℕ) → Type 0

@@ -8,6 +8,7 @@ ghost use Rattle.rtgs_desk_cli.specs.Did.{IsSubmitted};
 ghost use Rattle.rtgs_desk_cli.specs.Runs.{ended_line, IsRefused, PrintsFor};
 
 use crate::files::{Acted, Finished, close_book, make, open, refused_file};
+use crate::met::Met;
 use crate::touched::Touched;
 use crate::{serving, texts};
 use rtgs_book::{Answer, Command, Refusal};
@@ -59,7 +60,7 @@ fn make_book<S: Start, O: Write>(rt: &HostRuntime, file: &str, start: S, out: &m
     ensures unchanged { OnErr result.0 (out.new ≡ out.old) }
 {
     match make(rt, file, start) {
-        Ok(made) => (Ok(say(Done::Made, out)), Touched::Book(made)),
+        Ok(made) => (Ok(say(Done::Made, out)), Touched::Book(made, Met::Nothing)),
         Err(unmade) => refused_file(unmade),
     }
 }
@@ -80,7 +81,7 @@ fn answer<S: Start, O: Write>(
     ensures unchanged { OnErr result.0 (out.new ≡ out.old) }
 {
     match close_book(submit(rt, file, command, start)) {
-        Ok((closed, reply)) => (told(reply, out), Touched::Book(closed)),
+        Ok((closed, reply)) => (told(reply, out), Touched::Book(closed, Met::Nothing)),
         Err(unopened) => refused_file(unopened),
     }
 }

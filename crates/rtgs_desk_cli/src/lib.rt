@@ -4,12 +4,14 @@
 mod acting;
 mod batches;
 mod files;
+mod met;
 mod order_file;
 mod run;
 mod serving;
 mod texts;
 mod touched;
 
+pub use crate::met::Met;
 pub use crate::run::run_words;
 pub use crate::touched::Touched;
 pub use rtgs_book_file::Unknown;

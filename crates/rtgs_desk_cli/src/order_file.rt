@@ -1,7 +1,6 @@
 //! The bytes of a file of orders.
-ghost use Rattle.std.specs.Prelude.{◌≡◌, IfErr};
+ghost use Rattle.std.specs.Prelude.{◌≡◌};
 ghost use Rattle.rtgs_desk_cli.specs.Causes.{failure_of_reading, IsTaken};
-ghost use Rattle.rtgs_desk_cli.specs.Runs.{IsNotSent};
 
 use rtgs_book::Refusal;
 use rtgs_desk_lines::Failure;
@@ -10,15 +9,8 @@ use std::fs::File;
 use std::io;
 use std::io::{ErrorKind, Read};
 
-/// The bytes of a file of orders. Refused where the file cannot be read, or is too long.
-pub fn read_file(rt: &HostRuntime, path: &str) -> Result<Vec<u8>, Failure>
-    ensures refused { IfErr result IsNotSent }
-{
-    taken(read_bytes(rt, path))
-}
-
-// The bytes of a file, and no more than one above the most that a file of orders may have.
-fn read_bytes(rt: &HostRuntime, path: &str) -> io::Result<Vec<u8>> {
+/// The bytes of a file, and no more than one above the most that a file of orders may have.
+pub fn read_bytes(rt: &HostRuntime, path: &str) -> io::Result<Vec<u8>> {
     let mut bytes = Vec::new(rt.alloc());
     File::open(rt, path)?
         .take(MOST_BYTES as u64 + 1)
@@ -26,8 +18,8 @@ fn read_bytes(rt: &HostRuntime, path: &str) -> io::Result<Vec<u8>> {
     Ok(bytes)
 }
 
-// The bytes that were read, if they are no more than a file of orders may have.
-fn taken(read: io::Result<Vec<u8>>) -> Result<Vec<u8>, Failure>
+/// The bytes that were read, if they are no more than a file of orders may have.
+pub fn taken(read: io::Result<Vec<u8>>) -> Result<Vec<u8>, Failure>
     ensures { IsTaken (λ bytes. bytes.items) read result }
 {
     match read {

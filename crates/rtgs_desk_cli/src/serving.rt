@@ -8,8 +8,10 @@ ghost use Rattle.rtgs_http_server.specs.Requests.{WorksForAll};
 ghost use Rattle.rtgs_desk_cli.specs.Causes.{failure_of_listening};
 ghost use Rattle.rtgs_desk_cli.specs.Did.{IsIdle, IsServed, ServedOver};
 ghost use Rattle.rtgs_desk_cli.specs.Runs.{IsNotListening, IsRefused, PrintsFor, server_text, stop_of_desk};
+ghost use Rattle.rtgs_desk_cli.specs.Runs.{TakesAt, TakesAsTold};
 
 use crate::files::{Acted, Finished, close_book, open, refused_file};
+use crate::met::Met;
 use crate::touched::Touched;
 use rtgs_book::Refusal;
 use rtgs_book_file::{FileKeeper, Start};
@@ -23,6 +25,7 @@ use rtgs_money::KeyDigest;
 use rtgs_stored_desk::laws::what_a_session_leaves;
 use std::alloc::Global;
 use std::io::{ErrorKind, Write};
+use std::snapshot::Snapshot;
 
 /// Serves so many connections to the desk over a file on a port of this machine, one after another, and says so. A run
 /// whose desk fails ends as stopped, after the connection on which it failed.
@@ -44,7 +47,10 @@ pub fn serve<S: Start, O: Write>(
     ensures unchanged { OnErr result.0 (out.new ≡ out.old) }
 {
     match close_book(serve_book(rt, file, port, count, &operator, start, out)) {
-        Ok((closed, served)) => (served, Touched::Book(closed)),
+        Ok((closed, done)) => {
+            let (served, met) = done;
+            (served, Touched::Book(closed, met))
+        }
         Err(unopened) => refused_file(unopened),
     }
 }
@@ -58,25 +64,28 @@ fn serve_book<S: Start, O: Write>(
     operator: &KeyDigest,
     start: S,
     out: &mut O,
-) -> Finished<S, Result<Printed, Failure>>
-    ensures served { IfOk result (λ (book, served). IfOk served (λ printed.
+) -> Finished<S, (Result<Printed, Failure>, Met)>
+    ensures served { IfOk result (λ (book, done). IfOk done.0 (λ printed.
         IsServed (file_from ⟦<FileKeeper<S> as Keeper>⟧ S.Start (λ keeper. keeper.conn)) operator.now book.desk
         × Prints (server_text port count (⟦<FileKeeper<S> as Keeper>⟧.has_failed book.desk.keeper))
         (stop_of_desk (⟦<FileKeeper<S> as Keeper>⟧.has_failed book.desk.keeper)) printed (O.contents out.old)
         (O.contents out.new))) }
-    ensures refused { IfOk result (λ (book, served). IfErr served (λ why. IsNotListening why
+    ensures taken { IfOk result (λ (_, done). IfOk done.0 (λ printed.
+        TakesAt port count done.1 printed (O.contents out.old) (O.contents out.new))) }
+    ensures refused { IfOk result (λ (book, done). IfErr done.0 (λ why. IsNotListening done.1 why
         × IsIdle (file_from ⟦<FileKeeper<S> as Keeper>⟧ S.Start (λ keeper. keeper.conn)) book.desk)) }
     ensures unopened { IfErr result (λ unopened.
         (file_from ⟦<FileKeeper<S> as Keeper>⟧ S.Start (λ keeper. keeper.conn)).was_unopened unopened) }
     ensures unchanged { OnErr result (out.new ≡ out.old) }
-    ensures silent { IfOk result (λ (_, served). OnErr served (out.new ≡ out.old)) }
+    ensures silent { IfOk result (λ (_, done). OnErr done.0 (out.new ≡ out.old)) }
 {
     let mut book = open(rt, file, start)?;
     let served = serve_desk(rt, book.desk(), port, count, operator, out);
     Ok((book.finish(), served))
 }
 
-// Serves connections to the desk over a file.
+// Serves so many connections on a port to the desk over a file. Refused where the port cannot be had, or for lack of
+// memory.
 fn serve_desk<S: Start, O: Write>(
     rt: &HostRuntime,
     desk: &mut Desk<FileKeeper<S>>,
@@ -84,34 +93,32 @@ fn serve_desk<S: Start, O: Write>(
     count: u32,
     operator: &KeyDigest,
     out: &mut O,
-) -> Result<Printed, Failure>
-    ensures served { IfOk result (λ printed. (⟦<FileKeeper<S> as Keeper>⟧.is_honest desk.new.keeper
+) -> (Result<Printed, Failure>, Met)
+    ensures served { IfOk result.0 (λ printed. (⟦<FileKeeper<S> as Keeper>⟧.is_honest desk.new.keeper
         → (book : Book) → Holds ⟦<FileKeeper<S> as Keeper>⟧ desk.old book
         → ServedOver (file_from ⟦<FileKeeper<S> as Keeper>⟧ S.Start (λ keeper. keeper.conn)) operator.now book
         desk.new)
         × Prints (server_text port count (⟦<FileKeeper<S> as Keeper>⟧.has_failed desk.new.keeper))
         (stop_of_desk (⟦<FileKeeper<S> as Keeper>⟧.has_failed desk.new.keeper)) printed (O.contents out.old)
         (O.contents out.new)) }
+    ensures taken { IfOk result.0 (λ printed.
+        TakesAt port count result.1 printed (O.contents out.old) (O.contents out.new)) }
     ensures honest { ⟦<FileKeeper<S> as Keeper>⟧.is_honest desk.new.keeper
         → ⟦<FileKeeper<S> as Keeper>⟧.is_honest desk.old.keeper }
-    ensures refused { IfErr result IsNotListening }
-    ensures idle { OnErr result (desk.new ≡ desk.old) }
-    ensures unchanged { OnErr result (out.new ≡ out.old) }
-{
-    let mut connections = listen(rt, port, count)?;
-    let printed = serve_all(rt.alloc(), &mut connections, desk, operator, port, out);
-    what_a_session_leaves(desk);
-    Ok(printed)
-}
-
-// Listens on a port for so many connections. Refused where it cannot be had, or for lack of memory.
-fn listen(rt: &HostRuntime, port: u16, count: u32) -> Result<Port, Failure>
-    ensures left { IfOk result (λ port. ⟦<Port as Connections>⟧.to_come port ≡ count) }
-    ensures refused { IfErr result IsNotListening }
+    ensures refused { IfErr result.0 (IsNotListening result.1) }
+    ensures idle { OnErr result.0 (desk.new ≡ desk.old) }
+    ensures unchanged { OnErr result.0 (out.new ≡ out.old) }
 {
     match Port::listen(rt, port, count) {
-        Ok(port) => Ok(port),
-        Err(error) => Err(failure_of(error.kind())),
+        Ok(mut connections) => {
+            let printed = serve_all(rt.alloc(), &mut connections, desk, operator, port, out);
+            what_a_session_leaves(desk);
+            (Ok(printed), Met::Port(Snapshot::of(&connections)))
+        }
+        Err(error) => (
+            Err(failure_of(error.kind())),
+            Met::NoPort(Snapshot::of(&error)),
+        ),
     }
 }
 
@@ -140,7 +147,8 @@ fn serve_all<C: Connections, K: Keeper, O: Write>(
     ensures honest { K.is_honest desk.new.keeper → K.is_honest desk.old.keeper }
     ensures printed { Prints (server_text port (C.to_come connections.old) (K.has_failed desk.new.keeper))
         (stop_of_desk (K.has_failed desk.new.keeper)) result (O.contents out.old) (O.contents out.new) }
-    ensures all { result ≡ Printed.Whole → C.to_come connections.new ≡ 0 }
+    ensures taken { TakesAsTold port (C.to_come connections.old) (C.to_come connections.new) result
+        (O.contents out.old) (O.contents out.new) }
 {
     a_desk_at_rest_works_for_all(desk);
     let count = connections.left();

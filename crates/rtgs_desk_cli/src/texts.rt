@@ -1,19 +1,20 @@
 //! Runs that print a text: the results of a file of orders, and what the desk tells.
-ghost use Rattle.std.specs.Prelude.{◌≡◌, ◌⊎◌, ℕ, List, None, length, Ok, Err, IfOk, IfErr, OnErr};
+ghost use Rattle.std.specs.Prelude.{◌≡◌, ◌⊎◌, None, length, Ok, Err, IfOk, IfErr, OnErr};
 ghost use Rattle.rtgs_book_file.specs.OverFile.{file_from};
 ghost use Rattle.rtgs_book.specs.declared.Book.{Book};
 ghost use Rattle.rtgs_desk.specs.Holding.{Holds};
 ghost use Rattle.rtgs_exchange.specs.Batches.{StopsAfter};
-ghost use Rattle.rtgs_exchange.specs.OrderFile.{IsOrderFile};
 ghost use Rattle.rtgs_exchange.specs.Results.{results_text};
 ghost use Rattle.rtgs_book.specs.declared.Refusal.{Refusal as RefusalSpec};
 ghost use Rattle.rtgs_desk_lines.specs.Texts.{Prints};
+ghost use Rattle.rtgs_desk_cli.specs.Causes.{AreRowsOf, RefusesRows};
 ghost use Rattle.rtgs_desk_cli.specs.Did.{IsIdle, IsSent, IsRead, SentOver};
-ghost use Rattle.rtgs_desk_cli.specs.Runs.{IsNotSent, IsRefused, PrintsFor};
+ghost use Rattle.rtgs_desk_cli.specs.Runs.{AreReadFrom, IsNotSent, IsRefused, PrintsFor};
 
 use crate::batches::{print_results, submit_orders};
 use crate::files::{Acted, Finished, close_book, open, refused_file};
-use crate::order_file::read_file;
+use crate::met::Met;
+use crate::order_file::{read_bytes, taken};
 use crate::touched::Touched;
 use rtgs_book::{Reading, Refusal};
 use rtgs_book_file::{FileKeeper, Start};
@@ -26,7 +27,13 @@ use rtgs_keeper::Keeper;
 use rtgs_money::Code;
 use rtgs_output::send_all;
 use rtgs_stored_desk::laws::what_a_session_leaves;
+use std::alloc::Global;
+use std::io;
 use std::io::Write;
+use std::snapshot::Snapshot;
+
+// The rows of a file of orders with their results, or why they were not submitted.
+type Sent = Result<(Vec<OrderRow>, BatchResult), Failure>;
 
 /// Submits a participant's file of orders to the desk over a file, and prints the results. A batch that stopped ends
 /// the run as stopped. Where memory is wanting for the results, the orders stand, and nothing is printed.
@@ -47,7 +54,10 @@ pub fn import<S: Start, O: Write>(
     ensures unchanged { OnErr result.0 (out.new ≡ out.old) }
 {
     match close_book(send(rt, file, sender, orders, start)) {
-        Ok((closed, sent)) => (print_sent(rt, sent, out), Touched::Book(closed)),
+        Ok((closed, done)) => {
+            let (sent, met) = done;
+            (print_sent(rt, sent, out), Touched::Book(closed, met))
+        }
         Err(unopened) => refused_file(unopened),
     }
 }
@@ -69,57 +79,58 @@ pub fn show<S: Start, O: Write>(
     ensures unchanged { OnErr result.0 (out.new ≡ out.old) }
 {
     match close_book(read(rt, file, reading, start)) {
-        Ok((closed, read)) => (print_read(read, out), Touched::Book(closed)),
+        Ok((closed, read)) => (print_read(read, out), Touched::Book(closed, Met::Nothing)),
         Err(unopened) => refused_file(unopened),
     }
 }
 
-// Opens the book in a file, and submits a participant's file of orders to its desk.
+// Opens the book in a file, and submits a participant's file of orders to its desk, as it was read.
 fn send<S: Start>(
     rt: &HostRuntime,
     file: &str,
     sender: Code,
     orders: &str,
     start: S,
-) -> Finished<S, Result<(Vec<OrderRow>, BatchResult), Failure>>
-    ensures rows { IfOk result (λ (_, sent).
-        IfOk sent (λ (rows, batch). (bytes : List ℕ) × IsOrderFile bytes rows.items)) }
-    ensures stopped { IfOk result (λ (_, sent). IfOk sent (λ (rows, batch).
+) -> Finished<S, (Sent, Met)>
+    ensures rows { IfOk result (λ (_, done). IfOk done.0 (λ (rows, batch). AreReadFrom done.1 rows.items)) }
+    ensures stopped { IfOk result (λ (_, done). IfOk done.0 (λ (rows, batch).
         StopsAfter (length batch.replies.items) (length rows.items) batch.stopped)) }
-    ensures sent { IfOk result (λ (book, sent). IfOk sent (λ (rows, batch). IsSent
+    ensures sent { IfOk result (λ (book, done). IfOk done.0 (λ (rows, batch). IsSent
         (file_from ⟦<FileKeeper<S> as Keeper>⟧ S.Start
         (λ keeper. keeper.conn)) sender rows.items batch.replies.items batch.stopped book.desk)) }
-    ensures refused { IfOk result (λ (book, sent). IfErr sent (λ why. IsNotSent why
+    ensures refused { IfOk result (λ (book, done). IfErr done.0 (λ why. IsNotSent done.1 why
         × IsIdle (file_from ⟦<FileKeeper<S> as Keeper>⟧ S.Start (λ keeper. keeper.conn)) book.desk)) }
     ensures unopened { IfErr result (λ unopened.
         (file_from ⟦<FileKeeper<S> as Keeper>⟧ S.Start (λ keeper. keeper.conn)).was_unopened unopened) }
 {
     let mut book = open(rt, file, start)?;
-    let sent = submit_file(rt, book.desk(), sender, orders);
-    Ok((book.finish(), sent))
+    let read = read_bytes(rt, orders);
+    let met = Met::Orders(Snapshot::of(&read));
+    let sent = submit_file(rt.alloc(), book.desk(), sender, read);
+    Ok((book.finish(), (sent, met)))
 }
 
-// Submits the orders of a file.
+// Submits the orders of a file that was read so.
 fn submit_file<S: Start>(
-    rt: &HostRuntime,
+    alloc: Global,
     desk: &mut Desk<FileKeeper<S>>,
     sender: Code,
-    orders: &str,
-) -> Result<(Vec<OrderRow>, BatchResult), Failure>
-    ensures rows { IfOk result (λ (rows, batch). (bytes : List ℕ) × IsOrderFile bytes rows.items) }
+    read: io::Result<Vec<u8>>,
+) -> Sent
+    ensures rows { IfOk result (λ (rows, batch). AreRowsOf (λ bytes. bytes.items) read rows.items) }
     ensures stopped { IfOk result (λ (rows, batch).
         StopsAfter (length batch.replies.items) (length rows.items) batch.stopped) }
     ensures sent { IfOk result (λ (rows, batch). ⟦<FileKeeper<S> as Keeper>⟧.is_honest desk.new.keeper
         → (book : Book) → Holds ⟦<FileKeeper<S> as Keeper>⟧ desk.old book
         → SentOver (file_from ⟦<FileKeeper<S> as Keeper>⟧ S.Start (λ keeper. keeper.conn))
         book sender rows.items batch.replies.items batch.stopped desk.new) }
-    ensures refused { IfErr result IsNotSent }
+    ensures refused { IfErr result (RefusesRows (λ bytes. bytes.items) read) }
     ensures unchanged { OnErr result (desk.new ≡ desk.old) }
     ensures honest { ⟦<FileKeeper<S> as Keeper>⟧.is_honest desk.new.keeper
         → ⟦<FileKeeper<S> as Keeper>⟧.is_honest desk.old.keeper }
 {
-    let bytes = read_file(rt, orders)?;
-    let sent = submit_orders(rt.alloc(), desk, sender, bytes.as_slice());
+    let bytes = taken(read)?;
+    let sent = submit_orders(alloc, desk, sender, bytes.as_slice());
     what_a_session_leaves(desk);
     sent
 }
@@ -143,11 +154,7 @@ fn read<S: Start>(
 }
 
 // Prints the results of orders that were sent. Where they were refused, nothing is printed.
-fn print_sent<O: Write>(
-    rt: &HostRuntime,
-    sent: Result<(Vec<OrderRow>, BatchResult), Failure>,
-    out: &mut O,
-) -> Result<Printed, Failure>
+fn print_sent<O: Write>(rt: &HostRuntime, sent: Sent, out: &mut O) -> Result<Printed, Failure>
     ensures printed { IfOk result (λ printed. (it : _) × (sent ≡ Ok it)
         × Prints (results_text it.0.items it.1.replies.items it.1.stopped) it.1.stopped printed (O.contents out.old)
         (O.contents out.new)) }

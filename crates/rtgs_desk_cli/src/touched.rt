@@ -1,4 +1,5 @@
 //! What a run touched of a book's file.
+use crate::met::Met;
 
 /// What a run touched of a book's file. `A` is what the file is opened with, `U` a file over which no desk was opened
 /// and in which no book was made, and `C` a file that was closed.
@@ -8,6 +9,6 @@ pub enum Touched<A, U, C> {
     Nothing(A),
     /// The file was refused.
     Refused(U),
-    /// A desk was opened over the file, or a book made in it, and the file was closed.
-    Book(C),
+    /// A desk was opened over the file, or a book made in it, and the file was closed. Beside it the run met this.
+    Book(C, Met),
 }

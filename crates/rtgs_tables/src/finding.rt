@@ -5,6 +5,7 @@ ghost use Rattle.rtgs_book.specs.declared.Book.{Book};
 ghost use Rattle.rtgs_book.specs.Lookup.{order_named, posting_named};
 ghost use Rattle.rtgs_rows.specs.Keeping.{HoldsBook};
 ghost use Rattle.rtgs_rows.specs.Rows.{shown_posting, shown_order};
+ghost use Rattle.rtgs_tables.specs.Faults.{LookFailed};
 ghost use Rattle.rtgs_tables.specs.Finding.{one_of, IsQuery, IsLook};
 ghost use Rattle.rtgs_tables.specs.Numbers.{as_read};
 ghost use Rattle.sqlite.specs.State.{HasCleanDisk, IsUnchanged, Survives};
@@ -53,6 +54,8 @@ fn posting_rows<S: Alter>(
 pub(crate) fn fault_of<S: Alter>(conn: &mut Connection<S>, error: &Error) -> Fault
     ensures kinds { (result ≡ Fault.OutOfMemory) ⊎ (result ≡ Fault.StoreFault) }
     ensures cause { result ≡ Fault.OutOfMemory → error.now ≡ Error.SqliteFailure ErrorCode.OutOfMemory }
+    ensures must { HasCleanDisk (state S.Store conn.new) → error.now ≡ Error.SqliteFailure ErrorCode.OutOfMemory
+        → (result ≡ Fault.OutOfMemory) ⊎ LookFailed (state S.Store conn.old) (state S.Store conn.new) }
     ensures same { result ≡ Fault.OutOfMemory → HasCleanDisk (state S.Store conn.new)
         → IsUnchanged (state S.Store conn.old) (state S.Store conn.new) }
     ensures mode { conn.old.in_transaction ≡ false → conn.new.in_transaction ≡ false }

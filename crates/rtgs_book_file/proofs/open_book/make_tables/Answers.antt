@@ -1,5 +1,5 @@
 use Rattle.std.proofs.Common.{sym, subst}
-use Rattle.rtgs_book_file.specs.Closed.{LeavesClosed, LeavesNoMore}
+use Rattle.rtgs_book_file.specs.Closed.{LeavesClosed}
 use Rattle.rtgs_book_file.proofs.open_book.make_tables.Goals as goal
 
 pub returns-in-Ok-clause-made : goal.returns-in-Ok-clause-made
@@ -19,5 +19,5 @@ returns-in-Err-clause-refused g c = record {
   opened = c.in_ok-conn.ensures.opened;
   found = c.in_ok-conn.ensures.found;
   refused = c.in-Err.ensures.refused;
-  given_up = subst (LeavesNoMore c.in-Err.left) (sym c.let_go-in-Err.ensures) c.given_up.ensures.given_up;
+  given_up = c.of.ensures;
 }

@@ -1,4 +1,4 @@
-use Rattle.std.proofs.Common.{sym, subst}
+use Rattle.std.proofs.Common.{subst}
 use Rattle.rtgs_book_file.specs.Closed.{LeavesNoMore}
 use Rattle.rtgs_book_file.proofs.open_book.open_desk.Goals as goal
 
@@ -18,7 +18,7 @@ pub returns-in-Err-clause-refused : goal.returns-in-Err-clause-refused
 returns-in-Err-clause-refused g c =
     let it = c.in-Err.ensures in
     let opens = c.in_ok-conn.ensures.opened in
-    let files = c.given_up-closed.result.files in
+    let files = c.of-left.result.files.value in
     record {
       was = c.in_ok-conn.conn;
       left = c.in-Err.keeper;
@@ -27,6 +27,5 @@ returns-in-Err-clause-refused g c =
       refused = λ honest. it.refused honest (opens (it.back honest)).0.is_open;
       failed = it.fault;
       works = it.only_fault;
-      given_up = subst (LeavesNoMore c.in-Err.keeper.conn) (sym c.let_go.ensures)
-          (subst (λ conn. LeavesNoMore conn files) c.into_connection.ensures c.given_up-closed.ensures.given_up);
+      given_up = subst (λ conn. LeavesNoMore conn files) c.into_connection.ensures c.of-left.ensures;
     }

@@ -7,15 +7,15 @@ use Rattle.rtgs_desk_cli.proofs.serving.serve.Goals as goal
 pub returns-in-Ok-clause-printed : goal.returns-in-Ok-clause-printed
 returns-in-Ok-clause-printed g c =
     let (book, is, shut) = c.in-Ok.ensures.done in
-    served_with _ (λ book. book.desk) c.serve_book.result book _ is (c.in-Ok.closed, refl, shut) c.args.port c.args.count
-    (g.O.Write.contents c.args.out.now) (g.O.Write.contents c.serve_book.new.out) c.args.operator
-    c.serve_book.ensures.served
+    served_with _ (λ book. book.desk) c.serve_book.result book _ _ is c.in-Ok.closed shut c.args.port c.args.count
+    (g.O.Write.contents c.args.out.now) (g.O.Write.contents c.serve_book.new.out) _ c.args.operator
+    c.serve_book.ensures.served c.serve_book.ensures.taken
 
 pub returns-in-Ok-clause-refused : goal.returns-in-Ok-clause-refused
 returns-in-Ok-clause-refused g c =
     let (book, is, shut) = c.in-Ok.ensures.done in
     IfErr-weaker _ _ _ (λ why it. inr it)
-    (idle_with _ (λ book. book.desk) c.serve_book.result book _ is (c.in-Ok.closed, refl, shut) IsNotListening
+    (idle_with _ (λ book. book.desk) c.serve_book.result book _ _ is c.in-Ok.closed shut _ IsNotListening
     c.serve_book.ensures.refused)
 
 pub returns-in-Err-clause-printed : goal.returns-in-Err-clause-printed

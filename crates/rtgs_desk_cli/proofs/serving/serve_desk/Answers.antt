@@ -1,10 +1,10 @@
-use Rattle.std.proofs.Common.{subst}
+use Rattle.std.proofs.Common.{sym, subst}
 use Rattle.rtgs_desk_lines.specs.Texts.{Prints}
-use Rattle.rtgs_desk_cli.specs.Runs.{server_text, stop_of_desk}
+use Rattle.rtgs_desk_cli.specs.Runs.{server_text, stop_of_desk, TakesAsTold}
 use Rattle.rtgs_desk_cli.proofs.serving.serve_desk.Goals as goal
 
-pub returns-clause-served : goal.returns-clause-served
-returns-clause-served g c = (
+pub returns-in-Ok-clause-served : goal.returns-in-Ok-clause-served
+returns-in-Ok-clause-served g c = (
   (λ honest book held.
       let works = c.serve_all-printed.ensures.works honest book held in
       let made = works.3 in
@@ -13,5 +13,13 @@ returns-clause-served g c = (
   subst (λ count. Prints (server_text c.args.port count c.serve_all-printed.new.desk.keeper.failed)
       (stop_of_desk c.serve_all-printed.new.desk.keeper.failed) c.serve_all-printed.result
       (g.O.Write.contents c.args.out.now) (g.O.Write.contents c.serve_all-printed.new.out))
-      c.in_ok-connections.ensures.left c.serve_all-printed.ensures.printed,
+      c.in-Ok.ensures c.serve_all-printed.ensures.printed,
 )
+
+pub returns-in-Ok-clause-taken : goal.returns-in-Ok-clause-taken
+returns-in-Ok-clause-taken g c =
+    subst (λ port. TakesAsTold c.args.port c.args.count port.left c.serve_all-printed.result
+    (g.O.Write.contents c.args.out.now) (g.O.Write.contents c.serve_all-printed.new.out)) (sym c.of.ensures)
+    (subst (λ count. TakesAsTold c.args.port count c.serve_all-printed.new.connections.left c.serve_all-printed.result
+    (g.O.Write.contents c.args.out.now) (g.O.Write.contents c.serve_all-printed.new.out)) c.in-Ok.ensures
+    c.serve_all-printed.ensures.taken)

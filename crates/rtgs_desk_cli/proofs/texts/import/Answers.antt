@@ -15,8 +15,9 @@ returns-in-Ok-clause-printed g c =
       (
         it.0.0.items,
         it.0.1.replies.items,
-        imported_with _ (λ book. book.desk) c.send.result book _ is (c.in-Ok.closed, refl, shut) c.args.sender
-            (λ it. it.0.items) (λ it. it.1.replies.items) (λ it. it.1.stopped) send.rows send.stopped send.sent it.0 it.1,
+        imported_with _ (λ book. book.desk) c.send.result book _ _ is c.in-Ok.closed shut _ c.args.sender
+            (λ it. it.0.items) (λ it. it.1.replies.items) (λ it. it.1.stopped) send.rows send.stopped send.sent it.0
+            it.1,
         refl,
       ),
       it.2,
@@ -27,14 +28,14 @@ returns-in-Ok-clause-refused g c =
     let (book, is, shut) = c.in-Ok.ensures.done in
     let send = c.send.ensures in
     IfErr-weaker c.print_sent.result _ _ (λ why cause. inr (either_way
-    (λ refused. idle_for _ (λ book. book.desk) c.send.result book _ is (c.in-Ok.closed, refl, shut) IsNotSent
+    (λ refused. idle_for _ (λ book. book.desk) c.send.result book _ _ is c.in-Ok.closed shut _ IsNotSent
     send.refused why refused)
     (λ it. (
       it.2,
       it.0.0.items,
       it.0.1.replies.items,
       it.0.1.stopped,
-      imported_with _ (λ book. book.desk) c.send.result book _ is (c.in-Ok.closed, refl, shut) c.args.sender
+      imported_with _ (λ book. book.desk) c.send.result book _ _ is c.in-Ok.closed shut _ c.args.sender
           (λ it. it.0.items) (λ it. it.1.replies.items) (λ it. it.1.stopped) send.rows send.stopped send.sent it.0 it.1,
     )) cause)) c.print_sent.ensures.refused
 

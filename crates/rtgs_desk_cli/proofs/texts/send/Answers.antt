@@ -1,6 +1,14 @@
-use Rattle.rtgs_desk_cli.specs.Runs.{IsNotSent}
+use Rattle.std.proofs.Common.{sym, subst}
+use Rattle.std.specs.Result.{IfOk, IfErr}
+use Rattle.rtgs_desk_cli.specs.Causes.{AreRowsOf, RefusesRows}
 use Rattle.rtgs_desk_cli.proofs.Doing.{was_sent, was_refused}
 use Rattle.rtgs_desk_cli.proofs.texts.send.Goals as goal
+
+pub returns-clause-rows : goal.returns-clause-rows
+returns-clause-rows g c =
+    let it = c.submit_file-sent in
+    subst (λ read. IfOk it.result (λ sent. AreRowsOf (λ bytes. bytes.items) read sent.0.items)) (sym c.of.ensures)
+    it.ensures.rows
 
 pub returns-clause-sent : goal.returns-clause-sent
 returns-clause-sent g c =
@@ -12,4 +20,6 @@ pub returns-clause-refused : goal.returns-clause-refused
 returns-clause-refused g c =
     let it = c.submit_file-sent in
     was_refused _ c.desk.ensures.value c.finish.ensures.desk c.in_ok-book.ensures.opened it.ensures.honest it.result
-    IsNotSent it.ensures.refused it.ensures.unchanged
+    (RefusesRows (λ bytes. bytes.items) c.of.result.value)
+    (subst (λ read. IfErr it.result (λ why. RefusesRows (λ bytes. bytes.items) read why)) (sym c.of.ensures)
+    it.ensures.refused) it.ensures.unchanged

@@ -1,5 +1,5 @@
 use Rattle.std.proofs.Common.{sym}
-use Rattle.rtgs_book_file.proofs.closed_book.files_given_up.Goals as goal
+use Rattle.rtgs_book_file.proofs.given_up_book.files_given_up.Goals as goal
 
 pub returns : goal.returns
 returns g c =
