@@ -8,7 +8,6 @@ mod limits;
 mod listed;
 mod loops;
 mod met;
-mod pages;
 mod setting;
 mod tools;
 mod views;

@@ -18,5 +18,6 @@ mod image;
 mod keeper_runs;
 mod seen;
 mod setting;
+mod stored_desk;
 mod trial;
 mod two_keepers;

@@ -20,9 +20,4 @@ impl Draw {
             .wrapping_add(1442695040888963407);
         (self.state >> 33) as usize % bound.max(1)
     }
-
-    /// A byte.
-    pub fn byte(&mut self) -> u8 {
-        (self.below(256) & 255) as u8
-    }
 }

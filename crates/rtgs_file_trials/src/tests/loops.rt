@@ -1,92 +1,69 @@
 //! Files in which a page is told to stand behind another, or under it, that it cannot.
-use super::met::Met;
-use super::pages::{PAGE, put};
-use super::setting;
-use super::setting::{begin_day, is_refused, keeps, meddle, remove, write};
+use super::edits::{PAGE, spliced};
+use super::met::count;
+use super::setting::{begin_day, book_bytes, is_told, keeps, meddle, remove, write};
 use super::views::with_circles;
 use std::fs;
 use std::test::Fail;
 
 // How many pages there are at least.
-const PAGES: u32 = 20;
+const PAGES: usize = 20;
 
-// Has each of these texts grow to five times itself.
-const GROW: &str = "UPDATE more SET filling = filling || filling || filling || filling || filling";
+// A table of more than one page, two rows over many pages, and pages that are free. Texts grow to five times themselves.
+const MORE: &str = "CREATE TABLE more (id INTEGER PRIMARY KEY, filling TEXT);
+    INSERT INTO more VALUES (1, 'twenty letters of it'), (2, 'twenty letters of it');
+    UPDATE more SET filling = filling || filling || filling || filling || filling;
+    UPDATE more SET filling = filling || filling || filling || filling || filling;
+    UPDATE more SET filling = filling || filling || filling || filling || filling;
+    INSERT INTO more SELECT id + 2, filling FROM more;
+    UPDATE more SET filling = filling || filling || filling || filling || filling WHERE id < 3;
+    DELETE FROM more WHERE id = 1";
 
-// A table of more than one page, two rows over many pages, and pages that are free.
-const MORE: [&str; 7] = [
-    "CREATE TABLE more (id INTEGER PRIMARY KEY, filling TEXT);
-    INSERT INTO more VALUES (1, 'twenty letters of it'), (2, 'twenty letters of it')",
-    GROW,
-    GROW,
-    GROW,
-    "INSERT INTO more SELECT id + 2, filling FROM more",
-    "UPDATE more SET filling = filling || filling || filling || filling || filling WHERE id < 3",
-    "DELETE FROM more WHERE id = 1",
-];
-
-// The bytes of a book with such pages. Its file is gone then.
-fn book_bytes(rt: &HostRuntime, file: &str) -> Result<Vec<u8>, Fail> {
-    begin_day(rt, file)?;
-    for sql in MORE {
-        meddle(rt, file, sql)?;
-    }
-    let bytes = fs::read(rt, file)?;
-    remove(rt, file)?;
-    Ok(bytes)
-}
-
-// Writes the number of a page into a page, at a place in it where such numbers stand.
-fn point(bytes: &mut [u8], page: u32, place: usize, number: u32) {
-    let before = page.saturating_sub(1) as usize;
-    let at = before.saturating_mul(PAGE).saturating_add(place);
-    put(bytes, at, &number.to_be_bytes());
-}
-
-// Has each page but the first, one a file, point at the page that is so many behind it, and counts the answers.
-fn met(rt: &HostRuntime, file: &str, place: usize, behind: u32) -> Result<Met, Fail> {
-    let book = book_bytes(rt, file)?;
-    let mut met = Met::default();
-    for number in 2..=PAGES {
-        let mut bytes = book.clone()?;
-        let other = number.saturating_add(behind);
-        point(bytes.as_mut_slice(), number, place, other);
+// Has each page but the first, one a file, point at the page that is so many behind it, by the number at this place in
+// it, reports on it, and prints what was met: some failures.
+fn are_met(
+    rt: &HostRuntime,
+    file: &str,
+    book: &[u8],
+    place: usize,
+    behind: usize,
+) -> Result<(), Fail> {
+    let mut met = [0usize; 4];
+    for page in 1..PAGES {
+        let number = (page.saturating_add(behind).saturating_add(1) % 256) as u8;
+        let at = page.saturating_mul(PAGE).saturating_add(place);
+        let bytes = spliced(rt.alloc(), book, at, 4, &[0, 0, 0, number])?;
         write(rt, file, bytes.as_slice())?;
         let (text, status) = keeps(rt, file)?;
-        met.count(rt.alloc(), text.as_str(), status)?;
+        count(rt.alloc(), &mut met, text.as_str(), status)?;
     }
-    remove(rt, file)?;
-    Ok(met)
+    rt.println(format_args!("pages that lead {behind} behind, at {place}: {met:?}"))?;
+    if met[1] > 0 {
+        return Ok(());
+    }
+    Err(Fail::from("no failure"))
 }
 
+// Each page leads to itself, or to the next.
 #[test]
-fn that_lead_to_themselves(rt: HostRuntime) -> Result<(), Fail> {
-    for place in [0, 4, 8] {
-        let met = met(&rt, "themselves", place, 0)?;
-        rt.println(format_args!("pages that lead to themselves, at {place}: {met:?}"))?;
-        assert!(rt; met.failed > 0, "{met:?}");
+fn that_lead_to_one_another(rt: HostRuntime) -> Result<(), Fail> {
+    begin_day(&rt, "leading")?;
+    meddle(&rt, "leading", MORE)?;
+    let book = fs::read(&rt, "leading")?;
+    for (place, behind) in [(0, 0), (4, 0), (8, 0), (0, 1), (4, 1), (8, 1)] {
+        are_met(&rt, "leading", book.as_slice(), place, behind)?;
     }
-    Ok(())
-}
-
-#[test]
-fn that_lead_to_the_next(rt: HostRuntime) -> Result<(), Fail> {
-    for place in [0, 4, 8] {
-        let met = met(&rt, "to_the_next", place, 1)?;
-        rt.println(format_args!("pages that lead to the next, at {place}: {met:?}"))?;
-        assert!(rt; met.failed > 0, "{met:?}");
-    }
-    Ok(())
+    remove(&rt, "leading")
 }
 
 // A page leads to itself, to the pages behind it, or to pages far from it.
 #[test]
 fn of_ten_megabytes(rt: HostRuntime) -> Result<(), Fail> {
-    let book = setting::book_bytes(&rt, "ten_megabytes")?;
+    let book = book_bytes(&rt, "ten_megabytes")?;
     for step in [0, 1, 37] {
         let file = with_circles(rt.alloc(), book.as_slice(), step)?;
         write(&rt, "ten_megabytes", file.as_slice())?;
-        is_refused(&rt, "ten_megabytes", "refused 91 StoreFault\n")?;
+        is_told(&rt, "ten_megabytes", "refused 91 StoreFault\n")?;
     }
     remove(&rt, "ten_megabytes")
 }

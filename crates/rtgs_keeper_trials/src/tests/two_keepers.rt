@@ -61,7 +61,7 @@ fn five_thousand<M: Keeper + Drop, K: Keeper + DiskKeeper + Drop>(
     memory: M,
     seed: u64,
 ) -> Result<bool, Fail> {
-    let mut seen = Seen::default();
+    let mut seen = Seen::new();
     let mut business = Business::new(alloc, seed);
     let mut held = desk_over(alloc, memory)?;
     let mut disks = closed(new_desk::<K>(alloc)?.into_keeper())?;

@@ -1,0 +1,57 @@
+//! Bodies that chance has changed, each with its right length.
+use super::super::draw::Draw;
+use super::edits::{changed, revalued};
+use super::met::Met;
+use super::replies::{DONE, READ};
+use super::sent::{GOOD, with_body};
+use super::serving::{book_before, serve};
+use std::alloc::{AllocError, Global};
+use std::test::Fail;
+
+// How often the body of each request is changed.
+const TIMES: usize = 80;
+
+// The body with one change, or with one or two other values.
+fn body_of(
+    alloc: Global,
+    draw: &mut Draw,
+    good: &[u8],
+    of_values: bool,
+) -> Result<Vec<u8>, AllocError> {
+    if !of_values {
+        return changed(alloc, draw, good);
+    }
+    let body = revalued(alloc, draw, good)?;
+    if draw.below(2) == 0 {
+        return Ok(body);
+    }
+    revalued(alloc, draw, body.as_slice())
+}
+
+// Changes the body of each request so often, or of each that has values.
+fn met(alloc: Global, seed: u64, of_values: bool) -> Result<Met, Fail> {
+    let before = book_before(alloc)?;
+    let mut draw = Draw::new(seed);
+    let mut met = Met::new();
+    for turn in 0..(14 * TIMES) {
+        let sent = GOOD[turn / TIMES % 14];
+        let (_, _, good) = sent;
+        if !of_values || good.contains(',') || good.contains(':') {
+            let body = body_of(alloc, &mut draw, good.as_bytes(), of_values)?;
+            let input = with_body(alloc, sent, body.as_slice())?;
+            met.count(serve(alloc, &before, input.as_slice())?);
+        }
+    }
+    Ok(met)
+}
+
+#[test]
+fn bodies_with_a_change(rt: HostRuntime) -> Result<(), Fail> {
+    met(rt.alloc(), 3, false)?.has(rt.alloc(), &[35, 40, 41, 60, 65, 66, READ, DONE])
+}
+
+#[test]
+fn bodies_with_other_values(rt: HostRuntime) -> Result<(), Fail> {
+    let all = [1, 2, 4, 6, 14, 15, 30, 31, 32, 35, 41, 65, 66, DONE];
+    met(rt.alloc(), 4, true)?.has(rt.alloc(), &all)
+}

@@ -1,0 +1,28 @@
+//! Each request with each number at a limit as the length of its body.
+use super::limits::LIMITS;
+use super::met::Met;
+use super::replies::READ;
+use super::sent::GOOD;
+use super::serving::{book_before, serve};
+use std::alloc::Global;
+use std::test::Fail;
+
+// Serves each request with each length.
+fn met(alloc: Global) -> Result<Met, Fail> {
+    let before = book_before(alloc)?;
+    let mut met = Met::new();
+    for turn in 0..(14 * 32) {
+        let (key, line, body) = GOOD[turn / 32 % 14];
+        let length = LIMITS[turn % 32];
+        let input = format!(in alloc;
+            "{line} HTTP/1.1\r\ndesk-key: {key}\r\nContent-Length: {length}\r\n\r\n{body}"
+        )?;
+        met.count(serve(alloc, &before, input.as_bytes())?);
+    }
+    Ok(met)
+}
+
+#[test]
+fn lengths_at_limits(rt: HostRuntime) -> Result<(), Fail> {
+    met(rt.alloc())?.has(rt.alloc(), &[60, 63, 64, 65, READ])
+}

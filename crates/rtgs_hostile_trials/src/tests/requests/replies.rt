@@ -1,0 +1,120 @@
+//! What may be told of an input, and whether the bytes of a reply tell it.
+use std::alloc::{AllocError, Global};
+use std::test::Fail;
+
+/// What is told by a reply with what was read.
+pub const READ: u8 = 0;
+
+/// What is told by a reply with what came of commands.
+pub const DONE: u8 = 255;
+
+/// What is told where nothing is done: the status with its reason, and the number and the name of the refusal.
+const REFUSED: [(&str, u8, &str); 33] = [
+    ("404 Not Found", 1, "UnknownParticipant"),
+    ("409 Conflict", 2, "UnknownReceiver"),
+    ("409 Conflict", 3, "SameParty"),
+    ("409 Conflict", 4, "ReferenceUsed"),
+    ("409 Conflict", 5, "NotOpen"),
+    ("409 Conflict", 6, "NoCover"),
+    ("409 Conflict", 7, "QueueFull"),
+    ("409 Conflict", 8, "NumbersUsedUp"),
+    ("404 Not Found", 9, "UnknownOrder"),
+    ("409 Conflict", 13, "TotalTooLarge"),
+    ("409 Conflict", 14, "WrongPhase"),
+    ("409 Conflict", 15, "WrongDate"),
+    ("409 Conflict", 16, "Weekend"),
+    ("409 Conflict", 17, "NotQueued"),
+    ("409 Conflict", 18, "Resolvable"),
+    ("409 Conflict", 19, "Overdrawn"),
+    ("400 Bad Request", 30, "BadCode"),
+    ("400 Bad Request", 31, "BadReference"),
+    ("400 Bad Request", 32, "BadAmount"),
+    ("400 Bad Request", 35, "BadDate"),
+    ("400 Bad Request", 40, "BadHeader"),
+    ("400 Bad Request", 41, "BadRow"),
+    ("400 Bad Request", 42, "BadCount"),
+    ("400 Bad Request", 60, "BadHead"),
+    ("413 Content Too Large", 61, "HeadTooLong"),
+    ("411 Length Required", 62, "NoLength"),
+    ("413 Content Too Large", 63, "BodyTooLong"),
+    ("400 Bad Request", 64, "Truncated"),
+    ("400 Bad Request", 65, "BadJson"),
+    ("400 Bad Request", 66, "WrongFields"),
+    ("404 Not Found", 67, "NoSuchRoute"),
+    ("403 Forbidden", 68, "NoKey"),
+    ("503 Service Unavailable", 90, "OutOfMemory"),
+];
+
+/// How the body begins that tells what was done or read, the type of such a body, and whether it tells of a command.
+const DID: [(&str, &str, bool); 7] = [
+    ("{\"answer\":\"", "application/json", true),
+    ("{\"amount\":", "application/json", false),
+    ("{\"balance\":", "application/json", false),
+    ("{\"orders\":[", "application/json", false),
+    ("reference,result,number,detail\n", "text/csv", true),
+    ("statement ALFA 2", "text/plain", false),
+    ("report 2", "text/plain", false),
+];
+
+/// What a body means: the status with its reason, the type of the body, and what it tells.
+type Meaning = (&'static str, &'static str, u8);
+
+// Whether the body is that of the refusal with this number and name.
+fn is_refusal(alloc: Global, body: &str, number: u8, name: &str) -> Result<bool, AllocError> {
+    let first = format!(in alloc; "{{\"code\":{number},")?;
+    let last = format!(in alloc; "\"name\":\"{name}\"}}")?;
+    let row = format!(in alloc; "\"name\":\"{name}\",\"row\":")?;
+    let is_row = number == 41 && body.contains(row.as_str());
+    Ok(body.starts_with(first.as_str()) && (body.ends_with(last.as_str()) || is_row))
+}
+
+// What the body means, if it is that of one of these refusals.
+fn refused(
+    alloc: Global,
+    body: &str,
+    refusals: &[(&'static str, u8, &'static str)],
+) -> Result<Option<Meaning>, AllocError> {
+    for (status, number, name) in refusals {
+        if is_refusal(alloc, body, *number, name)? {
+            return Ok(Some((*status, "application/json", *number)));
+        }
+    }
+    Ok(None)
+}
+
+// What the body means, if it begins in one of these ways.
+fn done(body: &str, beginnings: &[(&str, &'static str, bool)]) -> Option<Meaning> {
+    for (first, content, is_done) in beginnings {
+        if body.starts_with(*first) {
+            let told = if *is_done { DONE } else { READ };
+            return Some(("200 OK", *content, told));
+        }
+    }
+    None
+}
+
+// What this body means, if it means anything.
+fn meaning(alloc: Global, body: &str) -> Result<Option<Meaning>, AllocError> {
+    match refused(alloc, body, &REFUSED)? {
+        Some(meaning) => Ok(Some(meaning)),
+        None => Ok(done(body, &DID)),
+    }
+}
+
+/// What a whole reply tells, which bears this status: a number of a refusal, or what was read or done. Each of its bytes
+/// is as its body wants it.
+pub fn told_by(alloc: Global, status: u16, reply: &[u8]) -> Result<u8, Fail> {
+    let reply = std::str::from_utf8(reply)?;
+    let (_, body) = reply.split_once("\r\n\r\n").ok_or("no body")?;
+    let length = body.len();
+    let (line, content, told) = meaning(alloc, body)?.ok_or("a body that tells nothing")?;
+    let whole = format!(in alloc;
+        "HTTP/1.1 {line}\r\nContent-Type: {content}\r\nContent-Length: {length}\r\nConnection: close\r\n\r\n{body}"
+    )?;
+    let head = format!(in alloc; "HTTP/1.1 {status} ")?;
+    if whole.as_str() == reply && reply.starts_with(head.as_str()) {
+        return Ok(told);
+    }
+    let said = format!(in alloc; "{status}: {reply:?}, not {whole:?}")?;
+    Err(Fail::from(said))
+}

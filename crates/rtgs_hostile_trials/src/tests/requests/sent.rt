@@ -1,0 +1,57 @@
+//! Requests of all routes, each with its caller's key and a good body.
+use std::alloc::{AllocError, Global};
+
+/// ALFA's key.
+pub const ALFA: &str = "0000000000000000000000000000000a";
+
+/// The operator's key.
+pub const OPERATOR: &str = "0000000000000000000000000000000f";
+
+/// A request: the key, the method with the target, and the body.
+pub type Sent = (&'static str, &'static str, &'static str);
+
+/// One good request of each route.
+pub const GOOD: [Sent; 14] = [
+    (
+        ALFA,
+        "POST /orders",
+        "{\"amount\":100,\"reference\":\"A-9\",\"to\":\"BETA\"}",
+    ),
+    (ALFA, "GET /orders/A-1", ""),
+    (ALFA, "POST /orders/A-2/withdraw", "{}"),
+    (
+        ALFA,
+        "POST /batches",
+        "reference,to,amount\nA-7,BETA,100\n\"A-8\",GAMA,25\nA-9,BETA,3\n",
+    ),
+    (ALFA, "GET /account", ""),
+    (ALFA, "GET /queue", ""),
+    (ALFA, "GET /statements/2024-03-04", ""),
+    (
+        OPERATOR,
+        "POST /desk/post",
+        "{\"cents\":-10,\"code\":\"ALFA\",\"reference\":\"P-9\"}",
+    ),
+    (
+        OPERATOR,
+        "POST /desk/credit",
+        "{\"code\":\"ALFA\",\"credit\":100}",
+    ),
+    (OPERATOR, "POST /desk/open", "{\"date\":\"2024-03-04\"}"),
+    (OPERATOR, "POST /desk/resolve", "{}"),
+    (OPERATOR, "POST /desk/cutoff", "{\"date\":\"2024-03-04\"}"),
+    (OPERATOR, "POST /desk/close", "{\"date\":\"2024-03-04\"}"),
+    (OPERATOR, "GET /desk/report/2024-03-04", ""),
+];
+
+/// All bytes of a request, with this body in place of its own.
+pub fn with_body(alloc: Global, sent: Sent, body: &[u8]) -> Result<Vec<u8>, AllocError> {
+    let (key, line, _) = sent;
+    let length = body.len();
+    let head = format!(in alloc;
+        "{line} HTTP/1.1\r\ndesk-key: {key}\r\nContent-Length: {length}\r\n\r\n"
+    )?;
+    let mut bytes = Vec::from_slice(alloc, head.as_bytes())?;
+    bytes.extend_from_slice(body)?;
+    Ok(bytes)
+}

@@ -1,0 +1,51 @@
+//! Whole requests that chance has changed, head and body.
+use super::super::draw::Draw;
+use super::edits::changed;
+use super::met::Met;
+use super::replies::{DONE, READ};
+use super::sent::{GOOD, with_body};
+use super::serving::{book_before, serve};
+use std::alloc::{AllocError, Global};
+use std::test::Fail;
+
+// How often each request is changed.
+const TIMES: usize = 70;
+
+// The request with so many changes at most, and with one at least.
+fn input_of(
+    alloc: Global,
+    draw: &mut Draw,
+    good: &[u8],
+    most: usize,
+) -> Result<Vec<u8>, AllocError> {
+    let mut input = Vec::from_slice(alloc, good)?;
+    for _ in 0..=draw.below(most) {
+        input = changed(alloc, draw, input.as_slice())?;
+    }
+    Ok(input)
+}
+
+// Changes each request so often.
+fn met(alloc: Global, seed: u64, most: usize) -> Result<Met, Fail> {
+    let before = book_before(alloc)?;
+    let mut draw = Draw::new(seed);
+    let mut met = Met::new();
+    for turn in 0..(14 * TIMES) {
+        let sent = GOOD[turn / TIMES % 14];
+        let (_, _, body) = sent;
+        let good = with_body(alloc, sent, body.as_bytes())?;
+        let input = input_of(alloc, &mut draw, good.as_slice(), most)?;
+        met.count(serve(alloc, &before, input.as_slice())?);
+    }
+    Ok(met)
+}
+
+#[test]
+fn requests_with_one_change(rt: HostRuntime) -> Result<(), Fail> {
+    met(rt.alloc(), 1, 1)?.has(rt.alloc(), &[60, 64, 66, 67, 68, READ, DONE])
+}
+
+#[test]
+fn requests_with_more_changes(rt: HostRuntime) -> Result<(), Fail> {
+    met(rt.alloc(), 2, 5)?.has(rt.alloc(), &[60, 64, 67, 68])
+}

@@ -1,0 +1,232 @@
+//! A desk over tables: made, used, stopped, and found again with the book of what it answered.
+ghost use Rattle.std.specs.Prelude.{◌≡◌, false, IfOk, IsTrue};
+ghost use Rattle.sqlite.specs.Held.{state};
+ghost use Rattle.sqlite.specs.State.{HasCleanDisk};
+ghost use Rattle.sqlite.specs.Steps.{IsFresh};
+ghost use Rattle.sqlite.specs.Tree.{Trees};
+ghost use Rattle.sqlite_trees.specs.View.{IsClean};
+ghost use Rattle.rtgs_book.specs.declared.Book.{Book};
+ghost use Rattle.rtgs_book.specs.Books.{new_book};
+ghost use Rattle.rtgs_book.specs.Session.{IsSession};
+ghost use Rattle.rtgs_desk.specs.Holding.{Holds};
+ghost use Rattle.rtgs_tables.specs.Building.{IsBlank};
+ghost use Rattle.rtgs_keeper_trials.specs.Lives.{AreTwoSessions};
+ghost use Rattle.rtgs_stored_desk.specs.Stored.{AreTablesOf};
+
+use super::setting::{Reply, adds_three, posts, standings};
+use rtgs_book::laws::new_book_is_sound;
+use rtgs_book::{Answer, Command, Fault};
+use rtgs_desk::Desk;
+use rtgs_keeper::Keeper;
+use rtgs_repeats::laws::life_is_a_run;
+use rtgs_stored_desk::laws::what_a_session_leaves;
+use rtgs_stored_desk::{create, make, open};
+use rtgs_tables::SqlKeeper;
+use sqlite::{Alter, Connection, MemStore};
+use sqlite_trees::store::Reopen;
+use std::alloc::Global;
+use std::test::Fail;
+
+// Stops a store in the middle of whatever is under way: what it then has is something that a stop could leave.
+fn stopped<S: Alter + Reopen + Drop>(conn: Connection<S>) -> Result<S, Fail>
+    ensures fresh { IfOk result (λ store. IsClean (S.Store.view store) → IsFresh (S.Store.view store)) }
+    ensures left { IfOk result (λ store. IsClean (S.Store.view store)
+        → (state S.Store conn).may_leave (S.Store.view store).trees) }
+    ensures honest { IfOk result (λ store. IsClean (S.Store.view store) → HasCleanDisk (state S.Store conn)) }
+{
+    let mut store = conn.into_store();
+    store.crash_and_reopen()?;
+    Ok(store)
+}
+
+// Opens a database over a store that was opened just now.
+fn connected<S: Alter + Drop>(alloc: Global, store: S) -> Result<Connection<S>, Fail>
+    requires { IsClean (S.Store.view store) → IsFresh (S.Store.view store) }
+    ensures idle { IfOk result (λ conn. conn.in_transaction ≡ false) }
+    ensures opens { IfOk result (λ conn. HasCleanDisk (state S.Store conn) → IsTrue (state S.Store conn).is_open) }
+    ensures found { IfOk result (λ conn. HasCleanDisk (state S.Store conn)
+        → (state S.Store conn).committed.trees ≡ (S.Store.view store).trees) }
+    ensures honest { IfOk result (λ conn. HasCleanDisk (state S.Store conn) → IsClean (S.Store.view store)) }
+{
+    match Connection::over(alloc, store) {
+        Ok(conn) => Ok(conn),
+        Err((error, _)) => Err(Fail::from(error)),
+    }
+}
+
+// Opens a desk over the tables of a database.
+fn opened<S: Alter + Drop>(alloc: Global, conn: Connection<S>) -> Result<Desk<SqlKeeper<S>>, Fail>
+    requires { conn.in_transaction ≡ false }
+    ensures held { IfOk result (λ desk. HasCleanDisk (state S.Store desk.keeper.conn) → IsTrue (state S.Store conn).is_open
+        → (book : Book) → AreTablesOf book (state S.Store conn).committed.trees
+        → Holds ⟦<SqlKeeper<S> as Keeper>⟧ desk book) }
+    ensures honest { IfOk result (λ desk. HasCleanDisk (state S.Store desk.keeper.conn)
+        → HasCleanDisk (state S.Store conn)) }
+{
+    match open(alloc, conn) {
+        Ok(desk) => Ok(desk),
+        Err((fault, _)) => Err(Fail::from(fault)),
+    }
+}
+
+// Stops a desk, and opens it again over what the stop left.
+fn found_again<S: Alter + Reopen + Drop>(
+    alloc: Global,
+    desk: Desk<SqlKeeper<S>>,
+) -> Result<Desk<SqlKeeper<S>>, Fail>
+    ensures found { IfOk result (λ next. HasCleanDisk (state S.Store next.keeper.conn)
+        → (trees : Trees) × (state S.Store desk.keeper.conn).may_leave trees
+        × ((book : Book) → AreTablesOf book trees → Holds ⟦<SqlKeeper<S> as Keeper>⟧ next book)) }
+    ensures honest { IfOk result (λ next. HasCleanDisk (state S.Store next.keeper.conn)
+        → HasCleanDisk (state S.Store desk.keeper.conn)) }
+{
+    let store = stopped(desk.into_keeper().into_connection())?;
+    let conn = connected(alloc, store)?;
+    opened(alloc, conn)
+}
+
+// Makes a desk in an empty database.
+fn created<S: Alter + Drop>(alloc: Global, conn: Connection<S>) -> Result<Desk<SqlKeeper<S>>, Fail>
+    requires { conn.in_transaction ≡ false }
+    ensures { IfOk result (λ desk. HasCleanDisk (state S.Store desk.keeper.conn) → IsBlank (state S.Store conn)
+        → Holds ⟦<SqlKeeper<S> as Keeper>⟧ desk new_book) }
+{
+    match create(alloc, conn) {
+        Ok(desk) => Ok(desk),
+        Err((fault, _)) => Err(Fail::from(fault)),
+    }
+}
+
+// Does commands, stops the desk, and opens it again: it then holds a book that the session of those commands may leave.
+fn session<S: Alter + Reopen + Drop>(
+    alloc: Global,
+    desk: Desk<SqlKeeper<S>>,
+    commands: &[Command],
+) -> Result<(Vec<Reply>, Desk<SqlKeeper<S>>), Fail>
+    ensures found { IfOk result (λ (replies, next). HasCleanDisk (state S.Store next.keeper.conn) → (book : Book)
+        → Holds ⟦<SqlKeeper<S> as Keeper>⟧ desk book
+        → (found : Book) × Holds ⟦<SqlKeeper<S> as Keeper>⟧ next found × IsSession (record {
+          start = book;
+          commands = commands.now;
+          replies = replies.items;
+          found = found;
+        })) }
+    ensures honest { IfOk result (λ (_, next). HasCleanDisk (state S.Store next.keeper.conn)
+        → HasCleanDisk (state S.Store desk.keeper.conn)) }
+{
+    let mut desk = desk;
+    let replies = desk.run(commands)?;
+    what_a_session_leaves(&desk);
+    let next = found_again(alloc, desk)?;
+    Ok((replies, next))
+}
+
+// Makes a desk in an empty database, and has one session with it.
+fn lived<S: Alter + Reopen + Drop>(
+    alloc: Global,
+    conn: Connection<S>,
+    commands: &[Command],
+) -> Result<(Vec<Reply>, Desk<SqlKeeper<S>>), Fail>
+    requires { conn.in_transaction ≡ false }
+    ensures { IfOk result (λ (replies, desk). HasCleanDisk (state S.Store desk.keeper.conn)
+        → IsBlank (state S.Store conn)
+        → (found : Book) × Holds ⟦<SqlKeeper<S> as Keeper>⟧ desk found × IsSession (record {
+          start = new_book;
+          commands = commands.now;
+          replies = replies.items;
+          found = found;
+        })) }
+{
+    let desk = created(alloc, conn)?;
+    let (replies, next) = session(alloc, desk, commands)?;
+    Ok((replies, next))
+}
+
+// Makes a desk in an empty database, and has two sessions with it, of which a stop ends each. They are a life: the book
+// found in the end is that of one list of commands, which has every answered command of both in order with its reply,
+// and of each at most the one more that nobody heard of.
+fn lived_twice<S: Alter + Reopen + Drop>(
+    alloc: Global,
+    conn: Connection<S>,
+    commands: &[Command],
+    more: &[Command],
+) -> Result<(Vec<Reply>, Vec<Reply>, Desk<SqlKeeper<S>>), Fail>
+    requires { conn.in_transaction ≡ false }
+    ensures { IfOk result (λ (replies, others, desk). HasCleanDisk (state S.Store desk.keeper.conn)
+        → IsBlank (state S.Store conn)
+        → (found : Book) × Holds ⟦<SqlKeeper<S> as Keeper>⟧ desk found
+        × AreTwoSessions commands.now replies.items more.now others.items found) }
+{
+    life_is_a_run();
+    new_book_is_sound();
+    let (replies, desk) = lived(alloc, conn, commands)?;
+    let (others, last) = session(alloc, desk, more)?;
+    Ok((replies, others, last))
+}
+
+// The same in memory, where no premise is left.
+fn lived_twice_in_memory(
+    alloc: Global,
+    commands: &[Command],
+    more: &[Command],
+) -> Result<(Vec<Reply>, Vec<Reply>, Desk<SqlKeeper<MemStore>>), Fail>
+    ensures { IfOk result (λ (replies, others, desk). (found : Book)
+        × Holds ⟦<SqlKeeper<MemStore> as Keeper>⟧ desk found
+        × AreTwoSessions commands.now replies.items more.now others.items found) }
+{
+    lived_twice(alloc, Connection::open_in_memory(alloc)?, commands, more)
+}
+
+#[test]
+fn a_desk_is_found_again_and_again(rt: HostRuntime) -> Result<(), Fail> {
+    let [alfa, beta, gama] = adds_three()?;
+    let (replies, others, desk) = lived_twice_in_memory(
+        rt.alloc(),
+        &[alfa, beta, gama, posts("ALFA", "P-1", 1000)?],
+        &[posts("BETA", "P-2", 5)?],
+    )?;
+    assert_eq!(rt; replies.len(), 4);
+    let posted = [Ok(Answer::Posted { number: 2 })];
+    assert_eq!(rt; others.as_slice(), posted.as_slice());
+    assert_eq!(rt; standings(&desk)?, [(1000, 0), (5, 0), (0, 0)]);
+    Ok(())
+}
+
+// Whether a desk is opened over tables that were made just now, and has not failed.
+fn works_over_made_tables<S: Alter + Drop>(alloc: Global, conn: Connection<S>) -> Result<bool, Fail>
+    requires { conn.in_transaction ≡ false }
+{
+    let made = match make(conn) {
+        Ok(made) => made,
+        Err((fault, _)) => return Err(Fail::from(fault)),
+    };
+    let desk = opened(alloc, made)?;
+    Ok(!desk.failed())
+}
+
+#[test]
+fn a_desk_is_opened_over_tables_that_were_made(rt: HostRuntime) -> Result<(), Fail> {
+    let conn = Connection::open_in_memory(rt.alloc())?;
+    assert!(rt; works_over_made_tables(rt.alloc(), conn)?);
+    Ok(())
+}
+
+// Why no desk is opened over this database.
+fn fault_of_opening<S: Alter + Drop>(alloc: Global, conn: Connection<S>) -> Option<Fault>
+    requires { conn.in_transaction ≡ false }
+{
+    match open(alloc, conn) {
+        Ok(_) => None,
+        Err((fault, _)) => Some(fault),
+    }
+}
+
+#[test]
+fn an_empty_database_is_no_desk(rt: HostRuntime) -> Result<(), Fail> {
+    let conn = Connection::open_in_memory(rt.alloc())?;
+    assert_eq!(rt;
+        fault_of_opening(rt.alloc(), conn),
+        Some(Fault::NotADeskFile)
+    );
+    Ok(())
+}
