@@ -5,7 +5,7 @@
 pub(crate) enum Listed {
     /// So many.
     Objects(usize),
-    /// The file says that its pages end in sums, and they do not, or not all. No desk writes sums.
+    /// The file says that its pages end in sums, and the store found no database whose pages do. No desk writes sums.
     WithoutSums,
     /// It could not be read, or an opening would make a new database: what the file is, its opening tells.
     Unknown,
