@@ -1,8 +1,8 @@
 //! Books over files, filled by a desk.
 ghost use Rattle.std.specs.Prelude.{◌≤◌};
 
-use crate::business::{BANKS, addition, endowment, opening, payment, turning};
-use anyhow::{Result, anyhow};
+use crate::business::{BANKS, addition, date, endowment, opening, payment, turning};
+use anyhow::{Result, anyhow, ensure};
 use rtgs_book::Command;
 use rtgs_book_file::{BookLock, FileKeeper, OpenBook, Unknown, Unopened};
 use rtgs_desk::Desk;
@@ -67,7 +67,7 @@ fn endow(alloc: Global, desk: &mut FileDesk) -> Result<()> {
 
 /// Submits so many orders, from this number on.
 pub fn pay(alloc: Global, desk: &mut FileDesk, from: u64, orders: u64) -> Result<()>
-    requires { (from ≤ 200000) × (orders ≤ 100000) }
+    requires { (from ≤ 1000000) × (orders ≤ 500000) }
 {
     for number in from..from + orders {
         give(desk, payment(alloc, number)?)?;
@@ -77,7 +77,7 @@ pub fn pay(alloc: Global, desk: &mut FileDesk, from: u64, orders: u64) -> Result
 
 /// Adds the banks, gives each its money, opens the first day, and submits so many orders.
 fn begin(alloc: Global, desk: &mut FileDesk, orders: u64) -> Result<()>
-    requires { orders ≤ 100000 }
+    requires { orders ≤ 500000 }
 {
     add_banks(alloc, desk)?;
     endow(alloc, desk)?;
@@ -87,7 +87,7 @@ fn begin(alloc: Global, desk: &mut FileDesk, orders: u64) -> Result<()>
 
 /// Ends the first day, opens the second, and submits so many orders more.
 fn turn(alloc: Global, desk: &mut FileDesk, first: u64, second: u64) -> Result<()>
-    requires { (first ≤ 100000) × (second ≤ 100000) }
+    requires { (first ≤ 500000) × (second ≤ 500000) }
 {
     for command in turning()? {
         give(desk, command)?;
@@ -97,7 +97,7 @@ fn turn(alloc: Global, desk: &mut FileDesk, first: u64, second: u64) -> Result<(
 
 /// Makes a book of so many orders.
 pub fn fill(rt: &HostRuntime, file: &str, orders: u64) -> Result<()>
-    requires { orders ≤ 100000 }
+    requires { orders ≤ 500000 }
 {
     let mut book = new_book(rt, file)?;
     let begun = begin(rt.alloc(), book.desk(), orders);
@@ -107,11 +107,47 @@ pub fn fill(rt: &HostRuntime, file: &str, orders: u64) -> Result<()>
 
 /// Makes a book of two days with so many orders each.
 pub fn fill_two_days(rt: &HostRuntime, file: &str, first: u64, second: u64) -> Result<()>
-    requires { (first ≤ 100000) × (second ≤ 100000) }
+    requires { (first ≤ 500000) × (second ≤ 500000) }
 {
     fill(rt, file, first)?;
     let mut book = open_book(rt, file)?;
     let turned = turn(rt.alloc(), book.desk(), first, second);
     book.finish().close();
     turned
+}
+
+/// Opens the day, submits so many orders, from this number on, and closes it.
+fn spend_day(alloc: Global, desk: &mut FileDesk, day: u32, from: u64, orders: u64) -> Result<()>
+    requires { (from ≤ 1000000) × (orders ≤ 500000) }
+{
+    let day = date(day)?;
+    give(desk, Command::OpenDay(day))?;
+    pay(alloc, desk, from, orders)?;
+    give(desk, Command::CutOff(day))?;
+    give(desk, Command::CloseDay(day))
+}
+
+/// Adds the banks, gives each its money, and spends these days with so many orders each.
+fn spend_days(alloc: Global, desk: &mut FileDesk, days: &[u32], orders: u64) -> Result<()>
+    requires { orders ≤ 500000 }
+{
+    add_banks(alloc, desk)?;
+    endow(alloc, desk)?;
+    let mut from = 0u64;
+    for day in days {
+        ensure!(from <= 500_000, "more orders than numbers");
+        spend_day(alloc, desk, *day, from, orders)?;
+        from = from.saturating_add(orders);
+    }
+    Ok(())
+}
+
+/// Makes a book of these days with so many orders each.
+pub fn fill_days(rt: &HostRuntime, file: &str, days: &[u32], orders: u64) -> Result<()>
+    requires { orders ≤ 500000 }
+{
+    let mut book = new_book(rt, file)?;
+    let spent = spend_days(rt.alloc(), book.desk(), days, orders);
+    book.finish().close();
+    spent
 }

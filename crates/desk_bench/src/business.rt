@@ -52,6 +52,20 @@ pub fn second_day() -> Result<BusinessDate> {
     BusinessDate::from_number(20240305).context("a date")
 }
 
+/// The weekdays of eight weeks, the first day before all.
+pub const DAYS: [u32; 40] = [
+    20240304, 20240305, 20240306, 20240307, 20240308, 20240311, 20240312, 20240313, 20240314,
+    20240315, 20240318, 20240319, 20240320, 20240321, 20240322, 20240325, 20240326, 20240327,
+    20240328, 20240329, 20240401, 20240402, 20240403, 20240404, 20240405, 20240408, 20240409,
+    20240410, 20240411, 20240412, 20240415, 20240416, 20240417, 20240418, 20240419, 20240422,
+    20240423, 20240424, 20240425, 20240426,
+];
+
+/// The date of this number, as 20240304.
+pub fn date(number: u32) -> Result<BusinessDate> {
+    BusinessDate::from_number(number).context("a date")
+}
+
 /// Opens the first day.
 pub fn opening() -> Result<Command> {
     Ok(Command::OpenDay(first_day()?))

@@ -9,7 +9,7 @@ use std::time::{Duration, Instant};
 
 /// How long the desk takes for so many orders, from this number on.
 fn time_orders(rt: &HostRuntime, desk: &mut FileDesk, from: u64, orders: u64) -> Result<Duration>
-    requires { (from ≤ 200000) × (orders ≤ 100000) }
+    requires { (from ≤ 1000000) × (orders ≤ 500000) }
 {
     let start = Instant::now(rt)?;
     pay(rt.alloc(), desk, from, orders)?;
@@ -23,7 +23,7 @@ fn time_rows(
     from: u64,
     orders: u64,
 ) -> Result<Duration>
-    requires { (from ≤ 200000) × (orders ≤ 100000) }
+    requires { (from ≤ 1000000) × (orders ≤ 500000) }
 {
     let start = Instant::now(rt)?;
     for number in from..from + orders {
@@ -34,7 +34,7 @@ fn time_rows(
 
 /// How long the desk takes for so many orders, from this number on, in the book of a file.
 pub fn paying(rt: &HostRuntime, file: &str, from: u64, orders: u64) -> Result<Duration>
-    requires { (from ≤ 200000) × (orders ≤ 100000) }
+    requires { (from ≤ 1000000) × (orders ≤ 500000) }
 {
     let mut book = open_book(rt, file)?;
     let took = time_orders(rt, book.desk(), from, orders);
@@ -44,7 +44,7 @@ pub fn paying(rt: &HostRuntime, file: &str, from: u64, orders: u64) -> Result<Du
 
 /// How long the store alone takes for as many in the same file.
 pub fn writing(rt: &HostRuntime, file: &str, from: u64, orders: u64) -> Result<Duration>
-    requires { (from ≤ 200000) × (orders ≤ 100000) }
+    requires { (from ≤ 1000000) × (orders ≤ 500000) }
 {
     let mut conn = Connection::open(rt, file)?;
     time_rows(rt, &mut conn, from, orders)

@@ -53,7 +53,7 @@ fn serve(alloc: Global, desk: &mut FileDesk, operator: &KeyDigest, request: &str
 
 /// Serves so many orders, from this number on.
 fn serve_orders(alloc: Global, desk: &mut FileDesk, from: u64, orders: u64) -> Result<()>
-    requires { (from ≤ 200000) × (orders ≤ 100000) }
+    requires { (from ≤ 1000000) × (orders ≤ 500000) }
 {
     let operator = operator()?;
     for number in from..from + orders {
@@ -74,7 +74,7 @@ fn serve_readings(alloc: Global, desk: &mut FileDesk, line: &str, readings: u64)
 
 /// How long a desk takes to serve so many orders, from this number on.
 fn time_orders(rt: &HostRuntime, desk: &mut FileDesk, from: u64, orders: u64) -> Result<Duration>
-    requires { (from ≤ 200000) × (orders ≤ 100000) }
+    requires { (from ≤ 1000000) × (orders ≤ 500000) }
 {
     let start = Instant::now(rt)?;
     serve_orders(rt.alloc(), desk, from, orders)?;
@@ -95,7 +95,7 @@ fn time_readings(
 
 /// How long so many orders take as requests, from this number on, in the book of a file.
 pub fn ordering(rt: &HostRuntime, file: &str, from: u64, orders: u64) -> Result<Duration>
-    requires { (from ≤ 200000) × (orders ≤ 100000) }
+    requires { (from ≤ 1000000) × (orders ≤ 500000) }
 {
     let mut book = open_book(rt, file)?;
     let took = time_orders(rt, book.desk(), from, orders);

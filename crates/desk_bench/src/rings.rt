@@ -5,6 +5,7 @@ use crate::books::{FileDesk, add_banks, give, new_book, open_book, pay};
 use crate::business::{BANKS, opening};
 use anyhow::{Result, anyhow, bail};
 use rtgs_book::{Answer, Change, Command};
+use rtgs_cores::Found;
 use rtgs_keeper::Keeper;
 use rtgs_ledger::Ledger;
 use rtgs_tables::SqlKeeper;
@@ -43,18 +44,20 @@ pub fn fill(rt: &HostRuntime, file: &str, queued: u64) -> Result<()>
     begun
 }
 
-/// The rows that settle the rings of a book, and how long the ledger takes to prepare them.
-fn prepare<K: Keeper>(rt: &HostRuntime, keeper: &mut K) -> Result<(Change, Duration)> {
-    let book = match keeper.load(rt.alloc()) {
-        Ok(book) => book,
+/// The ledger of the book that a keeper has.
+fn ledger_of<K: Keeper>(alloc: Global, keeper: &mut K) -> Result<Ledger> {
+    let core = match keeper.core(alloc) {
+        Ok(core) => core,
         Err(fault) => return Err(anyhow!("the book: {fault:?}")),
     };
-    let mut ledger = match Ledger::load(rt.alloc(), book) {
-        Ok(ledger) => ledger,
-        Err(fault) => return Err(anyhow!("the ledger: {fault:?}")),
-    };
+    Ok(Ledger::load(alloc, core)?)
+}
+
+/// The rows that settle the rings of a book, and how long the ledger takes to prepare them.
+fn prepare<K: Keeper>(rt: &HostRuntime, keeper: &mut K) -> Result<(Change, Duration)> {
+    let mut ledger = ledger_of(rt.alloc(), keeper)?;
     let start = Instant::now(rt)?;
-    match ledger.prepare(&Command::Resolve) {
+    match ledger.prepare(&Command::Resolve, &Found::NOTHING) {
         Ok((_, change)) => Ok((change, start.elapsed(rt)?)),
         Err(refusal) => Err(anyhow!("refused: {refusal:?}")),
     }

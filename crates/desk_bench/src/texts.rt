@@ -7,7 +7,7 @@ use crate::orders::writing;
 use anyhow::{Result, anyhow, ensure};
 use rtgs_exchange::{read_orders, submit_batch, write_results};
 use rtgs_money::BusinessDate;
-use rtgs_statements::day_report;
+use rtgs_statements::write_report;
 use std::alloc::Global;
 use std::fmt::Write;
 use std::time::{Duration, Instant};
@@ -48,7 +48,7 @@ fn time_import(rt: &HostRuntime, desk: &mut FileDesk, text: &str) -> Result<Dura
 
 /// How long it takes to import so many orders into a book of others, and to write as many to the store alone.
 pub fn importing(rt: &HostRuntime, orders: u64, rows: u64) -> Result<(Duration, Duration)>
-    requires { (orders ≤ 100000) × (rows ≤ 500) }
+    requires { (orders ≤ 500000) × (rows ≤ 500) }
 {
     let file = format!(in rt.alloc(); "imports-{orders}.desk")?;
     fill(rt, file.as_str(), orders)?;
@@ -61,14 +61,14 @@ pub fn importing(rt: &HostRuntime, orders: u64, rows: u64) -> Result<(Duration, 
 }
 
 /// How long a desk takes for the report of a day, and how many bytes it has.
-fn time_report(rt: &HostRuntime, desk: &FileDesk, date: BusinessDate) -> Result<(Duration, usize)> {
+fn time_report(
+    rt: &HostRuntime,
+    desk: &mut FileDesk,
+    date: BusinessDate,
+) -> Result<(Duration, usize)> {
     let start = Instant::now(rt)?;
-    let report = match desk.report_of(date) {
-        Ok(report) => report,
-        Err(refusal) => return Err(anyhow!("refused: {refusal:?}")),
-    };
     let mut text = Vec::new(rt.alloc());
-    match day_report(rt.alloc(), &mut text, &report) {
+    match write_report(rt.alloc(), &mut text, desk, date) {
         Ok(()) => Ok((start.elapsed(rt)?, text.len())),
         Err(fault) => Err(anyhow!("the report: {fault:?}")),
     }

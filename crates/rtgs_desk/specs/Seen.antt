@@ -1,7 +1,7 @@
 -- A desk, as contracts see it.
-use Rattle.rtgs_book.specs.declared.book.Book.{Book}
+use Rattle.rtgs_cores.specs.declared.Core.{Core}
 
--- its keeper, and the book that it has in memory
+-- its keeper, and what it has of a book in memory
 pub record Seen (K : Type 0) : Type 0 where
   pub keeper : K
-  pub book : Book
+  pub core : Core

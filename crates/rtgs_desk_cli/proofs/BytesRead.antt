@@ -1,7 +1,7 @@
 -- What a reading tells is told by its bytes.
 use Rattle.std.proofs.Common.{◌≡◌, ◌⊎◌, ℕ, List, Result, Ok, Err, ap, subst, inl, inr}
 use Rattle.rtgs_book.specs.declared.Refusal.{Refusal}
-use Rattle.rtgs_book.specs.declared.refusal.Refusal.TheVariants.{StoreFault}
+use Rattle.rtgs_book.specs.declared.refusal.Refusal.TheVariants.{OutOfMemory, StoreFault}
 use Rattle.rtgs_book.specs.declared.reading.Reading.{Reading}
 use Rattle.rtgs_book.specs.declared.reading.Reading.TheVariants as reading
 use Rattle.rtgs_desk.specs.Readings.{Tells}
@@ -28,24 +28,38 @@ tells_refusal bytes_of (Err first) why told =
 -- what failed was not read
 fails_unread : {K V : Type 0} (g : Ghosts K) (asked : Reading) (desk : Seen K) (text : V) → Fails g asked desk (Ok text)
     → ⊥
-fails_unread g (reading.Order sender reference) desk text fails =
+fails_unread g (reading.Order sender reference) desk text (inl memory) = cc
+fails_unread g (reading.Order sender reference) desk text (inr fails) =
     let fault = fails.1 in
     cc
 fails_unread g (reading.Account code) desk text fails = fails
 fails_unread g (reading.Queue code) desk text fails = fails
-fails_unread g (reading.Statement code date) desk text fails = fails
-fails_unread g (reading.Report date) desk text fails = fails
+fails_unread g (reading.Statement code date) desk text fails =
+    let fault = fails.1 in
+    cc
+fails_unread g (reading.Report date) desk text fails =
+    let fault = fails.1 in
+    cc
 
 fails_alike : {K : Type 0} (V : Type 0) (g : Ghosts K) (asked : Reading) (desk : Seen K) (why : Refusal)
     → Fails {V = V} g asked desk (Err why) → Fails {V = List ℕ} g asked desk (Err why)
-fails_alike V g (reading.Order sender reference) desk why fails =
+fails_alike V g (reading.Order sender reference) desk why (inl memory) =
+    let same : why ≡ OutOfMemory = cc in
+    inl (ap Err same)
+fails_alike V g (reading.Order sender reference) desk why (inr fails) =
+    let fault = fails.1 in
+    let same : why ≡ StoreFault = cc in
+    inr (fails.0, ap Err same)
+fails_alike V g (reading.Account code) desk why fails = fails
+fails_alike V g (reading.Queue code) desk why fails = fails
+fails_alike V g (reading.Statement code date) desk why fails =
     let fault = fails.1 in
     let same : why ≡ StoreFault = cc in
     (fails.0, ap Err same)
-fails_alike V g (reading.Account code) desk why fails = fails
-fails_alike V g (reading.Queue code) desk why fails = fails
-fails_alike V g (reading.Statement code date) desk why fails = fails
-fails_alike V g (reading.Report date) desk why fails = fails
+fails_alike V g (reading.Report date) desk why fails =
+    let fault = fails.1 in
+    let same : why ≡ StoreFault = cc in
+    (fails.0, ap Err same)
 
 module _ {K U C : Type 0} (file : OverFile K U C) {V : Type 0} (bytes_of : V → List ℕ) (asked : Reading)
     (read : Result V Refusal) (left : Seen K) (did : IsRead file bytes_of asked read left) where

@@ -1,12 +1,12 @@
 -- The texts of readings, as they are printed. `g` has the members of the keeper's trait.
-use Rattle.std.specs.Prelude.{◌≡◌, ◌++◌, ◌∷◌, [], ℕ, true, List, Result, Ok, Err}
+use Rattle.std.specs.Prelude.{◌≡◌, ◌⊎◌, ◌++◌, ◌∷◌, [], ℕ, true, List, Result, Ok, Err}
 use Rattle.serde_json.specs.Data.{Data}
 use Rattle.serde_json.specs.Written.{compact_text}
 use Rattle.rtgs_book.specs.declared.book.Book.{Book}
 use Rattle.rtgs_book.specs.declared.reading.Reading.{Reading}
 use Rattle.rtgs_book.specs.declared.reading.Reading.TheVariants as reading
 use Rattle.rtgs_book.specs.declared.refusal.Refusal.{Refusal}
-use Rattle.rtgs_book.specs.declared.refusal.Refusal.TheVariants.{StoreFault}
+use Rattle.rtgs_book.specs.declared.refusal.Refusal.TheVariants.{OutOfMemory, StoreFault}
 use Rattle.rtgs_keeper.specs.declared.keeper.Keeper.{Ghosts}
 use Rattle.rtgs_desk.specs.Readings.{account_told, order_told, queue_told}
 use Rattle.rtgs_desk.specs.Seen.{Seen}
@@ -26,8 +26,10 @@ text_wanted book (reading.Queue code) = json_line queue_data (queue_told book co
 text_wanted book (reading.Statement code date) = statement_wanted book code date
 text_wanted book (reading.Report date) = report_wanted book date
 
--- the store failed: the reading of an order asks it, and no other
+-- The store was asked, and failed. For an order it can want memory too. An account and a queue are read without asking it.
 abbrev pub Fails : {K V : Type 0} → Ghosts K → Reading → Seen K → Result V Refusal → Type 0
 Fails g (reading.Order sender reference) desk result =
-    (g.has_failed desk.keeper ≡ true) × (result ≡ Err StoreFault)
-Fails g _ desk result = ⊥
+    (result ≡ Err OutOfMemory) ⊎ ((g.has_failed desk.keeper ≡ true) × (result ≡ Err StoreFault))
+Fails g (reading.Account code) desk result = ⊥
+Fails g (reading.Queue code) desk result = ⊥
+Fails g _ desk result = (g.has_failed desk.keeper ≡ true) × (result ≡ Err StoreFault)

@@ -2,10 +2,8 @@
 //! told of an account, a queue and an order.
 #![tactic(auto)]
 
-mod fault;
 mod readings;
 mod texts;
 
-pub use crate::fault::DeskTextFault;
-pub use crate::readings::text_of;
+pub use crate::readings::{report_text, statement_text, text_of};
 pub use crate::texts::{write_report, write_statement};

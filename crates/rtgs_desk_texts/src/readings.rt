@@ -6,9 +6,8 @@ ghost use Rattle.rtgs_desk.specs.Holding.{Holds};
 ghost use Rattle.rtgs_desk.specs.Readings.{Tells, account_told, order_told, queue_told};
 ghost use Rattle.rtgs_http_bodies.specs.Readings.{account_data, order_data, queue_data};
 ghost use Rattle.rtgs_desk_texts.specs.Readings.{Fails, json_line, text_wanted};
-ghost use Rattle.rtgs_desk_texts.specs.Written.{statement_wanted, report_wanted, refusal_of_text};
+ghost use Rattle.rtgs_desk_texts.specs.Written.{LeavesBook, statement_wanted, report_wanted, refusal_of_text};
 
-use crate::fault::DeskTextFault;
 use crate::texts::{write_report, write_statement};
 use rtgs_book::{Reading, Refusal};
 use rtgs_desk::Desk;
@@ -16,11 +15,12 @@ use rtgs_http_bodies::laws::queued_values_fit;
 use rtgs_http_bodies::{account_text, order_text, queue_text};
 use rtgs_keeper::Keeper;
 use rtgs_money::{BusinessDate, Code, Reference};
+use rtgs_statements::BookTextFault;
 use std::alloc::{AllocError, Global};
 
 /// The text of a reading, as the book that the desk holds has it: a statement, a report, or JSON and a line feed.
-/// Refused as the desk refuses the reading, or for lack of memory. Only the reading of an order asks the store, and can
-/// meet a fault of it. Nothing is done to the book.
+/// Refused as the desk refuses the reading, or for lack of memory. The readings of an order, a statement and a report
+/// ask the store, and can meet a fault of it. Nothing is done to the book.
 pub fn text_of<K: Keeper>(
     alloc: Global,
     desk: &mut Desk<K>,
@@ -45,8 +45,8 @@ pub fn text_of<K: Keeper>(
         Reading::Order { sender, reference } => order_line(alloc, desk, &sender, &reference),
         Reading::Account { code } => account_line(alloc, desk, &code),
         Reading::Queue { code } => queue_line(alloc, desk, &code),
-        Reading::Statement { code, date } => statement_of(alloc, desk, &code, date),
-        Reading::Report { date } => report_of(alloc, desk, date),
+        Reading::Statement { code, date } => statement_text(alloc, desk, &code, date),
+        Reading::Report { date } => report_text(alloc, desk, date),
     }
 }
 
@@ -59,7 +59,8 @@ fn order_line<K: Keeper>(
 ) -> Result<Vec<u8>, Refusal>
     ensures told { K.is_honest desk.new.keeper → (book : Book) → Holds K.Keeper desk.old book
         → Tells (λ text. text.items) (json_line order_data (order_told book sender.now reference.now)) result
-        ⊎ ((K.has_failed desk.new.keeper ≡ true) × (result ≡ Err Refusal.StoreFault)) }
+        ⊎ ((result ≡ Err Refusal.OutOfMemory)
+        ⊎ ((K.has_failed desk.new.keeper ≡ true) × (result ≡ Err Refusal.StoreFault))) }
     ensures failed { K.has_failed desk.old.keeper ≡ true → (result ≡ Err Refusal.Failed) × (desk.new ≡ desk.old) }
     ensures kept { K.is_honest desk.new.keeper → (book : Book) → Holds K.Keeper desk.old book
         → K.has_failed desk.new.keeper ≡ false → Holds K.Keeper desk.new book }
@@ -69,7 +70,10 @@ fn order_line<K: Keeper>(
         → K.is_whole desk.new.keeper }
     ensures honest { K.is_honest desk.new.keeper → K.is_honest desk.old.keeper }
 {
-    let order = desk.order_of(sender, reference)?;
+    let order = match desk.order_of(sender, reference) {
+        Ok(order) => order,
+        Err(refusal) => return Err(refusal),
+    };
     Ok(ended(order_text(alloc, &order)?)?)
 }
 
@@ -104,16 +108,18 @@ fn ended(text: Vec<u8>) -> Result<Vec<u8>, AllocError>
     Ok(line)
 }
 
-// The statement of a participant for a date.
-fn statement_of<K: Keeper>(
+/// The statement of a participant for a date, gathered in memory. The book stays as it is.
+pub fn statement_text<K: Keeper>(
     alloc: Global,
-    desk: &Desk<K>,
+    desk: &mut Desk<K>,
     code: &Code,
     date: BusinessDate,
 ) -> Result<Vec<u8>, Refusal>
-    ensures told { (book : Book) → Holds K.Keeper desk.now book
-        → Tells (λ text. text.items) (statement_wanted book code.now date) result }
-    ensures failed { K.has_failed desk.now.keeper ≡ true → result ≡ Err Refusal.Failed }
+    ensures told { K.is_honest desk.new.keeper → (book : Book) → Holds K.Keeper desk.old book
+        → Tells (λ text. text.items) (statement_wanted book code.now date) result
+        ⊎ ((K.has_failed desk.new.keeper ≡ true) × (result ≡ Err Refusal.StoreFault)) }
+    ensures failed { K.has_failed desk.old.keeper ≡ true → (result ≡ Err Refusal.Failed) × (desk.new ≡ desk.old) }
+    ensures leaves { LeavesBook K.Keeper desk.old desk.new }
 {
     let mut text = Vec::new(alloc);
     match write_statement(alloc, &mut text, desk, code, date) {
@@ -122,15 +128,17 @@ fn statement_of<K: Keeper>(
     }
 }
 
-// The report of a day.
-fn report_of<K: Keeper>(
+/// The report of a day, gathered in memory. The book stays as it is.
+pub fn report_text<K: Keeper>(
     alloc: Global,
-    desk: &Desk<K>,
+    desk: &mut Desk<K>,
     date: BusinessDate,
 ) -> Result<Vec<u8>, Refusal>
-    ensures told { (book : Book) → Holds K.Keeper desk.now book
-        → Tells (λ text. text.items) (report_wanted book date) result }
-    ensures failed { K.has_failed desk.now.keeper ≡ true → result ≡ Err Refusal.Failed }
+    ensures told { K.is_honest desk.new.keeper → (book : Book) → Holds K.Keeper desk.old book
+        → Tells (λ text. text.items) (report_wanted book date) result
+        ⊎ ((K.has_failed desk.new.keeper ≡ true) × (result ≡ Err Refusal.StoreFault)) }
+    ensures failed { K.has_failed desk.old.keeper ≡ true → (result ≡ Err Refusal.Failed) × (desk.new ≡ desk.old) }
+    ensures leaves { LeavesBook K.Keeper desk.old desk.new }
 {
     let mut text = Vec::new(alloc);
     match write_report(alloc, &mut text, desk, date) {
@@ -140,11 +148,11 @@ fn report_of<K: Keeper>(
 }
 
 // Why a text was not made in memory. A writer in memory fails where memory is refused, and nowhere else.
-fn refusal_of(fault: DeskTextFault) -> Refusal
+fn refusal_of(fault: BookTextFault) -> Refusal
     ensures { result ≡ refusal_of_text fault }
 {
     match fault {
-        DeskTextFault::Refused(refusal) => refusal,
-        DeskTextFault::Text(_) => Refusal::OutOfMemory,
+        BookTextFault::Refused(refusal) => refusal,
+        BookTextFault::Text(_) => Refusal::OutOfMemory,
     }
 }

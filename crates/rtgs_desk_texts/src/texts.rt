@@ -1,68 +1,71 @@
 //! Texts of a desk's book.
-ghost use Rattle.std.specs.Prelude.{◌≡◌, true, Ok, Err};
+ghost use Rattle.std.specs.Prelude.{◌≡◌, ◌≢◌, true, Ok, Err};
 ghost use Rattle.rtgs_book.specs.declared.Book.{Book};
 ghost use Rattle.rtgs_book.specs.declared.Refusal.{Refusal};
 ghost use Rattle.rtgs_desk.specs.Holding.{Holds};
 ghost use Rattle.rtgs_output.specs.declared.text_fault.TextFault.{TextFault};
-ghost use Rattle.rtgs_desk_texts.specs.Written.{Writes, statement_wanted, report_wanted};
+ghost use Rattle.rtgs_statements.specs.declared.book_text_fault.BookTextFault.{BookTextFault};
+ghost use Rattle.rtgs_desk_texts.specs.Written.{LeavesBook, Writes, statement_wanted, report_wanted};
 
-use crate::fault::DeskTextFault;
+use rtgs_book::Refusal;
 use rtgs_desk::Desk;
 use rtgs_keeper::Keeper;
 use rtgs_money::{BusinessDate, Code};
-use rtgs_statements::{day_report, statement_text};
+use rtgs_statements::BookTextFault;
+use rtgs_statements::laws::texts_have_bytes;
 use std::alloc::Global;
 use std::io::Write;
 
-/// Writes the statement of a participant for a date, as the book that the desk holds has it. It is refused before a
-/// byte is written where the store has failed, and else where nobody has the code; a fault of the writer leaves a
-/// beginning of the text, and lack of memory leaves the writer as it was.
+/// Writes the statement of a participant for a date, as the book that the desk holds has it, each row as its record is
+/// read. It is refused before a byte is written where the store has failed, and else where nobody has the code. Lack of
+/// memory, and a fault of the store or of the writer, leave a beginning of the text.
 pub fn write_statement<K: Keeper, W: Write>(
     alloc: Global,
     out: &mut W,
-    desk: &Desk<K>,
+    desk: &mut Desk<K>,
     code: &Code,
     date: BusinessDate,
-) -> Result<(), DeskTextFault>
-    ensures written { (book : Book) → Holds K.Keeper desk.now book
+) -> Result<(), BookTextFault>
+    ensures written { K.is_honest desk.new.keeper → (book : Book) → Holds K.Keeper desk.old book
         → Writes (W.contents out.old) (statement_wanted book code.now date) result (W.contents out.new) }
-    ensures failed { K.has_failed desk.now.keeper ≡ true
-        → (result ≡ Err (DeskTextFault.Refused Refusal.Failed)) × (out.new ≡ out.old) }
-    ensures memory { result ≡ Err (DeskTextFault.Text TextFault.OutOfMemory) → out.new ≡ out.old }
-    ensures refused { (refusal : Refusal) → result ≡ Err (DeskTextFault.Refused refusal) → out.new ≡ out.old }
+    ensures failed { K.has_failed desk.old.keeper ≡ true
+        → (result ≡ Err (BookTextFault.Refused Refusal.Failed)) × (out.new ≡ out.old) × (desk.new ≡ desk.old) }
+    ensures leaves { LeavesBook K.Keeper desk.old desk.new }
+    ensures fault { result ≡ Err (BookTextFault.Refused Refusal.StoreFault) → K.has_failed desk.new.keeper ≡ true }
+    ensures only_fault { result ≢ Err (BookTextFault.Refused Refusal.StoreFault)
+        → K.has_failed desk.new.keeper ≡ K.has_failed desk.old.keeper }
 {
-    let statement = match desk.statement_of(code, date) {
-        Ok(statement) => statement,
-        Err(refusal) => return Err(DeskTextFault::Refused(refusal)),
-    };
-    match statement_text(alloc, out, &statement) {
-        Ok(()) => Ok(()),
-        Err(fault) => Err(DeskTextFault::Text(fault)),
+    desk.holds_a_sound_book();
+    texts_have_bytes();
+    match desk.account(code) {
+        Ok(_) => rtgs_statements::write_statement(alloc, out, desk, code, date),
+        Err(refusal) => Err(BookTextFault::Refused(refusal)),
     }
 }
 
 /// Writes the report of a day, as the book that the desk holds has it. It is refused before a byte is written where
-/// the store has failed; a fault of the writer leaves a beginning of the text, and lack of memory leaves the writer as
-/// it was.
+/// the store has failed; lack of memory and a fault of the store leave the writer as it was, and a fault of the writer
+/// leaves a beginning of the text.
 pub fn write_report<K: Keeper, W: Write>(
     alloc: Global,
     out: &mut W,
-    desk: &Desk<K>,
+    desk: &mut Desk<K>,
     date: BusinessDate,
-) -> Result<(), DeskTextFault>
-    ensures written { (book : Book) → Holds K.Keeper desk.now book
+) -> Result<(), BookTextFault>
+    ensures written { K.is_honest desk.new.keeper → (book : Book) → Holds K.Keeper desk.old book
         → Writes (W.contents out.old) (report_wanted book date) result (W.contents out.new) }
-    ensures failed { K.has_failed desk.now.keeper ≡ true
-        → (result ≡ Err (DeskTextFault.Refused Refusal.Failed)) × (out.new ≡ out.old) }
-    ensures memory { result ≡ Err (DeskTextFault.Text TextFault.OutOfMemory) → out.new ≡ out.old }
-    ensures refused { (refusal : Refusal) → result ≡ Err (DeskTextFault.Refused refusal) → out.new ≡ out.old }
+    ensures failed { K.has_failed desk.old.keeper ≡ true
+        → (result ≡ Err (BookTextFault.Refused Refusal.Failed)) × (out.new ≡ out.old) × (desk.new ≡ desk.old) }
+    ensures memory { result ≢ Err (BookTextFault.Text TextFault.OutOfMemory) }
+    ensures refused { (refusal : Refusal) → result ≡ Err (BookTextFault.Refused refusal) → out.new ≡ out.old }
+    ensures leaves { LeavesBook K.Keeper desk.old desk.new }
+    ensures fault { result ≡ Err (BookTextFault.Refused Refusal.StoreFault) → K.has_failed desk.new.keeper ≡ true }
+    ensures only_fault { result ≢ Err (BookTextFault.Refused Refusal.StoreFault)
+        → K.has_failed desk.new.keeper ≡ K.has_failed desk.old.keeper }
 {
-    let report = match desk.report_of(date) {
-        Ok(report) => report,
-        Err(refusal) => return Err(DeskTextFault::Refused(refusal)),
-    };
-    match day_report(alloc, out, &report) {
-        Ok(()) => Ok(()),
-        Err(fault) => Err(DeskTextFault::Text(fault)),
+    desk.holds_a_sound_book();
+    if desk.failed() {
+        return Err(BookTextFault::Refused(Refusal::Failed));
     }
+    rtgs_statements::write_report(alloc, out, desk, date)
 }

@@ -5,7 +5,7 @@ use Rattle.rtgs_book.specs.declared.book.Book.{Book}
 use Rattle.rtgs_book.specs.declared.refusal.Refusal.TheVariants.{Failed}
 use Rattle.rtgs_keeper.specs.declared.keeper.Keeper.{Ghosts}
 use Rattle.rtgs_ledger.specs.Keys.{code_under}
-use Rattle.rtgs_desk.specs.Holding.{HasInMemory, Holds}
+use Rattle.rtgs_desk.specs.Holding.{HasParticipants, Holds}
 use Rattle.rtgs_desk.specs.Seen.{Seen}
 use Rattle.rtgs_exchange.specs.Batches.{replies_of, with_stop}
 use Rattle.rtgs_http_bodies.specs.Refusals.{refused_message}
@@ -28,7 +28,7 @@ nobody : {K : Type 0} (g : Ghosts K) (desk : Seen K) (code_of : CodeOf) → g.ha
     → KnowsOf g desk code_of
 nobody g desk code_of failed = λ works. let no : ⊥ = cc in absurd no
 
-of_book : {K : Type 0} (g : Ghosts K) (desk : Seen K) (book : Book) → HasInMemory desk book
+of_book : {K : Type 0} (g : Ghosts K) (desk : Seen K) (book : Book) → HasParticipants desk book
     → KnowsOf g desk (code_under book)
 of_book g desk book memory = λ works. (book, memory, refl)
 
@@ -89,8 +89,8 @@ pub asked_exchange : {K : Type 0} (g : Ghosts K) (operator input : List ℕ) (ol
     → ((operator : List ℕ) (code_of : CodeOf) (input : List ℕ) (asked : Asked)
     → AsksFor operator code_of input (Ok asked)
     → (digest : List ℕ) × BearsKey input digest × MayAsk operator code_of digest asked)
-    → ((book : Book) × HasInMemory old book × IsSound book)
-    → ((book : Book) → Holds g old book → HasInMemory old book) → Requests (KnowsOf g old) operator input (Ok asked)
+    → ((book : Book) × HasParticipants old book × IsSound book)
+    → ((book : Book) → Holds g old book → HasParticipants old book) → Requests (KnowsOf g old) operator input (Ok asked)
     → (g.is_honest new.keeper → (book : Book) → Holds g old book → ComesTo g book (Ok asked) new sent)
     → (g.has_failed old.keeper ≡ true → (new ≡ old) × IsSaid (refused_message Failed) sent)
     → Exchanges g operator old input new sent
@@ -115,7 +115,7 @@ asked_exchange g operator input old new asked sent own memory has asks comes fai
 pub fault_exchange : {K : Type 0} (g : Ghosts K) (operator input : List ℕ) (desk : Seen K) (fault : HttpFault)
     (sent : Message)
     → ((code_of : CodeOf) → KnowsOf g desk code_of → AsksFor operator code_of input (Err fault))
-    → ((book : Book) → Holds g desk book → HasInMemory desk book)
+    → ((book : Book) → Holds g desk book → HasParticipants desk book)
     → ((book : Book) → Holds g desk book → Stands g book desk) → IsSaid (fault_message fault) sent
     → Exchanges g operator desk input desk sent
 fault_exchange g operator input desk fault sent asks has stands said = record {

@@ -11,8 +11,8 @@ use Rattle.rtgs_book.specs.Lookup.{order_named, participant_of, is_order_named}
 use Rattle.rtgs_book.specs.Queue.{queue}
 use Rattle.rtgs_book.specs.declared.book.Book.{Book}
 use Rattle.rtgs_book.specs.declared.order.Order.{Order}
-use Rattle.rtgs_desk.specs.Dated.{statement_told}
 use Rattle.rtgs_desk.specs.Readings.{account_told, queue_told, order_told}
+use Rattle.rtgs_desk_texts.specs.Written.{statement_wanted}
 use Rattle.rtgs_http_requests.specs.Access.{IsReadingOf}
 use Rattle.rtgs_book.specs.declared.reading.Reading.{Reading}
 use Rattle.rtgs_book.specs.declared.reading.Reading.TheVariants as reading
@@ -149,7 +149,7 @@ waiting_alike : (one other : Book) (code : List ℕ) → AgreeFor code one other
 waiting_alike one other code agree = rw (agree.participant, queue_alike one other code agree) refl
 
 statement_alike : (one other : Book) (code : List ℕ) (date : ℕ) → AgreeFor code one other
-    → statement_told one code date ≡ statement_told other code date
+    → statement_wanted one code date ≡ statement_wanted other code date
 statement_alike one other code date agree =
     let postings = taken_alike (is_posting_of code date) (is_posted_to code)
     (λ posting e. and_right (is_posted_on date posting) (is_posted_to code posting) e) one.postings other.postings

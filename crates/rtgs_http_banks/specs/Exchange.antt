@@ -4,7 +4,7 @@ use Rattle.rtgs_book.specs.declared.book.Book.{Book}
 use Rattle.rtgs_book.specs.declared.refusal.Refusal.TheVariants.{Failed}
 use Rattle.rtgs_keeper.specs.declared.keeper.Keeper.{Ghosts}
 use Rattle.rtgs_ledger.specs.Keys.{code_under}
-use Rattle.rtgs_desk.specs.Holding.{HasInMemory, Holds}
+use Rattle.rtgs_desk.specs.Holding.{HasParticipants, Holds}
 use Rattle.rtgs_desk.specs.Seen.{Seen}
 use Rattle.rtgs_http_bodies.specs.Refusals.{refused_message}
 use Rattle.rtgs_http_replies.specs.Messages.{Message}
@@ -46,10 +46,10 @@ TurnsAway operator input sent =
     ⊎ ((fault : HttpFault) × ((code_of : CodeOf) → AsksFor operator code_of input (Err fault))
     × IsSaid (fault_message fault) sent)
 
--- the bearer of a key asks for what it may, by the participants of a book that the desk has in memory
+-- the bearer of a key asks for what it may, by the participants that the desk has in memory, which are those of a book
 abbrev pub IsAskedByBearer : {K : Type 0} → List ℕ → Seen K → List ℕ → Type 0
 IsAskedByBearer operator desk input =
-    (book : Book) × HasInMemory desk book × (asked : Asked) × AsksFor operator (code_under book) input (Ok asked)
+    (book : Book) × HasParticipants desk book × (asked : Asked) × AsksFor operator (code_under book) input (Ok asked)
     × IsAllowed operator book input (Ok asked)
 
 -- what an input comes to: on a desk that held a book, and on one that had failed

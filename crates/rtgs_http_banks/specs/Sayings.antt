@@ -1,10 +1,9 @@
 -- The messages that tell what came of a request.
-use Rattle.std.specs.Prelude.{◌≡◌, ◌⊎◌, List, Result, Ok, Err}
+use Rattle.std.specs.Prelude.{◌≡◌, ◌⊎◌, ℕ, List, Result, Ok, Err}
 use Rattle.rtgs_book.specs.declared.book.Book.{Book}
 use Rattle.rtgs_book.specs.declared.order.Order.{Order}
 use Rattle.rtgs_book.specs.declared.refusal.Refusal.{Refusal}
 use Rattle.rtgs_book.specs.Outcome.{Reply}
-use Rattle.rtgs_desk.specs.Dated.{StatementTold, statement_told, ReportTold, report_told}
 use Rattle.rtgs_desk.specs.Readings.{account_told, queue_told, order_told}
 use Rattle.rtgs_desk.specs.declared.reading.AccountReading.{AccountReading}
 use Rattle.rtgs_http_bodies.specs.Answers.{answer_data}
@@ -18,7 +17,7 @@ use Rattle.rtgs_http_requests.specs.declared.http_fault.HttpFault.{HttpFault}
 use Rattle.rtgs_http_requests.specs.declared.http_fault.HttpFault.TheVariants.{Batch}
 use Rattle.rtgs_book.specs.declared.reading.Reading.{Reading}
 use Rattle.rtgs_book.specs.declared.reading.Reading.TheVariants as reading
-use Rattle.rtgs_statements.specs.Texts.{statement_text, report_text}
+use Rattle.rtgs_desk_texts.specs.Written.{statement_wanted, report_wanted}
 
 -- What is sent is this, or that there was no memory for it. No command was given.
 abbrev pub IsSaid : Message → Message → Type 0
@@ -52,17 +51,13 @@ account_message account = json_message 200 (account_data account)
 abbrev pub queue_message : List Order → Message
 queue_message orders = json_message 200 (queue_data orders)
 
-abbrev pub statement_message : StatementTold → Message
-statement_message told = message 200 Plain (statement_text told.code told.date told.postings told.orders)
-
-abbrev pub report_message : ReportTold → Message
-report_message told =
-    message 200 Plain (report_text told.date told.codes told.postings told.orders told.marks)
+abbrev pub text_message : List ℕ → Message
+text_message text = message 200 Plain text
 
 -- what is read in a book
 abbrev pub reading_message : Book → Reading → Message
 reading_message book (reading.Order sender reference) = told_message order_message (order_told book sender reference)
 reading_message book (reading.Account code) = told_message account_message (account_told book code)
 reading_message book (reading.Queue code) = told_message queue_message (queue_told book code)
-reading_message book (reading.Statement code date) = told_message statement_message (statement_told book code date)
-reading_message book (reading.Report date) = told_message report_message (report_told book date)
+reading_message book (reading.Statement code date) = told_message text_message (statement_wanted book code date)
+reading_message book (reading.Report date) = told_message text_message (report_wanted book date)

@@ -1,17 +1,18 @@
 //! Readings, and what is replied to them.
 ghost use Rattle.rtgs_book.specs.declared.Book.{Book};
-ghost use Rattle.rtgs_desk.specs.Dated.{statement_told, report_told};
 ghost use Rattle.rtgs_desk.specs.Holding.{Holds};
 ghost use Rattle.rtgs_desk.specs.Readings.{account_told, queue_told, order_told};
+ghost use Rattle.rtgs_desk_texts.specs.Written.{statement_wanted, report_wanted};
 ghost use Rattle.rtgs_http_banks.specs.Dealings.{Stands, Reads, IsReadOf};
 ghost use Rattle.rtgs_http_banks.specs.Sayings.{IsSaid, told_message, order_message, account_message, queue_message};
-ghost use Rattle.rtgs_http_banks.specs.Sayings.{statement_message, report_message};
+ghost use Rattle.rtgs_http_banks.specs.Sayings.{text_message};
 
 use crate::faults::refused;
 use rtgs_book::Reading;
 use rtgs_desk::Desk;
+use rtgs_desk_texts::{report_text, statement_text};
 use rtgs_http_bodies::laws::queued_values_fit;
-use rtgs_http_bodies::{account_reply, order_reply, queue_reply, report_reply, statement_reply};
+use rtgs_http_bodies::{account_reply, order_reply, queue_reply, text_reply};
 use rtgs_http_replies::Reply;
 use rtgs_keeper::Keeper;
 use rtgs_money::{BusinessDate, Code, Reference};
@@ -97,33 +98,37 @@ fn read_queue<K: Keeper>(alloc: Global, desk: &Desk<K>, code: &Code) -> Reply
 // The statement of a date.
 fn read_statement<K: Keeper>(
     alloc: Global,
-    desk: &Desk<K>,
+    desk: &mut Desk<K>,
     code: &Code,
     date: BusinessDate,
 ) -> Reply
-    ensures { (book : Book) → Holds K.Keeper desk.now book
-        → IsSaid (told_message statement_message (statement_told book code.now date)) result }
+    ensures reads { K.is_honest desk.new.keeper → (book : Book) → Holds K.Keeper desk.old book
+        → Stands K.Keeper book desk.new × IsReadOf K.Keeper
+        (told_message text_message (statement_wanted book code.now date)) desk.new result }
+    ensures honest { K.is_honest desk.new.keeper → K.is_honest desk.old.keeper }
 {
-    let statement = match desk.statement_of(code, date) {
-        Ok(statement) => statement,
+    let text = match statement_text(alloc, desk, code, date) {
+        Ok(text) => text,
         Err(refusal) => return refused(alloc, refusal),
     };
-    match statement_reply(alloc, &statement) {
+    match text_reply(alloc, &text) {
         Ok(reply) => reply,
         Err(_) => Reply::out_of_memory(),
     }
 }
 
 // The report of a date.
-fn read_report<K: Keeper>(alloc: Global, desk: &Desk<K>, date: BusinessDate) -> Reply
-    ensures { (book : Book) → Holds K.Keeper desk.now book
-        → IsSaid (told_message report_message (report_told book date)) result }
+fn read_report<K: Keeper>(alloc: Global, desk: &mut Desk<K>, date: BusinessDate) -> Reply
+    ensures reads { K.is_honest desk.new.keeper → (book : Book) → Holds K.Keeper desk.old book
+        → Stands K.Keeper book desk.new × IsReadOf K.Keeper
+        (told_message text_message (report_wanted book date)) desk.new result }
+    ensures honest { K.is_honest desk.new.keeper → K.is_honest desk.old.keeper }
 {
-    let report = match desk.report_of(date) {
-        Ok(report) => report,
+    let text = match report_text(alloc, desk, date) {
+        Ok(text) => text,
         Err(refusal) => return refused(alloc, refusal),
     };
-    match report_reply(alloc, &report) {
+    match text_reply(alloc, &text) {
         Ok(reply) => reply,
         Err(_) => Reply::out_of_memory(),
     }

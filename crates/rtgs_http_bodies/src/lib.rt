@@ -9,8 +9,7 @@ pub mod laws;
 mod order;
 mod queue;
 mod refused;
-mod report;
-mod statement;
+mod text;
 
 pub use crate::account::{account_reply, account_text};
 pub use crate::answered::answer_reply;
@@ -18,5 +17,4 @@ pub use crate::batch::batch_reply;
 pub use crate::order::{order_reply, order_text};
 pub use crate::queue::{queue_reply, queue_text};
 pub use crate::refused::{batch_fault_reply, kind_reply, refusal_reply};
-pub use crate::report::report_reply;
-pub use crate::statement::statement_reply;
+pub use crate::text::text_reply;

@@ -13,7 +13,6 @@ use Rattle.rtgs_book.specs.declared.RowChange.TheVariants.{SetBalance, SetState,
 use Rattle.rtgs_book.specs.Changes.{with_row, changed}
 use Rattle.rtgs_book.specs.Commands.{with_participant, with_credit, with_state, has_number}
 use Rattle.rtgs_book.specs.Lookup.{accounts, has_code}
-use Rattle.rtgs_book.specs.Settle.{restated}
 use Rattle.rtgs_book.specs.Soundness.{OrdersAreNumbered, AreNumbered, IsSound}
 use Rattle.rtgs_keeper.specs.declared.memory_keeper.MemoryKeeper.{MemoryKeeper}
 use Rattle.rtgs_keeper.specs.Memory.{AreInCodeOrder, HasRoom, adds_participant, adds_posting, adds_order, adds_mark}

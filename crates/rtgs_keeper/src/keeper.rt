@@ -1,13 +1,19 @@
 //! What keeps a book.
 ghost use Rattle.std.specs.Prelude.{◌≡◌, ◌≢◌, ◌⊎◌, Bool, true, false, Err, IfOk, IfErr, OnOk};
+ghost use Rattle.rtgs_book.specs.Lookup.{order_named, posting_named};
+ghost use Rattle.rtgs_book.specs.Ranges.{Fits};
 ghost use Rattle.rtgs_book.specs.Soundness.{IsSound};
+ghost use Rattle.rtgs_cores.specs.Cores.{IsCoreOf};
+ghost use Rattle.rtgs_cores.specs.Nexts.{posting_after, order_after, mark_after};
 ghost use Rattle.rtgs_book.specs.declared.Book.{Book};
 ghost use Rattle.rtgs_book.specs.declared.Fault.{Fault};
 ghost use Rattle.rtgs_book.specs.declared.Rule.{Rule};
 ghost use Rattle.rtgs_book.specs.Changes.{IsChange};
 
 use crate::commit_fault::CommitFault;
-use rtgs_book::{Book, Change, Fault};
+use rtgs_book::{Book, Change, Fault, Mark, Order, Posting};
+use rtgs_cores::Core;
+use rtgs_money::{BusinessDate, Code, Reference};
 use std::alloc::Global;
 
 /// A store of one book. Between calls nothing moves.
@@ -56,11 +62,111 @@ pub trait Keeper {
         ensures empty { is_honest self.new → is_empty self.old
             → IfOk result (λ _. ⊥) × ((rule : Rule) → result ≢ Err (Fault.Inconsistent rule)) }
         ensures sound { IfOk result IsSound }
+        ensures fits { IfOk result Fits }
         ensures same { is_honest self.new → (book : Book) → content self.old book → result ≢ Err Fault.StoreFault
             → content self.new book }
         ensures stops { is_honest self.new → (other : Book) → leaves self.new other → leaves self.old other }
         ensures untouched { is_honest self.new → leaves_no_more self.old self.new }
         ensures whole { is_honest self.new → is_whole self.old → is_whole self.new }
+        ensures fault { result ≡ Err Fault.StoreFault → has_failed self.new ≡ true }
+        ensures only_fault { result ≢ Err Fault.StoreFault → has_failed self.new ≡ has_failed self.old }
+        ensures failed { has_failed self.old ≡ true → (result ≡ Err Fault.StoreFault) × (self.new ≡ self.old) };
+
+    /// Gives what the desk needs of the book that is kept, which is judged as a whole. On a keeper that has failed it
+    /// is `StoreFault`, and nothing is done.
+    fn core(&mut self, alloc: Global) -> Result<Core, Fault>
+        ensures honest { is_honest self.new → is_honest self.old }
+        ensures given { is_honest self.new → (book : Book) → content self.old book → IfOk result (IsCoreOf book) }
+        ensures accepted { is_honest self.new → (book : Book) → content self.old book
+            → IfErr result (λ fault. (fault ≡ Fault.OutOfMemory) ⊎ (fault ≡ Fault.StoreFault)) }
+        ensures explained { is_honest self.new
+            → IfErr result (λ fault. (fault ≡ Fault.OutOfMemory) ⊎ explains self.old fault) }
+        // It is that of a sound book, which was shown, and which is kept where the tables are a keeper's.
+        ensures read { IfOk result (λ core. (book : Book) × IsCoreOf book core
+            × (is_honest self.new → shows self.old book)
+            × (is_honest self.new → has_tables self.old → content self.new book)) }
+        ensures empty { is_honest self.new → is_empty self.old
+            → IfOk result (λ _. ⊥) × ((rule : Rule) → result ≢ Err (Fault.Inconsistent rule)) }
+        ensures same { is_honest self.new → (book : Book) → content self.old book → result ≢ Err Fault.StoreFault
+            → content self.new book }
+        ensures stops { is_honest self.new → (other : Book) → leaves self.new other → leaves self.old other }
+        ensures untouched { is_honest self.new → leaves_no_more self.old self.new }
+        ensures whole { is_honest self.new → is_whole self.old → is_whole self.new }
+        ensures fault { result ≡ Err Fault.StoreFault → has_failed self.new ≡ true }
+        ensures only_fault { result ≢ Err Fault.StoreFault → has_failed self.new ≡ has_failed self.old }
+        ensures failed { has_failed self.old ≡ true → (result ≡ Err Fault.StoreFault) × (self.new ≡ self.old) }
+    {
+        let book = self.load(alloc)?;
+        Ok(Core::of(alloc, &book)?)
+    }
+
+    /// The order that the sender gave this reference, where the book has one. On a keeper that has failed it is
+    /// `StoreFault`, and nothing is done; so with each look-up and each next.
+    fn find_order(&mut self, sender: &Code, reference: &Reference) -> Result<Option<Order>, Fault>
+        ensures honest { is_honest self.new → is_honest self.old }
+        ensures found { is_honest self.new → (book : Book) → content self.old book
+            → IfOk result (λ found. found ≡ order_named book sender.now reference.now) }
+        ensures same { is_honest self.new → (book : Book) → content self.old book → result ≢ Err Fault.StoreFault
+            → content self.new book }
+        ensures stops { is_honest self.new → (other : Book) → leaves self.new other → leaves self.old other }
+        ensures whole { is_honest self.new → is_whole self.old → is_whole self.new }
+        ensures kinds { (result ≢ Err Fault.NotADeskFile) × ((rule : Rule) → result ≢ Err (Fault.Inconsistent rule)) }
+        ensures fault { result ≡ Err Fault.StoreFault → has_failed self.new ≡ true }
+        ensures only_fault { result ≢ Err Fault.StoreFault → has_failed self.new ≡ has_failed self.old }
+        ensures failed { has_failed self.old ≡ true → (result ≡ Err Fault.StoreFault) × (self.new ≡ self.old) };
+
+    /// The posting with this reference, where the book has one.
+    fn find_posting(&mut self, reference: &Reference) -> Result<Option<Posting>, Fault>
+        ensures honest { is_honest self.new → is_honest self.old }
+        ensures found { is_honest self.new → (book : Book) → content self.old book
+            → IfOk result (λ found. found ≡ posting_named book reference.now) }
+        ensures same { is_honest self.new → (book : Book) → content self.old book → result ≢ Err Fault.StoreFault
+            → content self.new book }
+        ensures stops { is_honest self.new → (other : Book) → leaves self.new other → leaves self.old other }
+        ensures whole { is_honest self.new → is_whole self.old → is_whole self.new }
+        ensures kinds { (result ≢ Err Fault.NotADeskFile) × ((rule : Rule) → result ≢ Err (Fault.Inconsistent rule)) }
+        ensures fault { result ≡ Err Fault.StoreFault → has_failed self.new ≡ true }
+        ensures only_fault { result ≢ Err Fault.StoreFault → has_failed self.new ≡ has_failed self.old }
+        ensures failed { has_failed self.old ≡ true → (result ≡ Err Fault.StoreFault) × (self.new ≡ self.old) };
+
+    /// The posting of this date with the least number above the given one.
+    fn next_posting(&mut self, date: BusinessDate, number: u64) -> Result<Option<Posting>, Fault>
+        ensures honest { is_honest self.new → is_honest self.old }
+        ensures found { is_honest self.new → (book : Book) → content self.old book
+            → IfOk result (λ found. found ≡ posting_after book date number) }
+        ensures same { is_honest self.new → (book : Book) → content self.old book → result ≢ Err Fault.StoreFault
+            → content self.new book }
+        ensures stops { is_honest self.new → (other : Book) → leaves self.new other → leaves self.old other }
+        ensures whole { is_honest self.new → is_whole self.old → is_whole self.new }
+        ensures kinds { (result ≢ Err Fault.NotADeskFile) × ((rule : Rule) → result ≢ Err (Fault.Inconsistent rule)) }
+        ensures fault { result ≡ Err Fault.StoreFault → has_failed self.new ≡ true }
+        ensures only_fault { result ≢ Err Fault.StoreFault → has_failed self.new ≡ has_failed self.old }
+        ensures failed { has_failed self.old ≡ true → (result ≡ Err Fault.StoreFault) × (self.new ≡ self.old) };
+
+    /// The order of this date with the least number above the given one.
+    fn next_order(&mut self, date: BusinessDate, number: u64) -> Result<Option<Order>, Fault>
+        ensures honest { is_honest self.new → is_honest self.old }
+        ensures found { is_honest self.new → (book : Book) → content self.old book
+            → IfOk result (λ found. found ≡ order_after book date number) }
+        ensures same { is_honest self.new → (book : Book) → content self.old book → result ≢ Err Fault.StoreFault
+            → content self.new book }
+        ensures stops { is_honest self.new → (other : Book) → leaves self.new other → leaves self.old other }
+        ensures whole { is_honest self.new → is_whole self.old → is_whole self.new }
+        ensures kinds { (result ≢ Err Fault.NotADeskFile) × ((rule : Rule) → result ≢ Err (Fault.Inconsistent rule)) }
+        ensures fault { result ≡ Err Fault.StoreFault → has_failed self.new ≡ true }
+        ensures only_fault { result ≢ Err Fault.StoreFault → has_failed self.new ≡ has_failed self.old }
+        ensures failed { has_failed self.old ≡ true → (result ≡ Err Fault.StoreFault) × (self.new ≡ self.old) };
+
+    /// The mark of this date with the least number above the given one.
+    fn next_mark(&mut self, date: BusinessDate, number: u64) -> Result<Option<Mark>, Fault>
+        ensures honest { is_honest self.new → is_honest self.old }
+        ensures found { is_honest self.new → (book : Book) → content self.old book
+            → IfOk result (λ found. found ≡ mark_after book date number) }
+        ensures same { is_honest self.new → (book : Book) → content self.old book → result ≢ Err Fault.StoreFault
+            → content self.new book }
+        ensures stops { is_honest self.new → (other : Book) → leaves self.new other → leaves self.old other }
+        ensures whole { is_honest self.new → is_whole self.old → is_whole self.new }
+        ensures kinds { (result ≢ Err Fault.NotADeskFile) × ((rule : Rule) → result ≢ Err (Fault.Inconsistent rule)) }
         ensures fault { result ≡ Err Fault.StoreFault → has_failed self.new ≡ true }
         ensures only_fault { result ≢ Err Fault.StoreFault → has_failed self.new ≡ has_failed self.old }
         ensures failed { has_failed self.old ≡ true → (result ≡ Err Fault.StoreFault) × (self.new ≡ self.old) };

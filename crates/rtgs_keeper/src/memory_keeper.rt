@@ -1,6 +1,7 @@
 //! A book in memory.
 ghost use Rattle.std.specs.Prelude.{◌≡◌, ◌+◌, ◌<◌, ◌≤◌, false, not, List, [], ◌∷◌, ◌++◌, map, filter, count_by, IfOk};
 ghost use Rattle.std.specs.Prelude.{OnOk, if◌then◌else◌};
+ghost use Rattle.std.specs.List.{find};
 ghost use Rattle.std.specs.Vec.{vec_len, vec_capacity};
 ghost use Rattle.rtgs_book.specs.declared.Order.{Order as OrderSpec};
 ghost use Rattle.rtgs_book.specs.declared.Participant.{Participant as ParticipantSpec};
@@ -8,9 +9,10 @@ ghost use Rattle.rtgs_book.specs.declared.RowChange.{RowChange as RowChangeSpec}
 ghost use Rattle.rtgs_book.specs.Books.{new_book};
 ghost use Rattle.rtgs_book.specs.Changes.{changed, with_row};
 ghost use Rattle.rtgs_book.specs.Commands.{has_number, is_before};
-ghost use Rattle.rtgs_book.specs.Lookup.{has_code};
+ghost use Rattle.rtgs_book.specs.Lookup.{has_code, is_order_named, is_posting_named};
 ghost use Rattle.rtgs_book.specs.Settle.{restated};
 ghost use Rattle.rtgs_book.specs.Soundness.{AreNumbered, OrdersAreNumbered, IsSound};
+ghost use Rattle.rtgs_cores.specs.Nexts.{is_posting_after, is_order_after, is_mark_after};
 ghost use Rattle.rtgs_keeper.specs.Memory.{book_of, KeepsBook, AreInCodeOrder, HasRoom, adds_participant, adds_posting};
 ghost use Rattle.rtgs_keeper.specs.Memory.{adds_order, adds_mark};
 
@@ -20,7 +22,7 @@ use rtgs_book::laws::new_book_is_sound;
 use rtgs_book::{
     Book, Change, Day, Fault, Mark, Order, OrderState, Participant, Phase, Posting, RowChange, Rows,
 };
-use rtgs_money::{Code, Credit};
+use rtgs_money::{BusinessDate, Code, Credit, Reference};
 use std::alloc::{AllocError, Global};
 
 /// Keeps a book in memory alone, so that nothing is left of it once the keeper is gone. It refuses where memory is
@@ -162,6 +164,26 @@ impl Keeper for MemoryKeeper {
         Ok(book)
     }
 
+    fn find_order(&mut self, sender: &Code, reference: &Reference) -> Result<Option<Order>, Fault> {
+        Ok(order_named(self.orders.as_slice(), sender, reference))
+    }
+
+    fn find_posting(&mut self, reference: &Reference) -> Result<Option<Posting>, Fault> {
+        Ok(posting_named(self.postings.as_slice(), reference))
+    }
+
+    fn next_posting(&mut self, date: BusinessDate, number: u64) -> Result<Option<Posting>, Fault> {
+        Ok(posting_after(self.postings.as_slice(), date, number))
+    }
+
+    fn next_order(&mut self, date: BusinessDate, number: u64) -> Result<Option<Order>, Fault> {
+        Ok(order_after(self.orders.as_slice(), date, number))
+    }
+
+    fn next_mark(&mut self, date: BusinessDate, number: u64) -> Result<Option<Mark>, Fault> {
+        Ok(mark_after(self.marks.as_slice(), date, number))
+    }
+
     fn commit(&mut self, change: &Change) -> Result<(), CommitFault> {
         let rows = change.as_slice();
         if self.reserve(rows).is_err() {
@@ -170,6 +192,50 @@ impl Keeper for MemoryKeeper {
         self.apply_all(rows);
         Ok(())
     }
+}
+
+// The order that the sender gave this reference, if there is one.
+fn order_named(orders: &[Order], sender: &Code, reference: &Reference) -> Option<Order>
+    ensures { result ≡ find (is_order_named sender.now reference.now) orders.now }
+{
+    orders.iter().copied().find(|order| order.sender == *sender && order.reference == *reference)
+}
+
+// The posting with this reference, if there is one.
+fn posting_named(postings: &[Posting], reference: &Reference) -> Option<Posting>
+    ensures { result ≡ find (is_posting_named reference.now) postings.now }
+{
+    postings
+        .iter()
+        .copied()
+        .find(|posting| posting.reference == *reference)
+}
+
+// The first posting of the date with a number above this one.
+fn posting_after(postings: &[Posting], date: BusinessDate, number: u64) -> Option<Posting>
+    ensures { result ≡ find (is_posting_after date number) postings.now }
+{
+    postings.iter().copied().find(|posting| posting.date == Some(date) && number < posting.number)
+}
+
+// The first order of the date with a number above this one.
+fn order_after(orders: &[Order], date: BusinessDate, number: u64) -> Option<Order>
+    ensures { result ≡ find (is_order_after date number) orders.now }
+{
+    orders
+        .iter()
+        .copied()
+        .find(|order| order.date == date && number < order.number)
+}
+
+// The first mark of the date with a number above this one.
+fn mark_after(marks: &[Mark], date: BusinessDate, number: u64) -> Option<Mark>
+    ensures { result ≡ find (is_mark_after date number) marks.now }
+{
+    marks
+        .iter()
+        .copied()
+        .find(|mark| mark.date == date && number < mark.number)
 }
 
 // How many participants the rows add.

@@ -4,8 +4,8 @@ use Rattle.std.proofs.Common.{◌∷◌, ◌++◌, map, filter, length, get_or, 
 use Rattle.std.proofs.Common.{Err, IfOk, IfErr, Less, Equal, Greater, is_lt, nat_cmp, refl, sym, ap, ◌∙◌, subst, inl}
 use Rattle.std.proofs.Common.{inr, add-one, arith}
 use Rattle.std.proofs.lemmas.List.Sorted.{searchable_from_sorted}
-use Rattle.std.proofs.lemmas.List.{map-append}
-use Rattle.std.specs.List.{AllByRecursion, insert}
+use Rattle.std.proofs.lemmas.List.{map-append, length-map}
+use Rattle.std.specs.List.{AllByRecursion, IsDistinct, insert, list_any}
 use Rattle.std.specs.List.Sorted.{IsStrictlySortedBy, IsSearchInRange, IsBinarySearchResult}
 use Rattle.std.specs.Ordering.{ordering_reverse}
 use Rattle.std.specs.Str.{bytes_eq}
@@ -15,10 +15,13 @@ use Rattle.rtgs_book.specs.Lookup.{has_code}
 use Rattle.std.specs.FinMap.{nat_cmp-IsAntisymmetric, slice_cmp-IsAntisymmetric}
 use Rattle.std.proofs.lemmas.List.Elements.{recursion_from_All}
 use Rattle.std.proofs.lemmas.Bool.{cases_lt}
-use Rattle.rtgs_ledger.proofs.Lists.{bytes_eq_comm, find_none, map-filter, not_before, sorted_put_in}
+use Rattle.rtgs_ledger.proofs.Lists.{bytes_eq_comm, find_none, map-filter, map_same, not_before, or_left, or_right}
+use Rattle.rtgs_ledger.proofs.Lists.{sorted_put_in}
 use Rattle.rtgs_book.specs.declared.participant.Participant.{Participant}
 use Rattle.rtgs_book.specs.declared.account.Account.{Account}
-use Rattle.rtgs_ledger.specs.Accounts.{code_of, participant_of, is_of, AreInCodeOrder, with_account, with_balance}
+use Rattle.rtgs_book.specs.declared.limits.TheConstants.{MOST_PARTICIPANTS}
+use Rattle.rtgs_ledger.specs.Accounts.{code_of, key_of, has_key, participant_of, is_of, AreInCodeOrder, AreOfABook}
+use Rattle.rtgs_ledger.specs.Accounts.{with_account, with_balance}
 use Rattle.rtgs_ledger.specs.Accounts.{with_limit, IsAt, IsGapFor}
 
 -- a code that comes before another is another
@@ -214,6 +217,59 @@ module _ (f : Account → Account) (keeps : (a : Account) → code_of (f a) ≡ 
 
   pub ordered_altered : (xs : List Account) → AreInCodeOrder xs → AreInCodeOrder (map (altered f code) xs)
   ordered_altered xs rise = rw (same_codes xs) rise
+
+-- so they stay those of a book, where the key stays too
+pub of_a_book_altered : (f : Account → Account) → ((a : Account) → code_of (f a) ≡ code_of a)
+    → ((a : Account) → key_of (f a) ≡ key_of a) → (code : List ℕ) (xs : List Account) → AreOfABook xs
+    → AreOfABook (map (altered f code) xs)
+of_a_book_altered f codes keys code xs of = record {
+  ordered = ordered_altered f codes code xs of.ordered;
+  keys = subst (IsDistinct bytes_eq) (sym (map_same key_of (altered f code) same_key xs)) of.keys;
+  few = subst (λ n. n ≤ MOST_PARTICIPANTS) (sym (length-map xs (altered f code))) of.few;
+}
+  where
+    same_key : (a : Account) → key_of (altered f code a) ≡ key_of a
+    same_key a = by (is_of code a)
+      where
+        by : (t : Bool) → key_of (cond t (f a) a) ≡ key_of a
+        by true = keys a
+        by false = refl
+
+-- ---- a key put among others
+
+all_inserted : (P : List ℕ → Type 0) (new : Account) (i : ℕ) (xs : List Account) → AllByRecursion P (map key_of xs)
+    → P (key_of new) → AllByRecursion P (map key_of (insert xs i new))
+all_inserted P new zero xs h k = (k, h)
+all_inserted P new (suc i) [] h k = (k, tt)
+all_inserted P new (suc i) (x ∷ xs) h k = (h.0, all_inserted P new i xs h.1 k)
+
+keys_inserted : (new : Account) (i : ℕ) (xs : List Account) → IsDistinct bytes_eq (map key_of xs)
+    → list_any (has_key (key_of new)) xs ≡ false → IsDistinct bytes_eq (map key_of (insert xs i new))
+unfolding IsDistinct
+keys_inserted new zero xs h free = (none xs free, h)
+  where
+    none : (xs : List Account) → list_any (has_key (key_of new)) xs ≡ false
+        → AllByRecursion (λ k. bytes_eq (key_of new) k ≡ false) (map key_of xs)
+    none [] e = tt
+    none (x ∷ xs) e = (bytes_eq_comm (key_of new) (key_of x) ∙ or_left _ _ e, none xs (or_right _ _ e))
+keys_inserted new (suc i) [] h free = (tt, tt)
+keys_inserted new (suc i) (x ∷ xs) h free = (
+  all_inserted (λ k. bytes_eq (key_of x) k ≡ false) new i xs h.0 (or_left _ _ free),
+  keys_inserted new i xs h.1 (or_right _ _ free),
+)
+
+pub of_a_book_inserted : (new : Account) (xs : List Account) (i : ℕ) → AreOfABook xs → IsGapFor (code_of new) xs i
+    → list_any (has_key (key_of new)) xs ≡ false → length xs < MOST_PARTICIPANTS → AreOfABook (insert xs i new)
+of_a_book_inserted new xs i of gap free few = record {
+  ordered = subst AreInCodeOrder (sym (inserted new xs i gap)) (ordered_with_account new xs of.ordered gap.apart);
+  keys = keys_inserted new i xs of.keys free;
+  few = let long = length_inserted i xs gap.in_range in omega (arith, long, few);
+}
+  where
+    length_inserted : (i : ℕ) (xs : List Account) → i ≤ length xs → length (insert xs i new) ≡ suc (length xs)
+    length_inserted zero xs le = refl
+    length_inserted (suc i) [] le = absurd (omega arith)
+    length_inserted (suc i) (x ∷ xs) le = ap suc (length_inserted i xs (omega arith))
 
 -- ---- the participants
 

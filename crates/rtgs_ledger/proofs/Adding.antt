@@ -1,5 +1,5 @@
 -- What adding a participant comes to, test by test, and its change.
-use Rattle.std.proofs.Common.{◌≡◌, ℕ, ◌≤◌, pos, true, false, ◌&&◌, if◌then◌else◌, nat_le, List, [], ◌∷◌, length, find}
+use Rattle.std.proofs.Common.{◌≡◌, ℕ, pos, true, false, ◌&&◌, if◌then◌else◌, nat_le, List, [], ◌∷◌, length, find}
 use Rattle.std.proofs.Common.{Ok, Err, Some, None, refl, sym, ◌∙◌}
 use Rattle.std.specs.List.{list_any}
 use Rattle.std.specs.Str.{bytes_eq}
@@ -20,14 +20,13 @@ use Rattle.rtgs_book.specs.Balance.{balance}
 use Rattle.rtgs_book.specs.Changes.{Leads, balance_set}
 use Rattle.rtgs_book.specs.Commands.{is_before}
 use Rattle.rtgs_book.specs.Lookup.{accounts}
-use Rattle.rtgs_ledger.specs.declared.records.Records.{Records}
-use Rattle.rtgs_ledger.specs.Accounts.{AccountList, code_of, is_of, has_key, with_account}
-use Rattle.rtgs_ledger.specs.Kept.{AreBalanced, IsKept, IsPrepared}
-use Rattle.rtgs_ledger.specs.Records.{held_of, book_of}
+use Rattle.rtgs_ledger.specs.Accounts.{code_of, is_of, has_key, with_account}
 use Rattle.rtgs_ledger.proofs.Balances.{same_int, all_same, balance_unknown}
 use Rattle.rtgs_ledger.proofs.Kept.{StepKeepsRanges, StepKeepsSoundness, participant_none, is_unknown, any-participants}
 use Rattle.rtgs_ledger.proofs.Kept.{length-participants, prepared_done}
 use Rattle.rtgs_ledger.proofs.Lists.{every, all_put_in}
+use Rattle.rtgs_cores.specs.Following.{AreBalanced}
+use Rattle.rtgs_ledger.proofs.Whole.{IsKept, IsPrepared, Whole, book_of, held_of}
 
 module _ (book : Book) (code name key : List ℕ) where
   pub repeats : (p : Participant) → lookup.participant_of book code ≡ Some p
@@ -58,11 +57,7 @@ module _ (book : Book) (code name key : List ℕ) where
   unfolding add first_of
   adds absent free few = rw (absent, free, few) refl
 
-module _ (r : Records) (kept : IsKept (held_of r)) (new : AccountList) (same : new.accounts ≡ r.accounts.accounts) where
-  pub kept_with_room : IsKept (held_of (record r { accounts = new }))
-  kept_with_room = record { sound = rw same kept.sound; balanced = rw same kept.balanced; fits = rw same kept.fits }
-
-module _ (r : Records) (kept : IsKept (held_of r)) (code name key : List ℕ)
+module _ (r : Whole) (kept : IsKept (held_of r)) (code name key : List ℕ)
     (absent : find (is_of code) r.accounts.accounts ≡ None) where
   abbrev p : Participant
   p = record { code = code; name = name; key = key; credit = 0 }
@@ -92,11 +87,11 @@ module _ (r : Records) (kept : IsKept (held_of r)) (code name key : List ℕ)
       (sym (balance_same code ∙ no_balance))
 
   pub prepared_add : StepKeepsRanges → StepKeepsSoundness → list_any (has_key key) r.accounts.accounts ≡ false
-      → nat_le MOST_PARTICIPANTS (length r.accounts.accounts) ≡ false → 1 ≤ r.accounts.room
+      → nat_le MOST_PARTICIPANTS (length r.accounts.accounts) ≡ false
       → IsPrepared (held_of r) (Add code name key) Added (AddParticipant p ∷ [])
-  prepared_add ranges soundness free few room =
+  prepared_add ranges soundness free few =
       let step = adds (book_of r) code name key (participant_none r kept code absent)
       (any-participants key r.accounts.accounts ∙ free) (rw (length-participants r.accounts.accounts) few) in
       prepared_done (held_of r) (Add code name key) Added (AddParticipant p ∷ []) (with_participant (book_of r) p) kept
       ranges soundness tt step leads_to_it ((refl, balance_same code ∙ no_balance), tt) stays_balanced
-      ((absent, room), tt) (λ k e. absurd (cc)) (λ e. absurd (cc))
+      (λ k e. absurd (cc)) (λ e. absurd (cc))

@@ -10,6 +10,7 @@ use Rattle.rtgs_book.specs.declared.answer.Known.TheVariants.{Nothing}
 use Rattle.rtgs_book.specs.declared.refusal.Refusal.TheVariants.{WrongPhase, WrongDate, Resolvable, Overdrawn}
 use Rattle.rtgs_book.specs.declared.change.RowChange.TheVariants.{SetDay}
 use Rattle.rtgs_book.specs.declared.book.Book.{Book}
+use Rattle.rtgs_book.specs.declared.order.Order.{Order}
 use Rattle.rtgs_book.specs.declared.order_state.OrderState.TheVariants.{Rejected}
 use Rattle.rtgs_book.specs.declared.participant.Participant.{Participant}
 use Rattle.rtgs_book.specs.declared.phase.Phase.{Phase}
@@ -26,36 +27,18 @@ use Rattle.rtgs_book.specs.Step.{Step}
 use Rattle.rtgs_choices.specs.Closing.{closed_book, closing_rows}
 use Rattle.rtgs_choices.specs.Settling.{state_rows}
 use Rattle.rtgs_book.specs.declared.account.Account.{Account}
-use Rattle.rtgs_ledger.specs.declared.records.Records.{Records}
 use Rattle.rtgs_book.specs.Accounts.{is_overdrawn}
 use Rattle.rtgs_ledger.specs.Accounts.{code_of, participant_of}
-use Rattle.rtgs_ledger.specs.Held.{Held, after}
-use Rattle.rtgs_ledger.specs.Kept.{AreBalanced, IsKept, IsPrepared}
-use Rattle.rtgs_ledger.specs.Records.{held_of, book_of}
 use Rattle.rtgs_ledger.proofs.Balances.{all_same}
 use Rattle.rtgs_ledger.proofs.Kept.{StepKeepsRanges}
 use Rattle.rtgs_ledger.proofs.Lists.{every}
 use Rattle.rtgs_ledger.proofs.Ordering.{is_shut, is_opened, is_day}
-use Rattle.rtgs_ledger.proofs.Rooms.{room_for_states, after-append, accounts_after-states}
+use Rattle.rtgs_ledger.proofs.Rooms.{after-append, accounts_after-states}
 use Rattle.rtgs_ledger.proofs.Withdrawing.{BalanceAfterRestating}
-
--- the day was cut off on this date, and the greatest choice has no order
-pub record IsClosable (book : Book) (date : ℕ) : Type 0 where
-  pub choice : Choice
-  pub greatest : IsGreatest book choice
-  pub none : is_empty (chosen book choice) ≡ true
-  pub cut : is_cut_off book.day.phase ≡ true
-  pub same : is_on book date ≡ true
-
-pub closable : (book : Book) (date : ℕ) → is_cut_off book.day.phase ≡ true → is_on book date ≡ true
-    → (choice : Choice) × IsGreatest book choice × (is_empty (chosen book choice) ≡ true) → IsClosable book date
-closable book date cut same nothing = record {
-  choice = nothing.0;
-  greatest = nothing.1;
-  none = nothing.2;
-  cut = cut;
-  same = same;
-}
+use Rattle.rtgs_ledger.specs.Closing.{IsClosable}
+use Rattle.rtgs_ledger.proofs.OrderLemmas.{same_numbers}
+use Rattle.rtgs_cores.specs.Following.{AreBalanced}
+use Rattle.rtgs_ledger.proofs.Whole.{Held, IsKept, IsPrepared, Whole, after, book_of, held_of}
 
 not_closed : (p : Phase) → is_cut_off p ≡ true → is_closed p ≡ false
 not_closed Closed e = absurd (cc)
@@ -94,7 +77,7 @@ module _ (book : Book) (date : ℕ) (choice : Choice) (greatest : IsGreatest boo
             (not_closed book.day.phase cut, cut, same, none, some) refl,
       )
 
-module _ (r : Records) (kept : IsKept (held_of r)) where
+module _ (r : Whole) (kept : IsKept (held_of r)) where
   pub not_cut_off_now : (if is_cut_off r.day.phase then r.day.date else None) ≡ None → is_cut_off r.day.phase ≡ false
   not_cut_off_now e = is_shut (is_cut_off r.day.phase) r.day.date e
       (λ cut. let s = kept.sound in s.dates.dated (not_closed r.day.phase cut))
@@ -150,7 +133,7 @@ codes_below book (x ∷ xs) h =
     by true e = ap (λ cs. code_of x ∷ cs) e
     by false e = e
 
-module _ (r : Records) (kept : IsKept (held_of r)) where
+module _ (r : Whole) (kept : IsKept (held_of r)) where
   below_zero : overdrawn (book_of r) ≡ map code_of (filter is_overdrawn r.accounts.accounts)
   unfolding overdrawn accounts
   below_zero = codes_below (book_of r) r.accounts.accounts kept.balanced
@@ -179,10 +162,18 @@ unfolding queue
 queues_are book [] = refl
 queues_are book (x ∷ xs) = ap (λ ns. queued_numbers book.orders (code_of x) ++ ns) (queues_are book xs)
 
-pub all_queued : (r : Records) → flat_map (λ a. queued_numbers r.orders.orders (code_of a)) r.accounts.accounts
+pub all_queued : (r : Whole) → flat_map (λ a. queued_numbers r.orders (code_of a)) r.accounts.accounts
     ≡ flat_map (queued_numbers (book_of r).orders) (accounts (book_of r))
 unfolding accounts
 all_queued r = queues_are (book_of r) r.accounts.accounts
+
+-- the queues of the queued orders alone are the same
+pub numbers_queued : (orders queued : List Order) (xs : List Account) → queued ≡ filter is_queued orders
+    → flat_map (λ a. queued_numbers queued (code_of a)) xs ≡ flat_map (λ a. queued_numbers orders (code_of a)) xs
+numbers_queued orders queued [] e = refl
+numbers_queued orders queued (x ∷ xs) e = λ i.
+    (ap (λ os. queued_numbers os (code_of x)) e ∙ sym (same_numbers (code_of x) orders)) i
+    ++ numbers_queued orders queued xs e i
 
 -- ---- the closing
 
@@ -206,17 +197,13 @@ module _ (held : Held) (kept : IsKept held) (law : BalanceAfterRestating) where
       (closing_rows held.content)
   prepared_closing ranges date step change = record {
     book = closed_book held.content;
-    prepares = record {
-      step = step;
-      change = change;
-      fits = ranges held.content (closed_book held.content) (command.CloseDay date)
-          (Ok (answer.Closed (length (filter is_queued held.content.orders)))) tt kept.fits step;
-      balanced = subst (AreBalanced (closed_book held.content)) (sym accounts_stay)
-          (all_same (balance held.content) (balance (closed_book held.content)) balance_same held.accounts
-          kept.balanced);
-      room = room_for_states Rejected refl (flat_map (queued_numbers held.content.orders) (accounts held.content)) held
-          (SetDay (record held.content.day { phase = Closed }) ∷ []) (tt, tt);
-    };
+    step = step;
+    change = change;
+    fits = ranges held.content (closed_book held.content) (command.CloseDay date)
+        (Ok (answer.Closed (length (filter is_queued held.content.orders)))) tt kept.fits step;
+    balanced = subst (AreBalanced (closed_book held.content)) (sym accounts_stay)
+        (all_same (balance held.content) (balance (closed_book held.content)) balance_same held.accounts
+        kept.balanced);
     repeated = λ k e. absurd (cc);
     nothing = λ e. absurd (cc);
   }

@@ -19,11 +19,10 @@ use Rattle.rtgs_book.specs.Outcome.{first_of}
 use Rattle.rtgs_book.specs.Step.{Step}
 use Rattle.rtgs_book.specs.declared.account.Account.{Account}
 use Rattle.rtgs_ledger.specs.Accounts.{code_of, is_of, with_limit}
-use Rattle.rtgs_ledger.specs.Held.{Held}
-use Rattle.rtgs_ledger.specs.Kept.{IsKept, IsPrepared}
 use Rattle.rtgs_ledger.proofs.Balances.{same_int, all_same}
 use Rattle.rtgs_ledger.proofs.Kept.{StepKeepsRanges, StepKeepsSoundness, prepared_done}
 use Rattle.rtgs_ledger.proofs.Lists.{every}
+use Rattle.rtgs_ledger.proofs.Whole.{Held, IsKept, IsPrepared}
 
 module _ (book : Book) (code : List ℕ) (credit : ℕ) where
   pub unknown : is_participant book code ≡ false → Step book (command.SetCredit code credit) (Err UnknownParticipant)
@@ -79,4 +78,4 @@ module _ (held : Held) (kept : IsKept held) (code : List ℕ) (credit : ℕ) whe
       (all_same (balance held.content) (balance (with_credit held.content code credit)) balance_same
       (with_limit code credit held.accounts) (balanced_limit (balance held.content) code credit held.accounts
       kept.balanced))
-      (tt, tt) (λ k e. absurd (cc)) (λ e. absurd (cc))
+      (λ k e. absurd (cc)) (λ e. absurd (cc))

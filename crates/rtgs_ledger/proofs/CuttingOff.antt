@@ -17,11 +17,10 @@ use Rattle.rtgs_book.specs.Commands.{cut_off, with_day, is_date}
 use Rattle.rtgs_book.specs.Lookup.{accounts}
 use Rattle.rtgs_book.specs.Outcome.{first_of}
 use Rattle.rtgs_book.specs.Step.{Step}
-use Rattle.rtgs_ledger.specs.Held.{Held}
-use Rattle.rtgs_ledger.specs.Kept.{IsKept, IsPrepared}
 use Rattle.rtgs_ledger.proofs.Balances.{same_int, all_same}
 use Rattle.rtgs_ledger.proofs.Kept.{StepKeepsRanges, StepKeepsSoundness, prepared_done}
 use Rattle.rtgs_ledger.proofs.Lists.{every}
+use Rattle.rtgs_ledger.proofs.Whole.{Held, IsKept, IsPrepared}
 
 -- a date and the day's date
 pub other_date : (day date : ℕ) → not (day == date) ≡ true → is_date (Some day) date ≡ false
@@ -83,4 +82,4 @@ module _ (held : Held) (kept : IsKept held) (date : ℕ) where
       prepared_done held (command.CutOff date) CutOffDone (SetDay day ∷ []) (with_day held.content day) kept ranges
       soundness tt (cuts_off held.content date new opened same) leads_to_it (tt, tt)
       (all_same (balance held.content) (balance (with_day held.content day)) balance_same held.accounts kept.balanced)
-      (tt, tt) (λ k e. absurd (cc)) (λ e. absurd (cc))
+      (λ k e. absurd (cc)) (λ e. absurd (cc))

@@ -1,17 +1,15 @@
 -- What the accounts of a kept ledger say of its book.
-use Rattle.std.proofs.Common.{◌≡◌, ℕ, ℤ, pos, neg_ℤ, ◌+ℤ◌, Bool, true, false, ◌||◌, cond, if◌then◌else◌, List, [], ◌∷◌}
-use Rattle.std.proofs.Common.{map, length, find, Ok, Some, None, option_map, refl, sym, ap, ◌∙◌, subst, get_or, ◌<◌}
-use Rattle.std.proofs.Common.{suc, zero, Ordering, Less, Equal, Greater, nat_cmp, arith}
+use Rattle.std.proofs.Common.{◌≡◌, ℕ, pos, neg_ℤ, ◌+ℤ◌, Bool, true, false, ◌||◌, cond, if◌then◌else◌, List, [], ◌∷◌}
+use Rattle.std.proofs.Common.{map, length, find, Ok, Some, None, option_map, refl, sym, ap, ◌∙◌, subst}
 use Rattle.std.proofs.lemmas.List.{length-map}
 use Rattle.std.specs.List.{list_any, AllByRecursion}
 use Rattle.std.specs.Str.{bytes_eq}
-use Rattle.std.specs.Ordering.{int_eq, is_eq, eq_by_cmp, ordering_reverse}
-use Rattle.std.specs.BTreeMap.{BTreeMap, get}
+use Rattle.std.specs.Ordering.{int_eq}
 use Rattle.rtgs_book.specs.Laws.{CommandFits, BalancesFit}
 use Rattle.rtgs_book.specs.Outcome.{Reply}
 use Rattle.rtgs_book.specs.Ranges.{Fits}
-use Rattle.rtgs_book.specs.Totals.{Totals, Within}
-use Rattle.std.specs.Cmp.Lexicographic.{bytes_decides, slice_cmp, nat_list_cmp_total}
+use Rattle.rtgs_book.specs.Totals.{Within}
+use Rattle.std.specs.Cmp.Lexicographic.{bytes_decides}
 use Rattle.rtgs_book.specs.declared.book.Book.{Book}
 use Rattle.rtgs_book.specs.declared.participant.Participant.{Participant}
 use Rattle.rtgs_book.specs.declared.command.Command.{Command}
@@ -31,11 +29,9 @@ use Rattle.rtgs_ledger.proofs.Lists.{bytes_eq_comm, every}
 use Rattle.rtgs_ledger.proofs.Balances.{same_int}
 use Rattle.rtgs_book.specs.declared.account.Account.{Account}
 use Rattle.rtgs_book.specs.declared.limits.TheConstants.{LARGEST_BALANCE}
-use Rattle.rtgs_ledger.specs.declared.records.Records.{Records}
-use Rattle.rtgs_ledger.specs.Accounts.{AreInCodeOrder, code_of, participant_of, balance_of, is_of, has_key}
-use Rattle.rtgs_ledger.specs.Held.{Held, HasRoom, after}
-use Rattle.rtgs_ledger.specs.Kept.{AreBalanced, IsKept, IsPrepared}
-use Rattle.rtgs_ledger.specs.Records.{held_of, book_of}
+use Rattle.rtgs_ledger.specs.Accounts.{code_of, participant_of, balance_of, is_of, has_key}
+use Rattle.rtgs_cores.specs.Following.{AreBalanced}
+use Rattle.rtgs_ledger.proofs.Whole.{Held, IsKept, IsPrepared, Whole, after, book_of, held_of}
 
 -- ---- the accounts and the participants
 
@@ -136,22 +132,19 @@ pub prepared_repeat : (held : Held) (c : Command) (k : Known) → IsKept held
     → Step held.content c (Ok (Repeated k)) held.content → IsPrepared held c (Repeated k) []
 prepared_repeat held c k kept step = record {
   book = held.content;
-  prepares = record {
-    step = step;
-    change = record {
-      leads = record { book = refl; balances = no_balance_set held.content };
-      added = tt;
-      sound = kept.sound;
-    };
-    fits = kept.fits;
-    balanced = kept.balanced;
-    room = tt;
+  step = step;
+  change = record {
+    leads = record { book = refl; balances = no_balance_set held.content };
+    added = tt;
+    sound = kept.sound;
   };
+  fits = kept.fits;
+  balanced = kept.balanced;
   repeated = λ _ _. refl;
   nothing = λ _. refl;
 }
 
-module _ (r : Records) (kept : IsKept (held_of r)) where
+module _ (r : Whole) (kept : IsKept (held_of r)) where
   pub participant_at : (code : List ℕ) (a : Account) → find (is_of code) r.accounts.accounts ≡ Some a
       → lookup.participant_of (book_of r) code ≡ Some a.participant
   unfolding lookup.participant_of
@@ -192,14 +185,6 @@ module _ (r : Records) (kept : IsKept (held_of r)) where
   unfolding total accounts
   total_at = sum_of_balances (book_of r) r.accounts.accounts kept.balanced
 
--- room is no part of what is kept
-pub kept_same : (held new : Held) → new.content ≡ held.content → new.accounts ≡ held.accounts → IsKept held → IsKept new
-kept_same held new e f kept = record {
-  sound = rw e kept.sound;
-  balanced = rw (e, f) kept.balanced;
-  fits = rw e kept.fits;
-}
-
 -- the law that amounts stay in their ranges
 abbrev pub StepKeepsRanges : Type 0
 StepKeepsRanges = (old new : Book) (c : Command) (reply : Reply) → CommandFits c → Fits old → Step old c reply new
@@ -213,79 +198,19 @@ StepKeepsSoundness = (old new : Book) (c : Command) (reply : Reply) → IsSound 
 pub prepared_done : (held : Held) (c : Command) (a : Answer) (rows : List RowChange) (book : Book) → IsKept held
     → StepKeepsRanges → StepKeepsSoundness → CommandFits c → Step held.content c (Ok a) book
     → Leads held.content rows book → AllByRecursion (StartsEmpty book rows) rows
-    → AreBalanced book (after held rows).accounts → HasRoom held rows → ((k : Known) → a ≡ Repeated k → ⊥)
+    → AreBalanced book (after held rows).accounts → ((k : Known) → a ≡ Repeated k → ⊥)
     → (a ≡ Nothing → ⊥) → IsPrepared held c a rows
-prepared_done held c a rows book kept ranges soundness in_range step leads added balanced room new some = record {
+prepared_done held c a rows book kept ranges soundness in_range step leads added balanced new some = record {
   book = book;
-  prepares = record {
-    step = step;
-    change = record { leads = leads; added = added; sound = soundness held.content book c (Ok a) kept.sound step };
-    fits = ranges held.content book c (Ok a) in_range kept.fits step;
-    balanced = balanced;
-    room = room;
-  };
+  step = step;
+  change = record { leads = leads; added = added; sound = soundness held.content book c (Ok a) kept.sound step };
+  fits = ranges held.content book c (Ok a) in_range kept.fits step;
+  balanced = balanced;
   repeated = λ k e. absurd (new k e);
   nothing = λ e. absurd (some e);
 }
-
--- ---- a book loaded
-
-self_equal : (a : List ℕ) → is_eq (slice_cmp nat_cmp a a) ≡ true
-self_equal a = by (slice_cmp nat_cmp a a) (nat_list_cmp_total.antisymm a a)
-  where
-    by : (o : Ordering) → o ≡ ordering_reverse o → is_eq o ≡ true
-    by Less e = absurd (cc)
-    by Equal e = refl
-    by Greater e = absurd (cc)
-
-abbrev code_at : List Participant → ℕ → Participant → List ℕ
-code_at ps i d = (get_or ps i d).code
-
-member_at : (ps : List Participant) (i : ℕ) (d : Participant) → i < length ps
-    → list_any (eq_by_cmp (slice_cmp nat_cmp) (code_at ps i d)) (map (λ (p : Participant). p.code) ps) ≡ true
-member_at [] i d lt = absurd (omega arith)
-member_at (p ∷ ps) zero d lt = rw (self_equal p.code) refl
-member_at (p ∷ ps) (suc i) d lt = by (eq_by_cmp (slice_cmp nat_cmp) (code_at ps i d) p.code)
-    (member_at ps i d (omega arith))
-  where
-    by : (b : Bool) → list_any (eq_by_cmp (slice_cmp nat_cmp) (code_at ps i d)) (map (λ (p : Participant). p.code) ps)
-        ≡ true → (b || list_any (eq_by_cmp (slice_cmp nat_cmp) (code_at ps i d)) (map (λ (p : Participant). p.code) ps))
-        ≡ true
-    by true e = refl
-    by false e = e
-
-all_codes_at : (P : List ℕ → Type 0) (ps : List Participant) (i : ℕ) (d : Participant) → i < length ps
-    → AllByRecursion P (map (λ (p : Participant). p.code) ps) → P (code_at ps i d)
-all_codes_at P [] i d lt h = absurd (omega arith)
-all_codes_at P (p ∷ ps) zero d lt h = h.0
-all_codes_at P (p ∷ ps) (suc i) d lt h = all_codes_at P ps i d (omega arith) h.1
-
-module _ (book : Book) (balances : BTreeMap (List ℕ) ℤ) (totals : Totals (slice_cmp nat_cmp) (accounts book)
-    (balance book) balances) (i : ℕ) (d : Participant) (within : i < length book.participants) where
-  pub balance_there : get (slice_cmp nat_cmp) balances (code_at book.participants i d)
-      ≡ Some (balance book (code_at book.participants i d))
-  unfolding accounts
-  balance_there = rw (totals (code_at book.participants i d), member_at book.participants i d within) refl
-
-  pub balance_there_fits : BalancesFit book → Within LARGEST_BALANCE (balance book (code_at book.participants i d))
-  unfolding accounts
-  balance_there_fits small = all_codes_at (λ c. Within LARGEST_BALANCE (balance book c)) book.participants i d within
-      small
 
 pub codes-participants : (xs : List Account) → map code_of xs
     ≡ map (λ (p : Participant). p.code) (map participant_of xs)
 codes-participants [] = refl
 codes-participants (x ∷ xs) = λ i. code_of x ∷ codes-participants xs i
-
-pub loaded_in_order : (book : Book) (xs : List Account) → map participant_of xs ≡ book.participants → IsSound book
-    → AreInCodeOrder xs
-unfolding accounts
-loaded_in_order book xs e sound = rw (codes-participants xs, e) sound.codes_rise.0
-
-pub loaded_kept : (book : Book) (r : Records) → book_of r ≡ book → IsSound book → Fits book
-    → AreBalanced book r.accounts.accounts → IsKept (held_of r)
-loaded_kept book r e sound fits balanced = record {
-  sound = subst IsSound (sym e) sound;
-  balanced = subst (λ b. AreBalanced b r.accounts.accounts) (sym e) balanced;
-  fits = subst Fits (sym e) fits;
-}

@@ -1,5 +1,6 @@
 pub mod AccountLemmas
 pub mod Adding
+pub mod Alone
 pub mod Balances
 pub mod Closing
 pub mod Crediting
@@ -9,12 +10,11 @@ pub mod Indexes
 pub mod Kept
 pub mod Keys
 pub mod Lists
+pub mod Loading
 pub mod Opening
 pub mod OrderLemmas
 pub mod Ordering
-pub mod Places
 pub mod Posting
-pub mod PostingLemmas
 pub mod QueueLemmas
 pub mod Reading
 pub mod RecordLemmas
@@ -22,4 +22,5 @@ pub mod Resolving
 pub mod Rooms
 pub mod Settling
 pub mod Telling
+pub mod Whole
 pub mod Withdrawing

@@ -37,16 +37,15 @@ use Rattle.rtgs_book.specs.Soundness.{OrdersAreNumbered}
 use Rattle.rtgs_book.specs.Step.{Step}
 use Rattle.rtgs_book.specs.declared.account.Account.{Account}
 use Rattle.rtgs_book.specs.declared.limits.TheConstants.{LONGEST_QUEUE, LARGEST_NUMBER}
-use Rattle.rtgs_ledger.specs.declared.records.Records.{Records}
-use Rattle.rtgs_ledger.specs.Records.{held_of, book_of}
 use Rattle.rtgs_ledger.specs.Accounts.{code_of, is_of, with_balance}
-use Rattle.rtgs_ledger.specs.Held.{Held}
-use Rattle.rtgs_ledger.specs.Kept.{IsKept, IsPrepared}
 use Rattle.rtgs_ledger.specs.Ordering.{IsTaken}
 use Rattle.rtgs_ledger.proofs.Balances.{same_int, other_int, moved, all_moved, all_same, balance-with_order}
 use Rattle.rtgs_ledger.proofs.Kept.{StepKeepsRanges, StepKeepsSoundness, found_balance, found_is, is_known, balance_at}
 use Rattle.rtgs_ledger.proofs.Kept.{floor_at as floor_is, prepared_done}
 use Rattle.rtgs_ledger.proofs.Lists.{every, filter_none, self_number}
+use Rattle.rtgs_cores.specs.declared.Core.{Core}
+use Rattle.rtgs_ledger.specs.declared.records.Records.{Records}
+use Rattle.rtgs_ledger.proofs.Whole.{Held, IsKept, IsOf, IsPrepared, Whole, book_of, held_of, whole}
 
 module _ (book : Book) (sender reference receiver : List ℕ) (amount : ℕ) where
   pub unknown : is_participant book sender ≡ false → Step book (command.Order sender reference receiver amount)
@@ -153,7 +152,7 @@ is_shut true None e dated = absurd (true≢false (sym (dated refl)))
 is_shut true (Some date) e dated = absurd (let f : Some date ≡ None = e in cc)
 is_shut false day e dated = refl
 
-module _ (r : Records) (kept : IsKept (held_of r)) where
+module _ (r : Whole) (kept : IsKept (held_of r)) where
   pub shut_now : (if is_open r.day.phase then r.day.date else None) ≡ None → is_open r.day.phase ≡ false
   shut_now e = is_shut (is_open r.day.phase) r.day.date e (λ opened. let s = kept.sound
       in s.dates.dated (open_not_closed r.day.phase opened))
@@ -167,7 +166,7 @@ module _ (r : Records) (kept : IsKept (held_of r)) where
 
   pub settles_is : (sender : List ℕ) (debtor : Account) (amount : ℕ)
       → find (is_of sender) r.accounts.accounts ≡ Some debtor
-      → settles_at_once (book_of r) sender amount ≡ (is_empty (queued_numbers r.orders.orders (code_of debtor)) &&
+      → settles_at_once (book_of r) sender amount ≡ (is_empty (queued_numbers r.orders (code_of debtor)) &&
       int_le (floor_at r.day.phase debtor.participant.credit) (debtor.balance -ℤ pos amount))
   unfolding settles_at_once
   settles_is sender debtor amount from =
@@ -184,11 +183,11 @@ module _ (r : Records) (kept : IsKept (held_of r)) where
       → find (is_of sender) r.accounts.accounts ≡ Some debtor → order_named (book_of r) sender reference ≡ None
       → (if is_open r.day.phase then r.day.date else None) ≡ Some date
       → find (is_of receiver) r.accounts.accounts ≡ Some creditor → bytes_eq sender receiver ≡ false
-      → nat_le LARGEST_NUMBER (length r.orders.orders) ≡ false → IsAmount amount
+      → nat_le LARGEST_NUMBER (length r.orders) ≡ false → IsAmount amount
       → (not (settles_at_once (book_of r) sender amount) && nat_le LONGEST_QUEUE (length (queue (book_of r) sender)))
       ≡ false
       → IsTaken (book_of r) (record {
-        number = length r.orders.orders + 1;
+        number = length r.orders + 1;
         sender = sender;
         reference = reference;
         receiver = receiver;
@@ -200,7 +199,7 @@ module _ (r : Records) (kept : IsKept (held_of r)) where
       let today_is : today (book_of r) ≡ date = ap (λ (d : Option ℕ). unwrap_or d 0)
       (is_day (is_open r.day.phase) r.day.date date day) in
       subst (IsTaken (book_of r)) (λ i. record {
-        number = length r.orders.orders + 1;
+        number = length r.orders + 1;
         sender = sender;
         reference = reference;
         receiver = receiver;
@@ -301,10 +300,9 @@ module _ (held : Held) (kept : IsKept held) (o : Order) (taken : IsTaken held.co
       sym (rw (balance-with_order held.content o held.content.marks c, queued) (omega (arith, ints)))
 
   pub prepared_queued : StepKeepsRanges → StepKeepsSoundness → settles_at_once held.content o.sender o.amount ≡ false
-      → 1 ≤ held.room.orders → held.room.awaited_order ≡ Some (o.sender, o.reference)
       → IsPrepared held (command.Order o.sender o.reference o.receiver o.amount)
       (answer.Queued o.number (length (queue held.content o.sender) + 1)) (AddOrder o ∷ [])
-  prepared_queued ranges soundness waits room awaited =
+  prepared_queued ranges soundness waits =
       let leads : Leads held.content (AddOrder o ∷ []) (with_order held.content o) = record {
         book = refl;
         balances = every (λ c. balance_set c (AddOrder o ∷ [])
@@ -316,7 +314,7 @@ module _ (held : Held) (kept : IsKept held) (o : Order) (taken : IsTaken held.co
       (answer.Queued o.number (length (queue held.content o.sender) + 1)) (AddOrder o ∷ [])
       (with_order held.content o) kept ranges soundness taken.fits (step_queued waits) leads (tt, tt)
       (all_same (balance held.content) (balance (with_order held.content o)) same_balance held.accounts kept.balanced)
-      ((room, awaited, number), tt) (λ k e. absurd (cc)) (λ e. absurd (cc))
+      (λ k e. absurd (cc)) (λ e. absurd (cc))
 
   moves : (c : List ℕ) → balance (with_settled held.content o) c
       ≡ balance held.content c +ℤ ((if bytes_eq o.receiver c then pos o.amount else pos 0) -ℤ
@@ -394,10 +392,9 @@ module _ (held : Held) (kept : IsKept held) (o : Order) (taken : IsTaken held.co
         by false false e f = rw (← balance_of_other c e f, same_int (balance held.content c)) refl
 
     pub prepared_settled : StepKeepsRanges → StepKeepsSoundness → settles_at_once held.content o.sender o.amount ≡ true
-        → 1 ≤ held.room.orders → held.room.awaited_order ≡ Some (o.sender, o.reference) → 1 ≤ held.room.marks
         → IsPrepared held (command.Order o.sender o.reference o.receiver o.amount)
         (answer.Settled o.number (next_mark held.content)) rows
-    prepared_settled ranges soundness settles room awaited mark_room =
+    prepared_settled ranges soundness settles =
         let leads : Leads held.content rows (with_settled held.content o) = record {
           book = refl;
           balances = every _ (sets (let f = taken.fits in f.0)) (accounts (with_settled held.content o));
@@ -411,4 +408,55 @@ module _ (held : Held) (kept : IsKept held) (o : Order) (taken : IsTaken held.co
         (all_moved o.receiver more (moved o.sender less (balance held.content))
         (with_balance o.sender less held.accounts) (all_moved o.sender less (balance held.content) held.accounts
         kept.balanced)))
-        ((room, awaited, number), (mark_room, (tt, (tt, tt)))) (λ k e. absurd (cc)) (λ e. absurd (cc))
+        (λ k e. absurd (cc)) (λ e. absurd (cc))
+
+-- so it is in the book whose core the records are
+pub order_taken : (book : Book) (r : Records) (core : Core) (of : IsOf book r core)
+    (sender reference receiver : List ℕ) (amount date : ℕ) (debtor creditor : Account) (o : Order)
+    → o ≡ record {
+      number = r.orders.next;
+      sender = sender;
+      reference = reference;
+      receiver = receiver;
+      amount = amount;
+      date = date;
+      state = Queued;
+    }
+    → find (is_of sender) r.accounts.accounts ≡ Some debtor → order_named (book_of (whole book r)) sender reference
+    ≡ None
+    → (if is_open r.day.phase then r.day.date else None) ≡ Some date
+    → find (is_of receiver) r.accounts.accounts ≡ Some creditor → bytes_eq sender receiver ≡ false
+    → nat_le LARGEST_NUMBER (length book.orders) ≡ false → IsAmount amount
+    → (not (settles_at_once (book_of (whole book r)) sender amount)
+    && nat_le LONGEST_QUEUE (length (queue (book_of (whole book r)) sender))) ≡ false
+    → IsTaken book o
+order_taken book r core of sender reference receiver amount date debtor creditor o is from unused day to apart few fits
+    room =
+    let next : o ≡ record {
+      number = length book.orders + 1;
+      sender = sender;
+      reference = reference;
+      receiver = receiver;
+      amount = amount;
+      date = date;
+      state = Queued;
+    } = is ∙ (λ i. record {
+      number = of.orders i;
+      sender = sender;
+      reference = reference;
+      receiver = receiver;
+      amount = amount;
+      date = date;
+      state = Queued;
+    }) in
+    subst (IsTaken book) (sym next) (subst (λ (b : Book). IsTaken b (record {
+      number = length book.orders + 1;
+      sender = sender;
+      reference = reference;
+      receiver = receiver;
+      amount = amount;
+      date = date;
+      state = Queued;
+    })) of.same (taken_now (whole book r) of.kept sender reference receiver amount date debtor creditor from unused day
+    to
+    apart few fits room))

@@ -1,5 +1,5 @@
 -- What a posting comes to, test by test, and its change.
-use Rattle.std.proofs.Common.{◌≡◌, ℕ, ◌+◌, ◌≤◌, ℤ, pos, ◌+ℤ◌, Bool, true, false, ◌&&◌, if◌then◌else◌, nat_le, List, []}
+use Rattle.std.proofs.Common.{◌≡◌, ℕ, ◌+◌, ℤ, pos, ◌+ℤ◌, Bool, true, false, ◌&&◌, if◌then◌else◌, nat_le, List, []}
 use Rattle.std.proofs.Common.{◌∷◌, ◌++◌, length, find, Ok, Err, Some, None, refl, sym, ap, subst, ◌∙◌, arith}
 use Rattle.std.proofs.lemmas.Int.{ints}
 use Rattle.std.specs.Cmp.Lexicographic.{bytes_decides}
@@ -24,14 +24,11 @@ use Rattle.rtgs_book.specs.Changes.{Leads, balance_set}
 use Rattle.rtgs_book.specs.Lookup.{accounts}
 use Rattle.rtgs_book.specs.declared.account.Account.{Account}
 use Rattle.rtgs_book.specs.declared.limits.TheConstants.{LARGEST_NUMBER, LARGEST_TOTAL}
-use Rattle.rtgs_ledger.specs.declared.records.Records.{Records}
 use Rattle.rtgs_ledger.specs.Accounts.{is_of, with_balance}
-use Rattle.rtgs_ledger.specs.Kept.{IsKept, IsPrepared}
-use Rattle.rtgs_ledger.specs.Postings.{PostingList}
-use Rattle.rtgs_ledger.specs.Records.{held_of, book_of}
 use Rattle.rtgs_ledger.proofs.Balances.{same_int, other_int, moved, all_moved, all_same, balance-with_posting}
 use Rattle.rtgs_ledger.proofs.Kept.{StepKeepsRanges, StepKeepsSoundness, is_known, balance_at, prepared_done}
 use Rattle.rtgs_ledger.proofs.Lists.{every}
+use Rattle.rtgs_ledger.proofs.Whole.{IsKept, IsPrepared, Whole, book_of, held_of}
 
 -- the posting that is added
 abbrev pub next_posting : Book → List ℕ → List ℕ → ℤ → Posting
@@ -94,11 +91,7 @@ module _ (book : Book) (code reference : List ℕ) (cents : ℤ) where
 moved_int : (z cents : ℤ) → (cents ≡ pos 0 → ⊥) → int_eq z (z +ℤ cents) ≡ false
 moved_int z cents apart = other_int z (z +ℤ cents) (λ e. apart (omega (arith, ints)))
 
-module _ (r : Records) (kept : IsKept (held_of r)) (new : PostingList) (same : new.postings ≡ r.postings.postings) where
-  pub kept_with_postings : IsKept (held_of (record r { postings = new }))
-  kept_with_postings = record { sound = rw same kept.sound; balanced = rw same kept.balanced; fits = rw same kept.fits }
-
-module _ (r : Records) (kept : IsKept (held_of r)) (code reference : List ℕ) (cents : ℤ) (a : Account)
+module _ (r : Whole) (kept : IsKept (held_of r)) (code reference : List ℕ) (cents : ℤ) (a : Account)
     (found : find (is_of code) r.accounts.accounts ≡ Some a) (b : ℤ) (sum : b ≡ a.balance +ℤ cents) where
   abbrev q : Posting
   q = next_posting (book_of r) code reference cents
@@ -137,20 +130,19 @@ module _ (r : Records) (kept : IsKept (held_of r)) (code reference : List ℕ) (
       by false e = sym (balance_of_other c e)
 
   pub prepared_post : StepKeepsRanges → StepKeepsSoundness → IsPostingAmount cents
-      → posting_named (book_of r) reference ≡ None → nat_le LARGEST_NUMBER (length r.postings.postings) ≡ false
+      → posting_named (book_of r) reference ≡ None → nat_le LARGEST_NUMBER (length r.postings) ≡ false
       → (int_lt (pos 0) cents && int_lt (pos LARGEST_TOTAL) (total (book_of r) +ℤ cents)) ≡ false
       → (int_lt cents (pos 0) && int_lt (balance (book_of r) code +ℤ cents) (floor (book_of r) code)) ≡ false
-      → 1 ≤ r.postings.room → r.postings.awaited ≡ Some reference
-      → IsPrepared (held_of r) (command.Post code reference cents) (Posted (length r.postings.postings + 1))
+      → IsPrepared (held_of r) (command.Post code reference cents) (Posted (length r.postings + 1))
       (AddPosting q ∷ SetBalance code b ∷ [])
-  prepared_post ranges soundness in_range absent few small covered room awaited =
+  prepared_post ranges soundness in_range absent few small covered =
       let step = posts (book_of r) code reference cents (is_known r kept code a found) absent few small covered in
       let leads : Leads (book_of r) (AddPosting q ∷ SetBalance code b ∷ []) (with_posting (book_of r) q) =
       record { book = refl; balances = every _ (sets_one in_range.0) (accounts (with_posting (book_of r) q)) } in
-      prepared_done (held_of r) (command.Post code reference cents) (Posted (length r.postings.postings + 1))
+      prepared_done (held_of r) (command.Post code reference cents) (Posted (length r.postings + 1))
       (AddPosting q ∷ SetBalance code b ∷ []) (with_posting (book_of r) q) kept ranges soundness in_range step leads
       (tt, (tt, tt))
       (all_same (moved code b (balance (book_of r))) (balance (with_posting (book_of r) q)) is_moved
       (with_balance code b r.accounts.accounts) (all_moved code b (balance (book_of r)) r.accounts.accounts
       kept.balanced))
-      ((room, awaited), (tt, tt)) (λ k e. absurd (cc)) (λ e. absurd (cc))
+      (λ k e. absurd (cc)) (λ e. absurd (cc))

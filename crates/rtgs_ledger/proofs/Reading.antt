@@ -1,59 +1,77 @@
 -- What the desk reads from the records.
-use Rattle.std.proofs.Common.{◌≡◌, ℕ, ◌+◌, ◌≤◌, ◌<◌, ◌&&◌, List, [], ◌∷◌, map, length, get_or, find, Some, false, refl}
-use Rattle.std.proofs.Common.{ap, ◌∙◌, arith}
+use Rattle.std.proofs.Common.{◌≡◌, ℕ, ◌<◌, Bool, true, false, ◌&&◌, cond, List, [], ◌∷◌, map, filter, length, get_or}
+use Rattle.std.proofs.Common.{find}
+use Rattle.std.proofs.Common.{Some, refl, ap, ◌∙◌, arith}
 use Rattle.std.proofs.lemmas.Bool.Decides.{nat_tests}
-use Rattle.std.proofs.lemmas.List.{length-map, get_or-map}
-use Rattle.std.specs.List.{AllByRecursion, range_with_len}
-use Rattle.std.specs.Option.{IsSome}
+use Rattle.std.proofs.lemmas.List.{get_or-map}
+use Rattle.std.specs.List.{AllByRecursion}
 use Rattle.std.specs.Str.{bytes_eq}
 use Rattle.rtgs_book.specs.declared.book.Book.{Book}
 use Rattle.rtgs_book.specs.declared.order.Order.{Order}
 use Rattle.rtgs_book.specs.Books.{is_queued}
 use Rattle.rtgs_book.specs.Commands.{has_number}
-use Rattle.rtgs_book.specs.Queue.{queue, queued_numbers}
-use Rattle.rtgs_book.specs.Soundness.{OrdersAreNumbered}
+use Rattle.rtgs_book.specs.Queue.{queue, queued_among, queued_numbers}
+use Rattle.rtgs_ledger.specs.Orders.{AreRising}
 use Rattle.rtgs_ledger.proofs.Lists.{weaker, all_at, all_filter, self_number}
 
--- where numbers rise one by one, each order is found by its own
-pub found_by_number : (k : ℕ) (os : List Order) → map (λ (o : Order). o.number) os ≡ range_with_len k (length os)
-    → AllByRecursion (λ x. (k ≤ x.number) × (find (has_number x.number) os ≡ Some x)) os
-found_by_number k [] e = tt
-found_by_number k (o ∷ os) e =
-    let first : o.number ≡ k = cc in
-    let rest : map (λ (o : Order). o.number) os ≡ range_with_len (k + 1) (length os) = cc in (
-      (omega arith, rw (self_number o.number) refl),
-      weaker (λ x. (k + 1 ≤ x.number)
-          × (find (has_number x.number) os ≡ Some x)) (λ x. (k ≤ x.number)
-          × (find (has_number x.number) (o ∷ os) ≡ Some x)) (λ x h. later x first h.0 h.1) os
-          (found_by_number (k + 1) os rest),
-    )
+all_both : {X : Type 0} (P Q : X → Type 0) (xs : List X) → AllByRecursion P xs → AllByRecursion Q xs
+    → AllByRecursion (λ x. P x × Q x) xs
+all_both P Q [] h k = tt
+all_both P Q (x ∷ xs) h k = ((h.0, k.0), all_both P Q xs h.1 k.1)
+
+-- where numbers rise, each order is found by its own
+pub found_by_number : (os : List Order) → AreRising os → AllByRecursion (λ x. find (has_number x.number) os ≡ Some x) os
+found_by_number [] h = tt
+found_by_number (o ∷ os) h = (
+  rw (self_number o.number) refl,
+  weaker (λ x. (o.number < x.number) × (find (has_number x.number) os ≡ Some x))
+      (λ x. find (has_number x.number) (o ∷ os) ≡ Some x) (λ x k. later x k.0 k.1) os
+      (all_both (λ x. o.number < x.number) (λ x. find (has_number x.number) os ≡ Some x) os h.0
+      (found_by_number os h.1)),
+)
   where
-    later : (x : Order) → o.number ≡ k → k + 1 ≤ x.number → find (has_number x.number) os ≡ Some x
-        → (k ≤ x.number) × (find (has_number x.number) (o ∷ os) ≡ Some x)
-    later x first above found =
-        let apart : has_number x.number o ≡ false = grind (arith, nat_tests) in
-        (omega arith, rw apart found)
+    later : (x : Order) → o.number < x.number → find (has_number x.number) os ≡ Some x
+        → find (has_number x.number) (o ∷ os) ≡ Some x
+    later x above found =
+        let apart : has_number x.number o ≡ false = grind (arith, nat_tests, above) in
+        rw apart found
 
-module _ (book : Book) (numbered : OrdersAreNumbered book) (sender : List ℕ) where
-  -- so the numbers in a queue lead to its orders
-  pub queued_at : (k : ℕ) (d : Order) → k < length (queue book sender)
-      → find (has_number (get_or (queued_numbers book.orders sender) k 0)) book.orders
-      ≡ Some (get_or (queue book sender) k d)
-  unfolding queue
-  queued_at k d lt =
-      let all = found_by_number 1 book.orders (numbered.0 ∙ ap (range_with_len 1)
-      (length-map book.orders (λ (o : Order). o.number))) in
-      let here = all_at (λ x. (1 ≤ x.number) × (find (has_number x.number) book.orders ≡ Some x)) (queue book sender)
-      (all_filter (λ x. (1 ≤ x.number) × (find (has_number x.number) book.orders ≡ Some x))
-      (λ o. is_queued o && bytes_eq o.sender sender) book.orders all) k d lt in
-      ap (λ n. find (has_number n) book.orders) (get_or-map (λ (o : Order). o.number) (queue book sender) k d 0 lt)
-      ∙ here.1
+-- so the numbers in a queue lead to its orders
+pub queued_at : (os : List Order) → AreRising os → (sender : List ℕ) (k : ℕ) (d : Order)
+    → k < length (queued_among os sender)
+    → find (has_number (get_or (queued_numbers os sender) k 0)) os ≡ Some (get_or (queued_among os sender) k d)
+queued_at os rise sender k d lt =
+    ap (λ n. find (has_number n) os) (get_or-map (λ (o : Order). o.number) (queued_among os sender) k d 0 lt)
+    ∙ all_at (λ x. find (has_number x.number) os ≡ Some x) (queued_among os sender)
+    (all_filter (λ x. find (has_number x.number) os ≡ Some x) (λ o. is_queued o && bytes_eq o.sender sender) os
+    (found_by_number os rise)) k d lt
 
-  pub some_at : (k : ℕ) → k < length (queue book sender) → IsSome
-      (find (has_number (get_or (queued_numbers book.orders sender) k 0)) book.orders)
-  some_at k lt = by (queue book sender) refl
-    where
-      by : (os : List Order) → queue book sender ≡ os → IsSome
-          (find (has_number (get_or (queued_numbers book.orders sender) k 0)) book.orders)
-      by [] e = absurd (let none : length (queue book sender) ≡ 0 = ap length e in omega arith)
-      by (o ∷ os) e = rw (queued_at k o lt) refl
+-- so each number there leads to an order
+pub leads_home : (os queue : List Order) (numbers : List ℕ) → ((k : ℕ) (d : Order) → k < length numbers
+    → find (has_number (get_or numbers k 0)) os ≡ Some (get_or queue k d)) → length numbers ≡ length queue
+    → (k : ℕ) → k < length numbers → (o : Order) × (find (has_number (get_or numbers k 0)) os ≡ Some o)
+leads_home os [] numbers found same k lt = absurd (omega (arith, same, lt))
+leads_home os (o ∷ queue) numbers found same k lt = (get_or (o ∷ queue) k o, found k o lt)
+
+-- the queues are those among the queued orders
+pub among_queued : (sender : List ℕ) (os : List Order) → queued_among (filter is_queued os) sender
+    ≡ queued_among os sender
+among_queued sender [] = refl
+among_queued sender (o ∷ os) = by (is_queued o) (bytes_eq o.sender sender) refl refl (among_queued sender os)
+  where
+    by : (a b : Bool) → is_queued o ≡ a → bytes_eq o.sender sender ≡ b
+        → queued_among (filter is_queued os) sender ≡ queued_among os sender
+        → queued_among (cond a (o ∷ filter is_queued os) (filter is_queued os)) sender ≡ queued_among (o ∷ os) sender
+    by true true e f rest = rw (e, f) (ap (λ xs. o ∷ xs) rest)
+    by true false e f rest = rw (e, f) rest
+    by false b e f rest = rw e rest
+
+pub queue_is : (book : Book) (os : List Order) (sender : List ℕ) → os ≡ filter is_queued book.orders
+    → queued_among os sender ≡ queue book sender
+unfolding queue
+queue_is book os sender e = ap (λ (xs : List Order). queued_among xs sender) e ∙ among_queued sender book.orders
+
+pub numbers_are : (book : Book) (os : List Order) (sender : List ℕ) → os ≡ filter is_queued book.orders
+    → queued_numbers os sender ≡ queued_numbers book.orders sender
+numbers_are book os sender e = ap (λ (xs : List Order). queued_numbers xs sender) e
+    ∙ ap (map (λ (o : Order). o.number)) (among_queued sender book.orders)

@@ -33,16 +33,13 @@ use Rattle.rtgs_book.specs.Step.{Step}
 use Rattle.rtgs_choices.specs.Settling.{orders_taken, numbers_taken, state_rows, IsOfBalance, moves, balance_rows}
 use Rattle.rtgs_choices.specs.Settling.{settling_rows}
 use Rattle.rtgs_book.specs.declared.account.Account.{Account}
-use Rattle.rtgs_ledger.specs.declared.records.Records.{Records}
 use Rattle.rtgs_ledger.specs.Accounts.{code_of, participant_of, is_of, with_balance}
-use Rattle.rtgs_ledger.specs.Held.{Held, HasRoom, after, after_row}
-use Rattle.rtgs_ledger.specs.Kept.{AreBalanced, IsKept, IsPrepared}
-use Rattle.rtgs_ledger.specs.Records.{held_of}
 use Rattle.rtgs_ledger.specs.Resolving.{AreGreatest, after_orders, moved_rows}
 use Rattle.rtgs_ledger.proofs.Balances.{moved, all_moved, int_eq-same}
 use Rattle.rtgs_ledger.proofs.Kept.{StepKeepsRanges, codes-participants, no_balance_set}
 use Rattle.rtgs_ledger.proofs.Lists.{weaker}
-use Rattle.rtgs_ledger.proofs.Rooms.{room_for_states, room_after-states}
+use Rattle.rtgs_cores.specs.Following.{AreBalanced}
+use Rattle.rtgs_ledger.proofs.Whole.{Held, IsKept, IsPrepared, Whole, after, after_row, held_of}
 
 -- ---- the balances that rows leave
 
@@ -190,27 +187,6 @@ pub states_leave : (state : OrderState) (numbers : List ℕ) (rows : List RowCha
 states_leave state [] rows h = h
 states_leave state (n ∷ ns) rows h = (tt, states_leave state ns rows h)
 
-balances_fit : (rows : List RowChange) (held : Held) → AllByRecursion IsOfBalance rows → HasRoom held rows
-balances_fit [] held h = tt
-balances_fit (SetBalance code b ∷ rows) held h = (tt, balances_fit rows (after_row held (SetBalance code b)) h.1)
-balances_fit (AddParticipant participant ∷ rows) held h = absurd h.0
-balances_fit (SetCredit code credit ∷ rows) held h = absurd h.0
-balances_fit (AddPosting posting ∷ rows) held h = absurd h.0
-balances_fit (AddOrder order ∷ rows) held h = absurd h.0
-balances_fit (AddMark mark ∷ rows) held h = absurd h.0
-balances_fit (SetState number state ∷ rows) held h = absurd h.0
-balances_fit (SetDay day ∷ rows) held h = absurd h.0
-
-settling_fits : (book : Book) (choice : Choice) (numbers : List ℕ) (mark : Mark) (held : Held) → 1 ≤ held.room.marks
-    → HasRoom held (settling_rows book choice numbers mark)
-settling_fits book choice numbers mark held room =
-    let states = state_rows (Settled mark.number) numbers in
-    room_for_states (Settled mark.number) refl numbers held (AddMark mark ∷ balance_rows book choice) (
-      rw (room_after-states (Settled mark.number) numbers held) room,
-      balances_fit (balance_rows book choice)
-          (after_row (after held states) (AddMark mark)) (of_balance book choice),
-    )
-
 settling_leaves : (book : Book) (choice : Choice) (numbers : List ℕ) (mark : Mark)
     → AllByRecursion LeavesParticipants (settling_rows book choice numbers mark)
 settling_leaves book choice numbers mark = states_leave (Settled mark.number) numbers
@@ -243,7 +219,7 @@ dated_so : (b : Bool) (day : Option ℕ) (date : ℕ) → (if b then None else d
 dated_so true day date e = absurd (let f : None ≡ Some date = e in cc)
 dated_so false day date e = e
 
-module _ (r : Records) (kept : IsKept (held_of r)) where
+module _ (r : Whole) (kept : IsKept (held_of r)) where
   pub closed_now : (if is_closed r.day.phase then None else r.day.date) ≡ None → is_closed r.day.phase ≡ true
   closed_now e = is_closed_now (is_closed r.day.phase) r.day.date e kept.sound.dates.dated
 
@@ -306,17 +282,14 @@ module _ (held : Held) (kept : IsKept held) (orders : List Order) (g : AreGreate
   nothing_chosen opened none =
       record {
         book = book;
-        prepares = record {
-          step = nothing book g.choice g.greatest opened (none_chosen count numbers book orders g kept.sound none);
-          change = record {
-            leads = record { book = refl; balances = no_balance_set book };
-            added = tt;
-            sound = kept.sound;
-          };
-          fits = kept.fits;
-          balanced = kept.balanced;
-          room = tt;
+        step = nothing book g.choice g.greatest opened (none_chosen count numbers book orders g kept.sound none);
+        change = record {
+          leads = record { book = refl; balances = no_balance_set book };
+          added = tt;
+          sound = kept.sound;
         };
+        fits = kept.fits;
+        balanced = kept.balanced;
         repeated = λ _ _. refl;
         nothing = λ _. refl;
       }
@@ -342,8 +315,7 @@ module _ (held : Held) (kept : IsKept held) (orders : List Order) (g : AreGreate
       (changes : (book : Book) (choice : Choice) (mark : Mark) → IsSound book → IsGreatest book choice
       → is_empty (chosen book choice) ≡ false → mark ≡ mark_of book (chosen book choice)
       → IsChange book (settling_rows book choice (numbers_taken book choice) mark)
-      (settle book (is_chosen book choice)))
-      (room : 1 ≤ held.room.marks) where
+      (settle book (is_chosen book choice))) where
     is_mark : mark ≡ mark_of book (chosen book g.choice)
     unfolding mark_of
     is_mark =
@@ -389,16 +361,13 @@ module _ (held : Held) (kept : IsKept held) (orders : List Order) (g : AreGreate
         (λ i. sym numbers_are i ++ AddMark mark ∷ sym balances_are i)
         (record {
           book = settle book (is_chosen book g.choice);
-          prepares = record {
-            step = step;
-            change = change;
-            fits = ranges book (settle book (is_chosen book g.choice)) Resolve
-                (Ok (answer.Resolved mark.number mark.count mark.value)) tt kept.fits step;
-            balanced = balanced_after held (settling_rows book g.choice rows mark)
-                (settle book (is_chosen book g.choice)) (settling_leaves book g.choice rows mark) kept.balanced
-                (codes_settled book (is_chosen book g.choice) ∙ codes_are) change.leads.balances;
-            room = settling_fits book g.choice rows mark held room;
-          };
+          step = step;
+          change = change;
+          fits = ranges book (settle book (is_chosen book g.choice)) Resolve
+              (Ok (answer.Resolved mark.number mark.count mark.value)) tt kept.fits step;
+          balanced = balanced_after held (settling_rows book g.choice rows mark)
+              (settle book (is_chosen book g.choice)) (settling_leaves book g.choice rows mark) kept.balanced
+              (codes_settled book (is_chosen book g.choice) ∙ codes_are) change.leads.balances;
           repeated = λ k e. absurd (cc);
           nothing = λ e. absurd (cc);
         })

@@ -1,22 +1,16 @@
--- Rows of states: they take no room, and leave the accounts as they are.
-use Rattle.std.proofs.Common.{◌≡◌, ℕ, false, List, [], ◌∷◌, ◌++◌, refl}
+-- Rows of states leave the accounts as they are, and find their room. So do rows of balances.
+use Rattle.std.proofs.Common.{◌≡◌, ℕ, false, List, [], ◌∷◌, ◌++◌, map, refl}
+use Rattle.std.specs.List.{AllByRecursion}
 use Rattle.rtgs_book.specs.declared.change.RowChange.{RowChange}
-use Rattle.rtgs_book.specs.declared.change.RowChange.TheVariants.{SetState}
+use Rattle.rtgs_book.specs.declared.change.RowChange.TheVariants.{AddParticipant, AddPosting, AddOrder, AddMark}
+use Rattle.rtgs_book.specs.declared.change.RowChange.TheVariants.{SetCredit, SetBalance, SetState, SetDay}
+use Rattle.rtgs_book.specs.declared.order.Order.{Order}
 use Rattle.rtgs_book.specs.declared.order_state.OrderState.{OrderState}
 use Rattle.rtgs_book.specs.Books.{is_queued_state}
-use Rattle.rtgs_choices.specs.Settling.{state_rows}
-use Rattle.rtgs_ledger.specs.Held.{Held, HasRoom, after_row, after}
-
--- what comes after the rows finds its room after them
-pub room_for_states : (state : OrderState) → is_queued_state state ≡ false
-    → (numbers : List ℕ) (held : Held) (rows : List RowChange) → HasRoom (after held (state_rows state numbers)) rows
-    → HasRoom held (state_rows state numbers ++ rows)
-room_for_states state done [] held rows room = room
-room_for_states state done (n ∷ ns) held rows room = (
-  done,
-  room_for_states state done ns
-      (after_row held (SetState n state)) rows room,
-)
+use Rattle.rtgs_choices.specs.Settling.{state_rows, IsOfBalance}
+use Rattle.rtgs_ledger.specs.Held as seen
+use Rattle.rtgs_ledger.specs.Held.{HasRoom}
+use Rattle.rtgs_ledger.proofs.Whole.{Held, after, after_row}
 
 pub after-append : (held : Held) (rows more : List RowChange) → after held (rows ++ more) ≡ after (after held rows) more
 after-append held [] more = refl
@@ -27,7 +21,35 @@ pub accounts_after-states : (state : OrderState) (numbers : List ℕ) (held : He
 accounts_after-states state [] held = refl
 accounts_after-states state (n ∷ ns) held = accounts_after-states state ns (after_row held (SetState n state))
 
-pub room_after-states : (state : OrderState) (numbers : List ℕ) (held : Held)
-    → (after held (state_rows state numbers)).room ≡ held.room
-room_after-states state [] held = refl
-room_after-states state (n ∷ ns) held = room_after-states state ns (after_row held (SetState n state))
+-- what comes after the rows of states finds its room after them
+pub room_for_states : (state : OrderState) → is_queued_state state ≡ false → (numbers : List ℕ) (held : seen.Held)
+    (rows : List RowChange) → ((after : seen.Held) → after.core.next_mark ≡ held.core.next_mark → HasRoom after rows)
+    → HasRoom held (state_rows state numbers ++ rows)
+room_for_states state done [] held rows room = room held refl
+room_for_states state done (n ∷ ns) held rows room = (
+  done,
+  room_for_states state done ns
+      (seen.after_row held (SetState n state)) rows room,
+)
+
+-- so where they stand for orders
+pub room_for_orders : (state : OrderState) → is_queued_state state ≡ false → (orders : List Order) (held : seen.Held)
+    (rows : List RowChange) → ((after : seen.Held) → after.core.next_mark ≡ held.core.next_mark → HasRoom after rows)
+    → HasRoom held (map (λ (o : Order). SetState o.number state) orders ++ rows)
+room_for_orders state done [] held rows room = room held refl
+room_for_orders state done (o ∷ os) held rows room = (
+  done,
+  room_for_orders state done os
+      (seen.after_row held (SetState o.number state)) rows room,
+)
+
+pub balances_fit : (rows : List RowChange) (held : seen.Held) → AllByRecursion IsOfBalance rows → HasRoom held rows
+balances_fit [] held h = tt
+balances_fit (SetBalance code b ∷ rows) held h = (tt, balances_fit rows (seen.after_row held (SetBalance code b)) h.1)
+balances_fit (AddParticipant participant ∷ rows) held h = absurd h.0
+balances_fit (SetCredit code credit ∷ rows) held h = absurd h.0
+balances_fit (AddPosting posting ∷ rows) held h = absurd h.0
+balances_fit (AddOrder order ∷ rows) held h = absurd h.0
+balances_fit (AddMark mark ∷ rows) held h = absurd h.0
+balances_fit (SetState number state ∷ rows) held h = absurd h.0
+balances_fit (SetDay day ∷ rows) held h = absurd h.0

@@ -1,6 +1,7 @@
 -- Accounts while orders are settled one after another.
 use Rattle.std.proofs.Common.{◌≡◌, ℕ, ◌+◌, ◌*◌, ◌^◌, ◌≤◌, ◌<◌, ℤ, pos, neg_ℤ, ◌+ℤ◌, ◌-ℤ◌, Bool, true, false, cond, List}
-use Rattle.std.proofs.Common.{[], ◌∷◌, ◌++◌, map, not, length, get_or, drop, append_assoc, refl, sym, ap, ◌∙◌, arith}
+use Rattle.std.proofs.Common.{[], ◌∷◌, ◌++◌, map, not, length, get_or, drop, append_assoc, refl, sym, ap, subst, ◌∙◌}
+use Rattle.std.proofs.Common.{arith}
 use Rattle.std.proofs.lemmas.Int.{ints}
 use Rattle.std.proofs.lemmas.List.{at_drop_more}
 use Rattle.std.specs.Ordering.{int_eq}
@@ -18,9 +19,9 @@ use Rattle.rtgs_book.specs.Totals.{Within}
 use Rattle.rtgs_book.specs.declared.account.Account.{Account}
 use Rattle.rtgs_book.specs.declared.limits.TheConstants.{MOST_QUEUED, LARGEST_BALANCE}
 use Rattle.rtgs_ledger.specs.Accounts.{code_of, participant_of, is_of, move, with_move, after_order}
-use Rattle.rtgs_ledger.specs.Kept.{AreBalanced}
-use Rattle.rtgs_ledger.specs.Resolving.{after_orders, moved_accounts}
+use Rattle.rtgs_ledger.specs.Resolving.{AreSmall, after_orders, moved_accounts}
 use Rattle.rtgs_ledger.proofs.Lists.{bytes_eq_comm, int_sum_by-append, weaker}
+use Rattle.rtgs_cores.specs.Following.{AreBalanced}
 
 -- ---- one order
 
@@ -120,15 +121,17 @@ near_is_small n few = weaker (λ a. Within (LARGEST_BALANCE + n * Amount.MAX) a.
     (λ a. Within (10 ^ 18) a.balance) (λ a h. let low = h.0 in let high = h.1
     in (omega (arith, ints), omega (arith, ints)))
 
-pub near_none : (book : Book) (xs : List Account) → AreBalanced book xs
+pub near_small : (xs : List Account) → AreSmall xs → AreNear 0 xs
+near_small = weaker (λ (a : Account). Within LARGEST_BALANCE a.balance)
+    (λ (a : Account). Within (LARGEST_BALANCE + 0 * Amount.MAX) a.balance) (λ a h. let low = h.0 in let high = h.1
+    in (omega (arith, ints), omega (arith, ints)))
+
+-- so it is in a sound book
+pub small_of : (book : Book) (xs : List Account) → AreBalanced book xs
     → AllByRecursion (λ code. Within LARGEST_BALANCE (balance book code))
-    (map (λ (p : Participant). p.code) (map participant_of xs)) → AreNear 0 xs
-near_none book [] h small = tt
-near_none book (x ∷ xs) h small =
-    let e = h.0 in
-    let low = small.0.0 in
-    let high = small.0.1 in
-    ((omega (arith, ints), omega (arith, ints)), near_none book xs h.1 small.1)
+    (map (λ (p : Participant). p.code) (map participant_of xs)) → AreSmall xs
+small_of book [] h small = tt
+small_of book (x ∷ xs) h small = (subst (Within LARGEST_BALANCE) (sym h.0) small.0, small_of book xs h.1 small.1)
 
 -- ---- the accounts that move
 

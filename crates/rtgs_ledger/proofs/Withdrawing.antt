@@ -1,5 +1,5 @@
 -- What withdrawing an order comes to, test by test, and its change.
-use Rattle.std.proofs.Common.{◌≡◌, ℕ, ◌≤◌, Bool, true, false, cond, if◌then◌else◌, List, [], ◌∷◌, find, Ok, Err, Some}
+use Rattle.std.proofs.Common.{◌≡◌, ℕ, Bool, true, false, cond, if◌then◌else◌, List, [], ◌∷◌, find, Ok, Err, Some}
 use Rattle.std.proofs.Common.{None, ◌⊎◌, inl, inr, refl, sym, ap, subst, ◌∙◌, arith}
 use Rattle.std.proofs.lemmas.Bool.Decides.{nat_tests}
 use Rattle.std.proofs.lemmas.List.{length-map}
@@ -22,12 +22,12 @@ use Rattle.rtgs_book.specs.Lookup.{accounts, is_participant, order_named, is_ord
 use Rattle.rtgs_book.specs.Outcome.{first_of}
 use Rattle.rtgs_book.specs.Soundness.{OrdersAreNumbered}
 use Rattle.rtgs_book.specs.Step.{Step}
-use Rattle.rtgs_ledger.specs.Held.{Held}
-use Rattle.rtgs_ledger.specs.Kept.{IsKept, IsPrepared}
 use Rattle.rtgs_ledger.proofs.Balances.{same_int, all_same}
 use Rattle.rtgs_ledger.proofs.Kept.{StepKeepsRanges, StepKeepsSoundness, prepared_done}
 use Rattle.rtgs_ledger.proofs.Lists.{every, weaker}
+use Rattle.rtgs_ledger.proofs.Loading.{rising_from}
 use Rattle.rtgs_ledger.proofs.Reading.{found_by_number}
+use Rattle.rtgs_ledger.proofs.Whole.{Held, IsKept, IsPrepared}
 
 module _ (book : Book) (sender reference : List ℕ) where
   pub unknown : is_participant book sender ≡ false → Step book (command.Withdraw sender reference)
@@ -78,9 +78,7 @@ found_has {X} P p (y ∷ ys) x h e = by (p y) e (found_has P p ys x h.1)
 pub alone_in_number : (book : Book) → OrdersAreNumbered book → (p : Order → Bool) (o : Order)
     → find p book.orders ≡ Some o → AllByRecursion (λ x. has_number o.number x ≡ true → x ≡ o) book.orders
 alone_in_number book numbered p o found =
-    let all = weaker (λ x. (1 ≤ x.number) × (find (has_number x.number) book.orders ≡ Some x))
-    (λ x. find (has_number x.number) book.orders ≡ Some x) (λ x h. h.1) book.orders
-    (found_by_number 1 book.orders (numbered.0 ∙ ap (range_with_len 1)
+    let all = found_by_number book.orders (rising_from 1 book.orders (numbered.0 ∙ ap (range_with_len 1)
     (length-map book.orders (λ (x : Order). x.number)))) in
     let its : find (has_number o.number) book.orders ≡ Some o =
     found_has (λ x. find (has_number x.number) book.orders ≡ Some x) p book.orders o all found in
@@ -130,5 +128,5 @@ module _ (held : Held) (kept : IsKept held) (law : BalanceAfterRestating) (sende
       prepared_done held (command.Withdraw sender reference) (answer.Withdrawn o.number)
       (SetState o.number Withdrawn ∷ []) new kept ranges soundness tt
       (withdraws held.content sender reference there o found not_back waits) leads_to_it (tt, tt)
-      (all_same (balance held.content) (balance new) balance_same held.accounts kept.balanced) (refl, tt)
+      (all_same (balance held.content) (balance new) balance_same held.accounts kept.balanced)
       (λ k e. absurd (cc)) (λ e. absurd (cc))

@@ -1,31 +1,26 @@
 -- Accounts, as contracts see them.
-use Rattle.std.specs.Prelude.{true, false, ◌≡◌, ℕ, ◌≤◌, ℤ, ◌+ℤ◌, Bool, true, List, map, filter, not, ◌++◌, ◌∷◌}
+use Rattle.std.specs.Prelude.{true, false, ◌≡◌, ℕ, ◌≤◌, ℤ, ◌+ℤ◌, Bool, true, List, map}
 use Rattle.std.specs.Prelude.{if◌then◌else◌, length, slice_index_or, ◌<◌}
-use Rattle.std.specs.List.{AllByRecursion}
+use Rattle.std.specs.List.{AllByRecursion, IsDistinct}
 use Rattle.std.specs.List.Sorted.{IsStrictlySortedBy}
 use Rattle.std.specs.Ordering.{nat_cmp}
 use Rattle.std.specs.Cmp.Lexicographic.{slice_cmp}
 use Rattle.std.specs.Str.{bytes_eq}
-use Rattle.rtgs_book.specs.declared.participant.Participant.{Participant}
+use Rattle.rtgs_book.specs.declared.limits.TheConstants.{MOST_PARTICIPANTS}
 use Rattle.rtgs_book.specs.declared.order.Order.{Order}
 use Rattle.rtgs_book.specs.Balance.{gain}
 use Rattle.rtgs_book.specs.Commands.{is_before}
 use Rattle.rtgs_book.specs.declared.account.Account.{Account}
+pub use Rattle.rtgs_cores.specs.Following.{participant_of, code_of, is_of, with_account, rebalanced, with_balance}
+pub use Rattle.rtgs_cores.specs.Following.{limited, with_limit}
 
 -- the accounts, and how many more can be added without memory
 pub record AccountList : Type 0 where
   pub accounts : List Account
   pub room : ℕ
 
-abbrev pub code_of : Account → List ℕ
-code_of a = a.participant.code
-
-abbrev pub participant_of : Account → Participant
-participant_of a = a.participant
-
--- the account is that of the code
-abbrev pub is_of : List ℕ → Account → Bool
-is_of code a = bytes_eq a.participant.code code
+abbrev pub key_of : Account → List ℕ
+key_of a = a.participant.key
 
 abbrev pub has_key : List ℕ → Account → Bool
 has_key key a = bytes_eq a.participant.key key
@@ -37,18 +32,11 @@ balance_of a = a.balance
 abbrev pub AreInCodeOrder : List Account → Type 0
 AreInCodeOrder accounts = IsStrictlySortedBy (slice_cmp nat_cmp) (map code_of accounts)
 
--- the account, at its place in code order
-abbrev pub with_account : Account → List Account → List Account
-with_account new accounts =
-    filter (λ a. is_before (code_of a) (code_of new)) accounts ++ new
-    ∷ filter (λ a. not (is_before (code_of a) (code_of new))) accounts
-
-abbrev pub rebalanced : List ℕ → ℤ → Account → Account
-rebalanced code balance a = if is_of code a then record a { balance = balance } else a
-
--- the code's account with this balance
-abbrev pub with_balance : List ℕ → ℤ → List Account → List Account
-with_balance code balance = map (rebalanced code balance)
+-- Their participants can be those of a sound book: codes rise, no two have a key, and they are not too many.
+pub record AreOfABook (accounts : List Account) : Type 0 where
+  pub ordered : AreInCodeOrder accounts
+  pub keys : IsDistinct bytes_eq (map key_of accounts)
+  pub few : length accounts ≤ MOST_PARTICIPANTS
 
 abbrev pub move : List ℕ → ℤ → Account → Account
 move code cents a = if is_of code a then record a { balance = a.balance +ℤ cents } else a
@@ -73,10 +61,3 @@ pub record IsGapFor (code : List ℕ) (accounts : List Account) (i : ℕ) : Type
   pub after : (k : ℕ) (d : Account) → i ≤ k → k < length accounts
       → is_before (code_of (slice_index_or accounts k d)) code ≡ false
   pub apart : AllByRecursion (λ a. is_of code a ≡ false) accounts
-
-abbrev pub limited : List ℕ → ℕ → Account → Account
-limited code credit a = if is_of code a then record a { participant = record a.participant { credit = credit } } else a
-
--- the code's account with this credit limit
-abbrev pub with_limit : List ℕ → ℕ → List Account → List Account
-with_limit code credit = map (limited code credit)

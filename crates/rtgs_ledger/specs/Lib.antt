@@ -1,10 +1,12 @@
 pub mod Accounts
+pub mod Alone
+pub mod Choosing
+pub mod Closing
 pub mod Held
 pub mod Keys
+pub mod Kinds
 pub mod Ordering
 pub mod Orders
-pub mod Places
-pub mod Postings
 pub mod Queues
 pub mod Records
 pub mod Resolving

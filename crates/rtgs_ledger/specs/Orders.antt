@@ -1,34 +1,32 @@
--- Orders, as contracts see them.
-use Rattle.std.specs.Prelude.{◌≡◌, ℕ, ◌≤◌, List, map, length, Option, Some}
-use Rattle.std.specs.List.{range_with_len}
-use Rattle.std.specs.BTreeMap.{BTreeMap}
-use Rattle.std.specs.declared.cmp.Ordering.{Ordering}
-use Rattle.std.specs.Ordering.{nat_cmp, ordering_then}
-use Rattle.std.specs.Cmp.Lexicographic.{slice_cmp}
+-- Queued orders, as contracts see them.
+use Rattle.std.specs.Prelude.{◌≡◌, ℕ, ◌≤◌, ◌<◌, List, [], ◌∷◌, ⊤, length, slice_index_or, Option, Some}
+use Rattle.std.specs.List.{AllByRecursion}
 use Rattle.rtgs_book.specs.declared.order.Order.{Order}
 use Rattle.rtgs_book.specs.Queue.{queued_numbers}
 use Rattle.rtgs_ledger.specs.declared.queues.Queues.{Queues}
-use Rattle.rtgs_ledger.specs.Places.{IsIndexed}
 use Rattle.rtgs_ledger.specs.Queues.{queue_of, room_of}
 
--- the orders, how many more can be added without memory, and the sender and reference that the next one has to bear
+-- the queued orders, the number of the next order, how many more can be queued without memory, and the sender whose
+-- queue has room for one more
 pub record OrderList : Type 0 where
   pub orders : List Order
+  pub next : ℕ
   pub room : ℕ
-  pub awaited : Option (List ℕ × List ℕ)
+  pub awaited : Option (List ℕ)
 
--- what names an order for good, and the order of such names
-abbrev pub name_of : Order → List ℕ × List ℕ
-name_of order = (order.sender, order.reference)
+-- numbers rise
+abbrev pub AreRising : List Order → Type 0
+AreRising [] = ⊤
+AreRising (order ∷ orders) = AllByRecursion (λ (later : Order). order.number < later.number) orders × AreRising orders
 
-abbrev pub name_cmp : List ℕ × List ℕ → List ℕ × List ℕ → Ordering
-name_cmp a b = ordering_then (slice_cmp nat_cmp a.0 b.0) (slice_cmp nat_cmp a.1 b.1)
-
--- numbers rise from 1, names lead to their orders, each queue has its sender's queued orders, and room for the one that
--- is awaited
-pub record IsKept (orders : List Order) (places : BTreeMap (List ℕ × List ℕ) ℕ) (queues : Queues)
-    (awaited : Option (List ℕ × List ℕ)) : Type 0 where
-  pub numbered : map (λ (o : Order). o.number) orders ≡ range_with_len 1 (length orders)
-  pub indexed : IsIndexed name_cmp name_of orders places awaited
+-- numbers rise and come before the next one, each queue has its sender's queued orders, and room where one is awaited
+pub record IsKept (orders : List Order) (queues : Queues) (next : ℕ) (awaited : Option (List ℕ)) : Type 0 where
+  pub rising : AreRising orders
+  pub before : AllByRecursion (λ (o : Order). o.number < next) orders
   pub queued : (sender : List ℕ) → queue_of queues sender ≡ queued_numbers orders sender
-  pub ready : (name : List ℕ × List ℕ) → awaited ≡ Some name → 1 ≤ room_of queues name.0
+  pub ready : (sender : List ℕ) → awaited ≡ Some sender → 1 ≤ room_of queues sender
+
+-- the order with the number stands at this index
+pub record HasNumberAt (number : ℕ) (orders : List Order) (i : ℕ) : Type 0 where
+  pub in_range : i < length orders
+  pub has_number : (d : Order) → (slice_index_or orders i d).number ≡ number

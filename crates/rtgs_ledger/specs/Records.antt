@@ -1,30 +1,20 @@
--- The records of a ledger as a book.
-use Rattle.std.specs.Prelude.{◌-◌, map, vec_len}
-use Rattle.std.specs.Vec.{vec_capacity}
-use Rattle.rtgs_book.specs.declared.book.Book.{Book}
+-- The records of a ledger as contracts see them.
+use Rattle.rtgs_cores.specs.declared.Core.{Core}
 use Rattle.rtgs_ledger.specs.declared.records.Records.{Records}
-use Rattle.rtgs_ledger.specs.Accounts.{participant_of}
 use Rattle.rtgs_ledger.specs.Held.{Held}
 
-abbrev pub book_of : Records → Book
-book_of r = record {
-  participants = map participant_of r.accounts.accounts;
-  postings = r.postings.postings;
-  orders = r.orders.orders;
-  marks = r.marks.items;
+abbrev pub core_in : Records → Core
+core_in r = record {
+  accounts = r.accounts.accounts;
+  queued = r.orders.orders;
   day = r.day;
+  next_posting = r.next_posting;
+  next_order = r.orders.next;
+  next_mark = r.next_mark;
 }
 
 abbrev pub held_of : Records → Held
 held_of r = record {
-  content = book_of r;
-  accounts = r.accounts.accounts;
-  room = record {
-    participants = r.accounts.room;
-    postings = r.postings.room;
-    awaited = r.postings.awaited;
-    orders = r.orders.room;
-    awaited_order = r.orders.awaited;
-    marks = vec_capacity r.marks - vec_len r.marks;
-  };
+  core = core_in r;
+  room = record { participants = r.accounts.room; orders = r.orders.room; awaited = r.orders.awaited };
 }

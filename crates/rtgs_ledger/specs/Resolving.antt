@@ -1,7 +1,9 @@
 -- A resolution: the orders of the greatest choice, and the balances that they move.
 use Rattle.std.specs.Prelude.{◌≡◌, ◌≤◌, ◌+ℤ◌, not, List, map, filter, length}
 use Rattle.std.specs.Ordering.{int_eq}
-use Rattle.rtgs_book.specs.declared.limits.TheConstants.{MOST_QUEUED}
+use Rattle.std.specs.List.{AllByRecursion}
+use Rattle.rtgs_book.specs.declared.limits.TheConstants.{MOST_QUEUED, LARGEST_BALANCE}
+use Rattle.rtgs_book.specs.Totals.{Within}
 use Rattle.rtgs_book.specs.declared.book.Book.{Book}
 use Rattle.rtgs_book.specs.declared.order.Order.{Order}
 use Rattle.rtgs_book.specs.declared.change.RowChange.{RowChange}
@@ -9,6 +11,9 @@ use Rattle.rtgs_book.specs.declared.change.RowChange.TheVariants.{SetBalance}
 use Rattle.rtgs_book.specs.Balance.{gain}
 use Rattle.rtgs_book.specs.Choice.{Choice, IsGreatest}
 use Rattle.rtgs_book.specs.IntSum.{int_sum_by}
+use Rattle.rtgs_gridlock.specs.declared.positions.Position.{Position}
+use Rattle.rtgs_gridlock.specs.declared.queues.Payment.{Payment}
+use Rattle.rtgs_gridlock.specs.Choices.{AreFloored, AreInRange, payment_count}
 use Rattle.rtgs_choices.specs.Settling.{orders_taken}
 use Rattle.rtgs_book.specs.declared.account.Account.{Account}
 use Rattle.rtgs_ledger.specs.Accounts.{code_of}
@@ -32,3 +37,14 @@ moved_accounts orders accounts =
 -- their new balances
 abbrev pub moved_rows : List Order → List Account → List RowChange
 moved_rows orders accounts = map (λ a. SetBalance (code_of a) a.balance) (moved_accounts orders accounts)
+
+-- what the resolver asks of positions and queues
+pub record CanResolve (positions : List Position) (queues : List (List Payment)) : Type 0 where
+  pub floored : AreFloored positions
+  pub same : length positions ≡ length queues
+  pub receivers : AreInRange queues
+  pub few : payment_count queues ≤ MOST_QUEUED
+
+-- no balance is past what a sound book can have
+abbrev pub AreSmall : List Account → Type 0
+AreSmall accounts = AllByRecursion (λ (a : Account). Within LARGEST_BALANCE a.balance) accounts

@@ -1,27 +1,22 @@
 //! Accounts in the order of their codes.
-ghost use Rattle.std.specs.Prelude.{◌≡◌, ◌-◌, ◌≤◌, ◌^◌, ◌+ℤ◌, [], ℤ, length, map, filter, Some, None, OnOk, IfOk};
-ghost use Rattle.std.specs.Prelude.{IfErr, FitsSigned};
-ghost use Rattle.std.specs.BTreeMap.{get};
-ghost use Rattle.std.specs.Cmp.Lexicographic.{slice_cmp};
+ghost use Rattle.std.specs.Prelude.{◌≡◌, ◌-◌, ◌≤◌, ◌<◌, ◌^◌, ◌+ℤ◌, [], ℤ, length, map, filter, false, Some, None};
+ghost use Rattle.std.specs.Prelude.{OnOk, IfOk, IfErr, FitsSigned, slice_get};
 ghost use Rattle.std.specs.Int.{w64};
-ghost use Rattle.std.specs.Ordering.{nat_cmp};
 ghost use Rattle.std.specs.List.{find, list_any, position_or_len, AllByRecursion};
 ghost use Rattle.std.specs.Str.{bytes_eq};
 ghost use Rattle.rtgs_money.specs.Amounts.{IsAmount};
+ghost use Rattle.rtgs_book.specs.declared.limits.TheConstants.{MOST_PARTICIPANTS};
 ghost use Rattle.rtgs_book.specs.Totals.{Within};
 ghost use Rattle.rtgs_book.specs.IntSum.{int_sum_by};
-ghost use Rattle.rtgs_book.specs.Ranges.{Fits};
-ghost use Rattle.rtgs_book.specs.Soundness.{IsSound};
-ghost use Rattle.rtgs_ledger.specs.Kept.{AreBalanced};
 ghost use Rattle.rtgs_book.specs.Accounts.{is_overdrawn};
-ghost use Rattle.rtgs_ledger.specs.Accounts.{AreInCodeOrder, IsAt, IsGapFor, is_of, code_of, balance_of};
-ghost use Rattle.rtgs_ledger.specs.Accounts.{participant_of, has_key, with_account, with_balance, with_move};
+ghost use Rattle.rtgs_ledger.specs.Accounts.{AreOfABook, IsAt, IsGapFor, is_of, code_of, key_of};
+ghost use Rattle.rtgs_ledger.specs.Accounts.{balance_of, has_key, with_account, with_balance, with_move};
 ghost use Rattle.rtgs_ledger.specs.Accounts.{with_limit, after_order};
 
-use rtgs_book::{Account, Book, Order, Participant, laws};
+use crate::sums::moved;
+use rtgs_book::{Account, Order, Rows};
 use rtgs_money::{Cents, Code, Credit, KeyDigest};
 use std::alloc::{AllocError, Global};
-use std::collections::BTreeMap;
 use std::marker::Model;
 
 /// The accounts in code order. Contracts see them, and how many more there is room for.
@@ -31,7 +26,7 @@ pub struct Accounts {
 }
 
 impl Model for Accounts {
-    ghost use Rattle.rtgs_ledger.specs.Accounts.{AccountList, AreInCodeOrder};
+    ghost use Rattle.rtgs_ledger.specs.Accounts.{AccountList, AreOfABook};
     ghost use Rattle.std.specs.Prelude.{◌-◌, vec_len};
     ghost use Rattle.std.specs.Vec.{vec_capacity};
 
@@ -39,24 +34,18 @@ impl Model for Accounts {
 
     ghost view = { λ a. record { accounts = a.accounts.items; room = vec_capacity a.accounts - vec_len a.accounts } };
 
-    ghost invariant = { λ a. AreInCodeOrder a.accounts.items };
+    ghost invariant = { λ a. AreOfABook a.accounts.items };
 }
 
 impl Accounts {
-    /// The accounts of a sound book, each with its balance.
-    pub fn load(alloc: Global, book: &Book) -> Result<Accounts, AllocError>
-        requires sound { IsSound book.now }
-        requires fits { Fits book.now }
-        ensures participants { IfOk result (λ loaded. map participant_of loaded.accounts ≡ book.now.participants) }
-        ensures balanced { IfOk result (λ loaded. AreBalanced book.now loaded.accounts) }
+    /// These accounts, in code order.
+    pub fn load(accounts: Rows<Account>) -> Accounts
+        requires { AreOfABook accounts }
+        ensures { result.accounts ≡ accounts }
     {
-        laws::balances_are_small();
-        let balances = book.balances()?;
-        let mut accounts = Vec::with_capacity(alloc, book.participants.len())?;
-        for participant in book.participants.as_slice() {
-            accounts.push_reserved(account_of(participant, &balances));
+        Accounts {
+            accounts: accounts.into_vec(),
         }
-        Ok(Accounts { accounts })
     }
 
     /// The same accounts once more.
@@ -70,7 +59,7 @@ impl Accounts {
     /// The accounts in code order.
     pub fn as_slice(&self) -> &[Account]
         ensures value { result.now ≡ self.now.accounts }
-        ensures ordered { AreInCodeOrder self.now.accounts }
+        ensures of_a_book { AreOfABook self.now.accounts }
     {
         self.accounts.as_slice()
     }
@@ -82,14 +71,15 @@ impl Accounts {
         self.accounts.len()
     }
 
-    /// Their codes, in order. It answers lack of memory.
-    pub fn codes(&self, alloc: Global) -> Result<Vec<Code>, AllocError>
-        ensures { IfOk result (λ codes. codes.items ≡ map code_of self.now.accounts) }
+    /// The code at this place, in order; past the last there is none.
+    pub fn code_at(&self, index: usize) -> Option<Code>
+        ensures { result ≡ slice_get (map code_of self.now.accounts) index }
     {
-        self.accounts
-            .iter()
-            .map(|account| account.participant.code)
-            .collect(alloc)
+        if index < self.accounts.len() {
+            Some(self.accounts[index].participant.code)
+        } else {
+            None
+        }
     }
 
     /// The account with this code, if there is one.
@@ -165,6 +155,8 @@ impl Accounts {
     /// Adds an account, in the room that was made for it.
     pub fn insert(&mut self, account: Account)
         requires absent { find (is_of (code_of account)) self.old.accounts ≡ None }
+        requires unused { list_any (has_key (key_of account)) self.old.accounts ≡ false }
+        requires few { length self.old.accounts < MOST_PARTICIPANTS }
         requires room { 1 ≤ self.old.room }
         ensures accounts { self.new.accounts ≡ with_account account self.old.accounts }
         ensures room { self.new.room ≡ self.old.room - 1 }
@@ -188,8 +180,9 @@ impl Accounts {
 
     /// Moves the amount of an order from the balance of its sender to that of its receiver.
     pub fn settle(&mut self, order: &Order)
-        requires { AllByRecursion (λ a. Within (10 ^ 18) a.balance) self.old.accounts }
-        ensures accounts { self.new.accounts ≡ map (after_order order.now) self.old.accounts }
+        ensures accounts { AllByRecursion (λ a. Within (10 ^ 18) a.balance) self.old.accounts
+            → self.new.accounts ≡ map (after_order order.now) self.old.accounts }
+        ensures count { length self.new.accounts ≡ length self.old.accounts }
         ensures amount { IsAmount order.now.amount }
     {
         let cents = order.amount.cents() as i64;
@@ -197,13 +190,14 @@ impl Accounts {
         self.move_balance(&order.receiver, cents);
     }
 
-    // Adds to the balance of the account with this code.
+    // Adds to the balance of the account with this code, as far as it goes.
     fn move_balance(&mut self, code: &Code, cents: i64)
-        requires { AllByRecursion (λ a. FitsSigned w64 (a.balance +ℤ cents)) self.old.accounts }
-        ensures { self.new.accounts ≡ with_move code.now cents self.old.accounts }
+        ensures moved { AllByRecursion (λ a. FitsSigned w64 (a.balance +ℤ cents)) self.old.accounts
+            → self.new.accounts ≡ with_move code.now cents self.old.accounts }
+        ensures count { length self.new.accounts ≡ length self.old.accounts }
     {
         match self.search(code) {
-            Ok(at) => self.accounts[at].balance = self.accounts[at].balance_moved(cents),
+            Ok(at) => self.accounts[at].balance = moved(self.accounts[at].balance, cents),
             Err(_) => {}
         }
     }
@@ -226,21 +220,5 @@ impl Accounts {
     {
         self.accounts
             .binary_search_by_key(code, |account| account.participant.code)
-    }
-}
-
-// The participant with its balance, of those that the map has.
-fn account_of(participant: &Participant, balances: &BTreeMap<Code, i128>) -> Account
-    requires { (balance : ℤ) × (get (slice_cmp nat_cmp) balances.now participant.now.code ≡ Some balance)
-        × FitsSigned w64 balance }
-    ensures participant { participant_of result ≡ participant.now }
-    ensures balance { get (slice_cmp nat_cmp) balances.now participant.now.code ≡ Some result.balance }
-{
-    match balances.get(&participant.code) {
-        Some(balance) => Account {
-            participant: *participant,
-            balance: Cents::new(i64::try_from(*balance).unwrap()),
-        },
-        None => unreachable!(),
     }
 }

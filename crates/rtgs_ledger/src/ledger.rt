@@ -1,12 +1,11 @@
 //! The ledger.
-ghost use Rattle.std.specs.Prelude.{◌≡◌, ◌⊎◌, [], Ok, Err, OnOk, IfOk, IfErr};
+ghost use Rattle.std.specs.Prelude.{◌≡◌, [], IfOk, IfErr, false};
 ghost use Rattle.rtgs_book.specs.declared.book.Book.{Book};
-ghost use Rattle.rtgs_book.specs.Changes.{changed};
-ghost use Rattle.rtgs_book.specs.Soundness.{IsSound};
-ghost use Rattle.rtgs_book.specs.Step.{Step};
-ghost use Rattle.rtgs_book.specs.Judgement.{Explains};
-ghost use Rattle.rtgs_ledger.specs.Held.{after};
-ghost use Rattle.rtgs_ledger.specs.Kept.{IsReady, IsPrepared, IsRefused};
+ghost use Rattle.rtgs_cores.specs.Cores.{IsCoreOf, found_for};
+ghost use Rattle.rtgs_cores.specs.Following.{core_after};
+ghost use Rattle.rtgs_ledger.specs.Held.{HasRoom};
+ghost use Rattle.rtgs_ledger.specs.Kept.{IsPrepared, IsRefused};
+ghost use Rattle.rtgs_ledger.specs.Kinds.{CanAnswer, is_of_the_store};
 
 mod adding;
 mod choosing;
@@ -22,14 +21,13 @@ mod withdrawing;
 
 use crate::accounts::Accounts;
 use crate::orders::Orders;
-use crate::postings::Postings;
 use crate::records::Records;
-use rtgs_book::{Answer, Book, Change, Command, Fault, Known, Refusal, Rows};
-use std::alloc::Global;
+use rtgs_book::{Answer, Change, Command, Known, Refusal, Rows};
+use rtgs_cores::{Core, Found};
+use std::alloc::{AllocError, Global};
 use std::marker::Model;
 
-/// A sound book in memory, with the balance of each participant. Contracts see the book, and the room that was made for
-/// what comes next.
+/// What the desk has of a book in memory. Contracts see the core, and the room that was made for what comes next.
 #[derive(Debug, Drop)]
 pub struct Ledger {
     alloc: Global,
@@ -39,47 +37,48 @@ pub struct Ledger {
 impl Model for Ledger {
     ghost use Rattle.rtgs_ledger.specs.Held.{Held};
     ghost use Rattle.rtgs_ledger.specs.Records.{held_of};
-    ghost use Rattle.rtgs_ledger.specs.Kept.{IsKept};
 
     ghost Value = { Held };
 
     ghost view = { λ l. held_of l.records };
-
-    ghost invariant = { λ l. IsKept (held_of l.records) };
 }
 
 impl Ledger {
-    /// The ledger of a book. It answers lack of memory, or the lowest rule of soundness that the book breaks.
-    pub fn load(alloc: Global, book: Book) -> Result<Ledger, Fault>
-        ensures content { IfOk result (λ ledger. ledger.content ≡ book) }
-        ensures sound { OnOk result (IsSound book) }
-        ensures refused { IfErr result (Explains book) }
+    /// The ledger of a book with this core. The only error is lack of memory.
+    pub fn load(alloc: Global, core: Core) -> Result<Ledger, AllocError>
+        requires { (book : Book) × IsCoreOf book core }
+        ensures { IfOk result (λ ledger. ledger.core ≡ core) }
     {
-        book.check()?;
-        let accounts = Accounts::load(alloc, &book)?;
-        let Book {
-            participants: _,
-            postings,
-            orders,
-            marks,
-            day,
-        } = book;
-        let records = Records {
+        let Core {
             accounts,
-            postings: Postings::load(alloc, postings)?,
-            orders: Orders::load(alloc, orders)?,
-            marks: marks.into_vec(),
+            queued,
             day,
+            next_posting,
+            next_order,
+            next_mark,
+        } = core;
+        let records = Records {
+            accounts: Accounts::load(accounts),
+            orders: Orders::load(alloc, queued, next_order)?,
+            day,
+            next_posting,
+            next_mark,
         };
         Ok(Ledger { alloc, records })
     }
 
-    /// What the command is answered, and the row changes that it makes. The book stays as it is, and every growth that
-    /// the change needs is made here. A refusal is that of the command's first test that holds, or lack of memory.
-    pub fn prepare(&mut self, command: &Command) -> Result<(Answer, Change), Refusal>
-        ensures content { self.new.content ≡ self.old.content }
-        ensures prepared { IfOk result (λ (answer, change). IsPrepared self.new command.now answer change) }
-        ensures refused { IfErr result (IsRefused self.old.content command.now) }
+    /// What the command is answered, and the row changes that it makes, where this was found for it. The core stays as
+    /// it is, and every growth that the change needs is made here. A refusal is that of the command's first test that
+    /// holds, or lack of memory.
+    pub fn prepare(&mut self, command: &Command, found: &Found) -> Result<(Answer, Change), Refusal>
+        ensures core { self.new.core ≡ self.old.core }
+        ensures room { IfOk result (λ (answer, change). HasRoom self.new change) }
+        ensures answered { IfOk result (λ (answer, change). CanAnswer command.now answer change) }
+        ensures of_the_command { IfErr result (λ refusal. is_of_the_store refusal ≡ false) }
+        ensures prepared { (book : Book) → IsCoreOf book self.old.core → found.now ≡ found_for book command.now
+            → IfOk result (λ (answer, change). IsPrepared book self.old.core command.now answer change) }
+        ensures refused { (book : Book) → IsCoreOf book self.old.core → found.now ≡ found_for book command.now
+            → IfErr result (IsRefused book command.now) }
     {
         match *command {
             Command::Add { code, name, key } => self.prepare_add(code, name, key),
@@ -88,15 +87,17 @@ impl Ledger {
                 code,
                 reference,
                 cents,
-            } => self.prepare_post(code, reference, cents),
+            } => self.prepare_post(code, reference, cents, found.posting),
             Command::OpenDay(date) => self.prepare_open_day(date),
             Command::Order {
                 sender,
                 reference,
                 receiver,
                 amount,
-            } => self.prepare_order(sender, reference, receiver, amount),
-            Command::Withdraw { sender, reference } => self.prepare_withdraw(sender, reference),
+            } => self.prepare_order(sender, reference, receiver, amount, found.order),
+            Command::Withdraw { sender, reference } => {
+                self.prepare_withdraw(sender, reference, found.order)
+            }
             Command::Resolve => self.prepare_resolve(),
             Command::CutOff(date) => self.prepare_cut_off(date),
             Command::CloseDay(date) => self.prepare_close_day(date),
@@ -105,12 +106,13 @@ impl Ledger {
 
     /// Makes a prepared change. It takes no memory and does not fail.
     pub fn adopt(&mut self, change: Change)
-        requires { IsReady self.old change }
-        ensures content { self.new.content ≡ changed self.old.content change }
+        requires { HasRoom self.old change }
+        ensures { self.new.core ≡ core_after self.old.core change }
     {
         for row in change.as_slice() {
             self.records.apply(row);
         }
+        self.records.orders.sweep();
     }
 
     // The answer to a command that was done before. Nothing changes.

@@ -1,13 +1,13 @@
-//! The book in memory: accounts with their running balances, postings by their references, orders by their names and in
-//! the queues of their senders. A command is prepared, which makes every growth and changes nothing, and its change is
-//! adopted, which takes no memory.
+//! What the desk has of a book in memory: accounts with their running balances, queued orders in the queues of their
+//! senders, the day, and the numbers of the next records. A command is prepared, which makes every growth and changes
+//! nothing, and its change is adopted, which takes no memory.
 #![tactic(auto)]
 
 mod accounts;
 mod ledger;
 mod orders;
-mod postings;
 mod queues;
 mod records;
+mod sums;
 
 pub use crate::ledger::Ledger;

@@ -1,177 +1,177 @@
-//! Orders, their names, and the queues that they stand in.
-ghost use Rattle.std.specs.Prelude.{◌≡◌, ◌≤◌, ◌<◌, ◌+◌, ◌-◌, ◌++◌, ◌∷◌, [], ℕ, List, length, map, false, Some, None};
-ghost use Rattle.std.specs.Prelude.{OnOk, IfOk, MatchOption, ◌≢◌};
-ghost use Rattle.std.specs.List.{find, range_with_len, IsDistinct};
+//! Queued orders, by their numbers and in the queues of their senders.
+ghost use Rattle.std.specs.Prelude.{◌≡◌, ◌≤◌, ◌<◌, ◌+◌, ◌-◌, ◌++◌, ◌∷◌, [], ℕ, List, length, map, filter, not, true};
+ghost use Rattle.std.specs.Prelude.{false};
+ghost use Rattle.std.specs.Prelude.{slice_index_or, Some, None, OnOk, IfOk, IfErr, if◌then◌else◌};
+ghost use Rattle.std.specs.List.{find, AllByRecursion};
 ghost use Rattle.rtgs_book.specs.declared.order.Order.{Order};
+ghost use Rattle.rtgs_book.specs.declared.limits.TheConstants.{LARGEST_NUMBER};
 ghost use Rattle.rtgs_book.specs.Books.{is_queued, is_queued_state};
 ghost use Rattle.rtgs_book.specs.Commands.{has_number};
-ghost use Rattle.rtgs_book.specs.Lookup.{is_order_named};
-ghost use Rattle.rtgs_book.specs.Settle.{restated};
-ghost use Rattle.rtgs_book.specs.Soundness.{is_same_name};
-ghost use Rattle.rtgs_book.specs.Queue.{queued_numbers};
-ghost use Rattle.rtgs_ledger.specs.Orders.{name_of, name_cmp};
-ghost use Rattle.rtgs_ledger.specs.Places.{LeadHome};
+ghost use Rattle.rtgs_book.specs.Queue.{queued_among, queued_numbers};
+ghost use Rattle.rtgs_ledger.specs.Orders.{AreRising, HasNumberAt};
 ghost use Rattle.rtgs_ledger.specs.Queues.{queue_of};
 
 use crate::queues::Queues;
 use rtgs_book::{Order, OrderState, Rows};
-use rtgs_money::{Code, Reference};
+use rtgs_money::Code;
 use std::alloc::{AllocError, Global};
-use std::collections::BTreeMap;
 use std::marker::Model;
 
-/// The orders in rising number, found by the sender and its reference, and the queue of each sender. Contracts see the
-/// orders, how many more there is room for, and the sender and reference that the next one has to bear.
+/// The queued orders in rising number, and the queue of each sender. Contracts see the queued orders, the number of the
+/// next order, how many more there is room for, and the sender whose queue has room for one more.
 #[derive(Debug, Drop)]
 pub struct Orders {
+    // Those that wait no more are among them until they are swept out.
     orders: Vec<Order>,
-    // Where each sender and reference lead. An order is there only if it bears them: one that was prepared and never
-    // added left its name here.
-    places: BTreeMap<(Code, Reference), usize>,
     queues: Queues,
-    // The sender and reference that lead to the next order. There is room for it in its sender's queue.
-    awaited: Option<(Code, Reference)>,
+    next: u64,
+    awaited: Option<Code>,
+    // Whether one waits no more.
+    untidy: bool,
 }
 
 impl Model for Orders {
     ghost use Rattle.rtgs_ledger.specs.Orders.{OrderList, IsKept};
-    ghost use Rattle.std.specs.Prelude.{◌-◌, vec_len};
+    ghost use Rattle.std.specs.Prelude.{◌-◌, vec_len, filter};
     ghost use Rattle.std.specs.Vec.{vec_capacity};
+    ghost use Rattle.rtgs_book.specs.Books.{is_queued};
 
     ghost Value = { OrderList };
 
     ghost view = { λ o. record {
-      orders = o.orders.items;
+      orders = filter is_queued o.orders.items;
+      next = o.next;
       room = vec_capacity o.orders - vec_len o.orders;
       awaited = o.awaited;
     } };
 
-    ghost invariant = { λ o. IsKept o.orders.items o.places o.queues o.awaited };
+    ghost invariant = { λ o. IsKept o.orders.items o.queues o.next o.awaited };
 }
 
 impl Orders {
-    /// The orders of a book.
-    pub fn load(alloc: Global, orders: Rows<Order>) -> Result<Orders, AllocError>
-        requires numbered { map (λ (o : Order). o.number) orders ≡ range_with_len 1 (length orders) }
-        requires names { IsDistinct is_same_name (map (λ (o : Order). (o.sender, o.reference)) orders) }
-        ensures { IfOk result (λ loaded. loaded.orders ≡ orders) }
+    /// The queued ones among these orders. The next order gets this number.
+    pub fn load(alloc: Global, orders: Rows<Order>, next: u64) -> Result<Orders, AllocError>
+        requires rising { AreRising orders }
+        requires before { AllByRecursion (λ (o : Order). o.number < next) orders }
+        ensures orders { IfOk result (λ loaded. loaded.orders ≡ filter is_queued orders) }
+        ensures next { IfOk result (λ loaded. loaded.next ≡ next) }
     {
         let orders = orders.into_vec();
-        let places = places_of(alloc, orders.as_slice())?;
         let queues = queues_of(alloc, orders.as_slice())?;
         Ok(Orders {
             orders,
-            places,
             queues,
+            next,
             awaited: None,
+            untidy: false,
         })
     }
 
-    /// The orders in rising number.
-    pub fn as_slice(&self) -> &[Order]
-        ensures { result.now ≡ self.now.orders }
+    /// The number of the next order.
+    pub fn next(&self) -> u64
+        ensures { result ≡ self.now.next }
     {
-        self.orders.as_slice()
+        self.next
     }
 
-    /// How many orders there are.
-    pub fn len(&self) -> usize
-        ensures { result ≡ length self.now.orders }
-    {
-        self.orders.len()
-    }
-
-    /// The order that the sender gave this reference, if there is one.
-    pub fn get(&self, sender: &Code, reference: &Reference) -> Option<Order>
-        ensures { result ≡ find (is_order_named sender.now reference.now) self.now.orders }
-    {
-        let Some(at) = self.places.get(&(*sender, *reference)).copied() else {
-            return None;
-        };
-        if at >= self.orders.len() {
-            return None;
-        }
-        let order = self.orders[at];
-        if is_named(&order, sender, reference) {
-            Some(order)
-        } else {
-            None
-        }
-    }
-
-    /// The order with this number, if there is one.
+    /// The queued order with this number, if there is one.
     pub fn numbered(&self, number: u64) -> Option<Order>
         ensures { result ≡ find (has_number number) self.now.orders }
     {
-        let Some(at) = place_of(number, self.orders.len()) else {
+        let Ok(at) = search(self.orders.as_slice(), number) else {
             return None;
         };
-        Some(self.orders[at])
+        let order = self.orders[at];
+        if is_queued(&order) { Some(order) } else { None }
     }
 
     /// The numbers of the sender's queued orders, rising.
     pub fn queue(&self, sender: &Code) -> &[u64]
-        ensures { result.now ≡ queued_numbers self.now.orders sender.now }
+        ensures numbers { result.now ≡ queued_numbers self.now.orders sender.now }
+        ensures found { (k : ℕ) (d : Order) → k < length result.now
+            → find (has_number (slice_index_or result.now k 0)) self.now.orders
+            ≡ Some (slice_index_or (queued_among self.now.orders sender.now) k d) }
     {
         self.queues.get(sender)
     }
 
-    /// Makes room for an order of this sender with this reference, also in the sender's queue.
-    pub fn reserve(&mut self, sender: Code, reference: Reference) -> Result<(), AllocError>
-        requires { find (is_order_named sender reference) self.old.orders ≡ None }
-        ensures same { self.new.orders ≡ self.old.orders }
+    /// Makes room for one queued order more of this sender.
+    pub fn reserve(&mut self, sender: Code) -> Result<(), AllocError>
+        ensures orders { self.new.orders ≡ self.old.orders }
+        ensures next { self.new.next ≡ self.old.next }
         ensures room { OnOk result (1 ≤ self.new.room) }
-        ensures awaited { OnOk result (self.new.awaited ≡ Some (sender, reference)) }
+        ensures awaited { OnOk result (self.new.awaited ≡ Some sender) }
     {
         self.awaited = None;
         self.orders.reserve(1)?;
         self.queues.reserve(sender)?;
-        let place = self.orders.len();
-        self.places.insert((sender, reference), place)?;
-        self.awaited = Some((sender, reference));
+        self.awaited = Some(sender);
         Ok(())
     }
 
-    /// Adds an order, in the room that was made for it.
-    pub fn push(&mut self, order: Order)
-        requires room { 1 ≤ self.old.room }
-        requires awaited { self.old.awaited ≡ Some (order.sender, order.reference) }
-        requires number { order.number ≡ length self.old.orders + 1 }
-        ensures orders { self.new.orders ≡ self.old.orders ++ order ∷ [] }
-        ensures room { self.new.room ≡ self.old.room - 1 }
-        ensures awaited { self.new.awaited ≡ None }
+    /// Counts the next order, and queues it in the room that was made for it, if it is queued.
+    pub fn add(&mut self, order: Order)
+        requires number { order.number ≡ self.old.next }
+        requires few { self.old.next ≤ LARGEST_NUMBER }
+        requires room { is_queued order ≡ true → 1 ≤ self.old.room }
+        requires awaited { is_queued order ≡ true → self.old.awaited ≡ Some order.sender }
+        ensures orders { self.new.orders
+            ≡ (if is_queued order then self.old.orders ++ order ∷ [] else self.old.orders) }
+        ensures next { self.new.next ≡ self.old.next + 1 }
+        ensures room { self.new.room ≡ (if is_queued order then self.old.room - 1 else self.old.room) }
+        ensures awaited { self.new.awaited ≡ (if is_queued order then None else self.old.awaited) }
     {
-        self.awaited = None;
-        self.orders.push_reserved(order);
+        self.next += 1;
         if is_queued(&order) {
+            self.awaited = None;
             self.queues.push(&order.sender, order.number);
+            self.orders.push_reserved(order);
         }
     }
 
-    /// Sets the state of the order with this number: it leaves its sender's queue. It takes no memory.
+    /// The order with this number waits no more: it leaves its sender's queue. It takes no memory.
     pub fn set_state(&mut self, number: u64, state: OrderState)
         requires { is_queued_state state ≡ false }
-        ensures orders { self.new.orders ≡ map (restated (has_number number) state) self.old.orders }
+        ensures orders { self.new.orders ≡ filter (λ o. not (has_number number o)) self.old.orders }
+        ensures next { self.new.next ≡ self.old.next }
         ensures room { self.new.room ≡ self.old.room }
         ensures awaited { self.new.awaited ≡ self.old.awaited }
     {
-        let Some(at) = place_of(number, self.orders.len()) else {
+        let Ok(at) = search(self.orders.as_slice(), number) else {
             return;
         };
         let order = self.orders[at];
         self.orders[at] = Order { state, ..order };
         self.queues.remove(&order.sender, number);
+        self.untidy = true;
+    }
+
+    /// Sweeps out the orders that wait no more.
+    pub fn sweep(&mut self)
+        ensures orders { self.new.orders ≡ self.old.orders }
+        ensures next { self.new.next ≡ self.old.next }
+    {
+        if self.untidy {
+            keep_queued(&mut self.orders);
+            self.untidy = false;
+        }
     }
 }
 
-// The place of the order with this number, among so many.
-fn place_of(number: u64, orders: usize) -> Option<usize>
-    ensures { MatchOption result ((k : ℕ) → k < orders → k + 1 ≢ number) (λ at. (at < orders) × (at + 1 ≡ number)) }
+// Where the order with this number is, or where it would go.
+fn search(orders: &[Order], number: u64) -> Result<usize, usize>
+    requires { AreRising orders.now }
+    ensures found { IfOk result (HasNumberAt number orders.now) }
+    ensures absent { IfErr result (λ _. AllByRecursion (λ (o : Order). has_number number o ≡ false) orders.now) }
 {
-    if number == 0 || number as usize > orders {
-        return None;
-    }
-    Some(number as usize - 1)
+    orders.binary_search_by_key(&number, |order| order.number)
+}
+
+// Takes out the orders that are not queued.
+fn keep_queued(orders: &mut Vec<Order>)
+    ensures { orders.new.items ≡ filter is_queued orders.old.items }
+{
+    orders.retain(is_queued);
 }
 
 // Whether the order is in its sender's queue.
@@ -179,28 +179,6 @@ fn is_queued(order: &Order) -> bool
     ensures { result ≡ is_queued order.now }
 {
     order.state == OrderState::Queued
-}
-
-// Whether the order bears this sender and reference.
-fn is_named(order: &Order, sender: &Code, reference: &Reference) -> bool
-    ensures { result ≡ is_order_named sender.now reference.now order.now }
-{
-    order.sender == *sender && order.reference == *reference
-}
-
-// Where each name leads.
-fn places_of(
-    alloc: Global,
-    orders: &[Order],
-) -> Result<BTreeMap<(Code, Reference), usize>, AllocError>
-    requires { IsDistinct is_same_name (map (λ (o : Order). (o.sender, o.reference)) orders.now) }
-    ensures { IfOk result (LeadHome name_cmp name_of orders.now (length orders.now)) }
-{
-    let mut places = BTreeMap::new(alloc);
-    for (at, order) in orders.iter().enumerate() {
-        places.insert((order.sender, order.reference), at)?;
-    }
-    Ok(places)
 }
 
 // The queue of each sender.

@@ -1,5 +1,5 @@
 //! The rows of a book in memory.
-ghost use Rattle.std.specs.Prelude.{◌≡◌, ◌+◌, ◌<◌, ◌≤◌, length, sum_by, if◌then◌else◌, ◌&&◌, not, ◌^◌, pos, neg_ℤ};
+ghost use Rattle.std.specs.Prelude.{◌≡◌, ◌+◌, ◌≤◌, ◌↔◌, length, sum_by, if◌then◌else◌, ◌&&◌, not, pos, neg_ℤ, IsTrue};
 ghost use Rattle.std.specs.Prelude.{◌+ℤ◌, ◌-ℤ◌, int_lt, int_le, None};
 ghost use Rattle.rtgs_book.specs.declared.limits.TheConstants.{LARGEST_NUMBER, LARGEST_TOTAL, MOST_QUEUED};
 ghost use Rattle.rtgs_money.specs.Amounts.{IsAmount, IsCredit};
@@ -15,18 +15,19 @@ ghost use Rattle.rtgs_ledger.specs.Held.{FindsRoom, after_row};
 
 use crate::accounts::Accounts;
 use crate::orders::Orders;
-use crate::postings::Postings;
-use rtgs_book::{Account, Day, LARGEST_TOTAL, Mark, Order, OrderState, Phase, RowChange};
+use rtgs_book::{
+    Account, Day, LARGEST_NUMBER, LARGEST_TOTAL, Mark, Order, OrderState, Phase, RowChange,
+};
 use rtgs_money::{Amount, BusinessDate, Cents, Code, Credit, PostingAmount, Reference};
 
-/// The rows of a book, with a balance beside each participant.
+/// What a ledger has of a book: accounts with their balances, queued orders, the day, and the numbers of the next records.
 #[derive(Debug, Drop)]
 pub struct Records {
     pub accounts: Accounts,
-    pub postings: Postings,
     pub orders: Orders,
-    pub marks: Vec<Mark>,
     pub day: Day,
+    pub next_posting: u64,
+    pub next_mark: u64,
 }
 
 impl Records {
@@ -40,9 +41,9 @@ impl Records {
                 participant: *participant,
                 balance: Cents::new(0),
             }),
-            RowChange::AddPosting(posting) => self.postings.push(*posting),
-            RowChange::AddOrder(order) => self.orders.push(*order),
-            RowChange::AddMark(mark) => self.marks.push_reserved(*mark),
+            RowChange::AddPosting(_) => self.next_posting += 1,
+            RowChange::AddOrder(order) => self.orders.add(*order),
+            RowChange::AddMark(_) => self.next_mark += 1,
             RowChange::SetCredit { code, credit } => self.accounts.set_credit(code, *credit),
             RowChange::SetBalance { code, balance } => self.accounts.set_balance(code, *balance),
             RowChange::SetState { number, state } => self.orders.set_state(*number, *state),
@@ -186,9 +187,8 @@ impl Records {
         amount: Amount,
         date: BusinessDate,
     ) -> Order
-        requires { length self.now.orders.orders < LARGEST_NUMBER }
         ensures { result ≡ record {
-          number = length self.now.orders.orders + 1;
+          number = self.now.orders.next;
           sender = sender;
           reference = reference;
           receiver = receiver;
@@ -198,7 +198,7 @@ impl Records {
         } }
     {
         Order {
-            number: self.orders.len() as u64 + 1,
+            number: self.orders.next(),
             sender,
             reference,
             receiver,
@@ -208,20 +208,19 @@ impl Records {
         }
     }
 
-    // The number of the next mark.
-    fn next_mark_number(&self) -> u64
-        ensures { result ≡ length self.now.marks.items + 1 }
+    /// Whether marks can be counted further, as in each sound book they can.
+    pub fn counts_marks(&self) -> bool
+        ensures { IsTrue result ↔ (self.now.next_mark ≤ LARGEST_NUMBER + 1) }
     {
-        self.marks.len() as u64 + 1
+        self.next_mark <= LARGEST_NUMBER as u64 + 1
     }
 
     /// The next mark, for one order of this amount.
     pub fn next_mark(&self, amount: Amount, date: BusinessDate) -> Mark
-        ensures { result
-            ≡ record { number = length self.now.marks.items + 1; date = date; count = 1; value = pos amount } }
+        ensures { result ≡ record { number = self.now.next_mark; date = date; count = 1; value = pos amount } }
     {
         Mark {
-            number: self.next_mark_number(),
+            number: self.next_mark,
             date,
             count: 1,
             value: Cents::new(amount.cents() as i64),
@@ -230,10 +229,9 @@ impl Records {
 
     /// The next mark, for these orders together.
     pub fn mark_of(&self, orders: &[Order], date: BusinessDate) -> Mark
-        requires { length orders.now ≤ MOST_QUEUED }
-        ensures { result
+        ensures { length orders.now ≤ MOST_QUEUED → result
             ≡ record {
-              number = length self.now.marks.items + 1;
+              number = self.now.next_mark;
               date = date;
               count = length orders.now;
               value = pos
@@ -242,10 +240,10 @@ impl Records {
     {
         let mut value = 0i64;
         for order in orders {
-            value += order.amount.cents() as i64;
+            value = value.saturating_add(order.amount.cents() as i64);
         }
         Mark {
-            number: self.next_mark_number(),
+            number: self.next_mark,
             date,
             count: orders.len() as u64,
             value: Cents::new(value),

@@ -1,2 +1,5 @@
 //! Records found by name, and the next records of a date.
+mod both;
 mod looking;
+mod passing;
+mod setting;

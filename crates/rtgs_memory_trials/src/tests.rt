@@ -3,5 +3,6 @@ mod batches;
 mod commands;
 mod nothing;
 mod openings;
+mod page;
 mod readings;
 mod serving;

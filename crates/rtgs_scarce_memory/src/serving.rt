@@ -122,6 +122,6 @@ where
     }
 
     fn seen(&self, alloc: Global, server: &mut Server<S::Kept>) -> Result<String, Fail> {
-        seen_of(alloc, &server.desk)
+        seen_of(alloc, &mut server.desk)
     }
 }

@@ -1,6 +1,12 @@
 pub mod Agreement
+pub mod Begins
+pub mod Days
 pub mod Groups
 pub mod Growth
+pub mod Leaving
+pub mod Nexts
 pub mod Pads
+pub mod Statements
 pub mod Terms
+pub mod Told
 pub mod Widths

@@ -1,5 +1,9 @@
 pub mod Columns
+pub mod Days
 pub mod Lines
+pub mod Reads
 pub mod Records
+pub mod Rows
 pub mod Sums
+pub mod Tallies
 pub mod Texts

@@ -14,7 +14,7 @@ ghost use Rattle.rtgs_statements.specs.declared.total.Total.{Total};
 ghost use Rattle.rtgs_statements.specs.Lines.{mark_of, row_of_posting, row_of_order, row_text};
 ghost use Rattle.rtgs_statements.specs.Records.{postings_of, orders_of, postings_on, orders_on};
 ghost use Rattle.rtgs_statements.specs.Sums.{cents_of, sent, received, sums_of, net};
-ghost use Rattle.rtgs_statements.specs.Texts.{line_text};
+ghost use Rattle.rtgs_statements.specs.Texts.{line_text, statement, report};
 
 /// The sums of a participant's statement are those of its line in the day's report.
 pub fn statement_and_report_agree()
@@ -51,4 +51,10 @@ pub fn rows_have_77_characters()
 pub fn sums_have_41_characters()
     ensures { (total : Total) (cents : ℤ) → unsigned_abs cents < 10 ^ 28
         → length (line_text (Line.Sum total cents)) ≡ 42 }
+{}
+
+/// Each statement and each report has bytes.
+pub fn texts_have_bytes()
+    ensures statement { (book : Book) (code : List ℕ) (date : ℕ) → 0 < length (statement book code date) }
+    ensures report { (book : Book) (date : ℕ) → 0 < length (report book date) }
 {}

@@ -2,17 +2,28 @@
 //! byte.
 #![tactic(auto)]
 
+mod book_text_fault;
+mod day_sums;
+mod gathering;
 mod kind;
+mod later;
 pub mod laws;
 mod line;
+mod ordered;
 mod parts;
 mod party;
 mod report;
 mod row;
+mod source;
 mod statement;
 mod sums;
+mod tallies;
+mod tally;
 mod total;
-mod turnover;
+mod totals;
+mod writing;
 
-pub use crate::report::{Report, day_report};
-pub use crate::statement::{Statement, statement_text};
+pub use crate::book_text_fault::BookTextFault;
+pub use crate::report::write_report;
+pub use crate::source::Source;
+pub use crate::statement::write_statement;

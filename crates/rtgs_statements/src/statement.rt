@@ -1,180 +1,203 @@
-//! Statements.
-ghost use Rattle.std.specs.Prelude.{◌≡◌, map, IfOk, IfErr, OnOk, OnErr, string_bytes};
+//! Statements that are written row by row, as their records are read.
+ghost use Rattle.std.specs.Prelude.{◌≡◌, IfOk, OnOk, OnErr};
 ghost use Rattle.std.specs.Io.KnownBytes.{Appends};
-ghost use Rattle.rtgs_statements.specs.declared.line.Line.{Line};
-ghost use Rattle.rtgs_statements.specs.Lines.{row_of_posting, row_of_order};
-ghost use Rattle.rtgs_statements.specs.Records.{is_posting_of, is_order_of, postings_of, orders_of};
+ghost use Rattle.rtgs_book.specs.declared.Book.{Book};
 ghost use Rattle.rtgs_output.specs.Sent.{AppendsPart};
-ghost use Rattle.rtgs_statements.specs.Sums.{IsSmall};
-ghost use Rattle.rtgs_statements.specs.Texts.{statement_text, sum_lines};
+ghost use Rattle.rtgs_statements.specs.Reads.{IsRead, AppendsBeginning, read_refused_by};
+ghost use Rattle.rtgs_statements.specs.Records.{postings_on, orders_on};
+ghost use Rattle.rtgs_statements.specs.Rows.{posting_row, order_row, posting_rows, order_rows, posted_by, settled_by};
+ghost use Rattle.rtgs_statements.specs.Rows.{is_told_to};
+ghost use Rattle.rtgs_statements.specs.Sums.{IsSmall, posted, sent, received};
+ghost use Rattle.rtgs_statements.specs.Texts.{statement};
 
+use crate::book_text_fault::BookTextFault;
+use crate::later::{later_order, later_posting};
 use crate::line::Line;
-use crate::parts::text_of_parts;
+use crate::party::Party;
 use crate::row::Row;
-use crate::sums::Sums;
-use crate::total::Total;
-use crate::turnover::Turnover;
+use crate::source::Source;
+use crate::sums::{Sums, sum_lines};
+use crate::writing::{write_four, write_line};
 use rtgs_book::{Order, OrderState, Posting};
-use rtgs_money::{BusinessDate, Code, Units};
-use rtgs_output::{TextFault, send_all};
-use std::alloc::{AllocError, Global};
+use rtgs_cores::laws::records_are_listed;
+use rtgs_money::{BusinessDate, Code};
+use rtgs_output::TextFault;
+use std::alloc::Global;
 use std::io::Write;
 
-/// What a statement is made of: the participant's postings of the date, and the orders of the date that it sent, or
-/// that were sent to it and settled, each by rising number.
-#[derive(Debug, Drop)]
-pub struct Statement {
-    pub code: Code,
-    pub date: BusinessDate,
-    pub postings: Vec<Posting>,
-    pub orders: Vec<Order>,
-}
-
-impl Statement {
-    /// The statement of a participant for a date, out of all records, by one pass over each list. The only error is
-    /// want of memory.
-    pub fn of(
-        alloc: Global,
-        code: Code,
-        date: BusinessDate,
-        postings: &[Posting],
-        orders: &[Order],
-    ) -> Result<Statement, AllocError>
-        ensures code { IfOk result (λ statement. statement.code ≡ code) }
-        ensures date { IfOk result (λ statement. statement.date ≡ date) }
-        ensures postings { IfOk result (λ statement. statement.postings.items ≡ postings_of code date postings.now) }
-        ensures orders { IfOk result (λ statement. statement.orders.items ≡ orders_of code date orders.now) }
-    {
-        let postings = postings_of(alloc, &code, date, postings)?;
-        let orders = orders_of(alloc, &code, date, orders)?;
-        Ok(Statement {
-            code,
-            date,
-            postings,
-            orders,
-        })
-    }
-}
-
-/// Writes the statement: its title, a line for each posting and then for each order, and four sums. Amounts are in
-/// units. On a fault of the writer, or a write that takes no byte, a beginning of the text was written, and not the
-/// whole. Where memory is wanting, nothing was asked of the writer.
-pub fn statement_text<W: Write>(
+/// Writes the statement of a participant for a date, each row as its record is read: its title, a line for each posting
+/// and then for each order, and four sums. Amounts are in units. Where a read is refused, a line finds no memory, or the
+/// writer fails or takes no byte, a beginning of the text was written, and not the whole.
+pub fn write_statement<S: Source, W: Write>(
     alloc: Global,
     out: &mut W,
-    statement: &Statement,
-) -> Result<(), TextFault>
-    ensures written { OnOk result (Appends (W.contents out.old) (W.contents out.new) (statement_text
-        statement.now.code statement.now.date statement.now.postings.items statement.now.orders.items)) }
-    ensures begun { OnErr result (AppendsPart (W.contents out.old) (W.contents out.new) (statement_text
-        statement.now.code statement.now.date statement.now.postings.items statement.now.orders.items)) }
-    ensures memory { IfErr result (λ fault. fault ≡ TextFault.OutOfMemory → out.new ≡ out.old) }
+    source: &mut S,
+    code: &Code,
+    date: BusinessDate,
+) -> Result<(), BookTextFault>
+    ensures written { S.is_honest source.new → (book : Book) → S.holds source.old book
+        → OnOk result (Appends (W.contents out.old) (W.contents out.new) (statement book code.now date)) }
+    ensures begun { S.is_honest source.new → (book : Book) → S.holds source.old book
+        → OnErr result (AppendsPart (W.contents out.old) (W.contents out.new) (statement book code.now date)) }
+    ensures read { IsRead S.holds S.leaves S.is_honest S.has_failed source.old source.new (read_refused_by result) }
 {
-    let text = match text_of(alloc, statement) {
-        Ok(text) => text,
-        Err(refused) => return Err(TextFault::from(refused)),
+    if let Err(fault) = write_line(alloc, out, &Line::StatementOf(*code, date)) {
+        return Err(BookTextFault::Text(fault));
+    }
+    let posted = match write_postings(alloc, out, source, code, date) {
+        Ok(posted) => posted,
+        Err(fault) => return Err(fault),
     };
-    match send_all(out, text.as_bytes()) {
+    let (sent, received) = match write_orders(alloc, out, source, code, date) {
+        Ok(sums) => sums,
+        Err(fault) => return Err(fault),
+    };
+    let sums = sum_lines(Sums {
+        posted,
+        sent,
+        received,
+    });
+    match write_four(alloc, out, &sums) {
         Ok(()) => Ok(()),
-        Err(failed) => Err(TextFault::from(failed)),
+        Err(fault) => Err(BookTextFault::Text(fault)),
     }
 }
 
-// The text of a statement.
-fn text_of(alloc: Global, statement: &Statement) -> Result<String, AllocError>
-    ensures { IfOk result (λ text. string_bytes text ≡ statement_text
-        statement.now.code statement.now.date statement.now.postings.items statement.now.orders.items) }
-{
-    let code = &statement.code;
-    let turnover = Turnover::of(alloc, &statement.postings, &statement.orders)?;
-    let title = [Line::StatementOf(*code, statement.date)];
-    let postings = posting_lines(alloc, &statement.postings)?;
-    let orders = order_lines(alloc, code, &statement.orders)?;
-    let sums = sum_lines(turnover.sums(code));
-    text_of_parts(alloc, &title, &postings, &orders, &sums)
-}
-
-// The participant's postings of that date.
-fn postings_of(
+// Writes the rows of the participant's postings of the date, and gives their sum.
+fn write_postings<S: Source, W: Write>(
     alloc: Global,
+    out: &mut W,
+    source: &mut S,
     code: &Code,
     date: BusinessDate,
-    postings: &[Posting],
-) -> Result<Vec<Posting>, AllocError>
-    ensures { IfOk result (λ taken. taken.items ≡ postings_of code.now date postings.now) }
+) -> Result<i128, BookTextFault>
+    ensures written { S.is_honest source.new → (book : Book) → S.holds source.old book → OnOk result
+        (Appends (W.contents out.old) (W.contents out.new) (posting_rows code.now (postings_on date book.postings))) }
+    ensures begun { S.is_honest source.new → (book : Book) → S.holds source.old book → OnErr result
+        (AppendsBeginning (W.contents out.old) (W.contents out.new)
+        (posting_rows code.now (postings_on date book.postings))) }
+    ensures sum { S.is_honest source.new → (book : Book) → S.holds source.old book
+        → IfOk result (λ sum. sum ≡ posted code.now (postings_on date book.postings)) }
+    ensures small { IfOk result IsSmall }
+    ensures read { IsRead S.holds S.leaves S.is_honest S.has_failed source.old source.new (read_refused_by result) }
 {
-    postings
-        .iter()
-        .filter(|posting| is_posting_of(code, date, posting))
-        .copied()
-        .collect(alloc)
-}
-
-// The orders of that date that the participant sent, or that were sent to it and settled.
-fn orders_of(
-    alloc: Global,
-    code: &Code,
-    date: BusinessDate,
-    orders: &[Order],
-) -> Result<Vec<Order>, AllocError>
-    ensures { IfOk result (λ taken. taken.items ≡ orders_of code.now date orders.now) }
-{
-    orders
-        .iter()
-        .filter(|order| is_order_of(code, date, order))
-        .copied()
-        .collect(alloc)
-}
-
-// Whether the posting is of that date, and to the participant.
-fn is_posting_of(code: &Code, date: BusinessDate, posting: &Posting) -> bool
-    ensures { result ≡ is_posting_of code.now date posting.now }
-{
-    match posting.date {
-        Some(day) => day == date && posting.code == *code,
-        None => false,
+    source.reads_a_sound_book();
+    records_are_listed();
+    let mut last = 0;
+    let mut sum = 0i128;
+    loop {
+        let next = match later_posting(source, date, last) {
+            Ok(next) => next,
+            Err(refusal) => return Err(BookTextFault::Refused(refusal)),
+        };
+        let Some(posting) = next else {
+            return Ok(sum);
+        };
+        last = posting.number;
+        match write_posting(alloc, out, code, &posting) {
+            Ok(cents) => sum += cents,
+            Err(fault) => return Err(BookTextFault::Text(fault)),
+        }
     }
 }
 
-// Whether the order is of that date, and the participant sent it, or it is settled and was sent to it.
-fn is_order_of(code: &Code, date: BusinessDate, order: &Order) -> bool
-    ensures { result ≡ is_order_of code.now date order.now }
+// Writes the rows of the orders of the date that the participant is told of, and gives what it sent and received.
+fn write_orders<S: Source, W: Write>(
+    alloc: Global,
+    out: &mut W,
+    source: &mut S,
+    code: &Code,
+    date: BusinessDate,
+) -> Result<(i128, i128), BookTextFault>
+    ensures written { S.is_honest source.new → (book : Book) → S.holds source.old book → OnOk result
+        (Appends (W.contents out.old) (W.contents out.new) (order_rows code.now (orders_on date book.orders))) }
+    ensures begun { S.is_honest source.new → (book : Book) → S.holds source.old book → OnErr result
+        (AppendsBeginning (W.contents out.old) (W.contents out.new)
+        (order_rows code.now (orders_on date book.orders))) }
+    ensures sums { S.is_honest source.new → (book : Book) → S.holds source.old book
+        → IfOk result (λ (out, back). (out ≡ sent code.now (orders_on date book.orders))
+        × (back ≡ received code.now (orders_on date book.orders))) }
+    ensures small { IfOk result (λ (out, back). IsSmall out × IsSmall back) }
+    ensures read { IsRead S.holds S.leaves S.is_honest S.has_failed source.old source.new (read_refused_by result) }
+{
+    source.reads_a_sound_book();
+    records_are_listed();
+    let mut last = 0;
+    let mut sent = 0i128;
+    let mut received = 0i128;
+    loop {
+        let next = match later_order(source, date, last) {
+            Ok(next) => next,
+            Err(refusal) => return Err(BookTextFault::Refused(refusal)),
+        };
+        let Some(order) = next else {
+            return Ok((sent, received));
+        };
+        last = order.number;
+        if let Err(fault) = write_order(alloc, out, code, &order) {
+            return Err(BookTextFault::Text(fault));
+        }
+        sent += settled_cents(Party::Sender, code, &order);
+        received += settled_cents(Party::Receiver, code, &order);
+    }
+}
+
+// Writes the row of a posting to the participant, and gives what it adds to the sum.
+fn write_posting<W: Write>(
+    alloc: Global,
+    out: &mut W,
+    code: &Code,
+    posting: &Posting,
+) -> Result<i128, TextFault>
+    ensures written { OnOk result (Appends (W.contents out.old) (W.contents out.new)
+        (posting_row code.now posting.now)) }
+    ensures begun { OnErr result (AppendsBeginning (W.contents out.old) (W.contents out.new)
+        (posting_row code.now posting.now)) }
+    ensures sum { IfOk result (λ cents. cents ≡ posted_by code.now posting.now) }
+{
+    if posting.code != *code {
+        return Ok(0);
+    }
+    match write_line(alloc, out, &Line::Record(Row::of_posting(posting))) {
+        Ok(()) => Ok(i128::from(posting.cents.cents())),
+        Err(fault) => Err(fault),
+    }
+}
+
+// Writes the row of an order that the participant is told of.
+fn write_order<W: Write>(
+    alloc: Global,
+    out: &mut W,
+    code: &Code,
+    order: &Order,
+) -> Result<(), TextFault>
+    ensures written { OnOk result (Appends (W.contents out.old) (W.contents out.new) (order_row code.now order.now)) }
+    ensures begun { OnErr result (AppendsBeginning (W.contents out.old) (W.contents out.new)
+        (order_row code.now order.now)) }
+{
+    if !is_told_to(code, order) {
+        return Ok(());
+    }
+    match write_line(alloc, out, &Line::Record(Row::of_order(code, order))) {
+        Ok(()) => Ok(()),
+        Err(fault) => Err(fault),
+    }
+}
+
+// Whether the participant sent the order, or it is settled and was sent to it.
+fn is_told_to(code: &Code, order: &Order) -> bool
+    ensures { result ≡ is_told_to code.now order.now }
 {
     let is_settled = matches!(order.state, OrderState::Settled(_));
-    order.date == date && (order.sender == *code || (is_settled && order.receiver == *code))
+    order.sender == *code || (is_settled && order.receiver == *code)
 }
 
-// A line for each posting.
-fn posting_lines(alloc: Global, postings: &[Posting]) -> Result<Vec<Line>, AllocError>
-    ensures { IfOk result (λ lines. lines.items ≡ map (λ posting. Line.Record (row_of_posting posting)) postings.now) }
+// What a settled order adds to the sum of the participant that is this party of it.
+fn settled_cents(party: Party, code: &Code, order: &Order) -> i128
+    ensures { result ≡ settled_by party code.now order.now }
 {
-    postings
-        .iter()
-        .map(|posting| Line::Record(Row::of_posting(posting)))
-        .collect(alloc)
-}
-
-// A line for each order, as the participant sees it.
-fn order_lines(alloc: Global, code: &Code, orders: &[Order]) -> Result<Vec<Line>, AllocError>
-    ensures { IfOk result (λ lines. lines.items ≡ map (λ order. Line.Record (row_of_order code.now order)) orders.now) }
-{
-    orders
-        .iter()
-        .map(|order| Line::Record(Row::of_order(code, order)))
-        .collect(alloc)
-}
-
-// The four sums.
-fn sum_lines(sums: Sums) -> [Line; 4]
-    requires posted { IsSmall sums.posted }
-    requires sent { IsSmall sums.sent }
-    requires received { IsSmall sums.received }
-    ensures { result ≡ sum_lines sums }
-{
-    [
-        Line::Sum(Total::Posted, Units::new(sums.posted)),
-        Line::Sum(Total::Sent, Units::new(sums.sent)),
-        Line::Sum(Total::Received, Units::new(sums.received)),
-        Line::Sum(Total::Net, Units::new(sums.net())),
-    ]
+    match order.state {
+        OrderState::Settled(_) if party.code(order) == *code => i128::from(order.amount.cents()),
+        _ => 0,
+    }
 }

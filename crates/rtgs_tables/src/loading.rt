@@ -7,6 +7,7 @@ ghost use Rattle.rtgs_tables.specs.Accounts.{HasRecords, AreBalances, AreReadOf,
 ghost use Rattle.rtgs_tables.specs.Accounts.{ExplainsTrees, IsShown};
 ghost use Rattle.rtgs_tables.specs.Building.{IsBlank};
 ghost use Rattle.rtgs_tables.specs.Displaying.{AreDisplayed, IsDisplayed, IsIllegible, ExplainsDatabase};
+ghost use Rattle.rtgs_book.specs.Ranges.{Fits};
 ghost use Rattle.rtgs_book.specs.Soundness.{IsSound};
 ghost use Rattle.rtgs_rows.specs.Content.{Content, Holds};
 ghost use Rattle.rtgs_rows.specs.Keeping.{IsBookOf};
@@ -84,6 +85,7 @@ fn participants_of(alloc: Global, accounts: &[Account]) -> Result<Vec<Participan
 fn judged(stored: Stored) -> Result<Book, Fault>
     ensures given { IfOk result (λ book. book ≡ stored.book) }
     ensures sound { IfOk result IsSound }
+    ensures fits { IfOk result Fits }
     ensures balances { OnOk result (AreBalances stored.book stored.accounts.items) }
     ensures fault { result ≢ Err Fault.StoreFault }
     ensures explained { IfErr result (ExplainsRead stored.accounts.items stored.book) }
@@ -123,6 +125,7 @@ pub(crate) fn load_book<S: Alter>(alloc: Global, conn: &mut Connection<S>) -> Re
         → result ≢ Err Fault.StoreFault → IsDeskFile trees (state S.Store conn.new) }
     ensures survives { Survives (state S.Store conn.old) (state S.Store conn.new) (λ _. ⊥) }
     ensures sound { IfOk result IsSound }
+    ensures fits { IfOk result Fits }
     ensures mode { conn.old.in_transaction ≡ false → conn.new.in_transaction ≡ false }
     ensures honest { HasCleanDisk (state S.Store conn.new) → HasCleanDisk (state S.Store conn.old) }
 {

@@ -1,5 +1,5 @@
 //! A book in the tables of a connection.
-ghost use Rattle.std.specs.Prelude.{◌≡◌, ◌≢◌, ◌⊎◌, false, IfOk, IfErr};
+ghost use Rattle.std.specs.Prelude.{◌≡◌, ◌≢◌, ◌⊎◌, true, false, Err, IfOk, IfErr};
 ghost use Rattle.rtgs_book.specs.declared.Book.{Book};
 ghost use Rattle.rtgs_rows.specs.Keeping.{IsBookOf, HoldsBook, MayLeave};
 ghost use Rattle.rtgs_book.specs.Books.{new_book};
@@ -12,16 +12,18 @@ ghost use Rattle.rtgs_tables.specs.Faults.{LookFailed};
 ghost use Rattle.rtgs_tables.specs.Stops.{IsBefore};
 ghost use Rattle.rtgs_rows.specs.RowLaws.{RowsTellTheBook, TablesOfABookAreWhole, TablesOfABookAreWhole-prop};
 
-mod looking;
-
 use crate::create::create_tables;
+use crate::finding;
 use crate::forms::rows_fit;
 use crate::loading::load_book;
 use crate::reading::is_alive;
+use crate::seeking::next_of;
 use crate::staging::{Stopped, write};
 use rtgs_book::laws::new_book_is_sound;
-use rtgs_book::{Book, Change, Fault};
+use rtgs_book::{Book, Change, Fault, Mark, Order, Posting};
+use rtgs_cores::laws::records_are_listed;
 use rtgs_keeper::{CommitFault, Keeper};
+use rtgs_money::{BusinessDate, Code, Reference};
 use rtgs_rows::laws;
 use sqlite::{Alter, Connection, Error, ErrorCode};
 use std::alloc::Global;
@@ -159,6 +161,54 @@ impl<S: Alter + Drop> Keeper for SqlKeeper<S> {
         loaded
     }
 
+    fn find_order(&mut self, sender: &Code, reference: &Reference) -> Result<Option<Order>, Fault> {
+        if self.failed {
+            return Err(Fault::StoreFault);
+        }
+        let found = finding::find_order(&mut self.conn, sender, reference);
+        self.failed = is_store_fault(&found);
+        found
+    }
+
+    fn find_posting(&mut self, reference: &Reference) -> Result<Option<Posting>, Fault> {
+        if self.failed {
+            return Err(Fault::StoreFault);
+        }
+        let found = finding::find_posting(&mut self.conn, reference);
+        self.failed = is_store_fault(&found);
+        found
+    }
+
+    fn next_posting(&mut self, date: BusinessDate, number: u64) -> Result<Option<Posting>, Fault> {
+        if self.failed {
+            return Err(Fault::StoreFault);
+        }
+        records_are_listed();
+        let found = next_of(&mut self.conn, date.number(), number);
+        self.failed = is_store_fault(&found);
+        found
+    }
+
+    fn next_order(&mut self, date: BusinessDate, number: u64) -> Result<Option<Order>, Fault> {
+        if self.failed {
+            return Err(Fault::StoreFault);
+        }
+        records_are_listed();
+        let found = next_of(&mut self.conn, date.number(), number);
+        self.failed = is_store_fault(&found);
+        found
+    }
+
+    fn next_mark(&mut self, date: BusinessDate, number: u64) -> Result<Option<Mark>, Fault> {
+        if self.failed {
+            return Err(Fault::StoreFault);
+        }
+        records_are_listed();
+        let found = next_of(&mut self.conn, date.number(), number);
+        self.failed = is_store_fault(&found);
+        found
+    }
+
     fn commit(&mut self, change: &Change) -> Result<(), CommitFault> {
         if self.failed {
             return Err(CommitFault::Failed);
@@ -208,5 +258,16 @@ fn fault_of<S: Alter>(conn: &mut Connection<S>, stopped: &Stopped) -> CommitFaul
             CommitFault::OutOfMemory
         }
         _ => CommitFault::Store,
+    }
+}
+
+/// Whether the store failed.
+fn is_store_fault<A>(found: &Result<A, Fault>) -> bool
+    ensures yes { found.now ≡ Err Fault.StoreFault → result ≡ true }
+    ensures no { found.now ≢ Err Fault.StoreFault → result ≡ false }
+{
+    match found {
+        Err(Fault::StoreFault) => true,
+        _ => false,
     }
 }

@@ -7,7 +7,7 @@ use std::alloc::Global;
 use std::test::Fail;
 
 /// The days that may be opened, weekends among them.
-const DAYS: [u32; 24] = [
+pub const DAYS: [u32; 24] = [
     20240301, 20240302, 20240304, 20240305, 20240306, 20240307, 20240308, 20240309, 20240311,
     20240312, 20240313, 20240314, 20240315, 20240317, 20240318, 20240319, 20240320, 20240321,
     20240322, 20240323, 20240325, 20240326, 20240327, 20240328,
@@ -27,12 +27,23 @@ pub struct Business {
     number: u64,
 }
 
-fn code_numbered(alloc: Global, number: u64) -> Result<Code, Fail> {
+/// How many codes there are: BANK0 and those after it.
+pub const CODES: u64 = 12;
+
+/// How many references each sender has for its orders: R-0 and those after it.
+pub const ORDERS: u64 = 150;
+
+/// How many references there are for postings: P-0 and those after it.
+pub const POSTINGS: u64 = 900;
+
+/// The code of this number.
+pub fn code_numbered(alloc: Global, number: u64) -> Result<Code, Fail> {
     let text = format!(in alloc; "BANK{number}")?;
     Ok(Code::read(text.as_bytes())?)
 }
 
-fn reference_numbered(alloc: Global, letter: char, number: u64) -> Result<Reference, Fail> {
+/// The reference of this letter and number.
+pub fn reference_numbered(alloc: Global, letter: char, number: u64) -> Result<Reference, Fail> {
     let text = format!(in alloc; "{letter}-{number}")?;
     Ok(Reference::read(text.as_bytes())?)
 }
@@ -85,7 +96,7 @@ impl Business {
     }
 
     fn code(&mut self) -> Result<Code, Fail> {
-        let number = self.below(12);
+        let number = self.below(CODES);
         code_numbered(self.alloc, number)
     }
 
@@ -109,7 +120,7 @@ impl Business {
 
     fn posting(&mut self) -> Result<Command, Fail> {
         let code = self.code()?;
-        let reference = self.reference('P', 900)?;
+        let reference = self.reference('P', POSTINGS)?;
         let size = self.below(1_500) as i64 + 1;
         let cents = if self.below(4) == 0 { -size } else { size };
         Ok(Command::Post {
@@ -149,8 +160,8 @@ impl Business {
     }
 
     fn order(&mut self) -> Result<Command, Fail> {
-        self.sender = self.below(12);
-        self.number = self.below(150);
+        self.sender = self.below(CODES);
+        self.number = self.below(ORDERS);
         let sender = code_numbered(self.alloc, self.sender)?;
         let reference = reference_numbered(self.alloc, 'R', self.number)?;
         let receiver = self.code()?;

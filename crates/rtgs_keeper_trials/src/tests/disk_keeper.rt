@@ -2,8 +2,9 @@
 ghost use Rattle.std.specs.Prelude.{◌≡◌, false, IfOk};
 
 use super::disks::{DISK_FAILED, DiskStore, Disks};
-use rtgs_book::{Book, Change, Fault};
+use rtgs_book::{Book, Change, Fault, Mark, Order, Posting};
 use rtgs_keeper::{CommitFault, Keeper};
+use rtgs_money::{BusinessDate, Code, Reference};
 use rtgs_stored_desk::create;
 use rtgs_tables::SqlKeeper;
 use sqlite::{Connection, Options};
@@ -122,6 +123,26 @@ impl Keeper for KeeperOnDisks {
 
     fn load(&mut self, alloc: Global) -> Result<Book, Fault> {
         self.kept.load(alloc)
+    }
+
+    fn find_order(&mut self, sender: &Code, reference: &Reference) -> Result<Option<Order>, Fault> {
+        self.kept.find_order(sender, reference)
+    }
+
+    fn find_posting(&mut self, reference: &Reference) -> Result<Option<Posting>, Fault> {
+        self.kept.find_posting(reference)
+    }
+
+    fn next_posting(&mut self, date: BusinessDate, number: u64) -> Result<Option<Posting>, Fault> {
+        self.kept.next_posting(date, number)
+    }
+
+    fn next_order(&mut self, date: BusinessDate, number: u64) -> Result<Option<Order>, Fault> {
+        self.kept.next_order(date, number)
+    }
+
+    fn next_mark(&mut self, date: BusinessDate, number: u64) -> Result<Option<Mark>, Fault> {
+        self.kept.next_mark(date, number)
     }
 
     fn commit(&mut self, change: &Change) -> Result<(), CommitFault> {

@@ -9,8 +9,11 @@ use rtgs_money::Amount;
 use std::alloc::Global;
 use std::test::Fail;
 
-// How many calls of its keeper a desk makes, once it is open and has three banks and a day.
-const BEFORE_THE_ORDERS: usize = 6;
+// How many calls of its keeper a desk makes, until it is open and has three banks, a posting and a day.
+const BEFORE_THE_ORDERS: usize = 7;
+
+// The calls of an order: it is looked up, and then kept.
+const CALLS: [usize; 2] = [0, 1];
 
 fn row(name: &str, receiver: &str, cents: u64) -> Result<OrderRow, Fail> {
     Ok(OrderRow {
@@ -29,9 +32,12 @@ fn three_rows() -> Result<[OrderRow; 3], Fail> {
     ])
 }
 
-// A new keeper that fails after so many orders of a desk that is prepared.
-fn failing(alloc: Global, orders: usize) -> FailingKeeper<MemoryKeeper> {
-    let calls = BEFORE_THE_ORDERS.saturating_add(orders);
+// A new keeper that fails after so many orders of a desk that is prepared, at this call of the next one.
+fn failing(alloc: Global, orders: usize, call: usize) -> FailingKeeper<MemoryKeeper> {
+    let before = orders.saturating_mul(CALLS.len());
+    let calls = BEFORE_THE_ORDERS
+        .saturating_add(before)
+        .saturating_add(call);
     FailingKeeper::new(MemoryKeeper::new(alloc), calls, Trouble::Lost)
 }
 
@@ -81,11 +87,14 @@ fn submitted_twice<K: Keeper + Drop>(
 
 #[test]
 fn a_batch_stops_where_the_store_fails(rt: HostRuntime) -> Result<(), Fail> {
-    let (batch, later) = submitted_twice(rt.alloc(), failing(rt.alloc(), 1), &three_rows()?)?;
-    assert_eq!(rt; batch.replies.len(), 1);
-    assert_eq!(rt; batch.stopped, Some(Refusal::StoreFault));
-    assert_eq!(rt; later.replies.len(), 0);
-    assert_eq!(rt; later.stopped, Some(Refusal::Failed));
+    for call in CALLS {
+        let keeper = failing(rt.alloc(), 1, call);
+        let (batch, later) = submitted_twice(rt.alloc(), keeper, &three_rows()?)?;
+        assert_eq!(rt; batch.replies.len(), 1);
+        assert_eq!(rt; batch.stopped, Some(Refusal::StoreFault));
+        assert_eq!(rt; later.replies.len(), 0);
+        assert_eq!(rt; later.stopped, Some(Refusal::Failed));
+    }
     Ok(())
 }
 
@@ -112,11 +121,14 @@ fn found_file<K: Keeper + Drop>(
 #[test]
 fn a_stopped_batch_is_sent_again_after_a_restart(rt: HostRuntime) -> Result<(), Fail> {
     let rows = three_rows()?;
-    let found = after_the_rows(rt.alloc(), failing(rt.alloc(), 2), &rows)?.into_kept();
-    let text = found_file(rt.alloc(), found, &rows)?;
     let expected =
         b"reference,result,number,detail\nA-1,repeated,1,settled\nA-2,repeated,2,settled\nA-3,queued,3,1\n";
-    assert_eq!(rt; text.as_slice(), expected.as_slice());
+    for call in CALLS {
+        let keeper = failing(rt.alloc(), 2, call);
+        let found = after_the_rows(rt.alloc(), keeper, &rows)?.into_kept();
+        let text = found_file(rt.alloc(), found, &rows)?;
+        assert_eq!(rt; text.as_slice(), expected.as_slice());
+    }
     Ok(())
 }
 
@@ -131,8 +143,10 @@ fn first_file<K: Keeper + Drop>(
 
 #[test]
 fn no_line_follows_a_stop(rt: HostRuntime) -> Result<(), Fail> {
-    let text = first_file(rt.alloc(), failing(rt.alloc(), 1), &three_rows()?)?;
     let expected = b"reference,result,number,detail\nA-1,settled,1,1\nA-2,stopped,,91\n";
-    assert_eq!(rt; text.as_slice(), expected.as_slice());
+    for call in CALLS {
+        let text = first_file(rt.alloc(), failing(rt.alloc(), 1, call), &three_rows()?)?;
+        assert_eq!(rt; text.as_slice(), expected.as_slice());
+    }
     Ok(())
 }

@@ -7,7 +7,13 @@ use rtgs_keeper::{Keeper, MemoryKeeper};
 use std::alloc::Global;
 use std::test::Fail;
 
-// A keeper of a new book, which meets trouble after so many calls. A desk loads the book when it is opened.
+// How many calls of its keeper a desk makes before it looks a posting up: at its opening, and for ALFA.
+const LOOK_UP: usize = 2;
+
+// How many it makes before the posting is kept.
+const COMMIT: usize = 3;
+
+// A keeper of a new book, which meets trouble after so many calls.
 fn failing(alloc: Global, calls: usize, trouble: Trouble) -> FailingKeeper<MemoryKeeper> {
     FailingKeeper::new(MemoryKeeper::new(alloc), calls, trouble)
 }
@@ -25,7 +31,11 @@ fn replies_over<K: Keeper + Drop>(
 #[test]
 fn a_fault_of_the_store_fails_the_rest_of_a_list(rt: HostRuntime) -> Result<(), Fail> {
     let commands = [adds_alfa()?, posts("ALFA", "P-1", 100)?, adds_alfa()?];
-    let answers = replies_over(rt.alloc(), failing(rt.alloc(), 2, Trouble::Kept), &commands)?;
+    let answers = replies_over(
+        rt.alloc(),
+        failing(rt.alloc(), COMMIT, Trouble::Kept),
+        &commands,
+    )?;
     let expected = [
         Ok(Answer::Added),
         Err(Refusal::StoreFault),
@@ -35,7 +45,7 @@ fn a_fault_of_the_store_fails_the_rest_of_a_list(rt: HostRuntime) -> Result<(), 
     Ok(())
 }
 
-// The keeper of a desk whose second commit met a fault.
+// The keeper of a desk whose posting met a fault.
 fn after_a_fault<K: Keeper + Drop>(alloc: Global, keeper: K) -> Result<K, Fail> {
     let (add, post) = (adds_alfa()?, posts("ALFA", "P-1", 100)?);
     let mut desk = desk_over(alloc, keeper)?;
@@ -50,8 +60,8 @@ fn after_a_fault<K: Keeper + Drop>(alloc: Global, keeper: K) -> Result<K, Fail> 
 }
 
 // What a posting is answered, by a desk over what a keeper kept that met this trouble at the same posting before.
-fn posted_again(alloc: Global, trouble: Trouble) -> Result<Reply, Fail> {
-    let found = after_a_fault(alloc, failing(alloc, 2, trouble))?.into_kept();
+fn posted_again(alloc: Global, calls: usize, trouble: Trouble) -> Result<Reply, Fail> {
+    let found = after_a_fault(alloc, failing(alloc, calls, trouble))?.into_kept();
     let post = [posts("ALFA", "P-1", 100)?];
     let replies = replies_over(alloc, found, &post)?;
     Ok(*replies.as_slice().first().ok_or("no reply")?)
@@ -59,14 +69,20 @@ fn posted_again(alloc: Global, trouble: Trouble) -> Result<Reply, Fail> {
 
 #[test]
 fn a_change_that_was_lost_is_made_again(rt: HostRuntime) -> Result<(), Fail> {
-    let reply = posted_again(rt.alloc(), Trouble::Lost)?;
-    assert_eq!(rt; reply, Ok(Answer::Posted { number: 1 }));
+    for (calls, trouble) in [
+        (LOOK_UP, Trouble::Lost),
+        (LOOK_UP, Trouble::Kept),
+        (COMMIT, Trouble::Lost),
+    ] {
+        let reply = posted_again(rt.alloc(), calls, trouble)?;
+        assert_eq!(rt; reply, Ok(Answer::Posted { number: 1 }), "{calls}");
+    }
     Ok(())
 }
 
 #[test]
 fn a_change_that_was_kept_is_not_made_again(rt: HostRuntime) -> Result<(), Fail> {
-    let reply = posted_again(rt.alloc(), Trouble::Kept)?;
+    let reply = posted_again(rt.alloc(), COMMIT, Trouble::Kept)?;
     assert_eq!(rt; reply, Ok(Answer::Repeated(Known::Posting { number: 1 })));
     Ok(())
 }
@@ -82,8 +98,10 @@ fn is_sent_again<K: Keeper + Drop>(alloc: Global, keeper: K) -> Result<bool, Fai
 
 #[test]
 fn a_command_that_lacked_memory_is_sent_again(rt: HostRuntime) -> Result<(), Fail> {
-    let keeper = failing(rt.alloc(), 2, Trouble::OutOfMemory);
-    assert!(rt; is_sent_again(rt.alloc(), keeper)?);
+    for calls in [LOOK_UP, COMMIT] {
+        let keeper = failing(rt.alloc(), calls, Trouble::OutOfMemory);
+        assert!(rt; is_sent_again(rt.alloc(), keeper)?, "{calls}");
+    }
     Ok(())
 }
 
@@ -97,7 +115,7 @@ fn fault_of<K: Keeper + Drop>(alloc: Global, keeper: K) -> Option<Fault> {
 
 #[test]
 fn a_failed_keeper_opens_no_desk(rt: HostRuntime) -> Result<(), Fail> {
-    let failed = after_a_fault(rt.alloc(), failing(rt.alloc(), 2, Trouble::Lost))?;
+    let failed = after_a_fault(rt.alloc(), failing(rt.alloc(), COMMIT, Trouble::Lost))?;
     assert_eq!(rt; fault_of(rt.alloc(), failed), Some(Fault::StoreFault));
     Ok(())
 }

@@ -1,8 +1,9 @@
 //! A keeper that fails when it is told to.
-ghost use Rattle.std.specs.Prelude.{◌≡◌};
+ghost use Rattle.std.specs.Prelude.{◌≡◌, ◌⊎◌};
 
-use rtgs_book::{Book, Change, Fault};
+use rtgs_book::{Book, Change, Fault, Mark, Order, Posting};
 use rtgs_keeper::{CommitFault, Keeper};
+use rtgs_money::{BusinessDate, Code, Reference};
 use std::alloc::Global;
 
 /// What a call meets.
@@ -14,6 +15,18 @@ pub enum Trouble {
     Kept,
     /// Memory is refused, and nothing is done. The call after it may go well.
     OutOfMemory,
+}
+
+impl Trouble {
+    // The fault that a look-up answers, which changes nothing either way.
+    fn fault(self) -> Fault
+        ensures { (result ≡ Fault.OutOfMemory) ⊎ (result ≡ Fault.StoreFault) }
+    {
+        match self {
+            Trouble::Lost | Trouble::Kept => Fault::StoreFault,
+            Trouble::OutOfMemory => Fault::OutOfMemory,
+        }
+    }
 }
 
 /// Passes calls on to another keeper, until one meets trouble. After a fault of the store it answers that it has
@@ -28,7 +41,7 @@ pub struct FailingKeeper<K> {
 }
 
 impl<K: Keeper> FailingKeeper<K> {
-    /// Over this keeper. So many calls, loads and commits, go well, and the next one meets trouble.
+    /// Over this keeper. So many calls of any kind go well, and the next one meets trouble.
     pub fn new(kept: K, calls: usize, trouble: Trouble) -> FailingKeeper<K> {
         FailingKeeper {
             kept,
@@ -105,6 +118,66 @@ impl<K: Keeper> Keeper for FailingKeeper<K> {
         };
         self.failed = matches!(loaded, Err(Fault::StoreFault));
         loaded
+    }
+
+    fn find_order(&mut self, sender: &Code, reference: &Reference) -> Result<Option<Order>, Fault> {
+        if self.failed {
+            return Err(Fault::StoreFault);
+        }
+        let found = match self.trouble() {
+            None => self.kept.find_order(sender, reference),
+            Some(trouble) => Err(trouble.fault()),
+        };
+        self.failed = matches!(found, Err(Fault::StoreFault));
+        found
+    }
+
+    fn find_posting(&mut self, reference: &Reference) -> Result<Option<Posting>, Fault> {
+        if self.failed {
+            return Err(Fault::StoreFault);
+        }
+        let found = match self.trouble() {
+            None => self.kept.find_posting(reference),
+            Some(trouble) => Err(trouble.fault()),
+        };
+        self.failed = matches!(found, Err(Fault::StoreFault));
+        found
+    }
+
+    fn next_posting(&mut self, date: BusinessDate, number: u64) -> Result<Option<Posting>, Fault> {
+        if self.failed {
+            return Err(Fault::StoreFault);
+        }
+        let found = match self.trouble() {
+            None => self.kept.next_posting(date, number),
+            Some(trouble) => Err(trouble.fault()),
+        };
+        self.failed = matches!(found, Err(Fault::StoreFault));
+        found
+    }
+
+    fn next_order(&mut self, date: BusinessDate, number: u64) -> Result<Option<Order>, Fault> {
+        if self.failed {
+            return Err(Fault::StoreFault);
+        }
+        let found = match self.trouble() {
+            None => self.kept.next_order(date, number),
+            Some(trouble) => Err(trouble.fault()),
+        };
+        self.failed = matches!(found, Err(Fault::StoreFault));
+        found
+    }
+
+    fn next_mark(&mut self, date: BusinessDate, number: u64) -> Result<Option<Mark>, Fault> {
+        if self.failed {
+            return Err(Fault::StoreFault);
+        }
+        let found = match self.trouble() {
+            None => self.kept.next_mark(date, number),
+            Some(trouble) => Err(trouble.fault()),
+        };
+        self.failed = matches!(found, Err(Fault::StoreFault));
+        found
     }
 
     fn commit(&mut self, change: &Change) -> Result<(), CommitFault> {

@@ -8,6 +8,7 @@ use rtgs_book::{Command, Refusal};
 use rtgs_desk::Desk;
 use rtgs_keeper::{Keeper, MemoryKeeper};
 use rtgs_money::Key;
+use rtgs_statements::Source;
 use std::alloc::Global;
 use std::test::Fail;
 
@@ -178,8 +179,8 @@ fn is_failed<T: Drop>(reply: Result<T, Refusal>) -> bool {
     matches!(reply, Err(Refusal::Failed))
 }
 
-// Whether a desk answers nothing but that it has failed.
-fn is_silent<K: Keeper>(desk: &mut Desk<K>) -> Result<bool, Fail> {
+/// Whether a desk answers nothing but that it has failed.
+pub fn is_silent<K: Keeper>(desk: &mut Desk<K>) -> Result<bool, Fail> {
     let (alfa, name, monday) = (code("ALFA")?, reference("A-1")?, date(MONDAY)?);
     let key = Key::read(KEY.as_bytes())?.digest();
     Ok(
@@ -188,8 +189,9 @@ fn is_silent<K: Keeper>(desk: &mut Desk<K>) -> Result<bool, Fail> {
             && is_failed(desk.account(&alfa))
             && is_failed(desk.queue_of(&alfa))
             && is_failed(desk.order_of(&alfa, &name))
-            && is_failed(desk.statement_of(&alfa, monday))
-            && is_failed(desk.report_of(monday))
+            && is_failed(desk.next_posting(monday, 0))
+            && is_failed(desk.next_order(monday, 0))
+            && is_failed(desk.next_mark(monday, 0))
             && is_failed(desk.code_of(&key)),
     )
 }

@@ -1,4 +1,5 @@
-//! Ten thousand commands over both keepers: in memory, and on disks that are closed and opened again every hundred.
+//! Ten thousand commands over both keepers: in memory, and on disks that are closed and opened again every hundred. After
+//! each fifty both tell the same of their books.
 use super::business::Business;
 use super::disk_desk::{closed, desk_again, new_desk};
 use super::disk_keeper::{DiskKeeper, Work, on_disks};
@@ -6,6 +7,7 @@ use super::disks::Disks;
 use super::found::are_same_books;
 use super::seen::Seen;
 use super::setting::desk_over;
+use super::told::{Names, tell_the_same};
 use rtgs_book::{Answer, Refusal};
 use rtgs_desk::Desk;
 use rtgs_keeper::{Keeper, MemoryKeeper};
@@ -20,39 +22,82 @@ fn is_judged(reply: &Result<Answer, Refusal>) -> bool {
     )
 }
 
-/// Gives two desks the next hundred commands: each answers as the other does, and has judged them.
-fn hundred<M: Keeper, K: Keeper>(
+/// The commands of one seed, what came of them, and the names that they use.
+#[derive(Drop)]
+struct Run {
     alloc: Global,
-    business: &mut Business,
-    seen: &mut Seen,
-    one: &mut Desk<M>,
-    other: &mut Desk<K>,
-) -> Result<(), Fail> {
-    for _ in 0..100 {
-        let command = business.command()?;
-        let reply = one.submit(command);
-        business.hear(&reply);
-        seen.count(&reply);
-        let answered = other.submit(command);
-        if answered != reply || !is_judged(&reply) {
-            let said = format!(in alloc; "{command:?}: {reply:?} and {answered:?}")?;
-            return Err(Fail::from(said));
-        }
-    }
-    Ok(())
+    business: Business,
+    seen: Seen,
+    names: Names,
+    // how many times fifty commands were given
+    fifties: u64,
 }
 
-/// The same with the desk on disks, which is opened before and closed after.
-fn hundred_on_disks<M: Keeper, K: Keeper + DiskKeeper + Drop>(
-    alloc: Global,
-    business: &mut Business,
-    seen: &mut Seen,
-    held: &mut Desk<M>,
-    disks: Disks,
-) -> Result<Disks, Fail> {
-    let mut desk = desk_again::<K>(alloc, disks)?;
-    hundred(alloc, business, seen, held, &mut desk)?;
-    closed(desk.into_keeper())
+impl Run {
+    /// None of the commands is given yet.
+    fn new(alloc: Global, seed: u64) -> Result<Run, Fail> {
+        Ok(Run {
+            alloc,
+            business: Business::new(alloc, seed),
+            seen: Seen::new(),
+            names: Names::new(alloc)?,
+            fifties: 0,
+        })
+    }
+
+    /// Gives two desks the next fifty commands: each answers as the other does, and has judged them.
+    fn fifty<M: Keeper, K: Keeper>(
+        &mut self,
+        one: &mut Desk<M>,
+        other: &mut Desk<K>,
+    ) -> Result<(), Fail> {
+        for _ in 0..50 {
+            let command = self.business.command()?;
+            let reply = one.submit(command);
+            self.business.hear(&reply);
+            self.seen.count(&reply);
+            let answered = other.submit(command);
+            if answered != reply || !is_judged(&reply) {
+                let said = format!(in self.alloc; "{command:?}: {reply:?} and {answered:?}")?;
+                return Err(Fail::from(said));
+            }
+        }
+        Ok(())
+    }
+
+    /// The same, and then both keepers tell the same of their books. Both desks are opened again.
+    fn fifty_told<M: Keeper + Drop, K: Keeper + Drop>(
+        &mut self,
+        one: Desk<M>,
+        other: Desk<K>,
+    ) -> Result<(Desk<M>, Desk<K>), Fail> {
+        let (mut one, mut other) = (one, other);
+        self.fifty(&mut one, &mut other)?;
+        self.fifties = self.fifties.wrapping_add(1);
+        let (mut memory, mut kept) = (one.into_keeper(), other.into_keeper());
+        if !tell_the_same(
+            self.alloc,
+            &self.names,
+            &mut memory,
+            &mut kept,
+            self.fifties,
+        )? {
+            return Err(Fail::from("another record"));
+        }
+        Ok((desk_over(self.alloc, memory)?, desk_over(self.alloc, kept)?))
+    }
+
+    /// A hundred commands, with the desk on disks opened before and closed after.
+    fn hundred_on_disks<M: Keeper + Drop, K: Keeper + DiskKeeper + Drop>(
+        &mut self,
+        held: Desk<M>,
+        disks: Disks,
+    ) -> Result<(Desk<M>, Disks), Fail> {
+        let desk = desk_again::<K>(self.alloc, disks)?;
+        let (held, desk) = self.fifty_told(held, desk)?;
+        let (held, desk) = self.fifty_told(held, desk)?;
+        Ok((held, closed(desk.into_keeper())?))
+    }
 }
 
 /// Whether five thousand commands of this seed, of all kinds and with all kinds of answers, end in one book.
@@ -61,16 +106,15 @@ fn five_thousand<M: Keeper + Drop, K: Keeper + DiskKeeper + Drop>(
     memory: M,
     seed: u64,
 ) -> Result<bool, Fail> {
-    let mut seen = Seen::default();
-    let mut business = Business::new(alloc, seed);
+    let mut run = Run::new(alloc, seed)?;
     let mut held = desk_over(alloc, memory)?;
     let mut disks = closed(new_desk::<K>(alloc)?.into_keeper())?;
     for _ in 0..50 {
-        disks = hundred_on_disks::<M, K>(alloc, &mut business, &mut seen, &mut held, disks)?;
+        (held, disks) = run.hundred_on_disks::<M, K>(held, disks)?;
     }
     let in_memory = held.into_keeper().load(alloc)?;
     let on_disks = desk_again::<K>(alloc, disks)?.into_keeper().load(alloc)?;
-    Ok(are_same_books(&on_disks, &in_memory) && seen.is_varied())
+    Ok(are_same_books(&on_disks, &in_memory) && run.seen.is_varied())
 }
 
 // Five thousand commands of this seed.

@@ -1,12 +1,12 @@
 //! The greatest choice of queued orders, as the resolver finds it.
-ghost use Rattle.std.specs.Prelude.{◌≡◌, ◌≤◌, List, IfOk, length, slice_index};
-ghost use Rattle.rtgs_book.specs.declared.limits.TheConstants.{MOST_QUEUED};
-ghost use Rattle.rtgs_gridlock.specs.Workspaces.{lengths_of};
+ghost use Rattle.std.specs.Prelude.{◌≡◌, ◌≤◌, ◌↔◌, List, IfOk, IsTrue, length, slice_index};
 ghost use Rattle.rtgs_book.specs.Choice.{IsGreatest};
 ghost use Rattle.rtgs_book.specs.Lookup.{accounts};
-ghost use Rattle.rtgs_choices.specs.ByIndex.{by_code, payment_of, payments_of, positions_of, queues_of};
-ghost use Rattle.rtgs_choices.specs.Settling.{orders_taken};
-ghost use Rattle.rtgs_ledger.specs.Resolving.{AreGreatest};
+ghost use Rattle.rtgs_choices.specs.ByIndex.{by_code};
+ghost use Rattle.rtgs_ledger.specs.Choosing.{payment_in, payments_in, positions_in, queues_in, taken_from};
+ghost use Rattle.rtgs_book.specs.declared.book.Book.{Book};
+ghost use Rattle.rtgs_cores.specs.Cores.{IsCoreOf};
+ghost use Rattle.rtgs_ledger.specs.Resolving.{AreGreatest, CanResolve};
 
 use super::Ledger;
 use rtgs_book::{MOST_QUEUED, Order};
@@ -18,31 +18,37 @@ use std::alloc::AllocError;
 impl Ledger {
     /// The orders of the greatest choice, account by account.
     pub(super) fn chosen_orders(&self) -> Result<Vec<Order>, OutOfMemory>
-        ensures { IfOk result (λ orders. AreGreatest self.now.content orders.items) }
+        ensures { (book : Book) → IsCoreOf book self.now.core → IfOk result (λ orders. AreGreatest book orders.items) }
     {
-        let workspace = self.greatest_choice()?;
-        let orders = self.beginnings(workspace.lengths())?;
+        laws::choices_agree();
+        let lengths = self.greatest_lengths()?;
+        let orders = self.beginnings(lengths.as_slice())?;
         Ok(orders)
     }
 
-    /// A workspace that holds the lengths of the greatest choice, in code order.
-    pub(super) fn greatest_choice(&self) -> Result<Workspace, OutOfMemory>
-        ensures length { IfOk result (λ workspace. length (lengths_of workspace) ≡ length (accounts self.now.content)) }
-        ensures greatest { IfOk result (λ workspace. IsGreatest self.now.content
-            (by_code self.now.content (slice_index (lengths_of workspace)))) }
+    /// The lengths of the greatest choice, in code order. Where the positions and queues are none that a sound book can
+    /// have, there are none.
+    pub(super) fn greatest_lengths(&self) -> Result<Vec<usize>, OutOfMemory>
+        ensures length { (book : Book) → IsCoreOf book self.now.core
+            → IfOk result (λ lengths. length lengths.items ≡ length (accounts book)) }
+        ensures greatest { (book : Book) → IsCoreOf book self.now.core → IfOk result (λ lengths.
+            IsGreatest book (by_code book (slice_index lengths.items))) }
     {
         laws::conditions_hold();
         laws::greatest_means_greatest();
         let positions = self.positions()?;
         let queues = self.payments()?;
+        if !can_resolve(&positions, &queues) {
+            return Ok(Vec::new(self.alloc));
+        }
         let mut workspace = Workspace::reserve(self.alloc, queues.len(), MOST_QUEUED)?;
         greatest(&positions, &queues, &mut workspace);
-        Ok(workspace)
+        Ok(Vec::from_slice(self.alloc, workspace.lengths())?)
     }
 
     // The balance and floor of each account.
     fn positions(&self) -> Result<Positions, OutOfMemory>
-        ensures { IfOk result (λ positions. positions ≡ positions_of self.now.content) }
+        ensures { IfOk result (λ positions. positions ≡ positions_in self.now.core) }
     {
         let mut positions = Positions::new(self.alloc);
         for account in self.records.accounts.as_slice() {
@@ -56,7 +62,7 @@ impl Ledger {
 
     // The queue of each account.
     fn payments(&self) -> Result<Queues, OutOfMemory>
-        ensures { IfOk result (λ queues. queues ≡ queues_of self.now.content) }
+        ensures { IfOk result (λ queues. queues ≡ queues_in self.now.core) }
     {
         let mut queues = Queues::new(self.alloc);
         for account in self.records.accounts.as_slice() {
@@ -68,7 +74,7 @@ impl Ledger {
 
     // The queue of the sender, as payments to indexes of accounts.
     fn payments_of(&self, sender: &Code) -> Result<Vec<Payment>, AllocError>
-        ensures { IfOk result (λ payments. payments.items ≡ payments_of self.now.content sender.now) }
+        ensures { IfOk result (λ payments. payments.items ≡ payments_in self.now.core sender.now) }
     {
         let queue = self.queue(sender)?;
         let mut payments = Vec::with_capacity(self.alloc, queue.len())?;
@@ -80,7 +86,7 @@ impl Ledger {
 
     // The order as a payment to the index of its receiver's account.
     fn payment_of(&self, order: &Order) -> Payment
-        ensures { result ≡ payment_of self.now.content order.now }
+        ensures { result ≡ payment_in self.now.core order.now }
     {
         Payment {
             receiver: self.records.accounts.index_of(&order.receiver),
@@ -88,20 +94,28 @@ impl Ledger {
         }
     }
 
-    // Account by account as many orders of its queue as the length at its index says, the oldest first.
+    // Account by account as many orders of its queue as the length at its index says, the oldest first. Where there is no
+    // length, there are none.
     fn beginnings(&self, lengths: &[usize]) -> Result<Vec<Order>, AllocError>
-        requires { length lengths.now ≡ length (accounts self.now.content) }
-        ensures orders { IfOk result (λ orders. orders.items
-            ≡ orders_taken self.now.content (by_code self.now.content (slice_index lengths.now))) }
-        ensures few { IfOk result (λ orders. length orders.items ≤ MOST_QUEUED) }
+        ensures { IfOk result (λ orders. orders.items
+            ≡ taken_from (slice_index lengths.now) self.now.core.queued 0 self.now.core.accounts) }
     {
-        laws::choices_agree();
         let mut orders = Vec::new(self.alloc);
         for (index, account) in self.records.accounts.as_slice().iter().enumerate() {
             let mut queue = self.queue(&account.participant.code)?;
-            queue.truncate(lengths[index]);
+            queue.truncate(lengths.get(index).copied().unwrap_or(0));
             orders.extend_from_slice(&queue)?;
         }
         Ok(orders)
     }
+}
+
+// Whether the resolver can be told this: balances at their floors or above, payments to accounts, and not too many.
+fn can_resolve(positions: &Positions, queues: &Queues) -> bool
+    ensures { IsTrue result ↔ CanResolve positions.now queues.now }
+{
+    positions.are_floored()
+        && queues.len() == positions.len()
+        && queues.are_in_range()
+        && matches!(queues.payment_count(), Some(payments) if payments <= MOST_QUEUED)
 }

@@ -1,13 +1,15 @@
 //! Closing a business day.
-ghost use Rattle.std.specs.Prelude.{◌≡◌, ◌++◌, ◌∷◌, [], true, IfOk, IfErr};
+ghost use Rattle.std.specs.Prelude.{◌≡◌, ◌++◌, ◌∷◌, [], true, IfOk, IfErr, false};
 ghost use Rattle.std.specs.List.{flat_map};
-ghost use Rattle.rtgs_book.specs.Books.{is_cut_off, is_empty};
-ghost use Rattle.rtgs_book.specs.Choice.{Choice, chosen, IsGreatest};
-ghost use Rattle.rtgs_book.specs.Commands.{is_on};
-ghost use Rattle.rtgs_book.specs.Lookup.{accounts};
 ghost use Rattle.rtgs_book.specs.Queue.{queued_numbers};
 ghost use Rattle.rtgs_choices.specs.Settling.{state_rows};
+ghost use Rattle.rtgs_book.specs.declared.book.Book.{Book};
+ghost use Rattle.rtgs_cores.specs.Cores.{IsCoreOf};
+ghost use Rattle.rtgs_ledger.specs.Accounts.{code_of};
+ghost use Rattle.rtgs_ledger.specs.Closing.{IsClosable};
+ghost use Rattle.rtgs_ledger.specs.Held.{HasRoom};
 ghost use Rattle.rtgs_ledger.specs.Kept.{IsPrepared, IsRefused};
+ghost use Rattle.rtgs_ledger.specs.Kinds.{CanAnswer, is_of_the_store};
 
 use super::Ledger;
 use rtgs_book::{
@@ -24,9 +26,14 @@ impl Ledger {
         &mut self,
         date: BusinessDate,
     ) -> Result<(Answer, Change), Refusal>
-        ensures content { self.new.content ≡ self.old.content }
-        ensures prepared { IfOk result (λ (answer, change). IsPrepared self.new (Command.CloseDay date) answer change) }
-        ensures refused { IfErr result (IsRefused self.old.content (Command.CloseDay date)) }
+        ensures core { self.new.core ≡ self.old.core }
+        ensures room { IfOk result (λ (answer, change). HasRoom self.new change) }
+        ensures answered { IfOk result (λ (answer, change). CanAnswer (Command.CloseDay date) answer change) }
+        ensures of_the_command { IfErr result (λ refusal. is_of_the_store refusal ≡ false) }
+        ensures prepared { (book : Book) → IsCoreOf book self.old.core
+            → IfOk result (λ (answer, change). IsPrepared book self.old.core (Command.CloseDay date) answer change) }
+        ensures refused { (book : Book) → IsCoreOf book self.old.core
+            → IfErr result (IsRefused book (Command.CloseDay date)) }
     {
         laws::greatest_exists();
         chosen_numbers();
@@ -51,13 +58,14 @@ impl Ledger {
 
     // The day is closed, where nobody is below zero, and what is queued is rejected. The greatest choice has no order.
     fn prepare_closing(&mut self, date: BusinessDate) -> Result<(Answer, Change), Refusal>
-        requires cut_off { is_cut_off self.old.content.day.phase ≡ true }
-        requires dated { is_on self.old.content date ≡ true }
-        requires nothing { (choice : Choice) × IsGreatest self.old.content choice
-            × (is_empty (chosen self.old.content choice) ≡ true) }
-        ensures content { self.new.content ≡ self.old.content }
-        ensures prepared { IfOk result (λ (answer, change). IsPrepared self.new (Command.CloseDay date) answer change) }
-        ensures refused { IfErr result (IsRefused self.old.content (Command.CloseDay date)) }
+        ensures core { self.new.core ≡ self.old.core }
+        ensures room { IfOk result (λ (answer, change). HasRoom self.new change) }
+        ensures answered { IfOk result (λ (answer, change). CanAnswer (Command.CloseDay date) answer change) }
+        ensures of_the_command { IfErr result (λ refusal. is_of_the_store refusal ≡ false) }
+        ensures prepared { (book : Book) → IsCoreOf book self.old.core → IsClosable book date
+            → IfOk result (λ (answer, change). IsPrepared book self.old.core (Command.CloseDay date) answer change) }
+        ensures refused { (book : Book) → IsCoreOf book self.old.core → IsClosable book date
+            → IfErr result (IsRefused book (Command.CloseDay date)) }
     {
         if let Some(account) = self.records.accounts.first_overdrawn() {
             return Err(Refusal::Overdrawn {
@@ -82,7 +90,7 @@ impl Ledger {
     // The numbers of all queued orders, account by account.
     fn queued_numbers(&self) -> Result<Vec<u64>, AllocError>
         ensures { IfOk result (λ numbers. numbers.items
-            ≡ flat_map (queued_numbers self.now.content.orders) (accounts self.now.content)) }
+            ≡ flat_map (λ account. queued_numbers self.now.core.queued (code_of account)) self.now.core.accounts) }
     {
         let mut numbers = Vec::new(self.alloc);
         for account in self.records.accounts.as_slice() {

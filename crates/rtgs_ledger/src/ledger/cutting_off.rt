@@ -1,6 +1,10 @@
 //! Cutting off a business day.
-ghost use Rattle.std.specs.Prelude.{◌≡◌, IfOk, IfErr};
+ghost use Rattle.std.specs.Prelude.{◌≡◌, IfOk, IfErr, false};
+ghost use Rattle.rtgs_book.specs.declared.book.Book.{Book};
+ghost use Rattle.rtgs_cores.specs.Cores.{IsCoreOf};
+ghost use Rattle.rtgs_ledger.specs.Held.{HasRoom};
 ghost use Rattle.rtgs_ledger.specs.Kept.{IsPrepared, IsRefused};
+ghost use Rattle.rtgs_ledger.specs.Kinds.{CanAnswer, is_of_the_store};
 
 use super::Ledger;
 use rtgs_book::{Answer, Change, Command, Day, Known, Phase, Refusal, RowChange, Rows, laws};
@@ -12,9 +16,15 @@ impl Ledger {
         &mut self,
         date: BusinessDate,
     ) -> Result<(Answer, Change), Refusal>
-        ensures content { self.new.content ≡ self.old.content }
-        ensures prepared { IfOk result (λ (answer, change). IsPrepared self.new (Command.CutOff date) answer change) }
-        ensures refused { IfErr result (IsRefused self.old.content (Command.CutOff date)) }
+        ensures core { self.new.core ≡ self.old.core }
+        ensures room { IfOk result (λ (answer, change). HasRoom self.new change) }
+        ensures answered { IfOk result (λ (answer, change). CanAnswer (Command.CutOff date) answer change) }
+        ensures of_the_command { IfErr result (λ refusal. is_of_the_store refusal ≡ false) }
+        ensures prepared { (book : Book) → IsCoreOf book self.old.core
+            → IfOk result (λ (answer, change). IsPrepared book self.old.core
+            (Command.CutOff date) answer change) }
+        ensures refused { (book : Book) → IsCoreOf book self.old.core
+            → IfErr result (IsRefused book (Command.CutOff date)) }
     {
         if self.records.is_cut_off_on(date) {
             return Ok(self.repeated(Known::Nothing));

@@ -1,12 +1,19 @@
 //! Payment orders.
-ghost use Rattle.std.specs.Prelude.{◌≡◌, ◌∷◌, [], true, false, Some, IfOk, IfErr};
+ghost use Rattle.std.specs.Prelude.{◌≡◌, ◌≤◌, ◌∷◌, [], true, false, Some, IfOk, IfErr};
 ghost use Rattle.std.specs.List.{find};
 ghost use Rattle.rtgs_book.specs.Commands.{settles_at_once};
+ghost use Rattle.rtgs_book.specs.declared.limits.TheConstants.{LARGEST_NUMBER};
 ghost use Rattle.rtgs_ledger.specs.Accounts.{is_of};
+ghost use Rattle.rtgs_book.specs.declared.book.Book.{Book};
+ghost use Rattle.rtgs_book.specs.Lookup.{order_named};
+ghost use Rattle.rtgs_cores.specs.Cores.{IsCoreOf};
+ghost use Rattle.rtgs_ledger.specs.Held.{HasRoom};
 ghost use Rattle.rtgs_ledger.specs.Kept.{IsPrepared, IsRefused};
+ghost use Rattle.rtgs_ledger.specs.Kinds.{CanAnswer, is_of_the_store};
 ghost use Rattle.rtgs_ledger.specs.Ordering.{IsTaken};
 
 use super::Ledger;
+use crate::sums::{with_less, with_more};
 use rtgs_book::{
     Account, Answer, Change, Command, Known, LARGEST_NUMBER, LONGEST_QUEUE, Mark, Order,
     OrderState, Refusal, RowChange, Rows, laws,
@@ -22,16 +29,23 @@ impl Ledger {
         reference: Reference,
         receiver: Code,
         amount: Amount,
+        found: Option<Order>,
     ) -> Result<(Answer, Change), Refusal>
-        ensures content { self.new.content ≡ self.old.content }
-        ensures prepared { IfOk result (λ (answer, change). IsPrepared self.new
+        ensures core { self.new.core ≡ self.old.core }
+        ensures room { IfOk result (λ (answer, change). HasRoom self.new change) }
+        ensures answered { IfOk result (λ (answer, change). CanAnswer
             (Command.Order sender reference receiver amount) answer change) }
-        ensures refused { IfErr result (IsRefused self.old.content (Command.Order sender reference receiver amount)) }
+        ensures of_the_command { IfErr result (λ refusal. is_of_the_store refusal ≡ false) }
+        ensures prepared { (book : Book) → IsCoreOf book self.old.core → found ≡ order_named book sender reference
+            → IfOk result (λ (answer, change). IsPrepared book self.old.core
+            (Command.Order sender reference receiver amount) answer change) }
+        ensures refused { (book : Book) → IsCoreOf book self.old.core → found ≡ order_named book sender reference
+            → IfErr result (IsRefused book (Command.Order sender reference receiver amount)) }
     {
         let Some(debtor) = self.records.accounts.get(&sender) else {
             return Err(Refusal::UnknownParticipant);
         };
-        if let Some(found) = self.records.orders.get(&sender, &reference) {
+        if let Some(found) = found {
             if found.receiver == receiver && found.amount == amount {
                 return Ok(self.repeated(Known::Order {
                     number: found.number,
@@ -49,7 +63,7 @@ impl Ledger {
         if sender == receiver {
             return Err(Refusal::SameParty);
         }
-        if self.records.orders.len() >= LARGEST_NUMBER {
+        if self.records.orders.next() > LARGEST_NUMBER as u64 {
             return Err(Refusal::NumbersUsedUp);
         }
         let order = self
@@ -71,37 +85,50 @@ impl Ledger {
         debtor: &Account,
         creditor: &Account,
     ) -> Result<(Answer, Change), Refusal>
-        requires taken { IsTaken self.old.content order.now }
-        requires settles { settles_at_once self.old.content order.now.sender order.now.amount ≡ true }
-        requires debtor { find (is_of order.now.sender) self.old.accounts ≡ Some debtor.now }
-        requires creditor { find (is_of order.now.receiver) self.old.accounts ≡ Some creditor.now }
-        ensures content { self.new.content ≡ self.old.content }
-        ensures prepared { IfOk result (λ (answer, change). IsPrepared self.new
+        requires number { order.now.number ≡ self.old.core.next_order }
+        requires few { self.old.core.next_order ≤ LARGEST_NUMBER }
+        ensures core { self.new.core ≡ self.old.core }
+        ensures room { IfOk result (λ (answer, change). HasRoom self.new change) }
+        ensures answered { IfOk result (λ (answer, change). CanAnswer
             (Command.Order order.now.sender order.now.reference order.now.receiver order.now.amount) answer change) }
-        ensures refused { IfErr result (λ refusal. refusal ≡ Refusal.OutOfMemory) }
+        ensures of_the_command { IfErr result (λ refusal. is_of_the_store refusal ≡ false) }
+        ensures prepared { (book : Book) → IsCoreOf book self.old.core → IsTaken book order.now
+            → settles_at_once book order.now.sender order.now.amount ≡ true
+            → find (is_of order.now.sender) self.old.core.accounts ≡ Some debtor.now
+            → find (is_of order.now.receiver) self.old.core.accounts ≡ Some creditor.now
+            → IfOk result (λ (answer, change). IsPrepared book self.old.core
+            (Command.Order order.now.sender order.now.reference order.now.receiver order.now.amount) answer change) }
+        ensures refused { (book : Book) → IsCoreOf book self.old.core
+            → IfErr result (λ refusal. refusal ≡ Refusal.OutOfMemory) }
     {
         laws::step_keeps_ranges();
         laws::step_keeps_soundness();
         laws::balances_are_small();
+        if !self.records.counts_marks() {
+            return Err(Refusal::NumbersUsedUp);
+        }
         let mark = self.records.next_mark(order.amount, order.date);
         let answer = Answer::Settled {
             number: order.number,
             mark: mark.number,
         };
-        let debited = debtor.balance_less(order.amount);
-        let credited = creditor.balance_more(order.amount);
+        let debited = with_less(debtor.balance, order.amount);
+        let credited = with_more(creditor.balance, order.amount);
         let rows = settled_rows(self.alloc, order, mark, debited, credited)?;
-        self.records.orders.reserve(order.sender, order.reference)?;
-        self.records.marks.reserve(1)?;
         Ok((answer, Rows::from_vec(rows)))
     }
 
     // The order joins its sender's queue.
     fn prepare_queued(&mut self, order: Order) -> Result<(Answer, Change), Refusal>
-        requires taken { IsTaken self.old.content order }
-        requires waits { settles_at_once self.old.content order.sender order.amount ≡ false }
-        ensures content { self.new.content ≡ self.old.content }
-        ensures prepared { IfOk result (λ (answer, change). IsPrepared self.new
+        requires number { order.number ≡ self.old.core.next_order }
+        requires few { self.old.core.next_order ≤ LARGEST_NUMBER }
+        ensures core { self.new.core ≡ self.old.core }
+        ensures room { IfOk result (λ (answer, change). HasRoom self.new change) }
+        ensures answered { IfOk result (λ (answer, change). CanAnswer
+            (Command.Order order.sender order.reference order.receiver order.amount) answer change) }
+        ensures prepared { (book : Book) → IsCoreOf book self.old.core → IsTaken book order
+            → settles_at_once book order.sender order.amount ≡ false
+            → IfOk result (λ (answer, change). IsPrepared book self.old.core
             (Command.Order order.sender order.reference order.receiver order.amount) answer change) }
         ensures refused { IfErr result (λ refusal. refusal ≡ Refusal.OutOfMemory) }
     {
@@ -109,7 +136,7 @@ impl Ledger {
         laws::step_keeps_soundness();
         let place = self.records.orders.queue(&order.sender).len() as u64 + 1;
         let rows = vec![in self.alloc; RowChange::AddOrder(order)]?;
-        self.records.orders.reserve(order.sender, order.reference)?;
+        self.records.orders.reserve(order.sender)?;
         let answer = Answer::Queued {
             number: order.number,
             place,

@@ -1,8 +1,14 @@
 //! Posting to an account.
-ghost use Rattle.std.specs.Prelude.{◌≡◌, IfOk, IfErr};
+ghost use Rattle.std.specs.Prelude.{◌≡◌, IfOk, IfErr, false};
+ghost use Rattle.rtgs_book.specs.declared.book.Book.{Book};
+ghost use Rattle.rtgs_book.specs.Lookup.{posting_named};
+ghost use Rattle.rtgs_cores.specs.Cores.{IsCoreOf};
+ghost use Rattle.rtgs_ledger.specs.Held.{HasRoom};
 ghost use Rattle.rtgs_ledger.specs.Kept.{IsPrepared, IsRefused};
+ghost use Rattle.rtgs_ledger.specs.Kinds.{CanAnswer, is_of_the_store};
 
 use super::Ledger;
+use crate::sums::moved;
 use rtgs_book::{
     Answer, Change, Command, Known, LARGEST_NUMBER, Posting, Refusal, RowChange, Rows, laws,
 };
@@ -15,16 +21,23 @@ impl Ledger {
         code: Code,
         reference: Reference,
         cents: PostingAmount,
+        found: Option<Posting>,
     ) -> Result<(Answer, Change), Refusal>
-        ensures content { self.new.content ≡ self.old.content }
-        ensures prepared { IfOk result (λ (answer, change). IsPrepared self.new
+        ensures core { self.new.core ≡ self.old.core }
+        ensures room { IfOk result (λ (answer, change). HasRoom self.new change) }
+        ensures answered { IfOk result (λ (answer, change). CanAnswer
             (Command.Post code reference cents) answer change) }
-        ensures refused { IfErr result (IsRefused self.old.content (Command.Post code reference cents)) }
+        ensures of_the_command { IfErr result (λ refusal. is_of_the_store refusal ≡ false) }
+        ensures prepared { (book : Book) → IsCoreOf book self.old.core → found ≡ posting_named book reference
+            → IfOk result (λ (answer, change). IsPrepared book self.old.core
+            (Command.Post code reference cents) answer change) }
+        ensures refused { (book : Book) → IsCoreOf book self.old.core → found ≡ posting_named book reference
+            → IfErr result (IsRefused book (Command.Post code reference cents)) }
     {
         let Some(account) = self.records.accounts.get(&code) else {
             return Err(Refusal::UnknownParticipant);
         };
-        if let Some(found) = self.records.postings.get(&reference) {
+        if let Some(found) = found {
             if found.code == code && found.cents == cents {
                 return Ok(self.repeated(Known::Posting {
                     number: found.number,
@@ -32,22 +45,20 @@ impl Ledger {
             }
             return Err(Refusal::ReferenceUsed);
         }
-        if self.records.postings.len() >= LARGEST_NUMBER {
+        let number = self.records.next_posting;
+        if number > LARGEST_NUMBER as u64 {
             return Err(Refusal::NumbersUsedUp);
         }
         if self.records.is_too_much(cents) {
             return Err(Refusal::TotalTooLarge);
         }
-        // The range of the amount, for the sum of the balance.
-        let _ = cents.cents();
         laws::balances_are_small();
-        let balance = account.balance_with(cents);
+        let balance = moved(account.balance, cents.cents());
         if self.records.is_uncovered(&account, cents, balance) {
             return Err(Refusal::NoCover);
         }
         laws::step_keeps_ranges();
         laws::step_keeps_soundness();
-        let number = self.records.postings.len() as u64 + 1;
         let posting = Posting {
             number,
             code,
@@ -59,7 +70,6 @@ impl Ledger {
             RowChange::AddPosting(posting),
             RowChange::SetBalance { code, balance },
         ]?;
-        self.records.postings.reserve(reference)?;
         Ok((Answer::Posted { number }, Rows::from_vec(rows)))
     }
 }

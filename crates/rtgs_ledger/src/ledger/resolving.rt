@@ -1,9 +1,17 @@
 //! Resolving a gridlock.
-ghost use Rattle.std.specs.Prelude.{◌≡◌, ◌≤◌, List, map, length, Some, IfOk, IfErr};
+ghost use Rattle.std.specs.Prelude.{◌≡◌, ◌≤◌, List, map, length, Some, IfOk, IfErr, false};
+ghost use Rattle.std.specs.List.{AllByRecursion};
 ghost use Rattle.rtgs_book.specs.declared.limits.TheConstants.{MOST_QUEUED};
+ghost use Rattle.rtgs_book.specs.declared.account.Account.{Account as AccountSpec};
 ghost use Rattle.rtgs_book.specs.declared.order.Order.{Order};
+ghost use Rattle.rtgs_ledger.specs.Accounts.{code_of};
+ghost use Rattle.rtgs_book.specs.declared.book.Book.{Book};
+ghost use Rattle.rtgs_cores.specs.Cores.{IsCoreOf};
+ghost use Rattle.rtgs_ledger.specs.Held.{HasRoom};
 ghost use Rattle.rtgs_ledger.specs.Kept.{IsPrepared, IsRefused};
-ghost use Rattle.rtgs_ledger.specs.Resolving.{AreGreatest, after_orders, moved_accounts, moved_rows};
+ghost use Rattle.rtgs_ledger.specs.Kinds.{CanAnswer, is_of_the_store};
+ghost use Rattle.rtgs_choices.specs.Settling.{IsOfBalance};
+ghost use Rattle.rtgs_ledger.specs.Resolving.{AreGreatest, AreSmall, after_orders, moved_accounts, moved_rows};
 
 use super::Ledger;
 use crate::accounts::Accounts;
@@ -18,9 +26,14 @@ impl Ledger {
     /// The orders of the greatest choice are settled together, under one mark: a gridlock is resolved, as in Bech and
     /// Soramäki 2001. Where nothing is chosen, nothing changes.
     pub(super) fn prepare_resolve(&mut self) -> Result<(Answer, Change), Refusal>
-        ensures content { self.new.content ≡ self.old.content }
-        ensures prepared { IfOk result (λ (answer, change). IsPrepared self.new Command.Resolve answer change) }
-        ensures refused { IfErr result (IsRefused self.old.content Command.Resolve) }
+        ensures core { self.new.core ≡ self.old.core }
+        ensures room { IfOk result (λ (answer, change). HasRoom self.new change) }
+        ensures answered { IfOk result (λ (answer, change). CanAnswer Command.Resolve answer change) }
+        ensures of_the_command { IfErr result (λ refusal. is_of_the_store refusal ≡ false) }
+        ensures prepared { (book : Book) → IsCoreOf book self.old.core
+            → IfOk result (λ (answer, change). IsPrepared book self.old.core Command.Resolve answer change) }
+        ensures refused { (book : Book) → IsCoreOf book self.old.core
+            → IfErr result (IsRefused book Command.Resolve) }
     {
         laws::greatest_exists();
         chosen_numbers();
@@ -43,14 +56,22 @@ impl Ledger {
         orders: &[Order],
         date: BusinessDate,
     ) -> Result<(Answer, Change), Refusal>
-        requires chosen { AreGreatest self.old.content orders.now }
         requires some { 1 ≤ length orders.now }
-        requires dated { self.old.content.day.date ≡ Some date }
-        ensures content { self.new.content ≡ self.old.content }
-        ensures prepared { IfOk result (λ (answer, change). IsPrepared self.new Command.Resolve answer change) }
-        ensures refused { IfErr result (λ refusal. refusal ≡ Refusal.OutOfMemory) }
+        ensures core { self.new.core ≡ self.old.core }
+        ensures room { IfOk result (λ (answer, change). HasRoom self.new change) }
+        ensures answered { IfOk result (λ (answer, change). CanAnswer Command.Resolve answer change) }
+        ensures of_the_command { IfErr result (λ refusal. is_of_the_store refusal ≡ false) }
+        ensures prepared { (book : Book) → IsCoreOf book self.old.core → AreGreatest book orders.now
+            → book.day.date ≡ Some date
+            → IfOk result (λ (answer, change). IsPrepared book self.old.core Command.Resolve answer change) }
+        ensures refused { (book : Book) → IsCoreOf book self.old.core
+            → IfErr result (λ refusal. refusal ≡ Refusal.OutOfMemory) }
     {
+        if !self.records.counts_marks() {
+            return Err(Refusal::NumbersUsedUp);
+        }
         laws::step_keeps_ranges();
+        laws::balances_are_small();
         chosen_numbers();
         taken_are_chosen();
         rows_settle();
@@ -60,28 +81,23 @@ impl Ledger {
         rows.extend_from_slice(&mark_row)?;
         let balance_rows = self.balance_rows(orders)?;
         rows.extend_from_slice(&balance_rows)?;
-        self.records.marks.reserve(1)?;
         Ok((resolved(&mark), Rows::from_vec(rows)))
     }
 
     // The rows of the balances that the orders move, in code order.
     fn balance_rows(&self, orders: &[Order]) -> Result<Vec<RowChange>, AllocError>
-        requires { length orders.now ≤ MOST_QUEUED }
-        ensures { IfOk result (λ rows. rows.items ≡ moved_rows orders.now self.now.accounts) }
+        ensures balances { IfOk result (λ rows. AllByRecursion IsOfBalance rows.items) }
+        ensures rows { AreSmall self.now.core.accounts → length orders.now ≤ MOST_QUEUED
+            → IfOk result (λ rows. rows.items ≡ moved_rows orders.now self.now.core.accounts) }
     {
-        self.moved_accounts(orders)?
-            .iter()
-            .map(|account| RowChange::SetBalance {
-                code: account.participant.code,
-                balance: account.balance,
-            })
-            .collect(self.alloc)
+        let moved = self.moved_accounts(orders)?;
+        rows_of(self.alloc, moved.as_slice())
     }
 
     // The accounts whose balances the orders move, with the new balances.
     fn moved_accounts(&self, orders: &[Order]) -> Result<Vec<Account>, AllocError>
-        requires { length orders.now ≤ MOST_QUEUED }
-        ensures { IfOk result (λ moved. moved.items ≡ moved_accounts orders.now self.now.accounts) }
+        ensures { AreSmall self.now.core.accounts → length orders.now ≤ MOST_QUEUED
+            → IfOk result (λ moved. moved.items ≡ moved_accounts orders.now self.now.core.accounts) }
     {
         let settled = self.accounts_after(orders)?;
         let settled = settled.as_slice();
@@ -96,16 +112,30 @@ impl Ledger {
 
     // The accounts as the orders leave them.
     fn accounts_after(&self, orders: &[Order]) -> Result<Accounts, AllocError>
-        requires { length orders.now ≤ MOST_QUEUED }
-        ensures { IfOk result (λ settled. settled.accounts ≡ map (after_orders orders.now) self.now.accounts) }
+        ensures count { IfOk result (λ settled. length settled.accounts ≡ length self.now.core.accounts) }
+        ensures accounts { AreSmall self.now.core.accounts → length orders.now ≤ MOST_QUEUED
+            → IfOk result (λ settled. settled.accounts ≡ map (after_orders orders.now) self.now.core.accounts) }
     {
-        laws::balances_are_small();
         let mut settled = self.records.accounts.copy()?;
         for order in orders {
             settled.settle(order);
         }
         Ok(settled)
     }
+}
+
+// The rows that set these balances.
+fn rows_of(alloc: Global, accounts: &[Account]) -> Result<Vec<RowChange>, AllocError>
+    ensures { IfOk result (λ rows. rows.items ≡ map (λ (a : AccountSpec). RowChange.SetBalance (code_of a) a.balance)
+        accounts.now) }
+{
+    accounts
+        .iter()
+        .map(|account| RowChange::SetBalance {
+            code: account.participant.code,
+            balance: account.balance,
+        })
+        .collect(alloc)
 }
 
 // The answer to a resolution that made this mark.

@@ -1,9 +1,16 @@
 //! Withdrawing an order.
-ghost use Rattle.std.specs.Prelude.{◌≡◌, IfOk, IfErr};
+ghost use Rattle.std.specs.Prelude.{◌≡◌, IfOk, IfErr, false};
+ghost use Rattle.rtgs_book.specs.declared.book.Book.{Book};
+ghost use Rattle.rtgs_book.specs.Lookup.{order_named};
+ghost use Rattle.rtgs_cores.specs.Cores.{IsCoreOf};
+ghost use Rattle.rtgs_ledger.specs.Held.{HasRoom};
 ghost use Rattle.rtgs_ledger.specs.Kept.{IsPrepared, IsRefused};
+ghost use Rattle.rtgs_ledger.specs.Kinds.{CanAnswer, is_of_the_store};
 
 use super::Ledger;
-use rtgs_book::{Answer, Change, Command, Known, OrderState, Refusal, RowChange, Rows, laws};
+use rtgs_book::{
+    Answer, Change, Command, Known, Order, OrderState, Refusal, RowChange, Rows, laws,
+};
 use rtgs_money::{Code, Reference};
 
 impl Ledger {
@@ -12,16 +19,23 @@ impl Ledger {
         &mut self,
         sender: Code,
         reference: Reference,
+        found: Option<Order>,
     ) -> Result<(Answer, Change), Refusal>
-        ensures content { self.new.content ≡ self.old.content }
-        ensures prepared { IfOk result (λ (answer, change). IsPrepared self.new
+        ensures core { self.new.core ≡ self.old.core }
+        ensures room { IfOk result (λ (answer, change). HasRoom self.new change) }
+        ensures answered { IfOk result (λ (answer, change). CanAnswer
             (Command.Withdraw sender reference) answer change) }
-        ensures refused { IfErr result (IsRefused self.old.content (Command.Withdraw sender reference)) }
+        ensures of_the_command { IfErr result (λ refusal. is_of_the_store refusal ≡ false) }
+        ensures prepared { (book : Book) → IsCoreOf book self.old.core → found ≡ order_named book sender reference
+            → IfOk result (λ (answer, change). IsPrepared book self.old.core
+            (Command.Withdraw sender reference) answer change) }
+        ensures refused { (book : Book) → IsCoreOf book self.old.core → found ≡ order_named book sender reference
+            → IfErr result (IsRefused book (Command.Withdraw sender reference)) }
     {
         let Some(_) = self.records.accounts.get(&sender) else {
             return Err(Refusal::UnknownParticipant);
         };
-        let Some(found) = self.records.orders.get(&sender, &reference) else {
+        let Some(found) = found else {
             return Err(Refusal::UnknownOrder);
         };
         let number = found.number;

@@ -1,23 +1,15 @@
 //! Records found by their names, and the next records of a date, in tables in memory.
+use super::setting::{FRIDAY, MONDAY, TUESDAY, code, date, new_keeper, reference};
 use rtgs_book::Fault;
 use rtgs_keeper::Keeper;
-use rtgs_money::{BusinessDate, Code, Reference};
+use rtgs_money::BusinessDate;
 use rtgs_tables::SqlKeeper;
-use sqlite::{Connection, MemStore};
+use sqlite::MemStore;
 use std::alloc::Global;
 use std::test::Fail;
 
-/// The Friday before the week.
-const FRIDAY: u32 = 20240301;
-
 /// The day after it, on which nothing opens.
 const SATURDAY: u32 = 20240302;
-
-/// The first day of the week.
-const MONDAY: u32 = 20240304;
-
-/// The second.
-const TUESDAY: u32 = 20240305;
 
 /// A posting from before all days.
 const FIRST: &str =
@@ -32,32 +24,9 @@ const THREE_DAYS: &str = "
         (3, 'ALFA', 'A-2', 'BETA', 7, '2024-03-04', 3, NULL), (4, 'ALFA', 'A-3', 'BETA', 8, '2024-03-05', 1, 2);
     INSERT INTO mark (number, date, many, value) VALUES (1, '2024-03-01', 1, 5), (2, '2024-03-05', 1, 8)";
 
-/// The code of this text.
-fn code(text: &str) -> Result<Code, Fail> {
-    Ok(Code::read(text.as_bytes())?)
-}
-
-/// The reference of this text.
-fn reference(text: &str) -> Result<Reference, Fail> {
-    Ok(Reference::read(text.as_bytes())?)
-}
-
-/// The date of this number, as 20240304.
-fn date(day: u32) -> Result<BusinessDate, Fail> {
-    Ok(BusinessDate::from_number(day).ok_or("a date")?)
-}
-
-/// The tables of a new book.
-fn new_tables(alloc: Global) -> Result<Connection<MemStore>, Fail> {
-    match SqlKeeper::create(Connection::open_in_memory(alloc)?) {
-        Ok(keeper) => Ok(keeper.into_connection()),
-        Err((fault, _)) => Err(Fail::from(fault)),
-    }
-}
-
 /// The keeper of tables with the first posting, once this was done to them.
 fn keeper_after(alloc: Global, sql: &str) -> Result<SqlKeeper<MemStore>, Fail> {
-    let mut conn = new_tables(alloc)?;
+    let mut conn = new_keeper(alloc)?.into_connection();
     conn.execute_batch(FIRST)?;
     conn.execute_batch(sql)?;
     if !conn.is_autocommit() {

@@ -1,9 +1,10 @@
 //! Calls that make no request for memory: they go well where there is none.
-use rtgs_book::{Book, Day, Order, Phase, Rows};
+use rtgs_cores::Found;
 use rtgs_gridlock::{Payment, Position, Positions, Queues, Workspace, greatest};
 use rtgs_http_replies::Reply;
+use rtgs_keeper::{Keeper, MemoryKeeper};
 use rtgs_ledger::Ledger;
-use rtgs_scarce_memory::setting::{KEYS, adds, code, limits, opens, pays, reference};
+use rtgs_scarce_memory::setting::{KEYS, adds, code, limits, opens, pays};
 use rtgs_scarce_memory::{Held, in_a_process, is_limited};
 use std::alloc::Global;
 use std::test::Fail;
@@ -43,23 +44,18 @@ fn greatest_choice(rt: HostRuntime) -> Result<(), Fail> {
     Ok(())
 }
 
-// The book of a new desk.
-fn no_records(alloc: Global) -> Book {
-    Book {
-        participants: Rows::new(alloc),
-        postings: Rows::new(alloc),
-        orders: Rows::new(alloc),
-        marks: Rows::new(alloc),
-        day: Day {
-            date: None,
-            phase: Phase::Closed,
-        },
-    }
+// The ledger of the book that a keeper has.
+fn ledger_of<K: Keeper>(alloc: Global, keeper: &mut K) -> Result<Ledger, Fail> {
+    let core = match keeper.core(alloc) {
+        Ok(core) => core,
+        Err(fault) => return Err(Fail::from(fault)),
+    };
+    Ok(Ledger::load(alloc, core)?)
 }
 
 // A ledger of two banks, on an open day.
 fn ledger_of_two(alloc: Global) -> Result<Ledger, Fail> {
-    let mut ledger = Ledger::load(alloc, no_records(alloc))?;
+    let mut ledger = ledger_of(alloc, &mut MemoryKeeper::new(alloc))?;
     let commands = [
         adds("ALFA", KEYS[0])?,
         adds("BETA", KEYS[1])?,
@@ -67,20 +63,29 @@ fn ledger_of_two(alloc: Global) -> Result<Ledger, Fail> {
         opens()?,
     ];
     for command in commands {
-        let (_, change) = ledger.prepare(&command)?;
+        let (_, change) = ledger.prepare(&command, &Found::NOTHING)?;
         ledger.adopt(change);
     }
     Ok(ledger)
 }
 
-// Prepares an order that settles, and adopts it while there is no memory.
-fn order_adopted(alloc: Global) -> Result<Option<Order>, Fail> {
+// What a bank has in cents, and how many of its orders wait.
+fn standing(ledger: &Ledger, bank: &str) -> Result<(i64, usize), Fail> {
+    let bank = code(bank)?;
+    let account = ledger.account(&bank).ok_or("a participant")?;
+    Ok((account.balance.cents(), ledger.queue(&bank)?.len()))
+}
+
+// Prepares an order of so many cents for which nothing was found, and adopts it while there is no memory: how ALFA and
+// BETA stand then.
+fn order_adopted(alloc: Global, cents: u64) -> Result<[(i64, usize); 2], Fail> {
     let mut ledger = ledger_of_two(alloc)?;
-    let (_, change) = ledger.prepare(&pays("ALFA", "A-1", "BETA", 100)?)?;
+    let order = pays("ALFA", "A-1", "BETA", cents)?;
+    let (_, change) = ledger.prepare(&order, &Found::NOTHING)?;
     let held = Held::all_but(alloc, 0)?;
     ledger.adopt(change);
     held.free();
-    Ok(ledger.order(&code("ALFA")?, &reference("A-1")?))
+    Ok([standing(&ledger, "ALFA")?, standing(&ledger, "BETA")?])
 }
 
 #[test]
@@ -88,8 +93,8 @@ fn adopt(rt: HostRuntime) -> Result<(), Fail> {
     if !is_limited(&rt) {
         return in_a_process(&rt, "tests::nothing::adopt");
     }
-    let order = order_adopted(rt.alloc())?;
-    assert!(rt; order.is_some_and(|order| order.number == 1));
+    assert_eq!(rt; order_adopted(rt.alloc(), 100)?, [(-100, 0), (100, 0)]);
+    assert_eq!(rt; order_adopted(rt.alloc(), 101)?, [(0, 1), (0, 0)]);
     Ok(())
 }
 

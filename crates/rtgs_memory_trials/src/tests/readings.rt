@@ -1,13 +1,15 @@
 //! Readings.
+use super::page::Page;
 use rtgs_book::{Order, Reading, Refusal};
 use rtgs_desk::{AccountReading, Desk};
 use rtgs_keeper::MemoryKeeper;
 use rtgs_money::{Code, Key, KeyDigest};
+use rtgs_output::TextFault;
 use rtgs_scarce_memory::setting::{
     KEYS, MONDAY, code, date, desk_after, limits, opens, pays, posts, reference, seen_of,
 };
 use rtgs_scarce_memory::{Call, Outcome, for_each_refusal};
-use rtgs_statements::{Report, Statement};
+use rtgs_statements::{BookTextFault, write_report, write_statement};
 use std::alloc::Global;
 use std::test::Fail;
 
@@ -24,8 +26,7 @@ enum Told {
     Account(Result<AccountReading, Refusal>),
     Queue(Result<Vec<Order>, Refusal>),
     Order(Result<Order, Refusal>),
-    Statement(Result<Statement, Refusal>),
-    Report(Result<Report, Refusal>),
+    Text(Result<(), BookTextFault>, Page),
     CodeOf(Result<Option<Code>, Refusal>),
 }
 
@@ -36,9 +37,11 @@ impl Told {
             Told::Account(Err(refusal))
             | Told::Queue(Err(refusal))
             | Told::Order(Err(refusal))
-            | Told::Statement(Err(refusal))
-            | Told::Report(Err(refusal))
+            | Told::Text(Err(BookTextFault::Refused(refusal)), _)
             | Told::CodeOf(Err(refusal)) => Some(*refusal),
+            Told::Text(Err(BookTextFault::Text(TextFault::OutOfMemory)), _) => {
+                Some(Refusal::OutOfMemory)
+            }
             _ => None,
         }
     }
@@ -64,10 +67,10 @@ impl Call for Asks {
         desk_after(alloc, MemoryKeeper::new(alloc), &before)
     }
 
-    fn call(&self, _alloc: Global, desk: &mut Desk<MemoryKeeper>) -> Told {
+    fn call(&self, alloc: Global, desk: &mut Desk<MemoryKeeper>) -> Told {
         match self.0 {
             Question::CodeOf(digest) => Told::CodeOf(desk.code_of(&digest)),
-            Question::Reading(reading) => answered(desk, reading),
+            Question::Reading(reading) => answered(alloc, desk, reading),
         }
     }
 
@@ -92,13 +95,20 @@ impl Call for Asks {
 }
 
 // What the desk tells.
-fn answered(desk: &mut Desk<MemoryKeeper>, reading: Reading) -> Told {
+fn answered(alloc: Global, desk: &mut Desk<MemoryKeeper>, reading: Reading) -> Told {
+    let mut page = Page::new();
     match reading {
         Reading::Account { code } => Told::Account(desk.account(&code)),
         Reading::Queue { code } => Told::Queue(desk.queue_of(&code)),
         Reading::Order { sender, reference } => Told::Order(desk.order_of(&sender, &reference)),
-        Reading::Statement { code, date } => Told::Statement(desk.statement_of(&code, date)),
-        Reading::Report { date } => Told::Report(desk.report_of(date)),
+        Reading::Statement { code, date } => {
+            let written = write_statement(alloc, &mut page, desk, &code, date);
+            Told::Text(written, page)
+        }
+        Reading::Report { date } => {
+            let written = write_report(alloc, &mut page, desk, date);
+            Told::Text(written, page)
+        }
     }
 }
 
@@ -128,20 +138,20 @@ fn order_of(rt: HostRuntime) -> Result<(), Fail> {
 }
 
 #[test]
-fn statement_of(rt: HostRuntime) -> Result<(), Fail> {
+fn statement(rt: HostRuntime) -> Result<(), Fail> {
     let asks = Asks(Question::Reading(Reading::Statement {
         code: code("ALFA")?,
         date: date(MONDAY)?,
     }));
-    for_each_refusal(&rt, "tests::readings::statement_of", &asks, 1)
+    for_each_refusal(&rt, "tests::readings::statement", &asks, 1)
 }
 
 #[test]
-fn report_of(rt: HostRuntime) -> Result<(), Fail> {
+fn report(rt: HostRuntime) -> Result<(), Fail> {
     let asks = Asks(Question::Reading(Reading::Report {
         date: date(MONDAY)?,
     }));
-    for_each_refusal(&rt, "tests::readings::report_of", &asks, 1)
+    for_each_refusal(&rt, "tests::readings::report", &asks, 1)
 }
 
 #[test]

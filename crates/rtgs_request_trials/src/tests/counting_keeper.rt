@@ -1,6 +1,7 @@
 //! A keeper that counts its commits where others can see it.
-use rtgs_book::{Book, Change, Fault};
+use rtgs_book::{Book, Change, Fault, Mark, Order, Posting};
 use rtgs_keeper::{CommitFault, Keeper};
+use rtgs_money::{BusinessDate, Code, Reference};
 use std::alloc::Global;
 use std::cell::Cell;
 
@@ -49,6 +50,26 @@ impl<K: Keeper> Keeper for CountingKeeper<'_, K> {
 
     fn load(&mut self, alloc: Global) -> Result<Book, Fault> {
         self.kept.load(alloc)
+    }
+
+    fn find_order(&mut self, sender: &Code, reference: &Reference) -> Result<Option<Order>, Fault> {
+        self.kept.find_order(sender, reference)
+    }
+
+    fn find_posting(&mut self, reference: &Reference) -> Result<Option<Posting>, Fault> {
+        self.kept.find_posting(reference)
+    }
+
+    fn next_posting(&mut self, date: BusinessDate, number: u64) -> Result<Option<Posting>, Fault> {
+        self.kept.next_posting(date, number)
+    }
+
+    fn next_order(&mut self, date: BusinessDate, number: u64) -> Result<Option<Order>, Fault> {
+        self.kept.next_order(date, number)
+    }
+
+    fn next_mark(&mut self, date: BusinessDate, number: u64) -> Result<Option<Mark>, Fault> {
+        self.kept.next_mark(date, number)
     }
 
     fn commit(&mut self, change: &Change) -> Result<(), CommitFault> {

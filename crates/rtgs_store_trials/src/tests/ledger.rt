@@ -1,37 +1,73 @@
 //! A ledger on its happy path, and the refusals of its commands.
 use super::setting::{
-    MONDAY, Reply, Row, TUESDAY, adds_alfa, adds_three, code, cuts_off, opens, pays, posts, queued,
-    reference, resolved, settled,
+    MONDAY, Reply, Row, TUESDAY, adds_alfa, adds_three, change, code, cuts_off, opens, pays, posts,
+    queued, reference, resolved, settled,
 };
-use rtgs_book::{Answer, Book, Command, Day, Fault, Known, OrderState, Phase, Refusal, Rows};
+use rtgs_book::{Answer, Command, Day, Fault, Known, OrderState, Phase, Refusal, RowChange};
+use rtgs_cores::Found;
+use rtgs_keeper::{Keeper, MemoryKeeper};
 use rtgs_ledger::Ledger;
 use rtgs_money::Code;
 use std::alloc::Global;
 use std::test::Fail;
 
-fn no_records(alloc: Global) -> Book {
-    Book {
-        participants: Rows::new(alloc),
-        postings: Rows::new(alloc),
-        orders: Rows::new(alloc),
-        marks: Rows::new(alloc),
-        day: Day {
-            date: None,
-            phase: Phase::Closed,
-        },
+// A ledger, and the keeper in which what it adopts is kept.
+#[derive(Drop)]
+struct Kept {
+    ledger: Ledger,
+    keeper: MemoryKeeper,
+}
+
+// The ledger of the book that a keeper has.
+fn ledger_of<K: Keeper>(alloc: Global, keeper: &mut K) -> Result<Ledger, Fail> {
+    let core = match keeper.core(alloc) {
+        Ok(core) => core,
+        Err(fault) => return Err(Fail::from(fault)),
+    };
+    Ok(Ledger::load(alloc, core)?)
+}
+
+// The ledger of a new book.
+fn new_ledger(alloc: Global) -> Result<Ledger, Fail> {
+    ledger_of(alloc, &mut MemoryKeeper::new(alloc))
+}
+
+// What the keeper finds for the command.
+fn found_for(keeper: &mut MemoryKeeper, command: &Command) -> Result<Found, Fail> {
+    match command {
+        Command::Order {
+            sender,
+            reference,
+            ..
+        }
+        | Command::Withdraw { sender, reference } => Ok(Found {
+            order: keeper.find_order(sender, reference)?,
+            posting: None,
+        }),
+        Command::Post { reference, .. } => Ok(Found {
+            order: None,
+            posting: keeper.find_posting(reference)?,
+        }),
+        _ => Ok(Found::NOTHING),
     }
 }
 
-fn submit(ledger: &mut Ledger, command: Command) -> Reply {
-    let (answer, change) = ledger.prepare(&command)?;
-    ledger.adopt(change);
-    Ok(answer)
+fn submit(kept: &mut Kept, command: Command) -> Result<Reply, Fail> {
+    let found = found_for(&mut kept.keeper, &command)?;
+    match kept.ledger.prepare(&command, &found) {
+        Ok((answer, change)) => {
+            kept.keeper.commit(&change)?;
+            kept.ledger.adopt(change);
+            Ok(Ok(answer))
+        }
+        Err(refusal) => Ok(Err(refusal)),
+    }
 }
 
 // Submits the commands in order: each is answered like this.
-fn follows(alloc: Global, ledger: &mut Ledger, rows: &[Row]) -> Result<(), Fail> {
+fn follows(alloc: Global, kept: &mut Kept, rows: &[Row]) -> Result<(), Fail> {
     for (command, reply) in rows {
-        let found = submit(ledger, *command);
+        let found = submit(kept, *command)?;
         if found != *reply {
             let said = format!(in alloc; "{command:?} was answered {found:?}")?;
             return Err(Fail::from(said));
@@ -41,30 +77,33 @@ fn follows(alloc: Global, ledger: &mut Ledger, rows: &[Row]) -> Result<(), Fail>
 }
 
 // A ledger after commands that are answered like this.
-fn after(alloc: Global, rows: &[Row]) -> Result<Ledger, Fail> {
-    let mut ledger = Ledger::load(alloc, no_records(alloc))?;
-    follows(alloc, &mut ledger, rows)?;
-    Ok(ledger)
+fn after(alloc: Global, rows: &[Row]) -> Result<Kept, Fail> {
+    let mut kept = Kept {
+        ledger: new_ledger(alloc)?,
+        keeper: MemoryKeeper::new(alloc),
+    };
+    follows(alloc, &mut kept, rows)?;
+    Ok(kept)
 }
 
 // A ledger with ALFA, BETA and GAMA, of which ALFA has 100 cents, and a day, after commands that are answered like this.
-fn funded_after(alloc: Global, rows: &[Row]) -> Result<Ledger, Fail> {
+fn funded_after(alloc: Global, rows: &[Row]) -> Result<Kept, Fail> {
     let beginning = [
         (posts("ALFA", "P-1", 100)?, Ok(Answer::Posted { number: 1 })),
         (opens(MONDAY)?, Ok(Answer::Opened)),
     ];
     let banks = adds_three()?.map(|command| (command, Ok(Answer::Added)));
-    let mut ledger = after(alloc, &banks)?;
-    follows(alloc, &mut ledger, &beginning)?;
-    follows(alloc, &mut ledger, rows)?;
-    Ok(ledger)
+    let mut kept = after(alloc, &banks)?;
+    follows(alloc, &mut kept, &beginning)?;
+    follows(alloc, &mut kept, rows)?;
+    Ok(kept)
 }
 
 #[test]
 fn a_participant_is_prepared_and_adopted(rt: HostRuntime) -> Result<(), Fail> {
     let command = adds_alfa()?;
-    let mut ledger = Ledger::load(rt.alloc(), no_records(rt.alloc()))?;
-    match ledger.prepare(&command) {
+    let mut ledger = new_ledger(rt.alloc())?;
+    match ledger.prepare(&command, &Found::NOTHING) {
         Ok((answer, change)) => {
             assert_eq!(rt; answer, Answer::Added);
             assert_eq!(rt; change.len(), 1);
@@ -78,17 +117,21 @@ fn a_participant_is_prepared_and_adopted(rt: HostRuntime) -> Result<(), Fail> {
 #[test]
 fn an_unknown_participant_gets_no_posting(rt: HostRuntime) -> Result<(), Fail> {
     let command = posts("ALFA", "P-1", 1)?;
-    let mut ledger = Ledger::load(rt.alloc(), no_records(rt.alloc()))?;
-    let refused = ledger.prepare(&command).err();
+    let mut ledger = new_ledger(rt.alloc())?;
+    let refused = ledger.prepare(&command, &Found::NOTHING).err();
     assert_eq!(rt; refused, Some(Refusal::UnknownParticipant));
     Ok(())
 }
 
 #[test]
-fn a_book_that_is_not_sound_is_refused(rt: HostRuntime) -> Result<(), Fail> {
-    let mut book = no_records(rt.alloc());
-    book.day.phase = Phase::Open;
-    let fault = Ledger::load(rt.alloc(), book).err();
+fn a_book_that_is_not_sound_has_no_core_to_load(rt: HostRuntime) -> Result<(), Fail> {
+    let open = Day {
+        date: None,
+        phase: Phase::Open,
+    };
+    let mut keeper = MemoryKeeper::new(rt.alloc());
+    keeper.commit(&change(rt.alloc(), &[RowChange::SetDay(open)])?)?;
+    let fault = keeper.core(rt.alloc()).err();
     assert!(rt; matches!(fault, Some(Fault::Inconsistent { .. })));
     Ok(())
 }
@@ -112,7 +155,7 @@ fn an_order_with_cover_settles(rt: HostRuntime) -> Result<(), Fail> {
         (other, Err(Refusal::ReferenceUsed)),
     ];
     let (alfa, beta, nobody) = (code("ALFA")?, code("BETA")?, code("ZETA")?);
-    let ledger = funded_after(rt.alloc(), &rows)?;
+    let Kept { ledger, .. } = funded_after(rt.alloc(), &rows)?;
     assert_eq!(rt; balance(&ledger, &alfa), Some(40));
     assert_eq!(rt; balance(&ledger, &beta), Some(60));
     assert_eq!(rt; balance(&ledger, &nobody), None);
@@ -126,10 +169,11 @@ fn an_order_waits_behind_the_queue(rt: HostRuntime) -> Result<(), Fail> {
         (pays("ALFA", "A-2", "BETA", 1)?, queued(2, 2)),
     ];
     let (alfa, second) = (code("ALFA")?, reference("A-2")?);
-    let ledger = funded_after(rt.alloc(), &rows)?;
+    let Kept { ledger, mut keeper } = funded_after(rt.alloc(), &rows)?;
     assert_eq!(rt; ledger.queue(&alfa)?.len(), 2);
-    let order = ledger.order(&alfa, &second);
+    let order = keeper.find_order(&alfa, &second)?;
     assert_eq!(rt; order.map(|o| o.state), Some(OrderState::Queued));
+    assert_eq!(rt; ledger.queue(&alfa)?.as_slice().last().copied(), order);
     Ok(())
 }
 
@@ -143,9 +187,10 @@ fn a_ring_is_resolved(rt: HostRuntime) -> Result<(), Fail> {
         (Command::Resolve, Ok(Answer::Nothing)),
     ];
     let (alfa, gama, last) = (code("ALFA")?, code("GAMA")?, reference("G-1")?);
-    let ledger = funded_after(rt.alloc(), &rows)?;
-    let order = ledger.order(&gama, &last);
+    let Kept { ledger, mut keeper } = funded_after(rt.alloc(), &rows)?;
+    let order = keeper.find_order(&gama, &last)?;
     assert_eq!(rt; order.map(|o| o.state), Some(OrderState::Settled(1)));
+    assert_eq!(rt; ledger.queue(&gama)?.len(), 0);
     assert_eq!(rt; balance(&ledger, &alfa), Some(100));
     Ok(())
 }
@@ -167,7 +212,7 @@ fn the_open_day_is_cut_off(rt: HostRuntime) -> Result<(), Fail> {
         (monday, Ok(Answer::Repeated(Known::Nothing))),
         (tuesday, Err(Refusal::WrongPhase)),
     ];
-    let ledger = after(rt.alloc(), &rows)?;
+    let Kept { ledger, .. } = after(rt.alloc(), &rows)?;
     assert_eq!(rt; ledger.day().phase, Phase::CutOff);
     Ok(())
 }

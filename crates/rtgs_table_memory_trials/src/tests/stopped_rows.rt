@@ -51,7 +51,7 @@ fn one_answered(
 fn seen_once(alloc: Global, rows: &[OrderRow]) -> Result<String, Fail> {
     let mut desk = orders_desk(alloc, OverSql.keeper(alloc)?)?;
     submit_batch(alloc, &mut desk, code("ALFA")?, rows)?;
-    seen_of(alloc, &desk)
+    seen_of(alloc, &mut desk)
 }
 
 #[test]
@@ -70,7 +70,7 @@ fn second_row(rt: HostRuntime) -> Result<(), Fail> {
             assert_eq!(rt; file_of(alloc, rows, &batch)?.as_slice(), STOPPED);
             let again = submit_batch(alloc, &mut desk, code("ALFA")?, rows)?;
             assert_eq!(rt; file_of(alloc, rows, &again)?.as_slice(), AGAIN);
-            assert_eq!(rt; seen_of(alloc, &desk)?.as_str(), once.as_str());
+            assert_eq!(rt; seen_of(alloc, &mut desk)?.as_str(), once.as_str());
             met = met.saturating_add(1);
         }
     }

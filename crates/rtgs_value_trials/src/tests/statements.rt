@@ -2,12 +2,15 @@
 mod day_reports;
 mod faults;
 mod of_participants;
+mod refused_reads;
+mod shelf;
 mod uses;
 
 use super::setting::{MONDAY, code, date};
-use rtgs_book::{Mark, Order, OrderState, Posting};
-use rtgs_money::{Amount, Cents, PostingAmount, Reference};
-use rtgs_statements::{Report, Statement, day_report, statement_text};
+use rtgs_book::{Book, Day, Mark, Order, OrderState, Participant, Phase, Posting, Rows};
+use rtgs_money::{Amount, Cents, Code, Credit, KeyDigest, Name, PostingAmount, Reference};
+use rtgs_statements::{write_report, write_statement};
+use shelf::Shelf;
 use std::alloc::Global;
 use std::test::Fail;
 
@@ -49,6 +52,35 @@ fn mark(number: u64, day: &str, count: u64, cents: i64) -> Result<Mark, Fail> {
     })
 }
 
+/// A book of these participants and records.
+fn book_of(
+    alloc: Global,
+    codes: &[Code],
+    postings: &[Posting],
+    orders: &[Order],
+    marks: &[Mark],
+) -> Result<Book, Fail> {
+    let mut participants = Vec::new(alloc);
+    for code in codes {
+        participants.push(Participant {
+            code: *code,
+            name: Name::read(b"A Bank")?,
+            key: KeyDigest::from_bytes([participants.len() as u8; 32]),
+            credit: Credit::NONE,
+        })?;
+    }
+    Ok(Book {
+        participants: Rows::from_vec(participants),
+        postings: Rows::from_vec(postings.iter().copied().collect(alloc)?),
+        orders: Rows::from_vec(orders.iter().copied().collect(alloc)?),
+        marks: Rows::from_vec(marks.iter().copied().collect(alloc)?),
+        day: Day {
+            date: Some(date(MONDAY)?),
+            phase: Phase::Open,
+        },
+    })
+}
+
 /// The statement of a participant for a date, as text.
 fn statement(
     alloc: Global,
@@ -57,10 +89,12 @@ fn statement(
     postings: &[Posting],
     orders: &[Order],
 ) -> Result<String, Fail> {
-    let statement = Statement::of(alloc, code(of)?, date(day)?, postings, orders)?;
+    let mut shelf = Shelf::new(book_of(alloc, &[], postings, orders, &[])?);
     let mut out = Vec::new(alloc);
-    statement_text(alloc, &mut out, &statement)?;
-    Ok(String::from_utf8(out)?)
+    match write_statement(alloc, &mut out, &mut shelf, &code(of)?, date(day)?) {
+        Ok(()) => Ok(String::from_utf8(out)?),
+        Err(_) => Err(Fail::from("no statement")),
+    }
 }
 
 /// The report of a date over ALFA, BETA and GAMA, as text.
@@ -71,9 +105,16 @@ fn report(
     orders: &[Order],
     marks: &[Mark],
 ) -> Result<String, Fail> {
-    let codes = vec![in alloc; code("ALFA")?, code("BETA")?, code("GAMA")?]?;
-    let report = Report::of(alloc, date(day)?, codes, postings, orders, marks)?;
+    let codes = [code("ALFA")?, code("BETA")?, code("GAMA")?];
+    report_over(alloc, day, book_of(alloc, &codes, postings, orders, marks)?)
+}
+
+/// The report of a date over a book, as text.
+fn report_over(alloc: Global, day: &str, book: Book) -> Result<String, Fail> {
+    let mut shelf = Shelf::new(book);
     let mut out = Vec::new(alloc);
-    day_report(alloc, &mut out, &report)?;
-    Ok(String::from_utf8(out)?)
+    match write_report(alloc, &mut out, &mut shelf, date(day)?) {
+        Ok(()) => Ok(String::from_utf8(out)?),
+        Err(_) => Err(Fail::from("no report")),
+    }
 }

@@ -1,16 +1,20 @@
-use Rattle.rtgs_desk.specs.Dated.{report_told, report_seen}
-use Rattle.rtgs_http_banks.specs.Sayings.{report_message}
-use Rattle.rtgs_http_banks.proofs.Told.{refused_said, value_said}
+use Rattle.std.proofs.Common.{◌∙◌, ap}
+use Rattle.rtgs_desk_texts.specs.Written.{report_wanted}
+use Rattle.rtgs_http_banks.specs.Sayings.{text_message}
+use Rattle.rtgs_http_banks.proofs.Told.{refused_text, text_said, stands_after}
 use Rattle.rtgs_http_banks.proofs.readings.read_report.Goals as goal
 
-pub returns-in-Err : goal.returns-in-Err
-returns-in-Err g c book held =
-    refused_said report_seen (report_told book c.args.date) c.in-Err.refusal report_message c.refused.result
-    (c.in-Err.ensures.told book held)
-    c.refused.ensures
+pub returns-in-Err-clause-reads : goal.returns-in-Err-clause-reads
+returns-in-Err-clause-reads g c honest book held = (
+  stands_after g.K.Keeper _ _ book c.in-Err.ensures.leaves honest held,
+  refused_text g.K.Keeper (λ text. text.items) (report_wanted book c.args.date) text_message c.report_text.new.desk c.refused.result
+      c.in-Err.refusal (c.in-Err.ensures.told honest book held) c.refused.ensures,
+)
 
-pub returns-in-Ok-report_reply : goal.returns-in-Ok-report_reply
-returns-in-Ok-report_reply g c book held =
-    value_said report_seen (report_told book c.args.date) c.in-Ok.report report_message c.in-Ok-report_reply.reply
-    (c.in-Ok.ensures.told book held)
-    c.in-Ok-report_reply.ensures
+pub returns-in-Ok-text_reply-clause-reads : goal.returns-in-Ok-text_reply-clause-reads
+returns-in-Ok-text_reply-clause-reads g c honest book held = (
+  stands_after g.K.Keeper _ _ book c.in-Ok.ensures.leaves honest held,
+  text_said g.K.Keeper (λ text. text.items) (report_wanted book c.args.date) text_message c.report_text.new.desk
+      c.in-Ok-text_reply.reply c.in-Ok.text (c.in-Ok.ensures.told honest book held)
+      (c.in-Ok-text_reply.ensures ∙ ap text_message c.deref.ensures.value),
+)

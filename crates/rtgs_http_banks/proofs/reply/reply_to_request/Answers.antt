@@ -10,7 +10,8 @@ use Rattle.rtgs_http_banks.proofs.reply.reply_to_request.Goals as goal
 pub returns-in-Ok-clause-reply : goal.returns-in-Ok-clause-reply
 returns-in-Ok-clause-reply g c = λ operator input says.
     asked_exchange g.K.Keeper operator input c.args.desk.now c.answer.new.desk c.in-Ok.asked c.answer.result
-    c.participants_ask_for_their_own.ensures c.holds_a_sound_book.ensures.in_memory c.holds_a_sound_book.ensures.memory
+    c.participants_ask_for_their_own.ensures c.holds_a_sound_book.ensures.in_memory
+    c.holds_a_sound_book.ensures.participants
     (subst (λ (r : Result Asked Unread). Requests (KnowsOf g.K.Keeper c.args.desk.now) operator input r) c.in-Ok.is
     says)
     c.answer.ensures.comes c.answer.ensures.failed
@@ -25,7 +26,7 @@ returns-in-Err-Faulty-clause-reply g c = λ operator input says.
     let is : c.args.request.now ≡ Err (Faulty c.in-Err-Faulty.fault) = search rules in
     fault_exchange g.K.Keeper operator input c.args.desk.now c.in-Err-Faulty.fault c.fault_reply.result
     (subst (λ (r : Result Asked Unread). Requests (KnowsOf g.K.Keeper c.args.desk.now) operator input r) is says)
-    c.holds_a_sound_book.ensures.memory c.stands.ensures c.fault_reply.ensures
+    c.holds_a_sound_book.ensures.participants c.stands.ensures c.fault_reply.ensures
 
 pub returns-in-Err-Faulty-clause-works : goal.returns-in-Err-Faulty-clause-works
 returns-in-Err-Faulty-clause-works g c honest book held =

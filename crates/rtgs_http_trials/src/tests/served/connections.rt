@@ -80,7 +80,8 @@ fn one_that_is_not_accepted_counts_as_served(rt: HostRuntime) -> Result<(), Fail
 #[test]
 fn none_is_served_once_the_desk_has_failed(rt: HostRuntime) -> Result<(), Fail> {
     let alloc = rt.alloc();
-    let keeper = FailingKeeper::new(MemoryKeeper::new(alloc), 5, Trouble::Lost);
+    // the desk is opened, has three banks and a day, and looks the order up
+    let keeper = FailingKeeper::new(MemoryKeeper::new(alloc), 6, Trouble::Lost);
     let mut desk = desk_over(alloc, keeper)?;
     begin_day(&mut desk)?;
     let good = Some(GOOD);

@@ -7,8 +7,11 @@ use rtgs_keeper::{Keeper, MemoryKeeper};
 use std::alloc::Global;
 use std::test::Fail;
 
-// How many calls of its keeper a desk makes, once it is open and has three banks and a day.
-const BEFORE_THE_ORDER: usize = 5;
+// How many calls of its keeper a desk makes before it looks the order up: it is opened, and has three banks and a day.
+const LOOK_UP: usize = 5;
+
+// How many it makes before the order is kept.
+const COMMIT: usize = 6;
 
 const BUSY: &str = "503 Service Unavailable";
 
@@ -39,20 +42,26 @@ fn is_told<K: Keeper>(
     Ok(())
 }
 
-// A desk whose store meets this trouble at the first order.
+// A desk whose store meets this trouble at the first order, after so many calls.
 fn troubled_desk(
     alloc: Global,
+    calls: usize,
     trouble: Trouble,
 ) -> Result<Desk<FailingKeeper<MemoryKeeper>>, Fail> {
-    let keeper = FailingKeeper::new(MemoryKeeper::new(alloc), BEFORE_THE_ORDER, trouble);
+    let keeper = FailingKeeper::new(MemoryKeeper::new(alloc), calls, trouble);
     let mut desk = desk_over(alloc, keeper)?;
     begin_day(&mut desk)?;
     Ok(desk)
 }
 
 // The store fails at the order, and after a restart the same order has this reply.
-fn is_told_after(alloc: Global, trouble: Trouble, reply: (&str, &str)) -> Result<(), Fail> {
-    let mut desk = troubled_desk(alloc, trouble)?;
+fn is_told_after(
+    alloc: Global,
+    calls: usize,
+    trouble: Trouble,
+    reply: (&str, &str),
+) -> Result<(), Fail> {
+    let mut desk = troubled_desk(alloc, calls, trouble)?;
     is_told(alloc, &mut desk, &[FAULT, FAILED])?;
     let mut desk = desk_over(alloc, desk.into_keeper().into_kept())?;
     is_told(alloc, &mut desk, &[reply])
@@ -60,17 +69,26 @@ fn is_told_after(alloc: Global, trouble: Trouble, reply: (&str, &str)) -> Result
 
 #[test]
 fn an_order_that_the_store_lost(rt: HostRuntime) -> Result<(), Fail> {
-    is_told_after(rt.alloc(), Trouble::Lost, QUEUED)
+    is_told_after(rt.alloc(), COMMIT, Trouble::Lost, QUEUED)
 }
 
 #[test]
 fn an_order_that_the_store_kept(rt: HostRuntime) -> Result<(), Fail> {
-    is_told_after(rt.alloc(), Trouble::Kept, REPEATED)
+    is_told_after(rt.alloc(), COMMIT, Trouble::Kept, REPEATED)
+}
+
+#[test]
+fn an_order_whose_look_up_failed(rt: HostRuntime) -> Result<(), Fail> {
+    is_told_after(rt.alloc(), LOOK_UP, Trouble::Lost, QUEUED)?;
+    is_told_after(rt.alloc(), LOOK_UP, Trouble::Kept, QUEUED)
 }
 
 #[test]
 fn an_order_without_memory(rt: HostRuntime) -> Result<(), Fail> {
     let alloc = rt.alloc();
-    let mut desk = troubled_desk(alloc, Trouble::OutOfMemory)?;
-    is_told(alloc, &mut desk, &[NO_MEMORY, QUEUED, REPEATED])
+    for calls in [LOOK_UP, COMMIT] {
+        let mut desk = troubled_desk(alloc, calls, Trouble::OutOfMemory)?;
+        is_told(alloc, &mut desk, &[NO_MEMORY, QUEUED, REPEATED])?;
+    }
+    Ok(())
 }

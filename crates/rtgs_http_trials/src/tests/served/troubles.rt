@@ -102,7 +102,25 @@ const CHANGES: [Row<'static>; 10] = [
     ),
 ];
 
-// A desk of three banks on a Monday, whose keeper meets this trouble after so many commands more.
+// How many calls of its keeper a desk makes for a command: it looks up what bears the reference, where one is given, and
+// keeps the change.
+fn calls_of((_, line, _, _, _): &Row<'_>) -> usize {
+    let looks_up = *line == "POST /desk/post"
+        || *line == "POST /orders"
+        || *line == "POST /orders/A-2/withdraw";
+    if looks_up { 2 } else { 1 }
+}
+
+// How many it makes for all of these.
+fn calls_of_all(rows: &[Row<'_>]) -> usize {
+    let mut calls = 0usize;
+    for row in rows {
+        calls = calls.saturating_add(calls_of(row));
+    }
+    calls
+}
+
+// A desk of three banks on a Monday, whose keeper meets this trouble after so many calls more.
 fn troubled_desk(
     alloc: Global,
     after: usize,
@@ -127,20 +145,28 @@ fn is_told(
     follow(alloc, desk, JSON, &[(key, line, body, BUSY, fault)])
 }
 
-// The store fails at a command, after those before it.
+// The store fails at each call of a command, after the commands before it.
 fn fails_at(alloc: Global, before: &[Row<'_>], command: Row<'_>) -> Result<(), Fail> {
-    let mut desk = troubled_desk(alloc, before.len(), Trouble::Lost)?;
-    follow(alloc, &mut desk, JSON, before)?;
-    is_told(alloc, &mut desk, command, FAULT)?;
-    is_told(alloc, &mut desk, command, FAILED)
+    for call in 0..calls_of(&command) {
+        let calls = calls_of_all(before).saturating_add(call);
+        let mut desk = troubled_desk(alloc, calls, Trouble::Lost)?;
+        follow(alloc, &mut desk, JSON, before)?;
+        is_told(alloc, &mut desk, command, FAULT)?;
+        is_told(alloc, &mut desk, command, FAILED)?;
+    }
+    Ok(())
 }
 
-// Memory is refused to a command, after those before it, and not when it comes again.
+// Memory is refused at each call of a command, after the commands before it, and not when it comes again.
 fn waits_at(alloc: Global, before: &[Row<'_>], command: Row<'_>) -> Result<(), Fail> {
-    let mut desk = troubled_desk(alloc, before.len(), Trouble::OutOfMemory)?;
-    follow(alloc, &mut desk, JSON, before)?;
-    is_told(alloc, &mut desk, command, NO_MEMORY)?;
-    follow(alloc, &mut desk, JSON, &[command])
+    for call in 0..calls_of(&command) {
+        let calls = calls_of_all(before).saturating_add(call);
+        let mut desk = troubled_desk(alloc, calls, Trouble::OutOfMemory)?;
+        follow(alloc, &mut desk, JSON, before)?;
+        is_told(alloc, &mut desk, command, NO_MEMORY)?;
+        follow(alloc, &mut desk, JSON, &[command])?;
+    }
+    Ok(())
 }
 
 #[test]
@@ -179,11 +205,39 @@ fn a_failed_desk_says_so_on_each_route(rt: HostRuntime) -> Result<(), Fail> {
     Ok(())
 }
 
+// The readings for which the store is read.
+const STORED: [(&str, &str); 3] = [
+    (ALFA, "GET /orders/A-1"),
+    (ALFA, "GET /statements/2024-03-04"),
+    (OPERATOR, "GET /desk/report/2024-03-04"),
+];
+
+#[test]
+fn each_reading_at_which_the_store_fails(rt: HostRuntime) -> Result<(), Fail> {
+    for (key, line) in STORED {
+        let row = (key, line, "", "", "");
+        let mut desk = troubled_desk(rt.alloc(), 0, Trouble::Lost)?;
+        is_told(rt.alloc(), &mut desk, row, FAULT)?;
+        is_told(rt.alloc(), &mut desk, row, FAILED)?;
+    }
+    Ok(())
+}
+
+#[test]
+fn each_reading_without_memory_leaves_the_desk(rt: HostRuntime) -> Result<(), Fail> {
+    for (key, line) in STORED {
+        let mut desk = troubled_desk(rt.alloc(), 0, Trouble::OutOfMemory)?;
+        is_told(rt.alloc(), &mut desk, (key, line, "", "", ""), NO_MEMORY)?;
+        follow(rt.alloc(), &mut desk, JSON, &CHANGES[..1])?;
+    }
+    Ok(())
+}
+
 const FILE: &str = "reference,to,amount\nA-1,BETA,100\nA-2,GAMA,50\n";
 
-// The file is told these results by a desk that has no memory for the row with this index.
-fn stops(alloc: Global, row: usize, results: &str) -> Result<(), Fail> {
-    let mut desk = troubled_desk(alloc, row, Trouble::OutOfMemory)?;
+// The file is told these results by a desk that has no memory after so many calls.
+fn stops(alloc: Global, calls: usize, results: &str) -> Result<(), Fail> {
+    let mut desk = troubled_desk(alloc, calls, Trouble::OutOfMemory)?;
     follow(
         alloc,
         &mut desk,
@@ -195,14 +249,11 @@ fn stops(alloc: Global, row: usize, results: &str) -> Result<(), Fail> {
 #[test]
 fn a_batch_without_memory_for_a_row_stops_there(rt: HostRuntime) -> Result<(), Fail> {
     let alloc = rt.alloc();
-    stops(
-        alloc,
-        0,
-        "reference,result,number,detail\nA-1,stopped,,90\n",
-    )?;
-    stops(
-        alloc,
-        1,
-        "reference,result,number,detail\nA-1,queued,1,1\nA-2,stopped,,90\n",
-    )
+    let first = "reference,result,number,detail\nA-1,stopped,,90\n";
+    let second = "reference,result,number,detail\nA-1,queued,1,1\nA-2,stopped,,90\n";
+    // each row is looked up, and then kept
+    for (calls, results) in [(0, first), (1, first), (2, second), (3, second)] {
+        stops(alloc, calls, results)?;
+    }
+    Ok(())
 }

@@ -1,8 +1,7 @@
 //! Day reports, line by line.
-use super::super::setting::{MONDAY, TUESDAY, code, date};
-use super::{mark, order, posting, report};
+use super::super::setting::{MONDAY, TUESDAY, code};
+use super::{book_of, mark, order, posting, report, report_over};
 use rtgs_book::{Mark, Order, OrderState};
-use rtgs_statements::{Report, day_report};
 use std::test::Fail;
 
 // Five queued orders, of which a resolution settled two.
@@ -95,10 +94,8 @@ fn a_hundred_participants_have_a_line_each(rt: HostRuntime) -> Result<(), Fail> 
     }
     let largest = OrderState::Settled(1);
     let orders = [order(1, ["B100", "B199"], "A-1", 1_000_000_000_000, largest)?];
-    let report = Report::of(rt.alloc(), date(MONDAY)?, codes, &[], &orders, &[])?;
-    let mut out = Vec::new(rt.alloc());
-    day_report(rt.alloc(), &mut out, &report)?;
-    let text = String::from_utf8(out)?;
+    let book = book_of(rt.alloc(), &codes, &[], &orders, &[])?;
+    let text = report_over(rt.alloc(), MONDAY, book)?;
     assert_eq!(rt; text.as_str().lines().count(), 106);
     assert!(rt;
         text.as_str().contains(

@@ -1,9 +1,10 @@
 //! Writers that fail, take nothing, or take little.
 use super::super::setting::{MONDAY, code, date};
-use super::{mark, order, posting};
+use super::shelf::Shelf;
+use super::{book_of, mark, order, posting};
 use rtgs_book::OrderState;
 use rtgs_output::TextFault;
-use rtgs_statements::{Report, Statement, day_report, statement_text};
+use rtgs_statements::{BookTextFault, write_report, write_statement};
 use std::alloc::Global;
 use std::io::{Error, ErrorKind, Result as IoResult, Write};
 use std::test::Fail;
@@ -42,55 +43,81 @@ impl Write for Narrow {
     }
 }
 
-fn small_statement(alloc: Global) -> Result<Statement, Fail> {
+// A posting to ALFA, and its order of a cent to BETA.
+fn small_shelf(alloc: Global, state: OrderState) -> Result<Shelf, Fail> {
+    let codes = [code("ALFA")?, code("BETA")?];
     let postings = [posting(1, "ALFA", "P-1", 10)?];
-    let orders = [order(1, ["ALFA", "BETA"], "A-1", 1, OrderState::Queued)?];
-    Ok(Statement::of(alloc, code("ALFA")?, date(MONDAY)?, &postings, &orders)?)
-}
-
-fn small_report(alloc: Global) -> Result<Report, Fail> {
-    let postings = [posting(1, "ALFA", "P-1", 10)?];
-    let orders = [order(1, ["ALFA", "BETA"], "A-1", 1, OrderState::Settled(1))?];
-    let codes = vec![in alloc; code("ALFA")?, code("BETA")?]?;
+    let orders = [order(1, ["ALFA", "BETA"], "A-1", 1, state)?];
     let marks = [mark(1, MONDAY, 1, 1)?];
-    Ok(Report::of(alloc, date(MONDAY)?, codes, &postings, &orders, &marks)?)
+    Ok(Shelf::new(book_of(alloc, &codes, &postings, &orders, &marks)?))
 }
 
-fn is_writers(ended: &Result<(), TextFault>, kind: ErrorKind) -> bool {
-    matches!(ended, Err(TextFault::Write(error)) if error.kind() == kind)
+// ALFA's statement.
+fn small_statement<W: Write>(
+    alloc: Global,
+    out: &mut W,
+) -> Result<Result<(), BookTextFault>, Fail> {
+    let mut shelf = small_shelf(alloc, OrderState::Queued)?;
+    Ok(write_statement(alloc, out, &mut shelf, &code("ALFA")?, date(MONDAY)?))
+}
+
+// The report of that day.
+fn small_report<W: Write>(alloc: Global, out: &mut W) -> Result<Result<(), BookTextFault>, Fail> {
+    let mut shelf = small_shelf(alloc, OrderState::Settled(1))?;
+    Ok(write_report(alloc, out, &mut shelf, date(MONDAY)?))
+}
+
+fn is_writers(ended: &Result<(), BookTextFault>, kind: ErrorKind) -> bool {
+    matches!(ended, Err(BookTextFault::Text(TextFault::Write(error))) if error.kind() == kind)
 }
 
 #[test]
 fn statement_ends_at_the_write_that_fails(rt: HostRuntime) -> Result<(), Fail> {
-    let statement = small_statement(rt.alloc())?;
     let mut whole = Vec::new(rt.alloc());
-    statement_text(rt.alloc(), &mut whole, &statement)?;
-    for calls in 0..4 {
-        let mut out = Narrow::new(rt.alloc(), 100, calls);
-        let ended = statement_text(rt.alloc(), &mut out, &statement);
+    assert!(rt; small_statement(rt.alloc(), &mut whole)?.is_ok());
+    for calls in 0..whole.len() {
+        let mut out = Narrow::new(rt.alloc(), 1, calls);
+        let ended = small_statement(rt.alloc(), &mut out)?;
         assert!(rt; is_writers(&ended, ErrorKind::BrokenPipe));
-        let end = whole.len().min(100 * calls);
-        assert!(rt; out.taken.as_slice() == &whole[..end]);
+        assert!(rt; out.taken.as_slice() == &whole[..calls]);
     }
-    let mut out = Narrow::new(rt.alloc(), 100, 4);
-    statement_text(rt.alloc(), &mut out, &statement)?;
+    let mut out = Narrow::new(rt.alloc(), 1, whole.len());
+    assert!(rt; small_statement(rt.alloc(), &mut out)?.is_ok());
+    assert!(rt; out.taken.as_slice() == whole.as_slice());
+    Ok(())
+}
+
+#[test]
+fn statement_is_written_line_by_line(rt: HostRuntime) -> Result<(), Fail> {
+    let mut whole = Vec::new(rt.alloc());
+    assert!(rt; small_statement(rt.alloc(), &mut whole)?.is_ok());
+    let title = "statement ALFA 2024-03-04\n".len();
+    // A title, two rows and four sums, which are written at once.
+    let ends = [0, title, title + 78, title + 156, whole.len()];
+    for calls in 0..4 {
+        let mut out = Narrow::new(rt.alloc(), 500, calls);
+        let ended = small_statement(rt.alloc(), &mut out)?;
+        assert!(rt; is_writers(&ended, ErrorKind::BrokenPipe));
+        assert!(rt; out.taken.as_slice() == &whole[..ends[calls]]);
+    }
+    let mut out = Narrow::new(rt.alloc(), 500, 4);
+    assert!(rt; small_statement(rt.alloc(), &mut out)?.is_ok());
     assert!(rt; out.taken.as_slice() == whole.as_slice());
     Ok(())
 }
 
 #[test]
 fn report_ends_at_the_byte_that_fails(rt: HostRuntime) -> Result<(), Fail> {
-    let report = small_report(rt.alloc())?;
     let mut whole = Vec::new(rt.alloc());
-    day_report(rt.alloc(), &mut whole, &report)?;
+    assert!(rt; small_report(rt.alloc(), &mut whole)?.is_ok());
     for calls in 0..whole.len() {
         let mut out = Narrow::new(rt.alloc(), 1, calls);
-        let ended = day_report(rt.alloc(), &mut out, &report);
+        let ended = small_report(rt.alloc(), &mut out)?;
         assert!(rt; is_writers(&ended, ErrorKind::BrokenPipe));
         assert!(rt; out.taken.as_slice() == &whole[..calls]);
     }
     let mut out = Narrow::new(rt.alloc(), 1, whole.len());
-    day_report(rt.alloc(), &mut out, &report)?;
+    assert!(rt; small_report(rt.alloc(), &mut out)?.is_ok());
     assert!(rt; out.taken.as_slice() == whole.as_slice());
     Ok(())
 }
@@ -98,7 +125,10 @@ fn report_ends_at_the_byte_that_fails(rt: HostRuntime) -> Result<(), Fail> {
 #[test]
 fn write_that_takes_no_byte_is_a_fault(rt: HostRuntime) -> Result<(), Fail> {
     let mut out = Narrow::new(rt.alloc(), 0, 9);
-    let ended = statement_text(rt.alloc(), &mut out, &small_statement(rt.alloc())?);
+    let ended = small_statement(rt.alloc(), &mut out)?;
+    assert!(rt; is_writers(&ended, ErrorKind::WriteZero));
+    assert!(rt; out.taken.is_empty());
+    let ended = small_report(rt.alloc(), &mut out)?;
     assert!(rt; is_writers(&ended, ErrorKind::WriteZero));
     assert!(rt; out.taken.is_empty());
     Ok(())

@@ -9,5 +9,5 @@ pub returns : goal.returns
 returns c =
     let facts = c.binary_search_by_key.ensures in
     let by_code = facts.position code_of (answers_always _ _ _ (λ f a r g called. search rules)) in
-    rw (← c.self.view_is, ← c.deref.ensures.value) (searched _ (rw c.deref.ensures.value c.self.invariant)
+    rw (← c.self.view_is, ← c.deref.ensures.value) (searched _ (rw c.deref.ensures.value c.self.invariant.ordered)
     c.args.code.now _ facts.bound by_code)

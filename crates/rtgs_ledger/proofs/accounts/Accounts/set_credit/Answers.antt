@@ -1,7 +1,7 @@
 use Rattle.std.proofs.Common.{ℕ, refl, sym, ap, set, ◌≡◌, ◌∙◌, subst}
 use Rattle.rtgs_book.specs.declared.account.Account.{Account}
-use Rattle.rtgs_ledger.specs.Accounts.{AreInCodeOrder, IsAt, with_limit}
-use Rattle.rtgs_ledger.proofs.AccountLemmas.{altered_at, altered_in_gap, ordered_altered}
+use Rattle.rtgs_ledger.specs.Accounts.{AreOfABook, IsAt, with_limit}
+use Rattle.rtgs_ledger.proofs.AccountLemmas.{altered_at, altered_in_gap, of_a_book_altered}
 use Rattle.rtgs_ledger.proofs.accounts.Accounts.set_credit.Goals as goal
 
 abbrev change : ℕ → Account → Account
@@ -16,12 +16,14 @@ written c =
     let same : c.self.inside.accounts.items ≡ c.args.self.now.accounts = λ i. (c.self.view_is i).accounts in
     let at = subst (λ xs. IsAt c.args.code.now xs c.in-Ok.at) (sym same) c.in-Ok.ensures.found in
     ap (λ (x : Account). set c.self.inside.accounts.items c.in-Ok.at (change c.args.credit x)) c.index_mut.ensures.value
-    ∙ altered_at (change c.args.credit) (λ a. refl) c.args.code.now c.self.inside.accounts.items c.self.invariant
+    ∙ altered_at (change c.args.credit) (λ a. refl) c.args.code.now c.self.inside.accounts.items
+        c.self.invariant.ordered
     c.in-Ok.at at c.index_mut.result.now
 
 pub invariant_of-self : goal.invariant_of-self
-invariant_of-self c = subst AreInCodeOrder (sym (written c))
-    (ordered_altered (change c.args.credit) (λ a. refl) c.args.code.now c.self.inside.accounts.items c.self.invariant)
+invariant_of-self c = subst AreOfABook (sym (written c))
+    (of_a_book_altered (change c.args.credit) (λ a. refl) (λ a. refl) c.args.code.now c.self.inside.accounts.items
+        c.self.invariant)
 
 pub returns-in-Ok-clause-accounts : goal.returns-in-Ok-clause-accounts
 returns-in-Ok-clause-accounts c =

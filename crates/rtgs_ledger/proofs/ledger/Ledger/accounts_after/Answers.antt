@@ -1,27 +1,23 @@
-use Rattle.std.proofs.Common.{◌≡◌, ◌∙◌, ◌+◌, ◌++◌, ◌∷◌, [], sym, ap, map, take, arith}
+use Rattle.std.proofs.Common.{◌≡◌, ◌∙◌, ◌+◌, ◌≤◌, ◌++◌, ◌∷◌, [], sym, ap, subst, map, take, length, arith}
 use Rattle.std.proofs.lemmas.List.{take_more, take_all}
-use Rattle.rtgs_book.specs.Lookup.{accounts}
+use Rattle.rtgs_book.specs.declared.limits.TheConstants.{MOST_QUEUED}
 use Rattle.rtgs_ledger.specs.Accounts.{after_order}
 use Rattle.rtgs_ledger.specs.Held.{Held}
-use Rattle.rtgs_ledger.specs.Records.{book_of}
 use Rattle.rtgs_ledger.specs.Resolving.{after_orders}
-use Rattle.rtgs_ledger.proofs.Settling.{all_after_none, all_after_more, near_none, near_more, near_is_small}
+use Rattle.rtgs_ledger.proofs.Settling.{AreNear, all_after_none, all_after_more, near_small, near_more, near_is_small}
 use Rattle.rtgs_ledger.proofs.ledger.Ledger.accounts_after.Goals as goal
 
 pub loop-order-init : goal.loop-order-init
-unfolding accounts
 loop-order-init c =
-    let r = c.self.inside.records in
-    let small = c.balances_are_small.ensures (book_of r) c.self.invariant.sound c.self.invariant.fits in
+    let same : c.in_ok-settled.settled.accounts ≡ c.args.self.now.core.accounts = c.in_ok-settled.ensures
+    ∙ ap (λ (h : Held). h.core.accounts) c.self.view_is in
     record {
-      accounts = c.in_ok-settled.ensures ∙ ap (λ (h : Held). h.accounts) c.self.view_is
-          ∙ all_after_none c.args.self.now.accounts;
-      near = rw c.in_ok-settled.ensures (near_none (book_of r) r.accounts.accounts c.self.invariant.balanced small);
+      count = ap length same;
+      done = λ small few. (
+        same ∙ all_after_none c.args.self.now.core.accounts,
+        subst (AreNear 0) (sym same) (near_small c.args.self.now.core.accounts small),
+      );
     }
-
-pub settle-requires : goal.settle-requires
-settle-requires c = near_is_small c.loop-order.order-index (omega arith) c.loop-order.settled.accounts
-    c.loop-order.invariant.near
 
 pub loop-order-preserved : goal.loop-order-preserved
 loop-order-preserved c =
@@ -32,14 +28,19 @@ loop-order-preserved c =
     ∙ ap (λ x. take i orders ++ x ∷ []) (sym c.order-item.is) in
     let amount = c.settle.ensures.amount in
     record {
-      accounts =
-          c.settle.ensures.accounts ∙ ap (map (after_order o)) c.loop-order.invariant.accounts
-          ∙ all_after_more (take i orders) o c.args.self.now.accounts
-          ∙ ap (λ os. map (after_orders os) c.args.self.now.accounts) (sym next);
-      near = rw c.settle.ensures.accounts (near_more i o amount.1 c.loop-order.settled.accounts
-          c.loop-order.invariant.near);
+      count = c.settle.ensures.count ∙ c.loop-order.invariant.count;
+      done = λ small few.
+          let so_far = c.loop-order.invariant.done small few in
+          let within : i ≤ MOST_QUEUED = (let test = c.loop-order-test.true in omega (arith, test, few)) in
+          let made = c.settle.ensures.accounts (near_is_small i within c.loop-order.settled.accounts so_far.1) in (
+            made ∙ ap (map (after_order o)) so_far.0
+                ∙ all_after_more (take i orders) o c.args.self.now.core.accounts
+                ∙ ap (λ os. map (after_orders os) c.args.self.now.core.accounts) (sym next),
+            subst (AreNear (i + 1)) (sym made) (near_more i o amount.1 c.loop-order.settled.accounts so_far.1),
+          );
     }
 
-pub returns : goal.returns
-returns c = c.loop-order.invariant.accounts ∙ ap (λ os. map (after_orders os) c.args.self.now.accounts)
+pub returns-clause-accounts : goal.returns-clause-accounts
+returns-clause-accounts c small few = (c.loop-order.invariant.done small few).0
+    ∙ ap (λ os. map (after_orders os) c.args.self.now.core.accounts)
     (take_all c.loop-order.order-index c.args.orders.now c.loop-order-test.false)

@@ -1,13 +1,27 @@
-use Rattle.std.proofs.Common.{◌∙◌, sym, ap}
+use Rattle.std.proofs.Common.{◌≡◌, ◌∙◌, sym, ap, subst, map, List, find, Some, None}
 use Rattle.std.specs.Option.{option_map}
-use Rattle.rtgs_ledger.specs.Accounts.{code_of}
+use Rattle.rtgs_book.specs.declared.book.Book.{Book}
+use Rattle.rtgs_book.specs.declared.participant.Participant.{Participant}
+use Rattle.rtgs_ledger.specs.Accounts.{code_of, participant_of}
+use Rattle.rtgs_ledger.specs.Held.{Held}
+use Rattle.rtgs_ledger.specs.Keys.{bears}
 use Rattle.rtgs_ledger.proofs.Keys.{code_of-bearer}
 use Rattle.rtgs_ledger.proofs.ledger.Ledger.code_of.Goals as goal
 
 pub returns-in-Some : goal.returns-in-Some
-returns-in-Some c = rw (← c.self.view_is) (ap (option_map code_of) c.in-Some.ensures
-    ∙ sym (code_of-bearer c.args.digest.now c.self.inside.records.accounts.accounts))
+returns-in-Some c book same =
+    let r = c.self.inside.records in
+    let own : map participant_of r.accounts.accounts ≡ book.participants =
+    ap (λ (h : Held). map participant_of h.core.accounts) c.self.view_is ∙ same in
+    ap (option_map code_of) (sym c.in-Some.is ∙ c.bearer.ensures)
+    ∙ sym (code_of-bearer c.args.digest.now r.accounts.accounts)
+    ∙ ap (λ (ps : List Participant). option_map (λ (p : Participant). p.code) (find (bears c.args.digest.now) ps)) own
 
 pub returns-in-None : goal.returns-in-None
-returns-in-None c = rw (← c.self.view_is) (ap (option_map code_of) c.in-None.ensures
-    ∙ sym (code_of-bearer c.args.digest.now c.self.inside.records.accounts.accounts))
+returns-in-None c book same =
+    let r = c.self.inside.records in
+    let own : map participant_of r.accounts.accounts ≡ book.participants =
+    ap (λ (h : Held). map participant_of h.core.accounts) c.self.view_is ∙ same in
+    ap (option_map code_of) (sym c.in-None.is ∙ c.bearer.ensures)
+    ∙ sym (code_of-bearer c.args.digest.now r.accounts.accounts)
+    ∙ ap (λ (ps : List Participant). option_map (λ (p : Participant). p.code) (find (bears c.args.digest.now) ps)) own

@@ -1,20 +1,22 @@
-use Rattle.rtgs_ledger.specs.declared.records.Records.{Records}
-use Rattle.rtgs_ledger.proofs.Kept.{loaded_kept}
+use Rattle.std.proofs.Common.{◌∙◌}
+use Rattle.rtgs_ledger.proofs.Loading.{of_a_book, rising, before, all_queued}
 use Rattle.rtgs_ledger.proofs.ledger.Ledger.load.Goals as goal
 
-pub invariant_of-result : goal.invariant_of-result
-invariant_of-result c =
-    let r : Records = record {
-      accounts = c.in_ok-accounts.accounts;
-      postings = c.in_ok-load.field-0;
-      orders = c.in_ok-load-2.field-0;
-      marks = c.into_vec.result;
-      day = c.args.book.day;
-    } in
-    loaded_kept c.args.book r (λ i. record c.args.book {
-      participants = c.in_ok-accounts.ensures.participants i;
-      postings = c.in_ok-load.ensures i;
-      orders = c.in_ok-load-2.ensures i;
-      marks = c.into_vec.ensures i;
-    })
-    c.in_ok-check.ensures.sound c.in_ok-check.ensures.fits c.in_ok-accounts.ensures.balanced
+pub load-requires : goal.load-requires
+load-requires c = of_a_book c.requires.0 c.args.core c.requires.1
+
+pub load-requires-2-clause-rising : goal.load-requires-2-clause-rising
+load-requires-2-clause-rising c = rising c.requires.0 c.args.core c.requires.1
+
+pub load-requires-2-clause-before : goal.load-requires-2-clause-before
+load-requires-2-clause-before c = before c.requires.0 c.args.core c.requires.1
+
+pub returns : goal.returns
+returns c = λ i. record {
+  accounts = c.load.ensures i;
+  queued = (c.in_ok-load.ensures.orders ∙ all_queued c.requires.0 c.args.core c.requires.1) i;
+  day = c.args.core.day;
+  next_posting = c.args.core.next_posting;
+  next_order = c.in_ok-load.ensures.next i;
+  next_mark = c.args.core.next_mark;
+}

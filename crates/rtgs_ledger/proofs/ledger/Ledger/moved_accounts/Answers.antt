@@ -1,6 +1,6 @@
 use Rattle.std.proofs.Common.{◌≡◌, ℕ, ℤ, ◌∙◌, ◌++◌, ◌∷◌, ◌+◌, ◌<◌, [], not, int_eq, List, length, get_or, map, drop}
 use Rattle.std.proofs.Common.{sym, ap, Vec, Global, arith}
-use Rattle.std.proofs.lemmas.List.{length-map, get_or-map, drop_all}
+use Rattle.std.proofs.lemmas.List.{get_or-map, drop_all}
 use Rattle.rtgs_book.specs.declared.order.Order.{Order}
 use Rattle.rtgs_book.specs.declared.account.Account.{Account}
 use Rattle.rtgs_ledger.specs.Held.{Held}
@@ -20,25 +20,24 @@ settled_at accounts xs orders settled i a d e f less here =
 
 pub bounds-settled-index : goal.bounds-settled-index
 bounds-settled-index c =
-    let settled : c.as_slice-settled.result.now ≡ map (after_orders c.args.orders.now) c.args.self.now.accounts =
-    c.as_slice-settled.ensures.value ∙ c.in_ok-settled.ensures in
-    let items : c.as_slice-account-items.result.now ≡ c.args.self.now.accounts = c.as_slice-account-items.ensures.value
-    ∙ ap (λ (h : Held). h.accounts) c.self.view_is in
-    let long = ap length settled ∙ length-map c.args.self.now.accounts (after_orders c.args.orders.now) in
-    omega (arith, ap length items, c.loop-index-test.true)
+    let items : c.as_slice-account-items.result.now ≡ c.args.self.now.core.accounts =
+    c.as_slice-account-items.ensures.value ∙ ap (λ (h : Held). h.core.accounts) c.self.view_is in
+    let long = ap length c.as_slice-settled.ensures.value ∙ c.in_ok-settled.ensures.count in
+    omega (arith, ap length items, long, c.loop-index-test.true)
 
 pub loop-index-preserved : goal.loop-index-preserved
-loop-index-preserved c =
+loop-index-preserved c small few =
     let orders = c.args.orders.now in
     let xs = c.as_slice-account-items.result.now in
     let i = c.loop-index.index in
     let a = c.account-item.result in
-    let settled : c.as_slice-settled.result.now ≡ map (after_orders orders) c.args.self.now.accounts =
-    c.as_slice-settled.ensures.value ∙ c.in_ok-settled.ensures in
-    let items : xs ≡ c.args.self.now.accounts = c.as_slice-account-items.ensures.value
-    ∙ ap (λ (h : Held). h.accounts) c.self.view_is in
+    let settled : c.as_slice-settled.result.now ≡ map (after_orders orders) c.args.self.now.core.accounts =
+    c.as_slice-settled.ensures.value ∙ c.in_ok-settled.ensures.accounts small few in
+    let items : xs ≡ c.args.self.now.core.accounts = c.as_slice-account-items.ensures.value
+    ∙ ap (λ (h : Held). h.core.accounts) c.self.view_is in
     let there : (d : Account) → get_or c.as_slice-settled.result.now i d
-    ≡ after_orders orders a = λ d. settled_at c.args.self.now.accounts xs orders c.as_slice-settled.result.now i a d
+    ≡ after_orders orders a = λ d. settled_at c.args.self.now.core.accounts xs orders c.as_slice-settled.result.now i a
+    d
     settled items c.loop-index-test.true c.account-item.is in
     let later = ap (λ (x : Account). x.balance) (there c.index-settled-index.result) in
     let test : c.ne.result ≡ does_move orders a = c.ne.ensures ∙ ap (λ (b : ℤ). not (int_eq a.balance b)) later in
@@ -50,17 +49,18 @@ loop-index-preserved c =
           (w.index-settled-index-then-ne.is ∙ there w.index-settled-index-then-ne.result) in
           ap (λ ys. ys ++ moved_accounts orders (drop (i + 1) xs)) new
           ∙ one_moves orders xs i a c.loop-index.moved.items c.loop-index-test.true c.account-item.is
-          c.loop-index.invariant (sym test ∙ w.if-ne.true)
+          (c.loop-index.invariant small few) (sym test ∙ w.if-ne.true)
       | else-ne w ↦
           ap (λ (v : Vec Account Global). v.items ++ moved_accounts orders (drop (i + 1) xs)) w.moved-is
           ∙ one_stays orders xs i a c.loop-index.moved.items c.loop-index-test.true c.account-item.is
-          c.loop-index.invariant (sym test ∙ w.if-ne.false)
+          (c.loop-index.invariant small few) (sym test ∙ w.if-ne.false)
     ]
 
 pub returns : goal.returns
-returns c =
-    let items : c.as_slice-account-items.result.now ≡ c.args.self.now.accounts = c.as_slice-account-items.ensures.value
-    ∙ ap (λ (h : Held). h.accounts) c.self.view_is in
+returns c small few =
+    let items : c.as_slice-account-items.result.now ≡ c.args.self.now.core.accounts =
+    c.as_slice-account-items.ensures.value
+    ∙ ap (λ (h : Held). h.core.accounts) c.self.view_is in
     all_done c.loop-index.moved.items _ _ (ap (moved_accounts c.args.orders.now)
     (drop_all c.loop-index.index c.as_slice-account-items.result.now c.loop-index-test.false))
-    c.loop-index.invariant ∙ ap (moved_accounts c.args.orders.now) items
+    (c.loop-index.invariant small few) ∙ ap (moved_accounts c.args.orders.now) items

@@ -1,10 +1,8 @@
-use Rattle.std.proofs.Common.{◌∙◌}
-use Rattle.rtgs_ledger.proofs.Telling.{index_is}
+use Rattle.std.proofs.Common.{◌∙◌, ap}
+use Rattle.rtgs_ledger.specs.Choosing.{payment_in}
+use Rattle.rtgs_ledger.specs.Held.{Held}
 use Rattle.rtgs_ledger.proofs.ledger.Ledger.payment_of.Goals as goal
 
 pub returns : goal.returns
-returns c = rw (← c.self.view_is) (λ i. record {
-  receiver = (c.index_of.ensures
-      ∙ index_is c.self.inside.records c.args.order.now.receiver) i;
-  amount = c.cents.ensures.value i;
-})
+returns c = (λ i. record { receiver = c.index_of.ensures i; amount = c.cents.ensures.value i })
+    ∙ ap (λ (h : Held). payment_in h.core c.args.order.now) c.self.view_is

@@ -1,3 +1,4 @@
+use Rattle.rtgs_book.specs.declared.command.Command.TheVariants as command
 use Rattle.std.proofs.Common.{◌≡◌, ◌∙◌, sym, nat_le, length, true, false, ◌&&◌, inr, refl, arith}
 use Rattle.std.proofs.lemmas.Bool.Decides.{nat_tests}
 use Rattle.std.specs.Str.{bytes_eq}
@@ -5,29 +6,31 @@ use Rattle.std.specs.List.{list_any}
 use Rattle.rtgs_book.specs.declared.answer.Known.TheVariants.{Nothing}
 use Rattle.rtgs_book.specs.declared.limits.TheConstants.{MOST_PARTICIPANTS}
 use Rattle.rtgs_ledger.specs.Accounts.{has_key}
-use Rattle.rtgs_ledger.specs.Records.{held_of}
-use Rattle.rtgs_ledger.proofs.Adding.{repeats, code_taken, key_taken, too_many, prepared_add, kept_with_room}
+use Rattle.rtgs_ledger.proofs.Adding.{repeats, code_taken, key_taken, too_many, prepared_add}
 use Rattle.rtgs_ledger.proofs.Kept.{participant_at, participant_none, prepared_repeat, any-participants}
 use Rattle.rtgs_ledger.proofs.Kept.{length-participants}
 use Rattle.rtgs_ledger.proofs.Lists.{and_true, and_left, and_right}
+use Rattle.rtgs_ledger.proofs.Whole.{held_of, whole, is_of_book, to_refused, to_prepared}
 use Rattle.rtgs_ledger.proofs.ledger.Ledger.prepare_add.Goals as goal
 use Rattle.rtgs_ledger.proofs.ledger.Ledger.prepare_add.Goals.{else-eq-via-then-eq+else-eq-2, else-eq-via-else-eq}
 
 pub returns-then-eq-2-clause-prepared : goal.returns-then-eq-2-clause-prepared
-returns-then-eq-2-clause-prepared c =
-    let r = c.self.inside.records in
+returns-then-eq-2-clause-prepared c book is =
+    let of = is_of_book book c.self.inside.records c.args.self.now c.self.view_is is in
+    let r = whole book c.self.inside.records in
     let found = sym c.get.ensures ∙ c.in-Some.is in
     let same = and_true (bytes_eq c.in-Some.found.participant.name c.args.name)
     (bytes_eq c.in-Some.found.participant.key c.args.key) (sym c.eq.ensures ∙ c.if-eq.true)
     (sym c.eq-then-eq.ensures ∙ c.if-eq-2.true) in
     let step = repeats (held_of r).content c.args.code c.args.name c.args.key c.in-Some.found.participant
-    (participant_at r c.self.invariant c.args.code c.in-Some.found found) same in
-    rw (← c.self.view_is, c.repeated.ensures.answer, c.repeated.ensures.change)
-    (prepared_repeat (held_of r) _ Nothing c.self.invariant step)
+    (participant_at r of.kept c.args.code c.in-Some.found found) same in
+    rw (c.repeated.ensures.answer, c.repeated.ensures.change) (to_prepared book c.self.inside.records
+    c.args.self.now.core of _ _ _ (prepared_repeat (held_of r) _ Nothing of.kept step))
 
 pub returns-in-Some-clause-refused : goal.returns-in-Some-clause-refused
-returns-in-Some-clause-refused c =
-    let r = c.self.inside.records in
+returns-in-Some-clause-refused c book is =
+    let of = is_of_book book c.self.inside.records c.args.self.now c.self.view_is is in
+    let r = whole book c.self.inside.records in
     let found = sym c.get.ensures ∙ c.in-Some.is in
     let other : (bytes_eq c.in-Some.found.participant.name c.args.name && bytes_eq c.in-Some.found.participant.key
     c.args.key) ≡ false = elim c.else-eq.branch [
@@ -36,46 +39,50 @@ returns-in-Some-clause-refused c =
       | else-eq-via-else-eq w ↦ and_left (bytes_eq c.in-Some.found.participant.name c.args.name)
           (bytes_eq c.in-Some.found.participant.key c.args.key) (sym c.eq.ensures ∙ w.if-eq.false)
     ] in
-    rw (← c.self.view_is) (inr (
+    to_refused book c.self.inside.records c.args.self.now.core of (command.Add c.args.code c.args.name c.args.key) _
+    (inr (
       code_taken (held_of r).content c.args.code c.args.name c.args.key
-          c.in-Some.found.participant (participant_at r c.self.invariant c.args.code c.in-Some.found found) other,
+          c.in-Some.found.participant (participant_at r of.kept c.args.code c.in-Some.found found) other,
       refl,
     ))
 
 pub returns-then-has_key-clause-refused : goal.returns-then-has_key-clause-refused
-returns-then-has_key-clause-refused c =
-    let r = c.self.inside.records in
+returns-then-has_key-clause-refused c book is =
+    let of = is_of_book book c.self.inside.records c.args.self.now c.self.view_is is in
+    let r = whole book c.self.inside.records in
     let absent = sym c.get.ensures ∙ c.in_default.is in
-    rw (← c.self.view_is) (inr (
+    to_refused book c.self.inside.records c.args.self.now.core of (command.Add c.args.code c.args.name c.args.key) _
+    (inr (
       key_taken (held_of r).content c.args.code c.args.name c.args.key
-          (participant_none r c.self.invariant c.args.code absent)
+          (participant_none r of.kept c.args.code absent)
           (any-participants c.args.key r.accounts.accounts ∙ sym c.has_key.ensures ∙ c.if-has_key.true),
       refl,
     ))
 
 pub returns-then-len-ge-MOST_PARTICIPANTS-clause-refused : goal.returns-then-len-ge-MOST_PARTICIPANTS-clause-refused
-returns-then-len-ge-MOST_PARTICIPANTS-clause-refused c =
-    let r = c.self.inside.records in
+returns-then-len-ge-MOST_PARTICIPANTS-clause-refused c book is =
+    let of = is_of_book book c.self.inside.records c.args.self.now c.self.view_is is in
+    let r = whole book c.self.inside.records in
     let absent = sym c.get.ensures ∙ c.in_default.is in
     let many : nat_le MOST_PARTICIPANTS (length r.accounts.accounts)
     ≡ true = grind (arith, nat_tests, c.len.ensures, c.if-len-ge-MOST_PARTICIPANTS.true) in
-    rw (← c.self.view_is) (inr (
+    to_refused book c.self.inside.records c.args.self.now.core of (command.Add c.args.code c.args.name c.args.key) _
+    (inr (
       too_many (held_of r).content c.args.code c.args.name c.args.key
-          (participant_none r c.self.invariant c.args.code absent)
+          (participant_none r of.kept c.args.code absent)
           (any-participants c.args.key r.accounts.accounts ∙ sym c.has_key.ensures ∙ c.if-has_key.false)
           (rw (length-participants r.accounts.accounts) many),
       refl,
     ))
 
 pub returns-clause-prepared : goal.returns-clause-prepared
-returns-clause-prepared c =
-    let r = c.self.inside.records in
-    let same = c.reserve.ensures.same in
+returns-clause-prepared c book is =
+    let of = is_of_book book c.self.inside.records c.args.self.now c.self.view_is is in
+    let r = whole book c.self.inside.records in
     let absent = sym c.get.ensures ∙ c.in_default.is in
     let few : nat_le MOST_PARTICIPANTS (length r.accounts.accounts)
     ≡ false = grind (arith, nat_tests, c.len.ensures, c.if-len-ge-MOST_PARTICIPANTS.false) in
     let free : list_any (has_key c.args.key) r.accounts.accounts ≡ false = sym c.has_key.ensures ∙ c.if-has_key.false in
-    let room = c.in_ok-reserve.ensures.ok in
-    rw (c.from_vec.ensures, c.in_ok-rows.ensures.items) (prepared_add (record r { accounts = c.reserve.new.self })
-    (kept_with_room r c.self.invariant c.reserve.new.self same) c.args.code c.args.name c.args.key (rw same absent)
-    c.step_keeps_ranges.ensures c.step_keeps_soundness.ensures (rw same free) (rw same few) room)
+    rw (c.from_vec.ensures, c.in_ok-rows.ensures.items) (to_prepared book c.self.inside.records c.args.self.now.core of
+    _ _ _ (prepared_add r of.kept c.args.code c.args.name c.args.key absent c.step_keeps_ranges.ensures
+    c.step_keeps_soundness.ensures free few))

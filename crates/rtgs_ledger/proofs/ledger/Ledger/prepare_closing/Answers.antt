@@ -1,39 +1,56 @@
-use Rattle.std.proofs.Common.{◌≡◌, ◌∙◌, sym, ap, subst, filter, length, inr, refl}
+use Rattle.rtgs_book.specs.declared.command.Command.TheVariants as command
+use Rattle.std.proofs.Common.{◌≡◌, ◌∙◌, ◌∷◌, [], sym, ap, subst, filter, length, inr, refl}
 use Rattle.std.specs.List.{flat_map}
+use Rattle.rtgs_book.specs.declared.account.Account.{Account}
+use Rattle.rtgs_book.specs.declared.book.Book.{Book}
+use Rattle.rtgs_book.specs.declared.change.RowChange.TheVariants.{SetDay}
+use Rattle.rtgs_book.specs.declared.order_state.OrderState.TheVariants.{Rejected}
 use Rattle.rtgs_book.specs.Books.{is_queued}
 use Rattle.rtgs_book.specs.Lookup.{accounts}
 use Rattle.rtgs_book.specs.Queue.{queued_numbers}
-use Rattle.rtgs_ledger.specs.Held.{Held}
-use Rattle.rtgs_ledger.specs.Records.{held_of, book_of}
-use Rattle.rtgs_ledger.proofs.Closing.{IsClosable, closable, overdraws, nobody_below, prepared_closing}
+use Rattle.rtgs_ledger.specs.Accounts.{code_of}
+use Rattle.rtgs_ledger.specs.Closing.{IsClosable}
+use Rattle.rtgs_ledger.specs.Held as seen
+use Rattle.rtgs_ledger.proofs.Closing.{overdraws, nobody_below, prepared_closing, all_queued, numbers_queued}
+use Rattle.rtgs_ledger.proofs.Rooms.{room_for_states}
+use Rattle.rtgs_ledger.proofs.Whole.{held_of, book_of, whole, is_of_book, to_refused, to_prepared}
 use Rattle.rtgs_ledger.proofs.ledger.Ledger.prepare_closing.Goals as goal
 
 pub returns-in-Some-clause-refused : goal.returns-in-Some-clause-refused
-returns-in-Some-clause-refused c =
-    let r = c.self.inside.records in
-    let at = subst (λ (h : Held). IsClosable h.content c.args.date) (sym c.self.view_is)
-    (closable c.args.self.now.content c.args.date c.requires.cut_off c.requires.dated c.requires.nothing) in
-    rw (← c.self.view_is, c.overdrawn.ensures) (inr (
-      overdraws r c.self.invariant c.args.date at c.in-Some.account
+returns-in-Some-clause-refused c book is can =
+    let of = is_of_book book c.self.inside.records c.args.self.now c.self.view_is is in
+    let r = whole book c.self.inside.records in
+    let at = subst (λ (b : Book). IsClosable b c.args.date) (sym of.same) can in
+    rw c.overdrawn.ensures (to_refused book c.self.inside.records c.args.self.now.core of
+    (command.CloseDay c.args.date) _ (inr (
+      overdraws r of.kept c.args.date at c.in-Some.account
           (sym c.first_overdrawn.ensures ∙ c.in-Some.is),
       refl,
-    ))
+    )))
+
+pub returns-clause-room : goal.returns-clause-room
+returns-clause-room c = rw (c.from_vec.ensures, c.in_ok-rows.ensures)
+    (room_for_states Rejected refl c.as_slice.result.now _
+    (SetDay _ ∷ []) (λ after same. (tt, tt)))
 
 pub returns-clause-prepared : goal.returns-clause-prepared
-returns-clause-prepared c =
-    let r = c.self.inside.records in
-    let book = book_of r in
-    let at = subst (λ (h : Held). IsClosable h.content c.args.date) (sym c.self.view_is)
-    (closable c.args.self.now.content c.args.date c.requires.cut_off c.requires.dated c.requires.nothing) in
-    let covered = nobody_below r c.self.invariant (sym c.first_overdrawn.ensures ∙ c.in_default.is) in
-    let numbers : c.in_ok-numbers.numbers.items ≡ flat_map (queued_numbers book.orders) (accounts book) =
-    c.in_ok-numbers.ensures ∙ ap (λ (h : Held). flat_map (queued_numbers h.content.orders) (accounts h.content))
-    (sym c.self.view_is) in
-    let sound = let k = c.self.invariant in k.sound in
-    let count : c.len-rejected.result ≡ length (filter is_queued book.orders) = c.len-rejected.ensures
-    ∙ c.in_ok-numbers.numbers.ok.0 ∙ ap length numbers ∙ sym (c.queued_are_numbered.ensures.count book sound) in
-    rw (← c.self.view_is, c.from_vec.ensures, c.in_ok-rows.ensures, c.as_slice.ensures.value, numbers, count)
-    (prepared_closing (held_of r) c.self.invariant c.balance_after_restating.ensures c.step_keeps_ranges.ensures
+returns-clause-prepared c book is can =
+    let of = is_of_book book c.self.inside.records c.args.self.now c.self.view_is is in
+    let r = whole book c.self.inside.records in
+    let here = book_of r in
+    let at = subst (λ (b : Book). IsClosable b c.args.date) (sym of.same) can in
+    let covered = nobody_below r of.kept (sym c.first_overdrawn.ensures ∙ c.in_default.is) in
+    let numbers : c.in_ok-numbers.numbers.items ≡ flat_map (queued_numbers here.orders) (accounts here) =
+    c.in_ok-numbers.ensures
+    ∙ ap (λ (h : seen.Held). flat_map (λ (a : Account). queued_numbers h.core.queued (code_of a)) h.core.accounts)
+    (sym c.self.view_is)
+    ∙ numbers_queued book.orders c.self.inside.records.orders.orders r.accounts.accounts of.queued ∙ all_queued r in
+    let count : c.len-rejected.result ≡ length (filter is_queued here.orders) = c.len-rejected.ensures
+    ∙ c.in_ok-numbers.numbers.ok.0 ∙ ap length numbers
+    ∙ sym (c.queued_are_numbered.ensures.count here of.kept.sound) in
+    rw (c.from_vec.ensures, c.in_ok-rows.ensures, c.as_slice.ensures.value, numbers, count)
+    (to_prepared book c.self.inside.records c.args.self.now.core of _ _ _
+    (prepared_closing (held_of r) of.kept c.balance_after_restating.ensures c.step_keeps_ranges.ensures
     c.args.date
-    (c.rows_close.ensures.step book at.choice c.args.date at.cut at.same at.greatest at.none covered)
-    (c.rows_close.ensures.change book at.choice c.args.date sound at.cut at.same at.greatest at.none covered))
+    (c.rows_close.ensures.step here at.choice c.args.date at.cut at.same at.greatest at.none covered)
+    (c.rows_close.ensures.change here at.choice c.args.date of.kept.sound at.cut at.same at.greatest at.none covered)))

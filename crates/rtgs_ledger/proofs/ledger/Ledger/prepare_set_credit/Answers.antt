@@ -1,36 +1,41 @@
+use Rattle.rtgs_book.specs.declared.command.Command.TheVariants as command
 use Rattle.std.proofs.Common.{◌∙◌, sym, inr, refl}
-use Rattle.rtgs_ledger.specs.Records.{held_of, book_of}
 use Rattle.rtgs_ledger.proofs.Kept.{is_known, is_unknown, balance_at}
 use Rattle.rtgs_ledger.proofs.Crediting.{unknown, no_cover, prepared_credit}
+use Rattle.rtgs_ledger.proofs.Whole.{held_of, book_of, whole, is_of_book, to_refused, to_prepared}
 use Rattle.rtgs_ledger.proofs.ledger.Ledger.prepare_set_credit.Goals as goal
 
 pub returns-in_default-clause-refused : goal.returns-in_default-clause-refused
-returns-in_default-clause-refused c =
-    rw (← c.self.view_is) (inr (
-      unknown (book_of c.self.inside.records) c.args.code c.args.credit
-          (is_unknown c.self.inside.records c.self.invariant c.args.code (sym c.get.ensures ∙ c.in_default.is)),
+returns-in_default-clause-refused c book is =
+    let r = c.self.inside.records in
+    let of = is_of_book book r c.args.self.now c.self.view_is is in
+    to_refused book r c.args.self.now.core of (command.SetCredit c.args.code c.args.credit) _ (inr (
+      unknown (book_of (whole book r)) c.args.code c.args.credit
+          (is_unknown (whole book r) of.kept c.args.code (sym c.get.ensures ∙ c.in_default.is)),
       refl,
     ))
 
 pub returns-then-is_past_limit-clause-refused : goal.returns-then-is_past_limit-clause-refused
-returns-then-is_past_limit-clause-refused c =
+returns-then-is_past_limit-clause-refused c book is =
     let r = c.self.inside.records in
+    let of = is_of_book book r c.args.self.now c.self.view_is is in
     let found = sym c.get.ensures ∙ c.in-Some.is in
-    let past = rw (balance_at r c.self.invariant c.args.code c.in-Some.account found) at
+    let past = rw (balance_at (whole book r) of.kept c.args.code c.in-Some.account found) at
     (sym c.is_past_limit.ensures.value ∙ c.if-is_past_limit.true) in
-    rw (← c.self.view_is) (inr (
-      no_cover (book_of r) c.args.code c.args.credit
-          (is_known r c.self.invariant c.args.code c.in-Some.account found) past,
+    to_refused book r c.args.self.now.core of (command.SetCredit c.args.code c.args.credit) _ (inr (
+      no_cover (book_of (whole book r)) c.args.code c.args.credit
+          (is_known (whole book r) of.kept c.args.code c.in-Some.account found) past,
       refl,
     ))
 
 pub returns-clause-prepared : goal.returns-clause-prepared
-returns-clause-prepared c =
+returns-clause-prepared c book is =
     let r = c.self.inside.records in
+    let of = is_of_book book r c.args.self.now c.self.view_is is in
     let found = sym c.get.ensures ∙ c.in-Some.is in
-    let within = rw (balance_at r c.self.invariant c.args.code c.in-Some.account found) at
+    let within = rw (balance_at (whole book r) of.kept c.args.code c.in-Some.account found) at
     (sym c.is_past_limit.ensures.value ∙ c.if-is_past_limit.false) in
-    rw (← c.self.view_is, c.from_vec.ensures, c.in_ok-rows.ensures.items)
-    (prepared_credit (held_of r) c.self.invariant c.args.code c.args.credit c.step_keeps_ranges.ensures
+    rw (c.from_vec.ensures, c.in_ok-rows.ensures.items) (to_prepared book r c.args.self.now.core of _ _ _
+    (prepared_credit (held_of (whole book r)) of.kept c.args.code c.args.credit c.step_keeps_ranges.ensures
     c.step_keeps_soundness.ensures c.is_past_limit.ensures.fits
-    (is_known r c.self.invariant c.args.code c.in-Some.account found) within)
+    (is_known (whole book r) of.kept c.args.code c.in-Some.account found) within))

@@ -1,62 +1,59 @@
-use Rattle.std.proofs.Common.{◌≡◌, ◌∙◌, [], ◌∷◌, sym, ap, subst, length, true, refl, arith}
+use Rattle.std.proofs.Common.{◌≡◌, ◌∙◌, ◌<◌, ◌^◌, [], ◌∷◌, sym, ap, subst, true, pos, ◌+ℤ◌, ◌-ℤ◌, find, Some, refl}
+use Rattle.std.proofs.Common.{arith}
 use Rattle.std.proofs.lemmas.Int.{ints}
+use Rattle.std.proofs.lemmas.Bool.Decides.{nat_tests}
+use Rattle.rtgs_book.specs.declared.book.Book.{Book}
 use Rattle.rtgs_book.specs.Commands.{settles_at_once}
-use Rattle.rtgs_book.specs.Lookup.{order_named}
 use Rattle.rtgs_book.specs.Settle.{mark_of}
 use Rattle.rtgs_ledger.specs.Held.{Held}
+use Rattle.rtgs_ledger.specs.Accounts.{is_of}
 use Rattle.rtgs_ledger.specs.Ordering.{IsTaken}
-use Rattle.rtgs_ledger.specs.Records.{held_of, book_of}
-use Rattle.rtgs_ledger.proofs.Kept.{balance_fits, kept_same}
+use Rattle.rtgs_ledger.proofs.Kept.{balance_fits}
 use Rattle.rtgs_ledger.proofs.Ordering.{prepared_settled, one_mark}
+use Rattle.rtgs_ledger.proofs.Whole.{held_of, book_of, whole, is_of_book, to_prepared, marks_are_counted}
 use Rattle.rtgs_ledger.proofs.ledger.Ledger.prepare_settled.Goals as goal
 
-pub balance_less-debited-requires : goal.balance_less-debited-requires
-balance_less-debited-requires c =
-    let r = c.self.inside.records in
-    let kept = c.self.invariant in
-    let fits = balance_fits r kept (c.balances_are_small.ensures (book_of r) kept.sound kept.fits)
-    c.args.order.now.sender c.args.debtor.now (rw (← c.self.view_is) at c.requires.debtor) in
-    let low = fits.0 in
-    let high = fits.1 in
-    let amount = c.requires.taken.fits.1 in
-    omega (arith, ints)
-
-pub balance_more-credited-requires : goal.balance_more-credited-requires
-balance_more-credited-requires c =
-    let r = c.self.inside.records in
-    let kept = c.self.invariant in
-    let fits = balance_fits r kept (c.balances_are_small.ensures (book_of r) kept.sound kept.fits)
-    c.args.order.now.receiver c.args.creditor.now (rw (← c.self.view_is) at c.requires.creditor) in
-    let low = fits.0 in
-    let high = fits.1 in
-    let amount = c.requires.taken.fits.1 in
-    omega (arith, ints)
-
-pub reserve-requires : goal.reserve-requires
-unfolding order_named
-reserve-requires c = rw (← c.self.view_is) at c.requires.taken.unused
+pub returns-then-not-counts_marks-clause-refused : goal.returns-then-not-counts_marks-clause-refused
+returns-then-not-counts_marks-clause-refused c book is =
+    let of = is_of_book book c.self.inside.records c.args.self.now c.self.view_is is in
+    let counted = c.counts_marks.ensures.1 (marks_are_counted book c.self.inside.records c.args.self.now.core of) in
+    let test = c.if-not-counts_marks.true in
+    absurd (grind (arith, nat_tests, counted, test))
 
 pub returns-clause-prepared : goal.returns-clause-prepared
 unfolding mark_of
-returns-clause-prepared c =
+returns-clause-prepared c book is taken settles from to =
     let r = c.self.inside.records in
+    let of = is_of_book book r c.args.self.now c.self.view_is is in
+    let w = whole book r in
     let o = c.args.order.now in
-    let new : Held = held_of (record r { orders = c.reserve.new.self; marks = c.reserve-2.new.self }) in
-    let same : new.content ≡ book_of r = λ i. record (book_of r) {
-      orders = c.reserve.ensures.same i;
-      marks = c.reserve-2.ensures.items i;
-    } in
-    let here : new.content ≡ c.args.self.now.content = same ∙ ap (λ (h : Held). h.content) c.self.view_is in
-    let taken : IsTaken new.content o = subst (λ b. IsTaken b o) (sym here) c.requires.taken in
-    let settles = subst (λ b. settles_at_once b o.sender o.amount ≡ true) (sym here) c.requires.settles in
-    let number : length r.marks.items ≡ length new.content.marks = ap length (sym c.reserve-2.ensures.items) in
-    let mark : c.next_mark-mark.result ≡ mark_of new.content (o ∷ []) = c.next_mark-mark.ensures
-    ∙ rw (number, one_mark new.content o taken.next) refl in
-    let from = rw (← c.self.view_is) at c.requires.debtor in
-    let to = rw (← c.self.view_is) at c.requires.creditor in
-    rw (c.from_vec.ensures, c.in_ok-rows.ensures, mark)
-    (prepared_settled new (kept_same (held_of r) new same refl c.self.invariant) o taken c.args.debtor.now
-    c.args.creditor.now from to c.balance_less-debited.result c.balance_more-credited.result
-    c.balance_less-debited.ensures c.balance_more-credited.ensures
-    c.step_keeps_ranges.ensures c.step_keeps_soundness.ensures settles c.in_ok-reserve.ensures.room
-    c.in_ok-reserve.ensures.awaited (let l = c.in_ok-reserve-2.ensures.ok in omega arith))
+    let debtor = c.args.debtor.now in
+    let creditor = c.args.creditor.now in
+    let taken_here : IsTaken (book_of w) o = subst (λ (b : Book). IsTaken b o) (sym of.same) taken in
+    let settles_here = subst (λ (b : Book). settles_at_once b o.sender o.amount ≡ true) (sym of.same) settles in
+    let from_here : find (is_of o.sender) r.accounts.accounts ≡ Some debtor = rw of.accounts from in
+    let to_here : find (is_of o.receiver) r.accounts.accounts ≡ Some creditor = rw of.accounts to in
+    let small = c.balances_are_small.ensures (book_of w) of.kept.sound of.kept.fits in
+    let debtor_fits = balance_fits w of.kept small o.sender debtor from_here in
+    let creditor_fits = balance_fits w of.kept small o.receiver creditor to_here in
+    let amount = taken.fits.1 in
+    let less : c.with_less-debited.result ≡ debtor.balance -ℤ pos o.amount = c.with_less-debited.ensures
+    (let low = debtor_fits.0 in let high = debtor_fits.1 in omega (arith, ints)) in
+    let more : c.with_more-credited.result ≡ creditor.balance +ℤ pos o.amount = c.with_more-credited.ensures
+    (let low = creditor_fits.0 in let high = creditor_fits.1 in omega (arith, ints)) in
+    let mark : c.next_mark-mark.result ≡ mark_of (book_of w) (o ∷ []) = c.next_mark-mark.ensures
+    ∙ rw (of.marks, one_mark (book_of w) o taken_here.next) refl in
+    rw (c.from_vec.ensures, c.in_ok-rows.ensures, mark) (to_prepared book r c.args.self.now.core of _ _ _
+    (prepared_settled (held_of w) of.kept o taken_here debtor creditor from_here to_here
+    c.with_less-debited.result c.with_more-credited.result less more
+    c.step_keeps_ranges.ensures c.step_keeps_soundness.ensures settles_here))
+
+pub returns-clause-room : goal.returns-clause-room
+returns-clause-room c =
+    let counted = c.counts_marks.ensures.0 (let test = c.if-not-counts_marks.false in grind (arith, nat_tests, test)) in
+    let mark : c.args.self.now.core.next_mark < 2 ^ 63 = subst (λ n. n < 2 ^ 63)
+    (ap (λ (h : Held). h.core.next_mark) c.self.view_is) (omega (arith, counted)) in
+    rw (c.from_vec.ensures, c.in_ok-rows.ensures) (
+      (c.requires.number, c.requires.few, λ e. absurd (cc)),
+      (mark, (tt, (tt, tt))),
+    )

@@ -1,0 +1,51 @@
+use Rattle.std.proofs.Common.{sym, subst, Some}
+use Rattle.rtgs_book.specs.declared.Refusal.{Refusal}
+use Rattle.rtgs_desk.specs.LookUps.{LooksUp}
+use Rattle.rtgs_desk.proofs.HoldingLemmas.{kept_inside}
+use Rattle.rtgs_desk.proofs.LookUpLemmas.{failed_before, looked_up, not_looked_up}
+use Rattle.rtgs_desk.proofs.desk.Desk.find_order.Goals as goal
+
+pub returns-then-self-clause-looked : goal.returns-then-self-clause-looked
+returns-then-self-clause-looked g c = failed_before g.K.Keeper c.self.inside.keeper c.self.inside.ledger.core
+    c.args.self.now c.self.inside.failed c.self.view_is c.self.invariant c.if-self.true
+
+pub returns-in-Ok-clause-looked : goal.returns-in-Ok-clause-looked
+returns-in-Ok-clause-looked g c = looked_up g.K.Keeper
+    (record { settled = g.met.K.Keeper.settled; whole = g.met.K.Keeper.whole })
+    c.self.inside.keeper c.find_order.new.self c.self.inside.ledger.core c.args.self.now c.self.inside.failed
+        c.find_order.result
+    c.self.view_is c.self.invariant c.if-self.false
+    (record {
+      honest = c.find_order.ensures.honest;
+      same = c.find_order.ensures.same;
+      stops = c.find_order.ensures.stops;
+      whole = c.find_order.ensures.whole;
+      kinds = c.find_order.ensures.kinds;
+      fault = c.find_order.ensures.fault;
+      only_fault = c.find_order.ensures.only_fault;
+    })
+    c.in-Ok.found c.in-Ok.is
+
+pub returns-in-Ok-clause-found : goal.returns-in-Ok-clause-found
+returns-in-Ok-clause-found g c honest book held = c.in-Ok.ensures.found honest book
+    (kept_inside g.K.Keeper c.self.inside.keeper c.self.inside.ledger.core c.args.self.now book c.self.view_is held)
+
+pub returns-in-Err-clause-looked : goal.returns-in-Err-clause-looked
+returns-in-Err-clause-looked g c = subst
+    (λ (r : Refusal). LooksUp g.K.Keeper c.args.self.now
+    (record { keeper = c.find_order.new.self; core = c.self.inside.ledger.core }) (Some r)) (sym
+        c.refused.ensures.refusal)
+    (not_looked_up g.K.Keeper (record { settled = g.met.K.Keeper.settled; whole = g.met.K.Keeper.whole })
+    c.self.inside.keeper c.find_order.new.self c.self.inside.ledger.core c.args.self.now c.self.inside.failed
+        c.find_order.result
+    c.self.view_is c.self.invariant c.if-self.false
+    (record {
+      honest = c.find_order.ensures.honest;
+      same = c.find_order.ensures.same;
+      stops = c.find_order.ensures.stops;
+      whole = c.find_order.ensures.whole;
+      kinds = c.find_order.ensures.kinds;
+      fault = c.find_order.ensures.fault;
+      only_fault = c.find_order.ensures.only_fault;
+    })
+    c.in-Err.fault c.in-Err.is)

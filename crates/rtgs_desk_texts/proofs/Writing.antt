@@ -1,0 +1,64 @@
+-- What a writer holds after a text.
+use Rattle.std.proofs.Common.{◌≡◌, ◌<◌, ◌⊎◌, ◌++◌, ℕ, [], List, length, Option, Some, None, Result, Ok, Err, OnOk, OnErr}
+use Rattle.std.proofs.Common.{IfSome, IfErr, refl, sym, ap, subst, inl, inr}
+use Rattle.std.proofs.lemmas.List.{append-nil}
+use Rattle.std.specs.Prelude.{⊤}
+use Rattle.std.specs.Io.KnownBytes.{Appends}
+use Rattle.rtgs_book.specs.declared.Participant.{Participant}
+use Rattle.rtgs_book.specs.declared.Refusal.{Refusal}
+use Rattle.rtgs_book.specs.declared.Refusal.TheVariants.{OutOfMemory, StoreFault, UnknownParticipant}
+use Rattle.serde_json.specs.Data.{Data}
+use Rattle.rtgs_desk.specs.Readings.{Tells, Finds, if_known}
+use Rattle.rtgs_output.specs.Sent.{AppendsPart}
+use Rattle.rtgs_statements.specs.Reads.{read_refused_by}
+use Rattle.rtgs_statements.specs.declared.BookTextFault.{BookTextFault}
+use Rattle.rtgs_statements.specs.declared.BookTextFault.TheVariants.{Refused, Text}
+use Rattle.rtgs_desk_texts.specs.Readings.{json_line}
+use Rattle.rtgs_desk_texts.specs.Written.{Writes}
+
+appends-none : (old : Option (List ℕ)) → Appends old old []
+appends-none None = tt
+appends-none (Some bytes) = sym (append-nil bytes)
+
+module _ {X : Type 0} (old : Option (List ℕ)) (text : List ℕ) (account : Participant → X) where
+  -- an account that was refused
+  pub refused_account : (known : Option Participant) (refusal : Refusal) → 0 < length text
+      → Tells {X = X} {Y = X} (λ a. a) (if_known known (λ p. Ok (account p))) (Err refusal)
+      → Writes old (if_known known (λ p. Ok text)) (Err (Refused refusal)) old
+  refused_account None refusal some told =
+      let same : refusal ≡ UnknownParticipant = cc in (ap (λ r. Err (Refused r)) same, refl)
+  refused_account (Some p) refusal some told = (inl told, (0, some, appends-none old))
+
+  -- an account that was told
+  pub known_account : (known : Option Participant) (a : X) (result : Result ⊤ BookTextFault) (new : Option (List ℕ))
+      → Tells {X = X} {Y = X} (λ a. a) (if_known known (λ p. Ok (account p))) (Ok a) → Writes old (Ok text) result new
+      → Writes old (if_known known (λ p. Ok text)) result new
+  known_account None a result new told writes = let no : ⊥ = cc in absurd no
+  known_account (Some p) a result new told writes = writes
+
+pub written : (old new : Option (List ℕ)) (text : List ℕ) (result : Result ⊤ BookTextFault)
+    → OnOk result (Appends old new text) → OnErr result (AppendsPart old new text)
+    → IfSome (read_refused_by result) (λ refusal. (refusal ≡ OutOfMemory) ⊎ (refusal ≡ StoreFault))
+    → Writes old (Ok text) result new
+written old new text (Ok done) whole part kinds = whole
+written old new text (Err (Refused refusal)) whole part kinds = (kinds, part)
+written old new text (Err (Text fault)) whole part kinds = part
+
+-- what is said of a refusal is said of this one
+pub refusal_says : {V P : Type 0} (result : Result V BookTextFault) (refusal : Refusal)
+    → IfErr result (λ fault. fault ≡ Refused refusal → P) → result ≡ Err (Refused refusal) → P
+refusal_says (Ok v) refusal says is = let no : ⊥ = cc in absurd no
+refusal_says (Err fault) refusal says is = says cc
+
+-- an order that was not found
+pub refused_order : {X V F : Type 0} (text_of : V → List ℕ) (value_of : X → Data) (told : Result X Refusal)
+    (refusal : Refusal) → Finds told (Err refusal) → (◌≡◌ {A = Result X Refusal} (Err refusal) (Err StoreFault) → F)
+    → Tells text_of (json_line value_of told) (Err refusal)
+    ⊎ (◌≡◌ {A = Result V Refusal} (Err refusal) (Err OutOfMemory)
+    ⊎ (F × ◌≡◌ {A = Result V Refusal} (Err refusal) (Err StoreFault)))
+refused_order text_of value_of (Ok x) refusal (inl is) fault = let no : ⊥ = cc in absurd no
+refused_order text_of value_of (Err other) refusal (inl is) fault = let same : refusal ≡ other = cc in inl (ap Err same)
+refused_order text_of value_of told refusal (inr (inl is)) fault =
+    let same : refusal ≡ OutOfMemory = cc in inr (inl (ap Err same))
+refused_order text_of value_of told refusal (inr (inr is)) fault =
+    let same : refusal ≡ StoreFault = cc in inr (inr (fault is, ap Err same))

@@ -1,0 +1,65 @@
+-- A book of participants alone is sound.
+use Rattle.std.proofs.Common.{◌≡◌, ◌≤◌, Bool, true, false, List, [], ◌∷◌, map, length, refl, sym, ap, subst, arith}
+use Rattle.std.proofs.Common.{ℕ, ℤ, pos, ◌≤ℤ◌}
+use Rattle.std.proofs.lemmas.Int.{ints}
+use Rattle.std.proofs.lemmas.List.{length-map}
+use Rattle.std.specs.List.{AllByRecursion, IsDistinct}
+use Rattle.std.specs.Str.{bytes_eq}
+use Rattle.rtgs_book.specs.declared.account.Account.{Account}
+use Rattle.rtgs_book.specs.declared.limits.TheConstants.{LONGEST_QUEUE, LARGEST_TOTAL, MOST_PARTICIPANTS}
+use Rattle.rtgs_book.specs.declared.participant.Participant.{Participant}
+use Rattle.rtgs_book.specs.Balance.{balance, floor, total}
+use Rattle.rtgs_book.specs.IntSum.{int_sum_by}
+use Rattle.rtgs_book.specs.Lookup.{accounts}
+use Rattle.rtgs_book.specs.Queue.{queue}
+use Rattle.rtgs_book.specs.Soundness.{IsSound}
+use Rattle.rtgs_ledger.specs.Accounts.{AreInCodeOrder, AreOfABook, participant_of, code_of, key_of}
+use Rattle.rtgs_ledger.specs.Alone.{book_of}
+use Rattle.rtgs_ledger.proofs.Lists.{every}
+
+codes_are : (xs : List Account) → map (λ (p : Participant). p.code) (map participant_of xs) ≡ map code_of xs
+codes_are [] = refl
+codes_are (x ∷ xs) = ap (λ cs. code_of x ∷ cs) (codes_are xs)
+
+keys_are : (xs : List Account) → map (λ (p : Participant). p.key) (map participant_of xs) ≡ map key_of xs
+keys_are [] = refl
+keys_are (x ∷ xs) = ap (λ ks. key_of x ∷ ks) (keys_are xs)
+
+nothing : (ps : List Participant) (codes : List (List ℕ)) → int_sum_by (balance (book_of ps)) codes ≡ pos 0
+unfolding balance
+nothing ps [] = refl
+nothing ps (c ∷ codes) = let rest = nothing ps codes in omega (arith, ints, rest)
+
+pub sound_alone : (xs : List Account) → AreOfABook xs → IsSound (book_of (map participant_of xs))
+unfolding accounts balance floor total queue IsDistinct
+sound_alone xs of = record {
+  orders_numbered = (refl, omega arith);
+  postings_numbered = (refl, omega arith);
+  marks_numbered = (refl, omega arith);
+  codes_rise = rw (codes_are xs) (of.ordered, rw (length-map xs code_of) of.few);
+  keys_distinct = rw (keys_are xs) of.keys;
+  order_references = tt;
+  posting_references = tt;
+  parties = (tt, tt);
+  marks = (tt, tt);
+  queues = record {
+    closed = λ _. refl;
+    short = every (λ code. length (queue (book_of (map participant_of xs)) code) ≤ LONGEST_QUEUE) (λ code. omega arith)
+        (accounts (book_of (map participant_of xs)));
+    of_the_day = tt;
+  };
+  dates = record {
+    dated = λ e. absurd (let clash : ◌≡◌ {A = Bool} true false = e in cc);
+    weekday = λ e. absurd (let clash : ◌≡◌ {A = Bool} false true = e in cc);
+    order_weekdays = tt;
+    mark_weekdays = tt;
+    orders = tt;
+    marks = tt;
+    postings = tt;
+  };
+  floors = every (λ code. floor (book_of (map participant_of xs)) code ≤ℤ balance (book_of (map participant_of xs))
+      code)
+      (λ code. omega (arith, ints)) (accounts (book_of (map participant_of xs)));
+  total_fits = let none = nothing (map participant_of xs) (accounts (book_of (map participant_of xs)))
+      in omega (arith, ints, none);
+}

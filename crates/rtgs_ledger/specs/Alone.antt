@@ -1,0 +1,15 @@
+-- Participants without records.
+use Rattle.std.specs.Prelude.{List, [], None}
+use Rattle.rtgs_book.specs.declared.Book.{Book}
+use Rattle.rtgs_book.specs.declared.Participant.{Participant}
+use Rattle.rtgs_book.specs.declared.Phase.TheVariants.{Closed}
+
+-- the book of these participants before its first day, to whom nothing was posted
+abbrev pub book_of : List Participant → Book
+book_of participants = record {
+  participants = participants;
+  postings = [];
+  orders = [];
+  marks = [];
+  day = record { date = None; phase = Closed };
+}

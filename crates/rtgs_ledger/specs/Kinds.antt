@@ -1,0 +1,53 @@
+-- Which answers and refusals a command can have, and which answers change nothing.
+use Rattle.std.specs.Prelude.{◌≡◌, Bool, true, false, List, [], ⊤}
+use Rattle.rtgs_book.specs.declared.Answer.{Answer}
+use Rattle.rtgs_book.specs.declared.Answer.TheVariants as answer
+use Rattle.rtgs_book.specs.declared.Command.{Command}
+use Rattle.rtgs_book.specs.declared.Command.TheVariants as command
+use Rattle.rtgs_book.specs.declared.Known.TheVariants as known
+use Rattle.rtgs_book.specs.declared.Refusal.{Refusal}
+use Rattle.rtgs_book.specs.declared.Refusal.TheVariants.{StoreFault, Failed}
+use Rattle.rtgs_book.specs.declared.RowChange.{RowChange}
+
+-- an order can have this answer
+abbrev pub answers_an_order : Answer → Bool
+answers_an_order (answer.Settled number mark) = true
+answers_an_order (answer.Queued number place) = true
+answers_an_order (answer.Repeated (known.Order number state)) = true
+answers_an_order other = false
+
+-- a command of this kind can have this answer
+abbrev pub answers_its_kind : Command → Answer → Bool
+answers_its_kind (command.Order sender reference receiver amount) given = answers_an_order given
+answers_its_kind (command.Add code name key) answer.Added = true
+answers_its_kind (command.Add code name key) (answer.Repeated known.Nothing) = true
+answers_its_kind (command.SetCredit code credit) answer.CreditSet = true
+answers_its_kind (command.Post code reference cents) (answer.Posted number) = true
+answers_its_kind (command.Post code reference cents) (answer.Repeated (known.Posting number)) = true
+answers_its_kind (command.Withdraw sender reference) (answer.Withdrawn number) = true
+answers_its_kind (command.Withdraw sender reference) (answer.Repeated (known.Order number state)) = true
+answers_its_kind (command.OpenDay date) answer.Opened = true
+answers_its_kind (command.OpenDay date) (answer.Repeated known.Nothing) = true
+answers_its_kind command.Resolve (answer.Resolved mark count value) = true
+answers_its_kind command.Resolve answer.Nothing = true
+answers_its_kind (command.CutOff date) answer.CutOffDone = true
+answers_its_kind (command.CutOff date) (answer.Repeated known.Nothing) = true
+answers_its_kind (command.CloseDay date) (answer.Closed rejected) = true
+answers_its_kind (command.CloseDay date) (answer.Repeated known.Nothing) = true
+answers_its_kind command other = false
+
+-- what was done before, and a resolution that settles nothing, have no change
+abbrev pub IsQuiet : Answer → List RowChange → Type 0
+IsQuiet (answer.Repeated known) rows = rows ≡ []
+IsQuiet answer.Nothing rows = rows ≡ []
+IsQuiet other rows = ⊤
+
+-- the command can have this answer, with this change
+abbrev pub CanAnswer : Command → Answer → List RowChange → Type 0
+CanAnswer command given rows = (answers_its_kind command given ≡ true) × IsQuiet given rows
+
+-- a refusal that tells of a store, and of no command
+abbrev pub is_of_the_store : Refusal → Bool
+is_of_the_store StoreFault = true
+is_of_the_store Failed = true
+is_of_the_store other = false

@@ -1,0 +1,207 @@
+//! The next record of a date where there are none, where records of earlier days stand before it, and at the first and
+//! last numbers, in a keeper in memory and in one over tables.
+use super::setting::{FRIDAY, MONDAY, TUESDAY, code, date, new_keeper, reference};
+use rtgs_book::{Change, Mark, Order, OrderState, Posting, RowChange, Rows};
+use rtgs_keeper::{Keeper, MemoryKeeper};
+use rtgs_money::{Amount, BusinessDate, Cents, PostingAmount};
+use std::alloc::Global;
+use std::process::Abort;
+use std::test::Fail;
+
+/// The largest number that a record has.
+const LAST: u64 = 999_999_999;
+
+/// Adds ALFA's posting of this number.
+fn adds_posting(alloc: Global, number: u64, day: Option<BusinessDate>) -> Result<RowChange, Fail> {
+    let name = format!(in alloc; "P-{number}")?;
+    Ok(RowChange::AddPosting(Posting {
+        number,
+        code: code("ALFA")?,
+        reference: reference(name.as_str())?,
+        cents: PostingAmount::from_cents(5).ok_or("a posting")?,
+        date: day,
+    }))
+}
+
+/// Adds ALFA's order of this number, which waits.
+fn adds_order(alloc: Global, number: u64, day: BusinessDate) -> Result<RowChange, Fail> {
+    let name = format!(in alloc; "A-{number}")?;
+    Ok(RowChange::AddOrder(Order {
+        number,
+        sender: code("ALFA")?,
+        reference: reference(name.as_str())?,
+        receiver: code("BETA")?,
+        amount: Amount::from_cents(5).ok_or("an amount")?,
+        date: day,
+        state: OrderState::Queued,
+    }))
+}
+
+/// Adds the mark of this number.
+fn adds_mark(number: u64, day: BusinessDate) -> RowChange {
+    RowChange::AddMark(Mark {
+        number,
+        date: day,
+        count: 1,
+        value: Cents::new(5),
+    })
+}
+
+/// Adds a posting, an order and a mark of this number and day.
+fn adds_three(alloc: Global, number: u64, day: BusinessDate) -> Result<Change, Fail> {
+    let rows = vec![in alloc;
+        adds_posting(alloc, number, Some(day))?,
+        adds_order(alloc, number, day)?,
+        adds_mark(number, day),
+    ]?;
+    Ok(Rows::from_vec(rows))
+}
+
+/// Keeps a posting, an order and a mark of each of these numbers, all of one day.
+fn keep_each<K: Keeper>(
+    alloc: Global,
+    keeper: &mut K,
+    numbers: &[u64],
+    day: u32,
+) -> Result<(), Fail> {
+    let day = date(day)?;
+    for number in numbers {
+        keeper.commit(&adds_three(alloc, *number, day)?)?;
+    }
+    Ok(())
+}
+
+/// The numbers of the posting, the order and the mark that come next on a day.
+fn nexts<K: Keeper>(keeper: &mut K, day: u32, number: u64) -> Result<[Option<u64>; 3], Fail> {
+    let day = date(day)?;
+    let posting = keeper.next_posting(day, number)?;
+    let order = keeper.next_order(day, number)?;
+    let mark = keeper.next_mark(day, number)?;
+    Ok([
+        posting.map(|posting| posting.number),
+        order.map(|order| order.number),
+        mark.map(|mark| mark.number),
+    ])
+}
+
+/// Nothing comes next on a day without records, nor after the last of one that has some.
+fn ends_after<K: Keeper>(
+    rt: &(impl Abort + AllocGlobal),
+    keeper: &mut K,
+    last: u64,
+) -> Result<(), Fail> {
+    for number in [0, 1, last, LAST, 1 << 63, (1 << 63) + 1, u64::MAX] {
+        assert_eq!(rt; nexts(keeper, MONDAY, number)?, [None; 3], "{number}");
+    }
+    for number in [last, LAST, 1 << 63, (1 << 63) + 1, u64::MAX] {
+        assert_eq!(rt; nexts(keeper, TUESDAY, number)?, [None; 3], "{number}");
+    }
+    Ok(())
+}
+
+/// A keeper of nothing gives the one record of Tuesday behind so many of Friday.
+fn passes_over<K: Keeper + Drop>(
+    rt: &(impl Abort + AllocGlobal),
+    keeper: K,
+    earlier: &[u64],
+    last: u64,
+) -> Result<(), Fail> {
+    let mut keeper = keeper;
+    keep_each(rt.alloc(), &mut keeper, earlier, FRIDAY)?;
+    keep_each(rt.alloc(), &mut keeper, &[last], TUESDAY)?;
+    for number in 0..last {
+        assert_eq!(rt;
+            nexts(&mut keeper, TUESDAY, number)?,
+            [Some(last); 3],
+            "{number}"
+        );
+    }
+    for number in earlier {
+        let before = number.saturating_sub(1);
+        assert_eq!(rt;
+            nexts(&mut keeper, FRIDAY, before)?,
+            [Some(*number); 3],
+            "{number}"
+        );
+    }
+    assert_eq!(rt;
+        nexts(&mut keeper, FRIDAY, last.saturating_sub(1))?,
+        [None; 3]
+    );
+    ends_after(rt, &mut keeper, last)
+}
+
+/// The numbers from 1 to this one.
+fn up_to(alloc: Global, number: u64) -> Result<Vec<u64>, Fail> {
+    let mut numbers = Vec::new(alloc);
+    for each in 1..=number {
+        numbers.push(each)?;
+    }
+    Ok(numbers)
+}
+
+#[test]
+fn records_of_earlier_days_are_passed_over(rt: HostRuntime) -> Result<(), Fail> {
+    let alloc = rt.alloc();
+    for earlier in [0, 1, 2, 3, 7, 8, 9, 20] {
+        let numbers = up_to(alloc, earlier)?;
+        let last = earlier.saturating_add(1);
+        passes_over(&rt, MemoryKeeper::new(alloc), numbers.as_slice(), last)?;
+        passes_over(&rt, new_keeper(alloc)?, numbers.as_slice(), last)?;
+    }
+    Ok(())
+}
+
+/// A keeper of nothing gives the record of the last number, and nothing after it.
+fn reaches_the_last<K: Keeper + Drop>(
+    rt: &(impl Abort + AllocGlobal),
+    keeper: K,
+) -> Result<(), Fail> {
+    let mut keeper = keeper;
+    keep_each(rt.alloc(), &mut keeper, &[1], FRIDAY)?;
+    keep_each(rt.alloc(), &mut keeper, &[LAST], TUESDAY)?;
+    for number in [0, 1, 2, LAST - 1] {
+        assert_eq!(rt;
+            nexts(&mut keeper, TUESDAY, number)?,
+            [Some(LAST); 3],
+            "{number}"
+        );
+    }
+    assert_eq!(rt; nexts(&mut keeper, FRIDAY, 0)?, [Some(1); 3]);
+    ends_after(rt, &mut keeper, LAST)
+}
+
+#[test]
+fn the_last_number_has_nothing_after_it(rt: HostRuntime) -> Result<(), Fail> {
+    reaches_the_last(&rt, MemoryKeeper::new(rt.alloc()))?;
+    reaches_the_last(&rt, new_keeper(rt.alloc())?)
+}
+
+/// A keeper of nothing gives postings from before the first day on none.
+fn keeps_back<K: Keeper + Drop>(rt: &(impl Abort + AllocGlobal), keeper: K) -> Result<(), Fail> {
+    let mut keeper = keeper;
+    let rows = vec![in rt.alloc();
+        adds_posting(rt.alloc(), 1, None)?,
+        adds_posting(rt.alloc(), 2, None)?,
+        adds_posting(rt.alloc(), 3, Some(date(MONDAY)?))?,
+    ]?;
+    keeper.commit(&Rows::from_vec(rows))?;
+    for number in [0, 1, 2] {
+        assert_eq!(rt;
+            nexts(&mut keeper, MONDAY, number)?,
+            [Some(3), None, None],
+            "{number}"
+        );
+    }
+    for number in [0, 1, 2, 3] {
+        assert_eq!(rt; nexts(&mut keeper, FRIDAY, number)?, [None; 3], "{number}");
+        assert_eq!(rt; nexts(&mut keeper, TUESDAY, number)?, [None; 3], "{number}");
+    }
+    Ok(())
+}
+
+#[test]
+fn a_posting_from_before_the_first_day_is_of_no_day(rt: HostRuntime) -> Result<(), Fail> {
+    keeps_back(&rt, MemoryKeeper::new(rt.alloc()))?;
+    keeps_back(&rt, new_keeper(rt.alloc())?)
+}

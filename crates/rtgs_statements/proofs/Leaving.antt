@@ -1,0 +1,34 @@
+-- Reads one after another.
+use Rattle.std.proofs.Common.{◌≢◌, Bool, Option, Some, None, refl, ◌∙◌}
+use Rattle.rtgs_book.specs.declared.Book.{Book}
+use Rattle.rtgs_book.specs.declared.Refusal.{Refusal}
+use Rattle.rtgs_book.specs.declared.Refusal.TheVariants.{StoreFault}
+use Rattle.rtgs_statements.specs.Reads.{IsRead}
+
+pub no_fault : ◌≢◌ {A = Option Refusal} None (Some StoreFault)
+no_fault e = absurd cc
+
+module _ {S : Type 0} (holds leaves : S → Book → Type 0) (is_honest : S → Type 0) (has_failed : S → Bool) where
+  -- nothing was read
+  pub nothing_read : (s : S) → ((book : Book) → holds s book → leaves s book)
+      → IsRead holds leaves is_honest has_failed s s None
+  nothing_read s left = record {
+    honest = λ honest. honest;
+    held = λ honest book held ended. held;
+    left = λ honest book held. left book held;
+    fault = λ e. absurd (no_fault e);
+    only_fault = λ other. refl;
+    kinds = λ works. tt;
+  }
+
+  -- more was read
+  pub read_more : (a b c : S) (ended : Option Refusal) → IsRead holds leaves is_honest has_failed a b None
+      → IsRead holds leaves is_honest has_failed b c ended → IsRead holds leaves is_honest has_failed a c ended
+  read_more a b c ended one two = record {
+    honest = λ honest. one.honest (two.honest honest);
+    held = λ honest book held. two.held honest book (one.held (two.honest honest) book held no_fault);
+    left = λ honest book held. two.left honest book (one.held (two.honest honest) book held no_fault);
+    fault = two.fault;
+    only_fault = λ other. two.only_fault other ∙ one.only_fault no_fault;
+    kinds = λ works. two.kinds (one.only_fault no_fault ∙ works);
+  }

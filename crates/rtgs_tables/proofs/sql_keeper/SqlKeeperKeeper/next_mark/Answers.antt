@@ -1,0 +1,22 @@
+use Rattle.std.proofs.Common.{◌≡◌, ap, ◌∙◌}
+use Rattle.std.proofs.lemmas.Result.{IfOk-weaker}
+use Rattle.rtgs_book.specs.declared.Mark.{Mark}
+use Rattle.rtgs_cores.specs.Nexts.{mark_after}
+use Rattle.rtgs_tables.specs.Seeking.{first_of_date}
+use Rattle.rtgs_tables.proofs.FindingLemmas.{holds_on}
+use Rattle.rtgs_tables.proofs.sql_keeper.SqlKeeperKeeper.next_mark.Goals as goal
+
+pub returns-clause-found : goal.returns-clause-found
+unfolding mark_after
+returns-clause-found g c clean book held =
+    let told = ap (λ d. first_of_date (λ (m : Mark). m.number) (λ (m : Mark). m.date) d c.args.number
+    book.marks) c.number.ensures.value in
+    IfOk-weaker c.next_of-found.result (λ found. found ≡ first_of_date (λ (m : Mark). m.number)
+    (λ (m : Mark). m.date) c.number.result c.args.number book.marks)
+    (λ found. found ≡ mark_after book c.args.date c.args.number)
+    (λ found is. is ∙ told)
+    (c.next_of-found.ensures.found clean book held (c.records_are_listed.ensures.marks book held.2.sound))
+
+pub returns-clause-same : goal.returns-clause-same
+returns-clause-same g c clean book held other = holds_on g.S.Store c.args.self.now.conn c.next_of-found.new.conn
+    c.next_of-found.result book c.next_of-found.ensures.looks clean other held
