@@ -1,5 +1,5 @@
 //! A book in memory, of whose reads one can meet trouble.
-ghost use Rattle.std.specs.Prelude.{◌≡◌, OnOk, IfErr, ◌⊎◌, true, false};
+ghost use Rattle.std.specs.Prelude.{◌≡◌, Err, OnOk, IfErr, ◌⊎◌, true, false};
 ghost use Rattle.std.specs.List.{find};
 ghost use Rattle.rtgs_cores.specs.Nexts.{is_posting_after, is_order_after, is_mark_after};
 
@@ -56,10 +56,10 @@ impl Shelf {
     fn read(&mut self) -> Result<(), Refusal>
         ensures book { self.new.book ≡ self.old.book }
         ensures well { OnOk result (self.new.failed ≡ self.old.failed) }
-        ensures ill { IfErr result (λ refusal.
+        ensures ill { self.old.failed ≡ false → IfErr result (λ refusal.
             ((refusal ≡ Refusal.StoreFault) × (self.new.failed ≡ true))
-            ⊎ (((refusal ≡ Refusal.OutOfMemory) × (self.new.failed ≡ self.old.failed))
-            ⊎ ((refusal ≡ Refusal.Failed) × (self.old.failed ≡ true) × (self.new.failed ≡ true)))) }
+            ⊎ ((refusal ≡ Refusal.OutOfMemory) × (self.new.failed ≡ false))) }
+        ensures failed { self.old.failed ≡ true → (result ≡ Err Refusal.Failed) × (self.new ≡ self.old) }
     {
         if self.failed {
             return Err(Refusal::Failed);
