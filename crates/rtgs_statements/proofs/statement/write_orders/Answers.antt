@@ -14,7 +14,7 @@ use Rattle.rtgs_statements.specs.Rows.{order_row, order_rows, settled_by}
 use Rattle.rtgs_statements.specs.Sums.{sent, received}
 use Rattle.rtgs_statements.proofs.Begins.{appends-both, begins-within}
 use Rattle.rtgs_statements.proofs.Growth.{appends-none}
-use Rattle.rtgs_statements.proofs.Leaving.{no_fault, nothing_read}
+use Rattle.rtgs_statements.proofs.Leaving.{no_fault, nothing_read, read_more}
 use Rattle.rtgs_statements.proofs.Terms.{Within, term-within, wider}
 use Rattle.rtgs_statements.proofs.Told.{orders_left, orders_begin, orders_end, order_rows_split, settled_split}
 use Rattle.rtgs_statements.proofs.statement.write_orders.Goals as goal
@@ -63,7 +63,8 @@ loop-next-preserved g c =
       fits = search rules;
       within_sent = (omega (arith, ints), omega (arith, ints));
       within_received = (omega (arith, ints), omega (arith, ints));
-      read = search rules;
+      read = read_more g.S.Source.holds g.S.Source.leaves g.S.Source.is_honest g.S.Source.has_failed c.args.source.now
+          c.loop-next.source c.later_order.new.source None inv.read c.in-Ok.ensures.read;
       sent = λ honest book held.
           let early = c.later_order.ensures.read.honest honest in
           let now = inv.read.held early book held no_fault in

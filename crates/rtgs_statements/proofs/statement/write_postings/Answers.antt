@@ -11,7 +11,7 @@ use Rattle.rtgs_statements.specs.Rows.{is_to, posting_row, posting_rows}
 use Rattle.rtgs_statements.specs.Sums.{posted}
 use Rattle.rtgs_statements.proofs.Begins.{appends-both, begins-within}
 use Rattle.rtgs_statements.proofs.Growth.{appends-none}
-use Rattle.rtgs_statements.proofs.Leaving.{no_fault, nothing_read}
+use Rattle.rtgs_statements.proofs.Leaving.{no_fault, nothing_read, read_more}
 use Rattle.rtgs_statements.proofs.Terms.{Within, term-within, wider}
 use Rattle.rtgs_statements.proofs.Told.{postings_left, postings_begin, postings_end, posting_rows_split, posted_split}
 use Rattle.rtgs_statements.proofs.statement.write_postings.Goals as goal
@@ -51,7 +51,8 @@ loop-next-preserved g c =
     record {
       fits = search rules;
       within = (omega (arith, ints), omega (arith, ints));
-      read = search rules;
+      read = read_more g.S.Source.holds g.S.Source.leaves g.S.Source.is_honest g.S.Source.has_failed c.args.source.now
+          c.loop-next.source c.later_posting.new.source None inv.read c.in-Ok.ensures.read;
       sum = λ honest book held.
           let back = c.later_posting.ensures.read.honest honest in
           let now = inv.read.held back book held no_fault in
