@@ -138,6 +138,16 @@ module _ {K : Type 0} (g : Ghosts K) (laws : KeeperLaws g) {X : Type 0} (keeper 
   not_looked_up faults.NotADeskFile e = absurd (looks.kinds.0 e)
   not_looked_up (faults.Inconsistent rule) e = absurd (looks.kinds.1 rule e)
 
+-- that a desk had failed is told by one that had
+told_failed : {K : Type 0} (g : Ghosts K) (old new : Seen K) (ended : Option Refusal) → LooksUp g old new ended
+    → ended ≡ Some Failed → g.has_failed old.keeper ≡ true
+told_failed g old new ended looked is = by (g.has_failed old.keeper) refl
+  where
+    by : (b : Bool) → g.has_failed old.keeper ≡ b → g.has_failed old.keeper ≡ true
+    by true failed = failed
+    by false works = absurd (⊎_elim (λ e. let no : ⊥ = cc in no) (λ e. let no : ⊥ = cc in no)
+        (subst (λ o. IfSome o (λ refusal. (refusal ≡ OutOfMemory) ⊎ (refusal ≡ StoreFault))) is (looked.kinds works)))
+
 -- what a text asks of a read
 pub reads : {K : Type 0} (g : Ghosts K) (old new : Seen K) (ended : Option Refusal) → LooksUp g old new ended
     → IsRead (λ (desk : Seen K). Holds g desk) (λ (desk : Seen K). IsLeft g desk)
@@ -146,7 +156,11 @@ reads g old new ended looked = record {
   honest = looked.honest;
   held = looked.kept;
   left = looked.left;
-  fault = λ e. (looked.fault e).1;
+  fault = looked.fault;
   only_fault = looked.only_fault;
+  failed = λ failed. (looked.failed failed).1;
+  only_failed = told_failed g old new ended looked;
   kinds = looked.kinds;
+  failed_kinds = λ failed. subst (λ o. IfSome o (λ refusal. (refusal ≡ OutOfMemory) ⊎ (refusal ≡ Failed)))
+      (sym (looked.failed failed).0) (inr refl);
 }
