@@ -1,4 +1,4 @@
--- What reads leave of what they read from, and of a text a beginning.
+-- What reads leave of what they read from, and of a text a beginning or whole lines.
 use Rattle.std.specs.Prelude.{◌≡◌, ◌≢◌, ◌⊎◌, ◌++◌, ℕ, ⊤, Bool, true, false, List, [], ◌∷◌, Option, None, Some, Result}
 use Rattle.std.specs.Prelude.{Ok, Err, IfSome}
 use Rattle.std.specs.Io.KnownBytes.{Appends}
@@ -50,10 +50,9 @@ IsWholeLines bytes = (bytes ≡ []) ⊎ ((before : List ℕ) × (bytes ≡ befor
 abbrev pub AppendsWholeLines : Option (List ℕ) → Option (List ℕ) → Type 0
 AppendsWholeLines old new = (written : List ℕ) × Appends old new written × IsWholeLines written
 
--- Known bytes grow by whole lines, unless the writer failed: a read that is refused, and a line that finds no memory,
--- leave no part of a line.
-abbrev pub LeavesWholeLines : {X : Type 0} → Result X BookTextFault → Option (List ℕ) → Option (List ℕ) → Type 0
-LeavesWholeLines (Ok x) old new = AppendsWholeLines old new
-LeavesWholeLines (Err (Refused refusal)) old new = AppendsWholeLines old new
-LeavesWholeLines (Err (Text NoMemory)) old new = AppendsWholeLines old new
-LeavesWholeLines (Err (Text (Write failed))) old new = ⊤
+-- Known bytes grow by whole lines, or by none, unless the writer failed: a read that is refused, and a line that finds
+-- no memory, leave no part of a line.
+abbrev pub LeavesWholeLines : BookTextFault → Option (List ℕ) → Option (List ℕ) → Type 0
+LeavesWholeLines (Refused refusal) old new = AppendsWholeLines old new
+LeavesWholeLines (Text NoMemory) old new = AppendsWholeLines old new
+LeavesWholeLines (Text (Write failed)) old new = ⊤

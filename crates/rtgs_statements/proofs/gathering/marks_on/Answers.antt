@@ -1,4 +1,4 @@
-use Rattle.std.proofs.Common.{◌≡◌, ◌<◌, ◌^◌, length, Option, Some, None, rules, refl, sym, ap, ◌∙◌, arith}
+use Rattle.std.proofs.Common.{◌≡◌, ◌<◌, length, Option, Some, None, rules, refl, sym, ap, ◌∙◌, arith}
 use Rattle.rtgs_book.specs.declared.Mark.{Mark}
 use Rattle.rtgs_cores.specs.Nexts.{mark_after}
 use Rattle.rtgs_statements.proofs.Leaving.{no_fault, nothing_read, read_more}
