@@ -1,5 +1,5 @@
 //! Texts of a desk's book.
-ghost use Rattle.std.specs.Prelude.{◌≡◌, ◌≢◌, true, false, Ok, Err};
+ghost use Rattle.std.specs.Prelude.{◌≡◌, ◌≢◌, true, false, Ok, Err, IfErr};
 ghost use Rattle.rtgs_book.specs.declared.Book.{Book};
 ghost use Rattle.rtgs_book.specs.declared.Refusal.{Refusal};
 ghost use Rattle.rtgs_desk.specs.Holding.{Holds};
@@ -36,7 +36,8 @@ pub fn write_statement<K: Keeper, W: Write>(
     // For a code that nobody has, neither the writer nor the store is asked for anything.
     ensures unknown { result ≡ Err (BookTextFault.Refused Refusal.UnknownParticipant)
         → (out.new ≡ out.old) × (desk.new ≡ desk.old) }
-    ensures lines { LeavesWholeLines result (W.contents out.old) (W.contents out.new) }
+    // What is no fault of the writer leaves whole lines.
+    ensures whole { IfErr result (λ fault. LeavesWholeLines fault (W.contents out.old) (W.contents out.new)) }
     ensures leaves { LeavesBook K.Keeper desk.old desk.new }
     ensures fault { result ≡ Err (BookTextFault.Refused Refusal.StoreFault)
         → (K.has_failed desk.old.keeper ≡ false) × (K.has_failed desk.new.keeper ≡ true) }
