@@ -1,5 +1,6 @@
 //! Runs that print a text: the results of a file of orders, and what the desk tells.
-ghost use Rattle.std.specs.Prelude.{◌≡◌, ◌⊎◌, None, length, Ok, Err, IfOk, IfErr, OnErr};
+ghost use Rattle.std.specs.Prelude.{◌≡◌, ◌⊎◌, None, length, Ok, Err, IfOk, IfErr, OnErr, string_bytes};
+ghost use Rattle.rtgs_book_file.specs.Files.{lock_name};
 ghost use Rattle.rtgs_book_file.specs.OverFile.{file_from};
 ghost use Rattle.rtgs_book.specs.declared.Book.{Book};
 ghost use Rattle.rtgs_desk.specs.Holding.{Holds};
@@ -9,7 +10,7 @@ ghost use Rattle.rtgs_book.specs.declared.Refusal.{Refusal as RefusalSpec};
 ghost use Rattle.rtgs_desk_lines.specs.Texts.{Prints};
 ghost use Rattle.rtgs_desk_cli.specs.Causes.{AreRowsOf, RefusesRows};
 ghost use Rattle.rtgs_desk_cli.specs.Did.{IsIdle, IsSent, IsRead, SentOver};
-ghost use Rattle.rtgs_desk_cli.specs.Runs.{AreReadFrom, IsNotSent, IsRefused, PrintsFor};
+ghost use Rattle.rtgs_desk_cli.specs.Runs.{AreReadFrom, IsNotSent, IsOf, IsRefused, PrintsFor};
 
 use crate::batches::{print_results, submit_orders};
 use crate::files::{Acted, Finished, close_book, open, refused_file};
@@ -52,6 +53,7 @@ pub fn import<S: Start, O: Write>(
     ensures refused { IfErr result.0 (IsRefused (file_from ⟦<FileKeeper<S> as Keeper>⟧ S.Start (λ keeper. keeper.conn))
         (Request.Import file.entry sender orders.entry) result.1) }
     ensures unchanged { OnErr result.0 (out.new ≡ out.old) }
+    ensures at { IsOf (file_from ⟦<FileKeeper<S> as Keeper>⟧ S.Start (λ keeper. keeper.conn)) file.now result.1 }
 {
     match close_book(send(rt, file, sender, orders, start)) {
         Ok((closed, done)) => {
@@ -77,6 +79,7 @@ pub fn show<S: Start, O: Write>(
     ensures refused { IfErr result.0 (IsRefused (file_from ⟦<FileKeeper<S> as Keeper>⟧ S.Start (λ keeper. keeper.conn))
         (Request.Read file.entry reading) result.1) }
     ensures unchanged { OnErr result.0 (out.new ≡ out.old) }
+    ensures at { IsOf (file_from ⟦<FileKeeper<S> as Keeper>⟧ S.Start (λ keeper. keeper.conn)) file.now result.1 }
 {
     match close_book(read(rt, file, reading, start)) {
         Ok((closed, read)) => (print_read(read, out), Touched::Book(closed, Met::Nothing)),
@@ -102,6 +105,9 @@ fn send<S: Start>(
         × IsIdle (file_from ⟦<FileKeeper<S> as Keeper>⟧ S.Start (λ keeper. keeper.conn)) book.desk)) }
     ensures unopened { IfErr result (λ unopened.
         (file_from ⟦<FileKeeper<S> as Keeper>⟧ S.Start (λ keeper. keeper.conn)).was_unopened unopened) }
+    ensures at { IfOk result (λ (book, _). string_bytes book.lock.locked.name ≡ lock_name file.now) }
+    ensures of { IfErr result (λ unopened.
+        (file_from ⟦<FileKeeper<S> as Keeper>⟧ S.Start (λ keeper. keeper.conn)).refused_at file.now unopened) }
 {
     let mut book = open(rt, file, start)?;
     let read = read_bytes(rt, orders);
@@ -147,6 +153,9 @@ fn read<S: Start>(
         (λ text. text.items) reading read book.desk) }
     ensures unopened { IfErr result (λ unopened.
         (file_from ⟦<FileKeeper<S> as Keeper>⟧ S.Start (λ keeper. keeper.conn)).was_unopened unopened) }
+    ensures at { IfOk result (λ (book, _). string_bytes book.lock.locked.name ≡ lock_name file.now) }
+    ensures of { IfErr result (λ unopened.
+        (file_from ⟦<FileKeeper<S> as Keeper>⟧ S.Start (λ keeper. keeper.conn)).refused_at file.now unopened) }
 {
     let mut book = open(rt, file, start)?;
     let read = text_of(rt.alloc(), book.desk(), &reading);
