@@ -14,4 +14,3 @@ mod touched;
 pub use crate::met::Met;
 pub use crate::run::run_words;
 pub use crate::touched::Touched;
-pub use rtgs_book_file::Unknown;
