@@ -46,17 +46,17 @@ ended_line line = line ++ 10 ∷ []
 
 -- the run met a file of orders, and these are its rows, as it was read
 abbrev pub AreReadFrom : Met → List OrderRow → Type 0
-AreReadFrom (met.Orders read) rows = AreRowsOf (λ bytes. bytes.items) read.value rows
+AreReadFrom (met.Orders read) rows = AreRowsOf (λ bytes. bytes.items) read.value.answer rows
 AreReadFrom _ rows = ⊥
 
 -- the run met a file of orders, and what reading it answered refuses it so
 abbrev pub IsNotSent : Met → Failure → Type 0
-IsNotSent (met.Orders read) why = RefusesRows (λ bytes. bytes.items) read.value why
+IsNotSent (met.Orders read) why = RefusesRows (λ bytes. bytes.items) read.value.answer why
 IsNotSent _ why = ⊥
 
 -- the run did not have its port, and what listening answered is told so
 abbrev pub IsNotListening : Met → Failure → Type 0
-IsNotListening (met.NoPort error) why = why ≡ failure_of_listening (error_kind error.value)
+IsNotListening (met.NoPort refused) why = why ≡ failure_of_listening (error_kind refused.value.error)
 IsNotListening _ why = ⊥
 
 -- that connections are taken on this port, and then how many were served, unless the desk has failed

@@ -15,7 +15,7 @@ ghost use Rattle.rtgs_desk_cli.specs.Runs.{AreReadFrom, IsNotSent, IsOf, IsRefus
 use crate::batches::{print_results, submit_orders};
 use crate::files::{Acted, Finished, close_book, open, refused_file};
 use crate::met::Met;
-use crate::order_file::{read_bytes, taken};
+use crate::order_file::OrderFile;
 use crate::touched::Touched;
 use rtgs_book::{Reading, Refusal};
 use rtgs_book_file::{FileKeeper, Start};
@@ -29,7 +29,6 @@ use rtgs_money::Code;
 use rtgs_output::send_all;
 use rtgs_stored_desk::laws::what_a_session_leaves;
 use std::alloc::Global;
-use std::io;
 use std::io::Write;
 use std::snapshot::Snapshot;
 
@@ -110,7 +109,7 @@ fn send<S: Start>(
         (file_from ⟦<FileKeeper<S> as Keeper>⟧ S.Start (λ keeper. keeper.conn)).refused_at file.now unopened) }
 {
     let mut book = open(rt, file, start)?;
-    let read = read_bytes(rt, orders);
+    let read = OrderFile::read(rt, orders);
     let met = Met::Orders(Snapshot::of(&read));
     let sent = submit_file(rt.alloc(), book.desk(), sender, read);
     Ok((book.finish(), (sent, met)))
@@ -121,21 +120,21 @@ fn submit_file<S: Start>(
     alloc: Global,
     desk: &mut Desk<FileKeeper<S>>,
     sender: Code,
-    read: io::Result<Vec<u8>>,
+    read: OrderFile,
 ) -> Sent
-    ensures rows { IfOk result (λ (rows, batch). AreRowsOf (λ bytes. bytes.items) read rows.items) }
+    ensures rows { IfOk result (λ (rows, batch). AreRowsOf (λ bytes. bytes.items) read.answer rows.items) }
     ensures stopped { IfOk result (λ (rows, batch).
         StopsAfter (length batch.replies.items) (length rows.items) batch.stopped) }
     ensures sent { IfOk result (λ (rows, batch). ⟦<FileKeeper<S> as Keeper>⟧.is_honest desk.new.keeper
         → (book : Book) → Holds ⟦<FileKeeper<S> as Keeper>⟧ desk.old book
         → SentOver (file_from ⟦<FileKeeper<S> as Keeper>⟧ S.Start (λ keeper. keeper.conn))
         book sender rows.items batch.replies.items batch.stopped desk.new) }
-    ensures refused { IfErr result (RefusesRows (λ bytes. bytes.items) read) }
+    ensures refused { IfErr result (RefusesRows (λ bytes. bytes.items) read.answer) }
     ensures unchanged { OnErr result (desk.new ≡ desk.old) }
     ensures honest { ⟦<FileKeeper<S> as Keeper>⟧.is_honest desk.new.keeper
         → ⟦<FileKeeper<S> as Keeper>⟧.is_honest desk.old.keeper }
 {
-    let bytes = taken(read)?;
+    let bytes = read.taken()?;
     let sent = submit_orders(alloc, desk, sender, bytes.as_slice());
     what_a_session_leaves(desk);
     sent

@@ -1,7 +1,7 @@
-use Rattle.std.proofs.Common.{ℕ, Bool, cond, List, ap₂, subst}
+use Rattle.std.proofs.Common.{ℕ, Bool, cond, List, ap₂}
 use Rattle.sqlite.specs.Recovery.{Image}
 use Rattle.sqlite_disk.specs.Events.{Event, replay}
-use Rattle.rtgs_book_file.specs.Counting.{IsReadIn}
+use Rattle.rtgs_book_file.proofs.Counting.{read_of}
 use Rattle.rtgs_book_file.proofs.schema_size.listed.Goals as goal
 
 abbrev image : List ℕ → List ℕ → Image
@@ -15,5 +15,5 @@ returns-in-Ok g c =
     let alike = seen g.S.Start.log g.S.Start.db in
     let log = c.in-Ok.ensures.fresh.0 in
     let db = c.in-Ok.ensures.fresh.1 in
-    subst (λ held. IsReadIn _ held c.listed_in.result.listed)
-    (ap₂ image (ap₂ alike log.0 log.1) (ap₂ alike db.0 db.1)) c.listed_in.ensures
+    read_of _ c.in-Ok.files _ c.listed_in.result.listed (ap₂ image (ap₂ alike log.0 log.1) (ap₂ alike db.0 db.1))
+    c.listed_in.ensures
