@@ -82,10 +82,7 @@ impl<'a, S: Start> BookLock<'a, S> {
 }
 
 // The lock's own file, locked; or why it is not, and its name, where memory was had for that.
-fn locked(
-    rt: &HostRuntime,
-    path: &str,
-) -> Result<Locked, (Option<Snapshot<String>>, NotLocked)>
+fn locked(rt: &HostRuntime, path: &str) -> Result<Locked, (Option<Snapshot<String>>, NotLocked)>
     ensures named { IfOk result (λ locked. string_bytes locked.name ≡ lock_name path.now) }
     ensures refused { IfErr result (λ (_, refused). IsNotLocked refused.fault) }
     ensures of { IfErr result (λ (name, refused).

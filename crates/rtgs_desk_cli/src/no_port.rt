@@ -17,11 +17,7 @@ pub struct NoPort {
 
 impl NoPort {
     /// Listens on this port for so many connections.
-    pub(crate) fn unless_listening(
-        rt: &HostRuntime,
-        port: u16,
-        count: u32,
-    ) -> Result<Port, NoPort>
+    pub(crate) fn unless_listening(rt: &HostRuntime, port: u16, count: u32) -> Result<Port, NoPort>
         ensures { IfOk result (λ connections. connections.left ≡ count) }
     {
         match Port::listen(rt, port, count) {

@@ -120,10 +120,7 @@ fn serve_desk<S: Start, O: Write>(
             what_a_session_leaves(desk);
             (Ok(printed), Met::Port(Snapshot::of(&connections)))
         }
-        Err(refused) => (
-            Err(refused.failure()),
-            Met::NoPort(Snapshot::of(&refused)),
-        ),
+        Err(refused) => (Err(refused.failure()), Met::NoPort(Snapshot::of(&refused))),
     }
 }
 
