@@ -32,8 +32,8 @@ returns-in-Err-clause-refused g c = refused_with c.refused_file.result.0 _ _ c.r
 pub returns-in-Ok-clause-at : goal.returns-in-Ok-clause-at
 returns-in-Ok-clause-at g c =
     let (book, is, shut) = c.in-Ok.ensures.done in
-    closed_as c.serve_book.result string_bytes (λ book. book.lock.locked.name) c.in-Ok.closed.name.value _ c.in-Ok.ensures.at
-    c.serve_book.ensures.at book _ is
+    closed_as c.serve_book.result string_bytes (λ book. book.lock.locked.name) c.in-Ok.closed.name.value _
+    c.in-Ok.ensures.at c.serve_book.ensures.at book _ is
 
 pub returns-in-Err-clause-at : goal.returns-in-Err-clause-at
 returns-in-Err-clause-at g c = rw c.refused_file.ensures.touched

@@ -7,8 +7,8 @@ use Rattle.rtgs_desk_cli.proofs.texts.send.Goals as goal
 pub returns-clause-rows : goal.returns-clause-rows
 returns-clause-rows g c =
     let it = c.submit_file-sent in
-    subst (λ read. IfOk it.result (λ sent. AreRowsOf (λ bytes. bytes.items) read.answer sent.0.items)) (sym c.of.ensures)
-    it.ensures.rows
+    subst (λ read. IfOk it.result (λ sent. AreRowsOf (λ bytes. bytes.items) read.answer sent.0.items))
+    (sym c.of.ensures) it.ensures.rows
 
 pub returns-clause-sent : goal.returns-clause-sent
 returns-clause-sent g c =
