@@ -56,9 +56,10 @@ impl Shelf {
     fn read(&mut self) -> Result<(), Refusal>
         ensures book { self.new.book ≡ self.old.book }
         ensures well { OnOk result (self.new.failed ≡ self.old.failed) }
-        ensures ill { self.old.failed ≡ false → IfErr result (λ refusal.
-            ((refusal ≡ Refusal.StoreFault) × (self.new.failed ≡ true))
-            ⊎ ((refusal ≡ Refusal.OutOfMemory) × (self.new.failed ≡ false))) }
+        ensures ill { IfErr result (λ refusal.
+            ((refusal ≡ Refusal.StoreFault) × (self.old.failed ≡ false) × (self.new.failed ≡ true))
+            ⊎ (((refusal ≡ Refusal.OutOfMemory) × (self.old.failed ≡ false) × (self.new.failed ≡ false))
+            ⊎ ((refusal ≡ Refusal.Failed) × (self.old.failed ≡ true)))) }
         ensures failed { self.old.failed ≡ true → (result ≡ Err Refusal.Failed) × (self.new ≡ self.old) }
     {
         if self.failed {
