@@ -86,7 +86,8 @@ fn after(alloc: Global, rows: &[Row]) -> Result<Kept, Fail> {
     Ok(kept)
 }
 
-// A ledger with ALFA, BETA and GAMA, of which ALFA has 100 cents, and a day, after commands that are answered like this.
+// A ledger with ALFA, BETA and GAMA, of which ALFA has 100 cents, and a day, after commands that are answered like
+// this.
 fn funded_after(alloc: Global, rows: &[Row]) -> Result<Kept, Fail> {
     let beginning = [
         (posts("ALFA", "P-1", 100)?, Ok(Answer::Posted { number: 1 })),
