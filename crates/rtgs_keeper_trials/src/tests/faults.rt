@@ -3,6 +3,7 @@
 use super::disk_keeper::{DiskKeeper, Work, on_disks};
 use super::disk_runs::DiskTrial;
 use super::failing_keeper::Trouble;
+use super::found::ShowsBook;
 use super::fuses::Failing;
 use super::keeper_runs::keeper_failures;
 use super::setting::{
@@ -42,7 +43,10 @@ struct OfTheDisks<'a> {
 impl Work for OfTheDisks<'_> {
     type Seen = (u64, u64);
 
-    fn done_with<K: Keeper + DiskKeeper + Drop>(self, alloc: Global) -> Result<(u64, u64), Fail> {
+    fn done_with<K: Keeper + ShowsBook + DiskKeeper + Drop>(
+        self,
+        alloc: Global,
+    ) -> Result<(u64, u64), Fail> {
         let disks = DiskTrial::new::<K>(alloc, self.trial, self.is_closed)?;
         if !disks.stops::<K>(alloc)? {
             return Err(Fail::from("another book after a stop"));

@@ -1,6 +1,6 @@
 //! Commands whose look-up meets trouble, and what is found then.
 use super::failing_keeper::{FailingKeeper, Trouble};
-use super::found::are_same_books;
+use super::found::{ShowsBook, are_same_books};
 use super::setting::{
     Reply, Row, adds_three, code, desk_over, opened, pays, posts, queued, reference, settled,
 };
@@ -70,20 +70,20 @@ fn rows() -> Result<[Row; 9], Fail> {
 
 /// Whether a fault of the store at the look-up fails the desk, leaves the book as it was, and lets the command act once
 /// the desk is opened again.
-fn acts_after_a_restart<K: Keeper + Drop>(
+fn acts_after_a_restart<K: Keeper + ShowsBook + Drop>(
     alloc: Global,
     keeper: K,
     (command, reply): Row,
     trouble: Trouble,
 ) -> Result<bool, Fail> {
     let mut keeper = keeper;
-    let before = keeper.load(alloc)?;
+    let before = keeper.book(alloc)?;
     let mut desk = desk_over(alloc, FailingKeeper::new(keeper, BEFORE, trouble))?;
     if desk.submit(command) != Err(Refusal::StoreFault) || !is_silent(&mut desk)? {
         return Ok(false);
     }
     let mut found = desk.into_keeper().into_kept();
-    let is_old = are_same_books(&found.load(alloc)?, &before);
+    let is_old = are_same_books(&found.book(alloc)?, &before);
     Ok(is_old && desk_over(alloc, found)?.submit(command) == reply)
 }
 
