@@ -35,10 +35,7 @@ fn answer_alike<M: Keeper, K: Keeper>(
 
 /// Whether two new desks answer the commands alike, accept all but the last, which is refused so, and end with one
 /// book.
-fn refuse_the_last_over<
-    M: Keeper + ShowsBook + Drop,
-    K: Keeper + ShowsBook + DiskKeeper + Drop,
->(
+fn refuse_the_last_over<M: Keeper + ShowsBook + Drop, K: Keeper + ShowsBook + DiskKeeper + Drop>(
     alloc: Global,
     memory: M,
     commands: &[Command],

@@ -95,13 +95,12 @@ impl<'a> DiskTrial<'a> {
         disk: Failing,
     ) -> Result<u64, Fail> {
         for calls in 0..ENOUGH {
-            let fuses = disk.after(calls);
-            let progress = self.tried::<K>(alloc, fuses)?;
+            let progress = self.tried::<K>(alloc, disk.after(calls))?;
             if progress == Some(Progress::Whole) {
                 return Ok(calls);
             }
             if progress.is_none() {
-                let said = format!(in alloc; "another book with {fuses:?}")?;
+                let said = format!(in alloc; "another book after {calls} calls of {disk:?}")?;
                 return Err(Fail::from(said));
             }
         }
@@ -109,7 +108,10 @@ impl<'a> DiskTrial<'a> {
     }
 
     /// Whether after a stop behind each of the commands just the answered ones are found. Nothing is closed.
-    pub fn stops<K: Keeper + ShowsBook + DiskKeeper + Drop>(&self, alloc: Global) -> Result<bool, Fail> {
+    pub fn stops<K: Keeper + ShowsBook + DiskKeeper + Drop>(
+        &self,
+        alloc: Global,
+    ) -> Result<bool, Fail> {
         let mut holds = true;
         for count in 0..=self.trial.rows.len() {
             holds = holds && self.is_found_after::<K>(alloc, count)?;

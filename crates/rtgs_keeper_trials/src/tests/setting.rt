@@ -1,5 +1,5 @@
 //! Banks, their commands, and how they stand.
-use rtgs_book::{Answer, Command, Refusal};
+use rtgs_book::{Answer, Command, Known, OrderState, Refusal};
 use rtgs_desk::Desk;
 use rtgs_keeper::Keeper;
 use rtgs_money::{Amount, BusinessDate, Cents, Code, Credit, Key, Name, PostingAmount, Reference};
@@ -101,6 +101,11 @@ pub fn settled(number: u64, mark: u64) -> Reply {
     Ok(Answer::Settled { number, mark })
 }
 
+/// The order came before, and was taken under this number.
+pub fn taken(number: u64, state: OrderState) -> Reply {
+    Ok(Answer::Repeated(Known::Order { number, state }))
+}
+
 /// So many orders of this value in cents settled under this mark.
 pub fn resolved(mark: u64, count: u64, cents: i64) -> Reply {
     Ok(Answer::Resolved {
@@ -116,6 +121,19 @@ pub fn desk_over<K: Keeper + Drop>(alloc: Global, keeper: K) -> Result<Desk<K>, 
         Ok(desk) => Ok(desk),
         Err((fault, _)) => Err(Fail::from(fault)),
     }
+}
+
+/// The desk over a new keeper, with three banks, after these commands.
+pub fn prepared<K: Keeper + Drop>(
+    alloc: Global,
+    keeper: K,
+    commands: &[Command],
+) -> Result<Desk<K>, Fail> {
+    let mut desk = desk_over(alloc, keeper)?;
+    for command in adds_three()?.iter().chain(commands) {
+        desk.submit(*command)?;
+    }
+    Ok(desk)
 }
 
 /// The balance of a participant in cents, and how many orders its queue has.
