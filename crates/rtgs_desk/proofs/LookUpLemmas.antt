@@ -38,7 +38,7 @@ pub failed_before : {K : Type 0} (g : Ghosts K) (keeper : K) (core : Core) (desk
     → LooksUp g desk desk (Some Failed)
 failed_before {K} g keeper core desk failed view says fails =
     let gone : g.has_failed desk.keeper ≡ true = ap (λ (s : Seen K). g.has_failed s.keeper) (sym view) ∙ sym says ∙
-        fails in
+    fails in
     record {
       core = refl;
       honest = λ h. h;
@@ -93,7 +93,7 @@ looked g laws X old new result ended looks core works quiet ends = record {
   kinds = λ e. ⊎_elim (λ f. subst (λ o. IfSome o (λ refusal. (refusal ≡ OutOfMemory) ⊎ (refusal ≡ StoreFault))) (sym
       f) tt)
       (λ f. subst (λ o. IfSome o (λ refusal. (refusal ≡ OutOfMemory) ⊎ (refusal ≡ StoreFault))) (sym f) (inl refl))
-          ends;
+      ends;
 }
 
 module _ {K : Type 0} (g : Ghosts K) (laws : KeeperLaws g) {X : Type 0} (keeper new : K) (core : Core) (old : Seen K)
