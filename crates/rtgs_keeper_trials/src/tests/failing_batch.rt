@@ -15,6 +15,13 @@ const BEFORE_THE_ORDERS: usize = 7;
 // The calls of an order: it is looked up, and then kept.
 const CALLS: [usize; 2] = [0, 1];
 
+/// The result file of the three rows, sent again after a batch that stopped at the third.
+const SENT_AGAIN: &[u8] =
+    b"reference,result,number,detail\nA-1,repeated,1,settled\nA-2,repeated,2,settled\nA-3,queued,3,1\n";
+
+/// The result file of a batch that stopped at its second row.
+const STOPPED: &[u8] = b"reference,result,number,detail\nA-1,settled,1,1\nA-2,stopped,,91\n";
+
 fn row(name: &str, receiver: &str, cents: u64) -> Result<OrderRow, Fail> {
     Ok(OrderRow {
         reference: reference(name)?,
@@ -101,24 +108,21 @@ fn a_batch_stops_where_the_store_fails(rt: HostRuntime) -> Result<(), Fail> {
 #[test]
 fn a_stopped_batch_is_sent_again_after_a_restart(rt: HostRuntime) -> Result<(), Fail> {
     let rows = three_rows()?;
-    let expected =
-        b"reference,result,number,detail\nA-1,repeated,1,settled\nA-2,repeated,2,settled\nA-3,queued,3,1\n";
     for call in CALLS {
         let keeper = failing(rt.alloc(), 2, call);
         let (_, left) = result_file(rt.alloc(), keeper, true, &rows)?;
         let (text, _) = result_file(rt.alloc(), left.into_kept(), false, &rows)?;
-        assert_eq!(rt; text.as_slice(), expected.as_slice());
+        assert_eq!(rt; text.as_slice(), SENT_AGAIN);
     }
     Ok(())
 }
 
 #[test]
 fn no_line_follows_a_stop(rt: HostRuntime) -> Result<(), Fail> {
-    let expected = b"reference,result,number,detail\nA-1,settled,1,1\nA-2,stopped,,91\n";
     for call in CALLS {
         let keeper = failing(rt.alloc(), 1, call);
         let (text, _) = result_file(rt.alloc(), keeper, true, &three_rows()?)?;
-        assert_eq!(rt; text.as_slice(), expected.as_slice());
+        assert_eq!(rt; text.as_slice(), STOPPED);
     }
     Ok(())
 }

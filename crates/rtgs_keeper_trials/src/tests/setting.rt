@@ -21,6 +21,10 @@ pub const MONDAY: u32 = 20240304;
 /// ALFA's key.
 pub const KEY: &str = "0000000000000000000000000000000a";
 
+const KEY_OF_BETA: &str = "0000000000000000000000000000000b";
+
+const KEY_OF_GAMA: &str = "0000000000000000000000000000000c";
+
 /// The code of this text.
 pub fn code(text: &str) -> Result<Code, Fail> {
     Ok(Code::read(text.as_bytes())?)
@@ -54,8 +58,8 @@ pub fn adds_alfa() -> Result<Command, Fail> {
 pub fn adds_three() -> Result<[Command; 3], Fail> {
     Ok([
         adds_alfa()?,
-        adds("BETA", "A Bank", "0000000000000000000000000000000b")?,
-        adds("GAMA", "A Bank", "0000000000000000000000000000000c")?,
+        adds("BETA", "A Bank", KEY_OF_BETA)?,
+        adds("GAMA", "A Bank", KEY_OF_GAMA)?,
     ])
 }
 

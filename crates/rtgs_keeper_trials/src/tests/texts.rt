@@ -18,6 +18,11 @@ enum Text {
     Report,
 }
 
+/// The first line of ALFA's statement, and two of its postings.
+const BEGINNING: &str = "statement ALFA 2024-03-04\n\
+    posting    000000001 P-1              -                        1.00         -\n\
+    posting    000000002 P-2              -                       20.00         -\n";
+
 /// ALFA has three postings on Monday, and no other bank has one. One order settles, and two wait.
 fn commands() -> Result<[Command; 7], Fail> {
     Ok([
@@ -152,9 +157,6 @@ fn written_before_the_third<K: Keeper + Drop>(alloc: Global, keeper: K) -> Resul
 #[test]
 fn two_postings_are_told_where_the_third_is_not_read(rt: HostRuntime) -> Result<(), Fail> {
     let written = written_before_the_third(rt.alloc(), MemoryKeeper::new(rt.alloc()))?;
-    let expected = "statement ALFA 2024-03-04\n\
-        posting    000000001 P-1              -                        1.00         -\n\
-        posting    000000002 P-2              -                       20.00         -\n";
-    assert_eq!(rt; std::str::from_utf8(written.as_slice())?, expected);
+    assert_eq!(rt; std::str::from_utf8(written.as_slice())?, BEGINNING);
     Ok(())
 }
