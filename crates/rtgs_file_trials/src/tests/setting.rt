@@ -1,7 +1,7 @@
 //! A book on a Monday, and runs that report on it.
-use rtgs_desk_cli::{Unknown, run_words};
+use rtgs_desk_cli::run_words;
 use rtgs_desk_lines::{Ended, Printed};
-use sqlite::Connection;
+use sqlite::{Connection, Unknown};
 use std::fs;
 use std::test::Fail;
 
