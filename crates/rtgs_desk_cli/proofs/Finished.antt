@@ -15,8 +15,9 @@ use Rattle.rtgs_exchange.specs.declared.batch_result.RowReply.{RowReply}
 use Rattle.rtgs_exchange.specs.declared.order_row.OrderRow.{OrderRow}
 use Rattle.rtgs_book_file.specs.OverFile.{OverFile}
 use Rattle.rtgs_desk_cli.specs.Did.{IsIdle, IsRead, IsSent, IsServed, IsSubmitted}
-use Rattle.rtgs_desk_cli.specs.Runs.{AreReadFrom, IsClosed, IsImported, TakesAt, server_text, stop_of_desk}
+use Rattle.rtgs_desk_cli.specs.Runs.{AreReadFrom, IsClosed, IsImported, IsFile, TakesAt, server_text, stop_of_desk}
 use Rattle.rtgs_desk_cli.specs.declared.met.Met.{Met}
+use Rattle.rtgs_desk_cli.specs.declared.touched.Touched.{Touched}
 use Rattle.rtgs_desk_cli.specs.declared.touched.Touched.TheVariants as traces
 
 -- what is so of each book and what was done with it, is so of these
@@ -34,6 +35,11 @@ closed_as (Ok p) bytes_of name_of closed name same at book done is = ap bytes_of
 closed_as (Err why) bytes_of name_of closed name same at book done is =
     let no : ⊥ = cc in
     absurd no
+
+-- what is so of the file that was refused is so of what was touched
+pub refused_of : {A U C : Type 0} (P : U → Type 0) (Q : C → Type 0) (touched : Touched A U C) (unopened : U)
+    → touched ≡ traces.Refused unopened → P unopened → IsFile P Q touched
+refused_of P Q touched unopened is it = subst (IsFile P Q) (sym is) it
 
 -- two things that are so of what was done are so together
 pub both : {T E : Type 0} (result : Result T E) (P Q : T → Type 0) → IfOk result P → IfOk result Q

@@ -17,9 +17,10 @@ module _ {A K U C : Type 0} (file : OverFile K U C) (touched : Touched A U C) {a
       subst (λ request. IfOk result (λ printed. PrintsFor file request touched printed old new))
       (sym same)
 
-  pub touched_for : IsOf file (file_of other) touched → IsOf file (file_of asked) touched
-  touched_for = subst (λ request. IsOf file (file_of request) touched) (sym same)
-
   pub refused_for : (result : Result Printed Failure) → IfErr result (λ why. IsRefused file other touched why)
       → IfErr result (λ why. IsRefused file asked touched why)
   refused_for result = subst (λ request. IfErr result (λ why. IsRefused file request touched why)) (sym same)
+
+  pub touched_for : (result : Result Printed Failure) → IfErr result (λ why. IsRefused file other touched why)
+      → IsOf file (file_of other) touched → IsOf file (file_of asked) touched
+  touched_for result refused = subst (λ request. IsOf file (file_of request) touched) (sym same)

@@ -107,6 +107,12 @@ file_of (Import file sender orders) = file.now
 file_of (Read file reading) = file.now
 file_of (Serve file port count operator) = file.now
 
+-- a file was touched, of which the first is so where it was refused, and the second where it was closed
+abbrev pub IsFile : {A U C : Type 0} → (U → Type 0) → (C → Type 0) → Touched A U C → Type 0
+IsFile WhenRefused WhenClosed (traces.Nothing start) = ⊥
+IsFile WhenRefused WhenClosed (traces.Refused unopened) = WhenRefused unopened
+IsFile WhenRefused WhenClosed (traces.Book closed beside) = WhenClosed closed
+
 -- what a run met beside the file of its book
 abbrev pub met_of : {A U C : Type 0} → Touched A U C → Met
 met_of (traces.Book closed beside) = beside
@@ -129,9 +135,7 @@ module _ {A K U C : Type 0} (book_file : OverFile K U C) where
 
   -- what was touched is the file at this path
   abbrev pub IsOf : List ℕ → Touched A U C → Type 0
-  IsOf path (traces.Nothing start) = ⊥
-  IsOf path (traces.Refused unopened) = book_file.refused_at path unopened
-  IsOf path (traces.Book closed beside) = book_file.closed_at path closed
+  IsOf path touched = IsFile (book_file.refused_at path) (book_file.closed_at path) touched
 
   -- the file was not touched
   abbrev pub IsUntouched : Touched A U C → Type 0

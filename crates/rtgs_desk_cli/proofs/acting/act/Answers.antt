@@ -26,13 +26,17 @@ pub returns-in-Serve-clause-refused : goal.returns-in-Serve-clause-refused
 returns-in-Serve-clause-refused g c = refused_for _ _ c.in-Serve.is c.serve.result.0 c.serve.ensures.refused
 
 pub returns-in-Submit-clause-at : goal.returns-in-Submit-clause-at
-returns-in-Submit-clause-at g c = touched_for _ _ c.in-Submit.is c.answer.ensures.at
+returns-in-Submit-clause-at g c =
+    touched_for _ _ c.in-Submit.is c.answer.result.0 c.answer.ensures.refused c.answer.ensures.at
 
 pub returns-in-Import-clause-at : goal.returns-in-Import-clause-at
-returns-in-Import-clause-at g c = touched_for _ _ c.in-Import.is c.import.ensures.at
+returns-in-Import-clause-at g c =
+    touched_for _ _ c.in-Import.is c.import.result.0 c.import.ensures.refused c.import.ensures.at
 
 pub returns-in-Read-clause-at : goal.returns-in-Read-clause-at
-returns-in-Read-clause-at g c = touched_for _ _ c.in-Read.is c.show.ensures.at
+returns-in-Read-clause-at g c =
+    touched_for _ _ c.in-Read.is c.show.result.0 c.show.ensures.refused c.show.ensures.at
 
 pub returns-in-Serve-clause-at : goal.returns-in-Serve-clause-at
-returns-in-Serve-clause-at g c = touched_for _ _ c.in-Serve.is c.serve.ensures.at
+returns-in-Serve-clause-at g c =
+    touched_for _ _ c.in-Serve.is c.serve.result.0 c.serve.ensures.refused c.serve.ensures.at

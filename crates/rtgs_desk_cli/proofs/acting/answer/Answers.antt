@@ -5,7 +5,8 @@ use Rattle.rtgs_desk.specs.Replies.{answers_its_kind}
 use Rattle.rtgs_desk_lines.specs.Lines.{line_of}
 use Rattle.rtgs_desk_lines.specs.declared.done.Done.TheVariants.{Answered}
 use Rattle.rtgs_desk_cli.specs.Runs.{ended_line}
-use Rattle.rtgs_desk_cli.proofs.Finished.{when_done, submitted_with, not_done, refused_with, when_refused, closed_as}
+use Rattle.rtgs_desk_cli.proofs.Finished.{when_done, submitted_with, not_done, refused_with, when_refused}
+use Rattle.rtgs_desk_cli.proofs.Finished.{closed_as, refused_of}
 use Rattle.rtgs_desk_cli.proofs.acting.answer.Goals as goal
 
 pub returns-in-Ok-clause-printed : goal.returns-in-Ok-clause-printed
@@ -58,5 +59,5 @@ returns-in-Ok-clause-at g c =
     c.in-Ok.ensures.at c.submit.ensures.at book _ is
 
 pub returns-in-Err-clause-at : goal.returns-in-Err-clause-at
-returns-in-Err-clause-at g c = rw c.refused_file.ensures.touched
+returns-in-Err-clause-at g c = refused_of _ _ _ _ c.refused_file.ensures.touched
     (when_refused c.submit.result _ c.submit.ensures.of c.in-Err.unopened c.in-Err.ensures.unopened)

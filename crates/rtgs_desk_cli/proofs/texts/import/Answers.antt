@@ -3,7 +3,7 @@ use Rattle.std.proofs.lemmas.Result.{IfOk-weaker, IfErr-weaker}
 use Rattle.rtgs_exchange.specs.Results.{results_text}
 use Rattle.rtgs_desk_cli.specs.Runs.{IsNotSent}
 use Rattle.rtgs_desk_cli.proofs.Finished.{imported_with, idle_for, either_way, not_done, refused_with}
-use Rattle.rtgs_desk_cli.proofs.Finished.{when_refused, closed_as}
+use Rattle.rtgs_desk_cli.proofs.Finished.{when_refused, closed_as, refused_of}
 use Rattle.rtgs_desk_cli.proofs.texts.import.Goals as goal
 
 pub returns-in-Ok-clause-printed : goal.returns-in-Ok-clause-printed
@@ -58,5 +58,5 @@ returns-in-Ok-clause-at g c =
     c.send.ensures.at book _ is
 
 pub returns-in-Err-clause-at : goal.returns-in-Err-clause-at
-returns-in-Err-clause-at g c = rw c.refused_file.ensures.touched
+returns-in-Err-clause-at g c = refused_of _ _ _ _ c.refused_file.ensures.touched
     (when_refused c.send.result _ c.send.ensures.of c.in-Err.unopened c.in-Err.ensures.unopened)

@@ -1,7 +1,7 @@
 use Rattle.std.proofs.Common.{None, refl, inl, inr, string_bytes}
 use Rattle.std.proofs.lemmas.Result.{IfOk-weaker, IfErr-weaker}
 use Rattle.rtgs_desk_cli.proofs.BytesRead.{bytes_read, refusal_read}
-use Rattle.rtgs_desk_cli.proofs.Finished.{read_with, not_done, refused_with, when_refused, closed_as}
+use Rattle.rtgs_desk_cli.proofs.Finished.{read_with, not_done, refused_with, when_refused, closed_as, refused_of}
 use Rattle.rtgs_desk_cli.proofs.texts.show.Goals as goal
 
 pub returns-in-Ok-clause-printed : goal.returns-in-Ok-clause-printed
@@ -52,5 +52,5 @@ returns-in-Ok-clause-at g c =
     c.read.ensures.at book _ is
 
 pub returns-in-Err-clause-at : goal.returns-in-Err-clause-at
-returns-in-Err-clause-at g c = rw c.refused_file.ensures.touched
+returns-in-Err-clause-at g c = refused_of _ _ _ _ c.refused_file.ensures.touched
     (when_refused c.read.result _ c.read.ensures.of c.in-Err.unopened c.in-Err.ensures.unopened)
