@@ -61,11 +61,11 @@ fn book_of(
     marks: &[Mark],
 ) -> Result<Book, Fail> {
     let mut participants = Vec::new(alloc);
-    for code in codes {
+    for (place, code) in (0u8..=255).zip(codes) {
         participants.push(Participant {
             code: *code,
             name: Name::read(b"A Bank")?,
-            key: KeyDigest::from_bytes([participants.len() as u8; 32]),
+            key: KeyDigest::from_bytes([place; 32]),
             credit: Credit::NONE,
         })?;
     }

@@ -53,36 +53,54 @@ fn small_shelf(alloc: Global, state: OrderState) -> Result<Shelf, Fail> {
 }
 
 // ALFA's statement.
-fn small_statement<W: Write>(
-    alloc: Global,
-    out: &mut W,
-) -> Result<Result<(), BookTextFault>, Fail> {
+fn small_statement<W: Write>(alloc: Global, out: &mut W) -> Result<Ended, Fail> {
     let mut shelf = small_shelf(alloc, OrderState::Queued)?;
-    Ok(write_statement(alloc, out, &mut shelf, &code("ALFA")?, date(MONDAY)?))
+    let ended = write_statement(alloc, out, &mut shelf, &code("ALFA")?, date(MONDAY)?);
+    Ok(Ended::of(&ended))
 }
 
 // The report of that day.
-fn small_report<W: Write>(alloc: Global, out: &mut W) -> Result<Result<(), BookTextFault>, Fail> {
+fn small_report<W: Write>(alloc: Global, out: &mut W) -> Result<Ended, Fail> {
     let mut shelf = small_shelf(alloc, OrderState::Settled(1))?;
-    Ok(write_report(alloc, out, &mut shelf, date(MONDAY)?))
+    let ended = write_report(alloc, out, &mut shelf, date(MONDAY)?);
+    Ok(Ended::of(&ended))
 }
 
-fn is_writers(ended: &Result<(), BookTextFault>, kind: ErrorKind) -> bool {
-    matches!(ended, Err(BookTextFault::Text(TextFault::Write(error))) if error.kind() == kind)
+// How a text ended.
+#[derive(Clone, Copy, Debug, PartialEq, Eq)]
+enum Ended {
+    Whole,
+    WriterFailed,
+    NothingTaken,
+    Otherwise,
+}
+
+impl Ended {
+    fn of(ended: &Result<(), BookTextFault>) -> Ended {
+        match ended {
+            Ok(()) => Ended::Whole,
+            Err(BookTextFault::Text(TextFault::Write(error))) => match error.kind() {
+                ErrorKind::BrokenPipe => Ended::WriterFailed,
+                ErrorKind::WriteZero => Ended::NothingTaken,
+                _ => Ended::Otherwise,
+            },
+            Err(_) => Ended::Otherwise,
+        }
+    }
 }
 
 #[test]
 fn statement_ends_at_the_write_that_fails(rt: HostRuntime) -> Result<(), Fail> {
     let mut whole = Vec::new(rt.alloc());
-    assert!(rt; small_statement(rt.alloc(), &mut whole)?.is_ok());
+    assert_eq!(rt; small_statement(rt.alloc(), &mut whole)?, Ended::Whole);
     for calls in 0..whole.len() {
         let mut out = Narrow::new(rt.alloc(), 1, calls);
         let ended = small_statement(rt.alloc(), &mut out)?;
-        assert!(rt; is_writers(&ended, ErrorKind::BrokenPipe));
+        assert_eq!(rt; ended, Ended::WriterFailed);
         assert!(rt; out.taken.as_slice() == &whole[..calls]);
     }
     let mut out = Narrow::new(rt.alloc(), 1, whole.len());
-    assert!(rt; small_statement(rt.alloc(), &mut out)?.is_ok());
+    assert_eq!(rt; small_statement(rt.alloc(), &mut out)?, Ended::Whole);
     assert!(rt; out.taken.as_slice() == whole.as_slice());
     Ok(())
 }
@@ -90,18 +108,18 @@ fn statement_ends_at_the_write_that_fails(rt: HostRuntime) -> Result<(), Fail> {
 #[test]
 fn statement_is_written_line_by_line(rt: HostRuntime) -> Result<(), Fail> {
     let mut whole = Vec::new(rt.alloc());
-    assert!(rt; small_statement(rt.alloc(), &mut whole)?.is_ok());
+    assert_eq!(rt; small_statement(rt.alloc(), &mut whole)?, Ended::Whole);
     let title = "statement ALFA 2024-03-04\n".len();
     // A title, two rows and four sums, which are written at once.
     let ends = [0, title, title + 78, title + 156, whole.len()];
     for calls in 0..4 {
         let mut out = Narrow::new(rt.alloc(), 500, calls);
         let ended = small_statement(rt.alloc(), &mut out)?;
-        assert!(rt; is_writers(&ended, ErrorKind::BrokenPipe));
+        assert_eq!(rt; ended, Ended::WriterFailed);
         assert!(rt; out.taken.as_slice() == &whole[..ends[calls]]);
     }
     let mut out = Narrow::new(rt.alloc(), 500, 4);
-    assert!(rt; small_statement(rt.alloc(), &mut out)?.is_ok());
+    assert_eq!(rt; small_statement(rt.alloc(), &mut out)?, Ended::Whole);
     assert!(rt; out.taken.as_slice() == whole.as_slice());
     Ok(())
 }
@@ -109,15 +127,15 @@ fn statement_is_written_line_by_line(rt: HostRuntime) -> Result<(), Fail> {
 #[test]
 fn report_ends_at_the_byte_that_fails(rt: HostRuntime) -> Result<(), Fail> {
     let mut whole = Vec::new(rt.alloc());
-    assert!(rt; small_report(rt.alloc(), &mut whole)?.is_ok());
+    assert_eq!(rt; small_report(rt.alloc(), &mut whole)?, Ended::Whole);
     for calls in 0..whole.len() {
         let mut out = Narrow::new(rt.alloc(), 1, calls);
         let ended = small_report(rt.alloc(), &mut out)?;
-        assert!(rt; is_writers(&ended, ErrorKind::BrokenPipe));
+        assert_eq!(rt; ended, Ended::WriterFailed);
         assert!(rt; out.taken.as_slice() == &whole[..calls]);
     }
     let mut out = Narrow::new(rt.alloc(), 1, whole.len());
-    assert!(rt; small_report(rt.alloc(), &mut out)?.is_ok());
+    assert_eq!(rt; small_report(rt.alloc(), &mut out)?, Ended::Whole);
     assert!(rt; out.taken.as_slice() == whole.as_slice());
     Ok(())
 }
@@ -126,10 +144,10 @@ fn report_ends_at_the_byte_that_fails(rt: HostRuntime) -> Result<(), Fail> {
 fn write_that_takes_no_byte_is_a_fault(rt: HostRuntime) -> Result<(), Fail> {
     let mut out = Narrow::new(rt.alloc(), 0, 9);
     let ended = small_statement(rt.alloc(), &mut out)?;
-    assert!(rt; is_writers(&ended, ErrorKind::WriteZero));
+    assert_eq!(rt; ended, Ended::NothingTaken);
     assert!(rt; out.taken.is_empty());
     let ended = small_report(rt.alloc(), &mut out)?;
-    assert!(rt; is_writers(&ended, ErrorKind::WriteZero));
+    assert_eq!(rt; ended, Ended::NothingTaken);
     assert!(rt; out.taken.is_empty());
     Ok(())
 }
