@@ -226,7 +226,7 @@ fn main(rt: HostRuntime) -> Result<()> {
         return tell_memory(&rt, word.as_str(), file.as_str());
     }
     for orders in [0, 20_000, 200_000] {
-        measure_memory(&rt, orders, 1_000, true)?;
+        measure_memory(&rt, orders, 0, true)?;
     }
     measure_books(&rt)?;
     measure_the_rest(&rt)
