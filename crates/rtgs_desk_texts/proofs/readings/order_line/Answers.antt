@@ -1,4 +1,4 @@
-use Rattle.std.proofs.Common.{ap}
+use Rattle.std.proofs.Common.{Err, ap}
 use Rattle.rtgs_book.specs.Lookup.{participant_of, order_named}
 use Rattle.rtgs_http_bodies.specs.Readings.{order_data}
 use Rattle.rtgs_desk_texts.proofs.Writing.{refused_order}
