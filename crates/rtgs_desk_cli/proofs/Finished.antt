@@ -25,8 +25,8 @@ pub when_done : {B T E : Type 0} (finished : Result (B × T) E) (P : B × T → 
     (done : T) → finished ≡ Ok (book, done) → P (book, done)
 when_done finished P all book done is = subst (λ r. IfOk r P) is all
 
--- The name of a lock is that of the lock of the book that was closed. `bytes_of` gives the bytes of a name, and `name_of`
--- the name of a book's lock.
+-- The name of a lock is that of the lock of the book that was closed. `bytes_of` gives the bytes of a name, and
+-- `name_of` the name of a book's lock.
 pub closed_as : {B T E N : Type 0} (finished : Result (B × T) E) (bytes_of : N → List ℕ) (name_of : B → N)
     (closed : N) (name : List ℕ) → IfOk finished (λ p. closed ≡ name_of p.0)
     → IfOk finished (λ p. bytes_of (name_of p.0) ≡ name) → (book : B) (done : T) → finished ≡ Ok (book, done)

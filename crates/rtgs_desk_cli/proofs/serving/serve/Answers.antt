@@ -1,7 +1,8 @@
 use Rattle.std.proofs.Common.{refl, inl, inr, string_bytes}
 use Rattle.std.proofs.lemmas.Result.{IfErr-weaker}
 use Rattle.rtgs_desk_cli.specs.Runs.{IsNotListening}
-use Rattle.rtgs_desk_cli.proofs.Finished.{served_with, idle_with, not_done, refused_with, when_refused, closed_as, refused_of}
+use Rattle.rtgs_desk_cli.proofs.Finished.{served_with, idle_with, not_done, refused_with, when_refused}
+use Rattle.rtgs_desk_cli.proofs.Finished.{closed_as, refused_of}
 use Rattle.rtgs_desk_cli.proofs.serving.serve.Goals as goal
 
 pub returns-in-Ok-clause-printed : goal.returns-in-Ok-clause-printed
