@@ -1,5 +1,5 @@
 //! Whole requests that chance has changed, head and body.
-use super::draw::Draw;
+use super::super::draw::Draw;
 use super::edits::changed;
 use super::met::Met;
 use super::replies::{DONE, READ};

@@ -1,21 +1,19 @@
 //! Changes of a text, as chance would have them.
-use super::draw::Draw;
+use super::super::draw::Draw;
+use super::super::parts::{parts, spliced};
 use super::limits::{LIMITS, WORDS};
 use std::alloc::{AllocError, Global};
 
 /// What stands between two lines, or in its place.
 const JOINTS: [&[u8]; 8] = [b"", b" ", b"\n", b"\r", b", ", b"\r\n\r\n", b"\r\n ", b"\0"];
 
-// What stands before a value.
-const MARKS: &[u8] = b":,\n";
-
 /// The text with one change: of bytes, cut, without a part or with one twice, with two lines joined, or of a value.
 pub fn changed(alloc: Global, draw: &mut Draw, text: &[u8]) -> Result<Vec<u8>, AllocError> {
     match draw.below(6) {
         0 => flipped(alloc, draw, text),
         1 => cut(alloc, draw, text),
-        2 => without(alloc, draw, text),
-        3 => repeated(alloc, draw, text),
+        2 => repeated(alloc, draw, text, false),
+        3 => repeated(alloc, draw, text, true),
         4 => joined(alloc, draw, text),
         _ => revalued(alloc, draw, text),
     }
@@ -27,29 +25,6 @@ pub fn revalued(alloc: Global, draw: &mut Draw, text: &[u8]) -> Result<Vec<u8>, 
         0 => renumbered(alloc, draw, text),
         _ => reworded(alloc, draw, text),
     }
-}
-
-// The text in two parts at this place, or at its end.
-fn parts(text: &[u8], at: usize) -> (&[u8], &[u8]) {
-    match text.split_at_checked(at) {
-        Some(both) => both,
-        None => (text, b""),
-    }
-}
-
-// Two places, of which the second is not before the first, and so the three parts of the text.
-fn three_parts<'a>(draw: &mut Draw, text: &'a [u8]) -> (&'a [u8], &'a [u8], &'a [u8]) {
-    let (before, rest) = parts(text, draw.below(text.len()));
-    let (part, behind) = parts(rest, draw.below(rest.len()).saturating_add(1));
-    (before, part, behind)
-}
-
-fn sum_of(alloc: Global, parts: &[&[u8]]) -> Result<Vec<u8>, AllocError> {
-    let mut sum = Vec::new(alloc);
-    for part in parts {
-        sum.extend_from_slice(part)?;
-    }
-    Ok(sum)
 }
 
 // One to three bytes have another bit, or are others.
@@ -72,60 +47,64 @@ fn cut(alloc: Global, draw: &mut Draw, text: &[u8]) -> Result<Vec<u8>, AllocErro
     Vec::from_slice(alloc, before)
 }
 
-// A part is left out.
-fn without(alloc: Global, draw: &mut Draw, text: &[u8]) -> Result<Vec<u8>, AllocError> {
-    let (before, _, behind) = three_parts(draw, text);
-    sum_of(alloc, &[before, behind])
-}
-
-// A part stands twice.
-fn repeated(alloc: Global, draw: &mut Draw, text: &[u8]) -> Result<Vec<u8>, AllocError> {
-    let (before, part, behind) = three_parts(draw, text);
-    sum_of(alloc, &[before, part, part, behind])
+// A part is left out, or stands twice.
+fn repeated(
+    alloc: Global,
+    draw: &mut Draw,
+    text: &[u8],
+    is_twice: bool,
+) -> Result<Vec<u8>, AllocError> {
+    let at = draw.below(text.len());
+    let (_, rest) = parts(text, at);
+    let length = draw.below(rest.len()).saturating_add(1);
+    if is_twice {
+        let (part, _) = parts(rest, length);
+        return spliced(alloc, text, at, 0, part);
+    }
+    spliced(alloc, text, at, length, b"")
 }
 
 // Something else stands in place of one line end, or of one comma.
 fn joined(alloc: Global, draw: &mut Draw, text: &[u8]) -> Result<Vec<u8>, AllocError> {
-    let (before, rest) = parts(text, draw.below(text.len()));
+    let at = draw.below(text.len());
     let joint = JOINTS[draw.below(8) & 7];
-    let length = first(rest, b"\r\n,", true);
-    let (line, behind) = parts(rest, length.unwrap_or(0));
-    let (_, behind) = parts(behind, if behind.starts_with(b"\r\n") { 2 } else { 1 });
-    sum_of(alloc, &[before, line, joint, behind])
+    let (_, rest) = parts(text, at);
+    let length = first(rest, b"\r\n,", true).unwrap_or(0);
+    let (_, behind) = parts(rest, length);
+    let gone = if behind.starts_with(b"\r\n") { 2 } else { 1 };
+    spliced(alloc, text, at.saturating_add(length), gone, joint)
 }
 
 // A number at a limit stands in place of one number.
 fn renumbered(alloc: Global, draw: &mut Draw, text: &[u8]) -> Result<Vec<u8>, AllocError> {
-    let (before, rest) = parts(text, draw.below(text.len()));
+    let at = draw.below(text.len());
     let limit = LIMITS[draw.below(32) & 31].as_bytes();
-    let length = first(rest, b"0123456789", true);
-    let (others, behind) = parts(rest, length.unwrap_or(0));
-    let digits = first(behind, b"0123456789", false);
-    let (_, behind) = parts(behind, digits.unwrap_or(behind.len()));
-    sum_of(alloc, &[before, others, limit, behind])
+    let (_, rest) = parts(text, at);
+    let length = first(rest, b"0123456789", true).unwrap_or(0);
+    let (_, behind) = parts(rest, length);
+    let digits = first(behind, b"0123456789", false).unwrap_or(behind.len());
+    spliced(alloc, text, at.saturating_add(length), digits, limit)
 }
 
 // A word stands in place of one value: of what stands behind a colon or a comma, up to the next comma or bracket.
 fn reworded(alloc: Global, draw: &mut Draw, text: &[u8]) -> Result<Vec<u8>, AllocError> {
-    let (before, behind) = at_a_value(draw, text);
+    let at = value(draw, text);
+    let (_, behind) = parts(text, at);
     let among = if behind.starts_with(b"\"") { 13 } else { 32 };
     let word = WORDS[draw.below(among) & 31].as_bytes();
-    let end = first(behind, b",}\n\r", true);
-    let (_, behind) = parts(behind, end.unwrap_or(behind.len()));
-    sum_of(alloc, &[before, word, behind])
+    let length = first(behind, b",}\n\r", true).unwrap_or(behind.len());
+    spliced(alloc, text, at, length, word)
 }
 
-// The text in two parts where a value begins: the first one behind some place, or else the first of all.
-fn at_a_value<'a>(draw: &mut Draw, text: &'a [u8]) -> (&'a [u8], &'a [u8]) {
+// Where a value begins: the first one behind some place, or else the first of all.
+fn value(draw: &mut Draw, text: &[u8]) -> usize {
     let at = draw.below(text.len());
     let (_, rest) = parts(text, at);
-    match first(rest, MARKS, true) {
-        Some(length) => parts(text, at.saturating_add(length).saturating_add(1)),
-        None => parts(
-            text,
-            first(text, MARKS, true).unwrap_or(0).saturating_add(1),
-        ),
-    }
+    let mark = match first(rest, b":,\n", true) {
+        Some(length) => at.saturating_add(length),
+        None => first(text, b":,\n", true).unwrap_or(0),
+    };
+    mark.saturating_add(1)
 }
 
 // Where the first byte stands that is one of these, or the first that is not.

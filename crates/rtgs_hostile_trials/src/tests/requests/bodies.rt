@@ -1,5 +1,5 @@
 //! Bodies that chance has changed, each with its right length.
-use super::draw::Draw;
+use super::super::draw::Draw;
 use super::edits::{changed, revalued};
 use super::met::Met;
 use super::replies::{DONE, READ};

@@ -1,39 +1,41 @@
 //! Files that list more objects than a desk's file does.
-use super::pages::put;
-use super::setting::{NO_BOOK, begin_day, book_bytes, is_refused, keeps, remove, reports, write};
+use super::super::parts::spliced;
+use super::setting::{NO_BOOK, begin_day, book_bytes, is_told, keeps, remove, reports, write};
 use super::views::with_views;
 use sqlite::Connection;
 use std::test::Fail;
 
-// Whether a report on the book with so many views more is that on the book.
-fn is_opened(rt: &HostRuntime, book: &[u8], count: u32) -> Result<bool, Fail> {
-    write(rt, "crowded", book)?;
-    let (text, _) = keeps(rt, "crowded")?;
-    let file = with_views(rt.alloc(), book, count)?;
-    write(rt, "crowded", file.as_slice())?;
-    let (said, status) = keeps(rt, "crowded")?;
-    Ok(status == 0 && said.as_str() == text.as_str())
-}
-
-#[test]
-fn with_a_hundred_objects_at_most(rt: HostRuntime) -> Result<(), Fail> {
-    let book = book_bytes(&rt, "crowded")?;
-    for count in [1, 70, 71, 91] {
-        assert!(rt; is_opened(&rt, book.as_slice(), count)?, "{count} views");
-    }
-    remove(&rt, "crowded")
-}
-
-// An opening would compare each of them with each other. Of 30000 that would take minutes, and a test has one.
-const CROWDS: [u32; 8] = [92, 500, 1000, 2000, 4000, 8000, 16000, 30000];
+// Reports on the book with so many views more as on the book, up to a hundred objects, and is refused above that. An
+// opening would compare each of them with each other. Of 30000 that would take minutes, and a test has one.
+const CROWDS: [(u32, bool); 12] = [
+    (1, true),
+    (70, true),
+    (71, true),
+    (91, true),
+    (92, false),
+    (500, false),
+    (1000, false),
+    (2000, false),
+    (4000, false),
+    (8000, false),
+    (16000, false),
+    (30000, false),
+];
 
 #[test]
 fn with_more_objects(rt: HostRuntime) -> Result<(), Fail> {
     let book = book_bytes(&rt, "crowd")?;
-    for count in CROWDS {
+    write(&rt, "crowd", book.as_slice())?;
+    let (text, status) = keeps(&rt, "crowd")?;
+    assert_eq!(rt; status, 0, "{text}");
+    for (count, is_opened) in CROWDS {
         let file = with_views(rt.alloc(), book.as_slice(), count)?;
         write(&rt, "crowd", file.as_slice())?;
-        is_refused(&rt, "crowd", NO_BOOK)?;
+        is_told(
+            &rt,
+            "crowd",
+            if is_opened { text.as_str() } else { NO_BOOK },
+        )?;
     }
     remove(&rt, "crowd")
 }
@@ -56,7 +58,7 @@ fn with_objects_in_the_log(rt: HostRuntime) -> Result<(), Fail> {
     let (said, status) = reports(&rt, "logged")?;
     assert_eq!(rt; status, 0, "{said}");
     leave_views(&rt, "logged", 92, 92)?;
-    is_refused(&rt, "logged", NO_BOOK)?;
+    is_told(&rt, "logged", NO_BOOK)?;
     remove(&rt, "logged")
 }
 
@@ -65,10 +67,10 @@ fn with_objects_in_the_log(rt: HostRuntime) -> Result<(), Fail> {
 fn with_pages_that_lack_their_sums(rt: HostRuntime) -> Result<(), Fail> {
     let book = book_bytes(&rt, "sums")?;
     for count in [1, 8000] {
-        let mut file = with_views(rt.alloc(), book.as_slice(), count)?;
-        put(file.as_mut_slice(), 20, &[8, 64, 32, 32]);
-        write(&rt, "sums", file.as_slice())?;
-        is_refused(&rt, "sums", NO_BOOK)?;
+        let file = with_views(rt.alloc(), book.as_slice(), count)?;
+        let other = spliced(rt.alloc(), file.as_slice(), 20, 4, &[8, 64, 32, 32])?;
+        write(&rt, "sums", other.as_slice())?;
+        is_told(&rt, "sums", NO_BOOK)?;
     }
     remove(&rt, "sums")
 }

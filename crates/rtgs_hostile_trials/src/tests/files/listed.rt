@@ -1,5 +1,5 @@
 //! Files that are no sound book, one by one, and what a report on each prints.
-use super::setting::{NO_BOOK, begin_day, end_day, is_refused, meddle, remove, reports, write};
+use super::setting::{NO_BOOK, are_told, is_told, remove, reports};
 use std::fs;
 use std::test::Fail;
 
@@ -24,21 +24,10 @@ fn that_are_no_database(rt: HostRuntime) -> Result<(), Fail> {
         &[0; 8192],
     ];
     for content in contents {
-        write(&rt, "no_database", content)?;
-        is_refused(&rt, "no_database", NO_BOOK)?;
+        fs::write(&rt, "no_database", content)?;
+        is_told(&rt, "no_database", NO_BOOK)?;
     }
-    Ok(())
-}
-
-/// A book in which this was changed is refused with this text.
-fn changed(rt: &HostRuntime, file: &str, rows: &[(&str, &str)]) -> Result<(), Fail> {
-    let bytes = fs::read(rt, file)?;
-    for (sql, text) in rows {
-        write(rt, file, bytes.as_slice())?;
-        meddle(rt, file, sql)?;
-        is_refused(rt, file, text)?;
-    }
-    remove(rt, file)
+    remove(&rt, "no_database")
 }
 
 const NO_DESK: [(&str, &str); 7] = [
@@ -53,8 +42,7 @@ const NO_DESK: [(&str, &str); 7] = [
 
 #[test]
 fn whose_tables_are_no_desks(rt: HostRuntime) -> Result<(), Fail> {
-    begin_day(&rt, "no_desk")?;
-    changed(&rt, "no_desk", &NO_DESK)
+    are_told(&rt, "no_desk", false, "", &NO_DESK)
 }
 
 // Leaves the orders numbered 1 and 3, of which the first has settled, with its mark and the balances that it gave.
@@ -86,8 +74,7 @@ const UNSOUND: [(&str, &str); 6] = [
 
 #[test]
 fn whose_book_is_unsound(rt: HostRuntime) -> Result<(), Fail> {
-    begin_day(&rt, "unsound")?;
-    changed(&rt, "unsound", &UNSOUND)
+    are_told(&rt, "unsound", false, "", &UNSOUND)
 }
 
 // Orders without a third one, and a queued order once the day is closed. In the last row nothing adds up besides.
@@ -108,6 +95,5 @@ const ENDED: [(&str, &str); 3] = [
 
 #[test]
 fn whose_book_is_unsound_once_its_day_is_closed(rt: HostRuntime) -> Result<(), Fail> {
-    end_day(&rt, "ended")?;
-    changed(&rt, "ended", &ENDED)
+    are_told(&rt, "ended", true, "", &ENDED)
 }
