@@ -1,8 +1,6 @@
 //! What keeps a book.
 ghost use Rattle.std.specs.Prelude.{◌≡◌, ◌≢◌, ◌⊎◌, Bool, true, false, Err, IfOk, IfErr, OnOk};
 ghost use Rattle.rtgs_book.specs.Lookup.{order_named, posting_named};
-ghost use Rattle.rtgs_book.specs.Ranges.{Fits};
-ghost use Rattle.rtgs_book.specs.Soundness.{IsSound};
 ghost use Rattle.rtgs_cores.specs.Cores.{IsCoreOf};
 ghost use Rattle.rtgs_cores.specs.Nexts.{posting_after, order_after, mark_after};
 ghost use Rattle.rtgs_book.specs.declared.Book.{Book};
@@ -11,7 +9,7 @@ ghost use Rattle.rtgs_book.specs.declared.Rule.{Rule};
 ghost use Rattle.rtgs_book.specs.Changes.{IsChange};
 
 use crate::commit_fault::CommitFault;
-use rtgs_book::{Book, Change, Fault, Mark, Order, Posting};
+use rtgs_book::{Change, Fault, Mark, Order, Posting};
 use rtgs_cores::Core;
 use rtgs_money::{BusinessDate, Code, Reference};
 use std::alloc::Global;
@@ -30,8 +28,8 @@ pub trait Keeper {
     // The store returned what was written to it, and nobody else wrote.
     ghost is_honest: { Self → Type 0 };
 
-    // The tables are such as a keeper of this kind makes, whatever rows they have. Of these a load gives a book only
-    // where it is kept.
+    // The tables are such as a keeper of this kind makes, whatever rows they have. Over these the core of a book is
+    // given only where the book is kept.
     ghost has_tables: { Self → Type 0 };
 
     // Nothing was ever kept, no new book either.
@@ -46,31 +44,8 @@ pub trait Keeper {
     // In the store's own terms: what a crash of the second leaves is what one of the first could leave.
     ghost leaves_no_more: { Self → Self → Type 0 };
 
-    // What a load may answer in place of a book, whatever is kept.
+    // What may be answered in place of the core of a book, whatever is kept.
     ghost explains: { Self → Fault → Type 0 };
-
-    /// Gives the book that is kept. On a keeper that has failed it is `StoreFault`, and nothing is done.
-    fn load(&mut self, alloc: Global) -> Result<Book, Fault>
-        ensures honest { is_honest self.new → is_honest self.old }
-        ensures given { is_honest self.new → (book : Book) → content self.old book
-            → IfOk result (λ loaded. loaded ≡ book) }
-        ensures accepted { is_honest self.new → (book : Book) → content self.old book
-            → IfErr result (λ fault. (fault ≡ Fault.OutOfMemory) ⊎ (fault ≡ Fault.StoreFault)) }
-        ensures explained { is_honest self.new → IfErr result (explains self.old) }
-        ensures shown { is_honest self.new → IfOk result (shows self.old) }
-        ensures kept { is_honest self.new → has_tables self.old → IfOk result (content self.new) }
-        ensures empty { is_honest self.new → is_empty self.old
-            → IfOk result (λ _. ⊥) × ((rule : Rule) → result ≢ Err (Fault.Inconsistent rule)) }
-        ensures sound { IfOk result IsSound }
-        ensures fits { IfOk result Fits }
-        ensures same { is_honest self.new → (book : Book) → content self.old book → result ≢ Err Fault.StoreFault
-            → content self.new book }
-        ensures stops { is_honest self.new → (other : Book) → leaves self.new other → leaves self.old other }
-        ensures untouched { is_honest self.new → leaves_no_more self.old self.new }
-        ensures whole { is_honest self.new → is_whole self.old → is_whole self.new }
-        ensures fault { result ≡ Err Fault.StoreFault → has_failed self.new ≡ true }
-        ensures only_fault { result ≢ Err Fault.StoreFault → has_failed self.new ≡ has_failed self.old }
-        ensures failed { has_failed self.old ≡ true → (result ≡ Err Fault.StoreFault) × (self.new ≡ self.old) };
 
     /// Gives what the desk needs of the book that is kept, which is judged as a whole. On a keeper that has failed it
     /// is `StoreFault`, and nothing is done.
@@ -94,11 +69,7 @@ pub trait Keeper {
         ensures whole { is_honest self.new → is_whole self.old → is_whole self.new }
         ensures fault { result ≡ Err Fault.StoreFault → has_failed self.new ≡ true }
         ensures only_fault { result ≢ Err Fault.StoreFault → has_failed self.new ≡ has_failed self.old }
-        ensures failed { has_failed self.old ≡ true → (result ≡ Err Fault.StoreFault) × (self.new ≡ self.old) }
-    {
-        let book = self.load(alloc)?;
-        Ok(Core::of(alloc, &book)?)
-    }
+        ensures failed { has_failed self.old ≡ true → (result ≡ Err Fault.StoreFault) × (self.new ≡ self.old) };
 
     /// The order that the sender gave this reference, where the book has one. On a keeper that has failed it is
     /// `StoreFault`, and nothing is done; so with each look-up and each next.

@@ -1,15 +1,19 @@
 //! A book in memory.
-ghost use Rattle.std.specs.Prelude.{◌≡◌, ◌+◌, ◌<◌, ◌≤◌, false, not, List, [], ◌∷◌, ◌++◌, map, filter, count_by, IfOk};
-ghost use Rattle.std.specs.Prelude.{OnOk, if◌then◌else◌};
+ghost use Rattle.std.specs.Prelude.{◌≡◌, ◌≢◌, ◌+◌, ◌<◌, ◌≤◌, false, not, List, [], ◌∷◌, ◌++◌, map, filter, count_by};
+ghost use Rattle.std.specs.Prelude.{Err, IfOk, IfErr, OnOk, if◌then◌else◌};
 ghost use Rattle.std.specs.List.{find};
 ghost use Rattle.std.specs.Vec.{vec_len, vec_capacity};
+ghost use Rattle.rtgs_book.specs.declared.Book.{Book as BookSpec};
+ghost use Rattle.rtgs_book.specs.declared.Fault.{Fault};
 ghost use Rattle.rtgs_book.specs.declared.Order.{Order as OrderSpec};
 ghost use Rattle.rtgs_book.specs.declared.Participant.{Participant as ParticipantSpec};
 ghost use Rattle.rtgs_book.specs.declared.RowChange.{RowChange as RowChangeSpec};
 ghost use Rattle.rtgs_book.specs.Books.{new_book};
 ghost use Rattle.rtgs_book.specs.Changes.{changed, with_row};
 ghost use Rattle.rtgs_book.specs.Commands.{has_number, is_before};
+ghost use Rattle.rtgs_book.specs.Judgement.{Explains};
 ghost use Rattle.rtgs_book.specs.Lookup.{has_code, is_order_named, is_posting_named};
+ghost use Rattle.rtgs_book.specs.Ranges.{Fits};
 ghost use Rattle.rtgs_book.specs.Settle.{restated};
 ghost use Rattle.rtgs_book.specs.Soundness.{AreNumbered, OrdersAreNumbered, IsSound};
 ghost use Rattle.rtgs_cores.specs.Nexts.{is_posting_after, is_order_after, is_mark_after};
@@ -22,6 +26,7 @@ use rtgs_book::laws::new_book_is_sound;
 use rtgs_book::{
     Book, Change, Day, Fault, Mark, Order, OrderState, Participant, Phase, Posting, RowChange, Rows,
 };
+use rtgs_cores::Core;
 use rtgs_money::{BusinessDate, Code, Credit, Reference};
 use std::alloc::{AllocError, Global};
 
@@ -52,6 +57,25 @@ impl MemoryKeeper {
                 phase: Phase::Closed,
             },
         }
+    }
+
+    /// Gives a copy of the book, once it is seen to be sound. Else the fault names the first rule that it breaks, or
+    /// memory was refused. Nothing changes.
+    pub fn load(&mut self, alloc: Global) -> Result<Book, Fault>
+        ensures given { (book : BookSpec) → KeepsBook self.old book → IfOk result (λ loaded. loaded ≡ book) }
+        ensures accepted { (book : BookSpec) → KeepsBook self.old book
+            → IfErr result (λ fault. fault ≡ Fault.OutOfMemory) }
+        ensures explained { IfErr result (Explains (book_of self.old)) }
+        ensures shown { IfOk result (λ book. book ≡ book_of self.old) }
+        ensures kept { IfOk result (KeepsBook self.new) }
+        ensures sound { IfOk result IsSound }
+        ensures fits { IfOk result Fits }
+        ensures same { self.new ≡ self.old }
+        ensures fault { result ≢ Err Fault.StoreFault }
+    {
+        let book = self.copied(alloc)?;
+        book.check()?;
+        Ok(book)
     }
 
     // A copy of the book.
@@ -158,10 +182,9 @@ impl Keeper for MemoryKeeper {
 
     ghost whole = { λ k book kept. (book, kept) };
 
-    fn load(&mut self, alloc: Global) -> Result<Book, Fault> {
-        let book = self.copied(alloc)?;
-        book.check()?;
-        Ok(book)
+    fn core(&mut self, alloc: Global) -> Result<Core, Fault> {
+        let book = self.load(alloc)?;
+        Ok(Core::of(alloc, &book)?)
     }
 
     fn find_order(&mut self, sender: &Code, reference: &Reference) -> Result<Option<Order>, Fault> {

@@ -73,6 +73,13 @@ answered met fault kind (Err told_fault) was told e =
     let is : fault ≡ kind = cc in
     ap Err (told ∙ is)
 
+-- and what holds of the one holds of the other
+pub passed_on : {A B : Type 0} (P : Fault → Type 0) (met : Result A Fault) (fault : Fault) (answer : Result B Fault)
+    → met ≡ Err fault → IsErrAnd answer (λ told. told ≡ fault) → IfErr met P → IfErr answer P
+passed_on P met fault (Ok b) was told holds = tt
+passed_on {A = A} P met fault (Err told_fault) was told holds =
+    subst P (sym told) (subst (λ (r : Result A Fault). IfErr r P) was holds)
+
 -- what was read was judged
 pub judged_book : (stored accounts : List Account) (read book : Book) (answer : Result Book Fault) → read ≡ book
     → stored ≡ accounts → IfOk answer (λ it. it ≡ read) → OnOk answer (AreBalances read stored)

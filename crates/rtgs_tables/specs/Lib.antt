@@ -4,5 +4,6 @@ pub mod Building
 pub mod Accounts
 pub mod Numbers
 pub mod Displaying
+pub mod Loading
 pub mod Finding
 pub mod Seeking

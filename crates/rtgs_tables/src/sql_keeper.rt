@@ -1,14 +1,20 @@
 //! A book in the tables of a connection.
 ghost use Rattle.std.specs.Prelude.{◌≡◌, ◌≢◌, ◌⊎◌, true, false, Err, IfOk, IfErr};
 ghost use Rattle.rtgs_book.specs.declared.Book.{Book};
-ghost use Rattle.rtgs_rows.specs.Keeping.{IsBookOf, HoldsBook, MayLeave};
+ghost use Rattle.rtgs_book.specs.declared.Fault.{Fault};
+ghost use Rattle.rtgs_book.specs.declared.Rule.{Rule};
+ghost use Rattle.rtgs_rows.specs.Keeping.{IsBookOf, HoldsBook, MayLeave, IsWhole};
+ghost use Rattle.rtgs_rows.specs.Querying.{HasTables};
 ghost use Rattle.rtgs_book.specs.Books.{new_book};
+ghost use Rattle.rtgs_book.specs.Ranges.{Fits};
+ghost use Rattle.rtgs_book.specs.Soundness.{IsSound};
 ghost use Rattle.rtgs_tables.specs.Building.{IsBlank, IsNoneOrNew};
 ghost use Rattle.sqlite.specs.State.{HasCleanDisk, IsLive, IsUnchanged, Opens, Survives};
 ghost use Rattle.sqlite.specs.Held.{state};
 ghost use Rattle.sqlite.specs.Tree.{Trees};
 ghost use Rattle.rtgs_rows.specs.Content.{Content, Holds, HasNoTables};
 ghost use Rattle.rtgs_tables.specs.Faults.{LookFailed};
+ghost use Rattle.rtgs_tables.specs.Loading.{ExplainsLoad, ShowsBalanced, LeavesNoMore};
 ghost use Rattle.rtgs_tables.specs.Stops.{IsBefore};
 ghost use Rattle.rtgs_rows.specs.RowLaws.{RowsTellTheBook, TablesOfABookAreWhole, TablesOfABookAreWhole-prop};
 
@@ -21,6 +27,7 @@ use crate::seeking::next_of;
 use crate::staging::{Stopped, write};
 use rtgs_book::laws::new_book_is_sound;
 use rtgs_book::{Book, Change, Fault, Mark, Order, Posting};
+use rtgs_cores::Core;
 use rtgs_cores::laws::records_are_listed;
 use rtgs_keeper::{CommitFault, Keeper};
 use rtgs_money::{BusinessDate, Code, Reference};
@@ -96,6 +103,49 @@ impl<S: Alter + Drop> SqlKeeper<S> {
         }
     }
 
+    /// Gives the book that the tables hold, which is judged: a book that is given is sound, and its stored balances are
+    /// the sums from scratch. On a keeper that has failed it is `StoreFault`, and nothing is done.
+    pub fn load(&mut self, alloc: Global) -> Result<Book, Fault>
+        ensures honest { HasCleanDisk (state S.Store self.new.conn) → HasCleanDisk (state S.Store self.old.conn) }
+        ensures given { HasCleanDisk (state S.Store self.new.conn) → (book : Book)
+            → HoldsBook S.Store self.old.conn book → IfOk result (λ loaded. loaded ≡ book) }
+        ensures accepted { HasCleanDisk (state S.Store self.new.conn) → (book : Book)
+            → HoldsBook S.Store self.old.conn book
+            → IfErr result (λ fault. (fault ≡ Fault.OutOfMemory) ⊎ (fault ≡ Fault.StoreFault)) }
+        ensures explained { HasCleanDisk (state S.Store self.new.conn)
+            → IfErr result (ExplainsLoad (state S.Store self.old.conn)) }
+        ensures shown { HasCleanDisk (state S.Store self.new.conn)
+            → IfOk result (ShowsBalanced (state S.Store self.old.conn)) }
+        ensures kept { HasCleanDisk (state S.Store self.new.conn) → HasTables S.Store self.old.conn
+            → IfOk result (HoldsBook S.Store self.new.conn) }
+        ensures empty { HasCleanDisk (state S.Store self.new.conn) → IsBlank (state S.Store self.old.conn)
+            → IfOk result (λ _. ⊥) × ((rule : Rule) → result ≢ Err (Fault.Inconsistent rule)) }
+        ensures sound { IfOk result IsSound }
+        ensures fits { IfOk result Fits }
+        ensures same { HasCleanDisk (state S.Store self.new.conn) → (book : Book)
+            → HoldsBook S.Store self.old.conn book → result ≢ Err Fault.StoreFault
+            → HoldsBook S.Store self.new.conn book }
+        ensures stops { HasCleanDisk (state S.Store self.new.conn) → (other : Book)
+            → MayLeave S.Store self.new.conn other → MayLeave S.Store self.old.conn other }
+        ensures untouched { HasCleanDisk (state S.Store self.new.conn)
+            → LeavesNoMore (state S.Store self.old.conn) (state S.Store self.new.conn) }
+        ensures whole { HasCleanDisk (state S.Store self.new.conn) → IsWhole S.Store self.old.conn
+            → IsWhole S.Store self.new.conn }
+        ensures fault { result ≡ Err Fault.StoreFault → self.new.failed ≡ true }
+        ensures only_fault { result ≢ Err Fault.StoreFault → self.new.failed ≡ self.old.failed }
+        ensures failed { self.old.failed ≡ true → (result ≡ Err Fault.StoreFault) × (self.new ≡ self.old) }
+    {
+        if self.failed {
+            return Err(Fault::StoreFault);
+        }
+        laws::records_stand_in_order();
+        let loaded = load_book(alloc, &mut self.conn);
+        if let Err(Fault::StoreFault) = loaded {
+            self.failed = true;
+        }
+        loaded
+    }
+
     /// The connection.
     pub fn into_connection(self) -> Connection<S>
         ensures { result ≡ self.conn }
@@ -108,13 +158,9 @@ impl<S: Alter + Drop> SqlKeeper<S> {
 impl<S: Alter + Drop> Keeper for SqlKeeper<S> {
     ghost use Rattle.rtgs_rows.specs.Keeping.{HoldsBook, MayLeave, IsWhole};
     ghost use Rattle.rtgs_rows.specs.Settling as settling;
-    ghost use Rattle.rtgs_rows.specs.Querying.{HasTables, IsDeskFile};
-    ghost use Rattle.sqlite.specs.Tree.{Trees};
+    ghost use Rattle.rtgs_rows.specs.Querying.{HasTables};
     ghost use Rattle.rtgs_tables.specs.Building.{IsBlank};
-    ghost use Rattle.rtgs_book.specs.declared.account.Account.{Account as AccountSpec};
-    ghost use Rattle.rtgs_tables.specs.Accounts.{HasRecords, ExplainsRead, ExplainsTrees, IsShown};
-    ghost use Rattle.rtgs_tables.specs.Displaying.{IsDisplayed, ExplainsDatabase};
-    ghost use Rattle.std.specs.Prelude.{List};
+    ghost use Rattle.rtgs_tables.specs.Loading.{ExplainsLoad, ShowsBalanced, LeavesNoMore};
 
     ghost content = { λ k. HoldsBook S.Store k.conn };
 
@@ -128,16 +174,11 @@ impl<S: Alter + Drop> Keeper for SqlKeeper<S> {
 
     ghost is_whole = { λ k. IsWhole S.Store k.conn };
 
-    ghost explains = { λ k fault. ((accounts : List AccountSpec) (book : Book)
-        → HasRecords accounts book (state S.Store k.conn) → ExplainsRead accounts book fault)
-        × (((trees : Trees) → IsDeskFile trees (state S.Store k.conn) → ExplainsTrees trees fault)
-        × ExplainsDatabase (state S.Store k.conn).now fault) };
+    ghost explains = { λ k. ExplainsLoad (state S.Store k.conn) };
 
-    ghost shows = { λ k book. ((trees : Trees) → IsDeskFile trees (state S.Store k.conn) → IsShown trees book)
-        × IsDisplayed (state S.Store k.conn).now book };
+    ghost shows = { λ k. ShowsBalanced (state S.Store k.conn) };
 
-    ghost leaves_no_more = { λ old new. (trees : Trees) → (state S.Store new.conn).may_leave trees
-        → (state S.Store old.conn).may_leave trees };
+    ghost leaves_no_more = { λ old new. LeavesNoMore (state S.Store old.conn) (state S.Store new.conn) };
 
     ghost is_honest = { λ k. HasCleanDisk (state S.Store k.conn) };
 
@@ -149,16 +190,9 @@ impl<S: Alter + Drop> Keeper for SqlKeeper<S> {
 
     ghost whole = { λ k. settling.whole (record { view = S.Store.view; faults = S.Store.faults; recovers = S.Store.recovers; is_shielded = S.Store.is_shielded; is_step = S.Store.is_step; blamed = S.Store.blamed; names = S.Store.names }) k.conn (S.Store.settled k.conn.store) };
 
-    fn load(&mut self, alloc: Global) -> Result<Book, Fault> {
-        if self.failed {
-            return Err(Fault::StoreFault);
-        }
-        laws::records_stand_in_order();
-        let loaded = load_book(alloc, &mut self.conn);
-        if let Err(Fault::StoreFault) = loaded {
-            self.failed = true;
-        }
-        loaded
+    fn core(&mut self, alloc: Global) -> Result<Core, Fault> {
+        let book = self.load(alloc)?;
+        Ok(Core::of(alloc, &book)?)
     }
 
     fn find_order(&mut self, sender: &Code, reference: &Reference) -> Result<Option<Order>, Fault> {

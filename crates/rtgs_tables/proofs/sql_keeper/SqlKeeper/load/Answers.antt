@@ -7,7 +7,7 @@ use Rattle.rtgs_tables.proofs.Settling.{leaves_less}
 use Rattle.rtgs_tables.proofs.Keeps.{leaves_on}
 use Rattle.rtgs_tables.proofs.Together.{kept_book, shown_always}
 use Rattle.rtgs_tables.proofs.Judging.{accepted, explained, the_book}
-use Rattle.rtgs_tables.proofs.sql_keeper.SqlKeeperKeeper.load.Goals as goal
+use Rattle.rtgs_tables.proofs.sql_keeper.SqlKeeper.load.Goals as goal
 
 pub returns-else-self-2-clause-given : goal.returns-else-self-2-clause-given
 returns-else-self-2-clause-given g c clean book holds =
