@@ -54,10 +54,6 @@ impl<K: Keeper> Keeper for CountingKeeper<'_, K> {
 
     ghost whole = { λ keeper. K.whole keeper.kept };
 
-    fn load(&mut self, alloc: Global) -> Result<rtgs_book::Book, Fault> {
-        self.kept.load(alloc)
-    }
-
     fn core(&mut self, alloc: Global) -> Result<Core, Fault> {
         self.kept.core(alloc)
     }

@@ -65,7 +65,11 @@ fn begun<K: Keeper + Drop>(alloc: Global, keeper: K) -> Result<Desk<K>, Fail> {
 
 /// The book that the desk begins with.
 pub fn book_before(alloc: Global) -> Result<Book, Fail> {
-    Ok(begun(alloc, MemoryKeeper::new(alloc))?.into_keeper().load(alloc)?)
+    Ok(
+        begun(alloc, MemoryKeeper::new(alloc))?
+            .into_keeper()
+            .load(alloc)?,
+    )
 }
 
 fn are_same<T: PartialEq>(one: &Rows<T>, other: &Rows<T>) -> bool {
@@ -81,7 +85,11 @@ fn is_same_book(one: &Book, other: &Book) -> bool {
 }
 
 // What the desk tells of an input, and its keeper then.
-fn answered<K: Keeper + Drop>(alloc: Global, mut desk: Desk<K>, input: &[u8]) -> Result<(u8, K), Fail> {
+fn answered<K: Keeper + Drop>(
+    alloc: Global,
+    mut desk: Desk<K>,
+    input: &[u8],
+) -> Result<(u8, K), Fail> {
     let operator = Key::read(OPERATOR.as_bytes())?.digest();
     let mut reader = input;
     let mut written = Vec::new(alloc);
