@@ -28,14 +28,11 @@ fn with_more_objects(rt: HostRuntime) -> Result<(), Fail> {
     write(&rt, "crowd", book.as_slice())?;
     let (text, status) = keeps(&rt, "crowd")?;
     assert_eq!(rt; status, 0, "{text}");
-    for (count, is_opened) in CROWDS {
-        let file = with_views(rt.alloc(), book.as_slice(), count)?;
+    for (count, is_opened) in &CROWDS {
+        let file = with_views(rt.alloc(), book.as_slice(), *count)?;
         write(&rt, "crowd", file.as_slice())?;
-        is_told(
-            &rt,
-            "crowd",
-            if is_opened { text.as_str() } else { NO_BOOK },
-        )?;
+        let told = if *is_opened { text.as_str() } else { NO_BOOK };
+        is_told(&rt, "crowd", told)?;
     }
     remove(&rt, "crowd")
 }

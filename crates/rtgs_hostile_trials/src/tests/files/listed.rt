@@ -1,5 +1,5 @@
 //! Files that are no sound book, one by one, and what a report on each prints.
-use super::setting::{NO_BOOK, are_told, is_told, remove, reports};
+use super::setting::{NO_BOOK, are_told, is_told, remove, reports, write};
 use std::fs;
 use std::test::Fail;
 
@@ -11,23 +11,29 @@ fn without_a_file(rt: HostRuntime) -> Result<(), Fail> {
     Ok(())
 }
 
+const NO_DATABASE: [&[u8]; 8] = [
+    b"",
+    b"S",
+    b"SQLite format 3",
+    b"SQLite format 3\0",
+    b"SQLite format 4\0 and nothing that is known.",
+    b"A text that is no database at all.\n",
+    &[b'S'; 8192],
+    &[0; 8192],
+];
+
+// A file with each of these contents is no book's.
+fn are_no_books(rt: &HostRuntime, file: &str, contents: &[&[u8]]) -> Result<(), Fail> {
+    for content in contents {
+        write(rt, file, *content)?;
+        is_told(rt, file, NO_BOOK)?;
+    }
+    remove(rt, file)
+}
+
 #[test]
 fn that_are_no_database(rt: HostRuntime) -> Result<(), Fail> {
-    let contents: [&[u8]; 8] = [
-        b"",
-        b"S",
-        b"SQLite format 3",
-        b"SQLite format 3\0",
-        b"SQLite format 4\0 and nothing that is known.",
-        b"A text that is no database at all.\n",
-        &[b'S'; 8192],
-        &[0; 8192],
-    ];
-    for content in contents {
-        fs::write(&rt, "no_database", content)?;
-        is_told(&rt, "no_database", NO_BOOK)?;
-    }
-    remove(&rt, "no_database")
+    are_no_books(&rt, "no_database", &NO_DATABASE)
 }
 
 const NO_DESK: [(&str, &str); 7] = [

@@ -1,7 +1,7 @@
 //! Changes of a text, as chance would have them.
 use super::super::draw::Draw;
 use super::super::parts::{parts, spliced};
-use super::limits::{LIMITS, WORDS};
+use super::limits::{limit, word};
 use std::alloc::{AllocError, Global};
 
 /// What stands between two lines, or in its place.
@@ -78,12 +78,18 @@ fn joined(alloc: Global, draw: &mut Draw, text: &[u8]) -> Result<Vec<u8>, AllocE
 // A number at a limit stands in place of one number.
 fn renumbered(alloc: Global, draw: &mut Draw, text: &[u8]) -> Result<Vec<u8>, AllocError> {
     let at = draw.below(text.len());
-    let limit = LIMITS[draw.below(32) & 31].as_bytes();
+    let number = limit(draw.below(32));
     let (_, rest) = parts(text, at);
     let length = first(rest, b"0123456789", true).unwrap_or(0);
     let (_, behind) = parts(rest, length);
     let digits = first(behind, b"0123456789", false).unwrap_or(behind.len());
-    spliced(alloc, text, at.saturating_add(length), digits, limit)
+    spliced(
+        alloc,
+        text,
+        at.saturating_add(length),
+        digits,
+        number.as_bytes(),
+    )
 }
 
 // A word stands in place of one value: of what stands behind a colon or a comma, up to the next comma or bracket.
@@ -91,9 +97,9 @@ fn reworded(alloc: Global, draw: &mut Draw, text: &[u8]) -> Result<Vec<u8>, Allo
     let at = value(draw, text);
     let (_, behind) = parts(text, at);
     let among = if behind.starts_with(b"\"") { 13 } else { 32 };
-    let word = WORDS[draw.below(among) & 31].as_bytes();
+    let other = word(draw.below(among));
     let length = first(behind, b",}\n\r", true).unwrap_or(behind.len());
-    spliced(alloc, text, at, length, word)
+    spliced(alloc, text, at, length, other.as_bytes())
 }
 
 // Where a value begins: the first one behind some place, or else the first of all.

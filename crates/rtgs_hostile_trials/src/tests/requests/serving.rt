@@ -2,7 +2,7 @@
 use super::counting_keeper::CountingKeeper;
 use super::replies::{DONE, told_by};
 use super::sent::{ALFA, OPERATOR};
-use rtgs_book::{Book, Command, Rows};
+use rtgs_book::{Book, Command};
 use rtgs_desk::Desk;
 use rtgs_http_banks::{Served, serve_one};
 use rtgs_keeper::{Keeper, MemoryKeeper};
@@ -72,15 +72,11 @@ pub fn book_before(alloc: Global) -> Result<Book, Fail> {
     )
 }
 
-fn are_same<T: PartialEq>(one: &Rows<T>, other: &Rows<T>) -> bool {
-    one.as_slice() == other.as_slice()
-}
-
 fn is_same_book(one: &Book, other: &Book) -> bool {
-    are_same(&one.participants, &other.participants)
-        && are_same(&one.postings, &other.postings)
-        && are_same(&one.orders, &other.orders)
-        && are_same(&one.marks, &other.marks)
+    one.participants.as_slice() == other.participants.as_slice()
+        && one.postings.as_slice() == other.postings.as_slice()
+        && one.orders.as_slice() == other.orders.as_slice()
+        && one.marks.as_slice() == other.marks.as_slice()
         && one.day == other.day
 }
 
