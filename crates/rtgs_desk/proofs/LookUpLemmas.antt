@@ -12,7 +12,7 @@ use Rattle.rtgs_cores.specs.declared.Core.{Core}
 use Rattle.rtgs_cores.specs.Cores.{IsCoreOf}
 use Rattle.rtgs_keeper.specs.declared.keeper.Keeper.{Ghosts}
 use Rattle.rtgs_statements.specs.Reads.{IsRead}
-use Rattle.rtgs_desk.specs.Holding.{Holds, IsLeft}
+use Rattle.rtgs_desk.specs.Holding.{Holds, IsLeft, KeepsAsBefore}
 use Rattle.rtgs_desk.specs.LookUps.{LooksUp, refusal_of}
 use Rattle.rtgs_desk.specs.Seen.{Seen}
 use Rattle.rtgs_desk.proofs.HoldingLemmas.{in_memory, holding, works_held, keeps_held}
@@ -32,18 +32,22 @@ pub record Looks {K : Type 0} (g : Ghosts K) (X : Type 0) (old new : K) (result 
   pub fault : result ≡ Err faults.StoreFault → g.has_failed new ≡ true
   pub only_fault : result ≢ Err faults.StoreFault → g.has_failed new ≡ g.has_failed old
 
+untouched : {K : Type 0} (g : Ghosts K) (keeper : K) → KeepsAsBefore g keeper keeper
+untouched g keeper = record { kept = λ book kept. kept; stops = λ book left. left }
+
 -- a desk that has failed looks nothing up
 pub failed_before : {K : Type 0} (g : Ghosts K) (keeper : K) (core : Core) (desk : Seen K) (failed : Bool)
     → record { keeper = keeper; core = core } ≡ desk → failed ≡ g.has_failed keeper → failed ≡ true
     → LooksUp g desk desk (Some Failed)
 failed_before {K} g keeper core desk failed view says fails =
     let gone : g.has_failed desk.keeper ≡ true = ap (λ (s : Seen K). g.has_failed s.keeper) (sym view) ∙ sym says ∙
-        fails in
+    fails in
     record {
       core = refl;
       honest = λ h. h;
       kept = λ honest book held no. held;
       left = λ honest book held. absurd (let works = works_held g desk book held in cc);
+      keeper = λ honest no. untouched g desk.keeper;
       fault = λ e. absurd (cc);
       only_fault = λ no. refl;
       failed = λ e. (refl, refl);
@@ -65,6 +69,7 @@ looks_at_nothing {K} g laws keeper core desk failed view says working =
         after_a_crash = λ found left. laws.settled desk.keeper book found (keeps_held g desk book held) left;
         whole_after_a_crash = laws.whole desk.keeper book (keeps_held g desk book held);
       };
+      keeper = λ honest no. untouched g desk.keeper;
       fault = λ e. absurd (cc);
       only_fault = λ no. refl;
       failed = λ e. absurd (cc);
@@ -87,13 +92,17 @@ looked g laws X old new result ended looks core works quiet ends = record {
         (looks.stops honest found left);
     whole_after_a_crash = looks.whole honest (laws.whole old.keeper book (keeps_held g old book held));
   };
+  keeper = λ honest no. record {
+    kept = λ book kept. looks.same honest book kept quiet;
+    stops = λ book left. looks.stops honest book left;
+  };
   fault = λ e. absurd (⊎_elim (λ f. let no : ⊥ = cc in no) (λ f. let no : ⊥ = cc in no) ends);
   only_fault = λ no. looks.only_fault quiet;
   failed = λ e. absurd (cc);
   kinds = λ e. ⊎_elim (λ f. subst (λ o. IfSome o (λ refusal. (refusal ≡ OutOfMemory) ⊎ (refusal ≡ StoreFault))) (sym
       f) tt)
       (λ f. subst (λ o. IfSome o (λ refusal. (refusal ≡ OutOfMemory) ⊎ (refusal ≡ StoreFault))) (sym f) (inl refl))
-          ends;
+      ends;
 }
 
 module _ {K : Type 0} (g : Ghosts K) (laws : KeeperLaws g) {X : Type 0} (keeper new : K) (core : Core) (old : Seen K)
@@ -123,6 +132,7 @@ module _ {K : Type 0} (g : Ghosts K) (laws : KeeperLaws g) {X : Type 0} (keeper 
           (looks.stops honest found left);
       whole_after_a_crash = looks.whole honest (laws.whole keeper book (keeps_held g before book held));
     };
+    keeper = λ honest no. absurd (no refl);
     fault = λ f. (sym says ∙ working, looks.fault e);
     only_fault = λ no. absurd (no refl);
     failed = λ f. absurd (true≢false (sym f ∙ sym says ∙ working));
@@ -138,6 +148,16 @@ module _ {K : Type 0} (g : Ghosts K) (laws : KeeperLaws g) {X : Type 0} (keeper 
   not_looked_up faults.NotADeskFile e = absurd (looks.kinds.0 e)
   not_looked_up (faults.Inconsistent rule) e = absurd (looks.kinds.1 rule e)
 
+-- that a desk had failed is told by one that had
+told_failed : {K : Type 0} (g : Ghosts K) (old new : Seen K) (ended : Option Refusal) → LooksUp g old new ended
+    → ended ≡ Some Failed → g.has_failed old.keeper ≡ true
+told_failed g old new ended looked is = by (g.has_failed old.keeper) refl
+  where
+    by : (b : Bool) → g.has_failed old.keeper ≡ b → g.has_failed old.keeper ≡ true
+    by true failed = failed
+    by false works = absurd (⊎_elim (λ e. let no : ⊥ = cc in no) (λ e. let no : ⊥ = cc in no)
+        (subst (λ o. IfSome o (λ refusal. (refusal ≡ OutOfMemory) ⊎ (refusal ≡ StoreFault))) is (looked.kinds works)))
+
 -- what a text asks of a read
 pub reads : {K : Type 0} (g : Ghosts K) (old new : Seen K) (ended : Option Refusal) → LooksUp g old new ended
     → IsRead (λ (desk : Seen K). Holds g desk) (λ (desk : Seen K). IsLeft g desk)
@@ -146,7 +166,11 @@ reads g old new ended looked = record {
   honest = looked.honest;
   held = looked.kept;
   left = looked.left;
-  fault = λ e. (looked.fault e).1;
+  fault = looked.fault;
   only_fault = looked.only_fault;
+  failed = λ failed. (looked.failed failed).1;
+  only_failed = told_failed g old new ended looked;
   kinds = looked.kinds;
+  failed_kinds = λ failed. subst (λ o. IfSome o (λ refusal. (refusal ≡ OutOfMemory) ⊎ (refusal ≡ Failed)))
+      (sym (looked.failed failed).0) (inr refl);
 }

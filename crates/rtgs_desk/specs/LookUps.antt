@@ -6,7 +6,7 @@ use Rattle.rtgs_book.specs.declared.Fault.TheVariants as fault
 use Rattle.rtgs_book.specs.declared.Refusal.{Refusal}
 use Rattle.rtgs_book.specs.declared.Refusal.TheVariants.{OutOfMemory, StoreFault, Failed}
 use Rattle.rtgs_keeper.specs.declared.keeper.Keeper.{Ghosts}
-use Rattle.rtgs_desk.specs.Holding.{Holds, IsLeft}
+use Rattle.rtgs_desk.specs.Holding.{Holds, IsLeft, KeepsAsBefore}
 use Rattle.rtgs_desk.specs.Seen.{Seen}
 
 -- what is answered where the keeper meets this fault in a look-up
@@ -21,6 +21,8 @@ pub record LooksUp {K : Type 0} (g : Ghosts K) (old new : Seen K) (ended : Optio
   -- unless the store failed, the desk holds its book as before
   pub kept : g.is_honest new.keeper → (book : Book) → Holds g old book → ended ≢ Some StoreFault → Holds g new book
   pub left : g.is_honest new.keeper → (book : Book) → Holds g old book → IsLeft g new book
+  -- so it is with what the keeper keeps, whether the desk holds a book or not
+  pub keeper : g.is_honest new.keeper → ended ≢ Some StoreFault → KeepsAsBefore g old.keeper new.keeper
   pub fault : ended ≡ Some StoreFault → (g.has_failed old.keeper ≡ false) × (g.has_failed new.keeper ≡ true)
   pub only_fault : ended ≢ Some StoreFault → g.has_failed new.keeper ≡ g.has_failed old.keeper
   pub failed : g.has_failed old.keeper ≡ true → (ended ≡ Some Failed) × (new ≡ old)

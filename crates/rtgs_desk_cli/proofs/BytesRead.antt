@@ -1,5 +1,6 @@
 -- What a reading tells is told by its bytes.
 use Rattle.std.proofs.Common.{◌≡◌, ◌⊎◌, ℕ, List, Result, Ok, Err, ap, subst, inl, inr}
+use Rattle.rtgs_book.specs.declared.Book.{Book}
 use Rattle.rtgs_book.specs.declared.Refusal.{Refusal}
 use Rattle.rtgs_book.specs.declared.refusal.Refusal.TheVariants.{OutOfMemory, StoreFault}
 use Rattle.rtgs_book.specs.declared.reading.Reading.{Reading}
@@ -26,37 +27,37 @@ tells_refusal bytes_of (Err first) why told =
     ap Err same
 
 -- what failed was not read
-fails_unread : {K V : Type 0} (g : Ghosts K) (asked : Reading) (desk : Seen K) (text : V) → Fails g asked desk (Ok text)
-    → ⊥
-fails_unread g (reading.Order sender reference) desk text (inl memory) = cc
-fails_unread g (reading.Order sender reference) desk text (inr fails) =
+fails_unread : {K V : Type 0} (g : Ghosts K) (book : Book) (asked : Reading) (desk : Seen K) (text : V)
+    → Fails g book asked desk (Ok text) → ⊥
+fails_unread g book (reading.Order sender reference) desk text (known, inl memory) = cc
+fails_unread g book (reading.Order sender reference) desk text (known, inr fails) =
     let fault = fails.1 in
     cc
-fails_unread g (reading.Account code) desk text fails = fails
-fails_unread g (reading.Queue code) desk text fails = fails
-fails_unread g (reading.Statement code date) desk text fails =
+fails_unread g book (reading.Account code) desk text fails = fails
+fails_unread g book (reading.Queue code) desk text fails = fails
+fails_unread g book (reading.Statement code date) desk text (known, fails) =
     let fault = fails.1 in
     cc
-fails_unread g (reading.Report date) desk text fails =
+fails_unread g book (reading.Report date) desk text fails =
     let fault = fails.1 in
     cc
 
-fails_alike : {K : Type 0} (V : Type 0) (g : Ghosts K) (asked : Reading) (desk : Seen K) (why : Refusal)
-    → Fails {V = V} g asked desk (Err why) → Fails {V = List ℕ} g asked desk (Err why)
-fails_alike V g (reading.Order sender reference) desk why (inl memory) =
+fails_alike : {K : Type 0} (V : Type 0) (g : Ghosts K) (book : Book) (asked : Reading) (desk : Seen K) (why : Refusal)
+    → Fails {V = V} g book asked desk (Err why) → Fails {V = List ℕ} g book asked desk (Err why)
+fails_alike V g book (reading.Order sender reference) desk why (known, inl memory) =
     let same : why ≡ OutOfMemory = cc in
-    inl (ap Err same)
-fails_alike V g (reading.Order sender reference) desk why (inr fails) =
+    (known, inl (ap Err same))
+fails_alike V g book (reading.Order sender reference) desk why (known, inr fails) =
     let fault = fails.1 in
     let same : why ≡ StoreFault = cc in
-    inr (fails.0, ap Err same)
-fails_alike V g (reading.Account code) desk why fails = fails
-fails_alike V g (reading.Queue code) desk why fails = fails
-fails_alike V g (reading.Statement code date) desk why fails =
+    (known, inr (fails.0, ap Err same))
+fails_alike V g book (reading.Account code) desk why fails = fails
+fails_alike V g book (reading.Queue code) desk why fails = fails
+fails_alike V g book (reading.Statement code date) desk why (known, fails) =
     let fault = fails.1 in
     let same : why ≡ StoreFault = cc in
-    (fails.0, ap Err same)
-fails_alike V g (reading.Report date) desk why fails =
+    (known, (fails.0, ap Err same))
+fails_alike V g book (reading.Report date) desk why fails =
     let fault = fails.1 in
     let same : why ≡ StoreFault = cc in
     (fails.0, ap Err same)
@@ -70,16 +71,16 @@ module _ {K U C : Type 0} (file : OverFile K U C) {V : Type 0} (bytes_of : V →
     did = λ honest book held.
         let it = did.did honest book held in (
           it.0,
-          by (text_wanted book asked) (subst (λ read. Tells bytes_of (text_wanted book asked) read
-              ⊎ Fails file.keeper asked left read) is it.1),
+          by book (text_wanted book asked) (subst (λ read. Tells bytes_of (text_wanted book asked) read
+              ⊎ Fails file.keeper book asked left read) is it.1),
         );
   }
     where
-      by : (wanted : Result (List ℕ) Refusal) → Tells bytes_of wanted (Ok text)
-          ⊎ Fails file.keeper asked left (Ok text) → Tells (λ bytes. bytes) wanted (Ok (bytes_of text))
-          ⊎ Fails file.keeper asked left (Ok (bytes_of text))
-      by wanted (inl told) = inl (tells_bytes bytes_of wanted text told)
-      by wanted (inr fails) = absurd (fails_unread file.keeper asked left text fails)
+      by : (book : Book) (wanted : Result (List ℕ) Refusal) → Tells bytes_of wanted (Ok text)
+          ⊎ Fails file.keeper book asked left (Ok text) → Tells (λ bytes. bytes) wanted (Ok (bytes_of text))
+          ⊎ Fails file.keeper book asked left (Ok (bytes_of text))
+      by book wanted (inl told) = inl (tells_bytes bytes_of wanted text told)
+      by book wanted (inr fails) = absurd (fails_unread file.keeper book asked left text fails)
 
   pub refusal_read : (why : Refusal) → read ≡ Err why → IsRead file (λ bytes. bytes) asked (Err why) left
   refusal_read why is = record {
@@ -88,13 +89,13 @@ module _ {K U C : Type 0} (file : OverFile K U C) {V : Type 0} (bytes_of : V →
     did = λ honest book held.
         let it = did.did honest book held in (
           it.0,
-          by (text_wanted book asked) (subst (λ read. Tells bytes_of (text_wanted book asked) read
-              ⊎ Fails file.keeper asked left read) is it.1),
+          by book (text_wanted book asked) (subst (λ read. Tells bytes_of (text_wanted book asked) read
+              ⊎ Fails file.keeper book asked left read) is it.1),
         );
   }
     where
-      by : (wanted : Result (List ℕ) Refusal) → Tells bytes_of wanted (Err why)
-          ⊎ Fails {V = V} file.keeper asked left (Err why) → Tells {Y = List ℕ} (λ bytes. bytes) wanted (Err why)
-          ⊎ Fails {V = List ℕ} file.keeper asked left (Err why)
-      by wanted (inl told) = inl (tells_refusal bytes_of wanted why told)
-      by wanted (inr fails) = inr (fails_alike V file.keeper asked left why fails)
+      by : (book : Book) (wanted : Result (List ℕ) Refusal) → Tells bytes_of wanted (Err why)
+          ⊎ Fails {V = V} file.keeper book asked left (Err why) → Tells {Y = List ℕ} (λ bytes. bytes) wanted (Err why)
+          ⊎ Fails {V = List ℕ} file.keeper book asked left (Err why)
+      by book wanted (inl told) = inl (tells_refusal bytes_of wanted why told)
+      by book wanted (inr fails) = inr (fails_alike V file.keeper book asked left why fails)

@@ -39,7 +39,7 @@ module _ {K U C : Type 0} (file : OverFile K U C) {opened lent left finished : S
 
   pub was_read : {V : Type 0} (text_of : V → List ℕ) (reading : Reading) (read : Result V Refusal)
       → Promises (λ book. Stands file.keeper book left)
-      → Promises (λ book. Tells text_of (text_wanted book reading) read ⊎ Fails file.keeper reading left read)
+      → Promises (λ book. Tells text_of (text_wanted book reading) read ⊎ Fails file.keeper book reading left read)
       → IsRead file text_of reading read finished
   was_read text_of reading read stands told = subst (IsRead file text_of reading read) (sym same)
       (is_done _ (λ was_honest book held. (stands was_honest book held, told was_honest book held)))

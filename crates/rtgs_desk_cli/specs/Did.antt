@@ -57,7 +57,7 @@ module _ {K U C : Type 0} (file : OverFile K U C) where
   -- book. `text_of` gives the bytes of what was read.
   abbrev pub IsRead : {V : Type 0} → (V → List ℕ) → Reading → Result V Refusal → Seen K → Type 0
   IsRead text_of reading read left = IsDone left (λ book. Stands file.keeper book left
-      × (Tells text_of (text_wanted book reading) read ⊎ Fails file.keeper reading left read))
+      × (Tells text_of (text_wanted book reading) read ⊎ Fails file.keeper book reading left read))
 
   -- Requests were served under the operator's digest: the commands that they asked for, and no others, are one session,
   -- and a stop leaves a book that it may find.

@@ -1,5 +1,5 @@
 -- What reading a text leaves of a desk.
-use Rattle.std.proofs.Common.{◌≡◌, true, false, Option, Some, sym, ◌∙◌, true≢false}
+use Rattle.std.proofs.Common.{Option, sym, ◌∙◌, true≢false}
 use Rattle.rtgs_book.specs.declared.Book.{Book}
 use Rattle.rtgs_book.specs.declared.Refusal.{Refusal}
 use Rattle.rtgs_keeper.specs.declared.keeper.Keeper.{Ghosts}
@@ -15,7 +15,7 @@ module _ {K : Type 0} (g : Ghosts K) where
   leaves_book old new ended read = record {
     honest = λ honest. read.honest honest;
     kept = λ honest book held works. read.held honest book held
-        (λ e. absurd (true≢false (sym (read.fault e) ∙ works)));
+        (λ e. absurd (true≢false (sym (read.fault e).1 ∙ works)));
     left = λ honest book held. read.left honest book held;
   }
 

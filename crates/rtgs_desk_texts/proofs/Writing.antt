@@ -1,13 +1,16 @@
 -- What a writer holds after a text.
-use Rattle.std.proofs.Common.{◌≡◌, ◌<◌, ◌⊎◌, ◌++◌, ℕ, [], List, length, Option, Some, None, Result, Ok, Err, OnOk, OnErr}
-use Rattle.std.proofs.Common.{IfSome, IfErr, refl, sym, ap, subst, inl, inr}
+use Rattle.std.proofs.Common.{◌≡◌, ◌≢◌, ◌<◌, ◌⊎◌, ℕ, [], List, length, Option, Some, None}
+use Rattle.std.proofs.Common.{Result, Ok, Err, OnOk, OnErr, IfSome, IfErr, refl, sym, ap, subst, inl, inr}
 use Rattle.std.proofs.lemmas.List.{append-nil}
 use Rattle.std.specs.Prelude.{⊤}
 use Rattle.std.specs.Io.KnownBytes.{Appends}
+use Rattle.rtgs_book.specs.declared.Order.{Order}
 use Rattle.rtgs_book.specs.declared.Participant.{Participant}
 use Rattle.rtgs_book.specs.declared.Refusal.{Refusal}
 use Rattle.rtgs_book.specs.declared.Refusal.TheVariants.{OutOfMemory, StoreFault, UnknownParticipant}
+use Rattle.rtgs_book.specs.declared.Refusal.TheVariants.{UnknownOrder}
 use Rattle.serde_json.specs.Data.{Data}
+use Rattle.std.specs.Prelude.{ok_or}
 use Rattle.rtgs_desk.specs.Readings.{Tells, Finds, if_known}
 use Rattle.rtgs_output.specs.Sent.{AppendsPart}
 use Rattle.rtgs_statements.specs.Reads.{read_refused_by}
@@ -51,14 +54,17 @@ refusal_says (Ok v) refusal says is = let no : ⊥ = cc in absurd no
 refusal_says (Err fault) refusal says is = says cc
 
 -- an order that was not found
-pub refused_order : {X V F : Type 0} (text_of : V → List ℕ) (value_of : X → Data) (told : Result X Refusal)
-    (refusal : Refusal) → Finds told (Err refusal) → (◌≡◌ {A = Result X Refusal} (Err refusal) (Err StoreFault) → F)
-    → Tells text_of (json_line value_of told) (Err refusal)
-    ⊎ (◌≡◌ {A = Result V Refusal} (Err refusal) (Err OutOfMemory)
-    ⊎ (F × ◌≡◌ {A = Result V Refusal} (Err refusal) (Err StoreFault)))
-refused_order text_of value_of (Ok x) refusal (inl is) fault = let no : ⊥ = cc in absurd no
-refused_order text_of value_of (Err other) refusal (inl is) fault = let same : refusal ≡ other = cc in inl (ap Err same)
-refused_order text_of value_of told refusal (inr (inl is)) fault =
-    let same : refusal ≡ OutOfMemory = cc in inr (inl (ap Err same))
-refused_order text_of value_of told refusal (inr (inr is)) fault =
-    let same : refusal ≡ StoreFault = cc in inr (inr (fault is, ap Err same))
+pub refused_order : {V F : Type 0} (text_of : V → List ℕ) (value_of : Order → Data) (known : Option Participant)
+    (named : Option Order) (refusal : Refusal) → Finds (if_known known (λ p. ok_or named UnknownOrder)) (Err refusal)
+    → (refusal ≡ StoreFault → F)
+    → Tells {Y = V} text_of (json_line value_of (if_known known (λ p. ok_or named UnknownOrder))) (Err refusal)
+    ⊎ ((known ≢ None) × (◌≡◌ {A = Result V Refusal} (Err refusal) (Err OutOfMemory)
+    ⊎ (F × ◌≡◌ {A = Result V Refusal} (Err refusal) (Err StoreFault))))
+refused_order text_of value_of known named refusal (inl is) fault =
+    inl (subst (λ told. Tells text_of (json_line value_of told) (Err refusal)) is refl)
+refused_order text_of value_of known named refusal (inr (some, inl is)) fault =
+    let same : refusal ≡ OutOfMemory = cc in
+    inr ((λ none. some (ap (λ o. if_known o (λ p. ok_or named UnknownOrder)) none)), inl (ap Err same))
+refused_order text_of value_of known named refusal (inr (some, inr is)) fault =
+    let same : refusal ≡ StoreFault = cc in
+    inr ((λ none. some (ap (λ o. if_known o (λ p. ok_or named UnknownOrder)) none)), inr (fault same, ap Err same))

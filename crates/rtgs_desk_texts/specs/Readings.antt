@@ -1,17 +1,18 @@
 -- The texts of readings, as they are printed. `g` has the members of the keeper's trait.
-use Rattle.std.specs.Prelude.{◌≡◌, ◌⊎◌, ◌++◌, ◌∷◌, [], ℕ, true, List, Result, Ok, Err}
+use Rattle.std.specs.Prelude.{◌≡◌, ◌≢◌, ◌⊎◌, ◌++◌, ◌∷◌, [], ℕ, List, Result, Ok, Err, None}
 use Rattle.serde_json.specs.Data.{Data}
 use Rattle.serde_json.specs.Written.{compact_text}
 use Rattle.rtgs_book.specs.declared.book.Book.{Book}
 use Rattle.rtgs_book.specs.declared.reading.Reading.{Reading}
 use Rattle.rtgs_book.specs.declared.reading.Reading.TheVariants as reading
 use Rattle.rtgs_book.specs.declared.refusal.Refusal.{Refusal}
-use Rattle.rtgs_book.specs.declared.refusal.Refusal.TheVariants.{OutOfMemory, StoreFault}
+use Rattle.rtgs_book.specs.declared.refusal.Refusal.TheVariants.{OutOfMemory}
+use Rattle.rtgs_book.specs.Lookup.{participant_of}
 use Rattle.rtgs_keeper.specs.declared.keeper.Keeper.{Ghosts}
 use Rattle.rtgs_desk.specs.Readings.{account_told, order_told, queue_told}
 use Rattle.rtgs_desk.specs.Seen.{Seen}
 use Rattle.rtgs_http_bodies.specs.Readings.{account_data, order_data, queue_data}
-use Rattle.rtgs_desk_texts.specs.Written.{statement_wanted, report_wanted}
+use Rattle.rtgs_desk_texts.specs.Written.{IsLost, statement_wanted, report_wanted}
 
 -- what is told, as JSON without spaces, and a line feed
 abbrev pub json_line : {X : Type 0} → (X → Data) → Result X Refusal → Result (List ℕ) Refusal
@@ -26,10 +27,13 @@ text_wanted book (reading.Queue code) = json_line queue_data (queue_told book co
 text_wanted book (reading.Statement code date) = statement_wanted book code date
 text_wanted book (reading.Report date) = report_wanted book date
 
--- The store was asked, and failed. For an order it can want memory too. An account and a queue are read without asking it.
-abbrev pub Fails : {K V : Type 0} → Ghosts K → Reading → Seen K → Result V Refusal → Type 0
-Fails g (reading.Order sender reference) desk result =
-    (result ≡ Err OutOfMemory) ⊎ ((g.has_failed desk.keeper ≡ true) × (result ≡ Err StoreFault))
-Fails g (reading.Account code) desk result = ⊥
-Fails g (reading.Queue code) desk result = ⊥
-Fails g _ desk result = (g.has_failed desk.keeper ≡ true) × (result ≡ Err StoreFault)
+-- What can stand in place of a text, or of what refuses it: the store was asked, and failed. For an order memory can be
+-- wanting too. An account and a queue are read without asking the store, and it is not asked for a code that nobody
+-- has.
+abbrev pub Fails : {K V : Type 0} → Ghosts K → Book → Reading → Seen K → Result V Refusal → Type 0
+Fails g book (reading.Order sender reference) desk result =
+    (participant_of book sender ≢ None) × ((result ≡ Err OutOfMemory) ⊎ IsLost g desk result)
+Fails g book (reading.Account code) desk result = ⊥
+Fails g book (reading.Queue code) desk result = ⊥
+Fails g book (reading.Statement code date) desk result = (participant_of book code ≢ None) × IsLost g desk result
+Fails g book (reading.Report date) desk result = IsLost g desk result

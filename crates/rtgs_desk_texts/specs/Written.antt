@@ -1,6 +1,6 @@
--- What a writer holds after a text of a desk's book, and what its reading leaves of the desk. `g` has the members of the
--- keeper's trait.
-use Rattle.std.specs.Prelude.{◌≡◌, ◌⊎◌, ℕ, ⊤, false, List, Option, Result, Ok, Err}
+-- What a writer holds after a text of a desk's book, and what its reading leaves of the desk. `g` has the members of
+-- the keeper's trait.
+use Rattle.std.specs.Prelude.{◌≡◌, ◌⊎◌, ℕ, ⊤, true, false, List, Option, Result, Ok, Err}
 use Rattle.std.specs.Io.KnownBytes.{Appends}
 use Rattle.rtgs_book.specs.declared.book.Book.{Book}
 use Rattle.rtgs_book.specs.declared.refusal.Refusal.{Refusal}
@@ -23,8 +23,8 @@ statement_wanted book code date = if_known (participant_of book code) (λ partic
 abbrev pub report_wanted : Book → ℕ → Result (List ℕ) Refusal
 report_wanted book date = Ok (report book date)
 
--- What is wanted is written whole, or refused with nothing written. In its place can come lack of memory, a fault of the
--- store or one of the writer, after a beginning of the text.
+-- What is wanted is written whole, or refused with nothing written. In place of a text can come lack of memory, a fault
+-- of the store or one of the writer, after a beginning of the text; in place of a refusal nothing can.
 abbrev pub Writes : Option (List ℕ) → Result (List ℕ) Refusal → Result ⊤ BookTextFault → Option (List ℕ) → Type 0
 Writes old (Err refusal) result new = (result ≡ Err (Refused refusal)) × (new ≡ old)
 Writes old (Ok text) (Ok done) new = Appends old new text
@@ -32,7 +32,12 @@ Writes old (Ok text) (Err (Refused refusal)) new =
     ((refusal ≡ OutOfMemory) ⊎ (refusal ≡ StoreFault)) × AppendsPart old new text
 Writes old (Ok text) (Err (Text fault)) new = AppendsPart old new text
 
--- Reading does nothing to the book: the desk holds it unless the store failed, and a crash leaves it and no other, whole.
+-- the store was asked, and failed
+abbrev pub IsLost : {K V : Type 0} → Ghosts K → Seen K → Result V Refusal → Type 0
+IsLost g desk result = (g.has_failed desk.keeper ≡ true) × (result ≡ Err StoreFault)
+
+-- Reading does nothing to the book: the desk holds it unless the store failed, and a crash leaves it and no other,
+-- whole.
 pub record LeavesBook {K : Type 0} (g : Ghosts K) (old new : Seen K) : Type 0 where
   pub honest : g.is_honest new.keeper → g.is_honest old.keeper
   pub kept : g.is_honest new.keeper → (book : Book) → Holds g old book → g.has_failed new.keeper ≡ false

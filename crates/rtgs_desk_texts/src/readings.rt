@@ -1,12 +1,13 @@
 //! What a desk tells of its book, as it is printed, made in memory.
-ghost use Rattle.std.specs.Prelude.{◌≡◌, ◌⊎◌, ◌++◌, ◌∷◌, [], true, false, Ok, Err, IfOk};
+ghost use Rattle.std.specs.Prelude.{◌≡◌, ◌≢◌, ◌⊎◌, ◌++◌, ◌∷◌, [], true, false, Ok, Err, None, IfOk};
 ghost use Rattle.rtgs_book.specs.declared.Book.{Book};
 ghost use Rattle.rtgs_book.specs.declared.Refusal.{Refusal};
+ghost use Rattle.rtgs_book.specs.Lookup.{participant_of};
 ghost use Rattle.rtgs_desk.specs.Holding.{Holds};
 ghost use Rattle.rtgs_desk.specs.Readings.{Tells, account_told, order_told, queue_told};
 ghost use Rattle.rtgs_http_bodies.specs.Readings.{account_data, order_data, queue_data};
 ghost use Rattle.rtgs_desk_texts.specs.Readings.{Fails, json_line, text_wanted};
-ghost use Rattle.rtgs_desk_texts.specs.Written.{LeavesBook, statement_wanted, report_wanted, refusal_of_text};
+ghost use Rattle.rtgs_desk_texts.specs.Written.{IsLost, LeavesBook, statement_wanted, report_wanted, refusal_of_text};
 
 use crate::texts::{write_report, write_statement};
 use rtgs_book::{Reading, Refusal};
@@ -20,7 +21,7 @@ use std::alloc::{AllocError, Global};
 
 /// The text of a reading, as the book that the desk holds has it: a statement, a report, or JSON and a line feed.
 /// Refused as the desk refuses the reading, or for lack of memory. The readings of an order, a statement and a report
-/// ask the store, and can meet a fault of it. Nothing is done to the book.
+/// ask the store, and can meet a fault of it, but for a code that nobody has. Nothing is done to the book.
 pub fn text_of<K: Keeper>(
     alloc: Global,
     desk: &mut Desk<K>,
@@ -28,8 +29,13 @@ pub fn text_of<K: Keeper>(
 ) -> Result<Vec<u8>, Refusal>
     ensures told { K.is_honest desk.new.keeper → (book : Book) → Holds K.Keeper desk.old book
         → Tells (λ text. text.items) (text_wanted book reading.now) result
-        ⊎ Fails K.Keeper reading.now desk.new result }
+        ⊎ Fails K.Keeper book reading.now desk.new result }
     ensures failed { K.has_failed desk.old.keeper ≡ true → (result ≡ Err Refusal.Failed) × (desk.new ≡ desk.old) }
+    ensures only_failed { result ≡ Err Refusal.Failed → K.has_failed desk.old.keeper ≡ true }
+    ensures fault { result ≡ Err Refusal.StoreFault
+        → (K.has_failed desk.old.keeper ≡ false) × (K.has_failed desk.new.keeper ≡ true) }
+    ensures only_fault { result ≢ Err Refusal.StoreFault
+        → K.has_failed desk.new.keeper ≡ K.has_failed desk.old.keeper }
     // A reading does nothing to the book: the desk holds it unless the store failed, and a crash leaves it and no
     // other, whole.
     ensures kept { K.is_honest desk.new.keeper → (book : Book) → Holds K.Keeper desk.old book
@@ -59,9 +65,14 @@ fn order_line<K: Keeper>(
 ) -> Result<Vec<u8>, Refusal>
     ensures told { K.is_honest desk.new.keeper → (book : Book) → Holds K.Keeper desk.old book
         → Tells (λ text. text.items) (json_line order_data (order_told book sender.now reference.now)) result
-        ⊎ ((result ≡ Err Refusal.OutOfMemory)
-        ⊎ ((K.has_failed desk.new.keeper ≡ true) × (result ≡ Err Refusal.StoreFault))) }
+        ⊎ ((participant_of book sender.now ≢ None)
+        × ((result ≡ Err Refusal.OutOfMemory) ⊎ IsLost K.Keeper desk.new result)) }
     ensures failed { K.has_failed desk.old.keeper ≡ true → (result ≡ Err Refusal.Failed) × (desk.new ≡ desk.old) }
+    ensures only_failed { result ≡ Err Refusal.Failed → K.has_failed desk.old.keeper ≡ true }
+    ensures fault { result ≡ Err Refusal.StoreFault
+        → (K.has_failed desk.old.keeper ≡ false) × (K.has_failed desk.new.keeper ≡ true) }
+    ensures only_fault { result ≢ Err Refusal.StoreFault
+        → K.has_failed desk.new.keeper ≡ K.has_failed desk.old.keeper }
     ensures kept { K.is_honest desk.new.keeper → (book : Book) → Holds K.Keeper desk.old book
         → K.has_failed desk.new.keeper ≡ false → Holds K.Keeper desk.new book }
     ensures after_a_crash { K.is_honest desk.new.keeper → (book found : Book) → Holds K.Keeper desk.old book
@@ -82,6 +93,8 @@ fn account_line<K: Keeper>(alloc: Global, desk: &Desk<K>, code: &Code) -> Result
     ensures told { (book : Book) → Holds K.Keeper desk.now book
         → Tells (λ text. text.items) (json_line account_data (account_told book code.now)) result }
     ensures failed { K.has_failed desk.now.keeper ≡ true → result ≡ Err Refusal.Failed }
+    ensures only_failed { result ≡ Err Refusal.Failed → K.has_failed desk.now.keeper ≡ true }
+    ensures no_fault { result ≢ Err Refusal.StoreFault }
 {
     desk.holds_a_sound_book();
     queued_values_fit();
@@ -94,6 +107,8 @@ fn queue_line<K: Keeper>(alloc: Global, desk: &Desk<K>, code: &Code) -> Result<V
     ensures told { (book : Book) → Holds K.Keeper desk.now book
         → Tells (λ text. text.items) (json_line queue_data (queue_told book code.now)) result }
     ensures failed { K.has_failed desk.now.keeper ≡ true → result ≡ Err Refusal.Failed }
+    ensures only_failed { result ≡ Err Refusal.Failed → K.has_failed desk.now.keeper ≡ true }
+    ensures no_fault { result ≢ Err Refusal.StoreFault }
 {
     let orders = desk.queue_of(code)?;
     Ok(ended(queue_text(alloc, &orders)?)?)
@@ -117,8 +132,13 @@ pub fn statement_text<K: Keeper>(
 ) -> Result<Vec<u8>, Refusal>
     ensures told { K.is_honest desk.new.keeper → (book : Book) → Holds K.Keeper desk.old book
         → Tells (λ text. text.items) (statement_wanted book code.now date) result
-        ⊎ ((K.has_failed desk.new.keeper ≡ true) × (result ≡ Err Refusal.StoreFault)) }
+        ⊎ ((participant_of book code.now ≢ None) × IsLost K.Keeper desk.new result) }
     ensures failed { K.has_failed desk.old.keeper ≡ true → (result ≡ Err Refusal.Failed) × (desk.new ≡ desk.old) }
+    ensures only_failed { result ≡ Err Refusal.Failed → K.has_failed desk.old.keeper ≡ true }
+    ensures fault { result ≡ Err Refusal.StoreFault
+        → (K.has_failed desk.old.keeper ≡ false) × (K.has_failed desk.new.keeper ≡ true) }
+    ensures only_fault { result ≢ Err Refusal.StoreFault
+        → K.has_failed desk.new.keeper ≡ K.has_failed desk.old.keeper }
     ensures leaves { LeavesBook K.Keeper desk.old desk.new }
 {
     let mut text = Vec::new(alloc);
@@ -135,9 +155,13 @@ pub fn report_text<K: Keeper>(
     date: BusinessDate,
 ) -> Result<Vec<u8>, Refusal>
     ensures told { K.is_honest desk.new.keeper → (book : Book) → Holds K.Keeper desk.old book
-        → Tells (λ text. text.items) (report_wanted book date) result
-        ⊎ ((K.has_failed desk.new.keeper ≡ true) × (result ≡ Err Refusal.StoreFault)) }
+        → Tells (λ text. text.items) (report_wanted book date) result ⊎ IsLost K.Keeper desk.new result }
     ensures failed { K.has_failed desk.old.keeper ≡ true → (result ≡ Err Refusal.Failed) × (desk.new ≡ desk.old) }
+    ensures only_failed { result ≡ Err Refusal.Failed → K.has_failed desk.old.keeper ≡ true }
+    ensures fault { result ≡ Err Refusal.StoreFault
+        → (K.has_failed desk.old.keeper ≡ false) × (K.has_failed desk.new.keeper ≡ true) }
+    ensures only_fault { result ≢ Err Refusal.StoreFault
+        → K.has_failed desk.new.keeper ≡ K.has_failed desk.old.keeper }
     ensures leaves { LeavesBook K.Keeper desk.old desk.new }
 {
     let mut text = Vec::new(alloc);

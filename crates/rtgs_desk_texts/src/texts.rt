@@ -1,9 +1,10 @@
 //! Texts of a desk's book.
-ghost use Rattle.std.specs.Prelude.{◌≡◌, ◌≢◌, true, Ok, Err};
+ghost use Rattle.std.specs.Prelude.{◌≡◌, ◌≢◌, true, false, Ok, Err, IfErr};
 ghost use Rattle.rtgs_book.specs.declared.Book.{Book};
 ghost use Rattle.rtgs_book.specs.declared.Refusal.{Refusal};
 ghost use Rattle.rtgs_desk.specs.Holding.{Holds};
 ghost use Rattle.rtgs_output.specs.declared.text_fault.TextFault.{TextFault};
+ghost use Rattle.rtgs_statements.specs.Reads.{LeavesWholeLines};
 ghost use Rattle.rtgs_statements.specs.declared.book_text_fault.BookTextFault.{BookTextFault};
 ghost use Rattle.rtgs_desk_texts.specs.Written.{LeavesBook, Writes, statement_wanted, report_wanted};
 
@@ -18,7 +19,8 @@ use std::io::Write;
 
 /// Writes the statement of a participant for a date, as the book that the desk holds has it, each row as its record is
 /// read. It is refused before a byte is written where the store has failed, and else where nobody has the code. Lack of
-/// memory, and a fault of the store or of the writer, leave a beginning of the text.
+/// memory and a fault of the store leave a beginning of the text that is made of whole lines, and a fault of the writer
+/// leaves any beginning.
 pub fn write_statement<K: Keeper, W: Write>(
     alloc: Global,
     out: &mut W,
@@ -30,8 +32,15 @@ pub fn write_statement<K: Keeper, W: Write>(
         → Writes (W.contents out.old) (statement_wanted book code.now date) result (W.contents out.new) }
     ensures failed { K.has_failed desk.old.keeper ≡ true
         → (result ≡ Err (BookTextFault.Refused Refusal.Failed)) × (out.new ≡ out.old) × (desk.new ≡ desk.old) }
+    ensures only_failed { result ≡ Err (BookTextFault.Refused Refusal.Failed) → K.has_failed desk.old.keeper ≡ true }
+    // For a code that nobody has, neither the writer nor the store is asked for anything.
+    ensures unknown { result ≡ Err (BookTextFault.Refused Refusal.UnknownParticipant)
+        → (out.new ≡ out.old) × (desk.new ≡ desk.old) }
+    // What is no fault of the writer leaves whole lines.
+    ensures whole { IfErr result (λ fault. LeavesWholeLines fault (W.contents out.old) (W.contents out.new)) }
     ensures leaves { LeavesBook K.Keeper desk.old desk.new }
-    ensures fault { result ≡ Err (BookTextFault.Refused Refusal.StoreFault) → K.has_failed desk.new.keeper ≡ true }
+    ensures fault { result ≡ Err (BookTextFault.Refused Refusal.StoreFault)
+        → (K.has_failed desk.old.keeper ≡ false) × (K.has_failed desk.new.keeper ≡ true) }
     ensures only_fault { result ≢ Err (BookTextFault.Refused Refusal.StoreFault)
         → K.has_failed desk.new.keeper ≡ K.has_failed desk.old.keeper }
 {
@@ -56,10 +65,12 @@ pub fn write_report<K: Keeper, W: Write>(
         → Writes (W.contents out.old) (report_wanted book date) result (W.contents out.new) }
     ensures failed { K.has_failed desk.old.keeper ≡ true
         → (result ≡ Err (BookTextFault.Refused Refusal.Failed)) × (out.new ≡ out.old) × (desk.new ≡ desk.old) }
+    ensures only_failed { result ≡ Err (BookTextFault.Refused Refusal.Failed) → K.has_failed desk.old.keeper ≡ true }
     ensures memory { result ≢ Err (BookTextFault.Text TextFault.OutOfMemory) }
     ensures refused { (refusal : Refusal) → result ≡ Err (BookTextFault.Refused refusal) → out.new ≡ out.old }
     ensures leaves { LeavesBook K.Keeper desk.old desk.new }
-    ensures fault { result ≡ Err (BookTextFault.Refused Refusal.StoreFault) → K.has_failed desk.new.keeper ≡ true }
+    ensures fault { result ≡ Err (BookTextFault.Refused Refusal.StoreFault)
+        → (K.has_failed desk.old.keeper ≡ false) × (K.has_failed desk.new.keeper ≡ true) }
     ensures only_fault { result ≢ Err (BookTextFault.Refused Refusal.StoreFault)
         → K.has_failed desk.new.keeper ≡ K.has_failed desk.old.keeper }
 {

@@ -177,7 +177,7 @@ batches_alike g old sender rows one other sent told steps done past a b =
 
 pub read_of : {K : Type 0} (g : Ghosts K) (wanted : Message) (desk : Seen K) (sent : Message) → sent.status ≢ 503
     → IsReadOf g wanted desk sent → sent ≡ wanted
-read_of g wanted desk sent done (inl h) = said wanted sent done h
+read_of g wanted desk sent done (inl (works, h)) = said wanted sent done h
 read_of g wanted desk sent done (inr (failed, inl e)) = absurd (done (ap (λ (m : Message). m.status) e))
 read_of g wanted desk sent done (inr (failed, inr e)) = absurd (done (ap (λ (m : Message). m.status) e))
 
@@ -196,7 +196,7 @@ faults_alike : {K : Type 0} (g : Ghosts K) (old : Book) (fault : HttpFault) (one
     → sent.status ≢ 503 → told.status ≢ 503 → ComesTo g old (Err fault) one sent → ComesTo g old (Err fault) other told
     → EndAlike g one other sent told
 faults_alike g old fault one other sent told done ended a b = record {
-  reply = said (fault_message fault) sent done a.1 ∙ sym (said (fault_message fault) told ended b.1);
+  reply = said (fault_message fault) sent done a.2 ∙ sym (said (fault_message fault) told ended b.2);
   book = old;
   one_holds = a.0.kept;
   other_holds = b.0.kept;
@@ -217,9 +217,9 @@ come_alike g old (Ok (Submit c)) (Ok (Batch s rows)) one other sent told steps a
 come_alike g old (Ok (Submit c)) (Ok (Read r)) one other sent told steps alike done ended a b = absurd alike
 come_alike g old (Ok (Batch s rows)) (Ok (Submit c)) one other sent told steps alike done ended a b = absurd alike
 come_alike g old (Ok (Batch s rows)) (Ok (Batch t more)) one other sent told steps alike done ended (inl a) b =
-    absurd (done (ap (λ (m : Message). m.status) a.1))
+    absurd (done (ap (λ (m : Message). m.status) a.2))
 come_alike g old (Ok (Batch s rows)) (Ok (Batch t more)) one other sent told steps alike done ended (inr a) (inl b) =
-    absurd (ended (ap (λ (m : Message). m.status) b.1))
+    absurd (ended (ap (λ (m : Message). m.status) b.2))
 come_alike g old (Ok (Batch s rows)) (Ok (Batch t more)) one other sent told steps alike done ended (inr a) (inr b) =
     batches_alike g old s rows.items one other sent told steps done ended a
     (subst (λ (x : List ℕ). SubmitsAll g old x rows.items other told) (sym alike.0)
@@ -235,7 +235,7 @@ pub wanting : {K : Type 0} (g : Ghosts K) (old : Book) (answer : Answer) (desk :
     → sent.status ≢ 503 → ComesTo g old answer desk sent → answer ≡ Err OutOfMemory → ⊥
 wanting g old answer desk sent done comes e =
     let c = subst (λ (a : Answer). ComesTo g old a desk sent) e comes in
-    done (ap (λ (m : Message). m.status) (said (fault_message OutOfMemory) sent done c.1))
+    done (ap (λ (m : Message). m.status) (said (fault_message OutOfMemory) sent done c.2))
 
 pub determined : {K : Type 0} (g : Ghosts K) (operator input : List ℕ) (old : Book) (one other : Seen K)
     (sent told : Message) → StepsOnce → AsksOnce → Deals g operator old input one sent

@@ -116,14 +116,15 @@ pub fault_exchange : {K : Type 0} (g : Ghosts K) (operator input : List ℕ) (de
     (sent : Message)
     → ((code_of : CodeOf) → KnowsOf g desk code_of → AsksFor operator code_of input (Err fault))
     → ((book : Book) → Holds g desk book → HasParticipants desk book)
-    → ((book : Book) → Holds g desk book → Stands g book desk) → IsSaid (fault_message fault) sent
+    → ((book : Book) → Holds g desk book → Stands g book desk)
+    → ((book : Book) → Holds g desk book → g.has_failed desk.keeper ≡ false) → IsSaid (fault_message fault) sent
     → Exchanges g operator desk input desk sent
-fault_exchange g operator input desk fault sent asks has stands said = record {
+fault_exchange g operator input desk fault sent asks has stands work said = record {
   deals = λ honest book held. record {
     answer = Err fault;
     asks = asks (code_under book) (of_book g desk book (has book held));
     allowed = tt;
-    comes = (stands book held, said);
+    comes = (stands book held, work book held, said);
     works = ([], stood g book desk (stands book held));
   };
   changes = inl refl;

@@ -10,7 +10,7 @@ use Rattle.rtgs_desk.specs.Readings.{Finds}
 use Rattle.rtgs_desk.specs.Seen.{Seen}
 use Rattle.rtgs_http_bodies.specs.Refusals.{refused_message}
 use Rattle.rtgs_http_replies.specs.Messages.{Message}
-use Rattle.rtgs_http_banks.specs.Dealings.{Stands, IsReadOf}
+use Rattle.rtgs_http_banks.specs.Dealings.{Stands}
 use Rattle.rtgs_http_banks.specs.Sayings.{IsSaid, told_message, order_message}
 
 -- a look-up does nothing to the book
@@ -24,22 +24,18 @@ stood_still g book desk result kept left whole fault = record {
   whole_after_a_crash = whole;
 }
 
-pub refused_found : {K : Type 0} (g : Ghosts K) (told : Result Order Refusal) (refusal : Refusal) (desk : Seen K)
-    (sent : Message) → Finds told (Err refusal) → (refusal ≡ StoreFault → g.has_failed desk.keeper ≡ true)
-    → IsSaid (refused_message refusal) sent → IsReadOf g (told_message order_message told) desk sent
-refused_found g told refusal desk sent (inl e) fault said =
-    inl (subst (λ t. IsSaid (told_message order_message t) sent) e said)
-refused_found g told refusal desk sent (inr (inl e)) fault (inl h) =
-    let same : refusal ≡ OutOfMemory = cc in inl (inr (h ∙ ap refused_message same))
-refused_found g told refusal desk sent (inr (inl e)) fault (inr h) = inl (inr h)
-refused_found g told refusal desk sent (inr (inr e)) fault said =
-    let same : refusal ≡ StoreFault = cc in
-    inr (fault same, subst (λ r. IsSaid (refused_message r) sent) same said)
+-- where an order was not found for another cause than the store's
+pub refused_found : (told : Result Order Refusal) (refusal : Refusal) (sent : Message) → Finds told (Err refusal)
+    → IsSaid (refused_message refusal) sent → refusal ≢ StoreFault → IsSaid (told_message order_message told) sent
+refused_found told refusal sent (inl e) said other = subst (λ t. IsSaid (told_message order_message t) sent) e said
+refused_found told refusal sent (inr (known, inl e)) (inl h) other =
+    let same : refusal ≡ OutOfMemory = cc in inr (h ∙ ap refused_message same)
+refused_found told refusal sent (inr (known, inl e)) (inr h) other = inr h
+refused_found told refusal sent (inr (known, inr e)) said other =
+    let same : refusal ≡ StoreFault = cc in absurd (other same)
 
-pub found_said : {K : Type 0} (g : Ghosts K) (told : Result Order Refusal) (order : Order) (desk : Seen K)
-    (sent : Message) → Finds told (Ok order) → sent ≡ order_message order
-    → IsReadOf g (told_message order_message told) desk sent
-found_said g told order desk sent (inl e) h =
-    inl (subst (λ t. IsSaid (told_message order_message t) sent) e (inl h))
-found_said g told order desk sent (inr (inl e)) h = let no : ⊥ = cc in absurd no
-found_said g told order desk sent (inr (inr e)) h = let no : ⊥ = cc in absurd no
+pub found_said : (told : Result Order Refusal) (order : Order) (sent : Message) → Finds told (Ok order)
+    → sent ≡ order_message order → IsSaid (told_message order_message told) sent
+found_said told order sent (inl e) h = subst (λ t. IsSaid (told_message order_message t) sent) e (inl h)
+found_said told order sent (inr (known, inl e)) h = let no : ⊥ = cc in absurd no
+found_said told order sent (inr (known, inr e)) h = let no : ⊥ = cc in absurd no

@@ -1,5 +1,6 @@
 -- What is said of what a desk tells.
-use Rattle.std.proofs.Common.{◌≡◌, ◌⊎◌, true, Result, Ok, Err, ap, ◌∙◌, subst, inl, inr}
+use Rattle.std.proofs.Common.{◌≡◌, ◌≢◌, ◌⊎◌, true, false, Bool, Result, Ok, Err, refl, ap, ◌∙◌, subst, inl, inr}
+use Rattle.rtgs_book.specs.Session.{is_store_fault}
 use Rattle.rtgs_book.specs.declared.book.Book.{Book}
 use Rattle.rtgs_book.specs.declared.refusal.Refusal.{Refusal}
 use Rattle.rtgs_book.specs.declared.refusal.Refusal.TheVariants.{StoreFault}
@@ -32,22 +33,49 @@ pub is_told : {X Y : Type 0} (view : Y → X) (told : Result X Refusal) (y : Y) 
 is_told view (Err other) y e = let no : ⊥ = cc in absurd no
 is_told view (Ok x) y e = cc
 
--- ---- of texts, for which the store is asked
+-- ---- readings for which the store is asked
 
-module _ {K X Y : Type 0} (g : Ghosts K) (view : Y → X) (wanted : Result X Refusal) (say : X → Message) (desk : Seen K)
-    (sent : Message) where
-  pub refused_text : (refusal : Refusal) → Tells view wanted (Err refusal) ⊎ ((g.has_failed desk.keeper ≡ true)
-      × ◌≡◌ {A = Result Y Refusal} (Err refusal) (Err StoreFault)) → IsSaid (refused_message refusal) sent
-      → IsReadOf g (told_message say wanted) desk sent
-  refused_text refusal (inl told) said = inl (refused_said view wanted refusal say sent told said)
-  refused_text refusal (inr (failed, is)) said =
-      let same : refusal ≡ StoreFault = cc in inr (failed, subst (λ r. IsSaid (refused_message r) sent) same said)
+store_fault : (refusal : Refusal) → is_store_fault (Err refusal) ≡ true → refusal ≡ StoreFault
+store_fault StoreFault e = refl
+store_fault refusal e = absurd (cc)
 
-  pub text_said : (y : Y) → Tells view wanted (Ok y) ⊎ ((g.has_failed desk.keeper ≡ true)
-      × ◌≡◌ {A = Result Y Refusal} (Ok y) (Err StoreFault)) → sent ≡ say (view y)
-      → IsReadOf g (told_message say wanted) desk sent
-  text_said y (inl told) h = inl (value_said view wanted y say sent told h)
-  text_said y (inr (failed, is)) h = let no : ⊥ = cc in absurd no
+module _ {K V : Type 0} (g : Ghosts K) (old desk : Seen K) (sent : Message) (works : g.has_failed old.keeper ≡ false)
+    where
+  -- such a reading was refused
+  pub refused_read : (wanted : Message) (refusal : Refusal)
+      → (◌≡◌ {A = Result V Refusal} (Err refusal) (Err StoreFault)
+      → (g.has_failed old.keeper ≡ false) × (g.has_failed desk.keeper ≡ true))
+      → (◌≢◌ {A = Result V Refusal} (Err refusal) (Err StoreFault)
+      → g.has_failed desk.keeper ≡ g.has_failed old.keeper)
+      → (refusal ≢ StoreFault → IsSaid wanted sent) → IsSaid (refused_message refusal) sent
+      → IsReadOf g wanted desk sent
+  refused_read wanted refusal fault only_fault told said = by (is_store_fault (Err refusal)) refl
+    where
+      by : (b : Bool) → is_store_fault (Err refusal) ≡ b → IsReadOf g wanted desk sent
+      by true e =
+          let same = store_fault refusal e in
+          inr ((fault (ap Err same)).1, subst (λ r. IsSaid (refused_message r) sent) same said)
+      by false e =
+          let other : refusal ≢ StoreFault = λ f. let h = ap (λ r. is_store_fault (Err r)) f in cc in
+          inl (only_fault (λ f. other cc) ∙ works, told other)
+
+  -- such a reading was told
+  pub told_read : (wanted : Message) (v : V)
+      → (◌≢◌ {A = Result V Refusal} (Ok v) (Err StoreFault) → g.has_failed desk.keeper ≡ g.has_failed old.keeper)
+      → IsSaid wanted sent → IsReadOf g wanted desk sent
+  told_read wanted v only_fault said = inl (only_fault (λ f. cc) ∙ works, said)
+
+module _ {X Y : Type 0} (view : Y → X) (wanted : Result X Refusal) (say : X → Message) (sent : Message)
+    (Lost : Type 0) where
+  pub refused_text : (refusal : Refusal) → (Lost → refusal ≡ StoreFault) → Tells view wanted (Err refusal) ⊎ Lost
+      → IsSaid (refused_message refusal) sent → refusal ≢ StoreFault → IsSaid (told_message say wanted) sent
+  refused_text refusal lost (inl told) said other = refused_said view wanted refusal say sent told said
+  refused_text refusal lost (inr gone) said other = absurd (other (lost gone))
+
+  pub text_said : (y : Y) → (Lost → ⊥) → Tells view wanted (Ok y) ⊎ Lost → sent ≡ say (view y)
+      → IsSaid (told_message say wanted) sent
+  text_said y lost (inl told) h = value_said view wanted y say sent told h
+  text_said y lost (inr gone) h = absurd (lost gone)
 
 -- a text that was read leaves the desk as it stood
 pub stands_after : {K : Type 0} (g : Ghosts K) (old new : Seen K) (book : Book) → LeavesBook g old new

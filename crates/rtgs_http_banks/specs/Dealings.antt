@@ -49,18 +49,22 @@ pub record SubmitsAll {K : Type 0} (g : Ghosts K) (old : Book) (sender : List �
   pub replies : List RowReply
   pub stopped : Option Refusal
   pub stops : StopsAfter (length replies) (length rows) stopped
+  -- the store has failed exactly where the batch stopped at its fault
+  pub fault : stopped ≡ Some StoreFault → g.has_failed desk.keeper ≡ true
+  pub works : stopped ≢ Some StoreFault → g.has_failed desk.keeper ≡ false
   pub acts : Sent g old sender rows replies stopped desk
   pub told : IsTold (message (batch_status stopped) Csv (results_text rows replies stopped)) sent
   pub not_failed : stopped ≢ Some Failed
 
--- nothing was given for lack of memory
+-- nothing was given for lack of memory, and the store works
 abbrev pub GivesNothing : {K : Type 0} → Ghosts K → Book → Seen K → Message → Type 0
-GivesNothing g old desk sent = Stands g old desk × (sent ≡ no_memory)
+GivesNothing g old desk sent = Stands g old desk × (g.has_failed desk.keeper ≡ false) × (sent ≡ no_memory)
 
--- this was read, or the store failed
+-- this was read and the store works, or the store failed
 abbrev pub IsReadOf : {K : Type 0} → Ghosts K → Message → Seen K → Message → Type 0
 IsReadOf g wanted desk sent =
-    IsSaid wanted sent ⊎ ((g.has_failed desk.keeper ≡ true) × IsSaid (refused_message StoreFault) sent)
+    ((g.has_failed desk.keeper ≡ false) × IsSaid wanted sent)
+    ⊎ ((g.has_failed desk.keeper ≡ true) × IsSaid (refused_message StoreFault) sent)
 
 -- the book was read, and nothing done to it
 abbrev pub Reads : {K : Type 0} → Ghosts K → Book → Reading → Seen K → Message → Type 0
@@ -68,7 +72,8 @@ Reads g old reading desk sent = Stands g old desk × IsReadOf g (reading_message
 
 -- what is done and sent for what a request asks, or for the fault of the first step that fails
 abbrev pub ComesTo : {K : Type 0} → Ghosts K → Book → Result Asked HttpFault → Seen K → Message → Type 0
-ComesTo g old (Err fault) desk sent = Stands g old desk × IsSaid (fault_message fault) sent
+ComesTo g old (Err fault) desk sent =
+    Stands g old desk × (g.has_failed desk.keeper ≡ false) × IsSaid (fault_message fault) sent
 ComesTo g old (Ok (Submit command)) desk sent = Submits g old command desk sent
 ComesTo g old (Ok (Batch sender rows)) desk sent =
     GivesNothing g old desk sent ⊎ SubmitsAll g old sender rows.items desk sent

@@ -25,6 +25,7 @@ pub(crate) fn read<K: Keeper>(alloc: Global, desk: &mut Desk<K>, reading: Readin
     ensures honest { K.is_honest desk.new.keeper → K.is_honest desk.old.keeper }
 {
     stands(desk);
+    desk.holds_a_sound_book();
     match reading {
         Reading::Order { sender, reference } => read_order(alloc, desk, &sender, &reference),
         Reading::Account { code } => read_account(alloc, desk, &code),
@@ -53,6 +54,7 @@ fn read_order<K: Keeper>(
         × IsReadOf K.Keeper (told_message order_message (order_told book code.now reference.now)) desk.new result }
     ensures honest { K.is_honest desk.new.keeper → K.is_honest desk.old.keeper }
 {
+    desk.holds_a_sound_book();
     let order = match desk.order_of(code, reference) {
         Ok(order) => order,
         Err(refusal) => return refused(alloc, refusal),
@@ -107,6 +109,7 @@ fn read_statement<K: Keeper>(
         (told_message text_message (statement_wanted book code.now date)) desk.new result }
     ensures honest { K.is_honest desk.new.keeper → K.is_honest desk.old.keeper }
 {
+    desk.holds_a_sound_book();
     let text = match statement_text(alloc, desk, code, date) {
         Ok(text) => text,
         Err(refusal) => return refused(alloc, refusal),
@@ -124,6 +127,7 @@ fn read_report<K: Keeper>(alloc: Global, desk: &mut Desk<K>, date: BusinessDate)
         (told_message text_message (report_wanted book date)) desk.new result }
     ensures honest { K.is_honest desk.new.keeper → K.is_honest desk.old.keeper }
 {
+    desk.holds_a_sound_book();
     let text = match report_text(alloc, desk, date) {
         Ok(text) => text,
         Err(refusal) => return refused(alloc, refusal),

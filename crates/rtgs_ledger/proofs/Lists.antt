@@ -151,7 +151,7 @@ is_more a b e apart = nat_list_cmp_total.antisymm b a ∙ by (slice_cmp nat_cmp 
 pub not_before : (a b : List ℕ) → slice_cmp nat_cmp a b ≡ Less → is_before b a ≡ false
 not_before a b e = ap is_lt (nat_list_cmp_total.antisymm b a ∙ ap ordering_reverse e)
 
-filter_all : {X : Type 0} (p : X → Bool) (xs : List X) → AllByRecursion (λ x. p x ≡ true) xs → filter p xs ≡ xs
+pub filter_all : {X : Type 0} (p : X → Bool) (xs : List X) → AllByRecursion (λ x. p x ≡ true) xs → filter p xs ≡ xs
 filter_all p [] h = refl
 filter_all p (x ∷ xs) h = rw (h.0, filter_all p xs h.1) refl
 

@@ -13,8 +13,8 @@ use Rattle.rtgs_book.specs.Lookup.{accounts}
 use Rattle.rtgs_cores.specs.declared.Core.{Core}
 use Rattle.rtgs_cores.specs.Cores.{account_of, core_of, IsCoreOf}
 use Rattle.rtgs_ledger.specs.Accounts.{AreInCodeOrder, AreOfABook, code_of, key_of}
-use Rattle.rtgs_ledger.specs.Orders.{AreRising}
-use Rattle.rtgs_ledger.proofs.OrderLemmas.{all_filter, rising_filter, queued_twice}
+use Rattle.rtgs_ledger.specs.Orders.{AreRising, AreQueued}
+use Rattle.rtgs_ledger.proofs.OrderLemmas.{all_filter, rising_filter, are_queued, queued_twice}
 
 own_codes : (book : Book) (ps : List Participant) → map code_of (map (account_of book) ps) ≡ map (λ
     (p : Participant). p.code) ps
@@ -98,6 +98,9 @@ module _ (book : Book) (core : Core) (is : IsCoreOf book core) where
       subst (AllByRecursion (λ (o : Order). o.number < core.next_order)) (sym queued)
       (all_filter (λ (o : Order). o.number < core.next_order) is_queued book.orders
       (below_from 1 core.next_order book.orders numbered (omega (arith, next))))
+
+  pub waiting : AreQueued core.queued
+  waiting = subst AreQueued (sym queued) (are_queued book.orders)
 
   pub all_queued : filter is_queued core.queued ≡ core.queued
   all_queued = ap (filter is_queued) queued ∙ queued_twice book.orders ∙ sym queued

@@ -20,9 +20,9 @@ use Rattle.rtgs_book.specs.Commands.{has_number}
 use Rattle.rtgs_book.specs.Settle.{restated}
 use Rattle.rtgs_book.specs.Queue.{queued_numbers}
 use Rattle.rtgs_ledger.specs.declared.queues.Queues.{Queues}
-use Rattle.rtgs_ledger.specs.Orders.{IsKept, AreRising, HasNumberAt}
+use Rattle.rtgs_ledger.specs.Orders.{IsKept, AreRising, AreQueued, HasNumberAt}
 use Rattle.rtgs_ledger.specs.Queues.{queue_of, room_of}
-use Rattle.rtgs_ledger.proofs.Lists.{weaker}
+use Rattle.rtgs_ledger.proofs.Lists.{weaker, filter_all}
 
 -- ---- numbers
 
@@ -52,6 +52,19 @@ pub rising_end : (os : List Order) (o : Order) → AreRising os → AllByRecursi
     → AreRising (os ++ o ∷ [])
 rising_end [] o h below = (tt, tt)
 rising_end (x ∷ xs) o h below = (all_end (λ y. x.number < y.number) xs o h.0 below.0, rising_end xs o h.1 below.1)
+
+-- what a sweep leaves is queued, and nothing is swept out where all are
+pub are_queued : (os : List Order) → AreQueued (filter is_queued os)
+are_queued [] = tt
+are_queued (o ∷ os) = by (is_queued o) refl (are_queued os)
+  where
+    by : (b : Bool) → is_queued o ≡ b → AreQueued (filter is_queued os)
+        → AreQueued (cond b (o ∷ filter is_queued os) (filter is_queued os))
+    by true e rest = (e, rest)
+    by false e rest = rest
+
+pub all_stay : (os : List Order) → AreQueued os → filter is_queued os ≡ os
+all_stay os h = filter_all is_queued os h
 
 all_at : {X : Type 0} (P : X → Type 0) (xs : List X) → AllByRecursion P xs → (k : ℕ) (d : X) → k < length xs
     → P (get_or xs k d)
@@ -351,43 +364,46 @@ pub same_numbers : (sender : List ℕ) (os : List Order) → queued_numbers os s
     (filter is_queued os) sender
 same_numbers sender os = sym (numbers_again sender os)
 
-module _ (orders : List Order) (queues : Queues) (next : ℕ) (awaited : Option (List ℕ))
-    (kept : IsKept orders queues next awaited) where
+module _ (orders : List Order) (queues : Queues) (next : ℕ) (awaited : Option (List ℕ)) (tidy : Bool)
+    (kept : IsKept orders queues next awaited tidy) where
   -- nothing is awaited
   pub kept_alone : (new : Queues) → ((sender : List ℕ) → queue_of new sender ≡ queue_of queues sender)
-      → IsKept orders new next None
+      → IsKept orders new next None tidy
   kept_alone new same = record {
     rising = kept.rising;
     before = kept.before;
     queued = λ sender. same sender ∙ kept.queued sender;
     ready = λ name e. absurd (let f : None ≡ Some name = e in cc);
+    waiting = kept.waiting;
   }
 
   -- an order of this sender is awaited
   pub kept_awaiting : (sender : List ℕ) (new : Queues) → ((other : List ℕ) → queue_of new other ≡ queue_of queues other)
-      → 1 ≤ room_of new sender → IsKept orders new next (Some sender)
+      → 1 ≤ room_of new sender → IsKept orders new next (Some sender) tidy
   kept_awaiting sender new same room = record {
     rising = kept.rising;
     before = kept.before;
     queued = λ other. same other ∙ kept.queued other;
     ready = λ other e. let f : sender ≡ other = cc in subst (λ n. 1 ≤ room_of new n) f room;
+    waiting = kept.waiting;
   }
 
   -- an order is counted alone
-  pub kept_counted : IsKept orders queues (next + 1) awaited
+  pub kept_counted : IsKept orders queues (next + 1) awaited tidy
   kept_counted = record {
     rising = kept.rising;
     before = weaker (λ (o : Order). o.number < next) (λ (o : Order). o.number < next + 1) (λ o lt. omega arith) orders
         kept.before;
     queued = kept.queued;
     ready = kept.ready;
+    waiting = kept.waiting;
   }
 
   -- the awaited order is queued
   pub kept_push : (order : Order) (new : Queues) → order.number ≡ next → is_queued order ≡ true
       → ((sender : List ℕ) → queue_of new sender ≡ cond (bytes_eq order.sender sender)
       (queue_of queues sender ++ order.number ∷ []) (queue_of queues sender))
-      → IsKept (orders ++ order ∷ []) new (next + 1) None
+      → IsKept (orders ++ order ∷ []) new (next + 1) None tidy
   kept_push order new number waits pushed = record {
     rising = rising_end orders order kept.rising (subst (λ n. AllByRecursion (λ (o : Order). o.number < n) orders)
         (sym number) kept.before);
@@ -397,15 +413,16 @@ module _ (orders : List Order) (queues : Queues) (next : ℕ) (awaited : Option 
     queued = λ sender. pushed sender ∙ ap (λ ns. cond (bytes_eq order.sender sender) (ns ++ order.number ∷ []) ns)
         (kept.queued sender) ∙ sym (queue_push sender orders order ∙ rw waits refl);
     ready = λ name f. absurd (let g : None ≡ Some name = f in cc);
+    waiting = λ all. all_end (λ (o : Order). is_queued o ≡ true) orders order (kept.waiting all) waits;
   }
 
-  -- an order gets a state in which it is not queued
+  -- an order gets a state in which it is not queued, and they are tidy no more
   pub kept_restated : (number : ℕ) (state : OrderState) (at : ℕ) (order : Order) (new : Queues)
       → is_queued_state state ≡ false → HasNumberAt number orders at → ((d : Order) → order ≡ get_or orders at d)
       → ((sender : List ℕ) → queue_of new sender ≡ cond (bytes_eq order.sender sender)
       (filter (λ (n : ℕ). not (n == number)) (queue_of queues sender)) (queue_of queues sender))
       → ((sender : List ℕ) → room_of queues sender ≤ room_of new sender)
-      → IsKept (map (restated (has_number number) state) orders) new next awaited
+      → IsKept (map (restated (has_number number) state) orders) new next awaited false
   kept_restated number state at order new settled there is left room = record {
     rising = rising_restated number state orders kept.rising;
     before = numbers_stay number state (λ n. n < next) orders kept.before;
@@ -413,6 +430,7 @@ module _ (orders : List Order) (queues : Queues) (next : ℕ) (awaited : Option 
         (filter (λ (n : ℕ). not (n == number)) ns) ns) (kept.queued sender)
         ∙ by sender (bytes_eq order.sender sender) refl;
     ready = λ sender f. let had = kept.ready sender f in let has = room sender in omega arith;
+    waiting = λ all. absurd (true≢false (sym all));
   }
     where
       by : (sender : List ℕ) (b : Bool) → bytes_eq order.sender sender ≡ b
@@ -444,12 +462,13 @@ module _ (orders : List Order) (queues : Queues) (next : ℕ) (awaited : Option 
               (omega arith) g
 
   -- what waits no more is swept out
-  pub kept_swept : IsKept (filter is_queued orders) queues next awaited
+  pub kept_swept : IsKept (filter is_queued orders) queues next awaited true
   kept_swept = record {
     rising = rising_filter is_queued orders kept.rising;
     before = all_filter (λ (o : Order). o.number < next) is_queued orders kept.before;
     queued = λ sender. kept.queued sender ∙ same_numbers sender orders;
     ready = kept.ready;
+    waiting = λ _. are_queued orders;
   }
 
 pub queued_twice : (os : List Order) → filter is_queued (filter is_queued os) ≡ filter is_queued os

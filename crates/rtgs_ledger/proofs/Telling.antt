@@ -1,6 +1,6 @@
 -- What the resolver is told of the accounts.
 use Rattle.std.proofs.Common.{◌≡◌, ℕ, List, [], ◌∷◌, ◌++◌, map, find, Some, Less, nat_cmp, refl, sym, ap, ◌∙◌, subst}
-use Rattle.std.proofs.Common.{take, drop, length, length-append, append_assoc, suc, ◌<◌, ◌≤◌, ◌+◌, ◌*◌, get_or, arith}
+use Rattle.std.proofs.Common.{take, drop, length, length-append, append_assoc, suc, ◌<◌, ◌≤◌, ◌+◌, ◌*◌, get_or, true, arith}
 use Rattle.std.proofs.lemmas.List.{append-nil, length-map, length-take, get_or-map, at_drop_more}
 use Rattle.std.specs.List.{AllByRecursion, position_or_len, flat_map}
 use Rattle.std.specs.Str.{bytes_eq}
@@ -207,6 +207,7 @@ records_of held = record {
   accounts = record { accounts = held.core.accounts; room = held.room.participants };
   orders = record {
     orders = held.core.queued;
+    tidy = true;
     next = held.core.next_order;
     room = held.room.orders;
     awaited = held.room.awaited;

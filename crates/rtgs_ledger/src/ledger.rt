@@ -28,6 +28,7 @@ use std::alloc::{AllocError, Global};
 use std::marker::Model;
 
 /// What the desk has of a book in memory. Contracts see the core, and the room that was made for what comes next.
+/// Between calls the orders in memory are the queued ones and no other.
 #[derive(Debug, Drop)]
 pub struct Ledger {
     alloc: Global,
@@ -35,12 +36,15 @@ pub struct Ledger {
 }
 
 impl Model for Ledger {
+    ghost use Rattle.std.specs.Prelude.{◌≡◌, true};
     ghost use Rattle.rtgs_ledger.specs.Held.{Held};
     ghost use Rattle.rtgs_ledger.specs.Records.{held_of};
 
     ghost Value = { Held };
 
     ghost view = { λ l. held_of l.records };
+
+    ghost invariant = { λ l. l.records.orders.tidy ≡ true };
 }
 
 impl Ledger {
@@ -104,7 +108,7 @@ impl Ledger {
         }
     }
 
-    /// Makes a prepared change. It takes no memory and does not fail.
+    /// Makes a prepared change, and sweeps out the orders that wait no more. It takes no memory and does not fail.
     pub fn adopt(&mut self, change: Change)
         requires { HasRoom self.old change }
         ensures { self.new.core ≡ core_after self.old.core change }

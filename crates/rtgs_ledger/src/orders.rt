@@ -8,7 +8,7 @@ ghost use Rattle.rtgs_book.specs.declared.limits.TheConstants.{LARGEST_NUMBER};
 ghost use Rattle.rtgs_book.specs.Books.{is_queued, is_queued_state};
 ghost use Rattle.rtgs_book.specs.Commands.{has_number};
 ghost use Rattle.rtgs_book.specs.Queue.{queued_among, queued_numbers};
-ghost use Rattle.rtgs_ledger.specs.Orders.{AreRising, HasNumberAt};
+ghost use Rattle.rtgs_ledger.specs.Orders.{AreRising, AreQueued, HasNumberAt};
 ghost use Rattle.rtgs_ledger.specs.Queues.{queue_of};
 
 use crate::queues::Queues;
@@ -17,8 +17,9 @@ use rtgs_money::Code;
 use std::alloc::{AllocError, Global};
 use std::marker::Model;
 
-/// The queued orders in rising number, and the queue of each sender. Contracts see the queued orders, the number of the
-/// next order, how many more there is room for, and the sender whose queue has room for one more.
+/// The queued orders in rising number, and the queue of each sender. Contracts see the queued orders, whether no other
+/// is in memory, the number of the next order, how many more there is room for, and the sender whose queue has room for
+/// one more.
 #[derive(Debug, Drop)]
 pub struct Orders {
     // Those that wait no more are among them until they are swept out.
@@ -26,8 +27,8 @@ pub struct Orders {
     queues: Queues,
     next: u64,
     awaited: Option<Code>,
-    // Whether one waits no more.
-    untidy: bool,
+    // Whether all of them still wait.
+    tidy: bool,
 }
 
 impl Model for Orders {
@@ -40,20 +41,23 @@ impl Model for Orders {
 
     ghost view = { λ o. record {
       orders = filter is_queued o.orders.items;
+      tidy = o.tidy;
       next = o.next;
       room = vec_capacity o.orders - vec_len o.orders;
       awaited = o.awaited;
     } };
 
-    ghost invariant = { λ o. IsKept o.orders.items o.queues o.next o.awaited };
+    ghost invariant = { λ o. IsKept o.orders.items o.queues o.next o.awaited o.tidy };
 }
 
 impl Orders {
-    /// The queued ones among these orders. The next order gets this number.
+    /// These orders, which are all queued. The next order gets this number.
     pub fn load(alloc: Global, orders: Rows<Order>, next: u64) -> Result<Orders, AllocError>
         requires rising { AreRising orders }
         requires before { AllByRecursion (λ (o : Order). o.number < next) orders }
+        requires waiting { AreQueued orders }
         ensures orders { IfOk result (λ loaded. loaded.orders ≡ filter is_queued orders) }
+        ensures tidy { IfOk result (λ loaded. loaded.tidy ≡ true) }
         ensures next { IfOk result (λ loaded. loaded.next ≡ next) }
     {
         let orders = orders.into_vec();
@@ -63,7 +67,7 @@ impl Orders {
             queues,
             next,
             awaited: None,
-            untidy: false,
+            tidy: true,
         })
     }
 
@@ -72,6 +76,14 @@ impl Orders {
         ensures { result ≡ self.now.next }
     {
         self.next
+    }
+
+    /// Each order in memory, while they are tidy.
+    pub fn as_slice(&self) -> &[Order]
+        requires { self.now.tidy ≡ true }
+        ensures { result.now ≡ self.now.orders }
+    {
+        self.orders.as_slice()
     }
 
     /// The queued order with this number, if there is one.
@@ -98,6 +110,7 @@ impl Orders {
     /// Makes room for one queued order more of this sender.
     pub fn reserve(&mut self, sender: Code) -> Result<(), AllocError>
         ensures orders { self.new.orders ≡ self.old.orders }
+        ensures tidy { self.new.tidy ≡ self.old.tidy }
         ensures next { self.new.next ≡ self.old.next }
         ensures room { OnOk result (1 ≤ self.new.room) }
         ensures awaited { OnOk result (self.new.awaited ≡ Some sender) }
@@ -117,6 +130,7 @@ impl Orders {
         requires awaited { is_queued order ≡ true → self.old.awaited ≡ Some order.sender }
         ensures orders { self.new.orders
             ≡ (if is_queued order then self.old.orders ++ order ∷ [] else self.old.orders) }
+        ensures tidy { self.new.tidy ≡ self.old.tidy }
         ensures next { self.new.next ≡ self.old.next + 1 }
         ensures room { self.new.room ≡ (if is_queued order then self.old.room - 1 else self.old.room) }
         ensures awaited { self.new.awaited ≡ (if is_queued order then None else self.old.awaited) }
@@ -129,10 +143,13 @@ impl Orders {
         }
     }
 
-    /// The order with this number waits no more: it leaves its sender's queue. It takes no memory.
+    /// The order with this number waits no more: it leaves its sender's queue. It takes no memory. Orders that are tidy
+    /// afterwards were so before, and none left.
     pub fn set_state(&mut self, number: u64, state: OrderState)
         requires { is_queued_state state ≡ false }
         ensures orders { self.new.orders ≡ filter (λ o. not (has_number number o)) self.old.orders }
+        ensures tidy { self.new.tidy ≡ true → self.old.tidy ≡ true }
+        ensures none { self.new.tidy ≡ true → self.new.orders ≡ self.old.orders }
         ensures next { self.new.next ≡ self.old.next }
         ensures room { self.new.room ≡ self.old.room }
         ensures awaited { self.new.awaited ≡ self.old.awaited }
@@ -143,17 +160,18 @@ impl Orders {
         let order = self.orders[at];
         self.orders[at] = Order { state, ..order };
         self.queues.remove(&order.sender, number);
-        self.untidy = true;
+        self.tidy = false;
     }
 
-    /// Sweeps out the orders that wait no more.
+    /// Sweeps out the orders that wait no more. Each order in memory is queued then.
     pub fn sweep(&mut self)
         ensures orders { self.new.orders ≡ self.old.orders }
+        ensures tidy { self.new.tidy ≡ true }
         ensures next { self.new.next ≡ self.old.next }
     {
-        if self.untidy {
+        if !self.tidy {
             keep_queued(&mut self.orders);
-            self.untidy = false;
+            self.tidy = true;
         }
     }
 }

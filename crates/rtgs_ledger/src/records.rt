@@ -1,6 +1,6 @@
 //! The rows of a book in memory.
 ghost use Rattle.std.specs.Prelude.{◌≡◌, ◌+◌, ◌≤◌, ◌↔◌, length, sum_by, if◌then◌else◌, ◌&&◌, not, pos, neg_ℤ, IsTrue};
-ghost use Rattle.std.specs.Prelude.{◌+ℤ◌, ◌-ℤ◌, int_lt, int_le, None};
+ghost use Rattle.std.specs.Prelude.{◌+ℤ◌, ◌-ℤ◌, int_lt, int_le, None, true};
 ghost use Rattle.rtgs_book.specs.declared.limits.TheConstants.{LARGEST_NUMBER, LARGEST_TOTAL, MOST_QUEUED};
 ghost use Rattle.rtgs_money.specs.Amounts.{IsAmount, IsCredit};
 ghost use Rattle.rtgs_book.specs.declared.order.Order.{Order};
@@ -20,7 +20,8 @@ use rtgs_book::{
 };
 use rtgs_money::{Amount, BusinessDate, Cents, Code, Credit, PostingAmount, Reference};
 
-/// What a ledger has of a book: accounts with their balances, queued orders, the day, and the numbers of the next records.
+/// What a ledger has of a book: accounts with their balances, queued orders, the day, and the numbers of the next
+/// records.
 #[derive(Debug, Drop)]
 pub struct Records {
     pub accounts: Accounts,
@@ -31,10 +32,11 @@ pub struct Records {
 }
 
 impl Records {
-    /// Makes one row of a change, in the room that was made for it.
+    /// Makes one row of a change, in the room that was made for it. It sweeps no order out.
     pub fn apply(&mut self, row: &RowChange)
         requires { FindsRoom (held_of self.old) row.now }
-        ensures { held_of self.new ≡ after_row (held_of self.old) row.now }
+        ensures held { held_of self.new ≡ after_row (held_of self.old) row.now }
+        ensures tidy { self.new.orders.tidy ≡ true → self.old.orders.tidy ≡ true }
     {
         match row {
             RowChange::AddParticipant(participant) => self.accounts.insert(Account {

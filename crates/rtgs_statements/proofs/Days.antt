@@ -1,6 +1,6 @@
 -- What is added to what a day comes to, record by record.
 use Rattle.std.proofs.Common.{◌≡◌, ◌+◌, ◌*◌, ◌<◌, ◌≤◌, ◌^◌, ℕ, pos, ◌+ℤ◌, Bool, ◌&&◌, true, false, cond, List, [], ◌∷◌}
-use Rattle.std.proofs.Common.{filter, length, refl, sym, ap, subst, ◌∙◌, arith}
+use Rattle.std.proofs.Common.{filter, length, ap, ◌∙◌, arith}
 use Rattle.std.proofs.lemmas.Int.{ints}
 use Rattle.std.specs.Str.{bytes_eq}
 use Rattle.rtgs_money.specs.declared.amount.TheConstants.Amount as Amount
@@ -11,11 +11,8 @@ use Rattle.rtgs_book.specs.IntSum.{int_sum_by}
 use Rattle.rtgs_book.specs.Standings.{stands}
 use Rattle.rtgs_statements.specs.declared.line.Line.TheVariants.{Orders}
 use Rattle.rtgs_statements.specs.declared.ordered.Ordered.{Ordered}
-use Rattle.rtgs_statements.specs.declared.party.Party.{Party}
-use Rattle.rtgs_statements.specs.declared.party.Party.TheVariants.{Sender, Receiver}
 use Rattle.rtgs_statements.specs.Days.{HasNone, IsRoomy, Adds, ComesTo}
-use Rattle.rtgs_statements.specs.Sums.{amount_of, code_of, sent, received, settled_for, sum_at}
-use Rattle.rtgs_statements.specs.Rows.{settled_by}
+use Rattle.rtgs_statements.specs.Sums.{amount_of, sent, received, sum_at}
 use Rattle.rtgs_statements.specs.Tallies.{tally_of}
 use Rattle.rtgs_statements.specs.Texts.{standing_orders}
 use Rattle.rtgs_statements.proofs.Terms.{Within, sum-cons, term-within, wider}

@@ -1,5 +1,5 @@
 -- Reads one after another.
-use Rattle.std.proofs.Common.{◌≢◌, Bool, Option, Some, None, refl, ◌∙◌}
+use Rattle.std.proofs.Common.{◌≢◌, Bool, Option, Some, None, refl, sym, ◌∙◌}
 use Rattle.rtgs_book.specs.declared.Book.{Book}
 use Rattle.rtgs_book.specs.declared.Refusal.{Refusal}
 use Rattle.rtgs_book.specs.declared.Refusal.TheVariants.{StoreFault}
@@ -18,7 +18,10 @@ module _ {S : Type 0} (holds leaves : S → Book → Type 0) (is_honest : S → 
     left = λ honest book held. left book held;
     fault = λ e. absurd (no_fault e);
     only_fault = λ other. refl;
+    failed = λ failed. refl;
+    only_failed = λ e. absurd cc;
     kinds = λ works. tt;
+    failed_kinds = λ failed. tt;
   }
 
   -- more was read
@@ -28,7 +31,10 @@ module _ {S : Type 0} (holds leaves : S → Book → Type 0) (is_honest : S → 
     honest = λ honest. one.honest (two.honest honest);
     held = λ honest book held. two.held honest book (one.held (two.honest honest) book held no_fault);
     left = λ honest book held. two.left honest book (one.held (two.honest honest) book held no_fault);
-    fault = two.fault;
+    fault = λ e. let both = two.fault e in (sym (one.only_fault no_fault) ∙ both.0, both.1);
     only_fault = λ other. two.only_fault other ∙ one.only_fault no_fault;
+    failed = λ failed. two.failed (one.only_fault no_fault ∙ failed) ∙ one.failed failed;
+    only_failed = λ e. sym (one.only_fault no_fault) ∙ two.only_failed e;
     kinds = λ works. two.kinds (one.only_fault no_fault ∙ works);
+    failed_kinds = λ failed. two.failed_kinds (one.only_fault no_fault ∙ failed);
   }

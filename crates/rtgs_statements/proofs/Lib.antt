@@ -9,4 +9,5 @@ pub mod Pads
 pub mod Statements
 pub mod Terms
 pub mod Told
+pub mod Wholes
 pub mod Widths

@@ -1,5 +1,5 @@
 //! What texts are read from.
-ghost use Rattle.std.specs.Prelude.{◌≡◌, Bool, IfOk, slice_get};
+ghost use Rattle.std.specs.Prelude.{◌≡◌, Bool, true, Err, IfOk, slice_get};
 ghost use Rattle.rtgs_book.specs.declared.Book.{Book};
 ghost use Rattle.rtgs_book.specs.Lookup.{accounts};
 ghost use Rattle.rtgs_book.specs.Soundness.{IsSound};
@@ -27,19 +27,22 @@ pub trait Source {
     fn next_posting(&mut self, date: BusinessDate, number: u64) -> Result<Option<Posting>, Refusal>
         ensures read { IsRead holds leaves is_honest has_failed self.old self.new (refused_by result) }
         ensures told { is_honest self.new → (book : Book) → holds self.old book
-            → IfOk result (λ next. next ≡ posting_after book date number) };
+            → IfOk result (λ next. next ≡ posting_after book date number) }
+        ensures failed { has_failed self.old ≡ true → (result ≡ Err Refusal.Failed) × (self.new ≡ self.old) };
 
     /// The order of this date with the least number above the given one.
     fn next_order(&mut self, date: BusinessDate, number: u64) -> Result<Option<Order>, Refusal>
         ensures read { IsRead holds leaves is_honest has_failed self.old self.new (refused_by result) }
         ensures told { is_honest self.new → (book : Book) → holds self.old book
-            → IfOk result (λ next. next ≡ order_after book date number) };
+            → IfOk result (λ next. next ≡ order_after book date number) }
+        ensures failed { has_failed self.old ≡ true → (result ≡ Err Refusal.Failed) × (self.new ≡ self.old) };
 
     /// The mark of this date with the least number above the given one.
     fn next_mark(&mut self, date: BusinessDate, number: u64) -> Result<Option<Mark>, Refusal>
         ensures read { IsRead holds leaves is_honest has_failed self.old self.new (refused_by result) }
         ensures told { is_honest self.new → (book : Book) → holds self.old book
-            → IfOk result (λ next. next ≡ mark_after book date number) };
+            → IfOk result (λ next. next ≡ mark_after book date number) }
+        ensures failed { has_failed self.old ≡ true → (result ≡ Err Refusal.Failed) × (self.new ≡ self.old) };
 
     /// The code of the participant at this place, from 0 on, in the order of the codes; past the last there is none.
     fn code_at(&self, index: usize) -> Option<Code>

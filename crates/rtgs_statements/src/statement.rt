@@ -1,9 +1,10 @@
 //! Statements that are written row by row, as their records are read.
-ghost use Rattle.std.specs.Prelude.{◌≡◌, IfOk, OnOk, OnErr};
+ghost use Rattle.std.specs.Prelude.{◌≡◌, IfOk, IfErr, OnOk, OnErr};
 ghost use Rattle.std.specs.Io.KnownBytes.{Appends};
 ghost use Rattle.rtgs_book.specs.declared.Book.{Book};
 ghost use Rattle.rtgs_output.specs.Sent.{AppendsPart};
 ghost use Rattle.rtgs_statements.specs.Reads.{IsRead, AppendsBeginning, read_refused_by};
+ghost use Rattle.rtgs_statements.specs.Reads.{AppendsWholeLines, LeavesWholeLines};
 ghost use Rattle.rtgs_statements.specs.Records.{postings_on, orders_on};
 ghost use Rattle.rtgs_statements.specs.Rows.{posting_row, order_row, posting_rows, order_rows, posted_by, settled_by};
 ghost use Rattle.rtgs_statements.specs.Rows.{is_told_to};
@@ -26,8 +27,9 @@ use std::alloc::Global;
 use std::io::Write;
 
 /// Writes the statement of a participant for a date, each row as its record is read: its title, a line for each posting
-/// and then for each order, and four sums. Amounts are in units. Where a read is refused, a line finds no memory, or the
-/// writer fails or takes no byte, a beginning of the text was written, and not the whole.
+/// and then for each order, and four sums. Amounts are in units. Where a read is refused, a line finds no memory, or
+/// the writer fails or takes no byte, a beginning of the text was written, and not the whole; unless the writer failed,
+/// it is one of whole lines.
 pub fn write_statement<S: Source, W: Write>(
     alloc: Global,
     out: &mut W,
@@ -39,6 +41,7 @@ pub fn write_statement<S: Source, W: Write>(
         → OnOk result (Appends (W.contents out.old) (W.contents out.new) (statement book code.now date)) }
     ensures begun { S.is_honest source.new → (book : Book) → S.holds source.old book
         → OnErr result (AppendsPart (W.contents out.old) (W.contents out.new) (statement book code.now date)) }
+    ensures whole { IfErr result (λ fault. LeavesWholeLines fault (W.contents out.old) (W.contents out.new)) }
     ensures read { IsRead S.holds S.leaves S.is_honest S.has_failed source.old source.new (read_refused_by result) }
 {
     if let Err(fault) = write_line(alloc, out, &Line::StatementOf(*code, date)) {
@@ -79,6 +82,8 @@ fn write_postings<S: Source, W: Write>(
     ensures sum { S.is_honest source.new → (book : Book) → S.holds source.old book
         → IfOk result (λ sum. sum ≡ posted code.now (postings_on date book.postings)) }
     ensures small { IfOk result IsSmall }
+    ensures lines { OnOk result (AppendsWholeLines (W.contents out.old) (W.contents out.new)) }
+    ensures whole { IfErr result (λ fault. LeavesWholeLines fault (W.contents out.old) (W.contents out.new)) }
     ensures read { IsRead S.holds S.leaves S.is_honest S.has_failed source.old source.new (read_refused_by result) }
 {
     source.reads_a_sound_book();
@@ -118,6 +123,8 @@ fn write_orders<S: Source, W: Write>(
         → IfOk result (λ (out, back). (out ≡ sent code.now (orders_on date book.orders))
         × (back ≡ received code.now (orders_on date book.orders))) }
     ensures small { IfOk result (λ (out, back). IsSmall out × IsSmall back) }
+    ensures lines { OnOk result (AppendsWholeLines (W.contents out.old) (W.contents out.new)) }
+    ensures whole { IfErr result (λ fault. LeavesWholeLines fault (W.contents out.old) (W.contents out.new)) }
     ensures read { IsRead S.holds S.leaves S.is_honest S.has_failed source.old source.new (read_refused_by result) }
 {
     source.reads_a_sound_book();
@@ -153,6 +160,7 @@ fn write_posting<W: Write>(
         (posting_row code.now posting.now)) }
     ensures begun { OnErr result (AppendsBeginning (W.contents out.old) (W.contents out.new)
         (posting_row code.now posting.now)) }
+    ensures memory { IfErr result (λ fault. fault ≡ TextFault.OutOfMemory → out.new ≡ out.old) }
     ensures sum { IfOk result (λ cents. cents ≡ posted_by code.now posting.now) }
 {
     if posting.code != *code {
@@ -174,6 +182,7 @@ fn write_order<W: Write>(
     ensures written { OnOk result (Appends (W.contents out.old) (W.contents out.new) (order_row code.now order.now)) }
     ensures begun { OnErr result (AppendsBeginning (W.contents out.old) (W.contents out.new)
         (order_row code.now order.now)) }
+    ensures memory { IfErr result (λ fault. fault ≡ TextFault.OutOfMemory → out.new ≡ out.old) }
 {
     if !is_told_to(code, order) {
         return Ok(());

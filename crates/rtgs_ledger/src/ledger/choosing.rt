@@ -94,8 +94,8 @@ impl Ledger {
         }
     }
 
-    // Account by account as many orders of its queue as the length at its index says, the oldest first. Where there is no
-    // length, there are none.
+    // Account by account as many orders of its queue as the length at its index says, the oldest first. Where there is
+    // no length, there are none.
     fn beginnings(&self, lengths: &[usize]) -> Result<Vec<Order>, AllocError>
         ensures { IfOk result (λ orders. orders.items
             ≡ taken_from (slice_index lengths.now) self.now.core.queued 0 self.now.core.accounts) }

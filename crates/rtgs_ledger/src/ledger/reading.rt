@@ -39,6 +39,13 @@ impl Ledger {
         }
     }
 
+    /// All orders in memory: the queued ones, in rising number.
+    pub fn queued(&self) -> &[Order]
+        ensures { result.now ≡ self.now.core.queued }
+    {
+        self.records.orders.as_slice()
+    }
+
     /// The queued orders of the sender, in their order. It answers lack of memory.
     pub fn queue(&self, sender: &Code) -> Result<Vec<Order>, AllocError>
         ensures orders { IfOk result (λ orders. orders.items ≡ queued_among self.now.core.queued sender.now) }

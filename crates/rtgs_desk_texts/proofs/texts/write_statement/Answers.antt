@@ -1,4 +1,3 @@
-use Rattle.std.proofs.Common.{◌≡◌}
 use Rattle.rtgs_book.specs.Lookup.{participant_of}
 use Rattle.rtgs_desk_texts.proofs.Leaving.{leaves_book, nothing_done}
 use Rattle.rtgs_desk_texts.proofs.Writing.{refused_account, known_account, written}

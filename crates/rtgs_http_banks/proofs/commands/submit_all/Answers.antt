@@ -1,4 +1,4 @@
-use Rattle.std.proofs.Common.{inr}
+use Rattle.std.proofs.Common.{inr, ◌∙◌}
 use Rattle.rtgs_exchange.specs.Results.{results_text}
 use Rattle.rtgs_http_bodies.specs.Statuses.{batch_status}
 use Rattle.rtgs_http_replies.specs.Messages.{message}
@@ -13,6 +13,8 @@ returns-clause-submits g c honest book held =
       replies = replies;
       stopped = stopped;
       stops = c.in-Ok.ensures.stopped;
+      fault = λ e. (c.in-Ok.ensures.fault e).1;
+      works = λ other. c.in-Ok.ensures.only_fault other ∙ c.holds_a_sound_book.ensures.works book held;
       acts = c.in-Ok.ensures.sent honest book held;
       told = c.or_lost.ensures.told (message (batch_status stopped) Csv (results_text c.args.rows.now replies stopped))
           c.batch_reply.ensures;

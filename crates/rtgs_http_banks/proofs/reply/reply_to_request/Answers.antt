@@ -26,12 +26,12 @@ returns-in-Err-Faulty-clause-reply g c = λ operator input says.
     let is : c.args.request.now ≡ Err (Faulty c.in-Err-Faulty.fault) = search rules in
     fault_exchange g.K.Keeper operator input c.args.desk.now c.in-Err-Faulty.fault c.fault_reply.result
     (subst (λ (r : Result Asked Unread). Requests (KnowsOf g.K.Keeper c.args.desk.now) operator input r) is says)
-    c.holds_a_sound_book.ensures.participants c.stands.ensures c.fault_reply.ensures
+    c.holds_a_sound_book.ensures.participants c.stands.ensures c.holds_a_sound_book.ensures.works c.fault_reply.ensures
 
 pub returns-in-Err-Faulty-clause-works : goal.returns-in-Err-Faulty-clause-works
 returns-in-Err-Faulty-clause-works g c honest book held =
     works_of g.K.Keeper book (Err c.in-Err-Faulty.fault) c.args.desk.now c.fault_reply.result
-    (c.stands.ensures book held, c.fault_reply.ensures)
+    (c.stands.ensures book held, c.holds_a_sound_book.ensures.works book held, c.fault_reply.ensures)
 
 pub returns-in-Err-DirectoryFailed-clause-reply : goal.returns-in-Err-DirectoryFailed-clause-reply
 returns-in-Err-DirectoryFailed-clause-reply g c = λ operator input says.

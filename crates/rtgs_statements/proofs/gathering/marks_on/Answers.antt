@@ -1,7 +1,7 @@
-use Rattle.std.proofs.Common.{◌≡◌, ◌<◌, ◌^◌, length, Option, Some, None, rules, refl, sym, ap, ◌∙◌, arith}
+use Rattle.std.proofs.Common.{◌≡◌, ◌<◌, length, Option, Some, None, rules, refl, sym, ap, ◌∙◌, arith}
 use Rattle.rtgs_book.specs.declared.Mark.{Mark}
 use Rattle.rtgs_cores.specs.Nexts.{mark_after}
-use Rattle.rtgs_statements.proofs.Leaving.{no_fault, nothing_read}
+use Rattle.rtgs_statements.proofs.Leaving.{no_fault, nothing_read, read_more}
 use Rattle.rtgs_statements.proofs.Told.{marks_begin, mark_splits, marks_end}
 use Rattle.rtgs_statements.proofs.gathering.marks_on.Goals as goal
 
@@ -29,7 +29,8 @@ loop-next-preserved g c =
     record {
       fits = search rules;
       few = omega arith;
-      read = search rules;
+      read = read_more g.S.Source.holds g.S.Source.leaves g.S.Source.is_honest g.S.Source.has_failed c.args.source.now
+          c.loop-next.source c.later_mark.new.source None inv.read c.in-Ok.ensures.read;
       count = λ honest book held.
           let back = c.later_mark.ensures.read.honest honest in
           let now = inv.read.held back book held no_fault in

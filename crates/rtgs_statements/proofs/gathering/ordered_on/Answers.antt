@@ -4,7 +4,7 @@ use Rattle.rtgs_book.specs.declared.Order.{Order}
 use Rattle.rtgs_cores.specs.Nexts.{order_after}
 use Rattle.rtgs_statements.specs.Records.{orders_on}
 use Rattle.rtgs_statements.proofs.Days.{none_within, none_with_all, more_with_left, more_within, within_is_roomy, comes_to_all}
-use Rattle.rtgs_statements.proofs.Leaving.{no_fault, nothing_read}
+use Rattle.rtgs_statements.proofs.Leaving.{no_fault, nothing_read, read_more}
 use Rattle.rtgs_statements.proofs.Told.{orders_left, orders_begin, order_splits, orders_end}
 use Rattle.rtgs_statements.proofs.gathering.ordered_on.Goals as goal
 
@@ -34,7 +34,8 @@ loop-next-preserved g c =
       fits = search rules;
       within = more_within c.loop-next.ordered c.add.new.self next c.in_ok-add.ensures c.loop-next.last next.number up
           most inv.within;
-      read = search rules;
+      read = read_more g.S.Source.holds g.S.Source.leaves g.S.Source.is_honest g.S.Source.has_failed c.args.source.now
+          c.loop-next.source c.later_order.new.source None inv.read c.in-Ok.ensures.read;
       sums = λ honest book held.
           let back = c.later_order.ensures.read.honest honest in
           let now = inv.read.held back book held no_fault in

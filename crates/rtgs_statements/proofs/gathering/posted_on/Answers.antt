@@ -1,11 +1,11 @@
-use Rattle.std.proofs.Common.{◌≡◌, ◌<◌, ◌+◌, ◌*◌, ◌^◌, pos, Option, Some, None, rules, refl, sym, ap, ◌∙◌, arith}
+use Rattle.std.proofs.Common.{◌≡◌, ◌<◌, ◌+◌, ◌*◌, pos, Option, Some, None, rules, refl, sym, ap, ◌∙◌, arith}
 use Rattle.std.proofs.lemmas.Int.{ints}
 use Rattle.rtgs_money.specs.declared.posting_amount.TheConstants.PostingAmount as PostingAmount
 use Rattle.rtgs_book.specs.declared.Posting.{Posting}
 use Rattle.rtgs_cores.specs.Nexts.{posting_after}
 use Rattle.rtgs_statements.specs.Rows.{is_to}
 use Rattle.rtgs_statements.specs.Sums.{posted, sum_at}
-use Rattle.rtgs_statements.proofs.Leaving.{no_fault, nothing_read}
+use Rattle.rtgs_statements.proofs.Leaving.{no_fault, nothing_read, read_more}
 use Rattle.rtgs_statements.proofs.Terms.{Within, step-sum, step-within, wider}
 use Rattle.rtgs_statements.proofs.Told.{postings_begin, postings_end, posted_split}
 use Rattle.rtgs_statements.proofs.gathering.posted_on.Goals as goal
@@ -42,7 +42,8 @@ loop-next-preserved g c =
           wider (c.loop-next.last * PostingAmount.MAX + PostingAmount.MAX) _ _ (omega arith)
           (step-within _ PostingAmount.MAX _ _ _ next.cents (is_to code next) small (omega (arith, ints))
           (c.in_ok-add.ensures code) (inv.within code));
-      read = search rules;
+      read = read_more g.S.Source.holds g.S.Source.leaves g.S.Source.is_honest g.S.Source.has_failed c.args.source.now
+          c.loop-next.source c.later_posting.new.source None inv.read c.in-Ok.ensures.read;
       sums = λ honest book held code.
           let back = c.later_posting.ensures.read.honest honest in
           let now = inv.read.held back book held no_fault in

@@ -14,9 +14,10 @@ use Rattle.rtgs_statements.specs.Rows.{order_row, order_rows, settled_by}
 use Rattle.rtgs_statements.specs.Sums.{sent, received}
 use Rattle.rtgs_statements.proofs.Begins.{appends-both, begins-within}
 use Rattle.rtgs_statements.proofs.Growth.{appends-none}
-use Rattle.rtgs_statements.proofs.Leaving.{no_fault, nothing_read}
+use Rattle.rtgs_statements.proofs.Leaving.{no_fault, nothing_read, read_more}
 use Rattle.rtgs_statements.proofs.Terms.{Within, term-within, wider}
 use Rattle.rtgs_statements.proofs.Told.{orders_left, orders_begin, orders_end, order_rows_split, settled_split}
+use Rattle.rtgs_statements.proofs.Wholes.{none-whole, wholes-both, order_row-whole, text-leaves}
 use Rattle.rtgs_statements.proofs.statement.write_orders.Goals as goal
 
 none_else : (o : Option Order) → ((p : Order) → o ≡ Some p → ⊥) → o ≡ None
@@ -30,6 +31,7 @@ loop-next-init g c = record {
   within_received = (omega (arith, ints), omega (arith, ints));
   read = nothing_read g.S.Source.holds g.S.Source.leaves g.S.Source.is_honest g.S.Source.has_failed c.args.source.now
       (g.met.S.Source.left c.args.source.now);
+  whole = none-whole (g.W.Write.contents c.args.out.now);
   sent = λ honest book held.
       let begin = ap (sent c.args.code.now) (orders_begin c.args.date book (c.reads_a_sound_book.ensures book held)) in
       omega (arith, ints);
@@ -59,11 +61,18 @@ loop-next-preserved g c =
     let received_by : c.settled_cents-received.result ≡ settled_by Receiver c.args.code.now next = c.settled_cents-received.ensures in
     let up : c.loop-next.last < next.number = search rules in
     let fits = inv.fits in
+    let written : Appends (g.W.Write.contents c.loop-next.out) (g.W.Write.contents c.write_order.new.out)
+    (order_row c.args.code.now next) = search rules in
     record {
       fits = search rules;
       within_sent = (omega (arith, ints), omega (arith, ints));
       within_received = (omega (arith, ints), omega (arith, ints));
-      read = search rules;
+      read = read_more g.S.Source.holds g.S.Source.leaves g.S.Source.is_honest g.S.Source.has_failed c.args.source.now
+          c.loop-next.source c.later_order.new.source None inv.read c.in-Ok.ensures.read;
+      whole =
+          wholes-both (g.W.Write.contents c.args.out.now) (g.W.Write.contents c.loop-next.out)
+          (g.W.Write.contents c.write_order.new.out) inv.whole
+          (order_row c.args.code.now next, written, order_row-whole c.args.code.now next);
       sent = λ honest book held.
           let early = c.later_order.ensures.read.honest honest in
           let now = inv.read.held early book held no_fault in
@@ -90,7 +99,7 @@ loop-next-preserved g c =
           sym (c.in-Ok.ensures.told honest book now) ∙ c.in-Some.is in
           let rows = inv.rows early book held in (
             rows.0 ++ order_row c.args.code.now next,
-            appends-both _ _ _ rows.0 (order_row c.args.code.now next) rows.1 (search rules),
+            appends-both _ _ _ rows.0 (order_row c.args.code.now next) rows.1 written,
             append_assoc rows.0 (order_row c.args.code.now next)
                 (order_rows c.args.code.now (orders_left c.args.date next.number book))
                 ∙ order_rows_split c.args.code.now c.args.date c.loop-next.last book next listed is rows.0
@@ -143,3 +152,8 @@ returns-in_default-clause-small g c =
       wider (c.loop-next.last * Amount.MAX) (10 ^ 36) _ (omega arith) c.loop-next.invariant.within_sent,
       wider (c.loop-next.last * Amount.MAX) (10 ^ 36) _ (omega arith) c.loop-next.invariant.within_received,
     )
+
+pub returns-in-Err-write_order-clause-whole : goal.returns-in-Err-write_order-clause-whole
+returns-in-Err-write_order-clause-whole g c =
+    text-leaves g.W.Write.contents c.in-Err-write_order.fault c.args.out.now c.loop-next.out c.write_order.new.out
+    c.loop-next.invariant.whole c.in-Err-write_order.ensures.memory

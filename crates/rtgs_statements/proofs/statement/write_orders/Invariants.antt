@@ -2,7 +2,7 @@ use Rattle.std.proofs.Common.{◌≡◌, ◌<◌, ◌-◌, ◌*◌, ◌^◌, ◌
 use Rattle.std.specs.Io.KnownBytes.{Appends}
 use Rattle.rtgs_book.specs.declared.Book.{Book}
 use Rattle.rtgs_money.specs.declared.amount.TheConstants.Amount as Amount
-use Rattle.rtgs_statements.specs.Reads.{IsRead}
+use Rattle.rtgs_statements.specs.Reads.{IsRead, AppendsWholeLines}
 use Rattle.rtgs_statements.specs.Records.{orders_on}
 use Rattle.rtgs_statements.specs.Rows.{order_rows}
 use Rattle.rtgs_statements.specs.Sums.{sent, received}
@@ -18,6 +18,7 @@ invariant-loop-next g l = record {
   within_received : Within (l.last * Amount.MAX) l.received;
   read : IsRead g.S.Source.holds g.S.Source.leaves g.S.Source.is_honest g.S.Source.has_failed l.initial.source l.source
       None;
+  whole : AppendsWholeLines (g.W.Write.contents l.initial.out) (g.W.Write.contents l.out);
   sent : g.S.Source.is_honest l.source → (book : Book) → g.S.Source.holds l.initial.source book
       → (l.sent +ℤ sent l.code (orders_left l.date l.last book)) ≡ sent l.code (orders_on l.date book.orders);
   received : g.S.Source.is_honest l.source → (book : Book) → g.S.Source.holds l.initial.source book

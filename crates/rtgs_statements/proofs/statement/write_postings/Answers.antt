@@ -11,9 +11,10 @@ use Rattle.rtgs_statements.specs.Rows.{is_to, posting_row, posting_rows}
 use Rattle.rtgs_statements.specs.Sums.{posted}
 use Rattle.rtgs_statements.proofs.Begins.{appends-both, begins-within}
 use Rattle.rtgs_statements.proofs.Growth.{appends-none}
-use Rattle.rtgs_statements.proofs.Leaving.{no_fault, nothing_read}
+use Rattle.rtgs_statements.proofs.Leaving.{no_fault, nothing_read, read_more}
 use Rattle.rtgs_statements.proofs.Terms.{Within, term-within, wider}
 use Rattle.rtgs_statements.proofs.Told.{postings_left, postings_begin, postings_end, posting_rows_split, posted_split}
+use Rattle.rtgs_statements.proofs.Wholes.{none-whole, wholes-both, posting_row-whole, text-leaves}
 use Rattle.rtgs_statements.proofs.statement.write_postings.Goals as goal
 
 none_else : (o : Option Posting) → ((p : Posting) → o ≡ Some p → ⊥) → o ≡ None
@@ -26,6 +27,7 @@ loop-next-init g c = record {
   within = (omega (arith, ints), omega (arith, ints));
   read = nothing_read g.S.Source.holds g.S.Source.leaves g.S.Source.is_honest g.S.Source.has_failed c.args.source.now
       (g.met.S.Source.left c.args.source.now);
+  whole = none-whole (g.W.Write.contents c.args.out.now);
   sum = λ honest book held.
       let begin = ap (posted c.args.code.now) (postings_begin c.args.date book (c.reads_a_sound_book.ensures book held))
       in omega (arith, ints);
@@ -48,10 +50,17 @@ loop-next-preserved g c =
     c.in-Ok-write_posting.ensures.sum in
     let up : c.loop-next.last < next.number = search rules in
     let fits = inv.fits in
+    let written : Appends (g.W.Write.contents c.loop-next.out) (g.W.Write.contents c.write_posting.new.out)
+    (posting_row c.args.code.now next) = c.in-Ok-write_posting.ensures.written in
     record {
       fits = search rules;
       within = (omega (arith, ints), omega (arith, ints));
-      read = search rules;
+      read = read_more g.S.Source.holds g.S.Source.leaves g.S.Source.is_honest g.S.Source.has_failed c.args.source.now
+          c.loop-next.source c.later_posting.new.source None inv.read c.in-Ok.ensures.read;
+      whole =
+          wholes-both (g.W.Write.contents c.args.out.now) (g.W.Write.contents c.loop-next.out)
+          (g.W.Write.contents c.write_posting.new.out) inv.whole
+          (posting_row c.args.code.now next, written, posting_row-whole c.args.code.now next);
       sum = λ honest book held.
           let back = c.later_posting.ensures.read.honest honest in
           let now = inv.read.held back book held no_fault in
@@ -69,7 +78,7 @@ loop-next-preserved g c =
           sym (c.in-Ok.ensures.told honest book now) ∙ c.in-Some.is in
           let rows = inv.rows back book held in (
             rows.0 ++ posting_row c.args.code.now next,
-            appends-both _ _ _ rows.0 (posting_row c.args.code.now next) rows.1 c.in-Ok-write_posting.ensures.written,
+            appends-both _ _ _ rows.0 (posting_row c.args.code.now next) rows.1 written,
             append_assoc rows.0 (posting_row c.args.code.now next)
                 (posting_rows c.args.code.now (postings_left c.args.date next.number book))
                 ∙ posting_rows_split c.args.code.now c.args.date c.loop-next.last book next listed is rows.0
@@ -117,3 +126,8 @@ pub returns-in_default-clause-small : goal.returns-in_default-clause-small
 returns-in_default-clause-small g c =
     let fits = c.loop-next.invariant.fits in
     wider (c.loop-next.last * PostingAmount.MAX) (10 ^ 36) _ (omega arith) c.loop-next.invariant.within
+
+pub returns-in-Err-write_posting-clause-whole : goal.returns-in-Err-write_posting-clause-whole
+returns-in-Err-write_posting-clause-whole g c =
+    text-leaves g.W.Write.contents c.in-Err-write_posting.fault c.args.out.now c.loop-next.out c.write_posting.new.out
+    c.loop-next.invariant.whole c.in-Err-write_posting.ensures.memory

@@ -2,7 +2,7 @@ use Rattle.std.proofs.Common.{◌≡◌, ◌<◌, ◌-◌, ◌*◌, ◌^◌, ◌
 use Rattle.std.specs.Io.KnownBytes.{Appends}
 use Rattle.rtgs_book.specs.declared.Book.{Book}
 use Rattle.rtgs_money.specs.declared.posting_amount.TheConstants.PostingAmount as PostingAmount
-use Rattle.rtgs_statements.specs.Reads.{IsRead}
+use Rattle.rtgs_statements.specs.Reads.{IsRead, AppendsWholeLines}
 use Rattle.rtgs_statements.specs.Records.{postings_on}
 use Rattle.rtgs_statements.specs.Rows.{posting_rows}
 use Rattle.rtgs_statements.specs.Sums.{posted}
@@ -17,6 +17,7 @@ invariant-loop-next g l = record {
   within : Within (l.last * PostingAmount.MAX) l.sum;
   read : IsRead g.S.Source.holds g.S.Source.leaves g.S.Source.is_honest g.S.Source.has_failed l.initial.source l.source
       None;
+  whole : AppendsWholeLines (g.W.Write.contents l.initial.out) (g.W.Write.contents l.out);
   sum : g.S.Source.is_honest l.source → (book : Book) → g.S.Source.holds l.initial.source book
       → (l.sum +ℤ posted l.code (postings_left l.date l.last book)) ≡ posted l.code (postings_on l.date book.postings);
   rows : g.S.Source.is_honest l.source → (book : Book) → g.S.Source.holds l.initial.source book

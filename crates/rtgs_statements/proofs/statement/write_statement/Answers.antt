@@ -4,12 +4,15 @@ use Rattle.std.specs.Int.{w128}
 use Rattle.std.specs.Io.KnownBytes.{Appends}
 use Rattle.rtgs_output.specs.Sent.{AppendsPart}
 use Rattle.rtgs_statements.specs.Sums.{IsSmall}
-use Rattle.rtgs_statements.specs.Texts.{text_of, sum_lines}
+use Rattle.rtgs_statements.specs.Reads.{AppendsWholeLines}
+use Rattle.rtgs_statements.specs.declared.line.Line.TheVariants.{StatementOf}
+use Rattle.rtgs_statements.specs.Texts.{line_text, text_of, sum_lines}
 use Rattle.rtgs_statements.proofs.Begins.{appends-both, begins-part, part-within}
 use Rattle.rtgs_statements.proofs.Growth.{appends-none}
 use Rattle.rtgs_statements.proofs.Leaving.{no_fault}
 use Rattle.rtgs_statements.proofs.Statements.{title, postings, orders, sums, statement_joined, more_after_postings}
 use Rattle.rtgs_statements.proofs.Statements.{more_after_orders, from_postings, from_orders, from_sums, from_sums_on}
+use Rattle.rtgs_statements.proofs.Wholes.{line-whole, none-whole, wholes-both, leaves-after, text-leaves}
 use Rattle.rtgs_statements.proofs.statement.write_statement.Goals as goal
 
 wide : (z : ℤ) → IsSmall z → to_z w128 (of_z w128 z) ≡ z
@@ -103,3 +106,51 @@ returns-in-Err-write_four-clause-begun g c honest book held =
     part-within (g.W.Write.contents c.args.out.now) (g.W.Write.contents c.write_orders.new.out)
     (g.W.Write.contents c.write_four.new.out) ((title book code date ++ postings book code date)
     ++ orders book code date) (sums book code date) [] _ three last (from_sums_on book code date)
+
+pub returns-in-Err-clause-whole : goal.returns-in-Err-clause-whole
+returns-in-Err-clause-whole g c =
+    text-leaves g.W.Write.contents c.in-Err.fault c.args.out.now c.args.out.now c.write_line.new.out
+    (none-whole (g.W.Write.contents c.args.out.now)) c.in-Err.ensures.memory
+
+pub returns-in-Err-write_postings-clause-whole : goal.returns-in-Err-write_postings-clause-whole
+returns-in-Err-write_postings-clause-whole g c =
+    let old = g.W.Write.contents c.args.out.now in
+    let titled = g.W.Write.contents c.write_line.new.out in
+    let first : Appends old titled (line_text (StatementOf c.args.code.now c.args.date)) = search rules in
+    let one : AppendsWholeLines old titled = (
+      line_text (StatementOf c.args.code.now c.args.date),
+      first,
+      line-whole (StatementOf c.args.code.now c.args.date),
+    ) in
+    leaves-after c.in-Err-write_postings.fault old titled (g.W.Write.contents c.write_postings.new.out) one
+    c.in-Err-write_postings.ensures.whole
+
+pub returns-in-Err-write_orders-clause-whole : goal.returns-in-Err-write_orders-clause-whole
+returns-in-Err-write_orders-clause-whole g c =
+    let old = g.W.Write.contents c.args.out.now in
+    let titled = g.W.Write.contents c.write_line.new.out in
+    let first : Appends old titled (line_text (StatementOf c.args.code.now c.args.date)) = search rules in
+    let one : AppendsWholeLines old titled = (
+      line_text (StatementOf c.args.code.now c.args.date),
+      first,
+      line-whole (StatementOf c.args.code.now c.args.date),
+    ) in
+    let two = wholes-both old titled (g.W.Write.contents c.write_postings.new.out) one c.in-Ok.ensures.lines in
+    leaves-after c.in-Err-write_orders.fault old (g.W.Write.contents c.write_postings.new.out)
+    (g.W.Write.contents c.write_orders.new.out) two c.in-Err-write_orders.ensures.whole
+
+pub returns-in-Err-write_four-clause-whole : goal.returns-in-Err-write_four-clause-whole
+returns-in-Err-write_four-clause-whole g c =
+    let old = g.W.Write.contents c.args.out.now in
+    let titled = g.W.Write.contents c.write_line.new.out in
+    let first : Appends old titled (line_text (StatementOf c.args.code.now c.args.date)) = search rules in
+    let one : AppendsWholeLines old titled = (
+      line_text (StatementOf c.args.code.now c.args.date),
+      first,
+      line-whole (StatementOf c.args.code.now c.args.date),
+    ) in
+    let two = wholes-both old titled (g.W.Write.contents c.write_postings.new.out) one c.in-Ok.ensures.lines in
+    let three = wholes-both old (g.W.Write.contents c.write_postings.new.out)
+    (g.W.Write.contents c.write_orders.new.out) two c.in-Ok-write_orders.ensures.lines in
+    text-leaves g.W.Write.contents c.in-Err-write_four.fault c.args.out.now c.write_orders.new.out c.write_four.new.out
+    three c.in-Err-write_four.ensures.memory

@@ -13,7 +13,7 @@ pub returns-in-Ok-clause-looked : goal.returns-in-Ok-clause-looked
 returns-in-Ok-clause-looked g c = looked_up g.K.Keeper
     (record { settled = g.met.K.Keeper.settled; whole = g.met.K.Keeper.whole })
     c.self.inside.keeper c.find_posting.new.self c.self.inside.ledger.core c.args.self.now c.self.inside.failed
-        c.find_posting.result
+    c.find_posting.result
     c.self.view_is c.self.invariant c.if-self.false
     (record {
       honest = c.find_posting.ensures.honest;
@@ -34,10 +34,10 @@ pub returns-in-Err-clause-looked : goal.returns-in-Err-clause-looked
 returns-in-Err-clause-looked g c = subst
     (λ (r : Refusal). LooksUp g.K.Keeper c.args.self.now
     (record { keeper = c.find_posting.new.self; core = c.self.inside.ledger.core }) (Some r)) (sym
-        c.refused.ensures.refusal)
+    c.refused.ensures.refusal)
     (not_looked_up g.K.Keeper (record { settled = g.met.K.Keeper.settled; whole = g.met.K.Keeper.whole })
     c.self.inside.keeper c.find_posting.new.self c.self.inside.ledger.core c.args.self.now c.self.inside.failed
-        c.find_posting.result
+    c.find_posting.result
     c.self.view_is c.self.invariant c.if-self.false
     (record {
       honest = c.find_posting.ensures.honest;

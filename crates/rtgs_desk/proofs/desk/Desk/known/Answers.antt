@@ -29,5 +29,5 @@ returns-clause-told g c book memory works =
     let core = subst (λ (s : Seen g.row.K.Denot). IsCoreOf book s.core) (sym c.self.view_is)
     (remembered c.args.self.now book memory) in
     c.ok_or.ensures.value ∙ known_account book c.args.code.now c.account.result (c.account.ensures.participant book
-        core)
+    core)
     (c.account.ensures.balance book core)

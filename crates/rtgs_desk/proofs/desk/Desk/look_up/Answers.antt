@@ -68,7 +68,7 @@ returns-clause-looked g c = elim c.match-command.branch [
   | in_default w ↦ subst (λ (s : Seen g.row.K.Denot). LooksUp g.K.Keeper c.args.self.now s None) (sym w.self-is)
       (looks_at_nothing g.K.Keeper (record { settled = g.met.K.Keeper.settled; whole = g.met.K.Keeper.whole })
       c.self.inside.keeper c.self.inside.ledger.core c.args.self.now c.self.inside.failed c.self.view_is
-          c.self.invariant
+      c.self.invariant
       c.if-self.false)
 ]
 
@@ -88,7 +88,7 @@ returns-clause-found g c honest book held = elim c.match-command.branch [
       let found = w.in_ok-found-in-Post.ensures.found
       (subst (λ (s : Seen g.row.K.Denot). g.K.Keeper.is_honest s.keeper) w.self-is honest) book held in
       w.found-is ∙ found_posting book w.in-Post.code w.in-Post.reference w.in-Post.cents w.in_ok-found-in-Post.field-0
-          found
+      found
       ∙ ap (found_for book) (sym w.in-Post.is)
   | in_default w ↦ w.found-is ∙ found_nothing book c.args.command.now w.in_default.not-Post w.in_default.not-Order
       w.in_default.not-Withdraw

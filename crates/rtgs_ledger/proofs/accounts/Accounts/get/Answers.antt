@@ -7,7 +7,7 @@ pub returns-in-Ok : goal.returns-in-Ok
 returns-in-Ok c =
     let same : c.self.inside.accounts.items ≡ c.args.self.now.accounts = λ i. (c.self.view_is i).accounts in
     let found = find_at c.args.code.now c.args.self.now.accounts (subst AreInCodeOrder same c.self.invariant.ordered)
-        c.in-Ok.at
+    c.in-Ok.at
     c.in-Ok.ensures.found c.index.result.now in
     cc
 

@@ -7,7 +7,7 @@ pub returns-in-Ok : goal.returns-in-Ok
 returns-in-Ok c =
     let same : c.self.inside.accounts.items ≡ c.args.self.now.accounts = λ i. (c.self.view_is i).accounts in
     sym (position_at c.args.code.now c.args.self.now.accounts (subst AreInCodeOrder same c.self.invariant.ordered)
-        c.in-Ok.at
+    c.in-Ok.at
     c.in-Ok.ensures.found)
 
 pub returns-in-Err : goal.returns-in-Err

@@ -17,13 +17,13 @@ written c =
     let at = subst (λ xs. IsAt c.args.code.now xs c.in-Ok.at) (sym same) c.in-Ok.ensures.found in
     ap (λ (x : Account). set c.self.inside.accounts.items c.in-Ok.at (change c.args.credit x)) c.index_mut.ensures.value
     ∙ altered_at (change c.args.credit) (λ a. refl) c.args.code.now c.self.inside.accounts.items
-        c.self.invariant.ordered
+    c.self.invariant.ordered
     c.in-Ok.at at c.index_mut.result.now
 
 pub invariant_of-self : goal.invariant_of-self
 invariant_of-self c = subst AreOfABook (sym (written c))
     (of_a_book_altered (change c.args.credit) (λ a. refl) (λ a. refl) c.args.code.now c.self.inside.accounts.items
-        c.self.invariant)
+    c.self.invariant)
 
 pub returns-in-Ok-clause-accounts : goal.returns-in-Ok-clause-accounts
 returns-in-Ok-clause-accounts c =

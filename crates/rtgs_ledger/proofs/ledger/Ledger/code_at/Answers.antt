@@ -13,4 +13,4 @@ returns c book is =
     let of = is_of_book book r c.args.self.now c.self.view_is is in
     c.code_at.ensures
     ∙ ap (λ (codes : List (List ℕ)). slice_get codes c.args.index) (codes-participants r.accounts.accounts ∙ ap
-        accounts of.same)
+    accounts of.same)

@@ -1,5 +1,5 @@
 use Rattle.std.proofs.Common.{◌∙◌}
-use Rattle.rtgs_ledger.proofs.Loading.{of_a_book, rising, before, all_queued}
+use Rattle.rtgs_ledger.proofs.Loading.{of_a_book, rising, before, waiting, all_queued}
 use Rattle.rtgs_ledger.proofs.ledger.Ledger.load.Goals as goal
 
 pub load-requires : goal.load-requires
@@ -10,6 +10,9 @@ load-requires-2-clause-rising c = rising c.requires.0 c.args.core c.requires.1
 
 pub load-requires-2-clause-before : goal.load-requires-2-clause-before
 load-requires-2-clause-before c = before c.requires.0 c.args.core c.requires.1
+
+pub load-requires-2-clause-waiting : goal.load-requires-2-clause-waiting
+load-requires-2-clause-waiting c = waiting c.requires.0 c.args.core c.requires.1
 
 pub returns : goal.returns
 returns c = λ i. record {

@@ -2,7 +2,7 @@ use Rattle.std.proofs.Common.{◌<◌, ◌∙◌, sym, subst, ap}
 use Rattle.std.specs.List.{AllByRecursion}
 use Rattle.rtgs_book.specs.declared.order.Order.{Order}
 use Rattle.rtgs_book.specs.Queue.{queued_numbers}
-use Rattle.rtgs_ledger.specs.Orders.{AreRising}
+use Rattle.rtgs_ledger.specs.Orders.{AreRising, AreQueued}
 use Rattle.rtgs_ledger.proofs.orders.Orders.load.Goals as goal
 
 pub invariant_of-result : goal.invariant_of-result
@@ -13,4 +13,5 @@ invariant_of-result c = record {
   queued = λ sender. c.in_ok-queues.ensures sender ∙ ap (λ orders. queued_numbers orders sender)
       c.as_slice.ensures.value;
   ready = λ name e. absurd (cc);
+  waiting = λ _. subst AreQueued (sym c.into_vec-orders.ensures) c.requires.waiting;
 }

@@ -1,7 +1,6 @@
-use Rattle.std.proofs.Common.{◌≡◌, rules, map, IfOk, string_bytes, [], ◌∷◌, List, refl, subst, ◌∙◌}
+use Rattle.std.proofs.Common.{◌≡◌, rules, map, IfOk, string_bytes, [], ◌∷◌, refl, subst, ◌∙◌}
 use Rattle.rtgs_book.specs.declared.standing.Standing.TheVariants.{Settled, Queued, Withdrawn, Rejected}
 use Rattle.rtgs_book.specs.Lookup.{accounts}
-use Rattle.rtgs_statements.specs.declared.line.Line.{Line}
 use Rattle.rtgs_statements.specs.declared.line.Line.TheVariants.{ReportOf, Account, Marks}
 use Rattle.rtgs_statements.specs.Records.{postings_on, orders_on, marks_on}
 use Rattle.rtgs_statements.specs.Sums.{sums_at}

@@ -14,7 +14,7 @@ pub returns-in-Ok-clause-read : goal.returns-in-Ok-clause-read
 returns-in-Ok-clause-read g c = reads g.K.Keeper _ _ _ (looked_up g.K.Keeper
     (record { settled = g.met.K.Keeper.settled; whole = g.met.K.Keeper.whole })
     c.self.inside.keeper c.next_mark.new.self c.self.inside.ledger.core c.args.self.now c.self.inside.failed
-        c.next_mark.result
+    c.next_mark.result
     c.self.view_is c.self.invariant c.if-self.false
     (record {
       honest = c.next_mark.ensures.honest;
@@ -35,10 +35,10 @@ pub returns-in-Err-clause-read : goal.returns-in-Err-clause-read
 returns-in-Err-clause-read g c = reads g.K.Keeper _ _ _ (subst
     (λ (r : Refusal). LooksUp g.K.Keeper c.args.self.now
     (record { keeper = c.next_mark.new.self; core = c.self.inside.ledger.core }) (Some r)) (sym
-        c.refused.ensures.refusal)
+    c.refused.ensures.refusal)
     (not_looked_up g.K.Keeper (record { settled = g.met.K.Keeper.settled; whole = g.met.K.Keeper.whole })
     c.self.inside.keeper c.next_mark.new.self c.self.inside.ledger.core c.args.self.now c.self.inside.failed
-        c.next_mark.result
+    c.next_mark.result
     c.self.view_is c.self.invariant c.if-self.false
     (record {
       honest = c.next_mark.ensures.honest;
