@@ -40,30 +40,30 @@ store_fault StoreFault e = refl
 store_fault refusal e = absurd (cc)
 
 module _ {K V : Type 0} (g : Ghosts K) (old desk : Seen K) (sent : Message) (works : g.has_failed old.keeper ≡ false)
-    where
-  -- such a reading was refused
-  pub refused_read : (wanted : Message) (refusal : Refusal)
-      → (◌≡◌ {A = Result V Refusal} (Err refusal) (Err StoreFault)
-      → (g.has_failed old.keeper ≡ false) × (g.has_failed desk.keeper ≡ true))
-      → (◌≢◌ {A = Result V Refusal} (Err refusal) (Err StoreFault)
-      → g.has_failed desk.keeper ≡ g.has_failed old.keeper)
-      → (refusal ≢ StoreFault → IsSaid wanted sent) → IsSaid (refused_message refusal) sent
-      → IsReadOf g wanted desk sent
-  refused_read wanted refusal fault only_fault told said = by (is_store_fault (Err refusal)) refl
-    where
-      by : (b : Bool) → is_store_fault (Err refusal) ≡ b → IsReadOf g wanted desk sent
-      by true e =
-          let same = store_fault refusal e in
-          inr ((fault (ap Err same)).1, subst (λ r. IsSaid (refused_message r) sent) same said)
-      by false e =
-          let other : refusal ≢ StoreFault = λ f. let h = ap (λ r. is_store_fault (Err r)) f in cc in
-          inl (only_fault (λ f. other cc) ∙ works, told other)
+  where
+    -- such a reading was refused
+    pub refused_read : (wanted : Message) (refusal : Refusal)
+        → (◌≡◌ {A = Result V Refusal} (Err refusal) (Err StoreFault)
+        → (g.has_failed old.keeper ≡ false) × (g.has_failed desk.keeper ≡ true))
+        → (◌≢◌ {A = Result V Refusal} (Err refusal) (Err StoreFault)
+        → g.has_failed desk.keeper ≡ g.has_failed old.keeper)
+        → (refusal ≢ StoreFault → IsSaid wanted sent) → IsSaid (refused_message refusal) sent
+        → IsReadOf g wanted desk sent
+    refused_read wanted refusal fault only_fault told said = by (is_store_fault (Err refusal)) refl
+      where
+        by : (b : Bool) → is_store_fault (Err refusal) ≡ b → IsReadOf g wanted desk sent
+        by true e =
+            let same = store_fault refusal e in
+            inr ((fault (ap Err same)).1, subst (λ r. IsSaid (refused_message r) sent) same said)
+        by false e =
+            let other : refusal ≢ StoreFault = λ f. let h = ap (λ r. is_store_fault (Err r)) f in cc in
+            inl (only_fault (λ f. other cc) ∙ works, told other)
 
-  -- such a reading was told
-  pub told_read : (wanted : Message) (v : V)
-      → (◌≢◌ {A = Result V Refusal} (Ok v) (Err StoreFault) → g.has_failed desk.keeper ≡ g.has_failed old.keeper)
-      → IsSaid wanted sent → IsReadOf g wanted desk sent
-  told_read wanted v only_fault said = inl (only_fault (λ f. cc) ∙ works, said)
+    -- such a reading was told
+    pub told_read : (wanted : Message) (v : V)
+        → (◌≢◌ {A = Result V Refusal} (Ok v) (Err StoreFault) → g.has_failed desk.keeper ≡ g.has_failed old.keeper)
+        → IsSaid wanted sent → IsReadOf g wanted desk sent
+    told_read wanted v only_fault said = inl (only_fault (λ f. cc) ∙ works, said)
 
 module _ {X Y : Type 0} (view : Y → X) (wanted : Result X Refusal) (say : X → Message) (sent : Message)
     (Lost : Type 0) where

@@ -1,4 +1,4 @@
-use Rattle.std.proofs.Common.{Ok, Err, ap, inr}
+use Rattle.std.proofs.Common.{Ok, Err, inr}
 use Rattle.rtgs_desk.specs.Readings.{order_told}
 use Rattle.rtgs_http_banks.specs.Sayings.{told_message, order_message}
 use Rattle.rtgs_http_banks.proofs.Finding.{found_said, refused_found, stood_still}

@@ -1,4 +1,4 @@
-use Rattle.std.proofs.Common.{◌∙◌, ap, inr}
+use Rattle.std.proofs.Common.{◌∙◌, ℕ, List, ap}
 use Rattle.rtgs_desk_texts.specs.Written.{report_wanted}
 use Rattle.rtgs_http_banks.specs.Sayings.{told_message, text_message}
 use Rattle.rtgs_http_banks.proofs.Told.{refused_read, refused_text, stands_after, text_said, told_read}
@@ -11,18 +11,9 @@ returns-in-Err-clause-reads g c honest book held =
       refused_read g.K.Keeper c.args.desk.now c.report_text.new.desk c.refused.result
           (c.holds_a_sound_book.ensures.works book held) (told_message text_message wanted) c.in-Err.refusal
           c.in-Err.ensures.fault c.in-Err.ensures.only_fault
-          (refused_text (λ text. text.items) wanted text_message c.refused.result _ c.in-Err.refusal
+          (refused_text {Y = List ℕ} (λ text. text) wanted text_message c.refused.result _ c.in-Err.refusal
           (λ lost. let is = lost.1 in cc) (c.in-Err.ensures.told honest book held) c.refused.ensures)
           c.refused.ensures,
-    )
-
-pub returns-in-Err-text_reply-clause-reads : goal.returns-in-Err-text_reply-clause-reads
-returns-in-Err-text_reply-clause-reads g c honest book held =
-    let wanted = report_wanted book c.args.date in (
-      stands_after g.K.Keeper _ _ book c.in-Ok.ensures.leaves honest held,
-      told_read g.K.Keeper c.args.desk.now c.report_text.new.desk c.out_of_memory.result
-          (c.holds_a_sound_book.ensures.works book held) (told_message text_message wanted) c.in-Ok.text
-          c.in-Ok.ensures.only_fault (inr c.out_of_memory.ensures),
     )
 
 pub returns-in-Ok-text_reply-clause-reads : goal.returns-in-Ok-text_reply-clause-reads

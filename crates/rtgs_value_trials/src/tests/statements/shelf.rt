@@ -1,5 +1,5 @@
 //! A book in memory, of whose reads one can meet trouble.
-ghost use Rattle.std.specs.Prelude.{◌≡◌, OnOk, IfErr, ◌⊎◌, true, false};
+ghost use Rattle.std.specs.Prelude.{◌≡◌, Err, OnOk, IfErr, ◌⊎◌, true, false};
 ghost use Rattle.std.specs.List.{find};
 ghost use Rattle.rtgs_cores.specs.Nexts.{is_posting_after, is_order_after, is_mark_after};
 
@@ -57,9 +57,10 @@ impl Shelf {
         ensures book { self.new.book ≡ self.old.book }
         ensures well { OnOk result (self.new.failed ≡ self.old.failed) }
         ensures ill { IfErr result (λ refusal.
-            ((refusal ≡ Refusal.StoreFault) × (self.new.failed ≡ true))
-            ⊎ (((refusal ≡ Refusal.OutOfMemory) × (self.new.failed ≡ self.old.failed))
-            ⊎ ((refusal ≡ Refusal.Failed) × (self.old.failed ≡ true) × (self.new.failed ≡ true)))) }
+            ((refusal ≡ Refusal.StoreFault) × (self.old.failed ≡ false) × (self.new.failed ≡ true))
+            ⊎ (((refusal ≡ Refusal.OutOfMemory) × (self.old.failed ≡ false) × (self.new.failed ≡ false))
+            ⊎ ((refusal ≡ Refusal.Failed) × (self.old.failed ≡ true)))) }
+        ensures failed { self.old.failed ≡ true → (result ≡ Err Refusal.Failed) × (self.new ≡ self.old) }
     {
         if self.failed {
             return Err(Refusal::Failed);
