@@ -1,9 +1,10 @@
 //! The program `desk`: one run over its own words and streams.
 #![tactic(auto)]
 
-use rtgs_desk_cli::{Unknown, run_words};
+use rtgs_desk_cli::run_words;
 use rtgs_desk_lines::Failure;
 use rtgs_refusals::exit_status::MISUSED;
+use sqlite::Unknown;
 use std::alloc::{AllocError, Global};
 use std::env::{self, Args};
 use std::io::{ErrorKind, Write};

@@ -4,8 +4,9 @@ ghost use Rattle.std.specs.Prelude.{◌≤◌};
 use crate::business::{BANKS, addition, date, endowment, opening, payment, turning};
 use anyhow::{Result, anyhow, ensure};
 use rtgs_book::Command;
-use rtgs_book_file::{BookLock, FileKeeper, OpenBook, Unknown, Unopened};
+use rtgs_book_file::{BookLock, FileKeeper, OpenBook, Unopened};
 use rtgs_desk::Desk;
+use sqlite::Unknown;
 use std::alloc::Global;
 
 /// The desk over a file.

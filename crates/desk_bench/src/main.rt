@@ -1,8 +1,8 @@
 #![tactic(auto)]
 //! Opens a desk over books of growing size, and submits orders to it one by one, beside the bare store with the same
-//! rows; then reports a day of a book of two and days of a longer one, imports a file of orders, settles rings of queued
-//! ones, and serves orders and readings of an account and of a queue as HTTP requests. It prints how many orders there
-//! are, which is the same in every run, and with the argument `times`, over larger books, how long it all took.
+//! rows; then reports a day of a book of two and days of a longer one, imports a file of orders, settles rings of
+//! queued ones, and serves orders and readings of an account and of a queue as HTTP requests. It prints how many orders
+//! there are, which is the same in every run, and with the argument `times`, over larger books, how long it all took.
 //!
 //! With `desk FILE` it tells how much memory a new process has with a desk open over the book of that file, and with
 //! `store FILE` with the store alone. `times` leaves books of no orders, 20,000 and 200,000 for that.

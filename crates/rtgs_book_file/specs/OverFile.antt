@@ -1,5 +1,5 @@
 -- What crates that know no store say of the file of a book.
-use Rattle.std.specs.Prelude.{◌≡◌, ◌⊎◌, List}
+use Rattle.std.specs.Prelude.{◌≡◌, ◌⊎◌, ℕ, List, string_bytes}
 use Rattle.sqlite_disk.specs.declared.Disk as disk
 use Rattle.sqlite_disk.specs.declared.Start as start
 use Rattle.sqlite_disk.specs.declared.modelled.Modelled.{Modelled}
@@ -17,6 +17,7 @@ use Rattle.rtgs_desk.specs.Seen.{Seen}
 use Rattle.rtgs_stored_desk.specs.Stored.{StopLeaves}
 use Rattle.rtgs_book_file.specs.Causes.{fault_of_cause, IsOfItsLock, ShowsNoBook, BarsBook}
 use Rattle.rtgs_book_file.specs.Closed.{LeavesClosed}
+use Rattle.rtgs_book_file.specs.Files.{lock_name, IsOfLock}
 use Rattle.rtgs_book_file.specs.Opened.{WasOpened, WasMade}
 use Rattle.rtgs_book_file.specs.declared.file_fault.FileFault.{FileFault}
 use Rattle.rtgs_book_file.specs.declared.let_go.LetGo.{LetGo}
@@ -39,6 +40,9 @@ pub record OverFile (K U C : Type 0) : Type 1 where
   pub was_unmade : U → Type 0
   -- how it is told that no desk was opened over it, or no book made in it
   pub fault_of : U → FileFault
+  -- it is the file at this path, as its lock is named
+  pub refused_at : List ℕ → U → Type 0
+  pub closed_at : List ℕ → C → Type 0
   -- Whatever a stop leaves of the desk's file is a book that a session of these commands may find, in its tables,
   -- whole.
   pub stop_leaves : Seen K → Book → List Command → List Reply → Type 0
@@ -60,5 +64,7 @@ file_from k first conn = record {
       ⊎ BarsBook k conn (image_at first) (λ closed. closed.files.value) unmade.cause)
       × (unmade.fault ≡ fault_of_cause unmade.cause);
   fault_of = λ unopened. unopened.fault;
+  refused_at = λ path unopened. IsOfLock (λ name. string_bytes name.value) path unopened.name unopened.fault;
+  closed_at = λ path closed. string_bytes closed.name.value ≡ lock_name path;
   stop_leaves = λ desk book commands replies. StopLeaves book commands replies (file_state (conn desk.keeper));
 }

@@ -1,7 +1,7 @@
 //! The lock of a book's file.
 ghost use Rattle.std.specs.Prelude.{◌≡◌, string_bytes, IfOk, IfErr};
 ghost use Rattle.sqlite.specs.WalFiles.{image_at};
-ghost use Rattle.rtgs_book_file.specs.Files.{lock_name};
+ghost use Rattle.rtgs_book_file.specs.Files.{lock_name, IsOfLock};
 ghost use Rattle.rtgs_book_file.specs.Refused.{IsNotLocked, IsUnopened, IsUnmadeIn};
 ghost use Rattle.rtgs_book_file.specs.Causes.{IsOfItsLock, fault_of_cause};
 
@@ -15,6 +15,7 @@ use sqlite::Start;
 use std::alloc::{AllocError, Global};
 use std::fs::{File, OpenOptions};
 use std::io;
+use std::snapshot::Snapshot;
 
 /// The lock of a book's file, which held what `S` says. It stands beside the file and is held until the value is
 /// dropped, and only `take` makes one: who has the value holds the lock. It keeps the only `Start` of its run, so that
@@ -33,6 +34,8 @@ impl<'a, S: Start> BookLock<'a, S> {
         ensures refused { IfErr result (λ unopened. IsNotLocked unopened.fault) }
         ensures cause { IfErr result (λ unopened. IsOfItsLock unopened.cause) }
         ensures told { IfErr result (λ unopened. unopened.fault ≡ fault_of_cause unopened.cause) }
+        ensures of { IfErr result (λ unopened.
+            IsOfLock (λ name. string_bytes name.value) path.now unopened.name unopened.fault) }
         ensures unopened { IfErr result (λ unopened. IsUnopened ⟦<FileKeeper<S> as Keeper>⟧ (λ keeper. keeper.conn)
             (image_at S.Start) unopened.fault) }
         ensures unmade { IfErr result (λ unopened. IsUnmadeIn ⟦<FileKeeper<S> as Keeper>⟧ (λ keeper. keeper.conn)
@@ -46,7 +49,7 @@ impl<'a, S: Start> BookLock<'a, S> {
                 locked,
                 start,
             }),
-            Err(refused) => Err(Unopened::of(Cause::NotLocked(refused))),
+            Err((name, refused)) => Err(Unopened::of(name, Cause::NotLocked(refused))),
         }
     }
 
@@ -55,6 +58,13 @@ impl<'a, S: Start> BookLock<'a, S> {
         ensures { result.now ≡ self.now.path.now }
     {
         self.path
+    }
+
+    /// The name of the lock's own file, as contracts see it.
+    pub(crate) fn name(&self) -> Snapshot<String>
+        ensures { result.value ≡ self.now.locked.name }
+    {
+        self.locked.name()
     }
 
     /// Where the book's file is, the lock's own file, and what the book's file held.
@@ -71,12 +81,29 @@ impl<'a, S: Start> BookLock<'a, S> {
     }
 }
 
-// The lock's own file, locked.
-fn locked(rt: &HostRuntime, path: &str) -> Result<Locked, NotLocked>
+// The lock's own file, locked; or why it is not, and its name, where memory was had for that.
+fn locked(rt: &HostRuntime, path: &str) -> Result<Locked, (Option<Snapshot<String>>, NotLocked)>
     ensures named { IfOk result (λ locked. string_bytes locked.name ≡ lock_name path.now) }
+    ensures refused { IfErr result (λ (_, refused). IsNotLocked refused.fault) }
+    ensures of { IfErr result (λ (name, refused).
+        IsOfLock (λ name. string_bytes name.value) path.now name refused.fault) }
+{
+    let name = match lock_name(rt.alloc(), path) {
+        Ok(name) => name,
+        Err(error) => return Err((None, NotLocked::from(error))),
+    };
+    let named = Snapshot::of(&name);
+    match locked_as(rt, name) {
+        Ok(locked) => Ok(locked),
+        Err(refused) => Err((Some(named), refused)),
+    }
+}
+
+// The lock's own file, which has this name, locked.
+fn locked_as(rt: &HostRuntime, name: String) -> Result<Locked, NotLocked>
+    ensures named { IfOk result (λ locked. locked.name ≡ name) }
     ensures refused { IfErr result (λ refused. IsNotLocked refused.fault) }
 {
-    let name = lock_name(rt.alloc(), path)?;
     let file = open_lock(rt, name.as_str())?;
     let answer = file.try_lock();
     Locked::taken(name, file, answer)

@@ -11,7 +11,7 @@ use sqlite::{Connection, FileFrom, FileStore, Files, Start};
 #[derive(Drop)]
 pub struct ClosedBook<S: Start> {
     pub(crate) files: Files<FileFrom<S>>,
-    lock: Locked,
+    pub(crate) lock: Locked,
 }
 
 impl<S: Start> ClosedBook<S> {

@@ -4,10 +4,11 @@ use sqlite::{FileFrom, Files, Start};
 use std::snapshot::Snapshot;
 
 /// A book's file that was closed and let go, with its lock. It has no bytes: it is there for contracts, which name by
-/// it what was left of the files. Only a book that was closed makes one.
+/// it what was left of the files, and the lock's own file. Only a book that was closed makes one.
 #[derive(Drop)]
 pub struct LetGo<S: Start> {
     files: Snapshot<Files<FileFrom<S>>>,
+    name: Snapshot<String>,
 }
 
 impl<S: Start> ClosedBook<S> {
@@ -15,10 +16,12 @@ impl<S: Start> ClosedBook<S> {
 
     /// Lets the files go, and then the lock.
     pub fn let_go(self) -> LetGo<S>
-        ensures { result.files.value ≡ self.files }
+        ensures files { result.files.value ≡ self.files }
+        ensures name { result.name.value ≡ self.lock.name }
     {
         let files = Snapshot::of(&self.files);
+        let name = self.lock.name();
         drop(self);
-        LetGo { files }
+        LetGo { files, name }
     }
 }

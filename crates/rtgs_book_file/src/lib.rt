@@ -32,4 +32,4 @@ pub use crate::let_go::LetGo;
 pub use crate::open_book::OpenBook;
 pub use crate::store::FileKeeper;
 pub use crate::unopened::Unopened;
-pub use sqlite::{Start, Unknown};
+pub use sqlite::Start;

@@ -5,6 +5,7 @@ ghost use Rattle.rtgs_book_file.specs.Refused.{IsNotLocked};
 
 use crate::not_locked::NotLocked;
 use std::fs::{File, TryLockError};
+use std::snapshot::Snapshot;
 
 /// A lock's own file, locked, and the name by which it was opened. Only an answer of the system that it is locked makes
 /// one. Nobody has the file itself, so it is unlocked as this value is dropped, and not before.
@@ -30,5 +31,12 @@ impl Locked {
             Ok(()) => Ok(Locked { name, file }),
             Err(error) => Err(NotLocked::from(error)),
         }
+    }
+
+    /// Its name, as contracts see it.
+    pub(crate) fn name(&self) -> Snapshot<String>
+        ensures { result.value ≡ self.now.name }
+    {
+        Snapshot::of(&self.name)
     }
 }

@@ -4,9 +4,9 @@ ghost use Rattle.rtgs_book_file.specs.Files.{vacancy_of, opening_of, MayBeADesks
 ghost use Rattle.rtgs_book_file.specs.Refused.{IsBarredBy, IsCrowded};
 
 use crate::book_lock::BookLock;
-use crate::listed::Listed;
 use crate::locked::Locked;
 use crate::not_vacant::NotVacant;
+use crate::schema_size::SchemaSize;
 use crate::unread::Unread;
 use sqlite::Start;
 use std::fs::Metadata;
@@ -51,12 +51,12 @@ impl<'a, S: Start> LookedAt<'a, S> {
     }
 
     /// The same, where this was read of what the file lists, and a desk's file may list that.
-    pub(crate) fn if_few(self, listed: Listed) -> Result<LookedAt<'a, S>, Unread>
-        ensures few { OnOk result (MayBeADesks listed) }
-        ensures refused { IfErr result (λ unread. IsCrowded listed unread.fault) }
+    pub(crate) fn if_few(self, size: SchemaSize) -> Result<LookedAt<'a, S>, Unread>
+        ensures few { OnOk result (MayBeADesks size.listed) }
+        ensures refused { IfErr result (λ unread. IsCrowded size.listed unread.fault) }
         ensures same { IfOk result (λ file. file.lock ≡ self.entry.lock) }
     {
-        match Unread::unless_crowded(listed) {
+        match Unread::unless_crowded(size) {
             Ok(()) => Ok(self),
             Err(unread) => Err(unread),
         }

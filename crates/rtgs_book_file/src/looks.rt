@@ -7,7 +7,7 @@ use crate::looked_at::LookedAt;
 use crate::not_vacant::NotVacant;
 use crate::schema_size::listed;
 use crate::unread::Unread;
-use sqlite::Start;
+use sqlite::{Start, Unknown};
 use std::fs::File;
 use std::io::Read;
 use std::{fs, io};
@@ -31,7 +31,7 @@ impl<'a, S: Start> BookLock<'a, S> {
     {
         let path = self.path();
         let file = LookedAt::if_database(self, read_beginning(rt, path))?;
-        file.if_few(listed(rt, path))
+        file.if_few(listed(rt, path, Unknown))
     }
 }
 

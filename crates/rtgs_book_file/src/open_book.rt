@@ -1,5 +1,5 @@
 //! The book in a file.
-ghost use Rattle.std.specs.Prelude.{◌≡◌, ◌⊎◌, IfOk, IfErr};
+ghost use Rattle.std.specs.Prelude.{◌≡◌, ◌⊎◌, Some, IfOk, IfErr};
 ghost use Rattle.std.specs.Borrow.{sem};
 ghost use Rattle.sqlite.specs.Files.{file_state};
 ghost use Rattle.sqlite.specs.State.{HasCleanDisk};
@@ -44,12 +44,15 @@ impl<S: Start> BookLock<'_, S> {
         ensures cause { IfErr result (λ unopened. ShowsNoBook ⟦<FileKeeper<S> as Keeper>⟧ (λ keeper. keeper.conn)
             (image_at S.Start) (λ closed. closed.files.value) unopened.cause) }
         ensures told { IfErr result (λ unopened. unopened.fault ≡ fault_of_cause unopened.cause) }
+        ensures of { IfErr result (λ unopened. (name : _) × (unopened.name ≡ Some name)
+            × (name.value ≡ self.entry.locked.name)) }
         ensures unopened { IfErr result (λ unopened.
             IsUnopened ⟦<FileKeeper<S> as Keeper>⟧ (λ keeper. keeper.conn) (image_at S.Start) unopened.fault) }
     {
+        let name = self.name();
         match open_book(rt, self) {
             Ok(book) => Ok(book),
-            Err(cause) => Err(Unopened::of(cause)),
+            Err(cause) => Err(Unopened::of(Some(name), cause)),
         }
     }
 
@@ -58,17 +61,21 @@ impl<S: Start> BookLock<'_, S> {
     pub fn make(self, rt: &HostRuntime) -> Result<LetGo<S>, Unopened<S>>
         ensures made { IfOk result (λ made. WasMade ⟦<FileKeeper<S> as Keeper>⟧ (λ keeper. keeper.conn)
             (image_at S.Start) made.files.value) }
+        ensures held { IfOk result (λ made. made.name.value ≡ self.entry.locked.name) }
         ensures refused { IfErr result (λ unopened.
             IsNotMade ⟦<FileKeeper<S> as Keeper>⟧ (λ keeper. keeper.conn) (image_at S.Start) unopened.fault) }
         ensures cause { IfErr result (λ unopened. BarsBook ⟦<FileKeeper<S> as Keeper>⟧ (λ keeper. keeper.conn)
             (image_at S.Start) (λ closed. closed.files.value) unopened.cause) }
         ensures told { IfErr result (λ unopened. unopened.fault ≡ fault_of_cause unopened.cause) }
+        ensures of { IfErr result (λ unopened. (name : _) × (unopened.name ≡ Some name)
+            × (name.value ≡ self.entry.locked.name)) }
         ensures unmade { IfErr result (λ unopened.
             IsUnmadeIn ⟦<FileKeeper<S> as Keeper>⟧ (λ keeper. keeper.conn) (image_at S.Start) unopened.fault) }
     {
+        let name = self.name();
         match make_book(rt, self) {
             Ok(made) => Ok(made),
-            Err(cause) => Err(Unopened::of(cause)),
+            Err(cause) => Err(Unopened::of(Some(name), cause)),
         }
     }
 }
@@ -135,6 +142,7 @@ fn make_book<S: Start>(
 ) -> Result<LetGo<S>, Cause<GivenUpBook<S>>>
     ensures made { IfOk result (λ closed.
         WasMade ⟦<FileKeeper<S> as Keeper>⟧ (λ keeper. keeper.conn) (image_at S.Start) closed.files.value) }
+    ensures held { IfOk result (λ closed. closed.name.value ≡ lock.entry.locked.name) }
     ensures refused { IfErr result (BarsBook ⟦<FileKeeper<S> as Keeper>⟧ (λ keeper. keeper.conn)
         (image_at S.Start) (λ closed. closed.files.value)) }
 {
@@ -149,6 +157,7 @@ fn make_tables<S: Start>(
 ) -> Result<LetGo<S>, Cause<GivenUpBook<S>>>
     ensures made { IfOk result (λ closed.
         WasMade ⟦<FileKeeper<S> as Keeper>⟧ (λ keeper. keeper.conn) (image_at S.Start) closed.files.value) }
+    ensures held { IfOk result (λ closed. closed.name.value ≡ file.entry.lock.locked.name) }
     ensures refused { IfErr result (BarsBook ⟦<FileKeeper<S> as Keeper>⟧ (λ keeper. keeper.conn)
         (image_at S.Start) (λ closed. closed.files.value)) }
 {

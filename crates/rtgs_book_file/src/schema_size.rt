@@ -1,10 +1,12 @@
 //! How many objects a file lists, read before a store is opened over it. A store compares each object with each other.
-ghost use Rattle.std.specs.Prelude.{IsTrue, IfSome};
-ghost use Rattle.sqlite_store.specs.Unopened.{AreUsable, state_of};
-ghost use Rattle.rtgs_book_file.specs.Counting.{Counts};
+ghost use Rattle.std.specs.Prelude.{◌≡◌, IsTrue, IfSome};
+ghost use Rattle.sqlite.specs.Files.{image_of};
+ghost use Rattle.sqlite.specs.WalFiles.{image_at};
+ghost use Rattle.sqlite_store.specs.Unopened.{AreUsable, image, state_of};
+ghost use Rattle.rtgs_book_file.specs.Counting.{Counts, IsReadIn};
 
 use crate::listed::Listed;
-use sqlite::{Files, Options, Unknown};
+use sqlite::{FileFrom, Files, Options, Start};
 use sqlite_disk::Disk;
 use sqlite_pager::Pager;
 use sqlite_pool::probe_blank;
@@ -18,37 +20,67 @@ const WITH_SUMS: u32 = 0x0840_2020;
 // The size of the page that an opening leaves which was cut short.
 const NEW_SIZE: usize = 4096;
 
-/// What the file at this path lists. The files are let go again.
-pub(crate) fn listed(rt: &HostRuntime, path: &str) -> Listed {
-    match sqlite_std_file::open(rt, path, Unknown) {
+/// What was read of how many objects a file lists. Only `listed` gives one, and what the store read, only `counted`.
+#[derive(Clone, Copy, Debug)]
+pub(crate) struct SchemaSize {
+    listed: Listed,
+}
+
+impl SchemaSize {
+    /// What was read.
+    pub(crate) fn listed(self) -> Listed
+        ensures { result ≡ self.listed }
+    {
+        self.listed
+    }
+
+    // That nothing was read.
+    fn unknown() -> SchemaSize
+        ensures { result.listed ≡ Listed.Unknown }
+    {
+        SchemaSize {
+            listed: Listed::Unknown,
+        }
+    }
+}
+
+/// What the file at this path lists, which held what `S` says. The files are let go again.
+pub(crate) fn listed<S: Start>(rt: &HostRuntime, path: &str, start: S) -> SchemaSize
+    ensures { IsReadIn ⟦<FileFrom<S> as Disk>⟧ (image_at S.Start) result.listed }
+{
+    match sqlite_std_file::open(rt, path, start) {
         Ok(files) => listed_in(rt.alloc(), files),
-        Err(_) => Listed::Unknown,
+        Err(_) => SchemaSize::unknown(),
     }
 }
 
 // What these files list.
-fn listed_in<D: Disk + Drop>(alloc: Global, files: Files<D>) -> Listed {
+fn listed_in<D: Disk + Drop>(alloc: Global, files: Files<D>) -> SchemaSize
+    ensures { IsReadIn D.Disk (image_of D.Disk files) result.listed }
+{
     match unopened(alloc, files) {
         Some((mut unopened, has_sums)) => counted(&mut unopened, has_sums),
-        None => Listed::Unknown,
+        None => SchemaSize::unknown(),
     }
 }
 
 // How many objects files list that a store would open so.
-fn counted<D: Disk>(files: &mut Unopened<D>, has_sums: bool) -> Listed
+fn counted<D: Disk>(files: &mut Unopened<D>, has_sums: bool) -> SchemaSize
     requires { AreUsable files.old }
-    ensures { IsTrue (state_of files.new).is_clean → Counts files.old files.new has_sums result }
+    ensures { IsTrue (state_of files.new).is_clean → Counts files.old files.new has_sums result.listed }
 {
-    match files.read_catalog() {
+    let listed = match files.read_catalog() {
         Ok(rows) => Listed::Objects(rows.len()),
         Err(OpenError::Refused) if has_sums => Listed::WithoutSums,
         Err(_) => Listed::Unknown,
-    }
+    };
+    SchemaSize { listed }
 }
 
 // The files, where a store would read their list, and whether their pages are to end in sums.
 fn unopened<D: Disk + Drop>(alloc: Global, mut files: Files<D>) -> Option<(Unopened<D>, bool)>
-    ensures { IfSome result (λ found. AreUsable found.0) }
+    ensures usable { IfSome result (λ found. AreUsable found.0) }
+    ensures same { IfSome result (λ found. image found.0 ≡ image_of D.Disk files) }
 {
     if is_blank(alloc, &mut files, false)?
         || is_blank(alloc, &mut files, true)?
@@ -69,7 +101,9 @@ fn unopened<D: Disk + Drop>(alloc: Global, mut files: Files<D>) -> Option<(Unope
 }
 
 // Whether an opening would make a new database of the files.
-fn is_blank<D: Disk>(alloc: Global, files: &mut Files<D>, has_sums: bool) -> Option<bool> {
+fn is_blank<D: Disk>(alloc: Global, files: &mut Files<D>, has_sums: bool) -> Option<bool>
+    ensures { image_of D.Disk files.new ≡ image_of D.Disk files.old }
+{
     if !files.may_be_used() {
         return None;
     }
@@ -86,7 +120,8 @@ fn over<D: Disk + Drop>(
 ) -> Option<Unopened<D>>
     requires log { IsTrue (D.Disk.is_usable files.log) }
     requires db { IsTrue (D.Disk.is_usable files.db) }
-    ensures { IfSome result AreUsable }
+    ensures usable { IfSome result AreUsable }
+    ensures same { IfSome result (λ found. image found ≡ image_of D.Disk files) }
 {
     let pager = match Pager::new(alloc, files, size, Options::new(0)) {
         Ok(pager) => pager,

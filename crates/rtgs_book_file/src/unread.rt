@@ -5,6 +5,7 @@ ghost use Rattle.rtgs_book_file.specs.Refused.{IsCrowded};
 
 use crate::limits::MOST_OBJECTS;
 use crate::listed::Listed;
+use crate::schema_size::SchemaSize;
 use rtgs_book::Fault;
 use std::io;
 use std::io::ErrorKind;
@@ -32,11 +33,11 @@ impl Unread {
     }
 
     /// Whether a file of which this was read may be a desk's, or why it is not opened.
-    pub(crate) fn unless_crowded(listed: Listed) -> Result<(), Unread>
-        ensures few { OnOk result (MayBeADesks listed) }
-        ensures refused { IfErr result (λ unread. IsCrowded listed unread.fault) }
+    pub(crate) fn unless_crowded(size: SchemaSize) -> Result<(), Unread>
+        ensures few { OnOk result (MayBeADesks size.listed) }
+        ensures refused { IfErr result (λ unread. IsCrowded size.listed unread.fault) }
     {
-        match listed {
+        match size.listed() {
             Listed::Unknown => Ok(()),
             Listed::Objects(count) if count <= MOST_OBJECTS => Ok(()),
             Listed::Objects(_) | Listed::WithoutSums => Err(Unread {

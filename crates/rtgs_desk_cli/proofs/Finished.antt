@@ -1,5 +1,5 @@
 -- What is said of a book with which something was done, once it was closed.
-use Rattle.std.proofs.Common.{◌≡◌, ◌⊎◌, inl, inr, ℕ, Bool, List, length, Option, Result, Ok, Err, refl, sym}
+use Rattle.std.proofs.Common.{◌≡◌, ◌⊎◌, ◌∙◌, inl, inr, ℕ, Bool, List, length, Option, Result, Ok, Err, refl, sym, ap}
 use Rattle.std.proofs.Common.{subst}
 use Rattle.std.specs.Result.{IfOk, IfErr, OnErr}
 use Rattle.std.proofs.lemmas.Result.{IfOk-weaker, IfErr-weaker}
@@ -23,6 +23,17 @@ use Rattle.rtgs_desk_cli.specs.declared.touched.Touched.TheVariants as traces
 pub when_done : {B T E : Type 0} (finished : Result (B × T) E) (P : B × T → Type 0) → IfOk finished P → (book : B)
     (done : T) → finished ≡ Ok (book, done) → P (book, done)
 when_done finished P all book done is = subst (λ r. IfOk r P) is all
+
+-- The name of a lock is that of the lock of the book that was closed. `bytes_of` gives the bytes of a name, and `name_of`
+-- the name of a book's lock.
+pub closed_as : {B T E N : Type 0} (finished : Result (B × T) E) (bytes_of : N → List ℕ) (name_of : B → N)
+    (closed : N) (name : List ℕ) → IfOk finished (λ p. closed ≡ name_of p.0)
+    → IfOk finished (λ p. bytes_of (name_of p.0) ≡ name) → (book : B) (done : T) → finished ≡ Ok (book, done)
+    → bytes_of closed ≡ name
+closed_as (Ok p) bytes_of name_of closed name same at book done is = ap bytes_of same ∙ at
+closed_as (Err why) bytes_of name_of closed name same at book done is =
+    let no : ⊥ = cc in
+    absurd no
 
 -- two things that are so of what was done are so together
 pub both : {T E : Type 0} (result : Result T E) (P Q : T → Type 0) → IfOk result P → IfOk result Q

@@ -6,7 +6,7 @@ use Rattle.rtgs_desk_lines.specs.declared.failure.Failure.{Failure}
 use Rattle.rtgs_desk_lines.specs.declared.printed.Printed.{Printed}
 use Rattle.rtgs_book_file.specs.OverFile.{OverFile}
 use Rattle.rtgs_desk_cli.specs.declared.touched.Touched.{Touched}
-use Rattle.rtgs_desk_cli.specs.Runs.{IsRefused, PrintsFor}
+use Rattle.rtgs_desk_cli.specs.Runs.{file_of, IsOf, IsRefused, PrintsFor}
 
 module _ {A K U C : Type 0} (file : OverFile K U C) (touched : Touched A U C) {asked other : Request}
     (same : asked ≡ other) where
@@ -16,6 +16,9 @@ module _ {A K U C : Type 0} (file : OverFile K U C) (touched : Touched A U C) {a
   printed_for result old new =
       subst (λ request. IfOk result (λ printed. PrintsFor file request touched printed old new))
       (sym same)
+
+  pub touched_for : IsOf file (file_of other) touched → IsOf file (file_of asked) touched
+  touched_for = subst (λ request. IsOf file (file_of request) touched) (sym same)
 
   pub refused_for : (result : Result Printed Failure) → IfErr result (λ why. IsRefused file other touched why)
       → IfErr result (λ why. IsRefused file asked touched why)

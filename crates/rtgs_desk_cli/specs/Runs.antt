@@ -46,17 +46,17 @@ ended_line line = line ++ 10 ∷ []
 
 -- the run met a file of orders, and these are its rows, as it was read
 abbrev pub AreReadFrom : Met → List OrderRow → Type 0
-AreReadFrom (met.Orders read) rows = AreRowsOf (λ bytes. bytes.items) read.value rows
+AreReadFrom (met.Orders read) rows = AreRowsOf (λ bytes. bytes.items) read.value.answer rows
 AreReadFrom _ rows = ⊥
 
 -- the run met a file of orders, and what reading it answered refuses it so
 abbrev pub IsNotSent : Met → Failure → Type 0
-IsNotSent (met.Orders read) why = RefusesRows (λ bytes. bytes.items) read.value why
+IsNotSent (met.Orders read) why = RefusesRows (λ bytes. bytes.items) read.value.answer why
 IsNotSent _ why = ⊥
 
 -- the run did not have its port, and what listening answered is told so
 abbrev pub IsNotListening : Met → Failure → Type 0
-IsNotListening (met.NoPort error) why = why ≡ failure_of_listening (error_kind error.value)
+IsNotListening (met.NoPort refused) why = why ≡ failure_of_listening (error_kind refused.value.error)
 IsNotListening _ why = ⊥
 
 -- that connections are taken on this port, and then how many were served, unless the desk has failed
@@ -99,6 +99,14 @@ IsExplained what contents told (ended.Misused sent) out out' err err' =
     (is_help what ≡ false) × (what ≢ kind.OutOfMemory) × ((text : List ℕ) × IsTold sent (told err) (told err') text)
     × (out' ≡ out)
 
+-- the file that a request names
+abbrev pub file_of : Request → List ℕ
+file_of (Make file) = file.now
+file_of (Submit file command) = file.now
+file_of (Import file sender orders) = file.now
+file_of (Read file reading) = file.now
+file_of (Serve file port count operator) = file.now
+
 -- what a run met beside the file of its book
 abbrev pub met_of : {A U C : Type 0} → Touched A U C → Met
 met_of (traces.Book closed beside) = beside
@@ -118,6 +126,12 @@ module _ {A K U C : Type 0} (book_file : OverFile K U C) where
   -- the desk was left so, and then the file was closed, which is this one; and beside it the run met this
   abbrev pub IsClosed : Seen K → Met → Touched A U C → Type 0
   IsClosed left beside touched = (closed : C) × (touched ≡ traces.Book closed beside) × book_file.was_closed left closed
+
+  -- what was touched is the file at this path
+  abbrev pub IsOf : List ℕ → Touched A U C → Type 0
+  IsOf path (traces.Nothing start) = ⊥
+  IsOf path (traces.Refused unopened) = book_file.refused_at path unopened
+  IsOf path (traces.Book closed beside) = book_file.closed_at path closed
 
   -- the file was not touched
   abbrev pub IsUntouched : Touched A U C → Type 0
@@ -187,16 +201,18 @@ module _ {A K U C : Type 0} (book_file : OverFile K U C) where
       × TakesAt port count (met_of touched) printed old new
   PrintsFor request touched printed old new = PrintsText request touched printed old new
 
-  -- the words spell a request for which this was printed
+  -- the words spell a request for which this was printed, and whose file was touched
   abbrev pub IsObeyed : Words → Touched A U C → Printed → Option (List ℕ) → Option (List ℕ) → Type 0
   IsObeyed words touched printed old new =
       (request : Request) × Reads words (Ok request) × PrintsFor request touched printed old new
+      × IsOf (file_of request) touched
 
-  -- a word is not of its form, or the request that the words spell is refused
+  -- a word is not of its form, or the request that the words spell is refused, and its file was touched
   abbrev pub IsDenied : Words → Touched A U C → Failure → Type 0
   IsDenied words touched why =
       ((form : Lexical) × Reads words (Err form) × (why ≡ Form form) × IsUntouched touched)
-      ⊎ ((request : Request) × Reads words (Ok request) × IsRefused request touched why)
+      ⊎ ((request : Request) × Reads words (Ok request) × IsRefused request touched why
+      × IsOf (file_of request) touched)
 
   -- What a run that was given these words did, by how it ended, and leaves on its writers: what was printed for the
   -- request that they spell stands on the first alone, and why it was refused on the second alone.

@@ -1,11 +1,12 @@
 //! What a request is answered with: the line of what was done.
-ghost use Rattle.std.specs.Prelude.{◌≡◌, true, None, Ok, Err, IfOk, IfErr, OnErr};
+ghost use Rattle.std.specs.Prelude.{◌≡◌, true, None, Ok, Err, IfOk, IfErr, OnErr, string_bytes};
+ghost use Rattle.rtgs_book_file.specs.Files.{lock_name};
 ghost use Rattle.rtgs_book_file.specs.OverFile.{file_from};
 ghost use Rattle.rtgs_desk.specs.Replies.{answers_its_kind};
 ghost use Rattle.rtgs_desk_lines.specs.Lines.{line_of};
 ghost use Rattle.rtgs_desk_lines.specs.Texts.{Prints};
 ghost use Rattle.rtgs_desk_cli.specs.Did.{IsSubmitted};
-ghost use Rattle.rtgs_desk_cli.specs.Runs.{ended_line, IsRefused, PrintsFor};
+ghost use Rattle.rtgs_desk_cli.specs.Runs.{ended_line, file_of, IsOf, IsRefused, PrintsFor};
 
 use crate::files::{Acted, Finished, close_book, make, open, refused_file};
 use crate::met::Met;
@@ -31,6 +32,8 @@ pub fn act<S: Start, O: Write>(
     ensures refused { IfErr result.0 (IsRefused (file_from ⟦<FileKeeper<S> as Keeper>⟧ S.Start
         (λ keeper. keeper.conn)) request.now result.1) }
     ensures unchanged { OnErr result.0 (out.new ≡ out.old) }
+    ensures at { IsOf (file_from ⟦<FileKeeper<S> as Keeper>⟧ S.Start (λ keeper. keeper.conn)) (file_of request.now)
+        result.1 }
 {
     match *request {
         Request::Make { file } => make_book(rt, file, start, out),
@@ -58,6 +61,7 @@ fn make_book<S: Start, O: Write>(rt: &HostRuntime, file: &str, start: S, out: &m
     ensures refused { IfErr result.0 (IsRefused (file_from ⟦<FileKeeper<S> as Keeper>⟧ S.Start (λ keeper. keeper.conn))
         (Request.Make file.entry) result.1) }
     ensures unchanged { OnErr result.0 (out.new ≡ out.old) }
+    ensures at { IsOf (file_from ⟦<FileKeeper<S> as Keeper>⟧ S.Start (λ keeper. keeper.conn)) file.now result.1 }
 {
     match make(rt, file, start) {
         Ok(made) => (Ok(say(Done::Made, out)), Touched::Book(made, Met::Nothing)),
@@ -79,6 +83,7 @@ fn answer<S: Start, O: Write>(
     ensures refused { IfErr result.0 (IsRefused (file_from ⟦<FileKeeper<S> as Keeper>⟧ S.Start (λ keeper. keeper.conn))
         (Request.Submit file.entry command) result.1) }
     ensures unchanged { OnErr result.0 (out.new ≡ out.old) }
+    ensures at { IsOf (file_from ⟦<FileKeeper<S> as Keeper>⟧ S.Start (λ keeper. keeper.conn)) file.now result.1 }
 {
     match close_book(submit(rt, file, command, start)) {
         Ok((closed, reply)) => (told(reply, out), Touched::Book(closed, Met::Nothing)),
@@ -99,6 +104,9 @@ fn submit<S: Start>(
         IfOk reply (λ answer. answers_its_kind command answer ≡ true)) }
     ensures unopened { IfErr result (λ unopened.
         (file_from ⟦<FileKeeper<S> as Keeper>⟧ S.Start (λ keeper. keeper.conn)).was_unopened unopened) }
+    ensures at { IfOk result (λ (book, _). string_bytes book.lock.locked.name ≡ lock_name file.now) }
+    ensures of { IfErr result (λ unopened.
+        (file_from ⟦<FileKeeper<S> as Keeper>⟧ S.Start (λ keeper. keeper.conn)).refused_at file.now unopened) }
 {
     let mut book = open(rt, file, start)?;
     let reply = rtgs_stored_desk::submit(book.desk(), command);

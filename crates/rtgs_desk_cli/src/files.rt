@@ -1,5 +1,6 @@
 //! The book in a file, and how its faults are told.
-ghost use Rattle.std.specs.Prelude.{◌≡◌, Ok, Err, IfOk, IfErr};
+ghost use Rattle.std.specs.Prelude.{◌≡◌, Ok, Err, IfOk, IfErr, string_bytes};
+ghost use Rattle.rtgs_book_file.specs.Files.{lock_name};
 ghost use Rattle.rtgs_book_file.specs.OverFile.{file_from};
 ghost use Rattle.rtgs_desk_cli.specs.Causes.{failure_of_file};
 
@@ -28,6 +29,10 @@ pub fn make<S: Start>(rt: &HostRuntime, file: &str, start: S) -> Result<LetGo<S>
         (file_from ⟦<FileKeeper<S> as Keeper>⟧ S.Start (λ keeper. keeper.conn)).was_made made) }
     ensures refused { IfErr result (λ unmade.
         (file_from ⟦<FileKeeper<S> as Keeper>⟧ S.Start (λ keeper. keeper.conn)).was_unmade unmade) }
+    ensures at { IfOk result (λ made.
+        (file_from ⟦<FileKeeper<S> as Keeper>⟧ S.Start (λ keeper. keeper.conn)).closed_at file.now made) }
+    ensures of { IfErr result (λ unmade.
+        (file_from ⟦<FileKeeper<S> as Keeper>⟧ S.Start (λ keeper. keeper.conn)).refused_at file.now unmade) }
 {
     let lock = BookLock::take(rt, file, start)?;
     lock.make(rt)
@@ -43,6 +48,9 @@ pub fn open<S: Start>(
         → (file_from ⟦<FileKeeper<S> as Keeper>⟧ S.Start (λ keeper. keeper.conn)).was_opened book.desk) }
     ensures refused { IfErr result (λ unopened.
         (file_from ⟦<FileKeeper<S> as Keeper>⟧ S.Start (λ keeper. keeper.conn)).was_unopened unopened) }
+    ensures at { IfOk result (λ book. string_bytes book.lock.locked.name ≡ lock_name file.now) }
+    ensures of { IfErr result (λ unopened.
+        (file_from ⟦<FileKeeper<S> as Keeper>⟧ S.Start (λ keeper. keeper.conn)).refused_at file.now unopened) }
 {
     let lock = BookLock::take(rt, file, start)?;
     lock.open(rt)
@@ -52,6 +60,7 @@ pub fn open<S: Start>(
 pub fn close_book<S: Start, T>(finished: Finished<S, T>) -> Closed<S, T>
     ensures done { IfOk result (λ (closed, done). (book : _) × (finished ≡ Ok (book, done))
         × (file_from ⟦<FileKeeper<S> as Keeper>⟧ S.Start (λ keeper. keeper.conn)).was_closed book.desk closed) }
+    ensures at { IfOk result (λ (closed, _). IfOk finished (λ (book, _). closed.name.value ≡ book.lock.locked.name)) }
     ensures unopened { IfErr result (λ unopened. finished ≡ Err unopened) }
 {
     match finished {

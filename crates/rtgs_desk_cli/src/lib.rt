@@ -5,6 +5,7 @@ mod acting;
 mod batches;
 mod files;
 mod met;
+mod no_port;
 mod order_file;
 mod run;
 mod serving;
@@ -12,6 +13,7 @@ mod texts;
 mod touched;
 
 pub use crate::met::Met;
+pub use crate::no_port::NoPort;
+pub use crate::order_file::OrderFile;
 pub use crate::run::run_words;
 pub use crate::touched::Touched;
-pub use rtgs_book_file::Unknown;

@@ -9,24 +9,39 @@ use std::fs::File;
 use std::io;
 use std::io::{ErrorKind, Read};
 
-/// The bytes of a file, and no more than one above the most that a file of orders may have.
-pub fn read_bytes(rt: &HostRuntime, path: &str) -> io::Result<Vec<u8>> {
+/// What reading a file of orders answered. Only to read one makes it.
+#[derive(Drop)]
+pub struct OrderFile {
+    answer: io::Result<Vec<u8>>,
+}
+
+impl OrderFile {
+    /// Reads the file at this path.
+    pub(crate) fn read(rt: &HostRuntime, path: &str) -> OrderFile {
+        OrderFile {
+            answer: read_bytes(rt, path),
+        }
+    }
+
+    /// The bytes that were read, if they are no more than a file of orders may have.
+    pub(crate) fn taken(self) -> Result<Vec<u8>, Failure>
+        ensures { IsTaken (λ bytes. bytes.items) self.answer result }
+    {
+        match self.answer {
+            Ok(bytes) if bytes.len() > MOST_BYTES => Err(Failure::OrdersTooLong),
+            Ok(bytes) => Ok(bytes),
+            Err(error) => Err(failure_of(error.kind())),
+        }
+    }
+}
+
+// The bytes of a file, and no more than one above the most that a file of orders may have.
+fn read_bytes(rt: &HostRuntime, path: &str) -> io::Result<Vec<u8>> {
     let mut bytes = Vec::new(rt.alloc());
     File::open(rt, path)?
         .take(MOST_BYTES as u64 + 1)
         .read_to_end(&mut bytes)?;
     Ok(bytes)
-}
-
-/// The bytes that were read, if they are no more than a file of orders may have.
-pub fn taken(read: io::Result<Vec<u8>>) -> Result<Vec<u8>, Failure>
-    ensures { IsTaken (λ bytes. bytes.items) read result }
-{
-    match read {
-        Ok(bytes) if bytes.len() > MOST_BYTES => Err(Failure::OrdersTooLong),
-        Ok(bytes) => Ok(bytes),
-        Err(error) => Err(failure_of(error.kind())),
-    }
 }
 
 // What an error of reading a file of orders comes to.

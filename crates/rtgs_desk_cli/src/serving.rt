@@ -1,17 +1,18 @@
 //! Runs that serve connections to the desk over a file.
-ghost use Rattle.std.specs.Prelude.{◌≡◌, false, IfOk, IfErr, OnErr};
+ghost use Rattle.std.specs.Prelude.{◌≡◌, false, IfOk, IfErr, OnErr, string_bytes};
 ghost use Rattle.rtgs_book.specs.declared.Book.{Book};
+ghost use Rattle.rtgs_book_file.specs.Files.{lock_name};
 ghost use Rattle.rtgs_book_file.specs.OverFile.{file_from};
 ghost use Rattle.rtgs_desk.specs.Holding.{Holds};
 ghost use Rattle.rtgs_desk_lines.specs.Texts.{Prints};
 ghost use Rattle.rtgs_http_server.specs.Requests.{WorksForAll};
-ghost use Rattle.rtgs_desk_cli.specs.Causes.{failure_of_listening};
 ghost use Rattle.rtgs_desk_cli.specs.Did.{IsIdle, IsServed, ServedOver};
 ghost use Rattle.rtgs_desk_cli.specs.Runs.{IsNotListening, IsRefused, PrintsFor, server_text, stop_of_desk};
-ghost use Rattle.rtgs_desk_cli.specs.Runs.{TakesAt, TakesAsTold};
+ghost use Rattle.rtgs_desk_cli.specs.Runs.{IsOf, TakesAt, TakesAsTold};
 
 use crate::files::{Acted, Finished, close_book, open, refused_file};
 use crate::met::Met;
+use crate::no_port::NoPort;
 use crate::touched::Touched;
 use rtgs_book::Refusal;
 use rtgs_book_file::{FileKeeper, Start};
@@ -19,12 +20,12 @@ use rtgs_desk::Desk;
 use rtgs_desk_lines::{Done, Failure, Printed};
 use rtgs_desk_requests::Request;
 use rtgs_http_server::laws::a_desk_at_rest_works_for_all;
-use rtgs_http_server::{Connections, Port, serve_connections};
+use rtgs_http_server::{Connections, serve_connections};
 use rtgs_keeper::Keeper;
 use rtgs_money::KeyDigest;
 use rtgs_stored_desk::laws::what_a_session_leaves;
 use std::alloc::Global;
-use std::io::{ErrorKind, Write};
+use std::io::Write;
 use std::snapshot::Snapshot;
 
 /// Serves so many connections to the desk over a file on a port of this machine, one after another, and says so. A run
@@ -45,6 +46,7 @@ pub fn serve<S: Start, O: Write>(
     ensures refused { IfErr result.0 (IsRefused (file_from ⟦<FileKeeper<S> as Keeper>⟧ S.Start (λ keeper. keeper.conn))
         (Request.Serve file.entry port count operator) result.1) }
     ensures unchanged { OnErr result.0 (out.new ≡ out.old) }
+    ensures at { IsOf (file_from ⟦<FileKeeper<S> as Keeper>⟧ S.Start (λ keeper. keeper.conn)) file.now result.1 }
 {
     match close_book(serve_book(rt, file, port, count, &operator, start, out)) {
         Ok((closed, done)) => {
@@ -76,6 +78,9 @@ fn serve_book<S: Start, O: Write>(
         × IsIdle (file_from ⟦<FileKeeper<S> as Keeper>⟧ S.Start (λ keeper. keeper.conn)) book.desk)) }
     ensures unopened { IfErr result (λ unopened.
         (file_from ⟦<FileKeeper<S> as Keeper>⟧ S.Start (λ keeper. keeper.conn)).was_unopened unopened) }
+    ensures at { IfOk result (λ (book, _). string_bytes book.lock.locked.name ≡ lock_name file.now) }
+    ensures of { IfErr result (λ unopened.
+        (file_from ⟦<FileKeeper<S> as Keeper>⟧ S.Start (λ keeper. keeper.conn)).refused_at file.now unopened) }
     ensures unchanged { OnErr result (out.new ≡ out.old) }
     ensures silent { IfOk result (λ (_, done). OnErr done.0 (out.new ≡ out.old)) }
 {
@@ -109,26 +114,13 @@ fn serve_desk<S: Start, O: Write>(
     ensures idle { OnErr result.0 (desk.new ≡ desk.old) }
     ensures unchanged { OnErr result.0 (out.new ≡ out.old) }
 {
-    match Port::listen(rt, port, count) {
+    match NoPort::unless_listening(rt, port, count) {
         Ok(mut connections) => {
             let printed = serve_all(rt.alloc(), &mut connections, desk, operator, port, out);
             what_a_session_leaves(desk);
             (Ok(printed), Met::Port(Snapshot::of(&connections)))
         }
-        Err(error) => (
-            Err(failure_of(error.kind())),
-            Met::NoPort(Snapshot::of(&error)),
-        ),
-    }
-}
-
-// What an error of listening comes to.
-fn failure_of(kind: ErrorKind) -> Failure
-    ensures { result ≡ failure_of_listening kind }
-{
-    match kind {
-        ErrorKind::OutOfMemory => Failure::Refused(Refusal::OutOfMemory),
-        _ => Failure::NoListen,
+        Err(refused) => (Err(refused.failure()), Met::NoPort(Snapshot::of(&refused))),
     }
 }
 

@@ -1,5 +1,6 @@
 //! Runs that print a text: the results of a file of orders, and what the desk tells.
-ghost use Rattle.std.specs.Prelude.{◌≡◌, ◌⊎◌, None, length, Ok, Err, IfOk, IfErr, OnErr};
+ghost use Rattle.std.specs.Prelude.{◌≡◌, ◌⊎◌, None, length, Ok, Err, IfOk, IfErr, OnErr, string_bytes};
+ghost use Rattle.rtgs_book_file.specs.Files.{lock_name};
 ghost use Rattle.rtgs_book_file.specs.OverFile.{file_from};
 ghost use Rattle.rtgs_book.specs.declared.Book.{Book};
 ghost use Rattle.rtgs_desk.specs.Holding.{Holds};
@@ -9,12 +10,12 @@ ghost use Rattle.rtgs_book.specs.declared.Refusal.{Refusal as RefusalSpec};
 ghost use Rattle.rtgs_desk_lines.specs.Texts.{Prints};
 ghost use Rattle.rtgs_desk_cli.specs.Causes.{AreRowsOf, RefusesRows};
 ghost use Rattle.rtgs_desk_cli.specs.Did.{IsIdle, IsSent, IsRead, SentOver};
-ghost use Rattle.rtgs_desk_cli.specs.Runs.{AreReadFrom, IsNotSent, IsRefused, PrintsFor};
+ghost use Rattle.rtgs_desk_cli.specs.Runs.{AreReadFrom, IsNotSent, IsOf, IsRefused, PrintsFor};
 
 use crate::batches::{print_results, submit_orders};
 use crate::files::{Acted, Finished, close_book, open, refused_file};
 use crate::met::Met;
-use crate::order_file::{read_bytes, taken};
+use crate::order_file::OrderFile;
 use crate::touched::Touched;
 use rtgs_book::{Reading, Refusal};
 use rtgs_book_file::{FileKeeper, Start};
@@ -28,7 +29,6 @@ use rtgs_money::Code;
 use rtgs_output::send_all;
 use rtgs_stored_desk::laws::what_a_session_leaves;
 use std::alloc::Global;
-use std::io;
 use std::io::Write;
 use std::snapshot::Snapshot;
 
@@ -52,6 +52,7 @@ pub fn import<S: Start, O: Write>(
     ensures refused { IfErr result.0 (IsRefused (file_from ⟦<FileKeeper<S> as Keeper>⟧ S.Start (λ keeper. keeper.conn))
         (Request.Import file.entry sender orders.entry) result.1) }
     ensures unchanged { OnErr result.0 (out.new ≡ out.old) }
+    ensures at { IsOf (file_from ⟦<FileKeeper<S> as Keeper>⟧ S.Start (λ keeper. keeper.conn)) file.now result.1 }
 {
     match close_book(send(rt, file, sender, orders, start)) {
         Ok((closed, done)) => {
@@ -77,6 +78,7 @@ pub fn show<S: Start, O: Write>(
     ensures refused { IfErr result.0 (IsRefused (file_from ⟦<FileKeeper<S> as Keeper>⟧ S.Start (λ keeper. keeper.conn))
         (Request.Read file.entry reading) result.1) }
     ensures unchanged { OnErr result.0 (out.new ≡ out.old) }
+    ensures at { IsOf (file_from ⟦<FileKeeper<S> as Keeper>⟧ S.Start (λ keeper. keeper.conn)) file.now result.1 }
 {
     match close_book(read(rt, file, reading, start)) {
         Ok((closed, read)) => (print_read(read, out), Touched::Book(closed, Met::Nothing)),
@@ -102,9 +104,12 @@ fn send<S: Start>(
         × IsIdle (file_from ⟦<FileKeeper<S> as Keeper>⟧ S.Start (λ keeper. keeper.conn)) book.desk)) }
     ensures unopened { IfErr result (λ unopened.
         (file_from ⟦<FileKeeper<S> as Keeper>⟧ S.Start (λ keeper. keeper.conn)).was_unopened unopened) }
+    ensures at { IfOk result (λ (book, _). string_bytes book.lock.locked.name ≡ lock_name file.now) }
+    ensures of { IfErr result (λ unopened.
+        (file_from ⟦<FileKeeper<S> as Keeper>⟧ S.Start (λ keeper. keeper.conn)).refused_at file.now unopened) }
 {
     let mut book = open(rt, file, start)?;
-    let read = read_bytes(rt, orders);
+    let read = OrderFile::read(rt, orders);
     let met = Met::Orders(Snapshot::of(&read));
     let sent = submit_file(rt.alloc(), book.desk(), sender, read);
     Ok((book.finish(), (sent, met)))
@@ -115,21 +120,21 @@ fn submit_file<S: Start>(
     alloc: Global,
     desk: &mut Desk<FileKeeper<S>>,
     sender: Code,
-    read: io::Result<Vec<u8>>,
+    read: OrderFile,
 ) -> Sent
-    ensures rows { IfOk result (λ (rows, batch). AreRowsOf (λ bytes. bytes.items) read rows.items) }
+    ensures rows { IfOk result (λ (rows, batch). AreRowsOf (λ bytes. bytes.items) read.answer rows.items) }
     ensures stopped { IfOk result (λ (rows, batch).
         StopsAfter (length batch.replies.items) (length rows.items) batch.stopped) }
     ensures sent { IfOk result (λ (rows, batch). ⟦<FileKeeper<S> as Keeper>⟧.is_honest desk.new.keeper
         → (book : Book) → Holds ⟦<FileKeeper<S> as Keeper>⟧ desk.old book
         → SentOver (file_from ⟦<FileKeeper<S> as Keeper>⟧ S.Start (λ keeper. keeper.conn))
         book sender rows.items batch.replies.items batch.stopped desk.new) }
-    ensures refused { IfErr result (RefusesRows (λ bytes. bytes.items) read) }
+    ensures refused { IfErr result (RefusesRows (λ bytes. bytes.items) read.answer) }
     ensures unchanged { OnErr result (desk.new ≡ desk.old) }
     ensures honest { ⟦<FileKeeper<S> as Keeper>⟧.is_honest desk.new.keeper
         → ⟦<FileKeeper<S> as Keeper>⟧.is_honest desk.old.keeper }
 {
-    let bytes = taken(read)?;
+    let bytes = read.taken()?;
     let sent = submit_orders(alloc, desk, sender, bytes.as_slice());
     what_a_session_leaves(desk);
     sent
@@ -147,6 +152,9 @@ fn read<S: Start>(
         (λ text. text.items) reading read book.desk) }
     ensures unopened { IfErr result (λ unopened.
         (file_from ⟦<FileKeeper<S> as Keeper>⟧ S.Start (λ keeper. keeper.conn)).was_unopened unopened) }
+    ensures at { IfOk result (λ (book, _). string_bytes book.lock.locked.name ≡ lock_name file.now) }
+    ensures of { IfErr result (λ unopened.
+        (file_from ⟦<FileKeeper<S> as Keeper>⟧ S.Start (λ keeper. keeper.conn)).refused_at file.now unopened) }
 {
     let mut book = open(rt, file, start)?;
     let read = text_of(rt.alloc(), book.desk(), &reading);

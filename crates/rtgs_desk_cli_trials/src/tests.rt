@@ -1,7 +1,7 @@
 //! Whole runs, by their words, and what they print.
-use rtgs_desk_cli::{Unknown, run_words};
+use rtgs_desk_cli::run_words;
 use rtgs_desk_lines::{Ended, Printed};
-use sqlite::Connection;
+use sqlite::{Connection, Unknown};
 use std::test::Fail;
 
 mod days;

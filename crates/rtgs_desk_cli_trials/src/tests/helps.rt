@@ -1,8 +1,8 @@
 //! Help, and faults of the command line.
 use super::prints;
-use rtgs_desk_cli::{Unknown, run_words};
+use rtgs_desk_cli::run_words;
 use rtgs_desk_lines::Ended;
-use sqlite::Connection;
+use sqlite::{Connection, Unknown};
 use std::test::Fail;
 
 /// Whether these words ask for help that names each of these, and for nothing else.

@@ -1,7 +1,8 @@
 //! Files of orders, taken whole or not at all, and sent again.
 use super::{KEY_A, KEY_B, prints};
-use rtgs_desk_cli::{Unknown, run_words};
+use rtgs_desk_cli::run_words;
 use rtgs_desk_lines::{Ended, Printed};
+use sqlite::Unknown;
 use std::fs;
 use std::test::Fail;
 

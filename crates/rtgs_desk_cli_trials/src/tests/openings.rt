@@ -1,7 +1,7 @@
 //! How files are opened, held and closed by runs.
 use super::{begin, prints};
-use rtgs_book_file::{BookLock, FileFault, Unknown};
-use sqlite::Connection;
+use rtgs_book_file::{BookLock, FileFault};
+use sqlite::{Connection, Unknown};
 use std::fs;
 use std::test::Fail;
 

@@ -1,8 +1,9 @@
 //! The server, over loopback, as a process of its own.
 use super::imports::begin_day;
 use super::{KEY_A, prints};
-use rtgs_desk_cli::{Unknown, run_words};
+use rtgs_desk_cli::run_words;
 use rtgs_desk_lines::Ended;
+use sqlite::Unknown;
 use std::env;
 use std::io::{ErrorKind, Read, Write};
 use std::net::{Ipv4Addr, TcpListener, TcpStream};

@@ -1,8 +1,9 @@
 //! A batch that stops in a whole run, since no file may grow any more.
 use super::imports::begin_day;
 use rtgs_book::Refusal;
-use rtgs_desk_cli::{Unknown, run_words};
+use rtgs_desk_cli::run_words;
 use rtgs_desk_lines::{Ended, Printed};
+use sqlite::Unknown;
 use std::process::Command;
 use std::test::Fail;
 use std::{env, fs};

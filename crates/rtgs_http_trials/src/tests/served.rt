@@ -1,5 +1,6 @@
 //! Replies, to the byte, of a desk in memory that serves one request after another.
 mod batches;
+mod begun_texts;
 mod beyond_reach;
 mod connections;
 mod counted_reader;

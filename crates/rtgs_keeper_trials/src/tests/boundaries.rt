@@ -2,7 +2,7 @@
 //! and queued orders as there may be, over both keepers.
 use super::disk_desk::{closed, desk_again, new_desk};
 use super::disk_keeper::{DiskKeeper, Work, on_disks};
-use super::found::are_same_books;
+use super::found::{ShowsBook, are_same_books};
 use super::setting::{Reply, adds, date, desk_over, limits, pays, posts};
 use rtgs_book::{Answer, Command, Refusal};
 use rtgs_desk::Desk;
@@ -35,7 +35,7 @@ fn answer_alike<M: Keeper, K: Keeper>(
 
 /// Whether two new desks answer the commands alike, accept all but the last, which is refused so, and end with one
 /// book.
-fn refuse_the_last_over<M: Keeper + Drop, K: Keeper + DiskKeeper + Drop>(
+fn refuse_the_last_over<M: Keeper + ShowsBook + Drop, K: Keeper + ShowsBook + DiskKeeper + Drop>(
     alloc: Global,
     memory: M,
     commands: &[Command],
@@ -53,9 +53,9 @@ fn refuse_the_last_over<M: Keeper + Drop, K: Keeper + DiskKeeper + Drop>(
         }
     }
     let reply = answer_alike(&mut held, &mut kept, last)?;
-    let in_memory = held.into_keeper().load(alloc)?;
+    let in_memory = held.into_keeper().book(alloc)?;
     let disks = closed(kept.into_keeper())?;
-    let on_disks = desk_again::<K>(alloc, disks)?.into_keeper().load(alloc)?;
+    let on_disks = desk_again::<K>(alloc, disks)?.into_keeper().book(alloc)?;
     Ok(reply == Err(refusal) && are_same_books(&on_disks, &in_memory))
 }
 
@@ -69,7 +69,10 @@ struct Bounded<'a> {
 impl Work for Bounded<'_> {
     type Seen = bool;
 
-    fn done_with<K: Keeper + DiskKeeper + Drop>(self, alloc: Global) -> Result<bool, Fail> {
+    fn done_with<K: Keeper + ShowsBook + DiskKeeper + Drop>(
+        self,
+        alloc: Global,
+    ) -> Result<bool, Fail> {
         let memory = MemoryKeeper::new(alloc);
         refuse_the_last_over::<MemoryKeeper, K>(alloc, memory, self.commands, self.refusal)
     }

@@ -100,13 +100,6 @@ impl Business {
         code_numbered(self.alloc, number)
     }
 
-    fn reference(&mut self, letter: char, bound: u64) -> Result<Reference, Fail>
-        requires { 1 ≤ bound }
-    {
-        let number = self.below(bound);
-        reference_numbered(self.alloc, letter, number)
-    }
-
     fn addition(&mut self) -> Result<Command, Fail> {
         let code = self.code()?;
         let number = self.below(11);
@@ -120,7 +113,8 @@ impl Business {
 
     fn posting(&mut self) -> Result<Command, Fail> {
         let code = self.code()?;
-        let reference = self.reference('P', POSTINGS)?;
+        let number = self.below(POSTINGS);
+        let reference = reference_numbered(self.alloc, 'P', number)?;
         let size = self.below(1_500) as i64 + 1;
         let cents = if self.below(4) == 0 { -size } else { size };
         Ok(Command::Post {

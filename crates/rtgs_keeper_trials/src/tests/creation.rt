@@ -2,7 +2,7 @@
 use super::disk_keeper::{DiskKeeper, Work, on_disks};
 use super::disk_runs::ended;
 use super::disks::{Disks, blank, crashed};
-use super::found::are_same_books;
+use super::found::{ShowsBook, are_same_books};
 use super::fuses::Failing;
 use super::trial::Progress;
 use rtgs_book::{Book, Fault};
@@ -13,19 +13,22 @@ use std::test::Fail;
 
 // How far the making of a desk came on these disks.
 fn made<K: DiskKeeper>(alloc: Global, disks: Disks) -> Result<(Progress, Disks), Fail> {
-    match K::made(alloc, disks)? {
+    match K::opened(alloc, disks, true)? {
         Ok(keeper) => ended(keeper),
         Err(left) => Ok((Progress::Unopened, left)),
     }
 }
 
 // The book that is found after a crash, or none where there are no tables.
-fn found<K: Keeper + DiskKeeper + Drop>(alloc: Global, disks: Disks) -> Result<Option<Book>, Fail> {
-    let Ok(keeper) = K::opened(alloc, crashed(disks))? else {
+fn found<K: Keeper + ShowsBook + DiskKeeper + Drop>(
+    alloc: Global,
+    disks: Disks,
+) -> Result<Option<Book>, Fail> {
+    let Ok(keeper) = K::opened(alloc, crashed(disks), false)? else {
         return Err(Fail::from("not opened again"));
     };
     match Desk::open(alloc, keeper) {
-        Ok(desk) => Ok(Some(desk.into_keeper().load(alloc)?)),
+        Ok(desk) => Ok(Some(desk.into_keeper().book(alloc)?)),
         Err((Fault::NotADeskFile, _)) => Ok(None),
         Err((fault, _)) => Err(Fail::from(fault)),
     }
@@ -42,7 +45,7 @@ fn may_be_found(empty: &Book, progress: Progress, found: Option<Book>) -> bool {
 
 // How many calls a disk passes on where first no making of a desk meets a failure, and how many of the books before
 // were there nevertheless.
-fn failures<K: Keeper + DiskKeeper + Drop>(
+fn failures<K: Keeper + ShowsBook + DiskKeeper + Drop>(
     alloc: Global,
     disk: Failing,
 ) -> Result<(u64, u64), Fail> {
@@ -73,7 +76,10 @@ struct Making {
 impl Work for Making {
     type Seen = (u64, u64);
 
-    fn done_with<K: Keeper + DiskKeeper + Drop>(self, alloc: Global) -> Result<(u64, u64), Fail> {
+    fn done_with<K: Keeper + ShowsBook + DiskKeeper + Drop>(
+        self,
+        alloc: Global,
+    ) -> Result<(u64, u64), Fail> {
         failures::<K>(alloc, self.disk)
     }
 }

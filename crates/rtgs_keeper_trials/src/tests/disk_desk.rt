@@ -14,7 +14,7 @@ pub fn desk_on<K: Keeper + DiskKeeper + Drop>(
     alloc: Global,
     disks: Disks,
 ) -> Result<Result<Desk<K>, Disks>, Fail> {
-    let keeper = match K::opened(alloc, disks)? {
+    let keeper = match K::opened(alloc, disks, false)? {
         Ok(keeper) => keeper,
         Err(left) => return Ok(Err(left)),
     };
@@ -46,7 +46,7 @@ pub fn desk_again<K: Keeper + DiskKeeper + Drop>(
 
 /// A desk over new disks.
 pub fn new_desk<K: Keeper + DiskKeeper + Drop>(alloc: Global) -> Result<Desk<K>, Fail> {
-    let Ok(keeper) = K::made(alloc, blank(alloc, WHOLE))? else {
+    let Ok(keeper) = K::opened(alloc, blank(alloc, WHOLE), true)? else {
         return Err(Fail::from("not made"));
     };
     desk_over(alloc, keeper)

@@ -2,7 +2,7 @@
 use super::disk_desk::{closed, desk_again, desk_on, new_desk};
 use super::disk_keeper::DiskKeeper;
 use super::disks::{Disks, crashed};
-use super::found::Found;
+use super::found::{Found, ShowsBook};
 use super::fuses::{Failing, Fuses, WHOLE};
 use super::image::Image;
 use super::trial::{Progress, Trial};
@@ -14,7 +14,7 @@ use std::test::Fail;
 const ENOUGH: u64 = 1000;
 
 // New disks with a desk of three banks, after the commands before. They were closed, or crashed.
-fn image_of<K: Keeper + DiskKeeper + Drop>(
+fn image_of<K: Keeper + ShowsBook + DiskKeeper + Drop>(
     alloc: Global,
     trial: &Trial<'_>,
     is_closed: bool,
@@ -29,7 +29,7 @@ fn image_of<K: Keeper + DiskKeeper + Drop>(
 }
 
 // Opens a desk on the disks, gives it the commands, and closes it.
-fn run<K: Keeper + DiskKeeper + Drop>(
+fn run<K: Keeper + ShowsBook + DiskKeeper + Drop>(
     alloc: Global,
     disks: Disks,
     trial: &Trial<'_>,
@@ -56,7 +56,7 @@ pub fn ended<K: DiskKeeper>(keeper: K) -> Result<(Progress, Disks), Fail> {
 }
 
 // What is found on disks after a crash, with the keeper that found it.
-fn found_on<K: Keeper + DiskKeeper + Drop>(
+fn found_on<K: Keeper + ShowsBook + DiskKeeper + Drop>(
     alloc: Global,
     disks: Disks,
 ) -> Result<(Found, K), Fail> {
@@ -73,7 +73,7 @@ pub struct DiskTrial<'a> {
 
 impl<'a> DiskTrial<'a> {
     /// Over a database that was closed after the commands before, or that crashed.
-    pub fn new<K: Keeper + DiskKeeper + Drop>(
+    pub fn new<K: Keeper + ShowsBook + DiskKeeper + Drop>(
         alloc: Global,
         trial: Trial<'a>,
         is_closed: bool,
@@ -89,19 +89,18 @@ impl<'a> DiskTrial<'a> {
 
     /// How many calls a disk passes on where first no run meets a failure. In each run before one is met, and then a
     /// book is found that may be, from which the commands end as if they had come once.
-    pub fn failures<K: Keeper + DiskKeeper + Drop>(
+    pub fn failures<K: Keeper + ShowsBook + DiskKeeper + Drop>(
         &self,
         alloc: Global,
         disk: Failing,
     ) -> Result<u64, Fail> {
         for calls in 0..ENOUGH {
-            let fuses = disk.after(calls);
-            let progress = self.tried::<K>(alloc, fuses)?;
+            let progress = self.tried::<K>(alloc, disk.after(calls))?;
             if progress == Some(Progress::Whole) {
                 return Ok(calls);
             }
             if progress.is_none() {
-                let said = format!(in alloc; "another book with {fuses:?}")?;
+                let said = format!(in alloc; "another book after {calls} calls of {disk:?}")?;
                 return Err(Fail::from(said));
             }
         }
@@ -109,7 +108,10 @@ impl<'a> DiskTrial<'a> {
     }
 
     /// Whether after a stop behind each of the commands just the answered ones are found. Nothing is closed.
-    pub fn stops<K: Keeper + DiskKeeper + Drop>(&self, alloc: Global) -> Result<bool, Fail> {
+    pub fn stops<K: Keeper + ShowsBook + DiskKeeper + Drop>(
+        &self,
+        alloc: Global,
+    ) -> Result<bool, Fail> {
         let mut holds = true;
         for count in 0..=self.trial.rows.len() {
             holds = holds && self.is_found_after::<K>(alloc, count)?;
@@ -117,7 +119,7 @@ impl<'a> DiskTrial<'a> {
         Ok(holds)
     }
 
-    fn is_found_after<K: Keeper + DiskKeeper + Drop>(
+    fn is_found_after<K: Keeper + ShowsBook + DiskKeeper + Drop>(
         &self,
         alloc: Global,
         count: usize,
@@ -131,7 +133,7 @@ impl<'a> DiskTrial<'a> {
     }
 
     // How far the trial came with these fuses, where a book was found that may be.
-    fn tried<K: Keeper + DiskKeeper + Drop>(
+    fn tried<K: Keeper + ShowsBook + DiskKeeper + Drop>(
         &self,
         alloc: Global,
         fuses: Fuses,

@@ -1,6 +1,6 @@
 //! A batch whose store fails, and its result files before and after the desk is opened again.
 use super::failing_keeper::{FailingKeeper, Trouble};
-use super::setting::{adds_three, code, desk_over, opened, posts, reference};
+use super::setting::{code, desk_over, opened, posts, prepared, reference};
 use rtgs_book::Refusal;
 use rtgs_desk::Desk;
 use rtgs_exchange::{BatchResult, OrderRow, submit_batch, write_results};
@@ -14,6 +14,13 @@ const BEFORE_THE_ORDERS: usize = 7;
 
 // The calls of an order: it is looked up, and then kept.
 const CALLS: [usize; 2] = [0, 1];
+
+/// The result file of the three rows, sent again after a batch that stopped at the third.
+const SENT_AGAIN: &[u8] =
+    b"reference,result,number,detail\nA-1,repeated,1,settled\nA-2,repeated,2,settled\nA-3,queued,3,1\n";
+
+/// The result file of a batch that stopped at its second row.
+const STOPPED: &[u8] = b"reference,result,number,detail\nA-1,settled,1,1\nA-2,stopped,,91\n";
 
 fn row(name: &str, receiver: &str, cents: u64) -> Result<OrderRow, Fail> {
     Ok(OrderRow {
@@ -42,14 +49,8 @@ fn failing(alloc: Global, orders: usize, call: usize) -> FailingKeeper<MemoryKee
 }
 
 // A desk over a new keeper with three banks on an open day, of which ALFA has 150 cents.
-fn prepared<K: Keeper + Drop>(alloc: Global, keeper: K) -> Result<Desk<K>, Fail> {
-    let mut desk = desk_over(alloc, keeper)?;
-    for command in adds_three()? {
-        desk.submit(command)?;
-    }
-    desk.submit(posts("ALFA", "P-1", 150)?)?;
-    desk.submit(opened()?.0)?;
-    Ok(desk)
+fn new_desk<K: Keeper + Drop>(alloc: Global, keeper: K) -> Result<Desk<K>, Fail> {
+    prepared(alloc, keeper, &[posts("ALFA", "P-1", 150)?, opened()?.0])
 }
 
 // Submits the rows of ALFA.
@@ -62,16 +63,22 @@ fn submitted<K: Keeper>(
     Ok(submit_batch(alloc, desk, sender, rows)?)
 }
 
-// The result file of the rows of ALFA.
-fn result_file<K: Keeper>(
+// The result file of the rows of ALFA, over a keeper that is new, or has the book of an earlier desk.
+fn result_file<K: Keeper + Drop>(
     alloc: Global,
-    desk: &mut Desk<K>,
+    keeper: K,
+    is_new: bool,
     rows: &[OrderRow],
-) -> Result<Vec<u8>, Fail> {
-    let batch = submitted(alloc, desk, rows)?;
+) -> Result<(Vec<u8>, K), Fail> {
+    let mut desk = if is_new {
+        new_desk(alloc, keeper)?
+    } else {
+        desk_over(alloc, keeper)?
+    };
+    let batch = submitted(alloc, &mut desk, rows)?;
     let mut text = Vec::new(alloc);
     write_results(alloc, &mut text, rows, &batch)?;
-    Ok(text)
+    Ok((text, desk.into_keeper()))
 }
 
 // What comes of the rows and of the same rows again, over a new keeper.
@@ -80,7 +87,7 @@ fn submitted_twice<K: Keeper + Drop>(
     keeper: K,
     rows: &[OrderRow],
 ) -> Result<(BatchResult, BatchResult), Fail> {
-    let mut desk = prepared(alloc, keeper)?;
+    let mut desk = new_desk(alloc, keeper)?;
     let first = submitted(alloc, &mut desk, rows)?;
     Ok((first, submitted(alloc, &mut desk, rows)?))
 }
@@ -98,55 +105,24 @@ fn a_batch_stops_where_the_store_fails(rt: HostRuntime) -> Result<(), Fail> {
     Ok(())
 }
 
-// The keeper, which was new, after a desk was given the rows.
-fn after_the_rows<K: Keeper + Drop>(
-    alloc: Global,
-    keeper: K,
-    rows: &[OrderRow],
-) -> Result<K, Fail> {
-    let mut desk = prepared(alloc, keeper)?;
-    submitted(alloc, &mut desk, rows)?;
-    Ok(desk.into_keeper())
-}
-
-// The result file of the rows, of a desk that finds this keeper.
-fn found_file<K: Keeper + Drop>(
-    alloc: Global,
-    keeper: K,
-    rows: &[OrderRow],
-) -> Result<Vec<u8>, Fail> {
-    result_file(alloc, &mut desk_over(alloc, keeper)?, rows)
-}
-
 #[test]
 fn a_stopped_batch_is_sent_again_after_a_restart(rt: HostRuntime) -> Result<(), Fail> {
     let rows = three_rows()?;
-    let expected =
-        b"reference,result,number,detail\nA-1,repeated,1,settled\nA-2,repeated,2,settled\nA-3,queued,3,1\n";
     for call in CALLS {
         let keeper = failing(rt.alloc(), 2, call);
-        let found = after_the_rows(rt.alloc(), keeper, &rows)?.into_kept();
-        let text = found_file(rt.alloc(), found, &rows)?;
-        assert_eq!(rt; text.as_slice(), expected.as_slice());
+        let (_, left) = result_file(rt.alloc(), keeper, true, &rows)?;
+        let (text, _) = result_file(rt.alloc(), left.into_kept(), false, &rows)?;
+        assert_eq!(rt; text.as_slice(), SENT_AGAIN);
     }
     Ok(())
 }
 
-// The result file of the rows, over a new keeper.
-fn first_file<K: Keeper + Drop>(
-    alloc: Global,
-    keeper: K,
-    rows: &[OrderRow],
-) -> Result<Vec<u8>, Fail> {
-    result_file(alloc, &mut prepared(alloc, keeper)?, rows)
-}
-
 #[test]
 fn no_line_follows_a_stop(rt: HostRuntime) -> Result<(), Fail> {
-    let expected = b"reference,result,number,detail\nA-1,settled,1,1\nA-2,stopped,,91\n";
     for call in CALLS {
-        let text = first_file(rt.alloc(), failing(rt.alloc(), 1, call), &three_rows()?)?;
-        assert_eq!(rt; text.as_slice(), expected.as_slice());
+        let keeper = failing(rt.alloc(), 1, call);
+        let (text, _) = result_file(rt.alloc(), keeper, true, &three_rows()?)?;
+        assert_eq!(rt; text.as_slice(), STOPPED);
     }
     Ok(())
 }

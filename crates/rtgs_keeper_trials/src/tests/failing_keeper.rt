@@ -1,7 +1,8 @@
 //! A keeper that fails when it is told to.
 ghost use Rattle.std.specs.Prelude.{◌≡◌, ◌⊎◌};
 
-use rtgs_book::{Book, Change, Fault, Mark, Order, Posting};
+use rtgs_book::{Change, Fault, Mark, Order, Posting};
+use rtgs_cores::Core;
 use rtgs_keeper::{CommitFault, Keeper};
 use rtgs_money::{BusinessDate, Code, Reference};
 use std::alloc::Global;
@@ -87,13 +88,12 @@ impl<K: Keeper> Keeper for FailingKeeper<K> {
 
     ghost is_whole = { λ keeper. K.is_whole keeper.kept };
 
-    // Nothing is claimed of what was shown, and of what the store itself may leave.
-    ghost shows = { λ _ _. Unit {0} };
+    ghost shows = { λ keeper. K.shows keeper.kept };
 
+    // Nothing is claimed of what the store itself may leave.
     ghost leaves_no_more = { λ _ _. Unit {0} };
 
-    ghost explains = { λ keeper fault. (fault ≡ Fault.OutOfMemory)
-        ⊎ ((fault ≡ Fault.StoreFault) ⊎ K.explains keeper.kept fault) };
+    ghost explains = { λ keeper fault. (fault ≡ Fault.StoreFault) ⊎ K.explains keeper.kept fault };
 
     ghost settled = { λ keeper. K.settled keeper.kept };
 
@@ -103,21 +103,16 @@ impl<K: Keeper> Keeper for FailingKeeper<K> {
 
     ghost whole = { λ keeper. K.whole keeper.kept };
 
-    fn load(&mut self, alloc: Global) -> Result<Book, Fault> {
+    fn core(&mut self, alloc: Global) -> Result<Core, Fault> {
         if self.failed {
             return Err(Fault::StoreFault);
         }
-        let loaded = match self.trouble() {
-            None => self.kept.load(alloc),
-            Some(Trouble::Kept) => {
-                let _ = self.kept.load(alloc);
-                Err(Fault::StoreFault)
-            }
-            Some(Trouble::Lost) => Err(Fault::StoreFault),
-            Some(Trouble::OutOfMemory) => Err(Fault::OutOfMemory),
+        let told = match self.trouble() {
+            None => self.kept.core(alloc),
+            Some(trouble) => Err(trouble.fault()),
         };
-        self.failed = matches!(loaded, Err(Fault::StoreFault));
-        loaded
+        self.failed = matches!(told, Err(Fault::StoreFault));
+        told
     }
 
     fn find_order(&mut self, sender: &Code, reference: &Reference) -> Result<Option<Order>, Fault> {

@@ -3,10 +3,11 @@
 use super::disk_keeper::{DiskKeeper, Work, on_disks};
 use super::disk_runs::DiskTrial;
 use super::failing_keeper::Trouble;
+use super::found::ShowsBook;
 use super::fuses::Failing;
 use super::keeper_runs::keeper_failures;
 use super::setting::{
-    MONDAY, Reply, Row, Standings, date, limits, opened, pays, posts, queued, resolved, settled,
+    MONDAY, Row, Standings, date, limits, opened, pays, posts, queued, resolved, settled, taken,
 };
 use super::trial::Trial;
 use rtgs_book::{Answer, Command, Known, OrderState};
@@ -42,7 +43,10 @@ struct OfTheDisks<'a> {
 impl Work for OfTheDisks<'_> {
     type Seen = (u64, u64);
 
-    fn done_with<K: Keeper + DiskKeeper + Drop>(self, alloc: Global) -> Result<(u64, u64), Fail> {
+    fn done_with<K: Keeper + ShowsBook + DiskKeeper + Drop>(
+        self,
+        alloc: Global,
+    ) -> Result<(u64, u64), Fail> {
         let disks = DiskTrial::new::<K>(alloc, self.trial, self.is_closed)?;
         if !disks.stops::<K>(alloc)? {
             return Err(Fail::from("another book after a stop"));
@@ -58,11 +62,6 @@ fn each_failure(rt: &HostRuntime, trial: Trial<'_>, is_closed: bool) -> Result<F
     let keeper = each_of_the_keeper(rt, &trial)?;
     let (log, db) = on_disks(rt.alloc(), OfTheDisks { trial, is_closed })?;
     Ok(Failures { log, db, keeper })
-}
-
-/// What an order is answered that was taken under this number.
-fn taken(number: u64, state: OrderState) -> Reply {
-    Ok(Answer::Repeated(Known::Order { number, state }))
 }
 
 /// Orders of which two can settle together: ALFA has 10, and each of the three waits.

@@ -1,10 +1,22 @@
 //! What is found of a desk: its book, and how its banks stand.
 use super::setting::{Standings, standings};
-use rtgs_book::{Book, Rows};
+use rtgs_book::{Book, Fault, Rows};
 use rtgs_desk::Desk;
-use rtgs_keeper::Keeper;
+use rtgs_keeper::{Keeper, MemoryKeeper};
 use std::alloc::Global;
 use std::test::Fail;
+
+/// A keeper whose whole book can be seen.
+pub trait ShowsBook {
+    /// The book that is kept.
+    fn book(&mut self, alloc: Global) -> Result<Book, Fault>;
+}
+
+impl ShowsBook for MemoryKeeper {
+    fn book(&mut self, alloc: Global) -> Result<Book, Fault> {
+        self.load(alloc)
+    }
+}
 
 /// The three balances and queues of a desk, and its records.
 #[derive(Drop)]
@@ -15,10 +27,13 @@ pub struct Found {
 
 impl Found {
     /// Of a desk with three banks, which ends so.
-    pub fn of<K: Keeper + Drop>(alloc: Global, desk: Desk<K>) -> Result<(Found, K), Fail> {
+    pub fn of<K: Keeper + ShowsBook + Drop>(
+        alloc: Global,
+        desk: Desk<K>,
+    ) -> Result<(Found, K), Fail> {
         let standings = standings(&desk)?;
         let mut keeper = desk.into_keeper();
-        let book = keeper.load(alloc)?;
+        let book = keeper.book(alloc)?;
         Ok((Found { standings, book }, keeper))
     }
 

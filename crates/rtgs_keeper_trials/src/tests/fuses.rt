@@ -1,7 +1,7 @@
 //! How many calls each of two disks passes on, before it fails.
 
 /// How many calls the log and the database file pass on.
-#[derive(Clone, Copy, Debug)]
+#[derive(Clone, Copy)]
 pub struct Fuses {
     pub log: u64,
     pub db: u64,

@@ -1,6 +1,6 @@
 //! Trials over a keeper in memory that meets trouble at one of its calls.
 use super::failing_keeper::{FailingKeeper, Trouble};
-use super::found::Found;
+use super::found::{Found, ShowsBook};
 use super::setting::desk_over;
 use super::trial::{Progress, Trial};
 use rtgs_book::Fault;
@@ -31,7 +31,7 @@ fn run<K: Keeper + Drop>(
 
 /// How far the trial came over a new keeper that met trouble after so many calls, and then had a book that may be, from
 /// which the commands ended as if they had come once.
-fn tried<K: Keeper + Drop>(
+fn tried<K: Keeper + ShowsBook + Drop>(
     alloc: Global,
     keeper: K,
     trial: &Trial<'_>,

@@ -1,8 +1,8 @@
 //! Commands whose look-up meets trouble, and what is found then.
 use super::failing_keeper::{FailingKeeper, Trouble};
-use super::found::are_same_books;
+use super::found::{ShowsBook, are_same_books};
 use super::setting::{
-    Reply, Row, adds_three, code, desk_over, opened, pays, posts, queued, reference, settled,
+    Row, code, desk_over, opened, pays, posts, prepared, queued, reference, settled, taken,
 };
 use super::trial::is_silent;
 use rtgs_book::{Answer, Command, Known, OrderState, Refusal};
@@ -13,22 +13,14 @@ use std::test::Fail;
 /// How many calls of its keeper a desk makes before it looks something up: the one of its opening.
 const BEFORE: usize = 1;
 
-/// The keeper, which was new, with three banks on an open day: ALFA was given 100 cents, of which it has paid 60, and an
-/// order of it waits.
-fn prepared<K: Keeper + Drop>(alloc: Global, keeper: K) -> Result<K, Fail> {
-    let mut desk = desk_over(alloc, keeper)?;
-    for command in adds_three()? {
-        desk.submit(command)?;
-    }
-    for command in [
+/// ALFA is given 100 cents, of which it pays 60, and an order of it waits.
+fn commands() -> Result<[Command; 4], Fail> {
+    Ok([
         posts("ALFA", "P-1", 100)?,
         opened()?.0,
         pays("ALFA", "A-1", "BETA", 60)?,
         pays("ALFA", "A-2", "BETA", 90)?,
-    ] {
-        desk.submit(command)?;
-    }
-    Ok(desk.into_keeper())
+    ])
 }
 
 /// A withdrawal of ALFA's order.
@@ -37,11 +29,6 @@ fn withdraws(name: &str) -> Result<Command, Fail> {
         sender: code("ALFA")?,
         reference: reference(name)?,
     })
-}
-
-/// What an order is answered that was taken under this number.
-fn taken(number: u64, state: OrderState) -> Reply {
-    Ok(Answer::Repeated(Known::Order { number, state }))
 }
 
 /// Commands for which something is looked up, that is there or not, and what they are answered.
@@ -68,22 +55,22 @@ fn rows() -> Result<[Row; 9], Fail> {
     ])
 }
 
-/// Whether a fault of the store at the look-up fails the desk, leaves the book as it was, and lets the command act once
-/// the desk is opened again.
-fn acts_after_a_restart<K: Keeper + Drop>(
+/// Whether a fault of the store at the look-up fails the desk over this keeper, which was new before the commands, leaves
+/// the book as it was, and lets the command act once the desk is opened again.
+fn acts_after_a_restart<K: Keeper + ShowsBook + Drop>(
     alloc: Global,
     keeper: K,
     (command, reply): Row,
     trouble: Trouble,
 ) -> Result<bool, Fail> {
-    let mut keeper = keeper;
-    let before = keeper.load(alloc)?;
+    let mut keeper = prepared(alloc, keeper, &commands()?)?.into_keeper();
+    let before = keeper.book(alloc)?;
     let mut desk = desk_over(alloc, FailingKeeper::new(keeper, BEFORE, trouble))?;
     if desk.submit(command) != Err(Refusal::StoreFault) || !is_silent(&mut desk)? {
         return Ok(false);
     }
     let mut found = desk.into_keeper().into_kept();
-    let is_old = are_same_books(&found.load(alloc)?, &before);
+    let is_old = are_same_books(&found.book(alloc)?, &before);
     Ok(is_old && desk_over(alloc, found)?.submit(command) == reply)
 }
 
@@ -92,21 +79,22 @@ fn a_look_up_that_fails_leaves_the_book(rt: HostRuntime) -> Result<(), Fail> {
     let alloc = rt.alloc();
     for row in rows()? {
         for trouble in [Trouble::Lost, Trouble::Kept] {
-            let keeper = prepared(alloc, MemoryKeeper::new(alloc))?;
-            let acts = acts_after_a_restart(alloc, keeper, row, trouble)?;
+            let acts = acts_after_a_restart(alloc, MemoryKeeper::new(alloc), row, trouble)?;
             assert!(rt; acts, "{row:?} {trouble:?}");
         }
     }
     Ok(())
 }
 
-/// Whether a look-up that lacks memory leaves the desk as it was, so that the command acts when it comes again.
+/// Whether a look-up that lacks memory leaves the desk over this keeper as it was, so that the command acts when it comes
+/// again.
 fn acts_when_sent_again<K: Keeper + Drop>(
     alloc: Global,
     keeper: K,
     (command, reply): Row,
 ) -> Result<bool, Fail> {
-    let keeper = FailingKeeper::new(keeper, BEFORE, Trouble::OutOfMemory);
+    let kept = prepared(alloc, keeper, &commands()?)?.into_keeper();
+    let keeper = FailingKeeper::new(kept, BEFORE, Trouble::OutOfMemory);
     let mut desk = desk_over(alloc, keeper)?;
     let is_refused = desk.submit(command) == Err(Refusal::OutOfMemory) && !desk.failed();
     Ok(is_refused && desk.submit(command) == reply)
@@ -116,8 +104,8 @@ fn acts_when_sent_again<K: Keeper + Drop>(
 fn a_look_up_without_memory_is_made_again(rt: HostRuntime) -> Result<(), Fail> {
     let alloc = rt.alloc();
     for row in rows()? {
-        let keeper = prepared(alloc, MemoryKeeper::new(alloc))?;
-        assert!(rt; acts_when_sent_again(alloc, keeper, row)?, "{row:?}");
+        let acts = acts_when_sent_again(alloc, MemoryKeeper::new(alloc), row)?;
+        assert!(rt; acts, "{row:?}");
     }
     Ok(())
 }

@@ -1,5 +1,5 @@
 //! Banks, their commands, and how they stand.
-use rtgs_book::{Answer, Command, Refusal};
+use rtgs_book::{Answer, Command, Known, OrderState, Refusal};
 use rtgs_desk::Desk;
 use rtgs_keeper::Keeper;
 use rtgs_money::{Amount, BusinessDate, Cents, Code, Credit, Key, Name, PostingAmount, Reference};
@@ -20,6 +20,10 @@ pub const MONDAY: u32 = 20240304;
 
 /// ALFA's key.
 pub const KEY: &str = "0000000000000000000000000000000a";
+
+const KEY_OF_BETA: &str = "0000000000000000000000000000000b";
+
+const KEY_OF_GAMA: &str = "0000000000000000000000000000000c";
 
 /// The code of this text.
 pub fn code(text: &str) -> Result<Code, Fail> {
@@ -54,8 +58,8 @@ pub fn adds_alfa() -> Result<Command, Fail> {
 pub fn adds_three() -> Result<[Command; 3], Fail> {
     Ok([
         adds_alfa()?,
-        adds("BETA", "A Bank", "0000000000000000000000000000000b")?,
-        adds("GAMA", "A Bank", "0000000000000000000000000000000c")?,
+        adds("BETA", "A Bank", KEY_OF_BETA)?,
+        adds("GAMA", "A Bank", KEY_OF_GAMA)?,
     ])
 }
 
@@ -101,6 +105,11 @@ pub fn settled(number: u64, mark: u64) -> Reply {
     Ok(Answer::Settled { number, mark })
 }
 
+/// The order came before, and was taken under this number.
+pub fn taken(number: u64, state: OrderState) -> Reply {
+    Ok(Answer::Repeated(Known::Order { number, state }))
+}
+
 /// So many orders of this value in cents settled under this mark.
 pub fn resolved(mark: u64, count: u64, cents: i64) -> Reply {
     Ok(Answer::Resolved {
@@ -116,6 +125,19 @@ pub fn desk_over<K: Keeper + Drop>(alloc: Global, keeper: K) -> Result<Desk<K>, 
         Ok(desk) => Ok(desk),
         Err((fault, _)) => Err(Fail::from(fault)),
     }
+}
+
+/// The desk over a new keeper, with three banks, after these commands.
+pub fn prepared<K: Keeper + Drop>(
+    alloc: Global,
+    keeper: K,
+    commands: &[Command],
+) -> Result<Desk<K>, Fail> {
+    let mut desk = desk_over(alloc, keeper)?;
+    for command in adds_three()?.iter().chain(commands) {
+        desk.submit(*command)?;
+    }
+    Ok(desk)
 }
 
 /// The balance of a participant in cents, and how many orders its queue has.

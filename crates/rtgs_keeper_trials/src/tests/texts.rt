@@ -1,8 +1,8 @@
 //! A statement and a day report whose reads meet trouble, each in turn: what was written is a beginning of the text.
 use super::failing_keeper::{FailingKeeper, Trouble};
-use super::setting::{MONDAY, adds_three, code, date, desk_over, opened, pays, posts};
+use super::setting::{MONDAY, code, date, desk_over, opened, pays, posts, prepared};
 use super::trial::is_silent;
-use rtgs_book::Refusal;
+use rtgs_book::{Command, Refusal};
 use rtgs_desk::Desk;
 use rtgs_keeper::{Keeper, MemoryKeeper};
 use rtgs_statements::{BookTextFault, write_report, write_statement};
@@ -10,7 +10,7 @@ use std::alloc::Global;
 use std::test::Fail;
 
 /// What is written of Monday.
-#[derive(Clone, Copy, Debug)]
+#[derive(Clone, Copy)]
 enum Text {
     /// ALFA's statement.
     Statement,
@@ -18,14 +18,14 @@ enum Text {
     Report,
 }
 
-/// The keeper, which was new, with three banks on Monday: ALFA has three postings, and no other has one. One order was
-/// settled, and two wait.
-fn prepared<K: Keeper + Drop>(alloc: Global, keeper: K) -> Result<K, Fail> {
-    let mut desk = desk_over(alloc, keeper)?;
-    for command in adds_three()? {
-        desk.submit(command)?;
-    }
-    for command in [
+/// The first line of ALFA's statement, and two of its postings.
+const BEGINNING: &str = "statement ALFA 2024-03-04\n\
+    posting    000000001 P-1              -                        1.00         -\n\
+    posting    000000002 P-2              -                       20.00         -\n";
+
+/// ALFA has three postings on Monday, and no other bank has one. One order settles, and two wait.
+fn commands() -> Result<[Command; 7], Fail> {
+    Ok([
         opened()?.0,
         posts("ALFA", "P-1", 100)?,
         posts("ALFA", "P-2", 2000)?,
@@ -33,10 +33,7 @@ fn prepared<K: Keeper + Drop>(alloc: Global, keeper: K) -> Result<K, Fail> {
         pays("ALFA", "A-1", "BETA", 60)?,
         pays("ALFA", "A-2", "GAMA", 9000)?,
         pays("BETA", "B-1", "ALFA", 500)?,
-    ] {
-        desk.submit(command)?;
-    }
-    Ok(desk.into_keeper())
+    ])
 }
 
 /// Writes the text, and tells why a read was refused, where one was.
@@ -58,10 +55,11 @@ fn write<K: Keeper>(
     }
 }
 
-/// The whole text, over this keeper.
+/// The whole text, over this keeper, which is new before the commands.
 fn whole<K: Keeper + Drop>(alloc: Global, keeper: K, text: Text) -> Result<Vec<u8>, Fail> {
     let mut out = Vec::new(alloc);
-    match write(alloc, &mut desk_over(alloc, keeper)?, text, &mut out)? {
+    let mut desk = prepared(alloc, keeper, &commands()?)?;
+    match write(alloc, &mut desk, text, &mut out)? {
         None => Ok(out),
         Some(refusal) => Err(Fail::from(refusal)),
     }
@@ -84,8 +82,8 @@ fn goes_on<K: Keeper>(
     Ok(refused.is_none() && out.as_slice() == whole)
 }
 
-/// Writes the text over a keeper that meets this trouble after so many reads: whether it is written whole. Else a
-/// beginning of it is.
+/// Writes the text over this keeper, which is new before the commands, and meets this trouble after so many reads:
+/// whether it is written whole. Else a beginning of it is.
 fn is_written<K: Keeper + Drop>(
     alloc: Global,
     keeper: K,
@@ -94,9 +92,10 @@ fn is_written<K: Keeper + Drop>(
     trouble: Trouble,
     whole: &[u8],
 ) -> Result<bool, Fail> {
+    let kept = prepared(alloc, keeper, &commands()?)?.into_keeper();
     // the opening is a call too
     let calls = reads.saturating_add(1);
-    let mut desk = desk_over(alloc, FailingKeeper::new(keeper, calls, trouble))?;
+    let mut desk = desk_over(alloc, FailingKeeper::new(kept, calls, trouble))?;
     let mut out = Vec::new(alloc);
     let Some(refusal) = write(alloc, &mut desk, text, &mut out)? else {
         return Ok(out.as_slice() == whole);
@@ -111,9 +110,9 @@ fn is_written<K: Keeper + Drop>(
 
 /// How many reads go well where first no writing meets this trouble.
 fn reads_of(alloc: Global, text: Text, trouble: Trouble) -> Result<usize, Fail> {
-    let written = whole(alloc, prepared(alloc, MemoryKeeper::new(alloc))?, text)?;
+    let written = whole(alloc, MemoryKeeper::new(alloc), text)?;
     for reads in 0..100 {
-        let keeper = prepared(alloc, MemoryKeeper::new(alloc))?;
+        let keeper = MemoryKeeper::new(alloc);
         if is_written(alloc, keeper, text, reads, trouble, written.as_slice())? {
             return Ok(reads);
         }
@@ -144,7 +143,8 @@ fn a_report_is_begun_where_a_read_is_refused(rt: HostRuntime) -> Result<(), Fail
 /// What was written of ALFA's statement where the third read of a posting meets a fault of the store, after which the
 /// desk answers nothing but that it has failed.
 fn written_before_the_third<K: Keeper + Drop>(alloc: Global, keeper: K) -> Result<Vec<u8>, Fail> {
-    let mut desk = desk_over(alloc, FailingKeeper::new(keeper, 3, Trouble::Lost))?;
+    let kept = prepared(alloc, keeper, &commands()?)?.into_keeper();
+    let mut desk = desk_over(alloc, FailingKeeper::new(kept, 3, Trouble::Lost))?;
     let mut out = Vec::new(alloc);
     let refused = write(alloc, &mut desk, Text::Statement, &mut out)?;
     if refused == Some(Refusal::StoreFault) && is_silent(&mut desk)? {
@@ -156,11 +156,7 @@ fn written_before_the_third<K: Keeper + Drop>(alloc: Global, keeper: K) -> Resul
 
 #[test]
 fn two_postings_are_told_where_the_third_is_not_read(rt: HostRuntime) -> Result<(), Fail> {
-    let keeper = prepared(rt.alloc(), MemoryKeeper::new(rt.alloc()))?;
-    let written = written_before_the_third(rt.alloc(), keeper)?;
-    let expected = "statement ALFA 2024-03-04\n\
-        posting    000000001 P-1              -                        1.00         -\n\
-        posting    000000002 P-2              -                       20.00         -\n";
-    assert_eq!(rt; std::str::from_utf8(written.as_slice())?, expected);
+    let written = written_before_the_third(rt.alloc(), MemoryKeeper::new(rt.alloc()))?;
+    assert_eq!(rt; std::str::from_utf8(written.as_slice())?, BEGINNING);
     Ok(())
 }

@@ -1,6 +1,6 @@
 //! Commands during which the store fails, and the books that may be found then.
 use super::batch_rows::sent;
-use super::found::Found;
+use super::found::{Found, ShowsBook};
 use super::setting::{
     KEY, MONDAY, Reply, Row, Standings, adds_three, code, date, desk_over, reference,
 };
@@ -84,7 +84,7 @@ impl Trial<'_> {
         Ok(books)
     }
 
-    fn book_after<K: Keeper + Drop>(
+    fn book_after<K: Keeper + ShowsBook + Drop>(
         &self,
         alloc: Global,
         keeper: K,
@@ -123,7 +123,7 @@ impl Trial<'_> {
 
     /// Whether the commands, given once more behind so many of them, end in the last of the books. Those are answered
     /// as what comes again, and the others as the first time.
-    pub fn ends_alike<K: Keeper + Drop>(
+    pub fn ends_alike<K: Keeper + ShowsBook + Drop>(
         &self,
         alloc: Global,
         books: &[Found],

@@ -4,7 +4,7 @@ use super::business::Business;
 use super::disk_desk::{closed, desk_again, new_desk};
 use super::disk_keeper::{DiskKeeper, Work, on_disks};
 use super::disks::Disks;
-use super::found::are_same_books;
+use super::found::{ShowsBook, are_same_books};
 use super::seen::Seen;
 use super::setting::desk_over;
 use super::told::{Names, tell_the_same};
@@ -101,7 +101,7 @@ impl Run {
 }
 
 /// Whether five thousand commands of this seed, of all kinds and with all kinds of answers, end in one book.
-fn five_thousand<M: Keeper + Drop, K: Keeper + DiskKeeper + Drop>(
+fn five_thousand<M: Keeper + ShowsBook + Drop, K: Keeper + ShowsBook + DiskKeeper + Drop>(
     alloc: Global,
     memory: M,
     seed: u64,
@@ -112,8 +112,8 @@ fn five_thousand<M: Keeper + Drop, K: Keeper + DiskKeeper + Drop>(
     for _ in 0..50 {
         (held, disks) = run.hundred_on_disks::<M, K>(held, disks)?;
     }
-    let in_memory = held.into_keeper().load(alloc)?;
-    let on_disks = desk_again::<K>(alloc, disks)?.into_keeper().load(alloc)?;
+    let in_memory = held.into_keeper().book(alloc)?;
+    let on_disks = desk_again::<K>(alloc, disks)?.into_keeper().book(alloc)?;
     Ok(are_same_books(&on_disks, &in_memory) && run.seen.is_varied())
 }
 
@@ -126,7 +126,10 @@ struct FiveThousand {
 impl Work for FiveThousand {
     type Seen = bool;
 
-    fn done_with<K: Keeper + DiskKeeper + Drop>(self, alloc: Global) -> Result<bool, Fail> {
+    fn done_with<K: Keeper + ShowsBook + DiskKeeper + Drop>(
+        self,
+        alloc: Global,
+    ) -> Result<bool, Fail> {
         five_thousand::<MemoryKeeper, K>(alloc, MemoryKeeper::new(alloc), self.seed)
     }
 }

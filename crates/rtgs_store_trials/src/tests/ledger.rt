@@ -1,7 +1,7 @@
 //! A ledger on its happy path, and the refusals of its commands.
 use super::setting::{
     MONDAY, Reply, Row, TUESDAY, adds_alfa, adds_three, change, code, cuts_off, opens, pays, posts,
-    queued, reference, resolved, settled,
+    queued, reference, resolved, settled, withdraws,
 };
 use rtgs_book::{Answer, Command, Day, Fault, Known, OrderState, Phase, Refusal, RowChange};
 use rtgs_cores::Found;
@@ -86,7 +86,8 @@ fn after(alloc: Global, rows: &[Row]) -> Result<Kept, Fail> {
     Ok(kept)
 }
 
-// A ledger with ALFA, BETA and GAMA, of which ALFA has 100 cents, and a day, after commands that are answered like this.
+// A ledger with ALFA, BETA and GAMA, of which ALFA has 100 cents, and a day, after commands that are answered like
+// this.
 fn funded_after(alloc: Global, rows: &[Row]) -> Result<Kept, Fail> {
     let beginning = [
         (posts("ALFA", "P-1", 100)?, Ok(Answer::Posted { number: 1 })),
@@ -192,6 +193,38 @@ fn a_ring_is_resolved(rt: HostRuntime) -> Result<(), Fail> {
     assert_eq!(rt; order.map(|o| o.state), Some(OrderState::Settled(1)));
     assert_eq!(rt; ledger.queue(&gama)?.len(), 0);
     assert_eq!(rt; balance(&ledger, &alfa), Some(100));
+    Ok(())
+}
+
+// The numbers of the orders that a ledger has in memory.
+fn numbers_in_memory(alloc: Global, ledger: &Ledger) -> Result<Vec<u64>, Fail> {
+    let mut numbers = Vec::new(alloc);
+    for order in ledger.queued() {
+        numbers.push(order.number)?;
+    }
+    Ok(numbers)
+}
+
+#[test]
+fn orders_that_wait_no_more_are_not_in_memory(rt: HostRuntime) -> Result<(), Fail> {
+    let rows = [
+        (pays("ALFA", "A-1", "BETA", 60)?, settled(1, 1)),
+        (pays("ALFA", "A-2", "BETA", 100)?, queued(2, 1)),
+        (pays("BETA", "B-1", "GAMA", 90)?, queued(3, 1)),
+        (pays("BETA", "B-2", "ALFA", 70)?, queued(4, 2)),
+        (pays("GAMA", "G-1", "ALFA", 500)?, queued(5, 1)),
+        (
+            withdraws("BETA", "B-1")?,
+            Ok(Answer::Withdrawn { number: 3 }),
+        ),
+    ];
+    let mut kept = funded_after(rt.alloc(), &rows)?;
+    let waiting = numbers_in_memory(rt.alloc(), &kept.ledger)?;
+    assert_eq!(rt; waiting.as_slice(), [2, 4, 5].as_slice());
+    let resolves = [(Command::Resolve, resolved(2, 2, 170))];
+    follows(rt.alloc(), &mut kept, &resolves)?;
+    let waiting = numbers_in_memory(rt.alloc(), &kept.ledger)?;
+    assert_eq!(rt; waiting.as_slice(), [5].as_slice());
     Ok(())
 }
 

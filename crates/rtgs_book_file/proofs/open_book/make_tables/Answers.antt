@@ -9,7 +9,7 @@ returns-in-Ok-clause-made g c = record {
   opened = c.in_ok-conn.ensures.opened;
   found = c.in_ok-conn.ensures.found;
   leaves = c.in-Ok.ensures.stops;
-  closed = subst (LeavesClosed c.in-Ok.made) (sym c.let_go.ensures) c.copied.ensures.closed;
+  closed = subst (LeavesClosed c.in-Ok.made) (sym c.let_go.ensures.files) c.copied.ensures.closed;
 }
 
 pub returns-in-Err-clause-refused : goal.returns-in-Err-clause-refused

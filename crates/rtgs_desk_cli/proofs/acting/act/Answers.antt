@@ -1,4 +1,4 @@
-use Rattle.rtgs_desk_cli.proofs.ForRequest.{printed_for, refused_for}
+use Rattle.rtgs_desk_cli.proofs.ForRequest.{printed_for, refused_for, touched_for}
 use Rattle.rtgs_desk_cli.proofs.acting.act.Goals as goal
 
 pub returns-in-Submit-clause-printed : goal.returns-in-Submit-clause-printed
@@ -24,3 +24,15 @@ returns-in-Serve-clause-printed g c = printed_for _ _ c.in-Serve.is c.serve.resu
 
 pub returns-in-Serve-clause-refused : goal.returns-in-Serve-clause-refused
 returns-in-Serve-clause-refused g c = refused_for _ _ c.in-Serve.is c.serve.result.0 c.serve.ensures.refused
+
+pub returns-in-Submit-clause-at : goal.returns-in-Submit-clause-at
+returns-in-Submit-clause-at g c = touched_for _ _ c.in-Submit.is c.answer.ensures.at
+
+pub returns-in-Import-clause-at : goal.returns-in-Import-clause-at
+returns-in-Import-clause-at g c = touched_for _ _ c.in-Import.is c.import.ensures.at
+
+pub returns-in-Read-clause-at : goal.returns-in-Read-clause-at
+returns-in-Read-clause-at g c = touched_for _ _ c.in-Read.is c.show.ensures.at
+
+pub returns-in-Serve-clause-at : goal.returns-in-Serve-clause-at
+returns-in-Serve-clause-at g c = touched_for _ _ c.in-Serve.is c.serve.ensures.at

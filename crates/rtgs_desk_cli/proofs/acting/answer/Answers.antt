@@ -1,11 +1,11 @@
-use Rattle.std.proofs.Common.{◌≡◌, true, None, refl, inl, inr, subst}
+use Rattle.std.proofs.Common.{◌≡◌, true, None, refl, inl, inr, subst, string_bytes}
 use Rattle.std.specs.Result.{IfOk}
 use Rattle.std.proofs.lemmas.Result.{IfOk-weaker, IfErr-weaker}
 use Rattle.rtgs_desk.specs.Replies.{answers_its_kind}
 use Rattle.rtgs_desk_lines.specs.Lines.{line_of}
 use Rattle.rtgs_desk_lines.specs.declared.done.Done.TheVariants.{Answered}
 use Rattle.rtgs_desk_cli.specs.Runs.{ended_line}
-use Rattle.rtgs_desk_cli.proofs.Finished.{when_done, submitted_with, not_done, refused_with, when_refused}
+use Rattle.rtgs_desk_cli.proofs.Finished.{when_done, submitted_with, not_done, refused_with, when_refused, closed_as}
 use Rattle.rtgs_desk_cli.proofs.acting.answer.Goals as goal
 
 pub returns-in-Ok-clause-printed : goal.returns-in-Ok-clause-printed
@@ -50,3 +50,13 @@ returns-in-Err-clause-refused g c = refused_with c.refused_file.result.0 _ _ c.r
   when_refused c.submit.result _ c.submit.ensures.unopened c.in-Err.unopened c.in-Err.ensures.unopened,
   refl,
 ))
+
+pub returns-in-Ok-clause-at : goal.returns-in-Ok-clause-at
+returns-in-Ok-clause-at g c =
+    let (book, is, shut) = c.in-Ok.ensures.done in
+    closed_as c.submit.result string_bytes (λ book. book.lock.locked.name) c.in-Ok.closed.name.value _
+    c.in-Ok.ensures.at c.submit.ensures.at book _ is
+
+pub returns-in-Err-clause-at : goal.returns-in-Err-clause-at
+returns-in-Err-clause-at g c = rw c.refused_file.ensures.touched
+    (when_refused c.submit.result _ c.submit.ensures.of c.in-Err.unopened c.in-Err.ensures.unopened)

@@ -8,3 +8,6 @@ returns-in-Err-clause-printed g c = not_done c.refused_file.result.0 _ _ c.refus
 pub returns-in-Err-clause-refused : goal.returns-in-Err-clause-refused
 returns-in-Err-clause-refused g c = refused_with c.refused_file.result.0 _ _ c.refused_file.ensures.told
     (c.in-Err.unmade, c.refused_file.ensures.touched, c.in-Err.ensures.refused, refl)
+
+pub returns-in-Err-clause-at : goal.returns-in-Err-clause-at
+returns-in-Err-clause-at g c = rw c.refused_file.ensures.touched c.in-Err.ensures.of

@@ -6,5 +6,5 @@ pub returns-in-Ok-clause-done : goal.returns-in-Ok-clause-done
 returns-in-Ok-clause-done g c = (
   c.in-Ok.book,
   c.in-Ok.is,
-  subst (LeavesClosed c.in-Ok.book.desk.keeper.conn) (sym c.let_go.ensures) c.close.ensures.closed,
+  subst (LeavesClosed c.in-Ok.book.desk.keeper.conn) (sym c.let_go.ensures.files) c.close.ensures.closed,
 )

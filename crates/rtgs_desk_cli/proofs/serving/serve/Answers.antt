@@ -1,7 +1,7 @@
-use Rattle.std.proofs.Common.{refl, inl, inr}
+use Rattle.std.proofs.Common.{refl, inl, inr, string_bytes}
 use Rattle.std.proofs.lemmas.Result.{IfErr-weaker}
 use Rattle.rtgs_desk_cli.specs.Runs.{IsNotListening}
-use Rattle.rtgs_desk_cli.proofs.Finished.{served_with, idle_with, not_done, refused_with, when_refused}
+use Rattle.rtgs_desk_cli.proofs.Finished.{served_with, idle_with, not_done, refused_with, when_refused, closed_as}
 use Rattle.rtgs_desk_cli.proofs.serving.serve.Goals as goal
 
 pub returns-in-Ok-clause-printed : goal.returns-in-Ok-clause-printed
@@ -28,3 +28,13 @@ returns-in-Err-clause-refused g c = refused_with c.refused_file.result.0 _ _ c.r
   when_refused c.serve_book.result _ c.serve_book.ensures.unopened c.in-Err.unopened c.in-Err.ensures.unopened,
   refl,
 ))
+
+pub returns-in-Ok-clause-at : goal.returns-in-Ok-clause-at
+returns-in-Ok-clause-at g c =
+    let (book, is, shut) = c.in-Ok.ensures.done in
+    closed_as c.serve_book.result string_bytes (λ book. book.lock.locked.name) c.in-Ok.closed.name.value _
+    c.in-Ok.ensures.at c.serve_book.ensures.at book _ is
+
+pub returns-in-Err-clause-at : goal.returns-in-Err-clause-at
+returns-in-Err-clause-at g c = rw c.refused_file.ensures.touched
+    (when_refused c.serve_book.result _ c.serve_book.ensures.of c.in-Err.unopened c.in-Err.ensures.unopened)

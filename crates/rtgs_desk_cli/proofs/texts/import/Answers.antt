@@ -1,8 +1,9 @@
-use Rattle.std.proofs.Common.{refl, inl, inr}
+use Rattle.std.proofs.Common.{refl, inl, inr, string_bytes}
 use Rattle.std.proofs.lemmas.Result.{IfOk-weaker, IfErr-weaker}
 use Rattle.rtgs_exchange.specs.Results.{results_text}
 use Rattle.rtgs_desk_cli.specs.Runs.{IsNotSent}
-use Rattle.rtgs_desk_cli.proofs.Finished.{imported_with, idle_for, either_way, not_done, refused_with, when_refused}
+use Rattle.rtgs_desk_cli.proofs.Finished.{imported_with, idle_for, either_way, not_done, refused_with}
+use Rattle.rtgs_desk_cli.proofs.Finished.{when_refused, closed_as}
 use Rattle.rtgs_desk_cli.proofs.texts.import.Goals as goal
 
 pub returns-in-Ok-clause-printed : goal.returns-in-Ok-clause-printed
@@ -49,3 +50,13 @@ returns-in-Err-clause-refused g c = refused_with c.refused_file.result.0 _ _ c.r
   when_refused c.send.result _ c.send.ensures.unopened c.in-Err.unopened c.in-Err.ensures.unopened,
   refl,
 ))
+
+pub returns-in-Ok-clause-at : goal.returns-in-Ok-clause-at
+returns-in-Ok-clause-at g c =
+    let (book, is, shut) = c.in-Ok.ensures.done in
+    closed_as c.send.result string_bytes (λ book. book.lock.locked.name) c.in-Ok.closed.name.value _ c.in-Ok.ensures.at
+    c.send.ensures.at book _ is
+
+pub returns-in-Err-clause-at : goal.returns-in-Err-clause-at
+returns-in-Err-clause-at g c = rw c.refused_file.ensures.touched
+    (when_refused c.send.result _ c.send.ensures.of c.in-Err.unopened c.in-Err.ensures.unopened)

@@ -1,7 +1,7 @@
-use Rattle.std.proofs.Common.{None, refl, inl, inr}
+use Rattle.std.proofs.Common.{None, refl, inl, inr, string_bytes}
 use Rattle.std.proofs.lemmas.Result.{IfOk-weaker, IfErr-weaker}
 use Rattle.rtgs_desk_cli.proofs.BytesRead.{bytes_read, refusal_read}
-use Rattle.rtgs_desk_cli.proofs.Finished.{read_with, not_done, refused_with, when_refused}
+use Rattle.rtgs_desk_cli.proofs.Finished.{read_with, not_done, refused_with, when_refused, closed_as}
 use Rattle.rtgs_desk_cli.proofs.texts.show.Goals as goal
 
 pub returns-in-Ok-clause-printed : goal.returns-in-Ok-clause-printed
@@ -44,3 +44,13 @@ returns-in-Err-clause-refused g c = refused_with c.refused_file.result.0 _ _ c.r
   when_refused c.read.result _ c.read.ensures.unopened c.in-Err.unopened c.in-Err.ensures.unopened,
   refl,
 ))
+
+pub returns-in-Ok-clause-at : goal.returns-in-Ok-clause-at
+returns-in-Ok-clause-at g c =
+    let (book, is, shut) = c.in-Ok.ensures.done in
+    closed_as c.read.result string_bytes (λ book. book.lock.locked.name) c.in-Ok.closed.name.value _ c.in-Ok.ensures.at
+    c.read.ensures.at book _ is
+
+pub returns-in-Err-clause-at : goal.returns-in-Err-clause-at
+returns-in-Err-clause-at g c = rw c.refused_file.ensures.touched
+    (when_refused c.read.result _ c.read.ensures.of c.in-Err.unopened c.in-Err.ensures.unopened)

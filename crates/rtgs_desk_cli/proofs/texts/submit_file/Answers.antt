@@ -15,7 +15,7 @@ returns-clause-sent g c = IfOk-weaker c.submit_orders-sent.result _ _ (λ sent d
 
 pub returns-clause-refused : goal.returns-clause-refused
 returns-clause-refused g c =
-    taken_refused (λ bytes. bytes.items) c.args.read c.in_ok-bytes.bytes c.in_ok-bytes.ensures
+    taken_refused (λ bytes. bytes.items) c.args.read.answer c.in_ok-bytes.bytes c.in_ok-bytes.ensures
     c.submit_orders-sent.result
     (subst (λ bytes. IfErr c.submit_orders-sent.result (λ why. (why ≡ Refused OutOfMemory)
     ⊎ ((fault : BatchFault) × IsFaultOf bytes fault × (why ≡ Orders fault)))) c.as_slice.ensures.value

@@ -1,5 +1,6 @@
 //! A keeper that counts its commits where others can see it.
-use rtgs_book::{Book, Change, Fault, Mark, Order, Posting};
+use rtgs_book::{Change, Fault, Mark, Order, Posting};
+use rtgs_cores::Core;
 use rtgs_keeper::{CommitFault, Keeper};
 use rtgs_money::{BusinessDate, Code, Reference};
 use std::alloc::Global;
@@ -48,8 +49,8 @@ impl<K: Keeper> Keeper for CountingKeeper<'_, K> {
 
     ghost whole = { λ keeper. K.whole keeper.kept };
 
-    fn load(&mut self, alloc: Global) -> Result<Book, Fault> {
-        self.kept.load(alloc)
+    fn core(&mut self, alloc: Global) -> Result<Core, Fault> {
+        self.kept.core(alloc)
     }
 
     fn find_order(&mut self, sender: &Code, reference: &Reference) -> Result<Option<Order>, Fault> {

@@ -1,7 +1,8 @@
 //! A keeper that fails when it is told to.
 ghost use Rattle.std.specs.Prelude.{◌≡◌, ◌⊎◌};
 
-use rtgs_book::{Book, Change, Fault, Mark, Order, Posting};
+use rtgs_book::{Change, Fault, Mark, Order, Posting};
+use rtgs_cores::Core;
 use rtgs_keeper::{CommitFault, Keeper};
 use rtgs_money::{BusinessDate, Code, Reference};
 use std::alloc::Global;
@@ -102,21 +103,21 @@ impl<K: Keeper> Keeper for FailingKeeper<K> {
 
     ghost whole = { λ keeper. K.whole keeper.kept };
 
-    fn load(&mut self, alloc: Global) -> Result<Book, Fault> {
+    fn core(&mut self, alloc: Global) -> Result<Core, Fault> {
         if self.failed {
             return Err(Fault::StoreFault);
         }
-        let loaded = match self.trouble() {
-            None => self.kept.load(alloc),
+        let given = match self.trouble() {
+            None => self.kept.core(alloc),
             Some(Trouble::Kept) => {
-                let _ = self.kept.load(alloc);
+                let _ = self.kept.core(alloc);
                 Err(Fault::StoreFault)
             }
             Some(Trouble::Lost) => Err(Fault::StoreFault),
             Some(Trouble::OutOfMemory) => Err(Fault::OutOfMemory),
         };
-        self.failed = matches!(loaded, Err(Fault::StoreFault));
-        loaded
+        self.failed = matches!(given, Err(Fault::StoreFault));
+        given
     }
 
     fn find_order(&mut self, sender: &Code, reference: &Reference) -> Result<Option<Order>, Fault> {

@@ -102,8 +102,8 @@ const CHANGES: [Row<'static>; 10] = [
     ),
 ];
 
-// How many calls of its keeper a desk makes for a command: it looks up what bears the reference, where one is given, and
-// keeps the change.
+// How many calls of its keeper a desk makes for a command: it looks up what bears the reference, where one is given,
+// and keeps the change.
 fn calls_of((_, line, _, _, _): &Row<'_>) -> usize {
     let looks_up = *line == "POST /desk/post"
         || *line == "POST /orders"

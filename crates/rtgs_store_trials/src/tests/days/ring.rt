@@ -3,11 +3,11 @@ use super::super::setting::{
     MONDAY, Reply, amount, change, code, date, participant, queued, reference, resolved,
 };
 use rtgs_book::{Answer, Command, Day, Known, Order, OrderState, Phase, RowChange};
-use rtgs_book_file::{BookLock, Unknown};
+use rtgs_book_file::BookLock;
 use rtgs_keeper::Keeper;
 use rtgs_money::Code;
 use rtgs_tables::SqlKeeper;
-use sqlite::Connection;
+use sqlite::{Connection, Unknown};
 use std::alloc::Global;
 use std::test::Fail;
 

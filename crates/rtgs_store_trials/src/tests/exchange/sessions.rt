@@ -28,7 +28,8 @@ fn submit_and_send<K: Keeper>(
         → reply ≢ Err Refusal.StoreFault → (found : Book) → K.leaves desk.new.keeper found
         → IsSession (record {
           start = book;
-          commands = command ∷ orders_of sender (take (length (with_stop (replies_of batch.replies.items) batch.stopped)) rows.now);
+          commands = command
+              ∷ orders_of sender (take (length (with_stop (replies_of batch.replies.items) batch.stopped)) rows.now);
           replies = reply ∷ with_stop (replies_of batch.replies.items) batch.stopped;
           found = found;
         })) }

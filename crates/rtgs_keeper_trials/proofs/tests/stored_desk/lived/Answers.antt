@@ -1,5 +1,5 @@
 use Rattle.rtgs_book.specs.Books.{new_book}
-use Rattle.rtgs_life_trials.proofs.tests.stored_desk.lived.Goals as goal
+use Rattle.rtgs_keeper_trials.proofs.tests.stored_desk.lived.Goals as goal
 
 pub returns : goal.returns
 returns g c clean blank =

@@ -7,7 +7,7 @@ use Rattle.sqlite.specs.Steps.{over_memory, IsEmpty}
 use Rattle.sqlite_trees.specs.View.{doubt}
 use Rattle.sqlite_trees.specs.declared.memory.MemStore.{MemStore}
 use Rattle.rtgs_tables.specs.Building.{IsBlank}
-use Rattle.rtgs_life_trials.proofs.tests.stored_desk.lived_twice_in_memory.Goals as goal
+use Rattle.rtgs_keeper_trials.proofs.tests.stored_desk.lived_twice_in_memory.Goals as goal
 
 -- memory gives back what it took
 memory_is_clean : (h : Held MemStore) → HasCleanDisk (state over_memory h)

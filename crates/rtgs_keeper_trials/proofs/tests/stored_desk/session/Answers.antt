@@ -1,4 +1,4 @@
-use Rattle.rtgs_life_trials.proofs.tests.stored_desk.session.Goals as goal
+use Rattle.rtgs_keeper_trials.proofs.tests.stored_desk.session.Goals as goal
 
 pub returns-clause-found : goal.returns-clause-found
 returns-clause-found g c clean book held =

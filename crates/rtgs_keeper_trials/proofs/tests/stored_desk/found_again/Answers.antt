@@ -1,7 +1,7 @@
 use Rattle.std.proofs.Common.{Result, Ok, Err, sym, subst}
 use Rattle.std.specs.Result.{IfOk}
 use Rattle.rtgs_stored_desk.specs.Stored.{AreTablesOf}
-use Rattle.rtgs_life_trials.proofs.tests.stored_desk.found_again.Goals as goal
+use Rattle.rtgs_keeper_trials.proofs.tests.stored_desk.found_again.Goals as goal
 
 -- what two clauses say of a value together
 from_both : {T E : Type 0} (r : Result T E) (P Q R : T → Type 0) → ((x : T) → P x → Q x → R x) → IfOk r P → IfOk r Q → IfOk r R

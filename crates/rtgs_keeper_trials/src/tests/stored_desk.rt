@@ -10,7 +10,7 @@ ghost use Rattle.rtgs_book.specs.Books.{new_book};
 ghost use Rattle.rtgs_book.specs.Session.{IsSession};
 ghost use Rattle.rtgs_desk.specs.Holding.{Holds};
 ghost use Rattle.rtgs_tables.specs.Building.{IsBlank};
-ghost use Rattle.rtgs_life_trials.specs.Lives.{AreTwoSessions};
+ghost use Rattle.rtgs_keeper_trials.specs.Lives.{AreTwoSessions};
 ghost use Rattle.rtgs_stored_desk.specs.Stored.{AreTablesOf};
 
 use super::setting::{Reply, adds_three, posts, standings};

@@ -2,7 +2,7 @@ use Rattle.std.proofs.Common.{refl}
 use Rattle.std.specs.Prelude.{List, [], ◌∷◌}
 use Rattle.rtgs_book.specs.Books.{new_book}
 use Rattle.rtgs_book.specs.Session.{Session, IsLife}
-use Rattle.rtgs_life_trials.proofs.tests.stored_desk.lived_twice.Goals as goal
+use Rattle.rtgs_keeper_trials.proofs.tests.stored_desk.lived_twice.Goals as goal
 
 pub returns : goal.returns
 returns g c clean blank =

@@ -1,0 +1,19 @@
+use Rattle.std.proofs.Common.{ℕ, Bool, cond, List, ap₂}
+use Rattle.sqlite.specs.Recovery.{Image}
+use Rattle.sqlite_disk.specs.Events.{Event, replay}
+use Rattle.rtgs_book_file.proofs.Counting.{read_of}
+use Rattle.rtgs_book_file.proofs.schema_size.listed.Goals as goal
+
+abbrev image : List ℕ → List ℕ → Image
+image log db = record { log = log; db = db }
+
+abbrev seen : List ℕ → List ℕ → Bool → List Event → List ℕ
+seen log db is_log history = (replay (cond is_log log db) history).seen
+
+pub returns-in-Ok : goal.returns-in-Ok
+returns-in-Ok g c =
+    let alike = seen g.S.Start.log g.S.Start.db in
+    let log = c.in-Ok.ensures.fresh.0 in
+    let db = c.in-Ok.ensures.fresh.1 in
+    read_of _ c.in-Ok.files _ c.listed_in.result.listed (ap₂ image (ap₂ alike log.0 log.1) (ap₂ alike db.0 db.1))
+    c.listed_in.ensures
