@@ -10,7 +10,8 @@ use std::test::Fail;
 // How many pages there are at least.
 const PAGES: usize = 20;
 
-// A table of more than one page, two rows over many pages, and pages that are free. Texts grow to five times themselves.
+// A table of more than one page, two rows over many pages, and pages that are free.
+// Each text grows to five times itself.
 const MORE: &str = "CREATE TABLE more (id INTEGER PRIMARY KEY, filling TEXT);
     INSERT INTO more VALUES (1, 'twenty letters of it'), (2, 'twenty letters of it');
     UPDATE more SET filling = filling || filling || filling || filling || filling;

@@ -1,12 +1,6 @@
 //! A book on a Monday, and runs that report on it.
-<<<<<<< HEAD:crates/rtgs_hostile_trials/src/tests/files/setting.rt
-use rtgs_desk_cli::{Unknown, run_words};
-use sqlite::Connection;
-=======
 use rtgs_desk_cli::run_words;
-use rtgs_desk_lines::{Ended, Printed};
 use sqlite::{Connection, Unknown};
->>>>>>> 17b881ec3c9a329608f5f3a0f9ab10656576543d:crates/rtgs_file_trials/src/tests/setting.rt
 use std::fs;
 use std::test::Fail;
 
