@@ -2,7 +2,6 @@
 //! and no command where it was refused.
 mod bodies;
 mod counting_keeper;
-mod draw;
 mod edits;
 mod lengths;
 mod limits;

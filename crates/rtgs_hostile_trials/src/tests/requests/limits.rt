@@ -1,7 +1,7 @@
 //! Numbers at a limit of some form, or just beyond it, and words that are of some form, or nearly.
 
-/// Numbers at a limit of some form, or just beyond it, and what is nearly a number.
-pub const LIMITS: [&str; 32] = [
+// Numbers at a limit of some form, or just beyond it, and what is nearly a number.
+const LIMITS: [&str; 32] = [
     "",
     "0",
     "-0",
@@ -36,8 +36,13 @@ pub const LIMITS: [&str; 32] = [
     "99999999999999999999999999999999999999999999999999",
 ];
 
-/// Words that are of some form, or nearly: codes, references and dates, as JSON and as fields of a file.
-pub const WORDS: [&str; 32] = [
+/// One of the 32 numbers.
+pub fn limit(place: usize) -> &'static str {
+    LIMITS[place % 32]
+}
+
+// Words that are of some form, or nearly: codes, references and dates, as JSON and as fields of a file.
+const WORDS: [&str; 32] = [
     "\"ALFA\"",
     "\"BETA\"",
     "\"ZETA\"",
@@ -71,3 +76,8 @@ pub const WORDS: [&str; 32] = [
     "{}",
     "{\"amount\":1}",
 ];
+
+/// One of the 32 words. The first 13 are texts of JSON.
+pub fn word(place: usize) -> &'static str {
+    WORDS[place % 32]
+}

@@ -1,5 +1,6 @@
 //! A keeper that counts its commits where others can see it.
-use rtgs_book::{Book, Change, Fault, Mark, Order, Posting};
+use rtgs_book::{Change, Fault, Mark, Order, Posting};
+use rtgs_cores::Core;
 use rtgs_keeper::{CommitFault, Keeper};
 use rtgs_money::{BusinessDate, Code, Reference};
 use std::alloc::Global;
@@ -16,6 +17,11 @@ impl<'a, K: Keeper> CountingKeeper<'a, K> {
     /// Over this keeper. It adds to the count.
     pub fn new(kept: K, commits: &'a Cell<usize>) -> CountingKeeper<'a, K> {
         CountingKeeper { kept, commits }
+    }
+
+    /// The keeper that calls were passed on to.
+    pub fn into_kept(self) -> K {
+        self.kept
     }
 }
 
@@ -48,8 +54,8 @@ impl<K: Keeper> Keeper for CountingKeeper<'_, K> {
 
     ghost whole = { λ keeper. K.whole keeper.kept };
 
-    fn load(&mut self, alloc: Global) -> Result<Book, Fault> {
-        self.kept.load(alloc)
+    fn core(&mut self, alloc: Global) -> Result<Core, Fault> {
+        self.kept.core(alloc)
     }
 
     fn find_order(&mut self, sender: &Code, reference: &Reference) -> Result<Option<Order>, Fault> {

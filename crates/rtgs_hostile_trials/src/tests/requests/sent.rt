@@ -10,8 +10,11 @@ pub const OPERATOR: &str = "0000000000000000000000000000000f";
 /// A request: the key, the method with the target, and the body.
 pub type Sent = (&'static str, &'static str, &'static str);
 
-/// One good request of each route.
-pub const GOOD: [Sent; 14] = [
+/// How many routes there are.
+pub const ROUTES: usize = 14;
+
+// One good request of each route.
+const GOOD: [Sent; ROUTES] = [
     (
         ALFA,
         "POST /orders",
@@ -43,6 +46,11 @@ pub const GOOD: [Sent; 14] = [
     (OPERATOR, "POST /desk/close", "{\"date\":\"2024-03-04\"}"),
     (OPERATOR, "GET /desk/report/2024-03-04", ""),
 ];
+
+/// The good request of a route.
+pub fn good(route: usize) -> Sent {
+    GOOD[route % ROUTES]
+}
 
 /// All bytes of a request, with this body in place of its own.
 pub fn with_body(alloc: Global, sent: Sent, body: &[u8]) -> Result<Vec<u8>, AllocError> {

@@ -1,8 +1,8 @@
 //! Each request with each number at a limit as the length of its body.
-use super::limits::LIMITS;
+use super::limits::limit;
 use super::met::Met;
 use super::replies::READ;
-use super::sent::GOOD;
+use super::sent::{ROUTES, good};
 use super::serving::{book_before, serve};
 use std::alloc::Global;
 use std::test::Fail;
@@ -11,9 +11,9 @@ use std::test::Fail;
 fn met(alloc: Global) -> Result<Met, Fail> {
     let before = book_before(alloc)?;
     let mut met = Met::new();
-    for turn in 0..(14 * 32) {
-        let (key, line, body) = GOOD[turn / 32 % 14];
-        let length = LIMITS[turn % 32];
+    for turn in 0..(ROUTES * 32) {
+        let (key, line, body) = good(turn / 32);
+        let length = limit(turn);
         let input = format!(in alloc;
             "{line} HTTP/1.1\r\ndesk-key: {key}\r\nContent-Length: {length}\r\n\r\n{body}"
         )?;

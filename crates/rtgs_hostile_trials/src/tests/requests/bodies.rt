@@ -1,9 +1,9 @@
 //! Bodies that chance has changed, each with its right length.
-use super::draw::Draw;
+use super::super::draw::Draw;
 use super::edits::{changed, revalued};
 use super::met::Met;
 use super::replies::{DONE, READ};
-use super::sent::{GOOD, with_body};
+use super::sent::{ROUTES, good, with_body};
 use super::serving::{book_before, serve};
 use std::alloc::{AllocError, Global};
 use std::test::Fail;
@@ -33,11 +33,11 @@ fn met(alloc: Global, seed: u64, of_values: bool) -> Result<Met, Fail> {
     let before = book_before(alloc)?;
     let mut draw = Draw::new(seed);
     let mut met = Met::new();
-    for turn in 0..(14 * TIMES) {
-        let sent = GOOD[turn / TIMES % 14];
-        let (_, _, good) = sent;
-        if !of_values || good.contains(',') || good.contains(':') {
-            let body = body_of(alloc, &mut draw, good.as_bytes(), of_values)?;
+    for turn in 0..(ROUTES * TIMES) {
+        let sent = good(turn / TIMES);
+        let (_, _, own) = sent;
+        if !of_values || own.contains(',') || own.contains(':') {
+            let body = body_of(alloc, &mut draw, own.as_bytes(), of_values)?;
             let input = with_body(alloc, sent, body.as_slice())?;
             met.count(serve(alloc, &before, input.as_slice())?);
         }

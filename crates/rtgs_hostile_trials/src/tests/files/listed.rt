@@ -1,5 +1,5 @@
 //! Files that are no sound book, one by one, and what a report on each prints.
-use super::setting::{NO_BOOK, begin_day, end_day, is_refused, meddle, remove, reports, write};
+use super::setting::{NO_BOOK, are_told, is_told, remove, reports, write};
 use std::fs;
 use std::test::Fail;
 
@@ -11,34 +11,29 @@ fn without_a_file(rt: HostRuntime) -> Result<(), Fail> {
     Ok(())
 }
 
-#[test]
-fn that_are_no_database(rt: HostRuntime) -> Result<(), Fail> {
-    let contents: [&[u8]; 8] = [
-        b"",
-        b"S",
-        b"SQLite format 3",
-        b"SQLite format 3\0",
-        b"SQLite format 4\0 and nothing that is known.",
-        b"A text that is no database at all.\n",
-        &[b'S'; 8192],
-        &[0; 8192],
-    ];
-    for content in contents {
-        write(&rt, "no_database", content)?;
-        is_refused(&rt, "no_database", NO_BOOK)?;
-    }
-    Ok(())
-}
+const NO_DATABASE: [&[u8]; 8] = [
+    b"",
+    b"S",
+    b"SQLite format 3",
+    b"SQLite format 3\0",
+    b"SQLite format 4\0 and nothing that is known.",
+    b"A text that is no database at all.\n",
+    &[b'S'; 8192],
+    &[0; 8192],
+];
 
-/// A book in which this was changed is refused with this text.
-fn changed(rt: &HostRuntime, file: &str, rows: &[(&str, &str)]) -> Result<(), Fail> {
-    let bytes = fs::read(rt, file)?;
-    for (sql, text) in rows {
-        write(rt, file, bytes.as_slice())?;
-        meddle(rt, file, sql)?;
-        is_refused(rt, file, text)?;
+// A file with each of these contents is no book's.
+fn are_no_books(rt: &HostRuntime, file: &str, contents: &[&[u8]]) -> Result<(), Fail> {
+    for content in contents {
+        write(rt, file, *content)?;
+        is_told(rt, file, NO_BOOK)?;
     }
     remove(rt, file)
+}
+
+#[test]
+fn that_are_no_database(rt: HostRuntime) -> Result<(), Fail> {
+    are_no_books(&rt, "no_database", &NO_DATABASE)
 }
 
 const NO_DESK: [(&str, &str); 7] = [
@@ -53,8 +48,7 @@ const NO_DESK: [(&str, &str); 7] = [
 
 #[test]
 fn whose_tables_are_no_desks(rt: HostRuntime) -> Result<(), Fail> {
-    begin_day(&rt, "no_desk")?;
-    changed(&rt, "no_desk", &NO_DESK)
+    are_told(&rt, "no_desk", false, "", &NO_DESK)
 }
 
 // Leaves the orders numbered 1 and 3, of which the first has settled, with its mark and the balances that it gave.
@@ -86,8 +80,7 @@ const UNSOUND: [(&str, &str); 6] = [
 
 #[test]
 fn whose_book_is_unsound(rt: HostRuntime) -> Result<(), Fail> {
-    begin_day(&rt, "unsound")?;
-    changed(&rt, "unsound", &UNSOUND)
+    are_told(&rt, "unsound", false, "", &UNSOUND)
 }
 
 // Orders without a third one, and a queued order once the day is closed. In the last row nothing adds up besides.
@@ -108,6 +101,5 @@ const ENDED: [(&str, &str); 3] = [
 
 #[test]
 fn whose_book_is_unsound_once_its_day_is_closed(rt: HostRuntime) -> Result<(), Fail> {
-    end_day(&rt, "ended")?;
-    changed(&rt, "ended", &ENDED)
+    are_told(&rt, "ended", true, "", &ENDED)
 }

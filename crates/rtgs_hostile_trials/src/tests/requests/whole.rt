@@ -1,9 +1,9 @@
 //! Whole requests that chance has changed, head and body.
-use super::draw::Draw;
+use super::super::draw::Draw;
 use super::edits::changed;
 use super::met::Met;
 use super::replies::{DONE, READ};
-use super::sent::{GOOD, with_body};
+use super::sent::{ROUTES, good, with_body};
 use super::serving::{book_before, serve};
 use std::alloc::{AllocError, Global};
 use std::test::Fail;
@@ -30,11 +30,11 @@ fn met(alloc: Global, seed: u64, most: usize) -> Result<Met, Fail> {
     let before = book_before(alloc)?;
     let mut draw = Draw::new(seed);
     let mut met = Met::new();
-    for turn in 0..(14 * TIMES) {
-        let sent = GOOD[turn / TIMES % 14];
+    for turn in 0..(ROUTES * TIMES) {
+        let sent = good(turn / TIMES);
         let (_, _, body) = sent;
-        let good = with_body(alloc, sent, body.as_bytes())?;
-        let input = input_of(alloc, &mut draw, good.as_slice(), most)?;
+        let whole = with_body(alloc, sent, body.as_bytes())?;
+        let input = input_of(alloc, &mut draw, whole.as_slice(), most)?;
         met.count(serve(alloc, &before, input.as_slice())?);
     }
     Ok(met)

@@ -1,8 +1,11 @@
 //! Changes of a file, as chance would have them, in which a page is one of 4096 bytes.
-use super::draw::Draw;
+use super::super::draw::Draw;
+use super::super::parts::{parts, spliced};
 use super::limits::LIMITS;
-use super::pages::PAGE;
 use std::alloc::{AllocError, Global};
+
+/// The length of a page.
+pub const PAGE: usize = 4096;
 
 /// The file with one change: of bytes, cut, with a page again or in another's place, or with another number.
 pub fn changed(alloc: Global, draw: &mut Draw, file: &[u8]) -> Result<Vec<u8>, AllocError> {
@@ -13,22 +16,6 @@ pub fn changed(alloc: Global, draw: &mut Draw, file: &[u8]) -> Result<Vec<u8>, A
         4 => replaced(alloc, draw, file),
         _ => renumbered(alloc, draw, file),
     }
-}
-
-// The file in two parts at this place, or at its end.
-fn parts(file: &[u8], at: usize) -> (&[u8], &[u8]) {
-    match file.split_at_checked(at) {
-        Some(both) => both,
-        None => (file, b""),
-    }
-}
-
-fn sum_of(alloc: Global, parts: &[&[u8]]) -> Result<Vec<u8>, AllocError> {
-    let mut sum = Vec::new(alloc);
-    for part in parts {
-        sum.extend_from_slice(part)?;
-    }
-    Ok(sum)
 }
 
 // Where some page begins.
@@ -47,7 +34,7 @@ fn flipped(alloc: Global, draw: &mut Draw, file: &[u8]) -> Result<Vec<u8>, Alloc
     let mut bytes = Vec::from_slice(alloc, file)?;
     for _ in 0..=draw.below(3) {
         let bit = 1u8 << (draw.below(8) & 7);
-        let other = draw.byte();
+        let other = (draw.below(256) & 255) as u8;
         let by_bit = draw.below(2) == 0;
         if let Some(byte) = bytes.as_mut_slice().get_mut(place(draw, file)) {
             *byte = if by_bit { *byte ^ bit } else { other };
@@ -69,9 +56,10 @@ fn cut(alloc: Global, draw: &mut Draw, file: &[u8]) -> Result<Vec<u8>, AllocErro
 
 // One page stands twice, so that those behind it have other numbers.
 fn repeated(alloc: Global, draw: &mut Draw, file: &[u8]) -> Result<Vec<u8>, AllocError> {
-    let (before, rest) = parts(file, page(draw, file));
+    let at = page(draw, file);
+    let (_, rest) = parts(file, at);
     let (one, _) = parts(rest, PAGE);
-    sum_of(alloc, &[before, one, rest])
+    spliced(alloc, file, at, 0, one)
 }
 
 // One page stands in another's place too, or nothing does.
@@ -84,9 +72,7 @@ fn replaced(alloc: Global, draw: &mut Draw, file: &[u8]) -> Result<Vec<u8>, Allo
     } else {
         other
     };
-    let (before, rest) = parts(file, page(draw, file));
-    let (_, behind) = parts(rest, PAGE);
-    sum_of(alloc, &[before, other, behind])
+    spliced(alloc, file, page(draw, file), PAGE, other)
 }
 
 // A number at a limit stands in place of one, in one, two or four bytes.
@@ -94,7 +80,5 @@ fn renumbered(alloc: Global, draw: &mut Draw, file: &[u8]) -> Result<Vec<u8>, Al
     let limit = LIMITS[draw.below(16) & 15];
     let bytes = limit.to_be_bytes();
     let (_, number) = parts(bytes.as_slice(), [0, 2, 3][draw.below(3).min(2)]);
-    let (before, rest) = parts(file, place(draw, file));
-    let (_, behind) = parts(rest, number.len());
-    sum_of(alloc, &[before, number, behind])
+    spliced(alloc, file, place(draw, file), number.len(), number)
 }

@@ -2,7 +2,7 @@
 use super::counting_keeper::CountingKeeper;
 use super::replies::{DONE, told_by};
 use super::sent::{ALFA, OPERATOR};
-use rtgs_book::{Book, Command, Rows};
+use rtgs_book::{Book, Command};
 use rtgs_desk::Desk;
 use rtgs_http_banks::{Served, serve_one};
 use rtgs_keeper::{Keeper, MemoryKeeper};
@@ -63,39 +63,30 @@ fn begun<K: Keeper + Drop>(alloc: Global, keeper: K) -> Result<Desk<K>, Fail> {
     Ok(desk)
 }
 
-fn book_begun<K: Keeper + Drop>(alloc: Global, keeper: K) -> Result<Book, Fail> {
-    Ok(begun(alloc, keeper)?.into_keeper().load(alloc)?)
-}
-
 /// The book that the desk begins with.
 pub fn book_before(alloc: Global) -> Result<Book, Fail> {
-    book_begun(alloc, MemoryKeeper::new(alloc))
-}
-
-fn are_same<T: PartialEq>(one: &Rows<T>, other: &Rows<T>) -> bool {
-    one.as_slice() == other.as_slice()
+    Ok(
+        begun(alloc, MemoryKeeper::new(alloc))?
+            .into_keeper()
+            .load(alloc)?,
+    )
 }
 
 fn is_same_book(one: &Book, other: &Book) -> bool {
-    are_same(&one.participants, &other.participants)
-        && are_same(&one.postings, &other.postings)
-        && are_same(&one.orders, &other.orders)
-        && are_same(&one.marks, &other.marks)
+    one.participants.as_slice() == other.participants.as_slice()
+        && one.postings.as_slice() == other.postings.as_slice()
+        && one.orders.as_slice() == other.orders.as_slice()
+        && one.marks.as_slice() == other.marks.as_slice()
         && one.day == other.day
 }
 
-// What a desk over a new keeper tells of an input, where that was of commands, or no commit was counted and the book is
-// the one that it began with.
-fn served<K: Keeper + Drop>(
+// What the desk tells of an input, and its keeper then.
+fn answered<K: Keeper + Drop>(
     alloc: Global,
-    keeper: K,
-    commits: &Cell<usize>,
-    before: &Book,
+    mut desk: Desk<K>,
     input: &[u8],
-) -> Result<u8, Fail> {
+) -> Result<(u8, K), Fail> {
     let operator = Key::read(OPERATOR.as_bytes())?.digest();
-    let mut desk = begun(alloc, keeper)?;
-    let begun = commits.get();
     let mut reader = input;
     let mut written = Vec::new(alloc);
     let Served::Answered(status) = serve_one(alloc, &mut reader, &mut written, &mut desk, &operator)
@@ -103,12 +94,7 @@ fn served<K: Keeper + Drop>(
         return Err(Fail::from("not answered"));
     };
     let told = told_by(alloc, status.as_u16(), written.as_slice())?;
-    let kept = desk.into_keeper().load(alloc)?;
-    if told == DONE || (commits.get() == begun && is_same_book(&kept, before)) {
-        return Ok(told);
-    }
-    let said = format!(in alloc; "{told} with a commit, or another book")?;
-    Err(Fail::from(said))
+    Ok((told, desk.into_keeper()))
 }
 
 /// What a desk tells of an input. A desk that did not tell of a command made no commit, and has the book that it began
@@ -116,5 +102,13 @@ fn served<K: Keeper + Drop>(
 pub fn serve(alloc: Global, before: &Book, input: &[u8]) -> Result<u8, Fail> {
     let commits = Cell::new(0);
     let keeper = CountingKeeper::new(MemoryKeeper::new(alloc), &commits);
-    served(alloc, keeper, &commits, before, input)
+    let desk = begun(alloc, keeper)?;
+    let begun = commits.get();
+    let (told, keeper) = answered(alloc, desk, input)?;
+    let book = keeper.into_kept().load(alloc)?;
+    if told == DONE || (commits.get() == begun && is_same_book(&book, before)) {
+        return Ok(told);
+    }
+    let said = format!(in alloc; "{told} with a commit, or another book")?;
+    Err(Fail::from(said))
 }

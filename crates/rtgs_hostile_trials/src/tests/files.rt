@@ -2,13 +2,11 @@
 //! the file changed.
 mod chance;
 mod crowds;
-mod draw;
 mod edits;
 mod limits;
 mod listed;
 mod loops;
 mod met;
-mod pages;
 mod setting;
 mod tools;
 mod views;

@@ -83,21 +83,31 @@ fn is_refused(alloc: Global, before: &Book, input: &[u8], number: u8) -> Result<
     Err(Fail::from(said))
 }
 
+// Each input is refused by its number.
+fn are_refused(alloc: Global, rows: &[(&[u8], u8)]) -> Result<(), Fail> {
+    let before = book_before(alloc)?;
+    for (input, number) in rows {
+        is_refused(alloc, &before, *input, *number)?;
+    }
+    Ok(())
+}
+
 #[test]
 fn heads_that_are_refused(rt: HostRuntime) -> Result<(), Fail> {
-    let before = book_before(rt.alloc())?;
-    for (input, number) in HEADS {
-        is_refused(rt.alloc(), &before, input, number)?;
+    are_refused(rt.alloc(), &HEADS)
+}
+
+// ALFA's request of each method and target, with its body, is refused by its number.
+fn requests_are_refused(alloc: Global, rows: &[(&'static str, &str, u8)]) -> Result<(), Fail> {
+    let before = book_before(alloc)?;
+    for (line, body, number) in rows {
+        let input = with_body(alloc, (ALFA, *line, ""), body.as_bytes())?;
+        is_refused(alloc, &before, input.as_slice(), *number)?;
     }
     Ok(())
 }
 
 #[test]
 fn bodies_and_targets_that_are_refused(rt: HostRuntime) -> Result<(), Fail> {
-    let before = book_before(rt.alloc())?;
-    for (line, body, number) in BODIES {
-        let input = with_body(rt.alloc(), (ALFA, line, ""), body.as_bytes())?;
-        is_refused(rt.alloc(), &before, input.as_slice(), number)?;
-    }
-    Ok(())
+    requests_are_refused(rt.alloc(), &BODIES)
 }

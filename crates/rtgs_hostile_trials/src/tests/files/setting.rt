@@ -1,6 +1,5 @@
 //! A book on a Monday, and runs that report on it.
 use rtgs_desk_cli::run_words;
-use rtgs_desk_lines::{Ended, Printed};
 use sqlite::{Connection, Unknown};
 use std::fs;
 use std::test::Fail;
@@ -8,49 +7,27 @@ use std::test::Fail;
 /// What is printed of a file that is no book's.
 pub const NO_BOOK: &str = "refused 93 NotADeskFile\n";
 
-/// What a run printed, and how it ended.
-struct Run {
-    out: Vec<u8>,
-    err: Vec<u8>,
-    /// All was done, and printed whole.
-    is_done: bool,
-    status: u8,
-}
-
-// A run over these words.
-fn ran(rt: &HostRuntime, words: &[&str]) -> Run {
+// What a run over these words prints on standard output and on standard error, and the status that it ends with.
+fn ran(rt: &HostRuntime, words: &[&str]) -> (Vec<u8>, Vec<u8>, u8) {
     let mut out = Vec::new(rt.alloc());
     let mut err = Vec::new(rt.alloc());
     let (ended, _) = run_words(rt, words, Unknown, &mut out, &mut err);
-    Run {
-        out,
-        err,
-        is_done: matches!(ended, Ended::Printed(Printed::Whole)),
-        status: ended.exit_status(),
-    }
+    (out, err, ended.exit_status())
 }
 
-// A run over this command on the file, with the words behind it, ends with 0.
-fn does(rt: &HostRuntime, command: &str, file: &str, rest: &[&str]) -> Result<(), Fail> {
-    let mut words = Vec::from_slice(rt.alloc(), &[command, file])?;
-    words.extend_from_slice(rest)?;
-    let Run {
-        out: _,
-        err,
-        is_done,
-        status: _,
-    } = ran(rt, words.as_slice());
-    if is_done && err.is_empty() {
-        return Ok(());
-    }
-    let said = format!(in rt.alloc(); "{command} said {:?}", std::str::from_utf8(err.as_slice()))?;
-    Err(Fail::from(said))
-}
-
-// Each of these, in turn.
+// Runs over these commands on the file, each with the words behind it, end with 0.
 fn does_all(rt: &HostRuntime, file: &str, runs: &[(&str, &[&str])]) -> Result<(), Fail> {
     for (command, rest) in runs {
-        does(rt, command, file, rest)?;
+        let mut words = Vec::from_slice(rt.alloc(), &[*command, file])?;
+        words.extend_from_slice(rest)?;
+        let (_, err, status) = ran(rt, words.as_slice());
+        if status != 0 || !err.is_empty() {
+            let said = format!(in rt.alloc();
+                "{command}: {status}, {:?}",
+                std::str::from_utf8(err.as_slice())
+            )?;
+            return Err(Fail::from(said));
+        }
     }
     Ok(())
 }
@@ -87,14 +64,11 @@ pub fn begin_day(rt: &HostRuntime, file: &str) -> Result<(), Fail> {
     does_all(rt, file, &BEGUN)?;
     let orders = format!(in rt.alloc(); "{file}.csv")?;
     fs::write(rt, orders.as_str(), ORDERS)?;
-    does(rt, "import", file, &["ALFA", orders.as_str()])?;
-    does(rt, "withdraw", file, &["ALFA", "A-3"])
-}
-
-/// Makes such a book, closes its day, and posts once more.
-pub fn end_day(rt: &HostRuntime, file: &str) -> Result<(), Fail> {
-    begin_day(rt, file)?;
-    does_all(rt, file, &CLOSED)
+    let more: [(&str, &[&str]); 2] = [
+        ("import", &["ALFA", orders.as_str()]),
+        ("withdraw", &["ALFA", "A-3"]),
+    ];
+    does_all(rt, file, &more)
 }
 
 /// The bytes of such a book whose day is open. Its file is gone then.
@@ -105,22 +79,18 @@ pub fn book_bytes(rt: &HostRuntime, file: &str) -> Result<Vec<u8>, Fail> {
     Ok(bytes)
 }
 
-/// Removes the file and its log.
-pub fn remove(rt: &HostRuntime, file: &str) -> Result<(), Fail> {
-    fs::remove_file(rt, file)?;
-    remove_log(rt, file)
-}
-
-fn remove_log(rt: &HostRuntime, file: &str) -> Result<(), Fail> {
+/// Writes the bytes to the file, which then has no log.
+pub fn write(rt: &HostRuntime, file: &str, bytes: &[u8]) -> Result<(), Fail> {
+    fs::write(rt, file, bytes)?;
     let log = format!(in rt.alloc(); "{file}-wal")?;
     let _ = fs::remove_file(rt, log.as_str());
     Ok(())
 }
 
-/// Writes the bytes to the file, which then has no log.
-pub fn write(rt: &HostRuntime, file: &str, bytes: &[u8]) -> Result<(), Fail> {
-    fs::write(rt, file, bytes)?;
-    remove_log(rt, file)
+/// Removes the file and its log.
+pub fn remove(rt: &HostRuntime, file: &str) -> Result<(), Fail> {
+    write(rt, file, b"")?;
+    Ok(fs::remove_file(rt, file)?)
 }
 
 /// Changes a file by SQL, as another program does.
@@ -134,12 +104,7 @@ pub fn meddle(rt: &HostRuntime, file: &str, sql: &str) -> Result<(), Fail> {
 /// What a run prints that reports on a file, and the status that it ends with. It prints on standard output with status
 /// 0 and else on standard error.
 pub fn reports(rt: &HostRuntime, file: &str) -> Result<(String, u8), Fail> {
-    let Run {
-        out,
-        err,
-        is_done: _,
-        status,
-    } = ran(rt, &["report", file, "2024-03-04"]);
+    let (out, err, status) = ran(rt, &["report", file, "2024-03-04"]);
     let (said, silent) = if status == 0 { (out, err) } else { (err, out) };
     if !silent.is_empty() {
         return Err(Fail::from("both streams were printed on"));
@@ -161,12 +126,44 @@ pub fn keeps(rt: &HostRuntime, file: &str) -> Result<(String, u8), Fail> {
     Err(Fail::from(said))
 }
 
-/// A run that reports on the file is refused with this text and status 3, and changes no byte of the file.
-pub fn is_refused(rt: &HostRuntime, file: &str, text: &str) -> Result<(), Fail> {
+/// A run that reports on the file prints this text, with status 3 if it is a refusal, and else with 0, and changes no
+/// byte of the file.
+pub fn is_told(rt: &HostRuntime, file: &str, text: &str) -> Result<(), Fail> {
     let (said, status) = keeps(rt, file)?;
-    if said.as_str() == text && status == 3 {
+    let wanted = if text.starts_with("refused ") { 3 } else { 0 };
+    if said.as_str() == text && status == wanted {
         return Ok(());
     }
     let said = format!(in rt.alloc(); "{status} and {said:?}, not {text:?}")?;
     Err(Fail::from(said))
+}
+
+/// What is said of a file on which a report is that on the book.
+pub const SAME: &str = "";
+
+/// Makes a book, closes its day if this says so, and changes it by SQL. Whenever it is then changed by the SQL of a row,
+/// the text of that row is printed.
+pub fn are_told(
+    rt: &HostRuntime,
+    file: &str,
+    is_closed: bool,
+    first: &str,
+    rows: &[(&str, &str)],
+) -> Result<(), Fail> {
+    begin_day(rt, file)?;
+    if is_closed {
+        does_all(rt, file, &CLOSED)?;
+    }
+    let (text, status) = keeps(rt, file)?;
+    if status != 0 {
+        return Err(Fail::from("a book without a report"));
+    }
+    meddle(rt, file, first)?;
+    let bytes = fs::read(rt, file)?;
+    for (sql, told) in rows {
+        write(rt, file, bytes.as_slice())?;
+        meddle(rt, file, sql)?;
+        is_told(rt, file, if told.is_empty() { text.as_str() } else { told })?;
+    }
+    remove(rt, file)
 }
