@@ -1,7 +1,10 @@
 //! A book in memory, of whose reads one can meet trouble.
-ghost use Rattle.std.specs.Prelude.{◌≡◌, Err, OnOk, IfErr, ◌⊎◌, true, false};
+ghost use Rattle.std.specs.Prelude.{◌≡◌, Err, OnOk, IfErr, ◌⊎◌, true, false, map, slice_get};
+ghost use Rattle.rtgs_book.specs.declared.Participant.{Participant as ParticipantSpec};
+ghost use Rattle.std.specs.List.{find};
+ghost use Rattle.rtgs_cores.specs.Nexts.{is_posting_after, is_order_after, is_mark_after};
 
-use rtgs_book::{Book, Mark, Order, Posting, Refusal};
+use rtgs_book::{Book, Mark, Order, Participant, Posting, Refusal};
 use rtgs_money::{BusinessDate, Code};
 use rtgs_statements::Source;
 
@@ -52,6 +55,7 @@ impl Shelf {
 
     // Counts a read, and refuses it where trouble is met.
     fn read(&mut self) -> Result<(), Refusal>
+        ensures book { self.new.book ≡ self.old.book }
         ensures well { OnOk result (self.new.failed ≡ self.old.failed) }
         ensures ill { IfErr result (λ refusal.
             ((refusal ≡ Refusal.StoreFault) × (self.old.failed ≡ false) × (self.new.failed ≡ true))
@@ -75,16 +79,18 @@ impl Shelf {
 }
 
 impl Source for Shelf {
-    // Nothing is claimed of the book: what texts say of it is tested.
-    ghost holds = { λ _ _. ⊥ };
+    ghost use Rattle.std.specs.Prelude.{◌≡◌, false};
+    ghost use Rattle.rtgs_book.specs.Soundness.{IsSound};
 
-    ghost leaves = { λ _ _. ⊥ };
+    ghost holds = { λ shelf book. (shelf.book ≡ book) × IsSound book × (shelf.failed ≡ false) };
+
+    ghost leaves = { λ shelf book. shelf.book ≡ book };
 
     ghost is_honest = { λ _. Unit {0} };
 
     ghost has_failed = { λ shelf. shelf.failed };
 
-    ghost left = { λ _ _ held. held };
+    ghost left = { λ shelf book held. held.0 };
 
     fn next_posting(
         &mut self,
@@ -106,22 +112,34 @@ impl Source for Shelf {
     }
 
     fn code_at(&self, index: usize) -> Option<Code> {
-        match self.book.participants.as_slice().get(index) {
-            Some(participant) => Some(participant.code),
-            None => None,
-        }
+        code_at(self.book.participants.as_slice(), index)
     }
 
     fn reads_a_sound_book(&self) {}
 }
 
+// The code of the participant at this place.
+fn code_at(participants: &[Participant], index: usize) -> Option<Code>
+    ensures { result ≡ slice_get (map (λ (p : ParticipantSpec). p.code) participants.now) index }
+{
+    if index < participants.len() {
+        Some(participants[index].code)
+    } else {
+        None
+    }
+}
+
 // The first posting of the date with a number above this one.
-fn posting_after(postings: &[Posting], date: BusinessDate, number: u64) -> Option<Posting> {
+fn posting_after(postings: &[Posting], date: BusinessDate, number: u64) -> Option<Posting>
+    ensures { result ≡ find (is_posting_after date number) postings.now }
+{
     postings.iter().copied().find(|posting| posting.date == Some(date) && number < posting.number)
 }
 
 // The first order of the date with a number above this one.
-fn order_after(orders: &[Order], date: BusinessDate, number: u64) -> Option<Order> {
+fn order_after(orders: &[Order], date: BusinessDate, number: u64) -> Option<Order>
+    ensures { result ≡ find (is_order_after date number) orders.now }
+{
     orders
         .iter()
         .copied()
@@ -129,7 +147,9 @@ fn order_after(orders: &[Order], date: BusinessDate, number: u64) -> Option<Orde
 }
 
 // The first mark of the date with a number above this one.
-fn mark_after(marks: &[Mark], date: BusinessDate, number: u64) -> Option<Mark> {
+fn mark_after(marks: &[Mark], date: BusinessDate, number: u64) -> Option<Mark>
+    ensures { result ≡ find (is_mark_after date number) marks.now }
+{
     marks
         .iter()
         .copied()
