@@ -116,7 +116,8 @@ fn statement_is_written_line_by_line(rt: HostRuntime) -> Result<(), Fail> {
         let mut out = Narrow::new(rt.alloc(), 500, calls);
         let ended = small_statement(rt.alloc(), &mut out)?;
         assert_eq!(rt; ended, Ended::WriterFailed);
-        assert!(rt; out.taken.as_slice() == &whole[..ends[calls]]);
+        let end = whole.len().min(ends[calls]);
+        assert!(rt; out.taken.as_slice() == &whole[..end]);
     }
     let mut out = Narrow::new(rt.alloc(), 500, 4);
     assert_eq!(rt; small_statement(rt.alloc(), &mut out)?, Ended::Whole);
