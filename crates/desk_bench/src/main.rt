@@ -20,7 +20,7 @@ ghost use Rattle.std.specs.Prelude.{◌≤◌};
 
 use crate::books::{fill, fill_days, fill_two_days};
 use crate::business::{DAYS, date, first_day, second_day};
-use crate::memory::{holding, holding_the_store};
+use crate::memory::{measure_desk, measure_store};
 use crate::openings::{opening_of_the_desk, opening_of_the_store};
 use crate::orders::{paying, writing};
 use anyhow::{Context, Result, bail};
@@ -92,7 +92,7 @@ fn measure_memory(rt: &HostRuntime, orders: u64, more: u64, timed: bool) -> Resu
 {
     let file = format!(in rt.alloc(); "memory-{orders}.desk")?;
     fill(rt, file.as_str(), orders)?;
-    let held = holding(rt, file.as_str(), orders, more)?;
+    let held = measure_desk(rt, file.as_str(), orders, more)?;
     print!(rt; "a desk open over {orders} orders, and after {more} more")?;
     if timed {
         let (before, open, after) = (held.before, held.open, held.after);
@@ -106,7 +106,7 @@ fn measure_memory(rt: &HostRuntime, orders: u64, more: u64, timed: bool) -> Resu
 /// Tells the memory of this process with a desk, or the store alone, open over the book of a file.
 fn tell_memory(rt: &HostRuntime, what: &str, file: &str) -> Result<()> {
     if what == "store" {
-        let held = holding_the_store(rt, file)?;
+        let held = measure_store(rt, file)?;
         let (resident, peak) = (held.resident, held.peak);
         println!(rt; "the store alone: {resident} KiB, {peak} KiB at most")?;
         return Ok(());
@@ -114,7 +114,7 @@ fn tell_memory(rt: &HostRuntime, what: &str, file: &str) -> Result<()> {
     if what != "desk" {
         bail!("neither the desk nor the store");
     }
-    let held = holding(rt, file, 0, 0)?;
+    let held = measure_desk(rt, file, 0, 0)?;
     let (before, resident, peak) = (held.before.resident, held.open.resident, held.open.peak);
     println!(rt; "before {before} KiB, the desk open {resident} KiB, {peak} KiB at most")?;
     Ok(())

@@ -30,7 +30,7 @@ fn number_of(text: &str, name: &str) -> Option<u64> {
 }
 
 /// The memory that the process has, as the system tells it.
-fn memory(rt: &HostRuntime) -> Result<Memory> {
+fn memory_now(rt: &HostRuntime) -> Result<Memory> {
     let text = fs::read_to_string(rt, "/proc/self/status")?;
     let resident = number_of(text.as_str(), "VmRSS:").context("no resident set")?;
     let peak = number_of(text.as_str(), "VmHWM:").context("no peak")?;
@@ -38,14 +38,14 @@ fn memory(rt: &HostRuntime) -> Result<Memory> {
 }
 
 /// The memory with the desk over the book of a file, and then after so many orders, from this number on.
-pub fn holding(rt: &HostRuntime, file: &str, from: u64, orders: u64) -> Result<Holding>
+pub fn measure_desk(rt: &HostRuntime, file: &str, from: u64, orders: u64) -> Result<Holding>
     requires { (from ≤ 1000000) × (orders ≤ 500000) }
 {
-    let before = memory(rt)?;
+    let before = memory_now(rt)?;
     let mut book = open_book(rt, file)?;
-    let open = memory(rt);
+    let open = memory_now(rt);
     let paid = pay(rt.alloc(), book.desk(), from, orders);
-    let after = memory(rt);
+    let after = memory_now(rt);
     book.finish().close();
     paid?;
     Ok(Holding {
@@ -56,9 +56,9 @@ pub fn holding(rt: &HostRuntime, file: &str, from: u64, orders: u64) -> Result<H
 }
 
 /// The memory with the store alone over a file.
-pub fn holding_the_store(rt: &HostRuntime, file: &str) -> Result<Memory> {
+pub fn measure_store(rt: &HostRuntime, file: &str) -> Result<Memory> {
     let conn = Connection::open(rt, file)?;
-    let held = memory(rt);
+    let held = memory_now(rt);
     conn.close()?;
     held
 }
