@@ -53,15 +53,20 @@ fn found_for(keeper: &mut MemoryKeeper, command: &Command) -> Result<Found, Fail
 }
 
 fn submit(kept: &mut Kept, command: Command) -> Result<Reply, Fail> {
-    let found = found_for(&mut kept.keeper, &command)?;
-    match kept.ledger.prepare(&command, &found) {
-        Ok((answer, change)) => {
-            kept.keeper.commit(&change)?;
-            kept.ledger.adopt(change);
-            Ok(Ok(answer))
-        }
-        Err(refusal) => Ok(Err(refusal)),
+    let found = match found_for(&mut kept.keeper, &command) {
+        Ok(found) => found,
+        Err(fail) => return Err(fail),
+    };
+    let (answer, change) = match kept.ledger.prepare(&command, &found) {
+        Ok(prepared) => prepared,
+        Err(refusal) => return Ok(Err(refusal)),
+    };
+    match kept.keeper.commit(&change) {
+        Ok(()) => {}
+        Err(fault) => return Err(Fail::from(fault)),
     }
+    kept.ledger.adopt(change);
+    Ok(Ok(answer))
 }
 
 // Submits the commands in order: each is answered like this.
