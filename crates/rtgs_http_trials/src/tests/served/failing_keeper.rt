@@ -87,9 +87,9 @@ impl<K: Keeper> Keeper for FailingKeeper<K> {
 
     ghost is_whole = { λ keeper. K.is_whole keeper.kept };
 
-    // Nothing is claimed of what was shown, and of what the store itself may leave.
-    ghost shows = { λ _ _. Unit {0} };
+    ghost shows = { λ keeper. K.shows keeper.kept };
 
+    // Nothing is claimed of what the store itself may leave.
     ghost leaves_no_more = { λ _ _. Unit {0} };
 
     ghost explains = { λ keeper fault. (fault ≡ Fault.OutOfMemory)
