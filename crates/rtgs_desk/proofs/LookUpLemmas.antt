@@ -21,25 +21,31 @@ use Rattle.rtgs_desk.proofs.HoldingLemmas.{in_memory, holding, works_held, keeps
 pub record KeeperLaws {K : Type 0} (g : Ghosts K) : Type 0 where
   pub settled : (k : K) (book other : Book) → g.content k book → g.leaves k other → other ≡ book
   pub whole : (k : K) (book : Book) → g.content k book → g.is_whole k
+  pub unmoved : (k : K) → g.leaves_no_more k k
 
 -- what a keeper ensures of a look-up with this result
 pub record Looks {K : Type 0} (g : Ghosts K) (X : Type 0) (old new : K) (result : Result X Fault) : Type 0 where
   pub honest : g.is_honest new → g.is_honest old
   pub same : g.is_honest new → (book : Book) → g.content old book → result ≢ Err faults.StoreFault → g.content new book
   pub stops : g.is_honest new → (other : Book) → g.leaves new other → g.leaves old other
+  pub untouched : g.is_honest new → g.leaves_no_more old new
   pub whole : g.is_honest new → g.is_whole old → g.is_whole new
   pub kinds : (result ≢ Err faults.NotADeskFile) × ((rule : Rule) → result ≢ Err (faults.Inconsistent rule))
   pub fault : result ≡ Err faults.StoreFault → g.has_failed new ≡ true
   pub only_fault : result ≢ Err faults.StoreFault → g.has_failed new ≡ g.has_failed old
 
-untouched : {K : Type 0} (g : Ghosts K) (keeper : K) → KeepsAsBefore g keeper keeper
-untouched g keeper = record { kept = λ book kept. kept; stops = λ book left. left }
+untouched : {K : Type 0} (g : Ghosts K) → KeeperLaws g → (keeper : K) → KeepsAsBefore g keeper keeper
+untouched g laws keeper = record {
+  kept = λ book kept. kept;
+  stops = λ book left. left;
+  untouched = laws.unmoved keeper;
+}
 
 -- a desk that has failed looks nothing up
-pub failed_before : {K : Type 0} (g : Ghosts K) (keeper : K) (core : Core) (desk : Seen K) (failed : Bool)
+pub failed_before : {K : Type 0} (g : Ghosts K) → KeeperLaws g → (keeper : K) (core : Core) (desk : Seen K) (failed : Bool)
     → record { keeper = keeper; core = core } ≡ desk → failed ≡ g.has_failed keeper → failed ≡ true
     → LooksUp g desk desk (Some Failed)
-failed_before {K} g keeper core desk failed view says fails =
+failed_before {K} g laws keeper core desk failed view says fails =
     let gone : g.has_failed desk.keeper ≡ true = ap (λ (s : Seen K). g.has_failed s.keeper) (sym view) ∙ sym says ∙
     fails in
     record {
@@ -47,7 +53,7 @@ failed_before {K} g keeper core desk failed view says fails =
       honest = λ h. h;
       kept = λ honest book held no. held;
       left = λ honest book held. absurd (let works = works_held g desk book held in cc);
-      keeper = λ honest no. untouched g desk.keeper;
+      keeper = λ honest no. untouched g laws desk.keeper;
       fault = λ e. absurd (cc);
       only_fault = λ no. refl;
       failed = λ e. (refl, refl);
@@ -69,7 +75,7 @@ looks_at_nothing {K} g laws keeper core desk failed view says working =
         after_a_crash = λ found left. laws.settled desk.keeper book found (keeps_held g desk book held) left;
         whole_after_a_crash = laws.whole desk.keeper book (keeps_held g desk book held);
       };
-      keeper = λ honest no. untouched g desk.keeper;
+      keeper = λ honest no. untouched g laws desk.keeper;
       fault = λ e. absurd (cc);
       only_fault = λ no. refl;
       failed = λ e. absurd (cc);
@@ -95,6 +101,7 @@ looked g laws X old new result ended looks core works quiet ends = record {
   keeper = λ honest no. record {
     kept = λ book kept. looks.same honest book kept quiet;
     stops = λ book left. looks.stops honest book left;
+    untouched = looks.untouched honest;
   };
   fault = λ e. absurd (⊎_elim (λ f. let no : ⊥ = cc in no) (λ f. let no : ⊥ = cc in no) ends);
   only_fault = λ no. looks.only_fault quiet;

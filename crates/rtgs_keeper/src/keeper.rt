@@ -80,6 +80,7 @@ pub trait Keeper {
         ensures same { is_honest self.new → (book : Book) → content self.old book → result ≢ Err Fault.StoreFault
             → content self.new book }
         ensures stops { is_honest self.new → (other : Book) → leaves self.new other → leaves self.old other }
+        ensures untouched { is_honest self.new → leaves_no_more self.old self.new }
         ensures whole { is_honest self.new → is_whole self.old → is_whole self.new }
         ensures kinds { (result ≢ Err Fault.NotADeskFile) × ((rule : Rule) → result ≢ Err (Fault.Inconsistent rule)) }
         ensures fault { result ≡ Err Fault.StoreFault → has_failed self.new ≡ true }
@@ -94,6 +95,7 @@ pub trait Keeper {
         ensures same { is_honest self.new → (book : Book) → content self.old book → result ≢ Err Fault.StoreFault
             → content self.new book }
         ensures stops { is_honest self.new → (other : Book) → leaves self.new other → leaves self.old other }
+        ensures untouched { is_honest self.new → leaves_no_more self.old self.new }
         ensures whole { is_honest self.new → is_whole self.old → is_whole self.new }
         ensures kinds { (result ≢ Err Fault.NotADeskFile) × ((rule : Rule) → result ≢ Err (Fault.Inconsistent rule)) }
         ensures fault { result ≡ Err Fault.StoreFault → has_failed self.new ≡ true }
@@ -108,6 +110,7 @@ pub trait Keeper {
         ensures same { is_honest self.new → (book : Book) → content self.old book → result ≢ Err Fault.StoreFault
             → content self.new book }
         ensures stops { is_honest self.new → (other : Book) → leaves self.new other → leaves self.old other }
+        ensures untouched { is_honest self.new → leaves_no_more self.old self.new }
         ensures whole { is_honest self.new → is_whole self.old → is_whole self.new }
         ensures kinds { (result ≢ Err Fault.NotADeskFile) × ((rule : Rule) → result ≢ Err (Fault.Inconsistent rule)) }
         ensures fault { result ≡ Err Fault.StoreFault → has_failed self.new ≡ true }
@@ -122,6 +125,7 @@ pub trait Keeper {
         ensures same { is_honest self.new → (book : Book) → content self.old book → result ≢ Err Fault.StoreFault
             → content self.new book }
         ensures stops { is_honest self.new → (other : Book) → leaves self.new other → leaves self.old other }
+        ensures untouched { is_honest self.new → leaves_no_more self.old self.new }
         ensures whole { is_honest self.new → is_whole self.old → is_whole self.new }
         ensures kinds { (result ≢ Err Fault.NotADeskFile) × ((rule : Rule) → result ≢ Err (Fault.Inconsistent rule)) }
         ensures fault { result ≡ Err Fault.StoreFault → has_failed self.new ≡ true }
@@ -136,6 +140,7 @@ pub trait Keeper {
         ensures same { is_honest self.new → (book : Book) → content self.old book → result ≢ Err Fault.StoreFault
             → content self.new book }
         ensures stops { is_honest self.new → (other : Book) → leaves self.new other → leaves self.old other }
+        ensures untouched { is_honest self.new → leaves_no_more self.old self.new }
         ensures whole { is_honest self.new → is_whole self.old → is_whole self.new }
         ensures kinds { (result ≢ Err Fault.NotADeskFile) × ((rule : Rule) → result ≢ Err (Fault.Inconsistent rule)) }
         ensures fault { result ≡ Err Fault.StoreFault → has_failed self.new ≡ true }
@@ -170,4 +175,7 @@ pub trait Keeper {
 
     // What holds a book leaves one.
     ghost whole: { (k : Self) (book : Book) → content k book → is_whole k };
+
+    // Where nothing is done, a crash leaves what it could leave before.
+    ghost unmoved: { (k : Self) → leaves_no_more k k };
 }

@@ -182,6 +182,8 @@ impl Keeper for MemoryKeeper {
 
     ghost whole = { λ k book kept. (book, kept) };
 
+    ghost unmoved = { λ k book kept. kept };
+
     fn core(&mut self, alloc: Global) -> Result<Core, Fault> {
         let book = self.load(alloc)?;
         Ok(Core::of(alloc, &book)?)

@@ -190,6 +190,8 @@ impl<S: Alter + Drop> Keeper for SqlKeeper<S> {
 
     ghost whole = { λ k. settling.whole (record { view = S.Store.view; faults = S.Store.faults; recovers = S.Store.recovers; is_shielded = S.Store.is_shielded; is_step = S.Store.is_step; blamed = S.Store.blamed; names = S.Store.names }) k.conn (S.Store.settled k.conn.store) };
 
+    ghost unmoved = { λ _ _ left. left };
+
     fn core(&mut self, alloc: Global) -> Result<Core, Fault> {
         let book = self.load(alloc)?;
         Ok(Core::of(alloc, &book)?)

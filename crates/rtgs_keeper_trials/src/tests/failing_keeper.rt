@@ -103,6 +103,8 @@ impl<K: Keeper> Keeper for FailingKeeper<K> {
 
     ghost whole = { λ keeper. K.whole keeper.kept };
 
+    ghost unmoved = { λ _. tt };
+
     fn core(&mut self, alloc: Global) -> Result<Core, Fault> {
         if self.failed {
             return Err(Fault::StoreFault);

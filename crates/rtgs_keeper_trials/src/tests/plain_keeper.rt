@@ -49,7 +49,7 @@ impl<K: Keeper> Keeper for PlainKeeper<K> {
 
     ghost shows = { λ _ _. ⊥ };
 
-    ghost leaves_no_more = { λ _ _. ⊥ };
+    ghost leaves_no_more = { λ _ _. Unit {0} };
 
     ghost explains = { λ _ _. ⊥ };
 
@@ -60,6 +60,8 @@ impl<K: Keeper> Keeper for PlainKeeper<K> {
     ghost tabled = { λ _ _ held. held };
 
     ghost whole = { λ _ _ held. held };
+
+    ghost unmoved = { λ _. tt };
 
     fn core(&mut self, alloc: Global) -> Result<Core, Fault> {
         self.kept.core(alloc)

@@ -49,6 +49,8 @@ impl<K: Keeper> Keeper for CountingKeeper<'_, K> {
 
     ghost whole = { λ keeper. K.whole keeper.kept };
 
+    ghost unmoved = { λ keeper. K.unmoved keeper.kept };
+
     fn core(&mut self, alloc: Global) -> Result<Core, Fault> {
         self.kept.core(alloc)
     }

@@ -6,12 +6,22 @@ use Rattle.rtgs_desk.proofs.LookUpLemmas.{failed_before, looked_up, not_looked_u
 use Rattle.rtgs_desk.proofs.desk.Desk.find_posting.Goals as goal
 
 pub returns-then-self-clause-looked : goal.returns-then-self-clause-looked
-returns-then-self-clause-looked g c = failed_before g.K.Keeper c.self.inside.keeper c.self.inside.ledger.core
+returns-then-self-clause-looked g c = failed_before g.K.Keeper
+    (record {
+      settled = g.met.K.Keeper.settled;
+      whole = g.met.K.Keeper.whole;
+      unmoved = g.met.K.Keeper.unmoved;
+    })
+    c.self.inside.keeper c.self.inside.ledger.core
     c.args.self.now c.self.inside.failed c.self.view_is c.self.invariant c.if-self.true
 
 pub returns-in-Ok-clause-looked : goal.returns-in-Ok-clause-looked
 returns-in-Ok-clause-looked g c = looked_up g.K.Keeper
-    (record { settled = g.met.K.Keeper.settled; whole = g.met.K.Keeper.whole })
+    (record {
+      settled = g.met.K.Keeper.settled;
+      whole = g.met.K.Keeper.whole;
+      unmoved = g.met.K.Keeper.unmoved;
+    })
     c.self.inside.keeper c.find_posting.new.self c.self.inside.ledger.core c.args.self.now c.self.inside.failed
     c.find_posting.result
     c.self.view_is c.self.invariant c.if-self.false
@@ -19,6 +29,7 @@ returns-in-Ok-clause-looked g c = looked_up g.K.Keeper
       honest = c.find_posting.ensures.honest;
       same = c.find_posting.ensures.same;
       stops = c.find_posting.ensures.stops;
+      untouched = c.find_posting.ensures.untouched;
       whole = c.find_posting.ensures.whole;
       kinds = c.find_posting.ensures.kinds;
       fault = c.find_posting.ensures.fault;
@@ -35,7 +46,11 @@ returns-in-Err-clause-looked g c = subst
     (λ (r : Refusal). LooksUp g.K.Keeper c.args.self.now
     (record { keeper = c.find_posting.new.self; core = c.self.inside.ledger.core }) (Some r)) (sym
     c.refused.ensures.refusal)
-    (not_looked_up g.K.Keeper (record { settled = g.met.K.Keeper.settled; whole = g.met.K.Keeper.whole })
+    (not_looked_up g.K.Keeper (record {
+      settled = g.met.K.Keeper.settled;
+      whole = g.met.K.Keeper.whole;
+      unmoved = g.met.K.Keeper.unmoved;
+    })
     c.self.inside.keeper c.find_posting.new.self c.self.inside.ledger.core c.args.self.now c.self.inside.failed
     c.find_posting.result
     c.self.view_is c.self.invariant c.if-self.false
@@ -43,6 +58,7 @@ returns-in-Err-clause-looked g c = subst
       honest = c.find_posting.ensures.honest;
       same = c.find_posting.ensures.same;
       stops = c.find_posting.ensures.stops;
+      untouched = c.find_posting.ensures.untouched;
       whole = c.find_posting.ensures.whole;
       kinds = c.find_posting.ensures.kinds;
       fault = c.find_posting.ensures.fault;

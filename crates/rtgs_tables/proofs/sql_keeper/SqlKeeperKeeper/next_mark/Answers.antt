@@ -1,9 +1,11 @@
 use Rattle.std.proofs.Common.{◌≡◌, ap, ◌∙◌}
 use Rattle.std.proofs.lemmas.Result.{IfOk-weaker}
+use Rattle.sqlite.specs.Held.{state}
 use Rattle.rtgs_book.specs.declared.Mark.{Mark}
 use Rattle.rtgs_cores.specs.Nexts.{mark_after}
 use Rattle.rtgs_tables.specs.Seeking.{first_of_date}
 use Rattle.rtgs_tables.proofs.FindingLemmas.{holds_on}
+use Rattle.rtgs_tables.proofs.Keeps.{leaves_on}
 use Rattle.rtgs_tables.proofs.sql_keeper.SqlKeeperKeeper.next_mark.Goals as goal
 
 pub returns-clause-found : goal.returns-clause-found
@@ -20,3 +22,7 @@ returns-clause-found g c clean book held =
 pub returns-clause-same : goal.returns-clause-same
 returns-clause-same g c clean book held other = holds_on g.S.Store c.args.self.now.conn c.next_of-found.new.conn
     c.next_of-found.result book c.next_of-found.ensures.looks clean other held
+
+pub returns-clause-untouched : goal.returns-clause-untouched
+returns-clause-untouched g c clean trees left = leaves_on (state g.S.Store c.args.self.now.conn)
+    (state g.S.Store c.next_of-found.new.conn) c.next_of-found.ensures.looks.survives clean trees left

@@ -6,13 +6,23 @@ use Rattle.rtgs_desk.proofs.LookUpLemmas.{failed_before, looked_up, not_looked_u
 use Rattle.rtgs_desk.proofs.desk.source.DeskSource.next_mark.Goals as goal
 
 pub returns-then-self-clause-read : goal.returns-then-self-clause-read
-returns-then-self-clause-read g c = reads g.K.Keeper _ _ _ (failed_before g.K.Keeper c.self.inside.keeper
+returns-then-self-clause-read g c = reads g.K.Keeper _ _ _ (failed_before g.K.Keeper
+    (record {
+      settled = g.met.K.Keeper.settled;
+      whole = g.met.K.Keeper.whole;
+      unmoved = g.met.K.Keeper.unmoved;
+    })
+    c.self.inside.keeper
     c.self.inside.ledger.core
     c.args.self.now c.self.inside.failed c.self.view_is c.self.invariant c.if-self.true)
 
 pub returns-in-Ok-clause-read : goal.returns-in-Ok-clause-read
 returns-in-Ok-clause-read g c = reads g.K.Keeper _ _ _ (looked_up g.K.Keeper
-    (record { settled = g.met.K.Keeper.settled; whole = g.met.K.Keeper.whole })
+    (record {
+      settled = g.met.K.Keeper.settled;
+      whole = g.met.K.Keeper.whole;
+      unmoved = g.met.K.Keeper.unmoved;
+    })
     c.self.inside.keeper c.next_mark.new.self c.self.inside.ledger.core c.args.self.now c.self.inside.failed
     c.next_mark.result
     c.self.view_is c.self.invariant c.if-self.false
@@ -20,6 +30,7 @@ returns-in-Ok-clause-read g c = reads g.K.Keeper _ _ _ (looked_up g.K.Keeper
       honest = c.next_mark.ensures.honest;
       same = c.next_mark.ensures.same;
       stops = c.next_mark.ensures.stops;
+      untouched = c.next_mark.ensures.untouched;
       whole = c.next_mark.ensures.whole;
       kinds = c.next_mark.ensures.kinds;
       fault = c.next_mark.ensures.fault;
@@ -36,7 +47,11 @@ returns-in-Err-clause-read g c = reads g.K.Keeper _ _ _ (subst
     (λ (r : Refusal). LooksUp g.K.Keeper c.args.self.now
     (record { keeper = c.next_mark.new.self; core = c.self.inside.ledger.core }) (Some r)) (sym
     c.refused.ensures.refusal)
-    (not_looked_up g.K.Keeper (record { settled = g.met.K.Keeper.settled; whole = g.met.K.Keeper.whole })
+    (not_looked_up g.K.Keeper (record {
+      settled = g.met.K.Keeper.settled;
+      whole = g.met.K.Keeper.whole;
+      unmoved = g.met.K.Keeper.unmoved;
+    })
     c.self.inside.keeper c.next_mark.new.self c.self.inside.ledger.core c.args.self.now c.self.inside.failed
     c.next_mark.result
     c.self.view_is c.self.invariant c.if-self.false
@@ -44,6 +59,7 @@ returns-in-Err-clause-read g c = reads g.K.Keeper _ _ _ (subst
       honest = c.next_mark.ensures.honest;
       same = c.next_mark.ensures.same;
       stops = c.next_mark.ensures.stops;
+      untouched = c.next_mark.ensures.untouched;
       whole = c.next_mark.ensures.whole;
       kinds = c.next_mark.ensures.kinds;
       fault = c.next_mark.ensures.fault;
