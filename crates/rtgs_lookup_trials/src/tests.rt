@@ -1,4 +1,5 @@
 //! Records found by name, and the next records of a date.
+mod asking;
 mod both;
 mod looking;
 mod passing;

@@ -1,13 +1,16 @@
 //! What a keeper in memory and one over tables tell of the same records.
-use super::setting::{MONDAY, TUESDAY, code, date, new_keeper, reference};
+use super::asking::answers;
+use super::setting::{MONDAY, code, date, new_keeper, reference};
 use rtgs_book::{
     Change, Day, Fault, Mark, Order, OrderState, Participant, Phase, Posting, RowChange, Rows, Rule,
 };
+use rtgs_cores::Core;
 use rtgs_keeper::{Keeper, MemoryKeeper};
 use rtgs_money::{Amount, Cents, Credit, KeyDigest, Name, PostingAmount};
 use rtgs_tables::SqlKeeper;
 use sqlite::MemStore;
 use std::alloc::Global;
+use std::fmt::Write;
 use std::process::Abort;
 use std::test::Fail;
 
@@ -87,29 +90,39 @@ fn in_tables(alloc: Global) -> Result<SqlKeeper<MemStore>, Fail> {
     Ok(keeper)
 }
 
-/// Whether the keeper's core has both accounts, the order that waits, the day, and the next numbers.
+// The accounts of a core, the orders that wait, the day, and the next numbers, in words.
+fn core_in_words(alloc: Global, core: &Core) -> Result<String, Fail> {
+    let mut told = String::new(alloc);
+    for account in core.accounts.as_slice() {
+        write!(
+            told,
+            "{} {}, ",
+            account.participant.code,
+            account.balance.cents()
+        )?;
+    }
+    for order in core.queued.as_slice() {
+        write!(told, "{} {:?}, ", order.number, order.state)?;
+    }
+    let (posting, order, mark) = (core.next_posting, core.next_order, core.next_mark);
+    write!(told, "{:?}, next {posting} {order} {mark}", core.day.phase)?;
+    Ok(told)
+}
+
+// Whether the core is that of the rows: the participants and the order to the last field, and the rest in words.
 fn tells_the_core<K: Keeper>(rt: &(impl Abort + AllocGlobal), keeper: &mut K) -> Result<(), Fail> {
     let core = keeper.core(rt.alloc())?;
-    let [alfa, beta] = core.accounts.as_slice() else {
-        return Err(Fail::from("not two accounts"));
+    let ([alfa, beta], [queued]) = (core.accounts.as_slice(), core.queued.as_slice()) else {
+        return Err(Fail::from("not two accounts and an order that waits"));
     };
+    let is_told = alfa.participant == participant("ALFA", 1)?
+        && beta.participant == participant("BETA", 2)?
+        && *queued == order(2, "A-2", 80, OrderState::Queued)?
+        && core.day.date == Some(date(MONDAY)?);
+    assert!(rt; is_told);
     assert_eq!(rt;
-        (alfa.participant, alfa.balance),
-        (participant("ALFA", 1)?, Cents::new(70))
-    );
-    assert_eq!(rt;
-        (beta.participant, beta.balance),
-        (participant("BETA", 2)?, Cents::new(30))
-    );
-    let [queued] = core.queued.as_slice() else {
-        return Err(Fail::from("not one queued order"));
-    };
-    assert_eq!(rt; *queued, order(2, "A-2", 80, OrderState::Queued)?);
-    assert_eq!(rt; core.day.date, Some(date(MONDAY)?));
-    assert_eq!(rt; core.day.phase, Phase::Open);
-    assert_eq!(rt;
-        [core.next_posting, core.next_order, core.next_mark],
-        [2, 3, 2]
+        core_in_words(rt.alloc(), &core)?.as_str(),
+        "ALFA 70, BETA 30, 2 Queued, Open, next 2 3 2"
     );
     Ok(())
 }
@@ -120,59 +133,34 @@ fn a_core_is_told_alike(rt: HostRuntime) -> Result<(), Fail> {
     tells_the_core(&rt, &mut in_tables(rt.alloc())?)
 }
 
-/// Whether the keeper finds the records by their names.
-fn finds_by_name<K: Keeper>(rt: &(impl Abort + AllocGlobal), keeper: &mut K) -> Result<(), Fail> {
-    let settled = order(1, "A-1", 30, OrderState::Settled(1))?;
-    assert_eq!(rt;
-        keeper.find_order(&code("ALFA")?, &reference("A-1")?),
-        Ok(Some(settled))
-    );
-    assert_eq!(rt;
-        keeper.find_order(&code("BETA")?, &reference("A-1")?),
-        Ok(None)
-    );
-    assert_eq!(rt;
-        keeper.find_order(&code("ALFA")?, &reference("A-3")?),
-        Ok(None)
-    );
-    let Some(posting) = keeper.find_posting(&reference("P-1")?)? else {
-        return Err(Fail::from("no posting"));
-    };
-    assert_eq!(rt; posting.number, 1);
-    assert_eq!(rt; keeper.find_posting(&reference("A-1")?), Ok(None));
-    Ok(())
-}
+const NAMES: &str = "
+    order ALFA A-1 = 1 ALFA A-1 BETA 30 2024-03-04 Settled(1)
+    order BETA A-1 = none
+    order ALFA A-3 = none
+    posting P-1 = 1 ALFA P-1 100
+    posting A-1 = none
+";
 
 #[test]
 fn records_are_found_alike(rt: HostRuntime) -> Result<(), Fail> {
-    finds_by_name(&rt, &mut in_memory(rt.alloc())?)?;
-    finds_by_name(&rt, &mut in_tables(rt.alloc())?)
+    answers(rt.alloc(), &mut in_memory(rt.alloc())?, NAMES)?;
+    answers(rt.alloc(), &mut in_tables(rt.alloc())?, NAMES)
 }
 
-/// Whether the keeper gives the records of a day one after another.
-fn goes_through_a_day<K: Keeper>(
-    rt: &(impl Abort + AllocGlobal),
-    keeper: &mut K,
-) -> Result<(), Fail> {
-    let (monday, tuesday) = (date(MONDAY)?, date(TUESDAY)?);
-    let waiting = order(2, "A-2", 80, OrderState::Queued)?;
-    assert_eq!(rt; keeper.next_order(monday, 1), Ok(Some(waiting)));
-    assert_eq!(rt; keeper.next_order(monday, 2), Ok(None));
-    assert_eq!(rt; keeper.next_order(tuesday, 0), Ok(None));
-    let Some(mark) = keeper.next_mark(monday, 0)? else {
-        return Err(Fail::from("no mark"));
-    };
-    assert_eq!(rt; mark.number, 1);
-    assert_eq!(rt; keeper.next_mark(monday, 1), Ok(None));
-    // The posting from before all days is of no date.
-    assert_eq!(rt; keeper.next_posting(monday, 0), Ok(None));
-    Ok(())
-}
+// The posting from before all days is of no date.
+const DAY: &str = "
+    order of 2024-03-04 after 1 = 2 ALFA A-2 BETA 80 2024-03-04 Queued
+    order of 2024-03-04 after 2 = none
+    order of 2024-03-05 after 0 = none
+    mark of 2024-03-04 after 0 = 1 2024-03-04 1 30
+    mark of 2024-03-04 after 1 = none
+    posting of 2024-03-04 after 0 = none
+";
 
 #[test]
 fn a_day_is_gone_through_alike(rt: HostRuntime) -> Result<(), Fail> {
-    goes_through_a_day(&rt, &mut in_memory(rt.alloc())?)?;
-    goes_through_a_day(&rt, &mut in_tables(rt.alloc())?)
+    answers(rt.alloc(), &mut in_memory(rt.alloc())?, DAY)?;
+    answers(rt.alloc(), &mut in_tables(rt.alloc())?, DAY)
 }
 
 #[test]

@@ -1,15 +1,12 @@
 //! Records found by their names, and the next records of a date, in tables in memory.
-use super::setting::{FRIDAY, MONDAY, TUESDAY, code, date, new_keeper, reference};
+use super::asking::answers;
+use super::setting::{MONDAY, date, new_keeper, reference};
 use rtgs_book::Fault;
 use rtgs_keeper::Keeper;
-use rtgs_money::BusinessDate;
 use rtgs_tables::SqlKeeper;
 use sqlite::MemStore;
 use std::alloc::Global;
 use std::test::Fail;
-
-/// The day after it, on which nothing opens.
-const SATURDAY: u32 = 20240302;
 
 /// A posting from before all days.
 const FIRST: &str =
@@ -35,204 +32,99 @@ fn keeper_after(alloc: Global, sql: &str) -> Result<SqlKeeper<MemStore>, Fail> {
     Ok(SqlKeeper::open(conn))
 }
 
-/// The numbers of the postings of a day, each as the next after the one before.
-fn postings_of(
-    alloc: Global,
-    keeper: &mut SqlKeeper<MemStore>,
-    day: u32,
-) -> Result<Vec<u64>, Fail> {
-    let mut numbers = Vec::new(alloc);
-    let mut last = 0;
-    for _ in 0..9 {
-        let Some(next) = keeper.next_posting(date(day)?, last)? else {
-            break;
-        };
-        last = next.number;
-        numbers.push(last)?;
-    }
-    Ok(numbers)
-}
-
-/// So with its orders.
-fn orders_of(alloc: Global, keeper: &mut SqlKeeper<MemStore>, day: u32) -> Result<Vec<u64>, Fail> {
-    let mut numbers = Vec::new(alloc);
-    let mut last = 0;
-    for _ in 0..9 {
-        let Some(next) = keeper.next_order(date(day)?, last)? else {
-            break;
-        };
-        last = next.number;
-        numbers.push(last)?;
-    }
-    Ok(numbers)
-}
-
-/// So with its marks.
-fn marks_of(alloc: Global, keeper: &mut SqlKeeper<MemStore>, day: u32) -> Result<Vec<u64>, Fail> {
-    let mut numbers = Vec::new(alloc);
-    let mut last = 0;
-    for _ in 0..9 {
-        let Some(next) = keeper.next_mark(date(day)?, last)? else {
-            break;
-        };
-        last = next.number;
-        numbers.push(last)?;
-    }
-    Ok(numbers)
-}
-
-/// The number of the order with this sender and reference.
-fn order_of(
-    keeper: &mut SqlKeeper<MemStore>,
-    sender: &str,
-    name: &str,
-) -> Result<Option<u64>, Fail> {
-    let Some(order) = keeper.find_order(&code(sender)?, &reference(name)?)? else {
-        return Ok(None);
-    };
-    Ok(Some(order.number))
+// The keeper of three days answers as the script says.
+fn three_days_answer(alloc: Global, script: &str) -> Result<(), Fail> {
+    answers(alloc, &mut keeper_after(alloc, THREE_DAYS)?, script)
 }
 
 #[test]
 fn an_order_is_found_by_its_sender_and_reference(rt: HostRuntime) -> Result<(), Fail> {
-    let mut keeper = keeper_after(rt.alloc(), THREE_DAYS)?;
-    for (sender, name, number) in [
-        ("ALFA", "A-1", Some(1)),
-        ("BETA", "A-1", Some(2)),
-        ("ALFA", "A-3", Some(4)),
-        ("BETA", "A-2", None),
-        ("GAMA", "A-1", None),
-    ] {
-        assert_eq!(rt;
-            order_of(&mut keeper, sender, name)?,
-            number,
-            "{sender} {name}"
-        );
-    }
-    Ok(())
-}
-
-/// The number of the posting with this reference, and its date where it has one.
-fn posting_of(
-    keeper: &mut SqlKeeper<MemStore>,
-    name: &str,
-) -> Result<Option<(u64, Option<BusinessDate>)>, Fail> {
-    let Some(posting) = keeper.find_posting(&reference(name)?)? else {
-        return Ok(None);
-    };
-    Ok(Some((posting.number, posting.date)))
+    three_days_answer(
+        rt.alloc(),
+        "
+        order ALFA A-1 = 1 ALFA A-1 BETA 5 2024-03-01 Settled(1)
+        order BETA A-1 = 2 BETA A-1 ALFA 6 2024-03-01 Withdrawn
+        order ALFA A-3 = 4 ALFA A-3 BETA 8 2024-03-05 Settled(2)
+        order BETA A-2 = none
+        order GAMA A-1 = none
+        ",
+    )
 }
 
 #[test]
 fn a_posting_is_found_by_its_reference(rt: HostRuntime) -> Result<(), Fail> {
-    let mut keeper = keeper_after(rt.alloc(), THREE_DAYS)?;
-    let tuesday = date(TUESDAY)?;
-    for (name, found) in [
-        ("P-1", Some((1, None))),
-        ("P-5", Some((5, Some(tuesday)))),
-        ("P-6", None),
-        ("A-1", None),
-    ] {
-        assert_eq!(rt; posting_of(&mut keeper, name)?, found, "{name}");
-    }
-    Ok(())
+    three_days_answer(
+        rt.alloc(),
+        "
+        posting P-1 = 1 ALFA P-1 1000
+        posting P-5 = 5 ALFA P-5 5 2024-03-05
+        posting P-6 = none
+        posting A-1 = none
+        ",
+    )
 }
 
 #[test]
 fn the_records_of_a_day_come_one_after_another(rt: HostRuntime) -> Result<(), Fail> {
-    let alloc = rt.alloc();
-    let mut keeper = keeper_after(alloc, THREE_DAYS)?;
-    assert_eq!(rt;
-        postings_of(alloc, &mut keeper, FRIDAY)?.as_slice(),
-        [2].as_slice()
-    );
-    assert_eq!(rt;
-        postings_of(alloc, &mut keeper, SATURDAY)?.as_slice(),
-        [].as_slice()
-    );
-    assert_eq!(rt;
-        postings_of(alloc, &mut keeper, MONDAY)?.as_slice(),
-        [3].as_slice()
-    );
-    assert_eq!(rt;
-        postings_of(alloc, &mut keeper, TUESDAY)?.as_slice(),
-        [4, 5].as_slice()
-    );
-    assert_eq!(rt;
-        orders_of(alloc, &mut keeper, FRIDAY)?.as_slice(),
-        [1, 2].as_slice()
-    );
-    assert_eq!(rt;
-        orders_of(alloc, &mut keeper, MONDAY)?.as_slice(),
-        [3].as_slice()
-    );
-    assert_eq!(rt;
-        orders_of(alloc, &mut keeper, TUESDAY)?.as_slice(),
-        [4].as_slice()
-    );
-    Ok(())
+    three_days_answer(
+        rt.alloc(),
+        "
+        posting of 2024-03-01 after 0 = 2 ALFA P-2 5 2024-03-01
+        posting of 2024-03-01 after 2 = none
+        posting of 2024-03-02 after 0 = none
+        posting of 2024-03-04 after 0 = 3 ALFA P-3 5 2024-03-04
+        posting of 2024-03-04 after 3 = none
+        posting of 2024-03-05 after 0 = 4 BETA P-4 5 2024-03-05
+        posting of 2024-03-05 after 4 = 5 ALFA P-5 5 2024-03-05
+        posting of 2024-03-05 after 5 = none
+        order of 2024-03-01 after 0 = 1 ALFA A-1 BETA 5 2024-03-01 Settled(1)
+        order of 2024-03-01 after 1 = 2 BETA A-1 ALFA 6 2024-03-01 Withdrawn
+        order of 2024-03-01 after 2 = none
+        order of 2024-03-04 after 0 = 3 ALFA A-2 BETA 7 2024-03-04 Rejected
+        order of 2024-03-04 after 3 = none
+        order of 2024-03-05 after 0 = 4 ALFA A-3 BETA 8 2024-03-05 Settled(2)
+        order of 2024-03-05 after 4 = none
+        ",
+    )
 }
 
 #[test]
 fn a_day_without_marks_has_no_next(rt: HostRuntime) -> Result<(), Fail> {
-    let alloc = rt.alloc();
-    let mut keeper = keeper_after(alloc, THREE_DAYS)?;
-    assert_eq!(rt;
-        marks_of(alloc, &mut keeper, FRIDAY)?.as_slice(),
-        [1].as_slice()
-    );
-    assert_eq!(rt;
-        marks_of(alloc, &mut keeper, MONDAY)?.as_slice(),
-        [].as_slice()
-    );
-    assert_eq!(rt;
-        marks_of(alloc, &mut keeper, TUESDAY)?.as_slice(),
-        [2].as_slice()
-    );
-    Ok(())
+    three_days_answer(
+        rt.alloc(),
+        "
+        mark of 2024-03-01 after 0 = 1 2024-03-01 1 5
+        mark of 2024-03-01 after 1 = none
+        mark of 2024-03-04 after 0 = none
+        mark of 2024-03-05 after 0 = 2 2024-03-05 1 8
+        mark of 2024-03-05 after 2 = none
+        ",
+    )
 }
 
-/// The numbers of the posting, the order and the mark that come next on Tuesday.
-fn next_on_tuesday(
-    keeper: &mut SqlKeeper<MemStore>,
-    number: u64,
-) -> Result<[Option<u64>; 3], Fail> {
-    let tuesday = date(TUESDAY)?;
-    let mut next = [None, None, None];
-    if let Some(posting) = keeper.next_posting(tuesday, number)? {
-        next[0] = Some(posting.number);
-    }
-    if let Some(order) = keeper.next_order(tuesday, number)? {
-        next[1] = Some(order.number);
-    }
-    next[2] = mark_after(keeper, TUESDAY, number)?;
-    Ok(next)
-}
-
-/// The number of the mark that comes next on a day.
-fn mark_after(
-    keeper: &mut SqlKeeper<MemStore>,
-    day: u32,
-    number: u64,
-) -> Result<Option<u64>, Fail> {
-    let Some(mark) = keeper.next_mark(date(day)?, number)? else {
-        return Ok(None);
-    };
-    Ok(Some(mark.number))
-}
-
+// The greatest number of a record, that of the next one, and numbers past those that a column holds.
 #[test]
 fn nothing_comes_after_the_last_number(rt: HostRuntime) -> Result<(), Fail> {
-    let mut keeper = keeper_after(rt.alloc(), THREE_DAYS)?;
-    assert_eq!(rt;
-        next_on_tuesday(&mut keeper, 0)?,
-        [Some(4), Some(4), Some(2)]
-    );
-    for number in [5, 999_999_998, 999_999_999, 1 << 63, u64::MAX] {
-        let next = next_on_tuesday(&mut keeper, number)?;
-        assert_eq!(rt; next, [None, None, None], "{number}");
-    }
-    Ok(())
+    three_days_answer(
+        rt.alloc(),
+        "
+        posting of 2024-03-05 after 5 = none
+        order of 2024-03-05 after 5 = none
+        mark of 2024-03-05 after 5 = none
+        posting of 2024-03-05 after 999999998 = none
+        order of 2024-03-05 after 999999998 = none
+        mark of 2024-03-05 after 999999998 = none
+        posting of 2024-03-05 after 999999999 = none
+        order of 2024-03-05 after 999999999 = none
+        mark of 2024-03-05 after 999999999 = none
+        posting of 2024-03-05 after 9223372036854775808 = none
+        order of 2024-03-05 after 9223372036854775808 = none
+        mark of 2024-03-05 after 9223372036854775808 = none
+        posting of 2024-03-05 after 18446744073709551615 = none
+        order of 2024-03-05 after 18446744073709551615 = none
+        mark of 2024-03-05 after 18446744073709551615 = none
+        ",
+    )
 }
 
 /// Adds so many marks of Friday, and then one of Tuesday.
@@ -246,15 +138,26 @@ fn marks_of_friday(alloc: Global, earlier: u64) -> Result<String, Fail> {
     Ok(sql)
 }
 
+// Behind so many marks of Friday comes one of Tuesday, and nothing on the Monday between.
+fn passes_over_friday(alloc: Global, earlier: u64) -> Result<(), Fail> {
+    let sql = marks_of_friday(alloc, earlier)?;
+    let last = earlier.saturating_add(1);
+    let script = format!(in alloc;
+        "mark of 2024-03-05 after 0 = {last} 2024-03-05 1 5
+        mark of 2024-03-04 after 0 = none
+        mark of 2024-03-05 after {last} = none"
+    )?;
+    answers(
+        alloc,
+        &mut keeper_after(alloc, sql.as_str())?,
+        script.as_str(),
+    )
+}
+
 #[test]
 fn earlier_days_are_passed_over(rt: HostRuntime) -> Result<(), Fail> {
-    let alloc = rt.alloc();
     for earlier in [1, 2, 3, 7, 8, 9] {
-        let sql = marks_of_friday(alloc, earlier)?;
-        let mut keeper = keeper_after(alloc, sql.as_str())?;
-        assert_eq!(rt; mark_after(&mut keeper, TUESDAY, 0)?, Some(earlier + 1));
-        assert_eq!(rt; mark_after(&mut keeper, MONDAY, 0)?, None);
-        assert_eq!(rt; mark_after(&mut keeper, TUESDAY, earlier + 1)?, None);
+        passes_over_friday(rt.alloc(), earlier)?;
     }
     Ok(())
 }

@@ -1,0 +1,103 @@
+//! What a keeper is asked, and what it tells, in words.
+use super::setting::{code, reference};
+use rtgs_book::{Mark, Order, Posting};
+use rtgs_keeper::Keeper;
+use rtgs_money::BusinessDate;
+use std::alloc::Global;
+use std::test::Fail;
+
+fn date(text: &str) -> Result<BusinessDate, Fail> {
+    Ok(BusinessDate::read(text.as_bytes())?)
+}
+
+fn number(text: &str) -> Result<u64, Fail> {
+    match text.parse::<u64>() {
+        Ok(number) => Ok(number),
+        Err(_) => Err(Fail::from("no number")),
+    }
+}
+
+fn order_in_words(alloc: Global, found: &Option<Order>) -> Result<String, Fail> {
+    let Some(order) = found else {
+        return Ok(String::from_str(alloc, "none")?);
+    };
+    let (number, cents) = (order.number, order.amount.cents());
+    Ok(format!(in alloc;
+        "{number} {} {} {} {cents} {} {:?}",
+        order.sender, order.reference, order.receiver, order.date, order.state
+    )?)
+}
+
+fn posting_in_words(alloc: Global, found: &Option<Posting>) -> Result<String, Fail> {
+    let Some(posting) = found else {
+        return Ok(String::from_str(alloc, "none")?);
+    };
+    let (number, cents) = (posting.number, posting.cents.cents());
+    let told = format!(in alloc; "{number} {} {} {cents}", posting.code, posting.reference)?;
+    match posting.date {
+        Some(date) => Ok(format!(in alloc; "{told} {date}")?),
+        None => Ok(told),
+    }
+}
+
+fn mark_in_words(alloc: Global, found: &Option<Mark>) -> Result<String, Fail> {
+    let Some(mark) = found else {
+        return Ok(String::from_str(alloc, "none")?);
+    };
+    let (number, count, value) = (mark.number, mark.count, mark.value.cents());
+    Ok(format!(in alloc; "{number} {} {count} {value}", mark.date)?)
+}
+
+// What the keeper tells of a name, or of what comes next on a day after a number.
+fn told<K: Keeper>(alloc: Global, keeper: &mut K, question: &[&str]) -> Result<String, Fail> {
+    match question {
+        ["order", sender, name] => {
+            order_in_words(
+                alloc,
+                &keeper.find_order(&code(sender)?, &reference(name)?)?,
+            )
+        }
+        ["posting", name] => posting_in_words(alloc, &keeper.find_posting(&reference(name)?)?),
+        ["posting", "of", day, "after", last] => {
+            posting_in_words(alloc, &keeper.next_posting(date(day)?, number(last)?)?)
+        }
+        ["order", "of", day, "after", last] => {
+            order_in_words(alloc, &keeper.next_order(date(day)?, number(last)?)?)
+        }
+        ["mark", "of", day, "after", last] => {
+            mark_in_words(alloc, &keeper.next_mark(date(day)?, number(last)?)?)
+        }
+        _ => Err(Fail::from("no question")),
+    }
+}
+
+// One line of a script: a question, and what is told.
+fn answers_line<K: Keeper>(alloc: Global, keeper: &mut K, line: &str) -> Result<(), Fail> {
+    let Some((question, expected)) = line.split_once(" = ") else {
+        return Err(Fail::from("no question with its answer"));
+    };
+    let words: Vec<&str> = question.split_whitespace().collect(alloc)?;
+    let told = told(alloc, keeper, words.as_slice())?;
+    if told.as_str() == expected {
+        return Ok(());
+    }
+    let said = format!(in alloc; "{line}: told {told}")?;
+    Err(Fail::from(said))
+}
+
+/// The keeper answers each question of the script, one a line, as the line says.
+pub fn answers<K: Keeper>(alloc: Global, keeper: &mut K, script: &str) -> Result<(), Fail> {
+    let mut asked = 0usize;
+    for line in script.lines() {
+        let line = line.trim();
+        if !line.is_empty() {
+            answers_line(alloc, keeper, line)?;
+            asked = asked.saturating_add(1);
+        }
+    }
+    if asked > 0 {
+        Ok(())
+    } else {
+        Err(Fail::from("nothing was asked"))
+    }
+}
