@@ -3,5 +3,6 @@ mod days;
 mod desk;
 mod exchange;
 mod ledger;
+mod scripts;
 mod setting;
 mod tables;

@@ -2,14 +2,16 @@
 mod dated;
 mod readings;
 
-use super::setting::{adds_alfa, desk_over, posts};
+use super::scripts::command;
+use super::setting::desk_over;
 use rtgs_book::{Answer, Refusal};
 use rtgs_keeper::{Keeper, MemoryKeeper};
 use std::test::Fail;
 
 #[test]
 fn a_posting_is_answered_and_kept(rt: HostRuntime) -> Result<(), Fail> {
-    let (add, post) = (adds_alfa()?, posts("ALFA", "P-1", 100)?);
+    let add = command(rt.alloc(), "add ALFA 0000000000000000000000000000000a")?;
+    let post = command(rt.alloc(), "post ALFA P-1 100")?;
     let mut desk = desk_over(rt.alloc(), MemoryKeeper::new(rt.alloc()))?;
     assert_eq!(rt; desk.submit(add), Ok(Answer::Added));
     assert_eq!(rt; desk.submit(post), Ok(Answer::Posted { number: 1 }));
@@ -21,7 +23,8 @@ fn a_posting_is_answered_and_kept(rt: HostRuntime) -> Result<(), Fail> {
 
 #[test]
 fn commands_are_run_in_order(rt: HostRuntime) -> Result<(), Fail> {
-    let commands = [adds_alfa()?, posts("ALFA", "P-1", -1)?];
+    let add = command(rt.alloc(), "add ALFA 0000000000000000000000000000000a")?;
+    let commands = [add, command(rt.alloc(), "post ALFA P-1 -1")?];
     let mut desk = desk_over(rt.alloc(), MemoryKeeper::new(rt.alloc()))?;
     let answers = desk.run(&commands)?;
     let expected = [Ok(Answer::Added), Err(Refusal::NoCover)];

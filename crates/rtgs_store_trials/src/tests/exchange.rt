@@ -5,59 +5,64 @@ mod order_files;
 mod results;
 mod sessions;
 
-use super::setting::{MONDAY, adds_three, amount, code, desk_over, opens, posts, reference};
+use super::scripts::desks::desk_after;
+use super::setting::code;
 use rtgs_desk::Desk;
-use rtgs_exchange::{BatchResult, OrderRow, submit_batch, write_results};
-use rtgs_keeper::Keeper;
+use rtgs_exchange::{BatchResult, OrderRow, read_orders, submit_batch, write_results};
+use rtgs_keeper::MemoryKeeper;
 use std::alloc::Global;
 use std::test::Fail;
 
-fn row(name: &str, receiver: &str, cents: u64) -> Result<OrderRow, Fail> {
-    Ok(OrderRow {
-        reference: reference(name)?,
-        receiver: code(receiver)?,
-        amount: amount(cents)?,
-    })
-}
-
 // ALFA can pay the first two of them from 150 cents.
-fn three_rows() -> Result<[OrderRow; 3], Fail> {
-    Ok([
-        row("A-1", "BETA", 100)?,
-        row("A-2", "GAMA", 50)?,
-        row("A-3", "BETA", 25)?,
-    ])
+const THREE_ROWS: &str = "reference,to,amount
+A-1,BETA,100
+A-2,GAMA,50
+A-3,BETA,25
+";
+
+// ALFA has 150 cents, and the day is open.
+const OPEN: &str = "
+post ALFA P-1 150 => Posted { number: 1 }
+open 2024-03-04 => Opened
+";
+
+// The rows of an order file.
+fn rows_of(alloc: Global, file: &str) -> Result<Vec<OrderRow>, Fail> {
+    Ok(read_orders(alloc, file.as_bytes())?)
 }
 
 // A desk with three banks on an open day, of which ALFA has 150 cents.
-fn open_desk<K: Keeper + Drop>(alloc: Global, keeper: K) -> Result<Desk<K>, Fail> {
-    let banks = adds_three()?;
-    let others = [posts("ALFA", "P-1", 150)?, opens(MONDAY)?];
-    let mut desk = desk_over(alloc, keeper)?;
-    for command in banks.iter().chain(others.iter()) {
-        desk.submit(*command)?;
-    }
-    Ok(desk)
+fn open_desk(alloc: Global) -> Result<Desk<MemoryKeeper>, Fail> {
+    desk_after(alloc, OPEN)
 }
 
 // Submits the rows of ALFA.
-fn submitted<K: Keeper>(
+fn submitted(
     alloc: Global,
-    desk: &mut Desk<K>,
+    desk: &mut Desk<MemoryKeeper>,
     rows: &[OrderRow],
 ) -> Result<BatchResult, Fail> {
     let sender = code("ALFA")?;
     Ok(submit_batch(alloc, desk, sender, rows)?)
 }
 
-// The result file of the rows of ALFA.
-fn result_file<K: Keeper>(
-    alloc: Global,
-    desk: &mut Desk<K>,
-    rows: &[OrderRow],
-) -> Result<Vec<u8>, Fail> {
-    let batch = submitted(alloc, desk, rows)?;
+// What the desk replies to an order file of ALFA.
+fn replies_text(alloc: Global, desk: &mut Desk<MemoryKeeper>, file: &str) -> Result<String, Fail> {
+    let rows = rows_of(alloc, file)?;
+    let batch = submitted(alloc, desk, rows.as_slice())?;
+    Ok(format!(in alloc; "{batch:?}")?)
+}
+
+// The text of the result file of this batch.
+fn written(alloc: Global, rows: &[OrderRow], batch: &BatchResult) -> Result<String, Fail> {
     let mut text = Vec::new(alloc);
-    write_results(alloc, &mut text, rows, &batch)?;
-    Ok(text)
+    write_results(alloc, &mut text, rows, batch)?;
+    Ok(String::from_utf8(text)?)
+}
+
+// The text of the result file of an order file of ALFA.
+fn results_text(alloc: Global, desk: &mut Desk<MemoryKeeper>, file: &str) -> Result<String, Fail> {
+    let rows = rows_of(alloc, file)?;
+    let batch = submitted(alloc, desk, rows.as_slice())?;
+    written(alloc, rows.as_slice(), &batch)
 }

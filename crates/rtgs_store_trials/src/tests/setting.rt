@@ -1,11 +1,11 @@
-//! Banks, their commands and records, and desks over keepers.
+//! Banks, their records, and desks over keepers in memory.
 use rtgs_book::{
-    Answer, Change, Command, Order, OrderState, Participant, Posting, Refusal, RowChange, Rows,
+    Answer, Change, Order, OrderState, Participant, Posting, Refusal, RowChange, Rows,
 };
 use rtgs_desk::Desk;
-use rtgs_keeper::{Keeper, MemoryKeeper};
+use rtgs_keeper::MemoryKeeper;
 use rtgs_money::{
-    Amount, BusinessDate, Cents, Code, Credit, Key, KeyDigest, Name, PostingAmount, Reference,
+    Amount, BusinessDate, Cents, Code, Credit, KeyDigest, Name, PostingAmount, Reference,
 };
 use std::alloc::Global;
 use std::test::Fail;
@@ -13,33 +13,8 @@ use std::test::Fail;
 /// What a command is answered.
 pub type Reply = Result<Answer, Refusal>;
 
-/// A command, and what it is answered.
-pub type Row = (Command, Reply);
-
-/// The three balances in cents, and how many orders each of the three has in its queue.
-pub type Standings = [(i64, usize); 3];
-
-/// Nobody has money, and nothing waits.
-pub const EMPTY: Standings = [(0, 0), (0, 0), (0, 0)];
-
-/// The Friday before the week.
-pub const FRIDAY: u32 = 20240301;
-
-/// The day after it, on which nothing opens.
-pub const SATURDAY: u32 = 20240302;
-
 /// The first day of the week.
 pub const MONDAY: u32 = 20240304;
-
-/// The second.
-pub const TUESDAY: u32 = 20240305;
-
-/// The keys of ALFA, BETA and GAMA.
-pub const KEYS: [&str; 3] = [
-    "0000000000000000000000000000000a",
-    "0000000000000000000000000000000b",
-    "0000000000000000000000000000000c",
-];
 
 /// The code of this text.
 pub fn code(text: &str) -> Result<Code, Fail> {
@@ -59,80 +34,6 @@ pub fn amount(cents: u64) -> Result<Amount, Fail> {
 /// The date of this number, as 20240304.
 pub fn date(day: u32) -> Result<BusinessDate, Fail> {
     Ok(BusinessDate::from_number(day).ok_or("a date")?)
-}
-
-/// Adds a participant with this code and key. All have one name.
-pub fn adds(participant: &str, key: &str) -> Result<Command, Fail> {
-    Ok(Command::Add {
-        code: code(participant)?,
-        name: Name::read(b"A Bank")?,
-        key: Key::read(key.as_bytes())?.digest(),
-    })
-}
-
-/// Adds ALFA.
-pub fn adds_alfa() -> Result<Command, Fail> {
-    adds("ALFA", KEYS[0])
-}
-
-/// Adds ALFA, BETA and GAMA.
-pub fn adds_three() -> Result<[Command; 3], Fail> {
-    Ok([adds_alfa()?, adds("BETA", KEYS[1])?, adds("GAMA", KEYS[2])?])
-}
-
-/// Sets a participant's credit limit.
-pub fn limits(participant: &str, cents: u64) -> Result<Command, Fail> {
-    Ok(Command::SetCredit {
-        code: code(participant)?,
-        credit: Credit::from_cents(cents).ok_or("a limit")?,
-    })
-}
-
-/// Posts so many cents to a participant, or takes them where they are below 0.
-pub fn posts(participant: &str, name: &str, cents: i64) -> Result<Command, Fail> {
-    Ok(Command::Post {
-        code: code(participant)?,
-        reference: reference(name)?,
-        cents: PostingAmount::from_cents(cents).ok_or("a posting")?,
-    })
-}
-
-/// Opens this day.
-pub fn opens(day: u32) -> Result<Command, Fail> {
-    Ok(Command::OpenDay(date(day)?))
-}
-
-/// Opens Monday.
-pub fn opened() -> Result<Row, Fail> {
-    Ok((opens(MONDAY)?, Ok(Answer::Opened)))
-}
-
-/// An order of the sender to pay the receiver.
-pub fn pays(sender: &str, name: &str, receiver: &str, cents: u64) -> Result<Command, Fail> {
-    Ok(Command::Order {
-        sender: code(sender)?,
-        reference: reference(name)?,
-        receiver: code(receiver)?,
-        amount: amount(cents)?,
-    })
-}
-
-/// Withdraws the sender's order of this reference.
-pub fn withdraws(sender: &str, name: &str) -> Result<Command, Fail> {
-    Ok(Command::Withdraw {
-        sender: code(sender)?,
-        reference: reference(name)?,
-    })
-}
-
-/// Cuts this day off.
-pub fn cuts_off(day: u32) -> Result<Command, Fail> {
-    Ok(Command::CutOff(date(day)?))
-}
-
-/// Closes this day.
-pub fn closes(day: u32) -> Result<Command, Fail> {
-    Ok(Command::CloseDay(date(day)?))
 }
 
 /// The record of a participant whose key's digest has this byte throughout.
@@ -174,66 +75,17 @@ pub fn change(alloc: Global, rows: &[RowChange]) -> Result<Change, Fail> {
     Ok(Rows::from_vec(Vec::from_slice(alloc, rows)?))
 }
 
-/// A desk over a keeper.
-pub fn desk_over<K: Keeper + Drop>(alloc: Global, keeper: K) -> Result<Desk<K>, Fail> {
+/// A desk over a keeper in memory.
+pub fn desk_over(alloc: Global, keeper: MemoryKeeper) -> Result<Desk<MemoryKeeper>, Fail> {
     match Desk::open(alloc, keeper) {
         Ok(desk) => Ok(desk),
         Err((fault, _)) => Err(Fail::from(fault)),
     }
 }
 
-/// A desk with three banks, before its first day, after commands that are answered like this.
-pub fn desk_after(rt: &HostRuntime, rows: &[Row]) -> Result<Desk<MemoryKeeper>, Fail> {
-    let banks = adds_three()?.map(|command| (command, Ok(Answer::Added)));
-    let mut desk = desk_over(rt.alloc(), MemoryKeeper::new(rt.alloc()))?;
-    follows(rt, &mut desk, &banks)?;
-    follows(rt, &mut desk, rows)?;
-    Ok(desk)
-}
-
-/// How three banks stand after commands that are answered like this.
-pub fn after(rt: &HostRuntime, rows: &[Row]) -> Result<Standings, Fail> {
-    let desk = desk_after(rt, rows)?;
-    standings(&desk)
-}
-
-/// Whether each command is answered like this, in order.
-pub fn follows<K: Keeper>(rt: &HostRuntime, desk: &mut Desk<K>, rows: &[Row]) -> Result<(), Fail> {
-    for (command, reply) in rows {
-        let found = desk.submit(*command);
-        if found != *reply {
-            let said = format!(in rt.alloc(); "{command:?} was answered {found:?}")?;
-            return Err(Fail::from(said));
-        }
-    }
-    Ok(())
-}
-
-/// The balance of a participant in cents, and how many orders its queue has.
-fn standing<K: Keeper>(desk: &Desk<K>, of: &str) -> Result<(i64, usize), Fail> {
-    match desk.account(&code(of)?) {
-        Ok(account) => Ok((account.balance.cents(), account.queued)),
-        Err(refusal) => Err(Fail::from(refusal)),
-    }
-}
-
-/// How the three stand.
-pub fn standings<K: Keeper>(desk: &Desk<K>) -> Result<Standings, Fail> {
-    Ok([
-        standing(desk, "ALFA")?,
-        standing(desk, "BETA")?,
-        standing(desk, "GAMA")?,
-    ])
-}
-
 /// The order has this number, and waits at this place of its queue.
 pub fn queued(number: u64, place: u64) -> Reply {
     Ok(Answer::Queued { number, place })
-}
-
-/// The order has this number, and settled at once under this mark.
-pub fn settled(number: u64, mark: u64) -> Reply {
-    Ok(Answer::Settled { number, mark })
 }
 
 /// So many orders of this value in cents settled under this mark.

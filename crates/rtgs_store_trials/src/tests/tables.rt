@@ -3,8 +3,9 @@ mod memory_keeper;
 mod no_memory;
 mod stored_numbers;
 
+use super::scripts::{Answers, follows};
 use super::setting::{change, code, participant, posting};
-use rtgs_book::{Change, Fault, RowChange, Rule};
+use rtgs_book::{Change, Fault, RowChange};
 use rtgs_keeper::{CommitFault, Keeper};
 use rtgs_money::Cents;
 use rtgs_tables::SqlKeeper;
@@ -54,15 +55,33 @@ fn two_banks(alloc: Global) -> Result<SqlKeeper<MemStore>, Fail> {
     Ok(keeper)
 }
 
-/// What `load` answers once this was done to the tables of two banks.
-fn fault_after(alloc: Global, sql: &str) -> Result<Option<Fault>, Fail> {
+/// A desk's tables of two banks, which are meddled with.
+pub fn meddled(alloc: Global, sql: &str) -> Result<SqlKeeper<MemStore>, Fail> {
     let mut conn = two_banks(alloc)?.into_connection();
     conn.execute_batch(sql)?;
     if !conn.is_autocommit() {
         return Err(Fail::from("in a transaction"));
     }
-    let mut keeper = SqlKeeper::open(conn);
-    Ok(keeper.load(alloc).err())
+    Ok(SqlKeeper::open(conn))
+}
+
+/// Tells what `load` answers once a line of SQL was run on the tables of two banks.
+#[derive(Clone, Copy)]
+struct Meddling;
+
+impl Answers for Meddling {
+    fn answer(&mut self, alloc: Global, asked: &str) -> Result<String, Fail> {
+        let mut keeper = meddled(alloc, asked)?;
+        match keeper.load(alloc) {
+            Ok(_) => Ok(format!(in alloc; "sound")?),
+            Err(fault) => Ok(format!(in alloc; "{fault:?}")?),
+        }
+    }
+}
+
+/// Fails unless the tables of two banks are judged as the script tells, after each of its lines.
+fn tables_follow(rt: &HostRuntime, script: &str) -> Result<(), Fail> {
+    follows(rt.alloc(), &mut Meddling, script)
 }
 
 #[test]
@@ -107,148 +126,103 @@ fn a_repeated_key_fails_the_keeper(rt: HostRuntime) -> Result<(), Fail> {
     Ok(())
 }
 
+const NO_DESK: &str = "
+DROP TABLE mark => NotADeskFile
+DROP TABLE mark; CREATE VIEW mark AS SELECT number, date, cents AS value FROM posting => NotADeskFile
+CREATE TABLE large (a INTEGER); INSERT INTO large VALUES (9223372036854775807), (1); DROP TABLE mark; \
+    CREATE VIEW mark AS SELECT sum(a) AS number, '' AS date, 1 AS many, 1 AS value FROM large => NotADeskFile
+DELETE FROM desk => NotADeskFile
+UPDATE desk SET version = 2 => NotADeskFile
+UPDATE desk SET id = 2 => NotADeskFile
+UPDATE desk SET phase = 3 => NotADeskFile
+UPDATE desk SET date = '2024-02-30' => NotADeskFile
+UPDATE participant SET code = 'alfa' WHERE code = 'ALFA' => NotADeskFile
+UPDATE participant SET name = ' A' => NotADeskFile
+UPDATE participant SET key = x'00' WHERE code = 'ALFA' => NotADeskFile
+UPDATE participant SET credit = -1 => NotADeskFile
+UPDATE posting SET cents = 0 => NotADeskFile
+UPDATE posting SET reference = '' => NotADeskFile
+INSERT INTO payment (number, sender, reference, receiver, amount, date, state, mark) \
+    VALUES (1, 'ALFA', 'A-1', 'BETA', 5, '2024-03-04', 1, NULL) => NotADeskFile
+INSERT INTO payment (number, sender, reference, receiver, amount, date, state, mark) \
+    VALUES (1, 'ALFA', 'A-1', 'BETA', 5, '2024-03-04', 0, 1) => NotADeskFile
+";
+
 #[test]
 fn tables_of_something_else_are_no_desk(rt: HostRuntime) -> Result<(), Fail> {
-    let alloc = rt.alloc();
-    for sql in [
-        "DROP TABLE mark",
-        "DROP TABLE mark; CREATE VIEW mark AS SELECT number, date, cents AS value FROM posting",
-        "CREATE TABLE large (a INTEGER); INSERT INTO large VALUES (9223372036854775807), (1); \
-         DROP TABLE mark; CREATE VIEW mark AS SELECT sum(a) AS number, '' AS date, 1 AS many, 1 AS value FROM large",
-        "DELETE FROM desk",
-        "UPDATE desk SET version = 2",
-        "UPDATE desk SET id = 2",
-        "UPDATE desk SET phase = 3",
-        "UPDATE desk SET date = '2024-02-30'",
-        "UPDATE participant SET code = 'alfa' WHERE code = 'ALFA'",
-        "UPDATE participant SET name = ' A'",
-        "UPDATE participant SET key = x'00' WHERE code = 'ALFA'",
-        "UPDATE participant SET credit = -1",
-        "UPDATE posting SET cents = 0",
-        "UPDATE posting SET reference = ''",
-        "INSERT INTO payment (number, sender, reference, receiver, amount, date, state, mark) VALUES (1, 'ALFA', 'A-1', 'BETA', 5, '2024-03-04', 1, NULL)",
-        "INSERT INTO payment (number, sender, reference, receiver, amount, date, state, mark) VALUES (1, 'ALFA', 'A-1', 'BETA', 5, '2024-03-04', 0, 1)",
-    ] {
-        assert_eq!(rt;
-            fault_after(alloc, sql)?,
-            Some(Fault::NotADeskFile),
-            "{sql}"
-        );
-    }
-    Ok(())
+    tables_follow(&rt, NO_DESK)
 }
+
+const BALANCES: &str = "
+UPDATE participant SET balance = 999 WHERE code = 'ALFA' => Inconsistent { rule: StoredBalances }
+UPDATE participant SET balance = 1 WHERE code = 'BETA' => Inconsistent { rule: StoredBalances }
+UPDATE posting SET code = 'BETA' => Inconsistent { rule: StoredBalances }
+UPDATE participant SET name = 'B' => sound
+";
 
 #[test]
 fn a_wrong_balance_is_found(rt: HostRuntime) -> Result<(), Fail> {
-    let alloc = rt.alloc();
-    let stored = Some(Fault::Inconsistent {
-        rule: Rule::StoredBalances,
-    });
-    assert_eq!(rt;
-        fault_after(
-            alloc,
-            "UPDATE participant SET balance = 999 WHERE code = 'ALFA'"
-        )?,
-        stored
-    );
-    assert_eq!(rt;
-        fault_after(
-            alloc,
-            "UPDATE participant SET balance = 1 WHERE code = 'BETA'"
-        )?,
-        stored
-    );
-    assert_eq!(rt;
-        fault_after(alloc, "UPDATE posting SET code = 'BETA'")?,
-        stored
-    );
-    assert_eq!(rt;
-        fault_after(alloc, "UPDATE participant SET name = 'B'")?,
-        None
-    );
-    Ok(())
+    tables_follow(&rt, BALANCES)
 }
+
+const BROKEN_RULES: &str = "
+UPDATE posting SET number = 2 => Inconsistent { rule: PostingNumbers }
+UPDATE posting SET number = -1 => Inconsistent { rule: PostingNumbers }
+INSERT INTO mark (number, date, many, value) VALUES (2, '2024-03-04', 1, 5) => Inconsistent { rule: MarkNumbers }
+UPDATE posting SET code = 'GAMA' => Inconsistent { rule: Parties }
+UPDATE desk SET phase = 1 => Inconsistent { rule: Dates }
+UPDATE posting SET cents = -1000 => Inconsistent { rule: Floors }
+INSERT INTO payment (number, sender, reference, receiver, amount, date, state, mark) \
+    VALUES (2, 'ALFA', 'A-1', 'BETA', 5, '2024-03-04', 0, NULL) => Inconsistent { rule: OrderNumbers }
+INSERT INTO payment (number, sender, reference, receiver, amount, date, state, mark) \
+    VALUES (1, 'ALFA', 'A-1', 'BETA', 5, '2024-03-04', 1, 1) => Inconsistent { rule: Marks }
+INSERT INTO payment (number, sender, reference, receiver, amount, date, state, mark) \
+    VALUES (1, 'ALFA', 'A-1', 'BETA', 5, '2024-03-04', 0, NULL) => Inconsistent { rule: Queues }
+UPDATE posting SET cents = 1000000000000000; \
+    INSERT INTO posting (number, code, reference, cents) VALUES (2, 'BETA', 'P-2', 1) => Inconsistent { rule: Total }
+";
 
 #[test]
 fn the_first_broken_rule_is_named(rt: HostRuntime) -> Result<(), Fail> {
-    let alloc = rt.alloc();
-    for (sql, rule) in [
-        ("UPDATE posting SET number = 2", Rule::PostingNumbers),
-        ("UPDATE posting SET number = -1", Rule::PostingNumbers),
-        (
-            "INSERT INTO mark (number, date, many, value) VALUES (2, '2024-03-04', 1, 5)",
-            Rule::MarkNumbers,
-        ),
-        ("UPDATE posting SET code = 'GAMA'", Rule::Parties),
-        ("UPDATE desk SET phase = 1", Rule::Dates),
-        ("UPDATE posting SET cents = -1000", Rule::Floors),
-        (
-            "INSERT INTO payment (number, sender, reference, receiver, amount, date, state, mark) VALUES (2, 'ALFA', 'A-1', 'BETA', 5, '2024-03-04', 0, NULL)",
-            Rule::OrderNumbers,
-        ),
-        (
-            "INSERT INTO payment (number, sender, reference, receiver, amount, date, state, mark) VALUES (1, 'ALFA', 'A-1', 'BETA', 5, '2024-03-04', 1, 1)",
-            Rule::Marks,
-        ),
-        (
-            "INSERT INTO payment (number, sender, reference, receiver, amount, date, state, mark) VALUES (1, 'ALFA', 'A-1', 'BETA', 5, '2024-03-04', 0, NULL)",
-            Rule::Queues,
-        ),
-        (
-            "UPDATE posting SET cents = 1000000000000000; INSERT INTO posting (number, code, reference, cents) VALUES (2, 'BETA', 'P-2', 1)",
-            Rule::Total,
-        ),
-    ] {
-        assert_eq!(rt;
-            fault_after(alloc, sql)?,
-            Some(Fault::Inconsistent { rule }),
-            "{sql}"
-        );
-    }
-    Ok(())
+    tables_follow(&rt, BROKEN_RULES)
 }
+
+const WITHOUT_KEYS: &str = "
+CREATE TABLE other (code TEXT, name TEXT, key BLOB, credit INTEGER, balance INTEGER); \
+    INSERT INTO other SELECT code, name, key, credit, balance FROM participant; DROP TABLE participant; \
+    CREATE TABLE participant (code TEXT, name TEXT, key BLOB, credit INTEGER, balance INTEGER); \
+    INSERT INTO participant SELECT 'ALFA', name, key, credit, balance FROM other \
+    => Inconsistent { rule: ParticipantCodes }
+CREATE TABLE other (code TEXT, name TEXT, key BLOB, credit INTEGER, balance INTEGER); \
+    INSERT INTO other SELECT code, name, key, credit, balance FROM participant; DROP TABLE participant; \
+    CREATE TABLE participant (code TEXT, name TEXT, key BLOB, credit INTEGER, balance INTEGER); \
+    INSERT INTO participant SELECT code, name, (SELECT min(key) FROM other), credit, balance FROM other \
+    => Inconsistent { rule: Keys }
+DROP TABLE payment; CREATE TABLE payment (number INTEGER, sender TEXT, reference TEXT, receiver TEXT, \
+    amount INTEGER, date TEXT, state INTEGER, mark INTEGER); \
+    INSERT INTO payment (number, sender, reference, receiver, amount, date, state) \
+    VALUES (1, 'ALFA', 'A-1', 'BETA', 5, '2024-03-04', 2), (2, 'ALFA', 'A-1', 'BETA', 6, '2024-03-04', 2) \
+    => Inconsistent { rule: OrderReferences }
+DROP TABLE posting; CREATE TABLE posting (number INTEGER, code TEXT, reference TEXT, cents INTEGER, date TEXT); \
+    INSERT INTO posting (number, code, reference, cents) VALUES (1, 'ALFA', 'P-1', 1000), (2, 'ALFA', 'P-1', 5) \
+    => Inconsistent { rule: PostingReferences }
+";
 
 #[test]
 fn tables_without_keys_are_judged(rt: HostRuntime) -> Result<(), Fail> {
-    let alloc = rt.alloc();
-    for (sql, rule) in [
-        (
-            "CREATE TABLE other (code TEXT, name TEXT, key BLOB, credit INTEGER, balance INTEGER); INSERT INTO other SELECT code, name, key, credit, balance FROM participant; DROP TABLE participant; CREATE TABLE participant (code TEXT, name TEXT, key BLOB, credit INTEGER, balance INTEGER); INSERT INTO participant SELECT 'ALFA', name, key, credit, balance FROM other",
-            Rule::ParticipantCodes,
-        ),
-        (
-            "CREATE TABLE other (code TEXT, name TEXT, key BLOB, credit INTEGER, balance INTEGER); INSERT INTO other SELECT code, name, key, credit, balance FROM participant; DROP TABLE participant; CREATE TABLE participant (code TEXT, name TEXT, key BLOB, credit INTEGER, balance INTEGER); INSERT INTO participant SELECT code, name, (SELECT min(key) FROM other), credit, balance FROM other",
-            Rule::Keys,
-        ),
-        (
-            "DROP TABLE payment; CREATE TABLE payment (number INTEGER, sender TEXT, reference TEXT, receiver TEXT, amount INTEGER, date TEXT, state INTEGER, mark INTEGER); INSERT INTO payment (number, sender, reference, receiver, amount, date, state) VALUES (1, 'ALFA', 'A-1', 'BETA', 5, '2024-03-04', 2), (2, 'ALFA', 'A-1', 'BETA', 6, '2024-03-04', 2)",
-            Rule::OrderReferences,
-        ),
-        (
-            "DROP TABLE posting; CREATE TABLE posting (number INTEGER, code TEXT, reference TEXT, cents INTEGER, date TEXT); INSERT INTO posting (number, code, reference, cents) VALUES (1, 'ALFA', 'P-1', 1000), (2, 'ALFA', 'P-1', 5)",
-            Rule::PostingReferences,
-        ),
-    ] {
-        assert_eq!(rt;
-            fault_after(alloc, sql)?,
-            Some(Fault::Inconsistent { rule }),
-            "{sql}"
-        );
-    }
-    Ok(())
+    tables_follow(&rt, WITHOUT_KEYS)
 }
+
+const OTHER_TABLES: &str = "
+DROP TABLE mark; \
+    CREATE TABLE mark (number INTEGER, date TEXT, many INTEGER, value INTEGER, more TEXT) => sound
+DROP TABLE mark; \
+    CREATE VIEW mark AS SELECT number, date, 1 AS many, cents AS value FROM posting WHERE number > 1 => sound
+";
 
 #[test]
 fn other_tables_that_show_a_book_are_read(rt: HostRuntime) -> Result<(), Fail> {
-    let alloc = rt.alloc();
-    for sql in [
-        "DROP TABLE mark; CREATE TABLE mark (number INTEGER, date TEXT, many INTEGER, value INTEGER, more TEXT)",
-        "DROP TABLE mark; CREATE VIEW mark AS SELECT number, date, 1 AS many, cents AS value FROM posting \
-         WHERE number > 1",
-    ] {
-        assert_eq!(rt; fault_after(alloc, sql)?, None, "{sql}");
-    }
-    Ok(())
+    tables_follow(&rt, OTHER_TABLES)
 }
 
 #[test]

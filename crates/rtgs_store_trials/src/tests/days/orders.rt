@@ -1,86 +1,86 @@
 //! Short days, answer by answer.
-use super::super::setting::{
-    FRIDAY, MONDAY, SATURDAY, TUESDAY, after, desk_after, opened, opens, pays, posts, queued,
-    settled,
-};
-use rtgs_book::{Answer, Command, Known, OrderState, Refusal};
+use super::super::scripts::command;
+use super::super::scripts::desks::{desk_after, desk_follows};
+use super::super::setting::queued;
+use rtgs_book::{Command, Refusal};
 use std::alloc::Global;
 use std::test::Fail;
 
 #[test]
 fn no_order_passes_its_senders_queue(rt: HostRuntime) -> Result<(), Fail> {
-    let rows = [
-        opened()?,
-        (posts("ALFA", "P-1", 100)?, Ok(Answer::Posted { number: 1 })),
-        (pays("ALFA", "A-1", "BETA", 150)?, queued(1, 1)),
-        (pays("ALFA", "A-2", "BETA", 20)?, queued(2, 2)),
-        (Command::Resolve, Ok(Answer::Nothing)),
-        (pays("BETA", "B-1", "ALFA", 1)?, queued(3, 1)),
-    ];
-    assert_eq!(rt; after(&rt, &rows)?, [(100, 2), (0, 1), (0, 0)]);
-    Ok(())
+    desk_follows(
+        &rt,
+        "
+open 2024-03-04 => Opened
+post ALFA P-1 100 => Posted { number: 1 }
+order ALFA A-1 BETA 150 => Queued { number: 1, place: 1 }
+order ALFA A-2 BETA 20 => Queued { number: 2, place: 2 }
+resolve => Nothing
+order BETA B-1 ALFA 1 => Queued { number: 3, place: 1 }
+account ALFA => 100 cents, 2 queued
+account BETA => 0 cents, 1 queued
+account GAMA => 0 cents, 0 queued
+",
+    )
 }
 
 #[test]
 fn an_order_settles_once(rt: HostRuntime) -> Result<(), Fail> {
-    let known = Known::Order {
-        number: 1,
-        state: OrderState::Settled(1),
-    };
-    let first = pays("ALFA", "A-1", "BETA", 100)?;
-    let other = pays("ALFA", "A-1", "BETA", 99)?;
-    let rows = [
-        opened()?,
-        (posts("ALFA", "P-1", 100)?, Ok(Answer::Posted { number: 1 })),
-        (first, settled(1, 1)),
-        (first, Ok(Answer::Repeated(known))),
-        (other, Err(Refusal::ReferenceUsed)),
-        (pays("BETA", "A-1", "GAMA", 60)?, settled(2, 2)),
-        (pays("ALFA", "A-2", "BETA", 1)?, queued(3, 1)),
-    ];
-    assert_eq!(rt; after(&rt, &rows)?, [(0, 1), (40, 0), (60, 0)]);
-    Ok(())
+    desk_follows(
+        &rt,
+        "
+open 2024-03-04 => Opened
+post ALFA P-1 100 => Posted { number: 1 }
+order ALFA A-1 BETA 100 => Settled { number: 1, mark: 1 }
+order ALFA A-1 BETA 100 => Repeated(Order { number: 1, state: Settled(1) })
+order ALFA A-1 BETA 99 => refused: ReferenceUsed
+order BETA A-1 GAMA 60 => Settled { number: 2, mark: 2 }
+order ALFA A-2 BETA 1 => Queued { number: 3, place: 1 }
+account ALFA => 0 cents, 1 queued
+account BETA => 40 cents, 0 queued
+account GAMA => 60 cents, 0 queued
+",
+    )
 }
 
 #[test]
 fn an_order_is_between_two_banks(rt: HostRuntime) -> Result<(), Fail> {
-    let to_itself = pays("ALFA", "A-1", "ALFA", 1)?;
-    let to_nobody = pays("ALFA", "A-1", "ZETA", 1)?;
-    let from_nobody = pays("ZETA", "A-1", "ALFA", 1)?;
-    let rows = [
-        opened()?,
-        (to_itself, Err(Refusal::SameParty)),
-        (to_nobody, Err(Refusal::UnknownReceiver)),
-        (from_nobody, Err(Refusal::UnknownParticipant)),
-    ];
-    after(&rt, &rows)?;
-    Ok(())
+    desk_follows(
+        &rt,
+        "
+open 2024-03-04 => Opened
+order ALFA A-1 ALFA 1 => refused: SameParty
+order ALFA A-1 ZETA 1 => refused: UnknownReceiver
+order ZETA A-1 ALFA 1 => refused: UnknownParticipant
+",
+    )
 }
 
 #[test]
 fn a_day_is_opened_once(rt: HostRuntime) -> Result<(), Fail> {
-    let rows = [
-        (pays("ALFA", "A-1", "BETA", 1)?, Err(Refusal::NotOpen)),
-        (opens(SATURDAY)?, Err(Refusal::Weekend)),
-        (opens(MONDAY)?, Ok(Answer::Opened)),
-        (opens(MONDAY)?, Ok(Answer::Repeated(Known::Nothing))),
-        (opens(TUESDAY)?, Err(Refusal::WrongPhase)),
-        (opens(FRIDAY)?, Err(Refusal::WrongPhase)),
-    ];
-    after(&rt, &rows)?;
-    Ok(())
+    desk_follows(
+        &rt,
+        "
+order ALFA A-1 BETA 1 => refused: NotOpen
+open 2024-03-02 => refused: Weekend
+open 2024-03-04 => Opened
+open 2024-03-04 => Repeated(Nothing)
+open 2024-03-05 => refused: WrongPhase
+open 2024-03-01 => refused: WrongPhase
+",
+    )
 }
 
 /// ALFA's order of this number, which nothing covers.
 fn uncovered(alloc: Global, number: u64) -> Result<Command, Fail> {
-    let reference = format!(in alloc; "A-{number}")?;
-    pays("ALFA", reference.as_str(), "BETA", 5)
+    let text = format!(in alloc; "order ALFA A-{number} BETA 5")?;
+    command(alloc, text.as_str())
 }
 
 #[test]
 fn a_queue_takes_500_orders(rt: HostRuntime) -> Result<(), Fail> {
-    let another = pays("BETA", "B-1", "ALFA", 5)?;
-    let mut desk = desk_after(&rt, &[opened()?])?;
+    let another = command(rt.alloc(), "order BETA B-1 ALFA 5")?;
+    let mut desk = desk_after(rt.alloc(), "open 2024-03-04 => Opened")?;
     for number in 1..=500u64 {
         let order = uncovered(rt.alloc(), number)?;
         assert_eq!(rt; desk.submit(order), queued(number, number));

@@ -1,103 +1,70 @@
 //! What a desk gives of a date, over a book in memory: its records one after another, and its texts.
-use super::super::setting::{
-    FRIDAY, MONDAY, adds_three, closes, code, cuts_off, date, desk_over, opens, order, pays,
-    posting, posts,
-};
-use rtgs_book::{Mark, OrderState, Posting, Refusal};
+use super::super::scripts::desks::desk_after;
+use super::super::scripts::{day_of, follows};
+use super::super::setting::code;
+use rtgs_book::Refusal;
 use rtgs_desk::Desk;
-use rtgs_keeper::{Keeper, MemoryKeeper};
-use rtgs_money::Cents;
-use rtgs_statements::{Source, write_report, write_statement};
+use rtgs_keeper::MemoryKeeper;
+use rtgs_statements::{write_report, write_statement};
 use std::alloc::Global;
 use std::test::Fail;
 
 // ALFA pays BETA on two days. On the second, after another posting, it pays all that it has, and one order waits.
-fn two_days(alloc: Global) -> Result<Desk<MemoryKeeper>, Fail> {
-    let banks = adds_three()?;
-    let commands = [
-        posts("ALFA", "P-1", 150)?,
-        opens(FRIDAY)?,
-        pays("ALFA", "O-1", "BETA", 100)?,
-        cuts_off(FRIDAY)?,
-        closes(FRIDAY)?,
-        opens(MONDAY)?,
-        posts("ALFA", "P-2", 10)?,
-        pays("ALFA", "O-2", "BETA", 60)?,
-        pays("ALFA", "O-3", "BETA", 25)?,
-    ];
-    let mut desk = desk_over(alloc, MemoryKeeper::new(alloc))?;
-    for command in banks.iter().chain(commands.iter()) {
-        desk.submit(*command)?;
-    }
-    Ok(desk)
-}
+const TWO_DAYS: &str = "
+post ALFA P-1 150 => Posted { number: 1 }
+open 2024-03-01 => Opened
+order ALFA O-1 BETA 100 => Settled { number: 1, mark: 1 }
+cutoff 2024-03-01 => CutOffDone
+close 2024-03-01 => Closed { rejected: 0 }
+open 2024-03-04 => Opened
+post ALFA P-2 10 => Posted { number: 2 }
+order ALFA O-2 BETA 60 => Settled { number: 2, mark: 2 }
+order ALFA O-3 BETA 25 => Queued { number: 3, place: 1 }
+";
 
-// The posting of the second day.
-fn posted() -> Result<Posting, Fail> {
-    Ok(Posting {
-        date: Some(date(MONDAY)?),
-        ..posting(2, "ALFA", "P-2", 10)?
-    })
-}
-
-// The mark of the second day.
-fn marked() -> Result<Mark, Fail> {
-    Ok(Mark {
-        number: 2,
-        date: date(MONDAY)?,
-        count: 1,
-        value: Cents::new(60),
-    })
-}
+// What the desk tells of the second day's records, after the one of a number.
+const RECORDS: &str = "
+next-posting 2024-03-04 0 => 2 ALFA P-2 10 2024-03-04
+next-posting 2024-03-04 2 => none
+next-order 2024-03-04 0 => 2 ALFA O-2 BETA 60 2024-03-04 Settled(2)
+next-order 2024-03-04 2 => 3 ALFA O-3 BETA 25 2024-03-04 Queued
+next-order 2024-03-04 3 => none
+next-mark 2024-03-04 0 => 2 2024-03-04 1 60
+next-mark 2024-03-04 2 => none
+";
 
 #[test]
 fn the_records_of_a_date_come_one_after_another(rt: HostRuntime) -> Result<(), Fail> {
-    let monday = date(MONDAY)?;
-    let settled = order(2, "O-2", 60, OrderState::Settled(2))?;
-    let queued = order(3, "O-3", 25, OrderState::Queued)?;
-    let mut desk = two_days(rt.alloc())?;
-    assert_eq!(rt; desk.next_posting(monday, 0)?, Some(posted()?));
-    assert_eq!(rt; desk.next_posting(monday, 2)?, None);
-    assert_eq!(rt; desk.next_order(monday, 0)?, Some(settled));
-    assert_eq!(rt; desk.next_order(monday, 2)?, Some(queued));
-    assert_eq!(rt; desk.next_order(monday, 3)?, None);
-    assert_eq!(rt; desk.next_mark(monday, 0)?, Some(marked()?));
-    assert_eq!(rt; desk.next_mark(monday, 2)?, None);
-    Ok(())
+    let mut desk = desk_after(rt.alloc(), TWO_DAYS)?;
+    follows(rt.alloc(), &mut desk, RECORDS)
 }
+
+// The codes, and nothing after them up to the largest index.
+const CODES: &str = "
+code-at 0 => ALFA
+code-at 1 => BETA
+code-at 2 => GAMA
+code-at 3 => none
+code-at 4 => none
+code-at 18446744073709551615 => none
+";
 
 #[test]
 fn the_codes_come_in_order(rt: HostRuntime) -> Result<(), Fail> {
-    let codes = [
-        Some(code("ALFA")?),
-        Some(code("BETA")?),
-        Some(code("GAMA")?),
-        None,
-        None,
-    ];
-    let desk = two_days(rt.alloc())?;
-    for (index, expected) in codes.iter().enumerate() {
-        assert_eq!(rt; desk.code_at(index), *expected, "{index}");
-    }
-    assert_eq!(rt; desk.code_at(usize::MAX), None);
-    Ok(())
+    let mut desk = desk_after(rt.alloc(), TWO_DAYS)?;
+    follows(rt.alloc(), &mut desk, CODES)
 }
 
 // The text of a participant's statement of Monday.
-fn statement<K: Keeper>(alloc: Global, desk: &mut Desk<K>, of: &str) -> Result<String, Fail> {
+fn statement(alloc: Global, desk: &mut Desk<MemoryKeeper>, of: &str) -> Result<String, Fail> {
     let mut text = Vec::new(alloc);
-    match write_statement(alloc, &mut text, desk, &code(of)?, date(MONDAY)?) {
+    match write_statement(alloc, &mut text, desk, &code(of)?, day_of("2024-03-04")?) {
         Ok(()) => Ok(String::from_utf8(text)?),
         Err(_) => Err(Fail::from("no statement")),
     }
 }
 
-#[test]
-fn a_statement_has_what_is_the_participants_on_the_date(rt: HostRuntime) -> Result<(), Fail> {
-    let mut desk = two_days(rt.alloc())?;
-    assert_eq!(rt;
-        statement(rt.alloc(), &mut desk, "ALFA")?.as_str(),
-        "statement ALFA 2024-03-04
+const OF_ALFA: &str = "statement ALFA 2024-03-04
 posting    000000002 P-2              -                        0.10         -
 sent       000000002 O-2              BETA                     0.60         2
 queued     000000003 O-3              BETA                     0.25         -
@@ -105,38 +72,36 @@ sum-posted                           0.10
 sum-sent                             0.60
 sum-recv                             0.00
 net                                 -0.50
-"
-    );
-    assert_eq!(rt;
-        statement(rt.alloc(), &mut desk, "BETA")?.as_str(),
-        "statement BETA 2024-03-04
+";
+
+const OF_BETA: &str = "statement BETA 2024-03-04
 received   000000002 O-2              ALFA                     0.60         2
 sum-posted                           0.00
 sum-sent                             0.00
 sum-recv                             0.60
 net                                  0.60
-"
-    );
+";
+
+#[test]
+fn a_statement_has_what_is_the_participants_on_the_date(rt: HostRuntime) -> Result<(), Fail> {
+    let mut desk = desk_after(rt.alloc(), TWO_DAYS)?;
+    assert_eq!(rt; statement(rt.alloc(), &mut desk, "ALFA")?.as_str(), OF_ALFA);
+    assert_eq!(rt; statement(rt.alloc(), &mut desk, "BETA")?.as_str(), OF_BETA);
     let unknown = desk.account(&code("ZETA")?).err();
     assert_eq!(rt; unknown, Some(Refusal::UnknownParticipant));
     Ok(())
 }
 
 // The text of the day report of Monday.
-fn report<K: Keeper>(alloc: Global, desk: &mut Desk<K>) -> Result<String, Fail> {
+fn report(alloc: Global, desk: &mut Desk<MemoryKeeper>) -> Result<String, Fail> {
     let mut text = Vec::new(alloc);
-    match write_report(alloc, &mut text, desk, date(MONDAY)?) {
+    match write_report(alloc, &mut text, desk, day_of("2024-03-04")?) {
         Ok(()) => Ok(String::from_utf8(text)?),
         Err(_) => Err(Fail::from("no report")),
     }
 }
 
-#[test]
-fn a_report_has_what_bears_the_date(rt: HostRuntime) -> Result<(), Fail> {
-    let mut desk = two_days(rt.alloc())?;
-    assert_eq!(rt;
-        report(rt.alloc(), &mut desk)?.as_str(),
-        "report 2024-03-04
+const REPORT: &str = "report 2024-03-04
 ALFA                               0.10                           0.60                           0.00
 BETA                               0.00                           0.00                           0.60
 GAMA                               0.00                           0.00                           0.00
@@ -145,7 +110,11 @@ queued             1                           0.25
 withdrawn          0                           0.00
 rejected           0                           0.00
 marks              1
-"
-    );
+";
+
+#[test]
+fn a_report_has_what_bears_the_date(rt: HostRuntime) -> Result<(), Fail> {
+    let mut desk = desk_after(rt.alloc(), TWO_DAYS)?;
+    assert_eq!(rt; report(rt.alloc(), &mut desk)?.as_str(), REPORT);
     Ok(())
 }

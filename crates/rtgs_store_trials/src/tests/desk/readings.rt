@@ -1,7 +1,5 @@
 //! What a desk tells of its book.
-use super::super::setting::{
-    MONDAY, adds_alfa, change, code, date, desk_over, order, participant, reference,
-};
+use super::super::setting::{MONDAY, change, code, date, desk_over, order, participant, reference};
 use rtgs_book::{Day, Order, OrderState, Phase, Refusal, RowChange};
 use rtgs_desk::{AccountReading, Desk};
 use rtgs_keeper::{Keeper, MemoryKeeper};

@@ -1,110 +1,164 @@
 //! Order files, as banks write them and as they go wrong.
-use super::row;
-use rtgs_exchange::{BatchFault, read_orders};
+use super::super::scripts::{Answers, follows};
+use rtgs_exchange::{BatchFault, OrderRow, read_orders};
 use std::alloc::Global;
-use std::process::Abort;
 use std::test::Fail;
+
+// Reads the order file that a line of a script gives.
+#[derive(Clone, Copy)]
+struct Reading;
+
+impl Answers for Reading {
+    fn answer(&mut self, alloc: Global, asked: &str) -> Result<String, Fail> {
+        let file = bytes_of(alloc, asked)?;
+        match read_orders(alloc, file.as_slice()) {
+            Ok(rows) => rows_text(alloc, rows.as_slice()),
+            Err(fault) => Ok(format!(in alloc; "{fault:?}")?),
+        }
+    }
+}
+
+// The bytes of a file that a script gives.
+fn bytes_of(alloc: Global, text: &str) -> Result<Vec<u8>, Fail> {
+    let mut bytes = Vec::new(alloc);
+    let mut escapes = false;
+    for byte in text.bytes() {
+        if escapes {
+            bytes.extend_from_slice(meant_by(byte).ok_or("no such escape")?)?;
+            escapes = false;
+        } else if byte == b'\\' {
+            escapes = true;
+        } else {
+            bytes.push(byte)?;
+        }
+    }
+    if escapes {
+        return Err(Fail::from("half an escape"));
+    }
+    Ok(bytes)
+}
+
+// What is meant by a letter after a backslash: a line feed, a carriage return, a mark of the byte order, or a byte
+// that no text has.
+fn meant_by(letter: u8) -> Option<&'static [u8]> {
+    match letter {
+        b'n' => Some(b"\n"),
+        b'r' => Some(b"\r"),
+        b'b' => Some(b"\xef\xbb\xbf"),
+        b'x' => Some(b"\xff"),
+        _ => None,
+    }
+}
+
+// Rows, each with its reference, its receiver and its cents.
+fn rows_text(alloc: Global, rows: &[OrderRow]) -> Result<String, Fail> {
+    let mut text = String::new(alloc);
+    for OrderRow {
+        reference,
+        receiver,
+        amount,
+    } in rows {
+        if !text.is_empty() {
+            text.push_str(", ")?;
+        }
+        text.push_str(format!(in alloc; "{reference} {receiver} {amount}")?.as_str())?;
+    }
+    Ok(text)
+}
+
+// Fails unless each order file is read as the script tells.
+fn files_follow(rt: &HostRuntime, script: &str) -> Result<(), Fail> {
+    follows(rt.alloc(), &mut Reading, script)
+}
+
+const ROWS_IN_ORDER: &str = r"
+reference,to,amount\nA-1,BETA,100\nA-2,GAMA,50\nA-3,BETA,25\n => A-1 BETA 100, A-2 GAMA 50, A-3 BETA 25
+";
 
 #[test]
 fn rows_are_read_in_order(rt: HostRuntime) -> Result<(), Fail> {
-    let text = b"reference,to,amount\nA-1,BETA,100\nA-2,GAMA,50\nA-3,BETA,25\n";
-    let rows = read_orders(rt.alloc(), text)?;
-    let expected = [
-        row("A-1", "BETA", 100)?,
-        row("A-2", "GAMA", 50)?,
-        row("A-3", "BETA", 25)?,
-    ];
-    assert_eq!(rt; rows.as_slice(), expected.as_slice());
-    Ok(())
+    files_follow(&rt, ROWS_IN_ORDER)
 }
 
+const A_BAD_ROW: &str = r"
+reference,to,amount\nA-1,BETA,100\nA-2,GAMA,50\nA-3,BETA\n => BadRow { row: 3 }
+";
+
 #[test]
-fn a_bad_row_refuses_the_file(rt: HostRuntime) {
-    let text = b"reference,to,amount\nA-1,BETA,100\nA-2,GAMA,50\nA-3,BETA\n";
-    let fault = read_orders(rt.alloc(), text).err();
-    assert_eq!(rt; fault, Some(BatchFault::BadRow { row: 3 }));
+fn a_bad_row_refuses_the_file(rt: HostRuntime) -> Result<(), Fail> {
+    files_follow(&rt, A_BAD_ROW)
 }
 
 // Spellings of a file of one order.
+const SPELLINGS: &str = r#"
+reference,to,amount\nA-1,BETA,100\n => A-1 BETA 100
+reference,to,amount\nA-1,BETA,100 => A-1 BETA 100
+reference,to,amount\r\nA-1,BETA,100\r\n => A-1 BETA 100
+reference,to,amount\rA-1,BETA,100\r => A-1 BETA 100
+\breference,to,amount\nA-1,BETA,100\n => A-1 BETA 100
+\n\r\n\nreference,to,amount\n\n\r\nA-1,BETA,100\n\n\n => A-1 BETA 100
+reference,to,amount\n"A-1",BETA,"100"\n => A-1 BETA 100
+"reference","to",amount\nA-1,"BETA","100 => A-1 BETA 100
+"#;
+
 #[test]
 fn quotes_line_ends_and_empty_lines_make_no_difference(rt: HostRuntime) -> Result<(), Fail> {
-    let texts: [&[u8]; 8] = [
-        b"reference,to,amount\nA-1,BETA,100\n",
-        b"reference,to,amount\nA-1,BETA,100",
-        b"reference,to,amount\r\nA-1,BETA,100\r\n",
-        b"reference,to,amount\rA-1,BETA,100\r",
-        b"\xef\xbb\xbfreference,to,amount\nA-1,BETA,100\n",
-        b"\n\r\n\nreference,to,amount\n\n\r\nA-1,BETA,100\n\n\n",
-        b"reference,to,amount\n\"A-1\",BETA,\"100\"\n",
-        b"\"reference\",\"to\",amount\nA-1,\"BETA\",\"100",
-    ];
-    let expected = [row("A-1", "BETA", 100)?];
-    for text in texts {
-        let rows = read_orders(rt.alloc(), text)?;
-        assert_eq!(rt; rows.as_slice(), expected.as_slice(), "{text:?}");
-    }
-    Ok(())
+    files_follow(&rt, SPELLINGS)
 }
 
-#[test]
-fn another_header_is_named_first(rt: HostRuntime) {
-    let texts: [&[u8]; 12] = [
-        b"",
-        b"\n\r\n",
-        b"\xef\xbb\xbf",
-        b"A-1,BETA,100\n",
-        b"Reference,to,amount\nA-1,BETA,100\n",
-        b"reference,to\nA-1,BETA,100\n",
-        b"reference,to,amount,\nA-1,BETA,100\n",
-        b"reference,amount,to\nA-1,BETA,100\n",
-        b" reference,to,amount\nA-1,BETA,100\n",
-        b"reference,to,amount \nA-1,BETA\n",
-        b"\xef\xbb\xbf\xef\xbb\xbfreference,to,amount\nA-1,BETA,100\n",
-        b"reference,to,\"amount\nA-1,BETA,100\n",
-    ];
-    for text in texts {
-        let fault = read_orders(rt.alloc(), text).err();
-        assert_eq!(rt; fault, Some(BatchFault::BadHeader), "{text:?}");
-    }
-}
+const OTHER_HEADERS: &str = r#"
+ => BadHeader
+\n\r\n => BadHeader
+\b => BadHeader
+A-1,BETA,100\n => BadHeader
+Reference,to,amount\nA-1,BETA,100\n => BadHeader
+reference,to\nA-1,BETA,100\n => BadHeader
+reference,to,amount,\nA-1,BETA,100\n => BadHeader
+reference,amount,to\nA-1,BETA,100\n => BadHeader
+ reference,to,amount\nA-1,BETA,100\n => BadHeader
+reference,to,amount \nA-1,BETA\n => BadHeader
+\b\breference,to,amount\nA-1,BETA,100\n => BadHeader
+reference,to,"amount\nA-1,BETA,100\n => BadHeader
+"#;
 
 #[test]
-fn a_header_alone_has_no_row(rt: HostRuntime) {
-    let texts: [&[u8]; 3] = [
-        b"reference,to,amount",
-        b"reference,to,amount\r\n",
-        b"reference,to,amount\n\n\r\n",
-    ];
-    for text in texts {
-        let fault = read_orders(rt.alloc(), text).err();
-        assert_eq!(rt; fault, Some(BatchFault::BadCount), "{text:?}");
-    }
+fn another_header_is_named_first(rt: HostRuntime) -> Result<(), Fail> {
+    files_follow(&rt, OTHER_HEADERS)
 }
 
-// Each of these texts has a good row, and then a bad one.
+const HEADERS_ALONE: &str = r"
+reference,to,amount => BadCount
+reference,to,amount\r\n => BadCount
+reference,to,amount\n\n\r\n => BadCount
+";
+
 #[test]
-fn a_row_is_three_fields_in_their_forms(rt: HostRuntime) {
-    let texts: [&[u8]; 15] = [
-        b"reference,to,amount\nA,BETA,1\nA-1,BETA,100,\n",
-        b"reference,to,amount\nA,BETA,1\nA-1\n",
-        b"reference,to,amount\nA,BETA,1\n,,\n",
-        b"reference,to,amount\nA,BETA,1\n \nA-1,BETA,100\n",
-        b"reference,to,amount\nA,BETA,1\nA-1, BETA,100\n",
-        b"reference,to,amount\nA,BETA,1\nA-1,BETA,100 \n",
-        b"reference,to,amount\nA,BETA,1\na-1,BETA,100\n",
-        b"reference,to,amount\nA,BETA,1\nA-1,beta,100\n",
-        b"reference,to,amount\nA,BETA,1\nA-1,BETA,0\n",
-        b"reference,to,amount\nA,BETA,1\nA-1,BETA,007\n",
-        b"reference,to,amount\nA,BETA,1\nA-1,BETA,1000000000001\n",
-        b"reference,to,amount\nA,BETA,1\nA-1,B\xffTA,100\n",
-        b"reference,to,amount\nA,BETA,1\n\xc3\x84-1,BETA,100\n",
-        b"reference,to,amount\nA,BETA,1\n\"A-1,BETA,100\nA-2,BETA,100\n",
-        b"reference,to,amount\nA,BETA,1\n\"A\"\"1\",BETA,100\nA-2\n",
-    ];
-    for text in texts {
-        let fault = read_orders(rt.alloc(), text).err();
-        assert_eq!(rt; fault, Some(BatchFault::BadRow { row: 2 }), "{text:?}");
-    }
+fn a_header_alone_has_no_row(rt: HostRuntime) -> Result<(), Fail> {
+    files_follow(&rt, HEADERS_ALONE)
+}
+
+// Each of these files has a good row, and then a bad one.
+const BAD_ROWS: &str = r#"
+reference,to,amount\nA,BETA,1\nA-1,BETA,100,\n => BadRow { row: 2 }
+reference,to,amount\nA,BETA,1\nA-1\n => BadRow { row: 2 }
+reference,to,amount\nA,BETA,1\n,,\n => BadRow { row: 2 }
+reference,to,amount\nA,BETA,1\n \nA-1,BETA,100\n => BadRow { row: 2 }
+reference,to,amount\nA,BETA,1\nA-1, BETA,100\n => BadRow { row: 2 }
+reference,to,amount\nA,BETA,1\nA-1,BETA,100 \n => BadRow { row: 2 }
+reference,to,amount\nA,BETA,1\na-1,BETA,100\n => BadRow { row: 2 }
+reference,to,amount\nA,BETA,1\nA-1,beta,100\n => BadRow { row: 2 }
+reference,to,amount\nA,BETA,1\nA-1,BETA,0\n => BadRow { row: 2 }
+reference,to,amount\nA,BETA,1\nA-1,BETA,007\n => BadRow { row: 2 }
+reference,to,amount\nA,BETA,1\nA-1,BETA,1000000000001\n => BadRow { row: 2 }
+reference,to,amount\nA,BETA,1\nA-1,B\xTA,100\n => BadRow { row: 2 }
+reference,to,amount\nA,BETA,1\nÄ-1,BETA,100\n => BadRow { row: 2 }
+reference,to,amount\nA,BETA,1\n"A-1,BETA,100\nA-2,BETA,100\n => BadRow { row: 2 }
+reference,to,amount\nA,BETA,1\n"A""1",BETA,100\nA-2\n => BadRow { row: 2 }
+"#;
+
+#[test]
+fn a_row_is_three_fields_in_their_forms(rt: HostRuntime) -> Result<(), Fail> {
+    files_follow(&rt, BAD_ROWS)
 }
 
 #[test]
@@ -120,56 +174,70 @@ fn a_long_field_is_a_bad_row(rt: HostRuntime) -> Result<(), Fail> {
     Ok(())
 }
 
+// Reads a file of so many rows, of which one is bad.
+#[derive(Clone, Copy)]
+struct Counting;
+
+impl Answers for Counting {
+    fn answer(&mut self, alloc: Global, asked: &str) -> Result<String, Fail> {
+        let (rows, bad) = asked.split_once(" rows, bad ").ok_or("not understood")?;
+        let file = file(alloc, rows.parse::<u64>()?, bad.parse::<u64>()?)?;
+        match read_orders(alloc, file.as_slice()) {
+            Ok(rows) => {
+                let count = rows.len();
+                Ok(format!(in alloc; "{count} rows")?)
+            }
+            Err(fault) => Ok(format!(in alloc; "{fault:?}")?),
+        }
+    }
+}
+
 // A file of so many rows, of which this one is bad.
 fn file(alloc: Global, rows: u64, bad: u64) -> Result<Vec<u8>, Fail> {
     let mut text = Vec::new(alloc);
     text.extend_from_slice(b"reference,to,amount\n")?;
     for row in 0..rows {
-        let line: &[u8] = if row + 1 == bad {
-            b"A-1,BETA\n"
+        let line = if row + 1 == bad {
+            "A-1,BETA\n"
         } else {
-            b"A-1,BETA,100\n"
+            "A-1,BETA,100\n"
         };
-        text.extend_from_slice(line)?;
+        text.extend_from_slice(line.as_bytes())?;
     }
     Ok(text)
 }
 
-fn fault_of<R: AllocGlobal + Abort>(
-    rt: &R,
-    rows: u64,
-    bad: u64,
-) -> Result<Option<BatchFault>, Fail> {
-    let text = file(rt.alloc(), rows, bad)?;
-    Ok(read_orders(rt.alloc(), text.as_slice()).err())
-}
+const COUNTS: &str = "
+500 rows, bad 0 => 500 rows
+501 rows, bad 0 => BadCount
+501 rows, bad 501 => BadCount
+501 rows, bad 3 => BadRow { row: 3 }
+501 rows, bad 500 => BadRow { row: 500 }
+";
 
 #[test]
 fn five_hundred_rows_are_read_and_no_more(rt: HostRuntime) -> Result<(), Fail> {
-    let most = file(rt.alloc(), 500, 0)?;
-    assert_eq!(rt; read_orders(rt.alloc(), most.as_slice())?.len(), 500);
-    assert_eq!(rt; fault_of(&rt, 501, 0)?, Some(BatchFault::BadCount));
-    assert_eq!(rt; fault_of(&rt, 501, 501)?, Some(BatchFault::BadCount));
-    assert_eq!(rt; fault_of(&rt, 501, 3)?, Some(BatchFault::BadRow { row: 3 }));
-    assert_eq!(rt;
-        fault_of(&rt, 501, 500)?,
-        Some(BatchFault::BadRow { row: 500 })
-    );
-    Ok(())
+    follows(rt.alloc(), &mut Counting, COUNTS)
+}
+
+// A fault's number, name and two statuses.
+fn kind_text(alloc: Global, fault: BatchFault) -> Result<String, Fail> {
+    let kind = fault.kind();
+    let (number, name) = (kind.number(), kind.name());
+    let (http, exit) = (kind.http_status(), kind.exit_status());
+    Ok(format!(in alloc; "{number} {name} {http:?} {exit:?}")?)
 }
 
 #[test]
-fn faults_have_numbers_names_and_statuses(rt: HostRuntime) {
-    let table = [
-        (BatchFault::BadHeader, 40, "BadHeader", 400, 1),
-        (BatchFault::BadRow { row: 3 }, 41, "BadRow", 400, 1),
-        (BatchFault::BadCount, 42, "BadCount", 400, 1),
-        (BatchFault::OutOfMemory, 90, "OutOfMemory", 503, 3),
-    ];
-    for (fault, number, name, http_status, exit_status) in table {
-        assert_eq!(rt; fault.kind().number(), number);
-        assert_eq!(rt; fault.kind().name(), name);
-        assert_eq!(rt; fault.kind().http_status(), Some(http_status));
-        assert_eq!(rt; fault.kind().exit_status(), Some(exit_status));
-    }
+fn faults_have_numbers_names_and_statuses(rt: HostRuntime) -> Result<(), Fail> {
+    let alloc = rt.alloc();
+    let header = kind_text(alloc, BatchFault::BadHeader)?;
+    assert_eq!(rt; header.as_str(), "40 BadHeader Some(400) Some(1)");
+    let row = kind_text(alloc, BatchFault::BadRow { row: 3 })?;
+    assert_eq!(rt; row.as_str(), "41 BadRow Some(400) Some(1)");
+    let count = kind_text(alloc, BatchFault::BadCount)?;
+    assert_eq!(rt; count.as_str(), "42 BadCount Some(400) Some(1)");
+    let memory = kind_text(alloc, BatchFault::OutOfMemory)?;
+    assert_eq!(rt; memory.as_str(), "90 OutOfMemory Some(503) Some(3)");
+    Ok(())
 }

@@ -6,11 +6,11 @@ ghost use Rattle.rtgs_desk.specs.Holding.{Holds};
 ghost use Rattle.rtgs_exchange.specs.Batches.{orders_of, replies_of, with_stop};
 
 use super::super::setting::code;
-use super::{open_desk, three_rows};
+use super::{THREE_ROWS, open_desk, rows_of};
 use rtgs_book::{Answer, Command, Refusal};
 use rtgs_desk::Desk;
 use rtgs_exchange::{BatchResult, OrderRow, submit_batch};
-use rtgs_keeper::{Keeper, MemoryKeeper};
+use rtgs_keeper::Keeper;
 use rtgs_money::Code;
 use rtgs_repeats::laws::sessions_join;
 use std::alloc::{AllocError, Global};
@@ -45,9 +45,15 @@ fn submit_and_send<K: Keeper>(
 #[test]
 fn a_command_and_a_batch_are_a_session(rt: HostRuntime) -> Result<(), Fail> {
     let sender = code("ALFA")?;
-    let rows = three_rows()?;
-    let mut desk = open_desk(rt.alloc(), MemoryKeeper::new(rt.alloc()))?;
-    let (reply, batch) = submit_and_send(rt.alloc(), &mut desk, Command::Resolve, sender, &rows)?;
+    let rows = rows_of(rt.alloc(), THREE_ROWS)?;
+    let mut desk = open_desk(rt.alloc())?;
+    let (reply, batch) = submit_and_send(
+        rt.alloc(),
+        &mut desk,
+        Command::Resolve,
+        sender,
+        rows.as_slice(),
+    )?;
     assert_eq!(rt; reply, Ok(Answer::Nothing));
     assert_eq!(rt; batch.replies.len(), 3);
     Ok(())

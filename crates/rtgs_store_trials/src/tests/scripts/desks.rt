@@ -1,0 +1,109 @@
+//! Scripts for a desk over a keeper in memory.
+use super::super::setting::{code, desk_over};
+use super::records::{mark_text, order_text, posting_text};
+use super::{Answers, command_of, day_of, follows, reply_text, words_of};
+use rtgs_desk::Desk;
+use rtgs_keeper::MemoryKeeper;
+use rtgs_statements::Source;
+use std::alloc::Global;
+use std::test::Fail;
+
+/// The three banks, before the first day.
+const BANKS: &str = "
+add ALFA 0000000000000000000000000000000a => Added
+add BETA 0000000000000000000000000000000b => Added
+add GAMA 0000000000000000000000000000000c => Added
+";
+
+impl Answers for Desk<MemoryKeeper> {
+    fn answer(&mut self, alloc: Global, asked: &str) -> Result<String, Fail> {
+        let words = words_of(alloc, asked)?;
+        match words.as_slice() {
+            ["account", participant] => account_text(alloc, self, participant),
+            ["next-posting", day, after] => next_posting_text(alloc, self, day, after),
+            ["next-order", day, after] => next_order_text(alloc, self, day, after),
+            ["next-mark", day, after] => next_mark_text(alloc, self, day, after),
+            ["code-at", index] => code_text(alloc, self, index),
+            others => {
+                let command = command_of(others)?;
+                reply_text(alloc, self.submit(command))
+            }
+        }
+    }
+}
+
+/// A desk of ALFA, BETA and GAMA that answered the script as it tells.
+pub fn desk_after(alloc: Global, script: &str) -> Result<Desk<MemoryKeeper>, Fail> {
+    let mut desk = desk_over(alloc, MemoryKeeper::new(alloc))?;
+    follows(alloc, &mut desk, BANKS)?;
+    follows(alloc, &mut desk, script)?;
+    Ok(desk)
+}
+
+/// Fails unless a desk of ALFA, BETA and GAMA answers the script as it tells.
+pub fn desk_follows(rt: &HostRuntime, script: &str) -> Result<(), Fail> {
+    desk_after(rt.alloc(), script)?;
+    Ok(())
+}
+
+/// The balance of a participant, and how many orders its queue has.
+fn account_text(
+    alloc: Global,
+    desk: &Desk<MemoryKeeper>,
+    participant: &str,
+) -> Result<String, Fail> {
+    match desk.account(&code(participant)?) {
+        Ok(account) => {
+            let (cents, queued) = (account.balance.cents(), account.queued);
+            Ok(format!(in alloc; "{cents} cents, {queued} queued")?)
+        }
+        Err(refusal) => Ok(format!(in alloc; "refused: {refusal:?}")?),
+    }
+}
+
+/// The date's first posting after this number.
+fn next_posting_text(
+    alloc: Global,
+    desk: &mut Desk<MemoryKeeper>,
+    day: &str,
+    after: &str,
+) -> Result<String, Fail> {
+    match desk.next_posting(day_of(day)?, after.parse::<u64>()?)? {
+        Some(posting) => posting_text(alloc, &posting),
+        None => Ok(format!(in alloc; "none")?),
+    }
+}
+
+/// The date's first order after this number.
+fn next_order_text(
+    alloc: Global,
+    desk: &mut Desk<MemoryKeeper>,
+    day: &str,
+    after: &str,
+) -> Result<String, Fail> {
+    match desk.next_order(day_of(day)?, after.parse::<u64>()?)? {
+        Some(order) => order_text(alloc, &order),
+        None => Ok(format!(in alloc; "none")?),
+    }
+}
+
+/// The date's first mark after this number.
+fn next_mark_text(
+    alloc: Global,
+    desk: &mut Desk<MemoryKeeper>,
+    day: &str,
+    after: &str,
+) -> Result<String, Fail> {
+    match desk.next_mark(day_of(day)?, after.parse::<u64>()?)? {
+        Some(mark) => mark_text(alloc, &mark),
+        None => Ok(format!(in alloc; "none")?),
+    }
+}
+
+/// The code at this index.
+fn code_text(alloc: Global, desk: &Desk<MemoryKeeper>, index: &str) -> Result<String, Fail> {
+    match desk.code_at(index.parse::<usize>()?) {
+        Some(code) => Ok(format!(in alloc; "{code}")?),
+        None => Ok(format!(in alloc; "none")?),
+    }
+}

@@ -1,0 +1,161 @@
+//! Scripts for a ledger, and the keeper in memory in which what it adopts is kept.
+use super::super::setting::{code, reference};
+use super::records::{order_text, queue_text};
+use super::{Answers, command_of, follows, reply_text, words_of};
+use rtgs_book::{Answer, Command, Refusal};
+use rtgs_cores::Found;
+use rtgs_keeper::{Keeper, MemoryKeeper};
+use rtgs_ledger::Ledger;
+use std::alloc::Global;
+use std::test::Fail;
+
+/// A ledger, and the keeper in which what it adopts is kept.
+#[derive(Drop)]
+struct Kept {
+    ledger: Ledger,
+    keeper: MemoryKeeper,
+}
+
+impl Answers for Kept {
+    fn answer(&mut self, alloc: Global, asked: &str) -> Result<String, Fail> {
+        let words = words_of(alloc, asked)?;
+        match words.as_slice() {
+            ["balance", participant] => balance_text(alloc, &self.ledger, participant),
+            ["queue", sender] => queue_of(alloc, &self.ledger, sender),
+            ["kept", sender, name] => kept_order(alloc, &mut self.keeper, sender, name),
+            ["in-memory"] => numbers_in_memory(alloc, &self.ledger),
+            ["phase"] => phase_text(alloc, &self.ledger),
+            others => {
+                let command = command_of(others)?;
+                let reply = submit(self, &command)?;
+                reply_text(alloc, reply)
+            }
+        }
+    }
+}
+
+/// ALFA, BETA and GAMA, of which ALFA has 100 cents, and an open day.
+const FUNDED: &str = "
+add ALFA 0000000000000000000000000000000a => Added
+add BETA 0000000000000000000000000000000b => Added
+add GAMA 0000000000000000000000000000000c => Added
+post ALFA P-1 100 => Posted { number: 1 }
+open 2024-03-04 => Opened
+";
+
+/// Fails unless a ledger of three banks, of which ALFA has 100 cents, answers the script as it tells on an open day.
+pub fn funded_ledger_follows(rt: &HostRuntime, script: &str) -> Result<(), Fail> {
+    let mut kept = new_kept(rt.alloc())?;
+    follows(rt.alloc(), &mut kept, FUNDED)?;
+    follows(rt.alloc(), &mut kept, script)
+}
+
+/// Fails unless the ledger of a new book answers the script as it tells.
+pub fn new_ledger_follows(rt: &HostRuntime, script: &str) -> Result<(), Fail> {
+    let mut kept = new_kept(rt.alloc())?;
+    follows(rt.alloc(), &mut kept, script)
+}
+
+/// The ledger of the book that a keeper has.
+pub fn ledger_of<K: Keeper>(alloc: Global, keeper: &mut K) -> Result<Ledger, Fail> {
+    let core = match keeper.core(alloc) {
+        Ok(core) => core,
+        Err(fault) => return Err(Fail::from(fault)),
+    };
+    Ok(Ledger::load(alloc, core)?)
+}
+
+/// The ledger of a new book.
+pub fn new_ledger(alloc: Global) -> Result<Ledger, Fail> {
+    ledger_of(alloc, &mut MemoryKeeper::new(alloc))
+}
+
+/// The ledger of a new book, and a keeper of a new book.
+fn new_kept(alloc: Global) -> Result<Kept, Fail> {
+    let ledger = new_ledger(alloc)?;
+    Ok(Kept {
+        ledger,
+        keeper: MemoryKeeper::new(alloc),
+    })
+}
+
+/// What the keeper finds for the command.
+fn found_for(keeper: &mut MemoryKeeper, command: &Command) -> Result<Found, Fail> {
+    match command {
+        Command::Order {
+            sender,
+            reference,
+            ..
+        }
+        | Command::Withdraw { sender, reference } => Ok(Found {
+            order: keeper.find_order(sender, reference)?,
+            posting: None,
+        }),
+        Command::Post { reference, .. } => Ok(Found {
+            order: None,
+            posting: keeper.find_posting(reference)?,
+        }),
+        _ => Ok(Found::NOTHING),
+    }
+}
+
+fn submit(kept: &mut Kept, command: &Command) -> Result<Result<Answer, Refusal>, Fail> {
+    let found = match found_for(&mut kept.keeper, command) {
+        Ok(found) => found,
+        Err(fail) => return Err(fail),
+    };
+    let (answer, change) = match kept.ledger.prepare(command, &found) {
+        Ok(prepared) => prepared,
+        Err(refusal) => return Ok(Err(refusal)),
+    };
+    match kept.keeper.commit(&change) {
+        Ok(()) => {}
+        Err(fault) => return Err(Fail::from(fault)),
+    }
+    kept.ledger.adopt(change);
+    Ok(Ok(answer))
+}
+
+/// What a participant has.
+fn balance_text(alloc: Global, ledger: &Ledger, participant: &str) -> Result<String, Fail> {
+    match ledger.account(&code(participant)?) {
+        Some(account) => {
+            let cents = account.balance.cents();
+            Ok(format!(in alloc; "{cents} cents")?)
+        }
+        None => Ok(format!(in alloc; "no participant")?),
+    }
+}
+
+/// The orders that wait in the sender's queue.
+fn queue_of(alloc: Global, ledger: &Ledger, sender: &str) -> Result<String, Fail> {
+    let queue = ledger.queue(&code(sender)?)?;
+    queue_text(alloc, queue.as_slice())
+}
+
+/// The sender's order of this reference, as the keeper has it.
+fn kept_order(
+    alloc: Global,
+    keeper: &mut MemoryKeeper,
+    sender: &str,
+    name: &str,
+) -> Result<String, Fail> {
+    match keeper.find_order(&code(sender)?, &reference(name)?)? {
+        Some(order) => order_text(alloc, &order),
+        None => Ok(format!(in alloc; "none")?),
+    }
+}
+
+/// The numbers of the orders that a ledger has in memory.
+fn numbers_in_memory(alloc: Global, ledger: &Ledger) -> Result<String, Fail> {
+    let mut numbers = Vec::new(alloc);
+    for order in ledger.queued() {
+        numbers.push(order.number)?;
+    }
+    Ok(format!(in alloc; "{:?}", numbers.as_slice())?)
+}
+
+fn phase_text(alloc: Global, ledger: &Ledger) -> Result<String, Fail> {
+    let phase = ledger.day().phase;
+    Ok(format!(in alloc; "{phase:?}")?)
+}
