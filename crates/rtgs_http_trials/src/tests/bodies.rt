@@ -1,144 +1,173 @@
 //! Lengths of bodies, and what their bytes spell.
-use super::told::{
-    ASKED, BAD_AMOUNT, BAD_CODE, BAD_COUNT, BAD_HEADER, BAD_JSON, BAD_REFERENCE, BAD_ROW,
-    BODY_TOO_LONG, NO_LENGTH, TRUNCATED, Told, WRONG_FIELDS,
-};
-use super::{ALFA, OPERATOR, fault, order, post};
+use super::faults::{alfas_desk, is_told, tells_faults};
 use std::alloc::{AllocError, Global};
 use std::test::Fail;
 
+const LENGTHS: &str = r#"
+RAW POST /orders HTTP/1.1\r\n
+desk-key: 0000000000000000000000000000000a\r\n
+\r\n
+-> 411 62 NoLength
+
+RAW POST /orders HTTP/1.1\r\n
+desk-key: 0000000000000000000000000000000a\r\n
+Content-Length: 65537\r\n
+\r\n
+-> 413 63 BodyTooLong
+
+RAW POST /orders HTTP/1.1\r\n
+desk-key: 0000000000000000000000000000000a\r\n
+Content-Length: 65536\r\n
+\r\n
+-> 400 64 Truncated
+
+RAW POST /orders HTTP/1.1\r\n
+desk-key: 0000000000000000000000000000000a\r\n
+Content-Length: 50\r\n
+\r\n
+{"amount":100,"refer
+-> 400 64 Truncated
+"#;
+
 #[test]
 fn lengths(rt: HostRuntime) -> Result<(), Fail> {
-    let inputs: [(&[u8], Told); 4] = [
-        (
-            b"POST /orders HTTP/1.1\r\ndesk-key: 0000000000000000000000000000000a\r\n\r\n",
-            NO_LENGTH,
-        ),
-        (
-            b"POST /orders HTTP/1.1\r\ndesk-key: 0000000000000000000000000000000a\r\nContent-Length: 65537\r\n\r\n",
-            BODY_TOO_LONG,
-        ),
-        (
-            b"POST /orders HTTP/1.1\r\ndesk-key: 0000000000000000000000000000000a\r\nContent-Length: 65536\r\n\r\n",
-            TRUNCATED,
-        ),
-        (
-            b"POST /orders HTTP/1.1\r\ndesk-key: 0000000000000000000000000000000a\r\nContent-Length: 50\r\n\r\n\
-              {\"amount\":100,\"refer",
-            TRUNCATED,
-        ),
-    ];
-    for (input, told) in inputs {
-        assert_eq!(rt; fault(rt.alloc(), input)?, told);
-    }
-    Ok(())
+    tells_faults(rt.alloc(), LENGTHS)
 }
+
+const TEXTS_AND_KEYS: &str = r#"
+ALFA POST /orders
+-> 400 65 BadJson
+
+ALFA POST /orders [
+-> 400 65 BadJson
+
+ALFA POST /orders {"amount":100}}
+-> 400 65 BadJson
+
+ALFA POST /orders []
+-> 400 66 WrongFields
+
+ALFA POST /orders null
+-> 400 66 WrongFields
+
+ALFA POST /orders {}
+-> 400 66 WrongFields
+
+ALFA POST /orders {"amount":100,"reference":"A-1"}
+-> 400 66 WrongFields
+
+ALFA POST /orders {"amount":100,"reference":"A-1","to":"BETA","x":1}
+-> 400 66 WrongFields
+
+ALFA POST /orders {"amount":100,"reference":"A-1","sender":"BETA","to":"BETA"}
+-> 400 66 WrongFields
+
+ALFA POST /orders {"Amount":100,"reference":"A-1","to":"BETA"}
+-> 400 66 WrongFields
+
+ALFA POST /orders {"amount":100,"reference":1,"to":"BETA"}
+-> 400 66 WrongFields
+
+ALFA POST /orders {"amount":0,"reference":"a","to":"beta"}
+-> 400 31 BadReference
+
+ALFA POST /orders {"amount":0,"reference":"A-1","to":"beta"}
+-> 400 30 BadCode
+
+ALFA POST /orders {"amount":0,"reference":"A-1","to":"BETA"}
+-> 400 32 BadAmount
+"#;
 
 #[test]
 fn texts_and_keys(rt: HostRuntime) -> Result<(), Fail> {
-    let bodies = [
-        ("", BAD_JSON),
-        ("[", BAD_JSON),
-        ("{\"amount\":100}}", BAD_JSON),
-        ("[]", WRONG_FIELDS),
-        ("null", WRONG_FIELDS),
-        ("{}", WRONG_FIELDS),
-        ("{\"amount\":100,\"reference\":\"A-1\"}", WRONG_FIELDS),
-        (
-            "{\"amount\":100,\"reference\":\"A-1\",\"to\":\"BETA\",\"x\":1}",
-            WRONG_FIELDS,
-        ),
-        (
-            "{\"amount\":100,\"reference\":\"A-1\",\"sender\":\"BETA\",\"to\":\"BETA\"}",
-            WRONG_FIELDS,
-        ),
-        (
-            "{\"Amount\":100,\"reference\":\"A-1\",\"to\":\"BETA\"}",
-            WRONG_FIELDS,
-        ),
-        (
-            "{\"amount\":100,\"reference\":1,\"to\":\"BETA\"}",
-            WRONG_FIELDS,
-        ),
-        (
-            "{\"amount\":0,\"reference\":\"a\",\"to\":\"beta\"}",
-            BAD_REFERENCE,
-        ),
-        (
-            "{\"amount\":0,\"reference\":\"A-1\",\"to\":\"beta\"}",
-            BAD_CODE,
-        ),
-        (
-            "{\"amount\":0,\"reference\":\"A-1\",\"to\":\"BETA\"}",
-            BAD_AMOUNT,
-        ),
-    ];
-    for (body, told) in bodies {
-        let input = order(rt.alloc(), body)?;
-        assert_eq!(rt; fault(rt.alloc(), input.as_bytes())?, told);
-    }
-    Ok(())
+    tells_faults(rt.alloc(), TEXTS_AND_KEYS)
 }
+
+const WITHOUT_CONTENT: &str = r#"
+ALFA POST /orders/A-1/withdraw
+-> 400 65 BadJson
+
+OPERATOR POST /desk/resolve
+-> 400 65 BadJson
+
+ALFA POST /orders/A-1/withdraw []
+-> 400 66 WrongFields
+
+OPERATOR POST /desk/resolve []
+-> 400 66 WrongFields
+
+ALFA POST /orders/A-1/withdraw {"x":1}
+-> 400 66 WrongFields
+
+OPERATOR POST /desk/resolve {"x":1}
+-> 400 66 WrongFields
+
+ALFA POST /orders/A-1/withdraw {}
+-> withdraw ALFA A-1
+
+OPERATOR POST /desk/resolve {}
+-> resolve
+"#;
 
 #[test]
 fn commands_without_content(rt: HostRuntime) -> Result<(), Fail> {
-    for (body, told) in [
-        ("", BAD_JSON),
-        ("[]", WRONG_FIELDS),
-        ("{\"x\":1}", WRONG_FIELDS),
-        ("{}", ASKED),
-    ] {
-        let withdrawal = post(rt.alloc(), ALFA, "/orders/A-1/withdraw", body)?;
-        assert_eq!(rt; fault(rt.alloc(), withdrawal.as_bytes())?, told);
-        let resolution = post(rt.alloc(), OPERATOR, "/desk/resolve", body)?;
-        assert_eq!(rt; fault(rt.alloc(), resolution.as_bytes())?, told);
-    }
-    Ok(())
+    tells_faults(rt.alloc(), WITHOUT_CONTENT)
 }
+
+const ORDER_FILES: &str = r#"
+ALFA POST /batches
+-> 400 40 BadHeader
+
+ALFA POST /batches
+reference,to
+-> 400 40 BadHeader
+
+ALFA POST /batches
+reference,to,amount
+-> 400 42 BadCount
+
+ALFA POST /batches
+reference,to,amount
+A-1,BETA
+-> 400 41 BadRow
+
+ALFA POST /batches
+reference,to,amount
+A-1,BETA,100
+-> batch ALFA, A-1 BETA 100
+"#;
 
 #[test]
 fn order_files(rt: HostRuntime) -> Result<(), Fail> {
-    let files = [
-        ("", BAD_HEADER),
-        ("reference,to\n", BAD_HEADER),
-        ("reference,to,amount\n", BAD_COUNT),
-        ("reference,to,amount\nA-1,BETA\n", BAD_ROW),
-        ("reference,to,amount\nA-1,BETA,100\n", ASKED),
-    ];
-    for (file, told) in files {
-        let input = post(rt.alloc(), ALFA, "/batches", file)?;
-        assert_eq!(rt; fault(rt.alloc(), input.as_bytes())?, told);
-    }
-    Ok(())
+    tells_faults(rt.alloc(), ORDER_FILES)
 }
 
-// So many lists, each in the one before.
-fn nested(alloc: Global, levels: u32) -> Result<String, AllocError> {
-    let mut text = String::new(alloc);
-    for _ in 0..levels {
-        text.push('[')?;
-    }
-    for _ in 0..levels {
-        text.push(']')?;
-    }
-    Ok(text)
+// ALFA's order with so many lists, each in the one before.
+fn nested(alloc: Global, levels: usize) -> Result<String, AllocError> {
+    let (open, close) = ("[".repeat(alloc, levels)?, "]".repeat(alloc, levels)?);
+    format!(in alloc; "ALFA POST /orders {open}{close}")
 }
 
 #[test]
 fn values_nest_127_levels_at_most(rt: HostRuntime) -> Result<(), Fail> {
-    for (levels, told) in [(127, WRONG_FIELDS), (128, BAD_JSON)] {
-        let body = nested(rt.alloc(), levels)?;
-        let input = order(rt.alloc(), body.as_str())?;
-        assert_eq!(rt; fault(rt.alloc(), input.as_bytes())?, told);
-    }
-    Ok(())
+    let most = nested(rt.alloc(), 127)?;
+    let more = nested(rt.alloc(), 128)?;
+    let desk = alfas_desk(rt.alloc())?;
+    is_told(rt.alloc(), &desk, most.as_str(), "400 66 WrongFields")?;
+    is_told(rt.alloc(), &desk, more.as_str(), "400 65 BadJson")
 }
 
 #[test]
 fn a_body_that_is_no_text(rt: HostRuntime) -> Result<(), Fail> {
-    let input =
-        b"POST /orders HTTP/1.1\r\ndesk-key: 0000000000000000000000000000000a\r\nContent-Length: 42\r\n\r\n\
-          {\"amount\":100,\"reference\":\"\xff\",\"to\":\"BETA\"}";
-    assert_eq!(rt; fault(rt.alloc(), input)?, BAD_JSON);
+    let head =
+        "POST /orders HTTP/1.1\r\ndesk-key: 0000000000000000000000000000000a\r\nContent-Length: 42\r\n\r\n";
+    let mut input = Vec::new(rt.alloc());
+    input.extend_from_slice(head.as_bytes())?;
+    input.extend_from_slice("{\"amount\":100,\"reference\":\"".as_bytes())?;
+    input.push(0xff)?;
+    input.extend_from_slice("\",\"to\":\"BETA\"}".as_bytes())?;
+    let desk = alfas_desk(rt.alloc())?;
+    let told = desk.asks(&mut input.as_slice())?;
+    assert_eq!(rt; told.as_str(), "400 65 BadJson");
     Ok(())
 }

@@ -1,83 +1,154 @@
 //! Heads that are served, and heads that are not.
-use super::fault;
-use super::told::{ASKED, BAD_HEAD, HEAD_TOO_LONG, TRUNCATED};
+use super::faults::{alfas_desk, tells_faults};
 use std::alloc::{AllocError, Global};
 use std::test::Fail;
 
+const ACCOUNT: &str = "read account ALFA";
+
+// The input is told this by ALFA's desk.
+fn is_told(alloc: Global, input: &str, told: &str) -> Result<(), Fail> {
+    let said = alfas_desk(alloc)?.asks(&mut input.as_bytes())?;
+    if said.as_str() == told {
+        return Ok(());
+    }
+    let length = input.len();
+    Err(Fail::from(format!(in alloc; "{length} bytes are told {said}, not {told}")?))
+}
+
 #[test]
 fn regions_that_do_not_end(rt: HostRuntime) -> Result<(), Fail> {
-    assert_eq!(rt; fault(rt.alloc(), b"")?, TRUNCATED);
-    assert_eq!(rt; fault(rt.alloc(), &[b'A'; 8191])?, TRUNCATED);
-    assert_eq!(rt; fault(rt.alloc(), &[b'A'; 8192])?, HEAD_TOO_LONG);
-    Ok(())
+    let most = "A".repeat(rt.alloc(), 8191)?;
+    let more = "A".repeat(rt.alloc(), 8192)?;
+    is_told(rt.alloc(), "", "400 64 Truncated")?;
+    is_told(rt.alloc(), most.as_str(), "400 64 Truncated")?;
+    is_told(rt.alloc(), more.as_str(), "413 61 HeadTooLong")
 }
+
+const NOT_SERVED: &str = r#"
+RAW GET /account HTTP/1.0\r\n
+\r\n
+-> 400 60 BadHead
+
+RAW \r\n
+GET /account HTTP/1.1\r\n
+\r\n
+-> 400 60 BadHead
+
+RAW \n
+GET /account HTTP/1.1\r\n
+\r\n
+-> 400 60 BadHead
+
+RAW POST /orders HTTP/1.1\r\n
+Transfer-Encoding: chunked\r\n
+\r\n
+-> 400 60 BadHead
+
+RAW POST /orders HTTP/1.1\r\n
+Content-Length: 5\r\n
+content-length: 5\r\n
+\r\n
+-> 400 60 BadHead
+
+RAW POST /orders HTTP/1.1\r\n
+Content-Length: +5\r\n
+\r\n
+-> 400 60 BadHead
+
+RAW POST /orders HTTP/1.1\r\n
+Content-Length: \r\n
+\r\n
+-> 400 60 BadHead
+
+RAW POST /orders HTTP/1.1\r\n
+Content-Length: 1234567890\r\n
+\r\n
+-> 400 60 BadHead
+
+RAW GET /account HTTP/1.1\r\n
+Content-Length: 1\r\n
+\r\n
+-> 400 60 BadHead
+
+RAW GET /account\r\n
+\r\n
+-> 400 60 BadHead
+"#;
 
 #[test]
 fn heads_that_are_not_served(rt: HostRuntime) -> Result<(), Fail> {
-    let heads: [&[u8]; 10] = [
-        b"GET /account HTTP/1.0\r\n\r\n",
-        b"\r\nGET /account HTTP/1.1\r\n\r\n",
-        b"\nGET /account HTTP/1.1\r\n\r\n",
-        b"POST /orders HTTP/1.1\r\nTransfer-Encoding: chunked\r\n\r\n",
-        b"POST /orders HTTP/1.1\r\nContent-Length: 5\r\ncontent-length: 5\r\n\r\n",
-        b"POST /orders HTTP/1.1\r\nContent-Length: +5\r\n\r\n",
-        b"POST /orders HTTP/1.1\r\nContent-Length: \r\n\r\n",
-        b"POST /orders HTTP/1.1\r\nContent-Length: 1234567890\r\n\r\n",
-        b"GET /account HTTP/1.1\r\nContent-Length: 1\r\n\r\n",
-        b"GET /account\r\n\r\n",
-    ];
-    for head in heads {
-        assert_eq!(rt; fault(rt.alloc(), head)?, BAD_HEAD);
-    }
-    Ok(())
+    tells_faults(rt.alloc(), NOT_SERVED)
 }
+
+const SERVED: &str = r#"
+RAW GET /account HTTP/1.1\r\n
+DESK-KEY: 0000000000000000000000000000000a\r\n
+\r\n
+-> read account ALFA
+
+RAW GET /account HTTP/1.1\r\n
+desk-key:\t 0000000000000000000000000000000a \t\r\n
+\r\n
+-> read account ALFA
+
+RAW GET /account HTTP/1.1\r\n
+desk-key: 0000000000000000000000000000000a\r\n
+Content-Length: 0\r\n
+\r\n
+-> read account ALFA
+
+RAW GET /account HTTP/1.1\r\n
+desk-key: 0000000000000000000000000000000a\r\n
+Content-Length: 000\r\n
+\r\n
+-> read account ALFA
+
+RAW GET /account HTTP/1.1\n
+desk-key: 0000000000000000000000000000000a\n
+Host: desk\r\n
+\r\n
+-> read account ALFA
+
+RAW POST /orders HTTP/1.1\r\n
+Desk-Key: 0000000000000000000000000000000a\r\n
+CONTENT-LENGTH: 000000044\r\n
+\r\n
+{"amount":100,"reference":"A-1","to":"BETA"}
+behind
+-> order ALFA A-1 BETA 100
+"#;
 
 #[test]
 fn heads_that_are_served(rt: HostRuntime) -> Result<(), Fail> {
-    let heads: [&[u8]; 6] = [
-        b"GET /account HTTP/1.1\r\nDESK-KEY: 0000000000000000000000000000000a\r\n\r\n",
-        b"GET /account HTTP/1.1\r\ndesk-key:\t 0000000000000000000000000000000a \t\r\n\r\n",
-        b"GET /account HTTP/1.1\r\ndesk-key: 0000000000000000000000000000000a\r\nContent-Length: 0\r\n\r\n",
-        b"GET /account HTTP/1.1\r\ndesk-key: 0000000000000000000000000000000a\r\nContent-Length: 000\r\n\r\n",
-        b"GET /account HTTP/1.1\ndesk-key: 0000000000000000000000000000000a\nHost: desk\r\n\r\n",
-        b"POST /orders HTTP/1.1\r\nDesk-Key: 0000000000000000000000000000000a\r\nCONTENT-LENGTH: 000000044\r\n\r\n\
-          {\"amount\":100,\"reference\":\"A-1\",\"to\":\"BETA\"}behind",
-    ];
-    for head in heads {
-        assert_eq!(rt; fault(rt.alloc(), head)?, ASKED);
-    }
-    Ok(())
+    tells_faults(rt.alloc(), SERVED)
 }
 
-// ALFA's GET of its account, with so many fields beside the key.
-fn with_fields(alloc: Global, count: u32) -> Result<String, AllocError> {
-    let mut head = String::new(alloc);
-    head.push_str("GET /account HTTP/1.1\r\ndesk-key: 0000000000000000000000000000000a\r\n")?;
-    for _ in 0..count {
-        head.push_str("x: y\r\n")?;
-    }
-    head.push_str("\r\n")?;
-    Ok(head)
+// ALFA's GET of its account, with these bytes behind the key.
+fn with_behind(alloc: Global, behind: &str) -> Result<String, AllocError> {
+    format!(in alloc;
+        "GET /account HTTP/1.1\r\ndesk-key: 0000000000000000000000000000000a\r\n{behind}\r\n"
+    )
+}
+
+// The same, with so many fields beside the key.
+fn with_fields(alloc: Global, count: usize) -> Result<String, AllocError> {
+    let fields = "x: y\r\n".repeat(alloc, count)?;
+    with_behind(alloc, fields.as_str())
 }
 
 #[test]
 fn a_head_has_32_fields_at_most(rt: HostRuntime) -> Result<(), Fail> {
     let most = with_fields(rt.alloc(), 31)?;
-    assert_eq!(rt; fault(rt.alloc(), most.as_bytes())?, ASKED);
+    is_told(rt.alloc(), most.as_str(), ACCOUNT)?;
     let more = with_fields(rt.alloc(), 32)?;
-    assert_eq!(rt; fault(rt.alloc(), more.as_bytes())?, BAD_HEAD);
-    Ok(())
+    is_told(rt.alloc(), more.as_str(), "400 60 BadHead")
 }
 
-// ALFA's GET of its account, with one more field whose value has so many bytes.
+// The same, with one more field whose value has so many bytes.
 fn with_long_field(alloc: Global, count: usize) -> Result<String, AllocError> {
-    let mut head = String::new(alloc);
-    head.push_str("GET /account HTTP/1.1\r\ndesk-key: 0000000000000000000000000000000a\r\nx: ")?;
-    for _ in 0..count {
-        head.push('y')?;
-    }
-    head.push_str("\r\n\r\n")?;
-    Ok(head)
+    let value = "y".repeat(alloc, count)?;
+    let field = format!(in alloc; "x: {value}\r\n")?;
+    with_behind(alloc, field.as_str())
 }
 
 #[test]
@@ -86,10 +157,9 @@ fn a_head_has_8192_bytes_at_most(rt: HostRuntime) -> Result<(), Fail> {
     assert!(rt; shortest < 8192);
     let most = with_long_field(rt.alloc(), 8192 - shortest)?;
     assert_eq!(rt; most.len(), 8192);
-    assert_eq!(rt; fault(rt.alloc(), most.as_bytes())?, ASKED);
+    is_told(rt.alloc(), most.as_str(), ACCOUNT)?;
     let more = with_long_field(rt.alloc(), 8193 - shortest)?;
-    assert_eq!(rt; fault(rt.alloc(), more.as_bytes())?, HEAD_TOO_LONG);
+    is_told(rt.alloc(), more.as_str(), "413 61 HeadTooLong")?;
     let line_of_8192 = with_long_field(rt.alloc(), 8189)?;
-    assert_eq!(rt; fault(rt.alloc(), line_of_8192.as_bytes())?, HEAD_TOO_LONG);
-    Ok(())
+    is_told(rt.alloc(), line_of_8192.as_str(), "413 61 HeadTooLong")
 }

@@ -1,77 +1,126 @@
 //! Targets that name no route, and parameters of no form.
-use super::told::{BAD_DATE, BAD_REFERENCE, NO_SUCH_ROUTE};
-use super::{ALFA, fault, get, post};
+use super::faults::tells_faults;
 use std::test::Fail;
+
+const NO_ROUTE: &str = r#"
+ALFA GET /
+-> 404 67 NoSuchRoute
+
+ALFA GET *
+-> 404 67 NoSuchRoute
+
+ALFA GET /account?x=1
+-> 404 67 NoSuchRoute
+
+ALFA GET /account?
+-> 404 67 NoSuchRoute
+
+ALFA GET http://desk/account
+-> 404 67 NoSuchRoute
+
+ALFA GET //account
+-> 404 67 NoSuchRoute
+
+ALFA GET /account/
+-> 404 67 NoSuchRoute
+
+ALFA GET /Account
+-> 404 67 NoSuchRoute
+
+ALFA GET /%61ccount
+-> 404 67 NoSuchRoute
+
+ALFA GET /orders
+-> 404 67 NoSuchRoute
+
+ALFA GET /orders/
+-> 404 67 NoSuchRoute
+
+ALFA GET /orders/A-1/B-1
+-> 404 67 NoSuchRoute
+
+ALFA GET /orders/A-1/withdraw
+-> 404 67 NoSuchRoute
+
+ALFA GET /desk/report
+-> 404 67 NoSuchRoute
+
+ALFA GET /statements/
+-> 404 67 NoSuchRoute
+"#;
 
 #[test]
 fn targets_without_a_route(rt: HostRuntime) -> Result<(), Fail> {
-    let targets = [
-        "/",
-        "*",
-        "/account?x=1",
-        "/account?",
-        "http://desk/account",
-        "//account",
-        "/account/",
-        "/Account",
-        "/%61ccount",
-        "/orders",
-        "/orders/",
-        "/orders/A-1/B-1",
-        "/orders/A-1/withdraw",
-        "/desk/report",
-        "/statements/",
-    ];
-    for target in targets {
-        let head = get(rt.alloc(), ALFA, target)?;
-        assert_eq!(rt; fault(rt.alloc(), head.as_bytes())?, NO_SUCH_ROUTE);
-    }
-    Ok(())
+    tells_faults(rt.alloc(), NO_ROUTE)
 }
+
+const NO_COMMAND: &str = r#"
+ALFA POST /account {}
+-> 404 67 NoSuchRoute
+
+ALFA POST /orders//withdraw {}
+-> 404 67 NoSuchRoute
+
+ALFA POST /orders/A-1 {}
+-> 404 67 NoSuchRoute
+
+ALFA POST /desk {}
+-> 404 67 NoSuchRoute
+
+ALFA POST /batches/ {}
+-> 404 67 NoSuchRoute
+"#;
 
 #[test]
 fn commands_without_a_route(rt: HostRuntime) -> Result<(), Fail> {
-    let targets = [
-        "/account",
-        "/orders//withdraw",
-        "/orders/A-1",
-        "/desk",
-        "/batches/",
-    ];
-    for target in targets {
-        let request = post(rt.alloc(), ALFA, target, "{}")?;
-        assert_eq!(rt; fault(rt.alloc(), request.as_bytes())?, NO_SUCH_ROUTE);
-    }
-    Ok(())
+    tells_faults(rt.alloc(), NO_COMMAND)
 }
+
+const OTHER_METHODS: &str = r#"
+RAW DELETE /orders HTTP/1.1\r\n
+\r\n
+-> 404 67 NoSuchRoute
+
+RAW HEAD /account HTTP/1.1\r\n
+\r\n
+-> 404 67 NoSuchRoute
+
+RAW OPTIONS * HTTP/1.1\r\n
+\r\n
+-> 404 67 NoSuchRoute
+
+RAW get /account HTTP/1.1\r\n
+\r\n
+-> 404 67 NoSuchRoute
+
+RAW CONNECT desk:80 HTTP/1.1\r\n
+\r\n
+-> 404 67 NoSuchRoute
+"#;
 
 #[test]
 fn other_methods(rt: HostRuntime) -> Result<(), Fail> {
-    let heads: [&[u8]; 5] = [
-        b"DELETE /orders HTTP/1.1\r\n\r\n",
-        b"HEAD /account HTTP/1.1\r\n\r\n",
-        b"OPTIONS * HTTP/1.1\r\n\r\n",
-        b"get /account HTTP/1.1\r\n\r\n",
-        b"CONNECT desk:80 HTTP/1.1\r\n\r\n",
-    ];
-    for head in heads {
-        assert_eq!(rt; fault(rt.alloc(), head)?, NO_SUCH_ROUTE);
-    }
-    Ok(())
+    tells_faults(rt.alloc(), OTHER_METHODS)
 }
+
+const NO_FORM: &str = r#"
+ALFA GET /orders/a-1
+-> 400 31 BadReference
+
+ALFA GET /orders/A%2D1
+-> 400 31 BadReference
+
+ALFA GET /orders/A-123456789012345
+-> 400 31 BadReference
+
+ALFA GET /statements/2024-02-30
+-> 400 35 BadDate
+
+ALFA GET /statements/20240304
+-> 400 35 BadDate
+"#;
 
 #[test]
 fn parameters_of_no_form(rt: HostRuntime) -> Result<(), Fail> {
-    let targets = [
-        ("/orders/a-1", BAD_REFERENCE),
-        ("/orders/A%2D1", BAD_REFERENCE),
-        ("/orders/A-123456789012345", BAD_REFERENCE),
-        ("/statements/2024-02-30", BAD_DATE),
-        ("/statements/20240304", BAD_DATE),
-    ];
-    for (target, told) in targets {
-        let head = get(rt.alloc(), ALFA, target)?;
-        assert_eq!(rt; fault(rt.alloc(), head.as_bytes())?, told);
-    }
-    Ok(())
+    tells_faults(rt.alloc(), NO_FORM)
 }

@@ -1,16 +1,26 @@
 //! Statements and reports of a desk whose reads meet trouble, each in turn: which rows the writer then has.
-use super::failing_keeper::{FailingKeeper, Trouble};
-use super::{begin_day, desk_over};
-use rtgs_book::{Command, Refusal};
-use rtgs_desk::Desk;
+use super::super::failing_keeper::Trouble;
+use super::super::test_desk::TestDesk;
+use rtgs_book::Refusal;
 use rtgs_desk_texts::{write_report, write_statement};
-use rtgs_keeper::{Keeper, MemoryKeeper};
-use rtgs_money::{BusinessDate, Code, PostingAmount, Reference};
+use rtgs_money::{BusinessDate, Code};
 use rtgs_statements::BookTextFault;
 use std::alloc::Global;
 use std::test::Fail;
 
-// The statement of ALFA, to whom all three postings of Monday are.
+// All three postings of Monday are to ALFA.
+const POSTINGS: &str = r#"
+OPERATOR POST /desk/post {"cents":100,"code":"ALFA","reference":"P-1"}
+-> 200 OK {"answer":"posted","number":1}
+
+OPERATOR POST /desk/post {"cents":2000,"code":"ALFA","reference":"P-2"}
+-> 200 OK {"answer":"posted","number":2}
+
+OPERATOR POST /desk/post {"cents":-50,"code":"ALFA","reference":"P-3"}
+-> 200 OK {"answer":"posted","number":3}
+"#;
+
+// The statement of ALFA.
 const STATEMENT: &str = "statement ALFA 2024-03-04
 posting    000000001 P-1              -                        1.00         -
 posting    000000002 P-2              -                       20.00         -
@@ -21,67 +31,54 @@ sum-recv                             0.00
 net                                 20.50
 ";
 
-// How many lines of it are written before so many reads went well: of each posting once it is read, and the sums after
-// the one look for an order.
-const LINES_AFTER: [usize; 5] = [1, 2, 3, 4, 4];
+// How many reads a statement takes: three postings and then none, and no order.
+const READS_OF_A_STATEMENT: usize = 5;
 
 // How many reads a report takes: three postings and then none, no order and no mark.
 const READS_OF_A_REPORT: usize = 6;
 
-fn monday() -> Result<BusinessDate, Fail> {
-    Ok(BusinessDate::read(b"2024-03-04")?)
-}
-
-// The keeper of a Monday with three postings to ALFA.
-fn prepared(alloc: Global) -> Result<MemoryKeeper, Fail> {
-    let mut desk = desk_over(alloc, MemoryKeeper::new(alloc))?;
-    begin_day(&mut desk)?;
-    for (reference, cents) in [("P-1", 100), ("P-2", 2000), ("P-3", -50)] {
-        desk.submit(Command::Post {
-            code: Code::read(b"ALFA")?,
-            reference: Reference::read(reference.as_bytes())?,
-            cents: PostingAmount::from_cents(cents).ok_or("no posting")?,
-        })?;
-    }
-    Ok(desk.into_keeper())
-}
-
 // A desk of that Monday whose keeper meets this trouble after so many reads.
-fn desk_after(
-    alloc: Global,
-    reads: usize,
-    trouble: Trouble,
-) -> Result<Desk<FailingKeeper<MemoryKeeper>>, Fail> {
-    // The opening is a call too.
-    let calls = reads.saturating_add(1);
-    desk_over(alloc, FailingKeeper::new(prepared(alloc)?, calls, trouble))
+fn desk_after(alloc: Global, reads: usize, trouble: Trouble) -> Result<TestDesk, Fail> {
+    let mut desk = TestDesk::open(alloc)?;
+    desk.follow(POSTINGS)?;
+    // the opening is a call too
+    desk.troubled_again(reads.saturating_add(1), trouble)
 }
 
-// Writes a participant's statement of Monday. Gives why it was refused, where it was.
-fn statement<K: Keeper>(
-    alloc: Global,
-    desk: &mut Desk<K>,
-    out: &mut Vec<u8>,
-    code: &[u8],
-) -> Result<Option<Refusal>, Fail> {
-    match write_statement(alloc, out, desk, &Code::read(code)?, monday()?) {
-        Ok(()) => Ok(None),
-        Err(BookTextFault::Refused(refusal)) => Ok(Some(refusal)),
-        Err(BookTextFault::Text(_)) => Err(Fail::from("a line was not written")),
-    }
+// Why a text was refused, where it was, and on the lines after that what was written of it.
+fn told(alloc: Global, written: Result<(), BookTextFault>, out: &[u8]) -> Result<String, Fail> {
+    let refused = match written {
+        Ok(()) => None,
+        Err(BookTextFault::Refused(refusal)) => Some(refusal),
+        Err(BookTextFault::Text(_)) => return Err(Fail::from("a line was not written")),
+    };
+    let text = std::str::from_utf8(out).unwrap_or("no text");
+    Ok(format!(in alloc; "{refused:?}\n{text}")?)
 }
 
-// Writes the report of Monday. Gives why it was refused, where it was.
-fn report<K: Keeper>(
-    alloc: Global,
-    desk: &mut Desk<K>,
-    out: &mut Vec<u8>,
-) -> Result<Option<Refusal>, Fail> {
-    match write_report(alloc, out, desk, monday()?) {
-        Ok(()) => Ok(None),
-        Err(BookTextFault::Refused(refusal)) => Ok(Some(refusal)),
-        Err(BookTextFault::Text(_)) => Err(Fail::from("a line was not written")),
+// What is told of a participant's statement of Monday.
+fn statement(alloc: Global, desk: &mut TestDesk, code: &str) -> Result<String, Fail> {
+    let code = Code::read(code.as_bytes())?;
+    let monday = BusinessDate::read(b"2024-03-04")?;
+    let mut out = Vec::new(alloc);
+    let written = write_statement(alloc, &mut out, &mut desk.desk, &code, monday);
+    told(alloc, written, out.as_slice())
+}
+
+// What is told of the report of Monday.
+fn report(alloc: Global, desk: &mut TestDesk) -> Result<String, Fail> {
+    let monday = BusinessDate::read(b"2024-03-04")?;
+    let mut out = Vec::new(alloc);
+    let written = write_report(alloc, &mut out, &mut desk.desk, monday);
+    told(alloc, written, out.as_slice())
+}
+
+// Fails where another text is wanted.
+fn is_same(found: &str, wanted: &str) -> Result<(), Fail> {
+    if found == wanted {
+        return Ok(());
     }
+    Err(Fail::new(found))
 }
 
 // What a read is refused with at this trouble.
@@ -92,11 +89,11 @@ fn refusal_of(trouble: Trouble) -> Refusal {
     }
 }
 
-// What the same desk gives of the same text afterwards.
-fn refusal_after(trouble: Trouble) -> Option<Refusal> {
+// What the same desk tells of the same text afterwards.
+fn told_after(alloc: Global, trouble: Trouble, whole: &str) -> Result<String, Fail> {
     match trouble {
-        Trouble::Lost | Trouble::Kept => Some(Refusal::Failed),
-        Trouble::OutOfMemory => None,
+        Trouble::Lost | Trouble::Kept => Ok(String::from_str(alloc, "Some(Failed)\n")?),
+        Trouble::OutOfMemory => Ok(format!(in alloc; "None\n{whole}")?),
     }
 }
 
@@ -113,78 +110,95 @@ fn first_lines(alloc: Global, count: usize) -> Result<String, Fail> {
 #[test]
 fn a_third_posting_that_is_not_read_leaves_two(rt: HostRuntime) -> Result<(), Fail> {
     let mut desk = desk_after(rt.alloc(), 2, Trouble::Lost)?;
-    let mut out = Vec::new(rt.alloc());
-    let refused = statement(rt.alloc(), &mut desk, &mut out, b"ALFA")?;
-    assert_eq!(rt; refused, Some(Refusal::StoreFault));
-    assert!(rt; desk.failed());
-    assert_eq!(rt;
-        std::str::from_utf8(out.as_slice())?,
-        "statement ALFA 2024-03-04
+    let told = statement(rt.alloc(), &mut desk, "ALFA")?;
+    assert!(rt; desk.desk.failed());
+    is_same(
+        told.as_str(),
+        "Some(StoreFault)
+statement ALFA 2024-03-04
 posting    000000001 P-1              -                        1.00         -
 posting    000000002 P-2              -                       20.00         -
-"
-    );
-    Ok(())
+",
+    )
+}
+
+// The read of a statement after so many meets this trouble, and so many lines are written before.
+fn is_begun(alloc: Global, trouble: Trouble, reads: usize, lines: usize) -> Result<(), Fail> {
+    let mut desk = desk_after(alloc, reads, trouble)?;
+    let found = statement(alloc, &mut desk, "ALFA")?;
+    let refusal = refusal_of(trouble);
+    let begun = first_lines(alloc, lines)?;
+    let wanted = format!(in alloc; "Some({refusal:?})\n{begun}")?;
+    is_same(found.as_str(), wanted.as_str())?;
+    let found = statement(alloc, &mut desk, "ALFA")?;
+    let wanted = told_after(alloc, trouble, STATEMENT)?;
+    is_same(found.as_str(), wanted.as_str())
+}
+
+// Each read of a statement meets this trouble. Each posting is written once it is read, and the sums after the one look
+// for an order.
+fn each_is_begun(alloc: Global, trouble: Trouble) -> Result<(), Fail> {
+    is_begun(alloc, trouble, 0, 1)?;
+    is_begun(alloc, trouble, 1, 2)?;
+    is_begun(alloc, trouble, 2, 3)?;
+    is_begun(alloc, trouble, 3, 4)?;
+    is_begun(alloc, trouble, 4, 4)
 }
 
 #[test]
 fn each_read_of_a_statement_meets_trouble(rt: HostRuntime) -> Result<(), Fail> {
-    for trouble in [Trouble::Lost, Trouble::Kept, Trouble::OutOfMemory] {
-        for (reads, lines) in LINES_AFTER.iter().enumerate() {
-            let mut desk = desk_after(rt.alloc(), reads, trouble)?;
-            let mut out = Vec::new(rt.alloc());
-            let refused = statement(rt.alloc(), &mut desk, &mut out, b"ALFA")?;
-            assert_eq!(rt; refused, Some(refusal_of(trouble)), "{reads}");
-            let begun = first_lines(rt.alloc(), *lines)?;
-            assert_eq!(rt; std::str::from_utf8(out.as_slice())?, begun.as_str());
-            let mut again = Vec::new(rt.alloc());
-            let refused = statement(rt.alloc(), &mut desk, &mut again, b"ALFA")?;
-            assert_eq!(rt; refused, refusal_after(trouble), "{reads}");
-            let whole = if refused.is_none() { STATEMENT } else { "" };
-            assert_eq!(rt; std::str::from_utf8(again.as_slice())?, whole);
-        }
-    }
-    Ok(())
+    each_is_begun(rt.alloc(), Trouble::Lost)?;
+    each_is_begun(rt.alloc(), Trouble::Kept)?;
+    each_is_begun(rt.alloc(), Trouble::OutOfMemory)
 }
 
 #[test]
 fn a_statement_takes_five_reads(rt: HostRuntime) -> Result<(), Fail> {
-    let mut desk = desk_after(rt.alloc(), LINES_AFTER.len(), Trouble::Lost)?;
-    let mut out = Vec::new(rt.alloc());
-    let refused = statement(rt.alloc(), &mut desk, &mut out, b"ALFA")?;
-    assert_eq!(rt; refused, None);
-    assert_eq!(rt; std::str::from_utf8(out.as_slice())?, STATEMENT);
-    Ok(())
+    let mut desk = desk_after(rt.alloc(), READS_OF_A_STATEMENT, Trouble::Lost)?;
+    let found = statement(rt.alloc(), &mut desk, "ALFA")?;
+    let wanted = told_after(rt.alloc(), Trouble::OutOfMemory, STATEMENT)?;
+    is_same(found.as_str(), wanted.as_str())
 }
 
 #[test]
 fn a_statement_of_nobody_is_refused_before_a_read(rt: HostRuntime) -> Result<(), Fail> {
     let mut desk = desk_after(rt.alloc(), 0, Trouble::Lost)?;
-    let mut out = Vec::new(rt.alloc());
-    let refused = statement(rt.alloc(), &mut desk, &mut out, b"ZETA")?;
-    assert_eq!(rt; refused, Some(Refusal::UnknownParticipant));
-    assert!(rt; out.is_empty());
-    assert!(rt; !desk.failed());
+    let found = statement(rt.alloc(), &mut desk, "ZETA")?;
+    assert!(rt; !desk.desk.failed());
+    is_same(found.as_str(), "Some(UnknownParticipant)\n")
+}
+
+// The read of a report after so many meets this trouble, and nothing is written. Afterwards the desk has failed, or
+// tells the whole report.
+fn is_not_begun(alloc: Global, trouble: Trouble, reads: usize, whole: &str) -> Result<(), Fail> {
+    let mut desk = desk_after(alloc, reads, trouble)?;
+    let found = report(alloc, &mut desk)?;
+    let refusal = refusal_of(trouble);
+    let wanted = format!(in alloc; "Some({refusal:?})\n")?;
+    is_same(found.as_str(), wanted.as_str())?;
+    let found = report(alloc, &mut desk)?;
+    let wanted = told_after(alloc, trouble, whole)?;
+    is_same(found.as_str(), wanted.as_str())
+}
+
+// Each read of a report meets this trouble.
+fn none_is_begun(alloc: Global, trouble: Trouble, whole: &str) -> Result<(), Fail> {
+    for reads in 0..READS_OF_A_REPORT {
+        is_not_begun(alloc, trouble, reads, whole)?;
+    }
     Ok(())
 }
 
 #[test]
 fn a_report_is_begun_once_all_is_read(rt: HostRuntime) -> Result<(), Fail> {
-    let mut whole = Vec::new(rt.alloc());
     let mut desk = desk_after(rt.alloc(), READS_OF_A_REPORT, Trouble::Lost)?;
-    assert_eq!(rt; report(rt.alloc(), &mut desk, &mut whole)?, None);
-    assert!(rt; whole.starts_with(b"report 2024-03-04\n"));
-    for trouble in [Trouble::Lost, Trouble::Kept, Trouble::OutOfMemory] {
-        for reads in 0..READS_OF_A_REPORT {
-            let mut desk = desk_after(rt.alloc(), reads, trouble)?;
-            let mut out = Vec::new(rt.alloc());
-            let refused = report(rt.alloc(), &mut desk, &mut out)?;
-            assert_eq!(rt; refused, Some(refusal_of(trouble)), "{reads}");
-            assert!(rt; out.is_empty());
-            let refused = report(rt.alloc(), &mut desk, &mut out)?;
-            assert_eq!(rt; refused, refusal_after(trouble), "{reads}");
-            assert!(rt; out.is_empty() || out.as_slice() == whole.as_slice());
-        }
-    }
-    Ok(())
+    let told = report(rt.alloc(), &mut desk)?;
+    let whole = told
+        .as_str()
+        .strip_prefix("None\n")
+        .ok_or("a report that was refused")?;
+    assert!(rt; whole.starts_with("report 2024-03-04\n"));
+    none_is_begun(rt.alloc(), Trouble::Lost, whole)?;
+    none_is_begun(rt.alloc(), Trouble::Kept, whole)?;
+    none_is_begun(rt.alloc(), Trouble::OutOfMemory, whole)
 }

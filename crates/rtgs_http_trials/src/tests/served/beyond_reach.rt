@@ -1,5 +1,5 @@
 //! Replies that no request of a test leads to: of a book whose numbers are used up, and of an answer that is lost.
-use super::{JSON, whole};
+use super::super::test_desk::whole;
 use rtgs_book::Refusal;
 use rtgs_http_bodies::refusal_reply;
 use rtgs_http_replies::Reply;
@@ -9,7 +9,7 @@ use std::test::Fail;
 fn a_book_that_is_full_is_told(rt: HostRuntime) -> Result<(), Fail> {
     let alloc = rt.alloc();
     let told = "{\"code\":8,\"name\":\"NumbersUsedUp\"}";
-    let wanted = whole(alloc, "409 Conflict", JSON, told)?;
+    let wanted = whole(alloc, "409 Conflict", "application/json", told)?;
     let reply = refusal_reply(alloc, Refusal::NumbersUsedUp)?;
     assert!(rt; reply.as_bytes() == wanted.as_bytes());
     Ok(())
@@ -18,7 +18,12 @@ fn a_book_that_is_full_is_told(rt: HostRuntime) -> Result<(), Fail> {
 #[test]
 fn an_answer_that_is_lost_is_told(rt: HostRuntime) -> Result<(), Fail> {
     let told = "{\"code\":69,\"name\":\"AnswerLost\"}";
-    let wanted = whole(rt.alloc(), "503 Service Unavailable", JSON, told)?;
+    let wanted = whole(
+        rt.alloc(),
+        "503 Service Unavailable",
+        "application/json",
+        told,
+    )?;
     let reply = Reply::answer_lost();
     assert_eq!(rt; reply.status().as_u16(), 503);
     assert!(rt; reply.as_bytes() == wanted.as_bytes());

@@ -1,10 +1,10 @@
 //! Connections served one after another.
-use super::super::{ALFA, GOOD};
-use super::failing_keeper::{FailingKeeper, Trouble};
-use super::{BETA, GAMA, OPERATOR, begin_day, desk_over, digest, open_desk, request};
+use super::super::failing_keeper::Trouble;
+use super::super::requests::{OTHER, Request};
+use super::super::test_desk::TestDesk;
+use super::super::{GOOD, OPERATOR, digest};
 use rtgs_book::{Answer, Command};
 use rtgs_http_server::{Connections, serve_connections};
-use rtgs_keeper::MemoryKeeper;
 use std::alloc::Global;
 use std::test::Fail;
 
@@ -63,51 +63,54 @@ impl<'a> Connections for Scripted<'a> {
     }
 }
 
+// Serves these connections at a desk. Whether so many are left then, and the replies begin like this.
+fn serves(
+    alloc: Global,
+    desk: &mut TestDesk,
+    inputs: &[Option<&[u8]>],
+    count: u32,
+    left: u32,
+    beginnings: &[&str],
+) -> bool {
+    let mut connections = Scripted::new(alloc, inputs, count);
+    serve_connections(alloc, &mut connections, &mut desk.desk, &desk.operator);
+    connections.left == left && connections.replied(beginnings)
+}
+
 #[test]
 fn one_that_is_not_accepted_counts_as_served(rt: HostRuntime) -> Result<(), Fail> {
-    let alloc = rt.alloc();
-    let mut desk = open_desk(alloc)?;
-    let good = Some(GOOD);
-    let inputs = [None, good, Some(b"GET".as_slice()), good];
-    let mut connections = Scripted::new(alloc, &inputs, 3);
-    let operator = digest(OPERATOR.as_bytes())?;
-    serve_connections(alloc, &mut connections, &mut desk, &operator);
-    assert_eq!(rt; connections.left, 0);
-    assert!(rt; connections.replied(&["HTTP/1.1 200 OK\r\n", "HTTP/1.1 400 Bad Request\r\n"]));
+    let mut desk = TestDesk::open(rt.alloc())?;
+    let good = Some(GOOD.as_bytes());
+    let inputs = [None, good, Some("GET".as_bytes()), good];
+    let told = ["HTTP/1.1 200 OK\r\n", "HTTP/1.1 400 Bad Request\r\n"];
+    assert!(rt; serves(rt.alloc(), &mut desk, &inputs, 3, 0, &told));
     Ok(())
 }
 
 #[test]
 fn none_is_served_once_the_desk_has_failed(rt: HostRuntime) -> Result<(), Fail> {
-    let alloc = rt.alloc();
-    // the desk is opened, has three banks and a day, and looks the order up
-    let keeper = FailingKeeper::new(MemoryKeeper::new(alloc), 6, Trouble::Lost);
-    let mut desk = desk_over(alloc, keeper)?;
-    begin_day(&mut desk)?;
-    let good = Some(GOOD);
-    let inputs = [good, good];
-    let mut connections = Scripted::new(alloc, &inputs, 2);
-    let operator = digest(OPERATOR.as_bytes())?;
-    serve_connections(alloc, &mut connections, &mut desk, &operator);
-    assert_eq!(rt; connections.left, 1);
-    assert!(rt; connections.replied(&["HTTP/1.1 503 Service Unavailable\r\n"]));
+    // the order is looked up, and then kept
+    let mut desk = TestDesk::troubled(rt.alloc(), 1, Trouble::Lost)?;
+    let good = Some(GOOD.as_bytes());
+    let told = ["HTTP/1.1 503 Service Unavailable\r\n"];
+    assert!(rt; serves(rt.alloc(), &mut desk, &[good, good], 2, 1, &told));
     Ok(())
 }
 
-// A key that is the operator's in one test alone.
-const OTHER: &str = "0000000000000000000000000000000e";
+// The bytes of a request.
+fn sent(alloc: Global, asked: &str) -> Result<String, Fail> {
+    Request::read(asked)?.input(alloc)
+}
 
 // Whether an operator with this key is told so of a resolution that bears the usual key, and of one that bears the
 // other.
 fn operates(alloc: Global, key: &str, beginnings: &[&str]) -> Result<bool, Fail> {
-    let mut desk = open_desk(alloc)?;
-    let usual = request(alloc, OPERATOR, "POST /desk/resolve", "{}")?;
-    let other = request(alloc, OTHER, "POST /desk/resolve", "{}")?;
+    let mut desk = TestDesk::open(alloc)?;
+    desk.operator = digest(key.as_bytes())?;
+    let usual = sent(alloc, "OPERATOR POST /desk/resolve {}")?;
+    let other = sent(alloc, "OTHER POST /desk/resolve {}")?;
     let inputs = [Some(usual.as_bytes()), Some(other.as_bytes())];
-    let mut connections = Scripted::new(alloc, &inputs, 2);
-    let operator = digest(key.as_bytes())?;
-    serve_connections(alloc, &mut connections, &mut desk, &operator);
-    Ok(connections.replied(beginnings))
+    Ok(serves(alloc, &mut desk, &inputs, 2, 0, beginnings))
 }
 
 #[test]
@@ -121,23 +124,22 @@ fn the_operator_bears_the_key_that_was_given(rt: HostRuntime) -> Result<(), Fail
 
 #[test]
 fn orders_in_a_ring_wait_until_somebody_resolves(rt: HostRuntime) -> Result<(), Fail> {
+    let mut desk = TestDesk::open(rt.alloc())?;
     let alloc = rt.alloc();
-    let mut desk = open_desk(alloc)?;
-    let body = "{\"amount\":100,\"reference\":\"R-1\",\"to\":\"BETA\"}";
-    let first = request(alloc, ALFA, "POST /orders", body)?;
-    let body = "{\"amount\":100,\"reference\":\"R-1\",\"to\":\"GAMA\"}";
-    let second = request(alloc, BETA, "POST /orders", body)?;
-    let body = "{\"amount\":100,\"reference\":\"R-1\",\"to\":\"ALFA\"}";
-    let third = request(alloc, GAMA, "POST /orders", body)?;
+    let asked = r#"ALFA POST /orders {"amount":100,"reference":"R-1","to":"BETA"}"#;
+    let first = sent(alloc, asked)?;
+    let asked = r#"BETA POST /orders {"amount":100,"reference":"R-1","to":"GAMA"}"#;
+    let second = sent(alloc, asked)?;
+    let asked = r#"GAMA POST /orders {"amount":100,"reference":"R-1","to":"ALFA"}"#;
+    let third = sent(alloc, asked)?;
     let inputs = [
         Some(first.as_bytes()),
         Some(second.as_bytes()),
         Some(third.as_bytes()),
     ];
-    let mut connections = Scripted::new(alloc, &inputs, 3);
-    let operator = digest(OPERATOR.as_bytes())?;
-    serve_connections(alloc, &mut connections, &mut desk, &operator);
-    let resolved = desk.submit(Command::Resolve);
+    let told = ["HTTP/1.1 200 OK\r\n"; 3];
+    assert!(rt; serves(rt.alloc(), &mut desk, &inputs, 3, 0, &told));
+    let resolved = desk.desk.submit(Command::Resolve);
     assert!(rt; matches!(resolved, Ok(Answer::Resolved { count: 3, .. })));
     Ok(())
 }

@@ -1,52 +1,28 @@
 //! A desk before its first day.
-use super::super::ALFA;
-use super::{JSON, OPERATOR, Row, add_banks, desk_over, follow};
-use rtgs_keeper::MemoryKeeper;
+use super::super::failing_keeper::Trouble;
+use super::super::test_desk::{TestDesk, add_banks};
 use std::test::Fail;
 
-const BEFORE: [Row<'static>; 5] = [
-    (
-        ALFA,
-        "GET /account",
-        "",
-        "200 OK",
-        "{\"balance\":0,\"code\":\"ALFA\",\"credit\":0,\
-        \"name\":\"Alfa Bank\",\"phase\":\"CLOSED\",\"queued\":0,\"queued_value\":0}",
-    ),
-    (
-        OPERATOR,
-        "POST /desk/close",
-        "{\"date\":\"2024-03-04\"}",
-        "409 Conflict",
-        "{\"code\":14,\"name\":\"WrongPhase\"}",
-    ),
-    (
-        OPERATOR,
-        "POST /desk/resolve",
-        "{}",
-        "409 Conflict",
-        "{\"code\":14,\"name\":\"WrongPhase\"}",
-    ),
-    (
-        ALFA,
-        "POST /orders",
-        "{\"amount\":1,\"reference\":\"A-1\",\"to\":\"BETA\"}",
-        "409 Conflict",
-        "{\"code\":5,\"name\":\"NotOpen\"}",
-    ),
-    (
-        OPERATOR,
-        "POST /desk/open",
-        "{\"date\":\"2024-03-04\"}",
-        "200 OK",
-        "{\"answer\":\"opened\"}",
-    ),
-];
+const BEFORE: &str = r#"
+ALFA GET /account
+-> 200 OK {"balance":0,"code":"ALFA","credit":0,"name":"Alfa Bank","phase":"CLOSED","queued":0,"queued_value":0}
+
+OPERATOR POST /desk/close {"date":"2024-03-04"}
+-> 409 Conflict {"code":14,"name":"WrongPhase"}
+
+OPERATOR POST /desk/resolve {}
+-> 409 Conflict {"code":14,"name":"WrongPhase"}
+
+ALFA POST /orders {"amount":1,"reference":"A-1","to":"BETA"}
+-> 409 Conflict {"code":5,"name":"NotOpen"}
+
+OPERATOR POST /desk/open {"date":"2024-03-04"}
+-> 200 OK {"answer":"opened"}
+"#;
 
 #[test]
 fn a_desk_without_a_day(rt: HostRuntime) -> Result<(), Fail> {
-    let alloc = rt.alloc();
-    let mut desk = desk_over(alloc, MemoryKeeper::new(alloc))?;
-    add_banks(&mut desk)?;
-    follow(alloc, &mut desk, JSON, &BEFORE)
+    let mut desk = TestDesk::new(rt.alloc(), usize::MAX, Trouble::Lost)?;
+    add_banks(&mut desk.desk)?;
+    desk.follow(BEFORE)
 }

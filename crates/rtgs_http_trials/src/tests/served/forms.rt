@@ -1,191 +1,97 @@
 //! Values that are of no form, in each body and each target.
-use super::super::ALFA;
-use super::{JSON, OPERATOR, Row, follow, open_desk};
+use super::super::test_desk::{follows, follows_after};
 use std::test::Fail;
 
-const BAD: &str = "400 Bad Request";
+const VALUES: &str = r#"
+OPERATOR POST /desk/post {"cents":0,"code":"alfa","reference":"p"}
+-> 400 Bad Request {"code":30,"name":"BadCode"}
 
-const BAD_CODE: &str = "{\"code\":30,\"name\":\"BadCode\"}";
+OPERATOR POST /desk/post {"cents":0,"code":"ALFA","reference":"p"}
+-> 400 Bad Request {"code":31,"name":"BadReference"}
 
-const BAD_REFERENCE: &str = "{\"code\":31,\"name\":\"BadReference\"}";
+OPERATOR POST /desk/post {"cents":0,"code":"ALFA","reference":"P-1"}
+-> 400 Bad Request {"code":32,"name":"BadAmount"}
 
-const BAD_AMOUNT: &str = "{\"code\":32,\"name\":\"BadAmount\"}";
+OPERATOR POST /desk/post {"cents":1000000000000001,"code":"ALFA","reference":"P-1"}
+-> 400 Bad Request {"code":32,"name":"BadAmount"}
 
-const BAD_DATE: &str = "{\"code\":35,\"name\":\"BadDate\"}";
+OPERATOR POST /desk/post {"cents":"10","code":"ALFA","reference":"P-1"}
+-> 400 Bad Request {"code":66,"name":"WrongFields"}
 
-const WRONG_FIELDS: &str = "{\"code\":66,\"name\":\"WrongFields\"}";
+OPERATOR POST /desk/credit {"code":"AL","credit":100000000000001}
+-> 400 Bad Request {"code":30,"name":"BadCode"}
 
-const POSTINGS: [Row<'static>; 8] = [
-    (
-        OPERATOR,
-        "POST /desk/post",
-        "{\"cents\":0,\"code\":\"alfa\",\"reference\":\"p\"}",
-        BAD,
-        BAD_CODE,
-    ),
-    (
-        OPERATOR,
-        "POST /desk/post",
-        "{\"cents\":0,\"code\":\"ALFA\",\"reference\":\"p\"}",
-        BAD,
-        BAD_REFERENCE,
-    ),
-    (
-        OPERATOR,
-        "POST /desk/post",
-        "{\"cents\":0,\"code\":\"ALFA\",\"reference\":\"P-1\"}",
-        BAD,
-        BAD_AMOUNT,
-    ),
-    (
-        OPERATOR,
-        "POST /desk/post",
-        "{\"cents\":1000000000000001,\"code\":\"ALFA\",\"reference\":\"P-1\"}",
-        BAD,
-        BAD_AMOUNT,
-    ),
-    (
-        OPERATOR,
-        "POST /desk/post",
-        "{\"cents\":\"10\",\"code\":\"ALFA\",\"reference\":\"P-1\"}",
-        BAD,
-        WRONG_FIELDS,
-    ),
-    (
-        OPERATOR,
-        "POST /desk/credit",
-        "{\"code\":\"AL\",\"credit\":100000000000001}",
-        BAD,
-        BAD_CODE,
-    ),
-    (
-        OPERATOR,
-        "POST /desk/credit",
-        "{\"code\":\"ALFA\",\"credit\":100000000000001}",
-        BAD,
-        BAD_AMOUNT,
-    ),
-    (
-        OPERATOR,
-        "POST /desk/credit",
-        "{\"code\":\"ALFA\",\"credit\":-1}",
-        BAD,
-        WRONG_FIELDS,
-    ),
-];
+OPERATOR POST /desk/credit {"code":"ALFA","credit":100000000000001}
+-> 400 Bad Request {"code":32,"name":"BadAmount"}
 
-const DATES: [Row<'static>; 6] = [
-    (
-        OPERATOR,
-        "POST /desk/open",
-        "{\"date\":\"2024-02-30\"}",
-        BAD,
-        BAD_DATE,
-    ),
-    (
-        OPERATOR,
-        "POST /desk/cutoff",
-        "{\"date\":\"2024-3-4\"}",
-        BAD,
-        BAD_DATE,
-    ),
-    (
-        OPERATOR,
-        "POST /desk/close",
-        "{\"date\":\"1999-12-31\"}",
-        BAD,
-        BAD_DATE,
-    ),
-    (
-        OPERATOR,
-        "POST /desk/close",
-        "{\"date\":20240304}",
-        BAD,
-        WRONG_FIELDS,
-    ),
-    (OPERATOR, "GET /desk/report/2024-02-30", "", BAD, BAD_DATE),
-    (ALFA, "GET /statements/3000-01-01", "", BAD, BAD_DATE),
-];
+OPERATOR POST /desk/credit {"code":"ALFA","credit":-1}
+-> 400 Bad Request {"code":66,"name":"WrongFields"}
 
-const ORDERS: [Row<'static>; 6] = [
-    (
-        ALFA,
-        "POST /orders",
-        "{\"amount\":0,\"reference\":\"a\",\"to\":\"beta\"}",
-        BAD,
-        BAD_REFERENCE,
-    ),
-    (
-        ALFA,
-        "POST /orders",
-        "{\"amount\":0,\"reference\":\"A-1\",\"to\":\"beta\"}",
-        BAD,
-        BAD_CODE,
-    ),
-    (
-        ALFA,
-        "POST /orders",
-        "{\"amount\":0,\"reference\":\"A-1\",\"to\":\"BETA\"}",
-        BAD,
-        BAD_AMOUNT,
-    ),
-    (
-        ALFA,
-        "POST /orders",
-        "[",
-        BAD,
-        "{\"code\":65,\"name\":\"BadJson\"}",
-    ),
-    (ALFA, "POST /orders/a-1/withdraw", "{}", BAD, BAD_REFERENCE),
-    (ALFA, "GET /orders/a-1", "", BAD, BAD_REFERENCE),
-];
+OPERATOR POST /desk/open {"date":"2024-02-30"}
+-> 400 Bad Request {"code":35,"name":"BadDate"}
+
+OPERATOR POST /desk/cutoff {"date":"2024-3-4"}
+-> 400 Bad Request {"code":35,"name":"BadDate"}
+
+OPERATOR POST /desk/close {"date":"1999-12-31"}
+-> 400 Bad Request {"code":35,"name":"BadDate"}
+
+OPERATOR POST /desk/close {"date":20240304}
+-> 400 Bad Request {"code":66,"name":"WrongFields"}
+
+OPERATOR GET /desk/report/2024-02-30
+-> 400 Bad Request {"code":35,"name":"BadDate"}
+
+ALFA GET /statements/3000-01-01
+-> 400 Bad Request {"code":35,"name":"BadDate"}
+
+ALFA POST /orders {"amount":0,"reference":"a","to":"beta"}
+-> 400 Bad Request {"code":31,"name":"BadReference"}
+
+ALFA POST /orders {"amount":0,"reference":"A-1","to":"beta"}
+-> 400 Bad Request {"code":30,"name":"BadCode"}
+
+ALFA POST /orders {"amount":0,"reference":"A-1","to":"BETA"}
+-> 400 Bad Request {"code":32,"name":"BadAmount"}
+
+ALFA POST /orders [
+-> 400 Bad Request {"code":65,"name":"BadJson"}
+
+ALFA POST /orders/a-1/withdraw {}
+-> 400 Bad Request {"code":31,"name":"BadReference"}
+
+ALFA GET /orders/a-1
+-> 400 Bad Request {"code":31,"name":"BadReference"}
+"#;
 
 // The third row of the last has two fields.
-const FILES: [Row<'static>; 3] = [
-    (
-        ALFA,
-        "POST /batches",
-        "",
-        BAD,
-        "{\"code\":40,\"name\":\"BadHeader\"}",
-    ),
-    (
-        ALFA,
-        "POST /batches",
-        "reference,to,amount\n",
-        BAD,
-        "{\"code\":42,\"name\":\"BadCount\"}",
-    ),
-    (
-        ALFA,
-        "POST /batches",
-        "reference,to,amount\nA-1,BETA,100\nA-2,GAMA,50\nA-3,BETA\n",
-        BAD,
-        "{\"code\":41,\"name\":\"BadRow\",\"row\":3}",
-    ),
-];
+const FILES: &str = r#"
+ALFA POST /batches
+-> 400 Bad Request {"code":40,"name":"BadHeader"}
 
-const NO_ORDER: [Row<'static>; 1] = [(
-    ALFA,
-    "GET /orders/A-1",
-    "",
-    "404 Not Found",
-    "{\"code\":9,\"name\":\"UnknownOrder\"}",
-)];
+ALFA POST /batches
+reference,to,amount
+-> 400 Bad Request {"code":42,"name":"BadCount"}
+
+ALFA POST /batches
+reference,to,amount
+A-1,BETA,100
+A-2,GAMA,50
+A-3,BETA
+-> 400 Bad Request {"code":41,"name":"BadRow","row":3}
+"#;
+
+const NO_ORDER: &str = r#"
+ALFA GET /orders/A-1
+-> 404 Not Found {"code":9,"name":"UnknownOrder"}
+"#;
 
 #[test]
 fn values_of_no_form(rt: HostRuntime) -> Result<(), Fail> {
-    let alloc = rt.alloc();
-    let mut desk = open_desk(alloc)?;
-    follow(alloc, &mut desk, JSON, &POSTINGS)?;
-    follow(alloc, &mut desk, JSON, &DATES)?;
-    follow(alloc, &mut desk, JSON, &ORDERS)
+    follows(rt.alloc(), VALUES)
 }
 
 #[test]
 fn files_that_are_no_order_files(rt: HostRuntime) -> Result<(), Fail> {
-    let alloc = rt.alloc();
-    let mut desk = open_desk(alloc)?;
-    follow(alloc, &mut desk, JSON, &FILES)?;
-    follow(alloc, &mut desk, JSON, &NO_ORDER)
+    follows_after(rt.alloc(), FILES, NO_ORDER)
 }

@@ -1,63 +1,57 @@
 //! The heads that each route refuses, whatever its body.
+use super::super::requests::Request;
+use super::super::test_desk::TestDesk;
 use super::steps::COMMANDS;
 use super::troubles::READINGS;
-use super::{JSON, open_desk, tells, whole};
-use rtgs_desk::Desk;
-use rtgs_keeper::MemoryKeeper;
 use std::alloc::Global;
 use std::test::Fail;
 
-const BAD: &str = "400 Bad Request";
+const BAD_HEAD: &str = r#"400 Bad Request {"code":60,"name":"BadHead"}"#;
 
-const BAD_HEAD: &str = "{\"code\":60,\"name\":\"BadHead\"}";
-
-// A request with this key and this line and nothing behind it but this end of a head is told this reply.
-fn is_told(
+// The line and the key of each of these requests, with this end of a head behind them, are told this.
+fn each_end_is_told(
     alloc: Global,
-    desk: &mut Desk<MemoryKeeper>,
-    (key, line): (&str, &str),
+    desk: &mut TestDesk,
+    requests: &str,
     end: &str,
-    reply: &str,
+    told: &str,
 ) -> Result<(), Fail> {
-    let input = format!(in alloc; "{line} HTTP/1.1\r\ndesk-key: {key}\r\n{end}")?;
-    tells(alloc, desk, input.as_bytes(), reply)
+    for request in requests.trim().split("\n\n") {
+        let input = Request::read(request)?.with_rest(alloc, end)?;
+        desk.tells(input.as_str(), told)?;
+    }
+    Ok(())
 }
 
 // Each route's head with this end is told this.
-fn each_is_told(alloc: Global, end: &str, status: &str, body: &str) -> Result<(), Fail> {
-    let reply = whole(alloc, status, JSON, body)?;
-    let mut desk = open_desk(alloc)?;
-    for (key, line, _) in COMMANDS {
-        is_told(alloc, &mut desk, (key, line), end, reply.as_str())?;
-    }
-    for (key, line) in READINGS {
-        is_told(alloc, &mut desk, (key, line), end, reply.as_str())?;
-    }
-    Ok(())
+fn each_is_told(alloc: Global, end: &str, told: &str) -> Result<(), Fail> {
+    let mut desk = TestDesk::open(alloc)?;
+    each_end_is_told(alloc, &mut desk, COMMANDS, end, told)?;
+    each_end_is_told(alloc, &mut desk, READINGS, end, told)
 }
 
 #[test]
 fn transfer_encodings_on_each_route(rt: HostRuntime) -> Result<(), Fail> {
     let end = "Transfer-Encoding: chunked\r\n\r\n0\r\n\r\n";
-    each_is_told(rt.alloc(), end, BAD, BAD_HEAD)
+    each_is_told(rt.alloc(), end, BAD_HEAD)
 }
 
 #[test]
 fn two_lengths_on_each_route(rt: HostRuntime) -> Result<(), Fail> {
     let end = "Content-Length: 0\r\nContent-Length: 0\r\n\r\n";
-    each_is_told(rt.alloc(), end, BAD, BAD_HEAD)
+    each_is_told(rt.alloc(), end, BAD_HEAD)
 }
 
 #[test]
 fn a_head_that_ends_early_on_each_route(rt: HostRuntime) -> Result<(), Fail> {
-    let told = "{\"code\":64,\"name\":\"Truncated\"}";
-    each_is_told(rt.alloc(), "Content-Length: 0\r\n", BAD, told)
+    let told = r#"400 Bad Request {"code":64,"name":"Truncated"}"#;
+    each_is_told(rt.alloc(), "Content-Length: 0\r\n", told)
 }
 
 #[test]
 fn too_long_a_head_on_each_route(rt: HostRuntime) -> Result<(), Fail> {
     let alloc = rt.alloc();
     let end = format!(in alloc; "X: {}\r\n\r\n", "x".repeat(alloc, 8192)?)?;
-    let told = "{\"code\":61,\"name\":\"HeadTooLong\"}";
-    each_is_told(alloc, end.as_str(), "413 Content Too Large", told)
+    let told = r#"413 Content Too Large {"code":61,"name":"HeadTooLong"}"#;
+    each_is_told(alloc, end.as_str(), told)
 }

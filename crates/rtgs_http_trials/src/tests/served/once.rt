@@ -1,35 +1,78 @@
 //! No read follows the one that decides a reply, and a read or a write that failed is not tried again.
-use super::super::{GOOD, digest};
+use super::super::GOOD;
+use super::super::requests::spelled;
+use super::super::test_desk::TestDesk;
 use super::counted_reader::CountedReader;
-use super::{OPERATOR, open_desk};
-use rtgs_http_banks::{Served, serve_one};
+use rtgs_http_banks::Served;
+use std::alloc::Global;
 use std::io;
 use std::io::{ErrorKind, Read, Write};
 use std::test::Fail;
 
+// Inputs of which the last byte decides the reply.
+const INPUTS: &str = r#"
+GET /account HTTP/1.1\r\n
+desk-key: 0000000000000000000000000000000a\r\n
+\r\n
+
+GET /orders/a-1 HTTP/1.1\r\n
+desk-key: 0000000000000000000000000000000a\r\n
+\r\n
+
+GET /account HTTP/1.0\r\n
+\r\n
+
+GET /nothing HTTP/1.1\r\n
+\r\n
+
+GET /account HTTP/1.1\r\n
+\r\n
+
+POST /orders HTTP/1.1\r\n
+desk-key: 0000000000000000000000000000000a\r\n
+\r\n
+
+POST /orders HTTP/1.1\r\n
+desk-key: 0000000000000000000000000000000a\r\n
+Content-Length: 65537\r\n
+\r\n
+
+GET /account HTTP/1.1\r\n
+desk-key: 0000000000000000000000000000000e\r\n
+\r\n
+
+POST /orders HTTP/1.1\r\n
+desk-key: 0000000000000000000000000000000a\r\n
+Content-Length: 1\r\n
+\r\n
+[
+
+POST /batches HTTP/1.1\r\n
+desk-key: 0000000000000000000000000000000a\r\n
+Content-Length: 1\r\n
+\r\n
+x
+"#;
+
+// The input has a reply, and is read once.
+fn is_read_once(alloc: Global, desk: &mut TestDesk, text: &str) -> Result<(), Fail> {
+    let input = spelled(alloc, text)?;
+    let mut reader = CountedReader::new(input.as_bytes(), usize::MAX, usize::MAX);
+    let mut written = Vec::new(alloc);
+    let served = desk.serve(&mut reader, &mut written);
+    let made = reader.made;
+    if matches!(served, Served::Answered(_)) && made == 1 {
+        return Ok(());
+    }
+    let said = format!(in alloc; "{made} reads of {text}: {served:?}, {written:?}")?;
+    Err(Fail::from(said))
+}
+
 #[test]
 fn no_read_follows_what_decides_the_reply(rt: HostRuntime) -> Result<(), Fail> {
-    let alloc = rt.alloc();
-    let operator = digest(OPERATOR.as_bytes())?;
-    let mut desk = open_desk(alloc)?;
-    let inputs: [&[u8]; 10] = [
-        b"GET /account HTTP/1.1\r\ndesk-key: 0000000000000000000000000000000a\r\n\r\n",
-        b"GET /orders/a-1 HTTP/1.1\r\ndesk-key: 0000000000000000000000000000000a\r\n\r\n",
-        b"GET /account HTTP/1.0\r\n\r\n",
-        b"GET /nothing HTTP/1.1\r\n\r\n",
-        b"GET /account HTTP/1.1\r\n\r\n",
-        b"POST /orders HTTP/1.1\r\ndesk-key: 0000000000000000000000000000000a\r\n\r\n",
-        b"POST /orders HTTP/1.1\r\ndesk-key: 0000000000000000000000000000000a\r\nContent-Length: 65537\r\n\r\n",
-        b"GET /account HTTP/1.1\r\ndesk-key: 0000000000000000000000000000000e\r\n\r\n",
-        b"POST /orders HTTP/1.1\r\ndesk-key: 0000000000000000000000000000000a\r\nContent-Length: 1\r\n\r\n[",
-        b"POST /batches HTTP/1.1\r\ndesk-key: 0000000000000000000000000000000a\r\nContent-Length: 1\r\n\r\nx",
-    ];
-    for input in inputs {
-        let mut reader = CountedReader::new(input, usize::MAX, usize::MAX);
-        let mut written = Vec::new(alloc);
-        let served = serve_one(alloc, &mut reader, &mut written, &mut desk, &operator);
-        assert!(rt; matches!(served, Served::Answered(_)));
-        assert_eq!(rt; reader.made, 1, "{written:?}");
+    let mut desk = TestDesk::open(rt.alloc())?;
+    for text in INPUTS.trim().split("\n\n") {
+        is_read_once(rt.alloc(), &mut desk, text)?;
     }
     Ok(())
 }
@@ -53,21 +96,28 @@ impl Read for Stumbling<'_> {
     }
 }
 
+// A reader that fails after so many reads has no reply.
+fn is_not_read_again(alloc: Global, desk: &mut TestDesk, reads: usize) -> Result<(), Fail> {
+    let mut reader = Stumbling {
+        left: GOOD.as_bytes(),
+        reads,
+    };
+    let mut written = Vec::new(alloc);
+    let served = desk.serve(&mut reader, &mut written);
+    if matches!(served, Served::ReadFault(_)) && written.is_empty() {
+        return Ok(());
+    }
+    let said = format!(in alloc; "after {reads} reads {served:?}, {written:?}")?;
+    Err(Fail::from(said))
+}
+
 #[test]
 fn a_read_that_failed_is_not_tried_again(rt: HostRuntime) -> Result<(), Fail> {
-    let alloc = rt.alloc();
-    let operator = digest(OPERATOR.as_bytes())?;
-    let mut desk = open_desk(alloc)?;
-    for reads in [0, 1, 60, GOOD.len() - 1] {
-        let mut reader = Stumbling { left: GOOD, reads };
-        let mut written = Vec::new(alloc);
-        let served = serve_one(alloc, &mut reader, &mut written, &mut desk, &operator);
-        assert!(rt;
-            matches!(served, Served::ReadFault(_)) && written.is_empty(),
-            "after {reads} reads"
-        );
-    }
-    Ok(())
+    let mut desk = TestDesk::open(rt.alloc())?;
+    is_not_read_again(rt.alloc(), &mut desk, 0)?;
+    is_not_read_again(rt.alloc(), &mut desk, 1)?;
+    is_not_read_again(rt.alloc(), &mut desk, 60)?;
+    is_not_read_again(rt.alloc(), &mut desk, GOOD.len().saturating_sub(1))
 }
 
 // Takes sixteen bytes a write, fails once, after so many writes, and goes on.
@@ -102,20 +152,27 @@ fn cut_off(served: &Served) -> Option<u16> {
     }
 }
 
+// A writer that fails after so many writes has sixteen bytes of each of them and no more.
+fn is_not_written_again(alloc: Global, writes: usize) -> Result<(), Fail> {
+    let mut desk = TestDesk::open(alloc)?;
+    let mut reader = GOOD.as_bytes();
+    let mut writer = Halting {
+        taken: Vec::new(alloc),
+        writes,
+    };
+    let served = desk.serve(&mut reader, &mut writer);
+    let taken = writer.taken.len();
+    if cut_off(&served) == Some(200) && taken == writes.saturating_mul(16) {
+        return Ok(());
+    }
+    let said = format!(in alloc; "after {writes} writes {served:?}, {taken} bytes")?;
+    Err(Fail::from(said))
+}
+
 #[test]
 fn a_write_that_failed_is_not_tried_again(rt: HostRuntime) -> Result<(), Fail> {
-    let alloc = rt.alloc();
-    let operator = digest(OPERATOR.as_bytes())?;
     for writes in 0..3 {
-        let mut desk = open_desk(alloc)?;
-        let mut reader = GOOD;
-        let mut writer = Halting {
-            taken: Vec::new(alloc),
-            writes,
-        };
-        let served = serve_one(alloc, &mut reader, &mut writer, &mut desk, &operator);
-        assert_eq!(rt; cut_off(&served), Some(200), "after {writes} writes");
-        assert_eq!(rt; writer.taken.len(), 16 * writes);
+        is_not_written_again(rt.alloc(), writes)?;
     }
     Ok(())
 }

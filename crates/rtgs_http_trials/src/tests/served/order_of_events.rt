@@ -1,8 +1,9 @@
 //! The last commit of a request has returned before the first byte of the reply is written.
-use super::super::{ALFA, digest};
+use super::super::requests::Request;
+use super::super::test_desk::{begin_day, desk_over};
+use super::super::{OPERATOR, digest};
 use super::counting_keeper::CountingKeeper;
 use super::watching_writer::WatchingWriter;
-use super::{OPERATOR, begin_day, desk_over, request};
 use rtgs_desk::Desk;
 use rtgs_http_banks::serve_one;
 use rtgs_keeper::{Keeper, MemoryKeeper};
@@ -16,8 +17,8 @@ fn serve_batch<K: Keeper>(
     desk: &mut Desk<K>,
     writer: &mut WatchingWriter<'_>,
 ) -> Result<(), Fail> {
-    let file = "reference,to,amount\nA-1,BETA,100\nA-2,GAMA,50\nA-3,BETA,25\n";
-    let input = request(alloc, ALFA, "POST /batches", file)?;
+    let batch = "ALFA POST /batches\nreference,to,amount\nA-1,BETA,100\nA-2,GAMA,50\nA-3,BETA,25";
+    let input = Request::read(batch)?.input(alloc)?;
     let operator = digest(OPERATOR.as_bytes())?;
     let mut reader = input.as_bytes();
     let _ = serve_one(alloc, &mut reader, writer, desk, &operator);

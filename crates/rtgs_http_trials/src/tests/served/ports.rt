@@ -1,6 +1,6 @@
 //! Connections on a port of this machine, whose peers have sent all that they send before the first one is taken.
-use super::super::{GOOD, digest};
-use super::{JSON, OPERATOR, open_desk, whole};
+use super::super::GOOD;
+use super::super::test_desk::{TestDesk, whole};
 use rtgs_http_server::{Port, serve_connections};
 use std::alloc::Global;
 use std::io::{Read, Write};
@@ -20,7 +20,7 @@ fn free_port(rt: &HostRuntime) -> Result<u16, Fail> {
 // A peer that has sent a good order, and then so many bytes more.
 fn peer(rt: &HostRuntime, port: u16, more: usize) -> Result<TcpStream, Fail> {
     let mut stream = TcpStream::connect(rt, (Ipv4Addr::LOCALHOST, port))?;
-    stream.write_all(GOOD)?;
+    stream.write_all(GOOD.as_bytes())?;
     stream.write_all("x".repeat(rt.alloc(), more)?.as_bytes())?;
     stream.shutdown(Shutdown::Write)?;
     Ok(stream)
@@ -41,11 +41,11 @@ fn each_peer_gets_its_reply_whatever_more_it_sent(rt: HostRuntime) -> Result<(),
     let mut first = peer(&rt, number, 20000)?;
     let mut second = peer(&rt, number, 0)?;
     let mut third = peer(&rt, number, 20000)?;
-    let mut desk = open_desk(alloc)?;
-    serve_connections(alloc, &mut port, &mut desk, &digest(OPERATOR.as_bytes())?);
+    let mut desk = TestDesk::open(alloc)?;
+    serve_connections(alloc, &mut port, &mut desk.desk, &desk.operator);
     drop(port);
-    let queued = whole(alloc, "200 OK", JSON, QUEUED)?;
-    let repeated = whole(alloc, "200 OK", JSON, REPEATED)?;
+    let queued = whole(alloc, "200 OK", "application/json", QUEUED)?;
+    let repeated = whole(alloc, "200 OK", "application/json", REPEATED)?;
     assert_eq!(rt; gets(alloc, &mut first)?.as_str(), queued.as_str());
     assert_eq!(rt; gets(alloc, &mut second)?.as_str(), repeated.as_str());
     assert_eq!(rt; gets(alloc, &mut third)?.as_str(), repeated.as_str());

@@ -1,208 +1,111 @@
 //! Queues that wait for others, and a queue that is full.
-use super::super::ALFA;
-use super::{BETA, CSV, GAMA, JSON, OPERATOR, Row, follow, open_desk};
+use super::super::test_desk::{TestDesk, follows};
 use std::alloc::Global;
 use std::test::Fail;
 
-const DEADLOCK: [Row<'static>; 7] = [
-    (
-        ALFA,
-        "POST /orders",
-        "{\"amount\":100,\"reference\":\"A-1\",\"to\":\"BETA\"}",
-        "200 OK",
-        "{\"answer\":\"queued\",\"number\":1,\"place\":1}",
-    ),
-    (
-        BETA,
-        "POST /orders",
-        "{\"amount\":90,\"reference\":\"B-1\",\"to\":\"GAMA\"}",
-        "200 OK",
-        "{\"answer\":\"queued\",\"number\":2,\"place\":1}",
-    ),
-    (
-        OPERATOR,
-        "POST /desk/resolve",
-        "{}",
-        "200 OK",
-        "{\"answer\":\"nothing\"}",
-    ),
-    (
-        OPERATOR,
-        "POST /desk/cutoff",
-        "{\"date\":\"2024-03-04\"}",
-        "200 OK",
-        "{\"answer\":\"cut off\"}",
-    ),
-    (
-        OPERATOR,
-        "POST /desk/close",
-        "{\"date\":\"2024-03-04\"}",
-        "200 OK",
-        "{\"answer\":\"closed\",\"rejected\":2}",
-    ),
-    (
-        OPERATOR,
-        "POST /desk/close",
-        "{\"date\":\"2024-03-04\"}",
-        "200 OK",
-        "{\"answer\":\"repeated\"}",
-    ),
-    (
-        BETA,
-        "GET /orders/B-1",
-        "",
-        "200 OK",
-        "{\"amount\":90,\"date\":\"2024-03-04\",\"number\":2,\"reference\":\"B-1\",\
-        \"state\":\"rejected\",\"to\":\"GAMA\"}",
-    ),
-];
+const DEADLOCK: &str = r#"
+ALFA POST /orders {"amount":100,"reference":"A-1","to":"BETA"}
+-> 200 OK {"answer":"queued","number":1,"place":1}
+
+BETA POST /orders {"amount":90,"reference":"B-1","to":"GAMA"}
+-> 200 OK {"answer":"queued","number":2,"place":1}
+
+OPERATOR POST /desk/resolve {}
+-> 200 OK {"answer":"nothing"}
+
+OPERATOR POST /desk/cutoff {"date":"2024-03-04"}
+-> 200 OK {"answer":"cut off"}
+
+OPERATOR POST /desk/close {"date":"2024-03-04"}
+-> 200 OK {"answer":"closed","rejected":2}
+
+OPERATOR POST /desk/close {"date":"2024-03-04"}
+-> 200 OK {"answer":"repeated"}
+
+BETA GET /orders/B-1
+-> 200 OK {"amount":90,"date":"2024-03-04","number":2,"reference":"B-1","state":"rejected","to":"GAMA"}
+"#;
 
 #[test]
 fn a_deadlock_is_rejected_at_the_close(rt: HostRuntime) -> Result<(), Fail> {
-    let alloc = rt.alloc();
-    let mut desk = open_desk(alloc)?;
-    follow(alloc, &mut desk, JSON, &DEADLOCK)
+    follows(rt.alloc(), DEADLOCK)
 }
 
-const PARTIAL: [Row<'static>; 7] = [
-    (
-        ALFA,
-        "POST /orders",
-        "{\"amount\":100,\"reference\":\"A-1\",\"to\":\"BETA\"}",
-        "200 OK",
-        "{\"answer\":\"queued\",\"number\":1,\"place\":1}",
-    ),
-    (
-        ALFA,
-        "POST /orders",
-        "{\"amount\":50,\"reference\":\"A-2\",\"to\":\"GAMA\"}",
-        "200 OK",
-        "{\"answer\":\"queued\",\"number\":2,\"place\":2}",
-    ),
-    (
-        ALFA,
-        "GET /queue",
-        "",
-        "200 OK",
-        "{\"orders\":[{\"amount\":100,\"number\":1,\"place\":1,\"reference\":\"A-1\",\"to\":\"BETA\"},\
-        {\"amount\":50,\"number\":2,\"place\":2,\"reference\":\"A-2\",\"to\":\"GAMA\"}]}",
-    ),
-    (
-        BETA,
-        "POST /orders",
-        "{\"amount\":100,\"reference\":\"B-1\",\"to\":\"ALFA\"}",
-        "200 OK",
-        "{\"answer\":\"queued\",\"number\":3,\"place\":1}",
-    ),
-    (
-        OPERATOR,
-        "POST /desk/resolve",
-        "{}",
-        "200 OK",
-        "{\"answer\":\"resolved\",\"count\":2,\"mark\":1,\"value\":200}",
-    ),
-    (
-        ALFA,
-        "GET /account",
-        "",
-        "200 OK",
-        "{\"balance\":0,\"code\":\"ALFA\",\"credit\":0,\"date\":\"2024-03-04\",\
-        \"name\":\"Alfa Bank\",\"phase\":\"OPEN\",\"queued\":1,\"queued_value\":50}",
-    ),
-    (
-        GAMA,
-        "GET /account",
-        "",
-        "200 OK",
-        "{\"balance\":0,\"code\":\"GAMA\",\"credit\":0,\"date\":\"2024-03-04\",\
-        \"name\":\"Gama Bank\",\"phase\":\"OPEN\",\"queued\":0,\"queued_value\":0}",
-    ),
-];
+const PARTIAL: &str = r#"
+ALFA POST /orders {"amount":100,"reference":"A-1","to":"BETA"}
+-> 200 OK {"answer":"queued","number":1,"place":1}
+
+ALFA POST /orders {"amount":50,"reference":"A-2","to":"GAMA"}
+-> 200 OK {"answer":"queued","number":2,"place":2}
+
+ALFA GET /queue
+-> 200 OK {"orders":[{"amount":100,"number":1,"place":1,"reference":"A-1","to":"BETA"},{"amount":50,"number":2,
+"place":2,"reference":"A-2","to":"GAMA"}]}
+
+BETA POST /orders {"amount":100,"reference":"B-1","to":"ALFA"}
+-> 200 OK {"answer":"queued","number":3,"place":1}
+
+OPERATOR POST /desk/resolve {}
+-> 200 OK {"answer":"resolved","count":2,"mark":1,"value":200}
+
+ALFA GET /account
+-> 200 OK {"balance":0,"code":"ALFA","credit":0,"date":"2024-03-04","name":"Alfa Bank","phase":"OPEN","queued":1,
+"queued_value":50}
+
+GAMA GET /account
+-> 200 OK {"balance":0,"code":"GAMA","credit":0,"date":"2024-03-04","name":"Gama Bank","phase":"OPEN","queued":0,
+"queued_value":0}
+"#;
 
 // The second order would be covered, and waits for the first until that is withdrawn.
-const NO_BYPASS: [Row<'static>; 7] = [
-    (
-        OPERATOR,
-        "POST /desk/post",
-        "{\"cents\":100,\"code\":\"ALFA\",\"reference\":\"P-1\"}",
-        "200 OK",
-        "{\"answer\":\"posted\",\"number\":1}",
-    ),
-    (
-        ALFA,
-        "POST /orders",
-        "{\"amount\":150,\"reference\":\"A-1\",\"to\":\"BETA\"}",
-        "200 OK",
-        "{\"answer\":\"queued\",\"number\":1,\"place\":1}",
-    ),
-    (
-        ALFA,
-        "POST /orders",
-        "{\"amount\":20,\"reference\":\"A-2\",\"to\":\"BETA\"}",
-        "200 OK",
-        "{\"answer\":\"queued\",\"number\":2,\"place\":2}",
-    ),
-    (
-        OPERATOR,
-        "POST /desk/resolve",
-        "{}",
-        "200 OK",
-        "{\"answer\":\"nothing\"}",
-    ),
-    (
-        ALFA,
-        "POST /orders/A-1/withdraw",
-        "{}",
-        "200 OK",
-        "{\"answer\":\"withdrawn\",\"number\":1}",
-    ),
-    (
-        ALFA,
-        "GET /queue",
-        "",
-        "200 OK",
-        "{\"orders\":[{\"amount\":20,\"number\":2,\"place\":1,\"reference\":\"A-2\",\"to\":\"BETA\"}]}",
-    ),
-    (
-        OPERATOR,
-        "POST /desk/resolve",
-        "{}",
-        "200 OK",
-        "{\"answer\":\"resolved\",\"count\":1,\"mark\":1,\"value\":20}",
-    ),
-];
+const NO_BYPASS: &str = r#"
+OPERATOR POST /desk/post {"cents":100,"code":"ALFA","reference":"P-1"}
+-> 200 OK {"answer":"posted","number":1}
+
+ALFA POST /orders {"amount":150,"reference":"A-1","to":"BETA"}
+-> 200 OK {"answer":"queued","number":1,"place":1}
+
+ALFA POST /orders {"amount":20,"reference":"A-2","to":"BETA"}
+-> 200 OK {"answer":"queued","number":2,"place":2}
+
+OPERATOR POST /desk/resolve {}
+-> 200 OK {"answer":"nothing"}
+
+ALFA POST /orders/A-1/withdraw {}
+-> 200 OK {"answer":"withdrawn","number":1}
+
+ALFA GET /queue
+-> 200 OK {"orders":[{"amount":20,"number":2,"place":1,"reference":"A-2","to":"BETA"}]}
+
+OPERATOR POST /desk/resolve {}
+-> 200 OK {"answer":"resolved","count":1,"mark":1,"value":20}
+"#;
 
 #[test]
 fn the_newest_order_waits_on(rt: HostRuntime) -> Result<(), Fail> {
-    let alloc = rt.alloc();
-    let mut desk = open_desk(alloc)?;
-    follow(alloc, &mut desk, JSON, &PARTIAL)
+    follows(rt.alloc(), PARTIAL)
 }
 
 #[test]
 fn no_order_passes_another(rt: HostRuntime) -> Result<(), Fail> {
-    let alloc = rt.alloc();
-    let mut desk = open_desk(alloc)?;
-    follow(alloc, &mut desk, JSON, &NO_BYPASS)
+    follows(rt.alloc(), NO_BYPASS)
 }
 
-// A file of so many orders.
+// ALFA's request of a file of so many orders.
 fn file_of(alloc: Global, count: u32) -> Result<String, Fail> {
-    let mut file = String::new(alloc);
-    file.push_str("reference,to,amount\n")?;
+    let mut file = String::from_str(alloc, "ALFA POST /batches\nreference,to,amount")?;
     for number in 1..=count {
-        let row = format!(in alloc; "Q-{number},BETA,2\n")?;
+        let row = format!(in alloc; "\nQ-{number},BETA,2")?;
         file.push_str(row.as_str())?;
     }
     Ok(file)
 }
 
-// The results of so many orders that are queued.
+// The reply with the results of so many orders that are queued.
 fn results_of(alloc: Global, count: u32) -> Result<String, Fail> {
-    let mut results = String::new(alloc);
-    results.push_str("reference,result,number,detail\n")?;
+    let mut results = String::from_str(alloc, "200 OK text/csv\nreference,result,number,detail")?;
     for number in 1..=count {
-        let row = format!(in alloc; "Q-{number},queued,{number},{number}\n")?;
+        let row = format!(in alloc; "\nQ-{number},queued,{number},{number}")?;
         results.push_str(row.as_str())?;
     }
     Ok(results)
@@ -210,68 +113,36 @@ fn results_of(alloc: Global, count: u32) -> Result<String, Fail> {
 
 #[test]
 fn a_file_has_500_rows_at_most(rt: HostRuntime) -> Result<(), Fail> {
-    let alloc = rt.alloc();
-    let file = file_of(alloc, 501)?;
-    let mut desk = open_desk(alloc)?;
-    let rows = [
-        (
-            ALFA,
-            "POST /batches",
-            file.as_str(),
-            "400 Bad Request",
-            "{\"code\":42,\"name\":\"BadCount\"}",
-        ),
-        (ALFA, "GET /queue", "", "200 OK", "{\"orders\":[]}"),
-    ];
-    follow(alloc, &mut desk, JSON, &rows)
+    let file = file_of(rt.alloc(), 501)?;
+    let mut desk = TestDesk::open(rt.alloc())?;
+    desk.is_told(
+        file.as_str(),
+        r#"400 Bad Request {"code":42,"name":"BadCount"}"#,
+    )?;
+    desk.is_told("ALFA GET /queue", r#"200 OK {"orders":[]}"#)
 }
 
 // What a queue of 500 orders takes.
-const FULL: [Row<'static>; 4] = [
-    (
-        ALFA,
-        "POST /orders",
-        "{\"amount\":1,\"reference\":\"A-1\",\"to\":\"BETA\"}",
-        "409 Conflict",
-        "{\"code\":7,\"name\":\"QueueFull\"}",
-    ),
-    (
-        ALFA,
-        "POST /orders/Q-1/withdraw",
-        "{}",
-        "200 OK",
-        "{\"answer\":\"withdrawn\",\"number\":1}",
-    ),
-    (
-        ALFA,
-        "POST /orders",
-        "{\"amount\":1,\"reference\":\"A-1\",\"to\":\"BETA\"}",
-        "200 OK",
-        "{\"answer\":\"queued\",\"number\":501,\"place\":500}",
-    ),
-    (
-        ALFA,
-        "GET /account",
-        "",
-        "200 OK",
-        "{\"balance\":0,\"code\":\"ALFA\",\"credit\":0,\"date\":\"2024-03-04\",\
-        \"name\":\"Alfa Bank\",\"phase\":\"OPEN\",\"queued\":500,\"queued_value\":999}",
-    ),
-];
+const FULL: &str = r#"
+ALFA POST /orders {"amount":1,"reference":"A-1","to":"BETA"}
+-> 409 Conflict {"code":7,"name":"QueueFull"}
+
+ALFA POST /orders/Q-1/withdraw {}
+-> 200 OK {"answer":"withdrawn","number":1}
+
+ALFA POST /orders {"amount":1,"reference":"A-1","to":"BETA"}
+-> 200 OK {"answer":"queued","number":501,"place":500}
+
+ALFA GET /account
+-> 200 OK {"balance":0,"code":"ALFA","credit":0,"date":"2024-03-04","name":"Alfa Bank","phase":"OPEN","queued":500,
+"queued_value":999}
+"#;
 
 #[test]
 fn a_queue_has_500_orders_at_most(rt: HostRuntime) -> Result<(), Fail> {
-    let alloc = rt.alloc();
-    let file = file_of(alloc, 500)?;
-    let results = results_of(alloc, 500)?;
-    let mut desk = open_desk(alloc)?;
-    let batch = (
-        ALFA,
-        "POST /batches",
-        file.as_str(),
-        "200 OK",
-        results.as_str(),
-    );
-    follow(alloc, &mut desk, CSV, &[batch])?;
-    follow(alloc, &mut desk, JSON, &FULL)
+    let file = file_of(rt.alloc(), 500)?;
+    let results = results_of(rt.alloc(), 500)?;
+    let mut desk = TestDesk::open(rt.alloc())?;
+    desk.is_told(file.as_str(), results.as_str())?;
+    desk.follow(FULL)
 }

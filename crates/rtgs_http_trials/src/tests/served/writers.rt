@@ -1,10 +1,8 @@
 //! Writers that take little, fail or take nothing: the order stands, whatever is told of it.
-use super::super::{GOOD, digest};
+use super::super::GOOD;
+use super::super::test_desk::TestDesk;
 use super::cut_writer::{CutWriter, MOST};
-use super::{OPERATOR, open_desk, tells};
-use rtgs_desk::Desk;
-use rtgs_http_banks::{Served, serve_one};
-use rtgs_keeper::Keeper;
+use rtgs_http_banks::Served;
 use std::alloc::Global;
 use std::test::Fail;
 
@@ -12,20 +10,12 @@ const QUEUED: &str =
     "HTTP/1.1 200 OK\r\nContent-Type: application/json\r\nContent-Length: 40\r\nConnection: close\r\n\r\n\
      {\"answer\":\"queued\",\"number\":1,\"place\":1}";
 
-const REPEATED: &str =
-    "HTTP/1.1 200 OK\r\nContent-Type: application/json\r\nContent-Length: 49\r\nConnection: close\r\n\r\n\
-     {\"answer\":\"repeated\",\"number\":1,\"state\":\"queued\"}";
-
-// What is told of ALFA's good order.
-fn told<K: Keeper>(
-    alloc: Global,
-    desk: &mut Desk<K>,
-    writer: &mut CutWriter,
-) -> Result<Served, Fail> {
-    let operator = digest(OPERATOR.as_bytes())?;
-    let mut reader = GOOD;
-    Ok(serve_one(alloc, &mut reader, writer, desk, &operator))
-}
+const REPEATED: &str = r#"RAW HTTP/1.1 200 OK\r\n
+Content-Type: application/json\r\n
+Content-Length: 49\r\n
+Connection: close\r\n
+\r\n
+{"answer":"repeated","number":1,"state":"queued"}"#;
 
 // Whether the reply with the status 200 was written whole, or was not.
 fn is_answered(served: &Served) -> Option<bool> {
@@ -38,9 +28,10 @@ fn is_answered(served: &Served) -> Option<bool> {
 
 // A writer that takes so many pieces has a beginning of the reply, and the order stands.
 fn is_cut(alloc: Global, writes: usize, fails: bool) -> Result<(), Fail> {
-    let mut desk = open_desk(alloc)?;
+    let mut desk = TestDesk::open(alloc)?;
     let mut writer = CutWriter::new(alloc, writes, fails);
-    let served = told(alloc, &mut desk, &mut writer)?;
+    let mut reader = GOOD.as_bytes();
+    let served = desk.serve(&mut reader, &mut writer);
     let length = QUEUED.len().min(MOST.saturating_mul(writes));
     let beginning = &QUEUED.as_bytes()[..length];
     let whole = length == QUEUED.len();
@@ -48,7 +39,7 @@ fn is_cut(alloc: Global, writes: usize, fails: bool) -> Result<(), Fail> {
         let said = format!(in alloc; "after {writes} writes {served:?}")?;
         return Err(Fail::from(said));
     }
-    tells(alloc, &mut desk, GOOD, REPEATED)
+    desk.tells(GOOD, REPEATED)
 }
 
 #[test]
