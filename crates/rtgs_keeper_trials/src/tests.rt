@@ -1,5 +1,6 @@
 //! Two desks that are given the same commands, ten thousand of them from a fixed random generator and those at the
 //! bounds of all forms; and disks in memory that fail, keepers that fail, and what is found then.
+mod any_desk;
 mod batch_rows;
 mod boundaries;
 mod business;
@@ -15,9 +16,9 @@ mod faults;
 mod found;
 mod fuses;
 mod image;
-mod keeper_runs;
 mod look_ups;
-mod plain_keeper;
+mod memory_desk;
+mod script;
 mod seen;
 mod setting;
 mod stored_desk;
