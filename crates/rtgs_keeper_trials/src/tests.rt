@@ -1,6 +1,5 @@
 //! Two desks that are given the same commands, ten thousand of them from a fixed random generator and those at the
 //! bounds of all forms; and disks in memory that fail, keepers that fail, and what is found then.
-mod any_desk;
 mod batch_rows;
 mod boundaries;
 mod business;
@@ -16,9 +15,9 @@ mod faults;
 mod found;
 mod fuses;
 mod image;
+mod keeper_runs;
 mod look_ups;
-mod memory_desk;
-mod script;
+mod plain_keeper;
 mod seen;
 mod setting;
 mod stored_desk;

@@ -1,55 +1,67 @@
 //! Orders of ALFA in one batch, and what is replied to them.
-use super::any_desk::AnyDesk;
-use super::script::Line;
-use super::setting::{Reply, command};
+use super::setting::{Reply, Row, code};
 use rtgs_book::{Answer, Command, Known, Refusal};
-use rtgs_exchange::{OrderRow, RowReply};
+use rtgs_desk::Desk;
+use rtgs_exchange::{BatchResult, OrderRow, RowReply, submit_batch};
+use rtgs_keeper::Keeper;
 use std::alloc::Global;
 use std::test::Fail;
 
-/// How many rows are replied to, before a fault of the store. Each is replied to as its line says; those before this
-/// place come again.
-pub fn sent<D: AnyDesk>(
-    alloc: Global,
-    desk: &mut D,
-    rows: &[Line<'_>],
-    place: usize,
-) -> Result<usize, Fail> {
-    let orders = orders_of(alloc, rows)?;
-    let batch = desk.batch(alloc, orders.as_slice())?;
-    if batch.stopped.is_some() && batch.stopped != Some(Refusal::StoreFault) {
-        return Err(Fail::from("another stop"));
+/// How many rows are replied to, before a fault of the store. Each is replied to as its order is answered.
+pub fn sent<K: Keeper>(alloc: Global, desk: &mut Desk<K>, rows: &[Row]) -> Result<usize, Fail> {
+    let replies = replies_to(alloc, desk, rows)?;
+    let are_right = replies
+        .iter()
+        .zip(rows)
+        .all(|(reply, row)| Some(*reply) == row_reply(&row.1));
+    if are_right {
+        Ok(replies.len())
+    } else {
+        Err(Fail::from("another row reply"))
     }
-    let mut count = 0usize;
-    for (line, reply) in rows.iter().zip(batch.replies.as_slice()) {
-        line.wants(alloc, &answer_of(reply), count < place)?;
-        count = count.saturating_add(1);
-    }
-    Ok(batch.replies.len())
 }
 
-// What the order of a row would be answered alone.
-fn answer_of(reply: &RowReply) -> Reply {
+// What a row is replied to, whose order is answered so.
+fn row_reply(reply: &Reply) -> Option<RowReply> {
     match *reply {
-        RowReply::Settled { number, mark } => Ok(Answer::Settled { number, mark }),
-        RowReply::Queued { number, place } => Ok(Answer::Queued { number, place }),
-        RowReply::Repeated { number, state } => {
-            Ok(Answer::Repeated(Known::Order { number, state }))
+        Ok(Answer::Settled { number, mark }) => Some(RowReply::Settled { number, mark }),
+        Ok(Answer::Queued { number, place }) => Some(RowReply::Queued { number, place }),
+        Ok(Answer::Repeated(Known::Order { number, state })) => {
+            Some(RowReply::Repeated { number, state })
         }
-        RowReply::Refused(refusal) => Err(refusal),
+        Ok(_) => None,
+        Err(refusal) => Some(RowReply::Refused(refusal)),
     }
 }
 
-/// The rows of these orders.
-pub fn orders_of(alloc: Global, rows: &[Line<'_>]) -> Result<Vec<OrderRow>, Fail> {
+// Sends the rows. Nothing but a fault of the store stops them.
+fn replies_to<K: Keeper>(
+    alloc: Global,
+    desk: &mut Desk<K>,
+    rows: &[Row],
+) -> Result<Vec<RowReply>, Fail> {
+    let orders = orders_of(alloc, rows)?;
+    let BatchResult { replies, stopped } = submit_batch(
+        alloc,
+        desk,
+        code("ALFA")?,
+        orders.as_slice(),
+    )?;
+    match stopped {
+        None | Some(Refusal::StoreFault) => Ok(replies),
+        Some(refusal) => Err(Fail::from(refusal)),
+    }
+}
+
+fn orders_of(alloc: Global, rows: &[Row]) -> Result<Vec<OrderRow>, Fail> {
     let mut orders = Vec::new(alloc);
-    for line in rows {
+    for (command, _) in rows {
         let Command::Order {
             reference,
             receiver,
             amount,
             ..
-        } = command(alloc, line.said)?
+        } = *command
         else {
             return Err(Fail::from("no order"));
         };

@@ -1,164 +1,166 @@
 //! The shortest and longest texts, the least and greatest numbers, the first and last days, and as many participants
 //! and queued orders as there may be, over both keepers.
-use super::any_desk::AnyDesk;
-use super::disk_desk::{DiskDesk, closed, desk_again};
-use super::disk_keeper::{Work, on_disks};
-use super::found::are_same_books;
-use super::memory_desk::{MemoryDesk, memory_desk};
-use super::setting::{Reply, command};
-use rtgs_book::{Answer, Refusal};
+use super::disk_desk::{closed, desk_again, new_desk};
+use super::disk_keeper::{DiskKeeper, Work, on_disks};
+use super::found::{ShowsBook, are_same_books};
+use super::setting::{Reply, adds, date, desk_over, limits, pays, posts};
+use rtgs_book::{Answer, Command, Refusal};
+use rtgs_desk::Desk;
+use rtgs_keeper::{Keeper, MemoryKeeper};
 use std::alloc::Global;
 use std::test::Fail;
+
+const LOWEST_KEY: &str = "00000000000000000000000000000000";
+
+const HIGHEST_KEY: &str = "ffffffffffffffffffffffffffffffff";
+
+const LONGEST_NAME: &str = "~ 23456789 123456789 123456789 123456789";
+
+const LONGEST_REFERENCE: &str = "Z-0123456789ABC9";
+
+/// What a desk in memory and one on disks both answer to a command.
+fn answer_alike<M: Keeper, K: Keeper>(
+    held: &mut Desk<M>,
+    kept: &mut Desk<K>,
+    command: &Command,
+) -> Result<Reply, Fail> {
+    let reply = held.submit(*command);
+    let other = kept.submit(*command);
+    if other == reply {
+        Ok(reply)
+    } else {
+        Err(Fail::from("two answers"))
+    }
+}
+
+/// Whether two new desks answer the commands alike, accept all but the last, which is refused so, and end with one
+/// book.
+fn refuse_the_last_over<M: Keeper + ShowsBook + Drop, K: Keeper + ShowsBook + DiskKeeper + Drop>(
+    alloc: Global,
+    memory: M,
+    commands: &[Command],
+    refusal: Refusal,
+) -> Result<bool, Fail> {
+    let (last, accepted) = commands.split_last().ok_or("no command")?;
+    let mut held = desk_over(alloc, memory)?;
+    let disks = closed(new_desk::<K>(alloc)?.into_keeper())?;
+    let mut kept = desk_again::<K>(alloc, disks)?;
+    for command in accepted {
+        match answer_alike(&mut held, &mut kept, command)? {
+            Ok(Answer::Repeated(_)) => return Err(Fail::from("repeated")),
+            Ok(_) => (),
+            Err(refusal) => return Err(Fail::from(refusal)),
+        }
+    }
+    let reply = answer_alike(&mut held, &mut kept, last)?;
+    let in_memory = held.into_keeper().book(alloc)?;
+    let disks = closed(kept.into_keeper())?;
+    let on_disks = desk_again::<K>(alloc, disks)?.into_keeper().book(alloc)?;
+    Ok(reply == Err(refusal) && are_same_books(&on_disks, &in_memory))
+}
 
 // Commands of which the last alone is refused, and how.
 #[derive(Clone, Copy)]
 struct Bounded<'a> {
-    commands: &'a str,
+    commands: &'a [Command],
     refusal: Refusal,
 }
 
-// What a desk in memory and one on disks both answer to a command.
-fn answer_alike<M: AnyDesk, D: AnyDesk>(
-    alloc: Global,
-    held: &mut M,
-    kept: &mut D,
-    text: &str,
-) -> Result<Reply, Fail> {
-    let command = command(alloc, text)?;
-    let reply = held.reply(&command);
-    if kept.reply(&command) == reply {
-        Ok(reply)
-    } else {
-        Err(Fail::from(format!(in alloc; "two answers: {text}")?))
-    }
-}
-
-// Whether the last command is refused so, and each other one accepted for the first time.
-fn is_wanted(reply: &Reply, is_last: bool, refusal: Refusal) -> bool {
-    match reply {
-        Ok(Answer::Repeated(_)) => false,
-        Ok(_) => !is_last,
-        Err(found) => is_last && *found == refusal,
-    }
-}
-
-// Gives two desks the commands, which they answer alike: all but the last are accepted, and that is refused so.
-fn refuse_the_last<M: AnyDesk, D: AnyDesk>(
-    alloc: Global,
-    held: &mut M,
-    kept: &mut D,
-    bounded: &Bounded<'_>,
-) -> Result<(), Fail> {
-    let mut left = bounded.commands.lines().count();
-    for text in bounded.commands.lines() {
-        left = left.saturating_sub(1);
-        let reply = answer_alike(alloc, held, kept, text)?;
-        let is_right = is_wanted(&reply, left == 0, bounded.refusal);
-        if !is_right {
-            return Err(Fail::from(format!(in alloc; "{text}: {reply:?}")?));
-        }
-    }
-    Ok(())
-}
-
-// Gives a new desk on disks the commands beside one in memory. Both end with one book.
-fn bounded_on<M: AnyDesk, D: DiskDesk>(
-    alloc: Global,
-    held: M,
-    bounded: &Bounded<'_>,
-) -> Result<bool, Fail> {
-    let mut held = held;
-    let disks = closed(D::new(alloc)?)?;
-    let mut kept: D = desk_again(alloc, disks)?;
-    refuse_the_last(alloc, &mut held, &mut kept, bounded)?;
-    let found: D = desk_again(alloc, closed(kept)?)?;
-    let (on_disks, _) = found.book(alloc)?;
-    let (in_memory, _) = held.book(alloc)?;
-    Ok(are_same_books(&on_disks, &in_memory))
-}
-
 impl Work for Bounded<'_> {
-    // Nothing fails.
-    fn done_with<D: DiskDesk>(&self, alloc: Global) -> Result<(u64, u64), Fail> {
-        if bounded_on::<MemoryDesk, D>(alloc, memory_desk(alloc)?, self)? {
-            Ok((0, 0))
-        } else {
-            Err(Fail::from("two books"))
-        }
+    type Seen = bool;
+
+    fn done_with<K: Keeper + ShowsBook + DiskKeeper + Drop>(
+        self,
+        alloc: Global,
+    ) -> Result<bool, Fail> {
+        let memory = MemoryKeeper::new(alloc);
+        refuse_the_last_over::<MemoryKeeper, K>(alloc, memory, self.commands, self.refusal)
     }
 }
 
-// Gives two new desks the commands, a line each, of which there is one at least. The last alone is refused, and so.
-fn are_bounded(alloc: Global, commands: &str, refusal: Refusal) -> Result<(), Fail> {
-    if commands.trim().is_empty() {
-        return Err(Fail::from("no command"));
-    }
-    on_disks(alloc, &Bounded { commands, refusal })?;
-    Ok(())
+fn refuse_the_last(alloc: Global, commands: &[Command], refusal: Refusal) -> Result<bool, Fail> {
+    on_disks(alloc, Bounded { commands, refusal })
 }
-
-const BOUNDS: &str = "add ABC 00000000000000000000000000000000 A
-add Z9999999 ffffffffffffffffffffffffffffffff ~ 23456789 123456789 123456789 123456789
-limit ABC 100000000000000
-limit Z9999999 0
-post ABC 0 1000000000000000
-post ABC Z-0123456789ABC9 -1000000000000000
-post ABC - 1
-post ABC A -1
-open 20240304
-order ABC 9 Z9999999 1000000000000
-order ABC Z-0123456789ABC9 Z9999999 1
-post Z9999999 B 1000000000000000
-post ABC C 1";
 
 #[test]
 fn texts_and_numbers_reach_their_bounds(rt: HostRuntime) -> Result<(), Fail> {
-    are_bounded(rt.alloc(), BOUNDS, Refusal::TotalTooLarge)
+    let commands = [
+        adds("ABC", "A", LOWEST_KEY)?,
+        adds("Z9999999", LONGEST_NAME, HIGHEST_KEY)?,
+        limits("ABC", 100_000_000_000_000)?,
+        limits("Z9999999", 0)?,
+        posts("ABC", "0", 1_000_000_000_000_000)?,
+        posts("ABC", LONGEST_REFERENCE, -1_000_000_000_000_000)?,
+        posts("ABC", "-", 1)?,
+        posts("ABC", "A", -1)?,
+        Command::OpenDay(date(20240304)?),
+        pays("ABC", "9", "Z9999999", 1_000_000_000_000)?,
+        pays("ABC", LONGEST_REFERENCE, "Z9999999", 1)?,
+        posts("Z9999999", "B", 1_000_000_000_000_000)?,
+        posts("ABC", "C", 1)?,
+    ];
+    assert!(rt; refuse_the_last(rt.alloc(), &commands, Refusal::TotalTooLarge)?);
+    Ok(())
 }
 
-const DAYS: &str = "open 20000103
-cutoff 20000103
-close 20000103
-open 20001229
-cutoff 20001229
-close 20001229
-open 29990101
-cutoff 29990101
-close 29990101
-open 29991231
-cutoff 29991231
-close 29991231
-open 29991231";
+/// Opens, cuts off and closes the day.
+fn whole_day(commands: &mut Vec<Command>, day: u32) -> Result<(), Fail> {
+    let date = date(day)?;
+    commands.push(Command::OpenDay(date))?;
+    commands.push(Command::CutOff(date))?;
+    commands.push(Command::CloseDay(date))?;
+    Ok(())
+}
 
 #[test]
 fn days_reach_their_bounds(rt: HostRuntime) -> Result<(), Fail> {
-    are_bounded(rt.alloc(), DAYS, Refusal::WrongDate)
+    let mut commands = Vec::new(rt.alloc());
+    for day in [20000103, 20001229, 29990101, 29991231] {
+        whole_day(&mut commands, day)?;
+    }
+    commands.push(Command::OpenDay(date(29991231)?))?;
+    assert!(rt; refuse_the_last(rt.alloc(), commands.as_slice(), Refusal::WrongDate)?);
+    Ok(())
+}
+
+/// Adds a participant of this number.
+fn adds_numbered(alloc: Global, number: u64) -> Result<Command, Fail> {
+    let code = format!(in alloc; "BANK{number}")?;
+    let key = format!(in alloc; "{number:032}")?;
+    adds(code.as_str(), "A Bank", key.as_str())
 }
 
 #[test]
 fn there_are_a_hundred_participants(rt: HostRuntime) -> Result<(), Fail> {
-    let alloc = rt.alloc();
-    let mut commands = String::new(alloc);
+    let mut commands = Vec::new(rt.alloc());
     for number in 0..=100 {
-        let line = format!(in alloc; "add BANK{number} {number:032} A Bank\n")?;
-        commands.push_str(line.as_str())?;
+        commands.push(adds_numbered(rt.alloc(), number)?)?;
     }
-    are_bounded(alloc, commands.as_str(), Refusal::TooManyParticipants)
+    assert!(rt;
+        refuse_the_last(
+            rt.alloc(),
+            commands.as_slice(),
+            Refusal::TooManyParticipants
+        )?
+    );
+    Ok(())
+}
+
+/// BANK1's order of this number, which nothing covers.
+fn uncovered(alloc: Global, number: u64) -> Result<Command, Fail> {
+    let reference = format!(in alloc; "A-{number}")?;
+    pays("BANK1", reference.as_str(), "BANK2", 5)
 }
 
 #[test]
 fn five_hundred_orders_of_one_sender_wait(rt: HostRuntime) -> Result<(), Fail> {
-    let alloc = rt.alloc();
-    let mut commands = String::from_str(alloc, TWO_BANKS)?;
+    let mut commands = Vec::new(rt.alloc());
+    commands.push(adds_numbered(rt.alloc(), 1)?)?;
+    commands.push(adds_numbered(rt.alloc(), 2)?)?;
+    commands.push(Command::OpenDay(date(20240304)?))?;
     for number in 1..=501 {
-        let line = format!(in alloc; "order BANK1 A-{number} BANK2 5\n")?;
-        commands.push_str(line.as_str())?;
+        commands.push(uncovered(rt.alloc(), number)?)?;
     }
-    are_bounded(alloc, commands.as_str(), Refusal::QueueFull)
+    assert!(rt; refuse_the_last(rt.alloc(), commands.as_slice(), Refusal::QueueFull)?);
+    Ok(())
 }
-
-/// Two banks on an open day, of which neither has anything.
-const TWO_BANKS: &str = "add BANK1 00000000000000000000000000000001 A Bank
-add BANK2 00000000000000000000000000000002 A Bank
-open 20240304
-";

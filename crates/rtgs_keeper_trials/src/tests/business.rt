@@ -1,7 +1,8 @@
 //! Commands, as chance would have them.
 ghost use Rattle.std.specs.Prelude.{◌<◌, ◌≤◌, IfOk};
 
-use rtgs_book::{Answer, Refusal};
+use rtgs_book::{Answer, Command, Refusal};
+use rtgs_money::{Amount, BusinessDate, Code, Credit, Key, Name, PostingAmount, Reference};
 use std::alloc::Global;
 use std::test::Fail;
 
@@ -35,6 +36,18 @@ pub const ORDERS: u64 = 150;
 /// How many references there are for postings: P-0 and those after it.
 pub const POSTINGS: u64 = 900;
 
+/// The code of this number.
+pub fn code_numbered(alloc: Global, number: u64) -> Result<Code, Fail> {
+    let text = format!(in alloc; "BANK{number}")?;
+    Ok(Code::read(text.as_bytes())?)
+}
+
+/// The reference of this letter and number.
+pub fn reference_numbered(alloc: Global, letter: char, number: u64) -> Result<Reference, Fail> {
+    let text = format!(in alloc; "{letter}-{number}")?;
+    Ok(Reference::read(text.as_bytes())?)
+}
+
 impl Business {
     /// The commands of this seed.
     pub fn new(alloc: Global, seed: u64) -> Business {
@@ -48,17 +61,17 @@ impl Business {
         }
     }
 
-    /// The next command, in words.
-    pub fn command(&mut self) -> Result<String, Fail> {
+    /// The next command.
+    pub fn command(&mut self) -> Result<Command, Fail> {
         match self.below(32) {
             0 => self.addition(),
             1 => self.limit(),
             2 | 3 | 4 => self.posting(),
             5 | 6 => self.opening(),
             7 | 8 => self.withdrawal(),
-            9 | 10 => Ok(String::from_str(self.alloc, "resolve")?),
-            11 if self.below(8) == 0 => self.ending("cutoff"),
-            12 | 13 | 14 => self.ending("close"),
+            9 | 10 => Ok(Command::Resolve),
+            11 if self.below(8) == 0 => Ok(Command::CutOff(self.day()?)),
+            12 | 13 | 14 => Ok(Command::CloseDay(self.day()?)),
             _ => self.order(),
         }
     }
@@ -82,50 +95,76 @@ impl Business {
         (self.state >> 33) % bound
     }
 
-    fn addition(&mut self) -> Result<String, Fail> {
-        let (code, key) = (self.below(CODES), self.below(11));
-        Ok(format!(in self.alloc; "add BANK{code} {key:032} A Bank")?)
+    fn code(&mut self) -> Result<Code, Fail> {
+        let number = self.below(CODES);
+        code_numbered(self.alloc, number)
     }
 
-    fn posting(&mut self) -> Result<String, Fail> {
-        let (code, number) = (self.below(CODES), self.below(POSTINGS));
+    fn addition(&mut self) -> Result<Command, Fail> {
+        let code = self.code()?;
+        let number = self.below(11);
+        let key = format!(in self.alloc; "{number:032}")?;
+        Ok(Command::Add {
+            code,
+            name: Name::read(b"A Bank")?,
+            key: Key::read(key.as_bytes())?.digest(),
+        })
+    }
+
+    fn posting(&mut self) -> Result<Command, Fail> {
+        let code = self.code()?;
+        let number = self.below(POSTINGS);
+        let reference = reference_numbered(self.alloc, 'P', number)?;
         let size = self.below(1_500) as i64 + 1;
         let cents = if self.below(4) == 0 { -size } else { size };
-        Ok(format!(in self.alloc; "post BANK{code} P-{number} {cents}")?)
+        Ok(Command::Post {
+            code,
+            reference,
+            cents: PostingAmount::from_cents(cents).ok_or("a posting")?,
+        })
     }
 
-    fn limit(&mut self) -> Result<String, Fail> {
-        let (code, cents) = (self.below(CODES), self.below(400));
-        Ok(format!(in self.alloc; "limit BANK{code} {cents}")?)
+    fn limit(&mut self) -> Result<Command, Fail> {
+        let code = self.code()?;
+        let cents = self.below(400);
+        let credit = Credit::from_cents(cents).ok_or("a limit")?;
+        Ok(Command::SetCredit { code, credit })
     }
 
     // One of the next days, or one that was before.
-    fn opening(&mut self) -> Result<String, Fail> {
+    fn opening(&mut self) -> Result<Command, Fail> {
         let step = self.below(3) as usize;
         self.asked = self.today.wrapping_add(step) % DAYS.len();
-        let day = DAYS[self.asked];
-        Ok(format!(in self.alloc; "open {day}")?)
+        let date = BusinessDate::from_number(DAYS[self.asked]).ok_or("a date")?;
+        Ok(Command::OpenDay(date))
     }
 
-    // The cut-off or the close, mostly of the day that was opened last.
-    fn ending(&mut self, word: &str) -> Result<String, Fail> {
+    // Mostly the day that was opened last.
+    fn day(&mut self) -> Result<BusinessDate, Fail> {
         let step = if self.below(8) == 0 { 1 } else { 0 };
         let place = self.today.wrapping_add(step) % DAYS.len();
-        let day = DAYS[place];
-        Ok(format!(in self.alloc; "{word} {day}")?)
+        Ok(BusinessDate::from_number(DAYS[place]).ok_or("a date")?)
     }
 
     // Of the last order.
-    fn withdrawal(&mut self) -> Result<String, Fail> {
-        let (sender, number) = (self.sender, self.number);
-        Ok(format!(in self.alloc; "withdraw BANK{sender} R-{number}")?)
+    fn withdrawal(&mut self) -> Result<Command, Fail> {
+        let sender = code_numbered(self.alloc, self.sender)?;
+        let reference = reference_numbered(self.alloc, 'R', self.number)?;
+        Ok(Command::Withdraw { sender, reference })
     }
 
-    fn order(&mut self) -> Result<String, Fail> {
+    fn order(&mut self) -> Result<Command, Fail> {
         self.sender = self.below(CODES);
         self.number = self.below(ORDERS);
-        let (sender, number) = (self.sender, self.number);
-        let (receiver, cents) = (self.below(CODES), self.below(900) + 1);
-        Ok(format!(in self.alloc; "order BANK{sender} R-{number} BANK{receiver} {cents}")?)
+        let sender = code_numbered(self.alloc, self.sender)?;
+        let reference = reference_numbered(self.alloc, 'R', self.number)?;
+        let receiver = self.code()?;
+        let amount = self.below(900) + 1;
+        Ok(Command::Order {
+            sender,
+            reference,
+            receiver,
+            amount: Amount::from_cents(amount).ok_or("an amount")?,
+        })
     }
 }

@@ -1,11 +1,11 @@
 //! A keeper of a book on two disks in memory.
 ghost use Rattle.std.specs.Prelude.{◌≡◌, false};
 
-use super::disk_desk::DiskDesk;
 use super::disks::{DISK_FAILED, DiskStore, Disks};
-use super::failing_keeper::FailingKeeper;
+use super::found::ShowsBook;
+use super::plain_keeper::PlainKeeper;
 use rtgs_book::Fault;
-use rtgs_desk::Desk;
+use rtgs_keeper::Keeper;
 use rtgs_stored_desk::create;
 use rtgs_tables::SqlKeeper;
 use sqlite::{Alter, Connection, Options};
@@ -28,7 +28,7 @@ pub trait DiskKeeper: Sized {
 }
 
 /// The one kind of keeper on disks that there is: the tables of a desk in a database on two disks.
-type KeeperOnDisks = SqlKeeper<DiskStore>;
+type KeeperOnDisks = PlainKeeper<SqlKeeper<DiskStore>>;
 
 // The keeper over a database, in which the tables of a new desk are made where they are to be made. Where the store
 // fails, it comes back.
@@ -64,13 +64,13 @@ impl DiskKeeper for KeeperOnDisks {
             Err((error, _)) => return Err(Fail::from(error)),
         };
         match kept(alloc, conn, is_new)? {
-            Ok(kept) => Ok(Ok(kept)),
+            Ok(kept) => Ok(Ok(PlainKeeper::new(kept))),
             Err(store) => Ok(Err(store.close())),
         }
     }
 
     fn closed(self) -> Result<Result<Disks, Disks>, Fail> {
-        let (error, store) = match self.into_connection().close_files() {
+        let (error, store) = match self.into_kept().into_connection().close_files() {
             Ok(disks) => return Ok(Ok(disks)),
             Err(left) => left,
         };
@@ -83,17 +83,22 @@ impl DiskKeeper for KeeperOnDisks {
     }
 
     fn stopped(self) -> Disks {
-        self.into_connection().into_store().close()
+        self.into_kept().into_connection().into_store().close()
     }
 }
 
-/// What is done with desks on disks. It gives how many runs met a failure.
+/// What is done with a keeper on disks, and what is seen then.
 pub trait Work {
-    /// Does it with desks of this kind.
-    fn done_with<D: DiskDesk>(&self, alloc: Global) -> Result<(u64, u64), Fail>;
+    type Seen;
+
+    /// Does it with a keeper of this kind.
+    fn done_with<K: Keeper + ShowsBook + DiskKeeper + Drop>(
+        self,
+        alloc: Global,
+    ) -> Result<Self::Seen, Fail>;
 }
 
-/// Does this with the one kind of desk on disks that there is. Only this function names it.
-pub fn on_disks<W: Work>(alloc: Global, work: &W) -> Result<(u64, u64), Fail> {
-    work.done_with::<Desk<FailingKeeper<KeeperOnDisks>>>(alloc)
+/// Does this with the one kind of keeper on disks that there is. Only this function names it.
+pub fn on_disks<W: Work>(alloc: Global, work: W) -> Result<W::Seen, Fail> {
+    work.done_with::<KeeperOnDisks>(alloc)
 }

@@ -1,94 +1,128 @@
 //! A batch whose store fails, and its result files before and after the desk is opened again.
-use super::any_desk::AnyDesk;
-use super::batch_rows::orders_of;
-use super::memory_desk::{memory_desk, played};
-use super::script::lines;
-use super::setting::THREE_BANKS;
-use rtgs_exchange::write_results;
+use super::failing_keeper::{FailingKeeper, Trouble};
+use super::setting::{code, desk_over, opened, posts, prepared, reference};
+use rtgs_book::Refusal;
+use rtgs_desk::Desk;
+use rtgs_exchange::{BatchResult, OrderRow, submit_batch, write_results};
+use rtgs_keeper::{Keeper, MemoryKeeper};
+use rtgs_money::Amount;
 use std::alloc::Global;
 use std::test::Fail;
 
-// ALFA has 150 cents on an open day. The keeper was called seven times then: at the opening, thrice for the banks,
-// twice for the posting, and for the day. An order is two calls more: it is looked up, and then kept.
-const DAY: &str = "post ALFA P-1 150 = Ok(Posted { number: 1 })
-open 20240304 = Ok(Opened)
-";
+// How many calls of its keeper a desk makes, until it is open and has three banks, a posting and a day.
+const BEFORE_THE_ORDERS: usize = 7;
 
-/// ALFA can pay the first two of them.
-const ROWS: &str = "
-order ALFA A-1 BETA 100 = Ok(Settled { number: 1, mark: 1 })
-order ALFA A-2 GAMA 50 = Ok(Settled { number: 2, mark: 2 })
-order ALFA A-3 BETA 25 = Ok(Queued { number: 3, place: 1 })
-";
-
-/// The batch that stops at its second row, and the same batch once more.
-const TWICE: &str = "
-BatchResult { replies: [Settled { number: 1, mark: 1 }], stopped: Some(StoreFault) }
-BatchResult { replies: [], stopped: Some(Failed) }";
+// The calls of an order: it is looked up, and then kept.
+const CALLS: [usize; 2] = [0, 1];
 
 /// The result file of the three rows, sent again after a batch that stopped at the third.
-const SENT_AGAIN: &str =
-    "reference,result,number,detail\nA-1,repeated,1,settled\nA-2,repeated,2,settled\nA-3,queued,3,1\n";
+const SENT_AGAIN: &[u8] =
+    b"reference,result,number,detail\nA-1,repeated,1,settled\nA-2,repeated,2,settled\nA-3,queued,3,1\n";
 
 /// The result file of a batch that stopped at its second row.
-const STOPPED: &str = "reference,result,number,detail\nA-1,settled,1,1\nA-2,stopped,,91\n";
+const STOPPED: &[u8] = b"reference,result,number,detail\nA-1,settled,1,1\nA-2,stopped,,91\n";
 
-// The desk with three banks on an open day, whose keeper fails after so many calls.
-fn prepared<D: AnyDesk>(alloc: Global, desk: D, calls: usize) -> Result<D, Fail> {
-    let story = format!(in alloc; "lost after {calls}{THREE_BANKS}{DAY}")?;
-    played(alloc, desk, story.as_str())
+fn row(name: &str, receiver: &str, cents: u64) -> Result<OrderRow, Fail> {
+    Ok(OrderRow {
+        reference: reference(name)?,
+        receiver: code(receiver)?,
+        amount: Amount::from_cents(cents).ok_or("an amount")?,
+    })
 }
 
-// What comes of the rows of ALFA.
-fn submitted<D: AnyDesk>(alloc: Global, desk: &mut D) -> Result<String, Fail> {
-    let lines = lines(alloc, ROWS)?;
-    let rows = orders_of(alloc, lines.as_slice())?;
-    let batch = desk.batch(alloc, rows.as_slice())?;
-    Ok(format!(in alloc; "{batch:?}")?)
+// ALFA can pay the first two of them from 150 cents.
+fn three_rows() -> Result<[OrderRow; 3], Fail> {
+    Ok([
+        row("A-1", "BETA", 100)?,
+        row("A-2", "GAMA", 50)?,
+        row("A-3", "BETA", 25)?,
+    ])
 }
 
-// The result file of the rows of ALFA.
-fn result_file<D: AnyDesk>(alloc: Global, desk: &mut D) -> Result<String, Fail> {
-    let lines = lines(alloc, ROWS)?;
-    let rows = orders_of(alloc, lines.as_slice())?;
-    let batch = desk.batch(alloc, rows.as_slice())?;
+// A new keeper that fails after so many orders of a desk that is prepared, at this call of the next one.
+fn failing(alloc: Global, orders: usize, call: usize) -> FailingKeeper<MemoryKeeper> {
+    let before = orders.saturating_mul(CALLS.len());
+    let calls = BEFORE_THE_ORDERS
+        .saturating_add(before)
+        .saturating_add(call);
+    FailingKeeper::new(MemoryKeeper::new(alloc), calls, Trouble::Lost)
+}
+
+// A desk over a new keeper with three banks on an open day, of which ALFA has 150 cents.
+fn new_desk<K: Keeper + Drop>(alloc: Global, keeper: K) -> Result<Desk<K>, Fail> {
+    prepared(alloc, keeper, &[posts("ALFA", "P-1", 150)?, opened()?.0])
+}
+
+// Submits the rows of ALFA.
+fn submitted<K: Keeper>(
+    alloc: Global,
+    desk: &mut Desk<K>,
+    rows: &[OrderRow],
+) -> Result<BatchResult, Fail> {
+    let sender = code("ALFA")?;
+    Ok(submit_batch(alloc, desk, sender, rows)?)
+}
+
+// The result file of the rows of ALFA, over a keeper that is new, or has the book of an earlier desk.
+fn result_file<K: Keeper + Drop>(
+    alloc: Global,
+    keeper: K,
+    is_new: bool,
+    rows: &[OrderRow],
+) -> Result<(Vec<u8>, K), Fail> {
+    let mut desk = if is_new {
+        new_desk(alloc, keeper)?
+    } else {
+        desk_over(alloc, keeper)?
+    };
+    let batch = submitted(alloc, &mut desk, rows)?;
     let mut text = Vec::new(alloc);
-    write_results(alloc, &mut text, rows.as_slice(), &batch)?;
-    Ok(String::from_str(alloc, std::str::from_utf8(text.as_slice())?)?)
+    write_results(alloc, &mut text, rows, &batch)?;
+    Ok((text, desk.into_keeper()))
+}
+
+// What comes of the rows and of the same rows again, over a new keeper.
+fn submitted_twice<K: Keeper + Drop>(
+    alloc: Global,
+    keeper: K,
+    rows: &[OrderRow],
+) -> Result<(BatchResult, BatchResult), Fail> {
+    let mut desk = new_desk(alloc, keeper)?;
+    let first = submitted(alloc, &mut desk, rows)?;
+    Ok((first, submitted(alloc, &mut desk, rows)?))
 }
 
 #[test]
 fn a_batch_stops_where_the_store_fails(rt: HostRuntime) -> Result<(), Fail> {
-    let alloc = rt.alloc();
-    for calls in 9..=10 {
-        let mut desk = prepared(alloc, memory_desk(alloc)?, calls)?;
-        let (batch, later) = (submitted(alloc, &mut desk)?, submitted(alloc, &mut desk)?);
-        let found = format!(in alloc; "\n{batch}\n{later}")?;
-        assert_eq!(rt; found.as_str(), TWICE, "{calls}");
+    for call in CALLS {
+        let keeper = failing(rt.alloc(), 1, call);
+        let (batch, later) = submitted_twice(rt.alloc(), keeper, &three_rows()?)?;
+        assert_eq!(rt; batch.replies.len(), 1);
+        assert_eq!(rt; batch.stopped, Some(Refusal::StoreFault));
+        assert_eq!(rt; later.replies.len(), 0);
+        assert_eq!(rt; later.stopped, Some(Refusal::Failed));
     }
     Ok(())
 }
 
 #[test]
 fn a_stopped_batch_is_sent_again_after_a_restart(rt: HostRuntime) -> Result<(), Fail> {
-    let alloc = rt.alloc();
-    for calls in 11..=12 {
-        let mut desk = prepared(alloc, memory_desk(alloc)?, calls)?;
-        result_file(alloc, &mut desk)?;
-        let mut desk = played(alloc, desk, "restart")?;
-        let file = result_file(alloc, &mut desk)?;
-        assert_eq!(rt; file.as_str(), SENT_AGAIN, "{calls}");
+    let rows = three_rows()?;
+    for call in CALLS {
+        let keeper = failing(rt.alloc(), 2, call);
+        let (_, left) = result_file(rt.alloc(), keeper, true, &rows)?;
+        let (text, _) = result_file(rt.alloc(), left.into_kept(), false, &rows)?;
+        assert_eq!(rt; text.as_slice(), SENT_AGAIN);
     }
     Ok(())
 }
 
 #[test]
 fn no_line_follows_a_stop(rt: HostRuntime) -> Result<(), Fail> {
-    let alloc = rt.alloc();
-    for calls in 9..=10 {
-        let mut desk = prepared(alloc, memory_desk(alloc)?, calls)?;
-        let file = result_file(alloc, &mut desk)?;
-        assert_eq!(rt; file.as_str(), STOPPED, "{calls}");
+    for call in CALLS {
+        let keeper = failing(rt.alloc(), 1, call);
+        let (text, _) = result_file(rt.alloc(), keeper, true, &three_rows()?)?;
+        assert_eq!(rt; text.as_slice(), STOPPED);
     }
     Ok(())
 }

@@ -1,83 +1,109 @@
-//! A desk over a keeper that fails, and opened again over what it kept. ALFA is added by the second call of the keeper,
-//! the first being that of the opening; its posting is looked up by the third, and kept by the fourth.
-use super::any_desk::AnyDesk;
-use super::memory_desk::{memory_desk, played, trouble_named};
-use super::script::listed;
-use rtgs_book::Fault;
+//! A desk over a keeper that fails, and opened again over what it kept.
+use super::failing_keeper::{FailingKeeper, Trouble};
+use super::setting::{Reply, adds_alfa, desk_over, posts};
+use rtgs_book::{Answer, Command, Fault, Known, Refusal};
 use rtgs_desk::Desk;
-use rtgs_keeper::Keeper;
+use rtgs_keeper::{Keeper, MemoryKeeper};
 use std::alloc::Global;
 use std::test::Fail;
 
-/// A posting meets a fault of the store.
-const FAULT: &str = "
-add ALFA 0000000000000000000000000000000a A Bank = Ok(Added)
-post ALFA P-1 100 = Err(StoreFault)
-add ALFA 0000000000000000000000000000000a A Bank = Err(Failed)
-";
+// How many calls of its keeper a desk makes before it looks a posting up: at its opening, and for ALFA.
+const LOOK_UP: usize = 2;
+
+// How many it makes before the posting is kept.
+const COMMIT: usize = 3;
+
+// A keeper of a new book, which meets trouble after so many calls.
+fn failing(alloc: Global, calls: usize, trouble: Trouble) -> FailingKeeper<MemoryKeeper> {
+    FailingKeeper::new(MemoryKeeper::new(alloc), calls, trouble)
+}
+
+// The replies of a desk over this keeper to a list of commands.
+fn replies_over<K: Keeper + Drop>(
+    alloc: Global,
+    keeper: K,
+    commands: &[Command],
+) -> Result<Vec<Reply>, Fail> {
+    let mut desk = desk_over(alloc, keeper)?;
+    Ok(desk.run(commands)?)
+}
 
 #[test]
 fn a_fault_of_the_store_fails_the_rest_of_a_list(rt: HostRuntime) -> Result<(), Fail> {
-    let mut desk = played(rt.alloc(), memory_desk(rt.alloc())?, "kept after 3")?;
-    listed(rt.alloc(), &mut desk, FAULT)
-}
-
-// The desk whose posting met a fault, after this trouble.
-fn after_a_fault<D: AnyDesk>(alloc: Global, desk: D, trouble: &str) -> Result<D, Fail> {
-    let story = format!(in alloc; "{trouble}{FAULT}is silent\n")?;
-    played(alloc, desk, story.as_str())
-}
-
-// Opens the desk again, whose posting met a fault, and gives it the posting once more.
-fn posted_again<D: AnyDesk>(
-    alloc: Global,
-    desk: D,
-    trouble: &str,
-    reply: &str,
-) -> Result<(), Fail> {
-    let desk = after_a_fault(alloc, desk, trouble)?;
-    let story = format!(in alloc; "restart\npost ALFA P-1 100 = {reply}\nworks\n")?;
-    played(alloc, desk, story.as_str())?;
+    let commands = [adds_alfa()?, posts("ALFA", "P-1", 100)?, adds_alfa()?];
+    let answers = replies_over(
+        rt.alloc(),
+        failing(rt.alloc(), COMMIT, Trouble::Kept),
+        &commands,
+    )?;
+    let expected = [
+        Ok(Answer::Added),
+        Err(Refusal::StoreFault),
+        Err(Refusal::Failed),
+    ];
+    assert_eq!(rt; answers.as_slice(), expected.as_slice());
     Ok(())
+}
+
+// The keeper of a desk whose posting met a fault.
+fn after_a_fault<K: Keeper + Drop>(alloc: Global, keeper: K) -> Result<K, Fail> {
+    let (add, post) = (adds_alfa()?, posts("ALFA", "P-1", 100)?);
+    let mut desk = desk_over(alloc, keeper)?;
+    let is_added = desk.submit(add) == Ok(Answer::Added);
+    let is_fault = desk.submit(post) == Err(Refusal::StoreFault);
+    let has_failed = desk.submit(add) == Err(Refusal::Failed) && desk.failed();
+    if is_added && is_fault && has_failed {
+        Ok(desk.into_keeper())
+    } else {
+        Err(Fail::from("other replies"))
+    }
+}
+
+// What a posting is answered, by a desk over what a keeper kept that met this trouble at the same posting before.
+fn posted_again(alloc: Global, calls: usize, trouble: Trouble) -> Result<Reply, Fail> {
+    let found = after_a_fault(alloc, failing(alloc, calls, trouble))?.into_kept();
+    let post = [posts("ALFA", "P-1", 100)?];
+    let replies = replies_over(alloc, found, &post)?;
+    Ok(*replies.as_slice().first().ok_or("no reply")?)
 }
 
 #[test]
 fn a_change_that_was_lost_is_made_again(rt: HostRuntime) -> Result<(), Fail> {
-    let alloc = rt.alloc();
-    for trouble in "lost after 2\nkept after 2\nlost after 3".lines() {
-        posted_again(
-            alloc,
-            memory_desk(alloc)?,
-            trouble,
-            "Ok(Posted { number: 1 })",
-        )?;
+    for (calls, trouble) in [
+        (LOOK_UP, Trouble::Lost),
+        (LOOK_UP, Trouble::Kept),
+        (COMMIT, Trouble::Lost),
+    ] {
+        let reply = posted_again(rt.alloc(), calls, trouble)?;
+        assert_eq!(rt; reply, Ok(Answer::Posted { number: 1 }), "{calls}");
     }
     Ok(())
 }
 
 #[test]
 fn a_change_that_was_kept_is_not_made_again(rt: HostRuntime) -> Result<(), Fail> {
-    let known = "Ok(Repeated(Posting { number: 1 }))";
-    posted_again(rt.alloc(), memory_desk(rt.alloc())?, "kept after 3", known)
+    let reply = posted_again(rt.alloc(), COMMIT, Trouble::Kept)?;
+    assert_eq!(rt; reply, Ok(Answer::Repeated(Known::Posting { number: 1 })));
+    Ok(())
+}
+
+// Whether a command that lacked memory leaves the desk as it was, and goes well when it comes again.
+fn is_sent_again<K: Keeper + Drop>(alloc: Global, keeper: K) -> Result<bool, Fail> {
+    let (add, post) = (adds_alfa()?, posts("ALFA", "P-1", 100)?);
+    let mut desk = desk_over(alloc, keeper)?;
+    let is_added = desk.submit(add) == Ok(Answer::Added);
+    let is_refused = desk.submit(post) == Err(Refusal::OutOfMemory) && !desk.failed();
+    Ok(is_added && is_refused && desk.submit(post) == Ok(Answer::Posted { number: 1 }))
 }
 
 #[test]
 fn a_command_that_lacked_memory_is_sent_again(rt: HostRuntime) -> Result<(), Fail> {
-    let alloc = rt.alloc();
-    for calls in 2..=3 {
-        let story = format!(in alloc; "no memory after {calls}{LACK}")?;
-        played(alloc, memory_desk(alloc)?, story.as_str())?;
+    for calls in [LOOK_UP, COMMIT] {
+        let keeper = failing(rt.alloc(), calls, Trouble::OutOfMemory);
+        assert!(rt; is_sent_again(rt.alloc(), keeper)?, "{calls}");
     }
     Ok(())
 }
-
-/// A posting lacks memory, which leaves the desk as it was, and goes well when it comes again.
-const LACK: &str = "
-add ALFA 0000000000000000000000000000000a A Bank = Ok(Added)
-post ALFA P-1 100 = Err(OutOfMemory)
-works
-post ALFA P-1 100 = Ok(Posted { number: 1 })
-";
 
 // Why no desk is opened over this keeper.
 fn fault_of<K: Keeper + Drop>(alloc: Global, keeper: K) -> Option<Fault> {
@@ -89,30 +115,19 @@ fn fault_of<K: Keeper + Drop>(alloc: Global, keeper: K) -> Option<Fault> {
 
 #[test]
 fn a_failed_keeper_opens_no_desk(rt: HostRuntime) -> Result<(), Fail> {
-    let failed = after_a_fault(rt.alloc(), memory_desk(rt.alloc())?, "lost after 3")?;
-    let fault = fault_of(rt.alloc(), failed.into_keeper());
-    assert_eq!(rt; fault, Some(Fault::StoreFault));
+    let failed = after_a_fault(rt.alloc(), failing(rt.alloc(), COMMIT, Trouble::Lost))?;
+    assert_eq!(rt; fault_of(rt.alloc(), failed), Some(Fault::StoreFault));
     Ok(())
-}
-
-// Fails where a desk whose opening meets trouble is opened, or is not opened for another fault, as `lost: StoreFault`
-// says.
-fn is_not_opened<D: AnyDesk>(alloc: Global, desk: D, line: &str) -> Result<(), Fail> {
-    let (trouble, wanted) = line.split_once(": ").ok_or("no fault")?;
-    let (fault, _) = desk.again(alloc, 0, trouble_named(trouble)?)?;
-    let fault = format!(in alloc; "{:?}", fault.ok_or("opened")?)?;
-    if fault.as_str() == wanted {
-        Ok(())
-    } else {
-        Err(Fail::from(fault))
-    }
 }
 
 #[test]
-fn a_keeper_that_fails_at_the_opening_opens_no_desk(rt: HostRuntime) -> Result<(), Fail> {
-    let alloc = rt.alloc();
-    for line in "lost: StoreFault\nkept: StoreFault\nno memory: OutOfMemory".lines() {
-        is_not_opened(alloc, memory_desk(alloc)?, line)?;
+fn a_keeper_that_fails_at_the_opening_opens_no_desk(rt: HostRuntime) {
+    for (trouble, fault) in [
+        (Trouble::Lost, Fault::StoreFault),
+        (Trouble::Kept, Fault::StoreFault),
+        (Trouble::OutOfMemory, Fault::OutOfMemory),
+    ] {
+        let keeper = failing(rt.alloc(), 0, trouble);
+        assert_eq!(rt; fault_of(rt.alloc(), keeper), Some(fault), "{trouble:?}");
     }
-    Ok(())
 }

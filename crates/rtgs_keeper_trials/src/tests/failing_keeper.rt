@@ -1,8 +1,7 @@
 //! A keeper that fails when it is told to.
 ghost use Rattle.std.specs.Prelude.{◌≡◌, ◌⊎◌};
 
-use super::found::ShowsBook;
-use rtgs_book::{Book, Change, Fault, Mark, Order, Posting};
+use rtgs_book::{Change, Fault, Mark, Order, Posting};
 use rtgs_cores::Core;
 use rtgs_keeper::{CommitFault, Keeper};
 use rtgs_money::{BusinessDate, Code, Reference};
@@ -32,7 +31,7 @@ impl Trouble {
 }
 
 /// Passes calls on to another keeper, until one meets trouble. After a fault of the store it answers that it has
-/// failed. Nothing is claimed of what is kept, but when it has failed.
+/// failed.
 #[derive(Drop)]
 pub struct FailingKeeper<K> {
     kept: K,
@@ -49,16 +48,6 @@ impl<K: Keeper> FailingKeeper<K> {
             kept,
             calls,
             trouble: Some(trouble),
-            failed: false,
-        }
-    }
-
-    /// Over this keeper, with no trouble.
-    pub fn whole(kept: K) -> FailingKeeper<K> {
-        FailingKeeper {
-            kept,
-            calls: 0,
-            trouble: None,
             failed: false,
         }
     }
@@ -81,40 +70,38 @@ impl<K: Keeper> FailingKeeper<K> {
     }
 }
 
-impl<K: Keeper + ShowsBook> ShowsBook for FailingKeeper<K> {
-    fn book(&mut self, alloc: Global) -> Result<Book, Fault> {
-        self.kept.book(alloc)
-    }
-}
-
 impl<K: Keeper> Keeper for FailingKeeper<K> {
-    ghost content = { λ _ _. ⊥ };
+    ghost use Rattle.std.specs.Prelude.{◌⊎◌};
+    ghost use Rattle.rtgs_book.specs.declared.Fault.{Fault};
 
-    ghost leaves = { λ _ _. ⊥ };
+    ghost content = { λ keeper. K.content keeper.kept };
+
+    ghost leaves = { λ keeper. K.leaves keeper.kept };
 
     ghost has_failed = { λ keeper. keeper.failed };
 
-    ghost is_honest = { λ _. ⊥ };
+    ghost is_honest = { λ keeper. K.is_honest keeper.kept };
 
-    ghost has_tables = { λ _. ⊥ };
+    ghost has_tables = { λ keeper. K.has_tables keeper.kept };
 
-    ghost is_empty = { λ _. ⊥ };
+    ghost is_empty = { λ keeper. K.is_empty keeper.kept };
 
-    ghost is_whole = { λ _. ⊥ };
+    ghost is_whole = { λ keeper. K.is_whole keeper.kept };
 
-    ghost shows = { λ _ _. ⊥ };
+    ghost shows = { λ keeper. K.shows keeper.kept };
 
+    // Nothing is claimed of what the store itself may leave.
     ghost leaves_no_more = { λ _ _. Unit {0} };
 
-    ghost explains = { λ _ _. ⊥ };
+    ghost explains = { λ keeper fault. (fault ≡ Fault.StoreFault) ⊎ K.explains keeper.kept fault };
 
-    ghost settled = { λ _ _ _ held _. absurd held };
+    ghost settled = { λ keeper. K.settled keeper.kept };
 
-    ghost stays = { λ _ _ held. held };
+    ghost stays = { λ keeper. K.stays keeper.kept };
 
-    ghost tabled = { λ _ _ held. held };
+    ghost tabled = { λ keeper. K.tabled keeper.kept };
 
-    ghost whole = { λ _ _ held. held };
+    ghost whole = { λ keeper. K.whole keeper.kept };
 
     ghost unmoved = { λ _. tt };
 

@@ -1,9 +1,8 @@
 //! What is found of a desk: its book, and how its banks stand.
-use super::any_desk::AnyDesk;
+use super::setting::{Standings, standings};
 use rtgs_book::{Book, Fault, Rows};
-use rtgs_keeper::MemoryKeeper;
-use rtgs_tables::SqlKeeper;
-use sqlite::Alter;
+use rtgs_desk::Desk;
+use rtgs_keeper::{Keeper, MemoryKeeper};
 use std::alloc::Global;
 use std::test::Fail;
 
@@ -19,25 +18,23 @@ impl ShowsBook for MemoryKeeper {
     }
 }
 
-impl<S: Alter + Drop> ShowsBook for SqlKeeper<S> {
-    fn book(&mut self, alloc: Global) -> Result<Book, Fault> {
-        self.load(alloc)
-    }
-}
-
 /// The three balances and queues of a desk, and its records.
 #[derive(Drop)]
 pub struct Found {
-    pub standings: String,
+    pub standings: Standings,
     pub book: Book,
 }
 
 impl Found {
-    /// Of a desk with three banks. It is opened again.
-    pub fn of<D: AnyDesk>(alloc: Global, desk: D) -> Result<(Found, D), Fail> {
-        let standings = desk.standings(alloc)?;
-        let (book, desk) = desk.book(alloc)?;
-        Ok((Found { standings, book }, desk))
+    /// Of a desk with three banks, which ends so.
+    pub fn of<K: Keeper + ShowsBook + Drop>(
+        alloc: Global,
+        desk: Desk<K>,
+    ) -> Result<(Found, K), Fail> {
+        let standings = standings(&desk)?;
+        let mut keeper = desk.into_keeper();
+        let book = keeper.book(alloc)?;
+        Ok((Found { standings, book }, keeper))
     }
 
     /// Whether both are alike.

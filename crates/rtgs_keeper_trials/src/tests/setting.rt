@@ -1,24 +1,29 @@
-//! Banks, and their commands in words.
-use rtgs_book::{Answer, Command, Refusal};
-use rtgs_money::{Amount, BusinessDate, Code, Credit, Key, Name, PostingAmount, Reference};
+//! Banks, their commands, and how they stand.
+use rtgs_book::{Answer, Command, Known, OrderState, Refusal};
+use rtgs_desk::Desk;
+use rtgs_keeper::Keeper;
+use rtgs_money::{Amount, BusinessDate, Cents, Code, Credit, Key, Name, PostingAmount, Reference};
 use std::alloc::Global;
 use std::test::Fail;
 
 /// What a command is answered.
 pub type Reply = Result<Answer, Refusal>;
 
+/// A command, and what it is answered.
+pub type Row = (Command, Reply);
+
+/// The three balances in cents, and how many orders each of the three has in its queue.
+pub type Standings = [(i64, usize); 3];
+
 /// A day on which desks open.
-pub const MONDAY: &str = "20240304";
+pub const MONDAY: u32 = 20240304;
 
 /// ALFA's key.
 pub const KEY: &str = "0000000000000000000000000000000a";
 
-/// Adds three banks.
-pub const THREE_BANKS: &str = "
-add ALFA 0000000000000000000000000000000a A Bank = Ok(Added)
-add BETA 0000000000000000000000000000000b A Bank = Ok(Added)
-add GAMA 0000000000000000000000000000000c A Bank = Ok(Added)
-";
+const KEY_OF_BETA: &str = "0000000000000000000000000000000b";
+
+const KEY_OF_GAMA: &str = "0000000000000000000000000000000c";
 
 /// The code of this text.
 pub fn code(text: &str) -> Result<Code, Fail> {
@@ -30,36 +35,44 @@ pub fn reference(text: &str) -> Result<Reference, Fail> {
     Ok(Reference::read(text.as_bytes())?)
 }
 
-/// The date of these eight digits.
-pub fn date(text: &str) -> Result<BusinessDate, Fail> {
-    let day = text.parse::<u32>().ok().ok_or("eight digits")?;
+/// The date of this number, as 20240304.
+pub fn date(day: u32) -> Result<BusinessDate, Fail> {
     Ok(BusinessDate::from_number(day).ok_or("a date")?)
 }
 
-// A number that is not below 0.
-fn whole(text: &str) -> Result<u64, Fail> {
-    Ok(text.parse::<u64>().ok().ok_or("a number")?)
-}
-
-// Adds a participant. Its name is what follows the key.
-fn adds(participant: &str, key: &str, text: &str) -> Result<Command, Fail> {
-    let (_, name) = text.split_once(key).ok_or("a name")?;
+/// Adds a participant with this code, name and key.
+pub fn adds(participant: &str, name: &str, key: &str) -> Result<Command, Fail> {
     Ok(Command::Add {
         code: code(participant)?,
-        name: Name::read(name.trim().as_bytes())?,
+        name: Name::read(name.as_bytes())?,
         key: Key::read(key.as_bytes())?.digest(),
     })
 }
 
-fn limits(participant: &str, cents: &str) -> Result<Command, Fail> {
+/// Adds ALFA.
+pub fn adds_alfa() -> Result<Command, Fail> {
+    adds("ALFA", "A Bank", KEY)
+}
+
+/// Adds ALFA, BETA and GAMA.
+pub fn adds_three() -> Result<[Command; 3], Fail> {
+    Ok([
+        adds_alfa()?,
+        adds("BETA", "A Bank", KEY_OF_BETA)?,
+        adds("GAMA", "A Bank", KEY_OF_GAMA)?,
+    ])
+}
+
+/// Sets a participant's credit limit.
+pub fn limits(participant: &str, cents: u64) -> Result<Command, Fail> {
     Ok(Command::SetCredit {
         code: code(participant)?,
-        credit: Credit::from_cents(whole(cents)?).ok_or("a limit")?,
+        credit: Credit::from_cents(cents).ok_or("a limit")?,
     })
 }
 
-fn posts(participant: &str, name: &str, cents: &str) -> Result<Command, Fail> {
-    let cents = cents.parse::<i64>().ok().ok_or("cents")?;
+/// Posts so many cents to a participant, or takes them where they are below 0.
+pub fn posts(participant: &str, name: &str, cents: i64) -> Result<Command, Fail> {
     Ok(Command::Post {
         code: code(participant)?,
         reference: reference(name)?,
@@ -67,44 +80,79 @@ fn posts(participant: &str, name: &str, cents: &str) -> Result<Command, Fail> {
     })
 }
 
-fn pays(sender: &str, name: &str, receiver: &str, cents: &str) -> Result<Command, Fail> {
+/// An order of the sender to pay the receiver.
+pub fn pays(sender: &str, name: &str, receiver: &str, cents: u64) -> Result<Command, Fail> {
     Ok(Command::Order {
         sender: code(sender)?,
         reference: reference(name)?,
         receiver: code(receiver)?,
-        amount: Amount::from_cents(whole(cents)?).ok_or("an amount")?,
+        amount: Amount::from_cents(cents).ok_or("an amount")?,
     })
 }
 
-fn withdraws(sender: &str, name: &str) -> Result<Command, Fail> {
-    Ok(Command::Withdraw {
-        sender: code(sender)?,
-        reference: reference(name)?,
+/// Opens Monday.
+pub fn opened() -> Result<Row, Fail> {
+    Ok((Command::OpenDay(date(MONDAY)?), Ok(Answer::Opened)))
+}
+
+/// The order has this number, and waits at this place of its queue.
+pub fn queued(number: u64, place: u64) -> Reply {
+    Ok(Answer::Queued { number, place })
+}
+
+/// The order has this number, and settled at once under this mark.
+pub fn settled(number: u64, mark: u64) -> Reply {
+    Ok(Answer::Settled { number, mark })
+}
+
+/// The order came before, and was taken under this number.
+pub fn taken(number: u64, state: OrderState) -> Reply {
+    Ok(Answer::Repeated(Known::Order { number, state }))
+}
+
+/// So many orders of this value in cents settled under this mark.
+pub fn resolved(mark: u64, count: u64, cents: i64) -> Reply {
+    Ok(Answer::Resolved {
+        mark,
+        count,
+        value: Cents::new(cents),
     })
 }
 
-/// The command that these words say. Amounts are in cents.
-pub fn command(alloc: Global, text: &str) -> Result<Command, Fail> {
-    let words: Vec<&str> = text.split_whitespace().collect(alloc)?;
-    match *words.as_slice() {
-        ["add", participant, key, ..] => adds(participant, key, text),
-        ["limit", participant, cents] => limits(participant, cents),
-        ["post", participant, name, cents] => posts(participant, name, cents),
-        ["open", day] => Ok(Command::OpenDay(date(day)?)),
-        ["order", sender, name, receiver, cents] => pays(sender, name, receiver, cents),
-        ["withdraw", sender, name] => withdraws(sender, name),
-        ["resolve"] => Ok(Command::Resolve),
-        ["cutoff", day] => Ok(Command::CutOff(date(day)?)),
-        ["close", day] => Ok(Command::CloseDay(date(day)?)),
-        _ => Err(Fail::from(format!(in alloc; "no command: {text}")?)),
+/// A desk over a keeper.
+pub fn desk_over<K: Keeper + Drop>(alloc: Global, keeper: K) -> Result<Desk<K>, Fail> {
+    match Desk::open(alloc, keeper) {
+        Ok(desk) => Ok(desk),
+        Err((fault, _)) => Err(Fail::from(fault)),
     }
 }
 
-/// The commands of these lines.
-pub fn commands(alloc: Global, text: &str) -> Result<Vec<Command>, Fail> {
-    let mut commands = Vec::new(alloc);
-    for line in text.lines() {
-        commands.push(command(alloc, line)?)?;
+/// The desk over a new keeper, with three banks, after these commands.
+pub fn prepared<K: Keeper + Drop>(
+    alloc: Global,
+    keeper: K,
+    commands: &[Command],
+) -> Result<Desk<K>, Fail> {
+    let mut desk = desk_over(alloc, keeper)?;
+    for command in adds_three()?.iter().chain(commands) {
+        desk.submit(*command)?;
     }
-    Ok(commands)
+    Ok(desk)
+}
+
+/// The balance of a participant in cents, and how many orders its queue has.
+fn standing<K: Keeper>(desk: &Desk<K>, of: &str) -> Result<(i64, usize), Fail> {
+    match desk.account(&code(of)?) {
+        Ok(account) => Ok((account.balance.cents(), account.queued)),
+        Err(refusal) => Err(Fail::from(refusal)),
+    }
+}
+
+/// How the three stand.
+pub fn standings<K: Keeper>(desk: &Desk<K>) -> Result<Standings, Fail> {
+    Ok([
+        standing(desk, "ALFA")?,
+        standing(desk, "BETA")?,
+        standing(desk, "GAMA")?,
+    ])
 }

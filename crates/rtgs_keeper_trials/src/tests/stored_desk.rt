@@ -13,10 +13,9 @@ ghost use Rattle.rtgs_tables.specs.Building.{IsBlank};
 ghost use Rattle.rtgs_keeper_trials.specs.Lives.{AreTwoSessions};
 ghost use Rattle.rtgs_stored_desk.specs.Stored.{AreTablesOf};
 
-use super::any_desk::standings;
-use super::setting::{Reply, commands};
+use super::setting::{Reply, adds_three, posts, standings};
 use rtgs_book::laws::new_book_is_sound;
-use rtgs_book::{Command, Fault};
+use rtgs_book::{Answer, Command, Fault};
 use rtgs_desk::Desk;
 use rtgs_keeper::Keeper;
 use rtgs_repeats::laws::life_is_a_run;
@@ -178,31 +177,18 @@ fn lived_twice_in_memory(
     lived_twice(alloc, Connection::open_in_memory(alloc)?, commands, more)
 }
 
-const FIRST: &str = "add ALFA 0000000000000000000000000000000a A Bank
-add BETA 0000000000000000000000000000000b A Bank
-add GAMA 0000000000000000000000000000000c A Bank
-post ALFA P-1 1000";
-
-const SECOND: &str = "post BETA P-2 5";
-
-/// The replies of the first session and of the second, and how the banks stand in the end.
-const LIFE: &str = "
-[Ok(Added), Ok(Added), Ok(Added), Ok(Posted { number: 1 })]
-[Ok(Posted { number: 2 })]
-(1000, 0) (5, 0) (0, 0)";
-
 #[test]
 fn a_desk_is_found_again_and_again(rt: HostRuntime) -> Result<(), Fail> {
-    let first = commands(rt.alloc(), FIRST)?;
-    let second = commands(rt.alloc(), SECOND)?;
+    let [alfa, beta, gama] = adds_three()?;
     let (replies, others, desk) = lived_twice_in_memory(
         rt.alloc(),
-        first.as_slice(),
-        second.as_slice(),
+        &[alfa, beta, gama, posts("ALFA", "P-1", 1000)?],
+        &[posts("BETA", "P-2", 5)?],
     )?;
-    let standings = standings(rt.alloc(), &desk)?;
-    let told = format!(in rt.alloc(); "\n{replies:?}\n{others:?}\n{standings}")?;
-    assert_eq!(rt; told.as_str(), LIFE);
+    assert_eq!(rt; replies.len(), 4);
+    let posted = [Ok(Answer::Posted { number: 2 })];
+    assert_eq!(rt; others.as_slice(), posted.as_slice());
+    assert_eq!(rt; standings(&desk)?, [(1000, 0), (5, 0), (0, 0)]);
     Ok(())
 }
 

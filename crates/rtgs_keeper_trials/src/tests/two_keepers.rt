@@ -1,21 +1,21 @@
-//! Ten thousand commands over both keepers: in memory, and on disks that are closed and opened again every hundred.
-//! After each fifty both tell the same of their books.
-use super::any_desk::AnyDesk;
+//! Ten thousand commands over both keepers: in memory, and on disks that are closed and opened again every hundred. After
+//! each fifty both tell the same of their books.
 use super::business::Business;
-use super::disk_desk::{DiskDesk, closed, desk_again};
-use super::disk_keeper::{Work, on_disks};
+use super::disk_desk::{closed, desk_again, new_desk};
+use super::disk_keeper::{DiskKeeper, Work, on_disks};
 use super::disks::Disks;
-use super::found::are_same_books;
-use super::memory_desk::{MemoryDesk, memory_desk};
+use super::found::{ShowsBook, are_same_books};
 use super::seen::Seen;
-use super::setting::{Reply, command};
-use super::told::Names;
-use rtgs_book::Refusal;
+use super::setting::desk_over;
+use super::told::{Names, tell_the_same};
+use rtgs_book::{Answer, Refusal};
+use rtgs_desk::Desk;
+use rtgs_keeper::{Keeper, MemoryKeeper};
 use std::alloc::Global;
 use std::test::Fail;
 
-// Whether a reply says that the desk has judged the command.
-fn is_judged(reply: &Reply) -> bool {
+/// Whether a reply says that the desk has judged the command.
+fn is_judged(reply: &Result<Answer, Refusal>) -> bool {
     !matches!(
         reply,
         Err(Refusal::OutOfMemory | Refusal::StoreFault | Refusal::Failed)
@@ -34,7 +34,7 @@ struct Run {
 }
 
 impl Run {
-    // None of the commands is given yet.
+    /// None of the commands is given yet.
     fn new(alloc: Global, seed: u64) -> Result<Run, Fail> {
         Ok(Run {
             alloc,
@@ -45,62 +45,75 @@ impl Run {
         })
     }
 
-    // Gives two desks the next command: each answers as the other does, and has judged it.
-    fn next<M: AnyDesk, D: AnyDesk>(&mut self, one: &mut M, other: &mut D) -> Result<(), Fail> {
-        let text = self.business.command()?;
-        let command = command(self.alloc, text.as_str())?;
-        let reply = one.reply(&command);
-        self.business.hear(&reply);
-        self.seen.count(&reply);
-        let answered = other.reply(&command);
-        if answered == reply && is_judged(&reply) {
-            return Ok(());
-        }
-        let said = format!(in self.alloc; "{text}: {reply:?} and {answered:?}")?;
-        Err(Fail::from(said))
-    }
-
-    // Gives two desks the next fifty commands, and then both keepers tell the same of their books. Both desks are
-    // opened again.
-    fn fifty<M: AnyDesk, D: AnyDesk>(&mut self, one: M, other: D) -> Result<(M, D), Fail> {
-        let (mut one, mut other) = (one, other);
-        for _ in 0..50 {
-            self.next(&mut one, &mut other)?;
-        }
-        self.fifties = self.fifties.wrapping_add(1);
-        let (told, one) = one.told(self.alloc, &self.names, self.fifties)?;
-        let (others, other) = other.told(self.alloc, &self.names, self.fifties)?;
-        if told.is_same(&others) {
-            Ok((one, other))
-        } else {
-            Err(Fail::from("another record"))
-        }
-    }
-
-    // A hundred commands, with the desk on disks opened before and closed after.
-    fn hundred<M: AnyDesk, D: DiskDesk>(
+    /// Gives two desks the next fifty commands: each answers as the other does, and has judged them.
+    fn fifty<M: Keeper, K: Keeper>(
         &mut self,
-        held: M,
+        one: &mut Desk<M>,
+        other: &mut Desk<K>,
+    ) -> Result<(), Fail> {
+        for _ in 0..50 {
+            let command = self.business.command()?;
+            let reply = one.submit(command);
+            self.business.hear(&reply);
+            self.seen.count(&reply);
+            let answered = other.submit(command);
+            if answered != reply || !is_judged(&reply) {
+                let said = format!(in self.alloc; "{command:?}: {reply:?} and {answered:?}")?;
+                return Err(Fail::from(said));
+            }
+        }
+        Ok(())
+    }
+
+    /// The same, and then both keepers tell the same of their books. Both desks are opened again.
+    fn fifty_told<M: Keeper + Drop, K: Keeper + Drop>(
+        &mut self,
+        one: Desk<M>,
+        other: Desk<K>,
+    ) -> Result<(Desk<M>, Desk<K>), Fail> {
+        let (mut one, mut other) = (one, other);
+        self.fifty(&mut one, &mut other)?;
+        self.fifties = self.fifties.wrapping_add(1);
+        let (mut memory, mut kept) = (one.into_keeper(), other.into_keeper());
+        if !tell_the_same(
+            self.alloc,
+            &self.names,
+            &mut memory,
+            &mut kept,
+            self.fifties,
+        )? {
+            return Err(Fail::from("another record"));
+        }
+        Ok((desk_over(self.alloc, memory)?, desk_over(self.alloc, kept)?))
+    }
+
+    /// A hundred commands, with the desk on disks opened before and closed after.
+    fn hundred_on_disks<M: Keeper + Drop, K: Keeper + DiskKeeper + Drop>(
+        &mut self,
+        held: Desk<M>,
         disks: Disks,
-    ) -> Result<(M, Disks), Fail> {
-        let desk: D = desk_again(self.alloc, disks)?;
-        let (held, desk) = self.fifty(held, desk)?;
-        let (held, desk) = self.fifty(held, desk)?;
-        Ok((held, closed(desk)?))
+    ) -> Result<(Desk<M>, Disks), Fail> {
+        let desk = desk_again::<K>(self.alloc, disks)?;
+        let (held, desk) = self.fifty_told(held, desk)?;
+        let (held, desk) = self.fifty_told(held, desk)?;
+        Ok((held, closed(desk.into_keeper())?))
     }
 }
 
-// Whether five thousand commands of this seed, of all kinds and with all kinds of answers, end in one book.
-fn five_thousand<M: AnyDesk, D: DiskDesk>(alloc: Global, held: M, seed: u64) -> Result<bool, Fail> {
+/// Whether five thousand commands of this seed, of all kinds and with all kinds of answers, end in one book.
+fn five_thousand<M: Keeper + ShowsBook + Drop, K: Keeper + ShowsBook + DiskKeeper + Drop>(
+    alloc: Global,
+    memory: M,
+    seed: u64,
+) -> Result<bool, Fail> {
     let mut run = Run::new(alloc, seed)?;
-    let mut held = held;
-    let mut disks = closed(D::new(alloc)?)?;
+    let mut held = desk_over(alloc, memory)?;
+    let mut disks = closed(new_desk::<K>(alloc)?.into_keeper())?;
     for _ in 0..50 {
-        (held, disks) = run.hundred::<M, D>(held, disks)?;
+        (held, disks) = run.hundred_on_disks::<M, K>(held, disks)?;
     }
-    let found: D = desk_again(alloc, disks)?;
-    let (on_disks, _) = found.book(alloc)?;
-    let (in_memory, _) = held.book(alloc)?;
+    let in_memory = held.into_keeper().book(alloc)?;
+    let on_disks = desk_again::<K>(alloc, disks)?.into_keeper().book(alloc)?;
     Ok(are_same_books(&on_disks, &in_memory) && run.seen.is_varied())
 }
 
@@ -111,24 +124,24 @@ struct FiveThousand {
 }
 
 impl Work for FiveThousand {
-    // Nothing fails.
-    fn done_with<D: DiskDesk>(&self, alloc: Global) -> Result<(u64, u64), Fail> {
-        if five_thousand::<MemoryDesk, D>(alloc, memory_desk(alloc)?, self.seed)? {
-            Ok((0, 0))
-        } else {
-            Err(Fail::from("two books, or not all kinds of answers"))
-        }
+    type Seen = bool;
+
+    fn done_with<K: Keeper + ShowsBook + DiskKeeper + Drop>(
+        self,
+        alloc: Global,
+    ) -> Result<bool, Fail> {
+        five_thousand::<MemoryKeeper, K>(alloc, MemoryKeeper::new(alloc), self.seed)
     }
 }
 
 #[test]
 fn the_first_five_thousand_commands_end_in_one_book(rt: HostRuntime) -> Result<(), Fail> {
-    on_disks(rt.alloc(), &FiveThousand { seed: 2024 })?;
+    assert!(rt; on_disks(rt.alloc(), FiveThousand { seed: 2024 })?);
     Ok(())
 }
 
 #[test]
 fn another_five_thousand_commands_end_in_one_book(rt: HostRuntime) -> Result<(), Fail> {
-    on_disks(rt.alloc(), &FiveThousand { seed: 2025 })?;
+    assert!(rt; on_disks(rt.alloc(), FiveThousand { seed: 2025 })?);
     Ok(())
 }
