@@ -4,5 +4,6 @@ mod cores;
 mod limits;
 mod money;
 mod refusals;
+mod script;
 mod setting;
 mod statements;

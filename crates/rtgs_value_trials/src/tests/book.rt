@@ -1,4 +1,5 @@
 //! Values from outside, and each call on its happy path.
+use super::refusals::told;
 use super::setting::{MONDAY, TUESDAY, date};
 use rtgs_book::{
     Book, Day, Fault, Mark, Order, OrderState, Participant, Phase, Posting, Refusal, Rows, Rule,
@@ -12,14 +13,13 @@ use std::test::Fail;
 
 // The name of the n-th thing: a letter and five digits.
 fn name_of(letter: u8, n: u32) -> [u8; 6] {
-    let digit = |place: u32| b'0' + (n / place % 10) as u8;
     [
         letter,
-        digit(10_000),
-        digit(1000),
-        digit(100),
-        digit(10),
-        digit(1),
+        b'0' + (n / 10_000 % 10) as u8,
+        b'0' + (n / 1000 % 10) as u8,
+        b'0' + (n / 100 % 10) as u8,
+        b'0' + (n / 10 % 10) as u8,
+        b'0' + (n % 10) as u8,
     ]
 }
 
@@ -275,29 +275,42 @@ fn rules_are_numbered(rt: HostRuntime) {
     assert_eq!(rt; Rule::StoredBalances.number(), 14);
 }
 
+// What a refusal is known by.
+fn is_known_by(alloc: Global, refusal: Refusal, known: &str) -> Result<(), Fail> {
+    if told(alloc, refusal.kind())?.as_str() != known {
+        return Err(Fail::new(known));
+    }
+    Ok(())
+}
+
 #[test]
 fn refusals_are_numbered(rt: HostRuntime) -> Result<(), Fail> {
-    let overdrawn = Refusal::Overdrawn {
-        first: code_of(0)?,
-        count: 1,
-    };
-    for (refusal, number, name, http, exit) in [
-        (Refusal::UnknownParticipant, 1, "UnknownParticipant", 404, 1),
-        (Refusal::UnknownOrder, 9, "UnknownOrder", 404, 1),
-        (overdrawn, 19, "Overdrawn", 409, 1),
-        (Refusal::OutOfMemory, 90, "OutOfMemory", 503, 3),
-        (Refusal::Failed, 92, "Failed", 503, 3),
-    ] {
-        assert_eq!(rt; refusal.kind().number(), number);
-        assert_eq!(rt; refusal.kind().name(), name);
-        assert_eq!(rt; refusal.kind().http_status(), Some(http));
-        assert_eq!(rt; refusal.kind().exit_status(), Some(exit));
-    }
-    let fault = Fault::Inconsistent {
-        rule: Rule::StoredBalances,
-    };
-    assert_eq!(rt; fault.kind().number(), 94);
-    assert_eq!(rt; fault.kind().name(), "Inconsistent");
-    assert_eq!(rt; fault.kind().exit_status(), Some(3));
+    let alloc = rt.alloc();
+    let unknown = "UnknownParticipant = 1 UnknownParticipant Some(404) Some(1)";
+    is_known_by(alloc, Refusal::UnknownParticipant, unknown)?;
+    is_known_by(
+        alloc,
+        Refusal::UnknownOrder,
+        "UnknownOrder = 9 UnknownOrder Some(404) Some(1)",
+    )?;
+    let (first, count) = (code_of(0)?, 1);
+    let overdrawn = "Overdrawn = 19 Overdrawn Some(409) Some(1)";
+    is_known_by(alloc, Refusal::Overdrawn { first, count }, overdrawn)?;
+    is_known_by(
+        alloc,
+        Refusal::OutOfMemory,
+        "OutOfMemory = 90 OutOfMemory Some(503) Some(3)",
+    )?;
+    is_known_by(
+        alloc,
+        Refusal::Failed,
+        "Failed = 92 Failed Some(503) Some(3)",
+    )?;
+    let rule = Rule::StoredBalances;
+    let fault = told(alloc, Fault::Inconsistent { rule }.kind())?;
+    assert_eq!(rt;
+        fault.as_str(),
+        "Inconsistent = 94 Inconsistent None Some(3)"
+    );
     Ok(())
 }

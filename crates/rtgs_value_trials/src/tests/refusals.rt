@@ -1,141 +1,134 @@
-//! Every row of the table, with values written out by hand.
+//! Every row of the table of refusals, with values written out by hand.
+use super::script::lines_of;
 use rtgs_refusals::RefusalKind;
+use std::alloc::Global;
+use std::test::Fail;
 
-/// The whole table: number, name, status of the HTTP reply, exit status of the program.
-const TABLE: [(RefusalKind, u8, &str, Option<u16>, Option<u8>); 47] = [
-    (
-        RefusalKind::UnknownParticipant,
-        1,
-        "UnknownParticipant",
-        Some(404),
-        Some(1),
-    ),
-    (
-        RefusalKind::UnknownReceiver,
-        2,
-        "UnknownReceiver",
-        Some(409),
-        Some(1),
-    ),
-    (RefusalKind::SameParty, 3, "SameParty", Some(409), Some(1)),
-    (
-        RefusalKind::ReferenceUsed,
-        4,
-        "ReferenceUsed",
-        Some(409),
-        Some(1),
-    ),
-    (RefusalKind::NotOpen, 5, "NotOpen", Some(409), Some(1)),
-    (RefusalKind::NoCover, 6, "NoCover", Some(409), Some(1)),
-    (RefusalKind::QueueFull, 7, "QueueFull", Some(409), Some(1)),
-    (
-        RefusalKind::NumbersUsedUp,
-        8,
-        "NumbersUsedUp",
-        Some(409),
-        Some(1),
-    ),
-    (
-        RefusalKind::UnknownOrder,
-        9,
-        "UnknownOrder",
-        Some(404),
-        Some(1),
-    ),
-    (RefusalKind::CodeTaken, 10, "CodeTaken", Some(409), Some(1)),
-    (RefusalKind::KeyTaken, 11, "KeyTaken", Some(409), Some(1)),
-    (
-        RefusalKind::TooManyParticipants,
-        12,
-        "TooManyParticipants",
-        Some(409),
-        Some(1),
-    ),
-    (
-        RefusalKind::TotalTooLarge,
-        13,
-        "TotalTooLarge",
-        Some(409),
-        Some(1),
-    ),
-    (
-        RefusalKind::WrongPhase,
-        14,
-        "WrongPhase",
-        Some(409),
-        Some(1),
-    ),
-    (RefusalKind::WrongDate, 15, "WrongDate", Some(409), Some(1)),
-    (RefusalKind::Weekend, 16, "Weekend", Some(409), Some(1)),
-    (RefusalKind::NotQueued, 17, "NotQueued", Some(409), Some(1)),
-    (
-        RefusalKind::Resolvable,
-        18,
-        "Resolvable",
-        Some(409),
-        Some(1),
-    ),
-    (RefusalKind::Overdrawn, 19, "Overdrawn", Some(409), Some(1)),
-    (RefusalKind::BadCode, 30, "BadCode", Some(400), Some(1)),
-    (
-        RefusalKind::BadReference,
-        31,
-        "BadReference",
-        Some(400),
-        Some(1),
-    ),
-    (RefusalKind::BadAmount, 32, "BadAmount", Some(400), Some(1)),
-    (RefusalKind::BadName, 33, "BadName", Some(400), Some(1)),
-    (RefusalKind::BadKey, 34, "BadKey", Some(400), Some(1)),
-    (RefusalKind::BadDate, 35, "BadDate", Some(400), Some(1)),
-    (RefusalKind::BadHeader, 40, "BadHeader", Some(400), Some(1)),
-    (RefusalKind::BadRow, 41, "BadRow", Some(400), Some(1)),
-    (RefusalKind::BadCount, 42, "BadCount", Some(400), Some(1)),
-    (RefusalKind::BadHead, 60, "BadHead", Some(400), None),
-    (RefusalKind::HeadTooLong, 61, "HeadTooLong", Some(413), None),
-    (RefusalKind::NoLength, 62, "NoLength", Some(411), None),
-    (
-        RefusalKind::BodyTooLong,
-        63,
-        "BodyTooLong",
-        Some(413),
-        Some(1),
-    ),
-    (RefusalKind::Truncated, 64, "Truncated", Some(400), None),
-    (RefusalKind::BadJson, 65, "BadJson", Some(400), None),
-    (RefusalKind::WrongFields, 66, "WrongFields", Some(400), None),
-    (RefusalKind::NoSuchRoute, 67, "NoSuchRoute", Some(404), None),
-    (RefusalKind::NoKey, 68, "NoKey", Some(403), None),
-    (RefusalKind::AnswerLost, 69, "AnswerLost", Some(503), None),
-    (
-        RefusalKind::OutOfMemory,
-        90,
-        "OutOfMemory",
-        Some(503),
-        Some(3),
-    ),
-    (
-        RefusalKind::StoreFault,
-        91,
-        "StoreFault",
-        Some(503),
-        Some(3),
-    ),
-    (RefusalKind::Failed, 92, "Failed", Some(503), Some(3)),
-    (RefusalKind::NotADeskFile, 93, "NotADeskFile", None, Some(3)),
-    (RefusalKind::Inconsistent, 94, "Inconsistent", None, Some(3)),
-    (RefusalKind::InUse, 95, "InUse", None, Some(3)),
-    (RefusalKind::FileExists, 96, "FileExists", None, Some(3)),
-    (RefusalKind::NoListen, 97, "NoListen", None, Some(3)),
-    (RefusalKind::NoOrderFile, 98, "NoOrderFile", None, Some(3)),
-];
+/// The kind and what it is known by: number, name, status of the HTTP reply, exit status of the program.
+pub fn told(alloc: Global, kind: RefusalKind) -> Result<String, Fail> {
+    let (number, name) = (kind.number(), kind.name());
+    let (http, exit) = (kind.http_status(), kind.exit_status());
+    Ok(format!(in alloc; "{kind:?} = {number} {name} {http:?} {exit:?}")?)
+}
+
+/// The whole table.
+const TABLE: &str = "
+UnknownParticipant = 1 UnknownParticipant Some(404) Some(1)
+UnknownReceiver = 2 UnknownReceiver Some(409) Some(1)
+SameParty = 3 SameParty Some(409) Some(1)
+ReferenceUsed = 4 ReferenceUsed Some(409) Some(1)
+NotOpen = 5 NotOpen Some(409) Some(1)
+NoCover = 6 NoCover Some(409) Some(1)
+QueueFull = 7 QueueFull Some(409) Some(1)
+NumbersUsedUp = 8 NumbersUsedUp Some(409) Some(1)
+UnknownOrder = 9 UnknownOrder Some(404) Some(1)
+CodeTaken = 10 CodeTaken Some(409) Some(1)
+KeyTaken = 11 KeyTaken Some(409) Some(1)
+TooManyParticipants = 12 TooManyParticipants Some(409) Some(1)
+TotalTooLarge = 13 TotalTooLarge Some(409) Some(1)
+WrongPhase = 14 WrongPhase Some(409) Some(1)
+WrongDate = 15 WrongDate Some(409) Some(1)
+Weekend = 16 Weekend Some(409) Some(1)
+NotQueued = 17 NotQueued Some(409) Some(1)
+Resolvable = 18 Resolvable Some(409) Some(1)
+Overdrawn = 19 Overdrawn Some(409) Some(1)
+BadCode = 30 BadCode Some(400) Some(1)
+BadReference = 31 BadReference Some(400) Some(1)
+BadAmount = 32 BadAmount Some(400) Some(1)
+BadName = 33 BadName Some(400) Some(1)
+BadKey = 34 BadKey Some(400) Some(1)
+BadDate = 35 BadDate Some(400) Some(1)
+BadHeader = 40 BadHeader Some(400) Some(1)
+BadRow = 41 BadRow Some(400) Some(1)
+BadCount = 42 BadCount Some(400) Some(1)
+BadHead = 60 BadHead Some(400) None
+HeadTooLong = 61 HeadTooLong Some(413) None
+NoLength = 62 NoLength Some(411) None
+BodyTooLong = 63 BodyTooLong Some(413) Some(1)
+Truncated = 64 Truncated Some(400) None
+BadJson = 65 BadJson Some(400) None
+WrongFields = 66 WrongFields Some(400) None
+NoSuchRoute = 67 NoSuchRoute Some(404) None
+NoKey = 68 NoKey Some(403) None
+AnswerLost = 69 AnswerLost Some(503) None
+OutOfMemory = 90 OutOfMemory Some(503) Some(3)
+StoreFault = 91 StoreFault Some(503) Some(3)
+Failed = 92 Failed Some(503) Some(3)
+NotADeskFile = 93 NotADeskFile None Some(3)
+Inconsistent = 94 Inconsistent None Some(3)
+InUse = 95 InUse None Some(3)
+FileExists = 96 FileExists None Some(3)
+NoListen = 97 NoListen None Some(3)
+NoOrderFile = 98 NoOrderFile None Some(3)
+";
+
+// The kind that stands after this one in the table. Since the match names every kind, one that is new is missed here
+// first.
+fn kind_after(kind: RefusalKind) -> Option<RefusalKind> {
+    match kind {
+        RefusalKind::UnknownParticipant => Some(RefusalKind::UnknownReceiver),
+        RefusalKind::UnknownReceiver => Some(RefusalKind::SameParty),
+        RefusalKind::SameParty => Some(RefusalKind::ReferenceUsed),
+        RefusalKind::ReferenceUsed => Some(RefusalKind::NotOpen),
+        RefusalKind::NotOpen => Some(RefusalKind::NoCover),
+        RefusalKind::NoCover => Some(RefusalKind::QueueFull),
+        RefusalKind::QueueFull => Some(RefusalKind::NumbersUsedUp),
+        RefusalKind::NumbersUsedUp => Some(RefusalKind::UnknownOrder),
+        RefusalKind::UnknownOrder => Some(RefusalKind::CodeTaken),
+        RefusalKind::CodeTaken => Some(RefusalKind::KeyTaken),
+        RefusalKind::KeyTaken => Some(RefusalKind::TooManyParticipants),
+        RefusalKind::TooManyParticipants => Some(RefusalKind::TotalTooLarge),
+        RefusalKind::TotalTooLarge => Some(RefusalKind::WrongPhase),
+        RefusalKind::WrongPhase => Some(RefusalKind::WrongDate),
+        RefusalKind::WrongDate => Some(RefusalKind::Weekend),
+        RefusalKind::Weekend => Some(RefusalKind::NotQueued),
+        RefusalKind::NotQueued => Some(RefusalKind::Resolvable),
+        RefusalKind::Resolvable => Some(RefusalKind::Overdrawn),
+        RefusalKind::Overdrawn => Some(RefusalKind::BadCode),
+        RefusalKind::BadCode => Some(RefusalKind::BadReference),
+        RefusalKind::BadReference => Some(RefusalKind::BadAmount),
+        RefusalKind::BadAmount => Some(RefusalKind::BadName),
+        RefusalKind::BadName => Some(RefusalKind::BadKey),
+        RefusalKind::BadKey => Some(RefusalKind::BadDate),
+        RefusalKind::BadDate => Some(RefusalKind::BadHeader),
+        RefusalKind::BadHeader => Some(RefusalKind::BadRow),
+        RefusalKind::BadRow => Some(RefusalKind::BadCount),
+        RefusalKind::BadCount => Some(RefusalKind::BadHead),
+        RefusalKind::BadHead => Some(RefusalKind::HeadTooLong),
+        RefusalKind::HeadTooLong => Some(RefusalKind::NoLength),
+        RefusalKind::NoLength => Some(RefusalKind::BodyTooLong),
+        RefusalKind::BodyTooLong => Some(RefusalKind::Truncated),
+        RefusalKind::Truncated => Some(RefusalKind::BadJson),
+        RefusalKind::BadJson => Some(RefusalKind::WrongFields),
+        RefusalKind::WrongFields => Some(RefusalKind::NoSuchRoute),
+        RefusalKind::NoSuchRoute => Some(RefusalKind::NoKey),
+        RefusalKind::NoKey => Some(RefusalKind::AnswerLost),
+        RefusalKind::AnswerLost => Some(RefusalKind::OutOfMemory),
+        RefusalKind::OutOfMemory => Some(RefusalKind::StoreFault),
+        RefusalKind::StoreFault => Some(RefusalKind::Failed),
+        RefusalKind::Failed => Some(RefusalKind::NotADeskFile),
+        RefusalKind::NotADeskFile => Some(RefusalKind::Inconsistent),
+        RefusalKind::Inconsistent => Some(RefusalKind::InUse),
+        RefusalKind::InUse => Some(RefusalKind::FileExists),
+        RefusalKind::FileExists => Some(RefusalKind::NoListen),
+        RefusalKind::NoListen => Some(RefusalKind::NoOrderFile),
+        RefusalKind::NoOrderFile => None,
+    }
+}
 
 #[test]
-fn kinds_have_numbers_names_and_statuses(rt: HostRuntime) {
-    for (kind, number, name, http_status, exit_status) in TABLE {
-        assert_eq!(rt; kind.number(), number);
-        assert_eq!(rt; kind.name(), name);
-        assert_eq!(rt; kind.http_status(), http_status);
-        assert_eq!(rt; kind.exit_status(), exit_status);
+fn kinds_have_numbers_names_and_statuses(rt: HostRuntime) -> Result<(), Fail> {
+    let mut next = Some(RefusalKind::UnknownParticipant);
+    let mut rows = 0usize;
+    for line in lines_of(TABLE)? {
+        let Some(kind) = next else {
+            return Err(Fail::from("a row after that of the last kind"));
+        };
+        assert_eq!(rt; told(rt.alloc(), kind)?.as_str(), line);
+        next = kind_after(kind);
+        rows = rows.saturating_add(1);
     }
+    assert_eq!(rt; next, None);
+    assert_eq!(rt; rows, 47);
+    Ok(())
 }

@@ -1,94 +1,94 @@
 //! Codes, references and names, and the refusals' numbers.
+use super::super::script::{lines_of, sides};
+use super::forms::{Form, reads};
 use rtgs_money::{BusinessDate, Code, Key, Lexical, Name, Reference};
 use std::test::Fail;
 
-#[test]
-fn a_code_is_a_letter_and_then_letters_and_digits(rt: HostRuntime) {
-    let read: [&[u8]; 5] = [b"AAA", b"ZZZ", b"A00", b"ALFA", b"Z9Z9Z9Z9"];
-    for text in read {
-        assert_eq!(rt; Code::read(text).expect(&rt, "a code").as_bytes(), text);
-    }
-    let refused: [&[u8]; 12] = [
-        b"",
-        b"AB",
-        b"ABCDEFGHI",
-        b"1AB",
-        b"aBC",
-        b"ABc",
-        b"AB-",
-        b"AB ",
-        b"AB@",
-        b"AB[",
-        b"AB/",
-        b"A\xc3\x84",
-    ];
-    for text in refused {
-        assert_eq!(rt; Code::read(text), Err(Lexical::BadCode), "{text:?}");
-    }
-}
+/// Bytes, and the bytes of the code.
+const CODES: &str = "
+'AAA' = 'AAA'
+'ZZZ' = 'ZZZ'
+'A00' = 'A00'
+'ALFA' = 'ALFA'
+'Z9Z9Z9Z9' = 'Z9Z9Z9Z9'
+'' = BadCode
+'AB' = BadCode
+'ABCDEFGHI' = BadCode
+'1AB' = BadCode
+'aBC' = BadCode
+'ABc' = BadCode
+'AB-' = BadCode
+'AB ' = BadCode
+'AB@' = BadCode
+'AB[' = BadCode
+'AB/' = BadCode
+'A%c3%84' = BadCode
+";
 
 #[test]
-fn a_reference_is_letters_digits_and_dashes(rt: HostRuntime) {
-    let read: [&[u8]; 5] = [b"A", b"-", b"0", b"A-1", b"ABCDEFGHIJ-01239"];
-    for text in read {
-        assert_eq!(rt;
-            Reference::read(text).expect(&rt, "a reference").as_bytes(),
-            text
-        );
-    }
-    let refused: [&[u8]; 7] = [
-        b"",
-        b"ABCDEFGHIJ-012345",
-        b"a",
-        b"A_1",
-        b"A 1",
-        b"A.1",
-        b"\xff",
-    ];
-    for text in refused {
-        assert_eq!(rt;
-            Reference::read(text),
-            Err(Lexical::BadReference),
-            "{text:?}"
-        );
-    }
+fn a_code_is_a_letter_and_then_letters_and_digits(rt: HostRuntime) -> Result<(), Fail> {
+    reads(rt.alloc(), Form::Code, CODES)
 }
 
+/// Bytes, and the bytes of the reference.
+const REFERENCES: &str = "
+'A' = 'A'
+'-' = '-'
+'0' = '0'
+'A-1' = 'A-1'
+'ABCDEFGHIJ-01239' = 'ABCDEFGHIJ-01239'
+'' = BadReference
+'ABCDEFGHIJ-012345' = BadReference
+'a' = BadReference
+'A_1' = BadReference
+'A 1' = BadReference
+'A.1' = BadReference
+'%ff' = BadReference
+";
+
 #[test]
-fn a_name_is_printable_with_no_space_at_its_ends(rt: HostRuntime) {
-    let read: [&[u8]; 5] = [
-        b"!",
-        b"~",
-        b"Alfa Bank",
-        b"a  b, \"c\"",
-        b"1234567890123456789012345678901234567890",
-    ];
-    for text in read {
-        assert_eq!(rt; Name::read(text).expect(&rt, "a name").as_bytes(), text);
-    }
-    let refused: [&[u8]; 8] = [
-        b"",
-        b" ",
-        b" A",
-        b"A ",
-        b"A\x1fB",
-        b"A\x7fB",
-        b"A\xc3\x84",
-        b"12345678901234567890123456789012345678901",
-    ];
-    for text in refused {
-        assert_eq!(rt; Name::read(text), Err(Lexical::BadName), "{text:?}");
-    }
+fn a_reference_is_letters_digits_and_dashes(rt: HostRuntime) -> Result<(), Fail> {
+    reads(rt.alloc(), Form::Reference, REFERENCES)
 }
+
+/// Bytes, and the bytes of the name.
+const NAMES: &str = "
+'!' = '!'
+'~' = '~'
+'Alfa Bank' = 'Alfa Bank'
+'a  b, \"c\"' = 'a  b, \"c\"'
+'1234567890123456789012345678901234567890' = '1234567890123456789012345678901234567890'
+'' = BadName
+' ' = BadName
+' A' = BadName
+'A ' = BadName
+'A%1fB' = BadName
+'A%7fB' = BadName
+'A%c3%84' = BadName
+'12345678901234567890123456789012345678901' = BadName
+";
+
+#[test]
+fn a_name_is_printable_with_no_space_at_its_ends(rt: HostRuntime) -> Result<(), Fail> {
+    reads(rt.alloc(), Form::Name, NAMES)
+}
+
+/// Two codes, of which the first is the lesser.
+const RISING_CODES: &str = "
+AAA < AAA0
+AAA0 < AAAA
+AAAA < AAB
+AAB < B00
+";
 
 #[test]
 fn codes_stand_in_the_order_of_their_bytes(rt: HostRuntime) -> Result<(), Fail> {
-    let codes: [&[u8]; 5] = [b"AAA", b"AAA0", b"AAAA", b"AAB", b"B00"];
-    for pair in codes.windows(2) {
-        let [earlier, later] = pair else {
-            continue;
-        };
-        assert!(rt; Code::read(earlier)? < Code::read(later)?, "{earlier:?}");
+    for line in lines_of(RISING_CODES)? {
+        let (earlier, later) = sides(line, " < ")?;
+        assert!(rt;
+            Code::read(earlier.as_bytes())? < Code::read(later.as_bytes())?,
+            "{line}"
+        );
     }
     assert!(rt; Reference::read(b"A-1")? < Reference::read(b"A01")?);
     Ok(())
@@ -109,20 +109,38 @@ fn texts_are_lent_as_they_were_read(rt: HostRuntime) -> Result<(), Fail> {
     Ok(())
 }
 
+/// The refusals with their numbers and names, and what they print.
+const REFUSALS: &str = "
+BadCode = 30 BadCode BadCode
+BadReference = 31 BadReference BadReference
+BadAmount = 32 BadAmount BadAmount
+BadName = 33 BadName BadName
+BadKey = 34 BadKey BadKey
+BadDate = 35 BadDate BadDate
+";
+
+// The refusal that stands after this one.
+fn refusal_after(refusal: Lexical) -> Option<Lexical> {
+    match refusal {
+        Lexical::BadCode => Some(Lexical::BadReference),
+        Lexical::BadReference => Some(Lexical::BadAmount),
+        Lexical::BadAmount => Some(Lexical::BadName),
+        Lexical::BadName => Some(Lexical::BadKey),
+        Lexical::BadKey => Some(Lexical::BadDate),
+        Lexical::BadDate => None,
+    }
+}
+
 #[test]
 fn refusals_have_their_numbers_and_names(rt: HostRuntime) -> Result<(), Fail> {
-    let refusals = [
-        (Lexical::BadCode, 30, "BadCode"),
-        (Lexical::BadReference, 31, "BadReference"),
-        (Lexical::BadAmount, 32, "BadAmount"),
-        (Lexical::BadName, 33, "BadName"),
-        (Lexical::BadKey, 34, "BadKey"),
-        (Lexical::BadDate, 35, "BadDate"),
-    ];
-    for (refusal, number, name) in refusals {
-        assert_eq!(rt; refusal.kind().number(), number);
-        assert_eq!(rt; refusal.kind().name(), name);
-        assert_eq!(rt; format!(in rt.alloc(); "{refusal}")?.as_str(), name);
+    let mut next = Some(Lexical::BadCode);
+    for line in lines_of(REFUSALS)? {
+        let refusal = next.ok_or("a line after that of the last refusal")?;
+        let (number, name) = (refusal.kind().number(), refusal.kind().name());
+        let told = format!(in rt.alloc(); "{refusal:?} = {number} {name} {refusal}")?;
+        assert_eq!(rt; told.as_str(), line);
+        next = refusal_after(refusal);
     }
+    assert_eq!(rt; next, None);
     Ok(())
 }

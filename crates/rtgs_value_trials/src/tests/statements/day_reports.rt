@@ -1,29 +1,38 @@
 //! Day reports, line by line.
-use super::super::setting::{MONDAY, TUESDAY, code};
-use super::{book_of, mark, order, posting, report, report_over};
-use rtgs_book::{Mark, Order, OrderState};
+use super::super::setting::{MONDAY, TUESDAY};
+use super::books::book_of;
+use super::report;
 use std::test::Fail;
 
-// Five queued orders, of which a resolution settled two.
-fn cascade() -> Result<[Order; 5], Fail> {
-    Ok([
-        order(1, ["ALFA", "BETA"], "A-1", 60, OrderState::Settled(1))?,
-        order(2, ["ALFA", "GAMA"], "A-2", 10, OrderState::Queued)?,
-        order(3, ["BETA", "ALFA"], "B-1", 50, OrderState::Settled(1))?,
-        order(4, ["BETA", "GAMA"], "B-2", 20, OrderState::Queued)?,
-        order(5, ["GAMA", "ALFA"], "G-1", 5, OrderState::Queued)?,
-    ])
-}
+/// Five queued orders, of which a resolution settled two. The resolution has a mark, and there is one of the next day.
+const CASCADE: &str = "
+participant ALFA
+participant BETA
+participant GAMA
+posting 1 ALFA P-1 10 2024-03-04
+order 1 ALFA BETA A-1 60 2024-03-04 1
+order 2 ALFA GAMA A-2 10 2024-03-04 queued
+order 3 BETA ALFA B-1 50 2024-03-04 1
+order 4 BETA GAMA B-2 20 2024-03-04 queued
+order 5 GAMA ALFA G-1 5 2024-03-04 queued
+mark 1 2024-03-04 2 110
+mark 2 2024-03-05 1 1
+";
 
-// The resolution's mark, and one of the next day.
-fn marks() -> Result<[Mark; 2], Fail> {
-    Ok([mark(1, MONDAY, 2, 110)?, mark(2, TUESDAY, 1, 1)?])
-}
+/// Orders of which one is withdrawn and two are rejected, and the largest posting below zero.
+const UNSETTLED: &str = "
+participant ALFA
+participant BETA
+participant GAMA
+posting 1 GAMA P-1 -1000000000000000 2024-03-04
+order 1 ALFA BETA A-1 60 2024-03-04 withdrawn
+order 2 BETA GAMA B-1 15 2024-03-04 rejected
+order 3 BETA GAMA B-2 5 2024-03-04 rejected
+";
 
 #[test]
 fn resolution_is_reported(rt: HostRuntime) -> Result<(), Fail> {
-    let postings = [posting(1, "ALFA", "P-1", 10)?];
-    let text = report(rt.alloc(), MONDAY, &postings, &cascade()?, &marks()?)?;
+    let text = report(rt.alloc(), MONDAY, book_of(rt.alloc(), CASCADE)?)?;
     assert_eq!(rt;
         text.as_str(),
         "report 2024-03-04
@@ -42,8 +51,7 @@ marks              1
 
 #[test]
 fn other_dates_are_left_out(rt: HostRuntime) -> Result<(), Fail> {
-    let postings = [posting(1, "ALFA", "P-1", 10)?];
-    let text = report(rt.alloc(), TUESDAY, &postings, &cascade()?, &marks()?)?;
+    let text = report(rt.alloc(), TUESDAY, book_of(rt.alloc(), CASCADE)?)?;
     assert_eq!(rt;
         text.as_str(),
         "report 2024-03-05
@@ -62,13 +70,7 @@ marks              1
 
 #[test]
 fn unsettled_orders_are_counted_by_where_they_stand(rt: HostRuntime) -> Result<(), Fail> {
-    let orders = [
-        order(1, ["ALFA", "BETA"], "A-1", 60, OrderState::Withdrawn)?,
-        order(2, ["BETA", "GAMA"], "B-1", 15, OrderState::Rejected)?,
-        order(3, ["BETA", "GAMA"], "B-2", 5, OrderState::Rejected)?,
-    ];
-    let postings = [posting(1, "GAMA", "P-1", -1_000_000_000_000_000)?];
-    let text = report(rt.alloc(), MONDAY, &postings, &orders, &[])?;
+    let text = report(rt.alloc(), MONDAY, book_of(rt.alloc(), UNSETTLED)?)?;
     assert_eq!(rt;
         text.as_str(),
         "report 2024-03-04
@@ -87,15 +89,12 @@ marks              0
 
 #[test]
 fn a_hundred_participants_have_a_line_each(rt: HostRuntime) -> Result<(), Fail> {
-    let mut codes = Vec::new(rt.alloc());
+    let mut records = String::new(rt.alloc());
     for number in 100..200u32 {
-        let text = format!(in rt.alloc(); "B{number}")?;
-        codes.push(code(text.as_str())?)?;
+        records.push_str(format!(in rt.alloc(); "participant B{number}\n")?.as_str())?;
     }
-    let largest = OrderState::Settled(1);
-    let orders = [order(1, ["B100", "B199"], "A-1", 1_000_000_000_000, largest)?];
-    let book = book_of(rt.alloc(), &codes, &[], &orders, &[])?;
-    let text = report_over(rt.alloc(), MONDAY, book)?;
+    records.push_str("order 1 B100 B199 A-1 1000000000000 2024-03-04 1")?;
+    let text = report(rt.alloc(), MONDAY, book_of(rt.alloc(), records.as_str())?)?;
     assert_eq!(rt; text.as_str().lines().count(), 106);
     assert!(rt;
         text.as_str().contains(

@@ -1,8 +1,7 @@
 //! Writers that fail, take nothing, or take little.
 use super::super::setting::{MONDAY, code, date};
+use super::books::book_of;
 use super::shelf::Shelf;
-use super::{book_of, mark, order, posting};
-use rtgs_book::OrderState;
 use rtgs_output::TextFault;
 use rtgs_statements::{BookTextFault, write_report, write_statement};
 use std::alloc::Global;
@@ -43,25 +42,34 @@ impl Write for Narrow {
     }
 }
 
-// A posting to ALFA, and its order of a cent to BETA.
-fn small_shelf(alloc: Global, state: OrderState) -> Result<Shelf, Fail> {
-    let codes = [code("ALFA")?, code("BETA")?];
-    let postings = [posting(1, "ALFA", "P-1", 10)?];
-    let orders = [order(1, ["ALFA", "BETA"], "A-1", 1, state)?];
-    let marks = [mark(1, MONDAY, 1, 1)?];
-    Ok(Shelf::new(book_of(alloc, &codes, &postings, &orders, &marks)?))
-}
+/// A posting to ALFA, and its order of a cent to BETA, which is queued.
+const QUEUED: &str = "
+participant ALFA
+participant BETA
+posting 1 ALFA P-1 10 2024-03-04
+order 1 ALFA BETA A-1 1 2024-03-04 queued
+mark 1 2024-03-04 1 1
+";
+
+/// The same with the order settled.
+const SETTLED: &str = "
+participant ALFA
+participant BETA
+posting 1 ALFA P-1 10 2024-03-04
+order 1 ALFA BETA A-1 1 2024-03-04 1
+mark 1 2024-03-04 1 1
+";
 
 // ALFA's statement.
 fn small_statement<W: Write>(alloc: Global, out: &mut W) -> Result<Ended, Fail> {
-    let mut shelf = small_shelf(alloc, OrderState::Queued)?;
+    let mut shelf = Shelf::new(book_of(alloc, QUEUED)?);
     let ended = write_statement(alloc, out, &mut shelf, &code("ALFA")?, date(MONDAY)?);
     Ok(Ended::of(&ended))
 }
 
 // The report of that day.
 fn small_report<W: Write>(alloc: Global, out: &mut W) -> Result<Ended, Fail> {
-    let mut shelf = small_shelf(alloc, OrderState::Settled(1))?;
+    let mut shelf = Shelf::new(book_of(alloc, SETTLED)?);
     let ended = write_report(alloc, out, &mut shelf, date(MONDAY)?);
     Ok(Ended::of(&ended))
 }

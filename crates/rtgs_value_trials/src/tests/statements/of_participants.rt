@@ -1,16 +1,17 @@
 //! Statements, line by line.
-use super::super::setting::{MONDAY, TUESDAY, date};
-use super::{order, posting, statement};
-use rtgs_book::{Order, OrderState, Posting};
+use super::super::setting::{MONDAY, TUESDAY};
+use super::statement;
 use std::test::Fail;
+
+/// An order that is settled, and one that is queued.
+const TWO_ORDERS: &str = "
+order 1 ALFA BETA A-1 100 2024-03-04 1
+order 2 ALFA BETA A-2 1 2024-03-04 queued
+";
 
 #[test]
 fn one_order_is_sent_and_one_is_queued(rt: HostRuntime) -> Result<(), Fail> {
-    let orders = [
-        order(1, ["ALFA", "BETA"], "A-1", 100, OrderState::Settled(1))?,
-        order(2, ["ALFA", "BETA"], "A-2", 1, OrderState::Queued)?,
-    ];
-    let text = statement(rt.alloc(), "ALFA", MONDAY, &[], &orders)?;
+    let text = statement(rt.alloc(), "ALFA", MONDAY, TWO_ORDERS)?;
     assert_eq!(rt;
         text.as_str(),
         "statement ALFA 2024-03-04
@@ -27,8 +28,8 @@ net                                 -1.00
 
 #[test]
 fn date_without_rows_has_a_title_and_four_sums(rt: HostRuntime) -> Result<(), Fail> {
-    let orders = [order(1, ["ALFA", "BETA"], "A-1", 100, OrderState::Settled(1))?];
-    let text = statement(rt.alloc(), "ALFA", TUESDAY, &[], &orders)?;
+    let records = "order 1 ALFA BETA A-1 100 2024-03-04 1";
+    let text = statement(rt.alloc(), "ALFA", TUESDAY, records)?;
     assert_eq!(rt;
         text.as_str(),
         "statement ALFA 2024-03-05
@@ -41,33 +42,18 @@ net                                  0.00
     Ok(())
 }
 
-// A posting of another date, and one from before the first day.
-fn other_postings() -> Result<[Posting; 2], Fail> {
-    let late = posting(3, "ALFA", "P-3", 700)?;
-    let early = posting(4, "ALFA", "P-4", 900)?;
-    Ok([
-        Posting {
-            date: Some(date(TUESDAY)?),
-            ..late
-        },
-        Posting {
-            date: None,
-            ..early
-        },
-    ])
-}
+/// Postings of Monday, one of another date, and one from before the first day.
+const POSTINGS: &str = "
+posting 4 ALFA P-4 900 -
+posting 1 ALFA P-1 250 2024-03-04
+posting 2 BETA P-2 40 2024-03-04
+posting 5 ALFA P-5 -5 2024-03-04
+posting 3 ALFA P-3 700 2024-03-05
+";
 
 #[test]
 fn postings_count_to_their_date_with_their_sign(rt: HostRuntime) -> Result<(), Fail> {
-    let [late, early] = other_postings()?;
-    let postings = [
-        early,
-        posting(1, "ALFA", "P-1", 250)?,
-        posting(2, "BETA", "P-2", 40)?,
-        posting(5, "ALFA", "P-5", -5)?,
-        late,
-    ];
-    let text = statement(rt.alloc(), "ALFA", MONDAY, &postings, &[])?;
+    let text = statement(rt.alloc(), "ALFA", MONDAY, POSTINGS)?;
     assert_eq!(rt;
         text.as_str(),
         "statement ALFA 2024-03-04
@@ -82,27 +68,21 @@ net                                  2.45
     Ok(())
 }
 
-// Orders of each kind, as BETA sees them, with three that it does not see.
-fn orders_of_each_kind() -> Result<[Order; 8], Fail> {
-    let later = order(9, ["BETA", "ALFA"], "B-9", 1, OrderState::Queued)?;
-    Ok([
-        order(1, ["BETA", "ALFA"], "B-1", 300, OrderState::Settled(1))?,
-        order(2, ["BETA", "GAMA"], "B-2", 20, OrderState::Withdrawn)?,
-        order(3, ["GAMA", "BETA"], "G-3", 500, OrderState::Settled(2))?,
-        order(4, ["GAMA", "BETA"], "G-4", 7, OrderState::Queued)?,
-        order(5, ["BETA", "ALFA"], "B-5", 40, OrderState::Rejected)?,
-        order(6, ["BETA", "ALFA"], "B-6", 50, OrderState::Queued)?,
-        order(7, ["ALFA", "GAMA"], "A-7", 60, OrderState::Settled(3))?,
-        Order {
-            date: date(TUESDAY)?,
-            ..later
-        },
-    ])
-}
+/// Orders of each kind, as BETA sees them, with three that it does not see.
+const ORDERS_OF_EACH_KIND: &str = "
+order 1 BETA ALFA B-1 300 2024-03-04 1
+order 2 BETA GAMA B-2 20 2024-03-04 withdrawn
+order 3 GAMA BETA G-3 500 2024-03-04 2
+order 4 GAMA BETA G-4 7 2024-03-04 queued
+order 5 BETA ALFA B-5 40 2024-03-04 rejected
+order 6 BETA ALFA B-6 50 2024-03-04 queued
+order 7 ALFA GAMA A-7 60 2024-03-04 3
+order 9 BETA ALFA B-9 1 2024-03-05 queued
+";
 
 #[test]
 fn each_order_is_told_by_its_kind(rt: HostRuntime) -> Result<(), Fail> {
-    let text = statement(rt.alloc(), "BETA", MONDAY, &[], &orders_of_each_kind()?)?;
+    let text = statement(rt.alloc(), "BETA", MONDAY, ORDERS_OF_EACH_KIND)?;
     assert_eq!(rt;
         text.as_str(),
         "statement BETA 2024-03-04
@@ -120,32 +100,16 @@ net                                  2.00
     Ok(())
 }
 
+/// The largest postings and the largest order, with the longest codes and references.
+const LARGEST: &str = "
+posting 999999998 ALFA1234 ABCDEFGHIJKLMNOP 1000000000000000 2024-03-04
+posting 999999999 ALFA1234 ABCDEFGHIJKLMNO- -1000000000000000 2024-03-04
+order 999999999 ALFA1234 BETA5678 0123456789ABCDEF 1000000000000 2024-03-04 999999999
+";
+
 #[test]
 fn largest_amounts_fit_their_columns(rt: HostRuntime) -> Result<(), Fail> {
-    let settled = OrderState::Settled(999_999_999);
-    let postings = [
-        posting(
-            999_999_998,
-            "ALFA1234",
-            "ABCDEFGHIJKLMNOP",
-            1_000_000_000_000_000,
-        )?,
-        posting(
-            999_999_999,
-            "ALFA1234",
-            "ABCDEFGHIJKLMNO-",
-            -1_000_000_000_000_000,
-        )?,
-    ];
-    let parties = ["ALFA1234", "BETA5678"];
-    let orders = [order(
-        999_999_999,
-        parties,
-        "0123456789ABCDEF",
-        1_000_000_000_000,
-        settled,
-    )?];
-    let text = statement(rt.alloc(), "ALFA1234", MONDAY, &postings, &orders)?;
+    let text = statement(rt.alloc(), "ALFA1234", MONDAY, LARGEST)?;
     assert_eq!(rt;
         text.as_str(),
         "statement ALFA1234 2024-03-04

@@ -1,32 +1,22 @@
 //! Reads that are refused, each in turn: what was written is a beginning of the text.
 use super::super::setting::{MONDAY, code, date};
+use super::books::book_of;
 use super::shelf::{Shelf, Trouble};
-use super::{book_of, mark, order, posting};
-use rtgs_book::{Book, OrderState, Refusal};
+use rtgs_book::Refusal;
 use rtgs_statements::{BookTextFault, write_report, write_statement};
-use std::alloc::Global;
 use std::test::Fail;
 
-// Three postings to ALFA, two orders and a mark.
-fn monday(alloc: Global) -> Result<Book, Fail> {
-    let codes = [code("ALFA")?, code("BETA")?];
-    let postings = [
-        posting(1, "ALFA", "P-1", 250)?,
-        posting(2, "ALFA", "P-2", -50)?,
-        posting(3, "ALFA", "P-3", 100)?,
-    ];
-    let orders = [
-        order(1, ["ALFA", "BETA"], "A-1", 60, OrderState::Settled(1))?,
-        order(2, ["BETA", "ALFA"], "B-1", 10, OrderState::Queued)?,
-    ];
-    book_of(
-        alloc,
-        &codes,
-        &postings,
-        &orders,
-        &[mark(1, MONDAY, 1, 60)?],
-    )
-}
+/// Three postings to ALFA, two orders and a mark.
+const RECORDS: &str = "
+participant ALFA
+participant BETA
+posting 1 ALFA P-1 250 2024-03-04
+posting 2 ALFA P-2 -50 2024-03-04
+posting 3 ALFA P-3 100 2024-03-04
+order 1 ALFA BETA A-1 60 2024-03-04 1
+order 2 BETA ALFA B-1 10 2024-03-04 queued
+mark 1 2024-03-04 1 60
+";
 
 // Whether a text ended by this trouble.
 fn is_by(ended: &Result<(), BookTextFault>, trouble: Trouble) -> bool {
@@ -44,7 +34,7 @@ fn lines_of(bytes: &[u8]) -> usize {
 
 #[test]
 fn third_posting_that_is_refused_leaves_a_title_and_two_rows(rt: HostRuntime) -> Result<(), Fail> {
-    let mut shelf = Shelf::failing(monday(rt.alloc())?, 2, Trouble::StoreFault);
+    let mut shelf = Shelf::failing(book_of(rt.alloc(), RECORDS)?, 2, Trouble::StoreFault);
     let mut out = Vec::new(rt.alloc());
     let ended = write_statement(
         rt.alloc(),
@@ -72,13 +62,13 @@ const LINES_AFTER: [usize; 7] = [1, 2, 3, 4, 4, 5, 5];
 #[test]
 fn each_read_of_a_statement_is_refused_in_turn(rt: HostRuntime) -> Result<(), Fail> {
     let mut whole = Vec::new(rt.alloc());
-    let mut shelf = Shelf::new(monday(rt.alloc())?);
+    let mut shelf = Shelf::new(book_of(rt.alloc(), RECORDS)?);
     let alfa = code("ALFA")?;
     let ended = write_statement(rt.alloc(), &mut whole, &mut shelf, &alfa, date(MONDAY)?);
     assert!(rt; ended.is_ok());
     for trouble in [Trouble::StoreFault, Trouble::OutOfMemory] {
         for reads in 0..7 {
-            let mut shelf = Shelf::failing(monday(rt.alloc())?, reads, trouble);
+            let mut shelf = Shelf::failing(book_of(rt.alloc(), RECORDS)?, reads, trouble);
             let mut out = Vec::new(rt.alloc());
             let ended = write_statement(rt.alloc(), &mut out, &mut shelf, &alfa, date(MONDAY)?);
             assert!(rt; is_by(&ended, trouble));
@@ -86,7 +76,7 @@ fn each_read_of_a_statement_is_refused_in_turn(rt: HostRuntime) -> Result<(), Fa
             assert_eq!(rt; lines_of(&out), LINES_AFTER[reads]);
             assert_eq!(rt; shelf.has_failed(), trouble == Trouble::StoreFault);
         }
-        let mut shelf = Shelf::failing(monday(rt.alloc())?, 7, trouble);
+        let mut shelf = Shelf::failing(book_of(rt.alloc(), RECORDS)?, 7, trouble);
         let mut out = Vec::new(rt.alloc());
         let ended = write_statement(rt.alloc(), &mut out, &mut shelf, &alfa, date(MONDAY)?);
         assert!(rt; ended.is_ok());
@@ -98,19 +88,19 @@ fn each_read_of_a_statement_is_refused_in_turn(rt: HostRuntime) -> Result<(), Fa
 #[test]
 fn each_read_of_a_report_is_refused_in_turn(rt: HostRuntime) -> Result<(), Fail> {
     let mut whole = Vec::new(rt.alloc());
-    let mut shelf = Shelf::new(monday(rt.alloc())?);
+    let mut shelf = Shelf::new(book_of(rt.alloc(), RECORDS)?);
     assert!(rt; write_report(rt.alloc(), &mut whole, &mut shelf, date(MONDAY)?).is_ok());
     for trouble in [Trouble::StoreFault, Trouble::OutOfMemory] {
         // Four reads of postings, three of orders and two of marks.
         for reads in 0..9 {
-            let mut shelf = Shelf::failing(monday(rt.alloc())?, reads, trouble);
+            let mut shelf = Shelf::failing(book_of(rt.alloc(), RECORDS)?, reads, trouble);
             let mut out = Vec::new(rt.alloc());
             let ended = write_report(rt.alloc(), &mut out, &mut shelf, date(MONDAY)?);
             assert!(rt; is_by(&ended, trouble));
             assert!(rt; out.is_empty());
             assert_eq!(rt; shelf.has_failed(), trouble == Trouble::StoreFault);
         }
-        let mut shelf = Shelf::failing(monday(rt.alloc())?, 9, trouble);
+        let mut shelf = Shelf::failing(book_of(rt.alloc(), RECORDS)?, 9, trouble);
         let mut out = Vec::new(rt.alloc());
         assert!(rt; write_report(rt.alloc(), &mut out, &mut shelf, date(MONDAY)?).is_ok());
         assert!(rt; out.as_slice() == whole.as_slice());
