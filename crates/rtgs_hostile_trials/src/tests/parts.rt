@@ -1,4 +1,4 @@
-//! Bytes in parts.
+//! Bytes and texts in parts.
 use std::alloc::{AllocError, Global};
 
 /// The bytes in two parts at this place, or at their end.
@@ -23,4 +23,9 @@ pub fn spliced(
     sum.extend_from_slice(others)?;
     sum.extend_from_slice(behind)?;
     Ok(sum)
+}
+
+/// The part of a text at this place, where the parts stand between these marks, and no text behind them.
+pub fn part(text: &'static str, mark: &'static str, place: usize) -> &'static str {
+    text.split(mark).nth(place).unwrap_or("")
 }

@@ -5,22 +5,27 @@ use super::views::with_views;
 use sqlite::Connection;
 use std::test::Fail;
 
-// Reports on the book with so many views more as on the book, up to a hundred objects, and is refused above that. An
-// opening would compare each of them with each other. Of 30000 that would take minutes, and a test has one.
-const CROWDS: [(u32, bool); 12] = [
-    (1, true),
-    (70, true),
-    (71, true),
-    (91, true),
-    (92, false),
-    (500, false),
-    (1000, false),
-    (2000, false),
-    (4000, false),
-    (8000, false),
-    (16000, false),
-    (30000, false),
-];
+// A report on the book with so many views more is that on the book, up to a hundred objects, and refused above that.
+// An opening would compare each of them with each other. Of 30000 that would take minutes, and a test has one.
+const REPORTED: &str = "1 70 71 91";
+
+const REFUSED: &str = "92 500 1000 2000 4000 8000 16000 30000";
+
+// A report on the book with each of these numbers of views more prints this text.
+fn are_told_of(
+    rt: &HostRuntime,
+    file: &str,
+    book: &[u8],
+    counts: &str,
+    text: &str,
+) -> Result<(), Fail> {
+    for count in counts.split(' ') {
+        let bytes = with_views(rt.alloc(), book, count.parse::<u32>()?)?;
+        write(rt, file, bytes.as_slice())?;
+        is_told(rt, file, text)?;
+    }
+    Ok(())
+}
 
 #[test]
 fn with_more_objects(rt: HostRuntime) -> Result<(), Fail> {
@@ -28,12 +33,8 @@ fn with_more_objects(rt: HostRuntime) -> Result<(), Fail> {
     write(&rt, "crowd", book.as_slice())?;
     let (text, status) = keeps(&rt, "crowd")?;
     assert_eq!(rt; status, 0, "{text}");
-    for (count, is_opened) in &CROWDS {
-        let file = with_views(rt.alloc(), book.as_slice(), *count)?;
-        write(&rt, "crowd", file.as_slice())?;
-        let told = if *is_opened { text.as_str() } else { NO_BOOK };
-        is_told(&rt, "crowd", told)?;
-    }
+    are_told_of(&rt, "crowd", book.as_slice(), REPORTED, text.as_str())?;
+    are_told_of(&rt, "crowd", book.as_slice(), REFUSED, NO_BOOK)?;
     remove(&rt, "crowd")
 }
 
@@ -59,15 +60,18 @@ fn with_objects_in_the_log(rt: HostRuntime) -> Result<(), Fail> {
     remove(&rt, "logged")
 }
 
-// The header says that each page ends in a checksum, and none does.
+// The book with so many views more is refused where its header says that each page ends in a checksum, and none does.
+fn lacks_its_sums(rt: &HostRuntime, book: &[u8], count: u32) -> Result<(), Fail> {
+    let file = with_views(rt.alloc(), book, count)?;
+    let other = spliced(rt.alloc(), file.as_slice(), 20, 4, &[8, 64, 32, 32])?;
+    write(rt, "sums", other.as_slice())?;
+    is_told(rt, "sums", NO_BOOK)
+}
+
 #[test]
 fn with_pages_that_lack_their_sums(rt: HostRuntime) -> Result<(), Fail> {
     let book = book_bytes(&rt, "sums")?;
-    for count in [1, 8000] {
-        let file = with_views(rt.alloc(), book.as_slice(), count)?;
-        let other = spliced(rt.alloc(), file.as_slice(), 20, 4, &[8, 64, 32, 32])?;
-        write(&rt, "sums", other.as_slice())?;
-        is_told(&rt, "sums", NO_BOOK)?;
-    }
+    lacks_its_sums(&rt, book.as_slice(), 1)?;
+    lacks_its_sums(&rt, book.as_slice(), 8000)?;
     remove(&rt, "sums")
 }

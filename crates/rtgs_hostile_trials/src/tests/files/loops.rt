@@ -52,20 +52,27 @@ fn that_lead_to_one_another(rt: HostRuntime) -> Result<(), Fail> {
     begin_day(&rt, "leading")?;
     meddle(&rt, "leading", MORE)?;
     let book = fs::read(&rt, "leading")?;
-    for (place, behind) in [(0, 0), (4, 0), (8, 0), (0, 1), (4, 1), (8, 1)] {
-        are_met(&rt, "leading", book.as_slice(), place, behind)?;
+    for behind in 0..2 {
+        are_met(&rt, "leading", book.as_slice(), 0, behind)?;
+        are_met(&rt, "leading", book.as_slice(), 4, behind)?;
+        are_met(&rt, "leading", book.as_slice(), 8, behind)?;
     }
     remove(&rt, "leading")
+}
+
+// A book with ten megabytes of pages that lead to one another by these steps fails.
+fn fails(rt: &HostRuntime, book: &[u8], step: u32) -> Result<(), Fail> {
+    let file = with_circles(rt.alloc(), book, step)?;
+    write(rt, "ten_megabytes", file.as_slice())?;
+    is_told(rt, "ten_megabytes", "refused 91 StoreFault\n")
 }
 
 // A page leads to itself, to the pages behind it, or to pages far from it.
 #[test]
 fn of_ten_megabytes(rt: HostRuntime) -> Result<(), Fail> {
     let book = book_bytes(&rt, "ten_megabytes")?;
-    for step in [0, 1, 37] {
-        let file = with_circles(rt.alloc(), book.as_slice(), step)?;
-        write(&rt, "ten_megabytes", file.as_slice())?;
-        is_told(&rt, "ten_megabytes", "refused 91 StoreFault\n")?;
-    }
+    fails(&rt, book.as_slice(), 0)?;
+    fails(&rt, book.as_slice(), 1)?;
+    fails(&rt, book.as_slice(), 37)?;
     remove(&rt, "ten_megabytes")
 }

@@ -15,60 +15,55 @@ fn ran(rt: &HostRuntime, words: &[&str]) -> (Vec<u8>, Vec<u8>, u8) {
     (out, err, ended.exit_status())
 }
 
-// Runs over these commands on the file, each with the words behind it, end with 0.
-fn does_all(rt: &HostRuntime, file: &str, runs: &[(&str, &[&str])]) -> Result<(), Fail> {
-    for (command, rest) in runs {
-        let mut words = Vec::from_slice(rt.alloc(), &[*command, file])?;
-        words.extend_from_slice(rest)?;
-        let (_, err, status) = ran(rt, words.as_slice());
-        if status != 0 || !err.is_empty() {
-            let said = format!(in rt.alloc();
-                "{command}: {status}, {:?}",
-                std::str::from_utf8(err.as_slice())
-            )?;
-            return Err(Fail::from(said));
-        }
+// A run over the words of a line, which commas part, ends with 0. The word F is the file.
+fn does(rt: &HostRuntime, file: &str, line: &str) -> Result<(), Fail> {
+    let mut words = Vec::new(rt.alloc());
+    for word in line.split(", ") {
+        words.push(if word == "F" { file } else { word })?;
+    }
+    let (_, err, status) = ran(rt, words.as_slice());
+    if status == 0 && err.is_empty() {
+        return Ok(());
+    }
+    let said = format!(in rt.alloc();
+        "{line}: {status}, {:?}",
+        std::str::from_utf8(err.as_slice())
+    )?;
+    Err(Fail::from(said))
+}
+
+// Runs over the words of each line end with 0.
+fn does_all(rt: &HostRuntime, file: &str, lines: &str) -> Result<(), Fail> {
+    for line in lines.split('\n') {
+        does(rt, file, line)?;
     }
     Ok(())
 }
 
-const BEGUN: [(&str, &[&str]); 6] = [
-    ("init", &[]),
-    (
-        "add",
-        &["ALFA", "A Bank", "0000000000000000000000000000000a"],
-    ),
-    (
-        "add",
-        &["BETA", "A Bank", "0000000000000000000000000000000b"],
-    ),
-    (
-        "add",
-        &["GAMA", "A Bank", "0000000000000000000000000000000c"],
-    ),
-    ("post", &["ALFA", "P-1", "150"]),
-    ("open", &["2024-03-04"]),
-];
+const BEGUN: &str = "\
+init, F
+add, F, ALFA, A Bank, 0000000000000000000000000000000a
+add, F, BETA, A Bank, 0000000000000000000000000000000b
+add, F, GAMA, A Bank, 0000000000000000000000000000000c
+post, F, ALFA, P-1, 150
+open, F, 2024-03-04";
 
 const ORDERS: &str = "reference,to,amount\nA-1,BETA,100\nA-2,GAMA,50\nA-3,BETA,25\nA-4,GAMA,25\n";
 
-const CLOSED: [(&str, &[&str]); 3] = [
-    ("cutoff", &["2024-03-04"]),
-    ("close", &["2024-03-04"]),
-    ("post", &["BETA", "P-2", "7"]),
-];
+const CLOSED: &str = "\
+cutoff, F, 2024-03-04
+close, F, 2024-03-04
+post, F, BETA, P-2, 7";
 
 /// Makes a book with three banks and a day, in which two orders have settled under two marks, one is withdrawn and one
 /// waits.
 pub fn begin_day(rt: &HostRuntime, file: &str) -> Result<(), Fail> {
-    does_all(rt, file, &BEGUN)?;
+    does_all(rt, file, BEGUN)?;
     let orders = format!(in rt.alloc(); "{file}.csv")?;
     fs::write(rt, orders.as_str(), ORDERS)?;
-    let more: [(&str, &[&str]); 2] = [
-        ("import", &["ALFA", orders.as_str()]),
-        ("withdraw", &["ALFA", "A-3"]),
-    ];
-    does_all(rt, file, &more)
+    let import = format!(in rt.alloc(); "import, F, ALFA, {orders}")?;
+    does(rt, file, import.as_str())?;
+    does(rt, file, "withdraw, F, ALFA, A-3")
 }
 
 /// The bytes of such a book whose day is open. Its file is gone then.
@@ -138,32 +133,55 @@ pub fn is_told(rt: &HostRuntime, file: &str, text: &str) -> Result<(), Fail> {
     Err(Fail::from(said))
 }
 
-/// What is said of a file on which a report is that on the book.
-pub const SAME: &str = "";
+// Changes a book by the SQL of a case, below its first line. That line says what is printed then: this text where it is
+// a report, and else a refusal.
+fn is_told_then(rt: &HostRuntime, file: &str, case: &str, text: &str) -> Result<(), Fail> {
+    let (told, sql) = case.split_once('\n').unwrap_or((case, ""));
+    meddle(rt, file, sql)?;
+    if told == "report" {
+        return is_told(rt, file, text);
+    }
+    let refusal = format!(in rt.alloc(); "{told}\n")?;
+    is_told(rt, file, refusal.as_str())
+}
 
-/// Makes a book, closes its day if this says so, and changes it by SQL. Whenever it is then changed by the SQL of a row,
-/// the text of that row is printed.
+// The same for each case, over this book.
+fn are_told_then(
+    rt: &HostRuntime,
+    file: &str,
+    book: &[u8],
+    cases: &str,
+    text: &str,
+) -> Result<(), Fail> {
+    let Some(cases) = cases.strip_prefix("\n= ") else {
+        return Err(Fail::from("no case"));
+    };
+    for case in cases.split("\n= ") {
+        write(rt, file, book)?;
+        is_told_then(rt, file, case, text)?;
+    }
+    Ok(())
+}
+
+/// Makes a book, closes its day if this says so, and changes it by SQL. Then it is changed, each time as it was, by the
+/// SQL of a case, below a line that says what is then printed: a refusal, or the report on the book.
 pub fn are_told(
     rt: &HostRuntime,
     file: &str,
     is_closed: bool,
     first: &str,
-    rows: &[(&str, &str)],
+    cases: &str,
 ) -> Result<(), Fail> {
     begin_day(rt, file)?;
     if is_closed {
-        does_all(rt, file, &CLOSED)?;
+        does_all(rt, file, CLOSED)?;
     }
     let (text, status) = keeps(rt, file)?;
     if status != 0 {
         return Err(Fail::from("a book without a report"));
     }
     meddle(rt, file, first)?;
-    let bytes = fs::read(rt, file)?;
-    for (sql, told) in rows {
-        write(rt, file, bytes.as_slice())?;
-        meddle(rt, file, sql)?;
-        is_told(rt, file, if told.is_empty() { text.as_str() } else { told })?;
-    }
+    let book = fs::read(rt, file)?;
+    are_told_then(rt, file, book.as_slice(), cases, text.as_str())?;
     remove(rt, file)
 }

@@ -1,11 +1,11 @@
 //! Changes of a text, as chance would have them.
 use super::super::draw::Draw;
-use super::super::parts::{parts, spliced};
+use super::super::parts::{part, parts, spliced};
 use super::limits::{limit, word};
 use std::alloc::{AllocError, Global};
 
-/// What stands between two lines, or in its place.
-const JOINTS: [&[u8]; 8] = [b"", b" ", b"\n", b"\r", b", ", b"\r\n\r\n", b"\r\n ", b"\0"];
+/// What stands between two lines, or in its place: eight texts, parted by a |.
+const JOINTS: &str = "| |\n|\r|, |\r\n\r\n|\r\n |\0";
 
 /// The text with one change: of bytes, cut, without a part or with one twice, with two lines joined, or of a value.
 pub fn changed(alloc: Global, draw: &mut Draw, text: &[u8]) -> Result<Vec<u8>, AllocError> {
@@ -67,12 +67,18 @@ fn repeated(
 // Something else stands in place of one line end, or of one comma.
 fn joined(alloc: Global, draw: &mut Draw, text: &[u8]) -> Result<Vec<u8>, AllocError> {
     let at = draw.below(text.len());
-    let joint = JOINTS[draw.below(8) & 7];
+    let joint = part(JOINTS, "|", draw.below(8));
     let (_, rest) = parts(text, at);
     let length = first(rest, b"\r\n,", true).unwrap_or(0);
     let (_, behind) = parts(rest, length);
     let gone = if behind.starts_with(b"\r\n") { 2 } else { 1 };
-    spliced(alloc, text, at.saturating_add(length), gone, joint)
+    spliced(
+        alloc,
+        text,
+        at.saturating_add(length),
+        gone,
+        joint.as_bytes(),
+    )
 }
 
 // A number at a limit stands in place of one number.

@@ -1,7 +1,6 @@
 //! Each request with each number at a limit as the length of its body.
 use super::limits::limit;
 use super::met::Met;
-use super::replies::READ;
 use super::sent::{ROUTES, good};
 use super::serving::{book_before, serve};
 use std::alloc::Global;
@@ -24,5 +23,5 @@ fn met(alloc: Global) -> Result<Met, Fail> {
 
 #[test]
 fn lengths_at_limits(rt: HostRuntime) -> Result<(), Fail> {
-    met(rt.alloc())?.has(rt.alloc(), &[60, 63, 64, 65, READ])
+    met(rt.alloc())?.has(rt.alloc(), "60 63 64 65 read")
 }

@@ -9,96 +9,102 @@ pub const READ: u8 = 0;
 pub const DONE: u8 = 255;
 
 /// What is told where nothing is done: the status with its reason, and the number and the name of the refusal.
-const REFUSED: [(&str, u8, &str); 33] = [
-    ("404 Not Found", 1, "UnknownParticipant"),
-    ("409 Conflict", 2, "UnknownReceiver"),
-    ("409 Conflict", 3, "SameParty"),
-    ("409 Conflict", 4, "ReferenceUsed"),
-    ("409 Conflict", 5, "NotOpen"),
-    ("409 Conflict", 6, "NoCover"),
-    ("409 Conflict", 7, "QueueFull"),
-    ("409 Conflict", 8, "NumbersUsedUp"),
-    ("404 Not Found", 9, "UnknownOrder"),
-    ("409 Conflict", 13, "TotalTooLarge"),
-    ("409 Conflict", 14, "WrongPhase"),
-    ("409 Conflict", 15, "WrongDate"),
-    ("409 Conflict", 16, "Weekend"),
-    ("409 Conflict", 17, "NotQueued"),
-    ("409 Conflict", 18, "Resolvable"),
-    ("409 Conflict", 19, "Overdrawn"),
-    ("400 Bad Request", 30, "BadCode"),
-    ("400 Bad Request", 31, "BadReference"),
-    ("400 Bad Request", 32, "BadAmount"),
-    ("400 Bad Request", 35, "BadDate"),
-    ("400 Bad Request", 40, "BadHeader"),
-    ("400 Bad Request", 41, "BadRow"),
-    ("400 Bad Request", 42, "BadCount"),
-    ("400 Bad Request", 60, "BadHead"),
-    ("413 Content Too Large", 61, "HeadTooLong"),
-    ("411 Length Required", 62, "NoLength"),
-    ("413 Content Too Large", 63, "BodyTooLong"),
-    ("400 Bad Request", 64, "Truncated"),
-    ("400 Bad Request", 65, "BadJson"),
-    ("400 Bad Request", 66, "WrongFields"),
-    ("404 Not Found", 67, "NoSuchRoute"),
-    ("403 Forbidden", 68, "NoKey"),
-    ("503 Service Unavailable", 90, "OutOfMemory"),
-];
+const REFUSED: &str = "\
+404 Not Found: 1 UnknownParticipant
+409 Conflict: 2 UnknownReceiver
+409 Conflict: 3 SameParty
+409 Conflict: 4 ReferenceUsed
+409 Conflict: 5 NotOpen
+409 Conflict: 6 NoCover
+409 Conflict: 7 QueueFull
+409 Conflict: 8 NumbersUsedUp
+404 Not Found: 9 UnknownOrder
+409 Conflict: 13 TotalTooLarge
+409 Conflict: 14 WrongPhase
+409 Conflict: 15 WrongDate
+409 Conflict: 16 Weekend
+409 Conflict: 17 NotQueued
+409 Conflict: 18 Resolvable
+409 Conflict: 19 Overdrawn
+400 Bad Request: 30 BadCode
+400 Bad Request: 31 BadReference
+400 Bad Request: 32 BadAmount
+400 Bad Request: 35 BadDate
+400 Bad Request: 40 BadHeader
+400 Bad Request: 41 BadRow
+400 Bad Request: 42 BadCount
+400 Bad Request: 60 BadHead
+413 Content Too Large: 61 HeadTooLong
+411 Length Required: 62 NoLength
+413 Content Too Large: 63 BodyTooLong
+400 Bad Request: 64 Truncated
+400 Bad Request: 65 BadJson
+400 Bad Request: 66 WrongFields
+404 Not Found: 67 NoSuchRoute
+403 Forbidden: 68 NoKey
+503 Service Unavailable: 90 OutOfMemory";
 
-/// How the body begins that tells what was done or read, the type of such a body, and whether it tells of a command.
-const DID: [(&str, &str, bool); 7] = [
-    ("{\"answer\":\"", "application/json", true),
-    ("{\"amount\":", "application/json", false),
-    ("{\"balance\":", "application/json", false),
-    ("{\"orders\":[", "application/json", false),
-    ("reference,result,number,detail\n", "text/csv", true),
-    ("statement ALFA 2", "text/plain", false),
-    ("report 2", "text/plain", false),
-];
+/// How the body begins that tells what was done or read, behind the type of such a body and what it tells of.
+const DID: &str = r#"application/json done {"answer":"
+= application/json read {"amount":
+= application/json read {"balance":
+= application/json read {"orders":[
+= text/csv done reference,result,number,detail
+
+= text/plain read statement ALFA 2
+= text/plain read report 2"#;
 
 /// What a body means: the status with its reason, the type of the body, and what it tells.
 type Meaning = (&'static str, &'static str, u8);
 
 // Whether the body is that of the refusal with this number and name.
-fn is_refusal(alloc: Global, body: &str, number: u8, name: &str) -> Result<bool, AllocError> {
+fn is_refusal(alloc: Global, body: &str, number: &str, name: &str) -> Result<bool, AllocError> {
     let first = format!(in alloc; "{{\"code\":{number},")?;
     let last = format!(in alloc; "\"name\":\"{name}\"}}")?;
     let row = format!(in alloc; "\"name\":\"{name}\",\"row\":")?;
-    let is_row = number == 41 && body.contains(row.as_str());
+    let is_row = number == "41" && body.contains(row.as_str());
     Ok(body.starts_with(first.as_str()) && (body.ends_with(last.as_str()) || is_row))
 }
 
-// What the body means, if it is that of one of these refusals.
-fn refused(
-    alloc: Global,
-    body: &str,
-    refusals: &[(&'static str, u8, &'static str)],
-) -> Result<Option<Meaning>, AllocError> {
-    for (status, number, name) in refusals {
-        if is_refusal(alloc, body, *number, name)? {
-            return Ok(Some((*status, "application/json", *number)));
-        }
+// What the body means, if it is that of the refusal of this line.
+fn refused(alloc: Global, body: &str, line: &'static str) -> Result<Option<Meaning>, Fail> {
+    let (status, refusal) = line.split_once(": ").ok_or("no status")?;
+    let (number, name) = refusal.split_once(' ').ok_or("no name")?;
+    if is_refusal(alloc, body, number, name)? {
+        return Ok(Some((status, "application/json", number.parse::<u8>()?)));
     }
     Ok(None)
 }
 
-// What the body means, if it begins in one of these ways.
-fn done(body: &str, beginnings: &[(&str, &'static str, bool)]) -> Option<Meaning> {
-    for (first, content, is_done) in beginnings {
-        if body.starts_with(*first) {
-            let told = if *is_done { DONE } else { READ };
-            return Some(("200 OK", *content, told));
-        }
+// What the body means, if it begins in the way of this line.
+fn done(body: &str, line: &'static str) -> Result<Option<Meaning>, Fail> {
+    let (content, answer) = line.split_once(' ').ok_or("no type")?;
+    let (kind, first) = answer.split_once(' ').ok_or("no beginning")?;
+    let told = if kind == "done" { DONE } else { READ };
+    if body.starts_with(first) {
+        return Ok(Some(("200 OK", content, told)));
     }
-    None
+    Ok(None)
 }
 
-// What this body means, if it means anything.
-fn meaning(alloc: Global, body: &str) -> Result<Option<Meaning>, AllocError> {
-    match refused(alloc, body, &REFUSED)? {
-        Some(meaning) => Ok(Some(meaning)),
-        None => Ok(done(body, &DID)),
+// What this body means.
+fn meaning(alloc: Global, body: &str) -> Result<Meaning, Fail> {
+    for line in REFUSED.split('\n') {
+        if let Some(meaning) = refused(alloc, body, line)? {
+            return Ok(meaning);
+        }
     }
+    done_meaning(body)
+}
+
+// What this body means, of what was read or done.
+fn done_meaning(body: &str) -> Result<Meaning, Fail> {
+    for line in DID.split("\n= ") {
+        if let Some(meaning) = done(body, line)? {
+            return Ok(meaning);
+        }
+    }
+    Err(Fail::from("a body that tells nothing"))
 }
 
 /// What a whole reply tells, which bears this status: a number of a refusal, or what was read or done. Each of its bytes
@@ -107,7 +113,7 @@ pub fn told_by(alloc: Global, status: u16, reply: &[u8]) -> Result<u8, Fail> {
     let reply = std::str::from_utf8(reply)?;
     let (_, body) = reply.split_once("\r\n\r\n").ok_or("no body")?;
     let length = body.len();
-    let (line, content, told) = meaning(alloc, body)?.ok_or("a body that tells nothing")?;
+    let (line, content, told) = meaning(alloc, body)?;
     let whole = format!(in alloc;
         "HTTP/1.1 {line}\r\nContent-Type: {content}\r\nContent-Length: {length}\r\nConnection: close\r\n\r\n{body}"
     )?;

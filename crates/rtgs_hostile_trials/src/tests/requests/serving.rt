@@ -11,7 +11,20 @@ use std::alloc::Global;
 use std::cell::Cell;
 use std::test::Fail;
 
-fn adds(code: &str, key: &str) -> Result<Command, Fail> {
+// Three banks, money and a credit limit for ALFA, a Monday, and its orders: one that settled, and two that wait.
+const BEGUN: &str = "\
+add ALFA 0000000000000000000000000000000a
+add BETA 0000000000000000000000000000000b
+add GAMA 0000000000000000000000000000000c
+post P-1 100
+limit 50
+open 2024-03-04
+pay A-1 BETA 100
+pay A-2 GAMA 500
+pay A-3 BETA 7";
+
+fn adds(words: &str) -> Result<Command, Fail> {
+    let (code, key) = words.split_once(' ').ok_or("no key")?;
     Ok(Command::Add {
         code: Code::read(code.as_bytes())?,
         name: Name::read(b"A Bank")?,
@@ -19,36 +32,44 @@ fn adds(code: &str, key: &str) -> Result<Command, Fail> {
     })
 }
 
-fn pays(reference: &str, receiver: &str, cents: u64) -> Result<Command, Fail> {
+fn posts(words: &str) -> Result<Command, Fail> {
+    let (reference, cents) = words.split_once(' ').ok_or("no posting")?;
+    Ok(Command::Post {
+        code: Code::read(b"ALFA")?,
+        reference: Reference::read(reference.as_bytes())?,
+        cents: PostingAmount::from_cents(cents.parse::<i64>()?).ok_or("a posting")?,
+    })
+}
+
+fn limits(cents: &str) -> Result<Command, Fail> {
+    Ok(Command::SetCredit {
+        code: Code::read(b"ALFA")?,
+        credit: Credit::from_cents(cents.parse::<u64>()?).ok_or("a limit")?,
+    })
+}
+
+fn pays(words: &str) -> Result<Command, Fail> {
+    let (reference, words) = words.split_once(' ').ok_or("no receiver")?;
+    let (receiver, cents) = words.split_once(' ').ok_or("no amount")?;
     Ok(Command::Order {
         sender: Code::read(b"ALFA")?,
         reference: Reference::read(reference.as_bytes())?,
         receiver: Code::read(receiver.as_bytes())?,
-        amount: Amount::from_cents(cents).ok_or("an amount")?,
+        amount: Amount::from_cents(cents.parse::<u64>()?).ok_or("an amount")?,
     })
 }
 
-// Three banks, money and a credit limit for ALFA, a Monday, and its orders: one that settled, and two that wait.
-fn commands() -> Result<[Command; 9], Fail> {
-    let alfa = Code::read(b"ALFA")?;
-    Ok([
-        adds("ALFA", ALFA)?,
-        adds("BETA", "0000000000000000000000000000000b")?,
-        adds("GAMA", "0000000000000000000000000000000c")?,
-        Command::Post {
-            code: alfa,
-            reference: Reference::read(b"P-1")?,
-            cents: PostingAmount::from_cents(100).ok_or("a posting")?,
-        },
-        Command::SetCredit {
-            code: alfa,
-            credit: Credit::from_cents(50).ok_or("a limit")?,
-        },
-        Command::OpenDay(BusinessDate::read(b"2024-03-04")?),
-        pays("A-1", "BETA", 100)?,
-        pays("A-2", "GAMA", 500)?,
-        pays("A-3", "BETA", 7)?,
-    ])
+// The command of a line.
+fn command(line: &str) -> Result<Command, Fail> {
+    let (kind, words) = line.split_once(' ').ok_or("no words")?;
+    match kind {
+        "add" => adds(words),
+        "post" => posts(words),
+        "limit" => limits(words),
+        "open" => Ok(Command::OpenDay(BusinessDate::read(words.as_bytes())?)),
+        "pay" => pays(words),
+        _ => Err(Fail::from("no command")),
+    }
 }
 
 // A desk over a new keeper, which was given these commands.
@@ -57,8 +78,8 @@ fn begun<K: Keeper + Drop>(alloc: Global, keeper: K) -> Result<Desk<K>, Fail> {
         Ok(desk) => desk,
         Err((fault, _)) => return Err(Fail::from(fault)),
     };
-    for command in commands()? {
-        desk.submit(command)?;
+    for line in BEGUN.split('\n') {
+        desk.submit(command(line)?)?;
     }
     Ok(desk)
 }

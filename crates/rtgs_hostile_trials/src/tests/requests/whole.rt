@@ -2,7 +2,6 @@
 use super::super::draw::Draw;
 use super::edits::changed;
 use super::met::Met;
-use super::replies::{DONE, READ};
 use super::sent::{ROUTES, good, with_body};
 use super::serving::{book_before, serve};
 use std::alloc::{AllocError, Global};
@@ -42,10 +41,10 @@ fn met(alloc: Global, seed: u64, most: usize) -> Result<Met, Fail> {
 
 #[test]
 fn requests_with_one_change(rt: HostRuntime) -> Result<(), Fail> {
-    met(rt.alloc(), 1, 1)?.has(rt.alloc(), &[60, 64, 66, 67, 68, READ, DONE])
+    met(rt.alloc(), 1, 1)?.has(rt.alloc(), "60 64 66 67 68 read done")
 }
 
 #[test]
 fn requests_with_more_changes(rt: HostRuntime) -> Result<(), Fail> {
-    met(rt.alloc(), 2, 5)?.has(rt.alloc(), &[60, 64, 67, 68])
+    met(rt.alloc(), 2, 5)?.has(rt.alloc(), "60 64 67 68")
 }
