@@ -1,5 +1,6 @@
 //! How files are opened, held and closed by runs.
-use super::{begin, prints};
+use super::BEGIN;
+use super::script::follows;
 use rtgs_book_file::{BookLock, FileFault};
 use sqlite::{Connection, Unknown};
 use std::fs;
@@ -14,10 +15,16 @@ fn posted_in(rt: &HostRuntime, file: &str) -> Result<i64, Fail> {
     Ok(cents)
 }
 
+const ONE_BYTE: &str = "
+$ file F S
+$ desk init F
+! refused 96 FileExists
+status 3
+";
+
 #[test]
 fn no_book_is_made_over_one_byte(rt: HostRuntime) -> Result<(), Fail> {
-    fs::write(&rt, "one_byte", "S")?;
-    prints(&rt, &["init", "one_byte"], "refused 96 FileExists\n", 3)?;
+    follows(&rt, "one_byte", ONE_BYTE)?;
     assert_eq!(rt; fs::read(&rt, "one_byte")?.as_slice(), b"S".as_slice());
     Ok(())
 }
@@ -25,14 +32,7 @@ fn no_book_is_made_over_one_byte(rt: HostRuntime) -> Result<(), Fail> {
 #[test]
 fn a_book_is_made_in_an_empty_file(rt: HostRuntime) -> Result<(), Fail> {
     fs::write(&rt, "empty", "")?;
-    begin(&rt, "empty")
-}
-
-/// Two runs over a file that is held open are refused.
-fn overlap(rt: &HostRuntime, post: &[&str]) -> Result<(), Fail> {
-    let text = "refused 95 InUse\n";
-    prints(rt, &["init", "overlap"], text, 3)?;
-    prints(rt, post, text, 3)
+    follows(&rt, "empty", BEGIN)
 }
 
 /// Why the lock of a file is not taken, if it is not.
@@ -45,7 +45,7 @@ fn not_locked(rt: &HostRuntime, file: &str) -> Option<FileFault> {
 
 #[test]
 fn a_lock_is_held_until_the_files_are_let_go(rt: HostRuntime) -> Result<(), Fail> {
-    begin(&rt, "held")?;
+    follows(&rt, "held", BEGIN)?;
     let held = BookLock::take(&rt, "held", Unknown)?.open(&rt)?;
     let while_open = not_locked(&rt, "held");
     let closed = held.finish().close();
@@ -75,36 +75,55 @@ fn a_refused_book_lets_its_lock_go_at_once(rt: HostRuntime) -> Result<(), Fail> 
     Ok(())
 }
 
+/// Two runs over a file that is held open.
+const OVERLAP: &str = "
+$ desk init F
+! refused 95 InUse
+status 3
+$ desk post F ALFA P-1 1
+! refused 95 InUse
+status 3
+";
+
 #[test]
 fn runs_that_overlap_are_refused(rt: HostRuntime) -> Result<(), Fail> {
-    let post = ["post", "overlap", "ALFA", "P-1", "1"];
-    begin(&rt, "overlap")?;
+    follows(&rt, "overlap", BEGIN)?;
     let held = BookLock::take(&rt, "overlap", Unknown)?.open(&rt)?;
-    let refused = overlap(&rt, &post);
+    let refused = follows(&rt, "overlap", OVERLAP);
     held.finish().close();
     refused?;
-    prints(&rt, &post, "posted 1\n", 0)
+    follows(&rt, "overlap", "\n$ desk post F ALFA P-1 1\n> posted 1\n")
 }
+
+const ORDERS_FOLDER: &str = "
+$ desk import F ALFA orders
+! refused 98 NoOrderFile
+status 3
+";
 
 #[test]
 fn a_folder_is_no_order_file(rt: HostRuntime) -> Result<(), Fail> {
-    begin(&rt, "folder")?;
+    follows(&rt, "folder", BEGIN)?;
     fs::create_dir(&rt, "orders")?;
-    let words = ["import", "folder", "ALFA", "orders"];
-    prints(&rt, &words, "refused 98 NoOrderFile\n", 3)
+    follows(&rt, "folder", ORDERS_FOLDER)
 }
+
+const BOOKS_FOLDER: &str = "
+$ desk post F ALFA P-1 1
+! refused 91 StoreFault
+status 3
+";
 
 #[test]
 fn a_folder_holds_no_book(rt: HostRuntime) -> Result<(), Fail> {
     fs::create_dir(&rt, "books")?;
-    let words = ["post", "books", "ALFA", "P-1", "1"];
-    prints(&rt, &words, "refused 91 StoreFault\n", 3)
+    follows(&rt, "books", BOOKS_FOLDER)
 }
 
 #[test]
 fn the_file_is_whole_by_itself_after_a_run(rt: HostRuntime) -> Result<(), Fail> {
-    begin(&rt, "whole")?;
-    prints(&rt, &["post", "whole", "ALFA", "P-1", "7"], "posted 1\n", 0)?;
+    follows(&rt, "whole", BEGIN)?;
+    follows(&rt, "whole", "\n$ desk post F ALFA P-1 7\n> posted 1\n")?;
     fs::copy(&rt, "whole", "copied")?;
     assert_eq!(rt; posted_in(&rt, "copied")?, 7);
     Ok(())

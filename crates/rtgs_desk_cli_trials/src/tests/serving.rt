@@ -1,6 +1,7 @@
 //! The server, over loopback, as a process of its own.
-use super::imports::begin_day;
-use super::{KEY_A, prints};
+use super::helps::are_misused;
+use super::imports::DAY;
+use super::script::{are_refused, follows};
 use rtgs_desk_cli::run_words;
 use rtgs_desk_lines::Ended;
 use sqlite::Unknown;
@@ -14,6 +15,8 @@ use std::time::Duration;
 /// The port of the server. It is set where the test that serves was started by another one.
 const PORT: &str = "DESK_PORT";
 
+const KEY_A: &str = "0000000000000000000000000000000a";
+
 const OPERATOR: &str = "000000000000000000000000000000ff";
 
 const ORDER: &str = "{\"amount\":100,\"reference\":\"A-1\",\"to\":\"BETA\"}";
@@ -21,6 +24,12 @@ const ORDER: &str = "{\"amount\":100,\"reference\":\"A-1\",\"to\":\"BETA\"}";
 const SETTLED: &str = "{\"answer\":\"settled\",\"mark\":1,\"number\":1}";
 
 const REPEATED: &str = "{\"answer\":\"repeated\",\"mark\":1,\"number\":1,\"state\":\"settled\"}";
+
+const NOTHING: &str = "{\"answer\":\"nothing\"}";
+
+const WITHDRAWN: &str = "
+withdraw F ALFA A-1 ! refused 17 NotQueued
+";
 
 #[test]
 fn serve_six(rt: HostRuntime) -> Result<(), Fail> {
@@ -81,12 +90,11 @@ fn asks(rt: &HostRuntime, port: u16, request: &str) -> Result<String, Fail> {
     Ok(reply)
 }
 
-/// What the server replies to a resolution that bears this key.
-fn asks_to_resolve(rt: &HostRuntime, port: u16, key: &str) -> Result<String, Fail> {
-    let request = format!(in rt.alloc();
+/// A resolution that bears this key.
+fn resolution(rt: &HostRuntime, key: &str) -> Result<String, Fail> {
+    Ok(format!(in rt.alloc();
         "POST /desk/resolve HTTP/1.1\r\ndesk-key: {key}\r\nContent-Length: 2\r\n\r\n{{}}"
-    )?;
-    asks(rt, port, &request)
+    )?)
 }
 
 /// Whether a wait for one more byte ran out of its time.
@@ -109,113 +117,98 @@ fn is_let_go(rt: &HostRuntime, port: u16) -> Result<bool, Fail> {
     Ok(false)
 }
 
-/// A reply with this body, whole.
-fn replied(rt: &HostRuntime, body: &str) -> Result<String, Fail> {
+/// The server replies to a request with this body, in a reply that is this one whole.
+fn is_replied(rt: &HostRuntime, port: u16, request: &str, body: &str) -> Result<(), Fail> {
     let length = body.len();
-    Ok(format!(in rt.alloc();
+    let whole = format!(in rt.alloc();
         "HTTP/1.1 200 OK\r\nContent-Type: application/json\r\nContent-Length: {length}\r\n\
          Connection: close\r\n\r\n{body}"
-    )?)
+    )?;
+    let reply = asks(rt, port, request)?;
+    if reply.as_str() == whole.as_str() {
+        return Ok(());
+    }
+    Err(Fail::from(reply))
 }
 
-#[test]
-fn requests_are_replied_to_and_slow_peers_are_let_go(rt: HostRuntime) -> Result<(), Fail> {
-    begin_day(&rt, "served")?;
-    let port = free_port(&rt)?;
-    let mut server = start(&rt, port)?;
+/// A resolution that bears a bank's key is refused, and the reply to nothing is nothing.
+fn is_refused(rt: &HostRuntime, port: u16) -> Result<(), Fail> {
+    let refused = asks(rt, port, resolution(rt, KEY_A)?.as_str())?;
+    if !refused.as_str().starts_with("HTTP/1.1 403 Forbidden\r\n") {
+        return Err(Fail::from(refused));
+    }
+    let nothing = asks(rt, port, "")?;
+    if !nothing.is_empty() {
+        return Err(Fail::from(nothing));
+    }
+    Ok(())
+}
+
+/// Six peers, of which the last is slow.
+fn ask_all(rt: &HostRuntime, port: u16) -> Result<(), Fail> {
     let length = ORDER.len();
-    let request = format!(in rt.alloc();
+    let order = format!(in rt.alloc();
         "POST /orders HTTP/1.1\r\ndesk-key: {KEY_A}\r\nContent-Length: {length}\r\n\r\n{ORDER}"
     )?;
-    assert_eq!(rt; asks(&rt, port, &request)?, replied(&rt, SETTLED)?);
-    assert_eq!(rt; asks(&rt, port, &request)?, replied(&rt, REPEATED)?);
-    let nothing = "{\"answer\":\"nothing\"}";
-    assert_eq!(rt;
-        asks_to_resolve(&rt, port, OPERATOR)?,
-        replied(&rt, nothing)?
-    );
-    let refused = asks_to_resolve(&rt, port, KEY_A)?;
-    assert!(rt;
-        refused.as_str().starts_with("HTTP/1.1 403 Forbidden\r\n"),
-        "{refused}"
-    );
-    assert_eq!(rt; asks(&rt, port, "")?.as_str(), "");
-    assert!(rt; is_let_go(&rt, port)?);
+    is_replied(rt, port, order.as_str(), SETTLED)?;
+    is_replied(rt, port, order.as_str(), REPEATED)?;
+    is_replied(rt, port, resolution(rt, OPERATOR)?.as_str(), NOTHING)?;
+    is_refused(rt, port)?;
+    if is_let_go(rt, port)? {
+        return Ok(());
+    }
+    Err(Fail::from("a slow peer was not let go"))
+}
+
+/// The server says how many it served, and ends well.
+fn has_served(rt: &HostRuntime, server: &mut Child) -> Result<(), Fail> {
     let mut said = String::new(rt.alloc());
     if let Some(out) = server.stdout.as_mut() {
         out.read_to_string(&mut said)?;
     }
-    assert!(rt; server.wait()?.success());
-    assert!(rt; said.as_str().contains("served 6\n"), "{said}");
-    prints(
-        &rt,
-        &["withdraw", "served", "ALFA", "A-1"],
-        "refused 17 NotQueued\n",
-        1,
-    )
+    let is_ended_well = server.wait()?.success();
+    if is_ended_well && said.as_str().contains("served 6\n") {
+        return Ok(());
+    }
+    Err(Fail::from(said))
+}
+
+#[test]
+fn requests_are_replied_to_and_slow_peers_are_let_go(rt: HostRuntime) -> Result<(), Fail> {
+    follows(&rt, "served", DAY)?;
+    let port = free_port(&rt)?;
+    let mut server = start(&rt, port)?;
+    ask_all(&rt, port)?;
+    has_served(&rt, &mut server)?;
+    are_refused(&rt, "served", WITHDRAWN)
 }
 
 #[test]
 fn a_port_that_is_taken_is_refused(rt: HostRuntime) -> Result<(), Fail> {
-    begin_day(&rt, "taken")?;
+    follows(&rt, "taken", DAY)?;
     let listener = TcpListener::bind(&rt, (Ipv4Addr::LOCALHOST, 0))?;
-    let port = format!(in rt.alloc(); "{}", listener.local_addr()?.port())?;
-    let words = [
-        "serve",
-        "taken",
-        "--port",
-        port.as_str(),
-        "--count",
-        "1",
-        "--operator-key",
-        OPERATOR,
-    ];
-    prints(&rt, &words, "refused 97 NoListen\n", 3)?;
-    let words = [
-        "serve",
-        "missing",
-        "--port",
-        port.as_str(),
-        "--count",
-        "1",
-        "--operator-key",
-        OPERATOR,
-    ];
-    prints(&rt, &words, "refused 93 NotADeskFile\n", 3)
+    let port = listener.local_addr()?.port();
+    let script = format!(in rt.alloc();
+        "\n$ desk serve F --port {port} --count 1 --operator-key {OPERATOR}\n\
+         ! refused 97 NoListen\nstatus 3\n\
+         $ desk serve missing --port {port} --count 1 --operator-key {OPERATOR}\n\
+         ! refused 93 NotADeskFile\nstatus 3\n"
+    )?;
+    follows(&rt, "taken", script.as_str())
 }
+
+const OUT_OF_RANGE: &str = "\
+serve nowhere --port 0 --count 1 --operator-key 000000000000000000000000000000ff
+serve nowhere --port 65536 --count 1 --operator-key 000000000000000000000000000000ff
+serve nowhere --port 8080 --count 0 --operator-key 000000000000000000000000000000ff
+serve nowhere --port 8080 --count 1000001 --operator-key 000000000000000000000000000000ff";
+
+const BAD_KEY: &str = "
+serve nowhere --port 8080 --count 1 --operator-key key ! refused 34 BadKey
+";
 
 #[test]
 fn ports_and_counts_have_their_ranges(rt: HostRuntime) -> Result<(), Fail> {
-    let mut out = Vec::new(rt.alloc());
-    let mut err = Vec::new(rt.alloc());
-    for (port, count) in [
-        ("0", "1"),
-        ("65536", "1"),
-        ("8080", "0"),
-        ("8080", "1000001"),
-    ] {
-        let words = [
-            "serve",
-            "nowhere",
-            "--port",
-            port,
-            "--count",
-            count,
-            "--operator-key",
-            OPERATOR,
-        ];
-        let (ended, _) = run_words(&rt, &words, Unknown, &mut out, &mut err);
-        assert!(rt; matches!(ended, Ended::Misused(Ok(()))), "{port} {count}");
-    }
-    let words = [
-        "serve",
-        "nowhere",
-        "--port",
-        "8080",
-        "--count",
-        "1",
-        "--operator-key",
-        "key",
-    ];
-    prints(&rt, &words, "refused 34 BadKey\n", 1)
+    are_misused(&rt, OUT_OF_RANGE)?;
+    are_refused(&rt, "nowhere", BAD_KEY)
 }

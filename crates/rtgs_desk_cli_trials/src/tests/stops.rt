@@ -1,5 +1,6 @@
 //! A batch that stops in a whole run, since no file may grow any more.
-use super::imports::begin_day;
+use super::imports::DAY;
+use super::script::follows;
 use rtgs_book::Refusal;
 use rtgs_desk_cli::run_words;
 use rtgs_desk_lines::{Ended, Printed};
@@ -17,21 +18,27 @@ const LIMITED: &str = "trap '' XFSZ; ulimit -f 1024; exec \"$0\" tests::stops::r
 
 const IMPORT: [&str; 4] = ["import", "stopping", "ALFA", "stopping.csv"];
 
+/// The import stops, and its first and last results are these.
+fn stops(rt: &HostRuntime) -> Result<(), Fail> {
+    let mut out = Vec::new(rt.alloc());
+    let mut err = Vec::new(rt.alloc());
+    let (ended, _) = run_words(rt, &IMPORT, Unknown, &mut out, &mut err);
+    let text = std::str::from_utf8(out.as_slice())?;
+    let is_stopped = matches!(ended, Ended::Printed(Printed::Stopped(Refusal::StoreFault)));
+    let is_told = text.starts_with("reference,result,number,detail\nA-1,settled,1,1\n")
+        && text.ends_with(",stopped,,91\n");
+    if is_stopped && is_told && ended.exit_status() == 3 && err.is_empty() {
+        return Ok(());
+    }
+    Err(Fail::from(format!(in rt.alloc(); "{ended:?}: {text:?}")?))
+}
+
 #[test]
 fn run_under_a_limit(rt: HostRuntime) -> Result<(), Fail> {
     if env::var(&rt, UNDER_A_LIMIT).is_err() {
         return Ok(());
     }
-    let mut out = Vec::new(rt.alloc());
-    let mut err = Vec::new(rt.alloc());
-    let (ended, _) = run_words(&rt, &IMPORT, Unknown, &mut out, &mut err);
-    assert!(rt; matches!(ended, Ended::Printed(Printed::Stopped(Refusal::StoreFault))));
-    assert_eq!(rt; ended.exit_status(), 3);
-    assert!(rt; err.is_empty());
-    let text = std::str::from_utf8(out.as_slice())?;
-    assert!(rt; text.starts_with("reference,result,number,detail\nA-1,settled,1,1\n"));
-    assert!(rt; text.ends_with(",stopped,,91\n"));
-    Ok(())
+    stops(&rt)
 }
 
 /// A hundred orders of one cent each, as a file.
@@ -45,27 +52,39 @@ fn write_orders(rt: &HostRuntime) -> Result<(), Fail> {
     Ok(())
 }
 
-#[test]
-fn a_batch_that_stops_ends_its_run_with_3(rt: HostRuntime) -> Result<(), Fail> {
-    begin_day(&rt, "stopping")?;
-    write_orders(&rt)?;
+/// Runs the other test in a process of its own, under the limit. It succeeds.
+fn runs_under_a_limit(rt: &HostRuntime) -> Result<(), Fail> {
     let mut program = Command::new(rt.alloc(), "sh")?;
     program.arg("-c")?;
     program.arg(LIMITED)?;
-    program.arg(env::current_exe(&rt)?)?;
+    program.arg(env::current_exe(rt)?)?;
     program.env(UNDER_A_LIMIT, "1")?;
-    let ran = program.output(&rt)?;
-    assert!(rt;
-        ran.status.success(),
-        "{:?}",
-        std::str::from_utf8(ran.stderr.as_slice())
-    );
+    let ran = program.output(rt)?;
+    if ran.status.success() {
+        return Ok(());
+    }
+    let said = std::str::from_utf8(ran.stderr.as_slice());
+    Err(Fail::from(format!(in rt.alloc(); "{said:?}")?))
+}
+
+/// The import again takes the orders that it stopped before, and repeats the others.
+fn goes_on(rt: &HostRuntime) -> Result<(), Fail> {
     let mut out = Vec::new(rt.alloc());
     let mut err = Vec::new(rt.alloc());
-    let (again, _) = run_words(&rt, &IMPORT, Unknown, &mut out, &mut err);
-    assert!(rt; matches!(again, Ended::Printed(Printed::Whole)));
+    let (again, _) = run_words(rt, &IMPORT, Unknown, &mut out, &mut err);
     let text = std::str::from_utf8(out.as_slice())?;
-    assert!(rt; text.contains("\nA-1,repeated,1,settled\n"));
-    assert!(rt; text.contains("\nA-100,settled,100,100\n"));
-    Ok(())
+    let is_whole = matches!(again, Ended::Printed(Printed::Whole));
+    let is_repeated = text.contains("\nA-1,repeated,1,settled\n");
+    if is_whole && is_repeated && text.contains("\nA-100,settled,100,100\n") {
+        return Ok(());
+    }
+    Err(Fail::from(format!(in rt.alloc(); "{again:?}: {text:?}")?))
+}
+
+#[test]
+fn a_batch_that_stops_ends_its_run_with_3(rt: HostRuntime) -> Result<(), Fail> {
+    follows(&rt, "stopping", DAY)?;
+    write_orders(&rt)?;
+    runs_under_a_limit(&rt)?;
+    goes_on(&rt)
 }
