@@ -3,12 +3,32 @@
 mod books;
 mod plain;
 
-use crate::{OutOfMemory, Workspace, greatest};
+use crate::{OutOfMemory, Payment, Position, Workspace, greatest};
 use books::{Book, SMALL_BOOKS, chain, mixed, ring, small};
 use plain::greatest_plainly;
 use std::alloc::Global;
 use std::process::Abort;
 use std::test::Fail;
+
+/// A book of so many participants, with the balance, floor and queue of each.
+fn book(alloc: Global, rows: &[(i64, i64, &[(usize, u64)])]) -> Result<Book, Fail> {
+    let mut book = Book::new(alloc);
+    for (balance, floor, queue) in rows {
+        let mut payments = Vec::new(alloc);
+        for (receiver, amount) in *queue {
+            payments.push(Payment {
+                receiver: *receiver,
+                amount: *amount,
+            })?;
+        }
+        let position = Position {
+            balance: *balance,
+            floor: *floor,
+        };
+        book.add(position, payments)?;
+    }
+    Ok(book)
+}
 
 /// The lengths of a book's greatest choice, found in at most n + 3q steps.
 fn lengths(rt: &impl Abort, alloc: Global, book: &Book) -> Result<Vec<usize>, Fail> {
@@ -31,25 +51,10 @@ fn compared(rt: &impl Abort, alloc: Global, book: &Book) -> Result<usize, Fail> 
     let found = lengths(rt, alloc, book)?;
     let plain = greatest_plainly(alloc, &book.positions, &book.queues)?;
     assert_eq!(rt; found, plain);
-    let mut settled = 0usize;
-    for length in &found {
-        settled = settled.checked_add(*length).ok_or("too many payments")?;
-    }
-    Ok(settled)
-}
-
-/// Reads a book, a participant a line: its balance, its floor, its payments, and after ` = ` how many of these settle.
-fn settles(rt: &impl Abort, alloc: Global, lines: &str) -> Result<(), Fail> {
-    let mut book = Book::new(alloc);
-    let mut expected = Vec::new(alloc);
-    for line in lines.trim().lines() {
-        let (participant, length) = line.split_once(" = ").ok_or("a line without what settles")?;
-        book.read(alloc, participant)?;
-        expected.push(length.parse::<usize>()?)?;
-    }
-    assert!(rt; !expected.is_empty());
-    assert_eq!(rt; lengths(rt, alloc, &book)?, expected);
-    Ok(())
+    let settled = found
+        .iter()
+        .try_fold(0usize, |sum, length| sum.checked_add(*length));
+    Ok(settled.ok_or("too many payments")?)
 }
 
 #[test]
@@ -70,81 +75,98 @@ fn no_participants(rt: HostRuntime) -> Result<(), Fail> {
 
 #[test]
 fn one_removal_leads_to_the_next(rt: HostRuntime) -> Result<(), Fail> {
-    let lines = "
-0 0 = 0
-0 0 0:50 = 0
-0 0 1:50 = 0
-";
-    settles(&rt, rt.alloc(), lines)
+    let rows = [
+        (0, 0, [].as_slice()),
+        (0, 0, [(0, 50)].as_slice()),
+        (0, 0, [(1, 50)].as_slice()),
+    ];
+    let found = lengths(&rt, rt.alloc(), &book(rt.alloc(), &rows)?)?;
+    assert_eq!(rt; found.as_slice(), [0, 0, 0].as_slice());
+    Ok(())
 }
 
 #[test]
 fn floor_below_zero(rt: HostRuntime) -> Result<(), Fail> {
-    let lines = "
-0 -30 1:20 1:20 1:20 = 1
-0 0 = 0
-";
-    settles(&rt, rt.alloc(), lines)
+    let rows = [
+        (0, -30, [(1, 20), (1, 20), (1, 20)].as_slice()),
+        (0, 0, [].as_slice()),
+    ];
+    let found = lengths(&rt, rt.alloc(), &book(rt.alloc(), &rows)?)?;
+    assert_eq!(rt; found.as_slice(), [1, 0].as_slice());
+    Ok(())
 }
 
 #[test]
 fn ring_settles_whole(rt: HostRuntime) -> Result<(), Fail> {
-    let lines = "
-0 0 1:100 = 1
-0 0 2:100 = 1
-0 0 0:100 = 1
-";
-    settles(&rt, rt.alloc(), lines)
+    let rows = [
+        (0, 0, [(1, 100)].as_slice()),
+        (0, 0, [(2, 100)].as_slice()),
+        (0, 0, [(0, 100)].as_slice()),
+    ];
+    let found = lengths(&rt, rt.alloc(), &book(rt.alloc(), &rows)?)?;
+    assert_eq!(rt; found.as_slice(), [1, 1, 1].as_slice());
+    Ok(())
 }
 
 #[test]
 fn deadlock_settles_nothing(rt: HostRuntime) -> Result<(), Fail> {
-    let lines = "
-0 0 1:100 = 0
-0 0 2:90 = 0
-0 0 = 0
-";
-    settles(&rt, rt.alloc(), lines)
+    let rows = [
+        (0, 0, [(1, 100)].as_slice()),
+        (0, 0, [(2, 90)].as_slice()),
+        (0, 0, [].as_slice()),
+    ];
+    let found = lengths(&rt, rt.alloc(), &book(rt.alloc(), &rows)?)?;
+    assert_eq!(rt; found.as_slice(), [0, 0, 0].as_slice());
+    Ok(())
 }
 
 #[test]
 fn part_of_a_queue_settles(rt: HostRuntime) -> Result<(), Fail> {
-    let lines = "
-0 0 1:100 2:50 = 1
-0 0 0:100 = 1
-0 0 = 0
-";
-    settles(&rt, rt.alloc(), lines)
+    let rows = [
+        (0, 0, [(1, 100), (2, 50)].as_slice()),
+        (0, 0, [(0, 100)].as_slice()),
+        (0, 0, [].as_slice()),
+    ];
+    let found = lengths(&rt, rt.alloc(), &book(rt.alloc(), &rows)?)?;
+    assert_eq!(rt; found.as_slice(), [1, 1, 0].as_slice());
+    Ok(())
 }
 
 #[test]
 fn cascade_stops_where_all_have_cover(rt: HostRuntime) -> Result<(), Fail> {
-    let lines = "
-10 0 1:60 2:10 = 1
-0 0 0:50 2:20 = 1
-0 0 0:5 = 0
-";
-    settles(&rt, rt.alloc(), lines)
+    let rows = [
+        (10, 0, [(1, 60), (2, 10)].as_slice()),
+        (0, 0, [(0, 50), (2, 20)].as_slice()),
+        (0, 0, [(0, 5)].as_slice()),
+    ];
+    let found = lengths(&rt, rt.alloc(), &book(rt.alloc(), &rows)?)?;
+    assert_eq!(rt; found.as_slice(), [1, 1, 0].as_slice());
+    Ok(())
 }
 
 /// A payment to oneself moves nothing.
 #[test]
 fn payment_to_oneself_settles(rt: HostRuntime) -> Result<(), Fail> {
-    let lines = "
-0 0 0:100 1:1 = 1
-0 0 = 0
-";
-    settles(&rt, rt.alloc(), lines)
+    let rows = [(0, 0, [(0, 100), (1, 1)].as_slice()), (0, 0, [].as_slice())];
+    let found = lengths(&rt, rt.alloc(), &book(rt.alloc(), &rows)?)?;
+    assert_eq!(rt; found.as_slice(), [1, 0].as_slice());
+    Ok(())
 }
 
 /// The largest amounts and balances that the types hold do not overflow.
 #[test]
 fn largest_amounts(rt: HostRuntime) -> Result<(), Fail> {
-    let lines = "
-9223372036854775807 -9223372036854775808 1:18446744073709551615 1:18446744073709551615 = 2
--9223372036854775808 -9223372036854775808 0:18446744073709551615 = 1
-";
-    settles(&rt, rt.alloc(), lines)
+    let rows = [
+        (
+            i64::MAX,
+            i64::MIN,
+            [(1, u64::MAX), (1, u64::MAX)].as_slice(),
+        ),
+        (i64::MIN, i64::MIN, [(0, u64::MAX)].as_slice()),
+    ];
+    let found = lengths(&rt, rt.alloc(), &book(rt.alloc(), &rows)?)?;
+    assert_eq!(rt; found.as_slice(), [2, 1].as_slice());
+    Ok(())
 }
 
 /// Every book of three participants with a cent or none each, and at most two payments in each

@@ -3,7 +3,6 @@ ghost use Rattle.std.specs.Prelude.{◌<◌};
 
 use crate::{OutOfMemory, Payment, Position, Positions, Queues};
 use std::alloc::{AllocError, Global};
-use std::test::Fail;
 
 /// The arguments of a resolution.
 #[derive(Debug, Drop)]
@@ -26,26 +25,6 @@ impl Book {
         self.positions.push(position)?;
         self.queues.push(queue)
     }
-
-    /// Adds the participant of a text: its balance, its floor, and its payments, each a receiver, `:` and an amount.
-    pub fn read(&mut self, alloc: Global, participant: &str) -> Result<(), Fail> {
-        let mut words = participant.split_whitespace();
-        let balance = words.next().ok_or("no balance")?.parse::<i64>()?;
-        let floor = words.next().ok_or("no floor")?.parse::<i64>()?;
-        let mut queue = Vec::new(alloc);
-        for word in words {
-            queue.push(payment(word)?)?;
-        }
-        Ok(self.add(Position { balance, floor }, queue)?)
-    }
-}
-
-/// The payment of a text, as `1:50`.
-fn payment(word: &str) -> Result<Payment, Fail> {
-    let (receiver, amount) = word.split_once(":").ok_or("no payment")?;
-    let receiver = receiver.parse::<usize>()?;
-    let amount = amount.parse::<u64>()?;
-    Ok(Payment { receiver, amount })
 }
 
 /// A number's digits, the lowest first, each in a base of its own.

@@ -63,20 +63,12 @@ fn settle(
 ) -> Result<(), Fail> {
     for payment in queue.iter().take(length) {
         let amount = i128::from(payment.amount);
-        change(balances, sender, -amount)?;
-        change(balances, payment.receiver, amount)?;
+        let from = balances.get_mut(sender).ok_or("no such sender")?;
+        *from = from.checked_sub(amount).ok_or("too much sent")?;
+        let to = balances
+            .get_mut(payment.receiver)
+            .ok_or("no such receiver")?;
+        *to = to.checked_add(amount).ok_or("too much received")?;
     }
-    Ok(())
-}
-
-/// Adds to a participant's balance.
-fn change(balances: &mut [i128], participant: usize, amount: i128) -> Result<(), Fail> {
-    let Some(balance) = balances.get_mut(participant) else {
-        return Err(Fail::from("no such participant"));
-    };
-    let Some(sum) = balance.checked_add(amount) else {
-        return Err(Fail::from("too large a balance"));
-    };
-    *balance = sum;
     Ok(())
 }
