@@ -8,7 +8,7 @@ use Rattle.std.specs.List.{AllByRecursion}
 use Rattle.sqlite.specs.Order.{Row}
 use Rattle.sqlite.specs.Schema.{Schema}
 use Rattle.sqlite.specs.Effect.{Database, Reads, RefusesToRead}
-use Rattle.sqlite.specs.Listing.{understood, reads_listing, if_select, listing_schema, IsSourceOf}
+use Rattle.sqlite.specs.Listing.{understood, reads_listing, listing_schema, IsSourceOf}
 use Rattle.sqlite.specs.State.{State, Shown, FailsToQuery, IsNotRun}
 use Rattle.sqlite.specs.declared.error.Error.{Error}
 use Rattle.sqlite_ast.specs.declared.Select.{Select as Selection}
@@ -21,7 +21,7 @@ use Rattle.sqlite_schema.specs.declared.program.Program.{Program}
 use Rattle.sqlite_syntax.specs.declared.statement.Parsed.{Parsed}
 use Rattle.sqlite_resolve.specs.declared.compiled.Compiled.{Compiled}
 use Rattle.sqlite_resolve.specs.declared.error.CompileError.TheVariants.{NoSuchTable}
-use Rattle.sqlite_resolve.specs.Lowering.{Checked, and_then}
+use Rattle.sqlite_resolve.specs.Lowering.{Checked}
 use Rattle.sqlite_resolve.specs.Program.{query, program}
 use Rattle.sqlite_resolve.specs.Compile.{first, command, read, returning, timed, meaning, planned, with_command}
 use Rattle.sqlite_resolve.specs.Compile.{compiled}

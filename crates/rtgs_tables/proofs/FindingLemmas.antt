@@ -53,7 +53,8 @@ use Rattle.rtgs_tables.specs.Finding.{one_of, IsQuery, IsLook}
 use Rattle.rtgs_tables.proofs.Refusals.{Asks, intact}
 use Rattle.rtgs_tables.proofs.Queries.{simple, passes, shows, sorts, moved}
 use Rattle.rtgs_tables.proofs.Showing.{file_on}
-use Rattle.rtgs_tables.proofs.ReadingAlone.{Returnless, commits_nothing}
+use Rattle.rtgs_tables.specs.Answering.{Returnless}
+use Rattle.rtgs_tables.proofs.ReadingAlone.{commits_nothing}
 use Rattle.rtgs_tables.proofs.Passing.{none_moved, truth_of, same_text, filter_map}
 use Rattle.rtgs_tables.proofs.Resting.{file_of, rests_of}
 use Rattle.rtgs_tables.proofs.Keeps.{survives_on, file_after}

@@ -15,7 +15,7 @@ use Rattle.rtgs_tables.proofs.Queries.{simple}
 use Rattle.rtgs_tables.proofs.Showing.{first_up}
 use Rattle.rtgs_tables.proofs.Selecting.{postings_project, postings_names, payments_project, payments_names}
 use Rattle.rtgs_tables.proofs.Selecting.{marks_project, marks_names}
-use Rattle.rtgs_tables.proofs.ReadingAlone.{Returnless}
+use Rattle.rtgs_tables.specs.Answering.{Returnless}
 
 -- the text is this query, with so many parameters
 pub record Seeks (text : List ℕ) (count : ℕ) (query : Query) (names : List (List ℕ)) : Type 0 where

@@ -38,3 +38,4 @@ pub mod Lists
 pub mod Resting
 pub mod Settling
 pub mod Displaying
+pub mod Answering

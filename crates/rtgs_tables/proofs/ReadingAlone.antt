@@ -13,12 +13,8 @@ use Rattle.sqlite_resolve.specs.declared.compiled.Compiled.{Compiled}
 use Rattle.sqlite_resolve.specs.Lowering.{Checked, and_then}
 use Rattle.sqlite_resolve.specs.Compile.{first, command, returning, timed, meaning, planned, with_command, compiled}
 use Rattle.sqlite_tied.specs.Compute.{everything}
+use Rattle.rtgs_tables.specs.Answering.{Returnless}
 use Rattle.rtgs_tables.specs.Displaying.{desk_text, participants_text, postings_text, payments_text, marks_text}
-
--- the statement gives back no rows of a write
-abbrev pub Returnless : Checked Parsed → Type 0
-Returnless (Ok p) = (schema : Schema) (base : ℕ) → returning schema base p.statement ≡ Ok None
-Returnless (Err e) = Unit {0}
 
 -- what comes of a step that went well
 pub stepped : {A B : Type 0} (r : Checked A) (next : A → Checked B) (b : B) → and_then r next ≡ Ok b
@@ -58,7 +54,7 @@ selected (Err e) c h = absurd (let clash = h in cc)
 selected (Ok d) c h = elim (cases_Bool (is_select d.command))
     [ inl found ↦ (rw found at h) | inr other ↦ absurd (let clash = rw other at h in cc) ]
 
-understood_none : (schema : Schema) (text : List ℕ) (c : Compiled) → Returnless (first text)
+pub understood_none : (schema : Schema) (text : List ℕ) (c : Compiled) → Returnless (first text)
     → understood schema text ≡ Ok c → c.returning ≡ None
 unfolding understood
 understood_none schema text c is h = elim (cases_Bool (reads_listing schema text)) [

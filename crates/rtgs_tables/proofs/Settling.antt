@@ -9,7 +9,7 @@ use Rattle.sqlite.specs.State.{State, Opens, IsLive, HasCleanDisk, Survives, IsU
 use Rattle.rtgs_book.specs.declared.Book.{Book}
 use Rattle.rtgs_book.specs.declared.RowChange.{RowChange}
 use Rattle.rtgs_book.specs.Changes.{IsChange}
-use Rattle.rtgs_rows.specs.Content.{Content, tables_of, Holds, Rests, AreInOrder, with_changes}
+use Rattle.rtgs_rows.specs.Content.{Content, Holds, Rests, AreInOrder, with_changes}
 use Rattle.rtgs_rows.specs.Fitting.{FitsRow}
 use Rattle.rtgs_rows.specs.Keeping.{IsBookOf, HoldsBook, MayLeave, IsWhole}
 use Rattle.rtgs_rows.specs.RowLaws.{RowsTellTheBook, ChangesStandInOrder, ChangedRowsAreTheBook, DesksAreReadAsSuch}

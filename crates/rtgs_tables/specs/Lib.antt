@@ -7,3 +7,4 @@ pub mod Displaying
 pub mod Loading
 pub mod Finding
 pub mod Seeking
+pub mod Answering

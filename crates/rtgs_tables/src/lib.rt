@@ -1,6 +1,7 @@
 //! The five tables of the desk, and the keeper of a book over a connection.
 #![tactic(auto)]
 
+mod answer;
 mod balances;
 mod columns;
 mod create;

@@ -20,6 +20,7 @@ ghost use Rattle.sqlite.specs.State.{HasCleanDisk, IsUnchanged, Survives};
 ghost use Rattle.sqlite.specs.Held.{state};
 ghost use Rattle.sqlite.specs.Tree.{Trees};
 
+use crate::answer::all_rows;
 use crate::table_row::{TableRow, decode};
 use rtgs_book::{Account, Day, Fault, Mark, Order, Posting};
 use sqlite::{Alter, Connection, Error, ErrorCode, Row};
@@ -83,7 +84,7 @@ fn participant_rows<S: Alter>(conn: &mut Connection<S>) -> Result<Vec<Row>, Erro
 }
 
 /// The postings' rows in rising number.
-fn posting_rows<S: Alter>(conn: &mut Connection<S>) -> Result<Vec<Row>, Error>
+fn posting_rows<S: Alter>(alloc: Global, conn: &mut Connection<S>) -> Result<Vec<Row>, Error>
     ensures rows { HasCleanDisk (state S.Store conn.new) → (accounts : List AccountSpec) (book : Book)
         → HasRecords accounts book (state S.Store conn.old)
         → IfOk result (λ rows. rows.items ≡ map shown_posting book.postings) }
@@ -104,14 +105,15 @@ fn posting_rows<S: Alter>(conn: &mut Connection<S>) -> Result<Vec<Row>, Error>
     ensures mode { conn.old.in_transaction ≡ false → conn.new.in_transaction ≡ false }
     ensures honest { HasCleanDisk (state S.Store conn.new) → HasCleanDisk (state S.Store conn.old) }
 {
-    conn.query_all(
+    all_rows(
+        alloc,
+        conn,
         "SELECT number, code, reference, cents, date FROM posting ORDER BY number",
-        &[],
     )
 }
 
 /// The orders' rows in rising number.
-fn payment_rows<S: Alter>(conn: &mut Connection<S>) -> Result<Vec<Row>, Error>
+fn payment_rows<S: Alter>(alloc: Global, conn: &mut Connection<S>) -> Result<Vec<Row>, Error>
     ensures rows { HasCleanDisk (state S.Store conn.new) → (accounts : List AccountSpec) (book : Book)
         → HasRecords accounts book (state S.Store conn.old)
         → IfOk result (λ rows. rows.items ≡ map shown_order book.orders) }
@@ -132,14 +134,15 @@ fn payment_rows<S: Alter>(conn: &mut Connection<S>) -> Result<Vec<Row>, Error>
     ensures mode { conn.old.in_transaction ≡ false → conn.new.in_transaction ≡ false }
     ensures honest { HasCleanDisk (state S.Store conn.new) → HasCleanDisk (state S.Store conn.old) }
 {
-    conn.query_all(
+    all_rows(
+        alloc,
+        conn,
         "SELECT number, sender, reference, receiver, amount, date, state, mark FROM payment ORDER BY number",
-        &[],
     )
 }
 
 /// The marks' rows in rising number.
-fn mark_rows<S: Alter>(conn: &mut Connection<S>) -> Result<Vec<Row>, Error>
+fn mark_rows<S: Alter>(alloc: Global, conn: &mut Connection<S>) -> Result<Vec<Row>, Error>
     ensures rows { HasCleanDisk (state S.Store conn.new) → (accounts : List AccountSpec) (book : Book)
         → HasRecords accounts book (state S.Store conn.old)
         → IfOk result (λ rows. rows.items ≡ map shown_mark book.marks) }
@@ -160,9 +163,10 @@ fn mark_rows<S: Alter>(conn: &mut Connection<S>) -> Result<Vec<Row>, Error>
     ensures mode { conn.old.in_transaction ≡ false → conn.new.in_transaction ≡ false }
     ensures honest { HasCleanDisk (state S.Store conn.new) → HasCleanDisk (state S.Store conn.old) }
 {
-    conn.query_all(
+    all_rows(
+        alloc,
+        conn,
         "SELECT number, date, many, value FROM mark ORDER BY number",
-        &[],
     )
 }
 
@@ -323,7 +327,7 @@ pub(crate) fn read_postings<S: Alter>(
     ensures mode { conn.old.in_transaction ≡ false → conn.new.in_transaction ≡ false }
     ensures honest { HasCleanDisk (state S.Store conn.new) → HasCleanDisk (state S.Store conn.old) }
 {
-    match posting_rows(conn) {
+    match posting_rows(alloc, conn) {
         Ok(rows) => decode(alloc, rows.as_slice()),
         Err(error) => Err(fault_of(conn, &error)),
     }
@@ -356,7 +360,7 @@ pub(crate) fn read_orders<S: Alter>(
     ensures mode { conn.old.in_transaction ≡ false → conn.new.in_transaction ≡ false }
     ensures honest { HasCleanDisk (state S.Store conn.new) → HasCleanDisk (state S.Store conn.old) }
 {
-    match payment_rows(conn) {
+    match payment_rows(alloc, conn) {
         Ok(rows) => decode(alloc, rows.as_slice()),
         Err(error) => Err(fault_of(conn, &error)),
     }
@@ -389,7 +393,7 @@ pub(crate) fn read_marks<S: Alter>(
     ensures mode { conn.old.in_transaction ≡ false → conn.new.in_transaction ≡ false }
     ensures honest { HasCleanDisk (state S.Store conn.new) → HasCleanDisk (state S.Store conn.old) }
 {
-    match mark_rows(conn) {
+    match mark_rows(alloc, conn) {
         Ok(rows) => decode(alloc, rows.as_slice()),
         Err(error) => Err(fault_of(conn, &error)),
     }

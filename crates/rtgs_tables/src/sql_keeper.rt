@@ -64,6 +64,8 @@ impl<S: Alter + Drop> SqlKeeper<S> {
             → HasNoTables trees) }
         ensures tables { IfErr result (λ e. HasCleanDisk (state S.Store e.1) → IsBlank (state S.Store conn)
             → (trees : Trees) → (state S.Store e.1).may_leave trees → IsNoneOrNew trees) }
+        ensures honest { IfOk result (λ k. HasCleanDisk (state S.Store k.conn) → HasCleanDisk (state S.Store conn))
+            × IfErr result (λ e. HasCleanDisk (state S.Store e.1) → HasCleanDisk (state S.Store conn)) }
         ensures fresh { IfOk result (λ k. k.failed ≡ false) }
         ensures idle { IfErr result (λ e. (e.1.in_transaction ≡ false) × (e.0 ≢ CommitFault.Failed)) }
     {
