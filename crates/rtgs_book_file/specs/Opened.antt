@@ -1,7 +1,6 @@
 -- What was opened, and what was made, over what files held. `k` has the members of the keeper's trait, and `conn` gives
 -- a keeper's connection.
 use Rattle.sqlite_disk.specs.declared.Disk as disk
-use Rattle.sqlite_disk.specs.declared.Files.{Files}
 use Rattle.sqlite.specs.Files.{file_state, IsOpened}
 use Rattle.sqlite.specs.Held.{Held}
 use Rattle.sqlite.specs.Recovery.{Image}
@@ -11,10 +10,10 @@ use Rattle.sqlite.specs.Tree.{Trees}
 use Rattle.sqlite.specs.declared.FileStore.{FileStore}
 use Rattle.rtgs_book.specs.Books.{new_book}
 use Rattle.rtgs_keeper.specs.declared.keeper.Keeper.{Ghosts}
-use Rattle.rtgs_tables.specs.Building.{IsBlank}
 use Rattle.rtgs_desk.specs.Seen.{Seen}
-use Rattle.rtgs_stored_desk.specs.Stored.{AreTablesOf, IsOver}
+use Rattle.rtgs_stored_desk.specs.Stored.{AreTablesOf, HasNoSchema, IsOver}
 use Rattle.rtgs_book_file.specs.Closed.{LeavesClosed}
+use Rattle.rtgs_book_file.specs.declared.closed_files.ClosedFiles.{ClosedFiles}
 
 -- the desk, whose connection is as it is now, was opened over what the files held
 pub record WasOpened {K D : Type 0} {g : disk.Ghosts D} (k : Ghosts K) (held : Image) (desk : Seen K)
@@ -29,14 +28,17 @@ pub record WasOpened {K D : Type 0} {g : disk.Ghosts D} (k : Ghosts K) (held : I
 
 -- the tables of a new book were made over what the files held, and these are left of them
 pub record WasMade {K D : Type 0} {g : disk.Ghosts D} (k : Ghosts K) (conn : K → Held (FileStore D g)) (held : Image)
-    (files : Files D) : Type 0 where
+    (files : ClosedFiles D) : Type 0 where
   -- the connection, when it had been opened, and before it was closed
   pub was : Held (FileStore D g)
   pub now : Held (FileStore D g)
   pub opened : HasCleanDisk (file_state was) → IsOpened was
   pub found : HasCleanDisk (file_state was) → FindsIn held (file_state was)
-  -- where nothing was in the database, a stop leaves the tables of the new book
-  pub leaves : HasCleanDisk (file_state now) → IsBlank (file_state was) → (trees : Trees)
-      → (file_state now).may_leave trees → AreTablesOf new_book trees
+  -- nothing was in the database
+  pub blank : HasNoSchema (file_state was)
+  -- and a stop leaves the tables of the new book
+  pub honest : HasCleanDisk (file_state now) → HasCleanDisk (file_state was)
+  pub leaves : HasCleanDisk (file_state now) → (trees : Trees) → (file_state now).may_leave trees
+      → AreTablesOf new_book trees
   -- and then it was closed
   pub closed : LeavesClosed now files

@@ -19,8 +19,7 @@ use Rattle.sqlite.specs.declared.error.ErrorCode.TheVariants as code
 use Rattle.rtgs_book.specs.declared.fault.Fault.{Fault}
 use Rattle.rtgs_book.specs.declared.fault.Fault.TheVariants.{OutOfMemory, StoreFault, NotADeskFile}
 use Rattle.rtgs_keeper.specs.declared.keeper.Keeper.{Ghosts}
-use Rattle.rtgs_tables.specs.Building.{IsBlank}
-use Rattle.rtgs_stored_desk.specs.Stored.{IsRefused, IsUnmade}
+use Rattle.rtgs_stored_desk.specs.Stored.{HasNoSchema, IsRefused, IsUnmade}
 use Rattle.rtgs_book_file.specs.Closed.{LeavesNoMore}
 use Rattle.rtgs_book_file.specs.Files.{vacancy_of, opening_of, fault_of_store}
 use Rattle.rtgs_book_file.specs.declared.file_fault.FileFault.{FileFault}
@@ -103,8 +102,11 @@ module _ {K D : Type 0} {g : disk.Ghosts D} (k : Ghosts K) (conn : K → Held (F
     pub left : Held (FileStore D g)
     pub opened : HasCleanDisk (file_state was) → IsOpened was
     pub found : HasCleanDisk (file_state was) → FindsIn held (file_state was)
-    -- where nothing was in the database, a stop leaves no tables, or those of the new book
-    pub refused : HasCleanDisk (file_state left) → IsBlank (file_state was) → IsUnmade fault (file_state left)
+    pub honest : HasCleanDisk (file_state left) → HasCleanDisk (file_state was)
+    -- a database that has tables is no desk's, and the connection is as it was
+    pub taken : ¬ HasNoSchema (file_state was) → (fault ≡ NotADeskFile) × (left ≡ was)
+    -- over one that has none, a stop leaves none, or those of the new book
+    pub refused : HasCleanDisk (file_state left) → HasNoSchema (file_state was) → IsUnmade fault (file_state left)
     -- and a crash leaves no more of the files than the connection could
     pub given_up : LeavesNoMore left files
 

@@ -1,16 +1,17 @@
 //! What is left of a book's file that was closed.
-ghost use Rattle.std.specs.Prelude.{◌≡◌};
+ghost use Rattle.std.specs.Prelude.{◌≡◌, ◌↔◌, None, IsTrue};
 ghost use Rattle.rtgs_book_file.specs.Closed.{LeavesClosed};
 
+use crate::closed_files::ClosedFiles;
 use crate::held_lock::HeldLock;
 use crate::locked::Locked;
-use sqlite::{Connection, FileFrom, FileStore, Files, Start};
+use sqlite::{Connection, FileFrom, FileStore, Start};
 
-/// What is left of a book's file that was closed, and its lock. Only to copy the store's log makes one, or to fail at
-/// it. As it is dropped, the files are let go, and then the lock.
+/// What is left of a book's file that was closed, and its lock. As it is dropped, the files are let go, and then the
+/// lock.
 #[derive(Drop)]
 pub struct ClosedBook<S: Start> {
-    pub(crate) files: Files<FileFrom<S>>,
+    pub(crate) files: ClosedFiles<FileFrom<S>>,
     pub(crate) lock: Locked,
 }
 
@@ -20,18 +21,15 @@ impl<S: Start> ClosedBook<S> {
         ensures closed { LeavesClosed conn result.files }
         ensures held { result.lock ≡ lock.locked }
     {
-        let files = copied_files(conn);
+        let files = ClosedFiles::of(conn);
         let lock = lock.into_locked();
         ClosedBook { files, lock }
     }
-}
 
-// The files of a store, once the log was copied into the file.
-fn copied_files<S: Start>(conn: Connection<FileStore<FileFrom<S>>>) -> Files<FileFrom<S>>
-    ensures { LeavesClosed conn result }
-{
-    match conn.close_files() {
-        Ok(files) => files,
-        Err((_, store)) => store.close(),
+    /// Whether the log was copied into the file. What was committed stands in the log where it was not.
+    pub fn is_copied(&self) -> bool
+        ensures { IsTrue result ↔ (self.now.files.uncopied ≡ None) }
+    {
+        self.files.are_copied()
     }
 }

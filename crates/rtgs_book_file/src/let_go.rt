@@ -1,13 +1,14 @@
 //! A book's file that was closed and let go.
 use crate::closed_book::ClosedBook;
-use sqlite::{FileFrom, Files, Start};
+use crate::closed_files::ClosedFiles;
+use sqlite::{FileFrom, Start};
 use std::snapshot::Snapshot;
 
 /// A book's file that was closed and let go, with its lock. It has no bytes: it is there for contracts, which name by
 /// it what was left of the files, and the lock's own file. Only a book that was closed makes one.
 #[derive(Drop)]
 pub struct LetGo<S: Start> {
-    files: Snapshot<Files<FileFrom<S>>>,
+    files: Snapshot<ClosedFiles<FileFrom<S>>>,
     name: Snapshot<String>,
 }
 

@@ -4,6 +4,7 @@
 mod book_lock;
 mod cause;
 mod closed_book;
+mod closed_files;
 mod file_fault;
 mod finished_book;
 mod given_up_book;
@@ -25,6 +26,7 @@ mod unread;
 
 pub use crate::book_lock::BookLock;
 pub use crate::closed_book::ClosedBook;
+pub use crate::closed_files::ClosedFiles;
 pub use crate::file_fault::FileFault;
 pub use crate::finished_book::FinishedBook;
 pub use crate::given_up_book::GivenUpBook;

@@ -92,3 +92,8 @@ from_both (Err e) P Q R f p q = f e p q
 
 pub memory_tells : (db : Database) (fault : Fault) → fault ≡ OutOfMemory → ExplainsDatabase db fault
 memory_tells db fault memory = subst (ExplainsDatabase db) (sym memory) tt
+
+pub making_memory : (fault : CommitFault) → fault_of_making fault ≡ OutOfMemory → fault ≡ commit.OutOfMemory
+making_memory commit.OutOfMemory told = refl
+making_memory commit.Store told = absurd cc
+making_memory commit.Failed told = absurd cc

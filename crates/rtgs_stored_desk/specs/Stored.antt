@@ -2,7 +2,7 @@
 -- keeper's trait.
 use Rattle.std.specs.Prelude.{◌≡◌, ◌≢◌, ◌⊎◌, List, IsTrue}
 use Rattle.sqlite.specs.Effect.{IsDatabase}
-use Rattle.sqlite.specs.State.{State}
+use Rattle.sqlite.specs.State.{State, HasCleanDisk}
 use Rattle.sqlite.specs.Tree.{Trees}
 use Rattle.rtgs_book.specs.declared.Book.{Book}
 use Rattle.rtgs_book.specs.declared.Command.{Command}
@@ -19,8 +19,9 @@ use Rattle.rtgs_rows.specs.Content.{Content, HasNoTables}
 use Rattle.rtgs_rows.specs.Content as rows
 use Rattle.rtgs_rows.specs.Keeping.{IsBookOf, AddsUp}
 use Rattle.rtgs_rows.specs.Querying.{AreWhole}
-use Rattle.rtgs_rows.specs.Tables.{desk_schema}
+use Rattle.rtgs_rows.specs.Tables.{desk_schema, no_schema}
 use Rattle.rtgs_tables.specs.Accounts.{ExplainsTrees}
+use Rattle.rtgs_tables.specs.Building.{IsBlank}
 use Rattle.rtgs_tables.specs.Displaying.{IsDisplayed, ExplainsDatabase}
 use Rattle.rtgs_desk.specs.Holding.{HasInMemory, Holds}
 use Rattle.rtgs_desk.specs.Seen.{Seen}
@@ -43,6 +44,20 @@ abbrev pub fault_of_making : CommitFault → Fault
 fault_of_making commit.OutOfMemory = OutOfMemory
 fault_of_making commit.Store = StoreFault
 fault_of_making commit.Failed = StoreFault
+
+-- no table, index or view is in the database
+abbrev pub HasNoSchema : State → Type 0
+HasNoSchema s = s.now.schema ≡ no_schema
+
+-- The tables of a new book were made in a database that had none. A stop leaves them.
+pub record IsMade (old new : State) : Type 0 where
+  pub blank : HasNoSchema old
+  pub honest : HasCleanDisk new → HasCleanDisk old
+  pub leaves : HasCleanDisk new → IsBlank old → (trees : Trees) → new.may_leave trees → AreTablesOf new_book trees
+
+-- nothing is in the database, and a stop leaves no tables
+abbrev pub StaysBlank : State → Type 0
+StaysBlank s = IsBlank s × ((trees : Trees) → s.may_leave trees → HasNoTables trees)
 
 -- No new book was made, or none was opened. A stop leaves no tables, or those of the new book.
 pub record IsUnmade (fault : Fault) (new : State) : Type 0 where

@@ -2,13 +2,11 @@
 ghost use Rattle.std.specs.Prelude.{◌≡◌, ◌≢◌, ◌↔◌, false, Err, IsTrue, IfOk, IfErr};
 ghost use Rattle.sqlite.specs.Held.{state};
 ghost use Rattle.sqlite.specs.State.{HasCleanDisk};
-ghost use Rattle.sqlite.specs.Tree.{Trees};
 ghost use Rattle.rtgs_book.specs.Books.{new_book};
-ghost use Rattle.rtgs_rows.specs.Content.{HasNoTables};
 ghost use Rattle.rtgs_rows.specs.Keeping.{HoldsBook};
 ghost use Rattle.rtgs_rows.specs.Tables.{no_schema};
 ghost use Rattle.rtgs_tables.specs.Building.{IsBlank};
-ghost use Rattle.rtgs_stored_desk.specs.Stored.{AreTablesOf, IsUnmade, fault_of_making};
+ghost use Rattle.rtgs_stored_desk.specs.Stored.{IsMade, IsUnmade, StaysBlank, fault_of_making};
 
 use rtgs_book::Fault;
 use rtgs_book::laws::new_book_is_sound;
@@ -23,15 +21,13 @@ pub fn make<S: Alter + Drop>(conn: Connection<S>) -> Result<Connection<S>, (Faul
     requires { conn.in_transaction ≡ false }
     ensures made { IfOk result (λ made. HasCleanDisk (state S.Store made) → IsBlank (state S.Store conn)
         → HoldsBook S.Store made new_book) }
-    ensures stops { IfOk result (λ made. HasCleanDisk (state S.Store made) → IsBlank (state S.Store conn)
-        → (trees : Trees) → (state S.Store made).may_leave trees → AreTablesOf new_book trees) }
+    ensures stops { IfOk result (λ made. IsMade (state S.Store conn) (state S.Store made)) }
     ensures refused { IfErr result (λ (fault, left). HasCleanDisk (state S.Store left) → IsBlank (state S.Store conn)
         → IsUnmade fault (state S.Store left)) }
     ensures memory { IfErr result (λ (fault, left). fault ≡ Fault.OutOfMemory → HasCleanDisk (state S.Store left)
-        → IsBlank (state S.Store conn) → IsBlank (state S.Store left)) }
-    ensures memory_stops { IfErr result (λ (fault, left). fault ≡ Fault.OutOfMemory → HasCleanDisk (state S.Store left)
-        → IsBlank (state S.Store conn) → (trees : Trees) → (state S.Store left).may_leave trees → HasNoTables trees) }
+        → IsBlank (state S.Store conn) → StaysBlank (state S.Store left)) }
     ensures taken { (state S.Store conn).now.schema ≢ no_schema → result ≡ Err (Fault.NotADeskFile, conn) }
+    ensures honest { IfErr result (λ (_, left). HasCleanDisk (state S.Store left) → HasCleanDisk (state S.Store conn)) }
     ensures idle { IfOk result (λ made. made.in_transaction ≡ false) }
     ensures idle_still { IfErr result (λ (_, left). left.in_transaction ≡ false) }
 {

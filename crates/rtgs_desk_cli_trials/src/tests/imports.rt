@@ -127,6 +127,18 @@ fn a_file_has_65536_bytes_at_most(rt: HostRuntime) -> Result<(), Fail> {
     follows(&rt, "long", TOO_LONG)
 }
 
+const ENDLESS: &str = "
+$ desk import F ALFA /dev/zero
+! refused 63 BodyTooLong
+status 1
+";
+
+#[test]
+fn a_file_that_never_ends_is_too_long(rt: HostRuntime) -> Result<(), Fail> {
+    follows(&rt, "endless", DAY)?;
+    follows(&rt, "endless", ENDLESS)
+}
+
 const SENT: &str = "
 $ orders lost.csv A-1,BETA,100
 ";

@@ -43,6 +43,30 @@ fn not_locked(rt: &HostRuntime, file: &str) -> Option<FileFault> {
     }
 }
 
+/// The bytes of a log whose database file has nothing yet.
+fn unread_log(rt: &HostRuntime) -> Result<Vec<u8>, Fail> {
+    let mut conn = Connection::open(rt, "unread")?;
+    conn.execute_batch("CREATE TABLE other (number INTEGER PRIMARY KEY)")?;
+    let log = fs::read(rt, "unread-wal")?;
+    conn.close()?;
+    Ok(log)
+}
+
+const LOGGED: &str = "
+$ desk init F
+! refused 93 NotADeskFile
+status 3
+";
+
+#[test]
+fn no_book_is_made_where_a_log_has_tables(rt: HostRuntime) -> Result<(), Fail> {
+    let log = unread_log(&rt)?;
+    fs::write(&rt, "logged-wal", log.as_slice())?;
+    follows(&rt, "logged", LOGGED)?;
+    assert_eq!(rt; fs::read(&rt, "logged-wal")?.as_slice(), log.as_slice());
+    Ok(())
+}
+
 #[test]
 fn a_lock_is_held_until_the_files_are_let_go(rt: HostRuntime) -> Result<(), Fail> {
     follows(&rt, "held", BEGIN)?;
@@ -50,7 +74,9 @@ fn a_lock_is_held_until_the_files_are_let_go(rt: HostRuntime) -> Result<(), Fail
     let while_open = not_locked(&rt, "held");
     let closed = held.finish().close();
     let once_closed = not_locked(&rt, "held");
+    let is_copied = closed.is_copied();
     drop(closed);
+    assert!(rt; is_copied);
     assert_eq!(rt; while_open, Some(FileFault::InUse));
     assert_eq!(rt; once_closed, Some(FileFault::InUse));
     assert_eq!(rt; not_locked(&rt, "held"), None);

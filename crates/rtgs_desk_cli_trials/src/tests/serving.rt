@@ -144,8 +144,18 @@ fn is_refused(rt: &HostRuntime, port: u16) -> Result<(), Fail> {
     Ok(())
 }
 
+/// No connection is taken at another address of this machine.
+fn is_at_one_address(rt: &HostRuntime, port: u16) -> Result<(), Fail> {
+    match TcpStream::connect(rt, (Ipv4Addr::new(127, 0, 0, 2), port)) {
+        Ok(_) => Err(Fail::from("connected at another address")),
+        Err(error) if error.kind() == ErrorKind::ConnectionRefused => Ok(()),
+        Err(error) => Err(Fail::from(error)),
+    }
+}
+
 /// Six peers, of which the last is slow.
 fn ask_all(rt: &HostRuntime, port: u16) -> Result<(), Fail> {
+    is_at_one_address(rt, port)?;
     let length = ORDER.len();
     let order = format!(in rt.alloc();
         "POST /orders HTTP/1.1\r\ndesk-key: {KEY_A}\r\nContent-Length: {length}\r\n\r\n{ORDER}"

@@ -1,25 +1,32 @@
-use Rattle.std.proofs.Common.{sym, subst}
+use Rattle.std.proofs.Common.{◌∙◌, rules, sym, subst}
 use Rattle.sqlite.specs.Held.{state}
-use Rattle.sqlite.specs.State.{HasCleanDisk}
-use Rattle.sqlite.specs.Tree.{Trees}
 use Rattle.rtgs_book.specs.Books.{new_book}
-use Rattle.rtgs_tables.specs.Building.{IsBlank}
-use Rattle.rtgs_stored_desk.specs.Stored.{AreTablesOf, IsMemoryOrStore}
+use Rattle.rtgs_stored_desk.specs.Stored.{IsMade, IsMemoryOrStore}
 use Rattle.rtgs_stored_desk.proofs.Resting.{committed_tables, tables_are, none_or_new, making_cause}
+use Rattle.rtgs_stored_desk.proofs.Resting.{making_memory}
 use Rattle.rtgs_stored_desk.proofs.making.make.Goals as goal
 
 pub returns-in-Ok-clause-stops : goal.returns-in-Ok-clause-stops
 returns-in-Ok-clause-stops g c =
+    let old = state g.S.Store c.args.conn in
     let made = c.in-Ok.keeper.conn in
-    subst (λ h. HasCleanDisk (state g.S.Store h) → IsBlank (state g.S.Store c.args.conn) → (trees : Trees)
-    → (state g.S.Store h).may_leave trees → AreTablesOf new_book trees) (sym c.into_connection.ensures)
-    (λ clean blank trees left.
-    let holds = c.in-Ok.ensures.made clean blank in
-    tables_are new_book trees (state g.S.Store made).committed.trees
-    (g.met.S.Store.settled made.store trees holds.1.is_open left) (committed_tables g.S.Store made new_book holds))
+    subst (λ h. IsMade old (state g.S.Store h)) (sym c.into_connection.ensures) (record {
+      blank = c.has_no_tables.ensures.0 (search rules);
+      honest = c.in-Ok.ensures.honest.0;
+      leaves = λ clean blank trees left.
+          let holds = c.in-Ok.ensures.made clean blank in
+          tables_are new_book trees (state g.S.Store made).committed.trees
+          (g.met.S.Store.settled made.store trees holds.1.is_open left)
+          (committed_tables g.S.Store made new_book holds);
+    })
 
 pub returns-in-Err-clause-refused : goal.returns-in-Err-clause-refused
 returns-in-Err-clause-refused g c clean blank = record {
   cause = subst IsMemoryOrStore (sym c.fault_of.ensures) (making_cause c.in-Err.fault);
   leaves = λ trees left. none_or_new c.new_book_is_sound.ensures trees (c.in-Err.ensures.tables clean blank trees left);
 }
+
+pub returns-in-Err-clause-memory : goal.returns-in-Err-clause-memory
+returns-in-Err-clause-memory g c told clean blank =
+    let memory = making_memory c.in-Err.fault (sym c.fault_of.ensures ∙ told) in
+    (c.in-Err.ensures.memory memory clean blank, c.in-Err.ensures.memory_stops memory clean blank)

@@ -1,10 +1,10 @@
-use Rattle.std.proofs.Common.{sym, inl, inr}
-use Rattle.rtgs_book_file.proofs.closed_book.copied_files.Goals as goal
+use Rattle.std.proofs.Common.{sym}
+use Rattle.rtgs_book_file.proofs.closed_files.ClosedFiles.of.Goals as goal
 
 pub returns-in-Ok : goal.returns-in-Ok
 returns-in-Ok g c =
     let ok = c.in-Ok.ensures.ok in
-    record { no_more = (ok.0, ok.2, ok.1); copied = inl c.in-Ok.ensures.copied }
+    record { no_more = (ok.0, ok.2, ok.1); copied = λ _. c.in-Ok.ensures.copied; excused = tt }
 
 pub returns-in-Err : goal.returns-in-Err
 returns-in-Err g c =
@@ -12,5 +12,6 @@ returns-in-Err g c =
     let given = sym c.close.ensures in
     record {
       no_more = (c.in-Err.store, err.0, given);
-      copied = inr (c.in-Err.store, c.in-Err.field-0-0, given, err.1);
+      copied = λ none. absurd (cc);
+      excused = (c.in-Err.store, given, err.1);
     }
