@@ -40,54 +40,85 @@ fn posting() -> Result<Posting, Fail> {
     })
 }
 
-/// A book in which ALFA's first order is settled, and its second one waits.
-fn book(alloc: Global) -> Result<Book, Fail> {
-    let participants = vec![in alloc; participant("ALFA", 1)?, participant("BETA", 2)?]?;
-    let orders = vec![in alloc;
-        order(1, "A-1", 30, OrderState::Settled(1))?,
-        order(2, "A-2", 80, OrderState::Queued)?,
-    ]?;
-    let mark = Mark {
+/// The mark of an order of 30 cents.
+fn mark() -> Result<Mark, Fail> {
+    Ok(Mark {
         number: 1,
         date: date(MONDAY)?,
         count: 1,
         value: Cents::new(30),
-    };
-    Ok(Book {
-        participants: Rows::from_vec(participants),
-        postings: Rows::from_vec(vec![in alloc; posting()?]?),
-        orders: Rows::from_vec(orders),
-        marks: Rows::from_vec(vec![in alloc; mark]?),
-        day: Day {
-            date: Some(date(MONDAY)?),
-            phase: Phase::Open,
-        },
     })
 }
 
-#[test]
-fn a_core_has_balances_queued_orders_and_next_numbers(rt: HostRuntime) -> Result<(), Fail> {
-    let alloc = rt.alloc();
+/// An open day.
+fn day() -> Result<Day, Fail> {
+    Ok(Day {
+        date: Some(date(MONDAY)?),
+        phase: Phase::Open,
+    })
+}
+
+/// ALFA's first order, which is settled, and its second one, which waits.
+fn orders() -> Result<[Order; 2], Fail> {
+    let settled = order(1, "A-1", 30, OrderState::Settled(1))?;
+    let queued = order(2, "A-2", 80, OrderState::Queued)?;
+    Ok([settled, queued])
+}
+
+/// A book with these orders.
+fn book(alloc: Global) -> Result<Book, Fail> {
+    let parties = [participant("ALFA", 1)?, participant("BETA", 2)?];
+    let (posting, orders, mark, day) = (posting()?, orders()?, mark()?, day()?);
+    let participants = Vec::from_slice(alloc, &parties)?;
+    let postings = Vec::from_slice(alloc, &[posting])?;
+    let orders = Vec::from_slice(alloc, &orders)?;
+    let marks = Vec::from_slice(alloc, &[mark])?;
+    Ok(Book {
+        participants: Rows::from_vec(participants),
+        postings: Rows::from_vec(postings),
+        orders: Rows::from_vec(orders),
+        marks: Rows::from_vec(marks),
+        day,
+    })
+}
+
+// The core of that book, which is sound.
+fn core(alloc: Global) -> Result<Core, Fail> {
     let book = book(alloc)?;
     book.check()?;
-    let core = Core::of(alloc, &book)?;
+    Ok(Core::of(alloc, &book)?)
+}
+
+#[test]
+fn a_core_has_balances(rt: HostRuntime) -> Result<(), Fail> {
+    let core = core(rt.alloc())?;
     let [alfa, beta] = core.accounts.as_slice() else {
         return Err(Fail::from("not two accounts"));
     };
+    let codes = [alfa.participant.code, beta.participant.code];
+    assert_eq!(rt; codes, [code("ALFA")?, code("BETA")?]);
     assert_eq!(rt;
-        (alfa.participant.code, alfa.balance),
-        (code("ALFA")?, Cents::new(70))
+        [alfa.balance, beta.balance],
+        [Cents::new(70), Cents::new(30)]
     );
-    assert_eq!(rt;
-        (beta.participant.code, beta.balance),
-        (code("BETA")?, Cents::new(30))
-    );
+    Ok(())
+}
+
+#[test]
+fn a_core_has_the_queued_orders(rt: HostRuntime) -> Result<(), Fail> {
+    let core = core(rt.alloc())?;
     let [queued] = core.queued.as_slice() else {
         return Err(Fail::from("not one queued order"));
     };
     assert_eq!(rt; *queued, order(2, "A-2", 80, OrderState::Queued)?);
-    assert_eq!(rt; core.day, book.day);
+    Ok(())
+}
+
+#[test]
+fn a_core_has_the_day_and_the_next_numbers(rt: HostRuntime) -> Result<(), Fail> {
+    let core = core(rt.alloc())?;
     let next = [core.next_posting, core.next_order, core.next_mark];
+    assert_eq!(rt; core.day, day()?);
     assert_eq!(rt; next, [2, 3, 2]);
     Ok(())
 }

@@ -121,29 +121,69 @@ fn put(
 }
 
 #[test]
-fn values_read_back(rt: HostRuntime) -> Result<(), Fail> {
+fn an_amount_reads_back(rt: HostRuntime) -> Result<(), Fail> {
     let amount = Amount::new(12_500);
     assert_eq!(rt; amount_again(rt.alloc(), amount)?, Ok(amount));
+    Ok(())
+}
+
+#[test]
+fn a_postings_amount_reads_back(rt: HostRuntime) -> Result<(), Fail> {
     let posting = PostingAmount::read(b"-1")?;
     assert_eq!(rt; posting_again(rt.alloc(), posting)?, Ok(posting));
+    Ok(())
+}
+
+#[test]
+fn a_credit_reads_back(rt: HostRuntime) -> Result<(), Fail> {
     assert_eq!(rt; credit_again(rt.alloc(), Credit::NONE)?, Ok(Credit::NONE));
+    Ok(())
+}
+
+#[test]
+fn a_code_reads_back(rt: HostRuntime) -> Result<(), Fail> {
     let code = Code::read(b"ALFA")?;
     assert_eq!(rt; code_again(rt.alloc(), code)?, Ok(code));
+    Ok(())
+}
+
+#[test]
+fn a_reference_reads_back(rt: HostRuntime) -> Result<(), Fail> {
     let reference = Reference::read(b"A-1")?;
     assert_eq!(rt; reference_again(rt.alloc(), reference)?, Ok(reference));
+    Ok(())
+}
+
+#[test]
+fn a_name_reads_back(rt: HostRuntime) -> Result<(), Fail> {
     let name = Name::read(b"Alfa Bank")?;
     assert_eq!(rt; name_again(rt.alloc(), name)?, Ok(name));
+    Ok(())
+}
+
+#[test]
+fn a_key_reads_back(rt: HostRuntime) -> Result<(), Fail> {
     let key = Key::read(b"0000000000000000000000000000000a")?;
     assert!(rt; key_again(rt.alloc(), key)? == Ok(key));
+    Ok(())
+}
+
+#[test]
+fn a_date_reads_back(rt: HostRuntime) -> Result<(), Fail> {
     let date = BusinessDate::read(b"2024-03-04")?;
     assert_eq!(rt; date_again(rt.alloc(), date)?, Ok(date));
     Ok(())
 }
 
 #[test]
-fn values_fill_their_columns(rt: HostRuntime) -> Result<(), Fail> {
+fn a_code_and_a_sum_fill_their_columns(rt: HostRuntime) -> Result<(), Fail> {
     let line = columns(rt.alloc(), Code::read(b"ALFA")?, Units::new(-100))?;
     assert_eq!(rt; line.as_str(), "ALFA                             -1.00");
+    Ok(())
+}
+
+#[test]
+fn an_amount_and_a_date_fill_their_columns(rt: HostRuntime) -> Result<(), Fail> {
     let amount = Amount::new(7);
     let date = BusinessDate::read(b"2024-03-04")?;
     let line = format!(in rt.alloc(); "{amount:>3}|{date:<12}|")?;
@@ -152,13 +192,24 @@ fn values_fill_their_columns(rt: HostRuntime) -> Result<(), Fail> {
 }
 
 #[test]
-fn values_are_compared_and_found(rt: HostRuntime) -> Result<(), Fail> {
+fn codes_are_compared(rt: HostRuntime) -> Result<(), Fail> {
     let code = Code::read(b"ALFA")?;
     assert!(rt; is_same(code, Code::read(b"ALFA")?));
     assert!(rt; !is_same(code, Code::read(b"ALFB")?));
+    Ok(())
+}
+
+#[test]
+fn dates_are_compared(rt: HostRuntime) -> Result<(), Fail> {
     let monday = BusinessDate::read(b"2024-03-04")?;
     assert!(rt; is_earlier(BusinessDate::read(b"2024-02-29")?, monday));
     assert!(rt; !is_earlier(monday, monday));
+    Ok(())
+}
+
+#[test]
+fn an_amount_is_found_by_its_code(rt: HostRuntime) -> Result<(), Fail> {
+    let code = Code::read(b"ALFA")?;
     let mut map = BTreeMap::new(rt.alloc());
     put(&mut map, code, Amount::new(1))?;
     assert_eq!(rt; map.get(&code).copied(), Some(Amount::new(1)));

@@ -97,66 +97,92 @@ impl Ended {
     }
 }
 
+// The whole statement.
+fn whole_statement(alloc: Global) -> Result<Vec<u8>, Fail> {
+    let mut out = Vec::new(alloc);
+    match small_statement(alloc, &mut out)? {
+        Ended::Whole => Ok(out),
+        _ => Err(Fail::from("the statement is not whole")),
+    }
+}
+
+// The whole report.
+fn whole_report(alloc: Global) -> Result<Vec<u8>, Fail> {
+    let mut out = Vec::new(alloc);
+    match small_report(alloc, &mut out)? {
+        Ended::Whole => Ok(out),
+        _ => Err(Fail::from("the report is not whole")),
+    }
+}
+
+// A text ended so, and its writer has this of it.
+fn has_written(out: &Narrow, ended: Ended, wanted: Ended, text: &[u8]) -> Result<(), Fail> {
+    if ended == wanted && out.taken.as_slice() == text {
+        Ok(())
+    } else {
+        Err(Fail::from("it ended otherwise, or another text was written"))
+    }
+}
+
+// A statement for a writer that takes so many bytes at a call, and fails after so many calls, ends so with this text.
+fn statement_for(
+    alloc: Global,
+    width: usize,
+    calls: usize,
+    wanted: Ended,
+    text: &[u8],
+) -> Result<(), Fail> {
+    let mut out = Narrow::new(alloc, width, calls);
+    let ended = small_statement(alloc, &mut out)?;
+    has_written(&out, ended, wanted, text)
+}
+
+// So does a report.
+fn report_for(
+    alloc: Global,
+    width: usize,
+    calls: usize,
+    wanted: Ended,
+    text: &[u8],
+) -> Result<(), Fail> {
+    let mut out = Narrow::new(alloc, width, calls);
+    let ended = small_report(alloc, &mut out)?;
+    has_written(&out, ended, wanted, text)
+}
+
 #[test]
 fn statement_ends_at_the_write_that_fails(rt: HostRuntime) -> Result<(), Fail> {
-    let mut whole = Vec::new(rt.alloc());
-    assert_eq!(rt; small_statement(rt.alloc(), &mut whole)?, Ended::Whole);
+    let whole = whole_statement(rt.alloc())?;
     for calls in 0..whole.len() {
-        let mut out = Narrow::new(rt.alloc(), 1, calls);
-        let ended = small_statement(rt.alloc(), &mut out)?;
-        assert_eq!(rt; ended, Ended::WriterFailed);
-        assert!(rt; out.taken.as_slice() == &whole[..calls]);
+        statement_for(rt.alloc(), 1, calls, Ended::WriterFailed, &whole[..calls])?;
     }
-    let mut out = Narrow::new(rt.alloc(), 1, whole.len());
-    assert_eq!(rt; small_statement(rt.alloc(), &mut out)?, Ended::Whole);
-    assert!(rt; out.taken.as_slice() == whole.as_slice());
-    Ok(())
+    statement_for(rt.alloc(), 1, whole.len(), Ended::Whole, whole.as_slice())
 }
 
 #[test]
 fn statement_is_written_line_by_line(rt: HostRuntime) -> Result<(), Fail> {
-    let mut whole = Vec::new(rt.alloc());
-    assert_eq!(rt; small_statement(rt.alloc(), &mut whole)?, Ended::Whole);
+    let whole = whole_statement(rt.alloc())?;
     let title = "statement ALFA 2024-03-04\n".len();
     // A title, two rows and four sums, which are written at once.
-    let ends = [0, title, title + 78, title + 156, whole.len()];
+    let ends = [0, title, title + 78, title + 156];
     for calls in 0..4 {
-        let mut out = Narrow::new(rt.alloc(), 500, calls);
-        let ended = small_statement(rt.alloc(), &mut out)?;
-        assert_eq!(rt; ended, Ended::WriterFailed);
         let end = whole.len().min(ends[calls]);
-        assert!(rt; out.taken.as_slice() == &whole[..end]);
+        statement_for(rt.alloc(), 500, calls, Ended::WriterFailed, &whole[..end])?;
     }
-    let mut out = Narrow::new(rt.alloc(), 500, 4);
-    assert_eq!(rt; small_statement(rt.alloc(), &mut out)?, Ended::Whole);
-    assert!(rt; out.taken.as_slice() == whole.as_slice());
-    Ok(())
+    statement_for(rt.alloc(), 500, 4, Ended::Whole, whole.as_slice())
 }
 
 #[test]
 fn report_ends_at_the_byte_that_fails(rt: HostRuntime) -> Result<(), Fail> {
-    let mut whole = Vec::new(rt.alloc());
-    assert_eq!(rt; small_report(rt.alloc(), &mut whole)?, Ended::Whole);
+    let whole = whole_report(rt.alloc())?;
     for calls in 0..whole.len() {
-        let mut out = Narrow::new(rt.alloc(), 1, calls);
-        let ended = small_report(rt.alloc(), &mut out)?;
-        assert_eq!(rt; ended, Ended::WriterFailed);
-        assert!(rt; out.taken.as_slice() == &whole[..calls]);
+        report_for(rt.alloc(), 1, calls, Ended::WriterFailed, &whole[..calls])?;
     }
-    let mut out = Narrow::new(rt.alloc(), 1, whole.len());
-    assert_eq!(rt; small_report(rt.alloc(), &mut out)?, Ended::Whole);
-    assert!(rt; out.taken.as_slice() == whole.as_slice());
-    Ok(())
+    report_for(rt.alloc(), 1, whole.len(), Ended::Whole, whole.as_slice())
 }
 
 #[test]
 fn write_that_takes_no_byte_is_a_fault(rt: HostRuntime) -> Result<(), Fail> {
-    let mut out = Narrow::new(rt.alloc(), 0, 9);
-    let ended = small_statement(rt.alloc(), &mut out)?;
-    assert_eq!(rt; ended, Ended::NothingTaken);
-    assert!(rt; out.taken.is_empty());
-    let ended = small_report(rt.alloc(), &mut out)?;
-    assert_eq!(rt; ended, Ended::NothingTaken);
-    assert!(rt; out.taken.is_empty());
-    Ok(())
+    statement_for(rt.alloc(), 0, 9, Ended::NothingTaken, b"")?;
+    report_for(rt.alloc(), 0, 9, Ended::NothingTaken, b"")
 }

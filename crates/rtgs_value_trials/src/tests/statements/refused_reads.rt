@@ -4,6 +4,7 @@ use super::books::book_of;
 use super::shelf::{Shelf, Trouble};
 use rtgs_book::Refusal;
 use rtgs_statements::{BookTextFault, write_report, write_statement};
+use std::alloc::Global;
 use std::test::Fail;
 
 /// Three postings to ALFA, two orders and a mark.
@@ -32,21 +33,82 @@ fn lines_of(bytes: &[u8]) -> usize {
     bytes.iter().filter(|byte| **byte == b'\n').count()
 }
 
+/// What was written of a text, and how it ended.
+#[derive(Drop)]
+struct Tried {
+    out: Vec<u8>,
+    ended: Result<(), BookTextFault>,
+    has_failed: bool,
+}
+
+impl Tried {
+    /// Whether this trouble ended the text, and the shelf has failed where it is a fault of the store.
+    fn is_by(&self, trouble: Trouble) -> bool {
+        is_by(&self.ended, trouble) && self.has_failed == (trouble == Trouble::StoreFault)
+    }
+
+    /// Whether the text ended well.
+    fn is_well(&self) -> bool {
+        self.ended.is_ok()
+    }
+}
+
+// ALFA's statement from this shelf.
+fn statement(alloc: Global, mut shelf: Shelf) -> Result<Tried, Fail> {
+    let (alfa, monday) = (code("ALFA")?, date(MONDAY)?);
+    let mut out = Vec::new(alloc);
+    let ended = write_statement(alloc, &mut out, &mut shelf, &alfa, monday);
+    let has_failed = shelf.has_failed();
+    Ok(Tried {
+        out,
+        ended,
+        has_failed,
+    })
+}
+
+// The report from this shelf.
+fn report(alloc: Global, mut shelf: Shelf) -> Result<Tried, Fail> {
+    let monday = date(MONDAY)?;
+    let mut out = Vec::new(alloc);
+    let ended = write_report(alloc, &mut out, &mut shelf, monday);
+    let has_failed = shelf.has_failed();
+    Ok(Tried {
+        out,
+        ended,
+        has_failed,
+    })
+}
+
+// A shelf whose reads end in this trouble after so many.
+fn failing(alloc: Global, reads: usize, trouble: Trouble) -> Result<Shelf, Fail> {
+    Ok(Shelf::failing(book_of(alloc, RECORDS)?, reads, trouble))
+}
+
+// The whole statement.
+fn whole_statement(alloc: Global) -> Result<Tried, Fail> {
+    statement(alloc, Shelf::new(book_of(alloc, RECORDS)?))
+}
+
+// The whole report.
+fn whole_report(alloc: Global) -> Result<Tried, Fail> {
+    report(alloc, Shelf::new(book_of(alloc, RECORDS)?))
+}
+
+// An error where something is not so.
+fn ensure(holds: bool) -> Result<(), Fail> {
+    if holds {
+        Ok(())
+    } else {
+        Err(Fail::from("it is not so"))
+    }
+}
+
 #[test]
 fn third_posting_that_is_refused_leaves_a_title_and_two_rows(rt: HostRuntime) -> Result<(), Fail> {
-    let mut shelf = Shelf::failing(book_of(rt.alloc(), RECORDS)?, 2, Trouble::StoreFault);
-    let mut out = Vec::new(rt.alloc());
-    let ended = write_statement(
-        rt.alloc(),
-        &mut out,
-        &mut shelf,
-        &code("ALFA")?,
-        date(MONDAY)?,
-    );
-    assert!(rt; is_by(&ended, Trouble::StoreFault));
-    assert!(rt; shelf.has_failed());
+    let tried = statement(rt.alloc(), failing(rt.alloc(), 2, Trouble::StoreFault)?)?;
+    assert!(rt; tried.is_by(Trouble::StoreFault));
     assert_eq!(rt;
-        String::from_utf8(out)?.as_str(),
+        std::str::from_utf8(tried.out.as_slice())?,
         "statement ALFA 2024-03-04
 posting    000000001 P-1              -                        2.50         -
 posting    000000002 P-2              -                       -0.50         -
@@ -59,51 +121,68 @@ posting    000000002 P-2              -                       -0.50         -
 // and of the orders a row for the first, which alone tells of it.
 const LINES_AFTER: [usize; 7] = [1, 2, 3, 4, 4, 5, 5];
 
+// A statement whose read after so many is refused is begun, so many lines of it.
+fn begins(alloc: Global, whole: &[u8], reads: usize, trouble: Trouble) -> Result<(), Fail> {
+    let tried = statement(alloc, failing(alloc, reads, trouble)?)?;
+    let lines = LINES_AFTER.get(reads).copied().unwrap_or(0);
+    ensure(
+        tried.is_by(trouble)
+            && whole.starts_with(tried.out.as_slice())
+            && lines_of(tried.out.as_slice()) == lines,
+    )
+}
+
+// A statement that takes so many reads is whole where they go well.
+fn is_whole_statement(
+    alloc: Global,
+    whole: &[u8],
+    reads: usize,
+    trouble: Trouble,
+) -> Result<(), Fail> {
+    let tried = statement(alloc, failing(alloc, reads, trouble)?)?;
+    ensure(tried.is_well() && tried.out.as_slice() == whole)
+}
+
 #[test]
 fn each_read_of_a_statement_is_refused_in_turn(rt: HostRuntime) -> Result<(), Fail> {
-    let mut whole = Vec::new(rt.alloc());
-    let mut shelf = Shelf::new(book_of(rt.alloc(), RECORDS)?);
-    let alfa = code("ALFA")?;
-    let ended = write_statement(rt.alloc(), &mut whole, &mut shelf, &alfa, date(MONDAY)?);
-    assert!(rt; ended.is_ok());
+    let whole = whole_statement(rt.alloc())?;
+    ensure(whole.is_well())?;
     for trouble in [Trouble::StoreFault, Trouble::OutOfMemory] {
         for reads in 0..7 {
-            let mut shelf = Shelf::failing(book_of(rt.alloc(), RECORDS)?, reads, trouble);
-            let mut out = Vec::new(rt.alloc());
-            let ended = write_statement(rt.alloc(), &mut out, &mut shelf, &alfa, date(MONDAY)?);
-            assert!(rt; is_by(&ended, trouble));
-            assert!(rt; whole.starts_with(&out));
-            assert_eq!(rt; lines_of(&out), LINES_AFTER[reads]);
-            assert_eq!(rt; shelf.has_failed(), trouble == Trouble::StoreFault);
+            begins(rt.alloc(), whole.out.as_slice(), reads, trouble)?;
         }
-        let mut shelf = Shelf::failing(book_of(rt.alloc(), RECORDS)?, 7, trouble);
-        let mut out = Vec::new(rt.alloc());
-        let ended = write_statement(rt.alloc(), &mut out, &mut shelf, &alfa, date(MONDAY)?);
-        assert!(rt; ended.is_ok());
-        assert!(rt; out.as_slice() == whole.as_slice());
+        is_whole_statement(rt.alloc(), whole.out.as_slice(), 7, trouble)?;
     }
     Ok(())
 }
 
+// Of a report whose read after so many is refused nothing is written.
+fn is_no_report(alloc: Global, reads: usize, trouble: Trouble) -> Result<(), Fail> {
+    let tried = report(alloc, failing(alloc, reads, trouble)?)?;
+    ensure(tried.is_by(trouble) && tried.out.is_empty())
+}
+
+// A report that takes so many reads is whole where they go well.
+fn is_whole_report(
+    alloc: Global,
+    whole: &[u8],
+    reads: usize,
+    trouble: Trouble,
+) -> Result<(), Fail> {
+    let tried = report(alloc, failing(alloc, reads, trouble)?)?;
+    ensure(tried.is_well() && tried.out.as_slice() == whole)
+}
+
 #[test]
 fn each_read_of_a_report_is_refused_in_turn(rt: HostRuntime) -> Result<(), Fail> {
-    let mut whole = Vec::new(rt.alloc());
-    let mut shelf = Shelf::new(book_of(rt.alloc(), RECORDS)?);
-    assert!(rt; write_report(rt.alloc(), &mut whole, &mut shelf, date(MONDAY)?).is_ok());
+    let whole = whole_report(rt.alloc())?;
+    ensure(whole.is_well())?;
     for trouble in [Trouble::StoreFault, Trouble::OutOfMemory] {
         // Four reads of postings, three of orders and two of marks.
         for reads in 0..9 {
-            let mut shelf = Shelf::failing(book_of(rt.alloc(), RECORDS)?, reads, trouble);
-            let mut out = Vec::new(rt.alloc());
-            let ended = write_report(rt.alloc(), &mut out, &mut shelf, date(MONDAY)?);
-            assert!(rt; is_by(&ended, trouble));
-            assert!(rt; out.is_empty());
-            assert_eq!(rt; shelf.has_failed(), trouble == Trouble::StoreFault);
+            is_no_report(rt.alloc(), reads, trouble)?;
         }
-        let mut shelf = Shelf::failing(book_of(rt.alloc(), RECORDS)?, 9, trouble);
-        let mut out = Vec::new(rt.alloc());
-        assert!(rt; write_report(rt.alloc(), &mut out, &mut shelf, date(MONDAY)?).is_ok());
-        assert!(rt; out.as_slice() == whole.as_slice());
+        is_whole_report(rt.alloc(), whole.out.as_slice(), 9, trouble)?;
     }
     Ok(())
 }
