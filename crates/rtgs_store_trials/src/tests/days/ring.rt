@@ -19,6 +19,9 @@ const BANKS: u64 = 66;
 /// How many orders wait in all queues.
 const ORDERS: u64 = 33_000;
 
+/// How many orders are kept in one commit, so that a slow disk is not waited for at each.
+const AT_ONCE: u64 = 500;
+
 /// The code of a bank.
 fn bank(alloc: Global, number: u64) -> Result<Code, Fail> {
     let text = format!(in alloc; "BANK{number}")?;
@@ -64,11 +67,21 @@ fn order(alloc: Global, number: u64) -> Result<Order, Fail> {
     })
 }
 
+/// The rows of the orders after this number, as many as are kept at once.
+fn orders_after(alloc: Global, number: u64) -> Result<Vec<RowChange>, Fail> {
+    let mut rows = Vec::new(alloc);
+    for at in 1..=AT_ONCE {
+        let row = [RowChange::AddOrder(order(alloc, number.saturating_add(at))?)];
+        rows.extend_from_slice(&row)?;
+    }
+    Ok(rows)
+}
+
 /// Queues all orders.
 fn queue_orders<K: Keeper>(alloc: Global, keeper: &mut K) -> Result<(), Fail> {
-    for number in 1..=ORDERS {
-        let order = order(alloc, number)?;
-        keep(alloc, keeper, RowChange::AddOrder(order))?;
+    for turn in 0..(ORDERS / AT_ONCE) {
+        let rows = orders_after(alloc, turn.saturating_mul(AT_ONCE))?;
+        keeper.commit(&change(alloc, rows.as_slice())?)?;
     }
     Ok(())
 }
