@@ -15,8 +15,8 @@ use rtgs_keeper::Keeper;
 use rtgs_money::{Code, Reference};
 
 impl<K: Keeper> Desk<K> {
-    // What the command asks for: of an order and of a withdrawal the order of its name, of a posting that of its
-    // reference.
+    /// What the command asks for: of an order and of a withdrawal the order of its name, of a posting that of its
+    /// reference.
     pub(super) fn look_up(&mut self, command: &Command) -> Result<Found, Refusal>
         ensures looked { LooksUp K.Keeper self.old self.new (refused_by result) }
         ensures found { K.is_honest self.new.keeper → (book : Book) → Holds K.Keeper self.old book
@@ -42,7 +42,7 @@ impl<K: Keeper> Desk<K> {
         Ok(found)
     }
 
-    // The order that the sender gave this reference, where the book has one.
+    /// The order that the sender gave this reference, where the book has one.
     pub(super) fn find_order(
         &mut self,
         sender: &Code,
@@ -77,7 +77,7 @@ impl<K: Keeper> Desk<K> {
     }
 }
 
-// What is answered where the keeper meets this fault in a look-up. After a fault of the store the desk has failed.
+/// What is answered where the keeper meets this fault in a look-up. After a fault of the store the desk has failed.
 pub(super) fn refused(fault: Fault, failed: &mut bool) -> Refusal
     ensures refusal { result ≡ refusal_of fault }
     ensures memory { fault ≡ Fault.OutOfMemory → failed.new ≡ failed.old }

@@ -23,5 +23,5 @@ fn met(alloc: Global) -> Result<Met, Fail> {
 
 #[test]
 fn lengths_at_limits(rt: HostRuntime) -> Result<(), Fail> {
-    met(rt.alloc())?.has(rt.alloc(), "60 63 64 65 read")
+    met(rt.alloc())?.is(rt.alloc(), "read 10, 40 4, 60 330, 63 18, 64 56, 65 30")
 }

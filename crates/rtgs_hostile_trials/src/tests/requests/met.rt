@@ -1,6 +1,6 @@
 //! How often each answer was met.
 use super::replies::{DONE, READ};
-use std::alloc::Global;
+use std::alloc::{AllocError, Global};
 use std::test::Fail;
 
 /// How often each answer was met, by what is told.
@@ -20,16 +20,30 @@ impl Met {
         self.counts[at] = self.counts[at].saturating_add(1);
     }
 
-    /// Each word of this text was met: a number, `read` or `done`.
-    pub fn has(&self, alloc: Global, all: &str) -> Result<(), Fail> {
-        for word in all.split(' ') {
+    /// These counts and no other: "word count, word count", where a word is a number, `read` or `done`.
+    pub fn is(&self, alloc: Global, all: &str) -> Result<(), Fail> {
+        let mut rest = self.counts;
+        for part in all.split(", ") {
+            let (word, count) = part.split_once(' ').ok_or("no count")?;
             let told = told_as(word)?;
-            if self.counts[told as usize] == 0 {
-                let said = format!(in alloc; "{word} was not met: {:?}", self.counts)?;
-                return Err(Fail::from(said));
+            let at = told as usize;
+            let count = count.parse::<usize>()?;
+            if rest[at] == count && count > 0 {
+                rest[at] = 0;
+            } else {
+                return Err(Fail::from(self.text(alloc, part)?));
             }
         }
-        Ok(())
+        if rest == [0; 256] {
+            Ok(())
+        } else {
+            Err(Fail::from(self.text(alloc, "others")?))
+        }
+    }
+
+    // What is said where the counts are others.
+    fn text(&self, alloc: Global, part: &str) -> Result<String, AllocError> {
+        format!(in alloc; "not {part}: {:?}", self.counts)
     }
 }
 
