@@ -1,5 +1,6 @@
 -- What is said of the desk that was opened, lent to a call and then left, is said of that of the finished book.
 use Rattle.std.proofs.Common.{◌≡◌, ◌⊎◌, ◌∙◌, [], ◌∷◌, ℕ, Bool, List, Option, Result, Ok, Err, sym, subst}
+use Rattle.std.specs.Bool.{⊤}
 use Rattle.std.specs.Result.{IfOk, IfErr, OnErr}
 use Rattle.rtgs_book.specs.Outcome.{Reply}
 use Rattle.rtgs_book.specs.declared.Book.{Book}
@@ -10,11 +11,14 @@ use Rattle.rtgs_desk.specs.Holding.{Holds, Acts}
 use Rattle.rtgs_desk.specs.Readings.{Tells}
 use Rattle.rtgs_desk.specs.Seen.{Seen}
 use Rattle.rtgs_desk_texts.specs.Readings.{Fails, text_wanted}
+use Rattle.rtgs_desk_texts.specs.Written.{Writes, statement_wanted}
+use Rattle.rtgs_statements.specs.declared.book_text_fault.BookTextFault.{BookTextFault}
 use Rattle.rtgs_exchange.specs.declared.batch_result.RowReply.{RowReply}
 use Rattle.rtgs_exchange.specs.declared.order_row.OrderRow.{OrderRow}
 use Rattle.rtgs_http_banks.specs.Dealings.{Stands}
 use Rattle.rtgs_book_file.specs.OverFile.{OverFile}
-use Rattle.rtgs_desk_cli.specs.Did.{IsDone, IsIdle, IsRead, IsSent, IsServed, IsSubmitted, SentOver, ServedOver}
+use Rattle.rtgs_desk_cli.specs.Did.{IsDone, IsIdle, IsRead, IsSent, IsServed, IsSubmitted, IsWritten, SentOver}
+use Rattle.rtgs_desk_cli.specs.Did.{ServedOver}
 
 module _ {K U C : Type 0} (file : OverFile K U C) {opened lent left finished : Seen K} (lends : lent ≡ opened)
     (same : finished ≡ left) (over : file.keeper.is_honest opened.keeper → file.was_opened opened)
@@ -43,6 +47,14 @@ module _ {K U C : Type 0} (file : OverFile K U C) {opened lent left finished : S
       → IsRead file text_of reading read finished
   was_read text_of reading read stands told = subst (IsRead file text_of reading read) (sym same)
       (is_done _ (λ was_honest book held. (stands was_honest book held, told was_honest book held)))
+
+  pub was_written : (code : List ℕ) (date : ℕ) (written : Result ⊤ BookTextFault) (before after : Option (List ℕ))
+      → Promises (λ book. Stands file.keeper book left)
+      → Promises (λ book. Writes before (statement_wanted book code date) written after)
+      → IsWritten file code date written before after finished
+  was_written code date written before after stands writes =
+      subst (IsWritten file code date written before after) (sym same)
+      (is_done _ (λ was_honest book held. (stands was_honest book held, writes was_honest book held)))
 
   module _ {V W : Type 0} where
     pub was_sent : (sent : Result V W) (sender : List ℕ) (rows_of : V → List OrderRow) (replies_of : V → List RowReply)

@@ -56,6 +56,23 @@ refused_as (Err other) why S P told it =
     let same : other ≡ why = cc in
     subst P (sym same) it
 
+-- what is so of each outcome that is no refusal, and of each refusal
+pub if_done : {T E : Type 0} (result : Result T E) (P : T → Type 0) → ((done : T) → result ≡ Ok done → P done)
+    → IfOk result P
+if_done (Ok done) P so = so done refl
+if_done (Err why) P so = tt
+
+pub if_refused : {T E : Type 0} (result : Result T E) (P : E → Type 0) → ((why : E) → result ≡ Err why → P why)
+    → IfErr result P
+if_refused (Ok done) P so = tt
+if_refused (Err why) P so = so why refl
+
+-- what is so of a refusal, and what is so wherever there is one, are so together
+pub refused_and : {T E : Type 0} (result : Result T E) (P : E → Type 0) (S : Type 0) → IfErr result P → OnErr result S
+    → IfErr result (λ why. P why × S)
+refused_and (Ok done) P S one two = tt
+refused_and (Err why) P S one two = (one, two)
+
 -- each of two cases leads to one of two others
 pub either_way : {P Q R S : Type 0} → (P → R) → (Q → S) → P ⊎ Q → R ⊎ S
 either_way first second (inl p) = inl (first p)

@@ -6,7 +6,7 @@ use Rattle.rtgs_desk_lines.specs.declared.failure.Failure.{Failure}
 use Rattle.rtgs_desk_lines.specs.declared.printed.Printed.{Printed}
 use Rattle.rtgs_book_file.specs.OverFile.{OverFile}
 use Rattle.rtgs_desk_cli.specs.declared.touched.Touched.{Touched}
-use Rattle.rtgs_desk_cli.specs.Runs.{file_of, IsOf, IsRefused, PrintsFor}
+use Rattle.rtgs_desk_cli.specs.Runs.{file_of, Denies, IsOf, IsRefused, PrintsFor}
 
 module _ {A K U C : Type 0} (file : OverFile K U C) (touched : Touched A U C) {asked other : Request}
     (same : asked ≡ other) where
@@ -17,9 +17,16 @@ module _ {A K U C : Type 0} (file : OverFile K U C) (touched : Touched A U C) {a
       subst (λ request. IfOk result (λ printed. PrintsFor file request touched printed old new))
       (sym same)
 
-  pub refused_for : (result : Result Printed Failure) → IfErr result (λ why. IsRefused file other touched why)
-      → IfErr result (λ why. IsRefused file asked touched why)
-  refused_for result = subst (λ request. IfErr result (λ why. IsRefused file request touched why)) (sym same)
+  pub denied_for : {O : Type 0} (contents : O → Option (List ℕ)) (result : Result Printed Failure) (out out' : O)
+      → IfErr result (λ why. Denies file contents other touched why out out')
+      → IfErr result (λ why. Denies file contents asked touched why out out')
+  denied_for contents result out out' =
+      subst (λ request. IfErr result (λ why. Denies file contents request touched why out out')) (sym same)
+
+  pub touched_as : {O : Type 0} (contents : O → Option (List ℕ)) (result : Result Printed Failure) (out out' : O)
+      → IfErr result (λ why. Denies file contents other touched why out out')
+      → IsOf file (file_of other) touched → IsOf file (file_of asked) touched
+  touched_as contents result out out' denied = subst (λ request. IsOf file (file_of request) touched) (sym same)
 
   pub touched_for : (result : Result Printed Failure) → IfErr result (λ why. IsRefused file other touched why)
       → IsOf file (file_of other) touched → IsOf file (file_of asked) touched

@@ -5,3 +5,4 @@ pub mod ForRequest
 pub mod OrdersRead
 pub mod PrintedAfter
 pub mod ServerPrints
+pub mod Stated

@@ -1,5 +1,5 @@
 -- What a run did with the file of a book.
-use Rattle.std.specs.Prelude.{◌⊎◌, [], ◌∷◌, ℕ, List, length, take, Option, Result}
+use Rattle.std.specs.Prelude.{◌⊎◌, [], ◌∷◌, ℕ, ⊤, List, length, take, Option, Result}
 use Rattle.rtgs_book.specs.declared.book.Book.{Book}
 use Rattle.rtgs_book.specs.declared.command.Command.{Command}
 use Rattle.rtgs_book.specs.declared.reading.Reading.{Reading}
@@ -9,6 +9,7 @@ use Rattle.rtgs_desk.specs.Holding.{Holds, Acts}
 use Rattle.rtgs_desk.specs.Readings.{Tells}
 use Rattle.rtgs_desk.specs.Seen.{Seen}
 use Rattle.rtgs_desk_texts.specs.Readings.{Fails, text_wanted}
+use Rattle.rtgs_desk_texts.specs.Written.{Writes, statement_wanted}
 use Rattle.rtgs_http_banks.specs.Dealings.{Makes, Stands}
 use Rattle.rtgs_http_server.specs.Requests.{AreAsked}
 use Rattle.rtgs_book_file.specs.OverFile.{OverFile}
@@ -16,6 +17,7 @@ use Rattle.rtgs_exchange.specs.Batches.{orders_of, replies_of, with_stop}
 use Rattle.rtgs_exchange.specs.Sent.{Sent}
 use Rattle.rtgs_exchange.specs.declared.batch_result.RowReply.{RowReply}
 use Rattle.rtgs_exchange.specs.declared.order_row.OrderRow.{OrderRow}
+use Rattle.rtgs_statements.specs.declared.book_text_fault.BookTextFault.{BookTextFault}
 
 -- what rows that were submitted make of a book that the desk over the file held, and what a stop then leaves
 abbrev pub SentOver : {K U C : Type 0} → OverFile K U C → Book → List ℕ → List OrderRow → List RowReply → Option Refusal
@@ -58,6 +60,12 @@ module _ {K U C : Type 0} (file : OverFile K U C) where
   abbrev pub IsRead : {V : Type 0} → (V → List ℕ) → Reading → Result V Refusal → Seen K → Type 0
   IsRead text_of reading read left = IsDone left (λ book. Stands file.keeper book left
       × (Tells text_of (text_wanted book reading) read ⊎ Fails file.keeper book reading left read))
+
+  -- The statement that is wanted of the book was written, or a beginning of it before memory was wanting, or the store
+  -- or the writer failed; or what refuses it came, and nothing was written. Nothing was done to the book.
+  abbrev pub IsWritten : List ℕ → ℕ → Result ⊤ BookTextFault → Option (List ℕ) → Option (List ℕ) → Seen K → Type 0
+  IsWritten code date written old new left = IsDone left (λ book. Stands file.keeper book left
+      × Writes old (statement_wanted book code date) written new)
 
   -- Requests were served under the operator's digest: the commands that they asked for, and no others, are one session,
   -- and a stop leaves a book that it may find.

@@ -1,6 +1,6 @@
 -- What a run has to print for its request, why it is refused, and what it leaves on its two writers.
-use Rattle.std.specs.Prelude.{◌≡◌, ◌≢◌, ◌⊎◌, ◌++◌, ◌∷◌, [], ℕ, Bool, true, false, List, Option, None, Ok, Err}
-use Rattle.std.specs.Prelude.{length, Some, Result, if◌then◌else◌}
+use Rattle.std.specs.Prelude.{◌≡◌, ◌≢◌, ◌⊎◌, ◌++◌, ◌∷◌, [], ℕ, ⊤, Bool, true, false, List, Option, None, Ok, Err}
+use Rattle.std.specs.Prelude.{length, Some, Result, IfErr, if◌then◌else◌}
 use Rattle.std.specs.Io.KnownBytes.{Appends}
 use Rattle.std.specs.IoError.{error_kind}
 use Rattle.clap.specs.Words.{kind_of}
@@ -10,13 +10,18 @@ use Rattle.clap.specs.declared.error.kind.ErrorKind.TheVariants as kind
 use Rattle.rtgs_money.specs.declared.lexical.Lexical.{Lexical}
 use Rattle.rtgs_book.specs.declared.answer.Answer.{Answer}
 use Rattle.rtgs_book.specs.declared.refusal.Refusal.{Refusal}
-use Rattle.rtgs_book.specs.declared.refusal.Refusal.TheVariants.{OutOfMemory, Failed}
+use Rattle.rtgs_book.specs.declared.reading.Reading.{Reading}
+use Rattle.rtgs_book.specs.declared.reading.Reading.TheVariants as reading
+use Rattle.rtgs_book.specs.declared.refusal.Refusal.TheVariants.{OutOfMemory, Failed, UnknownParticipant}
 use Rattle.rtgs_desk.specs.Replies.{answers_its_kind}
 use Rattle.rtgs_desk.specs.Seen.{Seen}
 use Rattle.rtgs_exchange.specs.Batches.{StopsAfter}
 use Rattle.rtgs_exchange.specs.Results.{results_text}
 use Rattle.rtgs_exchange.specs.declared.batch_result.RowReply.{RowReply}
 use Rattle.rtgs_exchange.specs.declared.order_row.OrderRow.{OrderRow}
+use Rattle.rtgs_statements.specs.Reads.{LeavesWholeLines}
+use Rattle.rtgs_statements.specs.declared.book_text_fault.BookTextFault.{BookTextFault}
+use Rattle.rtgs_statements.specs.declared.book_text_fault.BookTextFault.TheVariants as text
 use Rattle.rtgs_desk_requests.specs.Requests.{Reads}
 use Rattle.rtgs_desk_requests.specs.declared.words.Words.{Words}
 use Rattle.rtgs_desk_requests.specs.declared.request.Request.{Request}
@@ -38,7 +43,8 @@ use Rattle.rtgs_desk_cli.specs.declared.met.Met.TheVariants as met
 use Rattle.rtgs_desk_cli.specs.declared.touched.Touched.{Touched}
 use Rattle.rtgs_desk_cli.specs.declared.touched.Touched.TheVariants as traces
 use Rattle.rtgs_desk_cli.specs.Causes.{failure_of_file, failure_of_listening, AreRowsOf, RefusesRows}
-use Rattle.rtgs_desk_cli.specs.Did.{IsSubmitted, IsSent, IsRead, IsServed, IsIdle}
+use Rattle.rtgs_desk_cli.specs.Did.{IsSubmitted, IsSent, IsRead, IsServed, IsIdle, IsWritten}
+use Rattle.rtgs_desk_cli.specs.Outcomes.{outcome_of_text}
 
 -- a line with its end
 abbrev pub ended_line : List ℕ → List ℕ
@@ -192,17 +198,44 @@ module _ {A K U C : Type 0} (book_file : OverFile K U C) where
       IsNotOpened touched why ⊎ (IsNotListening (met_of touched) why × (left : Seen K)
       × IsClosed left (met_of touched) touched × IsIdle book_file left)
 
+  -- A participant's statement was printed row by row, and the desk was left so.
+  pub record IsStated (touched : Touched A U C) (code : List ℕ) (date : ℕ) (written : Result ⊤ BookTextFault)
+      (old new : Option (List ℕ)) : Type 0 where
+    pub left : Seen K
+    pub closed : IsClosed left met.Nothing touched
+    pub stated : IsWritten book_file code date written old new left
+    -- an unknown code is refused before a byte was printed
+    pub unknown : written ≡ Err (text.Refused UnknownParticipant) → new ≡ old
+    -- what is no fault of the writer leaves whole lines
+    pub lines : IfErr written (λ fault. LeavesWholeLines fault old new)
+
+  -- a run with this reading printed a statement row by row, and came to this
+  abbrev pub States : Reading → Touched A U C → Result Printed Failure → Option (List ℕ) → Option (List ℕ) → Type 0
+  States asked touched outcome old new =
+      (code : List ℕ) × (date : ℕ) × (written : Result ⊤ BookTextFault) × (asked ≡ reading.Statement code date)
+      × (outcome ≡ outcome_of_text written) × IsStated touched code date written old new
+
+  -- Why a run with this request is refused, and what it leaves on standard output: nothing, or the beginning of a
+  -- statement that was refused after some of its rows.
+  abbrev pub Denies : {O : Type 0} → (O → Option (List ℕ)) → Request → Touched A U C → Failure → O → O → Type 0
+  Denies contents (Read file reading) touched why out out' =
+      (IsRefused (Read file reading) touched why × (out' ≡ out))
+      ⊎ States reading touched (Err why) (contents out) (contents out')
+  Denies contents request touched why out out' = IsRefused request touched why × (out' ≡ out)
+
   -- the run printed what it had to, as far as standard output took it
   abbrev pub PrintsText : Request → Touched A U C → Printed → Option (List ℕ) → Option (List ℕ) → Type 0
   PrintsText request touched printed old new =
       (text : List ℕ) × (stopped : Option Refusal) × HasToPrint request touched text stopped
       × Prints text stopped printed old new
 
-  -- the same, and a server took its connections as it said
+  -- The same, where a statement can be printed row by row; and a server took its connections as it said.
   abbrev pub PrintsFor : Request → Touched A U C → Printed → Option (List ℕ) → Option (List ℕ) → Type 0
   PrintsFor (Serve file port count operator) touched printed old new =
       PrintsText (Serve file port count operator) touched printed old new
       × TakesAt port count (met_of touched) printed old new
+  PrintsFor (Read file reading) touched printed old new =
+      PrintsText (Read file reading) touched printed old new ⊎ States reading touched (Ok printed) old new
   PrintsFor request touched printed old new = PrintsText request touched printed old new
 
   -- the words spell a request for which this was printed, and whose file was touched
@@ -212,21 +245,22 @@ module _ {A K U C : Type 0} (book_file : OverFile K U C) where
       × IsOf (file_of request) touched
 
   -- a word is not of its form, or the request that the words spell is refused, and its file was touched
-  abbrev pub IsDenied : Words → Touched A U C → Failure → Type 0
-  IsDenied words touched why =
-      ((form : Lexical) × Reads words (Err form) × (why ≡ Form form) × IsUntouched touched)
-      ⊎ ((request : Request) × Reads words (Ok request) × IsRefused request touched why
+  abbrev pub IsDenied : {O : Type 0} → (O → Option (List ℕ)) → Words → Touched A U C → Failure → O → O → Type 0
+  IsDenied contents words touched why out out' =
+      ((form : Lexical) × Reads words (Err form) × (why ≡ Form form) × IsUntouched touched × (out' ≡ out))
+      ⊎ ((request : Request) × Reads words (Ok request) × Denies contents request touched why out out'
       × IsOf (file_of request) touched)
 
   -- What a run that was given these words did, by how it ended, and leaves on its writers: what was printed for the
-  -- request that they spell stands on the first alone, and why it was refused on the second alone.
+  -- request that they spell stands on the first alone, and why it was refused on the second alone. Rows of a statement
+  -- that was refused behind them stay on the first.
   abbrev pub EndsFor : {O E : Type 0} → Words → (O → Option (List ℕ)) → (E → Option (List ℕ)) → Ended
       → Touched A U C → O → O → E → E → Type 0
   EndsFor words contents told (ended.Printed printed) touched out out' err err' =
       IsObeyed words touched printed (contents out) (contents out') × (err' ≡ err)
   EndsFor words contents told (ended.Refused failure sent) touched out out' err err' =
-      IsTold sent (told err) (told err') (ended_line (refusal_line failure)) × (out' ≡ out)
-      × IsDenied words touched failure
+      IsTold sent (told err) (told err') (ended_line (refusal_line failure))
+      × IsDenied contents words touched failure out out'
   EndsFor words contents told (ended.Helped sent) touched out out' err err' = ⊥
   EndsFor words contents told (ended.Misused sent) touched out out' err err' = ⊥
 

@@ -6,7 +6,7 @@ ghost use Rattle.rtgs_desk.specs.Replies.{answers_its_kind};
 ghost use Rattle.rtgs_desk_lines.specs.Lines.{line_of};
 ghost use Rattle.rtgs_desk_lines.specs.Texts.{Prints};
 ghost use Rattle.rtgs_desk_cli.specs.Did.{IsSubmitted};
-ghost use Rattle.rtgs_desk_cli.specs.Runs.{ended_line, file_of, IsOf, IsRefused, PrintsFor};
+ghost use Rattle.rtgs_desk_cli.specs.Runs.{ended_line, file_of, Denies, IsOf, IsRefused, PrintsFor};
 
 use crate::files::{Acted, Finished, close_book, make, open, refused_file};
 use crate::met::Met;
@@ -19,7 +19,8 @@ use rtgs_desk_requests::Request;
 use rtgs_keeper::Keeper;
 use std::io::Write;
 
-/// Does what was asked for, and prints what came of it. Where it is refused, nothing is printed.
+/// Does what was asked for, and prints what came of it. Where it is refused, nothing is printed but the rows of a
+/// statement before the one that was not read.
 pub fn act<S: Start, O: Write>(
     rt: &HostRuntime,
     request: &Request<'_>,
@@ -29,9 +30,8 @@ pub fn act<S: Start, O: Write>(
     ensures printed { IfOk result.0 (λ printed. PrintsFor
         (file_from ⟦<FileKeeper<S> as Keeper>⟧ S.Start (λ keeper. keeper.conn)) request.now result.1 printed
         (O.contents out.old) (O.contents out.new)) }
-    ensures refused { IfErr result.0 (IsRefused (file_from ⟦<FileKeeper<S> as Keeper>⟧ S.Start
-        (λ keeper. keeper.conn)) request.now result.1) }
-    ensures unchanged { OnErr result.0 (out.new ≡ out.old) }
+    ensures refused { IfErr result.0 (λ why. Denies (file_from ⟦<FileKeeper<S> as Keeper>⟧ S.Start
+        (λ keeper. keeper.conn)) O.contents request.now result.1 why out.old out.new) }
     ensures at { IsOf (file_from ⟦<FileKeeper<S> as Keeper>⟧ S.Start (λ keeper. keeper.conn)) (file_of request.now)
         result.1 }
 {

@@ -9,6 +9,7 @@ mod no_port;
 mod order_file;
 mod run;
 mod serving;
+mod statements;
 mod texts;
 mod touched;
 

@@ -1,5 +1,5 @@
 //! One run of the program.
-ghost use Rattle.std.specs.Prelude.{◌≡◌, ⊤, Result, IfOk, IfErr, OnErr};
+ghost use Rattle.std.specs.Prelude.{◌≡◌, ⊤, Result, IfOk, IfErr};
 ghost use Rattle.rtgs_book_file.specs.OverFile.{file_from};
 ghost use Rattle.clap.specs.Words.{kind_of};
 ghost use Rattle.rtgs_output.specs.declared.WriterFailed.{WriterFailed};
@@ -49,9 +49,8 @@ fn obey<S: Start, O: Write>(rt: &HostRuntime, words: &Words<'_>, start: S, out: 
     ensures printed { IfOk result.0 (λ printed. IsObeyed
         (file_from ⟦<FileKeeper<S> as Keeper>⟧ S.Start (λ keeper. keeper.conn)) words.now result.1 printed
         (O.contents out.old) (O.contents out.new)) }
-    ensures refused { IfErr result.0 (IsDenied (file_from ⟦<FileKeeper<S> as Keeper>⟧ S.Start
-        (λ keeper. keeper.conn)) words.now result.1) }
-    ensures unchanged { OnErr result.0 (out.new ≡ out.old) }
+    ensures refused { IfErr result.0 (λ why. IsDenied (file_from ⟦<FileKeeper<S> as Keeper>⟧ S.Start
+        (λ keeper. keeper.conn)) O.contents words.now result.1 why out.old out.new) }
 {
     match Request::read(words) {
         Ok(request) => act(rt, &request, start, out),
@@ -87,8 +86,9 @@ fn end<S: Start, O: Write, E: Write>(
 }
 
 /// One run of the program with the words after its name, over a book's file that held what `S` says. What was done and
-/// help are printed on `out`, refusals and faults of the command line on `err`, each line with its end. The result says
-/// what became of that, and has the exit status; and beside it stands what the run touched of the file.
+/// help are printed on `out`, refusals and faults of the command line on `err`, each line with its end. A statement is
+/// printed row by row, so that rows of it can stand on `out` where it is then refused. The result says what became of
+/// that, and has the exit status; and beside it stands what the run touched of the file.
 pub fn run_words<S: Start, O: Write, E: Write>(
     rt: &HostRuntime,
     words: &[&str],

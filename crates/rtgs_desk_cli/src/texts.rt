@@ -10,12 +10,13 @@ ghost use Rattle.rtgs_book.specs.declared.Refusal.{Refusal as RefusalSpec};
 ghost use Rattle.rtgs_desk_lines.specs.Texts.{Prints};
 ghost use Rattle.rtgs_desk_cli.specs.Causes.{AreRowsOf, RefusesRows};
 ghost use Rattle.rtgs_desk_cli.specs.Did.{IsIdle, IsSent, IsRead, SentOver};
-ghost use Rattle.rtgs_desk_cli.specs.Runs.{AreReadFrom, IsNotSent, IsOf, IsRefused, PrintsFor};
+ghost use Rattle.rtgs_desk_cli.specs.Runs.{AreReadFrom, Denies, IsNotSent, IsOf, IsRefused, PrintsFor, PrintsText};
 
 use crate::batches::{print_results, submit_orders};
 use crate::files::{Acted, Finished, close_book, open, refused_file};
 use crate::met::Met;
 use crate::order_file::OrderFile;
+use crate::statements::show_statement;
 use crate::touched::Touched;
 use rtgs_book::{Reading, Refusal};
 use rtgs_book_file::{FileKeeper, Start};
@@ -63,7 +64,8 @@ pub fn import<S: Start, O: Write>(
     }
 }
 
-/// Prints what the desk over a file tells of a reading.
+/// Prints what the desk over a file tells of a reading: a statement row by row, as its records are read, and else the
+/// whole text, once the file is closed.
 pub fn show<S: Start, O: Write>(
     rt: &HostRuntime,
     file: &str,
@@ -72,6 +74,28 @@ pub fn show<S: Start, O: Write>(
     out: &mut O,
 ) -> Acted<S>
     ensures printed { IfOk result.0 (λ printed. PrintsFor
+        (file_from ⟦<FileKeeper<S> as Keeper>⟧ S.Start (λ keeper. keeper.conn))
+        (Request.Read file.entry reading) result.1 printed (O.contents out.old)
+        (O.contents out.new)) }
+    ensures refused { IfErr result.0 (λ why. Denies (file_from ⟦<FileKeeper<S> as Keeper>⟧ S.Start
+        (λ keeper. keeper.conn)) O.contents (Request.Read file.entry reading) result.1 why out.old out.new) }
+    ensures at { IsOf (file_from ⟦<FileKeeper<S> as Keeper>⟧ S.Start (λ keeper. keeper.conn)) file.now result.1 }
+{
+    match reading {
+        Reading::Statement { code, date } => show_statement(rt, file, code, date, start, out),
+        _ => show_text(rt, file, reading, start, out),
+    }
+}
+
+// Prints the text of a reading, gathered in memory, once the file is closed.
+fn show_text<S: Start, O: Write>(
+    rt: &HostRuntime,
+    file: &str,
+    reading: Reading,
+    start: S,
+    out: &mut O,
+) -> Acted<S>
+    ensures printed { IfOk result.0 (λ printed. PrintsText
         (file_from ⟦<FileKeeper<S> as Keeper>⟧ S.Start (λ keeper. keeper.conn))
         (Request.Read file.entry reading) result.1 printed (O.contents out.old)
         (O.contents out.new)) }

@@ -81,10 +81,25 @@ fn is_refused_unheard(rt: &HostRuntime) -> Result<(), Fail> {
     Err(Fail::from("another status, or more was heard"))
 }
 
+/// A statement is printed, and its run fails, where standard output takes its first line and four bytes.
+fn states_unheard(rt: &HostRuntime) -> Result<(), Fail> {
+    let words = ["statement", "unheard", "ALFA", "2024-03-04"];
+    let mut room = [0u8; 30];
+    let mut out = room.as_mut_slice();
+    let mut err = Vec::new(rt.alloc());
+    let (ended, _) = run_words(rt, &words, Unknown, &mut out, &mut err);
+    let is_lost = matches!(ended, Ended::Printed(Printed::Lost(_))) && ended.exit_status() == 3;
+    if is_lost && err.is_empty() && room.as_slice() == b"statement ALFA 2024-03-04\nsum-".as_slice() {
+        return Ok(());
+    }
+    Err(Fail::from("another end, or others were heard"))
+}
+
 #[test]
 fn a_run_ends_alike_where_nobody_hears_it(rt: HostRuntime) -> Result<(), Fail> {
     follows(&rt, "unheard", BEGIN)?;
     posts_unheard(&rt)?;
     is_refused_unheard(&rt)?;
+    states_unheard(&rt)?;
     follows(&rt, "unheard", "\n$ desk post F ALFA P-1 1\n> repeated\n")
 }

@@ -1,0 +1,46 @@
+-- What is said of a book of which a statement was written, once it was closed.
+use Rattle.std.proofs.Common.{◌≡◌, ◌∙◌, ℕ, List, Option, Result, Ok, Err, refl, sym, ap}
+use Rattle.std.specs.Bool.{⊤}
+use Rattle.std.specs.Result.{IfOk, IfErr}
+use Rattle.rtgs_book.specs.declared.reading.Reading.TheVariants as reading
+use Rattle.rtgs_book.specs.declared.refusal.Refusal.TheVariants.{UnknownParticipant}
+use Rattle.rtgs_desk.specs.Seen.{Seen}
+use Rattle.rtgs_statements.specs.Reads.{LeavesWholeLines}
+use Rattle.rtgs_statements.specs.declared.book_text_fault.BookTextFault.{BookTextFault}
+use Rattle.rtgs_statements.specs.declared.book_text_fault.BookTextFault.TheVariants as text
+use Rattle.rtgs_desk_lines.specs.declared.failure.Failure.{Failure}
+use Rattle.rtgs_desk_lines.specs.declared.printed.Printed.{Printed}
+use Rattle.rtgs_book_file.specs.OverFile.{OverFile}
+use Rattle.rtgs_desk_cli.proofs.Finished.{when_done}
+use Rattle.rtgs_desk_cli.specs.Did.{IsWritten}
+use Rattle.rtgs_desk_cli.specs.Outcomes.{outcome_of_text}
+use Rattle.rtgs_desk_cli.specs.Runs.{IsStated, States}
+use Rattle.rtgs_desk_cli.specs.declared.met.Met.TheVariants as met
+use Rattle.rtgs_desk_cli.specs.declared.touched.Touched.TheVariants as traces
+
+module _ {K B U C E O : Type 0} (A : Type 0) (file : OverFile K U C) (desk_of : B → Seen K)
+    (contents : O → Option (List ℕ)) (code : List ℕ) (date : ℕ) (finished : Result (B × Result ⊤ BookTextFault) E)
+    (old new : O) where
+  module _ (stated : IfOk finished (λ p. IsWritten file code date p.1 (contents old) (contents new) (desk_of p.0)))
+      (unknown : IfOk finished (λ p. p.1 ≡ Err (text.Refused UnknownParticipant) → new ≡ old))
+      (lines : IfOk finished (λ p. IfErr p.1 (λ fault. LeavesWholeLines fault (contents old) (contents new))))
+      (book : B) (written : Result ⊤ BookTextFault) (is : finished ≡ Ok (book, written)) (closed : C)
+      (shut : file.was_closed (desk_of book) closed) where
+    stated_with : IsStated {A = A} file (traces.Book closed met.Nothing) code date written (contents old)
+        (contents new)
+    stated_with = record {
+      left = desk_of book;
+      closed = (closed, refl, shut);
+      stated = when_done finished (λ p. IsWritten file code date p.1 (contents old) (contents new) (desk_of p.0))
+          stated book written is;
+      unknown = λ refused. ap contents (when_done finished
+          (λ p. p.1 ≡ Err (text.Refused UnknownParticipant) → new ≡ old) unknown book written is refused);
+      lines = when_done finished
+          (λ p. IfErr p.1 (λ fault. LeavesWholeLines fault (contents old) (contents new))) lines book written is;
+    }
+
+    -- it came to what the text that was written so comes to
+    pub states : (result outcome : Result Printed Failure) → result ≡ outcome_of_text written → result ≡ outcome
+        → States {A = A} file (reading.Statement code date) (traces.Book closed met.Nothing) outcome (contents old)
+        (contents new)
+    states result outcome told same = (code, date, written, refl, sym same ∙ told, stated_with)
