@@ -89,7 +89,10 @@ fn states_unheard(rt: &HostRuntime) -> Result<(), Fail> {
     let mut err = Vec::new(rt.alloc());
     let (ended, _) = run_words(rt, &words, Unknown, &mut out, &mut err);
     let is_lost = matches!(ended, Ended::Printed(Printed::Lost(_))) && ended.exit_status() == 3;
-    if is_lost && err.is_empty() && room.as_slice() == b"statement ALFA 2024-03-04\nsum-".as_slice() {
+    if is_lost
+        && err.is_empty()
+        && room.as_slice() == b"statement ALFA 2024-03-04\nsum-".as_slice()
+    {
         return Ok(());
     }
     Err(Fail::from("another end, or others were heard"))

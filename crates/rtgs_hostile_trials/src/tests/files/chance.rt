@@ -1,7 +1,7 @@
 //! Files that chance has changed.
 use super::super::draw::Draw;
 use super::edits::changed;
-use super::met::count;
+use super::met::{Met, count};
 use super::setting::{book_bytes, keeps, remove, write};
 use std::alloc::{AllocError, Global};
 use std::test::Fail;
@@ -18,8 +18,8 @@ fn file_of(alloc: Global, draw: &mut Draw, book: &[u8]) -> Result<Vec<u8>, Alloc
     Ok(bytes)
 }
 
-// Changes a book so often by this seed, reports on it, and prints what it met: some reports and some failures.
-fn are_met(rt: &HostRuntime, file: &str, seed: u64) -> Result<(), Fail> {
+// What is met where a book is changed so often by this seed, and reported on each time.
+fn met(rt: &HostRuntime, file: &str, seed: u64) -> Result<Met, Fail> {
     let book = book_bytes(rt, file)?;
     let mut draw = Draw::new(seed);
     let mut met = [0usize; 4];
@@ -30,19 +30,17 @@ fn are_met(rt: &HostRuntime, file: &str, seed: u64) -> Result<(), Fail> {
         count(rt.alloc(), &mut met, text.as_str(), status)?;
     }
     remove(rt, file)?;
-    rt.println(format_args!("{file}, reported and refused with 91, 93, 94: {met:?}"))?;
-    if met[0] > 0 && met[1] > 0 {
-        return Ok(());
-    }
-    Err(Fail::from("no report, or no failure"))
+    Ok(met)
 }
 
 #[test]
 fn files_with_changes(rt: HostRuntime) -> Result<(), Fail> {
-    are_met(&rt, "changes", 1)
+    assert_eq!(rt; met(&rt, "changes", 1)?, [88, 142, 20, 0]);
+    Ok(())
 }
 
 #[test]
 fn more_files_with_changes(rt: HostRuntime) -> Result<(), Fail> {
-    are_met(&rt, "more_changes", 2)
+    assert_eq!(rt; met(&rt, "more_changes", 2)?, [75, 148, 27, 0]);
+    Ok(())
 }

@@ -46,12 +46,14 @@ fn met(alloc: Global, seed: u64, of_values: bool) -> Result<Met, Fail> {
 
 #[test]
 fn bodies_with_a_change(rt: HostRuntime) -> Result<(), Fail> {
-    let all = "read 276, 1 2, 2 2, 3 1, 4 1, 14 4, 30 6, 31 2, 35 84, 40 18, 41 49, 60 124, 65 477, 66 43, done 31";
+    let all =
+        "read 276, 1 2, 2 2, 3 1, 4 1, 14 4, 30 6, 31 2, 35 84, 40 18, 41 49, 60 124, 65 477, 66 43, done 31";
     met(rt.alloc(), 3, false)?.is(rt.alloc(), all)
 }
 
 #[test]
 fn bodies_with_other_values(rt: HostRuntime) -> Result<(), Fail> {
-    let all = "1 2, 2 1, 4 4, 6 5, 14 23, 15 10, 30 25, 31 17, 32 7, 35 187, 40 16, 41 43, 65 94, 66 60, done 66";
+    let all =
+        "1 2, 2 1, 4 4, 6 5, 14 23, 15 10, 30 25, 31 17, 32 7, 35 187, 40 16, 41 43, 65 94, 66 60, done 66";
     met(rt.alloc(), 4, true)?.is(rt.alloc(), all)
 }

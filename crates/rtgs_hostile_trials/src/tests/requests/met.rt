@@ -1,6 +1,6 @@
 //! How often each answer was met.
 use super::replies::{DONE, READ};
-use std::alloc::{AllocError, Global};
+use std::alloc::Global;
 use std::test::Fail;
 
 /// How often each answer was met, by what is told.
@@ -24,27 +24,22 @@ impl Met {
     pub fn is(&self, alloc: Global, all: &str) -> Result<(), Fail> {
         let mut rest = self.counts;
         for part in all.split(", ") {
-            let (word, count) = part.split_once(' ').ok_or("no count")?;
-            let told = told_as(word)?;
+            let (told, count) = counted(part)?;
             let at = told as usize;
-            let count = count.parse::<usize>()?;
-            if rest[at] == count && count > 0 {
-                rest[at] = 0;
-            } else {
-                return Err(Fail::from(self.text(alloc, part)?));
-            }
+            rest[at] = rest[at].wrapping_sub(count);
         }
         if rest == [0; 256] {
-            Ok(())
-        } else {
-            Err(Fail::from(self.text(alloc, "others")?))
+            return Ok(());
         }
+        let said = format!(in alloc; "other counts: {:?}", self.counts)?;
+        Err(Fail::from(said))
     }
+}
 
-    // What is said where the counts are others.
-    fn text(&self, alloc: Global, part: &str) -> Result<String, AllocError> {
-        format!(in alloc; "not {part}: {:?}", self.counts)
-    }
+// What was told, and how often, by a part of a text.
+fn counted(part: &str) -> Result<(u8, usize), Fail> {
+    let (word, count) = part.split_once(' ').ok_or("no count")?;
+    Ok((told_as(word)?, count.parse::<usize>()?))
 }
 
 // What a word says that was told.

@@ -41,12 +41,14 @@ fn met(alloc: Global, seed: u64, most: usize) -> Result<Met, Fail> {
 
 #[test]
 fn requests_with_one_change(rt: HostRuntime) -> Result<(), Fail> {
-    let all = "read 35, 9 1, 14 2, 35 5, 40 3, 41 14, 60 347, 62 16, 64 271, 65 69, 66 3, 67 18, 68 181, done 15";
+    let all =
+        "read 35, 9 1, 14 2, 35 5, 40 3, 41 14, 60 347, 62 16, 64 271, 65 69, 66 3, 67 18, 68 181, done 15";
     met(rt.alloc(), 1, 1)?.is(rt.alloc(), all)
 }
 
 #[test]
 fn requests_with_more_changes(rt: HostRuntime) -> Result<(), Fail> {
-    let all = "read 9, 9 1, 14 2, 35 1, 40 1, 41 6, 60 318, 62 4, 64 517, 65 23, 67 10, 68 84, done 4";
+    let all =
+        "read 9, 9 1, 14 2, 35 1, 40 1, 41 6, 60 318, 62 4, 64 517, 65 23, 67 10, 68 84, done 4";
     met(rt.alloc(), 2, 5)?.is(rt.alloc(), all)
 }
