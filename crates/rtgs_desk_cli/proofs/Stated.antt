@@ -1,14 +1,16 @@
 -- What is said of a book of which a statement was written, once it was closed.
-use Rattle.std.proofs.Common.{◌≡◌, ◌∙◌, ℕ, List, Option, Result, Ok, Err, refl, sym, ap}
+use Rattle.std.proofs.Common.{◌≡◌, ◌∙◌, ℕ, true, List, Option, Result, Ok, Err, refl, sym, ap}
 use Rattle.std.specs.Bool.{⊤}
 use Rattle.std.specs.Result.{IfOk, IfErr}
 use Rattle.rtgs_book.specs.declared.reading.Reading.TheVariants as reading
-use Rattle.rtgs_book.specs.declared.refusal.Refusal.TheVariants.{UnknownParticipant}
+use Rattle.rtgs_book.specs.declared.refusal.Refusal.TheVariants.{StoreFault, UnknownParticipant}
 use Rattle.rtgs_desk.specs.Seen.{Seen}
 use Rattle.rtgs_statements.specs.Reads.{LeavesWholeLines}
 use Rattle.rtgs_statements.specs.declared.book_text_fault.BookTextFault.{BookTextFault}
 use Rattle.rtgs_statements.specs.declared.book_text_fault.BookTextFault.TheVariants as text
+use Rattle.rtgs_output.specs.declared.text_fault.TextFault.TheVariants as fault
 use Rattle.rtgs_desk_lines.specs.declared.failure.Failure.{Failure}
+use Rattle.rtgs_desk_lines.specs.declared.failure.Failure.TheVariants.{Refused}
 use Rattle.rtgs_desk_lines.specs.declared.printed.Printed.{Printed}
 use Rattle.rtgs_book_file.specs.OverFile.{OverFile}
 use Rattle.rtgs_desk_cli.proofs.Finished.{when_done}
@@ -18,11 +20,28 @@ use Rattle.rtgs_desk_cli.specs.Runs.{IsStated, States}
 use Rattle.rtgs_desk_cli.specs.declared.met.Met.TheVariants as met
 use Rattle.rtgs_desk_cli.specs.declared.touched.Touched.TheVariants as traces
 
+-- what is told as an unknown code was refused so
+pub refused_as_unknown : (written : Result ⊤ BookTextFault)
+    → outcome_of_text written ≡ Err (Refused UnknownParticipant) → written ≡ Err (text.Refused UnknownParticipant)
+refused_as_unknown (Ok done) told =
+    let no : ⊥ = cc in
+    absurd no
+refused_as_unknown (Err (text.Refused refusal)) told =
+    let same : refusal ≡ UnknownParticipant = cc in
+    ap (λ refusal. Err (text.Refused refusal)) same
+refused_as_unknown (Err (text.Text fault.OutOfMemory)) told =
+    let no : ⊥ = cc in
+    absurd no
+refused_as_unknown (Err (text.Text (fault.Write failed))) told =
+    let no : ⊥ = cc in
+    absurd no
+
 module _ {K B U C E O : Type 0} (A : Type 0) (file : OverFile K U C) (desk_of : B → Seen K)
     (contents : O → Option (List ℕ)) (code : List ℕ) (date : ℕ) (finished : Result (B × Result ⊤ BookTextFault) E)
     (old new : O) where
   module _ (stated : IfOk finished (λ p. IsWritten file code date p.1 (contents old) (contents new) (desk_of p.0)))
-      (unknown : IfOk finished (λ p. p.1 ≡ Err (text.Refused UnknownParticipant) → new ≡ old))
+      (fault : IfOk finished (λ p. p.1 ≡ Err (text.Refused StoreFault)
+      → file.keeper.has_failed (desk_of p.0).keeper ≡ true))
       (lines : IfOk finished (λ p. IfErr p.1 (λ fault. LeavesWholeLines fault (contents old) (contents new))))
       (book : B) (written : Result ⊤ BookTextFault) (is : finished ≡ Ok (book, written)) (closed : C)
       (shut : file.was_closed (desk_of book) closed) where
@@ -33,8 +52,8 @@ module _ {K B U C E O : Type 0} (A : Type 0) (file : OverFile K U C) (desk_of : 
       closed = (closed, refl, shut);
       stated = when_done finished (λ p. IsWritten file code date p.1 (contents old) (contents new) (desk_of p.0))
           stated book written is;
-      unknown = λ refused. ap contents (when_done finished
-          (λ p. p.1 ≡ Err (text.Refused UnknownParticipant) → new ≡ old) unknown book written is refused);
+      fault = when_done finished (λ p. p.1 ≡ Err (text.Refused StoreFault)
+          → file.keeper.has_failed (desk_of p.0).keeper ≡ true) fault book written is;
       lines = when_done finished
           (λ p. IfErr p.1 (λ fault. LeavesWholeLines fault (contents old) (contents new))) lines book written is;
     }

@@ -12,7 +12,8 @@ use Rattle.rtgs_book.specs.declared.answer.Answer.{Answer}
 use Rattle.rtgs_book.specs.declared.refusal.Refusal.{Refusal}
 use Rattle.rtgs_book.specs.declared.reading.Reading.{Reading}
 use Rattle.rtgs_book.specs.declared.reading.Reading.TheVariants as reading
-use Rattle.rtgs_book.specs.declared.refusal.Refusal.TheVariants.{OutOfMemory, Failed, UnknownParticipant}
+use Rattle.rtgs_book.specs.declared.refusal.Refusal.TheVariants.{OutOfMemory, Failed, StoreFault}
+use Rattle.rtgs_book.specs.declared.refusal.Refusal.TheVariants.{UnknownParticipant}
 use Rattle.rtgs_desk.specs.Replies.{answers_its_kind}
 use Rattle.rtgs_desk.specs.Seen.{Seen}
 use Rattle.rtgs_exchange.specs.Batches.{StopsAfter}
@@ -204,8 +205,8 @@ module _ {A K U C : Type 0} (book_file : OverFile K U C) where
     pub left : Seen K
     pub closed : IsClosed left met.Nothing touched
     pub stated : IsWritten book_file code date written old new left
-    -- an unknown code is refused before a byte was printed
-    pub unknown : written ≡ Err (text.Refused UnknownParticipant) → new ≡ old
+    -- the store's fault is told where the store failed, and nowhere else
+    pub fault : written ≡ Err (text.Refused StoreFault) → book_file.keeper.has_failed left.keeper ≡ true
     -- what is no fault of the writer leaves whole lines
     pub lines : IfErr written (λ fault. LeavesWholeLines fault old new)
 
@@ -216,11 +217,12 @@ module _ {A K U C : Type 0} (book_file : OverFile K U C) where
       × (outcome ≡ outcome_of_text written) × IsStated touched code date written old new
 
   -- Why a run with this request is refused, and what it leaves on standard output: nothing, or the beginning of a
-  -- statement that was refused after some of its rows.
+  -- statement that was refused after some of its rows. An unknown code is refused before a byte.
   abbrev pub Denies : {O : Type 0} → (O → Option (List ℕ)) → Request → Touched A U C → Failure → O → O → Type 0
   Denies contents (Read file reading) touched why out out' =
       (IsRefused (Read file reading) touched why × (out' ≡ out))
-      ⊎ States reading touched (Err why) (contents out) (contents out')
+      ⊎ (States reading touched (Err why) (contents out) (contents out')
+      × (why ≡ Refused UnknownParticipant → out' ≡ out))
   Denies contents request touched why out out' = IsRefused request touched why × (out' ≡ out)
 
   -- the run printed what it had to, as far as standard output took it

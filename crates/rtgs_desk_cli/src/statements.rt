@@ -1,5 +1,5 @@
 //! Runs that print a participant's statement, row by row.
-ghost use Rattle.std.specs.Prelude.{◌≡◌, Ok, Err, IfOk, IfErr, OnErr, string_bytes};
+ghost use Rattle.std.specs.Prelude.{◌≡◌, true, Ok, Err, IfOk, IfErr, OnErr, string_bytes};
 ghost use Rattle.rtgs_book.specs.declared.Reading.{Reading};
 ghost use Rattle.rtgs_book.specs.declared.Refusal.{Refusal};
 ghost use Rattle.rtgs_book_file.specs.Files.{lock_name};
@@ -60,6 +60,8 @@ fn write<S: Start, O: Write>(
         (O.contents out.old) (O.contents out.new) book.desk) }
     ensures unknown { IfOk result (λ (_, written). written ≡ Err (BookTextFault.Refused Refusal.UnknownParticipant)
         → out.new ≡ out.old) }
+    ensures fault { IfOk result (λ (book, written). written ≡ Err (BookTextFault.Refused Refusal.StoreFault)
+        → ⟦<FileKeeper<S> as Keeper>⟧.has_failed book.desk.keeper ≡ true) }
     ensures lines { IfOk result (λ (_, written). IfErr written (λ fault.
         LeavesWholeLines fault (O.contents out.old) (O.contents out.new))) }
     ensures unopened { IfErr result (λ unopened.

@@ -13,6 +13,7 @@ mod imports;
 mod openings;
 mod readings;
 mod refusals;
+mod rows;
 mod script;
 mod serving;
 mod stops;

@@ -1,22 +1,28 @@
-use Rattle.std.proofs.Common.{Ok, Err, refl, inl, inr, string_bytes}
+use Rattle.std.proofs.Common.{◌≡◌, ◌∙◌, Ok, Err, refl, sym, ap, inl, inr, string_bytes}
+use Rattle.rtgs_book.specs.declared.refusal.Refusal.TheVariants.{UnknownParticipant}
+use Rattle.rtgs_statements.specs.declared.book_text_fault.BookTextFault.TheVariants as text
 use Rattle.rtgs_desk_cli.proofs.Finished.{closed_as, if_done, if_refused, not_done, refused_of, refused_with}
-use Rattle.rtgs_desk_cli.proofs.Finished.{when_refused}
-use Rattle.rtgs_desk_cli.proofs.Stated.{states}
+use Rattle.rtgs_desk_cli.proofs.Finished.{when_done, when_refused}
+use Rattle.rtgs_desk_cli.proofs.Stated.{refused_as_unknown, states}
 use Rattle.rtgs_desk_cli.proofs.statements.show_statement.Goals as goal
 
 pub returns-in-Ok-clause-printed : goal.returns-in-Ok-clause-printed
 returns-in-Ok-clause-printed g c =
     let (book, is, shut) = c.in-Ok.ensures.done in
     if_done c.outcome.result _ (λ printed so. inr (states _ _ (λ book. book.desk) g.O.Write.contents c.args.code
-    c.args.date c.write.result _ _ c.write.ensures.written c.write.ensures.unknown c.write.ensures.lines book _ is
+    c.args.date c.write.result _ _ c.write.ensures.written c.write.ensures.fault c.write.ensures.lines book _ is
     c.in-Ok.closed shut c.outcome.result (Ok printed) c.outcome.ensures so))
 
 pub returns-in-Ok-clause-refused : goal.returns-in-Ok-clause-refused
 returns-in-Ok-clause-refused g c =
     let (book, is, shut) = c.in-Ok.ensures.done in
-    if_refused c.outcome.result _ (λ why so. inr (states _ _ (λ book. book.desk) g.O.Write.contents c.args.code
-    c.args.date c.write.result _ _ c.write.ensures.written c.write.ensures.unknown c.write.ensures.lines book _ is
-    c.in-Ok.closed shut c.outcome.result (Err why) c.outcome.ensures so))
+    if_refused c.outcome.result _ (λ why so. inr (
+      states _ _ (λ book. book.desk) g.O.Write.contents c.args.code c.args.date c.write.result _ _
+          c.write.ensures.written c.write.ensures.fault c.write.ensures.lines book _ is c.in-Ok.closed shut
+          c.outcome.result (Err why) c.outcome.ensures so,
+      λ unknown. when_done c.write.result (λ p. p.1 ≡ Err (text.Refused UnknownParticipant) → _) c.write.ensures.unknown
+          book _ is (refused_as_unknown _ (sym c.outcome.ensures ∙ so ∙ ap Err unknown)),
+    ))
 
 pub returns-in-Err-clause-printed : goal.returns-in-Err-clause-printed
 returns-in-Err-clause-printed g c = not_done c.refused_file.result.0 _ _ c.refused_file.ensures.told

@@ -1,0 +1,53 @@
+//! A statement is printed row by row, and not as one text.
+use super::imports::DAY;
+use super::script::follows;
+use rtgs_desk_cli::run_words;
+use sqlite::Unknown;
+use std::io;
+use std::io::Write;
+use std::test::Fail;
+
+/// Keeps what it takes, and counts its writes.
+#[derive(Drop)]
+struct Counting {
+    taken: Vec<u8>,
+    writes: usize,
+}
+
+impl Write for Counting {
+    fn write(&mut self, bytes: &[u8]) -> io::Result<usize> {
+        self.taken.extend_from_slice(bytes)?;
+        self.writes = self.writes.saturating_add(1);
+        Ok(bytes.len())
+    }
+
+    fn flush(&mut self) -> io::Result<()> {
+        Ok(())
+    }
+}
+
+/// How many writes a run takes that prints this.
+fn writes(rt: &HostRuntime, words: &[&str]) -> Result<usize, Fail> {
+    let mut out = Counting {
+        taken: Vec::new(rt.alloc()),
+        writes: 0,
+    };
+    let mut err = Vec::new(rt.alloc());
+    let (ended, _) = run_words(rt, words, Unknown, &mut out, &mut err);
+    if ended.exit_status() == 0 && out.taken.as_slice().ends_with("\n".as_bytes()) {
+        return Ok(out.writes);
+    }
+    Err(Fail::from("not printed"))
+}
+
+#[test]
+fn a_statement_is_printed_row_by_row(rt: HostRuntime) -> Result<(), Fail> {
+    follows(&rt, "by_row", DAY)?;
+    // the first line, a posting, and the four sums
+    let count = writes(&rt, &["statement", "by_row", "ALFA", "2024-03-04"])?;
+    assert_eq!(rt; count, 3);
+    // a report is one text
+    let count = writes(&rt, &["report", "by_row", "2024-03-04"])?;
+    assert_eq!(rt; count, 1);
+    Ok(())
+}
