@@ -2,7 +2,7 @@
 use Rattle.std.proofs.Common.{◌≡◌, ℕ, zero, suc, ◌||◌, map, ◌+◌, ◌<◌, ◌≤◌, ◌*◌, ◌^◌, ℤ, pos, neg_ℤ, ◌+ℤ◌, ◌-ℤ◌, Bool}
 use Rattle.std.proofs.Common.{true, false, cond, List, [], ◌∷◌, ◌++◌, Option, Some, None, Ordering, filter, length}
 use Rattle.std.proofs.Common.{take, get_or, sum_by, FitsSigned, unsigned_abs, w64, to_z, of_z, nat_cmp, refl, sym, ap}
-use Rattle.std.proofs.Common.{◌∙◌, subst, arith}
+use Rattle.std.proofs.Common.{◌∙◌, ◌&&◌, subst, arith}
 use Rattle.std.proofs.lemmas.Int.{ints, to_z-of_z}
 use Rattle.std.proofs.lemmas.List.{take_more, take_all}
 use Rattle.std.proofs.lemmas.List.Elements.{filter-append}
@@ -12,10 +12,8 @@ use Rattle.std.specs.List.{AllByRecursion}
 use Rattle.std.specs.Cmp.Lexicographic.{slice_cmp, bytes_decides, texts_ties}
 use Rattle.std.specs.Str.{bytes_eq}
 use Rattle.rtgs_book.specs.Books.{Order, OrderState, Queued, Settled, Withdrawn, Rejected, is_settled, is_settled_state}
+use Rattle.rtgs_book.specs.Books.{is_queued}
 use Rattle.rtgs_book.specs.Balance.{gain}
-use Rattle.rtgs_book.specs.Soundness.{is_state_under}
-use Rattle.std.proofs.lemmas.Bool.{eqb-true, eq-eqb}
-use Rattle.std.specs.Cmp.{unsigned_tied}
 use Rattle.std.specs.Int.{w128}
 use Rattle.std.specs.Option.{option_map}
 use Rattle.std.specs.Ordering.{eq_by_cmp}
@@ -78,13 +76,19 @@ module _ {X : Type 0} (p : X → Bool) (g : X → ℤ) (xs : List X) where
   one_of true x = omega (arith, ints)
   one_of false x = refl
 
-  pub sum_more : (i : ℕ) (x : X) → i < length xs → x ≡ get_or xs i x
-      → sum_first (i + 1) ≡ sum_first i +ℤ cond (p x) (g x) (pos 0)
-  sum_more i x less is =
-      ap (λ ys. int_sum_by g (filter p ys)) (take_more xs i x less ∙ ap (λ y. take i xs ++ y ∷ []) (sym is))
-      ∙ ap (int_sum_by g) (filter-append p (take i xs) (x ∷ []))
-      ∙ int_sum_by-append g (filter p (take i xs)) (filter p (x ∷ []))
-      ∙ ap (λ z. sum_first i +ℤ z) (one_of (p x) x)
+  -- over all that pass, with one more at the end
+  pub sum_pushed : (x : X) → int_sum_by g (filter p (xs ++ x ∷ []))
+      ≡ int_sum_by g (filter p xs) +ℤ cond (p x) (g x) (pos 0)
+  sum_pushed x =
+      ap (int_sum_by g) (filter-append p xs (x ∷ []))
+      ∙ int_sum_by-append g (filter p xs) (filter p (x ∷ []))
+      ∙ ap (λ z. int_sum_by g (filter p xs) +ℤ z) (one_of (p x) x)
+
+pub sum_more : {X : Type 0} (p : X → Bool) (g : X → ℤ) (xs : List X) (i : ℕ) (x : X) → i < length xs
+    → x ≡ get_or xs i x → sum_first p g xs (i + 1) ≡ sum_first p g xs i +ℤ cond (p x) (g x) (pos 0)
+sum_more p g xs i x less is =
+    ap (λ ys. int_sum_by g (filter p ys)) (take_more xs i x less ∙ ap (λ y. take i xs ++ y ∷ []) (sym is))
+    ∙ sum_pushed p g (take i xs) x
 
 pub sum_within : {X : Type 0} (p : X → Bool) (g : X → ℤ) (n : ℕ) (xs : List X) → AllByRecursion (λ x. Within n (g x)) xs
     → Within (length xs * n) (int_sum_by g (filter p xs))
@@ -210,6 +214,13 @@ not_settled codes f m o h holds =
     totals_same (slice_cmp nat_cmp) codes f (λ code. f code +ℤ cond (is_settled o) (gain code o) (pos 0)) m
     (λ q. rw not (omega (arith, ints))) holds
 
+pub order_counted : (codes : List (List ℕ)) (f : List ℕ → ℤ) (m n : BTreeMap (List ℕ) ℤ) (o : Order)
+    → is_queued o ≡ true → Totals (slice_cmp nat_cmp) codes f m → Adds (slice_cmp nat_cmp) m o.sender (pos 1) n
+    → Totals (slice_cmp nat_cmp) codes (λ code. f code +ℤ cond (is_queued o && bytes_eq o.sender code) (pos 1) (pos 0))
+    n
+order_counted codes f m n o queued h adds = rw queued
+    (texts_added codes f m n o.sender (pos 1) (pos 1) refl h adds)
+
 -- one element of those of which the fact holds
 pub all_get : {X : Type 0} (P : X → Type 0) (xs : List X) (i : ℕ) (x : X) → i < length xs → x ≡ get_or xs i x
     → AllByRecursion P xs → P x
@@ -254,48 +265,3 @@ pub total_of : (codes : List (List ℕ)) (f : List ℕ → ℤ) (m : BTreeMap (L
     → Totals (slice_cmp nat_cmp) codes f m → is_member (eq_by_cmp (slice_cmp nat_cmp)) codes code ≡ true
     → get (slice_cmp nat_cmp) m code ≡ Some (f code)
 total_of codes f m code h e = h code ∙ ap (λ b. cond b (Some (f code)) None) e
-
--- ---- sums under the numbers of marks
-
-exact_number : (a b : ℕ) → eq_by_cmp nat_cmp a b ≡ true → a ≡ b
-exact_number a b e = eqb-true a b (sym (unsigned_tied a b) ∙ e)
-
-pub marked_added : (numbers : List ℕ) (f : ℕ → ℤ) (m n : BTreeMap ℕ ℤ) (state : OrderState) (k : ℕ) (by given : ℤ)
-    → state ≡ Settled k → given ≡ by → Totals nat_cmp numbers f m → Adds nat_cmp m k given n
-    → Totals nat_cmp numbers (λ mark. f mark +ℤ cond (is_state_under mark state) by (pos 0)) n
-marked_added numbers f m n state k by given is same h adds =
-    totals_same nat_cmp numbers (with_term nat_cmp numbers f k given)
-    (λ mark. f mark +ℤ cond (is_state_under mark state) by (pos 0)) n
-    (λ mark. rw is (λ i. f mark +ℤ cond (unsigned_tied k mark i) (same i) (pos 0)))
-    (totals_added nat_cmp numbers exact_number f m n k given h adds)
-
-under_none : (mark : ℕ) (s : OrderState) → ((k : ℕ) → s ≡ Settled k → ⊥) → is_state_under mark s ≡ false
-under_none mark Queued h = refl
-under_none mark (Settled k) h = absurd (h k refl)
-under_none mark Withdrawn h = refl
-under_none mark Rejected h = refl
-
-pub unmarked : (numbers : List ℕ) (f : ℕ → ℤ) (m : BTreeMap ℕ ℤ) (state : OrderState) (by : ℤ)
-    → ((k : ℕ) → state ≡ Settled k → ⊥) → Totals nat_cmp numbers f m
-    → Totals nat_cmp numbers (λ mark. f mark +ℤ cond (is_state_under mark state) by (pos 0)) m
-unmarked numbers f m state by h holds =
-    totals_same nat_cmp numbers f (λ mark. f mark +ℤ cond (is_state_under mark state) by (pos 0)) m
-    (λ mark. rw (under_none mark state h) (omega (arith, ints))) holds
-
-same_number : (n : ℕ) → eq_by_cmp nat_cmp n n ≡ true
-same_number n = unsigned_tied n n ∙ eq-eqb n n refl
-
--- each mark's number is one of the numbers
-pub numbers_have : {X : Type 0} (number : X → ℕ) (xs : List X) (i : ℕ) (x : X) → i < length xs → x ≡ get_or xs i x
-    → is_member (eq_by_cmp nat_cmp) (map number xs) (number x) ≡ true
-numbers_have number xs i x less is = at xs i less is
-  where
-    at : (ys : List _) (k : ℕ) → k < length ys → x ≡ get_or ys k x
-        → is_member (eq_by_cmp nat_cmp) (map number ys) (number x) ≡ true
-    at [] k less is = absurd (omega arith)
-    at (y ∷ ys) zero less is = rw (ap number (sym is)) (rw (same_number (number x)) refl)
-    at (y ∷ ys) (suc k) less is = rw (at ys k (omega arith) is) (or_true (eq_by_cmp nat_cmp (number x) (number y)))
-
-pub sum_of_number : (numbers : List ℕ) (f : ℕ → ℤ) (m : BTreeMap ℕ ℤ) (number : ℕ) → Totals nat_cmp numbers f m
-    → is_member (eq_by_cmp nat_cmp) numbers number ≡ true → get nat_cmp m number ≡ Some (f number)
-sum_of_number numbers f m number h e = h number ∙ ap (λ b. cond b (Some (f number)) None) e

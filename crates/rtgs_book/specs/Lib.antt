@@ -19,4 +19,5 @@ pub mod Settle
 pub mod Soundness
 pub mod Standings
 pub mod Step
+pub mod Tallies
 pub mod Totals

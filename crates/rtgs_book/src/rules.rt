@@ -6,4 +6,5 @@ pub mod names;
 pub mod numbers;
 pub mod parties;
 pub mod queues;
+pub mod tally;
 pub mod totals;

@@ -9,6 +9,7 @@ mod days;
 mod files;
 mod gridlocks;
 mod helps;
+mod hostile;
 mod imports;
 mod openings;
 mod readings;

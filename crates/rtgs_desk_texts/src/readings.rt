@@ -1,4 +1,5 @@
-//! What a desk tells of its book, as it is printed, made in memory.
+//! The whole text of what a desk tells of its book, made in memory. (A statement that is printed is written row by row
+//! instead, by `write_statement`.)
 ghost use Rattle.std.specs.Prelude.{◌≡◌, ◌≢◌, ◌⊎◌, ◌++◌, ◌∷◌, [], true, false, Ok, Err, None, IfOk};
 ghost use Rattle.rtgs_book.specs.declared.Book.{Book};
 ghost use Rattle.rtgs_book.specs.declared.Refusal.{Refusal};

@@ -26,6 +26,14 @@ const GOOD: &str =
     "POST /orders HTTP/1.1\r\ndesk-key: 0000000000000000000000000000000a\r\nContent-Length: 44\r\n\r\n\
       {\"amount\":100,\"reference\":\"A-1\",\"to\":\"BETA\"}";
 
+// Fails where another text is wanted.
+fn is_same(found: &str, wanted: &str) -> Result<(), Fail> {
+    if found == wanted {
+        return Ok(());
+    }
+    Err(Fail::new(found))
+}
+
 fn digest(key: &[u8]) -> Result<KeyDigest, Fail> {
     Ok(Key::read(key)?.digest())
 }

@@ -28,8 +28,8 @@ pub trait Keeper {
     // The store returned what was written to it, and nobody else wrote.
     ghost is_honest: { Self → Type 0 };
 
-    // The tables are such as a keeper of this kind makes, whatever rows they have. Over these the core of a book is
-    // given only where the book is kept.
+    // The tables are such as a keeper of this kind makes, and their rows are whole, whatever values these have. Over
+    // these the core of a book is given only where the book is kept.
     ghost has_tables: { Self → Type 0 };
 
     // Nothing was ever kept, no new book either.

@@ -34,7 +34,7 @@ pub record AreWhole (trees : Trees) : Type 0 where
   pub payments : AreNumberedRows 8 (trees 6)
   pub marks : AreNumberedRows 4 (trees 8)
 
--- the connection has the tables of a desk, whatever their rows are
+-- the connection has the tables of a desk, and each row of them has all its columns, whatever its values are
 abbrev pub HasTables : {S : Type 0} → Ghosts S → Held S → Type 0
 HasTables g h = IsDeskFile (state g h).committed.trees (state g h) × AreWhole (state g h).committed.trees
 

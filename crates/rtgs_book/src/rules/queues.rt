@@ -1,6 +1,6 @@
 //! Whether queues are short, of the day, and empty while the desk is closed.
-ghost use Rattle.std.specs.Prelude.{◌≡◌, ◌↔◌, ◌≤◌, ◌*◌, ◌==◌, ℕ, List, ℤ, pos, ◌+ℤ◌, ◌≤ℤ◌, ◌&&◌, ◌||◌, map, filter};
-ghost use Rattle.std.specs.Prelude.{if◌then◌else◌, IfOk, IsTrue, Some, true, false, not, length};
+ghost use Rattle.std.specs.Prelude.{◌≡◌, ◌↔◌, ◌≤◌, ◌+◌, ◌*◌, ◌==◌, ℕ, List, ℤ, pos, ◌+ℤ◌, ◌≤ℤ◌, ◌&&◌, ◌||◌, map};
+ghost use Rattle.std.specs.Prelude.{filter, if◌then◌else◌, IfOk, IsTrue, Some, true, false, not, length};
 ghost use Rattle.std.specs.BTreeMap.{get};
 ghost use Rattle.std.specs.Cmp.Lexicographic.{slice_cmp};
 ghost use Rattle.std.specs.List.{AllByRecursion, list_all};
@@ -112,17 +112,21 @@ fn count_queued(lengths: &mut BTreeMap<Code, i128>, orders: &[Order])
         (filter (λ (o : Order). is_queued o && bytes_eq o.sender code) orders.now)) lengths.new }
 {
     for order in orders {
-        add(lengths, &order.sender, queued_count(order));
+        count_order(lengths, order);
     }
 }
 
-// 1 for an order that is queued, and else 0.
-fn queued_count(order: &Order) -> i128
-    ensures { result ≡ (if is_queued order.now then pos 1 else pos 0) }
+// Counts the order, if it is queued, under the code of its sender.
+fn count_order(lengths: &mut BTreeMap<Code, i128>, order: &Order)
+    requires { AreWithin (slice_cmp nat_cmp) LARGEST_NUMBER lengths.old }
+    ensures sums { (codes : List (List ℕ)) (length_of : List ℕ → ℤ) →
+        Totals (slice_cmp nat_cmp) codes length_of lengths.old →
+        Totals (slice_cmp nat_cmp) codes (λ code. length_of code +ℤ
+        (if is_queued order.now && bytes_eq order.now.sender code then pos 1 else pos 0)) lengths.new }
+    ensures within { (bound : ℕ) → AreWithin (slice_cmp nat_cmp) bound lengths.old
+        → AreWithin (slice_cmp nat_cmp) (bound + 1) lengths.new }
 {
     if order.state == OrderState::Queued {
-        1
-    } else {
-        0
+        add(lengths, &order.sender, 1);
     }
 }

@@ -157,17 +157,16 @@ fn values_nest_127_levels_at_most(rt: HostRuntime) -> Result<(), Fail> {
     is_told(rt.alloc(), &desk, more.as_str(), "400 65 BadJson")
 }
 
+// An order whose reference is a byte that no text has.
+const NO_TEXT: &[u8] =
+    b"POST /orders HTTP/1.1\r\ndesk-key: 0000000000000000000000000000000a\r\nContent-Length: 42\r\n\r\n\
+      {\"amount\":100,\"reference\":\"\xff\",\"to\":\"BETA\"}";
+
 #[test]
 fn a_body_that_is_no_text(rt: HostRuntime) -> Result<(), Fail> {
-    let head =
-        "POST /orders HTTP/1.1\r\ndesk-key: 0000000000000000000000000000000a\r\nContent-Length: 42\r\n\r\n";
-    let mut input = Vec::new(rt.alloc());
-    input.extend_from_slice(head.as_bytes())?;
-    input.extend_from_slice("{\"amount\":100,\"reference\":\"".as_bytes())?;
-    input.push(0xff)?;
-    input.extend_from_slice("\",\"to\":\"BETA\"}".as_bytes())?;
     let desk = alfas_desk(rt.alloc())?;
-    let told = desk.asks(&mut input.as_slice())?;
+    let mut input = NO_TEXT;
+    let told = desk.asks(&mut input)?;
     assert_eq!(rt; told.as_str(), "400 65 BadJson");
     Ok(())
 }

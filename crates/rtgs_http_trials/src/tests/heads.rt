@@ -151,14 +151,23 @@ fn with_long_field(alloc: Global, count: usize) -> Result<String, AllocError> {
     with_behind(alloc, field.as_str())
 }
 
+// The same, with a field that makes it so many bytes long.
+fn of_length(alloc: Global, length: usize) -> Result<String, Fail> {
+    let shortest = with_long_field(alloc, 0)?.len();
+    let count = length.checked_sub(shortest).ok_or("too few bytes")?;
+    let head = with_long_field(alloc, count)?;
+    if head.len() == length {
+        Ok(head)
+    } else {
+        Err(Fail::from("another length"))
+    }
+}
+
 #[test]
 fn a_head_has_8192_bytes_at_most(rt: HostRuntime) -> Result<(), Fail> {
-    let shortest = with_long_field(rt.alloc(), 0)?.len();
-    assert!(rt; shortest < 8192);
-    let most = with_long_field(rt.alloc(), 8192 - shortest)?;
-    assert_eq!(rt; most.len(), 8192);
+    let most = of_length(rt.alloc(), 8192)?;
     is_told(rt.alloc(), most.as_str(), ACCOUNT)?;
-    let more = with_long_field(rt.alloc(), 8193 - shortest)?;
+    let more = of_length(rt.alloc(), 8193)?;
     is_told(rt.alloc(), more.as_str(), "413 61 HeadTooLong")?;
     let line_of_8192 = with_long_field(rt.alloc(), 8189)?;
     is_told(rt.alloc(), line_of_8192.as_str(), "413 61 HeadTooLong")

@@ -70,15 +70,57 @@ fn reply_of(alloc: Global, told: &str) -> Result<String, Fail> {
     if let Some(text) = told.strip_prefix("RAW ") {
         return Ok(spelled(alloc, text)?);
     }
-    if let Some((status, json)) = told.split_once(" {") {
-        let json = json.replace(alloc, "\n", "")?;
-        let body = format!(in alloc; "{{{json}")?;
-        return Ok(whole(alloc, status, "application/json", body.as_str())?);
+    match told.split_once(" {") {
+        Some((status, json)) => Ok(json_reply(alloc, status, json)?),
+        None => text_reply(alloc, told),
     }
+}
+
+// The reply with this status, whose body is the lines behind the brace, joined.
+fn json_reply(alloc: Global, status: &str, json: &str) -> Result<String, AllocError> {
+    let json = json.replace(alloc, "\n", "")?;
+    let body = format!(in alloc; "{{{json}")?;
+    whole(alloc, status, "application/json", body.as_str())
+}
+
+// The reply whose status and type stand on the first line, and whose body is the lines after it.
+fn text_reply(alloc: Global, told: &str) -> Result<String, Fail> {
     let (line, lines) = told.split_once("\n").ok_or("a reply without a body")?;
     let (status, content) = line.rsplit_once(" ").ok_or("a reply without a type")?;
     let body = format!(in alloc; "{lines}\n")?;
     Ok(whole(alloc, status, content, body.as_str())?)
+}
+
+// The status that is told, or 0.
+fn status_of(served: &Served) -> u16 {
+    match served {
+        Served::Answered(status) => status.as_u16(),
+        _ => 0,
+    }
+}
+
+// Whether these bytes are the reply, and the status that is told is theirs.
+fn is_reply(
+    alloc: Global,
+    served: &Served,
+    written: &[u8],
+    reply: &str,
+) -> Result<bool, AllocError> {
+    let status = status_of(served);
+    let head = format!(in alloc; "HTTP/1.1 {status} ")?;
+    Ok(written == reply.as_bytes() && reply.starts_with(head.as_str()))
+}
+
+// Why these bytes are not the reply to the input.
+fn other_reply(
+    alloc: Global,
+    input: &str,
+    served: &Served,
+    written: &[u8],
+    reply: &str,
+) -> Result<String, AllocError> {
+    let found = std::str::from_utf8(written).unwrap_or("no text");
+    format!(in alloc; "{input:?}: {served:?} and {found:?}, not {reply:?}")
 }
 
 // The bytes that a script asks, which are spelled where the caller is RAW.
@@ -154,17 +196,11 @@ impl TestDesk {
         let mut reader = input.as_bytes();
         let mut written = Vec::new(alloc);
         let served = self.serve(&mut reader, &mut written);
-        let status = match &served {
-            Served::Answered(status) => status.as_u16(),
-            _ => 0,
-        };
-        let head = format!(in alloc; "HTTP/1.1 {status} ")?;
-        if written.as_slice() == reply.as_bytes() && reply.as_str().starts_with(head.as_str()) {
+        let (bytes, reply) = (written.as_slice(), reply.as_str());
+        if is_reply(alloc, &served, bytes, reply)? {
             return Ok(());
         }
-        let found = std::str::from_utf8(written.as_slice()).unwrap_or("no text");
-        let said = format!(in alloc; "{input:?}: {served:?} and {found:?}, not {reply:?}")?;
-        Err(Fail::from(said))
+        Err(Fail::from(other_reply(alloc, input, &served, bytes, reply)?))
     }
 
     /// What is asked is told this.

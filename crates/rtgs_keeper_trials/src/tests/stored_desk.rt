@@ -19,8 +19,7 @@ use rtgs_book::{Answer, Command, Fault};
 use rtgs_desk::Desk;
 use rtgs_keeper::Keeper;
 use rtgs_repeats::laws::life_is_a_run;
-use rtgs_stored_desk::laws::what_a_session_leaves;
-use rtgs_stored_desk::{create, make, open};
+use rtgs_stored_desk::{create, make, open, run};
 use rtgs_tables::SqlKeeper;
 use sqlite::{Alter, Connection, MemStore};
 use sqlite_trees::store::Reopen;
@@ -115,8 +114,7 @@ fn session<S: Alter + Reopen + Drop>(
         → HasCleanDisk (state S.Store desk.keeper.conn)) }
 {
     let mut desk = desk;
-    let replies = desk.run(commands)?;
-    what_a_session_leaves(&desk);
+    let replies = run(&mut desk, commands)?;
     let next = found_again(alloc, desk)?;
     Ok((replies, next))
 }

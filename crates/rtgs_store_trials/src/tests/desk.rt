@@ -5,19 +5,25 @@ mod readings;
 use super::scripts::command;
 use super::setting::desk_over;
 use rtgs_book::{Answer, Refusal};
+use rtgs_desk::Desk;
 use rtgs_keeper::{Keeper, MemoryKeeper};
+use std::alloc::Global;
 use std::test::Fail;
+
+/// How many postings a desk kept.
+fn postings_kept(alloc: Global, desk: Desk<MemoryKeeper>) -> Result<usize, Fail> {
+    Ok(desk.into_keeper().load(alloc)?.postings.len())
+}
 
 #[test]
 fn a_posting_is_answered_and_kept(rt: HostRuntime) -> Result<(), Fail> {
     let add = command(rt.alloc(), "add ALFA 0000000000000000000000000000000a")?;
     let post = command(rt.alloc(), "post ALFA P-1 100")?;
     let mut desk = desk_over(rt.alloc(), MemoryKeeper::new(rt.alloc()))?;
-    assert_eq!(rt; desk.submit(add), Ok(Answer::Added));
-    assert_eq!(rt; desk.submit(post), Ok(Answer::Posted { number: 1 }));
-    assert!(rt; !desk.failed());
-    let book = desk.into_keeper().load(rt.alloc())?;
-    assert_eq!(rt; book.postings.len(), 1);
+    let replies = [desk.submit(add), desk.submit(post)];
+    let wanted = [Ok(Answer::Added), Ok(Answer::Posted { number: 1 })];
+    assert_eq!(rt; (replies, desk.failed()), (wanted, false));
+    assert_eq!(rt; postings_kept(rt.alloc(), desk)?, 1);
     Ok(())
 }
 

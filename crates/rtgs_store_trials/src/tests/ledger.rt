@@ -13,8 +13,7 @@ fn a_participant_is_prepared_and_adopted(rt: HostRuntime) -> Result<(), Fail> {
     let mut ledger = new_ledger(rt.alloc())?;
     match ledger.prepare(&command, &Found::NOTHING) {
         Ok((answer, change)) => {
-            assert_eq!(rt; answer, Answer::Added);
-            assert_eq!(rt; change.len(), 1);
+            assert_eq!(rt; (answer, change.len()), (Answer::Added, 1));
             ledger.adopt(change);
         }
         Err(_) => assert!(rt; false, "refused"),

@@ -5,7 +5,7 @@ mod stored_numbers;
 
 use super::scripts::{Answers, follows};
 use super::setting::{change, code, participant, posting};
-use rtgs_book::{Change, Fault, RowChange};
+use rtgs_book::{Book, Change, Fault, RowChange};
 use rtgs_keeper::{CommitFault, Keeper};
 use rtgs_money::Cents;
 use rtgs_tables::SqlKeeper;
@@ -92,37 +92,51 @@ fn a_new_book_is_empty(rt: HostRuntime) -> Result<(), Fail> {
     Ok(())
 }
 
+/// Whether a book has the two banks and the posting, and nothing else of them.
+fn has_two_banks(book: &Book) -> Result<bool, Fail> {
+    let banks = [participant("ALFA", 1)?, participant("BETA", 2)?];
+    let postings = [posting(1, "ALFA", "P-1", 1000)?];
+    Ok(
+        book.participants.as_slice() == banks.as_slice()
+            && book.postings.as_slice() == postings.as_slice(),
+    )
+}
+
 #[test]
 fn changes_are_found_again(rt: HostRuntime) -> Result<(), Fail> {
-    let alloc = rt.alloc();
-    let conn = two_banks(alloc)?.into_connection();
-    let book = SqlKeeper::open(conn).load(alloc)?;
-    assert_eq!(rt;
-        book.participants.as_slice(),
-        [participant("ALFA", 1)?, participant("BETA", 2)?].as_slice()
-    );
-    assert_eq!(rt;
-        book.postings.as_slice(),
-        [posting(1, "ALFA", "P-1", 1000)?].as_slice()
-    );
+    let conn = two_banks(rt.alloc())?.into_connection();
+    let book = SqlKeeper::open(conn).load(rt.alloc())?;
+    assert!(rt; has_two_banks(&book)?);
     Ok(())
+}
+
+/// What the keeper fails with at a posting whose reference was used, and at another posting.
+fn faults_of_postings(
+    alloc: Global,
+    keeper: &mut SqlKeeper<MemStore>,
+) -> Result<[Option<CommitFault>; 2], Fail> {
+    let repeated = posts(alloc, 2, "P-1", 5, 1005)?;
+    let another = posts(alloc, 2, "P-2", 5, 1005)?;
+    Ok([
+        keeper.commit(&repeated).err(),
+        keeper.commit(&another).err(),
+    ])
+}
+
+/// How many postings are found again in a keeper's tables.
+fn postings_found(alloc: Global, keeper: SqlKeeper<MemStore>) -> Result<usize, Fail> {
+    let mut again = SqlKeeper::open(keeper.into_connection());
+    Ok(again.load(alloc)?.postings.len())
 }
 
 #[test]
 fn a_repeated_key_fails_the_keeper(rt: HostRuntime) -> Result<(), Fail> {
-    let alloc = rt.alloc();
-    let mut keeper = two_banks(alloc)?;
-    assert_eq!(rt;
-        keeper.commit(&posts(alloc, 2, "P-1", 5, 1005)?),
-        Err(CommitFault::Store)
-    );
-    assert_eq!(rt;
-        keeper.commit(&posts(alloc, 2, "P-2", 5, 1005)?),
-        Err(CommitFault::Failed)
-    );
-    assert_eq!(rt; keeper.load(alloc).err(), Some(Fault::StoreFault));
-    let book = SqlKeeper::open(keeper.into_connection()).load(alloc)?;
-    assert_eq!(rt; book.postings.len(), 1);
+    let mut keeper = two_banks(rt.alloc())?;
+    let faults = faults_of_postings(rt.alloc(), &mut keeper)?;
+    let at_load = keeper.load(rt.alloc()).err();
+    let wanted = [Some(CommitFault::Store), Some(CommitFault::Failed)];
+    assert_eq!(rt; (faults, at_load), (wanted, Some(Fault::StoreFault)));
+    assert_eq!(rt; postings_found(rt.alloc(), keeper)?, 1);
     Ok(())
 }
 

@@ -1,5 +1,6 @@
 //! Statements and reports of a desk whose reads meet trouble, each in turn: which rows the writer then has.
 use super::super::failing_keeper::Trouble;
+use super::super::is_same;
 use super::super::test_desk::TestDesk;
 use rtgs_book::Refusal;
 use rtgs_desk_texts::{write_report, write_statement};
@@ -73,14 +74,6 @@ fn report(alloc: Global, desk: &mut TestDesk) -> Result<String, Fail> {
     told(alloc, written, out.as_slice())
 }
 
-// Fails where another text is wanted.
-fn is_same(found: &str, wanted: &str) -> Result<(), Fail> {
-    if found == wanted {
-        return Ok(());
-    }
-    Err(Fail::new(found))
-}
-
 // What a read is refused with at this trouble.
 fn refusal_of(trouble: Trouble) -> Refusal {
     match trouble {
@@ -122,17 +115,26 @@ posting    000000002 P-2              -                       20.00         -
     )
 }
 
-// The read of a statement after so many meets this trouble, and so many lines are written before.
-fn is_begun(alloc: Global, trouble: Trouble, reads: usize, lines: usize) -> Result<(), Fail> {
-    let mut desk = desk_after(alloc, reads, trouble)?;
-    let found = statement(alloc, &mut desk, "ALFA")?;
+// What is told of a text that was refused at this trouble, after so many lines of the statement.
+fn told_of(alloc: Global, trouble: Trouble, lines: usize) -> Result<String, Fail> {
     let refusal = refusal_of(trouble);
     let begun = first_lines(alloc, lines)?;
-    let wanted = format!(in alloc; "Some({refusal:?})\n{begun}")?;
-    is_same(found.as_str(), wanted.as_str())?;
-    let found = statement(alloc, &mut desk, "ALFA")?;
-    let wanted = told_after(alloc, trouble, STATEMENT)?;
-    is_same(found.as_str(), wanted.as_str())
+    Ok(format!(in alloc; "Some({refusal:?})\n{begun}")?)
+}
+
+// Of ALFA's statement this is told.
+fn has_statement(alloc: Global, desk: &mut TestDesk, wanted: &str) -> Result<(), Fail> {
+    let found = statement(alloc, desk, "ALFA")?;
+    is_same(found.as_str(), wanted)
+}
+
+// The read of a statement after so many meets this trouble, and so many lines are written before.
+fn is_begun(alloc: Global, trouble: Trouble, reads: usize, lines: usize) -> Result<(), Fail> {
+    let begun = told_of(alloc, trouble, lines)?;
+    let later = told_after(alloc, trouble, STATEMENT)?;
+    let mut desk = desk_after(alloc, reads, trouble)?;
+    has_statement(alloc, &mut desk, begun.as_str())?;
+    has_statement(alloc, &mut desk, later.as_str())
 }
 
 // Each read of a statement meets this trouble. Each posting is written once it is read, and the sums after the one look
@@ -154,10 +156,9 @@ fn each_read_of_a_statement_meets_trouble(rt: HostRuntime) -> Result<(), Fail> {
 
 #[test]
 fn a_statement_takes_five_reads(rt: HostRuntime) -> Result<(), Fail> {
-    let mut desk = desk_after(rt.alloc(), READS_OF_A_STATEMENT, Trouble::Lost)?;
-    let found = statement(rt.alloc(), &mut desk, "ALFA")?;
     let wanted = told_after(rt.alloc(), Trouble::OutOfMemory, STATEMENT)?;
-    is_same(found.as_str(), wanted.as_str())
+    let mut desk = desk_after(rt.alloc(), READS_OF_A_STATEMENT, Trouble::Lost)?;
+    has_statement(rt.alloc(), &mut desk, wanted.as_str())
 }
 
 #[test]
@@ -168,17 +169,20 @@ fn a_statement_of_nobody_is_refused_before_a_read(rt: HostRuntime) -> Result<(),
     is_same(found.as_str(), "Some(UnknownParticipant)\n")
 }
 
+// Of the report this is told.
+fn has_report(alloc: Global, desk: &mut TestDesk, wanted: &str) -> Result<(), Fail> {
+    let found = report(alloc, desk)?;
+    is_same(found.as_str(), wanted)
+}
+
 // The read of a report after so many meets this trouble, and nothing is written. Afterwards the desk has failed, or
 // tells the whole report.
 fn is_not_begun(alloc: Global, trouble: Trouble, reads: usize, whole: &str) -> Result<(), Fail> {
+    let nothing = told_of(alloc, trouble, 0)?;
+    let later = told_after(alloc, trouble, whole)?;
     let mut desk = desk_after(alloc, reads, trouble)?;
-    let found = report(alloc, &mut desk)?;
-    let refusal = refusal_of(trouble);
-    let wanted = format!(in alloc; "Some({refusal:?})\n")?;
-    is_same(found.as_str(), wanted.as_str())?;
-    let found = report(alloc, &mut desk)?;
-    let wanted = told_after(alloc, trouble, whole)?;
-    is_same(found.as_str(), wanted.as_str())
+    has_report(alloc, &mut desk, nothing.as_str())?;
+    has_report(alloc, &mut desk, later.as_str())
 }
 
 // Each read of a report meets this trouble.
@@ -189,14 +193,20 @@ fn none_is_begun(alloc: Global, trouble: Trouble, whole: &str) -> Result<(), Fai
     Ok(())
 }
 
+// The whole report, which takes so many reads.
+fn whole_report(alloc: Global) -> Result<String, Fail> {
+    let mut desk = desk_after(alloc, READS_OF_A_REPORT, Trouble::Lost)?;
+    let told = report(alloc, &mut desk)?;
+    match told.as_str().strip_prefix("None\n") {
+        Some(whole) => Ok(String::from_str(alloc, whole)?),
+        None => Err(Fail::from("a report that was refused")),
+    }
+}
+
 #[test]
 fn a_report_is_begun_once_all_is_read(rt: HostRuntime) -> Result<(), Fail> {
-    let mut desk = desk_after(rt.alloc(), READS_OF_A_REPORT, Trouble::Lost)?;
-    let told = report(rt.alloc(), &mut desk)?;
-    let whole = told
-        .as_str()
-        .strip_prefix("None\n")
-        .ok_or("a report that was refused")?;
+    let told = whole_report(rt.alloc())?;
+    let whole = told.as_str();
     assert!(rt; whole.starts_with("report 2024-03-04\n"));
     none_is_begun(rt.alloc(), Trouble::Lost, whole)?;
     none_is_begun(rt.alloc(), Trouble::Kept, whole)?;

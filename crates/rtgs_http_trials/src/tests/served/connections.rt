@@ -122,23 +122,31 @@ fn the_operator_bears_the_key_that_was_given(rt: HostRuntime) -> Result<(), Fail
     Ok(())
 }
 
-#[test]
-fn orders_in_a_ring_wait_until_somebody_resolves(rt: HostRuntime) -> Result<(), Fail> {
-    let mut desk = TestDesk::open(rt.alloc())?;
-    let alloc = rt.alloc();
-    let asked = r#"ALFA POST /orders {"amount":100,"reference":"R-1","to":"BETA"}"#;
-    let first = sent(alloc, asked)?;
-    let asked = r#"BETA POST /orders {"amount":100,"reference":"R-1","to":"GAMA"}"#;
-    let second = sent(alloc, asked)?;
-    let asked = r#"GAMA POST /orders {"amount":100,"reference":"R-1","to":"ALFA"}"#;
-    let third = sent(alloc, asked)?;
+// Orders of a ring, none of which is covered.
+const RING: [&str; 3] = [
+    r#"ALFA POST /orders {"amount":100,"reference":"R-1","to":"BETA"}"#,
+    r#"BETA POST /orders {"amount":100,"reference":"R-1","to":"GAMA"}"#,
+    r#"GAMA POST /orders {"amount":100,"reference":"R-1","to":"ALFA"}"#,
+];
+
+// Whether a desk that serves the orders of the ring takes them all.
+fn takes_ring(alloc: Global, desk: &mut TestDesk) -> Result<bool, Fail> {
+    let first = sent(alloc, RING[0])?;
+    let second = sent(alloc, RING[1])?;
+    let third = sent(alloc, RING[2])?;
     let inputs = [
         Some(first.as_bytes()),
         Some(second.as_bytes()),
         Some(third.as_bytes()),
     ];
     let told = ["HTTP/1.1 200 OK\r\n"; 3];
-    assert!(rt; serves(rt.alloc(), &mut desk, &inputs, 3, 0, &told));
+    Ok(serves(alloc, desk, &inputs, 3, 0, &told))
+}
+
+#[test]
+fn orders_in_a_ring_wait_until_somebody_resolves(rt: HostRuntime) -> Result<(), Fail> {
+    let mut desk = TestDesk::open(rt.alloc())?;
+    assert!(rt; takes_ring(rt.alloc(), &mut desk)?);
     let resolved = desk.desk.submit(Command::Resolve);
     assert!(rt; matches!(resolved, Ok(Answer::Resolved { count: 3, .. })));
     Ok(())

@@ -1,5 +1,6 @@
 //! Hostile inputs, and the whole reply to each. None of them gives a command.
 use super::super::test_desk::{TestDesk, follows_after};
+use std::alloc::Global;
 use std::test::Fail;
 
 const HEADS: &str = r#"
@@ -66,16 +67,20 @@ ALFA GET /orders/A-1
 -> 404 Not Found {"code":9,"name":"UnknownOrder"}
 "#;
 
+// So many bytes of no line are told this.
+fn is_told(alloc: Global, desk: &mut TestDesk, count: usize, told: &str) -> Result<(), Fail> {
+    let input = "A".repeat(alloc, count)?;
+    desk.tells(input.as_str(), told)
+}
+
 #[test]
 fn heads_without_an_end(rt: HostRuntime) -> Result<(), Fail> {
     let truncated = r#"400 Bad Request {"code":64,"name":"Truncated"}"#;
     let too_long = r#"413 Content Too Large {"code":61,"name":"HeadTooLong"}"#;
-    let most = "A".repeat(rt.alloc(), 8191)?;
-    let more = "A".repeat(rt.alloc(), 8192)?;
     let mut desk = TestDesk::open(rt.alloc())?;
-    desk.tells("", truncated)?;
-    desk.tells(most.as_str(), truncated)?;
-    desk.tells(more.as_str(), too_long)
+    is_told(rt.alloc(), &mut desk, 0, truncated)?;
+    is_told(rt.alloc(), &mut desk, 8191, truncated)?;
+    is_told(rt.alloc(), &mut desk, 8192, too_long)
 }
 
 #[test]

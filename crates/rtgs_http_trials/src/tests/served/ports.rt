@@ -1,6 +1,6 @@
 //! Connections on a port of this machine, whose peers have sent all that they send before the first one is taken.
-use super::super::GOOD;
 use super::super::test_desk::{TestDesk, whole};
+use super::super::{GOOD, is_same};
 use rtgs_http_server::{Port, serve_connections};
 use std::alloc::Global;
 use std::io::{Read, Write};
@@ -26,30 +26,40 @@ fn peer(rt: &HostRuntime, port: u16, more: usize) -> Result<TcpStream, Fail> {
     Ok(stream)
 }
 
-// All that a peer gets, to its end.
-fn gets(alloc: Global, peer: &mut TcpStream) -> Result<String, Fail> {
+// All that a peer gets, to its end, is the reply with this body.
+fn gets(alloc: Global, peer: &mut TcpStream, body: &str) -> Result<(), Fail> {
     let mut reply = String::new(alloc);
     peer.read_to_string(&mut reply)?;
-    Ok(reply)
+    let wanted = whole(alloc, "200 OK", "application/json", body)?;
+    is_same(reply.as_str(), wanted.as_str())
+}
+
+// Serves the connections of a port at a new desk. The port is left then.
+fn serve(alloc: Global, port: Port) -> Result<(), Fail> {
+    let mut port = port;
+    let mut desk = TestDesk::open(alloc)?;
+    serve_connections(alloc, &mut port, &mut desk.desk, &desk.operator);
+    drop(port);
+    Ok(())
+}
+
+// Three peers of one port that are served, of which the first and the third have sent more than their order.
+fn served_peers(rt: &HostRuntime) -> Result<[TcpStream; 3], Fail> {
+    let number = free_port(rt)?;
+    let port = Port::listen(rt, number, 3)?;
+    let first = peer(rt, number, 20000)?;
+    let second = peer(rt, number, 0)?;
+    let third = peer(rt, number, 20000)?;
+    serve(rt.alloc(), port)?;
+    Ok([first, second, third])
 }
 
 #[test]
 fn each_peer_gets_its_reply_whatever_more_it_sent(rt: HostRuntime) -> Result<(), Fail> {
-    let alloc = rt.alloc();
-    let number = free_port(&rt)?;
-    let mut port = Port::listen(&rt, number, 3)?;
-    let mut first = peer(&rt, number, 20000)?;
-    let mut second = peer(&rt, number, 0)?;
-    let mut third = peer(&rt, number, 20000)?;
-    let mut desk = TestDesk::open(alloc)?;
-    serve_connections(alloc, &mut port, &mut desk.desk, &desk.operator);
-    drop(port);
-    let queued = whole(alloc, "200 OK", "application/json", QUEUED)?;
-    let repeated = whole(alloc, "200 OK", "application/json", REPEATED)?;
-    assert_eq!(rt; gets(alloc, &mut first)?.as_str(), queued.as_str());
-    assert_eq!(rt; gets(alloc, &mut second)?.as_str(), repeated.as_str());
-    assert_eq!(rt; gets(alloc, &mut third)?.as_str(), repeated.as_str());
-    Ok(())
+    let [mut first, mut second, mut third] = served_peers(&rt)?;
+    gets(rt.alloc(), &mut first, QUEUED)?;
+    gets(rt.alloc(), &mut second, REPEATED)?;
+    gets(rt.alloc(), &mut third, REPEATED)
 }
 
 // Only the machine's own address is listened on: at another one the same number stays with whoever has it.

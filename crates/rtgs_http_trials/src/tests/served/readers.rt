@@ -26,20 +26,24 @@ fn is_replied<R: Read>(
     }
 }
 
+// The same of the good request, whose reader gives a byte a read, and fails after so many reads.
+fn is_replied_after(alloc: Global, desk: &mut TestDesk, reads: usize) -> Option<bool> {
+    let mut reader = CountedReader::new(GOOD.as_bytes(), 1, reads);
+    is_replied(alloc, desk, &mut reader, QUEUED)
+}
+
 #[test]
 fn a_reader_that_fails_gives_no_command(rt: HostRuntime) -> Result<(), Fail> {
     let mut desk = TestDesk::open(rt.alloc())?;
     for reads in 0..GOOD.len() {
-        let mut reader = CountedReader::new(GOOD.as_bytes(), 1, reads);
-        let replied = is_replied(rt.alloc(), &mut desk, &mut reader, QUEUED);
+        let replied = is_replied_after(rt.alloc(), &mut desk, reads);
         assert!(rt; replied.is_none(), "{replied:?} after {reads} reads");
     }
     desk.is_told(
         "ALFA GET /orders/A-1",
         r#"404 Not Found {"code":9,"name":"UnknownOrder"}"#,
     )?;
-    let mut reader = CountedReader::new(GOOD.as_bytes(), 1, GOOD.len());
-    let replied = is_replied(rt.alloc(), &mut desk, &mut reader, QUEUED);
+    let replied = is_replied_after(rt.alloc(), &mut desk, GOOD.len());
     assert!(rt; replied == Some(true), "{replied:?}");
     Ok(())
 }

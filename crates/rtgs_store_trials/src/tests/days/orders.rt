@@ -1,9 +1,12 @@
 //! Short days, answer by answer.
 use super::super::scripts::command;
 use super::super::scripts::desks::{desk_after, desk_follows};
-use super::super::setting::queued;
+use super::super::setting::{Reply, queued};
 use rtgs_book::{Command, Refusal};
+use rtgs_desk::Desk;
+use rtgs_keeper::MemoryKeeper;
 use std::alloc::Global;
+use std::process::Abort;
 use std::test::Fail;
 
 #[test]
@@ -77,16 +80,29 @@ fn uncovered(alloc: Global, number: u64) -> Result<Command, Fail> {
     command(alloc, text.as_str())
 }
 
+/// What the desk answers to ALFA's order of this number.
+fn sent(alloc: Global, desk: &mut Desk<MemoryKeeper>, number: u64) -> Result<Reply, Fail> {
+    let order = uncovered(alloc, number)?;
+    Ok(desk.submit(order))
+}
+
+/// ALFA's first 500 orders wait, each behind the last.
+fn fills_a_queue(
+    rt: &(impl Abort + AllocGlobal),
+    desk: &mut Desk<MemoryKeeper>,
+) -> Result<(), Fail> {
+    for number in 1..=500u64 {
+        assert_eq!(rt; sent(rt.alloc(), desk, number)?, queued(number, number));
+    }
+    Ok(())
+}
+
 #[test]
 fn a_queue_takes_500_orders(rt: HostRuntime) -> Result<(), Fail> {
     let another = command(rt.alloc(), "order BETA B-1 ALFA 5")?;
     let mut desk = desk_after(rt.alloc(), "open 2024-03-04 => Opened")?;
-    for number in 1..=500u64 {
-        let order = uncovered(rt.alloc(), number)?;
-        assert_eq!(rt; desk.submit(order), queued(number, number));
-    }
-    let one_more = uncovered(rt.alloc(), 501)?;
-    assert_eq!(rt; desk.submit(one_more), Err(Refusal::QueueFull));
-    assert_eq!(rt; desk.submit(another), queued(501, 1));
+    fills_a_queue(&rt, &mut desk)?;
+    let replies = [sent(rt.alloc(), &mut desk, 501)?, desk.submit(another)];
+    assert_eq!(rt; replies, [Err(Refusal::QueueFull), queued(501, 1)]);
     Ok(())
 }

@@ -5,7 +5,7 @@ use super::super::setting::{
 use rtgs_book::{Answer, Command, Day, Known, Order, OrderState, Phase, RowChange};
 use rtgs_book_file::BookLock;
 use rtgs_keeper::Keeper;
-use rtgs_money::Code;
+use rtgs_money::{Code, Reference};
 use rtgs_tables::SqlKeeper;
 use sqlite::{Connection, Unknown};
 use std::alloc::Global;
@@ -34,12 +34,17 @@ fn keep<K: Keeper>(alloc: Global, keeper: &mut K, row: RowChange) -> Result<(), 
     Ok(())
 }
 
+/// Adds a bank.
+fn add_bank<K: Keeper>(alloc: Global, keeper: &mut K, number: u64) -> Result<(), Fail> {
+    let text = format!(in alloc; "BANK{number}")?;
+    let bank = participant(text.as_str(), (number % 256) as u8)?;
+    keep(alloc, keeper, RowChange::AddParticipant(bank))
+}
+
 /// Adds the banks.
 fn add_banks<K: Keeper>(alloc: Global, keeper: &mut K) -> Result<(), Fail> {
     for number in 0..BANKS {
-        let text = format!(in alloc; "BANK{number}")?;
-        let bank = participant(text.as_str(), number as u8)?;
-        keep(alloc, keeper, RowChange::AddParticipant(bank))?;
+        add_bank(alloc, keeper, number)?;
     }
     Ok(())
 }
@@ -53,13 +58,18 @@ fn open_monday<K: Keeper>(alloc: Global, keeper: &mut K) -> Result<(), Fail> {
     keep(alloc, keeper, RowChange::SetDay(day))
 }
 
+/// The reference of an order.
+fn name(alloc: Global, number: u64) -> Result<Reference, Fail> {
+    let text = format!(in alloc; "R-{number}")?;
+    reference(text.as_str())
+}
+
 /// The order with this number, of one cent from a bank to the next one.
 fn order(alloc: Global, number: u64) -> Result<Order, Fail> {
-    let text = format!(in alloc; "R-{number}")?;
     Ok(Order {
         number,
         sender: bank(alloc, number % BANKS)?,
-        reference: reference(text.as_str())?,
+        reference: name(alloc, number)?,
         receiver: bank(alloc, (number % BANKS + 1) % BANKS)?,
         amount: amount(1)?,
         date: date(MONDAY)?,
@@ -120,19 +130,35 @@ fn submitted(rt: &HostRuntime, command: Command) -> Result<Reply, Fail> {
     Ok(reply)
 }
 
+/// Makes the file, and keeps the ring in it.
+fn make_ring(rt: &HostRuntime) -> Result<(), Fail> {
+    BookLock::take(rt, FILE, Unknown)?.make(rt)?;
+    fill(rt)
+}
+
+/// What is answered to a resolution, to the last order again, and to one order more.
+fn replies(rt: &HostRuntime) -> Result<[Reply; 3], Fail> {
+    let again = sends(rt.alloc(), ORDERS)?;
+    let one_more = sends(rt.alloc(), ORDERS + 1)?;
+    Ok([
+        submitted(rt, Command::Resolve)?,
+        submitted(rt, again)?,
+        submitted(rt, one_more)?,
+    ])
+}
+
 #[test]
 fn a_ring_of_33000_orders_is_settled_under_one_mark(rt: HostRuntime) -> Result<(), Fail> {
-    BookLock::take(&rt, FILE, Unknown)?.make(&rt)?;
-    fill(&rt)?;
-    let settled = submitted(&rt, Command::Resolve)?;
-    assert_eq!(rt; settled, resolved(1, ORDERS, ORDERS as i64));
-    let known = Known::Order {
+    let settled = Known::Order {
         number: ORDERS,
         state: OrderState::Settled(1),
     };
-    let repeated = submitted(&rt, sends(rt.alloc(), ORDERS)?)?;
-    assert_eq!(rt; repeated, Ok(Answer::Repeated(known)));
-    let next = submitted(&rt, sends(rt.alloc(), ORDERS + 1)?)?;
-    assert_eq!(rt; next, queued(ORDERS + 1, 1));
+    let wanted = [
+        resolved(1, ORDERS, ORDERS as i64),
+        Ok(Answer::Repeated(settled)),
+        queued(ORDERS + 1, 1),
+    ];
+    make_ring(&rt)?;
+    assert_eq!(rt; replies(&rt)?, wanted);
     Ok(())
 }

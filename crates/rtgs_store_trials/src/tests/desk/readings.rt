@@ -1,9 +1,9 @@
 //! What a desk tells of its book.
-use super::super::setting::{MONDAY, change, code, date, desk_over, order, participant, reference};
+use super::super::setting::{MONDAY, change, code, date, desk_over, order, participant};
 use rtgs_book::{Day, Order, OrderState, Phase, Refusal, RowChange};
 use rtgs_desk::{AccountReading, Desk};
 use rtgs_keeper::{Keeper, MemoryKeeper};
-use rtgs_money::{Cents, Units};
+use rtgs_money::{Cents, Code, Reference, Units};
 use std::alloc::Global;
 use std::test::Fail;
 
@@ -49,37 +49,55 @@ fn an_account_is_told_with_its_queue(rt: HostRuntime) -> Result<(), Fail> {
         queued_value: Units::new(150),
     };
     let desk = waiting(rt.alloc(), &orders()?)?;
-    assert_eq!(rt; desk.account(&told.participant.code), Ok(told));
-    assert_eq!(rt; desk.account(&unknown), Err(Refusal::UnknownParticipant));
+    let accounts = [desk.account(&told.participant.code), desk.account(&unknown)];
+    assert_eq!(rt; accounts, [Ok(told), Err(Refusal::UnknownParticipant)]);
     Ok(())
+}
+
+// Whether the desk tells these orders as the sender's queue.
+fn has_queue(desk: &Desk<MemoryKeeper>, sender: &Code, orders: &[Order]) -> Result<bool, Refusal> {
+    let queue = desk.queue_of(sender)?;
+    Ok(queue.as_slice() == orders)
 }
 
 #[test]
 fn a_queue_is_told_in_its_order(rt: HostRuntime) -> Result<(), Fail> {
-    let sender = code("ALFA")?;
     let unknown = code("GAMMA")?;
     let orders = orders()?;
     let desk = waiting(rt.alloc(), &orders)?;
-    let queue = desk.queue_of(&sender)?;
-    assert_eq!(rt; queue.as_slice(), [orders[0], orders[2]].as_slice());
-    let refusal = desk.queue_of(&unknown).err();
-    assert_eq!(rt; refusal, Some(Refusal::UnknownParticipant));
+    let told = [
+        has_queue(&desk, &orders[0].sender, &[orders[0], orders[2]]),
+        has_queue(&desk, &unknown, &[]),
+    ];
+    assert_eq!(rt; told, [Ok(true), Err(Refusal::UnknownParticipant)]);
     Ok(())
+}
+
+// What the desk tells of the order with this reference, from one sender after another.
+fn orders_of(
+    desk: &mut Desk<MemoryKeeper>,
+    senders: &[Code; 3],
+    reference: &Reference,
+) -> [Result<Order, Refusal>; 3] {
+    [
+        desk.order_of(&senders[0], reference),
+        desk.order_of(&senders[1], reference),
+        desk.order_of(&senders[2], reference),
+    ]
 }
 
 #[test]
 fn an_order_is_told_by_its_name(rt: HostRuntime) -> Result<(), Fail> {
-    let other = code("BETA")?;
-    let unknown = code("GAMMA")?;
     let orders = orders()?;
     let withdrawn = orders[1];
-    let reference = withdrawn.reference;
+    let senders = [withdrawn.sender, code("BETA")?, code("GAMMA")?];
     let mut desk = waiting(rt.alloc(), &orders)?;
-    let found = desk.order_of(&withdrawn.sender, &reference);
-    assert_eq!(rt; found, Ok(withdrawn));
-    let found = desk.order_of(&other, &reference);
-    assert_eq!(rt; found, Err(Refusal::UnknownOrder));
-    let found = desk.order_of(&unknown, &reference);
-    assert_eq!(rt; found, Err(Refusal::UnknownParticipant));
+    let told = orders_of(&mut desk, &senders, &withdrawn.reference);
+    let wanted = [
+        Ok(withdrawn),
+        Err(Refusal::UnknownOrder),
+        Err(Refusal::UnknownParticipant),
+    ];
+    assert_eq!(rt; told, wanted);
     Ok(())
 }

@@ -2,8 +2,11 @@
 use super::cut_writer::CutWriter;
 use super::{THREE_ROWS, open_desk, results_text, rows_of, submitted, written};
 use rtgs_book::{OrderState, Refusal};
-use rtgs_exchange::{BatchResult, RowReply, write_results};
+use rtgs_desk::Desk;
+use rtgs_exchange::{BatchResult, OrderRow, RowReply, write_results};
+use rtgs_keeper::MemoryKeeper;
 use std::alloc::Global;
+use std::process::Abort;
 use std::test::Fail;
 
 const FIRST: &str = "reference,result,number,detail
@@ -18,14 +21,20 @@ A-2,repeated,2,settled
 A-3,repeated,3,queued
 ";
 
+// Fails unless this is the result file of the three rows.
+fn results_are(alloc: Global, desk: &mut Desk<MemoryKeeper>, wanted: &str) -> Result<(), Fail> {
+    let text = results_text(alloc, desk, THREE_ROWS)?;
+    if text.as_str() == wanted {
+        return Ok(());
+    }
+    Err(Fail::from(text))
+}
+
 #[test]
 fn a_line_tells_what_became_of_a_row(rt: HostRuntime) -> Result<(), Fail> {
     let mut desk = open_desk(rt.alloc())?;
-    let first = results_text(rt.alloc(), &mut desk, THREE_ROWS)?;
-    assert_eq!(rt; first.as_str(), FIRST);
-    let again = results_text(rt.alloc(), &mut desk, THREE_ROWS)?;
-    assert_eq!(rt; again.as_str(), AGAIN);
-    Ok(())
+    results_are(rt.alloc(), &mut desk, FIRST)?;
+    results_are(rt.alloc(), &mut desk, AGAIN)
 }
 
 // Two orders that came before, and were withdrawn and rejected; then the batch stopped.
@@ -60,26 +69,41 @@ fn a_repeat_tells_each_state(rt: HostRuntime) -> Result<(), Fail> {
     Ok(())
 }
 
+// Whether a writer that stops after so many writes is told to have the whole text if it has, and has what it took of it.
+fn has_a_beginning(
+    alloc: Global,
+    rows: &[OrderRow],
+    batch: &BatchResult,
+    whole: &str,
+    (writes, fails): (usize, bool),
+) -> bool {
+    let mut writer = CutWriter::new(alloc, writes, fails);
+    let is_written = write_results(alloc, &mut writer, rows, batch).is_ok();
+    let enough = whole.len().div_ceil(5);
+    let length = whole.len().min(writes.saturating_mul(5));
+    is_written == (writes == enough) && writer.taken.as_slice() == &whole.as_bytes()[..length]
+}
+
+// Fails unless each writer that stops before the end, or at it, has a beginning of the text.
+fn writers_have_beginnings(
+    rt: &(impl Abort + AllocGlobal),
+    rows: &[OrderRow],
+    batch: &BatchResult,
+    whole: &str,
+) {
+    for writes in 0..=whole.len().div_ceil(5) {
+        let fails = has_a_beginning(rt.alloc(), rows, batch, whole, (writes, true));
+        let is_full = has_a_beginning(rt.alloc(), rows, batch, whole, (writes, false));
+        assert!(rt; fails && is_full, "after {writes} writes");
+    }
+}
+
 #[test]
 fn a_writer_that_fails_has_a_beginning(rt: HostRuntime) -> Result<(), Fail> {
     let rows = rows_of(rt.alloc(), THREE_ROWS)?;
     let mut desk = open_desk(rt.alloc())?;
     let batch = submitted(rt.alloc(), &mut desk, rows.as_slice())?;
     let whole = written(rt.alloc(), rows.as_slice(), &batch)?;
-    let enough = whole.len().div_ceil(5);
-    for writes in 0..=enough {
-        for fails in [false, true] {
-            let mut writer = CutWriter::new(rt.alloc(), writes, fails);
-            let is_written = write_results(
-                rt.alloc(),
-                &mut writer,
-                rows.as_slice(),
-                &batch,
-            ).is_ok();
-            assert_eq!(rt; is_written, writes == enough);
-            let length = whole.len().min(5 * writes);
-            assert_eq!(rt; writer.taken.as_slice(), &whole.as_bytes()[..length]);
-        }
-    }
+    writers_have_beginnings(&rt, rows.as_slice(), &batch, whole.as_str());
     Ok(())
 }

@@ -1,7 +1,7 @@
 //! Tests of a book in memory.
-use super::super::setting::{MONDAY, change, code, date, order, participant, posting};
-use super::add_two_banks;
-use rtgs_book::{Day, Fault, Mark, OrderState, Phase, RowChange, Rule};
+use super::super::setting::{MONDAY, change, code, date, order, posting};
+use super::{add_two_banks, has_two_banks};
+use rtgs_book::{Book, Day, Fault, Mark, Order, OrderState, Participant, Phase, RowChange, Rule};
 use rtgs_keeper::{Keeper, MemoryKeeper};
 use rtgs_money::{Cents, Credit};
 use std::alloc::Global;
@@ -26,23 +26,14 @@ fn a_new_book_is_empty_and_closed(rt: HostRuntime) -> Result<(), Fail> {
 #[test]
 fn what_is_committed_is_loaded(rt: HostRuntime) -> Result<(), Fail> {
     let book = two_banks(rt.alloc())?.load(rt.alloc())?;
-    assert_eq!(rt;
-        book.participants.as_slice(),
-        [participant("ALFA", 1)?, participant("BETA", 2)?].as_slice()
-    );
-    assert_eq!(rt;
-        book.postings.as_slice(),
-        [posting(1, "ALFA", "P-1", 1000)?].as_slice()
-    );
+    assert!(rt; has_two_banks(&book)?);
     Ok(())
 }
 
-#[test]
-fn an_order_is_settled(rt: HostRuntime) -> Result<(), Fail> {
-    let alloc = rt.alloc();
-    let mut keeper = two_banks(alloc)?;
+/// The rows of an open Monday on which two orders of 300 cents came, of which the first is settled.
+fn one_settled() -> Result<[RowChange; 5], Fail> {
     let monday = date(MONDAY)?;
-    let rows = [
+    Ok([
         RowChange::SetDay(Day {
             date: Some(monday),
             phase: Phase::Open,
@@ -59,34 +50,55 @@ fn an_order_is_settled(rt: HostRuntime) -> Result<(), Fail> {
             count: 1,
             value: Cents::new(300),
         }),
-    ];
-    keeper.commit(&change(alloc, &rows)?)?;
-    let book = keeper.load(alloc)?;
-    let states = book.orders.as_slice().iter().map(|order| order.state);
-    let states: Vec<OrderState> = states.collect(alloc)?;
-    assert_eq!(rt;
-        states.as_slice(),
-        [OrderState::Settled(1), OrderState::Queued].as_slice()
+    ])
+}
+
+/// The book of two banks after these rows.
+fn book_after(alloc: Global, rows: &[RowChange]) -> Result<Book, Fail> {
+    let mut keeper = two_banks(alloc)?;
+    keeper.commit(&change(alloc, rows)?)?;
+    Ok(keeper.load(alloc)?)
+}
+
+/// The states of two orders, if there are two.
+fn states(orders: &[Order]) -> Option<[OrderState; 2]> {
+    match orders {
+        [first, second] => Some([first.state, second.state]),
+        _ => None,
+    }
+}
+
+#[test]
+fn an_order_is_settled(rt: HostRuntime) -> Result<(), Fail> {
+    let book = book_after(rt.alloc(), &one_settled()?)?;
+    let told = (
+        states(book.orders.as_slice()),
+        book.marks.len(),
+        book.day.phase,
     );
-    assert_eq!(rt; book.marks.len(), 1);
-    assert_eq!(rt; book.day.phase, Phase::Open);
+    let wanted = [OrderState::Settled(1), OrderState::Queued];
+    assert_eq!(rt; told, (Some(wanted), 1, Phase::Open));
     Ok(())
+}
+
+/// The credits of two participants, if there are two.
+fn credits(participants: &[Participant]) -> Option<[Credit; 2]> {
+    match participants {
+        [first, second] => Some([first.credit, second.credit]),
+        _ => None,
+    }
 }
 
 #[test]
 fn a_credit_is_set(rt: HostRuntime) -> Result<(), Fail> {
-    let alloc = rt.alloc();
-    let mut keeper = two_banks(alloc)?;
     let credit = Credit::from_cents(500).ok_or("a credit")?;
     let row = RowChange::SetCredit {
         code: code("BETA")?,
         credit,
     };
-    keeper.commit(&change(alloc, &[row])?)?;
-    let book = keeper.load(alloc)?;
-    let credits = book.participants.as_slice().iter().map(|one| one.credit);
-    let credits: Vec<Credit> = credits.collect(alloc)?;
-    assert_eq!(rt; credits.as_slice(), [Credit::NONE, credit].as_slice());
+    let book = book_after(rt.alloc(), &[row])?;
+    let told = credits(book.participants.as_slice());
+    assert_eq!(rt; told, Some([Credit::NONE, credit]));
     Ok(())
 }
 
@@ -96,10 +108,8 @@ fn an_unsound_book_is_not_loaded(rt: HostRuntime) -> Result<(), Fail> {
     let mut keeper = two_banks(alloc)?;
     let row = RowChange::AddPosting(posting(3, "ALFA", "P-1", 5)?);
     keeper.commit(&change(alloc, &[row])?)?;
+    let fault = keeper.load(alloc).err();
     let rule = Rule::PostingNumbers;
-    assert_eq!(rt;
-        keeper.load(alloc).err(),
-        Some(Fault::Inconsistent { rule })
-    );
+    assert_eq!(rt; fault, Some(Fault::Inconsistent { rule }));
     Ok(())
 }

@@ -1,9 +1,11 @@
 //! Loading and committing while all memory is taken, in a process of its own.
 use super::{posts, two_banks};
-use rtgs_book::Fault;
+use rtgs_book::{Change, Fault};
 use rtgs_keeper::{CommitFault, Keeper};
+use rtgs_tables::SqlKeeper;
+use sqlite::MemStore;
 use std::alloc::Global;
-use std::process::Command;
+use std::process::{Abort, Command, Output};
 use std::test::Fail;
 use std::{env, fs};
 
@@ -53,35 +55,63 @@ fn take_all(alloc: Global, taken: &mut Vec<Vec<u8>>) {
     take_small(alloc, taken);
 }
 
+/// What loading and then committing fail with while all memory is taken.
+fn faults_without_memory(
+    alloc: Global,
+    keeper: &mut SqlKeeper<MemStore>,
+    change: &Change,
+) -> Result<(Option<Fault>, Option<CommitFault>), Fail> {
+    let mut taken = Vec::with_capacity(alloc, MOST_BLOCKS)?;
+    take_all(alloc, &mut taken);
+    let loaded = keeper.load(alloc).err();
+    let committed = keeper.commit(change).err();
+    Ok((loaded, committed))
+}
+
+/// How many postings the keeper has once it has committed the change.
+fn postings_after(
+    alloc: Global,
+    keeper: &mut SqlKeeper<MemStore>,
+    change: &Change,
+) -> Result<usize, Fail> {
+    keeper.commit(change)?;
+    Ok(keeper.load(alloc)?.postings.len())
+}
+
+/// Fails unless both calls lack memory while all is taken, and the keeper goes on once it is there again.
+fn go_on_with_memory(rt: &(impl Abort + AllocGlobal)) -> Result<(), Fail> {
+    let change = posts(rt.alloc(), 2, "P-2", 5, 1005)?;
+    let mut keeper = two_banks(rt.alloc())?;
+    let faults = faults_without_memory(rt.alloc(), &mut keeper, &change)?;
+    let lacking = (Some(Fault::OutOfMemory), Some(CommitFault::OutOfMemory));
+    assert_eq!(rt; faults, lacking);
+    assert_eq!(rt; postings_after(rt.alloc(), &mut keeper, &change)?, 2);
+    Ok(())
+}
+
 #[test]
 fn calls_while_all_memory_is_taken(rt: HostRuntime) -> Result<(), Fail> {
     if env::var(&rt, UNDER_A_LIMIT).is_err() {
         return Ok(());
     }
-    let alloc = rt.alloc();
-    let mut keeper = two_banks(alloc)?;
-    let change = posts(alloc, 2, "P-2", 5, 1005)?;
-    let mut taken = Vec::with_capacity(alloc, MOST_BLOCKS)?;
-    take_all(alloc, &mut taken);
-    let loaded = keeper.load(alloc).err();
-    let committed = keeper.commit(&change).err();
-    drop(taken);
-    assert_eq!(rt; loaded, Some(Fault::OutOfMemory));
-    assert_eq!(rt; committed, Some(CommitFault::OutOfMemory));
-    keeper.commit(&change)?;
-    assert_eq!(rt; keeper.load(alloc)?.postings.len(), 2);
+    go_on_with_memory(&rt)?;
     fs::write(&rt, SEEN, "90")?;
     Ok(())
 }
 
-#[test]
-fn lack_of_memory_is_never_a_fault_of_the_store(rt: HostRuntime) -> Result<(), Fail> {
+/// Runs the other test in a process of its own, under the limit.
+fn run_under_a_limit(rt: &HostRuntime) -> Result<Output, Fail> {
     let mut program = Command::new(rt.alloc(), "sh")?;
     program.arg("-c")?;
     program.arg(LIMITED)?;
-    program.arg(env::current_exe(&rt)?)?;
+    program.arg(env::current_exe(rt)?)?;
     program.env(UNDER_A_LIMIT, "1")?;
-    let ran = program.output(&rt)?;
+    Ok(program.output(rt)?)
+}
+
+#[test]
+fn lack_of_memory_is_never_a_fault_of_the_store(rt: HostRuntime) -> Result<(), Fail> {
+    let ran = run_under_a_limit(&rt)?;
     assert!(rt;
         ran.status.success(),
         "{:?}",

@@ -5,7 +5,8 @@ use Rattle.rtgs_book.specs.Books.{Participant, Posting, Order, Mark}
 use Rattle.rtgs_book.specs.IntSum.{int_sum_by}
 use Rattle.rtgs_book.specs.Lookup.{accounts}
 use Rattle.rtgs_book.specs.Soundness.{AreNumbered, AreCodes, is_same_name}
-use Rattle.rtgs_book.specs.declared.rule.Rule.TheVariants.{PostingNumbers, ParticipantCodes, Parties, Floors, Total}
+use Rattle.rtgs_book.specs.declared.rule.Rule.TheVariants.{PostingNumbers, MarkNumbers, ParticipantCodes, Parties}
+use Rattle.rtgs_book.specs.declared.rule.Rule.TheVariants.{Marks, Floors, Total}
 use Rattle.rtgs_book.specs.declared.limits.TheConstants.{LARGEST_NUMBER, LARGEST_TOTAL}
 use Rattle.rtgs_book.proofs.RuleOrder.{earlier, few_postings, total_by_issue}
 use Rattle.rtgs_book.proofs.book.Book.keeps.Goals as goal
@@ -17,6 +18,10 @@ floors_hold-requires-clause-codes c = earlier c.args.self.now c.args.rule Floors
 pub floors_hold-requires-clause-few_postings : goal.floors_hold-requires-clause-few_postings
 floors_hold-requires-clause-few_postings c = few_postings c.args.self.now
     (earlier c.args.self.now c.args.rule Floors PostingNumbers c.in-Floors.is (lit< tt) c.requires)
+
+pub marks_fit-requires-clause-numbered : goal.marks_fit-requires-clause-numbered
+marks_fit-requires-clause-numbered c = earlier c.args.self.now c.args.rule Marks MarkNumbers c.in-Marks.is (lit< tt)
+    c.requires
 
 pub is_issue_small-requires : goal.is_issue_small-requires
 is_issue_small-requires c = subst (λ (ps : List Posting). length ps ≤ LARGEST_NUMBER) (sym c.as_slice-postings.ensures)

@@ -1,0 +1,154 @@
+//! Calls that make no request for memory: they go well where there is none.
+use super::super::scarce::setting::{KEYS, adds, code, limits, opens, pays};
+use super::super::scarce::{Held, in_a_process, is_limited};
+use rtgs_book::Command;
+use rtgs_cores::Found;
+use rtgs_gridlock::{Payment, Position, Positions, Queues, Workspace, greatest};
+use rtgs_http_replies::Reply;
+use rtgs_keeper::{Keeper, MemoryKeeper};
+use rtgs_ledger::Ledger;
+use rtgs_output::WriterFailed;
+use std::alloc::Global;
+use std::process::Abort;
+use std::test::Fail;
+
+// Two participants, of which the first can pay one of its three payments.
+fn positions_and_queues(alloc: Global) -> Result<(Positions, Queues), Fail> {
+    let mut positions = Positions::new(alloc);
+    for floor in [-30, 0] {
+        positions.push(Position { balance: 0, floor })?;
+    }
+    let payment = Payment {
+        receiver: 1,
+        amount: 20,
+    };
+    let mut queues = Queues::new(alloc);
+    queues.push(vec![in alloc; payment, payment, payment]?)?;
+    queues.push(Vec::new(alloc))?;
+    Ok((positions, queues))
+}
+
+// What is chosen of three payments of two participants, while there is no memory.
+fn chosen(
+    rt: &impl Abort,
+    alloc: Global,
+    positions: &Positions,
+    queues: &Queues,
+) -> Result<Workspace, Fail> {
+    assert_eq!(rt; positions.len(), 2);
+    assert_eq!(rt; queues.len(), 2);
+    assert!(rt; positions.are_floored());
+    assert!(rt; queues.are_in_range());
+    assert!(rt; queues.payment_count() == Some(3));
+    let mut workspace = Workspace::reserve(alloc, 2, 3)?;
+    let held = Held::all_but(alloc, 0)?;
+    greatest(positions, queues, &mut workspace);
+    held.free();
+    Ok(workspace)
+}
+
+#[test]
+fn greatest_choice(rt: HostRuntime) -> Result<(), Fail> {
+    if !is_limited(&rt) {
+        return in_a_process(&rt, "tests::in_memory::nothing::greatest_choice");
+    }
+    let (positions, queues) = positions_and_queues(rt.alloc())?;
+    let workspace = chosen(&rt, rt.alloc(), &positions, &queues)?;
+    assert_eq!(rt; workspace.lengths(), [1, 0].as_slice());
+    Ok(())
+}
+
+// The ledger of the book that a keeper has.
+fn ledger_of<K: Keeper>(alloc: Global, keeper: &mut K) -> Result<Ledger, Fail> {
+    let core = match keeper.core(alloc) {
+        Ok(core) => core,
+        Err(fault) => return Err(Fail::from(fault)),
+    };
+    Ok(Ledger::load(alloc, core)?)
+}
+
+// Two banks are added, and a day is opened.
+fn two_banks() -> Result<[Command; 4], Fail> {
+    Ok([
+        adds("ALFA", KEYS[0])?,
+        adds("BETA", KEYS[1])?,
+        limits("ALFA", 100)?,
+        opens()?,
+    ])
+}
+
+// A ledger of two banks, on an open day.
+fn ledger_of_two(alloc: Global) -> Result<Ledger, Fail> {
+    let mut ledger = ledger_of(alloc, &mut MemoryKeeper::new(alloc))?;
+    for command in two_banks()? {
+        let (_, change) = ledger.prepare(&command, &Found::NOTHING)?;
+        ledger.adopt(change);
+    }
+    Ok(ledger)
+}
+
+// What a bank has in cents, and how many of its orders wait.
+fn standing(ledger: &Ledger, bank: &str) -> Result<(i64, usize), Fail> {
+    let bank = code(bank)?;
+    let account = ledger.account(&bank).ok_or("a participant")?;
+    Ok((account.balance.cents(), ledger.queue(&bank)?.len()))
+}
+
+// Prepares a command for which nothing was found, and adopts it while there is no memory.
+fn adopt_without_memory(alloc: Global, ledger: &mut Ledger, command: &Command) -> Result<(), Fail> {
+    let (_, change) = ledger.prepare(command, &Found::NOTHING)?;
+    let held = Held::all_but(alloc, 0)?;
+    ledger.adopt(change);
+    held.free();
+    Ok(())
+}
+
+// How ALFA and BETA stand once an order of so many cents is adopted so.
+fn order_adopted(alloc: Global, cents: u64) -> Result<[(i64, usize); 2], Fail> {
+    let mut ledger = ledger_of_two(alloc)?;
+    let order = pays("ALFA", "A-1", "BETA", cents)?;
+    adopt_without_memory(alloc, &mut ledger, &order)?;
+    Ok([standing(&ledger, "ALFA")?, standing(&ledger, "BETA")?])
+}
+
+#[test]
+fn adopt(rt: HostRuntime) -> Result<(), Fail> {
+    if !is_limited(&rt) {
+        return in_a_process(&rt, "tests::in_memory::nothing::adopt");
+    }
+    assert_eq!(rt; order_adopted(rt.alloc(), 100)?, [(-100, 0), (100, 0)]);
+    assert_eq!(rt; order_adopted(rt.alloc(), 101)?, [(0, 1), (0, 0)]);
+    Ok(())
+}
+
+const FIXED: &str =
+    "HTTP/1.1 503 Service Unavailable\r\nContent-Type: application/json\r\nContent-Length: 32\r\n\
+            Connection: close\r\n\r\n{\"code\":90,\"name\":\"OutOfMemory\"}\
+            HTTP/1.1 503 Service Unavailable\r\nContent-Type: application/json\r\nContent-Length: 31\r\n\
+            Connection: close\r\n\r\n{\"code\":69,\"name\":\"AnswerLost\"}";
+
+// Sends the two replies that are always the same.
+fn send_fixed(written: &mut Vec<u8>) -> Result<(), WriterFailed> {
+    Reply::out_of_memory().send(written)?;
+    Reply::answer_lost().send(written)
+}
+
+// What is written of them while there is no memory.
+fn fixed_without_memory(alloc: Global) -> Result<Vec<u8>, Fail> {
+    let mut written = Vec::with_capacity(alloc, 1024)?;
+    let held = Held::all_but(alloc, 0)?;
+    let sent = send_fixed(&mut written);
+    held.free();
+    sent?;
+    Ok(written)
+}
+
+#[test]
+fn fixed_replies(rt: HostRuntime) -> Result<(), Fail> {
+    if !is_limited(&rt) {
+        return in_a_process(&rt, "tests::in_memory::nothing::fixed_replies");
+    }
+    let written = fixed_without_memory(rt.alloc())?;
+    assert_eq!(rt; std::str::from_utf8(written.as_slice())?, FIXED);
+    Ok(())
+}

@@ -1,9 +1,0 @@
-//! Desks that are opened.
-use rtgs_scarce_memory::{InMemory, Opens, for_each_refusal};
-use std::test::Fail;
-
-#[test]
-fn of_a_day(rt: HostRuntime) -> Result<(), Fail> {
-    let opens = Opens { store: InMemory };
-    for_each_refusal(&rt, "tests::openings::of_a_day", &opens, 1)
-}

@@ -1,0 +1,81 @@
+//! Commands of every kind.
+use super::super::scarce::{Submits, Worked, for_each_refusal};
+use super::over_sql::{BLOCKS, OverSql};
+use std::test::Fail;
+
+// Tries a command to a desk over tables. The name is that of the test.
+fn tries(rt: &HostRuntime, name: &str, worked: &Worked) -> Result<(), Fail> {
+    let call = Submits {
+        store: OverSql,
+        worked,
+    };
+    for_each_refusal(rt, name, &call, BLOCKS)
+}
+
+#[test]
+fn add(rt: HostRuntime) -> Result<(), Fail> {
+    let worked = Worked::add(rt.alloc())?;
+    tries(&rt, "tests::over_tables::commands::add", &worked)
+}
+
+#[test]
+fn set_credit(rt: HostRuntime) -> Result<(), Fail> {
+    let worked = Worked::set_credit(rt.alloc())?;
+    tries(&rt, "tests::over_tables::commands::set_credit", &worked)
+}
+
+#[test]
+fn post(rt: HostRuntime) -> Result<(), Fail> {
+    let worked = Worked::post(rt.alloc())?;
+    tries(&rt, "tests::over_tables::commands::post", &worked)
+}
+
+#[test]
+fn open_day(rt: HostRuntime) -> Result<(), Fail> {
+    let worked = Worked::open_day(rt.alloc())?;
+    tries(&rt, "tests::over_tables::commands::open_day", &worked)
+}
+
+#[test]
+fn order_that_settles(rt: HostRuntime) -> Result<(), Fail> {
+    let worked = Worked::order_that_settles(rt.alloc())?;
+    tries(
+        &rt,
+        "tests::over_tables::commands::order_that_settles",
+        &worked,
+    )
+}
+
+#[test]
+fn order_that_waits(rt: HostRuntime) -> Result<(), Fail> {
+    let worked = Worked::order_that_waits(rt.alloc())?;
+    tries(
+        &rt,
+        "tests::over_tables::commands::order_that_waits",
+        &worked,
+    )
+}
+
+#[test]
+fn withdraw(rt: HostRuntime) -> Result<(), Fail> {
+    let worked = Worked::withdraw(rt.alloc())?;
+    tries(&rt, "tests::over_tables::commands::withdraw", &worked)
+}
+
+#[test]
+fn resolve(rt: HostRuntime) -> Result<(), Fail> {
+    let worked = Worked::resolve(rt.alloc())?;
+    tries(&rt, "tests::over_tables::commands::resolve", &worked)
+}
+
+#[test]
+fn cut_off(rt: HostRuntime) -> Result<(), Fail> {
+    let worked = Worked::cut_off(rt.alloc())?;
+    tries(&rt, "tests::over_tables::commands::cut_off", &worked)
+}
+
+#[test]
+fn close_day(rt: HostRuntime) -> Result<(), Fail> {
+    let worked = Worked::close_day(rt.alloc())?;
+    tries(&rt, "tests::over_tables::commands::close_day", &worked)
+}

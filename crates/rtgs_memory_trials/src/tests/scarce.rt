@@ -1,0 +1,24 @@
+//! Calls whose requests for memory are refused in turn: what is called, how memory is held back from it, and which
+//! answers there may be.
+mod call;
+mod held;
+mod judged;
+mod limit;
+mod opening;
+mod sending;
+mod serving;
+pub mod setting;
+mod store;
+mod submitting;
+mod worked;
+
+pub use call::{Call, Outcome};
+pub use held::Held;
+pub use judged::same;
+pub use limit::{for_each_refusal, in_a_process, is_limited};
+pub use opening::Opens;
+pub use sending::{ORDERS, Sends, orders_desk};
+pub use serving::{OPERATOR, Serves, request_of};
+pub use store::{InMemory, Store};
+pub use submitting::Submits;
+pub use worked::Worked;

@@ -1,0 +1,81 @@
+//! A desk that is opened.
+use super::call::{Call, Outcome};
+use super::setting::{day, desk_after, seen_of};
+use super::store::Store;
+use rtgs_book::Fault;
+use rtgs_desk::Desk;
+use rtgs_keeper::Keeper;
+use std::alloc::Global;
+use std::test::Fail;
+
+/// A desk over this store, opened over the book of a day.
+#[derive(Clone, Copy)]
+pub struct Opens<S> {
+    pub store: S,
+}
+
+/// A keeper, or the desk that is opened over it.
+#[derive(Drop)]
+pub enum Book<K: Keeper + Drop> {
+    Closed(K),
+    Open(Desk<K>),
+    /// While it is opened.
+    Between,
+}
+
+impl<S: Store> Call for Opens<S>
+where
+    S::Kept: Keeper + Drop,
+{
+    type State = Book<S::Kept>;
+
+    type Answer = Option<Fault>;
+
+    fn begin(&self, alloc: Global) -> Result<Book<S::Kept>, Fail> {
+        let desk = desk_after(alloc, self.store.keeper(alloc)?, &day()?)?;
+        Ok(Book::Closed(desk.into_keeper()))
+    }
+
+    fn call(&self, alloc: Global, book: &mut Book<S::Kept>) -> Option<Fault> {
+        let keeper = match std::mem::replace(book, Book::Between) {
+            Book::Closed(keeper) => keeper,
+            Book::Open(desk) => desk.into_keeper(),
+            Book::Between => return None,
+        };
+        match Desk::open(alloc, keeper) {
+            Ok(desk) => {
+                *book = Book::Open(desk);
+                None
+            }
+            Err((fault, keeper)) => {
+                *book = Book::Closed(keeper);
+                Some(fault)
+            }
+        }
+    }
+
+    fn outcome(&self, answer: &Option<Fault>) -> Outcome {
+        match answer {
+            Some(Fault::OutOfMemory) => Outcome::Refused,
+            Some(Fault::StoreFault) if self.store.may_fail() => Outcome::Faulted,
+            _ => Outcome::Other,
+        }
+    }
+
+    fn reopened(&self, alloc: Global, book: Book<S::Kept>) -> Result<Book<S::Kept>, Fail> {
+        let keeper = match book {
+            Book::Closed(keeper) => keeper,
+            Book::Open(desk) => desk.into_keeper(),
+            Book::Between => return Err(Fail::from("a keeper was lost")),
+        };
+        Ok(Book::Closed(self.store.restarted(alloc, keeper)?))
+    }
+
+    fn seen(&self, alloc: Global, book: &mut Book<S::Kept>) -> Result<String, Fail> {
+        match book {
+            Book::Open(desk) => seen_of(alloc, desk),
+            Book::Closed(_) => Ok(String::from_str(alloc, "closed")?),
+            Book::Between => Err(Fail::from("a keeper was lost")),
+        }
+    }
+}

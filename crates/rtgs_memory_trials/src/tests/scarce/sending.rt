@@ -1,0 +1,83 @@
+//! A batch of orders that is submitted.
+use super::call::{Call, Outcome};
+use super::setting::{desk_after, desk_over, opens, posts, seen_of};
+use super::store::Store;
+use rtgs_book::Refusal;
+use rtgs_desk::Desk;
+use rtgs_exchange::{BatchResult, OrderRow, RowReply, submit_batch};
+use rtgs_keeper::Keeper;
+use rtgs_money::Code;
+use std::alloc::{AllocError, Global};
+use std::test::Fail;
+
+/// Three orders of ALFA, which has 150 cents.
+pub const ORDERS: &[u8] = b"reference,to,amount\nA-1,BETA,100\nA-2,GAMA,50\nA-3,BETA,25\n";
+
+/// What the desk replies to each of them.
+const REPLIES: [RowReply; 3] = [
+    RowReply::Settled { number: 1, mark: 1 },
+    RowReply::Settled { number: 2, mark: 2 },
+    RowReply::Queued {
+        number: 3,
+        place: 1,
+    },
+];
+
+/// A desk with three banks on an open day, of which ALFA has 150 cents.
+pub fn orders_desk<K: Keeper + Drop>(alloc: Global, keeper: K) -> Result<Desk<K>, Fail> {
+    desk_after(alloc, keeper, &[posts("ALFA", "P-1", 150)?, opens()?])
+}
+
+/// The rows of these orders, submitted to such a desk over this store.
+#[derive(Clone, Copy)]
+pub struct Sends<'a, S> {
+    pub store: S,
+    pub sender: Code,
+    pub rows: &'a [OrderRow],
+}
+
+impl<S: Store> Call for Sends<'_, S>
+where
+    S::Kept: Keeper + Drop,
+{
+    type State = Desk<S::Kept>;
+
+    type Answer = Result<BatchResult, AllocError>;
+
+    fn begin(&self, alloc: Global) -> Result<Desk<S::Kept>, Fail> {
+        orders_desk(alloc, self.store.keeper(alloc)?)
+    }
+
+    fn call(&self, alloc: Global, desk: &mut Desk<S::Kept>) -> Result<BatchResult, AllocError> {
+        submit_batch(alloc, desk, self.sender, self.rows)
+    }
+
+    fn outcome(&self, answer: &Result<BatchResult, AllocError>) -> Outcome {
+        match answer {
+            Ok(batch) => outcome_of(batch, self.store.may_fail()),
+            Err(_) => Outcome::Refused,
+        }
+    }
+
+    fn reopened(&self, alloc: Global, desk: Desk<S::Kept>) -> Result<Desk<S::Kept>, Fail> {
+        let keeper = self.store.restarted(alloc, desk.into_keeper())?;
+        desk_over(alloc, keeper)
+    }
+
+    fn seen(&self, alloc: Global, desk: &mut Desk<S::Kept>) -> Result<String, Fail> {
+        seen_of(alloc, desk)
+    }
+}
+
+// What a batch came to that stopped.
+fn outcome_of(batch: &BatchResult, may_fail: bool) -> Outcome {
+    if !REPLIES.starts_with(batch.replies.as_slice()) {
+        return Outcome::Other;
+    }
+    match batch.stopped {
+        Some(Refusal::OutOfMemory) if batch.replies.is_empty() => Outcome::Refused,
+        Some(Refusal::OutOfMemory) => Outcome::Stopped,
+        Some(Refusal::StoreFault) if may_fail => Outcome::Stopped,
+        _ => Outcome::Other,
+    }
+}

@@ -1,5 +1,0 @@
-//! Each request for memory refused in turn, of calls to desks over tables.
-#![tactic(auto)]
-
-#[cfg(test)]
-mod tests;
