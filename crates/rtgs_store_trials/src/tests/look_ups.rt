@@ -3,4 +3,3 @@ mod asking;
 mod both;
 mod looking;
 mod passing;
-mod setting;

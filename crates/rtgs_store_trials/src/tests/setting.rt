@@ -1,4 +1,4 @@
-//! Banks, their records, and desks over keepers in memory.
+//! Banks, their records, desks over keepers in memory, and keepers over tables.
 use rtgs_book::{
     Answer, Change, Order, OrderState, Participant, Posting, Refusal, RowChange, Rows,
 };
@@ -7,6 +7,8 @@ use rtgs_keeper::MemoryKeeper;
 use rtgs_money::{
     Amount, BusinessDate, Cents, Code, Credit, KeyDigest, Name, PostingAmount, Reference,
 };
+use rtgs_tables::SqlKeeper;
+use sqlite::{Connection, MemStore};
 use std::alloc::Global;
 use std::test::Fail;
 
@@ -73,6 +75,14 @@ pub fn order(number: u64, name: &str, cents: u64, state: OrderState) -> Result<O
 /// These rows, changed as one.
 pub fn change(alloc: Global, rows: &[RowChange]) -> Result<Change, Fail> {
     Ok(Rows::from_vec(Vec::from_slice(alloc, rows)?))
+}
+
+/// A keeper of a new book in tables, which a store in memory has.
+pub fn new_keeper(alloc: Global) -> Result<SqlKeeper<MemStore>, Fail> {
+    match SqlKeeper::create(Connection::open_in_memory(alloc)?) {
+        Ok(keeper) => Ok(keeper),
+        Err((fault, _)) => Err(Fail::from(fault)),
+    }
 }
 
 /// A desk over a keeper in memory.

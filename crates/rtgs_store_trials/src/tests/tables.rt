@@ -4,7 +4,7 @@ mod no_memory;
 mod stored_numbers;
 
 use super::scripts::{Answers, follows};
-use super::setting::{change, code, participant, posting};
+use super::setting::{change, code, new_keeper, participant, posting};
 use rtgs_book::{Book, Change, Fault, RowChange};
 use rtgs_keeper::{CommitFault, Keeper};
 use rtgs_money::Cents;
@@ -30,13 +30,6 @@ fn posts(
             },
         ],
     )
-}
-
-fn new_keeper(alloc: Global) -> Result<SqlKeeper<MemStore>, Fail> {
-    match SqlKeeper::create(Connection::open_in_memory(alloc)?) {
-        Ok(keeper) => Ok(keeper),
-        Err((fault, _)) => Err(Fail::from(fault)),
-    }
 }
 
 /// Adds BETA and ALFA, and posts 1000 cents to ALFA.

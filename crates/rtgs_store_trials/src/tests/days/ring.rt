@@ -1,17 +1,15 @@
 //! A ring of more orders than two bytes count: kept in tables, found again, and settled under one mark.
 use super::super::setting::{
-    MONDAY, Reply, amount, change, code, date, participant, queued, reference, resolved,
+    MONDAY, Reply, amount, change, code, date, new_keeper, participant, queued, reference, resolved,
 };
 use rtgs_book::{Answer, Command, Day, Known, Order, OrderState, Phase, RowChange};
-use rtgs_book_file::BookLock;
+use rtgs_desk::Desk;
 use rtgs_keeper::Keeper;
 use rtgs_money::{Code, Reference};
 use rtgs_tables::SqlKeeper;
-use sqlite::{Connection, Unknown};
+use sqlite::MemStore;
 use std::alloc::Global;
 use std::test::Fail;
-
-const FILE: &str = "ring";
 
 /// How many banks there are. The queue of each is full.
 const BANKS: u64 = 66;
@@ -19,7 +17,7 @@ const BANKS: u64 = 66;
 /// How many orders wait in all queues.
 const ORDERS: u64 = 33_000;
 
-/// How many orders are kept in one commit, so that a slow disk is not waited for at each.
+/// How many orders are kept in one commit.
 const AT_ONCE: u64 = 500;
 
 /// The code of a bank.
@@ -107,14 +105,6 @@ fn sends(alloc: Global, number: u64) -> Result<Command, Fail> {
     })
 }
 
-/// Keeps the ring in the file.
-fn fill(rt: &HostRuntime) -> Result<(), Fail> {
-    let mut keeper = SqlKeeper::open(Connection::open(rt, FILE)?);
-    keep_ring(rt.alloc(), &mut keeper)?;
-    keeper.into_connection().close()?;
-    Ok(())
-}
-
 /// Keeps the ring.
 fn keep_ring<K: Keeper>(alloc: Global, keeper: &mut K) -> Result<(), Fail> {
     add_banks(alloc, keeper)?;
@@ -122,29 +112,40 @@ fn keep_ring<K: Keeper>(alloc: Global, keeper: &mut K) -> Result<(), Fail> {
     queue_orders(alloc, keeper)
 }
 
-/// What the desk over the file, opened for it, answers a command.
-fn submitted(rt: &HostRuntime, command: Command) -> Result<Reply, Fail> {
-    let mut book = BookLock::take(rt, FILE, Unknown)?.open(rt)?;
-    let reply = book.desk().submit(command);
-    book.finish().close();
-    Ok(reply)
+/// The ring, kept in tables.
+fn ring(alloc: Global) -> Result<SqlKeeper<MemStore>, Fail> {
+    let mut keeper = new_keeper(alloc)?;
+    keep_ring(alloc, &mut keeper)?;
+    Ok(keeper)
 }
 
-/// Makes the file, and keeps the ring in it.
-fn make_ring(rt: &HostRuntime) -> Result<(), Fail> {
-    BookLock::take(rt, FILE, Unknown)?.make(rt)?;
-    fill(rt)
+/// A desk that is opened anew over the tables of a keeper.
+fn opened(alloc: Global, keeper: SqlKeeper<MemStore>) -> Result<Desk<SqlKeeper<MemStore>>, Fail> {
+    match Desk::open(alloc, SqlKeeper::open(keeper.into_connection())) {
+        Ok(desk) => Ok(desk),
+        Err((fault, _)) => Err(Fail::from(fault)),
+    }
+}
+
+/// What a desk that is opened for it answers a command, and the tables that it leaves.
+fn submitted(
+    alloc: Global,
+    keeper: SqlKeeper<MemStore>,
+    command: Command,
+) -> Result<(Reply, SqlKeeper<MemStore>), Fail> {
+    let mut desk = opened(alloc, keeper)?;
+    let reply = desk.submit(command);
+    Ok((reply, desk.into_keeper()))
 }
 
 /// What is answered to a resolution, to the last order again, and to one order more.
-fn replies(rt: &HostRuntime) -> Result<[Reply; 3], Fail> {
-    let again = sends(rt.alloc(), ORDERS)?;
-    let one_more = sends(rt.alloc(), ORDERS + 1)?;
-    Ok([
-        submitted(rt, Command::Resolve)?,
-        submitted(rt, again)?,
-        submitted(rt, one_more)?,
-    ])
+fn replies(alloc: Global) -> Result<[Reply; 3], Fail> {
+    let again = sends(alloc, ORDERS)?;
+    let one_more = sends(alloc, ORDERS + 1)?;
+    let (first, keeper) = submitted(alloc, ring(alloc)?, Command::Resolve)?;
+    let (second, keeper) = submitted(alloc, keeper, again)?;
+    let (third, _) = submitted(alloc, keeper, one_more)?;
+    Ok([first, second, third])
 }
 
 #[test]
@@ -158,7 +159,6 @@ fn a_ring_of_33000_orders_is_settled_under_one_mark(rt: HostRuntime) -> Result<(
         Ok(Answer::Repeated(settled)),
         queued(ORDERS + 1, 1),
     ];
-    make_ring(&rt)?;
-    assert_eq!(rt; replies(&rt)?, wanted);
+    assert_eq!(rt; replies(rt.alloc())?, wanted);
     Ok(())
 }

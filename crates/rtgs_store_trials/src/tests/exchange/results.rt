@@ -69,7 +69,8 @@ fn a_repeat_tells_each_state(rt: HostRuntime) -> Result<(), Fail> {
     Ok(())
 }
 
-// Whether a writer that stops after so many writes is told to have the whole text if it has, and has what it took of it.
+// Whether a writer that stops after so many writes is told to have the whole text exactly if it has, and has what it
+// took of it.
 fn has_a_beginning(
     alloc: Global,
     rows: &[OrderRow],

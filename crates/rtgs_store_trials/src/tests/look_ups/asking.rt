@@ -1,5 +1,5 @@
 //! What a keeper is asked, and what it tells, in words.
-use super::setting::{code, reference};
+use super::super::setting::{code, reference};
 use rtgs_book::{Mark, Order, Posting};
 use rtgs_keeper::Keeper;
 use rtgs_money::BusinessDate;

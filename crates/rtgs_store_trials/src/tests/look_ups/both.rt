@@ -1,6 +1,6 @@
 //! What a keeper in memory and one over tables tell of the same records.
+use super::super::setting::{MONDAY, code, date, new_keeper, reference};
 use super::asking::answers;
-use super::setting::{MONDAY, code, date, new_keeper, reference};
 use rtgs_book::{
     Change, Day, Fault, Mark, Order, OrderState, Participant, Phase, Posting, RowChange, Rows, Rule,
 };

@@ -1,6 +1,6 @@
 //! Records found by their names, and the next records of a date, in tables in memory.
+use super::super::setting::{MONDAY, date, new_keeper, reference};
 use super::asking::answers;
-use super::setting::{MONDAY, date, new_keeper, reference};
 use rtgs_book::Fault;
 use rtgs_keeper::Keeper;
 use rtgs_tables::SqlKeeper;

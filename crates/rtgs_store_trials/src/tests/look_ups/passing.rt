@@ -1,12 +1,18 @@
 //! The next record of a date where there are none, where records of earlier days stand before it, and at the first and
 //! last numbers, in a keeper in memory and in one over tables.
-use super::setting::{FRIDAY, MONDAY, TUESDAY, code, date, new_keeper, reference};
+use super::super::setting::{MONDAY, code, date, new_keeper, reference};
 use rtgs_book::{Change, Mark, Order, OrderState, Posting, RowChange, Rows};
 use rtgs_keeper::{Keeper, MemoryKeeper};
 use rtgs_money::{Amount, BusinessDate, Cents, PostingAmount, Reference};
 use std::alloc::Global;
 use std::process::Abort;
 use std::test::Fail;
+
+/// The Friday before the week.
+const FRIDAY: u32 = 20240301;
+
+/// The second day of the week.
+const TUESDAY: u32 = 20240305;
 
 /// The largest number that a record has.
 const LAST: u64 = 999_999_999;
