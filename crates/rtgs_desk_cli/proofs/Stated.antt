@@ -1,11 +1,11 @@
 -- What is said of a book of which a statement was written, once it was closed.
 use Rattle.std.proofs.Common.{◌≡◌, ◌∙◌, ℕ, true, List, Option, Result, Ok, Err, refl, sym, ap}
 use Rattle.std.specs.Bool.{⊤}
-use Rattle.std.specs.Result.{IfOk, IfErr}
+use Rattle.std.specs.Result.{IfOk}
 use Rattle.rtgs_book.specs.declared.reading.Reading.TheVariants as reading
 use Rattle.rtgs_book.specs.declared.refusal.Refusal.TheVariants.{StoreFault, UnknownParticipant}
 use Rattle.rtgs_desk.specs.Seen.{Seen}
-use Rattle.rtgs_statements.specs.Reads.{LeavesWholeLines}
+use Rattle.rtgs_statements.specs.Reads.{LeavesLines}
 use Rattle.rtgs_statements.specs.declared.book_text_fault.BookTextFault.{BookTextFault}
 use Rattle.rtgs_statements.specs.declared.book_text_fault.BookTextFault.TheVariants as text
 use Rattle.rtgs_output.specs.declared.text_fault.TextFault.TheVariants as fault
@@ -42,7 +42,7 @@ module _ {K B U C E O : Type 0} (A : Type 0) (file : OverFile K U C) (desk_of : 
   module _ (stated : IfOk finished (λ p. IsWritten file code date p.1 (contents old) (contents new) (desk_of p.0)))
       (fault : IfOk finished (λ p. p.1 ≡ Err (text.Refused StoreFault)
       → file.keeper.has_failed (desk_of p.0).keeper ≡ true))
-      (lines : IfOk finished (λ p. IfErr p.1 (λ fault. LeavesWholeLines fault (contents old) (contents new))))
+      (lines : IfOk finished (λ p. LeavesLines p.1 (contents old) (contents new)))
       (book : B) (written : Result ⊤ BookTextFault) (is : finished ≡ Ok (book, written)) (closed : C)
       (shut : file.was_closed (desk_of book) closed) where
     stated_with : IsStated {A = A} file (traces.Book closed met.Nothing) code date written (contents old)
@@ -54,8 +54,7 @@ module _ {K B U C E O : Type 0} (A : Type 0) (file : OverFile K U C) (desk_of : 
           stated book written is;
       fault = when_done finished (λ p. p.1 ≡ Err (text.Refused StoreFault)
           → file.keeper.has_failed (desk_of p.0).keeper ≡ true) fault book written is;
-      lines = when_done finished
-          (λ p. IfErr p.1 (λ fault. LeavesWholeLines fault (contents old) (contents new))) lines book written is;
+      lines = when_done finished (λ p. LeavesLines p.1 (contents old) (contents new)) lines book written is;
     }
 
     -- it came to what the text that was written so comes to

@@ -1,6 +1,6 @@
 -- What a run has to print for its request, why it is refused, and what it leaves on its two writers.
 use Rattle.std.specs.Prelude.{◌≡◌, ◌≢◌, ◌⊎◌, ◌++◌, ◌∷◌, [], ℕ, ⊤, Bool, true, false, List, Option, None, Ok, Err}
-use Rattle.std.specs.Prelude.{length, Some, Result, IfErr, if◌then◌else◌}
+use Rattle.std.specs.Prelude.{length, Some, Result, if◌then◌else◌}
 use Rattle.std.specs.Io.KnownBytes.{Appends}
 use Rattle.std.specs.IoError.{error_kind}
 use Rattle.clap.specs.Words.{kind_of}
@@ -20,7 +20,7 @@ use Rattle.rtgs_exchange.specs.Batches.{StopsAfter}
 use Rattle.rtgs_exchange.specs.Results.{results_text}
 use Rattle.rtgs_exchange.specs.declared.batch_result.RowReply.{RowReply}
 use Rattle.rtgs_exchange.specs.declared.order_row.OrderRow.{OrderRow}
-use Rattle.rtgs_statements.specs.Reads.{LeavesWholeLines}
+use Rattle.rtgs_statements.specs.Reads.{LeavesLines}
 use Rattle.rtgs_statements.specs.declared.book_text_fault.BookTextFault.{BookTextFault}
 use Rattle.rtgs_statements.specs.declared.book_text_fault.BookTextFault.TheVariants as text
 use Rattle.rtgs_desk_requests.specs.Requests.{Reads}
@@ -207,8 +207,8 @@ module _ {A K U C : Type 0} (book_file : OverFile K U C) where
     pub stated : IsWritten book_file code date written old new left
     -- the store's fault is told where the store failed, and nowhere else
     pub fault : written ≡ Err (text.Refused StoreFault) → book_file.keeper.has_failed left.keeper ≡ true
-    -- what is no fault of the writer leaves whole lines
-    pub lines : IfErr written (λ fault. LeavesWholeLines fault old new)
+    -- whole lines were printed, whatever the disk gave back, unless the writer failed
+    pub lines : LeavesLines written old new
 
   -- a run with this reading printed a statement row by row, and came to this
   abbrev pub States : Reading → Touched A U C → Result Printed Failure → Option (List ℕ) → Option (List ℕ) → Type 0

@@ -4,7 +4,7 @@ ghost use Rattle.rtgs_book.specs.declared.Reading.{Reading};
 ghost use Rattle.rtgs_book.specs.declared.Refusal.{Refusal};
 ghost use Rattle.rtgs_book_file.specs.Files.{lock_name};
 ghost use Rattle.rtgs_book_file.specs.OverFile.{file_from};
-ghost use Rattle.rtgs_statements.specs.Reads.{LeavesWholeLines};
+ghost use Rattle.rtgs_statements.specs.Reads.{LeavesLines};
 ghost use Rattle.rtgs_desk_cli.specs.Did.{IsWritten};
 ghost use Rattle.rtgs_desk_cli.specs.Outcomes.{outcome_of_text};
 ghost use Rattle.rtgs_desk_cli.specs.Runs.{Denies, IsOf, PrintsFor};
@@ -62,8 +62,7 @@ fn write<S: Start, O: Write>(
         → out.new ≡ out.old) }
     ensures fault { IfOk result (λ (book, written). written ≡ Err (BookTextFault.Refused Refusal.StoreFault)
         → ⟦<FileKeeper<S> as Keeper>⟧.has_failed book.desk.keeper ≡ true) }
-    ensures lines { IfOk result (λ (_, written). IfErr written (λ fault.
-        LeavesWholeLines fault (O.contents out.old) (O.contents out.new))) }
+    ensures lines { IfOk result (λ (_, written). LeavesLines written (O.contents out.old) (O.contents out.new)) }
     ensures unopened { IfErr result (λ unopened.
         (file_from ⟦<FileKeeper<S> as Keeper>⟧ S.Start (λ keeper. keeper.conn)).was_unopened unopened) }
     ensures unchanged { OnErr result (out.new ≡ out.old) }

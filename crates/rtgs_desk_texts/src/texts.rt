@@ -1,10 +1,10 @@
 //! Texts of a desk's book.
-ghost use Rattle.std.specs.Prelude.{◌≡◌, ◌≢◌, true, false, Ok, Err, IfErr};
+ghost use Rattle.std.specs.Prelude.{◌≡◌, ◌≢◌, true, false, Ok, Err};
 ghost use Rattle.rtgs_book.specs.declared.Book.{Book};
 ghost use Rattle.rtgs_book.specs.declared.Refusal.{Refusal};
 ghost use Rattle.rtgs_desk.specs.Holding.{Holds};
 ghost use Rattle.rtgs_output.specs.declared.text_fault.TextFault.{TextFault};
-ghost use Rattle.rtgs_statements.specs.Reads.{LeavesWholeLines};
+ghost use Rattle.rtgs_statements.specs.Reads.{LeavesLines};
 ghost use Rattle.rtgs_statements.specs.declared.book_text_fault.BookTextFault.{BookTextFault};
 ghost use Rattle.rtgs_desk_texts.specs.Written.{LeavesBook, Writes, statement_wanted, report_wanted};
 
@@ -36,8 +36,8 @@ pub fn write_statement<K: Keeper, W: Write>(
     // For a code that nobody has, neither the writer nor the store is asked for anything.
     ensures unknown { result ≡ Err (BookTextFault.Refused Refusal.UnknownParticipant)
         → (out.new ≡ out.old) × (desk.new ≡ desk.old) }
-    // What is no fault of the writer leaves whole lines.
-    ensures whole { IfErr result (λ fault. LeavesWholeLines fault (W.contents out.old) (W.contents out.new)) }
+    // Whole lines were written, whatever the store gave back, unless the writer failed.
+    ensures lines { LeavesLines result (W.contents out.old) (W.contents out.new) }
     ensures leaves { LeavesBook K.Keeper desk.old desk.new }
     ensures fault { result ≡ Err (BookTextFault.Refused Refusal.StoreFault)
         → (K.has_failed desk.old.keeper ≡ false) × (K.has_failed desk.new.keeper ≡ true) }

@@ -17,7 +17,7 @@ use Rattle.rtgs_statements.specs.declared.row.Row.{Row}
 use Rattle.rtgs_statements.specs.Lines.{row_columns, row_of_posting, row_of_order, row_text}
 use Rattle.rtgs_statements.specs.Reads.{IsWholeLines, AppendsWholeLines, LeavesWholeLines}
 use Rattle.rtgs_statements.specs.Rows.{is_to, is_told_to, posting_row, order_row}
-use Rattle.rtgs_statements.specs.Texts.{sum_columns, count_columns, value_columns, account_columns, line_text}
+use Rattle.rtgs_statements.specs.Texts.{sum_columns, count_columns, value_columns, account_columns, line_text, text_of}
 use Rattle.rtgs_statements.proofs.Begins.{appends-both}
 use Rattle.rtgs_statements.proofs.Growth.{appends-none}
 
@@ -37,6 +37,11 @@ line-whole (ReportOf date) = inr (codes "report " ++ date_text date, refl)
 line-whole (Account code sums) = inr (_, refl)
 line-whole (Orders standing count value) = inr (_, refl)
 line-whole (Marks count) = inr (_, refl)
+
+-- so do lines one after another
+pub lines-whole : (lines : List Line) → IsWholeLines (text_of lines)
+lines-whole [] = inl refl
+lines-whole (line ∷ lines) = wholes-append (line_text line) (text_of lines) (line-whole line) (lines-whole lines)
 
 if_whole : (b : Bool) (row : Row) → IsWholeLines (if b then row_text row else [])
 if_whole true row = line-whole (Record row)

@@ -56,3 +56,8 @@ abbrev pub LeavesWholeLines : BookTextFault → Option (List ℕ) → Option (Li
 LeavesWholeLines (Refused refusal) old new = AppendsWholeLines old new
 LeavesWholeLines (Text NoMemory) old new = AppendsWholeLines old new
 LeavesWholeLines (Text (Write failed)) old new = ⊤
+
+-- The same of a text that was written whole, which is whole lines.
+abbrev pub LeavesLines : Result ⊤ BookTextFault → Option (List ℕ) → Option (List ℕ) → Type 0
+LeavesLines (Ok done) old new = AppendsWholeLines old new
+LeavesLines (Err fault) old new = LeavesWholeLines fault old new

@@ -4,7 +4,7 @@ ghost use Rattle.std.specs.Io.KnownBytes.{Appends};
 ghost use Rattle.rtgs_book.specs.declared.Book.{Book};
 ghost use Rattle.rtgs_output.specs.Sent.{AppendsPart};
 ghost use Rattle.rtgs_statements.specs.Reads.{IsRead, AppendsBeginning, read_refused_by};
-ghost use Rattle.rtgs_statements.specs.Reads.{AppendsWholeLines, LeavesWholeLines};
+ghost use Rattle.rtgs_statements.specs.Reads.{AppendsWholeLines, LeavesLines, LeavesWholeLines};
 ghost use Rattle.rtgs_statements.specs.Records.{postings_on, orders_on};
 ghost use Rattle.rtgs_statements.specs.Rows.{posting_row, order_row, posting_rows, order_rows, posted_by, settled_by};
 ghost use Rattle.rtgs_statements.specs.Rows.{is_told_to};
@@ -41,7 +41,8 @@ pub fn write_statement<S: Source, W: Write>(
         → OnOk result (Appends (W.contents out.old) (W.contents out.new) (statement book code.now date)) }
     ensures begun { S.is_honest source.new → (book : Book) → S.holds source.old book
         → OnErr result (AppendsPart (W.contents out.old) (W.contents out.new) (statement book code.now date)) }
-    ensures whole { IfErr result (λ fault. LeavesWholeLines fault (W.contents out.old) (W.contents out.new)) }
+    // Whatever was read, and of whatever source, unless the writer failed.
+    ensures lines { LeavesLines result (W.contents out.old) (W.contents out.new) }
     ensures read { IsRead S.holds S.leaves S.is_honest S.has_failed source.old source.new (read_refused_by result) }
 {
     if let Err(fault) = write_line(alloc, out, &Line::StatementOf(*code, date)) {

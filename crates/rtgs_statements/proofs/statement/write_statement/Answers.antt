@@ -12,7 +12,7 @@ use Rattle.rtgs_statements.proofs.Growth.{appends-none}
 use Rattle.rtgs_statements.proofs.Leaving.{no_fault}
 use Rattle.rtgs_statements.proofs.Statements.{title, postings, orders, sums, statement_joined, more_after_postings}
 use Rattle.rtgs_statements.proofs.Statements.{more_after_orders, from_postings, from_orders, from_sums, from_sums_on}
-use Rattle.rtgs_statements.proofs.Wholes.{line-whole, none-whole, wholes-both, leaves-after, text-leaves}
+use Rattle.rtgs_statements.proofs.Wholes.{line-whole, none-whole, lines-whole, wholes-both, leaves-after, text-leaves}
 use Rattle.rtgs_statements.proofs.statement.write_statement.Goals as goal
 
 wide : (z : ℤ) → IsSmall z → to_z w128 (of_z w128 z) ≡ z
@@ -107,13 +107,13 @@ returns-in-Err-write_four-clause-begun g c honest book held =
     (g.W.Write.contents c.write_four.new.out) ((title book code date ++ postings book code date)
     ++ orders book code date) (sums book code date) [] _ three last (from_sums_on book code date)
 
-pub returns-in-Err-clause-whole : goal.returns-in-Err-clause-whole
-returns-in-Err-clause-whole g c =
+pub returns-in-Err-clause-lines : goal.returns-in-Err-clause-lines
+returns-in-Err-clause-lines g c =
     text-leaves g.W.Write.contents c.in-Err.fault c.args.out.now c.args.out.now c.write_line.new.out
     (none-whole (g.W.Write.contents c.args.out.now)) c.in-Err.ensures.memory
 
-pub returns-in-Err-write_postings-clause-whole : goal.returns-in-Err-write_postings-clause-whole
-returns-in-Err-write_postings-clause-whole g c =
+pub returns-in-Err-write_postings-clause-lines : goal.returns-in-Err-write_postings-clause-lines
+returns-in-Err-write_postings-clause-lines g c =
     let old = g.W.Write.contents c.args.out.now in
     let titled = g.W.Write.contents c.write_line.new.out in
     let first : Appends old titled (line_text (StatementOf c.args.code.now c.args.date)) = search rules in
@@ -125,8 +125,8 @@ returns-in-Err-write_postings-clause-whole g c =
     leaves-after c.in-Err-write_postings.fault old titled (g.W.Write.contents c.write_postings.new.out) one
     c.in-Err-write_postings.ensures.whole
 
-pub returns-in-Err-write_orders-clause-whole : goal.returns-in-Err-write_orders-clause-whole
-returns-in-Err-write_orders-clause-whole g c =
+pub returns-in-Err-write_orders-clause-lines : goal.returns-in-Err-write_orders-clause-lines
+returns-in-Err-write_orders-clause-lines g c =
     let old = g.W.Write.contents c.args.out.now in
     let titled = g.W.Write.contents c.write_line.new.out in
     let first : Appends old titled (line_text (StatementOf c.args.code.now c.args.date)) = search rules in
@@ -139,8 +139,24 @@ returns-in-Err-write_orders-clause-whole g c =
     leaves-after c.in-Err-write_orders.fault old (g.W.Write.contents c.write_postings.new.out)
     (g.W.Write.contents c.write_orders.new.out) two c.in-Err-write_orders.ensures.whole
 
-pub returns-in-Err-write_four-clause-whole : goal.returns-in-Err-write_four-clause-whole
-returns-in-Err-write_four-clause-whole g c =
+pub returns-in-Ok-write_four-clause-lines : goal.returns-in-Ok-write_four-clause-lines
+returns-in-Ok-write_four-clause-lines g c =
+    let old = g.W.Write.contents c.args.out.now in
+    let titled = g.W.Write.contents c.write_line.new.out in
+    let first : Appends old titled (line_text (StatementOf c.args.code.now c.args.date)) = search rules in
+    let one : AppendsWholeLines old titled = (
+      line_text (StatementOf c.args.code.now c.args.date),
+      first,
+      line-whole (StatementOf c.args.code.now c.args.date),
+    ) in
+    let two = wholes-both old titled (g.W.Write.contents c.write_postings.new.out) one c.in-Ok.ensures.lines in
+    let three = wholes-both old (g.W.Write.contents c.write_postings.new.out)
+    (g.W.Write.contents c.write_orders.new.out) two c.in-Ok-write_orders.ensures.lines in
+    wholes-both old (g.W.Write.contents c.write_orders.new.out) (g.W.Write.contents c.write_four.new.out) three
+    (text_of c.sum_lines-sums.result, c.in-Ok-write_four.ensures.written, lines-whole c.sum_lines-sums.result)
+
+pub returns-in-Err-write_four-clause-lines : goal.returns-in-Err-write_four-clause-lines
+returns-in-Err-write_four-clause-lines g c =
     let old = g.W.Write.contents c.args.out.now in
     let titled = g.W.Write.contents c.write_line.new.out in
     let first : Appends old titled (line_text (StatementOf c.args.code.now c.args.date)) = search rules in
