@@ -1,10 +1,10 @@
 //! Whole runs, by their words, and what they print.
-use rtgs_desk_cli::run_words;
 use rtgs_desk_lines::{Ended, Printed};
+use runs::ending;
 use script::follows;
-use sqlite::Unknown;
 use std::test::Fail;
 
+mod databases;
 mod days;
 mod files;
 mod gridlocks;
@@ -15,6 +15,7 @@ mod openings;
 mod readings;
 mod refusals;
 mod rows;
+mod runs;
 mod script;
 mod serving;
 mod stops;
@@ -61,7 +62,7 @@ fn posts_unheard(rt: &HostRuntime) -> Result<(), Fail> {
     let mut room = [0u8; 4];
     let mut out = room.as_mut_slice();
     let mut err = Vec::new(rt.alloc());
-    let (ended, _) = run_words(rt, &words, Unknown, &mut out, &mut err);
+    let ended = ending(rt, &words, &mut out, &mut err);
     let is_lost = matches!(ended, Ended::Printed(Printed::Lost(_))) && ended.exit_status() == 3;
     if is_lost && room.as_slice() == b"post".as_slice() {
         return Ok(());
@@ -75,7 +76,7 @@ fn is_refused_unheard(rt: &HostRuntime) -> Result<(), Fail> {
     let mut room = [0u8; 4];
     let mut deaf = room.as_mut_slice();
     let mut out = Vec::new(rt.alloc());
-    let (ended, _) = run_words(rt, &words, Unknown, &mut out, &mut deaf);
+    let ended = ending(rt, &words, &mut out, &mut deaf);
     let is_silent = ended.exit_status() == 1 && out.is_empty();
     if is_silent && room.as_slice() == b"refu".as_slice() {
         return Ok(());
@@ -89,7 +90,7 @@ fn states_unheard(rt: &HostRuntime) -> Result<(), Fail> {
     let mut room = [0u8; 30];
     let mut out = room.as_mut_slice();
     let mut err = Vec::new(rt.alloc());
-    let (ended, _) = run_words(rt, &words, Unknown, &mut out, &mut err);
+    let ended = ending(rt, &words, &mut out, &mut err);
     let is_lost = matches!(ended, Ended::Printed(Printed::Lost(_))) && ended.exit_status() == 3;
     if is_lost
         && err.is_empty()

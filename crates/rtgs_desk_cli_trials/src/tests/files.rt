@@ -1,6 +1,7 @@
 //! Files that are no book, or are in use.
 use super::BEGIN;
-use super::script::{follows, meddle};
+use super::databases::meddle;
+use super::script::follows;
 use std::fs;
 use std::fs::OpenOptions;
 use std::test::Fail;

@@ -1,8 +1,8 @@
 //! Help, and faults of the command line.
+use super::databases::number_in;
+use super::runs::ending;
 use super::script::{follows, read_words};
-use rtgs_desk_cli::run_words;
 use rtgs_desk_lines::Ended;
-use sqlite::{Connection, Unknown};
 use std::test::Fail;
 
 /// Words ask for help that names each line of this text, and for nothing else.
@@ -11,7 +11,7 @@ fn helps(rt: &HostRuntime, line: &str, named: &str) -> Result<(), Fail> {
     let mut out = Vec::new(rt.alloc());
     let mut err = Vec::new(rt.alloc());
     read_words(&mut words, "F", line)?;
-    let (ended, _) = run_words(rt, words.as_slice(), Unknown, &mut out, &mut err);
+    let ended = ending(rt, words.as_slice(), &mut out, &mut err);
     let text = std::str::from_utf8(out.as_slice())?;
     let is_help = matches!(ended, Ended::Helped(Ok(()))) && ended.exit_status() == 0;
     if is_help && err.is_empty() && named.split('\n').all(|it| text.contains(it)) {
@@ -40,11 +40,7 @@ fn helps_name_the_commands_and_the_forms_of_their_words(rt: HostRuntime) -> Resu
 /// The version of the tables that a new book has.
 fn tables_version(rt: &HostRuntime, file: &str) -> Result<i64, Fail> {
     follows(rt, file, "\n$ desk init F\n> initialised\n")?;
-    let mut conn = Connection::open(rt, file)?;
-    let row = conn.query_row("SELECT version FROM desk", &[])?;
-    let version = row.get::<i64>(0)?;
-    conn.close()?;
-    Ok(version)
+    number_in(rt, file, "SELECT version FROM desk")
 }
 
 #[test]
@@ -60,7 +56,7 @@ fn is_misused(rt: &HostRuntime, line: &str) -> Result<(), Fail> {
     let mut out = Vec::new(rt.alloc());
     let mut err = Vec::new(rt.alloc());
     read_words(&mut words, "F", line)?;
-    let (ended, _) = run_words(rt, words.as_slice(), Unknown, &mut out, &mut err);
+    let ended = ending(rt, words.as_slice(), &mut out, &mut err);
     let is_told = matches!(ended, Ended::Misused(Ok(()))) && ended.exit_status() == 2;
     if is_told && out.is_empty() && !err.is_empty() {
         return Ok(());
@@ -86,7 +82,7 @@ fn help_that_nobody_takes_fails(rt: HostRuntime) -> Result<(), Fail> {
     let mut room = [0u8; 4];
     let mut out = room.as_mut_slice();
     let mut err = Vec::new(rt.alloc());
-    let (ended, _) = run_words(&rt, &["--help"], Unknown, &mut out, &mut err);
+    let ended = ending(&rt, &["--help"], &mut out, &mut err);
     assert!(rt; matches!(ended, Ended::Helped(Err(_))));
     assert_eq!(rt; ended.exit_status(), 3);
     assert!(rt; err.is_empty());

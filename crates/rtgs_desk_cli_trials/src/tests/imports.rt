@@ -1,8 +1,7 @@
 //! Files of orders, taken whole or not at all, and sent again.
+use super::runs::ending;
 use super::script::follows;
-use rtgs_desk_cli::run_words;
 use rtgs_desk_lines::{Ended, Printed};
-use sqlite::Unknown;
 use std::fs;
 use std::test::Fail;
 
@@ -157,7 +156,7 @@ fn orders_stand_where_their_results_are_lost(rt: HostRuntime) -> Result<(), Fail
     let mut out = room.as_mut_slice();
     let mut err = Vec::new(rt.alloc());
     let words = ["import", "lost", "ALFA", "lost.csv"];
-    let (ended, _) = run_words(&rt, &words, Unknown, &mut out, &mut err);
+    let ended = ending(&rt, &words, &mut out, &mut err);
     assert!(rt; matches!(ended, Ended::Printed(Printed::Lost(_))));
     assert_eq!(rt; ended.exit_status(), 3);
     follows(&rt, "lost", SENT_AGAIN)

@@ -1,19 +1,11 @@
 //! How files are opened, held and closed by runs.
 use super::BEGIN;
+use super::databases::{log_changes, meddle, number_in};
 use super::script::follows;
 use rtgs_book_file::{BookLock, FileFault};
-use sqlite::{Connection, Unknown};
+use sqlite::Unknown;
 use std::fs;
 use std::test::Fail;
-
-/// The cents of the one posting in a file, as another program reads them.
-fn posted_in(rt: &HostRuntime, file: &str) -> Result<i64, Fail> {
-    let mut conn = Connection::open(rt, file)?;
-    let row = conn.query_row("SELECT cents FROM posting", &[])?;
-    let cents = row.get::<i64>(0)?;
-    conn.close()?;
-    Ok(cents)
-}
 
 const ONE_BYTE: &str = "
 $ file F S
@@ -45,11 +37,12 @@ fn not_locked(rt: &HostRuntime, file: &str) -> Option<FileFault> {
 
 /// The bytes of a log whose database file has nothing yet.
 fn unread_log(rt: &HostRuntime) -> Result<Vec<u8>, Fail> {
-    let mut conn = Connection::open(rt, "unread")?;
-    conn.execute_batch("CREATE TABLE other (number INTEGER PRIMARY KEY)")?;
-    let log = fs::read(rt, "unread-wal")?;
-    conn.close()?;
-    Ok(log)
+    log_changes(
+        rt,
+        "unread",
+        "CREATE TABLE other (number INTEGER PRIMARY KEY)",
+    )?;
+    Ok(fs::read(rt, "unread-wal")?)
 }
 
 #[test]
@@ -88,7 +81,7 @@ fn not_locked_once_refused(rt: &HostRuntime, file: &str) -> Result<Option<FileFa
 
 #[test]
 fn a_refused_book_lets_its_lock_go_at_once(rt: HostRuntime) -> Result<(), Fail> {
-    Connection::open(&rt, "no_tables")?.close()?;
+    meddle(&rt, "no_tables", "")?;
     assert_eq!(rt; not_locked_once_refused(&rt, "no_tables")?, None);
     Ok(())
 }
@@ -143,6 +136,6 @@ fn the_file_is_whole_by_itself_after_a_run(rt: HostRuntime) -> Result<(), Fail> 
     follows(&rt, "whole", BEGIN)?;
     follows(&rt, "whole", "\n$ desk post F ALFA P-1 7\n> posted 1\n")?;
     fs::copy(&rt, "whole", "copied")?;
-    assert_eq!(rt; posted_in(&rt, "copied")?, 7);
+    assert_eq!(rt; number_in(&rt, "copied", "SELECT cents FROM posting")?, 7);
     Ok(())
 }

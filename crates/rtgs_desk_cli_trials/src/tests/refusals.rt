@@ -1,6 +1,7 @@
 //! One row for each refusal of a command.
 use super::BEGIN;
-use super::script::{are_refused, follows, meddle};
+use super::databases::meddle;
+use super::script::{are_refused, follows};
 use std::fmt::Write;
 use std::test::Fail;
 

@@ -1,8 +1,7 @@
 //! A statement is printed row by row, and not as one text.
 use super::imports::DAY;
+use super::runs::ending;
 use super::script::follows;
-use rtgs_desk_cli::run_words;
-use sqlite::Unknown;
 use std::io;
 use std::io::Write;
 use std::test::Fail;
@@ -33,7 +32,7 @@ fn writes(rt: &HostRuntime, words: &[&str]) -> Result<usize, Fail> {
         writes: 0,
     };
     let mut err = Vec::new(rt.alloc());
-    let (ended, _) = run_words(rt, words, Unknown, &mut out, &mut err);
+    let ended = ending(rt, words, &mut out, &mut err);
     if ended.exit_status() == 0 && out.taken.as_slice().ends_with("\n".as_bytes()) {
         return Ok(out.writes);
     }

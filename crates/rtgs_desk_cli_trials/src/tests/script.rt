@@ -12,8 +12,8 @@
 //!
 //! The word or the path `F` is the book that the script is followed over. All tests share a folder, so that each has a
 //! book of its own.
-use rtgs_desk_cli::run_words;
-use sqlite::{Connection, Unknown};
+use super::databases::meddle;
+use super::runs::ending;
 use std::fmt::Write;
 use std::fs;
 use std::test::Fail;
@@ -67,7 +67,7 @@ fn run(rt: &HostRuntime, book: &str, line: &str, shown: &mut String) -> Result<(
     let mut out = Vec::new(rt.alloc());
     let mut err = Vec::new(rt.alloc());
     read_words(&mut words, book, line)?;
-    let (ended, _) = run_words(rt, words.as_slice(), Unknown, &mut out, &mut err);
+    let ended = ending(rt, words.as_slice(), &mut out, &mut err);
     mark(shown, "> ", out.as_slice())?;
     mark(shown, "! ", err.as_slice())?;
     let status = ended.exit_status();
@@ -89,14 +89,6 @@ fn write_orders(rt: &HostRuntime, path: &str, rows: &str) -> Result<(), Fail> {
     }
     fs::write(rt, path, text.as_str())?;
     Ok(())
-}
-
-/// Changes a book's file by SQL, as another program does.
-pub fn meddle(rt: &HostRuntime, file: &str, sql: &str) -> Result<(), Fail> {
-    let mut conn = Connection::open(rt, file)?;
-    let done = conn.execute_batch(sql);
-    conn.close()?;
-    Ok(done?)
 }
 
 /// Keeps a copy of a file, or compares the file with it.

@@ -1,10 +1,9 @@
 //! The server, over loopback, as a process of its own.
 use super::helps::are_misused;
 use super::imports::DAY;
+use super::runs::ending;
 use super::script::{are_refused, follows};
-use rtgs_desk_cli::run_words;
 use rtgs_desk_lines::Ended;
-use sqlite::Unknown;
 use std::env;
 use std::io::{ErrorKind, Read, Write};
 use std::net::{Ipv4Addr, TcpListener, TcpStream};
@@ -47,7 +46,7 @@ fn serve_six(rt: HostRuntime) -> Result<(), Fail> {
         OPERATOR,
     ];
     let mut err = Vec::new(rt.alloc());
-    let (ended, _) = run_words(&rt, &words, Unknown, &mut rt.stdout(), &mut err);
+    let ended = ending(&rt, &words, &mut rt.stdout(), &mut err);
     assert_eq!(rt; ended.exit_status(), 0);
     assert!(rt; err.is_empty());
     Ok(())

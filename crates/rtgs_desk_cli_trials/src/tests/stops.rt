@@ -1,10 +1,9 @@
 //! A batch that stops in a whole run, since no file may grow any more.
 use super::imports::DAY;
+use super::runs::ending;
 use super::script::follows;
 use rtgs_book::Refusal;
-use rtgs_desk_cli::run_words;
 use rtgs_desk_lines::{Ended, Printed};
-use sqlite::Unknown;
 use std::process::Command;
 use std::test::Fail;
 use std::{env, fs};
@@ -22,7 +21,7 @@ const IMPORT: [&str; 4] = ["import", "stopping", "ALFA", "stopping.csv"];
 fn stops(rt: &HostRuntime) -> Result<(), Fail> {
     let mut out = Vec::new(rt.alloc());
     let mut err = Vec::new(rt.alloc());
-    let (ended, _) = run_words(rt, &IMPORT, Unknown, &mut out, &mut err);
+    let ended = ending(rt, &IMPORT, &mut out, &mut err);
     let text = std::str::from_utf8(out.as_slice())?;
     let is_stopped = matches!(ended, Ended::Printed(Printed::Stopped(Refusal::StoreFault)));
     let is_told = text.starts_with("reference,result,number,detail\nA-1,settled,1,1\n")
@@ -71,7 +70,7 @@ fn runs_under_a_limit(rt: &HostRuntime) -> Result<(), Fail> {
 fn goes_on(rt: &HostRuntime) -> Result<(), Fail> {
     let mut out = Vec::new(rt.alloc());
     let mut err = Vec::new(rt.alloc());
-    let (again, _) = run_words(rt, &IMPORT, Unknown, &mut out, &mut err);
+    let again = ending(rt, &IMPORT, &mut out, &mut err);
     let text = std::str::from_utf8(out.as_slice())?;
     let is_whole = matches!(again, Ended::Printed(Printed::Whole));
     let is_repeated = text.contains("\nA-1,repeated,1,settled\n");

@@ -1,15 +1,15 @@
 //! A keeper of a book on two disks in memory.
 ghost use Rattle.std.specs.Prelude.{◌≡◌, false};
 
-use super::disks::{DISK_FAILED, DiskStore, Disks};
+use super::disks::{DISK_FAILED, Disks};
 use super::found::ShowsBook;
 use super::plain_keeper::PlainKeeper;
 use rtgs_book::Fault;
 use rtgs_keeper::Keeper;
 use rtgs_stored_desk::create;
 use rtgs_tables::SqlKeeper;
-use sqlite::{Alter, Connection, Options};
-use sqlite_disk::Disk;
+use sqlite::{Alter, Connection, FileStore, Files, Options};
+use sqlite_disk::{Disk, Fuse, Memory};
 use std::alloc::Global;
 use std::test::Fail;
 
@@ -27,8 +27,8 @@ pub trait DiskKeeper: Sized {
     fn stopped(self) -> Disks;
 }
 
-/// The one kind of keeper on disks that there is: the tables of a desk in a database on two disks.
-type KeeperOnDisks = PlainKeeper<SqlKeeper<DiskStore>>;
+/// The tables of a desk in a database on two disks of a kind.
+type KeeperOn<D> = PlainKeeper<SqlKeeper<FileStore<D>>>;
 
 // The keeper over a database, in which the tables of a new desk are made where they are to be made. Where the store
 // fails, it comes back.
@@ -49,41 +49,63 @@ fn kept<S: Alter + Drop>(
     }
 }
 
-impl DiskKeeper for KeeperOnDisks {
+// What a keeper does with its store is written for disks of any kind: a proof over a disk by name takes in all that the
+// disk does.
+fn opened_on<D: Disk + Drop>(
+    alloc: Global,
+    disks: Files<D>,
+    is_new: bool,
+) -> Result<Result<KeeperOn<D>, Files<D>>, Fail> {
+    if !disks.log.may_be_used() || !disks.db.may_be_used() {
+        return Err(Fail::from("a disk that may not be used"));
+    }
+    let conn = match Connection::open_files(alloc, disks, Options::new(1)) {
+        Ok(conn) => conn,
+        Err((error, left)) if error == DISK_FAILED => return Ok(Err(left.into_files())),
+        Err((error, _)) => return Err(Fail::from(error)),
+    };
+    match kept(alloc, conn, is_new)? {
+        Ok(kept) => Ok(Ok(PlainKeeper::new(kept))),
+        Err(store) => Ok(Err(store.close())),
+    }
+}
+
+fn closed_on<D: Disk + Drop>(keeper: KeeperOn<D>) -> Result<Result<Files<D>, Files<D>>, Fail> {
+    let (error, store) = match connection_of(keeper).close_files() {
+        Ok(disks) => return Ok(Ok(disks)),
+        Err(left) => left,
+    };
+    let left = store.close();
+    if error == DISK_FAILED {
+        Ok(Err(left))
+    } else {
+        Err(Fail::from(error))
+    }
+}
+
+fn stopped_on<D: Disk + Drop>(keeper: KeeperOn<D>) -> Files<D> {
+    connection_of(keeper).into_store().close()
+}
+
+fn connection_of<S: Alter + Drop>(keeper: PlainKeeper<SqlKeeper<S>>) -> Connection<S> {
+    keeper.into_kept().into_connection()
+}
+
+impl DiskKeeper for KeeperOn<Fuse<Memory>> {
     fn opened(
         alloc: Global,
         disks: Disks,
         is_new: bool,
-    ) -> Result<Result<KeeperOnDisks, Disks>, Fail> {
-        if !disks.log.may_be_used() || !disks.db.may_be_used() {
-            return Err(Fail::from("a disk that may not be used"));
-        }
-        let conn = match Connection::open_files(alloc, disks, Options::new(1)) {
-            Ok(conn) => conn,
-            Err((error, left)) if error == DISK_FAILED => return Ok(Err(left.into_files())),
-            Err((error, _)) => return Err(Fail::from(error)),
-        };
-        match kept(alloc, conn, is_new)? {
-            Ok(kept) => Ok(Ok(PlainKeeper::new(kept))),
-            Err(store) => Ok(Err(store.close())),
-        }
+    ) -> Result<Result<KeeperOn<Fuse<Memory>>, Disks>, Fail> {
+        opened_on(alloc, disks, is_new)
     }
 
     fn closed(self) -> Result<Result<Disks, Disks>, Fail> {
-        let (error, store) = match self.into_kept().into_connection().close_files() {
-            Ok(disks) => return Ok(Ok(disks)),
-            Err(left) => left,
-        };
-        let left = store.close();
-        if error == DISK_FAILED {
-            Ok(Err(left))
-        } else {
-            Err(Fail::from(error))
-        }
+        closed_on(self)
     }
 
     fn stopped(self) -> Disks {
-        self.into_kept().into_connection().into_store().close()
+        stopped_on(self)
     }
 }
 
@@ -100,5 +122,5 @@ pub trait Work {
 
 /// Does this with the one kind of keeper on disks that there is. Only this function names it.
 pub fn on_disks<W: Work>(alloc: Global, work: W) -> Result<W::Seen, Fail> {
-    work.done_with::<KeeperOnDisks>(alloc)
+    work.done_with::<KeeperOn<Fuse<Memory>>>(alloc)
 }

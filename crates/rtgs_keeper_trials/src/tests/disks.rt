@@ -1,15 +1,12 @@
 //! Databases on two disks in memory, their file and their log, each behind a fuse that passes so many calls on and
 //! fails each later one.
 use super::fuses::Fuses;
-use sqlite::{Error, ErrorCode, FileStore, Files};
+use sqlite::{Error, ErrorCode, Files};
 use sqlite_disk::{Crash, Fuse, Memory};
 use std::alloc::Global;
 
 /// The two disks of a database.
 pub type Disks = Files<Fuse<Memory>>;
-
-/// The store of a database on two disks.
-pub type DiskStore = FileStore<Fuse<Memory>>;
 
 /// What a store answers whose disk fails.
 pub const DISK_FAILED: Error = Error::SqliteFailure(ErrorCode::SystemIoFailure);

@@ -2,7 +2,8 @@
 use super::super::parts::spliced;
 use super::setting::{NO_BOOK, begin_day, book_bytes, is_told, keeps, remove, reports, write};
 use super::views::with_views;
-use sqlite::Connection;
+use crate::tests::databases::log_changes;
+use std::fmt::Write;
 use std::test::Fail;
 
 // A report on the book with so many views more is that on the book, up to a hundred objects, and refused above that.
@@ -40,24 +41,23 @@ fn with_more_objects(rt: HostRuntime) -> Result<(), Fail> {
 
 // Makes the views of these numbers, and leaves them in the log of the file.
 fn leave_views(rt: &HostRuntime, file: &str, first: u32, last: u32) -> Result<(), Fail> {
-    let mut conn = Connection::open(rt, file)?;
+    let mut sql = String::new(rt.alloc());
     for view in first..=last {
-        let sql = format!(in rt.alloc(); "CREATE VIEW v{view} AS SELECT 1")?;
-        conn.execute_batch(sql.as_str())?;
+        writeln!(sql, "CREATE VIEW v{view} AS SELECT 1;")?;
     }
-    Ok(())
+    log_changes(rt, file, sql.as_str())
 }
 
 // A report moves the log into the file, where it does not refuse it.
 #[test]
 fn with_objects_in_the_log(rt: HostRuntime) -> Result<(), Fail> {
-    begin_day(&rt, "logged")?;
-    leave_views(&rt, "logged", 1, 91)?;
-    let (said, status) = reports(&rt, "logged")?;
+    begin_day(&rt, "crowd_log")?;
+    leave_views(&rt, "crowd_log", 1, 91)?;
+    let (said, status) = reports(&rt, "crowd_log")?;
     assert_eq!(rt; status, 0, "{said}");
-    leave_views(&rt, "logged", 92, 92)?;
-    is_told(&rt, "logged", NO_BOOK)?;
-    remove(&rt, "logged")
+    leave_views(&rt, "crowd_log", 92, 92)?;
+    is_told(&rt, "crowd_log", NO_BOOK)?;
+    remove(&rt, "crowd_log")
 }
 
 // The book with so many views more is refused where its header says that each page ends in a checksum, and none does.

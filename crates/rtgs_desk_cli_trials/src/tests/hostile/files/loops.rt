@@ -2,8 +2,9 @@
 use super::super::parts::spliced;
 use super::edits::PAGE;
 use super::met::count;
-use super::setting::{begin_day, book_bytes, is_told, keeps, meddle, remove, write};
+use super::setting::{begin_day, book_bytes, is_told, keeps, remove, write};
 use super::views::with_circles;
+use crate::tests::databases::meddle;
 use std::fs;
 use std::test::Fail;
 

@@ -1,6 +1,6 @@
 //! A book on a Monday, and runs that report on it.
-use rtgs_desk_cli::run_words;
-use sqlite::{Connection, Unknown};
+use crate::tests::databases::meddle;
+use crate::tests::runs::ending;
 use std::fs;
 use std::test::Fail;
 
@@ -11,7 +11,7 @@ pub const NO_BOOK: &str = "refused 93 NotADeskFile\n";
 fn ran(rt: &HostRuntime, words: &[&str]) -> (Vec<u8>, Vec<u8>, u8) {
     let mut out = Vec::new(rt.alloc());
     let mut err = Vec::new(rt.alloc());
-    let (ended, _) = run_words(rt, words, Unknown, &mut out, &mut err);
+    let ended = ending(rt, words, &mut out, &mut err);
     (out, err, ended.exit_status())
 }
 
@@ -86,14 +86,6 @@ pub fn write(rt: &HostRuntime, file: &str, bytes: &[u8]) -> Result<(), Fail> {
 pub fn remove(rt: &HostRuntime, file: &str) -> Result<(), Fail> {
     write(rt, file, b"")?;
     Ok(fs::remove_file(rt, file)?)
-}
-
-/// Changes a file by SQL, as another program does.
-pub fn meddle(rt: &HostRuntime, file: &str, sql: &str) -> Result<(), Fail> {
-    let mut conn = Connection::open(rt, file)?;
-    let done = conn.execute_batch(sql);
-    conn.close()?;
-    Ok(done?)
 }
 
 /// What a run prints that reports on a file, and the status that it ends with. It prints on standard output with status
