@@ -1,12 +1,23 @@
 -- What is said of one request is said of another that is the same.
-use Rattle.std.proofs.Common.{◌≡◌, ℕ, List, Option, Result, sym, subst}
+use Rattle.std.proofs.Common.{◌≡◌, ◌≢◌, ℕ, true, List, Option, Result, refl, sym, subst}
 use Rattle.std.specs.Result.{IfOk, IfErr}
+use Rattle.rtgs_book.specs.declared.reading.Reading.{Reading}
+use Rattle.rtgs_book.specs.declared.reading.Reading.TheVariants as reading
 use Rattle.rtgs_desk_requests.specs.declared.request.Request.{Request}
 use Rattle.rtgs_desk_lines.specs.declared.failure.Failure.{Failure}
 use Rattle.rtgs_desk_lines.specs.declared.printed.Printed.{Printed}
 use Rattle.rtgs_book_file.specs.OverFile.{OverFile}
 use Rattle.rtgs_desk_cli.specs.declared.touched.Touched.{Touched}
-use Rattle.rtgs_desk_cli.specs.Runs.{file_of, Denies, IsOf, IsRefused, PrintsFor}
+use Rattle.rtgs_desk_cli.specs.Runs.{file_of, is_gathered, Denies, IsOf, IsRefused, PrintsFor}
+
+-- the text of each reading but a statement is gathered
+pub gathered : (asked : Reading) → ((code : List ℕ) (date : ℕ) → asked ≢ reading.Statement code date)
+    → is_gathered asked ≡ true
+gathered (reading.Order sender reference) other = refl
+gathered (reading.Account code) other = refl
+gathered (reading.Queue code) other = refl
+gathered (reading.Statement code date) other = absurd (other code date refl)
+gathered (reading.Report date) other = refl
 
 module _ {A K U C : Type 0} (file : OverFile K U C) (touched : Touched A U C) {asked other : Request}
     (same : asked ≡ other) where

@@ -120,6 +120,11 @@ IsFile WhenRefused WhenClosed (traces.Nothing start) = ⊥
 IsFile WhenRefused WhenClosed (traces.Refused unopened) = WhenRefused unopened
 IsFile WhenRefused WhenClosed (traces.Book closed beside) = WhenClosed closed
 
+-- the text of a reading is gathered before a byte of it is printed, as of each but a statement
+abbrev pub is_gathered : Reading → Bool
+is_gathered (reading.Statement code date) = false
+is_gathered asked = true
+
 -- what a run met beside the file of its book
 abbrev pub met_of : {A U C : Type 0} → Touched A U C → Met
 met_of (traces.Book closed beside) = beside
@@ -217,10 +222,12 @@ module _ {A K U C : Type 0} (book_file : OverFile K U C) where
       × (outcome ≡ outcome_of_text written) × IsStated touched code date written old new
 
   -- Why a run with this request is refused, and what it leaves on standard output: nothing, or the beginning of a
-  -- statement that was refused after some of its rows. An unknown code is refused before a byte.
+  -- statement that was refused after some of its rows. An unknown code is refused before a byte, and nothing is printed
+  -- of a statement where no desk was opened.
   abbrev pub Denies : {O : Type 0} → (O → Option (List ℕ)) → Request → Touched A U C → Failure → O → O → Type 0
   Denies contents (Read file reading) touched why out out' =
-      (IsRefused (Read file reading) touched why × (out' ≡ out))
+      ((IsNotOpened touched why ⊎ ((is_gathered reading ≡ true) × IsRefused (Read file reading) touched why))
+      × (out' ≡ out))
       ⊎ (States reading touched (Err why) (contents out) (contents out')
       × (why ≡ Refused UnknownParticipant → out' ≡ out))
   Denies contents request touched why out out' = IsRefused request touched why × (out' ≡ out)
@@ -231,13 +238,14 @@ module _ {A K U C : Type 0} (book_file : OverFile K U C) where
       (text : List ℕ) × (stopped : Option Refusal) × HasToPrint request touched text stopped
       × Prints text stopped printed old new
 
-  -- The same, where a statement can be printed row by row; and a server took its connections as it said.
+  -- The same, where a statement is printed row by row; and a server took its connections as it said.
   abbrev pub PrintsFor : Request → Touched A U C → Printed → Option (List ℕ) → Option (List ℕ) → Type 0
   PrintsFor (Serve file port count operator) touched printed old new =
       PrintsText (Serve file port count operator) touched printed old new
       × TakesAt port count (met_of touched) printed old new
   PrintsFor (Read file reading) touched printed old new =
-      PrintsText (Read file reading) touched printed old new ⊎ States reading touched (Ok printed) old new
+      ((is_gathered reading ≡ true) × PrintsText (Read file reading) touched printed old new)
+      ⊎ States reading touched (Ok printed) old new
   PrintsFor request touched printed old new = PrintsText request touched printed old new
 
   -- the words spell a request for which this was printed, and whose file was touched

@@ -39,6 +39,13 @@ fn writes(rt: &HostRuntime, words: &[&str]) -> Result<usize, Fail> {
     Err(Fail::from("not printed"))
 }
 
+const MORE: &str = "
+$ desk post F ALFA P-8 1
+> posted 2
+$ desk post F ALFA P-9 1
+> posted 3
+";
+
 #[test]
 fn a_statement_is_printed_row_by_row(rt: HostRuntime) -> Result<(), Fail> {
     follows(&rt, "by_row", DAY)?;
@@ -48,5 +55,9 @@ fn a_statement_is_printed_row_by_row(rt: HostRuntime) -> Result<(), Fail> {
     // a report is one text
     let count = writes(&rt, &["report", "by_row", "2024-03-04"])?;
     assert_eq!(rt; count, 1);
+    // each of two postings more is a write more
+    follows(&rt, "by_row", MORE)?;
+    let count = writes(&rt, &["statement", "by_row", "ALFA", "2024-03-04"])?;
+    assert_eq!(rt; count, 5);
     Ok(())
 }
