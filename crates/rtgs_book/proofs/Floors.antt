@@ -7,9 +7,10 @@ use Rattle.rtgs_book.specs.Books.{Book, Participant}
 use Rattle.rtgs_book.specs.Lookup.{participant_of, credit_of, accounts}
 use Rattle.rtgs_book.specs.Balance.{balance, floor, floor_at}
 use Rattle.rtgs_book.specs.Soundness.{CodesRise, FloorsHold}
-use Rattle.rtgs_book.proofs.Lists.{all_both, all_map}
+use Rattle.rtgs_book.proofs.Lists.{all_map}
 use Rattle.rtgs_book.proofs.SoundCredit.{limit}
-use Rattle.rtgs_book.proofs.Sums.{later_differs}
+use Rattle.rtgs_lists.proofs.Codes.{later_differs}
+use Rattle.rtgs_lists.proofs.Lists.{all_both}
 
 pub all_unmap : {X Y : Type 0} (P : Y → Type 0) (f : X → Y) (xs : List X) → AllByRecursion P (map f xs)
     → AllByRecursion (λ x. P (f x)) xs

@@ -20,7 +20,6 @@ pub mod SoundCommands
 pub mod SoundCredit
 pub mod States
 pub mod Steady
-pub mod Sums
 pub mod Loops
 pub mod Totals
 pub mod SoundDays

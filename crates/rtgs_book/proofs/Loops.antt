@@ -8,7 +8,8 @@ use Rattle.std.specs.List.{AllByRecursion, range_with_len, list_all}
 use Rattle.rtgs_money.specs.Date.{is_weekend}
 use Rattle.rtgs_book.specs.declared.limits.TheConstants.{LARGEST_NUMBER}
 use Rattle.rtgs_book.specs.Soundness.{AreNumbered, AreWeekdays, NeverFall}
-use Rattle.rtgs_book.proofs.Lists.{all_weaker}
+use Rattle.rtgs_lists.proofs.Bools.{and_left, and_right}
+use Rattle.rtgs_lists.proofs.Lists.{all_weaker}
 
 -- the next element, and those after it
 pub next_of : {X : Type 0} (xs : List X) (i : ℕ) (x : X) → i < length xs → x ≡ get_or xs i x
@@ -19,14 +20,6 @@ next_of xs i x less is = rw (add-one i) (drop-cons xs i x less ∙ (λ k. sym is
 abbrev pub counts_from : ℕ → List ℕ → Bool
 counts_from n [] = true
 counts_from n (k ∷ ks) = (k == n) && counts_from (n + 1) ks
-
-pub and_left : (a b : Bool) → (a && b) ≡ true → a ≡ true
-and_left true b e = refl
-and_left false b e = e
-
-pub and_right : (a b : Bool) → (a && b) ≡ true → b ≡ true
-and_right true b e = e
-and_right false b e = absurd (true≢false (sym e))
 
 pub counted : (n : ℕ) (ks : List ℕ) → counts_from n ks ≡ true → ks ≡ range_with_len n (length ks)
 counted n [] e = refl

@@ -14,7 +14,7 @@ use Rattle.rtgs_book.specs.Laws.{BalancesFit}
 use Rattle.rtgs_book.specs.Ranges.{Fits}
 use Rattle.rtgs_book.specs.Soundness.{IsSound}
 use Rattle.rtgs_book.specs.Totals.{Within}
-use Rattle.rtgs_book.proofs.Lists.{all_weaker, all_both}
+use Rattle.rtgs_lists.proofs.Lists.{all_both, all_weaker}
 
 -- where no term is far below zero, none is far above the sum
 high_terms : {X : Type 0} (f : X → ℤ) (low : ℕ) (xs : List X) → AllByRecursion (λ x. neg_ℤ (pos low) ≤ℤ f x) xs

@@ -13,8 +13,8 @@ use Rattle.rtgs_book.specs.Soundness.{MarksFitOrders}
 use Rattle.rtgs_book.specs.declared.rules.tally.Tally.{Tally}
 use Rattle.rtgs_book.specs.Tallies.{AreTallies, IsCounted, IsWithin, tally_at, tally_of, with_amount}
 use Rattle.rtgs_money.specs.declared.amount.TheConstants.Amount as Amount
-use Rattle.rtgs_book.proofs.Lists.{all_weaker}
 use Rattle.rtgs_book.proofs.Totals.{count_is_sum, amounts_are_sum, sum_pushed}
+use Rattle.rtgs_lists.proofs.Lists.{all_weaker}
 
 -- the numbers of the marks go on from the first
 abbrev pub CountFrom : ℕ → List Mark → Type 0

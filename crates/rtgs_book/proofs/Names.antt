@@ -12,8 +12,9 @@ use Rattle.std.specs.Cmp.Lexicographic.{slice_cmp, nat_list_cmp_total, texts_tie
 use Rattle.std.specs.Str.{bytes_eq}
 use Rattle.rtgs_book.specs.declared.limits.TheConstants.{MOST_PARTICIPANTS}
 use Rattle.rtgs_book.specs.Soundness.{AreCodes, is_same_name}
-use Rattle.rtgs_book.proofs.Lists.{all_weaker}
-use Rattle.rtgs_book.proofs.Loops.{next_of, and_left, and_right}
+use Rattle.rtgs_book.proofs.Loops.{next_of}
+use Rattle.rtgs_lists.proofs.Bools.{and_left, and_right}
+use Rattle.rtgs_lists.proofs.Lists.{all_weaker}
 
 -- what compares equal is the same text
 pub same_text : eq_by_cmp (slice_cmp nat_cmp) ≡ bytes_eq

@@ -9,7 +9,7 @@ use Rattle.rtgs_book.specs.Books.{Book, Order, Posting}
 use Rattle.rtgs_book.specs.Lookup.{accounts, is_participant}
 use Rattle.rtgs_book.specs.Soundness.{has_parties, PartiesAreKnown}
 use Rattle.rtgs_book.proofs.Names.{same_text}
-use Rattle.rtgs_book.proofs.Loops.{and_left, and_right}
+use Rattle.rtgs_lists.proofs.Bools.{and_left, and_right}
 
 -- a test of each element, and the fact for each
 pub all_pass : {X : Type 0} (p : X → Bool) (xs : List X) → (list_all p xs ≡ true) ↔ AllByRecursion (λ x. IsTrue (p x))

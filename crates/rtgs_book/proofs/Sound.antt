@@ -17,7 +17,7 @@ use Rattle.rtgs_book.specs.Outcome.{Command, Reply, Outcome}
 use Rattle.rtgs_book.specs.Run.{Run}
 use Rattle.rtgs_book.specs.Step.{Step}
 use Rattle.rtgs_book.specs.Soundness.{CodesRise, PartiesAreKnown, IsSound}
-use Rattle.rtgs_book.proofs.Batches.{all_filter, batch_gains_none}
+use Rattle.rtgs_book.proofs.Batches.{batch_gains_none}
 use Rattle.rtgs_book.proofs.SoundAdd.{sound_add}
 use Rattle.rtgs_book.proofs.SoundCommands.{sound_order, sound_resolve}
 use Rattle.rtgs_book.proofs.SoundCredit.{sound_set_credit}
@@ -25,7 +25,8 @@ use Rattle.rtgs_book.proofs.SoundDays.{sound_open_day, sound_cut_off}
 use Rattle.rtgs_book.proofs.SoundPost.{sound_post}
 use Rattle.rtgs_book.proofs.SoundSettle.{parties_known}
 use Rattle.rtgs_book.proofs.SoundStates.{sound_withdraw, sound_close_day}
-use Rattle.rtgs_book.proofs.Sums.{int_sum_by-both, at_code, sum_at_code}
+use Rattle.rtgs_lists.proofs.Lists.{all_filter}
+use Rattle.rtgs_lists.proofs.Sums.{at_code, int_sum_by-both, sum_at_code}
 
 ends : (outcome : Outcome) (reply : Reply) (new : Book) → record { reply = reply; book = new } ≡ outcome
     → IsSound outcome.book → IsSound new

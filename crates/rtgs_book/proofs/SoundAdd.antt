@@ -15,12 +15,15 @@ use Rattle.rtgs_book.specs.Balance.{balance, floor, total, gain}
 use Rattle.rtgs_book.specs.Queue.{queue}
 use Rattle.rtgs_book.specs.Commands.{is_before, with_participant, add}
 use Rattle.rtgs_book.specs.Soundness.{has_parties, CountsItsOrders, IsSound}
-use Rattle.rtgs_book.proofs.Insertions.{put_in, map-filter, all_put_in, sorted_put_in, length-put_in, sum-put_in}
+use Rattle.rtgs_book.proofs.Insertions.{length-put_in, sum-put_in}
 use Rattle.rtgs_book.proofs.Insertions.{any-put_in, distinct_put_in}
-use Rattle.rtgs_book.proofs.Lists.{all_weaker, all_both, all_map, find_none}
+use Rattle.rtgs_book.proofs.Lists.{all_map, find_none}
 use Rattle.rtgs_book.proofs.Outcomes.{sound_first_of}
-use Rattle.rtgs_book.proofs.SoundCredit.{bytes_eq_comm, limit}
+use Rattle.rtgs_book.proofs.SoundCredit.{limit}
 use Rattle.rtgs_book.proofs.SoundPost.{lt_from_test}
+use Rattle.rtgs_lists.proofs.Codes.{bytes_eq_comm, sorted_put_in}
+use Rattle.rtgs_lists.proofs.Filters.{all_put_in, map-filter, put_in}
+use Rattle.rtgs_lists.proofs.Lists.{all_both, all_weaker}
 
 abbrev comes_before : List ℕ → Participant → Bool
 comes_before code p = is_before p.code code

@@ -18,20 +18,22 @@ use Rattle.rtgs_book.specs.Settle.{settle}
 use Rattle.rtgs_book.specs.Outcome.{Outcome}
 use Rattle.rtgs_book.specs.Commands.{resolve, settles_at_once, new_order, with_order, has_number, takes, order}
 use Rattle.rtgs_book.specs.Soundness.{IsSound, has_parties}
-use Rattle.rtgs_book.proofs.Balances.{left_true}
 use Rattle.rtgs_book.proofs.Choices.{le_from_test}
-use Rattle.rtgs_book.proofs.Lists.{all_of, all_weaker, all_push}
 use Rattle.rtgs_book.proofs.Outcomes.{sound_first_of, not_false}
 use Rattle.rtgs_book.proofs.SoundDays.{open_not_closed}
 use Rattle.rtgs_book.proofs.SoundOrders.{sound_with_order, balance-with_order}
 use Rattle.rtgs_book.proofs.SoundPost.{lt_from_test}
 use Rattle.rtgs_book.proofs.SoundSettle.{sound_settle}
+use Rattle.rtgs_lists.proofs.Bools.{and_left, and_right}
+use Rattle.rtgs_lists.proofs.Filters.{filter_nothing}
+use Rattle.rtgs_lists.proofs.Lists.{all_of, all_push, all_weaker}
+use Rattle.rtgs_lists.proofs.Numbers.{eq_self}
 
 -- ---- Resolve
 
 pub chosen_queued : (book : Book) (choice : Choice) (o : Order) → is_chosen book choice o ≡ true → is_queued o ≡ true
 unfolding is_chosen
-chosen_queued book choice o e = left_true _ _ e
+chosen_queued book choice o e = and_left _ _ e
 
 sound_settle_chosen : (book : Book) (choice : Choice) → IsSound book → is_closed book.day.phase ≡ false
     → IsFeasible book choice → IsSound (settle book (is_chosen book choice))
@@ -66,19 +68,8 @@ number_below first (o ∷ os) e =
           (number_below (first + 1) os rest),
     )
 
-filter_none_of : {X : Type 0} (p : X → Bool) (xs : List X) → AllByRecursion (λ x. p x ≡ false) xs → filter p xs ≡ []
-filter_none_of p [] h = refl
-filter_none_of p (x ∷ xs) h = rw (h.0, filter_none_of p xs h.1) refl
-
 other_number : (a n : ℕ) → a < 1 + n → (a == (n + 1)) ≡ false
 other_number a n less = grind (arith, nat_tests)
-
-same_number : (n : ℕ) → (n == n) ≡ true
-same_number n = grind (arith, nat_tests)
-
-pub right_true : (a b : Bool) → (a && b) ≡ true → b ≡ true
-right_true true b e = e
-right_true false b e = absurd (true≢false (sym e))
 
 no_orders : {X : Type 0} (xs : List X) → is_empty xs ≡ true → length xs < LONGEST_QUEUE
 no_orders [] e = omega arith
@@ -99,12 +90,12 @@ choose false x y h k = k refl
 at_once_empty : (book : Book) (sender : List ℕ) (amount : ℕ) → settles_at_once book sender amount ≡ true
     → length (queue book sender) < LONGEST_QUEUE
 unfolding settles_at_once
-at_once_empty book sender amount e = no_orders _ (left_true _ _ e)
+at_once_empty book sender amount e = no_orders _ (and_left _ _ e)
 
 at_once_cover : (book : Book) (sender : List ℕ) (amount : ℕ) → settles_at_once book sender amount ≡ true
     → floor book sender ≤ℤ (balance book sender -ℤ pos amount)
 unfolding settles_at_once
-at_once_cover book sender amount e = le_from_test _ _ (right_true _ _ e)
+at_once_cover book sender amount e = le_from_test _ _ (and_right _ _ e)
 
 still_short : (a b : Bool) → a ≡ false → (not a && b) ≡ false → b ≡ false
 still_short true b e s = absurd (true≢false e)
@@ -123,7 +114,7 @@ module _ (book : Book) (sender reference receiver : List ℕ) (amount : ℕ) (h 
       ++ new_order book sender reference receiver amount ∷ []) ≡ new_order book sender reference receiver amount ∷ []
   batch_is = filter-append (has_number (length book.orders + 1)) book.orders
       (new_order book sender reference receiver amount ∷ [])
-      ∙ rw (filter_none_of _ book.orders old_numbers, same_number (length book.orders + 1)) refl
+      ∙ rw (filter_nothing _ book.orders old_numbers, eq_self (length book.orders + 1)) refl
 
   covered_at : bytes_eq sender receiver ≡ false → floor book sender ≤ℤ (balance book sender -ℤ pos amount)
       → (code : List ℕ) → floor book code ≤ℤ balance book code

@@ -16,14 +16,15 @@ use Rattle.rtgs_book.specs.Queue.{queue}
 use Rattle.rtgs_book.specs.Settle.{restated, settle, mark_of, next_mark, today}
 use Rattle.rtgs_book.specs.Soundness.{PartiesAreKnown, has_parties, is_state_under, CountsItsOrders, IsSound}
 use Rattle.rtgs_book.proofs.Balances.{queued_not_settled, gains-marked}
-use Rattle.rtgs_book.proofs.Batches.{all_filter, all_from_filter, none_under_next, under_new, amounts_restated}
+use Rattle.rtgs_book.proofs.Batches.{all_from_filter, none_under_next, under_new, amounts_restated}
 use Rattle.rtgs_book.proofs.Batches.{marks_settled, batch_gains_none, marks_le}
-use Rattle.rtgs_book.proofs.Lists.{all_weaker, all_both, all_map, all_push, map_same, numbered_after, never_fall_push}
+use Rattle.rtgs_book.proofs.Lists.{all_map, numbered_after, never_fall_push}
 use Rattle.rtgs_book.proofs.Settling.{with_batch, settle_cases}
 use Rattle.rtgs_book.proofs.SoundStates.{name}
 use Rattle.rtgs_book.proofs.States.{restated_same, filter_restated, all_filter_restated, length-filter_restated}
 use Rattle.rtgs_book.proofs.States.{queued_not_under}
-use Rattle.rtgs_book.proofs.Sums.{int_sum_by-both}
+use Rattle.rtgs_lists.proofs.Lists.{all_both, all_filter, all_push, all_weaker, map_same}
+use Rattle.rtgs_lists.proofs.Sums.{int_sum_by-both}
 
 -- numbers that count up from 1 are at most as many
 below_next : (first : ℕ) (ms : List Mark) → map (λ (m : Mark). m.number) ms

@@ -26,16 +26,17 @@ use Rattle.rtgs_book.specs.Step.{Step}
 use Rattle.rtgs_book.specs.Laws.{posted, Stands, CommandFits}
 use Rattle.rtgs_book.specs.Ranges.{Fits}
 use Rattle.rtgs_book.proofs.Balances.{queued_not_settled}
-use Rattle.rtgs_book.proofs.Batches.{all_filter, marks_le}
+use Rattle.rtgs_book.proofs.Batches.{marks_le}
 use Rattle.rtgs_book.proofs.SoundSettle.{total-with_batch}
-use Rattle.rtgs_book.proofs.Lists.{all_of, all_weaker, all_map, all_append, all_push}
-use Rattle.rtgs_book.proofs.IntSums.{int_sum_by-append}
+use Rattle.rtgs_book.proofs.Lists.{all_map}
 use Rattle.rtgs_book.proofs.Outcomes.{NoneHolds, first_of_cases, not_false}
 use Rattle.rtgs_book.proofs.Settling.{with_batch, settle_cases, settle-postings}
 use Rattle.rtgs_book.proofs.Sound.{step_sound, total_is_issued}
 use Rattle.rtgs_book.proofs.SoundCommands.{chosen_queued, old_numbers}
 use Rattle.rtgs_book.proofs.SoundStates.{all_queued}
 use Rattle.rtgs_book.proofs.States.{found_by_number}
+use Rattle.rtgs_lists.proofs.Lists.{all_append, all_filter, all_of, all_push, all_weaker}
+use Rattle.rtgs_lists.proofs.Sums.{int_sum_by-append}
 
 -- what holds where a test is answered, and after what the command is for, holds of the outcome
 pub holds_first_of : (P : Outcome → Type 0) (book : Book) (rows : List (Bool × Reply)) (outcome : Outcome)

@@ -21,8 +21,8 @@ use Rattle.std.specs.Set.{is_member}
 use Rattle.rtgs_money.specs.declared.posting_amount.TheConstants.PostingAmount as PostingAmount
 use Rattle.rtgs_book.specs.IntSum.{int_sum_by}
 use Rattle.rtgs_book.specs.Totals.{Totals, Within, AreWithin}
-use Rattle.rtgs_book.proofs.IntSums.{int_sum_by-append}
-use Rattle.rtgs_book.proofs.Lists.{all_push}
+use Rattle.rtgs_lists.proofs.Lists.{all_push}
+use Rattle.rtgs_lists.proofs.Sums.{int_sum_by-append}
 
 module _ {K : Type 0} (cmp : K → K → Ordering) (keys : List K) where
   by_member : (b : Bool) (y z : ℤ) → cond b (Some y) None ≡ Some z → z ≡ y

@@ -4,7 +4,7 @@ pub mod Books
 pub mod Changes
 pub mod Choice
 pub mod Commands
-pub mod IntSum
+pub use Rattle.rtgs_lists.specs.IntSum
 pub mod Judgement
 pub mod Laws
 pub mod Lookup

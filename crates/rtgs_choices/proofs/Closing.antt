@@ -26,6 +26,7 @@ use Rattle.rtgs_book.specs.Step.{Step}
 use Rattle.rtgs_choices.specs.Settling.{is_numbered, state_rows}
 use Rattle.rtgs_choices.specs.Closing.{closed_book, closing_rows}
 use Rattle.rtgs_choices.proofs.Rows.{changed-append, restated_agrees, balance_set-states}
+use Rattle.rtgs_lists.proofs.Lists.{all_of}
 
 not_closed : (p : Phase) → is_cut_off p ≡ true → is_closed p ≡ false
 not_closed Closed e = absurd (cc)
@@ -71,18 +72,14 @@ rejected book states queued =
     ∙ ap (λ (os : List Order). with_day (record book { orders = os }) (record book.day { phase = Closed }))
     (restated_agrees is_queued (is_numbered (numbers book)) Rejected book.orders queued)
 
-every : {X : Type 0} (P : X → Type 0) → ((x : X) → P x) → (xs : List X) → AllByRecursion P xs
-every P h [] = tt
-every P h (x ∷ xs) = (h x, every P h xs)
-
 same_balance : (book : Book) → BalanceAfterRestating → (code : List ℕ)
     → balance book code ≡ balance (closed_book book) code
 unfolding balance
 same_balance book law code = sym (law book is_queued Rejected code
-    (every (λ o. is_queued o ≡ true → is_queued o ≡ true) (λ o e. e) book.orders) refl)
+    (all_of (λ o. is_queued o ≡ true → is_queued o ≡ true) (λ o e. e) book.orders) refl)
 
 pub moves_nothing : (book : Book) → BalanceAfterRestating → SetsBalances book (closing_rows book) (closed_book book)
-moves_nothing book law = every (λ code. balance_set code (closing_rows book)
+moves_nothing book law = all_of (λ code. balance_set code (closing_rows book)
     ≡ cond (int_eq (balance book code) (balance (closed_book book) code)) None (Some (balance (closed_book book) code)))
     at (accounts (closed_book book))
   where

@@ -23,7 +23,8 @@ use Rattle.rtgs_book.specs.Commands.{with_state, has_number}
 use Rattle.rtgs_book.specs.Settle.{restated, settle, mark_of, next_mark}
 use Rattle.rtgs_book.specs.Changes.{with_row, changed, or_else, balance_set, SetsBalances}
 use Rattle.rtgs_choices.specs.Settling.{is_numbered, state_rows, IsOfBalance, moves, balance_rows, settling_rows}
-use Rattle.rtgs_choices.proofs.Told.{in_codes, all_weaker}
+use Rattle.rtgs_choices.proofs.Told.{in_codes}
+use Rattle.rtgs_lists.proofs.Lists.{all_weaker}
 
 -- ---- states
 

@@ -20,8 +20,10 @@ use Rattle.rtgs_gridlock.specs.Choices.{sum_below}
 use Rattle.rtgs_choices.specs.ByIndex.{code_at}
 use Rattle.rtgs_choices.specs.Settling.{orders_taken, numbers_taken, is_numbered}
 use Rattle.rtgs_choices.proofs.Agree.{length_is}
-use Rattle.rtgs_choices.proofs.Told.{HasIndexes, parties_have_indexes, all_weaker, all_filter}
+use Rattle.rtgs_choices.proofs.Told.{HasIndexes, parties_have_indexes}
 use Rattle.rtgs_choices.proofs.Chosen.{ChosenAreBeginnings, gets, gives, gains_are, sum_by-senders, sum_by-chosen}
+use Rattle.rtgs_lists.proofs.Lists.{all_both, all_filter, all_weaker}
+use Rattle.rtgs_lists.proofs.Numbers.{eq_self}
 
 -- ---- sums
 
@@ -95,14 +97,6 @@ orders_rise book h = rises_from 1 book.orders (h.0 ∙ ap (range_with_len 1) (le
 any_none : {X : Type 0} (p : X → Bool) (xs : List X) → AllByRecursion (λ x. p x ≡ false) xs → list_any p xs ≡ false
 any_none p [] h = refl
 any_none p (x ∷ xs) h = rw h.0 (any_none p xs h.1)
-
-all_both : {X : Type 0} (P Q R : X → Type 0) → ((x : X) → P x → Q x → R x) → (xs : List X) → AllByRecursion P xs
-    → AllByRecursion Q xs → AllByRecursion R xs
-all_both P Q R h [] a b = tt
-all_both P Q R h (x ∷ xs) a b = (h x a.0 b.0, all_both P Q R h xs a.1 b.1)
-
-eq_self : (n : ℕ) → (n == n) ≡ true
-eq_self n = grind (arith, nat_tests)
 
 lt-apart : (a b : ℕ) → a < b → (a == b) ≡ false
 lt-apart a b less = grind (arith, nat_tests)

@@ -2,7 +2,7 @@
 use Rattle.std.proofs.Common.{◌≡◌, ℕ, zero, suc, ◌<◌, ◌≤ℤ◌, ◌==◌, Bool, true, false, not, ◌&&◌, ◌||◌, List, [], ◌∷◌}
 use Rattle.std.proofs.Common.{filter, length, get_or, IsTrue, refl, sym, ap, ◌∙◌, subst, true≢false, arith}
 use Rattle.std.proofs.lemmas.List.{length-map, get_or-map}
-use Rattle.std.proofs.lemmas.List.Elements.{All-from_recursion, recursion_from_All, All-filter, All-map}
+use Rattle.std.proofs.lemmas.List.Elements.{All-from_recursion, All-map}
 use Rattle.std.specs.List.{AllByRecursion, All, list_any}
 use Rattle.std.specs.Str.{bytes_eq}
 use Rattle.std.specs.Cmp.Lexicographic.{bytes_decides}
@@ -20,6 +20,8 @@ use Rattle.rtgs_gridlock.specs.Choices as resolver
 use Rattle.rtgs_choices.specs.ByIndex.{code_at, index_of, position_of, positions_of, payment_of, payments_of, queues_of}
 use Rattle.rtgs_choices.specs.ByIndex.{by_code}
 use Rattle.rtgs_choices.proofs.Indexes.{index_in-lt, code_at_index, index_of_code_at, has_index}
+use Rattle.rtgs_lists.proofs.Bools.{and_right_false}
+use Rattle.rtgs_lists.proofs.Lists.{all_filter, all_weaker}
 
 pub length-positions : (book : Book) → length (positions_of book) ≡ length (accounts book)
 unfolding positions_of
@@ -100,15 +102,6 @@ indexes_of book o e =
     (not (bytes_eq o.sender o.receiver)) e in
     (index_of-lt book o.sender both.0, index_of-lt book o.receiver both.1)
 
-pub all_weaker : {X : Type 0} (P Q : X → Type 0) → ((x : X) → P x → Q x) → (xs : List X) → AllByRecursion P xs
-    → AllByRecursion Q xs
-all_weaker P Q h [] a = tt
-all_weaker P Q h (x ∷ xs) a = (h x a.0, all_weaker P Q h xs a.1)
-
-pub all_filter : {X : Type 0} (P : X → Type 0) (p : X → Bool) (xs : List X) → AllByRecursion P xs
-    → AllByRecursion P (filter p xs)
-all_filter P p xs h = recursion_from_All P (filter p xs) (All-filter p P xs (All-from_recursion P xs h))
-
 pub parties_have_indexes : (book : Book) → IsSound book → AllByRecursion (HasIndexes book) book.orders
 parties_have_indexes book sound = all_weaker (λ o. IsTrue (has_parties book o)) (HasIndexes book) (indexes_of book)
     book.orders sound.parties.0
@@ -117,10 +110,6 @@ filter_none : {X : Type 0} (p : X → Bool) (xs : List X) → AllByRecursion (λ
     → length (filter p xs) ≡ 0
 filter_none p [] h = refl
 filter_none p (x ∷ xs) h = rw h.0 (filter_none p xs h.1)
-
-not_both : (a b : Bool) → b ≡ false → (a && b) ≡ false
-not_both true b e = e
-not_both false b e = refl
 
 not_sender : (book : Book) (code : List ℕ) (o : Order) → is_participant book code ≡ false → IsTrue (has_parties book o)
     → bytes_eq o.sender code ≡ false
@@ -141,7 +130,7 @@ unfolding queue
 no_queue book code sound stranger =
     filter_none _ book.orders
     (all_weaker (λ o. IsTrue (has_parties book o)) (λ (o : Order). (is_queued o && bytes_eq o.sender code) ≡ false)
-    (λ o e. not_both (is_queued o) (bytes_eq o.sender code) (not_sender book code o stranger e)) book.orders
+    (λ o e. and_right_false (is_queued o) (bytes_eq o.sender code) (not_sender book code o stranger e)) book.orders
     sound.parties.0)
 
 -- ---- the resolver's conditions

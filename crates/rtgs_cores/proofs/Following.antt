@@ -22,6 +22,7 @@ use Rattle.rtgs_cores.specs.declared.cores.Core.{Core}
 use Rattle.rtgs_cores.specs.Cores.{account_of, core_of, IsCoreOf}
 use Rattle.rtgs_cores.specs.Following.{participant_of, code_of, is_of, with_account, with_balance, with_limit}
 use Rattle.rtgs_cores.specs.Following.{limited, AreBalanced, core_after_row, core_after, QueuesNoneAgain}
+use Rattle.rtgs_lists.proofs.Filters.{map-filter}
 
 -- the core agrees with the book in all but balances
 record Agrees (book : Book) (core : Core) : Type 0 where
@@ -33,17 +34,6 @@ record Agrees (book : Book) (core : Core) : Type 0 where
   pub marks : core.next_mark ≡ length book.marks + 1
 
 -- ---- lists
-
-map-filter : {X Y : Type 0} (g : X → Y) (q : Y → Bool) (xs : List X)
-    → map g (filter (λ x. q (g x)) xs) ≡ filter q (map g xs)
-map-filter g q [] = refl
-map-filter g q (x ∷ xs) = by (q (g x)) (map-filter g q xs)
-  where
-    by : (b : Bool) → map g (filter (λ x. q (g x)) xs) ≡ filter q (map g xs)
-        → map g (cond b (x ∷ filter (λ x. q (g x)) xs) (filter (λ x. q (g x)) xs))
-        ≡ cond b (g x ∷ filter q (map g xs)) (filter q (map g xs))
-    by true e = ap (λ ys. g x ∷ ys) e
-    by false e = e
 
 filter-append : {X : Type 0} (p : X → Bool) (xs ys : List X) → filter p (xs ++ ys) ≡ filter p xs ++ filter p ys
 filter-append p [] ys = refl

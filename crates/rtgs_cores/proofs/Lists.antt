@@ -1,6 +1,6 @@
 -- Lists of records in rising number.
-use Rattle.std.proofs.Common.{◌≡◌, ℕ, ◌+◌, ◌<◌, ◌≤◌, Bool, true, false, ◌&&◌, List, [], ◌∷◌}
-use Rattle.std.proofs.Common.{map, length, Some, refl, sym, subst, ◌∙◌, arith, inl, inr}
+use Rattle.std.proofs.Common.{◌≡◌, ℕ, ◌+◌, ◌<◌, ◌≤◌, Bool, true, false, List, [], ◌∷◌}
+use Rattle.std.proofs.Common.{map, length, Some, sym, subst, ◌∙◌, arith, inl, inr}
 use Rattle.std.specs.List.{AllByRecursion, find, range_with_len}
 use Rattle.std.proofs.lemmas.Bool.{cases_Bool}
 use Rattle.std.proofs.lemmas.List.{length-map}
@@ -69,11 +69,3 @@ found_least number date hit a (x ∷ xs) listed is = elim (cases_Bool (hit x)) [
     found_least number date hit a xs listed.3 (rw other at is),
   )
 ]
-
-pub weaker : {X : Type 0} (P Q : X → Type 0) → ((x : X) → P x → Q x) → (xs : List X) → AllByRecursion P xs
-    → AllByRecursion Q xs
-weaker P Q by [] all = tt
-weaker P Q by (x ∷ xs) all = (by x all.0, weaker P Q by xs all.1)
-
-pub both : (x y : Bool) → x ≡ true → y ≡ true → (x && y) ≡ true
-both x y one two = rw (one, two) refl

@@ -19,26 +19,11 @@ use Rattle.rtgs_book.specs.declared.reading.Reading.TheVariants as reading
 use Rattle.rtgs_statements.specs.Records.{is_posting_of, is_order_of, is_posted_on, is_ordered_on}
 use Rattle.rtgs_http_banks.specs.Own.{AgreeFor, concerns, is_posted_to}
 use Rattle.rtgs_http_banks.specs.Sayings.{reading_message}
+use Rattle.rtgs_lists.proofs.Bools.{and_left, and_right, or_left_false, or_right_false}
 
 or_left : (a b : Bool) → a ≡ true → (a || b) ≡ true
 or_left true b e = refl
 or_left false b e = absurd (cc)
-
-and_right : (a b : Bool) → (a && b) ≡ true → b ≡ true
-and_right true b e = e
-and_right false b e = absurd (cc)
-
-and_left : (a b : Bool) → (a && b) ≡ true → a ≡ true
-and_left true b e = refl
-and_left false b e = absurd (cc)
-
-or_false_left : (a b : Bool) → (a || b) ≡ false → a ≡ false
-or_false_left true b e = absurd (cc)
-or_false_left false b e = refl
-
-or_false_right : (a b : Bool) → (a || b) ≡ false → b ≡ false
-or_false_right true b e = absurd (cc)
-or_false_right false b e = e
 
 and_false : (a b : Bool) → a ≡ true → (a && b) ≡ false → b ≡ false
 and_false true b e h = h
@@ -82,8 +67,8 @@ unmoved : (code : List ℕ) (order : Order) → is_settled order ≡ true → co
     → gain code order ≡ pos 0
 unfolding gain
 unmoved code order settled other =
-    let sender = or_false_left (bytes_eq order.sender code) (is_settled order && bytes_eq order.receiver code) other in
-    let rest = or_false_right (bytes_eq order.sender code) (is_settled order && bytes_eq order.receiver code) other in
+    let sender = or_left_false (bytes_eq order.sender code) (is_settled order && bytes_eq order.receiver code) other in
+    let rest = or_right_false (bytes_eq order.sender code) (is_settled order && bytes_eq order.receiver code) other in
     let receiver = and_false (is_settled order) (bytes_eq order.receiver code) settled rest in
     rw (sender, receiver) refl
 

@@ -9,19 +9,9 @@ use Rattle.std.specs.Cmp.Lexicographic.{slice_cmp, nat_list_cmp_total}
 use Rattle.std.specs.FinMap.{nat_cmp-IsAntisymmetric, slice_cmp-IsAntisymmetric}
 use Rattle.rtgs_book.specs.declared.Participant.{Participant}
 use Rattle.rtgs_book.specs.Commands.{is_before}
-use Rattle.rtgs_keeper.proofs.Insertions.{put_in, all_put_in}
 use Rattle.rtgs_keeper.specs.Memory.{AreInCodeOrder}
-
-is_less : (a b : List ℕ) → is_before a b ≡ true → slice_cmp nat_cmp a b ≡ Less
-is_less a b e = by (slice_cmp nat_cmp a b) e
-  where
-    by : (o : Ordering) → is_lt o ≡ true → o ≡ Less
-    by Less e = refl
-    by Equal e = absurd (true≢false (sym e))
-    by Greater e = absurd (true≢false (sym e))
-
-not_after : (a b : List ℕ) → slice_cmp nat_cmp a b ≡ Less → is_before b a ≡ false
-not_after a b e = ap is_lt (nat_list_cmp_total.antisymm b a ∙ ap ordering_reverse e)
+use Rattle.rtgs_lists.proofs.Codes.{is_less, not_before}
+use Rattle.rtgs_lists.proofs.Filters.{all_put_in, filter_nothing, put_in}
 
 -- what comes no later than a code before c is itself before c
 earlier_before : (z y c : List ℕ) → is_before z y ≡ false → is_before z c ≡ true → is_before y c ≡ true
@@ -52,10 +42,6 @@ filter_all : {X : Type 0} (p : X → Bool) (xs : List X) → AllByRecursion (λ 
 filter_all p [] h = refl
 filter_all p (x ∷ xs) h = rw (h.0, filter_all p xs h.1) refl
 
-filter_nothing : {X : Type 0} (p : X → Bool) (xs : List X) → AllByRecursion (λ x. p x ≡ false) xs → filter p xs ≡ []
-filter_nothing p [] h = refl
-filter_nothing p (x ∷ xs) h = rw (h.0, filter_nothing p xs h.1) refl
-
 pub order_put_in : (new : Participant) (ps : List Participant) → AreInCodeOrder ps
     → AreInCodeOrder (put_in (λ p. is_before p.code new.code) new ps)
 order_put_in new [] h = (tt, tt)
@@ -68,7 +54,7 @@ order_put_in new (p ∷ ps) h = by (is_before p.code new.code) refl (order_put_i
         (filter (λ p. not (is_before p.code new.code)) ps))
     by true e rest = (
       all_put_in (λ (q : Participant). is_before q.code p.code ≡ false) (λ q. is_before q.code new.code)
-          new ps h.0 (not_after p.code new.code (is_less p.code new.code e)),
+          new ps h.0 (not_before p.code new.code (is_less p.code new.code e)),
       rest,
     )
     by false e rest =
@@ -91,7 +77,7 @@ order_of_codes (p ∷ ps) h = (after ps h.0, order_of_codes ps h.1)
         (map (λ (p : Participant). p.code) qs) → AllByRecursion (λ (q : Participant). is_before q.code p.code ≡ false)
         qs
     after [] k = tt
-    after (q ∷ qs) k = (not_after p.code q.code k.0, after qs k.1)
+    after (q ∷ qs) k = (not_before p.code q.code k.0, after qs k.1)
 
 -- codes alone matter
 pub order_map : (f : Participant → Participant) → ((p : Participant) → (f p).code ≡ p.code) → (ps : List Participant)

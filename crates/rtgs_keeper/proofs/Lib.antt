@@ -1,4 +1,3 @@
-pub mod Insertions
 pub mod CodeOrder
 pub mod OrderNumbers
 pub mod Credits

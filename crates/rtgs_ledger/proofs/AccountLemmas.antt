@@ -15,14 +15,17 @@ use Rattle.rtgs_book.specs.Lookup.{has_code}
 use Rattle.std.specs.FinMap.{nat_cmp-IsAntisymmetric, slice_cmp-IsAntisymmetric}
 use Rattle.std.proofs.lemmas.List.Elements.{recursion_from_All}
 use Rattle.std.proofs.lemmas.Bool.{cases_lt}
-use Rattle.rtgs_ledger.proofs.Lists.{bytes_eq_comm, find_none, map-filter, map_same, not_before, or_left, or_right}
-use Rattle.rtgs_ledger.proofs.Lists.{sorted_put_in}
 use Rattle.rtgs_book.specs.declared.participant.Participant.{Participant}
 use Rattle.rtgs_book.specs.declared.account.Account.{Account}
 use Rattle.rtgs_book.specs.declared.limits.TheConstants.{MOST_PARTICIPANTS}
 use Rattle.rtgs_ledger.specs.Accounts.{code_of, key_of, has_key, participant_of, is_of, AreInCodeOrder, AreOfABook}
 use Rattle.rtgs_ledger.specs.Accounts.{with_account, with_balance}
 use Rattle.rtgs_ledger.specs.Accounts.{with_limit, IsAt, IsGapFor}
+use Rattle.rtgs_lists.proofs.Bools.{or_left_false, or_right_false}
+use Rattle.rtgs_lists.proofs.Codes.{bytes_eq_comm, not_before, sorted_put_in}
+use Rattle.rtgs_lists.proofs.Filters.{map-filter}
+use Rattle.rtgs_lists.proofs.Finds.{find_nothing}
+use Rattle.rtgs_lists.proofs.Lists.{map_same}
 
 -- a code that comes before another is another
 pub apart_from_less : (a b : List ℕ) → slice_cmp nat_cmp a b ≡ Less → bytes_eq a b ≡ false
@@ -79,7 +82,7 @@ find_at code (x ∷ xs) rise (suc i) at d =
 
 -- a code that has a gap is not there
 pub find_in_gap : (code : List ℕ) (xs : List Account) (i : ℕ) → IsGapFor code xs i → find (is_of code) xs ≡ None
-find_in_gap code xs i gap = find_none (is_of code) xs gap.apart
+find_in_gap code xs i gap = find_nothing (is_of code) xs gap.apart
 
 -- a search ends at the account with the code, or at the gap for it
 pub searched : (xs : List Account) → AreInCodeOrder xs → (code : List ℕ) (r : Result ℕ ℕ)
@@ -251,11 +254,11 @@ keys_inserted new zero xs h free = (none xs free, h)
     none : (xs : List Account) → list_any (has_key (key_of new)) xs ≡ false
         → AllByRecursion (λ k. bytes_eq (key_of new) k ≡ false) (map key_of xs)
     none [] e = tt
-    none (x ∷ xs) e = (bytes_eq_comm (key_of new) (key_of x) ∙ or_left _ _ e, none xs (or_right _ _ e))
+    none (x ∷ xs) e = (bytes_eq_comm (key_of new) (key_of x) ∙ or_left_false _ _ e, none xs (or_right_false _ _ e))
 keys_inserted new (suc i) [] h free = (tt, tt)
 keys_inserted new (suc i) (x ∷ xs) h free = (
-  all_inserted (λ k. bytes_eq (key_of x) k ≡ false) new i xs h.0 (or_left _ _ free),
-  keys_inserted new i xs h.1 (or_right _ _ free),
+  all_inserted (λ k. bytes_eq (key_of x) k ≡ false) new i xs h.0 (or_left_false _ _ free),
+  keys_inserted new i xs h.1 (or_right_false _ _ free),
 )
 
 pub of_a_book_inserted : (new : Account) (xs : List Account) (i : ℕ) → AreOfABook xs → IsGapFor (code_of new) xs i

@@ -24,9 +24,10 @@ use Rattle.rtgs_ledger.specs.Accounts.{code_of, is_of, has_key, with_account}
 use Rattle.rtgs_ledger.proofs.Balances.{same_int, all_same, balance_unknown}
 use Rattle.rtgs_ledger.proofs.Kept.{StepKeepsRanges, StepKeepsSoundness, participant_none, is_unknown, any-participants}
 use Rattle.rtgs_ledger.proofs.Kept.{length-participants, prepared_done}
-use Rattle.rtgs_ledger.proofs.Lists.{every, all_put_in}
 use Rattle.rtgs_cores.specs.Following.{AreBalanced}
 use Rattle.rtgs_ledger.proofs.Whole.{IsKept, IsPrepared, Whole, book_of, held_of}
+use Rattle.rtgs_lists.proofs.Filters.{all_put_in}
+use Rattle.rtgs_lists.proofs.Lists.{all_of}
 
 module _ (book : Book) (code name key : List ℕ) where
   pub repeats : (p : Participant) → lookup.participant_of book code ≡ Some p
@@ -69,7 +70,7 @@ module _ (r : Whole) (kept : IsKept (held_of r)) (code name key : List ℕ)
   leads_to_it : Leads (book_of r) (AddParticipant p ∷ []) (with_participant (book_of r) p)
   leads_to_it = record {
     book = refl;
-    balances = every (λ c. balance_set c (AddParticipant p ∷ [])
+    balances = all_of (λ c. balance_set c (AddParticipant p ∷ [])
         ≡ (if int_eq (balance (book_of r) c) (balance (with_participant (book_of r) p) c) then None else Some
         (balance (with_participant (book_of r) p) c))) (λ c. rw (balance_same c, same_int (balance (book_of r) c)) refl)
         (accounts (with_participant (book_of r) p));

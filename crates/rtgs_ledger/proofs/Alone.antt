@@ -1,21 +1,20 @@
 -- A book of participants alone is sound.
-use Rattle.std.proofs.Common.{◌≡◌, ◌≤◌, Bool, true, false, List, [], ◌∷◌, map, length, refl, sym, ap, subst, arith}
-use Rattle.std.proofs.Common.{ℕ, ℤ, pos, ◌≤ℤ◌}
+use Rattle.std.proofs.Common.{◌≡◌, ◌≤◌, Bool, true, false, List, [], ◌∷◌, map, length, refl, ap, arith}
+use Rattle.std.proofs.Common.{ℕ, pos, ◌≤ℤ◌}
 use Rattle.std.proofs.lemmas.Int.{ints}
 use Rattle.std.proofs.lemmas.List.{length-map}
-use Rattle.std.specs.List.{AllByRecursion, IsDistinct}
-use Rattle.std.specs.Str.{bytes_eq}
+use Rattle.std.specs.List.{IsDistinct}
 use Rattle.rtgs_book.specs.declared.account.Account.{Account}
-use Rattle.rtgs_book.specs.declared.limits.TheConstants.{LONGEST_QUEUE, LARGEST_TOTAL, MOST_PARTICIPANTS}
+use Rattle.rtgs_book.specs.declared.limits.TheConstants.{LONGEST_QUEUE}
 use Rattle.rtgs_book.specs.declared.participant.Participant.{Participant}
 use Rattle.rtgs_book.specs.Balance.{balance, floor, total}
 use Rattle.rtgs_book.specs.IntSum.{int_sum_by}
 use Rattle.rtgs_book.specs.Lookup.{accounts}
 use Rattle.rtgs_book.specs.Queue.{queue}
 use Rattle.rtgs_book.specs.Soundness.{IsSound}
-use Rattle.rtgs_ledger.specs.Accounts.{AreInCodeOrder, AreOfABook, participant_of, code_of, key_of}
+use Rattle.rtgs_ledger.specs.Accounts.{AreOfABook, participant_of, code_of, key_of}
 use Rattle.rtgs_ledger.specs.Alone.{book_of}
-use Rattle.rtgs_ledger.proofs.Lists.{every}
+use Rattle.rtgs_lists.proofs.Lists.{all_of}
 
 codes_are : (xs : List Account) → map (λ (p : Participant). p.code) (map participant_of xs) ≡ map code_of xs
 codes_are [] = refl
@@ -44,7 +43,7 @@ sound_alone xs of = record {
   marks = (tt, tt);
   queues = record {
     closed = λ _. refl;
-    short = every (λ code. length (queue (book_of (map participant_of xs)) code) ≤ LONGEST_QUEUE) (λ code. omega arith)
+    short = all_of (λ code. length (queue (book_of (map participant_of xs)) code) ≤ LONGEST_QUEUE) (λ code. omega arith)
         (accounts (book_of (map participant_of xs)));
     of_the_day = tt;
   };
@@ -57,7 +56,7 @@ sound_alone xs of = record {
     marks = tt;
     postings = tt;
   };
-  floors = every (λ code. floor (book_of (map participant_of xs)) code ≤ℤ balance (book_of (map participant_of xs))
+  floors = all_of (λ code. floor (book_of (map participant_of xs)) code ≤ℤ balance (book_of (map participant_of xs))
       code)
       (λ code. omega (arith, ints)) (accounts (book_of (map participant_of xs)));
   total_fits = let none = nothing (map participant_of xs) (accounts (book_of (map participant_of xs)))

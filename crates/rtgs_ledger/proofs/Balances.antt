@@ -20,7 +20,9 @@ use Rattle.rtgs_book.specs.IntSum.{int_sum_by}
 use Rattle.rtgs_book.specs.Soundness.{has_parties, PartiesAreKnown}
 use Rattle.rtgs_book.specs.declared.account.Account.{Account}
 use Rattle.rtgs_ledger.specs.Accounts.{code_of, is_of, rebalanced, with_balance}
-use Rattle.rtgs_ledger.proofs.Lists.{bytes_eq_comm, int_sum_by-append, weaker}
+use Rattle.rtgs_lists.proofs.Codes.{bytes_eq_comm}
+use Rattle.rtgs_lists.proofs.Lists.{all_weaker}
+use Rattle.rtgs_lists.proofs.Sums.{int_sum_by-append}
 
 -- ---- numbers
 
@@ -60,7 +62,7 @@ all_moved code b f (x ∷ xs) h = (one_moved code b f x h.0, all_moved code b f 
 
 pub all_same : (f g : List ℕ → ℤ) → ((c : List ℕ) → f c ≡ g c) → (xs : List Account)
     → AllByRecursion (λ a. a.balance ≡ f (code_of a)) xs → AllByRecursion (λ a. a.balance ≡ g (code_of a)) xs
-all_same f g same xs = weaker (λ a. a.balance ≡ f (code_of a)) (λ a. a.balance ≡ g (code_of a))
+all_same f g same xs = all_weaker (λ a. a.balance ≡ f (code_of a)) (λ a. a.balance ≡ g (code_of a))
     (λ a e. e ∙ same (code_of a)) xs
 
 -- ---- balances of a book with one record more
@@ -131,10 +133,10 @@ pub balance_unknown : (book : Book) (code : List ℕ) → PartiesAreKnown book �
     → balance book code ≡ pos 0
 unfolding balance is_participant
 balance_unknown book code parties none =
-    let postings = no_postings code book.postings (weaker (λ (p : Posting). list_any (bytes_eq p.code) (accounts book)
+    let postings = no_postings code book.postings (all_weaker (λ (p : Posting). list_any (bytes_eq p.code) (accounts book)
     ≡ true) (λ (p : Posting). bytes_eq p.code code ≡ false) (λ p e. apart_from p.code code (accounts book) none e)
     book.postings parties.1) in
-    let orders = no_gains code book.orders (weaker (λ o. has_parties book o ≡ true)
+    let orders = no_gains code book.orders (all_weaker (λ o. has_parties book o ≡ true)
     (λ (o : Order). (bytes_eq o.sender code ≡ false) × (bytes_eq o.receiver code ≡ false))
     (λ o e. (
       apart_from o.sender code (accounts book) none (first_true _ _ _ e),

@@ -31,7 +31,6 @@ use Rattle.rtgs_book.specs.Accounts.{is_overdrawn}
 use Rattle.rtgs_ledger.specs.Accounts.{code_of, participant_of}
 use Rattle.rtgs_ledger.proofs.Balances.{all_same}
 use Rattle.rtgs_ledger.proofs.Kept.{StepKeepsRanges}
-use Rattle.rtgs_ledger.proofs.Lists.{every}
 use Rattle.rtgs_ledger.proofs.Ordering.{is_shut, is_opened, is_day}
 use Rattle.rtgs_ledger.proofs.Rooms.{after-append, accounts_after-states}
 use Rattle.rtgs_ledger.proofs.Withdrawing.{BalanceAfterRestating}
@@ -39,6 +38,7 @@ use Rattle.rtgs_ledger.specs.Closing.{IsClosable}
 use Rattle.rtgs_ledger.proofs.OrderLemmas.{same_numbers}
 use Rattle.rtgs_cores.specs.Following.{AreBalanced}
 use Rattle.rtgs_ledger.proofs.Whole.{Held, IsKept, IsPrepared, Whole, after, book_of, held_of}
+use Rattle.rtgs_lists.proofs.Lists.{all_of}
 
 not_closed : (p : Phase) → is_cut_off p ≡ true → is_closed p ≡ false
 not_closed Closed e = absurd (cc)
@@ -181,7 +181,7 @@ module _ (held : Held) (kept : IsKept held) (law : BalanceAfterRestating) where
   balance_same : (c : List ℕ) → balance held.content c ≡ balance (closed_book held.content) c
   unfolding balance
   balance_same c = sym (law held.content is_queued Rejected c
-      (every (λ o. is_queued o ≡ true → is_queued o ≡ true) (λ o e. e) held.content.orders) refl)
+      (all_of (λ o. is_queued o ≡ true → is_queued o ≡ true) (λ o e. e) held.content.orders) refl)
 
   accounts_stay : (after held (closing_rows held.content)).accounts ≡ held.accounts
   accounts_stay =

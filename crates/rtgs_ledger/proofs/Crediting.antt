@@ -21,8 +21,8 @@ use Rattle.rtgs_book.specs.declared.account.Account.{Account}
 use Rattle.rtgs_ledger.specs.Accounts.{code_of, is_of, with_limit}
 use Rattle.rtgs_ledger.proofs.Balances.{same_int, all_same}
 use Rattle.rtgs_ledger.proofs.Kept.{StepKeepsRanges, StepKeepsSoundness, prepared_done}
-use Rattle.rtgs_ledger.proofs.Lists.{every}
 use Rattle.rtgs_ledger.proofs.Whole.{Held, IsKept, IsPrepared}
+use Rattle.rtgs_lists.proofs.Lists.{all_of}
 
 module _ (book : Book) (code : List ℕ) (credit : ℕ) where
   pub unknown : is_participant book code ≡ false → Step book (command.SetCredit code credit) (Err UnknownParticipant)
@@ -61,7 +61,7 @@ module _ (held : Held) (kept : IsKept held) (code : List ℕ) (credit : ℕ) whe
   leads_to_it : Leads held.content (SetCredit code credit ∷ []) (with_credit held.content code credit)
   leads_to_it = record {
     book = refl;
-    balances = every (λ c. balance_set c (SetCredit code credit ∷ [])
+    balances = all_of (λ c. balance_set c (SetCredit code credit ∷ [])
         ≡ (if int_eq (balance held.content c) (balance (with_credit held.content code credit) c) then None else Some
         (balance (with_credit held.content code credit) c)))
         (λ c. rw (← balance_same c, same_int (balance held.content c)) refl)

@@ -19,8 +19,8 @@ use Rattle.rtgs_book.specs.Outcome.{first_of}
 use Rattle.rtgs_book.specs.Step.{Step}
 use Rattle.rtgs_ledger.proofs.Balances.{same_int, all_same}
 use Rattle.rtgs_ledger.proofs.Kept.{StepKeepsRanges, StepKeepsSoundness, prepared_done}
-use Rattle.rtgs_ledger.proofs.Lists.{every}
 use Rattle.rtgs_ledger.proofs.Whole.{Held, IsKept, IsPrepared}
+use Rattle.rtgs_lists.proofs.Lists.{all_of}
 
 -- a date and the day's date
 pub other_date : (day date : ℕ) → not (day == date) ≡ true → is_date (Some day) date ≡ false
@@ -69,7 +69,7 @@ module _ (held : Held) (kept : IsKept held) (date : ℕ) where
   leads_to_it : Leads held.content (SetDay day ∷ []) (with_day held.content day)
   leads_to_it = record {
     book = refl;
-    balances = every (λ c. balance_set c (SetDay day ∷ []) ≡ (if int_eq (balance held.content c)
+    balances = all_of (λ c. balance_set c (SetDay day ∷ []) ≡ (if int_eq (balance held.content c)
         (balance (with_day held.content day) c) then None else Some (balance (with_day held.content day) c)))
         (λ c. rw (← balance_same c, same_int (balance held.content c)) refl) (accounts (with_day held.content day));
   }

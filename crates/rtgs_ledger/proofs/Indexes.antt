@@ -8,7 +8,7 @@ use Rattle.std.specs.Cmp.Lexicographic.{slice_cmp}
 use Rattle.rtgs_book.specs.declared.account.Account.{Account}
 use Rattle.rtgs_ledger.specs.Accounts.{code_of, is_of, AreInCodeOrder, IsAt}
 use Rattle.rtgs_ledger.proofs.AccountLemmas.{apart_from_less, at_index, equal_codes}
-use Rattle.rtgs_ledger.proofs.Lists.{bytes_eq_comm}
+use Rattle.rtgs_lists.proofs.Codes.{bytes_eq_comm}
 
 pub position_at : (code : List ℕ) (xs : List Account) → AreInCodeOrder xs → (i : ℕ) → IsAt code xs i
     → position_or_len (bytes_eq code) (map code_of xs) ≡ i

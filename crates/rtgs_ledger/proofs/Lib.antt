@@ -9,7 +9,6 @@ pub mod Finding
 pub mod Indexes
 pub mod Kept
 pub mod Keys
-pub mod Lists
 pub mod Loading
 pub mod Opening
 pub mod OrderLemmas

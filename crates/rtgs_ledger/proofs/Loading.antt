@@ -14,7 +14,8 @@ use Rattle.rtgs_cores.specs.declared.Core.{Core}
 use Rattle.rtgs_cores.specs.Cores.{account_of, core_of, IsCoreOf}
 use Rattle.rtgs_ledger.specs.Accounts.{AreInCodeOrder, AreOfABook, code_of, key_of}
 use Rattle.rtgs_ledger.specs.Orders.{AreRising, AreQueued}
-use Rattle.rtgs_ledger.proofs.OrderLemmas.{all_filter, rising_filter, are_queued, queued_twice}
+use Rattle.rtgs_ledger.proofs.OrderLemmas.{rising_filter, are_queued, queued_twice}
+use Rattle.rtgs_lists.proofs.Lists.{all_filter}
 
 own_codes : (book : Book) (ps : List Participant) → map code_of (map (account_of book) ps) ≡ map (λ
     (p : Participant). p.code) ps

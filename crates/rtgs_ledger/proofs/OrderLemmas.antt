@@ -22,18 +22,10 @@ use Rattle.rtgs_book.specs.Queue.{queued_numbers}
 use Rattle.rtgs_ledger.specs.declared.queues.Queues.{Queues}
 use Rattle.rtgs_ledger.specs.Orders.{IsKept, AreRising, AreQueued, HasNumberAt}
 use Rattle.rtgs_ledger.specs.Queues.{queue_of, room_of}
-use Rattle.rtgs_ledger.proofs.Lists.{weaker, filter_all}
+use Rattle.rtgs_lists.proofs.Filters.{filter_all}
+use Rattle.rtgs_lists.proofs.Lists.{all_at_place, all_filter, all_push, all_weaker}
 
 -- ---- numbers
-
-pub all_filter : {X : Type 0} (P : X → Type 0) (p : X → Bool) (xs : List X) → AllByRecursion P xs
-    → AllByRecursion P (filter p xs)
-all_filter P p [] h = tt
-all_filter {X} P p (x ∷ xs) h = by (p x) (all_filter P p xs h.1)
-  where
-    by : (b : Bool) → AllByRecursion P (filter p xs) → AllByRecursion P (cond b (x ∷ filter p xs) (filter p xs))
-    by true rest = (h.0, rest)
-    by false rest = rest
 
 pub rising_filter : (p : Order → Bool) (os : List Order) → AreRising os → AreRising (filter p os)
 rising_filter p [] h = tt
@@ -43,15 +35,10 @@ rising_filter p (o ∷ os) h = by (p o) (rising_filter p os h.1)
     by true rest = (all_filter (λ x. o.number < x.number) p os h.0, rest)
     by false rest = rest
 
-all_end : {X : Type 0} (P : X → Type 0) (xs : List X) (x : X) → AllByRecursion P xs → P x → AllByRecursion P
-    (xs ++ x ∷ [])
-all_end P [] x h e = (e, tt)
-all_end P (y ∷ ys) x h e = (h.0, all_end P ys x h.1 e)
-
 pub rising_end : (os : List Order) (o : Order) → AreRising os → AllByRecursion (λ x. x.number < o.number) os
     → AreRising (os ++ o ∷ [])
 rising_end [] o h below = (tt, tt)
-rising_end (x ∷ xs) o h below = (all_end (λ y. x.number < y.number) xs o h.0 below.0, rising_end xs o h.1 below.1)
+rising_end (x ∷ xs) o h below = (all_push (λ y. x.number < y.number) xs o h.0 below.0, rising_end xs o h.1 below.1)
 
 -- what a sweep leaves is queued, and nothing is swept out where all are
 pub are_queued : (os : List Order) → AreQueued (filter is_queued os)
@@ -66,16 +53,10 @@ are_queued (o ∷ os) = by (is_queued o) refl (are_queued os)
 pub all_stay : (os : List Order) → AreQueued os → filter is_queued os ≡ os
 all_stay os h = filter_all is_queued os h
 
-all_at : {X : Type 0} (P : X → Type 0) (xs : List X) → AllByRecursion P xs → (k : ℕ) (d : X) → k < length xs
-    → P (get_or xs k d)
-all_at P [] h k d lt = absurd (omega arith)
-all_at P (x ∷ xs) h zero d lt = h.0
-all_at P (x ∷ xs) h (suc k) d lt = all_at P xs h.1 k d (omega arith)
-
 rising_at : (os : List Order) → AreRising os → (k : ℕ) (d : Order) → suc k < length os
     → (get_or os k d).number < (get_or os (suc k) d).number
 rising_at [] h k d lt = absurd (omega arith)
-rising_at (o ∷ os) h zero d lt = all_at (λ x. o.number < x.number) os h.0 0 d (omega arith)
+rising_at (o ∷ os) h zero d lt = all_at_place (λ x. o.number < x.number) os h.0 0 d (omega arith)
 rising_at (o ∷ os) h (suc k) d lt = rising_at os h.1 k d (omega arith)
 
 abbrev pub number_of : Order → ℕ
@@ -93,7 +74,7 @@ own number o same = grind (arith, nat_tests, same)
 -- numbers above another are other numbers
 all_above : (number : ℕ) (os : List Order) → AllByRecursion (λ x. number < x.number) os → AllByRecursion
     (is_not number) os
-all_above number os h = weaker (λ x. number < x.number) (is_not number) (λ x above. grind
+all_above number os h = all_weaker (λ x. number < x.number) (is_not number) (λ x above. grind
     (arith, nat_tests, above)) os h
 
 none_there : (number : ℕ) (os : List Order) → AllByRecursion (is_not number) os → find (has_number number) os ≡ None
@@ -128,7 +109,7 @@ found_queued number (o ∷ os) h (suc i) at d = by (is_queued o) (found_queued n
     rest = record { in_range = within; has_number = λ d. at.has_number d }
 
     less : o.number < number
-    less = subst (λ n. o.number < n) (at.has_number d) (all_at (λ x. o.number < x.number) os h.0 i d within)
+    less = subst (λ n. o.number < n) (at.has_number d) (all_at_place (λ x. o.number < x.number) os h.0 i d within)
 
     apart : has_number number o ≡ false
     apart = grind (arith, nat_tests, less)
@@ -228,7 +209,7 @@ module _ (number : ℕ) (state : OrderState) where
       rest = record { in_range = within; has_number = λ d. at.has_number d }
 
       less : x.number < number
-      less = subst (λ n. x.number < n) (at.has_number x) (all_at (λ y. x.number < y.number) xs h.0 i x within)
+      less = subst (λ n. x.number < n) (at.has_number x) (all_at_place (λ y. x.number < y.number) xs h.0 i x within)
 
       apart : has_number number x ≡ false
       apart = grind (arith, nat_tests, less)
@@ -392,7 +373,7 @@ module _ (orders : List Order) (queues : Queues) (next : ℕ) (awaited : Option 
   pub kept_counted : IsKept orders queues (next + 1) awaited tidy
   kept_counted = record {
     rising = kept.rising;
-    before = weaker (λ (o : Order). o.number < next) (λ (o : Order). o.number < next + 1) (λ o lt. omega arith) orders
+    before = all_weaker (λ (o : Order). o.number < next) (λ (o : Order). o.number < next + 1) (λ o lt. omega arith) orders
         kept.before;
     queued = kept.queued;
     ready = kept.ready;
@@ -407,13 +388,13 @@ module _ (orders : List Order) (queues : Queues) (next : ℕ) (awaited : Option 
   kept_push order new number waits pushed = record {
     rising = rising_end orders order kept.rising (subst (λ n. AllByRecursion (λ (o : Order). o.number < n) orders)
         (sym number) kept.before);
-    before = all_end (λ (o : Order). o.number < next + 1) orders order
-        (weaker (λ (o : Order). o.number < next) (λ (o : Order). o.number < next + 1) (λ o lt. omega arith) orders
+    before = all_push (λ (o : Order). o.number < next + 1) orders order
+        (all_weaker (λ (o : Order). o.number < next) (λ (o : Order). o.number < next + 1) (λ o lt. omega arith) orders
         kept.before) (omega arith);
     queued = λ sender. pushed sender ∙ ap (λ ns. cond (bytes_eq order.sender sender) (ns ++ order.number ∷ []) ns)
         (kept.queued sender) ∙ sym (queue_push sender orders order ∙ rw waits refl);
     ready = λ name f. absurd (let g : None ≡ Some name = f in cc);
-    waiting = λ all. all_end (λ (o : Order). is_queued o ≡ true) orders order (kept.waiting all) waits;
+    waiting = λ all. all_push (λ (o : Order). is_queued o ≡ true) orders order (kept.waiting all) waits;
   }
 
   -- an order gets a state in which it is not queued, and they are tidy no more
@@ -446,14 +427,14 @@ module _ (orders : List Order) (queues : Queues) (next : ℕ) (awaited : Option 
               → has_number number (get_or xs k d) ≡ true → get_or xs k d ≡ order
           here [] h i at is k d lt g = absurd (omega arith)
           here (x ∷ xs) h zero at is zero d lt g = sym (is d)
-          here (x ∷ xs) h zero at is (suc k) d lt g = absurd (true≢false (sym g ∙ all_at (is_not number) xs
+          here (x ∷ xs) h zero at is (suc k) d lt g = absurd (true≢false (sym g ∙ all_at_place (is_not number) xs
               (all_above number xs (subst (λ n. AllByRecursion (λ y. n < y.number) xs) (at.has_number x) h.0)) k d
               (omega arith)))
           here (x ∷ xs) h (suc i) at is zero d lt g = absurd (true≢false (sym g ∙ apart))
             where
               less : x.number < number
               less = subst (λ n. x.number < n) (at.has_number x)
-                  (all_at (λ y. x.number < y.number) xs h.0 i x (let l = at.in_range in omega arith))
+                  (all_at_place (λ y. x.number < y.number) xs h.0 i x (let l = at.in_range in omega arith))
 
               apart : has_number number x ≡ false
               apart = grind (arith, nat_tests, less)

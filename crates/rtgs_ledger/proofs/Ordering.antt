@@ -42,10 +42,12 @@ use Rattle.rtgs_ledger.specs.Ordering.{IsTaken}
 use Rattle.rtgs_ledger.proofs.Balances.{same_int, other_int, moved, all_moved, all_same, balance-with_order}
 use Rattle.rtgs_ledger.proofs.Kept.{StepKeepsRanges, StepKeepsSoundness, found_balance, found_is, is_known, balance_at}
 use Rattle.rtgs_ledger.proofs.Kept.{floor_at as floor_is, prepared_done}
-use Rattle.rtgs_ledger.proofs.Lists.{every, filter_none, self_number}
 use Rattle.rtgs_cores.specs.declared.Core.{Core}
 use Rattle.rtgs_ledger.specs.declared.records.Records.{Records}
 use Rattle.rtgs_ledger.proofs.Whole.{Held, IsKept, IsOf, IsPrepared, Whole, book_of, held_of, whole}
+use Rattle.rtgs_lists.proofs.Filters.{filter_nothing}
+use Rattle.rtgs_lists.proofs.Lists.{all_of}
+use Rattle.rtgs_lists.proofs.Numbers.{eq_self}
 
 module _ (book : Book) (sender reference receiver : List ℕ) (amount : ℕ) where
   pub unknown : is_participant book sender ≡ false → Step book (command.Order sender reference receiver amount)
@@ -245,9 +247,9 @@ settle_new book numbered o next =
     rw (
       filter-append (has_number o.number) book.orders (o ∷ []),
       map-append (restated (has_number o.number) (Settled (next_mark book))) book.orders (o ∷ []),
-      filter_none (has_number o.number) book.orders others,
+      filter_nothing (has_number o.number) book.orders others,
       map_none (has_number o.number) (Settled (next_mark book)) book.orders others,
-      self_number o.number,
+      eq_self o.number,
     ) refl
 
 pub one_mark : (book : Book) (o : Order) → o ≡ new_order book o.sender o.reference o.receiver o.amount
@@ -305,7 +307,7 @@ module _ (held : Held) (kept : IsKept held) (o : Order) (taken : IsTaken held.co
   prepared_queued ranges soundness waits =
       let leads : Leads held.content (AddOrder o ∷ []) (with_order held.content o) = record {
         book = refl;
-        balances = every (λ c. balance_set c (AddOrder o ∷ [])
+        balances = all_of (λ c. balance_set c (AddOrder o ∷ [])
             ≡ (if int_eq (balance held.content c) (balance (with_order held.content o) c) then None else Some
             (balance (with_order held.content o) c))) (λ c. rw (← same_balance c, same_int (balance held.content c))
             refl) (accounts (with_order held.content o));
@@ -397,7 +399,7 @@ module _ (held : Held) (kept : IsKept held) (o : Order) (taken : IsTaken held.co
     prepared_settled ranges soundness settles =
         let leads : Leads held.content rows (with_settled held.content o) = record {
           book = refl;
-          balances = every _ (sets (let f = taken.fits in f.0)) (accounts (with_settled held.content o));
+          balances = all_of _ (sets (let f = taken.fits in f.0)) (accounts (with_settled held.content o));
         } in
         prepared_done held (command.Order o.sender o.reference o.receiver o.amount)
         (answer.Settled o.number (next_mark held.content)) rows (with_settled held.content o) kept ranges soundness

@@ -27,8 +27,8 @@ use Rattle.rtgs_book.specs.declared.limits.TheConstants.{LARGEST_NUMBER, LARGEST
 use Rattle.rtgs_ledger.specs.Accounts.{is_of, with_balance}
 use Rattle.rtgs_ledger.proofs.Balances.{same_int, other_int, moved, all_moved, all_same, balance-with_posting}
 use Rattle.rtgs_ledger.proofs.Kept.{StepKeepsRanges, StepKeepsSoundness, is_known, balance_at, prepared_done}
-use Rattle.rtgs_ledger.proofs.Lists.{every}
 use Rattle.rtgs_ledger.proofs.Whole.{IsKept, IsPrepared, Whole, book_of, held_of}
+use Rattle.rtgs_lists.proofs.Lists.{all_of}
 
 -- the posting that is added
 abbrev pub next_posting : Book → List ℕ → List ℕ → ℤ → Posting
@@ -138,7 +138,7 @@ module _ (r : Whole) (kept : IsKept (held_of r)) (code reference : List ℕ) (ce
   prepared_post ranges soundness in_range absent few small covered =
       let step = posts (book_of r) code reference cents (is_known r kept code a found) absent few small covered in
       let leads : Leads (book_of r) (AddPosting q ∷ SetBalance code b ∷ []) (with_posting (book_of r) q) =
-      record { book = refl; balances = every _ (sets_one in_range.0) (accounts (with_posting (book_of r) q)) } in
+      record { book = refl; balances = all_of _ (sets_one in_range.0) (accounts (with_posting (book_of r) q)) } in
       prepared_done (held_of r) (command.Post code reference cents) (Posted (length r.postings + 1))
       (AddPosting q ∷ SetBalance code b ∷ []) (with_posting (book_of r) q) kept ranges soundness in_range step leads
       (tt, (tt, tt))

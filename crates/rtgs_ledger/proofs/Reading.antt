@@ -12,7 +12,8 @@ use Rattle.rtgs_book.specs.Books.{is_queued}
 use Rattle.rtgs_book.specs.Commands.{has_number}
 use Rattle.rtgs_book.specs.Queue.{queue, queued_among, queued_numbers}
 use Rattle.rtgs_ledger.specs.Orders.{AreRising}
-use Rattle.rtgs_ledger.proofs.Lists.{weaker, all_at, all_filter, self_number}
+use Rattle.rtgs_lists.proofs.Lists.{all_at_place, all_filter, all_weaker}
+use Rattle.rtgs_lists.proofs.Numbers.{eq_self}
 
 all_both : {X : Type 0} (P Q : X → Type 0) (xs : List X) → AllByRecursion P xs → AllByRecursion Q xs
     → AllByRecursion (λ x. P x × Q x) xs
@@ -23,8 +24,8 @@ all_both P Q (x ∷ xs) h k = ((h.0, k.0), all_both P Q xs h.1 k.1)
 pub found_by_number : (os : List Order) → AreRising os → AllByRecursion (λ x. find (has_number x.number) os ≡ Some x) os
 found_by_number [] h = tt
 found_by_number (o ∷ os) h = (
-  rw (self_number o.number) refl,
-  weaker (λ x. (o.number < x.number) × (find (has_number x.number) os ≡ Some x))
+  rw (eq_self o.number) refl,
+  all_weaker (λ x. (o.number < x.number) × (find (has_number x.number) os ≡ Some x))
       (λ x. find (has_number x.number) (o ∷ os) ≡ Some x) (λ x k. later x k.0 k.1) os
       (all_both (λ x. o.number < x.number) (λ x. find (has_number x.number) os ≡ Some x) os h.0
       (found_by_number os h.1)),
@@ -42,7 +43,7 @@ pub queued_at : (os : List Order) → AreRising os → (sender : List ℕ) (k : 
     → find (has_number (get_or (queued_numbers os sender) k 0)) os ≡ Some (get_or (queued_among os sender) k d)
 queued_at os rise sender k d lt =
     ap (λ n. find (has_number n) os) (get_or-map (λ (o : Order). o.number) (queued_among os sender) k d 0 lt)
-    ∙ all_at (λ x. find (has_number x.number) os ≡ Some x) (queued_among os sender)
+    ∙ all_at_place (λ x. find (has_number x.number) os ≡ Some x) (queued_among os sender)
     (all_filter (λ x. find (has_number x.number) os ≡ Some x) (λ o. is_queued o && bytes_eq o.sender sender) os
     (found_by_number os rise)) k d lt
 

@@ -37,9 +37,9 @@ use Rattle.rtgs_ledger.specs.Accounts.{code_of, participant_of, is_of, with_bala
 use Rattle.rtgs_ledger.specs.Resolving.{AreGreatest, after_orders, moved_rows}
 use Rattle.rtgs_ledger.proofs.Balances.{moved, all_moved, int_eq-same}
 use Rattle.rtgs_ledger.proofs.Kept.{StepKeepsRanges, codes-participants, no_balance_set}
-use Rattle.rtgs_ledger.proofs.Lists.{weaker}
 use Rattle.rtgs_cores.specs.Following.{AreBalanced}
 use Rattle.rtgs_ledger.proofs.Whole.{Held, IsKept, IsPrepared, Whole, after, after_row, held_of}
+use Rattle.rtgs_lists.proofs.Lists.{all_weaker}
 
 -- ---- the balances that rows leave
 
@@ -62,7 +62,7 @@ pub all_set : (rows : List RowChange) (held : Held) (f : List ℕ → ℤ) → A
     (after held rows).accounts
 all_set [] held f h e = e
 all_set (SetBalance code b ∷ rows) held f h e =
-    weaker (λ a. a.balance ≡ unwrap_or (balance_set (code_of a) rows) (moved code b f (code_of a)))
+    all_weaker (λ a. a.balance ≡ unwrap_or (balance_set (code_of a) rows) (moved code b f (code_of a)))
     (λ a. a.balance ≡ unwrap_or (balance_set (code_of a) (SetBalance code b ∷ rows)) (f (code_of a)))
     (λ a g. g ∙ set_here b (f (code_of a)) (balance_set (code_of a) rows) (bytes_eq code (code_of a)))
     (after held (SetBalance code b ∷ rows)).accounts

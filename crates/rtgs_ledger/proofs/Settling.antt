@@ -20,8 +20,10 @@ use Rattle.rtgs_book.specs.declared.account.Account.{Account}
 use Rattle.rtgs_book.specs.declared.limits.TheConstants.{MOST_QUEUED, LARGEST_BALANCE}
 use Rattle.rtgs_ledger.specs.Accounts.{code_of, participant_of, is_of, move, with_move, after_order}
 use Rattle.rtgs_ledger.specs.Resolving.{AreSmall, after_orders, moved_accounts}
-use Rattle.rtgs_ledger.proofs.Lists.{bytes_eq_comm, int_sum_by-append, weaker}
 use Rattle.rtgs_cores.specs.Following.{AreBalanced}
+use Rattle.rtgs_lists.proofs.Codes.{bytes_eq_comm}
+use Rattle.rtgs_lists.proofs.Lists.{all_weaker}
+use Rattle.rtgs_lists.proofs.Sums.{int_sum_by-append}
 
 -- ---- one order
 
@@ -57,7 +59,7 @@ moves_all o less more e f (x ∷ xs) = λ i. moves_once o less more e f x i ∷ 
 -- a balance within the bound takes or gives one amount more
 pub fits_less : (n : ℕ) → n ≤ Amount.MAX → (less : ℤ) → less ≡ neg_ℤ (pos n) → (xs : List Account)
     → AllByRecursion (λ a. Within (10 ^ 18) a.balance) xs → AllByRecursion (λ a. FitsSigned w64 (a.balance +ℤ less)) xs
-fits_less n small less e = weaker (λ a. Within (10 ^ 18) a.balance) (λ a. FitsSigned w64 (a.balance +ℤ less))
+fits_less n small less e = all_weaker (λ a. Within (10 ^ 18) a.balance) (λ a. FitsSigned w64 (a.balance +ℤ less))
     (λ a h. omega (arith, ints))
 
 pub fits_more : (code : List ℕ) (n : ℕ) → n ≤ Amount.MAX → (less more : ℤ) → less ≡ neg_ℤ (pos n) → more ≡ pos n
@@ -117,12 +119,12 @@ near_more n o small (x ∷ xs) h =
 
 pub near_is_small : (n : ℕ) → n ≤ MOST_QUEUED → (xs : List Account) → AreNear n xs
     → AllByRecursion (λ a. Within (10 ^ 18) a.balance) xs
-near_is_small n few = weaker (λ a. Within (LARGEST_BALANCE + n * Amount.MAX) a.balance)
+near_is_small n few = all_weaker (λ a. Within (LARGEST_BALANCE + n * Amount.MAX) a.balance)
     (λ a. Within (10 ^ 18) a.balance) (λ a h. let low = h.0 in let high = h.1
     in (omega (arith, ints), omega (arith, ints)))
 
 pub near_small : (xs : List Account) → AreSmall xs → AreNear 0 xs
-near_small = weaker (λ (a : Account). Within LARGEST_BALANCE a.balance)
+near_small = all_weaker (λ (a : Account). Within LARGEST_BALANCE a.balance)
     (λ (a : Account). Within (LARGEST_BALANCE + 0 * Amount.MAX) a.balance) (λ a h. let low = h.0 in let high = h.1
     in (omega (arith, ints), omega (arith, ints)))
 

@@ -24,10 +24,10 @@ use Rattle.rtgs_book.specs.Soundness.{OrdersAreNumbered}
 use Rattle.rtgs_book.specs.Step.{Step}
 use Rattle.rtgs_ledger.proofs.Balances.{same_int, all_same}
 use Rattle.rtgs_ledger.proofs.Kept.{StepKeepsRanges, StepKeepsSoundness, prepared_done}
-use Rattle.rtgs_ledger.proofs.Lists.{every, weaker}
 use Rattle.rtgs_ledger.proofs.Loading.{rising_from}
 use Rattle.rtgs_ledger.proofs.Reading.{found_by_number}
 use Rattle.rtgs_ledger.proofs.Whole.{Held, IsKept, IsPrepared}
+use Rattle.rtgs_lists.proofs.Lists.{all_of, all_weaker}
 
 module _ (book : Book) (sender reference : List ℕ) where
   pub unknown : is_participant book sender ≡ false → Step book (command.Withdraw sender reference)
@@ -82,7 +82,7 @@ alone_in_number book numbered p o found =
     (length-map book.orders (λ (x : Order). x.number)))) in
     let its : find (has_number o.number) book.orders ≡ Some o =
     found_has (λ x. find (has_number x.number) book.orders ≡ Some x) p book.orders o all found in
-    weaker (λ x. find (has_number x.number) book.orders ≡ Some x) (λ x. has_number o.number x ≡ true → x ≡ o)
+    all_weaker (λ x. find (has_number x.number) book.orders ≡ Some x) (λ x. has_number o.number x ≡ true → x ≡ o)
     (λ x h e. same x its h e) book.orders all
   where
     same : (x : Order) → find (has_number o.number) book.orders ≡ Some o
@@ -105,7 +105,7 @@ module _ (held : Held) (kept : IsKept held) (law : BalanceAfterRestating) (sende
 
   all_wait : AllByRecursion (λ x. has_number o.number x ≡ true → is_queued x ≡ true) held.content.orders
   unfolding order_named
-  all_wait = weaker (λ x. has_number o.number x ≡ true → x ≡ o) (λ x. has_number o.number x ≡ true → is_queued x ≡ true)
+  all_wait = all_weaker (λ x. has_number o.number x ≡ true → x ≡ o) (λ x. has_number o.number x ≡ true → is_queued x ≡ true)
       (λ x h e. ap is_queued (h e) ∙ waits) held.content.orders
       (alone_in_number held.content (let s = kept.sound in s.orders_numbered) (is_order_named sender reference) o found)
 
@@ -115,7 +115,7 @@ module _ (held : Held) (kept : IsKept held) (law : BalanceAfterRestating) (sende
   leads_to_it : Leads held.content (SetState o.number Withdrawn ∷ []) new
   leads_to_it = record {
     book = refl;
-    balances = every (λ c. balance_set c (SetState o.number Withdrawn ∷ [])
+    balances = all_of (λ c. balance_set c (SetState o.number Withdrawn ∷ [])
         ≡ (if int_eq (balance held.content c) (balance new c) then None else Some (balance new c)))
         (λ c. rw (← balance_same c, same_int (balance held.content c)) refl) (accounts new);
   }

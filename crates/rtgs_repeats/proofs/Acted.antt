@@ -33,19 +33,12 @@ use Rattle.rtgs_repeats.specs.Repeats.{acts_once, answered_number, IsRepeat}
 use Rattle.rtgs_repeats.proofs.Finds.{find_right}
 use Rattle.rtgs_repeats.proofs.Kept.{found_restated, find_added}
 use Rattle.rtgs_repeats.proofs.KeptSteps.{kept_joined}
-use Rattle.rtgs_repeats.proofs.Passing.{passed_step, choose, first_holds, second_holds, third_holds, same_number}
+use Rattle.rtgs_repeats.proofs.Passing.{passed_step, choose, first_holds, second_holds, third_holds}
+use Rattle.rtgs_lists.proofs.Codes.{bytes_eq_comm}
+use Rattle.rtgs_lists.proofs.Numbers.{eq_self}
 
 same_bytes : (a : List ℕ) → bytes_eq a a ≡ true
 same_bytes a = (bytes_decides a a).1 refl
-
-bytes_turn : (a b : List ℕ) → bytes_eq a b ≡ bytes_eq b a
-bytes_turn a b = by (bytes_eq a b) refl (bytes_eq b a) refl
-  where
-    by : (x : Bool) → bytes_eq a b ≡ x → (y : Bool) → bytes_eq b a ≡ y → x ≡ y
-    by true e true f = refl
-    by true e false f = sym ((bytes_decides b a).1 (sym ((bytes_decides a b).0 e))) ∙ f
-    by false e true f = sym e ∙ (bytes_decides a b).1 (sym ((bytes_decides b a).0 f))
-    by false e false f = refl
 
 -- a code is a participant's where one is found under it
 pub known_participant : (book : Book) (code : List ℕ) → is_participant book code ≡ is_some (participant_of book code)
@@ -55,7 +48,7 @@ known_participant book code = by book.participants
     by : (ps : List Participant) → list_any (bytes_eq code) (map (λ (p : Participant). p.code) ps)
         ≡ is_some (find (has_code code) ps)
     by [] = refl
-    by (p ∷ ps) = rw (bytes_turn code p.code) (at (bytes_eq p.code code) (by ps))
+    by (p ∷ ps) = rw (bytes_eq_comm code p.code) (at (bytes_eq p.code code) (by ps))
       where
         at : (b : Bool) → list_any (bytes_eq code) (map (λ (p : Participant). p.code) ps)
             ≡ is_some (find (has_code code) ps) → (b || list_any (bytes_eq code) (map (λ (p : Participant). p.code) ps))
@@ -155,7 +148,7 @@ not_accepted_order (Some o) = refl
 pub order_same : (o : Order) (receiver : List ℕ) (amount : ℕ) → o.receiver ≡ receiver → o.amount ≡ amount
     → is_same_order (Some o) receiver amount ≡ true
 order_same o receiver amount r a = and_from _ _ ((bytes_decides o.receiver receiver).1 r)
-    (ap (λ n. o.amount == n) (sym a) ∙ same_number o.amount)
+    (ap (λ n. o.amount == n) (sym a) ∙ eq_self o.amount)
 
 order_known : (book : Book) (sender reference receiver : List ℕ) (amount : ℕ) (o : Order)
     → is_participant book sender ≡ true → order_named book sender reference ≡ Some o → o.receiver ≡ receiver
@@ -237,8 +230,8 @@ took_back old new reply sender reference accepted s =
       restated (has_number o.number) Withdrawn o,
       ap (λ (b : Book). find (is_order_named sender reference) b.orders) book
           ∙ found_restated sender reference (has_number o.number) Withdrawn old.orders o e,
-      rw (same_number o.number) refl,
-      rw (same_number o.number) (sym number),
+      rw (eq_self o.number) refl,
+      rw (eq_self o.number) (sym number),
       has,
     )
 

@@ -17,7 +17,8 @@ use Rattle.rtgs_book.specs.Outcome.{Reply, Outcome, first_of}
 use Rattle.rtgs_book.specs.Run.{is_accepted}
 use Rattle.rtgs_book.specs.Soundness.{FloorsHold}
 use Rattle.rtgs_book.specs.Step.{Step}
-use Rattle.rtgs_repeats.proofs.Passing.{passed_step, first_holds, same_number}
+use Rattle.rtgs_repeats.proofs.Passing.{passed_step, first_holds}
+use Rattle.rtgs_lists.proofs.Numbers.{eq_self}
 
 abbrev pub OneGreatest : Type 0
 OneGreatest = (book : Book) (one other : Choice) → IsGreatest book one → IsGreatest book other → one ≡ other
@@ -57,7 +58,7 @@ module _ (old new : Book) (reply : Reply) (date : ℕ) (accepted : is_accepted r
   opened_again s =
       let p = passed_step old new reply _ _ (refl, (refl, (refl, (refl, tt)))) accepted s in
       let book = ap (λ (o : Outcome). o.book) p.1 in
-      subst (λ book. Step book (OpenDay date) repeated book) (sym book) (sym (first_holds _ _ _ _ _ (same_number date)))
+      subst (λ book. Step book (OpenDay date) repeated book) (sym book) (sym (first_holds _ _ _ _ _ (eq_self date)))
 
   pub cut_off_again : Step old (CutOff date) reply new → Step new (CutOff date) repeated new
   unfolding cut_off

@@ -20,8 +20,9 @@ use Rattle.rtgs_book.specs.Lookup.{posting_named}
 use Rattle.rtgs_book.specs.Settle.{restated, settle, mark_of, next_mark}
 use Rattle.rtgs_book.specs.Soundness.{OrdersAreNumbered}
 use Rattle.rtgs_repeats.specs.Kept.{IsKeptParticipant, IsKeptOrder, AreKept}
-use Rattle.rtgs_repeats.proofs.Finds.{all_weaker, find_left, find_right, find_mapped, find_kept, find_dropped}
+use Rattle.rtgs_repeats.proofs.Finds.{find_left, find_right, find_mapped, find_kept, find_dropped}
 use Rattle.rtgs_repeats.proofs.Finds.{find_none_in, found, all_below}
+use Rattle.rtgs_lists.proofs.Lists.{all_weaker}
 
 -- ---- orders
 

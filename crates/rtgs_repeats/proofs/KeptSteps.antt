@@ -22,11 +22,12 @@ use Rattle.rtgs_book.specs.Settle.{settle, next_mark}
 use Rattle.rtgs_book.specs.Soundness.{OrdersAreNumbered, IsSound}
 use Rattle.rtgs_book.specs.Step.{Step}
 use Rattle.rtgs_repeats.specs.Kept.{AreKept}
-use Rattle.rtgs_repeats.proofs.Finds.{all_of, all_weaker, all_push, find_left, only_one}
+use Rattle.rtgs_repeats.proofs.Finds.{find_left, only_one}
 use Rattle.rtgs_repeats.proofs.Kept.{QueuedAlone, orders_same, orders_grown, orders_restated, none_numbered}
 use Rattle.rtgs_repeats.proofs.Kept.{by_settling, participants_same, participants_added, participants_credited, kept_by}
 use Rattle.rtgs_repeats.proofs.Kept.{kept_through}
 use Rattle.rtgs_repeats.proofs.Passing.{after_tests, choose_book}
+use Rattle.rtgs_lists.proofs.Lists.{all_of, all_push, all_weaker}
 
 pub kept_itself : (book : Book) → AreKept book book
 kept_itself book = kept_by book book (participants_same book.participants) (λ reference p e. e)

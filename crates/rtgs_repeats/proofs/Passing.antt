@@ -1,7 +1,6 @@
 -- Tests in their order: what an accepted command has passed, and where a command changes nothing.
-use Rattle.std.proofs.Common.{◌≡◌, ℕ, ◌==◌, arith, Bool, true, false, cond, ◌||◌, List, [], ◌∷◌, refl, sym, ◌∙◌, subst}
+use Rattle.std.proofs.Common.{◌≡◌, Bool, true, false, cond, ◌||◌, List, [], ◌∷◌, refl, sym, ◌∙◌, subst}
 use Rattle.std.proofs.Common.{true≢false}
-use Rattle.std.proofs.lemmas.Bool.Decides.{nat_tests}
 use Rattle.std.specs.List.{AllByRecursion, list_any}
 use Rattle.rtgs_book.specs.declared.book.Book.{Book}
 use Rattle.rtgs_book.specs.Outcome.{Reply, Outcome, first_of}
@@ -103,6 +102,3 @@ pub third_holds : (book : Book) (a b c : Bool) (one two reply : Reply) (rows : L
     ≡ record { reply = reply; book = book }
 unfolding first_of
 third_holds book a b c one two reply rows outcome e f g = rw (e, f, g) refl
-
-pub same_number : (n : ℕ) → (n == n) ≡ true
-same_number n = grind (arith, nat_tests)

@@ -25,11 +25,12 @@ use Rattle.rtgs_book.specs.Settle.{settle}
 use Rattle.rtgs_book.specs.Soundness.{OrdersAreNumbered, has_parties, IsSound}
 use Rattle.rtgs_book.specs.Step.{Step}
 use Rattle.rtgs_repeats.proofs.Days.{SomeGreatest}
-use Rattle.rtgs_repeats.proofs.Finds.{all_weaker}
 use Rattle.rtgs_repeats.proofs.Kept.{by_settling}
 use Rattle.rtgs_repeats.proofs.KeptSteps.{StepKeepsSoundness}
-use Rattle.rtgs_repeats.proofs.Sums.{int_sum_by-both, int_sum_by-append, int_sum_by-same, sent_by, by_senders}
+use Rattle.rtgs_repeats.proofs.Sums.{sent_by, by_senders}
 use Rattle.rtgs_repeats.proofs.Passing.{passed_step}
+use Rattle.rtgs_lists.proofs.Lists.{all_filter, all_weaker}
+use Rattle.rtgs_lists.proofs.Sums.{int_sum_by-append, int_sum_by-both, int_sum_by-same}
 
 abbrev pub ChosenAreBeginnings : Type 0
 ChosenAreBeginnings = (book : Book) (choice : Choice) (code : List ℕ) → OrdersAreNumbered book
@@ -42,15 +43,6 @@ RestStaysQueued = (book : Book) (choice : Choice) (code : List ℕ) → OrdersAr
 abbrev pub SettledBalances : Type 0
 SettledBalances = (book : Book) (choice : Choice) (code : List ℕ)
     → balance (settle book (is_chosen book choice)) code ≡ balance_after book choice code
-
-all_filter : {X : Type 0} (P : X → Type 0) (p : X → Bool) (xs : List X) → AllByRecursion P xs
-    → AllByRecursion P (filter p xs)
-all_filter P p [] h = tt
-all_filter P p (x ∷ xs) h = by (p x) (all_filter P p xs h.1)
-  where
-    by : (b : Bool) → AllByRecursion P (filter p xs) → AllByRecursion P (cond b (x ∷ filter p xs) (filter p xs))
-    by true rest = (h.0, rest)
-    by false rest = rest
 
 first_true : (a b c : Bool) → (a && b && c) ≡ true → a ≡ true
 first_true true b c e = refl

@@ -1,8 +1,7 @@
 -- What the sums of all participants come to, and which records they leave out.
 use Rattle.std.proofs.Common.{◌≡◌, ℕ, ℤ, pos, ◌+ℤ◌, ◌-ℤ◌, Bool, true, false, cond, ◌||◌, ◌&&◌, List, [], ◌∷◌, filter}
-use Rattle.std.proofs.Common.{nat_cmp, Less, Equal, IsTrue, refl, sym, ap, ◌∙◌, subst, true≢false, arith}
+use Rattle.std.proofs.Common.{nat_cmp, Less, IsTrue, refl, sym, ap, ◌∙◌, subst, true≢false, arith}
 use Rattle.std.proofs.lemmas.Int.{ints}
-use Rattle.std.proofs.lemmas.Bool.Decides.{nat_tests}
 use Rattle.std.specs.List.{AllByRecursion, list_any}
 use Rattle.std.specs.List.Sorted.{IsStrictlySortedBy}
 use Rattle.std.specs.Str.{bytes_eq}
@@ -20,61 +19,27 @@ use Rattle.rtgs_statements.specs.Records.{is_posted_on, is_ordered_on, is_postin
 use Rattle.rtgs_statements.specs.Records.{orders_of, postings_on, orders_on}
 use Rattle.rtgs_statements.specs.Sums.{cents_of, amount_of, code_of, posted, sent, received, settled_for, sums_of, net}
 use Rattle.rtgs_statements.proofs.Terms.{sum-cons}
+use Rattle.rtgs_lists.proofs.Sums.{at_code, int_sum_by-both, int_sum_by-same, sum_later}
 
 -- ---- a sum over all codes
-
-both : {X : Type 0} (f g : X → ℤ) (xs : List X) → int_sum_by (λ x. f x +ℤ g x) xs ≡ int_sum_by f xs +ℤ int_sum_by g xs
-both f g [] = refl
-both f g (x ∷ xs) = let h = both f g xs in omega (arith, ints)
-
-same_sum : {X : Type 0} (f g : X → ℤ) → ((x : X) → f x ≡ g x) → (xs : List X) → int_sum_by f xs ≡ int_sum_by g xs
-same_sum f g same [] = refl
-same_sum f g same (x ∷ xs) = let here = same x in let rest = same_sum f g same xs in omega (arith, ints)
 
 nothing : {X : Type 0} (xs : List X) → int_sum_by (λ x. pos 0) xs ≡ pos 0
 nothing [] = refl
 nothing (x ∷ xs) = let h = nothing xs in omega (arith, ints)
 
-same_number : (n : ℕ) → nat_cmp n n ≡ Equal
-same_number n = grind (arith, nat_tests)
-
-same_code : (code : List ℕ) → slice_cmp nat_cmp code code ≡ Equal
-same_code [] = refl
-same_code (b ∷ code) = rw (same_number b, same_code code) refl
-
-later_differs : (code later : List ℕ) → slice_cmp nat_cmp code later ≡ Less → bytes_eq code later ≡ false
-later_differs code later less = by (bytes_eq code later) refl
-  where
-    by : (b : Bool) → bytes_eq code later ≡ b → b ≡ false
-    by true e = absurd (let same : code ≡ later = (bytes_decides code later).0 e
-        in let equal : slice_cmp nat_cmp code code ≡ Equal = same_code code
-        in let h : slice_cmp nat_cmp code code ≡ Less = subst (λ c. slice_cmp nat_cmp code c ≡ Less) (sym same) less
-        in cc)
-    by false e = refl
-
--- a term at one code alone
-abbrev term_at : List ℕ → ℤ → List ℕ → ℤ
-term_at code by other = cond (bytes_eq code other) by (pos 0)
-
-none_later : (code : List ℕ) (by : ℤ) (codes : List (List ℕ))
-    → AllByRecursion (λ later. slice_cmp nat_cmp code later ≡ Less) codes → int_sum_by (term_at code by) codes ≡ pos 0
-none_later code by [] h = refl
-none_later code by (c ∷ codes) h = let rest = none_later code by codes h.1
-    in rw (later_differs code c h.0) (omega (arith, ints))
-
 -- over codes that rise, the term comes once
 once : (code : List ℕ) (by : ℤ) (codes : List (List ℕ)) → IsStrictlySortedBy (slice_cmp nat_cmp) codes
-    → list_any (bytes_eq code) codes ≡ true → int_sum_by (term_at code by) codes ≡ by
+    → list_any (bytes_eq code) codes ≡ true → int_sum_by (at_code code by) codes ≡ by
 unfolding IsStrictlySortedBy
 once code by [] rise has = absurd (true≢false (sym has))
 once code by (c ∷ codes) rise has = at (bytes_eq code c) refl has (once code by codes rise.1)
   where
     at : (b : Bool) → bytes_eq code c ≡ b → (b || list_any (bytes_eq code) codes) ≡ true
-        → (list_any (bytes_eq code) codes ≡ true → int_sum_by (term_at code by) codes ≡ by)
-        → cond b by (pos 0) +ℤ int_sum_by (term_at code by) codes ≡ by
+        → (list_any (bytes_eq code) codes ≡ true → int_sum_by (at_code code by) codes ≡ by)
+        → cond b by (pos 0) +ℤ int_sum_by (at_code code by) codes ≡ by
     at true e h rest =
         let same : code ≡ c = (bytes_decides code c).0 e in
-        let none = none_later code by codes (subst (λ x. AllByRecursion (λ later. slice_cmp nat_cmp x later ≡ Less)
+        let none = sum_later code by codes (subst (λ x. AllByRecursion (λ later. slice_cmp nat_cmp x later ≡ Less)
         codes) (sym same) rise.0) in
         omega (arith, ints)
     at false e h rest = let r = rest h in omega (arith, ints)
@@ -94,10 +59,10 @@ module _ {X : Type 0} (f : X → ℤ) (p : X → Bool) (code_in : X → List ℕ
       → int_sum_by (λ code. int_sum_by f (filter (counts code) xs)) codes ≡ int_sum_by f (filter p xs)
   all_codes [] h = nothing codes
   all_codes (x ∷ xs) h =
-      let split = same_sum (λ code. int_sum_by f (filter (counts code) (x ∷ xs)))
+      let split = int_sum_by-same (λ code. int_sum_by f (filter (counts code) (x ∷ xs)))
       (λ code. cond (counts code x) (f x) (pos 0) +ℤ int_sum_by f (filter (counts code) xs))
       (λ code. sum-cons f (counts code) x xs) codes in
-      let apart = both (λ code. cond (counts code x) (f x) (pos 0)) (λ code. int_sum_by f (filter (counts code) xs))
+      let apart = int_sum_by-both (λ code. cond (counts code x) (f x) (pos 0)) (λ code. int_sum_by f (filter (counts code) xs))
       codes in
       let here = one_term (p x) x h.0 in
       let rest = all_codes xs h.1 in
@@ -164,7 +129,7 @@ pub net_as_posted : (book : Book) (date : ℕ) → CodesRise book → PartiesAre
     → int_sum_by (λ code. net (sums_of code (postings_on date book.postings) (orders_on date book.orders)))
     (accounts book) ≡ int_sum_by cents_of (postings_on date book.postings)
 net_as_posted book date rise known =
-    let one = both (λ code. posted code (postings_on date book.postings) -ℤ sent code (orders_on date book.orders))
+    let one = int_sum_by-both (λ code. posted code (postings_on date book.postings) -ℤ sent code (orders_on date book.orders))
     (λ code. received code (orders_on date book.orders)) (accounts book) in
     let two = less (λ code. posted code (postings_on date book.postings))
     (λ code. sent code (orders_on date book.orders)) (accounts book) in

@@ -6,7 +6,9 @@ use Rattle.rtgs_book.specs.declared.Mark.{Mark}
 use Rattle.rtgs_book.specs.Commands.{is_date}
 use Rattle.rtgs_cores.specs.Nexts.{posting_after, order_after, mark_after, is_posting_after, is_order_after}
 use Rattle.rtgs_cores.specs.Nexts.{is_mark_after, date_of_posting}
-use Rattle.rtgs_cores.proofs.Lists.{found_passes, found_least, weaker, both}
+use Rattle.rtgs_cores.proofs.Lists.{found_passes, found_least}
+use Rattle.rtgs_lists.proofs.Bools.{and_true}
+use Rattle.rtgs_lists.proofs.Lists.{all_weaker}
 use Rattle.rtgs_cores.proofs.laws.nexts_are_the_least.Goals as goal
 
 pub returns-clause-posting : goal.returns-clause-posting
@@ -20,9 +22,9 @@ returns-clause-posting c book date number next sound is =
     listed is in (
       hit.0,
       ltb-true number next.number hit.1,
-      weaker (λ (p : Posting). is_posting_after date number p ≡ true → next.number ≤ p.number)
+      all_weaker (λ (p : Posting). is_posting_after date number p ≡ true → next.number ≤ p.number)
           (λ (p : Posting). is_date p.date date ≡ true → number < p.number → next.number ≤ p.number)
-          (λ p to on above. to (both _ _ on (lt-ltb number p.number above))) book.postings least,
+          (λ p to on above. to (and_true _ _ on (lt-ltb number p.number above))) book.postings least,
     )
 
 pub returns-clause-order : goal.returns-clause-order
@@ -35,9 +37,9 @@ returns-clause-order c book date number next sound is =
     listed is in (
       eqb-true next.date date hit.0,
       ltb-true number next.number hit.1,
-      weaker (λ (o : Order). is_order_after date number o ≡ true → next.number ≤ o.number)
+      all_weaker (λ (o : Order). is_order_after date number o ≡ true → next.number ≤ o.number)
           (λ (o : Order). o.date ≡ date → number < o.number → next.number ≤ o.number)
-          (λ o to on above. to (both _ _ (eq-eqb o.date date on) (lt-ltb number o.number above))) book.orders least,
+          (λ o to on above. to (and_true _ _ (eq-eqb o.date date on) (lt-ltb number o.number above))) book.orders least,
     )
 
 pub returns-clause-mark : goal.returns-clause-mark
@@ -49,7 +51,7 @@ returns-clause-mark c book date number next sound is =
     listed is in (
       eqb-true next.date date hit.0,
       ltb-true number next.number hit.1,
-      weaker (λ (m : Mark). is_mark_after date number m ≡ true → next.number ≤ m.number)
+      all_weaker (λ (m : Mark). is_mark_after date number m ≡ true → next.number ≤ m.number)
           (λ (m : Mark). m.date ≡ date → number < m.number → next.number ≤ m.number)
-          (λ m to on above. to (both _ _ (eq-eqb m.date date on) (lt-ltb number m.number above))) book.marks least,
+          (λ m to on above. to (and_true _ _ (eq-eqb m.date date on) (lt-ltb number m.number above))) book.marks least,
     )

@@ -8,7 +8,7 @@ use Rattle.std.specs.List.{AllByRecursion}
 use Rattle.rtgs_book.specs.declared.account.Account.{Account}
 use Rattle.rtgs_ledger.specs.Accounts.{AreOfABook, IsAt, with_move, with_balance, rebalanced}
 use Rattle.rtgs_ledger.proofs.AccountLemmas.{altered_at, altered_in_gap, of_a_book_altered}
-use Rattle.rtgs_ledger.proofs.Lists.{all_at}
+use Rattle.rtgs_lists.proofs.Lists.{all_at_place}
 use Rattle.rtgs_ledger.proofs.accounts.Accounts.move_balance.Goals as goal
 
 abbrev rebalance : ℤ → Account → Account
@@ -43,7 +43,7 @@ returns-in-Ok-clause-moved c fits =
     let item : c.index.result.now ≡ get_or items c.in-Ok.at c.index.result.now = c.index.ensures in
     let here : FitsSigned w64 (c.index.result.now.balance +ℤ c.args.cents) =
     subst (λ (a : Account). FitsSigned w64 (a.balance +ℤ c.args.cents)) (sym item)
-    (all_at (λ (a : Account). FitsSigned w64 (a.balance +ℤ c.args.cents)) items
+    (all_at_place (λ (a : Account). FitsSigned w64 (a.balance +ℤ c.args.cents)) items
     (subst (AllByRecursion (λ (a : Account). FitsSigned w64 (a.balance +ℤ c.args.cents))) (sym same) fits) c.in-Ok.at
     c.index.result.now at.in_range) in
     let again : c.index.result.now ≡ c.index_mut.result.now = c.index.ensures

@@ -9,10 +9,10 @@ use Rattle.rtgs_ledger.specs.Accounts.{has_key}
 use Rattle.rtgs_ledger.proofs.Adding.{repeats, code_taken, key_taken, too_many, prepared_add}
 use Rattle.rtgs_ledger.proofs.Kept.{participant_at, participant_none, prepared_repeat, any-participants}
 use Rattle.rtgs_ledger.proofs.Kept.{length-participants}
-use Rattle.rtgs_ledger.proofs.Lists.{and_true, and_left, and_right}
 use Rattle.rtgs_ledger.proofs.Whole.{held_of, whole, is_of_book, to_refused, to_prepared}
 use Rattle.rtgs_ledger.proofs.ledger.Ledger.prepare_add.Goals as goal
 use Rattle.rtgs_ledger.proofs.ledger.Ledger.prepare_add.Goals.{else-eq-via-then-eq+else-eq-2, else-eq-via-else-eq}
+use Rattle.rtgs_lists.proofs.Bools.{and_left_false, and_right_false, and_true}
 
 pub returns-then-eq-2-clause-prepared : goal.returns-then-eq-2-clause-prepared
 returns-then-eq-2-clause-prepared c book is =
@@ -34,9 +34,9 @@ returns-in-Some-clause-refused c book is =
     let found = sym c.get.ensures ∙ c.in-Some.is in
     let other : (bytes_eq c.in-Some.found.participant.name c.args.name && bytes_eq c.in-Some.found.participant.key
     c.args.key) ≡ false = elim c.else-eq.branch [
-      | else-eq-via-then-eq+else-eq-2 w ↦ and_right (bytes_eq c.in-Some.found.participant.name c.args.name)
+      | else-eq-via-then-eq+else-eq-2 w ↦ and_right_false (bytes_eq c.in-Some.found.participant.name c.args.name)
           (bytes_eq c.in-Some.found.participant.key c.args.key) (sym w.eq-then-eq.ensures ∙ w.if-eq-2.false)
-      | else-eq-via-else-eq w ↦ and_left (bytes_eq c.in-Some.found.participant.name c.args.name)
+      | else-eq-via-else-eq w ↦ and_left_false (bytes_eq c.in-Some.found.participant.name c.args.name)
           (bytes_eq c.in-Some.found.participant.key c.args.key) (sym c.eq.ensures ∙ w.if-eq.false)
     ] in
     to_refused book c.self.inside.records c.args.self.now.core of (command.Add c.args.code c.args.name c.args.key) _

@@ -11,7 +11,6 @@ use Rattle.rtgs_book.specs.Queue.{queue}
 use Rattle.rtgs_ledger.specs.Accounts.{code_of, is_of}
 use Rattle.rtgs_ledger.proofs.Reading.{numbers_are}
 use Rattle.rtgs_ledger.proofs.Kept.{is_known, is_unknown, prepared_repeat}
-use Rattle.rtgs_ledger.proofs.Lists.{and_true, and_left, and_right}
 use Rattle.rtgs_ledger.proofs.Ordering.{unknown, repeats, reference_used, not_open, unknown_receiver, same_party}
 use Rattle.rtgs_ledger.proofs.Ordering.{numbers_used_up, queue_full, shut_now, open_now, settles_is, order_taken}
 use Rattle.rtgs_ledger.proofs.Ordering.{queued_length}
@@ -19,6 +18,7 @@ use Rattle.rtgs_book.specs.declared.book.Book.{Book}
 use Rattle.rtgs_ledger.proofs.Whole.{held_of, book_of, whole, is_of_book, to_refused, to_prepared}
 use Rattle.rtgs_ledger.proofs.ledger.Ledger.prepare_order.Goals as goal
 use Rattle.rtgs_ledger.proofs.ledger.Ledger.prepare_order.Goals.{else-eq-via-then-eq+else-eq-2, else-eq-via-else-eq}
+use Rattle.rtgs_lists.proofs.Bools.{and_left_false, and_right_false, and_true}
 
 pub returns-in_default-clause-refused : goal.returns-in_default-clause-refused
 returns-in_default-clause-refused c book is found =
@@ -58,9 +58,9 @@ returns-in-Some-found-clause-refused c book is found =
     let o = c.in-Some-found.found in
     let there = is_known r of.kept c.args.sender c.in-Some.debtor (sym c.get.ensures ∙ c.in-Some.is) in
     let other : (bytes_eq o.receiver c.args.receiver && (o.amount == c.args.amount)) ≡ false = elim c.else-eq.branch [
-      | else-eq-via-then-eq+else-eq-2 w ↦ and_right (bytes_eq o.receiver c.args.receiver) (o.amount == c.args.amount)
+      | else-eq-via-then-eq+else-eq-2 w ↦ and_right_false (bytes_eq o.receiver c.args.receiver) (o.amount == c.args.amount)
           (sym w.eq-then-eq.ensures ∙ w.if-eq-2.false)
-      | else-eq-via-else-eq w ↦ and_left (bytes_eq o.receiver c.args.receiver) (o.amount == c.args.amount)
+      | else-eq-via-else-eq w ↦ and_left_false (bytes_eq o.receiver c.args.receiver) (o.amount == c.args.amount)
           (sym c.eq.ensures ∙ w.if-eq.false)
     ] in
     to_refused book c.self.inside.records c.args.self.now.core of
@@ -232,7 +232,7 @@ returns-clause-prepared c book is found =
     c.args.receiver c.args.amount c.in-Some-open_date.date c.in-Some.debtor c.in-Some-get.creditor o
     c.next_order-order.ensures from (sym found_here ∙ c.in_default-found.is)
     (sym c.open_date.ensures ∙ c.in-Some-open_date.is) to (sym c.eq-2.ensures ∙ c.if-eq-3.false) few
-    c.settles_at_once.ensures.fits (and_right (not (settles_at_once (book_of r) c.args.sender c.args.amount))
+    c.settles_at_once.ensures.fits (and_right_false (not (settles_at_once (book_of r) c.args.sender c.args.amount))
     (nat_le LONGEST_QUEUE (length (queue (book_of r) c.args.sender))) short) in
     let waits_it : settles_at_once book o.sender o.amount ≡ false =
     rw c.next_order-order.ensures (subst (λ (b : Book). settles_at_once b c.args.sender c.args.amount

@@ -10,11 +10,11 @@ use Rattle.rtgs_book.specs.Lookup.{posting_named}
 use Rattle.rtgs_ledger.proofs.Posting.{unknown, repeats, reference_used, numbers_used_up, total_too_large, no_cover}
 use Rattle.rtgs_ledger.proofs.Posting.{prepared_post}
 use Rattle.rtgs_ledger.proofs.Kept.{is_known, is_unknown, balance_at, balance_fits, floor_at, total_at, prepared_repeat}
-use Rattle.rtgs_ledger.proofs.Lists.{and_true, and_left, and_right}
 use Rattle.rtgs_book.specs.declared.book.Book.{Book}
 use Rattle.rtgs_ledger.proofs.Whole.{held_of, book_of, whole, is_of_book, to_refused, to_prepared}
 use Rattle.rtgs_ledger.proofs.ledger.Ledger.prepare_post.Goals as goal
 use Rattle.rtgs_ledger.proofs.ledger.Ledger.prepare_post.Goals.{else-eq-via-then-eq+else-eq-2, else-eq-via-else-eq}
+use Rattle.rtgs_lists.proofs.Bools.{and_left_false, and_right_false, and_true}
 
 pub returns-in_default-clause-refused : goal.returns-in_default-clause-refused
 returns-in_default-clause-refused c book is found =
@@ -54,9 +54,9 @@ returns-in-Some-found-clause-refused c book is found =
     let there = is_known r of.kept c.args.code c.in-Some.account (sym c.get.ensures ∙ c.in-Some.is) in
     let other : (bytes_eq c.in-Some-found.found.code c.args.code && int_eq c.in-Some-found.found.cents c.args.cents)
     ≡ false = elim c.else-eq.branch [
-      | else-eq-via-then-eq+else-eq-2 w ↦ and_right (bytes_eq c.in-Some-found.found.code c.args.code)
+      | else-eq-via-then-eq+else-eq-2 w ↦ and_right_false (bytes_eq c.in-Some-found.found.code c.args.code)
           (int_eq c.in-Some-found.found.cents c.args.cents) (sym w.eq-then-eq.ensures ∙ w.if-eq-2.false)
-      | else-eq-via-else-eq w ↦ and_left (bytes_eq c.in-Some-found.found.code c.args.code)
+      | else-eq-via-else-eq w ↦ and_left_false (bytes_eq c.in-Some-found.found.code c.args.code)
           (int_eq c.in-Some-found.found.cents c.args.cents) (sym c.eq.ensures ∙ w.if-eq.false)
     ] in
     to_refused book c.self.inside.records c.args.self.now.core of

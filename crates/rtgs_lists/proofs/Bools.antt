@@ -1,0 +1,28 @@
+-- Truth values.
+use Rattle.std.proofs.Common.{◌≡◌, Bool, true, false, ◌&&◌, ◌||◌, refl, sym, true≢false}
+
+pub and_left : (a b : Bool) → (a && b) ≡ true → a ≡ true
+and_left true b e = refl
+and_left false b e = e
+
+pub and_right : (a b : Bool) → (a && b) ≡ true → b ≡ true
+and_right true b e = e
+and_right false b e = absurd (true≢false (sym e))
+
+pub and_left_false : (a b : Bool) → a ≡ false → (a && b) ≡ false
+and_left_false a b e = rw e refl
+
+pub and_right_false : (a b : Bool) → b ≡ false → (a && b) ≡ false
+and_right_false true b e = e
+and_right_false false b e = refl
+
+pub or_left_false : (a b : Bool) → (a || b) ≡ false → a ≡ false
+or_left_false true b e = e
+or_left_false false b e = refl
+
+pub or_right_false : (a b : Bool) → (a || b) ≡ false → b ≡ false
+or_right_false true b e = absurd (true≢false e)
+or_right_false false b e = e
+
+pub and_true : (a b : Bool) → a ≡ true → b ≡ true → (a && b) ≡ true
+and_true a b e f = rw (e, f) refl

@@ -1,0 +1,31 @@
+-- Filters, and an element that is put in between those that pass and those that don't.
+use Rattle.std.proofs.Common.{◌≡◌, Bool, true, false, cond, not, List, [], ◌∷◌, ◌++◌, map, filter, refl, ap}
+use Rattle.std.specs.List.{AllByRecursion}
+use Rattle.rtgs_lists.proofs.Lists.{all_append, all_filter}
+
+pub filter_all : {X : Type 0} (p : X → Bool) (xs : List X) → AllByRecursion (λ x. p x ≡ true) xs → filter p xs ≡ xs
+filter_all p [] h = refl
+filter_all p (x ∷ xs) h = rw (h.0, filter_all p xs h.1) refl
+
+pub filter_nothing : {X : Type 0} (p : X → Bool) (xs : List X) → AllByRecursion (λ x. p x ≡ false) xs → filter p xs ≡ []
+filter_nothing p [] h = refl
+filter_nothing p (x ∷ xs) h = rw (h.0, filter_nothing p xs h.1) refl
+
+pub map-filter : {X Y : Type 0} (g : X → Y) (q : Y → Bool) (xs : List X)
+    → map g (filter (λ x. q (g x)) xs) ≡ filter q (map g xs)
+map-filter g q [] = refl
+map-filter g q (x ∷ xs) = by (q (g x)) (map-filter g q xs)
+  where
+    by : (b : Bool) → map g (filter (λ x. q (g x)) xs) ≡ filter q (map g xs)
+        → map g (cond b (x ∷ filter (λ x. q (g x)) xs) (filter (λ x. q (g x)) xs))
+        ≡ cond b (g x ∷ filter q (map g xs)) (filter q (map g xs))
+    by true e = ap (λ ys. g x ∷ ys) e
+    by false e = e
+
+abbrev pub put_in : {X : Type 0} → (X → Bool) → X → List X → List X
+put_in p x xs = filter p xs ++ x ∷ filter (λ y. not (p y)) xs
+
+pub all_put_in : {X : Type 0} (P : X → Type 0) (p : X → Bool) (x : X) (xs : List X) → AllByRecursion P xs → P x
+    → AllByRecursion P (put_in p x xs)
+all_put_in P p x xs h k = all_append P (filter p xs) (x ∷ filter (λ y. not (p y)) xs) (all_filter P p xs h)
+    (k, all_filter P (λ y. not (p y)) xs h)

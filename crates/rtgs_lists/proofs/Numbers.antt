@@ -1,0 +1,26 @@
+-- Numbers, and lists of them from 1 on.
+use Rattle.std.proofs.Common.{◌≡◌, ◌==◌, ℕ, zero, suc, ◌+◌, true, List, [], ◌∷◌, ◌++◌, length, length-append}
+use Rattle.std.proofs.Common.{sym, ap, ◌∙◌, arith}
+use Rattle.std.proofs.lemmas.Bool.Decides.{nat_tests}
+use Rattle.std.specs.List.{range_with_len}
+
+pub eq_self : (n : ℕ) → (n == n) ≡ true
+eq_self n = grind (arith, nat_tests)
+
+range_suc : (a n : ℕ) → range_with_len a (suc n) ≡ range_with_len a n ++ (a + n) ∷ []
+range_suc a zero = ap (λ m. m ∷ []) (omega arith)
+range_suc a (suc n) = ap (λ xs. a ∷ xs) (range_suc (a + 1) n
+    ∙ ap (λ m. range_with_len (a + 1) n ++ m ∷ []) (omega arith))
+
+pub range_push : (a n : ℕ) → range_with_len a (n + 1) ≡ range_with_len a n ++ (a + n) ∷ []
+range_push a n = let more : n + 1 ≡ suc n = omega arith in ap (range_with_len a) more ∙ range_suc a n
+
+-- the next number goes to the end
+pub numbered_push : (numbers : List ℕ) → numbers ≡ range_with_len 1 (length numbers)
+    → numbers ++ (length numbers + 1) ∷ [] ≡ range_with_len 1 (length (numbers ++ (length numbers + 1) ∷ []))
+numbered_push numbers e =
+    let long : length (numbers ++ (length numbers + 1) ∷ [])
+    ≡ length numbers + 1 = length-append numbers ((length numbers + 1) ∷ []) in
+    let next : 1 + length numbers ≡ length numbers + 1 = omega arith in
+    ap (λ xs. xs ++ (length numbers + 1) ∷ []) e ∙ sym (ap (range_with_len 1) long ∙ range_push 1 (length numbers)
+    ∙ ap (λ m. range_with_len 1 (length numbers) ++ m ∷ []) next)
