@@ -58,9 +58,9 @@ use Rattle.rtgs_tables.proofs.ReadingAlone.{commits_nothing}
 use Rattle.rtgs_tables.proofs.Passing.{none_moved, truth_of, same_text, filter_map}
 use Rattle.rtgs_tables.proofs.Resting.{file_of, rests_of}
 use Rattle.rtgs_tables.proofs.Keeps.{survives_on, file_after}
-use Rattle.rtgs_tables.proofs.Selecting.{postings_project, postings_names, payments_project, payments_names}
 use Rattle.rtgs_tables.proofs.FindingTexts.{Seeks, first_after, after_tests, order_tests, posting_tests, order_text}
 use Rattle.rtgs_tables.proofs.FindingTexts.{posting_text, order_seeks, posting_seeks}
+use Rattle.rtgs_tables.specs.TableQueries.{columns_of, postings_query, payments_query}
 
 -- ---- what a query leaves
 
@@ -425,7 +425,8 @@ finds_posting reference book old new content rests of r given same shown =
     let here : old.now.trees 4 ≡ map posting_row book.postings = ap (λ (d : Database). d.trees 4) rests.clean
     ∙ ap (λ (t : Tables). t.postings) rests.holds.rows ∙ ap (map posting_row) of.records.postings in
     found_rows posting_row shown_posting (is_posting_named reference) posting_text (Text reference ∷ []) 4 posting_tests
-    postings_project postings_names posting_seeks (posting_passes reference) (λ p. refl) old new old.committed.trees
+    (columns_of postings_query) postings_query.names posting_seeks (posting_passes reference) (λ p. refl) old new
+    old.committed.trees
     (file_of content old rests) book.postings here
     (one_named (λ (p : Posting). p.reference) bytes_eq reference book.postings (bytes_tied reference)
     of.sound.posting_references) r
@@ -440,7 +441,8 @@ finds_order sender reference book old new content rests of r given same shown =
     let here : old.now.trees 6 ≡ map payment_row book.orders = ap (λ (d : Database). d.trees 6) rests.clean
     ∙ ap (λ (t : Tables). t.payments) rests.holds.rows ∙ ap (map payment_row) of.records.orders in
     found_rows payment_row shown_order (is_order_named sender reference) order_text (Text sender ∷ Text reference ∷ [])
-    6 order_tests payments_project payments_names order_seeks (order_passes sender reference) (λ o. refl) old new
+    6 order_tests (columns_of payments_query) payments_query.names order_seeks (order_passes sender reference) (λ o.
+    refl) old new
     old.committed.trees (file_of content old rests) book.orders here
     (one_named (λ (o : Order). (o.sender, o.reference)) is_same_name (sender, reference) book.orders
     (names_tied (sender, reference)) of.sound.order_references) r

@@ -20,11 +20,10 @@ use Rattle.rtgs_rows.specs.Keeping.{IsBookOf}
 use Rattle.rtgs_tables.specs.Finding.{one_of}
 use Rattle.rtgs_tables.specs.Seeking.{first_above}
 use Rattle.rtgs_tables.proofs.Resting.{file_of}
-use Rattle.rtgs_tables.proofs.Selecting.{postings_project, postings_names, payments_project, payments_names}
-use Rattle.rtgs_tables.proofs.Selecting.{marks_project, marks_names}
 use Rattle.rtgs_tables.proofs.FindingTexts.{posting_after_text, order_after_text, mark_after_text, posting_after_seeks}
 use Rattle.rtgs_tables.proofs.FindingTexts.{order_after_seeks, mark_after_seeks}
 use Rattle.rtgs_tables.proofs.FindingLemmas.{first_rows, posting_is_after, order_is_after, mark_is_after}
+use Rattle.rtgs_tables.specs.TableQueries.{columns_of, postings_query, payments_query, marks_query}
 
 pub posting_first : RecordsStandInOrder → (number : ℕ) (book : Book) (old new : State) (content : Content)
     → Rests content old
@@ -39,7 +38,7 @@ posting_first in_order number book old new content rests of r given same shown =
     subst (IsAscending (λ (a b : Posting). int_cmp (pos a.number) (pos b.number) ≡ Less)) of.records.postings
     (in_order book content of).postings in
     first_rows posting_row shown_posting (λ (p : Posting). pos p.number) (λ (p : Posting). nat_lt number p.number)
-    posting_after_text (Int (pos number) ∷ []) 4 postings_project postings_names posting_after_seeks
+    posting_after_text (Int (pos number) ∷ []) 4 (columns_of postings_query) postings_query.names posting_after_seeks
     (posting_is_after number)
     (λ a b low. then-Equal _ ∙ value_cmp-Int (pos a.number) (pos b.number) ∙ low) (λ p. refl) old new
     old.committed.trees (file_of content old rests) book.postings up here r
@@ -57,7 +56,8 @@ order_first in_order number book old new content rests of r given same shown =
     subst (IsAscending (λ (a b : Order). int_cmp (pos a.number) (pos b.number) ≡ Less)) of.records.orders
     (in_order book content of).orders in
     first_rows payment_row shown_order (λ (o : Order). pos o.number) (λ (o : Order). nat_lt number o.number)
-    order_after_text (Int (pos number) ∷ []) 6 payments_project payments_names order_after_seeks (order_is_after number)
+    order_after_text (Int (pos number) ∷ []) 6 (columns_of payments_query) payments_query.names order_after_seeks
+    (order_is_after number)
     (λ a b low. then-Equal _ ∙ value_cmp-Int (pos a.number) (pos b.number) ∙ low) (λ o. refl) old new
     old.committed.trees (file_of content old rests) book.orders up here r
     (subst (λ p. IfOk r (λ rows. Shown order_after_text p old new rows.items)) same shown)
@@ -74,7 +74,8 @@ mark_first in_order number book old new content rests of r given same shown =
     subst (IsAscending (λ (a b : Mark). int_cmp (pos a.number) (pos b.number) ≡ Less)) of.records.marks
     (in_order book content of).marks in
     first_rows mark_row shown_mark (λ (m : Mark). pos m.number) (λ (m : Mark). nat_lt number m.number)
-    mark_after_text (Int (pos number) ∷ []) 8 marks_project marks_names mark_after_seeks (mark_is_after number)
+    mark_after_text (Int (pos number) ∷ []) 8 (columns_of marks_query) marks_query.names mark_after_seeks
+    (mark_is_after number)
     (λ a b low. then-Equal _ ∙ value_cmp-Int (pos a.number) (pos b.number) ∙ low) (λ m. refl) old new
     old.committed.trees (file_of content old rests) book.marks up here r
     (subst (λ p. IfOk r (λ rows. Shown mark_after_text p old new rows.items)) same shown)

@@ -4,6 +4,7 @@ pub mod Building
 pub mod Accounts
 pub mod Numbers
 pub mod Displaying
+pub mod TableQueries
 pub mod Loading
 pub mod Finding
 pub mod Seeking

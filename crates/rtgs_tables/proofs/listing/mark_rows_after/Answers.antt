@@ -5,14 +5,14 @@ use Rattle.sqlite.specs.Held.{state}
 use Rattle.rtgs_tables.proofs.FindingTexts.{mark_after_text, mark_after_seeks, mark_after_reads, first_after}
 use Rattle.rtgs_tables.proofs.FindingLemmas.{is_query_of}
 use Rattle.rtgs_tables.proofs.ListingLemmas.{mark_first}
-use Rattle.rtgs_tables.proofs.Selecting.{marks_project, marks_names}
+use Rattle.rtgs_tables.specs.TableQueries.{columns_of, marks_query}
 use Rattle.rtgs_tables.proofs.listing.mark_rows_after.Goals as goal
 
 pub returns-clause-asks : goal.returns-clause-asks
 returns-clause-asks g c =
     let number = ap bound_value c.number_value.ensures in
-    is_query_of g.S.Store mark_after_text (Int (pos c.args.number) ∷ []) (first_after 8 marks_project)
-    marks_names mark_after_seeks mark_after_reads c.args.conn.now c.query_all.new.self c.query_all.result _
+    is_query_of g.S.Store mark_after_text (Int (pos c.args.number) ∷ []) (first_after 8 (columns_of marks_query))
+    marks_query.names mark_after_seeks mark_after_reads c.args.conn.now c.query_all.new.self c.query_all.result _
     (λ i. number i ∷ []) c.query_all.ensures.ok c.query_all.ensures.err c.query_all.ensures.mode
     c.query_all.ensures.survives
 
