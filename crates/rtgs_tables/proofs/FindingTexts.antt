@@ -24,8 +24,7 @@ pub record Seeks (text : List ℕ) (count : ℕ) (query : Query) (names : List (
 
 abbrev pub order_text : List ℕ
 order_text = codes
-    "SELECT number, sender, reference, receiver, amount, date, state, mark FROM payment WHERE sender = ?1 AND
-    reference = ?2"
+    "SELECT number, sender, reference, receiver, amount, date, state, mark FROM payment WHERE sender = ?1 AND reference = ?2"
 
 abbrev pub order_tests : List Term
 order_tests = op2 (Compare Eq Binary) (col 1 2) (col 0 0) ∷ op2 (Compare Eq Binary) (col 1 3) (col 0 1) ∷ []
@@ -84,8 +83,7 @@ posting_after_reads schema base = refl
 
 abbrev pub order_after_text : List ℕ
 order_after_text = codes
-    "SELECT number, sender, reference, receiver, amount, date, state, mark FROM payment WHERE number > ?1 ORDER BY
-    number LIMIT 1"
+    "SELECT number, sender, reference, receiver, amount, date, state, mark FROM payment WHERE number > ?1 ORDER BY number LIMIT 1"
 
 pub order_after_seeks : Seeks order_after_text 1 (first_after 6 (columns_of payments_query)) payments_query.names
 unfolding understood everything desk_schema
