@@ -1,6 +1,6 @@
 -- The query of each whole table: its text, what that is to the engine, and what it shows of a book. This is all that
 -- the reading of a table needs to know of it, apart from how a row is read.
-use Rattle.std.specs.Prelude.{◌≡◌, ℕ, pos, negsuc, Bool, true, false, List, [], ◌∷◌, map, length, codes, None}
+use Rattle.std.specs.Prelude.{◌≡◌, ℕ, pos, negsuc, Bool, true, false, List, [], ◌∷◌, map, length, codes, None, Option}
 use Rattle.std.specs.Prelude.{Ok, Err, Result}
 use Rattle.std.specs.List.{AllByRecursion}
 use Rattle.std.specs.List.Sorted.{IsPermutation, IsSorted}
@@ -10,9 +10,12 @@ use Rattle.sqlite.specs.Command.TheVariants.{Select}
 use Rattle.sqlite.specs.declared.types.Value.TheVariants.{Int}
 use Rattle.sqlite.specs.Order.{Row}
 use Rattle.sqlite.specs.Schema.{Schema}
-use Rattle.sqlite.specs.Term.{Term, lit, col}
+use Rattle.sqlite.specs.Term.{Term, lit, col, op2}
 use Rattle.sqlite.specs.Tree.{Trees}
-use Rattle.sqlite.specs.Query.{Query, inner, end, output, Output}
+use Rattle.sqlite.specs.Query.{Query, inner, end, IsAnswer, output, Output}
+use Rattle.sqlite_sql.specs.Program.{overlay}
+use Rattle.sqlite_sql.specs.declared.ops.BinaryOp.TheVariants.{Compare}
+use Rattle.sqlite_sql.specs.declared.ops.CompareOp.TheVariants.{Gt}
 use Rattle.sqlite_sql.specs.Query.{output_cmp}
 use Rattle.sqlite.specs.Listing.{understood, reads_listing, listing_schema}
 use Rattle.sqlite.specs.Given.{IsPlain}
@@ -32,6 +35,9 @@ use Rattle.rtgs_book.specs.declared.account.Account.{Account}
 use Rattle.rtgs_rows.specs.Tables.{desk_schema}
 use Rattle.rtgs_rows.specs.Content.{Content, tables_of, tables_for}
 use Rattle.rtgs_tables.specs.Accounts.{AreRead}
+use Rattle.rtgs_tables.specs.Answering.{Returnless}
+use Rattle.rtgs_tables.specs.Finding.{one_of}
+use Rattle.rtgs_tables.specs.Numbers.{as_read}
 use Rattle.rtgs_tables.specs.Displaying.{desk_text, participants_text, postings_text, payments_text, marks_text}
 
 -- ---- the five queries
@@ -160,6 +166,31 @@ pub record IsTableQuery (t : TableQuery) : Type 0 where
   pub unlisted : reads_listing desk_schema t.text ≡ false
   pub query : IsQueryText t.text (first t.text)
   pub foreign : compiled listing_schema t.text ≡ Err NoSuchTable
+
+-- ---- the first row above a number
+
+-- the text is this query, with so many parameters
+pub record Seeks (text : List ℕ) (count : ℕ) (query : Query) (names : List (List ℕ)) : Type 0 where
+  pub asks : Asks desk_schema text count (record { lets = []; body = query }) names
+  pub unlisted : reads_listing desk_schema text ≡ false
+
+abbrev pub after_tests : List Term
+after_tests = op2 (Compare Gt Binary) (col 1 0) (col 0 0) ∷ []
+
+-- the first row of the table whose number is above the parameter
+abbrev pub first_after : TableQuery → Query
+first_after t = record (simple t.tree after_tests (columns_of t) (rising_by t.key)) { limit = lit (Int (pos 1)) }
+
+-- the text is that query, which writes nothing
+pub record IsFirstQuery (t : TableQuery) (text : List ℕ) : Type 0 where
+  pub seeks : Seeks text 1 (first_after t) t.names
+  pub reads : Returnless (first text)
+
+-- what it answers over these trees tells this record, or none
+abbrev pub ShowsFirst : {A : Type 0} → TableQuery → List Bool → (A → Row) → Trees → ℕ → Option A → Type 0
+ShowsFirst t counted shown trees number found = (rows : List Row)
+    → IsAnswer (first_after t) (overlay trees []) (Int (pos number) ∷ []) rows
+    → map (as_read counted) rows ≡ map shown (one_of found)
 
 -- ---- what it shows of a book
 
