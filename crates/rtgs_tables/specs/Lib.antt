@@ -1,4 +1,5 @@
 pub mod Stops
+pub mod Tables
 pub mod Faults
 pub mod Building
 pub mod Accounts

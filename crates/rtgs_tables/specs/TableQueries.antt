@@ -1,6 +1,6 @@
--- The query of each whole table: its text, what that is to the engine, and what it shows of a book. This is all that
--- the reading of a table needs to know of it, apart from how a row is read.
-use Rattle.std.specs.Prelude.{◌≡◌, ℕ, pos, negsuc, Bool, true, false, List, [], ◌∷◌, map, length, codes, None, Option}
+-- What the query of a whole table is to the engine, and what it shows of a book. With the table's description this is
+-- all that the reading of a table needs to know of it, apart from how a row is read.
+use Rattle.std.specs.Prelude.{◌≡◌, ℕ, pos, negsuc, Bool, true, false, List, [], ◌∷◌, map, length, None, Option}
 use Rattle.std.specs.Prelude.{Ok, Err, Result}
 use Rattle.std.specs.List.{AllByRecursion}
 use Rattle.std.specs.List.Sorted.{IsPermutation, IsSorted}
@@ -38,64 +38,8 @@ use Rattle.rtgs_tables.specs.Accounts.{AreRead}
 use Rattle.rtgs_tables.specs.Answering.{Returnless}
 use Rattle.rtgs_tables.specs.Finding.{one_of}
 use Rattle.rtgs_tables.specs.Numbers.{as_read}
-use Rattle.rtgs_tables.specs.Displaying.{desk_text, participants_text, postings_text, payments_text, marks_text}
-
--- ---- the five queries
-
--- The query of all rows of one table: its text, the table's tree, the places of the columns that it shows, the place of
--- the one that it sorts by, and the names of those that it shows.
-pub record TableQuery : Type 0 where
-  pub text : List ℕ
-  pub tree : ℕ
-  pub places : List ℕ
-  pub key : ℕ
-  pub names : List (List ℕ)
-
-abbrev pub desk_query : TableQuery
-desk_query = record {
-  text = desk_text;
-  tree = 0;
-  places = 0 ∷ 2 ∷ 3 ∷ 4 ∷ [];
-  key = 0;
-  names = codes "id" ∷ codes "version" ∷ codes "date" ∷ codes "phase" ∷ [];
-}
-
-abbrev pub participants_query : TableQuery
-participants_query = record {
-  text = participants_text;
-  tree = 1;
-  places = 1 ∷ 2 ∷ 3 ∷ 4 ∷ 5 ∷ [];
-  key = 1;
-  names = codes "code" ∷ codes "name" ∷ codes "key" ∷ codes "credit" ∷ codes "balance" ∷ [];
-}
-
-abbrev pub postings_query : TableQuery
-postings_query = record {
-  text = postings_text;
-  tree = 4;
-  places = 0 ∷ 2 ∷ 3 ∷ 4 ∷ 5 ∷ [];
-  key = 0;
-  names = codes "number" ∷ codes "code" ∷ codes "reference" ∷ codes "cents" ∷ codes "date" ∷ [];
-}
-
-abbrev pub payments_query : TableQuery
-payments_query = record {
-  text = payments_text;
-  tree = 6;
-  places = 0 ∷ 2 ∷ 3 ∷ 4 ∷ 5 ∷ 6 ∷ 7 ∷ 8 ∷ [];
-  key = 0;
-  names = codes "number" ∷ codes "sender" ∷ codes "reference" ∷ codes "receiver" ∷ codes "amount" ∷ codes "date"
-      ∷ codes "state" ∷ codes "mark" ∷ [];
-}
-
-abbrev pub marks_query : TableQuery
-marks_query = record {
-  text = marks_text;
-  tree = 8;
-  places = 0 ∷ 2 ∷ 3 ∷ 4 ∷ [];
-  key = 0;
-  names = codes "number" ∷ codes "date" ∷ codes "many" ∷ codes "value" ∷ [];
-}
+pub use Rattle.rtgs_tables.specs.Tables.{TableQuery, desk_query, participants_query, postings_query, payments_query}
+pub use Rattle.rtgs_tables.specs.Tables.{marks_query}
 
 -- ---- what such a text is to the engine
 
