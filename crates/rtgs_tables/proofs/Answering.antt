@@ -1,10 +1,8 @@
 -- What a query shows and leaves whose rows are read one at a time.
-use Rattle.std.proofs.Common.{◌≡◌, ◌⊎◌, ℕ, List, [], None, Ok, Err, Result, IfOk, IfErr, IsTrue, Vec, Global, refl, sym}
+use Rattle.std.proofs.Common.{◌≡◌, ◌⊎◌, ℕ, List, [], None, Ok, Err, Result, IfErr, IsTrue, Vec, Global, refl, sym}
 use Rattle.std.proofs.Common.{◌≤◌, IsSome, arith, subst, inl, inr, ◌∙◌}
-use Rattle.sqlite_value.specs.declared.keys.Key.{Key}
 use Rattle.sqlite.specs.Order.{Row}
 use Rattle.sqlite.specs.Schema.{Schema}
-use Rattle.sqlite.specs.Term.{Term}
 use Rattle.sqlite.specs.Tree.{Trees}
 use Rattle.sqlite.specs.Clock.{timed}
 use Rattle.sqlite.specs.Effect.{Database, RefusesToRead}
@@ -22,13 +20,12 @@ use Rattle.sqlite_resolve.specs.Compile.{first, compiled}
 use Rattle.sqlite_resolve.specs.declared.compiled.Compiled.{Compiled}
 use Rattle.sqlite_resolve.specs.declared.error.CompileError.{CompileError}
 use Rattle.sqlite_resolve.specs.declared.error.CompileError.TheVariants.{NoSuchTable}
-use Rattle.rtgs_rows.specs.Querying.{IsDeskFile}
 use Rattle.rtgs_tables.specs.Answering.{Returnless, FailsAmid}
 use Rattle.rtgs_tables.specs.Displaying.{HasNoAnswer}
 use Rattle.rtgs_tables.specs.Faults.{IsOfStore}
 use Rattle.rtgs_tables.proofs.ReadingAlone.{understood_none}
-use Rattle.rtgs_tables.proofs.Displaying.{IsQueryText, unanswered}
-use Rattle.rtgs_tables.proofs.Showing.{Selects, file_on, refused, intact_after}
+use Rattle.rtgs_tables.specs.TableQueries.{IsQueryText}
+use Rattle.rtgs_tables.proofs.Displaying.{unanswered}
 
 no_returning : (schema : Schema) (text : List ℕ) → Returnless (first text) → ¬ Returns (understood schema text)
 no_returning schema text is = go (understood schema text) refl
@@ -121,21 +118,6 @@ module _ (text : List ℕ) (old amid new : State) (e : Error) (same : IsUnchange
         },
         subst (FailsToShow old new text h.0 params e) (sym none) back,
       )
-
-module _ (text : List ℕ) (tree : ℕ) (project : List Term) (order : Term × Key) (names : List (List ℕ))
-    (is : Selects text tree project order names) (old new : State) (trees : Trees) (file : IsDeskFile trees old) where
-  pub refused_amid : (r : Result (Vec Row Global) Error) → IfErr r (FailsAmid text old new) → IfErr r IsOfStore
-  refused_amid (Ok rows) h = tt
-  refused_amid (Err e) (inl early) = refused text tree project order names is old new trees file (Err e) early
-  refused_amid (Err e) (inr memory) = subst IsOfStore (sym memory.0) tt
-
-  pub intact_amid : (r : Result (Vec Row Global) Error) → IfOk r (λ rows. Shown text [] old new rows.items)
-      → IfErr r (FailsAmid text old new) → IsTrue new.is_open → IsDeskFile trees new
-  intact_amid (Ok rows) shown failed alive =
-      intact_after text tree project order names is old new trees file (Ok rows) shown tt alive
-  intact_amid (Err e) shown (inl early) alive =
-      intact_after text tree project order names is old new trees file (Err e) tt early alive
-  intact_amid (Err e) shown (inr memory) alive = file_on trees old new file (inl memory.1) alive
 
 -- the store failed, or the text has no answer
 pub unanswered_amid : (text : List ℕ) (is : IsQueryText text (first text))

@@ -1,6 +1,6 @@
 -- What CREATE TABLE does.
 use Rattle.std.proofs.Common.{◌≡◌, ◌⊎◌, inl, inr, ℕ, pos, List, [], ◌∷◌, ◌++◌, true, false, Option, None, Ok, Err}
-use Rattle.std.proofs.Common.{Result, OnOk, refl, sym, ap, subst, ◌∙◌, arith}
+use Rattle.std.proofs.Common.{Result, OnOk, refl, sym, ap, subst, ◌∙◌}
 use Rattle.std.specs.List.{AllByRecursion}
 use Rattle.sqlite.specs.Order.{Row}
 use Rattle.sqlite.specs.declared.error.Error.{Error}
@@ -34,7 +34,7 @@ use Rattle.sqlite_trees.specs.declared.store.Store.{Ghosts}
 use Rattle.sqlite.specs.Held.{Held, state}
 use Rattle.rtgs_tables.proofs.Casts.{cast_null, cast_int}
 use Rattle.rtgs_tables.proofs.Steps.{IsPlainTable, inserts}
-use Rattle.rtgs_tables.proofs.StateLemmas.{desk_over, frame_but}
+use Rattle.rtgs_tables.proofs.StateLemmas.{desk_over, frame_but, framed}
 use Rattle.rtgs_tables.proofs.CreateTexts.{desk_plain, participant_plain, posting_plain, payment_plain, mark_plain}
 use Rattle.rtgs_tables.proofs.CreateTexts.{first_day_plain, desk_text, participant_text, posting_text, payment_text}
 use Rattle.rtgs_tables.proofs.CreateTexts.{mark_text, first_day_text, desk_is, participant_is, posting_is, payment_is}
@@ -177,18 +177,13 @@ first_edit trees none = rw (cast_int (pos 1), cast_null, cast_int (pos 0), none)
 first_frame : (old new : Trees) → AllByRecursion (λ t. old t.tree ≡ []) desk_schema.tables → frame_but 0 old new
     → new 0 ≡ (day_row first_content.day ∷ []) → tables_of new ≡ tables_for first_content
 unfolding desk_schema
-first_frame old new none others here =
-    let participants = others.1.0 (λ e. omega arith) ∙ none.1.0 in
-    let postings = others.1.1.0 (λ e. omega arith) ∙ none.1.1.0 in
-    let payments = others.1.1.1.0 (λ e. omega arith) ∙ none.1.1.1.0 in
-    let marks = others.1.1.1.1.0 (λ e. omega arith) ∙ none.1.1.1.1.0 in
-    λ i. record {
-      desk = here i;
-      participants = participants i;
-      postings = postings i;
-      payments = payments i;
-      marks = marks i;
-    }
+first_frame old new none others here = framed 0 old new _ others here ∙ (λ i. record {
+  desk = day_row first_content.day ∷ [];
+  participants = none.1.0 i;
+  postings = none.1.1.0 i;
+  payments = none.1.1.1.0 i;
+  marks = none.1.1.1.1.0 i;
+})
 
 desk_empty : (trees : Trees) → AllByRecursion (λ t. trees t.tree ≡ []) desk_schema.tables → trees 0 ≡ []
 unfolding desk_schema

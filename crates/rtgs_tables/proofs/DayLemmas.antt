@@ -1,6 +1,6 @@
 -- What the UPDATE of the business day does.
 use Rattle.std.proofs.Common.{◌≡◌, ℕ, pos, List, [], ◌∷◌, map, filter, codes, true, Ok, Err, Result, OnOk, refl, ap}
-use Rattle.std.proofs.Common.{subst, ◌∙◌, arith}
+use Rattle.std.proofs.Common.{subst, ◌∙◌}
 use Rattle.std.specs.List.Sorted.{IsPermutation}
 use Rattle.sqlite.specs.declared.types.Value.TheVariants.{Null, Int}
 use Rattle.sqlite.specs.declared.error.Error.{Error}
@@ -26,13 +26,13 @@ use Rattle.sqlite_value.proofs.OrderLemmas.{value_cmp-Int}
 use Rattle.rtgs_tables.proofs.Casts.{cast_null, cast_int, cast_date, bound_date}
 use Rattle.rtgs_tables.proofs.Steps.{IsPlainTable}
 use Rattle.rtgs_tables.proofs.Queries.{simple, passes, shows}
-use Rattle.rtgs_tables.proofs.StateLemmas.{desk_over, frame_but, stands_on}
+use Rattle.rtgs_tables.proofs.StateLemmas.{desk_over, framed, stands_on}
 use Rattle.rtgs_tables.proofs.Writing.{updated}
 use Rattle.rtgs_tables.proofs.Passing.{truth_of, same_number}
 use Rattle.rtgs_book.specs.declared.Day.{Day}
 use Rattle.rtgs_book.specs.declared.RowChange.TheVariants.{SetDay}
 use Rattle.rtgs_rows.specs.Rows.{date_value, phase_number, day_row}
-use Rattle.rtgs_rows.specs.Content.{Tables, Content, tables_of, Stands, with_change}
+use Rattle.rtgs_rows.specs.Content.{Tables, Content, Stands, with_change}
 use Rattle.rtgs_rows.specs.Tables.{desk_schema, desk_at}
 
 abbrev pub set_day_text : List ℕ
@@ -57,22 +57,6 @@ desk_is_plain : (trees : Trees) (mode : Mode) → IsPlainTable (desk_over trees)
 unfolding desk_schema
 desk_is_plain trees mode = record { place = refl; uncounted = refl; still = λ _ _. refl }
 
-desk_frame : (old new : Trees) (rows : List Row) → frame_but 0 old new → new 0 ≡ rows
-    → tables_of new ≡ record (tables_of old) { desk = rows }
-unfolding desk_schema
-desk_frame old new rows others here =
-    let participants = others.1.0 (λ e. omega arith) in
-    let postings = others.1.1.0 (λ e. omega arith) in
-    let payments = others.1.1.1.0 (λ e. omega arith) in
-    let marks = others.1.1.1.1.0 (λ e. omega arith) in
-    λ i. record {
-      desk = here i;
-      participants = participants i;
-      postings = postings i;
-      payments = payments i;
-      marks = marks i;
-    }
-
 abbrev params : Day → Row
 params day = date_value day.date ∷ Int (pos (phase_number day.phase)) ∷ []
 
@@ -95,9 +79,16 @@ edit trees old day rows are same =
       value_cmp-Int (pos 1) (pos 1),
     )
 
-sets : (was : Database) (content : Content) (old new : State) (day : Day) (count : ℕ) → Stands was content old
-    → ExecutesInside 0 set_day_text (params day) old new (Ok count) → Stands was (with_change content (SetDay day)) new
-sets was content old new day count stands h =
+abbrev pub day_given : Day → Row
+day_given day = bound_value (date_value day.date) ∷ Int (pos (phase_number day.phase)) ∷ []
+
+pub sets_day : (was : Database) (content : Content) (old new : State) (day : Day) (r : Result ℕ Error) (values : Row)
+    → values ≡ day_given day → Stands was content old
+    → ExecutesInside 0 set_day_text values old new r → OnOk r (Stands was (with_change content (SetDay day)) new)
+sets_day was content old new day (Err e) values same stands h = tt
+sets_day was content old new day (Ok count) values same stands given =
+    let h = subst (λ all. ExecutesInside 0 set_day_text all old new (Ok count)) (same ∙ ap (λ date. date ∷ Int (pos
+    (phase_number day.phase)) ∷ []) (bound_date day.date)) given in
     let made = updated set_day_text 0 (desk_at 0) plain desk_is_plain old new (params day) count stands.schema h.0 0
     tests project is in
     let here : old.now.trees 0 ≡ day_row content.day ∷ [] = ap (λ (t : Tables). t.desk) stands.holds.rows in
@@ -107,16 +98,5 @@ sets was content old new day count stands h =
     ∙ edit old.now.trees content.day day made.0 here (subst
     (λ f. IsPermutation (map (shows project (params day)) f) made.0) passed made.1) in
     stands_on was old new content (with_change content (SetDay day)) stands h.1 made.2.schema made.2.sound
-    (desk_frame old.now.trees new.now.trees _ made.2.frame rows
+    (framed 0 old.now.trees new.now.trees _ made.2.frame rows
     ∙ ap (λ (t : Tables). record t { desk = day_row day ∷ [] }) stands.holds.rows)
-
-abbrev pub day_given : Day → Row
-day_given day = bound_value (date_value day.date) ∷ Int (pos (phase_number day.phase)) ∷ []
-
-pub sets_day : (was : Database) (content : Content) (old new : State) (day : Day) (r : Result ℕ Error) (values : Row)
-    → values ≡ day_given day → Stands was content old
-    → ExecutesInside 0 set_day_text values old new r → OnOk r (Stands was (with_change content (SetDay day)) new)
-sets_day was content old new day (Err e) values same stands h = tt
-sets_day was content old new day (Ok count) values same stands h =
-    sets was content old new day count stands (subst (λ all. ExecutesInside 0 set_day_text all old new (Ok count))
-    (same ∙ ap (λ date. date ∷ Int (pos (phase_number day.phase)) ∷ []) (bound_date day.date)) h)

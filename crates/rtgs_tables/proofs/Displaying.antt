@@ -9,7 +9,10 @@ use Rattle.sqlite.specs.Order.{Row}
 use Rattle.sqlite.specs.Schema.{Schema}
 use Rattle.sqlite.specs.Effect.{Database, Reads, RefusesToRead}
 use Rattle.sqlite.specs.Listing.{understood, reads_listing, listing_schema, IsSourceOf}
-use Rattle.sqlite.specs.State.{State, Shown, FailsToQuery, IsNotRun}
+use Rattle.sqlite.specs.State.{State, HasCleanDisk, Shown, FailsToQuery, IsNotRun}
+use Rattle.sqlite.specs.Tree.{Trees}
+use Rattle.rtgs_rows.specs.Querying.{IsDeskFile}
+use Rattle.rtgs_tables.specs.Loading.{ReadsOn}
 use Rattle.sqlite.specs.declared.error.Error.{Error}
 use Rattle.sqlite_ast.specs.declared.Select.{Select as Selection}
 use Rattle.sqlite_ast.specs.declared.Statement.{Statement}
@@ -25,7 +28,6 @@ use Rattle.sqlite_resolve.specs.Lowering.{Checked}
 use Rattle.sqlite_resolve.specs.Program.{query, program}
 use Rattle.sqlite_resolve.specs.Compile.{first, command, read, returning, timed, meaning, planned, with_command}
 use Rattle.sqlite_resolve.specs.Compile.{compiled}
-use Rattle.sqlite_tied.specs.Compute.{everything}
 use Rattle.sqlite_keyed.proofs.ListLemmas.{all_map}
 use Rattle.rtgs_book.specs.declared.Book.{Book}
 use Rattle.rtgs_book.specs.declared.Day.{Day}
@@ -40,26 +42,19 @@ use Rattle.rtgs_book.specs.Soundness.{IsSound}
 use Rattle.rtgs_rows.specs.Fitting.{FitsDate, FitsParticipant, FitsPosting, FitsOrder, FitsMark}
 use Rattle.rtgs_rows.specs.Rows.{shown_day, shown_account, shown_posting, shown_order, shown_mark}
 use Rattle.rtgs_tables.specs.Accounts.{AreBalances, ExplainsRead}
+use Rattle.rtgs_tables.specs.Answering.{Returnless}
 use Rattle.rtgs_tables.specs.Faults.{IsOfStore}
 use Rattle.rtgs_tables.specs.Displaying.{desk_text, participants_text, postings_text, payments_text, marks_text}
 use Rattle.rtgs_tables.specs.Displaying.{Displays, DisplaysAs, HasNoAnswer, IsUnread, IsIllegible, ExplainsDatabase}
 use Rattle.rtgs_tables.specs.Displaying.{AreDisplayed, IsDisplayed}
 use Rattle.rtgs_tables.specs.Numbers.{as_read, counted_of_posting, counted_of_order, counted_of_mark, IsNumberedPosting}
 use Rattle.rtgs_tables.specs.Numbers.{IsNumberedOrder, IsNumberedMark}
+use Rattle.rtgs_tables.specs.TableQueries.{is_selection, IsQueryText}
 use Rattle.rtgs_tables.proofs.AboveZero.{above_zero}
 use Rattle.rtgs_tables.proofs.AsRead.{posting_own, order_own, mark_own}
 use Rattle.rtgs_tables.proofs.ReadingAlone.{stepped, same_value}
 use Rattle.rtgs_tables.proofs.Refusals.{told}
 use Rattle.rtgs_tables.proofs.Told.{as_they_are}
-
-abbrev pub is_selection : Statement → Bool
-is_selection (written.Select s) = true
-is_selection _ = false
-
--- the text is one query, without parameters, which reads no time
-abbrev pub IsQueryText : List ℕ → Checked Parsed → Type 0
-IsQueryText text (Ok p) = (is_selection p.statement ≡ true) × (p.names ≡ []) × (p.formats ≡ []) × (p.tail ≡ length text)
-IsQueryText text (Err e) = ⊥
 
 -- so it is, however it is understood
 record IsPlainQuery (text : List ℕ) (c : Compiled) : Type 0 where
@@ -95,6 +90,11 @@ unfolding returning
 returns_nothing schema base st is =
     let it = selection st is in
     subst (λ s. returning schema base s ≡ Ok None) (sym it.1) refl
+
+-- a query gives back no rows of a write
+pub returnless : (text : List ℕ) (p : Checked Parsed) → IsQueryText text p → Returnless p
+returnless text (Ok p) is = λ schema base. returns_nothing schema base p.statement is.0
+returnless text (Err e) is = tt
 
 times_nothing : (schema : Schema) (formats : List (List ℕ)) (st : Statement) → is_selection st ≡ true
     → timed schema formats st ≡ formats
@@ -203,58 +203,22 @@ module _ (text : List ℕ) (is : IsQueryText text (first text)) (none : compiled
   unanswered (Ok rows) h = tt
   unanswered (Err e) h = no_answer e h
 
--- ---- the five queries
-
-pub desk_query : IsQueryText desk_text (first desk_text)
-unfolding everything
-desk_query = (refl, refl, refl, refl)
-
-pub desk_unlisted : compiled listing_schema desk_text ≡ Err NoSuchTable
-unfolding listing_schema everything
-desk_unlisted = refl
-
-pub participants_query : IsQueryText participants_text (first participants_text)
-unfolding everything
-participants_query = (refl, refl, refl, refl)
-
-pub participants_unlisted : compiled listing_schema participants_text ≡ Err NoSuchTable
-unfolding listing_schema everything
-participants_unlisted = refl
-
-pub postings_query : IsQueryText postings_text (first postings_text)
-unfolding everything
-postings_query = (refl, refl, refl, refl)
-
-pub postings_unlisted : compiled listing_schema postings_text ≡ Err NoSuchTable
-unfolding listing_schema everything
-postings_unlisted = refl
-
-pub payments_query : IsQueryText payments_text (first payments_text)
-unfolding everything
-payments_query = (refl, refl, refl, refl)
-
-pub payments_unlisted : compiled listing_schema payments_text ≡ Err NoSuchTable
-unfolding listing_schema everything
-payments_unlisted = refl
-
-pub marks_query : IsQueryText marks_text (first marks_text)
-unfolding everything
-marks_query = (refl, refl, refl, refl)
-
-pub marks_unlisted : compiled listing_schema marks_text ≡ Err NoSuchTable
-unfolding listing_schema everything
-marks_unlisted = refl
-
 -- ---- records that are read of the rows
 
-pub recorded : {A : Type 0} (fits : A → Type 0) (counted : List Bool) (shown : A → Row) (db new : Database)
-    (text : List ℕ) (rows seen : List Row) (r : Result (Vec A Global) Fault) → seen ≡ rows
-    → Displays db text rows × (new ≡ db)
+pub recorded : {A : Type 0} (fits : A → Type 0) (counted : List Bool) (shown : A → Row) (db : Database)
+    (text : List ℕ) (rows seen : List Row) (r : Result (Vec A Global) Fault) → seen ≡ rows → Displays db text rows
     → IfOk r (λ v. AllByRecursion fits v.items × (map (as_read counted) seen ≡ map shown v.items))
-    → IfOk r (λ v. AllByRecursion fits v.items × DisplaysAs db text counted (map shown v.items) × (new ≡ db))
-recorded fits counted shown db new text rows seen (Ok v) same shows is =
-    (is.0, (seen, subst (Displays db text) (sym same) shows.0, is.1), shows.1)
-recorded fits counted shown db new text rows seen (Err e) same shows is = tt
+    → IfOk r (λ v. AllByRecursion fits v.items × DisplaysAs db text counted (map shown v.items))
+recorded fits counted shown db text rows seen (Ok v) same shows is =
+    (is.0, (seen, subst (Displays db text) (sym same) shows, is.1))
+recorded fits counted shown db text rows seen (Err e) same shows is = tt
+
+-- an answer of a query, which writes nothing
+pub reads_on : {A : Type 0} (old new : State) (r : Result A Fault) → (HasCleanDisk new → HasCleanDisk old)
+    → (HasCleanDisk new → (trees : Trees) → IsDeskFile trees old → IsDeskFile trees new)
+    → (HasCleanDisk new → new.now ≡ old.now) → OnOk r (ReadsOn old new)
+reads_on old new (Ok it) clean file same = record { clean = clean; file = file; same = same }
+reads_on old new (Err e) clean file same = tt
 
 -- The query has no answer, or one that is in no form.
 pub without_answer : {A : Type 0} (db : Database) (text : List ℕ) (AreFormed : List Row → Type 0) (fault : Fault)
@@ -269,45 +233,33 @@ pub without_form : (db : Database) (text : List ℕ) (AreFormed : List Row → T
     → seen ≡ rows → Displays db text rows → ¬ AreFormed seen → IsUnread db text AreFormed
 without_form db text AreFormed rows seen same shows not = inr (seen, subst (Displays db text) (sym same) shows, not)
 
-pub recorded_plainly : {A : Type 0} (fits : A → Type 0) (shown : A → Row) (db new : Database) (text : List ℕ)
-    (rows seen : List Row) (r : Result (Vec A Global) Fault) → seen ≡ rows → Displays db text rows × (new ≡ db)
-    → IfOk r (λ v. AllByRecursion fits v.items × (map (as_read []) seen ≡ map shown v.items))
-    → IfOk r (λ v. AllByRecursion fits v.items × Displays db text (map shown v.items) × (new ≡ db))
-recorded_plainly fits shown db new text rows seen (Ok v) same shows is = (
-  is.0,
-  subst (Displays db text) (sym same ∙ sym (as_they_are seen) ∙ is.1) shows.0,
-  shows.1,
-)
-recorded_plainly fits shown db new text rows seen (Err e) same shows is = tt
+-- where no number is read in another way
+pub displays_plainly : (db : Database) (text : List ℕ) (told : List Row) → DisplaysAs db text [] told
+    → Displays db text told
+displays_plainly db text told it = subst (Displays db text) (sym (as_they_are it.0) ∙ it.2) it.1
 
-pub day_displayed : (db new : Database) (text : List ℕ) (rows seen : List Row) (r : Result Day Fault) → seen ≡ rows
-    → Displays db text rows × (new ≡ db)
-    → IfOk r (λ (day : Day). FitsDate day.date × (seen ≡ shown_day day ∷ []))
-    → IfOk r (λ (day : Day). FitsDate day.date × Displays db text (shown_day day ∷ []) × (new ≡ db))
-day_displayed db new text rows seen (Ok day) same shows is =
-    (is.0, subst (Displays db text) (sym same ∙ is.1) shows.0, shows.1)
-day_displayed db new text rows seen (Err e) same shows is = tt
+pub day_displayed : (db : Database) (text : List ℕ) (rows seen : List Row) (r : Result Day Fault) → seen ≡ rows
+    → Displays db text rows → IfOk r (λ (day : Day). FitsDate day.date × (seen ≡ shown_day day ∷ []))
+    → IfOk r (λ (day : Day). FitsDate day.date × Displays db text (shown_day day ∷ []))
+day_displayed db text rows seen (Ok day) same shows is = (is.0, subst (Displays db text) (sym same ∙ is.1) shows)
+day_displayed db text rows seen (Err e) same shows is = tt
 
 -- ---- the five together
 
 -- each is shown by the database as it was before the first
-pub are_displayed : (db a b c d e : Database) (accounts : List Account) (book : Book) {postings : List Posting}
+pub are_displayed : (db a b c d : Database) (accounts : List Account) (book : Book) {postings : List Posting}
     {orders : List Order} {marks : List Mark}
     → book.participants ≡ map (λ (a : Account). a.participant) accounts → book.postings ≡ postings
-    → book.orders ≡ orders → book.marks ≡ marks
-    → FitsDate book.day.date × Displays db desk_text (shown_day book.day ∷ []) × (a ≡ db)
+    → book.orders ≡ orders → book.marks ≡ marks → a ≡ db → b ≡ db → c ≡ db → d ≡ db
+    → FitsDate book.day.date × Displays db desk_text (shown_day book.day ∷ [])
     → AllByRecursion (λ (a : Account). FitsParticipant a.participant) accounts
-    × Displays a participants_text (map (λ (a : Account). shown_account a.participant a.balance) accounts) × (b ≡ a)
+    × DisplaysAs a participants_text [] (map (λ (a : Account). shown_account a.participant a.balance) accounts)
     → AllByRecursion FitsPosting postings × DisplaysAs b postings_text counted_of_posting (map shown_posting postings)
-    × (c ≡ b)
-    → AllByRecursion FitsOrder orders × DisplaysAs c payments_text counted_of_order (map shown_order orders) × (d ≡ c)
-    → AllByRecursion FitsMark marks × DisplaysAs d marks_text counted_of_mark (map shown_mark marks) × (e ≡ d)
+    → AllByRecursion FitsOrder orders × DisplaysAs c payments_text counted_of_order (map shown_order orders)
+    → AllByRecursion FitsMark marks × DisplaysAs d marks_text counted_of_mark (map shown_mark marks)
     → AreDisplayed db accounts book
-are_displayed db a b c d e accounts book named postings orders marks day stored some_postings some_orders some_marks =
-    let from_a : a ≡ db = day.2 in
-    let from_b : b ≡ db = stored.2 ∙ from_a in
-    let from_c : c ≡ db = some_postings.2 ∙ from_b in
-    let from_d : d ≡ db = some_orders.2 ∙ from_c in
+are_displayed db a b c d accounts book named postings orders marks from_a from_b from_c from_d day stored some_postings
+    some_orders some_marks =
     record {
       fits = record {
         participants = subst (AllByRecursion FitsParticipant) (sym named)
@@ -320,7 +272,8 @@ are_displayed db a b c d e accounts book named postings orders marks day stored 
       named = named;
       desk = day.1;
       participants = subst (λ k. Displays k participants_text
-          (map (λ (a : Account). shown_account a.participant a.balance) accounts)) from_a stored.1;
+          (map (λ (a : Account). shown_account a.participant a.balance) accounts)) from_a
+          (displays_plainly a participants_text _ stored.1);
       postings = subst₂ (λ k all. DisplaysAs k postings_text counted_of_posting (map shown_posting all)) from_b
           (sym postings) some_postings.1;
       payments = subst₂ (λ k all. DisplaysAs k payments_text counted_of_order (map shown_order all)) from_c (sym orders)

@@ -58,9 +58,9 @@ use Rattle.rtgs_tables.proofs.ReadingAlone.{commits_nothing}
 use Rattle.rtgs_tables.proofs.Passing.{none_moved, truth_of, same_text, filter_map}
 use Rattle.rtgs_tables.proofs.Resting.{file_of, rests_of}
 use Rattle.rtgs_tables.proofs.Keeps.{survives_on, file_after}
-use Rattle.rtgs_tables.proofs.Selecting.{postings_project, postings_names, payments_project, payments_names}
 use Rattle.rtgs_tables.proofs.FindingTexts.{Seeks, first_after, after_tests, order_tests, posting_tests, order_text}
 use Rattle.rtgs_tables.proofs.FindingTexts.{posting_text, order_seeks, posting_seeks}
+use Rattle.rtgs_tables.specs.TableQueries.{TableQuery, columns_of, postings_query, payments_query}
 
 -- ---- what a query leaves
 
@@ -268,26 +268,18 @@ take_found shown hit (a ∷ all) = elim (cases_Bool (hit a)) [
   | inr other ↦ rw other (take_found shown hit all)
 ]
 
-pub first_rows : {A : Type 0} (row shown : A → Row) (id : A → ℤ) (hit : A → Bool) (text : List ℕ) (params : Row)
-    (tree : ℕ) (project : List Term) (names : List (List ℕ))
-    (is : Seeks text (length params) (first_after tree project) names)
+pub first_rows : {A : Type 0} (t : TableQuery) (row shown : A → Row) (id : A → ℤ) (hit : A → Bool) (params : Row)
     → ((a : A) → passes after_tests params (row a) ≡ hit a)
-    → ((a b : A) → int_cmp (id a) (id b) ≡ Less → output_cmp (first_after tree project)
-    (output (first_after tree project) (params ∷ row a ∷ []))
-    (output (first_after tree project) (params ∷ row b ∷ [])) ≡ Less)
-    → ((a : A) → (output (first_after tree project) (params ∷ row a ∷ [])).1 ≡ shown a)
-    → (old new : State) (trees : Trees) (file : IsDeskFile trees old) (all : List A)
-    → IsAscending (λ a b. int_cmp (id a) (id b) ≡ Less) all → overlay old.now.trees [] tree ≡ map row all
-    → (r : Result (Vec Row Global) Error) → IfOk r (λ rows. Shown text params old new rows.items)
-    → IfOk r (λ rows. rows.items ≡ map shown (one_of (find hit all)))
-first_rows row shown id hit text params tree project names is tested by shows_it old new trees file all up here
-    (Err e) h = tt
-first_rows {A = A} row shown id hit text params tree project names is tested by shows_it old new trees file all up here
-    (Ok rows) h =
-    let q : Query = first_after tree project in
+    → ((a b : A) → int_cmp (id a) (id b) ≡ Less → output_cmp (first_after t)
+    (output (first_after t) (params ∷ row a ∷ [])) (output (first_after t) (params ∷ row b ∷ [])) ≡ Less)
+    → ((a : A) → (output (first_after t) (params ∷ row a ∷ [])).1 ≡ shown a)
+    → (trees : Trees) (all : List A) → IsAscending (λ a b. int_cmp (id a) (id b) ≡ Less) all
+    → overlay trees [] t.tree ≡ map row all → (rows : List Row)
+    → IsAnswer (first_after t) (overlay trees []) params rows → rows ≡ map shown (one_of (find hit all))
+first_rows {A = A} t row shown id hit params tested by shows_it trees all up here rows a =
+    let q : Query = first_after t in
     let out = λ (a : A). output q (params ∷ row a ∷ []) in
-    let a = answered text params q names is old new trees file rows.items h in
-    let s = sorts tree after_tests project q.order (overlay old.now.trees []) params (map (λ
+    let s = sorts t.tree after_tests (columns_of t) q.order (overlay trees []) params (map (λ
     (o : Output). o.1) a.ordered) (record {
       staged = a.staged;
       grouped = a.grouped;
@@ -298,10 +290,9 @@ first_rows {A = A} row shown id hit text params tree project names is tested by 
       sorted = a.sorted;
       shown = refl;
     }) in
-    let passed : filter (passes after_tests params) (overlay old.now.trees [] tree) ≡ map row (filter hit all) =
+    let passed : filter (passes after_tests params) (overlay trees [] t.tree) ≡ map row (filter hit all) =
     ap (filter (passes after_tests params)) here ∙ filter_map row (passes after_tests params) hit tested all in
-    let goals : map (λ r. output q (params ∷ r ∷ [])) (filter (passes after_tests params)
-    (overlay old.now.trees [] tree))
+    let goals : map (λ r. output q (params ∷ r ∷ [])) (filter (passes after_tests params) (overlay trees [] t.tree))
     ≡ map out (filter hit all) = ap (map (λ r. output q (params ∷ r ∷ []))) passed
     ∙ map-map (λ (r : Row). output q (params ∷ r ∷ [])) row (filter hit all) in
     let rising : IsAscending (λ (a b : Output). output_cmp q a b ≡ Less) (map out (filter hit all)) =
@@ -313,6 +304,17 @@ first_rows {A = A} row shown id hit text params tree project names is tested by 
     ∙ map-map (λ (o : Output). o.1) out (filter hit all) ∙ map_same (λ (x : A). (out x).1) shown shows_it
     (filter hit all))
     ∙ take_found shown hit all
+
+-- the answer, with the parameters as they are bound
+pub answer_of : (text : List ℕ) (params : Row) (query : Query) (names : List (List ℕ))
+    → Seeks text (length params) query names → (old new : State) (trees : Trees) → IsDeskFile trees old
+    → (r : Result (Vec Row Global) Error) (given : Row) → given ≡ params
+    → IfOk r (λ rows. Shown text given old new rows.items)
+    → IfOk r (λ rows. IsAnswer query (overlay old.now.trees []) params rows.items)
+answer_of text params query names is old new trees file (Ok rows) given same shown =
+    answered text params query names is old new trees file rows.items
+    (subst (λ p. Shown text p old new rows.items) same shown)
+answer_of text params query names is old new trees file (Err e) given same shown = tt
 
 -- ---- which rows the tests pass
 
@@ -425,7 +427,8 @@ finds_posting reference book old new content rests of r given same shown =
     let here : old.now.trees 4 ≡ map posting_row book.postings = ap (λ (d : Database). d.trees 4) rests.clean
     ∙ ap (λ (t : Tables). t.postings) rests.holds.rows ∙ ap (map posting_row) of.records.postings in
     found_rows posting_row shown_posting (is_posting_named reference) posting_text (Text reference ∷ []) 4 posting_tests
-    postings_project postings_names posting_seeks (posting_passes reference) (λ p. refl) old new old.committed.trees
+    (columns_of postings_query) postings_query.names posting_seeks (posting_passes reference) (λ p. refl) old new
+    old.committed.trees
     (file_of content old rests) book.postings here
     (one_named (λ (p : Posting). p.reference) bytes_eq reference book.postings (bytes_tied reference)
     of.sound.posting_references) r
@@ -440,7 +443,8 @@ finds_order sender reference book old new content rests of r given same shown =
     let here : old.now.trees 6 ≡ map payment_row book.orders = ap (λ (d : Database). d.trees 6) rests.clean
     ∙ ap (λ (t : Tables). t.payments) rests.holds.rows ∙ ap (map payment_row) of.records.orders in
     found_rows payment_row shown_order (is_order_named sender reference) order_text (Text sender ∷ Text reference ∷ [])
-    6 order_tests payments_project payments_names order_seeks (order_passes sender reference) (λ o. refl) old new
+    6 order_tests (columns_of payments_query) payments_query.names order_seeks (order_passes sender reference) (λ o.
+    refl) old new
     old.committed.trees (file_of content old rests) book.orders here
     (one_named (λ (o : Order). (o.sender, o.reference)) is_same_name (sender, reference) book.orders
     (names_tied (sender, reference)) of.sound.order_references) r

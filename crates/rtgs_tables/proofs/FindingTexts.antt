@@ -1,26 +1,17 @@
 -- The texts that look up a record.
-use Rattle.std.proofs.Common.{◌≡◌, false, ℕ, pos, List, [], ◌∷◌, codes, refl}
+use Rattle.std.proofs.Common.{ℕ, List, [], ◌∷◌, codes, refl}
 use Rattle.sqlite.specs.Collation.TheVariants.{Binary}
-use Rattle.sqlite.specs.declared.types.Value.TheVariants.{Int}
 use Rattle.sqlite_sql.specs.declared.ops.BinaryOp.TheVariants.{Compare}
-use Rattle.sqlite_sql.specs.declared.ops.CompareOp.TheVariants.{Eq, Gt}
-use Rattle.sqlite.specs.Term.{Term, lit, col, op2}
-use Rattle.sqlite.specs.Query.{Query}
+use Rattle.sqlite_sql.specs.declared.ops.CompareOp.TheVariants.{Eq}
+use Rattle.sqlite.specs.Term.{Term, col, op2}
 use Rattle.sqlite_tied.specs.Compute.{everything}
 use Rattle.sqlite_resolve.specs.Compile.{first}
-use Rattle.sqlite.specs.Listing.{understood, reads_listing}
+use Rattle.sqlite.specs.Listing.{understood}
 use Rattle.rtgs_rows.specs.Tables.{desk_schema}
-use Rattle.rtgs_tables.proofs.Refusals.{Asks}
 use Rattle.rtgs_tables.proofs.Queries.{simple}
-use Rattle.rtgs_tables.proofs.Showing.{first_up}
-use Rattle.rtgs_tables.proofs.Selecting.{postings_project, postings_names, payments_project, payments_names}
-use Rattle.rtgs_tables.proofs.Selecting.{marks_project, marks_names}
 use Rattle.rtgs_tables.specs.Answering.{Returnless}
-
--- the text is this query, with so many parameters
-pub record Seeks (text : List ℕ) (count : ℕ) (query : Query) (names : List (List ℕ)) : Type 0 where
-  pub asks : Asks desk_schema text count (record { lets = []; body = query }) names
-  pub unlisted : reads_listing desk_schema text ≡ false
+pub use Rattle.rtgs_tables.specs.TableQueries.{Seeks, first_after, after_tests}
+use Rattle.rtgs_tables.specs.TableQueries.{IsFirstQuery, columns_of, postings_query, payments_query, marks_query}
 
 -- ---- by name
 
@@ -31,7 +22,7 @@ order_text = codes
 abbrev pub order_tests : List Term
 order_tests = op2 (Compare Eq Binary) (col 1 2) (col 0 0) ∷ op2 (Compare Eq Binary) (col 1 3) (col 0 1) ∷ []
 
-pub order_seeks : Seeks order_text 2 (simple 6 order_tests payments_project []) payments_names
+pub order_seeks : Seeks order_text 2 (simple 6 order_tests (columns_of payments_query) []) payments_query.names
 unfolding understood everything desk_schema
 order_seeks = record {
   asks = record { command = refl; plain = (refl, refl); whole = refl; given = refl };
@@ -48,7 +39,7 @@ posting_text = codes "SELECT number, code, reference, cents, date FROM posting W
 abbrev pub posting_tests : List Term
 posting_tests = op2 (Compare Eq Binary) (col 1 3) (col 0 0) ∷ []
 
-pub posting_seeks : Seeks posting_text 1 (simple 4 posting_tests postings_project []) postings_names
+pub posting_seeks : Seeks posting_text 1 (simple 4 posting_tests (columns_of postings_query) []) postings_query.names
 unfolding understood everything desk_schema
 posting_seeks = record {
   asks = record { command = refl; plain = (refl, refl); whole = refl; given = refl };
@@ -61,53 +52,43 @@ posting_reads schema base = refl
 
 -- ---- the first after a number
 
-abbrev pub after_tests : List Term
-after_tests = op2 (Compare Gt Binary) (col 1 0) (col 0 0) ∷ []
-
--- the first row of the table whose number is above the parameter
-abbrev pub first_after : ℕ → List Term → Query
-first_after tree project = record (simple tree after_tests project (first_up ∷ [])) { limit = lit (Int (pos 1)) }
-
 abbrev pub posting_after_text : List ℕ
 posting_after_text = codes
     "SELECT number, code, reference, cents, date FROM posting WHERE number > ?1 ORDER BY number LIMIT 1"
 
-pub posting_after_seeks : Seeks posting_after_text 1 (first_after 4 postings_project) postings_names
+pub posting_after_asks : IsFirstQuery postings_query posting_after_text
 unfolding understood everything desk_schema
-posting_after_seeks = record {
-  asks = record { command = refl; plain = (refl, refl); whole = refl; given = refl };
-  unlisted = refl;
+posting_after_asks = record {
+  seeks = record {
+    asks = record { command = refl; plain = (refl, refl); whole = refl; given = refl };
+    unlisted = refl;
+  };
+  reads = λ schema base. refl;
 }
-
-pub posting_after_reads : Returnless (first posting_after_text)
-unfolding everything
-posting_after_reads schema base = refl
 
 abbrev pub order_after_text : List ℕ
 order_after_text = codes
     "SELECT number, sender, reference, receiver, amount, date, state, mark FROM payment WHERE number > ?1 ORDER BY number LIMIT 1"
 
-pub order_after_seeks : Seeks order_after_text 1 (first_after 6 payments_project) payments_names
+pub order_after_asks : IsFirstQuery payments_query order_after_text
 unfolding understood everything desk_schema
-order_after_seeks = record {
-  asks = record { command = refl; plain = (refl, refl); whole = refl; given = refl };
-  unlisted = refl;
+order_after_asks = record {
+  seeks = record {
+    asks = record { command = refl; plain = (refl, refl); whole = refl; given = refl };
+    unlisted = refl;
+  };
+  reads = λ schema base. refl;
 }
-
-pub order_after_reads : Returnless (first order_after_text)
-unfolding everything
-order_after_reads schema base = refl
 
 abbrev pub mark_after_text : List ℕ
 mark_after_text = codes "SELECT number, date, many, value FROM mark WHERE number > ?1 ORDER BY number LIMIT 1"
 
-pub mark_after_seeks : Seeks mark_after_text 1 (first_after 8 marks_project) marks_names
+pub mark_after_asks : IsFirstQuery marks_query mark_after_text
 unfolding understood everything desk_schema
-mark_after_seeks = record {
-  asks = record { command = refl; plain = (refl, refl); whole = refl; given = refl };
-  unlisted = refl;
+mark_after_asks = record {
+  seeks = record {
+    asks = record { command = refl; plain = (refl, refl); whole = refl; given = refl };
+    unlisted = refl;
+  };
+  reads = λ schema base. refl;
 }
-
-pub mark_after_reads : Returnless (first mark_after_text)
-unfolding everything
-mark_after_reads schema base = refl

@@ -1,6 +1,6 @@
 -- What the statements on participants do.
 use Rattle.std.proofs.Common.{◌≡◌, ◌≢◌, ◌⊎◌, inl, inr, ℕ, ℤ, pos, List, [], ◌∷◌, ◌++◌, map, filter, codes, Bool, true}
-use Rattle.std.proofs.Common.{false, Ok, Err, Result, OnOk, refl, sym, ap, subst, ◌∙◌, arith}
+use Rattle.std.proofs.Common.{false, Ok, Err, Result, OnOk, refl, sym, ap, subst, ◌∙◌}
 use Rattle.std.specs.List.{AllByRecursion}
 use Rattle.std.specs.List.Sorted.{IsPermutation}
 use Rattle.sqlite.specs.declared.types.Value.{Value}
@@ -34,13 +34,13 @@ use Rattle.rtgs_rows.specs.RowLaws.{NextRowIsAbove}
 use Rattle.rtgs_tables.proofs.Steps.{IsPlainTable}
 use Rattle.rtgs_tables.proofs.Queries.{simple, passes, shows}
 use Rattle.rtgs_tables.proofs.Replacing.{Replaces, replaces}
-use Rattle.rtgs_tables.proofs.StateLemmas.{desk_over, frame_but, stands_on}
+use Rattle.rtgs_tables.proofs.StateLemmas.{desk_over, framed, stands_on}
 use Rattle.rtgs_tables.proofs.Writing.{inserted, updated}
 use Rattle.rtgs_tables.proofs.Passing.{none_moved, truth_of, same_text, filter_map}
 use Rattle.rtgs_book.specs.declared.Participant.{Participant}
 use Rattle.rtgs_book.specs.declared.RowChange.TheVariants.{AddParticipant, SetCredit, SetBalance}
 use Rattle.rtgs_rows.specs.Rows.{participant_row}
-use Rattle.rtgs_rows.specs.Content.{Tables, Holding, Content, holding_row, tables_of, Stands, IsInOrder, with_change}
+use Rattle.rtgs_rows.specs.Content.{Tables, Holding, Content, holding_row, Stands, IsInOrder, with_change}
 use Rattle.rtgs_rows.specs.Content.{with_credit_in, with_balance_in, newcomer}
 use Rattle.rtgs_rows.specs.Tables.{desk_schema, participant_at}
 
@@ -62,16 +62,6 @@ participant_is_plain : (trees : Trees) (mode : Mode) → IsPlainTable (desk_over
 unfolding desk_schema
 participant_is_plain trees mode = record { place = refl; uncounted = refl; still = λ _ _. refl }
 
-participant_frame : (old new : Trees) (rows : List Row) → frame_but 1 old new → new 1 ≡ rows
-    → tables_of new ≡ record (tables_of old) { participants = rows }
-unfolding desk_schema
-participant_frame old new rows others here =
-    let desk = others.0 (λ e. omega arith) in
-    let postings = others.1.1.0 (λ e. omega arith) in
-    let payments = others.1.1.1.0 (λ e. omega arith) in
-    let marks = others.1.1.1.1.0 (λ e. omega arith) in
-    λ i. record { desk = desk i; participants = here i; postings = postings i; payments = payments i; marks = marks i }
-
 abbrev pub participant_given : Participant → Row
 participant_given p = Text p.code ∷ Text p.name ∷ Blob p.key ∷ Int (pos p.credit) ∷ []
 
@@ -80,10 +70,13 @@ edit : (trees : Trees) (p : Participant) → edited trees (edit_of trees (partic
     ≡ put_row (participant_row (next_rowid (trees 1)) p (pos 0)) (trees 1)
 edit trees p = rw (cast_null, cast_int (pos p.credit), cast_int (pos 0))
 
-adds : NextRowIsAbove → (was : Database) (content : Content) (old new : State) (p : Participant) (count : ℕ)
-    → Stands was content old → IsInOrder content → ExecutesInside 0 participant_text (participant_given p) old new
-    (Ok count) → Stands was (with_change content (AddParticipant p)) new
-adds above was content old new p count stands order h =
+pub adds_participant : NextRowIsAbove → (was : Database) (content : Content) (old new : State) (p : Participant)
+    (r : Result ℕ Error) (values : Row) → values ≡ participant_given p → Stands was content old → IsInOrder content
+    → ExecutesInside 0 participant_text values old new r → OnOk r
+    (Stands was (with_change content (AddParticipant p)) new)
+adds_participant above was content old new p (Err e) values same stands order h = tt
+adds_participant above was content old new p (Ok count) values same stands order given =
+    let h = subst (λ all. ExecutesInside 0 participant_text all old new (Ok count)) same given in
     let made = inserted participant_text 1 (participant_at 1) plain participant_is_plain old new (participant_given p)
     count stands.schema h.0 terms 6 is in
     let here : old.now.trees 1 ≡ map holding_row content.holdings =
@@ -93,18 +86,9 @@ adds above was content old new p count stands order h =
     made.rows ∙ edit old.now.trees p ∙ ap (λ rows. put_row (participant_row (next_rowid rows) p (pos 0)) rows) here
     ∙ put_last holding_row (λ q. q.id) (λ _. refl) fresh content.holdings (above content.holdings order.ids) in
     stands_on was old new content (with_change content (AddParticipant p)) stands h.1 made.schema made.sound
-    (participant_frame old.now.trees new.now.trees _ made.frame rows
+    (framed 1 old.now.trees new.now.trees _ made.frame rows
     ∙ ap (λ (t : Tables). record t { participants = map holding_row (content.holdings ++ fresh ∷ []) })
     stands.holds.rows)
-
-pub adds_participant : NextRowIsAbove → (was : Database) (content : Content) (old new : State) (p : Participant)
-    (r : Result ℕ Error) (values : Row) → values ≡ participant_given p → Stands was content old → IsInOrder content
-    → ExecutesInside 0 participant_text values old new r → OnOk r
-    (Stands was (with_change content (AddParticipant p)) new)
-adds_participant above was content old new p (Err e) values same stands order h = tt
-adds_participant above was content old new p (Ok count) values same stands order h =
-    adds above was content old new p count stands order (subst
-    (λ all. ExecutesInside 0 participant_text all old new (Ok count)) same h)
 
 -- ---- what a code names
 
@@ -177,10 +161,13 @@ module _ (code : List ℕ) (balance : ℤ) where
       one_permutation _ rows (rw it.passed at same) in
       rw (one, cast_int it.one.id, cast_int (pos it.one.participant.credit), cast_int balance, are) it.put
 
-  balance_sets : (was : Database) (content : Content) (old new : State) (count : ℕ) → Stands was content old
-      → IsInOrder content → ExecutesInside 0 balance_text balance_given old new (Ok count)
-      → Stands was (with_change content (SetBalance code balance)) new
-  balance_sets was content old new count stands order h =
+  pub sets_balance : (was : Database) (content : Content) (old new : State) (r : Result ℕ Error) (values : Row)
+      → values ≡ balance_given → Stands was content old → IsInOrder content
+      → ExecutesInside 0 balance_text values old new r → OnOk r
+      (Stands was (with_change content (SetBalance code balance)) new)
+  sets_balance was content old new (Err e) values same stands order h = tt
+  sets_balance was content old new (Ok count) values same stands order given =
+      let h = subst (λ all. ExecutesInside 0 balance_text all old new (Ok count)) same given in
       let all = content.holdings in
       let made = updated balance_text 1 (participant_at 1) balance_plain participant_is_plain old new balance_given
       count stands.schema h.0 1 tests balance_project balance_is in
@@ -195,18 +182,9 @@ module _ (code : List ℕ) (balance : ℤ) where
       (subst (λ f. IsPermutation (map (shows balance_project balance_given) f) made.0) passed made.1) in
       stands_on was old new content (with_change content (SetBalance code balance)) stands h.1 made.2.schema
       made.2.sound
-      (participant_frame old.now.trees new.now.trees _ made.2.frame rows
+      (framed 1 old.now.trees new.now.trees _ made.2.frame rows
       ∙ ap (λ (t : Tables). record t { participants = map holding_row (map (with_balance_in code balance) all) })
       stands.holds.rows)
-
-  pub sets_balance : (was : Database) (content : Content) (old new : State) (r : Result ℕ Error) (values : Row)
-      → values ≡ balance_given → Stands was content old → IsInOrder content
-      → ExecutesInside 0 balance_text values old new r → OnOk r
-      (Stands was (with_change content (SetBalance code balance)) new)
-  sets_balance was content old new (Err e) values same stands order h = tt
-  sets_balance was content old new (Ok count) values same stands order h =
-      balance_sets was content old new count stands order (subst
-      (λ all. ExecutesInside 0 balance_text all old new (Ok count)) same h)
 
 -- ---- the credit limit
 
@@ -246,10 +224,13 @@ module _ (code : List ℕ) (credit : ℕ) where
       one_permutation _ rows (rw it.passed at same) in
       rw (one, cast_int it.one.id, cast_int (pos credit), cast_int it.one.balance, are) it.put
 
-  credit_sets : (was : Database) (content : Content) (old new : State) (count : ℕ) → Stands was content old
-      → IsInOrder content → ExecutesInside 0 credit_text credit_given old new (Ok count)
-      → Stands was (with_change content (SetCredit code credit)) new
-  credit_sets was content old new count stands order h =
+  pub sets_credit : (was : Database) (content : Content) (old new : State) (r : Result ℕ Error) (values : Row)
+      → values ≡ credit_given → Stands was content old → IsInOrder content
+      → ExecutesInside 0 credit_text values old new r → OnOk r
+      (Stands was (with_change content (SetCredit code credit)) new)
+  sets_credit was content old new (Err e) values same stands order h = tt
+  sets_credit was content old new (Ok count) values same stands order given =
+      let h = subst (λ all. ExecutesInside 0 credit_text all old new (Ok count)) same given in
       let all = content.holdings in
       let made = updated credit_text 1 (participant_at 1) credit_plain participant_is_plain old new credit_given count
       stands.schema h.0 1 tests credit_project credit_is in
@@ -263,15 +244,6 @@ module _ (code : List ℕ) (credit : ℕ) where
       made.2.rows ∙ credit_edit old.now.trees all made.0 here found
       (subst (λ f. IsPermutation (map (shows credit_project credit_given) f) made.0) passed made.1) in
       stands_on was old new content (with_change content (SetCredit code credit)) stands h.1 made.2.schema made.2.sound
-      (participant_frame old.now.trees new.now.trees _ made.2.frame rows
+      (framed 1 old.now.trees new.now.trees _ made.2.frame rows
       ∙ ap (λ (t : Tables). record t { participants = map holding_row (map (with_credit_in code credit) all) })
       stands.holds.rows)
-
-  pub sets_credit : (was : Database) (content : Content) (old new : State) (r : Result ℕ Error) (values : Row)
-      → values ≡ credit_given → Stands was content old → IsInOrder content
-      → ExecutesInside 0 credit_text values old new r → OnOk r
-      (Stands was (with_change content (SetCredit code credit)) new)
-  sets_credit was content old new (Err e) values same stands order h = tt
-  sets_credit was content old new (Ok count) values same stands order h =
-      credit_sets was content old new count stands order (subst
-      (λ all. ExecutesInside 0 credit_text all old new (Ok count)) same h)

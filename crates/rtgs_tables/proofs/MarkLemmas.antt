@@ -1,6 +1,5 @@
 -- What an INSERT of a mark does.
 use Rattle.std.proofs.Common.{◌≡◌, ℕ, pos, List, [], ◌∷◌, ◌++◌, map, codes, Ok, Err, Result, OnOk, refl, ap, subst, ◌∙◌}
-use Rattle.std.proofs.Common.{arith}
 use Rattle.std.specs.Ordering.{int_cmp}
 use Rattle.std.specs.declared.cmp.Ordering.TheVariants.{Less}
 use Rattle.sqlite.specs.declared.types.Value.TheVariants.{Null, Int, Text}
@@ -22,13 +21,13 @@ use Rattle.sqlite_tied.specs.Compute.{everything}
 use Rattle.rtgs_tables.proofs.Casts.{cast_null, cast_int}
 use Rattle.rtgs_tables.proofs.Lists.{put_last, before_last}
 use Rattle.rtgs_tables.proofs.Steps.{IsPlainTable}
-use Rattle.rtgs_tables.proofs.StateLemmas.{desk_over, frame_but, stands_on}
+use Rattle.rtgs_tables.proofs.StateLemmas.{desk_over, framed, stands_on}
 use Rattle.rtgs_tables.proofs.Writing.{inserted}
 use Rattle.rtgs_book.specs.declared.Mark.{Mark}
 use Rattle.rtgs_book.specs.declared.RowChange.TheVariants.{AddMark}
 use Rattle.rtgs_money.specs.Date.{date_text}
 use Rattle.rtgs_rows.specs.Rows.{mark_row}
-use Rattle.rtgs_rows.specs.Content.{Tables, Content, tables_of, Stands, IsInOrder, with_change}
+use Rattle.rtgs_rows.specs.Content.{Tables, Content, Stands, IsInOrder, with_change}
 use Rattle.rtgs_rows.specs.Tables.{desk_schema, mark_at}
 
 abbrev pub mark_text : List ℕ
@@ -49,22 +48,6 @@ mark_is_plain : (trees : Trees) (mode : Mode) → IsPlainTable (desk_over trees)
 unfolding desk_schema
 mark_is_plain trees mode = record { place = refl; uncounted = refl; still = λ _ _. refl }
 
-mark_frame : (old new : Trees) (rows : List Row) → frame_but 8 old new → new 8 ≡ rows
-    → tables_of new ≡ record (tables_of old) { marks = rows }
-unfolding desk_schema
-mark_frame old new rows others here =
-    let desk = others.0 (λ e. omega arith) in
-    let participants = others.1.0 (λ e. omega arith) in
-    let postings = others.1.1.0 (λ e. omega arith) in
-    let payments = others.1.1.1.0 (λ e. omega arith) in
-    λ i. record {
-      desk = desk i;
-      participants = participants i;
-      postings = postings i;
-      payments = payments i;
-      marks = here i;
-    }
-
 abbrev pub mark_given : Mark → Row
 mark_given m = Int (pos m.number) ∷ Text (date_text m.date) ∷ Int (pos m.count) ∷ Int m.value ∷ []
 
@@ -72,10 +55,12 @@ edit : (trees : Trees) (m : Mark) → edited trees (edit_of trees (mark_at 8) []
     (value_rows (stamped (mark_at 8) (mark_given m)) 5 1 terms)) ≡ put_row (mark_row m) (trees 8)
 edit trees m = rw (cast_int (pos m.number), cast_null, cast_int (pos m.count), cast_int m.value)
 
-adds : (was : Database) (content : Content) (old new : State) (m : Mark) (count : ℕ) → Stands was content old
-    → IsInOrder (with_change content (AddMark m)) → ExecutesInside 0 mark_text (mark_given m) old new (Ok count)
-    → Stands was (with_change content (AddMark m)) new
-adds was content old new m count stands order h =
+pub adds_mark : (was : Database) (content : Content) (old new : State) (m : Mark) (r : Result ℕ Error) (values : Row)
+    → values ≡ mark_given m → Stands was content old → IsInOrder (with_change content (AddMark m))
+    → ExecutesInside 0 mark_text values old new r → OnOk r (Stands was (with_change content (AddMark m)) new)
+adds_mark was content old new m (Err e) values same stands order h = tt
+adds_mark was content old new m (Ok count) values same stands order given =
+    let h = subst (λ all. ExecutesInside 0 mark_text all old new (Ok count)) same given in
     let made = inserted mark_text 4 (mark_at 8) plain mark_is_plain old new (mark_given m) count stands.schema h.0 terms
     5 is in
     let here : old.now.trees 8 ≡ map mark_row content.marks = ap (λ (t : Tables). t.marks) stands.holds.rows in
@@ -84,13 +69,5 @@ adds was content old new m count stands order h =
     made.rows ∙ edit old.now.trees m ∙ ap (put_row (mark_row m)) here
     ∙ put_last mark_row (λ q. pos q.number) (λ _. refl) m content.marks low in
     stands_on was old new content (with_change content (AddMark m)) stands h.1 made.schema made.sound
-    (mark_frame old.now.trees new.now.trees _ made.frame rows
+    (framed 8 old.now.trees new.now.trees _ made.frame rows
     ∙ ap (λ (t : Tables). record t { marks = map mark_row (content.marks ++ m ∷ []) }) stands.holds.rows)
-
-pub adds_mark : (was : Database) (content : Content) (old new : State) (m : Mark) (r : Result ℕ Error) (values : Row)
-    → values ≡ mark_given m → Stands was content old → IsInOrder (with_change content (AddMark m))
-    → ExecutesInside 0 mark_text values old new r → OnOk r (Stands was (with_change content (AddMark m)) new)
-adds_mark was content old new m (Err e) values same stands order h = tt
-adds_mark was content old new m (Ok count) values same stands order h =
-    adds was content old new m count stands order (subst (λ all. ExecutesInside 0 mark_text all old new (Ok count)) same
-    h)

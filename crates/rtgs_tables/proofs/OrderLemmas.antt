@@ -1,6 +1,6 @@
 -- What the statements on orders do.
 use Rattle.std.proofs.Common.{◌≡◌, ◌⊎◌, inl, inr, ℕ, pos, ◌==◌, List, [], ◌∷◌, ◌++◌, map, filter, codes, true, false}
-use Rattle.std.proofs.Common.{Ok, Err, Result, OnOk, eqb-true, refl, sym, ap, subst, ◌∙◌, arith}
+use Rattle.std.proofs.Common.{Ok, Err, Result, OnOk, eqb-true, refl, sym, ap, subst, ◌∙◌}
 use Rattle.std.specs.List.{AllByRecursion}
 use Rattle.std.specs.List.Sorted.{IsPermutation}
 use Rattle.std.specs.Ordering.{int_cmp}
@@ -36,7 +36,7 @@ use Rattle.rtgs_tables.proofs.Lists.{put_last, before_last}
 use Rattle.rtgs_tables.proofs.Steps.{IsPlainTable}
 use Rattle.rtgs_tables.proofs.Queries.{simple, passes, shows}
 use Rattle.rtgs_tables.proofs.Replacing.{Replaces, replaces}
-use Rattle.rtgs_tables.proofs.StateLemmas.{desk_over, frame_but, stands_on}
+use Rattle.rtgs_tables.proofs.StateLemmas.{desk_over, framed, stands_on}
 use Rattle.rtgs_tables.proofs.Writing.{inserted, updated}
 use Rattle.rtgs_tables.proofs.Passing.{none_moved, truth_of, same_number, filter_map}
 use Rattle.rtgs_book.specs.declared.Order.{Order}
@@ -46,7 +46,7 @@ use Rattle.rtgs_book.specs.Settle.{restated}
 use Rattle.rtgs_book.specs.Commands.{has_number}
 use Rattle.rtgs_money.specs.Date.{date_text}
 use Rattle.rtgs_rows.specs.Rows.{mark_value, state_number, payment_row}
-use Rattle.rtgs_rows.specs.Content.{Tables, Content, tables_of, Stands, IsInOrder, with_change}
+use Rattle.rtgs_rows.specs.Content.{Tables, Content, Stands, IsInOrder, with_change}
 use Rattle.rtgs_rows.specs.Tables.{desk_schema, payment_at}
 
 abbrev pub order_text : List ℕ
@@ -68,22 +68,6 @@ payment_is_plain : (trees : Trees) (mode : Mode) → IsPlainTable (desk_over tre
 unfolding desk_schema
 payment_is_plain trees mode = record { place = refl; uncounted = refl; still = λ _ _. refl }
 
-payment_frame : (old new : Trees) (rows : List Row) → frame_but 6 old new → new 6 ≡ rows
-    → tables_of new ≡ record (tables_of old) { payments = rows }
-unfolding desk_schema
-payment_frame old new rows others here =
-    let desk = others.0 (λ e. omega arith) in
-    let participants = others.1.0 (λ e. omega arith) in
-    let postings = others.1.1.0 (λ e. omega arith) in
-    let marks = others.1.1.1.1.0 (λ e. omega arith) in
-    λ i. record {
-      desk = desk i;
-      participants = participants i;
-      postings = postings i;
-      payments = here i;
-      marks = marks i;
-    }
-
 abbrev params : Order → Row
 params o = Int (pos o.number) ∷ Text o.sender ∷ Text o.reference ∷ Text o.receiver ∷ Int (pos o.amount)
     ∷ Int (pos (state_number o.state)) ∷ mark_value o.state ∷ Text (date_text o.date) ∷ []
@@ -98,22 +82,6 @@ edit trees o = rw (
   cast_mark o.state,
 )
 
-adds : (was : Database) (content : Content) (old new : State) (o : Order) (count : ℕ) → Stands was content old
-    → IsInOrder (with_change content (AddOrder o)) → ExecutesInside 0 order_text (params o) old new (Ok count)
-    → Stands was (with_change content (AddOrder o)) new
-adds was content old new o count stands order h =
-    let made = inserted order_text 3 (payment_at 6) plain payment_is_plain old new (params o) count stands.schema h.0
-    terms 9 is in
-    let here : old.now.trees 6 ≡ map payment_row content.orders = ap (λ (t : Tables). t.payments) stands.holds.rows in
-    let low = before_last (λ (a b : Order). int_cmp (pos a.number) (pos b.number) ≡ Less) content.orders o order.orders
-    in
-    let rows : new.now.trees 6 ≡ map payment_row (content.orders ++ o ∷ []) =
-    made.rows ∙ edit old.now.trees o ∙ ap (put_row (payment_row o)) here
-    ∙ put_last payment_row (λ q. pos q.number) (λ _. refl) o content.orders low in
-    stands_on was old new content (with_change content (AddOrder o)) stands h.1 made.schema made.sound
-    (payment_frame old.now.trees new.now.trees _ made.frame rows
-    ∙ ap (λ (t : Tables). record t { payments = map payment_row (content.orders ++ o ∷ []) }) stands.holds.rows)
-
 abbrev pub order_given : Order → Row
 order_given o = Int (pos o.number) ∷ Text o.sender ∷ Text o.reference ∷ Text o.receiver ∷ Int (pos o.amount)
     ∷ Int (pos (state_number o.state)) ∷ bound_value (mark_value o.state) ∷ Text (date_text o.date) ∷ []
@@ -126,9 +94,19 @@ pub adds_order : (was : Database) (content : Content) (old new : State) (o : Ord
     → values ≡ order_given o → Stands was content old → IsInOrder (with_change content (AddOrder o))
     → ExecutesInside 0 order_text values old new r → OnOk r (Stands was (with_change content (AddOrder o)) new)
 adds_order was content old new o (Err e) values same stands order h = tt
-adds_order was content old new o (Ok count) values same stands order h =
-    adds was content old new o count stands order (subst (λ all. ExecutesInside 0 order_text all old new (Ok count))
-    (same ∙ given_is o) h)
+adds_order was content old new o (Ok count) values same stands order given =
+    let h = subst (λ all. ExecutesInside 0 order_text all old new (Ok count)) (same ∙ given_is o) given in
+    let made = inserted order_text 3 (payment_at 6) plain payment_is_plain old new (params o) count stands.schema h.0
+    terms 9 is in
+    let here : old.now.trees 6 ≡ map payment_row content.orders = ap (λ (t : Tables). t.payments) stands.holds.rows in
+    let low = before_last (λ (a b : Order). int_cmp (pos a.number) (pos b.number) ≡ Less) content.orders o order.orders
+    in
+    let rows : new.now.trees 6 ≡ map payment_row (content.orders ++ o ∷ []) =
+    made.rows ∙ edit old.now.trees o ∙ ap (put_row (payment_row o)) here
+    ∙ put_last payment_row (λ q. pos q.number) (λ _. refl) o content.orders low in
+    stands_on was old new content (with_change content (AddOrder o)) stands h.1 made.schema made.sound
+    (framed 6 old.now.trees new.now.trees _ made.frame rows
+    ∙ ap (λ (t : Tables). record t { payments = map payment_row (content.orders ++ o ∷ []) }) stands.holds.rows)
 
 -- ---- the state of one order
 
@@ -209,10 +187,17 @@ module _ (number : ℕ) (state : OrderState) where
         are,
       ) it.put
 
-  sets : (was : Database) (content : Content) (old new : State) (count : ℕ) → Stands was content old → IsInOrder content
-      → ExecutesInside 0 set_state_text state_params old new (Ok count)
-      → Stands was (with_change content (SetState number state)) new
-  sets was content old new count stands order h =
+  abbrev pub state_given : Row
+  state_given = Int (pos number) ∷ Int (pos (state_number state)) ∷ bound_value (mark_value state) ∷ []
+
+  pub sets_state : (was : Database) (content : Content) (old new : State) (r : Result ℕ Error) (values : Row)
+      → values ≡ state_given → Stands was content old → IsInOrder content
+      → ExecutesInside 0 set_state_text values old new r → OnOk r
+      (Stands was (with_change content (SetState number state)) new)
+  sets_state was content old new (Err e) values same stands order h = tt
+  sets_state was content old new (Ok count) values same stands order given =
+      let h = subst (λ all. ExecutesInside 0 set_state_text all old new (Ok count)) (same ∙ ap (λ mark. Int (pos
+      number) ∷ Int (pos (state_number state)) ∷ mark ∷ []) (bound_mark state)) given in
       let all = content.orders in
       let made = updated set_state_text 3 (payment_at 6) set_state_plain payment_is_plain old new state_params count
       stands.schema h.0 6 tests project set_state_is in
@@ -227,19 +212,6 @@ module _ (number : ℕ) (state : OrderState) where
       made.2.rows ∙ state_edit old.now.trees all made.0 here found
       (subst (λ f. IsPermutation (map (shows project state_params) f) made.0) passed made.1) in
       stands_on was old new content (with_change content (SetState number state)) stands h.1 made.2.schema made.2.sound
-      (payment_frame old.now.trees new.now.trees _ made.2.frame rows
+      (framed 6 old.now.trees new.now.trees _ made.2.frame rows
       ∙ ap (λ (t : Tables). record t { payments = map payment_row (map (restated (has_number number) state) all) })
       stands.holds.rows)
-
-  abbrev pub state_given : Row
-  state_given = Int (pos number) ∷ Int (pos (state_number state)) ∷ bound_value (mark_value state) ∷ []
-
-  pub sets_state : (was : Database) (content : Content) (old new : State) (r : Result ℕ Error) (values : Row)
-      → values ≡ state_given → Stands was content old → IsInOrder content
-      → ExecutesInside 0 set_state_text values old new r → OnOk r
-      (Stands was (with_change content (SetState number state)) new)
-  sets_state was content old new (Err e) values same stands order h = tt
-  sets_state was content old new (Ok count) values same stands order h =
-      sets was content old new count stands order
-      (subst (λ all. ExecutesInside 0 set_state_text all old new (Ok count))
-      (same ∙ ap (λ mark. Int (pos number) ∷ Int (pos (state_number state)) ∷ mark ∷ []) (bound_mark state)) h)

@@ -12,9 +12,7 @@ use Rattle.sqlite_syntax.specs.declared.statement.Parsed.{Parsed}
 use Rattle.sqlite_resolve.specs.declared.compiled.Compiled.{Compiled}
 use Rattle.sqlite_resolve.specs.Lowering.{Checked, and_then}
 use Rattle.sqlite_resolve.specs.Compile.{first, command, returning, timed, meaning, planned, with_command, compiled}
-use Rattle.sqlite_tied.specs.Compute.{everything}
 use Rattle.rtgs_tables.specs.Answering.{Returnless}
-use Rattle.rtgs_tables.specs.Displaying.{desk_text, participants_text, postings_text, payments_text, marks_text}
 
 -- what comes of a step that went well
 pub stepped : {A B : Type 0} (r : Checked A) (next : A → Checked B) (b : B) → and_then r next ≡ Ok b
@@ -68,25 +66,3 @@ unfolding CommitsShowing
 commits_nothing text params s db is h =
     let none = understood_none s.now.schema text h.0 is h.1.is in
     absurd (let clash = subst IsSome none h.2 in cc)
-
--- ---- the five queries
-
-pub desk_reads : Returnless (first desk_text)
-unfolding everything
-desk_reads schema base = refl
-
-pub participants_read : Returnless (first participants_text)
-unfolding everything
-participants_read schema base = refl
-
-pub postings_read : Returnless (first postings_text)
-unfolding everything
-postings_read schema base = refl
-
-pub payments_read : Returnless (first payments_text)
-unfolding everything
-payments_read schema base = refl
-
-pub marks_read : Returnless (first marks_text)
-unfolding everything
-marks_read schema base = refl

@@ -2,17 +2,15 @@
 use Rattle.std.proofs.Common.{◌≡◌, ◌⊎◌, inl, inr, ℕ, List, length, Option, [], IfErr, Ok, Err, Result, sym, ap, subst}
 use Rattle.std.proofs.Common.{◌∙◌, arith, true, false, subst₂, true≢false, append-nil}
 use Rattle.sqlite.specs.Order.{Row}
-use Rattle.sqlite.specs.Schema.{Schema}
 use Rattle.sqlite_trees.specs.declared.error.StoreError.{StoreError}
 use Rattle.sqlite_trees.specs.declared.error.StoreError.TheVariants.{OutOfMemory, Io, Corrupt, Full, Broken, Unstorable}
 use Rattle.sqlite_schema.specs.declared.program.Program.{Program}
 use Rattle.sqlite_schema.specs.declared.command.Command.{Command}
 use Rattle.sqlite.specs.Command.TheVariants.{Select}
-use Rattle.sqlite_resolve.specs.declared.compiled.Compiled.{Compiled}
 use Rattle.sqlite_resolve.specs.declared.error.CompileError.{CompileError}
 use Rattle.sqlite.specs.declared.error.Error.{Error}
 use Rattle.sqlite.specs.declared.error.Error.TheVariants.{SqlInputError}
-use Rattle.sqlite.specs.Listing.{understood, reads_listing, IsSourceOf}
+use Rattle.sqlite.specs.Listing.{reads_listing, IsSourceOf}
 use Rattle.sqlite_typing.specs.Types.{accepts_program}
 use Rattle.sqlite_schema.specs.Program.{lets_of}
 use Rattle.sqlite_sql.specs.Program.{ProgramOverflows}
@@ -21,21 +19,7 @@ use Rattle.sqlite.specs.State.{State, Fails, IsUnchanged, IsRolledBack, IsNotRun
 use Rattle.sqlite.specs.State.{FailsToShow, store_error}
 use Rattle.sqlite.proofs.Callers.{IsPlain, command_of}
 use Rattle.rtgs_tables.specs.Faults.{IsOfStore}
-
-abbrev pub tail_of : Result Compiled CompileError → ℕ
-tail_of (Ok c) = c.tail
-tail_of (Err e) = 0
-
-abbrev pub count_of : Result Compiled CompileError → ℕ
-count_of (Ok c) = length c.names
-count_of (Err e) = 0
-
--- the text is one query, with so many parameters
-pub record Asks (schema : Schema) (sql : List ℕ) (count : ℕ) (q : Program) (names : List (List ℕ)) : Type 0 where
-  pub command : command_of (understood schema sql) ≡ Select q names
-  pub plain : IsPlain (understood schema sql)
-  pub whole : tail_of (understood schema sql) ≡ length sql
-  pub given : count_of (understood schema sql) ≡ count
+pub use Rattle.rtgs_tables.specs.TableQueries.{tail_of, count_of, Asks}
 
 pub told : (cause : StoreError) → IsOfStore (store_error cause)
 told OutOfMemory = tt

@@ -1,15 +1,13 @@
--- What a query of one whole table shows, and what it leaves.
+-- What the query of one whole table shows, and what it leaves.
 use Rattle.std.proofs.Common.{◌≡◌, ◌⊎◌, inl, inr, ℕ, ℤ, List, [], ◌∷◌, map, filter, true, false, Ok, Err, Result}
-use Rattle.std.proofs.Common.{IsTrue, IfOk, IfErr, OnOk, Vec, Global, refl, sym, ap, subst, ◌∙◌}
+use Rattle.std.proofs.Common.{Option, None, cond, unwrap_or, nat_le, ◌^◌, IsTrue, IfOk, IfErr, OnOk, Vec, Global, refl}
+use Rattle.std.proofs.Common.{sym, ap, subst, ◌∙◌}
 use Rattle.std.specs.List.Sorted.{IsPermutation}
 use Rattle.std.proofs.lemmas.List.Sorted.{IsPermutation-trans}
 use Rattle.std.specs.declared.cmp.Ordering.TheVariants.{Less}
-use Rattle.sqlite_value.specs.declared.keys.Key.{Key}
-use Rattle.sqlite.specs.Collation.TheVariants.{Binary}
 use Rattle.sqlite.specs.declared.types.Value.TheVariants.{Null}
 use Rattle.sqlite.specs.declared.error.Error.{Error}
-use Rattle.sqlite.specs.Order.{Row}
-use Rattle.sqlite.specs.Term.{Term, col}
+use Rattle.sqlite.specs.Order.{Row, column}
 use Rattle.sqlite.specs.Query.{Query, output, Output}
 use Rattle.sqlite_sql.specs.Query.{output_cmp}
 use Rattle.sqlite_sql.specs.Program.{overlay}
@@ -19,15 +17,23 @@ use Rattle.sqlite_keyed.proofs.ListLemmas.{ascending-map, ascending_weaker, map-
 use Rattle.std.specs.Ordering.{int_cmp}
 use Rattle.sqlite.specs.Tree.{Trees, IsAscending}
 use Rattle.sqlite.specs.Effect.{Database}
-use Rattle.sqlite.specs.State.{State, Shown, FailsToQuery, IsUnchanged, IsRolledBack}
+use Rattle.sqlite.specs.State.{State, Shown, IsUnchanged, IsRolledBack}
 use Rattle.sqlite.proofs.Callers.{reads_as, IsPlain}
-use Rattle.sqlite.specs.Listing.{understood, reads_listing}
+use Rattle.sqlite.specs.Listing.{reads_listing}
 use Rattle.sqlite_typing.specs.Types.{accepts_program}
+use Rattle.rtgs_book.specs.declared.Book.{Book}
+use Rattle.rtgs_book.specs.declared.account.Account.{Account}
 use Rattle.rtgs_rows.specs.Tables.{desk_schema}
-use Rattle.rtgs_rows.specs.Querying.{IsDeskFile}
+use Rattle.rtgs_rows.specs.Content.{Content, Rests, tables_of}
+use Rattle.rtgs_rows.specs.Querying.{IsDeskFile, picked}
+use Rattle.rtgs_tables.specs.Accounts.{AreRead}
+use Rattle.rtgs_tables.specs.Answering.{FailsAmid}
 use Rattle.rtgs_tables.specs.Faults.{IsOfStore}
-use Rattle.rtgs_tables.proofs.Refusals.{Asks, of_store, intact}
-use Rattle.rtgs_tables.proofs.Queries.{simple, passes, shows, sorts, moved, overflows_never}
+use Rattle.rtgs_tables.specs.TableQueries.{TableQuery, IsTableQuery, Asks, Sorts, ShowsOwn, whole_table, shown_columns}
+use Rattle.rtgs_tables.specs.TableQueries.{rising_by}
+use Rattle.rtgs_tables.proofs.Refusals.{of_store, intact}
+use Rattle.rtgs_tables.proofs.Resting.{file_of}
+use Rattle.rtgs_tables.proofs.Queries.{passes, shows, sorts, moved, overflows_never}
 
 -- the tables are kept, where the connection stays open
 pub file_on : (trees : Trees) (old new : State) → IsDeskFile trees old → IsUnchanged old new ⊎ IsRolledBack old new
@@ -45,104 +51,106 @@ file_on trees old new file (inr back) alive = record {
   clean = (back.undone alive).0 ∙ sym (back.undone alive).1;
 }
 
-abbrev pub first_up : Term × Key
-first_up = (col 1 0, record { collation = Binary; descending = false })
-
--- the text is this query of a table
-pub record Selects (text : List ℕ) (tree : ℕ) (project : List Term) (order : Term × Key) (names : List (List ℕ)) : Type
-    0 where
-  pub asks : Asks desk_schema text 0 (record { lets = []; body = simple tree [] project (order ∷ []) }) names
-  pub unlisted : reads_listing desk_schema text ≡ false
-  pub typed : accepts_program desk_schema [] (simple tree [] project (order ∷ [])) [] ≡ true
-
 all_pass : (rows : List Row) → filter (passes [] []) rows ≡ rows
 all_pass [] = refl
 all_pass (r ∷ rows) = ap (λ more. r ∷ more) (all_pass rows)
 
-module _ (text : List ℕ) (tree : ℕ) (project : List Term) (order : Term × Key) (names : List (List ℕ))
-    (is : Selects text tree project order names) (old new : State) (trees : Trees) (file : IsDeskFile trees old) where
-  abbrev query : Query
-  query = simple tree [] project (order ∷ [])
+shows_places : (places : List ℕ) (row : Row) → shows (shown_columns places) [] row ≡ picked places row
+shows_places [] row = refl
+shows_places (place ∷ places) row = ap (λ (more : Row). column row place ∷ more) (shows_places places row)
 
+-- no table of a query stands in place of one that is stored
+none_given : (trees : Trees) (tree : ℕ) → overlay trees [] tree ≡ trees tree
+none_given trees tree = elim (nat_le (2 ^ 31) tree) as (λ b. unwrap_or (cond {A = Option (List Row)} b None None)
+    (trees tree) ≡ trees tree) [ true ↦ refl | false ↦ refl ]
+
+module _ (t : TableQuery) (is : IsTableQuery t) (old new : State) (trees : Trees) (file : IsDeskFile trees old) where
   schema_is : old.now.schema ≡ desk_schema
   schema_is = ap (λ (d : Database). d.schema) file.clean ∙ file.schema
 
-  asked : Asks old.now.schema text 0 (record { lets = []; body = query }) names
-  asked = subst (λ k. Asks k text 0 (record { lets = []; body = simple tree [] project (order ∷ []) }) names)
-      (sym schema_is) is.asks
+  asked : Asks old.now.schema t.text 0 (record { lets = []; body = whole_table t }) t.names
+  asked = subst (λ k. Asks k t.text 0 (record { lets = []; body = whole_table t }) t.names) (sym schema_is) is.asks
 
-  plain : IsPlain (understood old.now.schema text)
-  plain = subst (λ s. IsPlain (understood s text)) (sym schema_is) is.asks.plain
-
-  unchanged : (rows : List Row) → Shown text [] old new rows → IsUnchanged old new
+  unchanged : (rows : List Row) → Shown t.text [] old new rows → IsUnchanged old new
   unfolding Shown
   unchanged rows h =
-      let bare = subst IsPlain h.1.is plain in
+      let bare = subst IsPlain h.1.is asked.plain in
       let it = rw bare.0 at h.2 in
       it.3
 
-  pub refused : (r : Result (Vec Row Global) Error) → IfErr r (FailsToQuery text [] old new) → IfErr r IsOfStore
+  pub refused : (r : Result (Vec Row Global) Error) → IfErr r (FailsAmid t.text old new) → IfErr r IsOfStore
   refused (Ok rows) h = tt
-  refused (Err e) h = of_store text [] old new _ names asked e
-      (subst (λ s. reads_listing s text ≡ false) (sym schema_is) is.unlisted)
-      (subst (λ s. accepts_program s [] query [] ≡ true) (sym schema_is) is.typed)
-      (overflows_never tree project (order ∷ []) (overlay old.now.trees []) []) h
+  refused (Err e) (inl early) = of_store t.text [] old new _ t.names asked e
+      (subst (λ s. reads_listing s t.text ≡ false) (sym schema_is) is.unlisted)
+      (subst (λ s. accepts_program s [] (whole_table t) [] ≡ true) (sym schema_is) is.typed)
+      (overflows_never t.tree (shown_columns t.places) (rising_by t.key) (overlay old.now.trees []) []) early
+  refused (Err e) (inr memory) = subst IsOfStore (sym memory.0) tt
 
-  pub intact_after : (r : Result (Vec Row Global) Error) → IfOk r (λ rows. Shown text [] old new rows.items)
-      → IfErr r (FailsToQuery text [] old new) → IsTrue new.is_open → IsDeskFile trees new
+  pub intact_after : (r : Result (Vec Row Global) Error) → IfOk r (λ rows. Shown t.text [] old new rows.items)
+      → IfErr r (FailsAmid t.text old new) → IsTrue new.is_open → IsDeskFile trees new
   intact_after (Ok rows) shown failed alive = file_on trees old new file (inl (unchanged rows.items shown)) alive
-  intact_after (Err e) shown failed alive = file_on trees old new file (intact text [] old new _ names asked e failed)
-      alive
+  intact_after (Err e) shown (inl early) alive =
+      file_on trees old new file (intact t.text [] old new _ t.names asked e early) alive
+  intact_after (Err e) shown (inr memory) alive = file_on trees old new file (inl memory.1) alive
 
-  pub kept_after : (r : Result (Vec Row Global) Error) → IfOk r (λ rows. Shown text [] old new rows.items)
+  pub kept_after : (r : Result (Vec Row Global) Error) → IfOk r (λ rows. Shown t.text [] old new rows.items)
       → OnOk r (IsDeskFile trees new)
   kept_after (Ok rows) shown = let same = unchanged rows.items shown
       in file_on trees old new file (inl same) same.0.is_open
   kept_after (Err e) shown = tt
 
+  sorted : (rows : List Row) → Shown t.text [] old new rows
+      → Sorts (whole_table t) [] (old.now.trees t.tree) rows
+  sorted rows h =
+      let read = reads_as t.text [] old new desk_schema schema_is _ is.asks.command is.asks.plain is.unlisted rows h in
+      subst (λ passed. Sorts (whole_table t) [] passed rows) (all_pass _ ∙ none_given old.now.trees t.tree)
+      (sorts t.tree [] (shown_columns t.places) (rising_by t.key) _ [] rows (read.answer Null))
+
   -- it shows the columns that it names, of each row of the table
-  pub shows_all : (r : Result (Vec Row Global) Error) → overlay old.now.trees [] tree ≡ trees tree
-      → IfOk r (λ rows. Shown text [] old new rows.items) → IfOk r
-      (λ rows. IsPermutation (map (shows project []) (trees tree)) rows.items)
-  shows_all (Err e) here h = tt
-  shows_all (Ok rows) here h =
-      let read = reads_as text [] old new desk_schema schema_is _ is.asks.command is.asks.plain is.unlisted rows.items h
-      in
-      subst (λ all. IsPermutation (map (shows project []) all) rows.items) (all_pass _ ∙ here)
-      (moved query [] _ rows.items (sorts tree [] project (order ∷ []) _ [] rows.items (read.answer Null)))
+  pub shows_all : (r : Result (Vec Row Global) Error) → IfOk r (λ rows. Shown t.text [] old new rows.items)
+      → IfOk r (λ rows. IsPermutation (map (picked t.places) (trees t.tree)) rows.items)
+  shows_all (Err e) h = tt
+  shows_all (Ok rows) h =
+      let here : old.now.trees t.tree ≡ trees t.tree = ap (λ (d : Database). d.trees t.tree) file.clean
+      ∙ ap (λ (all : Trees). all t.tree) file.trees_are in
+      subst (λ all. IsPermutation all rows.items)
+      (map_same (shows (shown_columns t.places) []) (picked t.places) (shows_places t.places) _
+      ∙ ap (map (picked t.places)) here)
+      (moved (whole_table t) [] _ rows.items (sorted rows.items h))
 
-  -- of the rows of the table the query shows these, which rise by what it sorts by
-  pub shown_are : (stored : List Row) → overlay old.now.trees [] tree ≡ stored → (goals : List Output)
-      → IsAscending (λ a b. output_cmp query a b ≡ Less) goals
-      → IsPermutation goals (map (λ r. output query ([] ∷ r ∷ [])) stored)
-      → (rows : List Row) → Shown text [] old new rows → rows ≡ map (λ (o : Output). o.1) goals
-  shown_are stored here goals up same rows h =
-      let read = reads_as text [] old new desk_schema schema_is _ is.asks.command is.asks.plain is.unlisted rows h in
-      let s = sorts tree [] project (order ∷ []) _ [] rows (read.answer Null) in
-      let passed : IsPermutation (map (λ r. output query ([] ∷ r ∷ [])) stored) s.ordered =
-      subst (λ all. IsPermutation (map (λ r. output query ([] ∷ r ∷ [])) all) s.ordered) (all_pass _ ∙ here) s.same
-      in
-      let ordered = sorted_unique (output_cmp query) (output_cmp_total query) goals s.ordered up
-      (IsPermutation-trans _ _ _ same passed) s.sorted in
-      s.shown ∙ ap (map (λ (o : Output). o.1)) ordered
+-- over tables with records, it shows those that a book has of the table
+pub shows_own : {A : Type 0} (t : TableQuery) (is : IsTableQuery t) (fits : A → Type 0) (shown : A → Row)
+    (records : List Account → Book → List A) → ShowsOwn t fits shown records → (old new : State) (content : Content)
+    (accounts : List Account) (book : Book) → Rests content old → AreRead content accounts book
+    → (r : Result (Vec Row Global) Error) → IfOk r (λ rows. Shown t.text [] old new rows.items)
+    → IfOk r (λ rows. rows.items ≡ map shown (records accounts book))
+shows_own t is fits shown records own old new content accounts book rests are (Err e) h = tt
+shows_own t is fits shown records own old new content accounts book rests are (Ok rows) h =
+    (own content accounts book are).1 old.now.trees
+    (ap (λ (d : Database). tables_of d.trees) rests.clean ∙ rests.holds.rows) rows.items
+    (sorted t is old new old.committed.trees (file_of content old rests) rows.items h)
 
--- A table in the order of its row numbers.
-pub numbered : {A : Type 0} (row shown : A → Row) (id : A → ℤ) (text : List ℕ) (tree : ℕ) (project : List Term)
-    (order : Term × Key) (names : List (List ℕ)) (is : Selects text tree project order names)
-    → ((a b : A) → int_cmp (id a) (id b) ≡ Less → output_cmp (simple tree [] project (order ∷ []))
-    (output (simple tree [] project (order ∷ [])) ([] ∷ row a ∷ []))
-    (output (simple tree [] project (order ∷ [])) ([] ∷ row b ∷ [])) ≡ Less)
-    → ((a : A) → (output (simple tree [] project (order ∷ [])) ([] ∷ row a ∷ [])).1 ≡ shown a)
-    → (old new : State) (trees : Trees) (file : IsDeskFile trees old) (all : List A)
-    → IsAscending (λ a b. int_cmp (id a) (id b) ≡ Less) all → overlay old.now.trees [] tree ≡ map row all
-    → (r : Result (Vec Row Global) Error) → IfOk r (λ rows. Shown text [] old new rows.items)
-    → IfOk r (λ rows. rows.items ≡ map shown all)
-numbered row shown id text tree project order names is by shows old new trees file all up here (Err e) h = tt
-numbered {A = A} row shown id text tree project order names is by shows old new trees file all up here (Ok rows) h =
-    let q : Query = simple tree [] project (order ∷ []) in
+-- of the rows of the table the query shows these, which rise by what it sorts by
+pub shown_are : (q : Query) (stored rows : List Row) (goals : List Output)
+    → IsAscending (λ a b. output_cmp q a b ≡ Less) goals
+    → IsPermutation goals (map (λ r. output q ([] ∷ r ∷ [])) stored) → Sorts q [] stored rows
+    → rows ≡ map (λ (o : Output). o.1) goals
+shown_are q stored rows goals up same s = s.shown ∙ ap (map (λ (o : Output). o.1))
+    (sorted_unique (output_cmp q) (output_cmp_total q) goals s.ordered up (IsPermutation-trans _ _ _ same s.same)
+    s.sorted)
+
+-- a table in the order of its row numbers
+pub numbered : {A : Type 0} (t : TableQuery) (row shown : A → Row) (id : A → ℤ)
+    → ((a b : A) → int_cmp (id a) (id b) ≡ Less → output_cmp (whole_table t)
+    (output (whole_table t) ([] ∷ row a ∷ [])) (output (whole_table t) ([] ∷ row b ∷ [])) ≡ Less)
+    → ((a : A) → (output (whole_table t) ([] ∷ row a ∷ [])).1 ≡ shown a)
+    → (all told : List A) → IsAscending (λ a b. int_cmp (id a) (id b) ≡ Less) all → all ≡ told
+    → (stored rows : List Row) → stored ≡ map row all → Sorts (whole_table t) [] stored rows → rows ≡ map shown told
+numbered {A = A} t row shown id by shows all told up same stored rows here s =
+    let q = whole_table t in
     let out = λ (a : A). output q ([] ∷ row a ∷ []) in
-    shown_are text tree project order names is old new trees file (map row all) here (map out all)
+    shown_are q stored rows (map out all)
     (ascending-map (λ (a b : Output). output_cmp q a b ≡ Less) out all (ascending_weaker _ _ by all up))
-    (IsPermutation-same _ _ (sym (map-map (λ (r : Row). output q ([] ∷ r ∷ [])) row all)))
-    rows.items h
-    ∙ map-map (λ (o : Output). o.1) out all ∙ map_same (λ (a : A). (out a).1) shown shows all
+    (IsPermutation-same _ _ (sym (map-map (λ (r : Row). output q ([] ∷ r ∷ [])) row all)
+    ∙ ap (map (λ (r : Row). output q ([] ∷ r ∷ []))) (sym here))) s
+    ∙ map-map (λ (o : Output). o.1) out all ∙ map_same (λ (a : A). (out a).1) shown shows all ∙ ap (map shown) same

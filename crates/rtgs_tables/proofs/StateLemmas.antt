@@ -1,5 +1,8 @@
 -- From one state of a transaction to the next.
-use Rattle.std.proofs.Common.{◌≡◌, ◌≢◌, ℕ, true, false, refl, sym, ap, subst, ◌∙◌}
+use Rattle.std.proofs.Common.{◌≡◌, ◌≢◌, inl, inr, ℕ, ◌==◌, List, true, false, if◌then◌else◌, eqb-true, eq-eqb}
+use Rattle.std.proofs.Common.{true≢false, refl, sym, ap, subst, ◌∙◌}
+use Rattle.std.proofs.lemmas.Bool.{cases_Bool}
+use Rattle.sqlite.specs.Order.{Row}
 use Rattle.std.specs.List.{AllByRecursion}
 use Rattle.sqlite.specs.Effect.{Database, IsDatabase}
 use Rattle.sqlite_catalog.specs.Listing.{IsSound}
@@ -16,8 +19,36 @@ use Rattle.rtgs_rows.specs.Content.{tables_of, tables_for, Content, Holds, Stand
 abbrev pub desk_over : Trees → Database
 desk_over trees = record { schema = desk_schema; trees = trees }
 
+-- no tree of the tables has changed but this one
 abbrev pub frame_but : ℕ → Trees → Trees → Type 0
 frame_but tree old new = AllByRecursion (λ t. t.tree ≢ tree → new t.tree ≡ old t.tree) desk_schema.tables
+
+-- these rows in place of those of one tree
+abbrev pub with_tree : ℕ → List Row → Trees → Trees
+with_tree tree rows trees t = if t == tree then rows else trees t
+
+-- so the tables are as they were, with the rows of that tree
+pub framed : (tree : ℕ) (old new : Trees) (rows : List Row) → frame_but tree old new → new tree ≡ rows
+    → tables_of new ≡ tables_of (with_tree tree rows old)
+unfolding desk_schema
+framed tree old new rows others here =
+    let at : (t : ℕ) → (t ≢ tree → new t ≡ old t) → new t ≡ with_tree tree rows old t =
+    λ t other. elim (cases_Bool (t == tree)) [
+      | inl same ↦ rw same (ap new (eqb-true t tree same) ∙ here)
+      | inr apart ↦ rw apart (other (λ same. absurd (true≢false (sym (eq-eqb t tree same) ∙ apart))))
+    ] in
+    let desk = at 0 others.0 in
+    let participants = at 1 others.1.0 in
+    let postings = at 4 others.1.1.0 in
+    let payments = at 6 others.1.1.1.0 in
+    let marks = at 8 others.1.1.1.1.0 in
+    λ i. record {
+      desk = desk i;
+      participants = participants i;
+      postings = postings i;
+      payments = payments i;
+      marks = marks i;
+    }
 
 pub stands_on : (was : Database) (old new : State) (content after : Content) → Stands was content old
     → Shows old new new.now old.committed true → new.now.schema ≡ desk_schema → IsDatabase new.now

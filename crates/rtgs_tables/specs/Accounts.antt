@@ -21,6 +21,7 @@ use Rattle.rtgs_book.specs.declared.Day.{Day}
 use Rattle.rtgs_rows.specs.Fitting.{Fits, FitsDate, FitsParticipant, FitsPosting, FitsOrder, FitsMark}
 use Rattle.rtgs_rows.specs.Rows.{shown_day, shown_account, shown_posting, shown_order, shown_mark}
 use Rattle.rtgs_rows.specs.Querying.{picked, ShowsDesk, ShowsParticipants, ShowsBook}
+use Rattle.rtgs_tables.specs.Tables.{participants_query, postings_query, payments_query, marks_query}
 use Rattle.rtgs_tables.specs.Numbers.{as_read, counted_of_posting, counted_of_order, counted_of_mark, IsFormed}
 use Rattle.rtgs_book.specs.declared.account.Account.{Account}
 
@@ -62,21 +63,24 @@ pub record AreReadOf (trees : Trees) (accounts : List Account) (book : Book) : T
   pub named : book.participants ≡ map (λ (a : Account). a.participant) accounts
   pub desk : ShowsDesk trees (shown_day book.day ∷ [])
   pub participants : ShowsParticipants trees (map (λ (a : Account). shown_account a.participant a.balance) accounts)
-  pub postings : AreTold (0 ∷ 2 ∷ 3 ∷ 4 ∷ 5 ∷ []) counted_of_posting (trees 4) (map shown_posting book.postings)
-  pub payments : AreTold (0 ∷ 2 ∷ 3 ∷ 4 ∷ 5 ∷ 6 ∷ 7 ∷ 8 ∷ []) counted_of_order (trees 6) (map shown_order book.orders)
-  pub marks : AreTold (0 ∷ 2 ∷ 3 ∷ 4 ∷ []) counted_of_mark (trees 8) (map shown_mark book.marks)
+  pub postings : AreTold postings_query.places counted_of_posting (trees postings_query.tree)
+      (map shown_posting book.postings)
+  pub payments : AreTold payments_query.places counted_of_order (trees payments_query.tree)
+      (map shown_order book.orders)
+  pub marks : AreTold marks_query.places counted_of_mark (trees marks_query.tree) (map shown_mark book.marks)
 
 -- Each row of the five tables is in the form of a record, and the first table has one row.
 pub record AreFormed (trees : Trees) : Type 0 where
   pub desk : (day : Day) × FitsDate day.date × ShowsDesk trees (shown_day day ∷ [])
   pub participants : AllByRecursion (IsFormed (λ (a : Account). FitsParticipant a.participant) []
-      (λ (a : Account). shown_account a.participant a.balance)) (map (picked (1 ∷ 2 ∷ 3 ∷ 4 ∷ 5 ∷ [])) (trees 1))
+      (λ (a : Account). shown_account a.participant a.balance))
+      (map (picked participants_query.places) (trees participants_query.tree))
   pub postings : AllByRecursion (IsFormed FitsPosting counted_of_posting shown_posting)
-      (map (picked (0 ∷ 2 ∷ 3 ∷ 4 ∷ 5 ∷ [])) (trees 4))
+      (map (picked postings_query.places) (trees postings_query.tree))
   pub payments : AllByRecursion (IsFormed FitsOrder counted_of_order shown_order)
-      (map (picked (0 ∷ 2 ∷ 3 ∷ 4 ∷ 5 ∷ 6 ∷ 7 ∷ 8 ∷ [])) (trees 6))
+      (map (picked payments_query.places) (trees payments_query.tree))
   pub marks : AllByRecursion (IsFormed FitsMark counted_of_mark shown_mark)
-      (map (picked (0 ∷ 2 ∷ 3 ∷ 4 ∷ [])) (trees 8))
+      (map (picked marks_query.places) (trees marks_query.tree))
 
 -- the tables at rest have these records
 abbrev pub HasRecords : List Account → Book → State → Type 0

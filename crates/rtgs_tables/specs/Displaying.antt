@@ -1,6 +1,6 @@
 -- What the five queries show of a database, and why they show nothing, whatever its schema is. The words are the
 -- engine's: how it understands a text over a schema, and what is an answer to that.
-use Rattle.std.specs.Prelude.{◌≡◌, ◌⊎◌, ℕ, Bool, List, [], ◌∷◌, map, codes, None, Ok, Err, ⊤}
+use Rattle.std.specs.Prelude.{◌≡◌, ◌⊎◌, ℕ, Bool, List, [], ◌∷◌, map, None, Ok, Err, ⊤}
 use Rattle.std.specs.List.{AllByRecursion}
 use Rattle.sqlite.specs.Order.{Row}
 use Rattle.sqlite.specs.Effect.{Database, Reads, RefusesToRead}
@@ -15,26 +15,9 @@ use Rattle.rtgs_book.specs.declared.Fault.{Fault}
 use Rattle.rtgs_book.specs.declared.Fault.TheVariants.{OutOfMemory, StoreFault, NotADeskFile, Inconsistent}
 use Rattle.rtgs_rows.specs.Fitting.{Fits, FitsDate, FitsParticipant, FitsPosting, FitsOrder, FitsMark}
 use Rattle.rtgs_rows.specs.Rows.{shown_day, shown_account, shown_posting, shown_order, shown_mark}
+pub use Rattle.rtgs_tables.specs.Tables.{desk_text, participants_text, postings_text, payments_text, marks_text}
 use Rattle.rtgs_tables.specs.Accounts.{AreBalances, BreaksFirst}
 use Rattle.rtgs_tables.specs.Numbers.{as_read, counted_of_posting, counted_of_order, counted_of_mark, IsFormed}
-
--- ---- the texts of the queries
-
-abbrev pub desk_text : List ℕ
-desk_text = codes "SELECT id, version, date, phase FROM desk ORDER BY id"
-
-abbrev pub participants_text : List ℕ
-participants_text = codes "SELECT code, name, key, credit, balance FROM participant ORDER BY code"
-
-abbrev pub postings_text : List ℕ
-postings_text = codes "SELECT number, code, reference, cents, date FROM posting ORDER BY number"
-
-abbrev pub payments_text : List ℕ
-payments_text = codes
-    "SELECT number, sender, reference, receiver, amount, date, state, mark FROM payment ORDER BY number"
-
-abbrev pub marks_text : List ℕ
-marks_text = codes "SELECT number, date, many, value FROM mark ORDER BY number"
 
 -- ---- what they show
 

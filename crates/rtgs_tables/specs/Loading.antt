@@ -1,6 +1,6 @@
 -- What a loading of the book says of the state that it began in.
-use Rattle.std.specs.Prelude.{List}
-use Rattle.sqlite.specs.State.{State}
+use Rattle.std.specs.Prelude.{◌≡◌, List}
+use Rattle.sqlite.specs.State.{State, HasCleanDisk}
 use Rattle.sqlite.specs.Tree.{Trees}
 use Rattle.rtgs_book.specs.declared.account.Account.{Account}
 use Rattle.rtgs_book.specs.declared.Book.{Book}
@@ -23,3 +23,9 @@ ShowsBalanced s book = ((trees : Trees) → IsDeskFile trees s → IsShown trees
 -- whatever a stop leaves in the second state, it could leave in the first
 abbrev pub LeavesNoMore : State → State → Type 0
 LeavesNoMore old new = (trees : Trees) → new.may_leave trees → old.may_leave trees
+
+-- nothing is written: a clean disk was clean before, and the tables and what the database shows stay
+pub record ReadsOn (old new : State) : Type 0 where
+  pub clean : HasCleanDisk new → HasCleanDisk old
+  pub file : HasCleanDisk new → (trees : Trees) → IsDeskFile trees old → IsDeskFile trees new
+  pub same : HasCleanDisk new → new.now ≡ old.now

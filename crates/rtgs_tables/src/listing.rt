@@ -1,67 +1,56 @@
-//! The first row above a number, in each table whose rows are numbered.
-ghost use Rattle.std.specs.Prelude.{◌≡◌, ◌<◌, ◌^◌, map, IfOk};
-ghost use Rattle.rtgs_book.specs.declared.Book.{Book};
-ghost use Rattle.rtgs_book.specs.declared.Posting.{Posting as PostingSpec};
-ghost use Rattle.rtgs_book.specs.declared.Order.{Order as OrderSpec};
-ghost use Rattle.rtgs_book.specs.declared.Mark.{Mark as MarkSpec};
+//! The first record above a number, in each table whose rows are numbered.
+ghost use Rattle.std.specs.Prelude.{◌≡◌, ◌<◌, ◌^◌, pos, [], ◌∷◌, Option, IfOk};
+ghost use Rattle.std.specs.List.{AllByRecursion};
 ghost use Rattle.rtgs_cores.specs.Nexts.{date_of_posting};
-ghost use Rattle.rtgs_rows.specs.Keeping.{HoldsBook};
-ghost use Rattle.rtgs_rows.specs.Rows.{shown_posting, shown_order, shown_mark};
-ghost use Rattle.rtgs_tables.specs.Finding.{one_of, IsQuery};
-ghost use Rattle.rtgs_tables.specs.Seeking.{first_above};
+ghost use Rattle.rtgs_rows.specs.Content.{Content, Rests};
+ghost use Rattle.rtgs_tables.specs.Finding.{one_of, IsQuery, IsLook};
+ghost use Rattle.rtgs_tables.specs.TableQueries.{IsFirstQuery, ShowsFirst, first_after};
+ghost use Rattle.sqlite.specs.declared.types.Value.TheVariants.{Int};
+ghost use Rattle.sqlite.specs.Query.{IsAnswer};
+ghost use Rattle.sqlite_sql.specs.Program.{overlay};
 ghost use Rattle.sqlite.specs.State.{HasCleanDisk};
 ghost use Rattle.sqlite.specs.Held.{state};
 
 use crate::columns::number_value;
 use crate::finding::{fault_of, only_record};
 use crate::seeking::Listed;
+use crate::table_row::TableRow;
 use rtgs_book::{Fault, Mark, Order, Posting};
 use rtgs_rows::laws;
 use sqlite::{Alter, Connection, Error, Row};
 
-/// The row of the first posting above this number.
-fn posting_rows_after<S: Alter>(conn: &mut Connection<S>, number: u64) -> Result<Vec<Row>, Error>
-    requires { number < 2 ^ 63 }
+/// The row that the query of the first row above a number shows.
+fn rows_after<T: TableRow, S: Alter>(
+    conn: &mut Connection<S>,
+    text: &str,
+    number: u64,
+) -> Result<Vec<Row>, Error>
+    requires { (number < 2 ^ 63) × IsFirstQuery T.table text.now }
     ensures asks { IsQuery S.Store conn.old conn.new result }
-    ensures rows { HasCleanDisk (state S.Store conn.new) → (book : Book) → HoldsBook S.Store conn.old book
-        → IfOk result (λ rows. rows.items ≡ map shown_posting
-        (one_of (first_above (λ (p : PostingSpec). p.number) number book.postings))) }
+    ensures rows { HasCleanDisk (state S.Store conn.new) → (content : Content) → Rests content (state S.Store conn.old)
+        → IfOk result (λ rows. IsAnswer (first_after T.table) (overlay (state S.Store conn.old).now.trees [])
+        (Int (pos number) ∷ []) rows.items) }
 {
-    laws::records_stand_in_order();
-    conn.query_all(
-        "SELECT number, code, reference, cents, date FROM posting WHERE number > ?1 ORDER BY number LIMIT 1",
-        &[number_value(number)],
-    )
+    conn.query_all(text, &[number_value(number)])
 }
 
-/// The row of the first order above this number.
-fn order_rows_after<S: Alter>(conn: &mut Connection<S>, number: u64) -> Result<Vec<Row>, Error>
-    requires { number < 2 ^ 63 }
-    ensures asks { IsQuery S.Store conn.old conn.new result }
-    ensures rows { HasCleanDisk (state S.Store conn.new) → (book : Book) → HoldsBook S.Store conn.old book
-        → IfOk result (λ rows. rows.items ≡ map shown_order
-        (one_of (first_above (λ (o : OrderSpec). o.number) number book.orders))) }
+/// The record of that row, and none where there is no such row.
+fn first_record<T: TableRow + Drop, S: Alter>(
+    conn: &mut Connection<S>,
+    text: &str,
+    number: u64,
+) -> Result<Option<T>, Fault>
+    requires { (number < 2 ^ 63) × IsFirstQuery T.table text.now }
+    ensures looks { IsLook S.Store conn.old conn.new result }
+    ensures found { HasCleanDisk (state S.Store conn.new) → (content : Content) → Rests content (state S.Store conn.old)
+        → (found : Option T) → AllByRecursion T.fits (one_of found)
+        → ShowsFirst T.table T.counted T.shown (state S.Store conn.old).now.trees number found
+        → IfOk result (λ it. it ≡ found) }
 {
-    laws::records_stand_in_order();
-    conn.query_all(
-        "SELECT number, sender, reference, receiver, amount, date, state, mark FROM payment WHERE number > ?1 ORDER BY number LIMIT 1",
-        &[number_value(number)],
-    )
-}
-
-/// The row of the first mark above this number.
-fn mark_rows_after<S: Alter>(conn: &mut Connection<S>, number: u64) -> Result<Vec<Row>, Error>
-    requires { number < 2 ^ 63 }
-    ensures asks { IsQuery S.Store conn.old conn.new result }
-    ensures rows { HasCleanDisk (state S.Store conn.new) → (book : Book) → HoldsBook S.Store conn.old book
-        → IfOk result (λ rows. rows.items ≡ map shown_mark
-        (one_of (first_above (λ (m : MarkSpec). m.number) number book.marks))) }
-{
-    laws::records_stand_in_order();
-    conn.query_all(
-        "SELECT number, date, many, value FROM mark WHERE number > ?1 ORDER BY number LIMIT 1",
-        &[number_value(number)],
-    )
+    match rows_after::<T, S>(conn, text, number) {
+        Ok(rows) => only_record(rows.as_slice()),
+        Err(error) => Err(fault_of(conn, &error)),
+    }
 }
 
 impl Listed for Posting {
@@ -78,10 +67,12 @@ impl Listed for Posting {
         conn: &mut Connection<S>,
         number: u64,
     ) -> Result<Option<Posting>, Fault> {
-        match posting_rows_after(conn, number) {
-            Ok(rows) => only_record(rows.as_slice()),
-            Err(error) => Err(fault_of(conn, &error)),
-        }
+        laws::records_stand_in_order();
+        first_record::<Posting, S>(
+            conn,
+            "SELECT number, code, reference, cents, date FROM posting WHERE number > ?1 ORDER BY number LIMIT 1",
+            number,
+        )
     }
 
     fn date_number(&self) -> u32 {
@@ -105,10 +96,12 @@ impl Listed for Order {
         conn: &mut Connection<S>,
         number: u64,
     ) -> Result<Option<Order>, Fault> {
-        match order_rows_after(conn, number) {
-            Ok(rows) => only_record(rows.as_slice()),
-            Err(error) => Err(fault_of(conn, &error)),
-        }
+        laws::records_stand_in_order();
+        first_record::<Order, S>(
+            conn,
+            "SELECT number, sender, reference, receiver, amount, date, state, mark FROM payment WHERE number > ?1 ORDER BY number LIMIT 1",
+            number,
+        )
     }
 
     fn date_number(&self) -> u32 {
@@ -126,10 +119,12 @@ impl Listed for Mark {
     ghost date_of = { λ m. m.date };
 
     fn first_after<S: Alter>(conn: &mut Connection<S>, number: u64) -> Result<Option<Mark>, Fault> {
-        match mark_rows_after(conn, number) {
-            Ok(rows) => only_record(rows.as_slice()),
-            Err(error) => Err(fault_of(conn, &error)),
-        }
+        laws::records_stand_in_order();
+        first_record::<Mark, S>(
+            conn,
+            "SELECT number, date, many, value FROM mark WHERE number > ?1 ORDER BY number LIMIT 1",
+            number,
+        )
     }
 
     fn date_number(&self) -> u32 {

@@ -17,8 +17,8 @@ ghost use Rattle.sqlite.specs.Held.{state};
 ghost use Rattle.sqlite.specs.Tree.{Trees};
 
 use crate::balances::balances_agree;
-use crate::reading::{read_accounts, read_day, read_marks, read_orders, read_postings};
-use rtgs_book::{Account, Book, Fault, Participant, Rows, Rule};
+use crate::reading::{read_day, read_records};
+use rtgs_book::{Account, Book, Fault, Mark, Order, Participant, Posting, Rows, Rule};
 use rtgs_rows::laws::shown_records_are_held;
 use sqlite::{Alter, Connection};
 use std::alloc::{AllocError, Global};
@@ -54,11 +54,11 @@ fn read_tables<S: Alter>(alloc: Global, conn: &mut Connection<S>) -> Result<Stor
     ensures mode { conn.old.in_transaction ≡ false → conn.new.in_transaction ≡ false }
     ensures honest { HasCleanDisk (state S.Store conn.new) → HasCleanDisk (state S.Store conn.old) }
 {
-    let day = read_day(conn)?;
-    let accounts = read_accounts(alloc, conn)?;
-    let postings = read_postings(alloc, conn)?;
-    let orders = read_orders(alloc, conn)?;
-    let marks = read_marks(alloc, conn)?;
+    let day = read_day(alloc, conn)?;
+    let accounts = read_records::<Account, S>(alloc, conn)?;
+    let postings = read_records::<Posting, S>(alloc, conn)?;
+    let orders = read_records::<Order, S>(alloc, conn)?;
+    let marks = read_records::<Mark, S>(alloc, conn)?;
     let participants = participants_of(alloc, accounts.as_slice())?;
     let book = Book {
         participants: Rows::from_vec(participants),

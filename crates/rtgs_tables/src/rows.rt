@@ -1,5 +1,5 @@
 //! The record of each table's row.
-ghost use Rattle.std.specs.Prelude.{◌≡◌, ◌<◌, pos, [], length, Some, IfSome};
+ghost use Rattle.std.specs.Prelude.{◌≡◌, ◌<◌, pos, List, [], ◌∷◌, length, Some, IfSome};
 ghost use Rattle.sqlite_value.specs.Order.{column};
 ghost use Rattle.sqlite.specs.declared.types.Value.TheVariants.{Int};
 ghost use Rattle.rtgs_book.specs.declared.Phase.{Phase as PhaseSpec};
@@ -7,6 +7,10 @@ ghost use Rattle.rtgs_book.specs.declared.OrderState.{OrderState as StateSpec};
 ghost use Rattle.rtgs_rows.specs.Rows.{phase_number, state_number, mark_value, shown_day, shown_account, shown_posting};
 ghost use Rattle.rtgs_rows.specs.Rows.{shown_order, shown_mark};
 ghost use Rattle.rtgs_rows.specs.Fitting.{FitsDate, FitsParticipant, FitsPosting, FitsOrder, FitsMark};
+ghost use Rattle.rtgs_book.specs.declared.Book.{Book};
+ghost use Rattle.rtgs_book.specs.declared.account.Account.{Account as AccountSpec};
+ghost use Rattle.rtgs_tables.specs.TableQueries.{desk_query, participants_query, postings_query, payments_query};
+ghost use Rattle.rtgs_tables.specs.TableQueries.{marks_query};
 ghost use Rattle.rtgs_tables.specs.Numbers.{at_least_zero, counted_of_posting, counted_of_order, counted_of_mark};
 
 use crate::fields::{
@@ -34,6 +38,14 @@ impl TableRow for Day {
 
     ghost counted = { [] };
 
+    ghost table = { desk_query };
+
+    ghost records = { λ (_ : List AccountSpec) (book : Book). book.day ∷ [] };
+
+    fn query() -> &'static str {
+        "SELECT id, version, date, phase FROM desk ORDER BY id"
+    }
+
     fn from_row(row: &Row) -> Option<Day> {
         width(row, 4)?;
         if int(row, 0)? != DESK_ID || int(row, 1)? != VERSION {
@@ -52,6 +64,14 @@ impl TableRow for Account {
     ghost fits = { λ a. FitsParticipant a.participant };
 
     ghost counted = { [] };
+
+    ghost table = { participants_query };
+
+    ghost records = { λ accounts (_ : Book). accounts };
+
+    fn query() -> &'static str {
+        "SELECT code, name, key, credit, balance FROM participant ORDER BY code"
+    }
 
     fn from_row(row: &Row) -> Option<Account> {
         width(row, 5)?;
@@ -75,6 +95,14 @@ impl TableRow for Posting {
 
     ghost counted = { counted_of_posting };
 
+    ghost table = { postings_query };
+
+    ghost records = { λ (_ : List AccountSpec) (book : Book). book.postings };
+
+    fn query() -> &'static str {
+        "SELECT number, code, reference, cents, date FROM posting ORDER BY number"
+    }
+
     fn from_row(row: &Row) -> Option<Posting> {
         width(row, 5)?;
         Some(Posting {
@@ -93,6 +121,14 @@ impl TableRow for Order {
     ghost fits = { FitsOrder };
 
     ghost counted = { counted_of_order };
+
+    ghost table = { payments_query };
+
+    ghost records = { λ (_ : List AccountSpec) (book : Book). book.orders };
+
+    fn query() -> &'static str {
+        "SELECT number, sender, reference, receiver, amount, date, state, mark FROM payment ORDER BY number"
+    }
 
     fn from_row(row: &Row) -> Option<Order> {
         width(row, 8)?;
@@ -114,6 +150,14 @@ impl TableRow for Mark {
     ghost fits = { FitsMark };
 
     ghost counted = { counted_of_mark };
+
+    ghost table = { marks_query };
+
+    ghost records = { λ (_ : List AccountSpec) (book : Book). book.marks };
+
+    fn query() -> &'static str {
+        "SELECT number, date, many, value FROM mark ORDER BY number"
+    }
 
     fn from_row(row: &Row) -> Option<Mark> {
         width(row, 4)?;

@@ -3,7 +3,10 @@ ghost use Rattle.std.specs.Prelude.{◌≡◌, ◌≢◌, ℕ, Bool, List, map, 
 ghost use Rattle.std.specs.List.{AllByRecursion};
 ghost use Rattle.rtgs_book.specs.declared.Rule.{Rule};
 ghost use Rattle.sqlite_value.specs.declared.value.Value.{Value};
+ghost use Rattle.rtgs_book.specs.declared.Book.{Book};
+ghost use Rattle.rtgs_book.specs.declared.account.Account.{Account};
 ghost use Rattle.rtgs_tables.specs.Numbers.{as_read, IsFormed};
+ghost use Rattle.rtgs_tables.specs.TableQueries.{TableQuery, IsTableQuery, ShowsOwn};
 
 use rtgs_book::Fault;
 use sqlite::Row;
@@ -18,6 +21,19 @@ pub(crate) trait TableRow: Sized {
 
     // The places of the numbers that are read as 0 where they are below zero.
     ghost counted: { List Bool };
+
+    // The query of all rows of the table.
+    ghost table: { TableQuery };
+
+    // What a book has of the table.
+    ghost records: { List Account → Book → List Self };
+
+    /// The text of the query of all rows.
+    fn query() -> &'static str
+        ensures is { result.now ≡ table.text }
+        ensures asks { IsTableQuery table }
+        ensures shows { ShowsOwn table fits shown records }
+        ensures own { (it : Self) → as_read counted (shown it) ≡ shown it };
 
     /// The record, where each value of the row is in its form and range, and there are no more values.
     fn from_row(row: &Row) -> Option<Self>

@@ -4,8 +4,8 @@ use Rattle.sqlite.specs.Values.{bound_value}
 use Rattle.sqlite.specs.Held.{state}
 use Rattle.rtgs_tables.proofs.FindingTexts.{order_text, order_tests, order_seeks, order_reads}
 use Rattle.rtgs_tables.proofs.FindingLemmas.{is_query_of, finds_order}
-use Rattle.rtgs_tables.proofs.Selecting.{payments_project, payments_names}
 use Rattle.rtgs_tables.proofs.Queries.{simple}
+use Rattle.rtgs_tables.specs.TableQueries.{columns_of, payments_query}
 use Rattle.rtgs_tables.proofs.finding.order_rows.Goals as goal
 
 pub returns-clause-asks : goal.returns-clause-asks
@@ -13,7 +13,7 @@ returns-clause-asks g c =
     let sender = ap bound_value (c.text.ensures ∙ ap Text c.as_bytes.ensures.value) in
     let reference = ap bound_value (c.text-2.ensures ∙ ap Text c.as_bytes-2.ensures.value) in
     is_query_of g.S.Store order_text (Text c.args.sender.now ∷ Text c.args.reference.now ∷ [])
-    (simple 6 order_tests payments_project []) payments_names order_seeks order_reads c.args.conn.now
+    (simple 6 order_tests (columns_of payments_query) []) payments_query.names order_seeks order_reads c.args.conn.now
     c.query_all.new.self c.query_all.result _ (λ i. sender i ∷ reference i ∷ []) c.query_all.ensures.ok
     c.query_all.ensures.err c.query_all.ensures.mode c.query_all.ensures.survives
 

@@ -4,15 +4,16 @@ use Rattle.sqlite.specs.Values.{bound_value}
 use Rattle.sqlite.specs.Held.{state}
 use Rattle.rtgs_tables.proofs.FindingTexts.{posting_text, posting_tests, posting_seeks, posting_reads}
 use Rattle.rtgs_tables.proofs.FindingLemmas.{is_query_of, finds_posting}
-use Rattle.rtgs_tables.proofs.Selecting.{postings_project, postings_names}
 use Rattle.rtgs_tables.proofs.Queries.{simple}
+use Rattle.rtgs_tables.specs.TableQueries.{columns_of, postings_query}
 use Rattle.rtgs_tables.proofs.finding.posting_rows.Goals as goal
 
 pub returns-clause-asks : goal.returns-clause-asks
 returns-clause-asks g c =
     let reference = ap bound_value (c.text.ensures ∙ ap Text c.as_bytes.ensures.value) in
-    is_query_of g.S.Store posting_text (Text c.args.reference.now ∷ []) (simple 4 posting_tests postings_project [])
-    postings_names posting_seeks posting_reads c.args.conn.now c.query_all.new.self c.query_all.result _
+    is_query_of g.S.Store posting_text (Text c.args.reference.now ∷ []) (simple 4 posting_tests (columns_of
+    postings_query) [])
+    postings_query.names posting_seeks posting_reads c.args.conn.now c.query_all.new.self c.query_all.result _
     (λ i. reference i ∷ []) c.query_all.ensures.ok c.query_all.ensures.err c.query_all.ensures.mode
     c.query_all.ensures.survives
 

@@ -1,11 +1,13 @@
-use Rattle.std.proofs.Common.{[], ◌∷◌, map, IsPermutation, refl, sym, subst, ◌∙◌}
+use Rattle.std.proofs.Common.{map, IsPermutation, refl, sym, subst, ◌∙◌}
 use Rattle.rtgs_rows.specs.Querying.{picked}
 use Rattle.rtgs_tables.proofs.Told.{day_shown, no_day, not_read}
 use Rattle.sqlite.specs.Held.{state}
 use Rattle.rtgs_tables.proofs.Resting.{file_of}
 use Rattle.rtgs_tables.proofs.Keeps.{not_foreign, file_after}
 use Rattle.rtgs_tables.specs.Displaying.{desk_text, IsOneDay}
-use Rattle.rtgs_tables.proofs.Displaying.{day_displayed, without_form, without_answer}
+use Rattle.rtgs_tables.specs.TableQueries.{desk_query}
+use Rattle.rtgs_tables.proofs.Displaying.{day_displayed, without_form, without_answer, reads_on}
+use Rattle.rtgs_tables.proofs.Blank.{unshown}
 use Rattle.rtgs_tables.proofs.reading.read_day.Goals as goal
 
 pub returns-in-Ok-clause-given : goal.returns-in-Ok-clause-given
@@ -22,14 +24,14 @@ returns-in-Ok-clause-right g c clean accounts book held e =
 
 pub returns-in-Ok-clause-is : goal.returns-in-Ok-clause-is
 returns-in-Ok-clause-is g c clean trees file =
-    let places = 0 ∷ 2 ∷ 3 ∷ 4 ∷ [] in
+    let places = desk_query.places in
     let seen = subst (IsPermutation (map (picked places) (trees 0))) (sym c.as_slice.ensures.value)
     (c.in-Ok.ensures.raw clean trees file) in
     day_shown places (trees 0) _ c.one_day.result seen c.one_day.ensures.is
 
 pub returns-in-Ok-clause-wrong : goal.returns-in-Ok-clause-wrong
 returns-in-Ok-clause-wrong g c clean trees file e =
-    let places = 0 ∷ 2 ∷ 3 ∷ 4 ∷ [] in
+    let places = desk_query.places in
     let seen = subst (IsPermutation (map (picked places) (trees 0))) (sym c.as_slice.ensures.value)
     (c.in-Ok.ensures.raw clean trees file) in
     no_day places (trees 0) _ seen (not_read c.one_day.result _ _ c.one_day.ensures.wrong e)
@@ -49,15 +51,21 @@ returns-in-Err-clause-right g c clean accounts book held = not_foreign c.fault_o
 pub returns-in-Err-clause-same : goal.returns-in-Err-clause-same
 returns-in-Err-clause-same g c clean trees file =
     let was = c.fault_of.ensures.honest clean in
-    file_after trees (state g.S.Store c.desk_rows.new.conn) (state g.S.Store c.fault_of.new.conn) c.fault_of.result
+    file_after trees (state g.S.Store c.table_rows.new.conn) (state g.S.Store c.fault_of.new.conn) c.fault_of.result
     (c.in-Err.ensures.intact was trees file) (c.fault_of.ensures.right (c.in-Err.ensures.refused was trees file))
     (λ memory. c.fault_of.ensures.same memory clean)
 
+pub returns-in-Ok-clause-on : goal.returns-in-Ok-clause-on
+returns-in-Ok-clause-on g c = reads_on (state g.S.Store c.args.conn.now) (state g.S.Store c.table_rows.new.conn)
+    c.one_day.result c.table_rows.ensures.honest c.in-Ok.ensures.kept (λ clean. (c.in-Ok.ensures.answered clean).1)
+
+pub returns-in-Ok-clause-blank : goal.returns-in-Ok-clause-blank
+returns-in-Ok-clause-blank g c clean blank =
+    absurd (unshown (state g.S.Store c.args.conn.now) blank _ (c.in-Ok.ensures.answered clean).0)
+
 pub returns-in-Ok-clause-told : goal.returns-in-Ok-clause-told
-returns-in-Ok-clause-told g c clean =
-    let seen = c.in-Ok.ensures.answered clean in
-    day_displayed (state g.S.Store c.args.conn.now).now (state g.S.Store c.desk_rows.new.conn).now desk_text _ _
-    c.one_day.result c.as_slice.ensures.value seen c.one_day.ensures.is
+returns-in-Ok-clause-told g c clean = day_displayed (state g.S.Store c.args.conn.now).now desk_text _ _
+    c.one_day.result c.as_slice.ensures.value (c.in-Ok.ensures.answered clean).0 c.one_day.ensures.is
 
 pub returns-in-Ok-clause-unread : goal.returns-in-Ok-clause-unread
 returns-in-Ok-clause-unread g c clean e =

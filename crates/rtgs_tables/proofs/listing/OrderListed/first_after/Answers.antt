@@ -1,28 +1,19 @@
-use Rattle.std.proofs.Common.{nat_lt, ◌∙◌}
+use Rattle.std.proofs.Common.{nat_lt}
+use Rattle.sqlite.specs.Held.{state}
 use Rattle.rtgs_book.specs.declared.Order.{Order}
 use Rattle.rtgs_rows.specs.Fitting.{FitsOrder}
-use Rattle.rtgs_rows.specs.Rows.{shown_order}
-use Rattle.rtgs_tables.specs.Numbers.{counted_of_order}
 use Rattle.rtgs_tables.specs.Seeking.{first_above}
-use Rattle.rtgs_tables.proofs.AsRead.{rows_same, order_same}
-use Rattle.rtgs_tables.proofs.FindingLemmas.{looks_ok, looks_err, is_found, fits_found}
+use Rattle.rtgs_tables.proofs.FindingTexts.{order_after_asks}
+use Rattle.rtgs_tables.proofs.FindingLemmas.{fits_found}
+use Rattle.rtgs_tables.proofs.ListingLemmas.{order_first}
 use Rattle.rtgs_tables.proofs.listing.OrderListed.first_after.Goals as goal
 
-pub returns-in-Ok-clause-looks : goal.returns-in-Ok-clause-looks
-returns-in-Ok-clause-looks g c =
-    looks_ok g.S.Store c.args.conn.now c.order_rows_after.new.conn _ c.only_record.result c.in-Ok.ensures.asks
-    c.only_record.ensures.kinds
+pub first_record-requires : goal.first_record-requires
+first_record-requires g c = (c.requires, order_after_asks)
 
-pub returns-in-Err-clause-looks : goal.returns-in-Err-clause-looks
-returns-in-Err-clause-looks g c =
-    looks_err g.S.Store c.args.conn.now c.order_rows_after.new.conn c.fault_of.new.conn _ c.fault_of.result
-    c.in-Err.ensures.asks c.fault_of.ensures.kinds c.fault_of.ensures.same c.fault_of.ensures.mode
-    c.fault_of.ensures.survives
-
-pub returns-in-Ok-clause-found : goal.returns-in-Ok-clause-found
-returns-in-Ok-clause-found g c clean book held =
-    let found = first_above (λ (o : Order). o.number) c.args.number book.orders in
-    is_found c.only_record.result found (c.only_record.ensures.found found
+pub returns-clause-found : goal.returns-clause-found
+returns-clause-found g c clean book held = c.first_record.ensures.found clean held.0 held.1
+    (first_above (λ (o : Order). o.number) c.args.number book.orders)
     (fits_found FitsOrder (λ (o : Order). nat_lt c.args.number o.number) book.orders held.2.fits.orders)
-    (rows_same counted_of_order shown_order order_same _ _ (c.as_slice.ensures.value
-    ∙ c.in-Ok.ensures.rows clean book held)))
+    (order_first c.records_stand_in_order.ensures c.args.number book (state g.S.Store c.args.conn.now) held.0 held.1
+    held.2)

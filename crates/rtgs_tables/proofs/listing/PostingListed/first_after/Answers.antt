@@ -1,28 +1,19 @@
-use Rattle.std.proofs.Common.{nat_lt, ◌∙◌}
+use Rattle.std.proofs.Common.{nat_lt}
+use Rattle.sqlite.specs.Held.{state}
 use Rattle.rtgs_book.specs.declared.Posting.{Posting}
 use Rattle.rtgs_rows.specs.Fitting.{FitsPosting}
-use Rattle.rtgs_rows.specs.Rows.{shown_posting}
-use Rattle.rtgs_tables.specs.Numbers.{counted_of_posting}
 use Rattle.rtgs_tables.specs.Seeking.{first_above}
-use Rattle.rtgs_tables.proofs.AsRead.{rows_same, posting_same}
-use Rattle.rtgs_tables.proofs.FindingLemmas.{looks_ok, looks_err, is_found, fits_found}
+use Rattle.rtgs_tables.proofs.FindingTexts.{posting_after_asks}
+use Rattle.rtgs_tables.proofs.FindingLemmas.{fits_found}
+use Rattle.rtgs_tables.proofs.ListingLemmas.{posting_first}
 use Rattle.rtgs_tables.proofs.listing.PostingListed.first_after.Goals as goal
 
-pub returns-in-Ok-clause-looks : goal.returns-in-Ok-clause-looks
-returns-in-Ok-clause-looks g c =
-    looks_ok g.S.Store c.args.conn.now c.posting_rows_after.new.conn _ c.only_record.result c.in-Ok.ensures.asks
-    c.only_record.ensures.kinds
+pub first_record-requires : goal.first_record-requires
+first_record-requires g c = (c.requires, posting_after_asks)
 
-pub returns-in-Err-clause-looks : goal.returns-in-Err-clause-looks
-returns-in-Err-clause-looks g c =
-    looks_err g.S.Store c.args.conn.now c.posting_rows_after.new.conn c.fault_of.new.conn _ c.fault_of.result
-    c.in-Err.ensures.asks c.fault_of.ensures.kinds c.fault_of.ensures.same c.fault_of.ensures.mode
-    c.fault_of.ensures.survives
-
-pub returns-in-Ok-clause-found : goal.returns-in-Ok-clause-found
-returns-in-Ok-clause-found g c clean book held =
-    let found = first_above (λ (p : Posting). p.number) c.args.number book.postings in
-    is_found c.only_record.result found (c.only_record.ensures.found found
+pub returns-clause-found : goal.returns-clause-found
+returns-clause-found g c clean book held = c.first_record.ensures.found clean held.0 held.1
+    (first_above (λ (p : Posting). p.number) c.args.number book.postings)
     (fits_found FitsPosting (λ (p : Posting). nat_lt c.args.number p.number) book.postings held.2.fits.postings)
-    (rows_same counted_of_posting shown_posting posting_same _ _ (c.as_slice.ensures.value
-    ∙ c.in-Ok.ensures.rows clean book held)))
+    (posting_first c.records_stand_in_order.ensures c.args.number book (state g.S.Store c.args.conn.now) held.0 held.1
+    held.2)
