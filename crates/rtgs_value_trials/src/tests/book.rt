@@ -1,5 +1,6 @@
 //! Values from outside, and each call on its happy path.
 use super::refusals::told;
+use super::script::{ensure, is};
 use super::setting::{MONDAY, TUESDAY, date};
 use rtgs_book::{
     Book, Day, Fault, Mark, Order, OrderState, Participant, Phase, Posting, Refusal, Rows, Rule,
@@ -8,7 +9,7 @@ use rtgs_money::{
     Amount, BusinessDate, Cents, Code, Credit, KeyDigest, Name, PostingAmount, Reference,
 };
 use std::alloc::Global;
-use std::process::Abort;
+use std::collections::BTreeMap;
 use std::test::Fail;
 
 // The name of the n-th thing: a letter and five digits.
@@ -80,11 +81,18 @@ fn banks_of(alloc: Global, banks: u32) -> Result<Vec<Participant>, Fail> {
     Ok(participants)
 }
 
+// Adds the n-th order.
+fn add_order(sent: &mut Vec<Order>, n: u32, banks: u32, date: BusinessDate) -> Result<(), Fail> {
+    let order = order(n, banks, date)?;
+    sent.push(order)?;
+    Ok(())
+}
+
 fn orders_of(alloc: Global, banks: u32, orders: u32) -> Result<Vec<Order>, Fail> {
     let monday = date(MONDAY)?;
     let mut sent = Vec::new(alloc);
     for n in 0..orders {
-        sent.push(order(n, banks, monday)?)?;
+        add_order(&mut sent, n, banks, monday)?;
     }
     Ok(sent)
 }
@@ -103,29 +111,29 @@ fn book_of(alloc: Global, banks: u32, orders: u32) -> Result<Book, Fail> {
 }
 
 // A book of 100 banks with so many orders is sound.
-fn check_large(rt: &(impl Abort + AllocGlobal), orders: u32) -> Result<(), Fail> {
-    let book = book_of(rt.alloc(), 100, orders)?;
-    assert_eq!(rt; book.orders.len(), orders as usize);
-    assert_eq!(rt; book.check(), Ok(()));
-    Ok(())
+fn is_sound(alloc: Global, orders: u32) -> Result<(), Fail> {
+    let book = book_of(alloc, 100, orders)?;
+    book.check()?;
+    ensure(book.orders.len() == orders as usize)
 }
 
 #[test]
 fn book_of_5000_orders_is_sound(rt: HostRuntime) -> Result<(), Fail> {
-    check_large(&rt, 5000)
+    is_sound(rt.alloc(), 5000)
 }
 
 #[test]
 fn book_of_10000_orders_is_sound(rt: HostRuntime) -> Result<(), Fail> {
-    check_large(&rt, 10_000)
+    is_sound(rt.alloc(), 10_000)
 }
 
 #[test]
 fn book_of_20000_orders_is_sound(rt: HostRuntime) -> Result<(), Fail> {
-    check_large(&rt, 20_000)
+    is_sound(rt.alloc(), 20_000)
 }
 
-// A sound book by its records, so that a test may break one: a ring of settled orders, one order that is queued, and two postings.
+// A sound book by its records, so that a test may break one: a ring of settled orders, one order that is queued, and
+// two postings.
 #[derive(Drop)]
 struct Records {
     participants: [Participant; 3],
@@ -192,125 +200,142 @@ fn break_rule(records: &mut Records, rule: Rule) -> Result<(), Fail> {
 
 // The book with these records.
 fn book_with(alloc: Global, records: &Records) -> Result<Book, Fail> {
-    Ok(Book {
-        participants: Rows::from_vec(records.participants.iter().copied().collect(alloc)?),
-        postings: Rows::from_vec(records.postings.iter().copied().collect(alloc)?),
-        orders: Rows::from_vec(records.orders.iter().copied().collect(alloc)?),
-        marks: Rows::from_vec(records.marks.iter().copied().collect(alloc)?),
-        day: records.day,
-    })
+    let mut book = book_of(alloc, 0, 0)?;
+    book.participants = Rows::from_vec(Vec::from_slice(alloc, &records.participants)?);
+    book.postings = Rows::from_vec(Vec::from_slice(alloc, &records.postings)?);
+    book.orders = Rows::from_vec(Vec::from_slice(alloc, &records.orders)?);
+    book.marks = Rows::from_vec(Vec::from_slice(alloc, &records.marks)?);
+    book.day = records.day;
+    Ok(book)
+}
+
+// The check of a book names this rule.
+fn breaks(book: &Book, rule: Rule) -> Result<(), Fail> {
+    match book.check() {
+        Ok(()) => Err(Fail::from("no rule is broken")),
+        Err(Fault::Inconsistent { rule: named }) if named == rule => Ok(()),
+        Err(fault) => Err(Fail::from(fault)),
+    }
+}
+
+// A book in which this rule is broken, and no other.
+fn broken(alloc: Global, rule: Rule) -> Result<Book, Fail> {
+    let mut records = sound_records()?;
+    break_rule(&mut records, rule)?;
+    book_with(alloc, &records)
 }
 
 #[test]
 fn each_broken_rule_is_named(rt: HostRuntime) -> Result<(), Fail> {
-    let alloc = rt.alloc();
     for rule in Rule::OF_A_BOOK {
-        let mut records = sound_records()?;
-        break_rule(&mut records, rule)?;
-        let book = book_with(alloc, &records)?;
-        assert_eq!(rt; book.check(), Err(Fault::Inconsistent { rule }));
+        breaks(&broken(rt.alloc(), rule)?, rule)?;
     }
     Ok(())
 }
 
+// A book in which two banks have one code, and one key.
+fn twins(alloc: Global) -> Result<Book, Fail> {
+    let twin = bank(1)?;
+    let mut book = book_of(alloc, 0, 0)?;
+    book.participants = Rows::from_vec(Vec::from_slice(alloc, &[twin, twin])?);
+    Ok(book)
+}
+
+// A book whose day has no date, though there are orders, and in which a bank is below zero.
+fn undated(alloc: Global) -> Result<Book, Fail> {
+    let mut book = book_of(alloc, 3, 2)?;
+    book.day = Day {
+        date: None,
+        phase: Phase::Closed,
+    };
+    Ok(book)
+}
+
 #[test]
 fn first_broken_rule_is_named(rt: HostRuntime) -> Result<(), Fail> {
-    let alloc = rt.alloc();
+    breaks(&twins(rt.alloc())?, Rule::ParticipantCodes)?;
+    breaks(&undated(rt.alloc())?, Rule::Dates)
+}
 
-    // Two banks have one code, and one key.
-    let mut banks = Vec::new(alloc);
-    banks.push(bank(1)?)?;
-    banks.push(bank(1)?)?;
-    let twins = Book {
-        participants: Rows::from_vec(banks),
-        ..book_of(alloc, 0, 0)?
-    };
-    let rule = Rule::ParticipantCodes;
-    assert_eq!(rt; twins.check(), Err(Fault::Inconsistent { rule }));
+// The balance of the n-th bank is this one, or there is none.
+fn has(balances: &BTreeMap<Code, i128>, n: u32, cents: Option<i128>) -> Result<(), Fail> {
+    ensure(balances.get(&code_of(n)?).copied() == cents)
+}
 
-    // The day has no date, though there are orders, and a bank is below zero.
-    let undated = Book {
-        day: Day {
-            date: None,
-            phase: Phase::Closed,
-        },
-        ..book_of(alloc, 3, 2)?
-    };
-    let rule = Rule::Dates;
-    assert_eq!(rt; undated.check(), Err(Fault::Inconsistent { rule }));
-    Ok(())
+fn has_all(balances: &BTreeMap<Code, i128>) -> Result<(), Fail> {
+    has(balances, 0, Some(10))?;
+    has(balances, 1, Some(10))?;
+    has(balances, 2, Some(0))?;
+    has(balances, 3, None)
 }
 
 #[test]
 fn balances_are_summed(rt: HostRuntime) -> Result<(), Fail> {
     let book = book_with(rt.alloc(), &sound_records()?)?;
     book.check()?;
-    let balances = book.balances()?;
-    for (n, cents) in [(0, 10), (1, 10), (2, 0)] {
-        assert_eq!(rt; balances.get(&code_of(n)?), Some(&cents));
-    }
-    assert_eq!(rt; balances.get(&code_of(3)?), None);
-    Ok(())
+    has_all(&book.balances()?)
+}
+
+// Whether rows have no number.
+fn is_none(rows: &Rows<u8>) -> bool {
+    rows.len() == 0 && rows.is_empty()
+}
+
+// Whether rows have these three numbers.
+fn is_list(rows: &Rows<u8>, numbers: [u8; 3]) -> bool {
+    rows.len() == 3 && !rows.is_empty() && rows.as_slice() == numbers.as_slice()
 }
 
 #[test]
 fn rows_are_lists(rt: HostRuntime) -> Result<(), Fail> {
-    let alloc = rt.alloc();
-    let numbers: Rows<u8> = Rows::new(alloc);
-    assert_eq!(rt; numbers.len(), 0);
-    assert_eq!(rt; numbers.is_empty(), true);
-    let numbers = Rows::from_vec([2, 3, 5].iter().copied().collect(alloc)?);
-    assert_eq!(rt; numbers.len(), 3);
-    assert_eq!(rt; numbers.is_empty(), false);
-    assert_eq!(rt; numbers.as_slice(), [2, 3, 5].as_slice());
-    assert_eq!(rt; numbers.into_vec().as_slice(), [2, 3, 5].as_slice());
-    Ok(())
+    ensure(is_none(&Rows::new(rt.alloc())))?;
+    let rows = Rows::from_vec(Vec::from_slice(rt.alloc(), &[2, 3, 5])?);
+    ensure(is_list(&rows, [2, 3, 5]))?;
+    ensure(rows.into_vec().as_slice() == [2, 3, 5].as_slice())
 }
 
 #[test]
-fn rules_are_numbered(rt: HostRuntime) {
-    for (index, rule) in Rule::OF_A_BOOK.iter().enumerate() {
-        assert_eq!(rt; usize::from(rule.number()), index + 1);
+fn rules_are_numbered(_rt: HostRuntime) -> Result<(), Fail> {
+    let mut number = 0u8;
+    for rule in Rule::OF_A_BOOK {
+        number = number.saturating_add(1);
+        ensure(rule.number() == number)?;
     }
-    assert_eq!(rt; Rule::StoredBalances.number(), 14);
+    ensure(number == 13 && Rule::StoredBalances.number() == 14)
 }
 
 // What a refusal is known by.
 fn is_known_by(alloc: Global, refusal: Refusal, known: &str) -> Result<(), Fail> {
-    if told(alloc, refusal.kind())?.as_str() != known {
-        return Err(Fail::new(known));
-    }
-    Ok(())
+    is(told(alloc, refusal.kind())?.as_str(), known)
+}
+
+// The refusals of a participant and of an order that are not there, and of a close.
+fn refusals_of_commands(alloc: Global) -> Result<(), Fail> {
+    let unknown = "UnknownParticipant = 1 UnknownParticipant Some(404) Some(1)";
+    is_known_by(alloc, Refusal::UnknownParticipant, unknown)?;
+    let unknown = "UnknownOrder = 9 UnknownOrder Some(404) Some(1)";
+    is_known_by(alloc, Refusal::UnknownOrder, unknown)?;
+    let (first, count) = (code_of(0)?, 1);
+    let overdrawn = "Overdrawn = 19 Overdrawn Some(409) Some(1)";
+    is_known_by(alloc, Refusal::Overdrawn { first, count }, overdrawn)
+}
+
+// The refusals of a desk that cannot go on.
+fn refusals_of_desks(alloc: Global) -> Result<(), Fail> {
+    let full = "OutOfMemory = 90 OutOfMemory Some(503) Some(3)";
+    is_known_by(alloc, Refusal::OutOfMemory, full)?;
+    let failed = "Failed = 92 Failed Some(503) Some(3)";
+    is_known_by(alloc, Refusal::Failed, failed)
 }
 
 #[test]
 fn refusals_are_numbered(rt: HostRuntime) -> Result<(), Fail> {
-    let alloc = rt.alloc();
-    let unknown = "UnknownParticipant = 1 UnknownParticipant Some(404) Some(1)";
-    is_known_by(alloc, Refusal::UnknownParticipant, unknown)?;
-    is_known_by(
-        alloc,
-        Refusal::UnknownOrder,
-        "UnknownOrder = 9 UnknownOrder Some(404) Some(1)",
-    )?;
-    let (first, count) = (code_of(0)?, 1);
-    let overdrawn = "Overdrawn = 19 Overdrawn Some(409) Some(1)";
-    is_known_by(alloc, Refusal::Overdrawn { first, count }, overdrawn)?;
-    is_known_by(
-        alloc,
-        Refusal::OutOfMemory,
-        "OutOfMemory = 90 OutOfMemory Some(503) Some(3)",
-    )?;
-    is_known_by(
-        alloc,
-        Refusal::Failed,
-        "Failed = 92 Failed Some(503) Some(3)",
-    )?;
+    refusals_of_commands(rt.alloc())?;
+    refusals_of_desks(rt.alloc())?;
     let rule = Rule::StoredBalances;
-    let fault = told(alloc, Fault::Inconsistent { rule }.kind())?;
-    assert_eq!(rt;
+    let fault = told(rt.alloc(), Fault::Inconsistent { rule }.kind())?;
+    is(
         fault.as_str(),
-        "Inconsistent = 94 Inconsistent None Some(3)"
-    );
-    Ok(())
+        "Inconsistent = 94 Inconsistent None Some(3)",
+    )
 }

@@ -1,6 +1,7 @@
 //! The core of a book.
+use super::script::ensure;
 use super::setting::{MONDAY, code, date};
-use rtgs_book::{Book, Day, Mark, Order, OrderState, Participant, Phase, Posting, Rows};
+use rtgs_book::{Account, Book, Day, Mark, Order, OrderState, Participant, Phase, Posting, Rows};
 use rtgs_cores::Core;
 use rtgs_money::{Amount, Cents, Credit, KeyDigest, Name, PostingAmount, Reference};
 use std::alloc::Global;
@@ -89,36 +90,40 @@ fn core(alloc: Global) -> Result<Core, Fail> {
     Ok(Core::of(alloc, &book)?)
 }
 
-#[test]
-fn a_core_has_balances(rt: HostRuntime) -> Result<(), Fail> {
-    let core = core(rt.alloc())?;
-    let [alfa, beta] = core.accounts.as_slice() else {
+// The accounts of ALFA and of BETA are these two.
+fn are_accounts(accounts: &[Account]) -> Result<(), Fail> {
+    let [alfa, beta] = accounts else {
         return Err(Fail::from("not two accounts"));
     };
-    let codes = [alfa.participant.code, beta.participant.code];
-    assert_eq!(rt; codes, [code("ALFA")?, code("BETA")?]);
-    assert_eq!(rt;
-        [alfa.balance, beta.balance],
-        [Cents::new(70), Cents::new(30)]
-    );
-    Ok(())
+    ensure(alfa.participant.code == code("ALFA")? && alfa.balance == Cents::new(70))?;
+    ensure(beta.participant.code == code("BETA")? && beta.balance == Cents::new(30))
+}
+
+#[test]
+fn a_core_has_balances(rt: HostRuntime) -> Result<(), Fail> {
+    are_accounts(core(rt.alloc())?.accounts.as_slice())
+}
+
+// The second order alone is queued.
+fn are_queued(queued: &[Order]) -> Result<(), Fail> {
+    let [queued] = queued else {
+        return Err(Fail::from("not one queued order"));
+    };
+    ensure(*queued == order(2, "A-2", 80, OrderState::Queued)?)
 }
 
 #[test]
 fn a_core_has_the_queued_orders(rt: HostRuntime) -> Result<(), Fail> {
-    let core = core(rt.alloc())?;
-    let [queued] = core.queued.as_slice() else {
-        return Err(Fail::from("not one queued order"));
-    };
-    assert_eq!(rt; *queued, order(2, "A-2", 80, OrderState::Queued)?);
-    Ok(())
+    are_queued(core(rt.alloc())?.queued.as_slice())
+}
+
+// The day, and the numbers of the next posting, order and mark.
+fn goes_on(core: &Core) -> Result<(), Fail> {
+    ensure(core.day == day()?)?;
+    ensure(core.next_posting == 2 && core.next_order == 3 && core.next_mark == 2)
 }
 
 #[test]
 fn a_core_has_the_day_and_the_next_numbers(rt: HostRuntime) -> Result<(), Fail> {
-    let core = core(rt.alloc())?;
-    let next = [core.next_posting, core.next_order, core.next_mark];
-    assert_eq!(rt; core.day, day()?);
-    assert_eq!(rt; next, [2, 3, 2]);
-    Ok(())
+    goes_on(&core(rt.alloc())?)
 }

@@ -1,5 +1,5 @@
 //! Every row of the table of refusals, with values written out by hand.
-use super::script::lines_of;
+use super::script::{ensure, is, lines_of};
 use rtgs_refusals::RefusalKind;
 use std::alloc::Global;
 use std::test::Fail;
@@ -62,58 +62,36 @@ NoListen = 97 NoListen None Some(3)
 NoOrderFile = 98 NoOrderFile None Some(3)
 ";
 
+// What stands after a kind among these. The match that it makes has an arm for each of them.
+macro_rules! after {
+    ($kind:expr; [$($arms:tt)*] $last:ident) => {
+        match $kind {
+            $($arms)*
+            RefusalKind::$last => None,
+        }
+    };
+    ($kind:expr; [$($arms:tt)*] $one:ident $next:ident $($rest:ident)*) => {
+        after!($kind; [$($arms)* RefusalKind::$one => Some(RefusalKind::$next),] $next $($rest)*)
+    };
+}
+
 // The kind that stands after this one in the table. Since the match names every kind, one that is new is missed here
 // first.
 fn kind_after(kind: RefusalKind) -> Option<RefusalKind> {
-    match kind {
-        RefusalKind::UnknownParticipant => Some(RefusalKind::UnknownReceiver),
-        RefusalKind::UnknownReceiver => Some(RefusalKind::SameParty),
-        RefusalKind::SameParty => Some(RefusalKind::ReferenceUsed),
-        RefusalKind::ReferenceUsed => Some(RefusalKind::NotOpen),
-        RefusalKind::NotOpen => Some(RefusalKind::NoCover),
-        RefusalKind::NoCover => Some(RefusalKind::QueueFull),
-        RefusalKind::QueueFull => Some(RefusalKind::NumbersUsedUp),
-        RefusalKind::NumbersUsedUp => Some(RefusalKind::UnknownOrder),
-        RefusalKind::UnknownOrder => Some(RefusalKind::CodeTaken),
-        RefusalKind::CodeTaken => Some(RefusalKind::KeyTaken),
-        RefusalKind::KeyTaken => Some(RefusalKind::TooManyParticipants),
-        RefusalKind::TooManyParticipants => Some(RefusalKind::TotalTooLarge),
-        RefusalKind::TotalTooLarge => Some(RefusalKind::WrongPhase),
-        RefusalKind::WrongPhase => Some(RefusalKind::WrongDate),
-        RefusalKind::WrongDate => Some(RefusalKind::Weekend),
-        RefusalKind::Weekend => Some(RefusalKind::NotQueued),
-        RefusalKind::NotQueued => Some(RefusalKind::Resolvable),
-        RefusalKind::Resolvable => Some(RefusalKind::Overdrawn),
-        RefusalKind::Overdrawn => Some(RefusalKind::BadCode),
-        RefusalKind::BadCode => Some(RefusalKind::BadReference),
-        RefusalKind::BadReference => Some(RefusalKind::BadAmount),
-        RefusalKind::BadAmount => Some(RefusalKind::BadName),
-        RefusalKind::BadName => Some(RefusalKind::BadKey),
-        RefusalKind::BadKey => Some(RefusalKind::BadDate),
-        RefusalKind::BadDate => Some(RefusalKind::BadHeader),
-        RefusalKind::BadHeader => Some(RefusalKind::BadRow),
-        RefusalKind::BadRow => Some(RefusalKind::BadCount),
-        RefusalKind::BadCount => Some(RefusalKind::BadHead),
-        RefusalKind::BadHead => Some(RefusalKind::HeadTooLong),
-        RefusalKind::HeadTooLong => Some(RefusalKind::NoLength),
-        RefusalKind::NoLength => Some(RefusalKind::BodyTooLong),
-        RefusalKind::BodyTooLong => Some(RefusalKind::Truncated),
-        RefusalKind::Truncated => Some(RefusalKind::BadJson),
-        RefusalKind::BadJson => Some(RefusalKind::WrongFields),
-        RefusalKind::WrongFields => Some(RefusalKind::NoSuchRoute),
-        RefusalKind::NoSuchRoute => Some(RefusalKind::NoKey),
-        RefusalKind::NoKey => Some(RefusalKind::AnswerLost),
-        RefusalKind::AnswerLost => Some(RefusalKind::OutOfMemory),
-        RefusalKind::OutOfMemory => Some(RefusalKind::StoreFault),
-        RefusalKind::StoreFault => Some(RefusalKind::Failed),
-        RefusalKind::Failed => Some(RefusalKind::NotADeskFile),
-        RefusalKind::NotADeskFile => Some(RefusalKind::Inconsistent),
-        RefusalKind::Inconsistent => Some(RefusalKind::InUse),
-        RefusalKind::InUse => Some(RefusalKind::FileExists),
-        RefusalKind::FileExists => Some(RefusalKind::NoListen),
-        RefusalKind::NoListen => Some(RefusalKind::NoOrderFile),
-        RefusalKind::NoOrderFile => None,
-    }
+    after!(kind; []
+        UnknownParticipant UnknownReceiver SameParty ReferenceUsed NotOpen NoCover QueueFull NumbersUsedUp
+        UnknownOrder CodeTaken KeyTaken TooManyParticipants TotalTooLarge WrongPhase WrongDate Weekend
+        NotQueued Resolvable Overdrawn BadCode BadReference BadAmount BadName BadKey BadDate BadHeader
+        BadRow BadCount BadHead HeadTooLong NoLength BodyTooLong Truncated BadJson WrongFields NoSuchRoute
+        NoKey AnswerLost OutOfMemory StoreFault Failed NotADeskFile Inconsistent InUse FileExists NoListen
+        NoOrderFile
+    )
+}
+
+// There is a kind, and it is that of this line.
+fn is_told(alloc: Global, kind: Option<RefusalKind>, line: &str) -> Result<(), Fail> {
+    let kind = kind.ok_or("a row after that of the last kind")?;
+    is(told(alloc, kind)?.as_str(), line)
 }
 
 #[test]
@@ -121,14 +99,9 @@ fn kinds_have_numbers_names_and_statuses(rt: HostRuntime) -> Result<(), Fail> {
     let mut next = Some(RefusalKind::UnknownParticipant);
     let mut rows = 0usize;
     for line in lines_of(TABLE)? {
-        let Some(kind) = next else {
-            return Err(Fail::from("a row after that of the last kind"));
-        };
-        assert_eq!(rt; told(rt.alloc(), kind)?.as_str(), line);
-        next = kind_after(kind);
+        is_told(rt.alloc(), next, line)?;
+        next = next.and_then(kind_after);
         rows = rows.saturating_add(1);
     }
-    assert_eq!(rt; next, None);
-    assert_eq!(rt; rows, 47);
-    Ok(())
+    ensure(next.is_none() && rows == 47)
 }

@@ -3,6 +3,24 @@ use std::alloc::Global;
 use std::str::Lines;
 use std::test::Fail;
 
+/// An error where something is not so.
+pub fn ensure(holds: bool) -> Result<(), Fail> {
+    if holds {
+        Ok(())
+    } else {
+        Err(Fail::from("it is not so"))
+    }
+}
+
+/// An error where a text is another.
+pub fn is(found: &str, wanted: &str) -> Result<(), Fail> {
+    if found == wanted {
+        Ok(())
+    } else {
+        Err(Fail::new(format_args!("{found}, and not {wanted}")))
+    }
+}
+
 /// The lines of a table, which has one at least.
 pub fn lines_of(table: &str) -> Result<Lines<'_>, Fail> {
     let table = table.trim();
@@ -22,17 +40,30 @@ pub fn sides<'a>(line: &'a str, between: &str) -> Result<(&'a str, &'a str), Fai
 
 /// The bytes of a text in quotes, in which `%` and two digits stand for the byte of that number.
 pub fn bytes_of(alloc: Global, quoted: &str) -> Result<Vec<u8>, Fail> {
-    let mut bytes = Vec::new(alloc);
-    let text = quoted.strip_prefix("'").ok_or("no quote before a text")?;
-    let text = text.strip_suffix("'").ok_or("no quote after a text")?;
-    for (place, part) in text.split("%").enumerate() {
-        if place == 0 {
-            bytes.extend_from_slice(part.as_bytes())?;
-            continue;
-        }
-        let (digits, rest) = part.split_at_checked(2).ok_or("no two digits of a byte")?;
-        bytes.push(u8::from_str_radix(digits, 16)?)?;
-        bytes.extend_from_slice(rest.as_bytes())?;
+    let mut parts = unquoted(quoted)?.split('%');
+    let plain = parts.next().unwrap_or("");
+    let mut bytes = Vec::from_slice(alloc, plain.as_bytes())?;
+    for part in parts {
+        add(&mut bytes, part)?;
     }
     Ok(bytes)
+}
+
+// What stands between the quotes.
+fn unquoted(quoted: &str) -> Result<&str, Fail> {
+    let text = quoted.strip_prefix("'").ok_or("no quote before a text")?;
+    Ok(text.strip_suffix("'").ok_or("no quote after a text")?)
+}
+
+// Adds the byte of the two digits that a part begins with, and the bytes of the rest.
+fn add(bytes: &mut Vec<u8>, part: &str) -> Result<(), Fail> {
+    let (byte, rest) = byte_of(part)?;
+    bytes.push(byte)?;
+    bytes.extend_from_slice(rest.as_bytes())?;
+    Ok(())
+}
+
+fn byte_of(part: &str) -> Result<(u8, &str), Fail> {
+    let (digits, rest) = part.split_at_checked(2).ok_or("no two digits of a byte")?;
+    Ok((u8::from_str_radix(digits, 16)?, rest))
 }

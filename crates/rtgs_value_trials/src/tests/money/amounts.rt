@@ -1,5 +1,5 @@
 //! Cents as text, and sums in units.
-use super::super::script::{lines_of, sides};
+use super::super::script::{ensure, lines_of, sides};
 use super::forms::{Form, reads};
 use rtgs_money::{Amount, Cents, Credit, PostingAmount, Units};
 use std::alloc::Global;
@@ -113,25 +113,47 @@ const NO_POSTINGS: &str = "
 -9223372036854775808
 ";
 
+// The cents of a line make no amount.
+fn is_no_amount(line: &str) -> Result<(), Fail> {
+    match Amount::from_cents(line.parse::<u64>()?) {
+        None => Ok(()),
+        Some(_) => Err(Fail::new(line)),
+    }
+}
+
+// The cents of a line make no posting.
+fn is_no_posting(line: &str) -> Result<(), Fail> {
+    match PostingAmount::from_cents(line.parse::<i64>()?) {
+        None => Ok(()),
+        Some(_) => Err(Fail::new(line)),
+    }
+}
+
+// The least amount is less than the largest.
+fn amounts_rise() -> Result<(), Fail> {
+    let least = Amount::from_cents(1).ok_or("no least amount")?;
+    let largest = Amount::from_cents(1_000_000_000_000).ok_or("no largest amount")?;
+    ensure(least < largest)
+}
+
+// Cents at a limit make a value.
+fn limits_make_values() -> Result<(), Fail> {
+    let debit = PostingAmount::from_cents(-1).ok_or("no debit")?;
+    let credit = Credit::from_cents(0).ok_or("no credit")?;
+    ensure(debit.cents() == -1 && credit == Credit::NONE)
+}
+
 #[test]
 fn cents_outside_the_range_make_no_value(rt: HostRuntime) -> Result<(), Fail> {
     for line in lines_of(NO_AMOUNTS)? {
-        assert_eq!(rt; Amount::from_cents(line.parse::<u64>()?), None, "{line}");
+        is_no_amount(line)?;
     }
     for line in lines_of(NO_POSTINGS)? {
-        assert_eq!(rt;
-            PostingAmount::from_cents(line.parse::<i64>()?),
-            None,
-            "{line}"
-        );
+        is_no_posting(line)?;
     }
-    assert_eq!(rt; Credit::from_cents(100_000_000_000_001), None);
-    assert!(rt; Amount::from_cents(1).is_some());
-    assert!(rt; Amount::from_cents(1) < Amount::from_cents(1_000_000_000_000));
-    let debit = PostingAmount::from_cents(-1).ok_or("no debit")?;
-    assert_eq!(rt; debit.cents(), -1);
-    assert_eq!(rt; Credit::from_cents(0), Some(Credit::NONE));
-    Ok(())
+    assert!(rt; Credit::from_cents(100_000_000_000_001).is_none());
+    amounts_rise()?;
+    limits_make_values()
 }
 
 /// Cents, and how they are shown in units.
@@ -149,16 +171,30 @@ const UNITS: &str = "
 -170141183460469231731687303715884105728 = -1701411834604692317316873037158841057.28
 ";
 
-// Cents are shown with two decimals as the line says, and as a text alike.
+// Whether units are shown so, and as a text alike.
+fn is_shown(alloc: Global, units: Units, text: &str, line: &str) -> Result<bool, Fail> {
+    let printed = format!(in alloc; "{} = {units}", units.cents())?;
+    Ok(units.text().as_str() == text && printed.as_str() == line)
+}
+
+fn units_of(cents: &str) -> Result<Units, Fail> {
+    Ok(Units::new(cents.parse::<i128>()?))
+}
+
+// Cents are shown with two decimals as the line says.
 fn shows_units(alloc: Global, line: &str) -> Result<(), Fail> {
     let (cents, text) = sides(line, " = ")?;
-    let units = Units::new(cents.parse::<i128>()?);
-    let printed = format!(in alloc; "{} = {units}", units.cents())?;
-    if units.text().as_str() == text && printed.as_str() == line {
+    if is_shown(alloc, units_of(cents)?, text, line)? {
         Ok(())
     } else {
         Err(Fail::new(line))
     }
+}
+
+// Whether the least balance is shown in units.
+fn shows_the_least_balance() -> bool {
+    let balance = Cents::new(i64::MIN);
+    balance.cents() == i64::MIN && balance.units().text().as_str() == "-92233720368547758.08"
 }
 
 #[test]
@@ -166,8 +202,5 @@ fn units_have_two_decimals(rt: HostRuntime) -> Result<(), Fail> {
     for line in lines_of(UNITS)? {
         shows_units(rt.alloc(), line)?;
     }
-    let balance = Cents::new(i64::MIN);
-    assert_eq!(rt; balance.cents(), i64::MIN);
-    assert_eq!(rt; balance.units().text().as_str(), "-92233720368547758.08");
-    Ok(())
+    ensure(shows_the_least_balance())
 }

@@ -1,7 +1,9 @@
 //! Codes, references and names, and the refusals' numbers.
-use super::super::script::{lines_of, sides};
+use super::super::script::{ensure, is, lines_of, sides};
+use super::super::setting::code;
 use super::forms::{Form, reads};
 use rtgs_money::{BusinessDate, Code, Key, Lexical, Name, Reference};
+use std::alloc::Global;
 use std::test::Fail;
 
 /// Bytes, and the bytes of the code.
@@ -81,32 +83,47 @@ AAAA < AAB
 AAB < B00
 ";
 
-#[test]
-fn codes_stand_in_the_order_of_their_bytes(rt: HostRuntime) -> Result<(), Fail> {
-    for line in lines_of(RISING_CODES)? {
-        let (earlier, later) = sides(line, " < ")?;
-        assert!(rt;
-            Code::read(earlier.as_bytes())? < Code::read(later.as_bytes())?,
-            "{line}"
-        );
+// The first code of a line is the lesser.
+fn rises(line: &str) -> Result<(), Fail> {
+    let (earlier, later) = sides(line, " < ")?;
+    if code(earlier)? < code(later)? {
+        Ok(())
+    } else {
+        Err(Fail::new(line))
     }
-    assert!(rt; Reference::read(b"A-1")? < Reference::read(b"A01")?);
-    Ok(())
+}
+
+#[test]
+fn codes_stand_in_the_order_of_their_bytes(_rt: HostRuntime) -> Result<(), Fail> {
+    for line in lines_of(RISING_CODES)? {
+        rises(line)?;
+    }
+    ensure(Reference::read(b"A-1")? < Reference::read(b"A01")?)
+}
+
+// Codes, references and names.
+fn short_texts_are_lent() -> Result<(), Fail> {
+    is(Code::read(b"ALFA")?.as_str(), "ALFA")?;
+    is(Reference::read(b"A-1")?.as_str(), "A-1")?;
+    is(Name::read(b"Alfa Bank")?.as_str(), "Alfa Bank")
+}
+
+fn a_key_is_lent() -> Result<(), Fail> {
+    let key = Key::read(b"0123456789abcdef0123456789abcdef")?;
+    is(key.as_str(), "0123456789abcdef0123456789abcdef")
+}
+
+fn a_date_is_lent(alloc: Global) -> Result<(), Fail> {
+    let text = BusinessDate::read(b"2024-03-04")?.text();
+    let printed = format!(in alloc; "{text:>12}|{text:?}")?;
+    is(printed.as_str(), "  2024-03-04|\"2024-03-04\"")
 }
 
 #[test]
 fn texts_are_lent_as_they_were_read(rt: HostRuntime) -> Result<(), Fail> {
-    assert_eq!(rt; Code::read(b"ALFA")?.as_str(), "ALFA");
-    assert_eq!(rt; Reference::read(b"A-1")?.as_str(), "A-1");
-    assert_eq!(rt; Name::read(b"Alfa Bank")?.as_str(), "Alfa Bank");
-    let key = Key::read(b"0123456789abcdef0123456789abcdef")?;
-    assert_eq!(rt; key.as_str(), "0123456789abcdef0123456789abcdef");
-    let text = BusinessDate::read(b"2024-03-04")?.text();
-    assert_eq!(rt;
-        format!(in rt.alloc(); "{text:>12}|{text:?}")?.as_str(),
-        "  2024-03-04|\"2024-03-04\""
-    );
-    Ok(())
+    short_texts_are_lent()?;
+    a_key_is_lent()?;
+    a_date_is_lent(rt.alloc())
 }
 
 /// The refusals with their numbers and names, and what they print.
@@ -131,16 +148,24 @@ fn refusal_after(refusal: Lexical) -> Option<Lexical> {
     }
 }
 
+// The refusal with its number and name, and what it prints.
+fn told(alloc: Global, refusal: Lexical) -> Result<String, Fail> {
+    let (number, name) = (refusal.kind().number(), refusal.kind().name());
+    Ok(format!(in alloc; "{refusal:?} = {number} {name} {refusal}")?)
+}
+
+// There is a refusal, and it is that of this line.
+fn is_told(alloc: Global, refusal: Option<Lexical>, line: &str) -> Result<(), Fail> {
+    let refusal = refusal.ok_or("a line after that of the last refusal")?;
+    is(told(alloc, refusal)?.as_str(), line)
+}
+
 #[test]
 fn refusals_have_their_numbers_and_names(rt: HostRuntime) -> Result<(), Fail> {
     let mut next = Some(Lexical::BadCode);
     for line in lines_of(REFUSALS)? {
-        let refusal = next.ok_or("a line after that of the last refusal")?;
-        let (number, name) = (refusal.kind().number(), refusal.kind().name());
-        let told = format!(in rt.alloc(); "{refusal:?} = {number} {name} {refusal}")?;
-        assert_eq!(rt; told.as_str(), line);
-        next = refusal_after(refusal);
+        is_told(rt.alloc(), next, line)?;
+        next = next.and_then(refusal_after);
     }
-    assert_eq!(rt; next, None);
-    Ok(())
+    ensure(next.is_none())
 }

@@ -47,13 +47,25 @@ pub fn book_of(alloc: Global, lines: &str) -> Result<Book, Fail> {
 // Reads a line, and puts its record after the others.
 fn put(alloc: Global, records: &mut Records, line: &str) -> Result<(), Fail> {
     let (kind, fields) = sides(line, " ")?;
-    match kind {
-        "participant" => put_participant(&mut records.participants, fields),
-        "posting" => put_posting(alloc, &mut records.postings, fields),
-        "order" => put_order(alloc, &mut records.orders, fields),
-        "mark" => put_mark(alloc, &mut records.marks, fields),
-        _ => Err(Fail::new(line)),
+    if kind == "participant" {
+        return put_participant(&mut records.participants, fields);
     }
+    let words = words_of(alloc, fields)?;
+    put_words(records, kind, words.as_slice())
+}
+
+// Puts a posting, an order or a mark after the others, by its words.
+fn put_words(records: &mut Records, kind: &str, words: &[&str]) -> Result<(), Fail> {
+    if kind == "posting" {
+        return put_posting(&mut records.postings, words);
+    }
+    if kind == "order" {
+        return put_order(&mut records.orders, words);
+    }
+    if kind == "mark" {
+        return put_mark(&mut records.marks, words);
+    }
+    Err(Fail::new(kind))
 }
 
 fn put_participant(participants: &mut Vec<Participant>, fields: &str) -> Result<(), Fail> {
@@ -63,20 +75,20 @@ fn put_participant(participants: &mut Vec<Participant>, fields: &str) -> Result<
     Ok(())
 }
 
-fn put_posting(alloc: Global, postings: &mut Vec<Posting>, fields: &str) -> Result<(), Fail> {
-    let read = [posting(alloc, fields)?];
+fn put_posting(postings: &mut Vec<Posting>, words: &[&str]) -> Result<(), Fail> {
+    let read = [posting(words)?];
     postings.extend_from_slice(&read)?;
     Ok(())
 }
 
-fn put_order(alloc: Global, orders: &mut Vec<Order>, fields: &str) -> Result<(), Fail> {
-    let order = order(alloc, fields)?;
+fn put_order(orders: &mut Vec<Order>, words: &[&str]) -> Result<(), Fail> {
+    let order = order(words)?;
     orders.push(order)?;
     Ok(())
 }
 
-fn put_mark(alloc: Global, marks: &mut Vec<Mark>, fields: &str) -> Result<(), Fail> {
-    let mark = mark(alloc, fields)?;
+fn put_mark(marks: &mut Vec<Mark>, words: &[&str]) -> Result<(), Fail> {
+    let mark = mark(words)?;
     marks.push(mark)?;
     Ok(())
 }
@@ -91,10 +103,9 @@ fn participant(text: &str, place: u8) -> Result<Participant, Fail> {
     })
 }
 
-fn posting(alloc: Global, fields: &str) -> Result<Posting, Fail> {
-    let words = words_of(alloc, fields)?;
-    let [number, to, reference, cents, day] = words.as_slice() else {
-        return Err(Fail::new(fields));
+fn posting(words: &[&str]) -> Result<Posting, Fail> {
+    let [number, to, reference, cents, day] = words else {
+        return Err(Fail::from("another number of words"));
     };
     Ok(Posting {
         number: number.parse::<u64>()?,
@@ -105,10 +116,9 @@ fn posting(alloc: Global, fields: &str) -> Result<Posting, Fail> {
     })
 }
 
-fn order(alloc: Global, fields: &str) -> Result<Order, Fail> {
-    let words = words_of(alloc, fields)?;
-    let [number, sender, receiver, reference, cents, day, state] = words.as_slice() else {
-        return Err(Fail::new(fields));
+fn order(words: &[&str]) -> Result<Order, Fail> {
+    let [number, sender, receiver, reference, cents, day, state] = words else {
+        return Err(Fail::from("another number of words"));
     };
     Ok(Order {
         number: number.parse::<u64>()?,
@@ -121,10 +131,9 @@ fn order(alloc: Global, fields: &str) -> Result<Order, Fail> {
     })
 }
 
-fn mark(alloc: Global, fields: &str) -> Result<Mark, Fail> {
-    let words = words_of(alloc, fields)?;
-    let [number, day, count, cents] = words.as_slice() else {
-        return Err(Fail::new(fields));
+fn mark(words: &[&str]) -> Result<Mark, Fail> {
+    let [number, day, count, cents] = words else {
+        return Err(Fail::from("another number of words"));
     };
     Ok(Mark {
         number: number.parse::<u64>()?,
@@ -147,10 +156,14 @@ fn date_or_none(word: &str) -> Result<Option<BusinessDate>, Fail> {
 
 // Where an order stands: a number is that of the mark under which it was settled.
 fn state_of(word: &str) -> Result<OrderState, Fail> {
-    match word {
-        "queued" => Ok(OrderState::Queued),
-        "withdrawn" => Ok(OrderState::Withdrawn),
-        "rejected" => Ok(OrderState::Rejected),
-        mark => Ok(OrderState::Settled(mark.parse::<u64>()?)),
+    if word == "queued" {
+        return Ok(OrderState::Queued);
     }
+    if word == "withdrawn" {
+        return Ok(OrderState::Withdrawn);
+    }
+    if word == "rejected" {
+        return Ok(OrderState::Rejected);
+    }
+    Ok(OrderState::Settled(word.parse::<u64>()?))
 }

@@ -1,4 +1,5 @@
 //! Reads that are refused, each in turn: what was written is a beginning of the text.
+use super::super::script::ensure;
 use super::super::setting::{MONDAY, code, date};
 use super::books::book_of;
 use super::shelf::{Shelf, Trouble};
@@ -92,15 +93,6 @@ fn whole_statement(alloc: Global) -> Result<Tried, Fail> {
 // The whole report.
 fn whole_report(alloc: Global) -> Result<Tried, Fail> {
     report(alloc, Shelf::new(book_of(alloc, RECORDS)?))
-}
-
-// An error where something is not so.
-fn ensure(holds: bool) -> Result<(), Fail> {
-    if holds {
-        Ok(())
-    } else {
-        Err(Fail::from("it is not so"))
-    }
 }
 
 #[test]
