@@ -52,11 +52,7 @@ fn batch_text(alloc: Global, batch: &BatchResult) -> Result<String, Fail> {
 }
 
 // What the desk replies to an order file of ALFA.
-fn replies_text<K: Keeper>(
-    alloc: Global,
-    desk: &mut Desk<K>,
-    file: &str,
-) -> Result<String, Fail> {
+fn replies_text<K: Keeper>(alloc: Global, desk: &mut Desk<K>, file: &str) -> Result<String, Fail> {
     let rows = rows_of(alloc, file)?;
     let batch = submitted(alloc, desk, rows.as_slice())?;
     batch_text(alloc, &batch)
@@ -70,11 +66,7 @@ fn written(alloc: Global, rows: &[OrderRow], batch: &BatchResult) -> Result<Stri
 }
 
 // The text of the result file of an order file of ALFA.
-fn results_text<K: Keeper>(
-    alloc: Global,
-    desk: &mut Desk<K>,
-    file: &str,
-) -> Result<String, Fail> {
+fn results_text<K: Keeper>(alloc: Global, desk: &mut Desk<K>, file: &str) -> Result<String, Fail> {
     let rows = rows_of(alloc, file)?;
     let batch = submitted(alloc, desk, rows.as_slice())?;
     written(alloc, rows.as_slice(), &batch)

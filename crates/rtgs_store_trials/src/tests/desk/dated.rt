@@ -54,12 +54,7 @@ fn the_codes_come_in_order(rt: HostRuntime) -> Result<(), Fail> {
 }
 
 // Writes a participant's statement of Monday.
-fn state<S: Source>(
-    alloc: Global,
-    text: &mut Vec<u8>,
-    desk: &mut S,
-    of: &str,
-) -> Result<(), Fail> {
+fn state<S: Source>(alloc: Global, text: &mut Vec<u8>, desk: &mut S, of: &str) -> Result<(), Fail> {
     let of = code(of)?;
     let monday = day_of("2024-03-04")?;
     match write_statement(alloc, text, desk, &of, monday) {
@@ -94,12 +89,7 @@ net                                  0.60
 ";
 
 // Fails unless this is the participant's statement of Monday.
-fn is_stated<S: Source>(
-    alloc: Global,
-    desk: &mut S,
-    of: &str,
-    wanted: &str,
-) -> Result<(), Fail> {
+fn is_stated<S: Source>(alloc: Global, desk: &mut S, of: &str, wanted: &str) -> Result<(), Fail> {
     let text = statement(alloc, desk, of)?;
     is_same(text.as_str(), wanted)
 }
