@@ -9,7 +9,7 @@ use super::scripts::desks::desk_after;
 use super::setting::code;
 use rtgs_desk::Desk;
 use rtgs_exchange::{BatchResult, OrderRow, read_orders, submit_batch, write_results};
-use rtgs_keeper::MemoryKeeper;
+use rtgs_keeper::{Keeper, MemoryKeeper};
 use std::alloc::Global;
 use std::test::Fail;
 
@@ -37,20 +37,25 @@ fn open_desk(alloc: Global) -> Result<Desk<MemoryKeeper>, Fail> {
 }
 
 // Submits the rows of ALFA.
-fn submitted(
+fn submitted<K: Keeper>(
     alloc: Global,
-    desk: &mut Desk<MemoryKeeper>,
+    desk: &mut Desk<K>,
     rows: &[OrderRow],
 ) -> Result<BatchResult, Fail> {
     let sender = code("ALFA")?;
     Ok(submit_batch(alloc, desk, sender, rows)?)
 }
 
+// What a batch was replied.
+fn batch_text(alloc: Global, batch: &BatchResult) -> Result<String, Fail> {
+    Ok(format!(in alloc; "{batch:?}")?)
+}
+
 // What the desk replies to an order file of ALFA.
-fn replies_text(alloc: Global, desk: &mut Desk<MemoryKeeper>, file: &str) -> Result<String, Fail> {
+fn replies_text<K: Keeper>(alloc: Global, desk: &mut Desk<K>, file: &str) -> Result<String, Fail> {
     let rows = rows_of(alloc, file)?;
     let batch = submitted(alloc, desk, rows.as_slice())?;
-    Ok(format!(in alloc; "{batch:?}")?)
+    batch_text(alloc, &batch)
 }
 
 // The text of the result file of this batch.
@@ -61,7 +66,7 @@ fn written(alloc: Global, rows: &[OrderRow], batch: &BatchResult) -> Result<Stri
 }
 
 // The text of the result file of an order file of ALFA.
-fn results_text(alloc: Global, desk: &mut Desk<MemoryKeeper>, file: &str) -> Result<String, Fail> {
+fn results_text<K: Keeper>(alloc: Global, desk: &mut Desk<K>, file: &str) -> Result<String, Fail> {
     let rows = rows_of(alloc, file)?;
     let batch = submitted(alloc, desk, rows.as_slice())?;
     written(alloc, rows.as_slice(), &batch)

@@ -5,6 +5,7 @@ use super::setting::change;
 use rtgs_book::{Answer, Day, Fault, Phase, Refusal, RowChange};
 use rtgs_cores::Found;
 use rtgs_keeper::{Keeper, MemoryKeeper};
+use std::alloc::Global;
 use std::test::Fail;
 
 #[test]
@@ -30,15 +31,19 @@ fn an_unknown_participant_gets_no_posting(rt: HostRuntime) -> Result<(), Fail> {
     Ok(())
 }
 
-#[test]
-fn a_book_that_is_not_sound_has_no_core_to_load(rt: HostRuntime) -> Result<(), Fail> {
+/// What a keeper fails with whose day is open, and has no date.
+fn fault_without_a_date<K: Keeper>(alloc: Global, keeper: &mut K) -> Result<Option<Fault>, Fail> {
     let open = Day {
         date: None,
         phase: Phase::Open,
     };
-    let mut keeper = MemoryKeeper::new(rt.alloc());
-    keeper.commit(&change(rt.alloc(), &[RowChange::SetDay(open)])?)?;
-    let fault = keeper.core(rt.alloc()).err();
+    keeper.commit(&change(alloc, &[RowChange::SetDay(open)])?)?;
+    Ok(keeper.core(alloc).err())
+}
+
+#[test]
+fn a_book_that_is_not_sound_has_no_core_to_load(rt: HostRuntime) -> Result<(), Fail> {
+    let fault = fault_without_a_date(rt.alloc(), &mut MemoryKeeper::new(rt.alloc()))?;
     assert!(rt; matches!(fault, Some(Fault::Inconsistent { .. })));
     Ok(())
 }

@@ -34,13 +34,23 @@ pub fn follows<A: Answers>(alloc: Global, answering: &mut A, script: &str) -> Re
 /// Fails unless the line is answered as it tells.
 fn follows_line<A: Answers>(alloc: Global, answering: &mut A, line: &str) -> Result<(), Fail> {
     let Some((asked, told)) = line.split_once(" => ") else {
-        let said = format!(in alloc; "a line without an answer: {line}")?;
-        return Err(Fail::from(said));
+        return without_answer(alloc, line);
     };
     let answer = answering.answer(alloc, asked)?;
     if answer.as_str() == told {
         return Ok(());
     }
+    answered_otherwise(alloc, line, answer.as_str())
+}
+
+/// Fails, since the line tells no answer.
+fn without_answer(alloc: Global, line: &str) -> Result<(), Fail> {
+    let said = format!(in alloc; "a line without an answer: {line}")?;
+    Err(Fail::from(said))
+}
+
+/// Fails, since the line was answered so.
+fn answered_otherwise(alloc: Global, line: &str, answer: &str) -> Result<(), Fail> {
     let said = format!(in alloc; "{line}\nwas answered {answer}")?;
     Err(Fail::from(said))
 }

@@ -1,14 +1,14 @@
-//! Banks, their records, desks over keepers in memory, and keepers over tables.
+//! Banks, their records, desks over keepers, and keepers over tables.
 use rtgs_book::{
     Answer, Change, Order, OrderState, Participant, Posting, Refusal, RowChange, Rows,
 };
 use rtgs_desk::Desk;
-use rtgs_keeper::MemoryKeeper;
+use rtgs_keeper::Keeper;
 use rtgs_money::{
     Amount, BusinessDate, Cents, Code, Credit, KeyDigest, Name, PostingAmount, Reference,
 };
 use rtgs_tables::SqlKeeper;
-use sqlite::{Connection, MemStore};
+use sqlite::{Alter, Connection, MemStore};
 use std::alloc::Global;
 use std::test::Fail;
 
@@ -17,6 +17,14 @@ pub type Reply = Result<Answer, Refusal>;
 
 /// The first day of the week.
 pub const MONDAY: u32 = 20240304;
+
+/// Fails where another text is wanted.
+pub fn is_same(found: &str, wanted: &str) -> Result<(), Fail> {
+    if found == wanted {
+        return Ok(());
+    }
+    Err(Fail::new(found))
+}
 
 /// The code of this text.
 pub fn code(text: &str) -> Result<Code, Fail> {
@@ -85,8 +93,31 @@ pub fn new_keeper(alloc: Global) -> Result<SqlKeeper<MemStore>, Fail> {
     }
 }
 
-/// A desk over a keeper in memory.
-pub fn desk_over(alloc: Global, keeper: MemoryKeeper) -> Result<Desk<MemoryKeeper>, Fail> {
+/// The keeper, once it has kept these rows as one change.
+pub fn kept<K: Keeper + Drop>(alloc: Global, keeper: K, rows: &[RowChange]) -> Result<K, Fail> {
+    let mut keeper = keeper;
+    keeper.commit(&change(alloc, rows)?)?;
+    Ok(keeper)
+}
+
+/// The tables of a keeper, opened anew.
+pub fn opened<S: Alter + Drop>(keeper: SqlKeeper<S>) -> SqlKeeper<S> {
+    SqlKeeper::open(keeper.into_connection())
+}
+
+/// The tables of a keeper, opened anew once this was done to them.
+pub fn meddled<S: Alter + Drop>(keeper: SqlKeeper<S>, sql: &str) -> Result<SqlKeeper<S>, Fail> {
+    let mut conn = keeper.into_connection();
+    conn.execute_batch(sql)?;
+    if conn.is_autocommit() {
+        Ok(SqlKeeper::open(conn))
+    } else {
+        Err(Fail::from("in a transaction"))
+    }
+}
+
+/// A desk over a keeper.
+pub fn desk_over<K: Keeper + Drop>(alloc: Global, keeper: K) -> Result<Desk<K>, Fail> {
     match Desk::open(alloc, keeper) {
         Ok(desk) => Ok(desk),
         Err((fault, _)) => Err(Fail::from(fault)),

@@ -4,12 +4,12 @@ mod no_memory;
 mod stored_numbers;
 
 use super::scripts::{Answers, follows};
-use super::setting::{change, code, new_keeper, participant, posting};
-use rtgs_book::{Book, Change, Fault, RowChange};
+use super::setting::{change, code, meddled, new_keeper, opened, participant, posting};
+use rtgs_book::{Book, Change, Fault, Participant, Posting, RowChange};
 use rtgs_keeper::{CommitFault, Keeper};
 use rtgs_money::Cents;
 use rtgs_tables::SqlKeeper;
-use sqlite::{Connection, MemStore};
+use sqlite::{Alter, Connection, MemStore};
 use std::alloc::Global;
 use std::test::Fail;
 
@@ -41,21 +41,33 @@ fn add_two_banks<K: Keeper>(alloc: Global, keeper: &mut K) -> Result<(), Fail> {
     Ok(())
 }
 
-/// A keeper with these two banks in its tables.
-fn two_banks(alloc: Global) -> Result<SqlKeeper<MemStore>, Fail> {
-    let mut keeper = new_keeper(alloc)?;
+/// The keeper, with these two banks in its book.
+fn with_two_banks<K: Keeper + Drop>(alloc: Global, keeper: K) -> Result<K, Fail> {
+    let mut keeper = keeper;
     add_two_banks(alloc, &mut keeper)?;
     Ok(keeper)
 }
 
-/// A desk's tables of two banks, which are meddled with.
-pub fn meddled(alloc: Global, sql: &str) -> Result<SqlKeeper<MemStore>, Fail> {
-    let mut conn = two_banks(alloc)?.into_connection();
-    conn.execute_batch(sql)?;
-    if !conn.is_autocommit() {
-        return Err(Fail::from("in a transaction"));
-    }
-    Ok(SqlKeeper::open(conn))
+/// A keeper with these two banks in its tables.
+fn two_banks(alloc: Global) -> Result<SqlKeeper<MemStore>, Fail> {
+    let keeper = new_keeper(alloc)?;
+    with_two_banks(alloc, keeper)
+}
+
+/// The book of two banks, once a line of SQL was run on their tables, or why none is loaded.
+pub fn loaded_after(alloc: Global, sql: &str) -> Result<Result<Book, Fault>, Fail> {
+    let keeper = two_banks(alloc)?;
+    meddled_and_loaded(alloc, keeper, sql)
+}
+
+/// The same of any tables.
+fn meddled_and_loaded<S: Alter + Drop>(
+    alloc: Global,
+    keeper: SqlKeeper<S>,
+    sql: &str,
+) -> Result<Result<Book, Fault>, Fail> {
+    let mut keeper = meddled(keeper, sql)?;
+    Ok(keeper.load(alloc))
 }
 
 /// Tells what `load` answers once a line of SQL was run on the tables of two banks.
@@ -64,8 +76,7 @@ struct Meddling;
 
 impl Answers for Meddling {
     fn answer(&mut self, alloc: Global, asked: &str) -> Result<String, Fail> {
-        let mut keeper = meddled(alloc, asked)?;
-        match keeper.load(alloc) {
+        match loaded_after(alloc, asked)? {
             Ok(_) => Ok(format!(in alloc; "sound")?),
             Err(fault) => Ok(format!(in alloc; "{fault:?}")?),
         }
@@ -77,36 +88,56 @@ fn tables_follow(rt: &HostRuntime, script: &str) -> Result<(), Fail> {
     follows(rt.alloc(), &mut Meddling, script)
 }
 
+/// The book of new tables.
+fn new_book(alloc: Global) -> Result<Book, Fail> {
+    let mut keeper = new_keeper(alloc)?;
+    Ok(keeper.load(alloc)?)
+}
+
 #[test]
 fn a_new_book_is_empty(rt: HostRuntime) -> Result<(), Fail> {
-    let book = new_keeper(rt.alloc())?.load(rt.alloc())?;
-    assert!(rt; book.participants.is_empty());
-    assert!(rt; book.day.date.is_none());
+    let book = new_book(rt.alloc())?;
+    let told = (book.participants.is_empty(), book.day.date.is_none());
+    assert_eq!(rt; told, (true, true));
     Ok(())
+}
+
+/// Whether these are the two banks.
+fn are_two_banks(participants: &[Participant]) -> Result<bool, Fail> {
+    let banks = [participant("ALFA", 1)?, participant("BETA", 2)?];
+    Ok(participants == banks.as_slice())
+}
+
+/// Whether there is the one posting alone.
+fn is_one_posting(postings: &[Posting]) -> Result<bool, Fail> {
+    let posting = posting(1, "ALFA", "P-1", 1000)?;
+    Ok(postings == [posting].as_slice())
 }
 
 /// Whether a book has the two banks and the posting, and nothing else of them.
 fn has_two_banks(book: &Book) -> Result<bool, Fail> {
-    let banks = [participant("ALFA", 1)?, participant("BETA", 2)?];
-    let postings = [posting(1, "ALFA", "P-1", 1000)?];
-    Ok(
-        book.participants.as_slice() == banks.as_slice()
-            && book.postings.as_slice() == postings.as_slice(),
-    )
+    let has_banks = are_two_banks(book.participants.as_slice())?;
+    let has_posting = is_one_posting(book.postings.as_slice())?;
+    Ok(has_banks && has_posting)
+}
+
+/// The book that is found again in a keeper's tables.
+fn found_again<S: Alter + Drop>(alloc: Global, keeper: SqlKeeper<S>) -> Result<Book, Fail> {
+    let mut keeper = opened(keeper);
+    Ok(keeper.load(alloc)?)
 }
 
 #[test]
 fn changes_are_found_again(rt: HostRuntime) -> Result<(), Fail> {
-    let conn = two_banks(rt.alloc())?.into_connection();
-    let book = SqlKeeper::open(conn).load(rt.alloc())?;
+    let book = found_again(rt.alloc(), two_banks(rt.alloc())?)?;
     assert!(rt; has_two_banks(&book)?);
     Ok(())
 }
 
 /// What the keeper fails with at a posting whose reference was used, and at another posting.
-fn faults_of_postings(
+fn faults_of_postings<K: Keeper>(
     alloc: Global,
-    keeper: &mut SqlKeeper<MemStore>,
+    keeper: &mut K,
 ) -> Result<[Option<CommitFault>; 2], Fail> {
     let repeated = posts(alloc, 2, "P-1", 5, 1005)?;
     let another = posts(alloc, 2, "P-2", 5, 1005)?;
@@ -116,20 +147,24 @@ fn faults_of_postings(
     ])
 }
 
-/// How many postings are found again in a keeper's tables.
-fn postings_found(alloc: Global, keeper: SqlKeeper<MemStore>) -> Result<usize, Fail> {
-    let mut again = SqlKeeper::open(keeper.into_connection());
-    Ok(again.load(alloc)?.postings.len())
+/// The same faults and that of loading after them, and how many postings are found again in the tables.
+fn faults_and_postings<S: Alter + Drop>(
+    alloc: Global,
+    keeper: SqlKeeper<S>,
+) -> Result<([Option<CommitFault>; 2], Option<Fault>, usize), Fail> {
+    let mut keeper = keeper;
+    let faults = faults_of_postings(alloc, &mut keeper)?;
+    let at_load = keeper.load(alloc).err();
+    let found = found_again(alloc, keeper)?;
+    Ok((faults, at_load, found.postings.len()))
 }
 
 #[test]
 fn a_repeated_key_fails_the_keeper(rt: HostRuntime) -> Result<(), Fail> {
-    let mut keeper = two_banks(rt.alloc())?;
-    let faults = faults_of_postings(rt.alloc(), &mut keeper)?;
-    let at_load = keeper.load(rt.alloc()).err();
-    let wanted = [Some(CommitFault::Store), Some(CommitFault::Failed)];
-    assert_eq!(rt; (faults, at_load), (wanted, Some(Fault::StoreFault)));
-    assert_eq!(rt; postings_found(rt.alloc(), keeper)?, 1);
+    let keeper = two_banks(rt.alloc())?;
+    let told = faults_and_postings(rt.alloc(), keeper)?;
+    let faults = [Some(CommitFault::Store), Some(CommitFault::Failed)];
+    assert_eq!(rt; told, (faults, Some(Fault::StoreFault), 1));
     Ok(())
 }
 

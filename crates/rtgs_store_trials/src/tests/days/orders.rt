@@ -4,7 +4,7 @@ use super::super::scripts::desks::{desk_after, desk_follows};
 use super::super::setting::{Reply, queued};
 use rtgs_book::{Command, Refusal};
 use rtgs_desk::Desk;
-use rtgs_keeper::MemoryKeeper;
+use rtgs_keeper::Keeper;
 use std::alloc::Global;
 use std::process::Abort;
 use std::test::Fail;
@@ -81,15 +81,15 @@ fn uncovered(alloc: Global, number: u64) -> Result<Command, Fail> {
 }
 
 /// What the desk answers to ALFA's order of this number.
-fn sent(alloc: Global, desk: &mut Desk<MemoryKeeper>, number: u64) -> Result<Reply, Fail> {
+fn sent<K: Keeper>(alloc: Global, desk: &mut Desk<K>, number: u64) -> Result<Reply, Fail> {
     let order = uncovered(alloc, number)?;
     Ok(desk.submit(order))
 }
 
 /// ALFA's first 500 orders wait, each behind the last.
-fn fills_a_queue(
+fn fills_a_queue<K: Keeper>(
     rt: &(impl Abort + AllocGlobal),
-    desk: &mut Desk<MemoryKeeper>,
+    desk: &mut Desk<K>,
 ) -> Result<(), Fail> {
     for number in 1..=500u64 {
         assert_eq!(rt; sent(rt.alloc(), desk, number)?, queued(number, number));

@@ -1,13 +1,13 @@
 //! A ring of more orders than two bytes count: kept in tables, found again, and settled under one mark.
 use super::super::setting::{
-    MONDAY, Reply, amount, change, code, date, new_keeper, participant, queued, reference, resolved,
+    MONDAY, Reply, amount, change, code, date, desk_over, new_keeper, opened, participant, queued,
+    reference, resolved,
 };
 use rtgs_book::{Answer, Command, Day, Known, Order, OrderState, Phase, RowChange};
-use rtgs_desk::Desk;
 use rtgs_keeper::Keeper;
 use rtgs_money::{Code, Reference};
 use rtgs_tables::SqlKeeper;
-use sqlite::MemStore;
+use sqlite::Alter;
 use std::alloc::Global;
 use std::test::Fail;
 
@@ -112,40 +112,33 @@ fn keep_ring<K: Keeper>(alloc: Global, keeper: &mut K) -> Result<(), Fail> {
     queue_orders(alloc, keeper)
 }
 
-/// The ring, kept in tables.
-fn ring(alloc: Global) -> Result<SqlKeeper<MemStore>, Fail> {
-    let mut keeper = new_keeper(alloc)?;
-    keep_ring(alloc, &mut keeper)?;
-    Ok(keeper)
-}
-
-/// A desk that is opened anew over the tables of a keeper.
-fn opened(alloc: Global, keeper: SqlKeeper<MemStore>) -> Result<Desk<SqlKeeper<MemStore>>, Fail> {
-    match Desk::open(alloc, SqlKeeper::open(keeper.into_connection())) {
-        Ok(desk) => Ok(desk),
-        Err((fault, _)) => Err(Fail::from(fault)),
-    }
-}
-
-/// What a desk that is opened for it answers a command, and the tables that it leaves.
-fn submitted(
+/// What a desk that is opened for it answers a command, and the keeper that it leaves.
+fn submitted<K: Keeper + Drop>(
     alloc: Global,
-    keeper: SqlKeeper<MemStore>,
+    keeper: K,
     command: Command,
-) -> Result<(Reply, SqlKeeper<MemStore>), Fail> {
-    let mut desk = opened(alloc, keeper)?;
+) -> Result<(Reply, K), Fail> {
+    let mut desk = desk_over(alloc, keeper)?;
     let reply = desk.submit(command);
     Ok((reply, desk.into_keeper()))
 }
 
-/// What is answered to a resolution, to the last order again, and to one order more.
-fn replies(alloc: Global) -> Result<[Reply; 3], Fail> {
+/// What is answered to a resolution, to the last order again, and to one order more, over tables that keep the ring and
+/// are opened anew for each of them.
+fn replies<S: Alter + Drop>(alloc: Global, keeper: SqlKeeper<S>) -> Result<[Reply; 3], Fail> {
     let again = sends(alloc, ORDERS)?;
     let one_more = sends(alloc, ORDERS + 1)?;
-    let (first, keeper) = submitted(alloc, ring(alloc)?, Command::Resolve)?;
-    let (second, keeper) = submitted(alloc, keeper, again)?;
-    let (third, _) = submitted(alloc, keeper, one_more)?;
+    let (first, keeper) = submitted(alloc, opened(keeper), Command::Resolve)?;
+    let (second, keeper) = submitted(alloc, opened(keeper), again)?;
+    let (third, _) = submitted(alloc, opened(keeper), one_more)?;
     Ok([first, second, third])
+}
+
+/// The same over tables in which the ring is kept first.
+fn replies_over<S: Alter + Drop>(alloc: Global, keeper: SqlKeeper<S>) -> Result<[Reply; 3], Fail> {
+    let mut keeper = keeper;
+    keep_ring(alloc, &mut keeper)?;
+    replies(alloc, keeper)
 }
 
 #[test]
@@ -159,6 +152,7 @@ fn a_ring_of_33000_orders_is_settled_under_one_mark(rt: HostRuntime) -> Result<(
         Ok(Answer::Repeated(settled)),
         queued(ORDERS + 1, 1),
     ];
-    assert_eq!(rt; replies(rt.alloc())?, wanted);
+    let replies = replies_over(rt.alloc(), new_keeper(rt.alloc())?)?;
+    assert_eq!(rt; replies, wanted);
     Ok(())
 }

@@ -1,11 +1,9 @@
 //! What a desk gives of a date, over a book in memory: its records one after another, and its texts.
 use super::super::scripts::desks::desk_after;
 use super::super::scripts::{day_of, follows};
-use super::super::setting::code;
+use super::super::setting::{code, is_same};
 use rtgs_book::Refusal;
-use rtgs_desk::Desk;
-use rtgs_keeper::MemoryKeeper;
-use rtgs_statements::{write_report, write_statement};
+use rtgs_statements::{Source, write_report, write_statement};
 use std::alloc::Global;
 use std::test::Fail;
 
@@ -55,13 +53,21 @@ fn the_codes_come_in_order(rt: HostRuntime) -> Result<(), Fail> {
     follows(rt.alloc(), &mut desk, CODES)
 }
 
-// The text of a participant's statement of Monday.
-fn statement(alloc: Global, desk: &mut Desk<MemoryKeeper>, of: &str) -> Result<String, Fail> {
-    let mut text = Vec::new(alloc);
-    match write_statement(alloc, &mut text, desk, &code(of)?, day_of("2024-03-04")?) {
-        Ok(()) => Ok(String::from_utf8(text)?),
+// Writes a participant's statement of Monday.
+fn state<S: Source>(alloc: Global, text: &mut Vec<u8>, desk: &mut S, of: &str) -> Result<(), Fail> {
+    let of = code(of)?;
+    let monday = day_of("2024-03-04")?;
+    match write_statement(alloc, text, desk, &of, monday) {
+        Ok(()) => Ok(()),
         Err(_) => Err(Fail::from("no statement")),
     }
+}
+
+// The text of a participant's statement of Monday.
+fn statement<S: Source>(alloc: Global, desk: &mut S, of: &str) -> Result<String, Fail> {
+    let mut text = Vec::new(alloc);
+    state(alloc, &mut text, desk, of)?;
+    Ok(String::from_utf8(text)?)
 }
 
 const OF_ALFA: &str = "statement ALFA 2024-03-04
@@ -83,17 +89,9 @@ net                                  0.60
 ";
 
 // Fails unless this is the participant's statement of Monday.
-fn is_stated(
-    alloc: Global,
-    desk: &mut Desk<MemoryKeeper>,
-    of: &str,
-    wanted: &str,
-) -> Result<(), Fail> {
+fn is_stated<S: Source>(alloc: Global, desk: &mut S, of: &str, wanted: &str) -> Result<(), Fail> {
     let text = statement(alloc, desk, of)?;
-    if text.as_str() == wanted {
-        return Ok(());
-    }
-    Err(Fail::from(text))
+    is_same(text.as_str(), wanted)
 }
 
 #[test]
@@ -107,13 +105,20 @@ fn a_statement_has_what_is_the_participants_on_the_date(rt: HostRuntime) -> Resu
     Ok(())
 }
 
-// The text of the day report of Monday.
-fn report(alloc: Global, desk: &mut Desk<MemoryKeeper>) -> Result<String, Fail> {
-    let mut text = Vec::new(alloc);
-    match write_report(alloc, &mut text, desk, day_of("2024-03-04")?) {
-        Ok(()) => Ok(String::from_utf8(text)?),
+// Writes the day report of Monday.
+fn report_day<S: Source>(alloc: Global, text: &mut Vec<u8>, desk: &mut S) -> Result<(), Fail> {
+    let monday = day_of("2024-03-04")?;
+    match write_report(alloc, text, desk, monday) {
+        Ok(()) => Ok(()),
         Err(_) => Err(Fail::from("no report")),
     }
+}
+
+// The text of the day report of Monday.
+fn report<S: Source>(alloc: Global, desk: &mut S) -> Result<String, Fail> {
+    let mut text = Vec::new(alloc);
+    report_day(alloc, &mut text, desk)?;
+    Ok(String::from_utf8(text)?)
 }
 
 const REPORT: &str = "report 2024-03-04
@@ -130,6 +135,6 @@ marks              1
 #[test]
 fn a_report_has_what_bears_the_date(rt: HostRuntime) -> Result<(), Fail> {
     let mut desk = desk_after(rt.alloc(), TWO_DAYS)?;
-    assert_eq!(rt; report(rt.alloc(), &mut desk)?.as_str(), REPORT);
-    Ok(())
+    let text = report(rt.alloc(), &mut desk)?;
+    is_same(text.as_str(), REPORT)
 }

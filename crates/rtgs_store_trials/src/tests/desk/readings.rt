@@ -1,5 +1,5 @@
 //! What a desk tells of its book.
-use super::super::setting::{MONDAY, change, code, date, desk_over, order, participant};
+use super::super::setting::{MONDAY, code, date, desk_over, kept, order, participant};
 use rtgs_book::{Day, Order, OrderState, Phase, Refusal, RowChange};
 use rtgs_desk::{AccountReading, Desk};
 use rtgs_keeper::{Keeper, MemoryKeeper};
@@ -23,18 +23,22 @@ fn orders() -> Result<[Order; 3], Fail> {
     ])
 }
 
-// A desk with ALFA, BETA and these orders, on an open day.
-fn waiting(alloc: Global, orders: &[Order; 3]) -> Result<Desk<MemoryKeeper>, Fail> {
-    let rows = [
+// The rows of ALFA, BETA and these orders, on an open day.
+fn rows(orders: &[Order; 3]) -> Result<[RowChange; 6], Fail> {
+    Ok([
         RowChange::AddParticipant(participant("ALFA", 1)?),
         RowChange::AddParticipant(participant("BETA", 2)?),
         RowChange::SetDay(today()?),
         RowChange::AddOrder(orders[0]),
         RowChange::AddOrder(orders[1]),
         RowChange::AddOrder(orders[2]),
-    ];
-    let mut keeper = MemoryKeeper::new(alloc);
-    keeper.commit(&change(alloc, &rows)?)?;
+    ])
+}
+
+// A desk with these rows.
+fn waiting(alloc: Global, orders: &[Order; 3]) -> Result<Desk<MemoryKeeper>, Fail> {
+    let rows = rows(orders)?;
+    let keeper = kept(alloc, MemoryKeeper::new(alloc), &rows)?;
     desk_over(alloc, keeper)
 }
 
@@ -55,7 +59,7 @@ fn an_account_is_told_with_its_queue(rt: HostRuntime) -> Result<(), Fail> {
 }
 
 // Whether the desk tells these orders as the sender's queue.
-fn has_queue(desk: &Desk<MemoryKeeper>, sender: &Code, orders: &[Order]) -> Result<bool, Refusal> {
+fn has_queue<K: Keeper>(desk: &Desk<K>, sender: &Code, orders: &[Order]) -> Result<bool, Refusal> {
     let queue = desk.queue_of(sender)?;
     Ok(queue.as_slice() == orders)
 }
@@ -74,8 +78,8 @@ fn a_queue_is_told_in_its_order(rt: HostRuntime) -> Result<(), Fail> {
 }
 
 // What the desk tells of the order with this reference, from one sender after another.
-fn orders_of(
-    desk: &mut Desk<MemoryKeeper>,
+fn orders_of<K: Keeper>(
+    desk: &mut Desk<K>,
     senders: &[Code; 3],
     reference: &Reference,
 ) -> [Result<Order, Refusal>; 3] {

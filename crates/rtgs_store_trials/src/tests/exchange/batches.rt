@@ -1,4 +1,5 @@
 //! Batches over a keeper in memory.
+use super::super::setting::is_same;
 use super::{THREE_ROWS, open_desk, replies_text, results_text};
 use std::test::Fail;
 
@@ -10,8 +11,7 @@ const REPLIED: &str =
 fn rows_are_replied_to_in_order(rt: HostRuntime) -> Result<(), Fail> {
     let mut desk = open_desk(rt.alloc())?;
     let replied = replies_text(rt.alloc(), &mut desk, THREE_ROWS)?;
-    assert_eq!(rt; replied.as_str(), REPLIED);
-    Ok(())
+    is_same(replied.as_str(), REPLIED)
 }
 
 const REPEATED: &str = "BatchResult { replies: [Repeated { number: 1, state: Settled(1) }, \
@@ -22,8 +22,7 @@ fn a_batch_that_comes_again_changes_nothing(rt: HostRuntime) -> Result<(), Fail>
     let mut desk = open_desk(rt.alloc())?;
     replies_text(rt.alloc(), &mut desk, THREE_ROWS)?;
     let again = replies_text(rt.alloc(), &mut desk, THREE_ROWS)?;
-    assert_eq!(rt; again.as_str(), REPEATED);
-    Ok(())
+    is_same(again.as_str(), REPEATED)
 }
 
 // The second row is to its sender, the third to nobody, and the fourth has the first's reference.
@@ -45,6 +44,5 @@ A-1,refused,,4
 fn a_refused_row_stops_no_other(rt: HostRuntime) -> Result<(), Fail> {
     let mut desk = open_desk(rt.alloc())?;
     let text = results_text(rt.alloc(), &mut desk, WITH_BAD_ROWS)?;
-    assert_eq!(rt; text.as_str(), THEIR_RESULTS);
-    Ok(())
+    is_same(text.as_str(), THEIR_RESULTS)
 }

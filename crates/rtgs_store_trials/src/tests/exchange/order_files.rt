@@ -1,7 +1,9 @@
 //! Order files, as banks write them and as they go wrong.
+use super::super::scripts::records::add_part;
 use super::super::scripts::{Answers, follows};
+use super::super::setting::is_same;
 use rtgs_exchange::{BatchFault, OrderRow, read_orders};
-use std::alloc::Global;
+use std::alloc::{AllocError, Global};
 use std::test::Fail;
 
 // Reads the order file that a line of a script gives.
@@ -13,9 +15,14 @@ impl Answers for Reading {
         let file = bytes_of(alloc, asked)?;
         match read_orders(alloc, file.as_slice()) {
             Ok(rows) => rows_text(alloc, rows.as_slice()),
-            Err(fault) => Ok(format!(in alloc; "{fault:?}")?),
+            Err(fault) => fault_text(alloc, fault),
         }
     }
+}
+
+// Why a file is refused.
+fn fault_text(alloc: Global, fault: BatchFault) -> Result<String, Fail> {
+    Ok(format!(in alloc; "{fault:?}")?)
 }
 
 // The bytes of a file that a script gives.
@@ -50,18 +57,22 @@ fn meant_by(letter: u8) -> Option<&'static [u8]> {
     }
 }
 
-// Rows, each with its reference, its receiver and its cents.
-fn rows_text(alloc: Global, rows: &[OrderRow]) -> Result<String, Fail> {
-    let mut text = String::new(alloc);
-    for OrderRow {
+// A row: its reference, its receiver and its cents.
+fn row_text(alloc: Global, row: &OrderRow) -> Result<String, AllocError> {
+    let OrderRow {
         reference,
         receiver,
         amount,
-    } in rows {
-        if !text.is_empty() {
-            text.push_str(", ")?;
-        }
-        text.push_str(format!(in alloc; "{reference} {receiver} {amount}")?.as_str())?;
+    } = row;
+    format!(in alloc; "{reference} {receiver} {amount}")
+}
+
+// Rows, with a comma between them.
+fn rows_text(alloc: Global, rows: &[OrderRow]) -> Result<String, Fail> {
+    let mut text = String::new(alloc);
+    for row in rows {
+        let row = row_text(alloc, row)?;
+        add_part(&mut text, row.as_str())?;
     }
     Ok(text)
 }
@@ -182,16 +193,24 @@ struct Counting;
 
 impl Answers for Counting {
     fn answer(&mut self, alloc: Global, asked: &str) -> Result<String, Fail> {
-        let (rows, bad) = asked.split_once(" rows, bad ").ok_or("not understood")?;
-        let file = file(alloc, rows.parse::<u64>()?, bad.parse::<u64>()?)?;
+        let file = file_asked(alloc, asked)?;
         match read_orders(alloc, file.as_slice()) {
-            Ok(rows) => {
-                let count = rows.len();
-                Ok(format!(in alloc; "{count} rows")?)
-            }
-            Err(fault) => Ok(format!(in alloc; "{fault:?}")?),
+            Ok(rows) => count_text(alloc, rows.len()),
+            Err(fault) => fault_text(alloc, fault),
         }
     }
+}
+
+// How many rows there are.
+fn count_text(alloc: Global, count: usize) -> Result<String, Fail> {
+    Ok(format!(in alloc; "{count} rows")?)
+}
+
+// The file of as many rows as these words say, of which one is bad.
+fn file_asked(alloc: Global, asked: &str) -> Result<Vec<u8>, Fail> {
+    let (rows, bad) = asked.split_once(" rows, bad ").ok_or("not understood")?;
+    let (rows, bad) = (rows.parse::<u64>()?, bad.parse::<u64>()?);
+    file(alloc, rows, bad)
 }
 
 // A file of so many rows, of which this one is bad.
@@ -233,10 +252,7 @@ fn kind_text(alloc: Global, fault: BatchFault) -> Result<String, Fail> {
 // Fails unless the fault has this number, this name and these statuses.
 fn is_told(alloc: Global, fault: BatchFault, known: &str) -> Result<(), Fail> {
     let told = kind_text(alloc, fault)?;
-    if told.as_str() == known {
-        return Ok(());
-    }
-    Err(Fail::from(told))
+    is_same(told.as_str(), known)
 }
 
 #[test]

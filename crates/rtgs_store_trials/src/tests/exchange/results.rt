@@ -1,10 +1,11 @@
 //! The text of result files, and writers that fail.
+use super::super::setting::is_same;
 use super::cut_writer::CutWriter;
 use super::{THREE_ROWS, open_desk, results_text, rows_of, submitted, written};
 use rtgs_book::{OrderState, Refusal};
 use rtgs_desk::Desk;
 use rtgs_exchange::{BatchResult, OrderRow, RowReply, write_results};
-use rtgs_keeper::MemoryKeeper;
+use rtgs_keeper::Keeper;
 use std::alloc::Global;
 use std::process::Abort;
 use std::test::Fail;
@@ -22,12 +23,9 @@ A-3,repeated,3,queued
 ";
 
 // Fails unless this is the result file of the three rows.
-fn results_are(alloc: Global, desk: &mut Desk<MemoryKeeper>, wanted: &str) -> Result<(), Fail> {
+fn results_are<K: Keeper>(alloc: Global, desk: &mut Desk<K>, wanted: &str) -> Result<(), Fail> {
     let text = results_text(alloc, desk, THREE_ROWS)?;
-    if text.as_str() == wanted {
-        return Ok(());
-    }
-    Err(Fail::from(text))
+    is_same(text.as_str(), wanted)
 }
 
 #[test]
@@ -60,13 +58,17 @@ A-2,repeated,999999999,rejected
 A-3,stopped,,90
 ";
 
+// The text of the result file of that batch.
+fn stopped_text(alloc: Global) -> Result<String, Fail> {
+    let rows = rows_of(alloc, THREE_ROWS)?;
+    let batch = stopped_batch(alloc)?;
+    written(alloc, rows.as_slice(), &batch)
+}
+
 #[test]
 fn a_repeat_tells_each_state(rt: HostRuntime) -> Result<(), Fail> {
-    let rows = rows_of(rt.alloc(), THREE_ROWS)?;
-    let batch = stopped_batch(rt.alloc())?;
-    let text = written(rt.alloc(), rows.as_slice(), &batch)?;
-    assert_eq!(rt; text.as_str(), STOPPED);
-    Ok(())
+    let text = stopped_text(rt.alloc())?;
+    is_same(text.as_str(), STOPPED)
 }
 
 // Whether a writer that stops after so many writes is told to have the whole text exactly if it has, and has what it

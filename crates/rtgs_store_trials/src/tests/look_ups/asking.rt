@@ -1,6 +1,6 @@
 //! What a keeper is asked, and what it tells, in words.
+use super::super::scripts::records::{mark_if_any, order_if_any, posting_if_any};
 use super::super::setting::{code, reference};
-use rtgs_book::{Mark, Order, Posting};
 use rtgs_keeper::Keeper;
 use rtgs_money::BusinessDate;
 use std::alloc::Global;
@@ -17,55 +17,24 @@ fn number(text: &str) -> Result<u64, Fail> {
     }
 }
 
-fn order_in_words(alloc: Global, found: &Option<Order>) -> Result<String, Fail> {
-    let Some(order) = found else {
-        return Ok(String::from_str(alloc, "none")?);
-    };
-    let (number, cents) = (order.number, order.amount.cents());
-    Ok(format!(in alloc;
-        "{number} {} {} {} {cents} {} {:?}",
-        order.sender, order.reference, order.receiver, order.date, order.state
-    )?)
-}
-
-fn posting_in_words(alloc: Global, found: &Option<Posting>) -> Result<String, Fail> {
-    let Some(posting) = found else {
-        return Ok(String::from_str(alloc, "none")?);
-    };
-    let (number, cents) = (posting.number, posting.cents.cents());
-    let told = format!(in alloc; "{number} {} {} {cents}", posting.code, posting.reference)?;
-    match posting.date {
-        Some(date) => Ok(format!(in alloc; "{told} {date}")?),
-        None => Ok(told),
-    }
-}
-
-fn mark_in_words(alloc: Global, found: &Option<Mark>) -> Result<String, Fail> {
-    let Some(mark) = found else {
-        return Ok(String::from_str(alloc, "none")?);
-    };
-    let (number, count, value) = (mark.number, mark.count, mark.value.cents());
-    Ok(format!(in alloc; "{number} {} {count} {value}", mark.date)?)
-}
-
 // What the keeper tells of a name, or of what comes next on a day after a number.
 fn told<K: Keeper>(alloc: Global, keeper: &mut K, question: &[&str]) -> Result<String, Fail> {
     match question {
         ["order", sender, name] => {
-            order_in_words(
+            order_if_any(
                 alloc,
                 &keeper.find_order(&code(sender)?, &reference(name)?)?,
             )
         }
-        ["posting", name] => posting_in_words(alloc, &keeper.find_posting(&reference(name)?)?),
+        ["posting", name] => posting_if_any(alloc, &keeper.find_posting(&reference(name)?)?),
         ["posting", "of", day, "after", last] => {
-            posting_in_words(alloc, &keeper.next_posting(date(day)?, number(last)?)?)
+            posting_if_any(alloc, &keeper.next_posting(date(day)?, number(last)?)?)
         }
         ["order", "of", day, "after", last] => {
-            order_in_words(alloc, &keeper.next_order(date(day)?, number(last)?)?)
+            order_if_any(alloc, &keeper.next_order(date(day)?, number(last)?)?)
         }
         ["mark", "of", day, "after", last] => {
-            mark_in_words(alloc, &keeper.next_mark(date(day)?, number(last)?)?)
+            mark_if_any(alloc, &keeper.next_mark(date(day)?, number(last)?)?)
         }
         _ => Err(Fail::from("no question")),
     }

@@ -1,52 +1,16 @@
 //! What a keeper in memory and one over tables tell of the same records.
-use super::super::setting::{MONDAY, code, date, new_keeper, reference};
+use super::super::setting::{MONDAY, code, date, kept, new_keeper, order, participant, posting};
 use super::asking::answers;
-use rtgs_book::{
-    Change, Day, Fault, Mark, Order, OrderState, Participant, Phase, Posting, RowChange, Rows, Rule,
-};
+use rtgs_book::{Account, Day, Fault, Mark, Order, OrderState, Phase, RowChange, Rule};
 use rtgs_cores::Core;
 use rtgs_keeper::{Keeper, MemoryKeeper};
-use rtgs_money::{Amount, Cents, Credit, KeyDigest, Name, PostingAmount};
+use rtgs_money::Cents;
 use rtgs_tables::SqlKeeper;
 use sqlite::MemStore;
 use std::alloc::Global;
 use std::fmt::Write;
 use std::process::Abort;
 use std::test::Fail;
-
-/// A participant of this code, whose key's digest is this byte throughout.
-fn participant(text: &str, key: u8) -> Result<Participant, Fail> {
-    Ok(Participant {
-        code: code(text)?,
-        name: Name::read(b"A Bank")?,
-        key: KeyDigest::from_bytes([key; 32]),
-        credit: Credit::NONE,
-    })
-}
-
-/// ALFA's order of this number to BETA.
-fn order(number: u64, name: &str, cents: u64, state: OrderState) -> Result<Order, Fail> {
-    Ok(Order {
-        number,
-        sender: code("ALFA")?,
-        reference: reference(name)?,
-        receiver: code("BETA")?,
-        amount: Amount::from_cents(cents).ok_or("an amount")?,
-        date: date(MONDAY)?,
-        state,
-    })
-}
-
-/// The posting of 100 cents to ALFA, from before all days.
-fn posting() -> Result<Posting, Fail> {
-    Ok(Posting {
-        number: 1,
-        code: code("ALFA")?,
-        reference: reference("P-1")?,
-        cents: PostingAmount::from_cents(100).ok_or("a posting")?,
-        date: None,
-    })
-}
 
 /// The mark of an order of 30 cents.
 fn mark() -> Result<Mark, Fail> {
@@ -79,7 +43,7 @@ fn rows() -> Result<[RowChange; 9], Fail> {
     Ok([
         RowChange::AddParticipant(participant("ALFA", 1)?),
         RowChange::AddParticipant(participant("BETA", 2)?),
-        RowChange::AddPosting(posting()?),
+        RowChange::AddPosting(posting(1, "ALFA", "P-1", 100)?),
         RowChange::AddOrder(order(1, "A-1", 30, OrderState::Settled(1))?),
         RowChange::AddOrder(order(2, "A-2", 80, OrderState::Queued)?),
         RowChange::AddMark(mark()?),
@@ -89,39 +53,40 @@ fn rows() -> Result<[RowChange; 9], Fail> {
     ])
 }
 
-/// These rows, changed as one.
-fn change(alloc: Global, rows: &[RowChange]) -> Result<Change, Fail> {
-    Ok(Rows::from_vec(Vec::from_slice(alloc, rows)?))
-}
-
 /// A keeper in memory with these rows.
 fn in_memory(alloc: Global) -> Result<MemoryKeeper, Fail> {
-    let mut keeper = MemoryKeeper::new(alloc);
-    keeper.commit(&change(alloc, &rows()?)?)?;
-    Ok(keeper)
+    let rows = rows()?;
+    kept(alloc, MemoryKeeper::new(alloc), &rows)
 }
 
 /// A keeper over tables with these rows.
 fn in_tables(alloc: Global) -> Result<SqlKeeper<MemStore>, Fail> {
-    let mut keeper = new_keeper(alloc)?;
-    keeper.commit(&change(alloc, &rows()?)?)?;
-    Ok(keeper)
+    let rows = rows()?;
+    kept(alloc, new_keeper(alloc)?, &rows)
+}
+
+// Adds accounts, each with its balance.
+fn add_accounts(told: &mut String, accounts: &[Account]) -> Result<(), Fail> {
+    for account in accounts {
+        let (code, cents) = (account.participant.code, account.balance.cents());
+        write!(told, "{code} {cents}, ")?;
+    }
+    Ok(())
+}
+
+// Adds orders that wait.
+fn add_orders(told: &mut String, orders: &[Order]) -> Result<(), Fail> {
+    for order in orders {
+        write!(told, "{} {:?}, ", order.number, order.state)?;
+    }
+    Ok(())
 }
 
 // The accounts of a core, the orders that wait, the day, and the next numbers, in words.
 fn core_in_words(alloc: Global, core: &Core) -> Result<String, Fail> {
     let mut told = String::new(alloc);
-    for account in core.accounts.as_slice() {
-        write!(
-            told,
-            "{} {}, ",
-            account.participant.code,
-            account.balance.cents()
-        )?;
-    }
-    for order in core.queued.as_slice() {
-        write!(told, "{} {:?}, ", order.number, order.state)?;
-    }
+    add_accounts(&mut told, core.accounts.as_slice())?;
+    add_orders(&mut told, core.queued.as_slice())?;
     let (posting, order, mark) = (core.next_posting, core.next_order, core.next_mark);
     write!(told, "{:?}, next {posting} {order} {mark}", core.day.phase)?;
     Ok(told)
@@ -161,7 +126,7 @@ const NAMES: &str = "
     order ALFA A-1 = 1 ALFA A-1 BETA 30 2024-03-04 Settled(1)
     order BETA A-1 = none
     order ALFA A-3 = none
-    posting P-1 = 1 ALFA P-1 100
+    posting P-1 = 1 ALFA P-1 100 undated
     posting A-1 = none
 ";
 
@@ -190,8 +155,7 @@ fn a_day_is_gone_through_alike(rt: HostRuntime) -> Result<(), Fail> {
 #[test]
 fn a_book_that_breaks_a_rule_has_no_core(rt: HostRuntime) -> Result<(), Fail> {
     let closes = [sets_day(Phase::Closed)?];
-    let mut keeper = in_memory(rt.alloc())?;
-    keeper.commit(&change(rt.alloc(), &closes)?)?;
+    let mut keeper = kept(rt.alloc(), in_memory(rt.alloc())?, &closes)?;
     let rule = Rule::Queues;
     let refused = keeper.core(rt.alloc()).err();
     assert_eq!(rt; refused, Some(Fault::Inconsistent { rule }));

@@ -1,10 +1,11 @@
 //! Records found by their names, and the next records of a date, in tables in memory.
-use super::super::setting::{MONDAY, date, new_keeper, reference};
+use super::super::setting::{MONDAY, date, meddled, new_keeper, reference};
 use super::asking::answers;
 use rtgs_book::Fault;
 use rtgs_keeper::Keeper;
+use rtgs_money::{BusinessDate, Reference};
 use rtgs_tables::SqlKeeper;
-use sqlite::MemStore;
+use sqlite::{Alter, MemStore};
 use std::alloc::Global;
 use std::test::Fail;
 
@@ -23,13 +24,8 @@ const THREE_DAYS: &str = "
 
 /// The keeper of tables with the first posting, once this was done to them.
 fn keeper_after(alloc: Global, sql: &str) -> Result<SqlKeeper<MemStore>, Fail> {
-    let mut conn = new_keeper(alloc)?.into_connection();
-    conn.execute_batch(FIRST)?;
-    conn.execute_batch(sql)?;
-    if !conn.is_autocommit() {
-        return Err(Fail::from("in a transaction"));
-    }
-    Ok(SqlKeeper::open(conn))
+    let keeper = meddled(new_keeper(alloc)?, FIRST)?;
+    meddled(keeper, sql)
 }
 
 // The keeper of three days answers as the script says.
@@ -56,7 +52,7 @@ fn a_posting_is_found_by_its_reference(rt: HostRuntime) -> Result<(), Fail> {
     three_days_answer(
         rt.alloc(),
         "
-        posting P-1 = 1 ALFA P-1 1000
+        posting P-1 = 1 ALFA P-1 1000 undated
         posting P-5 = 5 ALFA P-5 5 2024-03-05
         posting P-6 = none
         posting A-1 = none
@@ -162,15 +158,25 @@ fn earlier_days_are_passed_over(rt: HostRuntime) -> Result<(), Fail> {
     Ok(())
 }
 
+// What a keeper fails with at a posting, at the next mark of a day, and when all is loaded.
+fn faults_of<S: Alter + Drop>(
+    alloc: Global,
+    keeper: &mut SqlKeeper<S>,
+    name: &Reference,
+    day: BusinessDate,
+) -> [Option<Fault>; 3] {
+    [
+        keeper.find_posting(name).err(),
+        keeper.next_mark(day, 0).err(),
+        keeper.load(alloc).err(),
+    ]
+}
+
 #[test]
 fn a_row_in_no_form_fails_the_keeper(rt: HostRuntime) -> Result<(), Fail> {
     let (name, monday) = (reference("P-1")?, date(MONDAY)?);
     let mut keeper = keeper_after(rt.alloc(), "UPDATE posting SET cents = 0")?;
-    let faults = [
-        keeper.find_posting(&name).err(),
-        keeper.next_mark(monday, 0).err(),
-        keeper.load(rt.alloc()).err(),
-    ];
+    let faults = faults_of(rt.alloc(), &mut keeper, &name, monday);
     assert_eq!(rt; faults, [Some(Fault::StoreFault); 3]);
     Ok(())
 }

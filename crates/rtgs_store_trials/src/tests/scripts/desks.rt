@@ -1,9 +1,9 @@
-//! Scripts for a desk over a keeper in memory.
+//! Scripts for a desk.
 use super::super::setting::{code, desk_over};
-use super::records::{mark_text, order_text, posting_text};
+use super::records::{mark_if_any, order_if_any, posting_if_any};
 use super::{Answers, command_of, day_of, follows, reply_text, words_of};
 use rtgs_desk::Desk;
-use rtgs_keeper::MemoryKeeper;
+use rtgs_keeper::{Keeper, MemoryKeeper};
 use rtgs_statements::Source;
 use std::alloc::Global;
 use std::test::Fail;
@@ -15,7 +15,7 @@ add BETA 0000000000000000000000000000000b => Added
 add GAMA 0000000000000000000000000000000c => Added
 ";
 
-impl Answers for Desk<MemoryKeeper> {
+impl<K: Keeper> Answers for Desk<K> {
     fn answer(&mut self, alloc: Global, asked: &str) -> Result<String, Fail> {
         let words = words_of(alloc, asked)?;
         match words.as_slice() {
@@ -47,9 +47,9 @@ pub fn desk_follows(rt: &HostRuntime, script: &str) -> Result<(), Fail> {
 }
 
 /// The balance of a participant, and how many orders its queue has.
-fn account_text(
+fn account_text<K: Keeper>(
     alloc: Global,
-    desk: &Desk<MemoryKeeper>,
+    desk: &Desk<K>,
     participant: &str,
 ) -> Result<String, Fail> {
     match desk.account(&code(participant)?) {
@@ -62,46 +62,40 @@ fn account_text(
 }
 
 /// The date's first posting after this number.
-fn next_posting_text(
+fn next_posting_text<K: Keeper>(
     alloc: Global,
-    desk: &mut Desk<MemoryKeeper>,
+    desk: &mut Desk<K>,
     day: &str,
     after: &str,
 ) -> Result<String, Fail> {
-    match desk.next_posting(day_of(day)?, after.parse::<u64>()?)? {
-        Some(posting) => posting_text(alloc, &posting),
-        None => Ok(format!(in alloc; "none")?),
-    }
+    let found = desk.next_posting(day_of(day)?, after.parse::<u64>()?)?;
+    posting_if_any(alloc, &found)
 }
 
 /// The date's first order after this number.
-fn next_order_text(
+fn next_order_text<K: Keeper>(
     alloc: Global,
-    desk: &mut Desk<MemoryKeeper>,
+    desk: &mut Desk<K>,
     day: &str,
     after: &str,
 ) -> Result<String, Fail> {
-    match desk.next_order(day_of(day)?, after.parse::<u64>()?)? {
-        Some(order) => order_text(alloc, &order),
-        None => Ok(format!(in alloc; "none")?),
-    }
+    let found = desk.next_order(day_of(day)?, after.parse::<u64>()?)?;
+    order_if_any(alloc, &found)
 }
 
 /// The date's first mark after this number.
-fn next_mark_text(
+fn next_mark_text<K: Keeper>(
     alloc: Global,
-    desk: &mut Desk<MemoryKeeper>,
+    desk: &mut Desk<K>,
     day: &str,
     after: &str,
 ) -> Result<String, Fail> {
-    match desk.next_mark(day_of(day)?, after.parse::<u64>()?)? {
-        Some(mark) => mark_text(alloc, &mark),
-        None => Ok(format!(in alloc; "none")?),
-    }
+    let found = desk.next_mark(day_of(day)?, after.parse::<u64>()?)?;
+    mark_if_any(alloc, &found)
 }
 
 /// The code at this index.
-fn code_text(alloc: Global, desk: &Desk<MemoryKeeper>, index: &str) -> Result<String, Fail> {
+fn code_text<K: Keeper>(alloc: Global, desk: &Desk<K>, index: &str) -> Result<String, Fail> {
     match desk.code_at(index.parse::<usize>()?) {
         Some(code) => Ok(format!(in alloc; "{code}")?),
         None => Ok(format!(in alloc; "none")?),

@@ -1,6 +1,6 @@
 //! Scripts for a ledger, and the keeper in memory in which what it adopts is kept.
 use super::super::setting::{code, reference};
-use super::records::{order_text, queue_text};
+use super::records::{order_if_any, queue_text};
 use super::{Answers, command_of, follows, reply_text, words_of};
 use rtgs_book::{Answer, Command, Refusal};
 use rtgs_cores::Found;
@@ -134,16 +134,14 @@ fn queue_of(alloc: Global, ledger: &Ledger, sender: &str) -> Result<String, Fail
 }
 
 /// The sender's order of this reference, as the keeper has it.
-fn kept_order(
+fn kept_order<K: Keeper>(
     alloc: Global,
-    keeper: &mut MemoryKeeper,
+    keeper: &mut K,
     sender: &str,
     name: &str,
 ) -> Result<String, Fail> {
-    match keeper.find_order(&code(sender)?, &reference(name)?)? {
-        Some(order) => order_text(alloc, &order),
-        None => Ok(format!(in alloc; "none")?),
-    }
+    let found = keeper.find_order(&code(sender)?, &reference(name)?)?;
+    order_if_any(alloc, &found)
 }
 
 /// The numbers of the orders that a ledger has in memory.

@@ -1,25 +1,28 @@
 //! Tests of a book in memory.
-use super::super::setting::{MONDAY, change, code, date, order, posting};
-use super::{add_two_banks, has_two_banks};
+use super::super::setting::{MONDAY, code, date, kept, order, posting};
+use super::{has_two_banks, with_two_banks};
 use rtgs_book::{Book, Day, Fault, Mark, Order, OrderState, Participant, Phase, RowChange, Rule};
-use rtgs_keeper::{Keeper, MemoryKeeper};
+use rtgs_keeper::MemoryKeeper;
 use rtgs_money::{Cents, Credit};
 use std::alloc::Global;
 use std::test::Fail;
 
 /// A keeper with two banks in its book.
 fn two_banks(alloc: Global) -> Result<MemoryKeeper, Fail> {
+    with_two_banks(alloc, MemoryKeeper::new(alloc))
+}
+
+/// The book of a new keeper.
+fn new_book(alloc: Global) -> Result<Book, Fail> {
     let mut keeper = MemoryKeeper::new(alloc);
-    add_two_banks(alloc, &mut keeper)?;
-    Ok(keeper)
+    Ok(keeper.load(alloc)?)
 }
 
 #[test]
 fn a_new_book_is_empty_and_closed(rt: HostRuntime) -> Result<(), Fail> {
-    let book = MemoryKeeper::new(rt.alloc()).load(rt.alloc())?;
-    assert!(rt; book.participants.is_empty());
-    assert!(rt; book.orders.is_empty());
-    assert_eq!(rt; book.day.phase, Phase::Closed);
+    let book = new_book(rt.alloc())?;
+    let (banks, orders) = (book.participants.len(), book.orders.len());
+    assert_eq!(rt; (banks, orders, book.day.phase), (0, 0, Phase::Closed));
     Ok(())
 }
 
@@ -55,8 +58,7 @@ fn one_settled() -> Result<[RowChange; 5], Fail> {
 
 /// The book of two banks after these rows.
 fn book_after(alloc: Global, rows: &[RowChange]) -> Result<Book, Fail> {
-    let mut keeper = two_banks(alloc)?;
-    keeper.commit(&change(alloc, rows)?)?;
+    let mut keeper = kept(alloc, two_banks(alloc)?, rows)?;
     Ok(keeper.load(alloc)?)
 }
 
@@ -104,11 +106,9 @@ fn a_credit_is_set(rt: HostRuntime) -> Result<(), Fail> {
 
 #[test]
 fn an_unsound_book_is_not_loaded(rt: HostRuntime) -> Result<(), Fail> {
-    let alloc = rt.alloc();
-    let mut keeper = two_banks(alloc)?;
     let row = RowChange::AddPosting(posting(3, "ALFA", "P-1", 5)?);
-    keeper.commit(&change(alloc, &[row])?)?;
-    let fault = keeper.load(alloc).err();
+    let mut keeper = kept(rt.alloc(), two_banks(rt.alloc())?, &[row])?;
+    let fault = keeper.load(rt.alloc()).err();
     let rule = Rule::PostingNumbers;
     assert_eq!(rt; fault, Some(Fault::Inconsistent { rule }));
     Ok(())

@@ -3,7 +3,7 @@ use super::{posts, two_banks};
 use rtgs_book::{Change, Fault};
 use rtgs_keeper::{CommitFault, Keeper};
 use rtgs_tables::SqlKeeper;
-use sqlite::MemStore;
+use sqlite::Alter;
 use std::alloc::Global;
 use std::process::{Abort, Command, Output};
 use std::test::Fail;
@@ -56,9 +56,9 @@ fn take_all(alloc: Global, taken: &mut Vec<Vec<u8>>) {
 }
 
 /// What loading and then committing fail with while all memory is taken.
-fn faults_without_memory(
+fn faults_without_memory<S: Alter + Drop>(
     alloc: Global,
-    keeper: &mut SqlKeeper<MemStore>,
+    keeper: &mut SqlKeeper<S>,
     change: &Change,
 ) -> Result<(Option<Fault>, Option<CommitFault>), Fail> {
     let mut taken = Vec::with_capacity(alloc, MOST_BLOCKS)?;
@@ -69,23 +69,33 @@ fn faults_without_memory(
 }
 
 /// How many postings the keeper has once it has committed the change.
-fn postings_after(
+fn postings_after<S: Alter + Drop>(
     alloc: Global,
-    keeper: &mut SqlKeeper<MemStore>,
+    keeper: &mut SqlKeeper<S>,
     change: &Change,
 ) -> Result<usize, Fail> {
     keeper.commit(change)?;
     Ok(keeper.load(alloc)?.postings.len())
 }
 
+/// Both faults, and how many postings the keeper has once memory is there again.
+fn faults_and_postings<S: Alter + Drop>(
+    alloc: Global,
+    keeper: &mut SqlKeeper<S>,
+    change: &Change,
+) -> Result<(Option<Fault>, Option<CommitFault>, usize), Fail> {
+    let (loaded, committed) = faults_without_memory(alloc, keeper, change)?;
+    let postings = postings_after(alloc, keeper, change)?;
+    Ok((loaded, committed, postings))
+}
+
 /// Fails unless both calls lack memory while all is taken, and the keeper goes on once it is there again.
 fn go_on_with_memory(rt: &(impl Abort + AllocGlobal)) -> Result<(), Fail> {
     let change = posts(rt.alloc(), 2, "P-2", 5, 1005)?;
     let mut keeper = two_banks(rt.alloc())?;
-    let faults = faults_without_memory(rt.alloc(), &mut keeper, &change)?;
-    let lacking = (Some(Fault::OutOfMemory), Some(CommitFault::OutOfMemory));
-    assert_eq!(rt; faults, lacking);
-    assert_eq!(rt; postings_after(rt.alloc(), &mut keeper, &change)?, 2);
+    let told = faults_and_postings(rt.alloc(), &mut keeper, &change)?;
+    let wanted = (Some(Fault::OutOfMemory), Some(CommitFault::OutOfMemory), 2);
+    assert_eq!(rt; told, wanted);
     Ok(())
 }
 

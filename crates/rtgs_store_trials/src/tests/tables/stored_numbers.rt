@@ -1,8 +1,7 @@
 //! The numbers in columns for a phase of the day and for where an order stands, as each tool that reads the tables
 //! knows them.
 use super::super::scripts::{Answers, follows};
-use super::meddled;
-use rtgs_keeper::Keeper;
+use super::loaded_after;
 use std::alloc::Global;
 use std::test::Fail;
 
@@ -12,7 +11,7 @@ struct Showing;
 
 impl Answers for Showing {
     fn answer(&mut self, alloc: Global, asked: &str) -> Result<String, Fail> {
-        let book = meddled(alloc, asked)?.load(alloc)?;
+        let book = loaded_after(alloc, asked)??;
         let phase = book.day.phase;
         match book.orders.as_slice().first() {
             Some(order) => {
