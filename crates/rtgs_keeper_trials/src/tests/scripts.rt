@@ -1,4 +1,5 @@
-//! Commands in words, one a line, and what each is answered.
+//! Commands in words, one a line, and what each is answered. A line that is not understood fails the test, and so do
+//! commands without a line.
 use super::setting::{Reply, Row, Standings, adds, code, date, limits, pays, posts, reference};
 use rtgs_book::{Answer, Command, Known, OrderState, Refusal};
 use rtgs_money::{BusinessDate, Cents};
@@ -11,7 +12,7 @@ pub fn commands_of(alloc: Global, script: &str) -> Result<Vec<Command>, Fail> {
     for line in script.lines() {
         commands.push(command(alloc, line)?)?;
     }
-    Ok(commands)
+    some(commands)
 }
 
 /// The commands of these lines, each with its answer, which stands behind ` => `.
@@ -20,7 +21,15 @@ pub fn rows_of(alloc: Global, script: &str) -> Result<Vec<Row>, Fail> {
     for line in script.lines() {
         rows.push(row(alloc, line)?)?;
     }
-    Ok(rows)
+    some(rows)
+}
+
+fn some<T: Drop>(read: Vec<T>) -> Result<Vec<T>, Fail> {
+    if read.is_empty() {
+        Err(Fail::from("a script without a line"))
+    } else {
+        Ok(read)
+    }
 }
 
 /// The answers of these lines.

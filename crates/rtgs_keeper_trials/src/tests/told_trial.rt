@@ -5,13 +5,21 @@ use super::trial::Trial;
 use std::alloc::Global;
 use std::test::Fail;
 
-/// What a trial gives a desk with three banks, in words: a line for each command, answer, and three standings.
+/// What a trial gives a desk with three banks, in words: a line for each command, answer, and three standings. A trial
+/// may have no rows.
 pub struct Script {
     pub before: &'static str,
     pub rows: &'static str,
     pub again: &'static str,
     pub is_batch: bool,
     pub standings: &'static str,
+}
+
+fn rows_or_none(alloc: Global, script: &str) -> Result<Vec<Row>, Fail> {
+    if script.is_empty() {
+        return Ok(Vec::new(alloc));
+    }
+    rows_of(alloc, script)
 }
 
 /// What a script gives.
@@ -29,7 +37,7 @@ impl ToldTrial {
     pub fn of(alloc: Global, script: &Script) -> Result<ToldTrial, Fail> {
         Ok(ToldTrial {
             before: rows_of(alloc, script.before)?,
-            rows: rows_of(alloc, script.rows)?,
+            rows: rows_or_none(alloc, script.rows)?,
             again: replies_of(alloc, script.again)?,
             is_batch: script.is_batch,
             standings: standings_of(alloc, script.standings)?,
