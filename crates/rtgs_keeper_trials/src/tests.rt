@@ -1,5 +1,6 @@
 //! Two desks that are given the same commands, ten thousand of them from a fixed random generator and those at the
 //! bounds of all forms; and disks in memory that fail, keepers that fail, and what is found then.
+mod banks;
 mod batch_rows;
 mod boundaries;
 mod business;
@@ -18,10 +19,12 @@ mod image;
 mod keeper_runs;
 mod look_ups;
 mod plain_keeper;
+mod scripts;
 mod seen;
 mod setting;
 mod stored_desk;
 mod texts;
 mod told;
+mod told_trial;
 mod trial;
 mod two_keepers;

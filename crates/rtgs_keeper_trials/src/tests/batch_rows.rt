@@ -9,16 +9,44 @@ use std::test::Fail;
 
 /// How many rows are replied to, before a fault of the store. Each is replied to as its order is answered.
 pub fn sent<K: Keeper>(alloc: Global, desk: &mut Desk<K>, rows: &[Row]) -> Result<usize, Fail> {
-    let replies = replies_to(alloc, desk, rows)?;
-    let are_right = replies
-        .iter()
-        .zip(rows)
-        .all(|(reply, row)| Some(*reply) == row_reply(&row.1));
-    if are_right {
-        Ok(replies.len())
+    let orders = orders_of(alloc, rows)?;
+    let batch = submitted(alloc, desk, orders.as_slice())?;
+    count_of_replies(&batch, rows)
+}
+
+/// Submits the orders of ALFA.
+pub fn submitted<K: Keeper>(
+    alloc: Global,
+    desk: &mut Desk<K>,
+    orders: &[OrderRow],
+) -> Result<BatchResult, Fail> {
+    let sender = code("ALFA")?;
+    Ok(submit_batch(alloc, desk, sender, orders)?)
+}
+
+// How many replies there are, each of which is right. Nothing but a fault of the store stopped them.
+fn count_of_replies(batch: &BatchResult, rows: &[Row]) -> Result<usize, Fail> {
+    if !is_stopped_by_the_store_alone(batch.stopped) {
+        return Err(Fail::from("another stop"));
+    }
+    if are_right(batch.replies.as_slice(), rows) {
+        Ok(batch.replies.len())
     } else {
         Err(Fail::from("another row reply"))
     }
+}
+
+fn is_stopped_by_the_store_alone(stopped: Option<Refusal>) -> bool {
+    matches!(stopped, None | Some(Refusal::StoreFault))
+}
+
+// Whether each row is replied to as its order is answered.
+fn are_right(replies: &[RowReply], rows: &[Row]) -> bool {
+    let mut are_right = true;
+    for (reply, row) in replies.iter().zip(rows) {
+        are_right = are_right && row_reply(&row.1) == Some(*reply);
+    }
+    are_right
 }
 
 // What a row is replied to, whose order is answered so.
@@ -31,25 +59,6 @@ fn row_reply(reply: &Reply) -> Option<RowReply> {
         }
         Ok(_) => None,
         Err(refusal) => Some(RowReply::Refused(refusal)),
-    }
-}
-
-// Sends the rows. Nothing but a fault of the store stops them.
-fn replies_to<K: Keeper>(
-    alloc: Global,
-    desk: &mut Desk<K>,
-    rows: &[Row],
-) -> Result<Vec<RowReply>, Fail> {
-    let orders = orders_of(alloc, rows)?;
-    let BatchResult { replies, stopped } = submit_batch(
-        alloc,
-        desk,
-        code("ALFA")?,
-        orders.as_slice(),
-    )?;
-    match stopped {
-        None | Some(Refusal::StoreFault) => Ok(replies),
-        Some(refusal) => Err(Fail::from(refusal)),
     }
 }
 

@@ -1,9 +1,10 @@
 //! The shortest and longest texts, the least and greatest numbers, the first and last days, and as many participants
 //! and queued orders as there may be, over both keepers.
-use super::disk_desk::{closed, desk_again, new_desk};
+use super::disk_desk::{closed, desk_again, end_in_one_book, new_desk};
 use super::disk_keeper::{DiskKeeper, Work, on_disks};
-use super::found::{ShowsBook, are_same_books};
-use super::setting::{Reply, adds, date, desk_over, limits, pays, posts};
+use super::found::ShowsBook;
+use super::scripts::commands_of;
+use super::setting::{Reply, adds, are_alike, date, desk_over, pays};
 use rtgs_book::{Answer, Command, Refusal};
 use rtgs_desk::Desk;
 use rtgs_keeper::{Keeper, MemoryKeeper};
@@ -16,8 +17,6 @@ const HIGHEST_KEY: &str = "ffffffffffffffffffffffffffffffff";
 
 const LONGEST_NAME: &str = "~ 23456789 123456789 123456789 123456789";
 
-const LONGEST_REFERENCE: &str = "Z-0123456789ABC9";
-
 /// What a desk in memory and one on disks both answer to a command.
 fn answer_alike<M: Keeper, K: Keeper>(
     held: &mut Desk<M>,
@@ -26,11 +25,27 @@ fn answer_alike<M: Keeper, K: Keeper>(
 ) -> Result<Reply, Fail> {
     let reply = held.submit(*command);
     let other = kept.submit(*command);
-    if other == reply {
+    if are_alike(&other, &reply) {
         Ok(reply)
     } else {
         Err(Fail::from("two answers"))
     }
+}
+
+/// Fails unless both desks accept each of the commands, and answer alike.
+fn accept_alike<M: Keeper, K: Keeper>(
+    held: &mut Desk<M>,
+    kept: &mut Desk<K>,
+    commands: &[Command],
+) -> Result<(), Fail> {
+    for command in commands {
+        match answer_alike(held, kept, command)? {
+            Ok(Answer::Repeated(_)) => return Err(Fail::from("repeated")),
+            Ok(_) => (),
+            Err(refusal) => return Err(Fail::from(refusal)),
+        }
+    }
+    Ok(())
 }
 
 /// Whether two new desks answer the commands alike, accept all but the last, which is refused so, and end with one
@@ -45,18 +60,10 @@ fn refuse_the_last_over<M: Keeper + ShowsBook + Drop, K: Keeper + ShowsBook + Di
     let mut held = desk_over(alloc, memory)?;
     let disks = closed(new_desk::<K>(alloc)?.into_keeper())?;
     let mut kept = desk_again::<K>(alloc, disks)?;
-    for command in accepted {
-        match answer_alike(&mut held, &mut kept, command)? {
-            Ok(Answer::Repeated(_)) => return Err(Fail::from("repeated")),
-            Ok(_) => (),
-            Err(refusal) => return Err(Fail::from(refusal)),
-        }
-    }
+    accept_alike(&mut held, &mut kept, accepted)?;
     let reply = answer_alike(&mut held, &mut kept, last)?;
-    let in_memory = held.into_keeper().book(alloc)?;
     let disks = closed(kept.into_keeper())?;
-    let on_disks = desk_again::<K>(alloc, disks)?.into_keeper().book(alloc)?;
-    Ok(reply == Err(refusal) && are_same_books(&on_disks, &in_memory))
+    Ok(are_alike(&reply, &Err(refusal)) && end_in_one_book::<M, K>(alloc, held, disks)?)
 }
 
 // Commands of which the last alone is refused, and how.
@@ -82,43 +89,53 @@ fn refuse_the_last(alloc: Global, commands: &[Command], refusal: Refusal) -> Res
     on_disks(alloc, Bounded { commands, refusal })
 }
 
+const NUMBERS_AT_THEIR_BOUNDS: &str = "\
+credit ABC 100000000000000
+credit Z9999999 0
+post ABC 0 1000000000000000
+post ABC Z-0123456789ABC9 -1000000000000000
+post ABC - 1
+post ABC A -1
+open 20240304
+order ABC 9 Z9999999 1000000000000
+order ABC Z-0123456789ABC9 Z9999999 1
+post Z9999999 B 1000000000000000
+post ABC C 1";
+
+/// Two participants of the shortest and longest texts, and what they do.
+fn commands_at_their_bounds(alloc: Global) -> Result<Vec<Command>, Fail> {
+    let mut commands = Vec::new(alloc);
+    commands.push(adds("ABC", "A", LOWEST_KEY)?)?;
+    commands.push(adds("Z9999999", LONGEST_NAME, HIGHEST_KEY)?)?;
+    commands.extend_from_slice(commands_of(alloc, NUMBERS_AT_THEIR_BOUNDS)?.as_slice())?;
+    Ok(commands)
+}
+
 #[test]
 fn texts_and_numbers_reach_their_bounds(rt: HostRuntime) -> Result<(), Fail> {
-    let commands = [
-        adds("ABC", "A", LOWEST_KEY)?,
-        adds("Z9999999", LONGEST_NAME, HIGHEST_KEY)?,
-        limits("ABC", 100_000_000_000_000)?,
-        limits("Z9999999", 0)?,
-        posts("ABC", "0", 1_000_000_000_000_000)?,
-        posts("ABC", LONGEST_REFERENCE, -1_000_000_000_000_000)?,
-        posts("ABC", "-", 1)?,
-        posts("ABC", "A", -1)?,
-        Command::OpenDay(date(20240304)?),
-        pays("ABC", "9", "Z9999999", 1_000_000_000_000)?,
-        pays("ABC", LONGEST_REFERENCE, "Z9999999", 1)?,
-        posts("Z9999999", "B", 1_000_000_000_000_000)?,
-        posts("ABC", "C", 1)?,
-    ];
-    assert!(rt; refuse_the_last(rt.alloc(), &commands, Refusal::TotalTooLarge)?);
+    let commands = commands_at_their_bounds(rt.alloc())?;
+    assert!(rt; refuse_the_last(rt.alloc(), commands.as_slice(), Refusal::TotalTooLarge)?);
     Ok(())
 }
 
-/// Opens, cuts off and closes the day.
-fn whole_day(commands: &mut Vec<Command>, day: u32) -> Result<(), Fail> {
-    let date = date(day)?;
-    commands.push(Command::OpenDay(date))?;
-    commands.push(Command::CutOff(date))?;
-    commands.push(Command::CloseDay(date))?;
-    Ok(())
-}
+const DAYS_AT_THEIR_BOUNDS: &str = "\
+open 20000103
+cutoff 20000103
+close 20000103
+open 20001229
+cutoff 20001229
+close 20001229
+open 29990101
+cutoff 29990101
+close 29990101
+open 29991231
+cutoff 29991231
+close 29991231
+open 29991231";
 
 #[test]
 fn days_reach_their_bounds(rt: HostRuntime) -> Result<(), Fail> {
-    let mut commands = Vec::new(rt.alloc());
-    for day in [20000103, 20001229, 29990101, 29991231] {
-        whole_day(&mut commands, day)?;
-    }
-    commands.push(Command::OpenDay(date(29991231)?))?;
+    let commands = commands_of(rt.alloc(), DAYS_AT_THEIR_BOUNDS)?;
     assert!(rt; refuse_the_last(rt.alloc(), commands.as_slice(), Refusal::WrongDate)?);
     Ok(())
 }
@@ -130,19 +147,24 @@ fn adds_numbered(alloc: Global, number: u64) -> Result<Command, Fail> {
     adds(code.as_str(), "A Bank", key.as_str())
 }
 
+/// A participant more than there may be.
+fn too_many_participants(alloc: Global) -> Result<Vec<Command>, Fail> {
+    let mut commands = Vec::new(alloc);
+    for number in 0..=100 {
+        commands.push(adds_numbered(alloc, number)?)?;
+    }
+    Ok(commands)
+}
+
 #[test]
 fn there_are_a_hundred_participants(rt: HostRuntime) -> Result<(), Fail> {
-    let mut commands = Vec::new(rt.alloc());
-    for number in 0..=100 {
-        commands.push(adds_numbered(rt.alloc(), number)?)?;
-    }
-    assert!(rt;
-        refuse_the_last(
-            rt.alloc(),
-            commands.as_slice(),
-            Refusal::TooManyParticipants
-        )?
-    );
+    let commands = too_many_participants(rt.alloc())?;
+    let is_so = refuse_the_last(
+        rt.alloc(),
+        commands.as_slice(),
+        Refusal::TooManyParticipants,
+    )?;
+    assert!(rt; is_so);
     Ok(())
 }
 
@@ -152,15 +174,21 @@ fn uncovered(alloc: Global, number: u64) -> Result<Command, Fail> {
     pays("BANK1", reference.as_str(), "BANK2", 5)
 }
 
-#[test]
-fn five_hundred_orders_of_one_sender_wait(rt: HostRuntime) -> Result<(), Fail> {
-    let mut commands = Vec::new(rt.alloc());
-    commands.push(adds_numbered(rt.alloc(), 1)?)?;
-    commands.push(adds_numbered(rt.alloc(), 2)?)?;
+/// An order more than may wait.
+fn too_many_orders(alloc: Global) -> Result<Vec<Command>, Fail> {
+    let mut commands = Vec::new(alloc);
+    commands.push(adds_numbered(alloc, 1)?)?;
+    commands.push(adds_numbered(alloc, 2)?)?;
     commands.push(Command::OpenDay(date(20240304)?))?;
     for number in 1..=501 {
-        commands.push(uncovered(rt.alloc(), number)?)?;
+        commands.push(uncovered(alloc, number)?)?;
     }
+    Ok(commands)
+}
+
+#[test]
+fn five_hundred_orders_of_one_sender_wait(rt: HostRuntime) -> Result<(), Fail> {
+    let commands = too_many_orders(rt.alloc())?;
     assert!(rt; refuse_the_last(rt.alloc(), commands.as_slice(), Refusal::QueueFull)?);
     Ok(())
 }

@@ -1,6 +1,7 @@
 //! Desks whose books are kept on disks.
 use super::disk_keeper::DiskKeeper;
 use super::disks::{Disks, blank};
+use super::found::{ShowsBook, are_same_books};
 use super::fuses::WHOLE;
 use super::setting::desk_over;
 use rtgs_book::Fault;
@@ -50,4 +51,15 @@ pub fn new_desk<K: Keeper + DiskKeeper + Drop>(alloc: Global) -> Result<Desk<K>,
         return Err(Fail::from("not made"));
     };
     desk_over(alloc, keeper)
+}
+
+/// Whether the book of a desk in memory is that of the desk on these disks.
+pub fn end_in_one_book<M: Keeper + ShowsBook + Drop, K: Keeper + ShowsBook + DiskKeeper + Drop>(
+    alloc: Global,
+    held: Desk<M>,
+    disks: Disks,
+) -> Result<bool, Fail> {
+    let in_memory = held.into_keeper().book(alloc)?;
+    let on_disks = desk_again::<K>(alloc, disks)?.into_keeper().book(alloc)?;
+    Ok(are_same_books(&on_disks, &in_memory))
 }

@@ -8,7 +8,7 @@ use rtgs_book::Fault;
 use rtgs_keeper::Keeper;
 use rtgs_stored_desk::create;
 use rtgs_tables::SqlKeeper;
-use sqlite::{Alter, Connection, FileStore, Files, Options};
+use sqlite::{Alter, Connection, Error, FileStore, Files, Options};
 use sqlite_disk::{Disk, Fuse, Memory};
 use std::alloc::Global;
 use std::test::Fail;
@@ -36,16 +36,25 @@ fn kept<S: Alter + Drop>(
     alloc: Global,
     conn: Connection<S>,
     is_new: bool,
-) -> Result<Result<SqlKeeper<S>, S>, Fail>
+) -> Result<Result<PlainKeeper<SqlKeeper<S>>, S>, Fail>
     requires { conn.in_transaction ≡ false }
 {
     if !is_new {
-        return Ok(Ok(SqlKeeper::open(conn)));
+        return Ok(Ok(PlainKeeper::new(SqlKeeper::open(conn))));
     }
     match create(alloc, conn) {
-        Ok(desk) => Ok(Ok(desk.into_keeper())),
+        Ok(desk) => Ok(Ok(PlainKeeper::new(desk.into_keeper()))),
         Err((Fault::StoreFault, conn)) => Ok(Err(conn.into_store())),
         Err((fault, _)) => Err(Fail::from(fault)),
+    }
+}
+
+// The disks, where one of them failed, and for no other reason.
+fn left_by<T, L: Drop>(error: Error, left: L) -> Result<Result<T, L>, Fail> {
+    if error == DISK_FAILED {
+        Ok(Err(left))
+    } else {
+        Err(Fail::from(error))
     }
 }
 
@@ -59,36 +68,56 @@ fn opened_on<D: Disk + Drop>(
     if !disks.log.may_be_used() || !disks.db.may_be_used() {
         return Err(Fail::from("a disk that may not be used"));
     }
-    let conn = match Connection::open_files(alloc, disks, Options::new(1)) {
-        Ok(conn) => conn,
-        Err((error, left)) if error == DISK_FAILED => return Ok(Err(left.into_files())),
-        Err((error, _)) => return Err(Fail::from(error)),
-    };
-    match kept(alloc, conn, is_new)? {
-        Ok(kept) => Ok(Ok(PlainKeeper::new(kept))),
-        Err(store) => Ok(Err(store.close())),
+    match Connection::open_files(alloc, disks, Options::new(1)) {
+        Ok(conn) => kept_on(alloc, conn, is_new),
+        Err((error, left)) => left_by(error, left.into_files()),
+    }
+}
+
+fn kept_on<D: Disk + Drop>(
+    alloc: Global,
+    conn: Connection<FileStore<D>>,
+    is_new: bool,
+) -> Result<Result<KeeperOn<D>, Files<D>>, Fail>
+    requires { conn.in_transaction ≡ false }
+{
+    Ok(disks_or(kept(alloc, conn, is_new)?))
+}
+
+// The keeper, or the disks of the store that was left.
+fn disks_or<D: Disk + Drop>(
+    kept: Result<KeeperOn<D>, FileStore<D>>,
+) -> Result<KeeperOn<D>, Files<D>> {
+    match kept {
+        Ok(keeper) => Ok(keeper),
+        Err(store) => Err(store.close()),
     }
 }
 
 fn closed_on<D: Disk + Drop>(keeper: KeeperOn<D>) -> Result<Result<Files<D>, Files<D>>, Fail> {
-    let (error, store) = match connection_of(keeper).close_files() {
-        Ok(disks) => return Ok(Ok(disks)),
-        Err(left) => left,
-    };
-    let left = store.close();
-    if error == DISK_FAILED {
-        Ok(Err(left))
-    } else {
-        Err(Fail::from(error))
+    match closed_files(connection_of(keeper)) {
+        Ok(disks) => Ok(Ok(disks)),
+        Err((error, store)) => left_by(error, store.close()),
     }
 }
 
+// The call alone, so that what it says of the store is read nowhere else.
+fn closed_files<D: Disk + Drop>(
+    conn: Connection<FileStore<D>>,
+) -> Result<Files<D>, (Error, FileStore<D>)> {
+    conn.close_files()
+}
+
 fn stopped_on<D: Disk + Drop>(keeper: KeeperOn<D>) -> Files<D> {
-    connection_of(keeper).into_store().close()
+    store_of(connection_of(keeper)).close()
 }
 
 fn connection_of<S: Alter + Drop>(keeper: PlainKeeper<SqlKeeper<S>>) -> Connection<S> {
     keeper.into_kept().into_connection()
+}
+
+fn store_of<S: Alter + Drop>(conn: Connection<S>) -> S {
+    conn.into_store()
 }
 
 impl DiskKeeper for KeeperOn<Fuse<Memory>> {

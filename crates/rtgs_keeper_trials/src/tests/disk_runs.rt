@@ -20,7 +20,7 @@ fn image_of<K: Keeper + ShowsBook + DiskKeeper + Drop>(
     is_closed: bool,
 ) -> Result<Image, Fail> {
     let mut desk = new_desk::<K>(alloc)?;
-    trial.prepare(&mut desk)?;
+    trial.prepare(alloc, &mut desk)?;
     let keeper = desk.into_keeper();
     if !is_closed {
         return Image::of(alloc, &crashed(keeper.stopped()));
@@ -95,13 +95,8 @@ impl<'a> DiskTrial<'a> {
         disk: Failing,
     ) -> Result<u64, Fail> {
         for calls in 0..ENOUGH {
-            let progress = self.tried::<K>(alloc, disk.after(calls))?;
-            if progress == Some(Progress::Whole) {
+            if self.tried::<K>(alloc, disk.after(calls))? == Progress::Whole {
                 return Ok(calls);
-            }
-            if progress.is_none() {
-                let said = format!(in alloc; "another book after {calls} calls of {disk:?}")?;
-                return Err(Fail::from(said));
             }
         }
         Err(Fail::from("each run failed"))
@@ -114,7 +109,7 @@ impl<'a> DiskTrial<'a> {
     ) -> Result<bool, Fail> {
         let mut holds = true;
         for count in 0..=self.trial.rows.len() {
-            holds = holds && self.is_found_after::<K>(alloc, count)?;
+            holds = self.is_found_after::<K>(alloc, count)? && holds;
         }
         Ok(holds)
     }
@@ -132,19 +127,34 @@ impl<'a> DiskTrial<'a> {
         Ok(progress == Progress::Whole && place.is_some())
     }
 
-    // How far the trial came with these fuses, where a book was found that may be.
+    // How far the trial came with these fuses. A book was found that may be, and the commands ended from it as if they
+    // had come once.
     fn tried<K: Keeper + ShowsBook + DiskKeeper + Drop>(
         &self,
         alloc: Global,
         fuses: Fuses,
-    ) -> Result<Option<Progress>, Fail> {
-        let books = self.books.as_slice();
+    ) -> Result<Progress, Fail> {
         let (progress, left) = run::<K>(alloc, self.image.on_disks(alloc, fuses)?, &self.trial)?;
         let (found, keeper) = found_on::<K>(alloc, left)?;
-        let Some(place) = self.trial.place_of(books, progress, &found) else {
-            return Ok(None);
-        };
-        let is_alike = self.trial.ends_alike(alloc, books, keeper, place)?;
-        Ok(if is_alike { Some(progress) } else { None })
+        if self.ends_alike(alloc, progress, &found, keeper)? {
+            Ok(progress)
+        } else {
+            Err(Fail::from("another book, or another end"))
+        }
+    }
+
+    // Whether this book may be found after so much, and the commands end from it as if they had come once.
+    fn ends_alike<K: Keeper + ShowsBook + Drop>(
+        &self,
+        alloc: Global,
+        progress: Progress,
+        found: &Found,
+        keeper: K,
+    ) -> Result<bool, Fail> {
+        let books = self.books.as_slice();
+        match self.trial.place_of(books, progress, found) {
+            Some(place) => self.trial.ends_alike(alloc, books, keeper, place),
+            None => Ok(false),
+        }
     }
 }

@@ -1,9 +1,11 @@
 //! A batch whose store fails, and its result files before and after the desk is opened again.
+use super::banks::prepared;
+use super::batch_rows::submitted;
 use super::failing_keeper::{FailingKeeper, Trouble};
-use super::setting::{code, desk_over, opened, posts, prepared, reference};
+use super::setting::{code, desk_over, reference};
 use rtgs_book::Refusal;
 use rtgs_desk::Desk;
-use rtgs_exchange::{BatchResult, OrderRow, submit_batch, write_results};
+use rtgs_exchange::{BatchResult, OrderRow, write_results};
 use rtgs_keeper::{Keeper, MemoryKeeper};
 use rtgs_money::Amount;
 use std::alloc::Global;
@@ -50,17 +52,7 @@ fn failing(alloc: Global, orders: usize, call: usize) -> FailingKeeper<MemoryKee
 
 // A desk over a new keeper with three banks on an open day, of which ALFA has 150 cents.
 fn new_desk<K: Keeper + Drop>(alloc: Global, keeper: K) -> Result<Desk<K>, Fail> {
-    prepared(alloc, keeper, &[posts("ALFA", "P-1", 150)?, opened()?.0])
-}
-
-// Submits the rows of ALFA.
-fn submitted<K: Keeper>(
-    alloc: Global,
-    desk: &mut Desk<K>,
-    rows: &[OrderRow],
-) -> Result<BatchResult, Fail> {
-    let sender = code("ALFA")?;
-    Ok(submit_batch(alloc, desk, sender, rows)?)
+    prepared(alloc, keeper, "post ALFA P-1 150\nopen 20240304")
 }
 
 // The result file of the rows of ALFA, over a keeper that is new, or has the book of an earlier desk.
@@ -92,36 +84,55 @@ fn submitted_twice<K: Keeper + Drop>(
     Ok((first, submitted(alloc, &mut desk, rows)?))
 }
 
+// Whether so many rows were replied to, and the next was refused so.
+fn is_stopped_after(batch: &BatchResult, count: usize, refusal: Refusal) -> bool {
+    batch.replies.len() == count && batch.stopped == Some(refusal)
+}
+
+// Whether a batch stops at its second row, where the store fails at this call, and comes to nothing after that.
+fn stops_for_good(alloc: Global, call: usize) -> Result<bool, Fail> {
+    let (batch, later) = submitted_twice(alloc, failing(alloc, 1, call), &three_rows()?)?;
+    Ok(
+        is_stopped_after(&batch, 1, Refusal::StoreFault)
+            && is_stopped_after(&later, 0, Refusal::Failed),
+    )
+}
+
 #[test]
 fn a_batch_stops_where_the_store_fails(rt: HostRuntime) -> Result<(), Fail> {
     for call in CALLS {
-        let keeper = failing(rt.alloc(), 1, call);
-        let (batch, later) = submitted_twice(rt.alloc(), keeper, &three_rows()?)?;
-        assert_eq!(rt; batch.replies.len(), 1);
-        assert_eq!(rt; batch.stopped, Some(Refusal::StoreFault));
-        assert_eq!(rt; later.replies.len(), 0);
-        assert_eq!(rt; later.stopped, Some(Refusal::Failed));
+        assert!(rt; stops_for_good(rt.alloc(), call)?);
     }
     Ok(())
 }
 
+// The result file of a batch that is sent again after a restart, where the store failed at this call of its third row.
+fn sent_again(alloc: Global, call: usize) -> Result<Vec<u8>, Fail> {
+    let rows = three_rows()?;
+    let (_, left) = result_file(alloc, failing(alloc, 2, call), true, &rows)?;
+    let (text, _) = result_file(alloc, left.into_kept(), false, &rows)?;
+    Ok(text)
+}
+
 #[test]
 fn a_stopped_batch_is_sent_again_after_a_restart(rt: HostRuntime) -> Result<(), Fail> {
-    let rows = three_rows()?;
     for call in CALLS {
-        let keeper = failing(rt.alloc(), 2, call);
-        let (_, left) = result_file(rt.alloc(), keeper, true, &rows)?;
-        let (text, _) = result_file(rt.alloc(), left.into_kept(), false, &rows)?;
+        let text = sent_again(rt.alloc(), call)?;
         assert_eq!(rt; text.as_slice(), SENT_AGAIN);
     }
     Ok(())
 }
 
+// The result file of a batch, where the store failed at this call of its second row.
+fn stopped(alloc: Global, call: usize) -> Result<Vec<u8>, Fail> {
+    let (text, _) = result_file(alloc, failing(alloc, 1, call), true, &three_rows()?)?;
+    Ok(text)
+}
+
 #[test]
 fn no_line_follows_a_stop(rt: HostRuntime) -> Result<(), Fail> {
     for call in CALLS {
-        let keeper = failing(rt.alloc(), 1, call);
-        let (text, _) = result_file(rt.alloc(), keeper, true, &three_rows()?)?;
+        let text = stopped(rt.alloc(), call)?;
         assert_eq!(rt; text.as_slice(), STOPPED);
     }
     Ok(())

@@ -9,17 +9,19 @@ use rtgs_keeper::{Keeper, MemoryKeeper};
 use std::alloc::Global;
 use std::test::Fail;
 
-/// Gives the commands to a desk over a new keeper that meets trouble after so many calls.
+/// A new keeper, with the book of the trial's beginning.
+fn before<K: Keeper + Drop>(alloc: Global, keeper: K, trial: &Trial<'_>) -> Result<K, Fail> {
+    let mut desk = desk_over(alloc, keeper)?;
+    trial.prepare(alloc, &mut desk)?;
+    Ok(desk.into_keeper())
+}
+
+/// Gives the commands to a desk over a keeper with the book of their beginning.
 fn run<K: Keeper + Drop>(
     alloc: Global,
-    keeper: K,
+    keeper: FailingKeeper<K>,
     trial: &Trial<'_>,
-    calls: usize,
-    trouble: Trouble,
 ) -> Result<(Progress, K), Fail> {
-    let mut desk = desk_over(alloc, keeper)?;
-    trial.prepare(&mut desk)?;
-    let keeper = FailingKeeper::new(desk.into_keeper(), calls, trouble);
     let mut desk = match Desk::open(alloc, keeper) {
         Ok(desk) => desk,
         Err((Fault::StoreFault, keeper)) => return Ok((Progress::Unopened, keeper.into_kept())),
@@ -39,7 +41,8 @@ fn tried<K: Keeper + ShowsBook + Drop>(
     calls: usize,
     trouble: Trouble,
 ) -> Result<Progress, Fail> {
-    let (progress, kept) = run(alloc, keeper, trial, calls, trouble)?;
+    let keeper = FailingKeeper::new(before(alloc, keeper, trial)?, calls, trouble);
+    let (progress, kept) = run(alloc, keeper, trial)?;
     let (found, kept) = Found::of(alloc, desk_over(alloc, kept)?)?;
     let Some(place) = trial.place_of(books, progress, &found) else {
         return Err(Fail::from("another book"));

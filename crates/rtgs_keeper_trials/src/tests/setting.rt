@@ -1,8 +1,8 @@
 //! Banks, their commands, and how they stand.
-use rtgs_book::{Answer, Command, Known, OrderState, Refusal};
+use rtgs_book::{Answer, Command, Refusal};
 use rtgs_desk::Desk;
 use rtgs_keeper::Keeper;
-use rtgs_money::{Amount, BusinessDate, Cents, Code, Credit, Key, Name, PostingAmount, Reference};
+use rtgs_money::{Amount, BusinessDate, Code, Credit, Key, Name, PostingAmount, Reference};
 use std::alloc::Global;
 use std::test::Fail;
 
@@ -20,10 +20,6 @@ pub const MONDAY: u32 = 20240304;
 
 /// ALFA's key.
 pub const KEY: &str = "0000000000000000000000000000000a";
-
-const KEY_OF_BETA: &str = "0000000000000000000000000000000b";
-
-const KEY_OF_GAMA: &str = "0000000000000000000000000000000c";
 
 /// The code of this text.
 pub fn code(text: &str) -> Result<Code, Fail> {
@@ -54,15 +50,6 @@ pub fn adds_alfa() -> Result<Command, Fail> {
     adds("ALFA", "A Bank", KEY)
 }
 
-/// Adds ALFA, BETA and GAMA.
-pub fn adds_three() -> Result<[Command; 3], Fail> {
-    Ok([
-        adds_alfa()?,
-        adds("BETA", "A Bank", KEY_OF_BETA)?,
-        adds("GAMA", "A Bank", KEY_OF_GAMA)?,
-    ])
-}
-
 /// Sets a participant's credit limit.
 pub fn limits(participant: &str, cents: u64) -> Result<Command, Fail> {
     Ok(Command::SetCredit {
@@ -90,33 +77,9 @@ pub fn pays(sender: &str, name: &str, receiver: &str, cents: u64) -> Result<Comm
     })
 }
 
-/// Opens Monday.
-pub fn opened() -> Result<Row, Fail> {
-    Ok((Command::OpenDay(date(MONDAY)?), Ok(Answer::Opened)))
-}
-
-/// The order has this number, and waits at this place of its queue.
-pub fn queued(number: u64, place: u64) -> Reply {
-    Ok(Answer::Queued { number, place })
-}
-
-/// The order has this number, and settled at once under this mark.
-pub fn settled(number: u64, mark: u64) -> Reply {
-    Ok(Answer::Settled { number, mark })
-}
-
-/// The order came before, and was taken under this number.
-pub fn taken(number: u64, state: OrderState) -> Reply {
-    Ok(Answer::Repeated(Known::Order { number, state }))
-}
-
-/// So many orders of this value in cents settled under this mark.
-pub fn resolved(mark: u64, count: u64, cents: i64) -> Reply {
-    Ok(Answer::Resolved {
-        mark,
-        count,
-        value: Cents::new(cents),
-    })
+/// Whether two replies are the same.
+pub fn are_alike(one: &Reply, other: &Reply) -> bool {
+    one == other
 }
 
 /// A desk over a keeper.
@@ -125,19 +88,6 @@ pub fn desk_over<K: Keeper + Drop>(alloc: Global, keeper: K) -> Result<Desk<K>, 
         Ok(desk) => Ok(desk),
         Err((fault, _)) => Err(Fail::from(fault)),
     }
-}
-
-/// The desk over a new keeper, with three banks, after these commands.
-pub fn prepared<K: Keeper + Drop>(
-    alloc: Global,
-    keeper: K,
-    commands: &[Command],
-) -> Result<Desk<K>, Fail> {
-    let mut desk = desk_over(alloc, keeper)?;
-    for command in adds_three()?.iter().chain(commands) {
-        desk.submit(*command)?;
-    }
-    Ok(desk)
 }
 
 /// The balance of a participant in cents, and how many orders its queue has.

@@ -13,7 +13,9 @@ ghost use Rattle.rtgs_tables.specs.Building.{IsBlank};
 ghost use Rattle.rtgs_keeper_trials.specs.Lives.{AreTwoSessions};
 ghost use Rattle.rtgs_stored_desk.specs.Stored.{AreTablesOf};
 
-use super::setting::{Reply, adds_three, posts, standings};
+use super::banks::BANKS;
+use super::scripts::{command, commands_of};
+use super::setting::{Reply, standings};
 use rtgs_book::laws::new_book_is_sound;
 use rtgs_book::{Answer, Command, Fault};
 use rtgs_desk::Desk;
@@ -175,18 +177,32 @@ fn lived_twice_in_memory(
     lived_twice(alloc, Connection::open_in_memory(alloc)?, commands, more)
 }
 
+// Whether the replies to a posting to BETA after four commands, and the desk, are as they should be.
+fn end_so<K: Keeper>(replies: &[Reply], others: &[Reply], desk: &Desk<K>) -> Result<bool, Fail> {
+    let are_standing = standings(desk)? == [(1000, 0), (5, 0), (0, 0)];
+    Ok(replies.len() == 4 && are_posted(others) && are_standing)
+}
+
+fn are_posted(replies: &[Reply]) -> bool {
+    matches!(replies, [Ok(Answer::Posted { number: 2 })])
+}
+
+// Whether two sessions in memory, of the banks and a posting each, end as they should.
+fn live_twice(alloc: Global) -> Result<bool, Fail> {
+    let mut commands = commands_of(alloc, BANKS)?;
+    commands.push(command(alloc, "post ALFA P-1 1000")?)?;
+    let more = commands_of(alloc, "post BETA P-2 5")?;
+    let (replies, others, desk) = lived_twice_in_memory(
+        alloc,
+        commands.as_slice(),
+        more.as_slice(),
+    )?;
+    end_so(replies.as_slice(), others.as_slice(), &desk)
+}
+
 #[test]
 fn a_desk_is_found_again_and_again(rt: HostRuntime) -> Result<(), Fail> {
-    let [alfa, beta, gama] = adds_three()?;
-    let (replies, others, desk) = lived_twice_in_memory(
-        rt.alloc(),
-        &[alfa, beta, gama, posts("ALFA", "P-1", 1000)?],
-        &[posts("BETA", "P-2", 5)?],
-    )?;
-    assert_eq!(rt; replies.len(), 4);
-    let posted = [Ok(Answer::Posted { number: 2 })];
-    assert_eq!(rt; others.as_slice(), posted.as_slice());
-    assert_eq!(rt; standings(&desk)?, [(1000, 0), (5, 0), (0, 0)]);
+    assert!(rt; live_twice(rt.alloc())?);
     Ok(())
 }
 

@@ -1,8 +1,9 @@
 //! A statement and a day report whose reads meet trouble, each in turn: what was written is a beginning of the text.
+use super::banks::prepared;
 use super::failing_keeper::{FailingKeeper, Trouble};
-use super::setting::{MONDAY, code, date, desk_over, opened, pays, posts, prepared};
+use super::setting::{MONDAY, code, date, desk_over};
 use super::trial::is_silent;
-use rtgs_book::{Command, Refusal};
+use rtgs_book::Refusal;
 use rtgs_desk::Desk;
 use rtgs_keeper::{Keeper, MemoryKeeper};
 use rtgs_statements::{BookTextFault, write_report, write_statement};
@@ -24,17 +25,14 @@ const BEGINNING: &str = "statement ALFA 2024-03-04\n\
     posting    000000002 P-2              -                       20.00         -\n";
 
 /// ALFA has three postings on Monday, and no other bank has one. One order settles, and two wait.
-fn commands() -> Result<[Command; 7], Fail> {
-    Ok([
-        opened()?.0,
-        posts("ALFA", "P-1", 100)?,
-        posts("ALFA", "P-2", 2000)?,
-        posts("ALFA", "P-3", -50)?,
-        pays("ALFA", "A-1", "BETA", 60)?,
-        pays("ALFA", "A-2", "GAMA", 9000)?,
-        pays("BETA", "B-1", "ALFA", 500)?,
-    ])
-}
+const COMMANDS: &str = "\
+open 20240304
+post ALFA P-1 100
+post ALFA P-2 2000
+post ALFA P-3 -50
+order ALFA A-1 BETA 60
+order ALFA A-2 GAMA 9000
+order BETA B-1 ALFA 500";
 
 /// Writes the text, and tells why a read was refused, where one was.
 fn write<K: Keeper>(
@@ -58,7 +56,7 @@ fn write<K: Keeper>(
 /// The whole text, over this keeper, which is new before the commands.
 fn whole<K: Keeper + Drop>(alloc: Global, keeper: K, text: Text) -> Result<Vec<u8>, Fail> {
     let mut out = Vec::new(alloc);
-    let mut desk = prepared(alloc, keeper, &commands()?)?;
+    let mut desk = prepared(alloc, keeper, COMMANDS)?;
     match write(alloc, &mut desk, text, &mut out)? {
         None => Ok(out),
         Some(refusal) => Err(Fail::from(refusal)),
@@ -82,38 +80,58 @@ fn goes_on<K: Keeper>(
     Ok(refused.is_none() && out.as_slice() == whole)
 }
 
-/// Writes the text over this keeper, which is new before the commands, and meets this trouble after so many reads:
-/// whether it is written whole. Else a beginning of it is.
-fn is_written<K: Keeper + Drop>(
+/// The desk over a keeper that is new before the commands, and meets this trouble after so many reads.
+fn failing_after<K: Keeper + Drop>(
     alloc: Global,
     keeper: K,
-    text: Text,
     reads: usize,
     trouble: Trouble,
-    whole: &[u8],
-) -> Result<bool, Fail> {
-    let kept = prepared(alloc, keeper, &commands()?)?.into_keeper();
+) -> Result<Desk<FailingKeeper<K>>, Fail> {
+    let kept = prepared(alloc, keeper, COMMANDS)?.into_keeper();
     // the opening is a call too
     let calls = reads.saturating_add(1);
-    let mut desk = desk_over(alloc, FailingKeeper::new(kept, calls, trouble))?;
+    desk_over(alloc, FailingKeeper::new(kept, calls, trouble))
+}
+
+/// Writes the text of this desk, which may meet trouble: whether it is written whole. Else a beginning of it is.
+fn is_written<K: Keeper>(
+    alloc: Global,
+    desk: &mut Desk<K>,
+    text: Text,
+    whole: &[u8],
+) -> Result<bool, Fail> {
     let mut out = Vec::new(alloc);
-    let Some(refusal) = write(alloc, &mut desk, text, &mut out)? else {
+    let Some(refusal) = write(alloc, desk, text, &mut out)? else {
         return Ok(out.as_slice() == whole);
     };
-    let is_beginning = whole.starts_with(out.as_slice()) && out.len() < whole.len();
-    if is_beginning && goes_on(alloc, &mut desk, text, refusal, whole)? {
+    if is_beginning(out.as_slice(), whole) && goes_on(alloc, desk, text, refusal, whole)? {
         Ok(false)
     } else {
         Err(Fail::from("no beginning of the text, or another answer after it"))
     }
 }
 
+fn is_beginning(written: &[u8], whole: &[u8]) -> bool {
+    whole.starts_with(written) && written.len() < whole.len()
+}
+
+/// Whether the text is written whole over a new keeper in memory that meets this trouble after so many reads.
+fn is_written_after(
+    alloc: Global,
+    text: Text,
+    reads: usize,
+    trouble: Trouble,
+    whole: &[u8],
+) -> Result<bool, Fail> {
+    let mut desk = failing_after(alloc, MemoryKeeper::new(alloc), reads, trouble)?;
+    is_written(alloc, &mut desk, text, whole)
+}
+
 /// How many reads go well where first no writing meets this trouble.
 fn reads_of(alloc: Global, text: Text, trouble: Trouble) -> Result<usize, Fail> {
     let written = whole(alloc, MemoryKeeper::new(alloc), text)?;
     for reads in 0..100 {
-        let keeper = MemoryKeeper::new(alloc);
-        if is_written(alloc, keeper, text, reads, trouble, written.as_slice())? {
+        if is_written_after(alloc, text, reads, trouble, written.as_slice())? {
             return Ok(reads);
         }
     }
@@ -143,8 +161,7 @@ fn a_report_is_begun_where_a_read_is_refused(rt: HostRuntime) -> Result<(), Fail
 /// What was written of ALFA's statement where the third read of a posting meets a fault of the store, after which the
 /// desk answers nothing but that it has failed.
 fn written_before_the_third<K: Keeper + Drop>(alloc: Global, keeper: K) -> Result<Vec<u8>, Fail> {
-    let kept = prepared(alloc, keeper, &commands()?)?.into_keeper();
-    let mut desk = desk_over(alloc, FailingKeeper::new(kept, 3, Trouble::Lost))?;
+    let mut desk = failing_after(alloc, keeper, 2, Trouble::Lost)?;
     let mut out = Vec::new(alloc);
     let refused = write(alloc, &mut desk, Text::Statement, &mut out)?;
     if refused == Some(Refusal::StoreFault) && is_silent(&mut desk)? {

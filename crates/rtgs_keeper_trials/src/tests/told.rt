@@ -1,5 +1,6 @@
 //! What two keepers tell of one book: each record by its name, and the records of each date one after another.
 use super::business::{CODES, DAYS, ORDERS, POSTINGS, code_numbered, reference_numbered};
+use rtgs_cores::Core;
 use rtgs_keeper::Keeper;
 use rtgs_money::{BusinessDate, Code, Reference};
 use std::alloc::Global;
@@ -37,6 +38,17 @@ impl Names {
     }
 }
 
+// Whether both find the same order of this sender by this reference.
+fn agree_in_order<M: Keeper, K: Keeper>(
+    one: &mut M,
+    other: &mut K,
+    sender: &Code,
+    reference: &Reference,
+) -> Result<bool, Fail> {
+    let found = one.find_order(sender, reference)?;
+    Ok(other.find_order(sender, reference)? == found)
+}
+
 // Whether both find the same order of this sender by each reference.
 fn agree_in_orders<M: Keeper, K: Keeper>(
     one: &mut M,
@@ -46,10 +58,19 @@ fn agree_in_orders<M: Keeper, K: Keeper>(
 ) -> Result<bool, Fail> {
     let mut agree = true;
     for reference in references {
-        let found = one.find_order(sender, reference)?;
-        agree = agree && other.find_order(sender, reference)? == found;
+        agree = agree_in_order(one, other, sender, reference)? && agree;
     }
     Ok(agree)
+}
+
+// Whether both find the same posting by this reference.
+fn agree_in_posting<M: Keeper, K: Keeper>(
+    one: &mut M,
+    other: &mut K,
+    reference: &Reference,
+) -> Result<bool, Fail> {
+    let found = one.find_posting(reference)?;
+    Ok(other.find_posting(reference)? == found)
 }
 
 // Whether both find the same posting by each reference.
@@ -60,8 +81,7 @@ fn agree_in_postings<M: Keeper, K: Keeper>(
 ) -> Result<bool, Fail> {
     let mut agree = true;
     for reference in references {
-        let found = one.find_posting(reference)?;
-        agree = agree && other.find_posting(reference)? == found;
+        agree = agree_in_posting(one, other, reference)? && agree;
     }
     Ok(agree)
 }
@@ -79,6 +99,57 @@ fn agree_in_names<M: Keeper, K: Keeper>(
     Ok(agree)
 }
 
+// The number of the posting that comes next on this date, where both tell the same one.
+fn next_posting_alike<M: Keeper, K: Keeper>(
+    one: &mut M,
+    other: &mut K,
+    date: BusinessDate,
+    number: u64,
+) -> Result<Option<u64>, Fail> {
+    let posting = one.next_posting(date, number)?;
+    if other.next_posting(date, number)? != posting {
+        return Err(Fail::from("another posting of a date"));
+    }
+    Ok(match posting {
+        Some(posting) => Some(posting.number),
+        None => None,
+    })
+}
+
+// The number of the order that comes next on this date, where both tell the same one.
+fn next_order_alike<M: Keeper, K: Keeper>(
+    one: &mut M,
+    other: &mut K,
+    date: BusinessDate,
+    number: u64,
+) -> Result<Option<u64>, Fail> {
+    let order = one.next_order(date, number)?;
+    if other.next_order(date, number)? != order {
+        return Err(Fail::from("another order of a date"));
+    }
+    Ok(match order {
+        Some(order) => Some(order.number),
+        None => None,
+    })
+}
+
+// The number of the mark that comes next on this date, where both tell the same one.
+fn next_mark_alike<M: Keeper, K: Keeper>(
+    one: &mut M,
+    other: &mut K,
+    date: BusinessDate,
+    number: u64,
+) -> Result<Option<u64>, Fail> {
+    let mark = one.next_mark(date, number)?;
+    if other.next_mark(date, number)? != mark {
+        return Err(Fail::from("another mark of a date"));
+    }
+    Ok(match mark {
+        Some(mark) => Some(mark.number),
+        None => None,
+    })
+}
+
 // The least of the numbers that come next on this date, where both tell the same three records.
 fn next_alike<M: Keeper, K: Keeper>(
     one: &mut M,
@@ -86,21 +157,18 @@ fn next_alike<M: Keeper, K: Keeper>(
     date: BusinessDate,
     number: u64,
 ) -> Result<Option<u64>, Fail> {
-    let posting = one.next_posting(date, number)?;
-    let order = one.next_order(date, number)?;
-    let mark = one.next_mark(date, number)?;
-    let agree = other.next_posting(date, number)? == posting
-        && other.next_order(date, number)? == order
-        && other.next_mark(date, number)? == mark;
-    if !agree {
-        return Err(Fail::from("other records of a date"));
+    let posting = next_posting_alike(one, other, date, number)?;
+    let order = next_order_alike(one, other, date, number)?;
+    let mark = next_mark_alike(one, other, date, number)?;
+    Ok(lesser(posting, lesser(order, mark)))
+}
+
+// The lesser of two numbers, where there are two.
+fn lesser(one: Option<u64>, other: Option<u64>) -> Option<u64> {
+    match (one, other) {
+        (Some(one), Some(other)) => Some(one.min(other)),
+        (None, number) | (number, None) => number,
     }
-    let numbers = [
-        posting.map(|posting| posting.number),
-        order.map(|order| order.number),
-        mark.map(|mark| mark.number),
-    ];
-    Ok(numbers.iter().flatten().min().copied())
 }
 
 // Goes through a date, from each record to the next.
@@ -146,17 +214,28 @@ fn last_number<M: Keeper, K: Keeper>(
     other: &mut K,
 ) -> Result<u64, Fail> {
     let core = one.core(alloc)?;
-    let told = other.core(alloc)?;
-    let numbers = [core.next_posting, core.next_order, core.next_mark];
-    let agree = core.accounts.as_slice() == told.accounts.as_slice()
-        && core.queued.as_slice() == told.queued.as_slice()
-        && core.day == told.day
-        && numbers == [told.next_posting, told.next_order, told.next_mark];
-    if agree {
-        Ok(numbers.iter().copied().max().unwrap_or(0))
+    if are_same_cores(&other.core(alloc)?, &core) {
+        Ok(core.next_posting.max(core.next_order).max(core.next_mark))
     } else {
         Err(Fail::from("two cores"))
     }
+}
+
+fn are_same_cores(one: &Core, other: &Core) -> bool {
+    one.accounts.as_slice() == other.accounts.as_slice()
+        && one.queued.as_slice() == other.queued.as_slice()
+        && one.day == other.day
+        && one.next_posting == other.next_posting
+        && one.next_order == other.next_order
+        && one.next_mark == other.next_mark
+}
+
+// Goes through all dates, with so many steps on each at most.
+fn go_through_all<M: Keeper, K: Keeper>(one: &mut M, other: &mut K, most: u64) -> Result<(), Fail> {
+    for place in 0..DAYS.len() {
+        go_through(one, other, date_at(place as u64)?, most)?;
+    }
+    Ok(())
 }
 
 /// Whether two keepers tell the same: by all names, from record to record through all dates, and after each number on a
@@ -169,9 +248,7 @@ pub fn tell_the_same<M: Keeper, K: Keeper>(
     shift: u64,
 ) -> Result<bool, Fail> {
     let last = last_number(alloc, one, other)?;
-    for place in 0..DAYS.len() {
-        go_through(one, other, date_at(place as u64)?, last.saturating_mul(3))?;
-    }
+    go_through_all(one, other, last.saturating_mul(3))?;
     ask_after_each(one, other, last, shift)?;
     agree_in_names(names, one, other)
 }

@@ -1,13 +1,14 @@
 //! Commands during which the store fails, and the books that may be found then.
+use super::banks::{BANKS, follow};
 use super::batch_rows::sent;
 use super::found::{Found, ShowsBook};
 use super::setting::{
-    KEY, MONDAY, Reply, Row, Standings, adds_three, code, date, desk_over, reference,
+    KEY, MONDAY, Reply, Row, Standings, are_alike, code, date, desk_over, reference,
 };
 use rtgs_book::{Command, Refusal};
 use rtgs_desk::Desk;
 use rtgs_keeper::{Keeper, MemoryKeeper};
-use rtgs_money::Key;
+use rtgs_money::{BusinessDate, Code, Key, Reference};
 use rtgs_statements::Source;
 use std::alloc::Global;
 use std::test::Fail;
@@ -42,21 +43,15 @@ pub enum Progress {
 
 impl Trial<'_> {
     /// Gives the desk three banks and the commands before.
-    pub fn prepare<K: Keeper>(&self, desk: &mut Desk<K>) -> Result<(), Fail> {
-        for command in adds_three()? {
-            desk.submit(command)?;
-        }
+    pub fn prepare<K: Keeper>(&self, alloc: Global, desk: &mut Desk<K>) -> Result<(), Fail> {
+        follow(alloc, desk, BANKS)?;
         answered(desk, self.before)?;
         Ok(())
     }
 
     /// Gives the desk the commands. Once the store has failed, the desk answers nothing else.
     pub fn work<K: Keeper>(&self, alloc: Global, desk: &mut Desk<K>) -> Result<Progress, Fail> {
-        let answered = if self.is_batch {
-            sent(alloc, desk, self.rows)?
-        } else {
-            answered(desk, self.rows)?
-        };
+        let answered = self.given(alloc, desk, self.rows)?;
         if answered == self.rows.len() {
             return Ok(Progress::Whole);
         }
@@ -64,6 +59,20 @@ impl Trial<'_> {
             Ok(Progress::Failed(answered))
         } else {
             Err(Fail::from("a failed desk spoke"))
+        }
+    }
+
+    // Gives the desk these commands, and counts those that are answered.
+    fn given<K: Keeper>(
+        &self,
+        alloc: Global,
+        desk: &mut Desk<K>,
+        rows: &[Row],
+    ) -> Result<usize, Fail> {
+        if self.is_batch {
+            sent(alloc, desk, rows)
+        } else {
+            answered(desk, rows)
         }
     }
 
@@ -91,10 +100,13 @@ impl Trial<'_> {
         count: usize,
     ) -> Result<Found, Fail> {
         let mut desk = desk_over(alloc, keeper)?;
-        self.prepare(&mut desk)?;
-        let rows = self.rows.get(..count).ok_or("rows")?;
-        answered(&mut desk, rows)?;
+        self.prepare(alloc, &mut desk)?;
+        answered(&mut desk, self.rows.get(..count).ok_or("rows")?)?;
         let (found, _) = Found::of(alloc, desk)?;
+        self.standing_so(found, count)
+    }
+
+    fn standing_so(&self, found: Found, count: usize) -> Result<Found, Fail> {
         if self.standings.get(count) == Some(&found.standings) {
             Ok(found)
         } else {
@@ -131,14 +143,19 @@ impl Trial<'_> {
         place: usize,
     ) -> Result<bool, Fail> {
         let mut desk = desk_over(alloc, keeper)?;
-        let rows = self.rows_behind(alloc, place)?;
-        let count = if self.is_batch {
-            sent(alloc, &mut desk, rows.as_slice())?
-        } else {
-            answered(&mut desk, rows.as_slice())?
-        };
+        let count = self.given_behind(alloc, &mut desk, place)?;
         let (found, _) = Found::of(alloc, desk)?;
         Ok(count == self.rows.len() && is_at(books, count, &found))
+    }
+
+    fn given_behind<K: Keeper>(
+        &self,
+        alloc: Global,
+        desk: &mut Desk<K>,
+        place: usize,
+    ) -> Result<usize, Fail> {
+        let rows = self.rows_behind(alloc, place)?;
+        self.given(alloc, desk, rows.as_slice())
     }
 
     // The commands, and what they are answered behind so many of them.
@@ -164,10 +181,10 @@ fn answered<K: Keeper>(desk: &mut Desk<K>, rows: &[Row]) -> Result<usize, Fail> 
     let mut count = 0usize;
     for (command, reply) in rows {
         let found = desk.submit(*command);
-        if found == Err(Refusal::StoreFault) {
+        if matches!(found, Err(Refusal::StoreFault)) {
             return Ok(count);
         }
-        if found != *reply {
+        if !are_alike(&found, reply) {
             return Err(Fail::from("another reply"));
         }
         count = count.saturating_add(1);
@@ -181,17 +198,23 @@ fn is_failed<T: Drop>(reply: Result<T, Refusal>) -> bool {
 
 /// Whether a desk answers nothing but that it has failed.
 pub fn is_silent<K: Keeper>(desk: &mut Desk<K>) -> Result<bool, Fail> {
-    let (alfa, name, monday) = (code("ALFA")?, reference("A-1")?, date(MONDAY)?);
+    let (alfa, name) = (code("ALFA")?, reference("A-1")?);
+    let is_silent_of_banks = is_silent_of(desk, &alfa, &name);
+    let is_silent_of_dates = is_silent_of_date(desk, date(MONDAY)?);
     let key = Key::read(KEY.as_bytes())?.digest();
-    Ok(
-        desk.failed()
-            && is_failed(desk.submit(Command::Resolve))
-            && is_failed(desk.account(&alfa))
-            && is_failed(desk.queue_of(&alfa))
-            && is_failed(desk.order_of(&alfa, &name))
-            && is_failed(desk.next_posting(monday, 0))
-            && is_failed(desk.next_order(monday, 0))
-            && is_failed(desk.next_mark(monday, 0))
-            && is_failed(desk.code_of(&key)),
-    )
+    let is_silent_of_keys = is_failed(desk.code_of(&key));
+    Ok(desk.failed() && is_silent_of_banks && is_silent_of_dates && is_silent_of_keys)
+}
+
+fn is_silent_of<K: Keeper>(desk: &mut Desk<K>, alfa: &Code, name: &Reference) -> bool {
+    is_failed(desk.submit(Command::Resolve))
+        && is_failed(desk.account(alfa))
+        && is_failed(desk.queue_of(alfa))
+        && is_failed(desk.order_of(alfa, name))
+}
+
+fn is_silent_of_date<K: Keeper>(desk: &mut Desk<K>, date: BusinessDate) -> bool {
+    is_failed(desk.next_posting(date, 0))
+        && is_failed(desk.next_order(date, 0))
+        && is_failed(desk.next_mark(date, 0))
 }

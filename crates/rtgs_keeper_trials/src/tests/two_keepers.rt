@@ -1,25 +1,34 @@
 //! Ten thousand commands over both keepers: in memory, and on disks that are closed and opened again every hundred. After
 //! each fifty both tell the same of their books.
 use super::business::Business;
-use super::disk_desk::{closed, desk_again, new_desk};
+use super::disk_desk::{closed, desk_again, end_in_one_book, new_desk};
 use super::disk_keeper::{DiskKeeper, Work, on_disks};
 use super::disks::Disks;
-use super::found::{ShowsBook, are_same_books};
+use super::found::ShowsBook;
 use super::seen::Seen;
-use super::setting::desk_over;
+use super::setting::{Reply, are_alike, desk_over};
 use super::told::{Names, tell_the_same};
-use rtgs_book::{Answer, Refusal};
+use rtgs_book::{Command, Refusal};
 use rtgs_desk::Desk;
 use rtgs_keeper::{Keeper, MemoryKeeper};
 use std::alloc::Global;
 use std::test::Fail;
 
 /// Whether a reply says that the desk has judged the command.
-fn is_judged(reply: &Result<Answer, Refusal>) -> bool {
+fn is_judged(reply: &Reply) -> bool {
     !matches!(
         reply,
         Err(Refusal::OutOfMemory | Refusal::StoreFault | Refusal::Failed)
     )
+}
+
+/// Fails unless both replies to a command are the same, and say that it was judged.
+fn judge_alike(alloc: Global, command: &Command, one: &Reply, other: &Reply) -> Result<(), Fail> {
+    if are_alike(one, other) && is_judged(one) {
+        return Ok(());
+    }
+    let said = format!(in alloc; "{command:?}: {one:?} and {other:?}")?;
+    Err(Fail::from(said))
 }
 
 /// The commands of one seed, what came of them, and the names that they use.
@@ -54,18 +63,30 @@ impl Run {
         for _ in 0..50 {
             let command = self.business.command()?;
             let reply = one.submit(command);
-            self.business.hear(&reply);
-            self.seen.count(&reply);
+            self.hear(&reply);
             let answered = other.submit(command);
-            if answered != reply || !is_judged(&reply) {
-                let said = format!(in self.alloc; "{command:?}: {reply:?} and {answered:?}")?;
-                return Err(Fail::from(said));
-            }
+            judge_alike(self.alloc, &command, &reply, &answered)?;
         }
         Ok(())
     }
 
-    /// The same, and then both keepers tell the same of their books. Both desks are opened again.
+    /// Takes notice of a reply.
+    fn hear(&mut self, reply: &Reply) {
+        self.business.hear(reply);
+        self.seen.count(reply);
+    }
+
+    /// Fails unless both keepers tell the same of their books after fifty more commands.
+    fn compare<M: Keeper, K: Keeper>(&mut self, one: &mut M, other: &mut K) -> Result<(), Fail> {
+        self.fifties = self.fifties.wrapping_add(1);
+        if tell_the_same(self.alloc, &self.names, one, other, self.fifties)? {
+            Ok(())
+        } else {
+            Err(Fail::from("another record"))
+        }
+    }
+
+    /// Gives two desks fifty commands, and then both keepers tell the same of their books. Both desks are opened again.
     fn fifty_told<M: Keeper + Drop, K: Keeper + Drop>(
         &mut self,
         one: Desk<M>,
@@ -73,17 +94,8 @@ impl Run {
     ) -> Result<(Desk<M>, Desk<K>), Fail> {
         let (mut one, mut other) = (one, other);
         self.fifty(&mut one, &mut other)?;
-        self.fifties = self.fifties.wrapping_add(1);
         let (mut memory, mut kept) = (one.into_keeper(), other.into_keeper());
-        if !tell_the_same(
-            self.alloc,
-            &self.names,
-            &mut memory,
-            &mut kept,
-            self.fifties,
-        )? {
-            return Err(Fail::from("another record"));
-        }
+        self.compare(&mut memory, &mut kept)?;
         Ok((desk_over(self.alloc, memory)?, desk_over(self.alloc, kept)?))
     }
 
@@ -112,9 +124,7 @@ fn five_thousand<M: Keeper + ShowsBook + Drop, K: Keeper + ShowsBook + DiskKeepe
     for _ in 0..50 {
         (held, disks) = run.hundred_on_disks::<M, K>(held, disks)?;
     }
-    let in_memory = held.into_keeper().book(alloc)?;
-    let on_disks = desk_again::<K>(alloc, disks)?.into_keeper().book(alloc)?;
-    Ok(are_same_books(&on_disks, &in_memory) && run.seen.is_varied())
+    Ok(run.seen.is_varied() && end_in_one_book::<M, K>(alloc, held, disks)?)
 }
 
 // Five thousand commands of this seed.
