@@ -1,6 +1,5 @@
 //! Whole runs, by their words, and what they print.
-use rtgs_desk_lines::{Ended, Printed};
-use runs::ending;
+use runs::{ending, is_lost};
 use script::follows;
 use std::test::Fail;
 
@@ -63,8 +62,7 @@ fn posts_unheard(rt: &HostRuntime) -> Result<(), Fail> {
     let mut out = room.as_mut_slice();
     let mut err = Vec::new(rt.alloc());
     let ended = ending(rt, &words, &mut out, &mut err);
-    let is_lost = matches!(ended, Ended::Printed(Printed::Lost(_))) && ended.exit_status() == 3;
-    if is_lost && room.as_slice() == b"post".as_slice() {
+    if is_lost(&ended) && room.as_slice() == b"post".as_slice() {
         return Ok(());
     }
     Err(Fail::from("it was heard"))
@@ -91,8 +89,7 @@ fn states_unheard(rt: &HostRuntime) -> Result<(), Fail> {
     let mut out = room.as_mut_slice();
     let mut err = Vec::new(rt.alloc());
     let ended = ending(rt, &words, &mut out, &mut err);
-    let is_lost = matches!(ended, Ended::Printed(Printed::Lost(_))) && ended.exit_status() == 3;
-    if is_lost
+    if is_lost(&ended)
         && err.is_empty()
         && room.as_slice() == b"statement ALFA 2024-03-04\nsum-".as_slice()
     {

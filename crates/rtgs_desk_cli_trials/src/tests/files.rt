@@ -3,7 +3,7 @@ use super::BEGIN;
 use super::databases::meddle;
 use super::script::follows;
 use std::fs;
-use std::fs::OpenOptions;
+use std::fs::{File, OpenOptions};
 use std::test::Fail;
 
 /// A run on the file is refused with this text and leaves it as it was, byte for byte.
@@ -29,13 +29,26 @@ $ desk init F
 status 3
 ";
 
+/// A file with this content is no book's.
+fn is_no_book(rt: &HostRuntime, content: &str) -> Result<(), Fail> {
+    fs::write(rt, "no_database", content)?;
+    refuses(rt, "no_database", "refused 93 NotADeskFile")
+}
+
+/// There is no file.
+fn is_missing(rt: &HostRuntime, file: &str) -> Result<(), Fail> {
+    match fs::metadata(rt, file) {
+        Ok(_) => Err(Fail::from("a file")),
+        Err(_) => Ok(()),
+    }
+}
+
 #[test]
 fn that_are_no_database(rt: HostRuntime) -> Result<(), Fail> {
     follows(&rt, "no_database", MISSING)?;
-    assert!(rt; fs::metadata(&rt, "no_database").is_err());
+    is_missing(&rt, "no_database")?;
     for content in "|x|A text that is no database at all.\n".split('|') {
-        fs::write(&rt, "no_database", content)?;
-        refuses(&rt, "no_database", "refused 93 NotADeskFile")?;
+        is_no_book(&rt, content)?;
     }
     follows(&rt, "no_database", EXISTS)
 }
@@ -105,16 +118,28 @@ $ desk init no/such/F
 status 3
 ";
 
-#[test]
-fn that_are_in_use(rt: HostRuntime) -> Result<(), Fail> {
-    follows(&rt, "in_use", BEGIN)?;
+/// The lock of a file, which is held.
+fn lock_of(rt: &HostRuntime, path: &str) -> Result<File, Fail> {
     let lock = OpenOptions::new()
         .read(true)
         .write(true)
         .create(true)
-        .open(&rt, "in_use.lock")?;
-    assert!(rt; lock.try_lock().is_ok());
-    follows(&rt, "in_use", IN_USE)?;
+        .open(rt, path)?;
+    lock.try_lock()?;
+    Ok(lock)
+}
+
+/// Runs over a file whose lock is held.
+fn is_in_use(rt: &HostRuntime) -> Result<(), Fail> {
+    let lock = lock_of(rt, "in_use.lock")?;
+    follows(rt, "in_use", IN_USE)?;
     drop(lock);
+    Ok(())
+}
+
+#[test]
+fn that_are_in_use(rt: HostRuntime) -> Result<(), Fail> {
+    follows(&rt, "in_use", BEGIN)?;
+    is_in_use(&rt)?;
     follows(&rt, "in_use", NO_LONGER_IN_USE)
 }

@@ -2,7 +2,7 @@
 use super::BEGIN;
 use super::databases::{log_changes, meddle, number_in};
 use super::script::follows;
-use rtgs_book_file::{BookLock, FileFault};
+use rtgs_book_file::{BookLock, ClosedBook, FileFault, FileKeeper, OpenBook};
 use sqlite::Unknown;
 use std::fs;
 use std::test::Fail;
@@ -17,8 +17,10 @@ status 3
 #[test]
 fn no_book_is_made_over_one_byte(rt: HostRuntime) -> Result<(), Fail> {
     follows(&rt, "one_byte", ONE_BYTE)?;
-    assert_eq!(rt; fs::read(&rt, "one_byte")?.as_slice(), b"S".as_slice());
-    Ok(())
+    if fs::read(&rt, "one_byte")?.as_slice() == b"S".as_slice() {
+        return Ok(());
+    }
+    Err(Fail::from("another content"))
 }
 
 #[test]
@@ -27,11 +29,38 @@ fn a_book_is_made_in_an_empty_file(rt: HostRuntime) -> Result<(), Fail> {
     follows(&rt, "empty", BEGIN)
 }
 
+/// Opens a book's file.
+fn opened(rt: &HostRuntime, file: &str) -> Result<OpenBook<FileKeeper<Unknown>>, Fail> {
+    let lock = BookLock::take(rt, file, Unknown)?;
+    Ok(lock.open(rt)?)
+}
+
+/// Closes a book's file, whose lock is still held then.
+fn closed(book: OpenBook<FileKeeper<Unknown>>) -> ClosedBook<Unknown> {
+    book.finish().close()
+}
+
 /// Why the lock of a file is not taken, if it is not.
 fn not_locked(rt: &HostRuntime, file: &str) -> Option<FileFault> {
     match BookLock::take(rt, file, Unknown) {
         Ok(_) => None,
         Err(unopened) => Some(unopened.fault()),
+    }
+}
+
+/// The lock of a file was not taken, since it is held.
+fn is_held(not_locked: Option<FileFault>) -> Result<(), Fail> {
+    if not_locked == Some(FileFault::InUse) {
+        return Ok(());
+    }
+    Err(Fail::from("the lock is not held"))
+}
+
+/// The lock of a file can be taken.
+fn is_let_go(rt: &HostRuntime, file: &str) -> Result<(), Fail> {
+    match not_locked(rt, file) {
+        None => Ok(()),
+        Some(fault) => Err(Fail::from(fault)),
     }
 }
 
@@ -52,38 +81,42 @@ fn a_log_without_its_file_is_dropped(rt: HostRuntime) -> Result<(), Fail> {
     follows(&rt, "logged", BEGIN)
 }
 
+/// The lock of a file is held until what was open of it is let go, once it is closed and copied.
+fn is_locked_until_closed(rt: &HostRuntime, file: &str) -> Result<(), Fail> {
+    let book = opened(rt, file)?;
+    let while_open = not_locked(rt, file);
+    let closed = closed(book);
+    is_held(while_open)?;
+    is_held(not_locked(rt, file))?;
+    if closed.is_copied() {
+        return Ok(());
+    }
+    Err(Fail::from("it was not copied"))
+}
+
 #[test]
 fn a_lock_is_held_until_the_files_are_let_go(rt: HostRuntime) -> Result<(), Fail> {
     follows(&rt, "held", BEGIN)?;
-    let held = BookLock::take(&rt, "held", Unknown)?.open(&rt)?;
-    let while_open = not_locked(&rt, "held");
-    let closed = held.finish().close();
-    let once_closed = not_locked(&rt, "held");
-    let is_copied = closed.is_copied();
-    drop(closed);
-    assert!(rt; is_copied);
-    assert_eq!(rt; while_open, Some(FileFault::InUse));
-    assert_eq!(rt; once_closed, Some(FileFault::InUse));
-    assert_eq!(rt; not_locked(&rt, "held"), None);
-    Ok(())
+    is_locked_until_closed(&rt, "held")?;
+    is_let_go(&rt, "held")
 }
 
-/// Why the lock of a file that holds no book is not taken, if it is not, while what refused the file is still there.
-fn not_locked_once_refused(rt: &HostRuntime, file: &str) -> Result<Option<FileFault>, Fail> {
-    match BookLock::take(rt, file, Unknown)?.open(rt) {
+/// The lock of a file that holds no book can be taken while what refused the file is still there.
+fn is_let_go_once_refused(rt: &HostRuntime, file: &str) -> Result<(), Fail> {
+    let lock = BookLock::take(rt, file, Unknown)?;
+    match lock.open(rt) {
         Ok(book) => {
-            book.finish().close();
+            drop(closed(book));
             Err(Fail::from("opened"))
         }
-        Err(_unopened) => Ok(not_locked(rt, file)),
+        Err(_unopened) => is_let_go(rt, file),
     }
 }
 
 #[test]
 fn a_refused_book_lets_its_lock_go_at_once(rt: HostRuntime) -> Result<(), Fail> {
     meddle(&rt, "no_tables", "")?;
-    assert_eq!(rt; not_locked_once_refused(&rt, "no_tables")?, None);
-    Ok(())
+    is_let_go_once_refused(&rt, "no_tables")
 }
 
 /// Two runs over a file that is held open.
@@ -96,13 +129,18 @@ $ desk post F ALFA P-1 1
 status 3
 ";
 
+/// Follows a script while a book's file is held open.
+fn follows_over(rt: &HostRuntime, file: &str, script: &str) -> Result<(), Fail> {
+    let book = opened(rt, file)?;
+    let followed = follows(rt, file, script);
+    drop(closed(book));
+    followed
+}
+
 #[test]
 fn runs_that_overlap_are_refused(rt: HostRuntime) -> Result<(), Fail> {
     follows(&rt, "overlap", BEGIN)?;
-    let held = BookLock::take(&rt, "overlap", Unknown)?.open(&rt)?;
-    let refused = follows(&rt, "overlap", OVERLAP);
-    held.finish().close();
-    refused?;
+    follows_over(&rt, "overlap", OVERLAP)?;
     follows(&rt, "overlap", "\n$ desk post F ALFA P-1 1\n> posted 1\n")
 }
 
@@ -136,6 +174,8 @@ fn the_file_is_whole_by_itself_after_a_run(rt: HostRuntime) -> Result<(), Fail> 
     follows(&rt, "whole", BEGIN)?;
     follows(&rt, "whole", "\n$ desk post F ALFA P-1 7\n> posted 1\n")?;
     fs::copy(&rt, "whole", "copied")?;
-    assert_eq!(rt; number_in(&rt, "copied", "SELECT cents FROM posting")?, 7);
-    Ok(())
+    if number_in(&rt, "copied", "SELECT cents FROM posting")? == 7 {
+        return Ok(());
+    }
+    Err(Fail::from("another posting"))
 }

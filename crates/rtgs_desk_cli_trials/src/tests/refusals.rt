@@ -86,14 +86,19 @@ fn of_totals(rt: HostRuntime) -> Result<(), Fail> {
     follows(&rt, "totals", TOTALS)
 }
 
+/// Adds the statement that adds a participant.
+fn add(sql: &mut String, number: u32) -> Result<(), Fail> {
+    Ok(write!(
+        sql,
+        "INSERT INTO participant VALUES ('B{number}', 'Bank {number}', x'{number:064}', 0, 0);"
+    )?)
+}
+
 /// Statements that add a hundred participants.
 fn hundred(rt: &HostRuntime) -> Result<String, Fail> {
     let mut sql = String::from_str(rt.alloc(), "BEGIN;")?;
     for number in 100..200 {
-        write!(
-            sql,
-            "INSERT INTO participant VALUES ('B{number}', 'Bank {number}', x'{number:064}', 0, 0);"
-        )?;
+        add(&mut sql, number)?;
     }
     sql.push_str("COMMIT")?;
     Ok(sql)

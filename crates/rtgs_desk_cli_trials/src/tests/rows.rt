@@ -25,18 +25,24 @@ impl Write for Counting {
     }
 }
 
-/// How many writes a run takes that prints this.
-fn writes(rt: &HostRuntime, words: &[&str]) -> Result<usize, Fail> {
+/// A run that prints takes so many writes.
+fn takes(rt: &HostRuntime, words: &[&str], count: usize) -> Result<(), Fail> {
     let mut out = Counting {
         taken: Vec::new(rt.alloc()),
         writes: 0,
     };
     let mut err = Vec::new(rt.alloc());
-    let ended = ending(rt, words, &mut out, &mut err);
-    if ended.exit_status() == 0 && out.taken.as_slice().ends_with("\n".as_bytes()) {
-        return Ok(out.writes);
+    let status = ending(rt, words, &mut out, &mut err).exit_status();
+    if status == 0 && out.taken.as_slice().ends_with(b"\n") && out.writes == count {
+        return Ok(());
     }
-    Err(Fail::from("not printed"))
+    let writes = out.writes;
+    Err(Fail::new(format_args!("{status}, {writes} writes and not {count}")))
+}
+
+/// A statement takes so many writes.
+fn states_by(rt: &HostRuntime, count: usize) -> Result<(), Fail> {
+    takes(rt, &["statement", "by_row", "ALFA", "2024-03-04"], count)
 }
 
 const MORE: &str = "
@@ -50,14 +56,10 @@ $ desk post F ALFA P-9 1
 fn a_statement_is_printed_row_by_row(rt: HostRuntime) -> Result<(), Fail> {
     follows(&rt, "by_row", DAY)?;
     // the first line, a posting, and the four sums
-    let count = writes(&rt, &["statement", "by_row", "ALFA", "2024-03-04"])?;
-    assert_eq!(rt; count, 3);
+    states_by(&rt, 3)?;
     // a report is one text
-    let count = writes(&rt, &["report", "by_row", "2024-03-04"])?;
-    assert_eq!(rt; count, 1);
+    takes(&rt, &["report", "by_row", "2024-03-04"], 1)?;
     // each of two postings more is a write more
     follows(&rt, "by_row", MORE)?;
-    let count = writes(&rt, &["statement", "by_row", "ALFA", "2024-03-04"])?;
-    assert_eq!(rt; count, 5);
-    Ok(())
+    states_by(&rt, 5)
 }

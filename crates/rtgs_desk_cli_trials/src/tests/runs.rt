@@ -1,6 +1,6 @@
 //! Whole runs of the program.
 use rtgs_desk_cli::run_words;
-use rtgs_desk_lines::Ended;
+use rtgs_desk_lines::{Ended, Printed};
 use sqlite::Unknown;
 use std::io::Write;
 
@@ -14,4 +14,9 @@ pub fn ending<O: Write, E: Write>(
 ) -> Ended {
     let (ended, _) = run_words(rt, words, Unknown, out, err);
     ended
+}
+
+/// Whether what a run printed was lost, by which it failed.
+pub fn is_lost(ended: &Ended) -> bool {
+    matches!(ended, Ended::Printed(Printed::Lost(_))) && ended.exit_status() == 3
 }

@@ -103,22 +103,45 @@ fn keep(rt: &HostRuntime, path: &str, is_kept: bool) -> Result<(), Fail> {
     Ok(())
 }
 
+/// Writes a file, in whose text `\n` is a line's end.
+fn write_text(rt: &HostRuntime, path: &str, text: &str) -> Result<(), Fail> {
+    let text = text.replace(rt.alloc(), "\\n", "\n")?;
+    fs::write(rt, path, text.as_str())?;
+    Ok(())
+}
+
+/// Keeps a copy of a file, or compares the file with it, as the kind of a step says.
+fn keep_or_compare(rt: &HostRuntime, kind: &str, path: &str) -> Result<(), Fail> {
+    if kind == "keep" {
+        return keep(rt, path, false);
+    }
+    if kind == "kept" {
+        return keep(rt, path, true);
+    }
+    Err(Fail::from("a step of no known kind"))
+}
+
+/// Follows a step that writes or changes a file, or one that says nothing behind the path.
+fn change(rt: &HostRuntime, kind: &str, path: &str, text: &str) -> Result<(), Fail> {
+    if kind == "file" {
+        return write_text(rt, path, text);
+    }
+    if kind == "orders" {
+        return write_orders(rt, path, text);
+    }
+    if kind == "sql" {
+        return meddle(rt, path, text);
+    }
+    if text.is_empty() {
+        return keep_or_compare(rt, kind, path);
+    }
+    Err(Fail::from("a step of no known kind"))
+}
+
 /// Follows a step that prints nothing.
 fn prepare(rt: &HostRuntime, book: &str, kind: &str, words: &str) -> Result<(), Fail> {
     let (path, text) = words.split_once(' ').unwrap_or((words, ""));
-    let path = meant(book, path);
-    match kind {
-        "file" => {
-            let text = text.replace(rt.alloc(), "\\n", "\n")?;
-            fs::write(rt, path, text.as_str())?;
-            Ok(())
-        }
-        "orders" => write_orders(rt, path, text),
-        "sql" => meddle(rt, path, text),
-        "keep" if text.is_empty() => keep(rt, path, false),
-        "kept" if text.is_empty() => keep(rt, path, true),
-        _ => Err(Fail::from("a step of no known kind")),
-    }
+    change(rt, kind, meant(book, path), text)
 }
 
 /// Follows one step: its line, and below that what it prints.

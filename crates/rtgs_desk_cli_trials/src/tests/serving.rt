@@ -3,11 +3,10 @@ use super::helps::are_misused;
 use super::imports::DAY;
 use super::runs::ending;
 use super::script::{are_refused, follows};
-use rtgs_desk_lines::Ended;
 use std::env;
 use std::io::{ErrorKind, Read, Write};
 use std::net::{Ipv4Addr, TcpListener, TcpStream};
-use std::process::{Child, Command, Stdio};
+use std::process::{Child, ChildStdout, Command, Stdio};
 use std::test::Fail;
 use std::time::Duration;
 
@@ -30,26 +29,32 @@ const WITHDRAWN: &str = "
 withdraw F ALFA A-1 ! refused 17 NotQueued
 ";
 
-#[test]
-fn serve_six(rt: HostRuntime) -> Result<(), Fail> {
-    let Ok(port) = env::var(&rt, PORT) else {
-        return Ok(());
-    };
+/// The book is served at this port, and the run ends well.
+fn serves(rt: &HostRuntime, port: &str) -> Result<(), Fail> {
     let words = [
         "serve",
         "served",
         "--port",
-        port.as_str(),
+        port,
         "--count",
         "6",
         "--operator-key",
         OPERATOR,
     ];
     let mut err = Vec::new(rt.alloc());
-    let ended = ending(&rt, &words, &mut rt.stdout(), &mut err);
-    assert_eq!(rt; ended.exit_status(), 0);
-    assert!(rt; err.is_empty());
-    Ok(())
+    let ended = ending(rt, &words, &mut rt.stdout(), &mut err);
+    if ended.exit_status() == 0 && err.is_empty() {
+        return Ok(());
+    }
+    Err(Fail::from("another status, or a fault was told"))
+}
+
+#[test]
+fn serve_six(rt: HostRuntime) -> Result<(), Fail> {
+    match env::var(&rt, PORT) {
+        Ok(port) => serves(&rt, port.as_str()),
+        Err(_) => Ok(()),
+    }
 }
 
 /// A port that nobody listens on now.
@@ -58,34 +63,63 @@ fn free_port(rt: &HostRuntime) -> Result<u16, Fail> {
     Ok(listener.local_addr()?.port())
 }
 
-/// Starts the server, and waits until it says that it listens.
-fn start(rt: &HostRuntime, port: u16) -> Result<Child, Fail> {
+/// The program that serves at this port.
+fn program(rt: &HostRuntime, port: u16) -> Result<Command, Fail> {
+    let port = format!(in rt.alloc(); "{port}")?;
     let mut program = Command::new(rt.alloc(), env::current_exe(rt)?)?;
     program.arg("tests::serving::serve_six")?;
-    program.env(PORT, format!(in rt.alloc(); "{port}")?)?;
+    program.env(PORT, port)?;
     program.stdout(Stdio::piped());
-    let mut server = program.spawn(rt)?;
-    let listening = format!(in rt.alloc(); "listening {port}\n")?;
-    let mut said = Vec::new(rt.alloc());
-    let Some(out) = server.stdout.as_mut() else {
-        return Err(Fail::from("no output"));
-    };
+    Ok(program)
+}
+
+/// Hears one more byte of what is said, if there is one.
+fn hears_more(out: &mut ChildStdout, said: &mut Vec<u8>) -> Result<bool, Fail> {
     let mut byte = [0];
+    if out.read(&mut byte)? == 0 {
+        return Ok(false);
+    }
+    said.push(byte[0])?;
+    Ok(true)
+}
+
+/// Waits until this is said, or no more.
+fn hears(rt: &HostRuntime, out: &mut ChildStdout, text: &str) -> Result<(), Fail> {
+    let mut said = Vec::new(rt.alloc());
     for _ in 0..4096 {
-        if said.as_slice().ends_with(listening.as_bytes()) || out.read(&mut byte)? == 0 {
+        if said.as_slice().ends_with(text.as_bytes()) || !hears_more(out, &mut said)? {
             break;
         }
-        said.push(byte[0])?;
     }
-    Ok(server)
+    Ok(())
+}
+
+/// Waits until the server says that it listens.
+fn listens(rt: &HostRuntime, server: &mut Child, port: u16) -> Result<(), Fail> {
+    let listening = format!(in rt.alloc(); "listening {port}\n")?;
+    match server.stdout.as_mut() {
+        Some(out) => hears(rt, out, listening.as_str()),
+        None => Err(Fail::from("no output")),
+    }
+}
+
+/// Starts the server.
+fn start(rt: &HostRuntime, port: u16) -> Result<Child, Fail> {
+    Ok(program(rt, port)?.spawn(rt)?)
+}
+
+/// Sends a request, and adds what is replied.
+fn exchange(stream: &mut TcpStream, request: &str, reply: &mut String) -> Result<(), Fail> {
+    stream.write_all(request.as_bytes())?;
+    stream.read_to_string(reply)?;
+    Ok(())
 }
 
 /// What the server replies to a request.
 fn asks(rt: &HostRuntime, port: u16, request: &str) -> Result<String, Fail> {
-    let mut stream = TcpStream::connect(rt, (Ipv4Addr::LOCALHOST, port))?;
-    stream.write_all(request.as_bytes())?;
     let mut reply = String::new(rt.alloc());
-    stream.read_to_string(&mut reply)?;
+    let mut stream = TcpStream::connect(rt, (Ipv4Addr::LOCALHOST, port))?;
+    exchange(&mut stream, request, &mut reply)?;
     Ok(reply)
 }
 
@@ -116,13 +150,18 @@ fn is_let_go(rt: &HostRuntime, port: u16) -> Result<bool, Fail> {
     Ok(false)
 }
 
-/// The server replies to a request with this body, in a reply that is this one whole.
-fn is_replied(rt: &HostRuntime, port: u16, request: &str, body: &str) -> Result<(), Fail> {
+/// The whole reply with this body.
+fn reply_of(rt: &HostRuntime, body: &str) -> Result<String, Fail> {
     let length = body.len();
-    let whole = format!(in rt.alloc();
+    Ok(format!(in rt.alloc();
         "HTTP/1.1 200 OK\r\nContent-Type: application/json\r\nContent-Length: {length}\r\n\
          Connection: close\r\n\r\n{body}"
-    )?;
+    )?)
+}
+
+/// The server replies to a request with this body, in a reply that is this one whole.
+fn is_replied(rt: &HostRuntime, port: u16, request: &str, body: &str) -> Result<(), Fail> {
+    let whole = reply_of(rt, body)?;
     let reply = asks(rt, port, request)?;
     if reply.as_str() == whole.as_str() {
         return Ok(());
@@ -130,17 +169,29 @@ fn is_replied(rt: &HostRuntime, port: u16, request: &str, body: &str) -> Result<
     Err(Fail::from(reply))
 }
 
+/// The reply to a request begins so.
+fn is_begun(rt: &HostRuntime, port: u16, request: &str, first: &str) -> Result<(), Fail> {
+    let reply = asks(rt, port, request)?;
+    if reply.as_str().starts_with(first) {
+        return Ok(());
+    }
+    Err(Fail::from(reply))
+}
+
+/// The reply to nothing is nothing.
+fn is_silent(rt: &HostRuntime, port: u16) -> Result<(), Fail> {
+    let reply = asks(rt, port, "")?;
+    if reply.is_empty() {
+        return Ok(());
+    }
+    Err(Fail::from(reply))
+}
+
 /// A resolution that bears a bank's key is refused, and the reply to nothing is nothing.
 fn is_refused(rt: &HostRuntime, port: u16) -> Result<(), Fail> {
-    let refused = asks(rt, port, resolution(rt, KEY_A)?.as_str())?;
-    if !refused.as_str().starts_with("HTTP/1.1 403 Forbidden\r\n") {
-        return Err(Fail::from(refused));
-    }
-    let nothing = asks(rt, port, "")?;
-    if !nothing.is_empty() {
-        return Err(Fail::from(nothing));
-    }
-    Ok(())
+    let resolution = resolution(rt, KEY_A)?;
+    is_begun(rt, port, resolution.as_str(), "HTTP/1.1 403 Forbidden\r\n")?;
+    is_silent(rt, port)
 }
 
 /// No connection is taken at another address of this machine.
@@ -152,16 +203,27 @@ fn is_at_one_address(rt: &HostRuntime, port: u16) -> Result<(), Fail> {
     }
 }
 
-/// Six peers, of which the last is slow.
-fn ask_all(rt: &HostRuntime, port: u16) -> Result<(), Fail> {
-    is_at_one_address(rt, port)?;
+/// An order that comes twice settles once.
+fn settles_once(rt: &HostRuntime, port: u16) -> Result<(), Fail> {
     let length = ORDER.len();
     let order = format!(in rt.alloc();
         "POST /orders HTTP/1.1\r\ndesk-key: {KEY_A}\r\nContent-Length: {length}\r\n\r\n{ORDER}"
     )?;
     is_replied(rt, port, order.as_str(), SETTLED)?;
-    is_replied(rt, port, order.as_str(), REPEATED)?;
-    is_replied(rt, port, resolution(rt, OPERATOR)?.as_str(), NOTHING)?;
+    is_replied(rt, port, order.as_str(), REPEATED)
+}
+
+/// The operator's resolution finds nothing.
+fn resolves_nothing(rt: &HostRuntime, port: u16) -> Result<(), Fail> {
+    let resolution = resolution(rt, OPERATOR)?;
+    is_replied(rt, port, resolution.as_str(), NOTHING)
+}
+
+/// Six peers, of which the last is slow.
+fn ask_all(rt: &HostRuntime, port: u16) -> Result<(), Fail> {
+    is_at_one_address(rt, port)?;
+    settles_once(rt, port)?;
+    resolves_nothing(rt, port)?;
     is_refused(rt, port)?;
     if is_let_go(rt, port)? {
         return Ok(());
@@ -182,27 +244,37 @@ fn has_served(rt: &HostRuntime, server: &mut Child) -> Result<(), Fail> {
     Err(Fail::from(said))
 }
 
+/// The server listens, replies to six peers, and ends well.
+fn serves_all(rt: &HostRuntime, server: &mut Child, port: u16) -> Result<(), Fail> {
+    listens(rt, server, port)?;
+    ask_all(rt, port)?;
+    has_served(rt, server)
+}
+
 #[test]
 fn requests_are_replied_to_and_slow_peers_are_let_go(rt: HostRuntime) -> Result<(), Fail> {
     follows(&rt, "served", DAY)?;
     let port = free_port(&rt)?;
     let mut server = start(&rt, port)?;
-    ask_all(&rt, port)?;
-    has_served(&rt, &mut server)?;
+    serves_all(&rt, &mut server, port)?;
     are_refused(&rt, "served", WITHDRAWN)
+}
+
+/// Two runs that serve at this port, of which the second has no book.
+fn taken(rt: &HostRuntime, port: u16) -> Result<String, Fail> {
+    Ok(format!(in rt.alloc();
+        "\n$ desk serve F --port {port} --count 1 --operator-key {OPERATOR}\n\
+         ! refused 97 NoListen\nstatus 3\n\
+         $ desk serve missing --port {port} --count 1 --operator-key {OPERATOR}\n\
+         ! refused 93 NotADeskFile\nstatus 3\n"
+    )?)
 }
 
 #[test]
 fn a_port_that_is_taken_is_refused(rt: HostRuntime) -> Result<(), Fail> {
     follows(&rt, "taken", DAY)?;
     let listener = TcpListener::bind(&rt, (Ipv4Addr::LOCALHOST, 0))?;
-    let port = listener.local_addr()?.port();
-    let script = format!(in rt.alloc();
-        "\n$ desk serve F --port {port} --count 1 --operator-key {OPERATOR}\n\
-         ! refused 97 NoListen\nstatus 3\n\
-         $ desk serve missing --port {port} --count 1 --operator-key {OPERATOR}\n\
-         ! refused 93 NotADeskFile\nstatus 3\n"
-    )?;
+    let script = taken(&rt, listener.local_addr()?.port())?;
     follows(&rt, "taken", script.as_str())
 }
 

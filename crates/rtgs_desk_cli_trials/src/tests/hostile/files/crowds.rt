@@ -12,6 +12,19 @@ const REPORTED: &str = "1 70 71 91";
 
 const REFUSED: &str = "92 500 1000 2000 4000 8000 16000 30000";
 
+// A report on the book with so many views more prints this text.
+fn is_told_with(
+    rt: &HostRuntime,
+    file: &str,
+    book: &[u8],
+    count: u32,
+    text: &str,
+) -> Result<(), Fail> {
+    let bytes = with_views(rt.alloc(), book, count)?;
+    write(rt, file, bytes.as_slice())?;
+    is_told(rt, file, text)
+}
+
 // A report on the book with each of these numbers of views more prints this text.
 fn are_told_of(
     rt: &HostRuntime,
@@ -21,19 +34,25 @@ fn are_told_of(
     text: &str,
 ) -> Result<(), Fail> {
     for count in counts.split(' ') {
-        let bytes = with_views(rt.alloc(), book, count.parse::<u32>()?)?;
-        write(rt, file, bytes.as_slice())?;
-        is_told(rt, file, text)?;
+        is_told_with(rt, file, book, count.parse::<u32>()?, text)?;
     }
     Ok(())
+}
+
+// The report on this book.
+fn report_on(rt: &HostRuntime, file: &str, book: &[u8]) -> Result<String, Fail> {
+    write(rt, file, book)?;
+    let (text, status) = keeps(rt, file)?;
+    if status == 0 {
+        return Ok(text);
+    }
+    Err(Fail::from(text))
 }
 
 #[test]
 fn with_more_objects(rt: HostRuntime) -> Result<(), Fail> {
     let book = book_bytes(&rt, "crowd")?;
-    write(&rt, "crowd", book.as_slice())?;
-    let (text, status) = keeps(&rt, "crowd")?;
-    assert_eq!(rt; status, 0, "{text}");
+    let text = report_on(&rt, "crowd", book.as_slice())?;
     are_told_of(&rt, "crowd", book.as_slice(), REPORTED, text.as_str())?;
     are_told_of(&rt, "crowd", book.as_slice(), REFUSED, NO_BOOK)?;
     remove(&rt, "crowd")
@@ -48,13 +67,21 @@ fn leave_views(rt: &HostRuntime, file: &str, first: u32, last: u32) -> Result<()
     log_changes(rt, file, sql.as_str())
 }
 
+// The file is reported on.
+fn is_reported(rt: &HostRuntime, file: &str) -> Result<(), Fail> {
+    let (said, status) = reports(rt, file)?;
+    if status == 0 {
+        return Ok(());
+    }
+    Err(Fail::from(said))
+}
+
 // A report moves the log into the file, where it does not refuse it.
 #[test]
 fn with_objects_in_the_log(rt: HostRuntime) -> Result<(), Fail> {
     begin_day(&rt, "crowd_log")?;
     leave_views(&rt, "crowd_log", 1, 91)?;
-    let (said, status) = reports(&rt, "crowd_log")?;
-    assert_eq!(rt; status, 0, "{said}");
+    is_reported(&rt, "crowd_log")?;
     leave_views(&rt, "crowd_log", 92, 92)?;
     is_told(&rt, "crowd_log", NO_BOOK)?;
     remove(&rt, "crowd_log")

@@ -6,9 +6,10 @@ use std::test::Fail;
 #[test]
 fn without_a_file(rt: HostRuntime) -> Result<(), Fail> {
     let (said, status) = reports(&rt, "missing")?;
-    assert_eq!(rt; (said.as_str(), status), (NO_BOOK, 3));
-    assert!(rt; fs::metadata(&rt, "missing").is_err());
-    Ok(())
+    if said.as_str() == NO_BOOK && status == 3 && fs::metadata(&rt, "missing").is_err() {
+        return Ok(());
+    }
+    Err(Fail::from(said))
 }
 
 // The contents of files, parted by a |.

@@ -1,8 +1,8 @@
 //! Files in which a page is told to stand behind another, or under it, that it cannot.
 use super::super::parts::spliced;
 use super::edits::PAGE;
-use super::met::count;
-use super::setting::{begin_day, book_bytes, is_told, keeps, remove, write};
+use super::met::{Met, meet};
+use super::setting::{begin_day, book_bytes, is_told, remove, write};
 use super::views::with_circles;
 use crate::tests::databases::meddle;
 use std::fs;
@@ -22,6 +22,21 @@ const MORE: &str = "CREATE TABLE more (id INTEGER PRIMARY KEY, filling TEXT);
     UPDATE more SET filling = filling || filling || filling || filling || filling WHERE id < 3;
     DELETE FROM more WHERE id = 1";
 
+// Has a page point at the one that is so many behind it, by the number at this place in it, and counts what a report
+// prints.
+fn meet_page(
+    rt: &HostRuntime,
+    (file, book): (&str, &[u8]),
+    page: usize,
+    (place, behind): (usize, usize),
+    met: &mut Met,
+) -> Result<(), Fail> {
+    let number = (page.saturating_add(behind).saturating_add(1) % 256) as u8;
+    let at = page.saturating_mul(PAGE).saturating_add(place);
+    let bytes = spliced(rt.alloc(), book, at, 4, &[0, 0, 0, number])?;
+    meet(rt, file, bytes.as_slice(), met)
+}
+
 // Has each page but the first, one a file, point at the page that is so many behind it, by the number at this place in
 // it, reports on it, and prints what was met: some failures.
 fn are_met(
@@ -33,12 +48,7 @@ fn are_met(
 ) -> Result<(), Fail> {
     let mut met = [0usize; 4];
     for page in 1..PAGES {
-        let number = (page.saturating_add(behind).saturating_add(1) % 256) as u8;
-        let at = page.saturating_mul(PAGE).saturating_add(place);
-        let bytes = spliced(rt.alloc(), book, at, 4, &[0, 0, 0, number])?;
-        write(rt, file, bytes.as_slice())?;
-        let (text, status) = keeps(rt, file)?;
-        count(rt.alloc(), &mut met, text.as_str(), status)?;
+        meet_page(rt, (file, book), page, (place, behind), &mut met)?;
     }
     rt.println(format_args!("pages that lead {behind} behind, at {place}: {met:?}"))?;
     if met[1] > 0 {
@@ -47,17 +57,21 @@ fn are_met(
     Err(Fail::from("no failure"))
 }
 
+// The same at each place where a page leads to another.
+fn are_all_met(rt: &HostRuntime, file: &str, book: &[u8], behind: usize) -> Result<(), Fail> {
+    are_met(rt, file, book, 0, behind)?;
+    are_met(rt, file, book, 4, behind)?;
+    are_met(rt, file, book, 8, behind)
+}
+
 // Each page leads to itself, or to the next.
 #[test]
 fn that_lead_to_one_another(rt: HostRuntime) -> Result<(), Fail> {
     begin_day(&rt, "leading")?;
     meddle(&rt, "leading", MORE)?;
     let book = fs::read(&rt, "leading")?;
-    for behind in 0..2 {
-        are_met(&rt, "leading", book.as_slice(), 0, behind)?;
-        are_met(&rt, "leading", book.as_slice(), 4, behind)?;
-        are_met(&rt, "leading", book.as_slice(), 8, behind)?;
-    }
+    are_all_met(&rt, "leading", book.as_slice(), 0)?;
+    are_all_met(&rt, "leading", book.as_slice(), 1)?;
     remove(&rt, "leading")
 }
 

@@ -15,21 +15,24 @@ fn ran(rt: &HostRuntime, words: &[&str]) -> (Vec<u8>, Vec<u8>, u8) {
     (out, err, ended.exit_status())
 }
 
-// A run over the words of a line, which commas part, ends with 0. The word F is the file.
-fn does(rt: &HostRuntime, file: &str, line: &str) -> Result<(), Fail> {
+// The words of a line, which commas part. The word F is the file.
+fn words_of<'a>(rt: &HostRuntime, file: &'a str, line: &'a str) -> Result<Vec<&'a str>, Fail> {
     let mut words = Vec::new(rt.alloc());
     for word in line.split(", ") {
         words.push(if word == "F" { file } else { word })?;
     }
+    Ok(words)
+}
+
+// A run over the words of a line ends with 0.
+fn does(rt: &HostRuntime, file: &str, line: &str) -> Result<(), Fail> {
+    let words = words_of(rt, file, line)?;
     let (_, err, status) = ran(rt, words.as_slice());
     if status == 0 && err.is_empty() {
         return Ok(());
     }
-    let said = format!(in rt.alloc();
-        "{line}: {status}, {:?}",
-        std::str::from_utf8(err.as_slice())
-    )?;
-    Err(Fail::from(said))
+    let said = std::str::from_utf8(err.as_slice());
+    Err(Fail::new(format_args!("{line}: {status}, {said:?}")))
 }
 
 // Runs over the words of each line end with 0.
@@ -55,14 +58,19 @@ cutoff, F, 2024-03-04
 close, F, 2024-03-04
 post, F, BETA, P-2, 7";
 
+// Gives a book the orders.
+fn imports(rt: &HostRuntime, file: &str) -> Result<(), Fail> {
+    let orders = format!(in rt.alloc(); "{file}.csv")?;
+    fs::write(rt, orders.as_str(), ORDERS)?;
+    let import = format!(in rt.alloc(); "import, F, ALFA, {file}.csv")?;
+    does(rt, file, import.as_str())
+}
+
 /// Makes a book with three banks and a day, in which two orders have settled under two marks, one is withdrawn and one
 /// waits.
 pub fn begin_day(rt: &HostRuntime, file: &str) -> Result<(), Fail> {
     does_all(rt, file, BEGUN)?;
-    let orders = format!(in rt.alloc(); "{file}.csv")?;
-    fs::write(rt, orders.as_str(), ORDERS)?;
-    let import = format!(in rt.alloc(); "import, F, ALFA, {orders}")?;
-    does(rt, file, import.as_str())?;
+    imports(rt, file)?;
     does(rt, file, "withdraw, F, ALFA, A-3")
 }
 
@@ -88,29 +96,39 @@ pub fn remove(rt: &HostRuntime, file: &str) -> Result<(), Fail> {
     Ok(fs::remove_file(rt, file)?)
 }
 
+// The text that was printed, on standard output with status 0 and else on standard error. The other one is silent.
+fn said<'a>(out: &'a [u8], err: &'a [u8], status: u8) -> Result<&'a str, Fail> {
+    if status == 0 && err.is_empty() {
+        return Ok(std::str::from_utf8(out)?);
+    }
+    if status != 0 && out.is_empty() {
+        return Ok(std::str::from_utf8(err)?);
+    }
+    Err(Fail::from("both streams were printed on"))
+}
+
 /// What a run prints that reports on a file, and the status that it ends with. It prints on standard output with status
 /// 0 and else on standard error.
 pub fn reports(rt: &HostRuntime, file: &str) -> Result<(String, u8), Fail> {
     let (out, err, status) = ran(rt, &["report", file, "2024-03-04"]);
-    let (said, silent) = if status == 0 { (out, err) } else { (err, out) };
-    if !silent.is_empty() {
-        return Err(Fail::from("both streams were printed on"));
-    }
-    let text = std::str::from_utf8(said.as_slice())?;
+    let text = said(out.as_slice(), err.as_slice(), status)?;
     Ok((String::from_str(rt.alloc(), text)?, status))
+}
+
+// The file has these bytes.
+fn is_unchanged(rt: &HostRuntime, file: &str, before: &[u8]) -> Result<(), Fail> {
+    if fs::read(rt, file)?.as_slice() == before {
+        return Ok(());
+    }
+    Err(Fail::from("the file was changed"))
 }
 
 /// The same of a file of which no byte may change.
 pub fn keeps(rt: &HostRuntime, file: &str) -> Result<(String, u8), Fail> {
     let before = fs::read(rt, file)?;
     let reported = reports(rt, file)?;
-    let after = fs::read(rt, file)?;
-    if before.as_slice() == after.as_slice() {
-        return Ok(reported);
-    }
-    let (text, status) = reported;
-    let said = format!(in rt.alloc(); "the file was changed: {status}, {text:?}")?;
-    Err(Fail::from(said))
+    is_unchanged(rt, file, before.as_slice())?;
+    Ok(reported)
 }
 
 /// A run that reports on the file prints this text, with status 3 if it is a refusal, and else with 0, and changes no
@@ -121,8 +139,7 @@ pub fn is_told(rt: &HostRuntime, file: &str, text: &str) -> Result<(), Fail> {
     if said.as_str() == text && status == wanted {
         return Ok(());
     }
-    let said = format!(in rt.alloc(); "{status} and {said:?}, not {text:?}")?;
-    Err(Fail::from(said))
+    Err(Fail::new(format_args!("{status} and {said:?}, not {text:?}")))
 }
 
 // Changes a book by the SQL of a case, below its first line. That line says what is printed then: this text where it is
@@ -155,6 +172,30 @@ fn are_told_then(
     Ok(())
 }
 
+// Makes a book, and closes its day if this says so.
+fn begin(rt: &HostRuntime, file: &str, is_closed: bool) -> Result<(), Fail> {
+    begin_day(rt, file)?;
+    if is_closed {
+        does_all(rt, file, CLOSED)?;
+    }
+    Ok(())
+}
+
+// The report on a book.
+fn report_on(rt: &HostRuntime, file: &str) -> Result<String, Fail> {
+    let (text, status) = keeps(rt, file)?;
+    if status == 0 {
+        return Ok(text);
+    }
+    Err(Fail::from("a book without a report"))
+}
+
+// Changes a book by SQL, and has its bytes then.
+fn bytes_by(rt: &HostRuntime, file: &str, first: &str) -> Result<Vec<u8>, Fail> {
+    meddle(rt, file, first)?;
+    Ok(fs::read(rt, file)?)
+}
+
 /// Makes a book, closes its day if this says so, and changes it by SQL. Then it is changed, each time as it was, by the
 /// SQL of a case, below a line that says what is then printed: a refusal, or the report on the book.
 pub fn are_told(
@@ -164,16 +205,9 @@ pub fn are_told(
     first: &str,
     cases: &str,
 ) -> Result<(), Fail> {
-    begin_day(rt, file)?;
-    if is_closed {
-        does_all(rt, file, CLOSED)?;
-    }
-    let (text, status) = keeps(rt, file)?;
-    if status != 0 {
-        return Err(Fail::from("a book without a report"));
-    }
-    meddle(rt, file, first)?;
-    let book = fs::read(rt, file)?;
+    begin(rt, file, is_closed)?;
+    let text = report_on(rt, file)?;
+    let book = bytes_by(rt, file, first)?;
     are_told_then(rt, file, book.as_slice(), cases, text.as_str())?;
     remove(rt, file)
 }

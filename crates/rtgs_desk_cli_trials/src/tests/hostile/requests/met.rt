@@ -44,9 +44,11 @@ fn counted(part: &str) -> Result<(u8, usize), Fail> {
 
 // What a word says that was told.
 fn told_as(word: &str) -> Result<u8, Fail> {
-    match word {
-        "read" => Ok(READ),
-        "done" => Ok(DONE),
-        _ => Ok(word.parse::<u8>()?),
+    if word == "read" {
+        return Ok(READ);
     }
+    if word == "done" {
+        return Ok(DONE);
+    }
+    Ok(word.parse::<u8>()?)
 }

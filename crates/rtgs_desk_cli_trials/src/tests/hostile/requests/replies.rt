@@ -57,20 +57,43 @@ const DID: &str = r#"application/json done {"answer":"
 /// What a body means: the status with its reason, the type of the body, and what it tells.
 type Meaning = (&'static str, &'static str, u8);
 
+// Whether the body begins with this number.
+fn begins(body: &str, number: &str) -> bool {
+    let Some(rest) = body.strip_prefix("{\"code\":") else {
+        return false;
+    };
+    match rest.strip_prefix(number) {
+        Some(rest) => rest.starts_with(","),
+        None => false,
+    }
+}
+
+// Whether the body ends with this name.
+fn ends(body: &str, name: &str) -> bool {
+    let Some(rest) = body.strip_suffix("\"}") else {
+        return false;
+    };
+    match rest.strip_suffix(name) {
+        Some(rest) => rest.ends_with("\"name\":\""),
+        None => false,
+    }
+}
+
+// Whether the body tells of a row.
+fn is_of_row(body: &str, number: &str) -> bool {
+    number == "41" && body.contains("\"name\":\"BadRow\",\"row\":")
+}
+
 // Whether the body is that of the refusal with this number and name.
-fn is_refusal(alloc: Global, body: &str, number: &str, name: &str) -> Result<bool, AllocError> {
-    let first = format!(in alloc; "{{\"code\":{number},")?;
-    let last = format!(in alloc; "\"name\":\"{name}\"}}")?;
-    let row = format!(in alloc; "\"name\":\"{name}\",\"row\":")?;
-    let is_row = number == "41" && body.contains(row.as_str());
-    Ok(body.starts_with(first.as_str()) && (body.ends_with(last.as_str()) || is_row))
+fn is_refusal(body: &str, number: &str, name: &str) -> bool {
+    begins(body, number) && (ends(body, name) || is_of_row(body, number))
 }
 
 // What the body means, if it is that of the refusal of this line.
-fn refused(alloc: Global, body: &str, line: &'static str) -> Result<Option<Meaning>, Fail> {
+fn refused(body: &str, line: &'static str) -> Result<Option<Meaning>, Fail> {
     let (status, refusal) = line.split_once(": ").ok_or("no status")?;
     let (number, name) = refusal.split_once(' ').ok_or("no name")?;
-    if is_refusal(alloc, body, number, name)? {
+    if is_refusal(body, number, name) {
         return Ok(Some((status, "application/json", number.parse::<u8>()?)));
     }
     Ok(None)
@@ -88,9 +111,9 @@ fn done(body: &str, line: &'static str) -> Result<Option<Meaning>, Fail> {
 }
 
 // What this body means.
-fn meaning(alloc: Global, body: &str) -> Result<Meaning, Fail> {
+fn meaning(body: &str) -> Result<Meaning, Fail> {
     for line in REFUSED.split('\n') {
-        if let Some(meaning) = refused(alloc, body, line)? {
+        if let Some(meaning) = refused(body, line)? {
             return Ok(meaning);
         }
     }
@@ -107,20 +130,43 @@ fn done_meaning(body: &str) -> Result<Meaning, Fail> {
     Err(Fail::from("a body that tells nothing"))
 }
 
+// The whole reply with this body, which means this.
+fn reply_of(alloc: Global, meaning: Meaning, body: &str) -> Result<String, AllocError> {
+    let (line, content, _) = meaning;
+    let length = body.len();
+    format!(in alloc;
+        "HTTP/1.1 {line}\r\nContent-Type: {content}\r\nContent-Length: {length}\r\n\
+         Connection: close\r\n\r\n{body}"
+    )
+}
+
+// Whether a reply bears this status.
+fn bears(alloc: Global, reply: &str, status: u16) -> Result<bool, AllocError> {
+    let head = format!(in alloc; "HTTP/1.1 {status} ")?;
+    Ok(reply.starts_with(head.as_str()))
+}
+
+// An error that shows a reply, and the one that was wanted.
+fn another(alloc: Global, status: u16, reply: &str, whole: &str) -> Result<(), Fail> {
+    let said = format!(in alloc; "{status}: {reply:?}, not {whole:?}")?;
+    Err(Fail::from(said))
+}
+
+// A reply is this one whole, and bears this status.
+fn is_whole(alloc: Global, status: u16, reply: &str, whole: &str) -> Result<(), Fail> {
+    if reply == whole && bears(alloc, reply, status)? {
+        return Ok(());
+    }
+    another(alloc, status, reply, whole)
+}
+
 /// What a whole reply tells, which bears this status: a number of a refusal, or what was read or done. Each of its bytes
 /// is as its body wants it.
 pub fn told_by(alloc: Global, status: u16, reply: &[u8]) -> Result<u8, Fail> {
     let reply = std::str::from_utf8(reply)?;
     let (_, body) = reply.split_once("\r\n\r\n").ok_or("no body")?;
-    let length = body.len();
-    let (line, content, told) = meaning(alloc, body)?;
-    let whole = format!(in alloc;
-        "HTTP/1.1 {line}\r\nContent-Type: {content}\r\nContent-Length: {length}\r\nConnection: close\r\n\r\n{body}"
-    )?;
-    let head = format!(in alloc; "HTTP/1.1 {status} ")?;
-    if whole.as_str() == reply && reply.starts_with(head.as_str()) {
-        return Ok(told);
-    }
-    let said = format!(in alloc; "{status}: {reply:?}, not {whole:?}")?;
-    Err(Fail::from(said))
+    let meaning = meaning(body)?;
+    let whole = reply_of(alloc, meaning, body)?;
+    is_whole(alloc, status, reply, whole.as_str())?;
+    Ok(meaning.2)
 }

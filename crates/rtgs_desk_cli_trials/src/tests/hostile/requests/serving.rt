@@ -6,7 +6,9 @@ use rtgs_book::{Book, Command};
 use rtgs_desk::Desk;
 use rtgs_http_banks::{Served, serve_one};
 use rtgs_keeper::{Keeper, MemoryKeeper};
-use rtgs_money::{Amount, BusinessDate, Code, Credit, Key, Name, PostingAmount, Reference};
+use rtgs_money::{
+    Amount, BusinessDate, Code, Credit, Key, KeyDigest, Name, PostingAmount, Reference,
+};
 use std::alloc::Global;
 use std::cell::Cell;
 use std::test::Fail;
@@ -59,38 +61,58 @@ fn pays(words: &str) -> Result<Command, Fail> {
     })
 }
 
+fn opens(date: &str) -> Result<Command, Fail> {
+    Ok(Command::OpenDay(BusinessDate::read(date.as_bytes())?))
+}
+
 // The command of a line.
 fn command(line: &str) -> Result<Command, Fail> {
     let (kind, words) = line.split_once(' ').ok_or("no words")?;
-    match kind {
-        "add" => adds(words),
-        "post" => posts(words),
-        "limit" => limits(words),
-        "open" => Ok(Command::OpenDay(BusinessDate::read(words.as_bytes())?)),
-        "pay" => pays(words),
-        _ => Err(Fail::from("no command")),
+    if kind == "add" {
+        return adds(words);
+    }
+    if kind == "post" {
+        return posts(words);
+    }
+    if kind == "limit" {
+        return limits(words);
+    }
+    if kind == "open" {
+        return opens(words);
+    }
+    if kind == "pay" {
+        return pays(words);
+    }
+    Err(Fail::from("no command"))
+}
+
+// Gives a desk the command of a line.
+fn does<K: Keeper>(desk: &mut Desk<K>, line: &str) -> Result<(), Fail> {
+    desk.submit(command(line)?)?;
+    Ok(())
+}
+
+// A desk over a keeper of no book.
+fn opened<K: Keeper + Drop>(alloc: Global, keeper: K) -> Result<Desk<K>, Fail> {
+    match Desk::open(alloc, keeper) {
+        Ok(desk) => Ok(desk),
+        Err((fault, _)) => Err(Fail::from(fault)),
     }
 }
 
 // A desk over a new keeper, which was given these commands.
 fn begun<K: Keeper + Drop>(alloc: Global, keeper: K) -> Result<Desk<K>, Fail> {
-    let mut desk = match Desk::open(alloc, keeper) {
-        Ok(desk) => desk,
-        Err((fault, _)) => return Err(Fail::from(fault)),
-    };
+    let mut desk = opened(alloc, keeper)?;
     for line in BEGUN.split('\n') {
-        desk.submit(command(line)?)?;
+        does(&mut desk, line)?;
     }
     Ok(desk)
 }
 
 /// The book that the desk begins with.
 pub fn book_before(alloc: Global) -> Result<Book, Fail> {
-    Ok(
-        begun(alloc, MemoryKeeper::new(alloc))?
-            .into_keeper()
-            .load(alloc)?,
-    )
+    let desk = begun(alloc, MemoryKeeper::new(alloc))?;
+    Ok(desk.into_keeper().load(alloc)?)
 }
 
 fn is_same_book(one: &Book, other: &Book) -> bool {
@@ -101,21 +123,43 @@ fn is_same_book(one: &Book, other: &Book) -> bool {
         && one.day == other.day
 }
 
-// What the desk tells of an input, and its keeper then.
-fn answered<K: Keeper + Drop>(
+fn operator() -> Result<KeyDigest, Fail> {
+    Ok(Key::read(OPERATOR.as_bytes())?.digest())
+}
+
+// The status of what is written of an input.
+fn status_of<K: Keeper>(
     alloc: Global,
-    mut desk: Desk<K>,
+    desk: &mut Desk<K>,
     input: &[u8],
-) -> Result<(u8, K), Fail> {
-    let operator = Key::read(OPERATOR.as_bytes())?.digest();
+    written: &mut Vec<u8>,
+) -> Result<u16, Fail> {
+    let operator = operator()?;
     let mut reader = input;
+    match serve_one(alloc, &mut reader, written, desk, &operator) {
+        Served::Answered(status) => Ok(status.as_u16()),
+        _ => Err(Fail::from("not answered")),
+    }
+}
+
+// What the desk tells of an input.
+fn answered<K: Keeper>(alloc: Global, desk: &mut Desk<K>, input: &[u8]) -> Result<u8, Fail> {
     let mut written = Vec::new(alloc);
-    let Served::Answered(status) = serve_one(alloc, &mut reader, &mut written, &mut desk, &operator)
-    else {
-        return Err(Fail::from("not answered"));
-    };
-    let told = told_by(alloc, status.as_u16(), written.as_slice())?;
-    Ok((told, desk.into_keeper()))
+    let status = status_of(alloc, desk, input, &mut written)?;
+    told_by(alloc, status, written.as_slice())
+}
+
+// The book of a desk that is over.
+fn book_after(alloc: Global, desk: Desk<CountingKeeper<'_, MemoryKeeper>>) -> Result<Book, Fail> {
+    Ok(desk.into_keeper().into_kept().load(alloc)?)
+}
+
+// What a desk tells of a command, or of another input by which it made no commit and kept the book that was before.
+fn judged(told: u8, has_committed: bool, book: &Book, before: &Book) -> Result<u8, Fail> {
+    if told == DONE || (!has_committed && is_same_book(book, before)) {
+        return Ok(told);
+    }
+    Err(Fail::new(format_args!("{told} with a commit, or another book")))
 }
 
 /// What a desk tells of an input. A desk that did not tell of a command made no commit, and has the book that it began
@@ -123,13 +167,9 @@ fn answered<K: Keeper + Drop>(
 pub fn serve(alloc: Global, before: &Book, input: &[u8]) -> Result<u8, Fail> {
     let commits = Cell::new(0);
     let keeper = CountingKeeper::new(MemoryKeeper::new(alloc), &commits);
-    let desk = begun(alloc, keeper)?;
+    let mut desk = begun(alloc, keeper)?;
     let begun = commits.get();
-    let (told, keeper) = answered(alloc, desk, input)?;
-    let book = keeper.into_kept().load(alloc)?;
-    if told == DONE || (commits.get() == begun && is_same_book(&book, before)) {
-        return Ok(told);
-    }
-    let said = format!(in alloc; "{told} with a commit, or another book")?;
-    Err(Fail::from(said))
+    let told = answered(alloc, &mut desk, input)?;
+    let book = book_after(alloc, desk)?;
+    judged(told, commits.get() != begun, &book, before)
 }
