@@ -85,7 +85,8 @@ fn fails_at_the_posting<K: Keeper>(desk: &mut Desk<K>) -> Result<bool, Fail> {
 // What a posting is answered, by a desk over what a keeper kept that met this trouble at the same posting before.
 fn posted_again(alloc: Global, calls: usize, trouble: Trouble) -> Result<Reply, Fail> {
     let found = after_a_fault(alloc, failing(alloc, calls, trouble))?.into_kept();
-    posting(&mut desk_over(alloc, found)?)
+    let replies = replies_over(alloc, found, &[posts("ALFA", "P-1", 100)?])?;
+    Ok(*replies.as_slice().first().ok_or("no reply")?)
 }
 
 #[test]

@@ -198,12 +198,13 @@ fn is_failed<T: Drop>(reply: Result<T, Refusal>) -> bool {
 
 /// Whether a desk answers nothing but that it has failed.
 pub fn is_silent<K: Keeper>(desk: &mut Desk<K>) -> Result<bool, Fail> {
+    let has_failed = desk.failed();
     let (alfa, name) = (code("ALFA")?, reference("A-1")?);
     let is_silent_of_banks = is_silent_of(desk, &alfa, &name);
     let is_silent_of_dates = is_silent_of_date(desk, date(MONDAY)?);
     let key = Key::read(KEY.as_bytes())?.digest();
     let is_silent_of_keys = is_failed(desk.code_of(&key));
-    Ok(desk.failed() && is_silent_of_banks && is_silent_of_dates && is_silent_of_keys)
+    Ok(has_failed && is_silent_of_banks && is_silent_of_dates && is_silent_of_keys)
 }
 
 fn is_silent_of<K: Keeper>(desk: &mut Desk<K>, alfa: &Code, name: &Reference) -> bool {
