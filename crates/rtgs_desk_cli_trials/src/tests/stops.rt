@@ -25,9 +25,12 @@ fn is_stopped(ended: &Ended) -> bool {
 }
 
 /// The first order settled, and the last one was stopped.
-fn has_begun(out: &[u8]) -> bool {
-    out.starts_with(b"reference,result,number,detail\nA-1,settled,1,1\n")
-        && out.ends_with(b",stopped,,91\n")
+fn has_begun(out: &[u8]) -> Result<bool, Fail> {
+    let text = std::str::from_utf8(out)?;
+    Ok(
+        text.starts_with("reference,result,number,detail\nA-1,settled,1,1\n")
+            && text.ends_with(",stopped,,91\n"),
+    )
 }
 
 /// The import stops, and its first and last results are these.
@@ -35,7 +38,7 @@ fn stops(rt: &HostRuntime) -> Result<(), Fail> {
     let mut out = Vec::new(rt.alloc());
     let mut err = Vec::new(rt.alloc());
     let ended = ending(rt, &IMPORT, &mut out, &mut err);
-    if is_stopped(&ended) && has_begun(out.as_slice()) && err.is_empty() {
+    if is_stopped(&ended) && has_begun(out.as_slice())? && err.is_empty() {
         return Ok(());
     }
     Err(another_end(ended.exit_status(), out.as_slice()))

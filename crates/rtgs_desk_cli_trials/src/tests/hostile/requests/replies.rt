@@ -80,13 +80,13 @@ fn ends(body: &str, name: &str) -> bool {
 }
 
 // Whether the body tells of a row.
-fn is_of_row(body: &str, number: &str) -> bool {
-    number == "41" && body.contains("\"name\":\"BadRow\",\"row\":")
+fn is_of_row(body: &str, number: &str, name: &str) -> bool {
+    number == "41" && name == "BadRow" && body.contains("\"name\":\"BadRow\",\"row\":")
 }
 
 // Whether the body is that of the refusal with this number and name.
 fn is_refusal(body: &str, number: &str, name: &str) -> bool {
-    begins(body, number) && (ends(body, name) || is_of_row(body, number))
+    begins(body, number) && (ends(body, name) || is_of_row(body, number, name))
 }
 
 // What the body means, if it is that of the refusal of this line.
