@@ -1,5 +1,6 @@
 -- The examples, computed.
 use Rattle.std.proofs.Common.{pos, ◌≤ℤ◌, negsuc, [], ◌∷◌, Ok, Err, codes, refl, inl, inr}
+use Rattle.std.specs.Bool.{⊤}
 use Rattle.std.specs.List.{AllByRecursion}
 use Rattle.rtgs_book.specs.declared.Command.TheVariants.{SetCredit, Post, OpenDay, Withdraw, Resolve, CutOff, CloseDay}
 use Rattle.rtgs_book.specs.declared.Answer.TheVariants as answer
@@ -18,6 +19,14 @@ use Rattle.rtgs_book.specs.Settle.{settle, mark_of}
 use Rattle.rtgs_book.specs.Commands.{order, takes, settles_at_once, resolve, set_credit, post, withdraw, open_day, cut_off, close_day, with_credit, with_state, overdrawn}
 use Rattle.rtgs_book.specs.Procedure.{everything, taken_back, Reaches, All, Without_newest}
 use Rattle.rtgs_examples.specs.Examples.{alfa, beta, gama, zeta, monday, start, unopened, pays, Comes, ComesFrom}
+
+-- All that the examples compute with, named once: a proof that names this one unfolds them all.
+computed : ⊤
+unfolding first_of order takes settles_at_once queue orders_before balance gain floor credit_of participant_of
+    accounts is_participant order_named posting_named settle mark_of open_day is_weekend days_from_civil
+    weekday_number day_count days_of_years days_of_months withdraw balance_after chosen is_chosen resolve set_credit
+    with_credit post total cut_off close_day with_state overdrawn
+computed = tt
 
 -- where nobody is short any more, the procedure's choice is the greatest
 abbrev pub FindsGreatest : Type 0
@@ -38,7 +47,7 @@ abbrev ring_4_choice : Choice
 ring_4_choice = (everything ring_3)
 
 ring_4_greatest : FindsGreatest → IsGreatest ring_3 ring_4_choice
-unfolding first_of order takes settles_at_once queue orders_before balance gain floor credit_of participant_of accounts is_participant order_named posting_named settle mark_of open_day is_weekend days_from_civil weekday_number day_count days_of_years days_of_months withdraw balance_after chosen is_chosen resolve set_credit with_credit post total cut_off close_day with_state overdrawn
+unfolding computed
 ring_4_greatest law = law ring_3 ring_4_choice All (record { le = tt }, (record { le = tt }, (record { le = tt }, tt)))
 
 abbrev ring_4 : Book
@@ -48,7 +57,7 @@ abbrev ring_5_choice : Choice
 ring_5_choice = (everything ring_4)
 
 ring_5_greatest : FindsGreatest → IsGreatest ring_4 ring_5_choice
-unfolding first_of order takes settles_at_once queue orders_before balance gain floor credit_of participant_of accounts is_participant order_named posting_named settle mark_of open_day is_weekend days_from_civil weekday_number day_count days_of_years days_of_months withdraw balance_after chosen is_chosen resolve set_credit with_credit post total cut_off close_day with_state overdrawn
+unfolding computed
 ring_5_greatest law = law ring_4 ring_5_choice All (record { le = tt }, (record { le = tt }, (record { le = tt }, tt)))
 
 abbrev ring_5 : Book
@@ -58,7 +67,7 @@ pub ring_comes : FindsGreatest → Comes
     (pays alfa beta 100 (codes "A-1") ∷ pays beta gama 100 (codes "B-1") ∷ pays gama alfa 100 (codes "G-1") ∷ Resolve ∷ Resolve ∷ [])
     (Ok (answer.Queued 1 1) ∷ Ok (answer.Queued 2 1) ∷ Ok (answer.Queued 3 1) ∷ Ok (answer.Resolved 1 3 (pos 300)) ∷ Ok answer.Nothing ∷ [])
     (pos 0 ∷ pos 0 ∷ pos 0 ∷ [])
-unfolding first_of order takes settles_at_once queue orders_before balance gain floor credit_of participant_of accounts is_participant order_named posting_named settle mark_of open_day is_weekend days_from_civil weekday_number day_count days_of_years days_of_months withdraw balance_after chosen is_chosen resolve set_credit with_credit post total cut_off close_day with_state overdrawn
+unfolding computed
 ring_comes law = (ring_5, (ring_1, refl, (ring_2, refl, (ring_3, refl, (ring_4, (ring_4_choice, ring_4_greatest law, refl), (ring_5, (ring_5_choice, ring_5_greatest law, refl), refl))))), refl)
 
 -- ---- deadlock
@@ -73,7 +82,7 @@ abbrev deadlock_3_choice : Choice
 deadlock_3_choice = (taken_back beta (taken_back alfa (everything deadlock_2)))
 
 deadlock_3_greatest : FindsGreatest → IsGreatest deadlock_2 deadlock_3_choice
-unfolding first_of order takes settles_at_once queue orders_before balance gain floor credit_of participant_of accounts is_participant order_named posting_named settle mark_of open_day is_weekend days_from_civil weekday_number day_count days_of_years days_of_months withdraw balance_after chosen is_chosen resolve set_credit with_credit post total cut_off close_day with_state overdrawn
+unfolding computed
 deadlock_3_greatest law = law deadlock_2 deadlock_3_choice (Without_newest (Without_newest All alfa (inl refl) (record { lt = tt })) beta (inr (inl refl)) (record { lt = tt })) (record { le = tt }, (record { le = tt }, (record { le = tt }, tt)))
 
 abbrev deadlock_3 : Book
@@ -86,7 +95,7 @@ abbrev deadlock_5_choice : Choice
 deadlock_5_choice = (taken_back beta (taken_back alfa (everything deadlock_4)))
 
 deadlock_5_greatest : FindsGreatest → IsGreatest deadlock_4 deadlock_5_choice
-unfolding first_of order takes settles_at_once queue orders_before balance gain floor credit_of participant_of accounts is_participant order_named posting_named settle mark_of open_day is_weekend days_from_civil weekday_number day_count days_of_years days_of_months withdraw balance_after chosen is_chosen resolve set_credit with_credit post total cut_off close_day with_state overdrawn
+unfolding computed
 deadlock_5_greatest law = law deadlock_4 deadlock_5_choice (Without_newest (Without_newest All alfa (inl refl) (record { lt = tt })) beta (inr (inl refl)) (record { lt = tt })) (record { le = tt }, (record { le = tt }, (record { le = tt }, tt)))
 
 abbrev deadlock_5 : Book
@@ -96,7 +105,7 @@ abbrev deadlock_6_choice : Choice
 deadlock_6_choice = (everything deadlock_5)
 
 deadlock_6_greatest : FindsGreatest → IsGreatest deadlock_5 deadlock_6_choice
-unfolding first_of order takes settles_at_once queue orders_before balance gain floor credit_of participant_of accounts is_participant order_named posting_named settle mark_of open_day is_weekend days_from_civil weekday_number day_count days_of_years days_of_months withdraw balance_after chosen is_chosen resolve set_credit with_credit post total cut_off close_day with_state overdrawn
+unfolding computed
 deadlock_6_greatest law = law deadlock_5 deadlock_6_choice All (record { le = tt }, (record { le = tt }, (record { le = tt }, tt)))
 
 abbrev deadlock_6 : Book
@@ -118,7 +127,7 @@ pub deadlock_comes : FindsGreatest → Comes
     (pays alfa beta 100 (codes "A-1") ∷ pays beta gama 90 (codes "B-1") ∷ Resolve ∷ CutOff monday ∷ CloseDay monday ∷ CloseDay monday ∷ OpenDay 20240309 ∷ OpenDay 20240304 ∷ OpenDay 20240305 ∷ OpenDay 20240305 ∷ [])
     (Ok (answer.Queued 1 1) ∷ Ok (answer.Queued 2 1) ∷ Ok answer.Nothing ∷ Ok answer.CutOffDone ∷ Ok (answer.Closed 2) ∷ Ok (answer.Repeated known.Nothing) ∷ Err refusal.Weekend ∷ Err refusal.WrongDate ∷ Ok answer.Opened ∷ Ok (answer.Repeated known.Nothing) ∷ [])
     (pos 0 ∷ pos 0 ∷ pos 0 ∷ [])
-unfolding first_of order takes settles_at_once queue orders_before balance gain floor credit_of participant_of accounts is_participant order_named posting_named settle mark_of open_day is_weekend days_from_civil weekday_number day_count days_of_years days_of_months withdraw balance_after chosen is_chosen resolve set_credit with_credit post total cut_off close_day with_state overdrawn
+unfolding computed
 deadlock_comes law = (deadlock_10, (deadlock_1, refl, (deadlock_2, refl, (deadlock_3, (deadlock_3_choice, deadlock_3_greatest law, refl), (deadlock_4, refl, (deadlock_5, (deadlock_5_choice, deadlock_5_greatest law, refl), (deadlock_6, (deadlock_6_choice, deadlock_6_greatest law, refl), (deadlock_7, refl, (deadlock_8, refl, (deadlock_9, refl, (deadlock_10, refl, refl)))))))))), refl)
 
 -- ---- partial
@@ -136,7 +145,7 @@ abbrev partial_4_choice : Choice
 partial_4_choice = (taken_back alfa (everything partial_3))
 
 partial_4_greatest : FindsGreatest → IsGreatest partial_3 partial_4_choice
-unfolding first_of order takes settles_at_once queue orders_before balance gain floor credit_of participant_of accounts is_participant order_named posting_named settle mark_of open_day is_weekend days_from_civil weekday_number day_count days_of_years days_of_months withdraw balance_after chosen is_chosen resolve set_credit with_credit post total cut_off close_day with_state overdrawn
+unfolding computed
 partial_4_greatest law = law partial_3 partial_4_choice (Without_newest All alfa (inl refl) (record { lt = tt })) (record { le = tt }, (record { le = tt }, (record { le = tt }, tt)))
 
 abbrev partial_4 : Book
@@ -146,7 +155,7 @@ pub partial_comes : FindsGreatest → Comes
     (pays alfa beta 100 (codes "A-1") ∷ pays alfa gama 50 (codes "A-2") ∷ pays beta alfa 100 (codes "B-1") ∷ Resolve ∷ [])
     (Ok (answer.Queued 1 1) ∷ Ok (answer.Queued 2 2) ∷ Ok (answer.Queued 3 1) ∷ Ok (answer.Resolved 1 2 (pos 200)) ∷ [])
     (pos 0 ∷ pos 0 ∷ pos 0 ∷ [])
-unfolding first_of order takes settles_at_once queue orders_before balance gain floor credit_of participant_of accounts is_participant order_named posting_named settle mark_of open_day is_weekend days_from_civil weekday_number day_count days_of_years days_of_months withdraw balance_after chosen is_chosen resolve set_credit with_credit post total cut_off close_day with_state overdrawn
+unfolding computed
 partial_comes law = (partial_4, (partial_1, refl, (partial_2, refl, (partial_3, refl, (partial_4, (partial_4_choice, partial_4_greatest law, refl), refl)))), refl)
 
 -- ---- cascade
@@ -173,7 +182,7 @@ abbrev cascade_7_choice : Choice
 cascade_7_choice = (taken_back gama (taken_back beta (taken_back alfa (everything cascade_6))))
 
 cascade_7_greatest : FindsGreatest → IsGreatest cascade_6 cascade_7_choice
-unfolding first_of order takes settles_at_once queue orders_before balance gain floor credit_of participant_of accounts is_participant order_named posting_named settle mark_of open_day is_weekend days_from_civil weekday_number day_count days_of_years days_of_months withdraw balance_after chosen is_chosen resolve set_credit with_credit post total cut_off close_day with_state overdrawn
+unfolding computed
 cascade_7_greatest law = law cascade_6 cascade_7_choice (Without_newest (Without_newest (Without_newest All alfa (inl refl) (record { lt = tt })) beta (inr (inl refl)) (record { lt = tt })) gama (inr (inr (inl refl))) (record { lt = tt })) (record { le = tt }, (record { le = tt }, (record { le = tt }, tt)))
 
 abbrev cascade_7 : Book
@@ -183,7 +192,7 @@ pub cascade_comes : FindsGreatest → Comes
     (Post alfa (codes "P-1") (pos 10) ∷ pays alfa beta 60 (codes "A-1") ∷ pays alfa gama 10 (codes "A-2") ∷ pays beta alfa 50 (codes "B-1") ∷ pays beta gama 20 (codes "B-2") ∷ pays gama alfa 5 (codes "G-1") ∷ Resolve ∷ [])
     (Ok (answer.Posted 1) ∷ Ok (answer.Queued 1 1) ∷ Ok (answer.Queued 2 2) ∷ Ok (answer.Queued 3 1) ∷ Ok (answer.Queued 4 2) ∷ Ok (answer.Queued 5 1) ∷ Ok (answer.Resolved 1 2 (pos 110)) ∷ [])
     (pos 0 ∷ pos 10 ∷ pos 0 ∷ [])
-unfolding first_of order takes settles_at_once queue orders_before balance gain floor credit_of participant_of accounts is_participant order_named posting_named settle mark_of open_day is_weekend days_from_civil weekday_number day_count days_of_years days_of_months withdraw balance_after chosen is_chosen resolve set_credit with_credit post total cut_off close_day with_state overdrawn
+unfolding computed
 cascade_comes law = (cascade_7, (cascade_1, refl, (cascade_2, refl, (cascade_3, refl, (cascade_4, refl, (cascade_5, refl, (cascade_6, refl, (cascade_7, (cascade_7_choice, cascade_7_greatest law, refl), refl))))))), refl)
 
 -- ---- boundary of credit
@@ -213,7 +222,7 @@ pub boundary_of_credit_comes : Comes
     (SetCredit alfa 100 ∷ pays alfa beta 100 (codes "A-1") ∷ pays alfa beta 1 (codes "A-2") ∷ pays alfa beta 100 (codes "A-1") ∷ pays alfa beta 99 (codes "A-1") ∷ SetCredit alfa 99 ∷ SetCredit alfa 100 ∷ [])
     (Ok answer.CreditSet ∷ Ok (answer.Settled 1 1) ∷ Ok (answer.Queued 2 1) ∷ Ok (answer.Repeated (known.Order 1 (state.Settled 1))) ∷ Err refusal.ReferenceUsed ∷ Err refusal.NoCover ∷ Ok answer.CreditSet ∷ [])
     (negsuc 99 ∷ pos 100 ∷ pos 0 ∷ [])
-unfolding first_of order takes settles_at_once queue orders_before balance gain floor credit_of participant_of accounts is_participant order_named posting_named settle mark_of open_day is_weekend days_from_civil weekday_number day_count days_of_years days_of_months withdraw balance_after chosen is_chosen resolve set_credit with_credit post total cut_off close_day with_state overdrawn
+unfolding computed
 boundary_of_credit_comes = (boundary_of_credit_7, (boundary_of_credit_1, refl, (boundary_of_credit_2, refl, (boundary_of_credit_3, refl, (boundary_of_credit_4, refl, (boundary_of_credit_5, refl, (boundary_of_credit_6, refl, (boundary_of_credit_7, refl, refl))))))), refl)
 
 -- ---- no bypass
@@ -231,7 +240,7 @@ abbrev no_bypass_4_choice : Choice
 no_bypass_4_choice = (taken_back alfa (taken_back alfa (everything no_bypass_3)))
 
 no_bypass_4_greatest : FindsGreatest → IsGreatest no_bypass_3 no_bypass_4_choice
-unfolding first_of order takes settles_at_once queue orders_before balance gain floor credit_of participant_of accounts is_participant order_named posting_named settle mark_of open_day is_weekend days_from_civil weekday_number day_count days_of_years days_of_months withdraw balance_after chosen is_chosen resolve set_credit with_credit post total cut_off close_day with_state overdrawn
+unfolding computed
 no_bypass_4_greatest law = law no_bypass_3 no_bypass_4_choice (Without_newest (Without_newest All alfa (inl refl) (record { lt = tt })) alfa (inl refl) (record { lt = tt })) (record { le = tt }, (record { le = tt }, (record { le = tt }, tt)))
 
 abbrev no_bypass_4 : Book
@@ -241,7 +250,7 @@ pub no_bypass_comes : FindsGreatest → Comes
     (Post alfa (codes "P-1") (pos 100) ∷ pays alfa beta 150 (codes "A-1") ∷ pays alfa beta 20 (codes "A-2") ∷ Resolve ∷ [])
     (Ok (answer.Posted 1) ∷ Ok (answer.Queued 1 1) ∷ Ok (answer.Queued 2 2) ∷ Ok answer.Nothing ∷ [])
     (pos 100 ∷ pos 0 ∷ pos 0 ∷ [])
-unfolding first_of order takes settles_at_once queue orders_before balance gain floor credit_of participant_of accounts is_participant order_named posting_named settle mark_of open_day is_weekend days_from_civil weekday_number day_count days_of_years days_of_months withdraw balance_after chosen is_chosen resolve set_credit with_credit post total cut_off close_day with_state overdrawn
+unfolding computed
 no_bypass_comes law = (no_bypass_4, (no_bypass_1, refl, (no_bypass_2, refl, (no_bypass_3, refl, (no_bypass_4, (no_bypass_4_choice, no_bypass_4_greatest law, refl), refl)))), refl)
 
 -- ---- finality
@@ -271,7 +280,7 @@ pub finality_comes : Comes
     (SetCredit alfa 100 ∷ pays alfa beta 100 (codes "A-1") ∷ pays alfa beta 1 (codes "A-2") ∷ Withdraw alfa (codes "A-1") ∷ Withdraw alfa (codes "A-2") ∷ Withdraw alfa (codes "A-2") ∷ Withdraw alfa (codes "A-3") ∷ [])
     (Ok answer.CreditSet ∷ Ok (answer.Settled 1 1) ∷ Ok (answer.Queued 2 1) ∷ Err refusal.NotQueued ∷ Ok (answer.Withdrawn 2) ∷ Ok (answer.Repeated (known.Order 2 state.Withdrawn)) ∷ Err refusal.UnknownOrder ∷ [])
     (negsuc 99 ∷ pos 100 ∷ pos 0 ∷ [])
-unfolding first_of order takes settles_at_once queue orders_before balance gain floor credit_of participant_of accounts is_participant order_named posting_named settle mark_of open_day is_weekend days_from_civil weekday_number day_count days_of_years days_of_months withdraw balance_after chosen is_chosen resolve set_credit with_credit post total cut_off close_day with_state overdrawn
+unfolding computed
 finality_comes = (finality_7, (finality_1, refl, (finality_2, refl, (finality_3, refl, (finality_4, refl, (finality_5, refl, (finality_6, refl, (finality_7, refl, refl))))))), refl)
 
 -- ---- largest posting
@@ -289,7 +298,7 @@ pub largest_posting_comes : Comes
     (Post alfa (codes "P-1") (pos 1000000000000000) ∷ Post beta (codes "P-2") (pos 1) ∷ Post alfa (codes "P-3") (negsuc 0) ∷ [])
     (Ok (answer.Posted 1) ∷ Err refusal.TotalTooLarge ∷ Ok (answer.Posted 2) ∷ [])
     (pos 999999999999999 ∷ pos 0 ∷ pos 0 ∷ [])
-unfolding first_of order takes settles_at_once queue orders_before balance gain floor credit_of participant_of accounts is_participant order_named posting_named settle mark_of open_day is_weekend days_from_civil weekday_number day_count days_of_years days_of_months withdraw balance_after chosen is_chosen resolve set_credit with_credit post total cut_off close_day with_state overdrawn
+unfolding computed
 largest_posting_comes = (largest_posting_3, (largest_posting_1, refl, (largest_posting_2, refl, (largest_posting_3, refl, refl))), refl)
 
 -- ---- cut off stops orders
@@ -319,7 +328,7 @@ abbrev cut_off_stops_orders_8_choice : Choice
 cut_off_stops_orders_8_choice = (everything cut_off_stops_orders_7)
 
 cut_off_stops_orders_8_greatest : FindsGreatest → IsGreatest cut_off_stops_orders_7 cut_off_stops_orders_8_choice
-unfolding first_of order takes settles_at_once queue orders_before balance gain floor credit_of participant_of accounts is_participant order_named posting_named settle mark_of open_day is_weekend days_from_civil weekday_number day_count days_of_years days_of_months withdraw balance_after chosen is_chosen resolve set_credit with_credit post total cut_off close_day with_state overdrawn
+unfolding computed
 cut_off_stops_orders_8_greatest law = law cut_off_stops_orders_7 cut_off_stops_orders_8_choice All (record { le = tt }, (record { le = tt }, (record { le = tt }, tt)))
 
 abbrev cut_off_stops_orders_8 : Book
@@ -329,7 +338,7 @@ pub cut_off_stops_orders_comes : FindsGreatest → Comes
     (pays alfa beta 100 (codes "A-1") ∷ pays beta alfa 100 (codes "B-1") ∷ pays gama alfa 1 (codes "G-1") ∷ CutOff monday ∷ pays alfa beta 5 (codes "A-2") ∷ pays alfa beta 100 (codes "A-1") ∷ Withdraw gama (codes "G-1") ∷ Resolve ∷ [])
     (Ok (answer.Queued 1 1) ∷ Ok (answer.Queued 2 1) ∷ Ok (answer.Queued 3 1) ∷ Ok answer.CutOffDone ∷ Err refusal.NotOpen ∷ Ok (answer.Repeated (known.Order 1 state.Queued)) ∷ Ok (answer.Withdrawn 3) ∷ Ok (answer.Resolved 1 2 (pos 200)) ∷ [])
     (pos 0 ∷ pos 0 ∷ pos 0 ∷ [])
-unfolding first_of order takes settles_at_once queue orders_before balance gain floor credit_of participant_of accounts is_participant order_named posting_named settle mark_of open_day is_weekend days_from_civil weekday_number day_count days_of_years days_of_months withdraw balance_after chosen is_chosen resolve set_credit with_credit post total cut_off close_day with_state overdrawn
+unfolding computed
 cut_off_stops_orders_comes law = (cut_off_stops_orders_8, (cut_off_stops_orders_1, refl, (cut_off_stops_orders_2, refl, (cut_off_stops_orders_3, refl, (cut_off_stops_orders_4, refl, (cut_off_stops_orders_5, refl, (cut_off_stops_orders_6, refl, (cut_off_stops_orders_7, refl, (cut_off_stops_orders_8, (cut_off_stops_orders_8_choice, cut_off_stops_orders_8_greatest law, refl), refl)))))))), refl)
 
 -- ---- close with gridlock
@@ -347,7 +356,7 @@ abbrev close_with_gridlock_4_choice : Choice
 close_with_gridlock_4_choice = (everything close_with_gridlock_3)
 
 close_with_gridlock_4_greatest : FindsGreatest → IsGreatest close_with_gridlock_3 close_with_gridlock_4_choice
-unfolding first_of order takes settles_at_once queue orders_before balance gain floor credit_of participant_of accounts is_participant order_named posting_named settle mark_of open_day is_weekend days_from_civil weekday_number day_count days_of_years days_of_months withdraw balance_after chosen is_chosen resolve set_credit with_credit post total cut_off close_day with_state overdrawn
+unfolding computed
 close_with_gridlock_4_greatest law = law close_with_gridlock_3 close_with_gridlock_4_choice All (record { le = tt }, (record { le = tt }, (record { le = tt }, tt)))
 
 abbrev close_with_gridlock_4 : Book
@@ -360,7 +369,7 @@ abbrev close_with_gridlock_6_choice : Choice
 close_with_gridlock_6_choice = (everything close_with_gridlock_5)
 
 close_with_gridlock_6_greatest : FindsGreatest → IsGreatest close_with_gridlock_5 close_with_gridlock_6_choice
-unfolding first_of order takes settles_at_once queue orders_before balance gain floor credit_of participant_of accounts is_participant order_named posting_named settle mark_of open_day is_weekend days_from_civil weekday_number day_count days_of_years days_of_months withdraw balance_after chosen is_chosen resolve set_credit with_credit post total cut_off close_day with_state overdrawn
+unfolding computed
 close_with_gridlock_6_greatest law = law close_with_gridlock_5 close_with_gridlock_6_choice All (record { le = tt }, (record { le = tt }, (record { le = tt }, tt)))
 
 abbrev close_with_gridlock_6 : Book
@@ -370,7 +379,7 @@ pub close_with_gridlock_comes : FindsGreatest → Comes
     (pays alfa beta 100 (codes "A-1") ∷ pays beta gama 100 (codes "B-1") ∷ pays gama alfa 100 (codes "G-1") ∷ CloseDay monday ∷ CutOff monday ∷ CloseDay monday ∷ [])
     (Ok (answer.Queued 1 1) ∷ Ok (answer.Queued 2 1) ∷ Ok (answer.Queued 3 1) ∷ Err refusal.WrongPhase ∷ Ok answer.CutOffDone ∷ Err refusal.Resolvable ∷ [])
     (pos 0 ∷ pos 0 ∷ pos 0 ∷ [])
-unfolding first_of order takes settles_at_once queue orders_before balance gain floor credit_of participant_of accounts is_participant order_named posting_named settle mark_of open_day is_weekend days_from_civil weekday_number day_count days_of_years days_of_months withdraw balance_after chosen is_chosen resolve set_credit with_credit post total cut_off close_day with_state overdrawn
+unfolding computed
 close_with_gridlock_comes law = (close_with_gridlock_6, (close_with_gridlock_1, refl, (close_with_gridlock_2, refl, (close_with_gridlock_3, refl, (close_with_gridlock_4, (close_with_gridlock_4_choice, close_with_gridlock_4_greatest law, refl), (close_with_gridlock_5, refl, (close_with_gridlock_6, (close_with_gridlock_6_choice, close_with_gridlock_6_greatest law, refl), refl)))))), refl)
 
 -- ---- close with overdraft
@@ -391,7 +400,7 @@ abbrev close_with_overdraft_5_choice : Choice
 close_with_overdraft_5_choice = (taken_back alfa (everything close_with_overdraft_4))
 
 close_with_overdraft_5_greatest : FindsGreatest → IsGreatest close_with_overdraft_4 close_with_overdraft_5_choice
-unfolding first_of order takes settles_at_once queue orders_before balance gain floor credit_of participant_of accounts is_participant order_named posting_named settle mark_of open_day is_weekend days_from_civil weekday_number day_count days_of_years days_of_months withdraw balance_after chosen is_chosen resolve set_credit with_credit post total cut_off close_day with_state overdrawn
+unfolding computed
 close_with_overdraft_5_greatest law = law close_with_overdraft_4 close_with_overdraft_5_choice (Without_newest All alfa (inl refl) (record { lt = tt })) (record { le = tt }, (record { le = tt }, (record { le = tt }, tt)))
 
 abbrev close_with_overdraft_5 : Book
@@ -401,7 +410,7 @@ pub close_with_overdraft_comes : FindsGreatest → Comes
     (SetCredit alfa 100 ∷ pays alfa beta 100 (codes "A-1") ∷ pays alfa beta 1 (codes "A-2") ∷ CutOff monday ∷ CloseDay monday ∷ [])
     (Ok answer.CreditSet ∷ Ok (answer.Settled 1 1) ∷ Ok (answer.Queued 2 1) ∷ Ok answer.CutOffDone ∷ Err (refusal.Overdrawn alfa 1) ∷ [])
     (negsuc 99 ∷ pos 100 ∷ pos 0 ∷ [])
-unfolding first_of order takes settles_at_once queue orders_before balance gain floor credit_of participant_of accounts is_participant order_named posting_named settle mark_of open_day is_weekend days_from_civil weekday_number day_count days_of_years days_of_months withdraw balance_after chosen is_chosen resolve set_credit with_credit post total cut_off close_day with_state overdrawn
+unfolding computed
 close_with_overdraft_comes law = (close_with_overdraft_5, (close_with_overdraft_1, refl, (close_with_overdraft_2, refl, (close_with_overdraft_3, refl, (close_with_overdraft_4, refl, (close_with_overdraft_5, (close_with_overdraft_5_choice, close_with_overdraft_5_greatest law, refl), refl))))), refl)
 
 -- ---- first day
@@ -410,7 +419,7 @@ abbrev first_day_1_choice : Choice
 first_day_1_choice = (everything unopened)
 
 first_day_1_greatest : FindsGreatest → IsGreatest unopened first_day_1_choice
-unfolding first_of order takes settles_at_once queue orders_before balance gain floor credit_of participant_of accounts is_participant order_named posting_named settle mark_of open_day is_weekend days_from_civil weekday_number day_count days_of_years days_of_months withdraw balance_after chosen is_chosen resolve set_credit with_credit post total cut_off close_day with_state overdrawn
+unfolding computed
 first_day_1_greatest law = law unopened first_day_1_choice All (record { le = tt }, (record { le = tt }, (record { le = tt }, tt)))
 
 abbrev first_day_1 : Book
@@ -420,7 +429,7 @@ abbrev first_day_2_choice : Choice
 first_day_2_choice = (everything first_day_1)
 
 first_day_2_greatest : FindsGreatest → IsGreatest first_day_1 first_day_2_choice
-unfolding first_of order takes settles_at_once queue orders_before balance gain floor credit_of participant_of accounts is_participant order_named posting_named settle mark_of open_day is_weekend days_from_civil weekday_number day_count days_of_years days_of_months withdraw balance_after chosen is_chosen resolve set_credit with_credit post total cut_off close_day with_state overdrawn
+unfolding computed
 first_day_2_greatest law = law first_day_1 first_day_2_choice All (record { le = tt }, (record { le = tt }, (record { le = tt }, tt)))
 
 abbrev first_day_2 : Book
@@ -445,5 +454,5 @@ pub first_day_comes : FindsGreatest → ComesFrom unopened
     (CloseDay monday ∷ Resolve ∷ pays alfa beta 1 (codes "A-1") ∷ OpenDay monday ∷ pays alfa alfa 1 (codes "A-1") ∷ pays alfa zeta 1 (codes "A-1") ∷ pays zeta alfa 1 (codes "Z-1") ∷ [])
     (Err refusal.WrongPhase ∷ Err refusal.WrongPhase ∷ Err refusal.NotOpen ∷ Ok answer.Opened ∷ Err refusal.SameParty ∷ Err refusal.UnknownReceiver ∷ Err refusal.UnknownParticipant ∷ [])
     (pos 0 ∷ pos 0 ∷ pos 0 ∷ [])
-unfolding first_of order takes settles_at_once queue orders_before balance gain floor credit_of participant_of accounts is_participant order_named posting_named settle mark_of open_day is_weekend days_from_civil weekday_number day_count days_of_years days_of_months withdraw balance_after chosen is_chosen resolve set_credit with_credit post total cut_off close_day with_state overdrawn
+unfolding computed
 first_day_comes law = (first_day_7, (first_day_1, (first_day_1_choice, first_day_1_greatest law, refl), (first_day_2, (first_day_2_choice, first_day_2_greatest law, refl), (first_day_3, refl, (first_day_4, refl, (first_day_5, refl, (first_day_6, refl, (first_day_7, refl, refl))))))), refl)
