@@ -1,11 +1,6 @@
-mod Callers
-mod Determined
 mod Exchanged
 mod Finding
 mod Inputs
 mod Joining
-mod OwnReplies
-mod OwnRows
 mod Plainly
 mod Told
-mod ToldAgain

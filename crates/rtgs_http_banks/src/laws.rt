@@ -1,91 +1,16 @@
-//! Laws of the definitions. Each function does nothing: its contract is the law.
-ghost use Rattle.std.specs.Prelude.{◌≡◌, ◌≢◌, ◌++◌, false, true, ℕ, List, Ok};
+//! Laws of desks that serve. Each function does nothing: its contract is the law.
+ghost use Rattle.std.specs.Prelude.{◌≡◌, ◌++◌, false, List};
 ghost use Rattle.rtgs_book.specs.declared.Book.{Book};
 ghost use Rattle.rtgs_book.specs.declared.command.Command.{Command};
 ghost use Rattle.rtgs_book.specs.Outcome.{Reply};
-ghost use Rattle.rtgs_book.specs.Run.{Run, is_accepted};
-ghost use Rattle.rtgs_book.specs.Soundness.{IsSound};
-ghost use Rattle.rtgs_book.specs.Step.{Step};
 ghost use Rattle.rtgs_desk.specs.Holding.{Holds};
 ghost use Rattle.rtgs_desk.specs.Seen.{Seen};
-ghost use Rattle.rtgs_http_banks.specs.Again.{IsToldAgain};
-ghost use Rattle.rtgs_http_banks.specs.Alike.{EndAlike};
 ghost use Rattle.rtgs_http_banks.specs.Dealings.{Makes, Works};
-ghost use Rattle.rtgs_http_banks.specs.Exchange.{Deals};
-ghost use Rattle.rtgs_http_banks.specs.Own.{AgreeFor, IsSentBy};
-ghost use Rattle.rtgs_http_banks.specs.Sayings.{reading_message};
-ghost use Rattle.rtgs_http_replies.specs.Messages.{Message};
-ghost use Rattle.rtgs_http_requests.specs.Access.{IsReadingOf};
-ghost use Rattle.rtgs_http_requests.specs.Exchange.{AsksFor};
-ghost use Rattle.rtgs_http_requests.specs.declared.asked.Asked.{Asked};
-ghost use Rattle.rtgs_book.specs.declared.reading.Reading.{Reading};
-ghost use Rattle.rtgs_ledger.specs.Keys.{code_under};
-ghost use Rattle.rtgs_repeats.specs.Repeats.{answered_number};
 
 use crate::readings::stands;
-use rtgs_book::laws::step_is_determined;
 use rtgs_desk::Desk;
-use rtgs_http_feeds::laws::regions_are_determined;
-use rtgs_http_heads::laws::{heads_are_determined, keys_are_determined};
-use rtgs_http_requests::laws::{answers_are_determined, participants_ask_for_their_own};
 use rtgs_keeper::Keeper;
-use rtgs_repeats::laws::{acted_is_repeated, sessions_join};
-
-/// A participant reads its own rows alone: two books that agree in the day and in its record, its postings, the orders
-/// that it sent and the settled orders to it have the same reply to each of its readings.
-pub fn participants_read_their_own_rows()
-    ensures { (one other : Book) (code : List ℕ) (reading : Reading) → IsReadingOf code reading
-        → AgreeFor code one other → reading_message one reading ≡ reading_message other reading }
-{}
-
-/// So it is with a whole request: an input that bears a participant's key, and asks for a reading, has the same reply
-/// from two such books. Set aside are replies with the status 503.
-pub fn participants_are_told_of_their_own_rows<K: Keeper>()
-    ensures { (operator input code : List ℕ) (one other : Book) (first second : Seen K) (sent told : Message)
-        (reading : Reading) → AgreeFor code one other
-        → IsSentBy operator one code input → IsSentBy operator other code input
-        → AsksFor operator (code_under one) input (Ok (Asked.Read reading))
-        → Deals K.Keeper operator one input first sent → Deals K.Keeper operator other input second told
-        → sent.status ≢ 503 → told.status ≢ 503 → told ≡ sent }
-{
-    regions_are_determined();
-    heads_are_determined();
-    keys_are_determined();
-    answers_are_determined();
-    participants_ask_for_their_own();
-}
-
-/// A book, the operator's digest and an input have one reply and one book after it. Set aside are replies with the
-/// status 503: memory was wanting, the store failed, or a batch stopped for one of these.
-pub fn replies_are_determined<K: Keeper>()
-    ensures { (operator input : List ℕ) (old : Book) (one other : Seen K) (sent told : Message)
-        → Deals K.Keeper operator old input one sent → Deals K.Keeper operator old input other told
-        → sent.status ≢ 503 → told.status ≢ 503 → EndAlike K.Keeper one other sent told }
-{
-    step_is_determined();
-    answers_are_determined();
-}
-
-/// What comes again is told as a repeat, whatever came between: where an input that bears a participant's key asked for
-/// an order or a withdrawal, and it was accepted, the same input asks for it again, is told the number that it was
-/// answered, and changes nothing. Set aside are replies with the status 503.
-pub fn requests_that_come_again_are_told_so<K: Keeper>()
-    ensures { (operator input code : List ℕ) (old mid later : Book) (command : Command) (reply : Reply)
-        (commands : List Command) (replies : List Reply) (desk : Seen K) (told : Message) → IsSound old
-        → IsSentBy operator old code input → IsSentBy operator later code input
-        → AsksFor operator (code_under old) input (Ok (Asked.Submit command))
-        → is_accepted reply ≡ true → Step old command reply mid → Run mid commands replies later
-        → Deals K.Keeper operator later input desk told → told.status ≢ 503
-        → IsToldAgain K.Keeper later command (answered_number reply) desk told }
-{
-    regions_are_determined();
-    heads_are_determined();
-    keys_are_determined();
-    answers_are_determined();
-    participants_ask_for_their_own();
-    step_is_determined();
-    acted_is_repeated();
-}
+use rtgs_repeats::laws::sessions_join;
 
 /// A desk that was asked for nothing yet has done what it was asked for: its commands are none, and a session.
 pub fn a_desk_at_rest_works<K: Keeper>(desk: &Desk<K>)

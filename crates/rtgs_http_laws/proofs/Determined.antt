@@ -30,7 +30,7 @@ use Rattle.rtgs_http_requests.specs.declared.asked.Asked.TheVariants.{Submit, Ba
 use Rattle.rtgs_http_requests.specs.declared.http_fault.HttpFault.{HttpFault}
 use Rattle.rtgs_http_requests.specs.declared.http_fault.HttpFault.TheVariants.{OutOfMemory}
 use Rattle.rtgs_book.specs.declared.reading.Reading.{Reading}
-use Rattle.rtgs_http_banks.specs.Alike.{EndAlike}
+use Rattle.rtgs_http_laws.specs.Alike.{EndAlike}
 use Rattle.rtgs_http_banks.specs.Dealings.{ComesTo, Submits, SubmitsAll, Reads, IsReadOf}
 use Rattle.rtgs_http_banks.specs.Exchange.{Deals}
 use Rattle.rtgs_http_banks.specs.Sayings.{IsSaid, IsTold, fault_message, reply_message, reading_message}

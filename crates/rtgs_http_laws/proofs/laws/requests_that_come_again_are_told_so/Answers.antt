@@ -1,6 +1,6 @@
-use Rattle.rtgs_http_banks.proofs.Callers.{KeysOnce}
-use Rattle.rtgs_http_banks.proofs.ToldAgain.{told_again}
-use Rattle.rtgs_http_banks.proofs.laws.requests_that_come_again_are_told_so.Goals as goal
+use Rattle.rtgs_http_laws.proofs.Callers.{KeysOnce}
+use Rattle.rtgs_http_laws.proofs.ToldAgain.{told_again}
+use Rattle.rtgs_http_laws.proofs.laws.requests_that_come_again_are_told_so.Goals as goal
 
 pub returns : goal.returns
 returns g c =

@@ -1,6 +1,6 @@
-use Rattle.rtgs_http_banks.proofs.Callers.{KeysOnce}
-use Rattle.rtgs_http_banks.proofs.OwnReplies.{own_replies}
-use Rattle.rtgs_http_banks.proofs.laws.participants_are_told_of_their_own_rows.Goals as goal
+use Rattle.rtgs_http_laws.proofs.Callers.{KeysOnce}
+use Rattle.rtgs_http_laws.proofs.OwnReplies.{own_replies}
+use Rattle.rtgs_http_laws.proofs.laws.participants_are_told_of_their_own_rows.Goals as goal
 
 pub returns : goal.returns
 returns g c =

@@ -19,14 +19,14 @@ use Rattle.rtgs_http_requests.specs.declared.asked.Asked.TheVariants.{Submit, Ba
 use Rattle.rtgs_keeper.specs.declared.keeper.Keeper.{Ghosts}
 use Rattle.rtgs_ledger.specs.Keys.{code_under}
 use Rattle.rtgs_repeats.specs.Repeats.{acts_once, answered_number, IsRepeat}
-use Rattle.rtgs_http_banks.specs.Again.{IsToldAgain}
+use Rattle.rtgs_http_laws.specs.Again.{IsToldAgain}
 use Rattle.rtgs_http_banks.specs.Dealings.{ComesTo, Submits}
 use Rattle.rtgs_http_banks.specs.Exchange.{Deals}
-use Rattle.rtgs_http_banks.specs.Own.{IsSentBy}
+use Rattle.rtgs_http_laws.specs.Own.{IsSentBy}
 use Rattle.rtgs_http_banks.specs.Sayings.{reply_message}
-use Rattle.rtgs_http_banks.proofs.Callers.{KeysOnce, asked_alike}
-use Rattle.rtgs_http_banks.proofs.Determined.{AsksOnce, StepsOnce, told_of, judged, wanting}
-use Rattle.rtgs_http_banks.proofs.OwnReplies.{AskOwn, own_asked, same_bearer}
+use Rattle.rtgs_http_laws.proofs.Callers.{KeysOnce, asked_alike}
+use Rattle.rtgs_http_laws.proofs.Determined.{AsksOnce, StepsOnce, told_of, judged, wanting}
+use Rattle.rtgs_http_laws.proofs.OwnReplies.{AskOwn, own_asked, same_bearer}
 
 -- what acted once is answered as a repeat
 abbrev pub ActsOnce : Type 0

@@ -1,5 +1,5 @@
-use Rattle.rtgs_http_banks.proofs.Determined.{determined}
-use Rattle.rtgs_http_banks.proofs.laws.replies_are_determined.Goals as goal
+use Rattle.rtgs_http_laws.proofs.Determined.{determined}
+use Rattle.rtgs_http_laws.proofs.laws.replies_are_determined.Goals as goal
 
 pub returns : goal.returns
 returns g c = λ operator input old one other sent told.

@@ -16,11 +16,11 @@ use Rattle.rtgs_keeper.specs.declared.keeper.Keeper.{Ghosts}
 use Rattle.rtgs_ledger.specs.Keys.{code_under}
 use Rattle.rtgs_http_banks.specs.Dealings.{ComesTo, Reads}
 use Rattle.rtgs_http_banks.specs.Exchange.{Deals}
-use Rattle.rtgs_http_banks.specs.Own.{AgreeFor, IsSentBy}
+use Rattle.rtgs_http_laws.specs.Own.{AgreeFor, IsSentBy}
 use Rattle.rtgs_http_banks.specs.Sayings.{reading_message}
-use Rattle.rtgs_http_banks.proofs.Callers.{KeysOnce, key_once, asked_alike}
-use Rattle.rtgs_http_banks.proofs.Determined.{AsksOnce, read_of, wanting}
-use Rattle.rtgs_http_banks.proofs.OwnRows.{own_rows}
+use Rattle.rtgs_http_laws.proofs.Callers.{KeysOnce, key_once, asked_alike}
+use Rattle.rtgs_http_laws.proofs.Determined.{AsksOnce, read_of, wanting}
+use Rattle.rtgs_http_laws.proofs.OwnRows.{own_rows}
 
 -- the key that an input bears is one participant's in two books
 pub same_bearer : KeysOnce → (operator input code : List ℕ) (one other : Book) → IsSentBy operator one code input

@@ -1,0 +1,5 @@
+mod Callers
+mod Determined
+mod OwnReplies
+mod OwnRows
+mod ToldAgain
