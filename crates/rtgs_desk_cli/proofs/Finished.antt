@@ -10,9 +10,9 @@ use Rattle.rtgs_book.specs.declared.refusal.Refusal.{Refusal}
 use Rattle.rtgs_desk.specs.Seen.{Seen}
 use Rattle.rtgs_desk_lines.specs.Texts.{Prints}
 use Rattle.rtgs_desk_lines.specs.declared.printed.Printed.{Printed}
-use Rattle.rtgs_exchange.specs.Batches.{StopsAfter}
-use Rattle.rtgs_exchange.specs.declared.batch_result.RowReply.{RowReply}
-use Rattle.rtgs_exchange.specs.declared.order_row.OrderRow.{OrderRow}
+use Rattle.rtgs_batches.specs.Batches.{StopsAfter}
+use Rattle.rtgs_order_files.specs.declared.batch_result.RowReply.{RowReply}
+use Rattle.rtgs_order_files.specs.declared.order_row.OrderRow.{OrderRow}
 use Rattle.rtgs_book_file.specs.OverFile.{OverFile}
 use Rattle.rtgs_desk_cli.specs.Did.{IsIdle, IsRead, IsSent, IsServed, IsSubmitted}
 use Rattle.rtgs_desk_cli.specs.Runs.{AreReadFrom, IsClosed, IsImported, IsFile, TakesAt, server_text, stop_of_desk}

@@ -6,9 +6,9 @@ use Rattle.std.specs.declared.io.Error.{Error}
 use Rattle.rtgs_book.specs.declared.refusal.Refusal.TheVariants.{OutOfMemory}
 use Rattle.rtgs_desk_lines.specs.declared.failure.Failure.{Failure}
 use Rattle.rtgs_desk_lines.specs.declared.failure.Failure.TheVariants.{Refused, Orders}
-use Rattle.rtgs_exchange.specs.OrderFile.{IsOrderFile, IsFaultOf}
-use Rattle.rtgs_exchange.specs.declared.batch_fault.BatchFault.{BatchFault}
-use Rattle.rtgs_exchange.specs.declared.order_row.OrderRow.{OrderRow}
+use Rattle.rtgs_order_files.specs.OrderFile.{IsOrderFile, IsFaultOf}
+use Rattle.rtgs_order_files.specs.declared.batch_fault.BatchFault.{BatchFault}
+use Rattle.rtgs_order_files.specs.declared.order_row.OrderRow.{OrderRow}
 use Rattle.rtgs_desk_cli.specs.Causes.{failure_of_reading, IsTaken, AreRowsOf, RefusesRows}
 
 module _ {V : Type 0} (bytes_of : V → List ℕ) where

@@ -13,10 +13,10 @@ use Rattle.rtgs_desk_texts.specs.Written.{Writes, statement_wanted}
 use Rattle.rtgs_http_banks.specs.Dealings.{Makes, Stands}
 use Rattle.rtgs_http_server.specs.Requests.{AreAsked}
 use Rattle.rtgs_book_file.specs.OverFile.{OverFile}
-use Rattle.rtgs_exchange.specs.Batches.{orders_of, replies_of, with_stop}
-use Rattle.rtgs_exchange.specs.Sent.{Sent}
-use Rattle.rtgs_exchange.specs.declared.batch_result.RowReply.{RowReply}
-use Rattle.rtgs_exchange.specs.declared.order_row.OrderRow.{OrderRow}
+use Rattle.rtgs_batches.specs.Batches.{orders_of, replies_of, with_stop}
+use Rattle.rtgs_batches.specs.Sent.{Sent}
+use Rattle.rtgs_order_files.specs.declared.batch_result.RowReply.{RowReply}
+use Rattle.rtgs_order_files.specs.declared.order_row.OrderRow.{OrderRow}
 use Rattle.rtgs_statements.specs.declared.book_text_fault.BookTextFault.{BookTextFault}
 
 -- what rows that were submitted make of a book that the desk over the file held, and what a stop then leaves

@@ -16,10 +16,10 @@ use Rattle.rtgs_book.specs.declared.refusal.Refusal.TheVariants.{OutOfMemory, Fa
 use Rattle.rtgs_book.specs.declared.refusal.Refusal.TheVariants.{UnknownParticipant}
 use Rattle.rtgs_desk.specs.Replies.{answers_its_kind}
 use Rattle.rtgs_desk.specs.Seen.{Seen}
-use Rattle.rtgs_exchange.specs.Batches.{StopsAfter}
-use Rattle.rtgs_exchange.specs.Results.{results_text}
-use Rattle.rtgs_exchange.specs.declared.batch_result.RowReply.{RowReply}
-use Rattle.rtgs_exchange.specs.declared.order_row.OrderRow.{OrderRow}
+use Rattle.rtgs_batches.specs.Batches.{StopsAfter}
+use Rattle.rtgs_order_files.specs.Results.{results_text}
+use Rattle.rtgs_order_files.specs.declared.batch_result.RowReply.{RowReply}
+use Rattle.rtgs_order_files.specs.declared.order_row.OrderRow.{OrderRow}
 use Rattle.rtgs_statements.specs.Reads.{LeavesLines}
 use Rattle.rtgs_statements.specs.declared.book_text_fault.BookTextFault.{BookTextFault}
 use Rattle.rtgs_statements.specs.declared.book_text_fault.BookTextFault.TheVariants as text

@@ -4,17 +4,18 @@ ghost use Rattle.rtgs_book.specs.declared.Book.{Book};
 ghost use Rattle.rtgs_book.specs.declared.Refusal.{Refusal};
 ghost use Rattle.rtgs_desk.specs.Holding.{Holds};
 ghost use Rattle.rtgs_desk_lines.specs.Texts.{Prints};
-ghost use Rattle.rtgs_exchange.specs.Batches.{StopsAfter};
-ghost use Rattle.rtgs_exchange.specs.OrderFile.{IsOrderFile, IsFaultOf};
-ghost use Rattle.rtgs_exchange.specs.Results.{results_text};
-ghost use Rattle.rtgs_exchange.specs.Sent.{Sent};
-ghost use Rattle.rtgs_exchange.specs.declared.BatchFault.{BatchFault};
+ghost use Rattle.rtgs_batches.specs.Batches.{StopsAfter};
+ghost use Rattle.rtgs_order_files.specs.OrderFile.{IsOrderFile, IsFaultOf};
+ghost use Rattle.rtgs_order_files.specs.Results.{results_text};
+ghost use Rattle.rtgs_batches.specs.Sent.{Sent};
+ghost use Rattle.rtgs_order_files.specs.declared.BatchFault.{BatchFault};
 
+use rtgs_batches::submit_batch;
 use rtgs_desk::Desk;
 use rtgs_desk_lines::{Failure, Printed};
-use rtgs_exchange::{BatchResult, OrderRow, read_orders, submit_batch, write_results};
 use rtgs_keeper::Keeper;
 use rtgs_money::Code;
+use rtgs_order_files::{BatchResult, OrderRow, read_orders, write_results};
 use std::alloc::Global;
 use std::io::Write;
 

@@ -4,7 +4,7 @@ ghost use Rattle.rtgs_desk_cli.specs.Causes.{failure_of_reading, IsTaken};
 
 use rtgs_book::Refusal;
 use rtgs_desk_lines::Failure;
-use rtgs_exchange::MOST_BYTES;
+use rtgs_order_files::MOST_BYTES;
 use std::fs::File;
 use std::io;
 use std::io::{ErrorKind, Read};

@@ -9,9 +9,9 @@ use Rattle.rtgs_book.specs.declared.refusal.Refusal.{Refusal}
 use Rattle.rtgs_book.specs.declared.refusal.Refusal.TheVariants as refusal
 use Rattle.rtgs_book.specs.declared.fault.Fault.{Fault}
 use Rattle.rtgs_book.specs.declared.fault.Fault.TheVariants as fault
-use Rattle.rtgs_exchange.specs.BatchFaults.{batch_kind_of}
-use Rattle.rtgs_exchange.specs.declared.batch_fault.BatchFault.{BatchFault}
-use Rattle.rtgs_exchange.specs.declared.batch_fault.BatchFault.TheVariants as batch
+use Rattle.rtgs_order_files.specs.BatchFaults.{batch_kind_of}
+use Rattle.rtgs_order_files.specs.declared.batch_fault.BatchFault.{BatchFault}
+use Rattle.rtgs_order_files.specs.declared.batch_fault.BatchFault.TheVariants as batch
 use Rattle.rtgs_desk_lines.specs.declared.failure.Failure.{Failure}
 use Rattle.rtgs_desk_lines.specs.declared.failure.Failure.TheVariants.{Form, Refused, Opening, InUse, FileExists}
 use Rattle.rtgs_desk_lines.specs.declared.failure.Failure.TheVariants.{Orders, OrdersTooLong, NoOrders, NoListen}

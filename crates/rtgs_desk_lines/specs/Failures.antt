@@ -13,9 +13,9 @@ use Rattle.rtgs_book.specs.declared.fault.Fault.TheVariants as fault
 use Rattle.rtgs_desk_lines.specs.declared.failure.Failure.{Failure}
 use Rattle.rtgs_desk_lines.specs.declared.failure.Failure.TheVariants.{Form, Refused, Opening, InUse, FileExists}
 use Rattle.rtgs_desk_lines.specs.declared.failure.Failure.TheVariants.{Orders, OrdersTooLong, NoOrders, NoListen}
-use Rattle.rtgs_exchange.specs.BatchFaults.{batch_kind_of}
-use Rattle.rtgs_exchange.specs.declared.batch_fault.BatchFault.{BatchFault}
-use Rattle.rtgs_exchange.specs.declared.batch_fault.BatchFault.TheVariants.{BadRow}
+use Rattle.rtgs_order_files.specs.BatchFaults.{batch_kind_of}
+use Rattle.rtgs_order_files.specs.declared.batch_fault.BatchFault.{BatchFault}
+use Rattle.rtgs_order_files.specs.declared.batch_fault.BatchFault.TheVariants.{BadRow}
 
 abbrev pub failure_kind_of : Failure → RefusalKind
 failure_kind_of (Form form) = lexical_kind_of form

@@ -7,8 +7,8 @@ ghost use Rattle.rtgs_desk_lines.specs.Told.{IsTold};
 
 use crate::line::{Line, ROOM};
 use rtgs_book::{Fault, Refusal};
-use rtgs_exchange::BatchFault;
 use rtgs_money::Lexical;
+use rtgs_order_files::BatchFault;
 use rtgs_output::WriterFailed;
 use rtgs_refusals::RefusalKind;
 use rtgs_refusals::exit_status::{FAILED, REFUSED};

@@ -1,2 +1,4 @@
 pub mod Leaving
+mod NoFloat
+mod QueueValues
 pub mod Writing

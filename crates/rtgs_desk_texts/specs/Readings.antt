@@ -11,7 +11,8 @@ use Rattle.rtgs_book.specs.Lookup.{participant_of}
 use Rattle.rtgs_keeper.specs.declared.keeper.Keeper.{Ghosts}
 use Rattle.rtgs_desk.specs.Readings.{account_told, order_told, queue_told}
 use Rattle.rtgs_desk.specs.Seen.{Seen}
-use Rattle.rtgs_http_bodies.specs.Readings.{account_data, order_data, queue_data}
+use Rattle.rtgs_http_bodies.specs.Readings.{order_data, queue_data}
+use Rattle.rtgs_desk_texts.specs.Accounts.{account_data}
 use Rattle.rtgs_desk_texts.specs.Written.{IsLost, statement_wanted, report_wanted}
 
 -- what is told, as JSON without spaces, and a line feed

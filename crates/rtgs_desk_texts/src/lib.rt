@@ -2,8 +2,11 @@
 //! told of an account, a queue and an order.
 #![tactic(auto)]
 
+mod account;
+pub mod laws;
 mod readings;
 mod texts;
 
+pub use crate::account::{account_reply, account_text};
 pub use crate::readings::{report_text, statement_text, text_of};
 pub use crate::texts::{write_report, write_statement};

@@ -7,7 +7,7 @@ use Rattle.rtgs_keeper.specs.declared.keeper.Keeper.{Ghosts}
 use Rattle.rtgs_ledger.specs.Keys.{code_under}
 use Rattle.rtgs_desk.specs.Holding.{HasParticipants, Holds}
 use Rattle.rtgs_desk.specs.Seen.{Seen}
-use Rattle.rtgs_exchange.specs.Batches.{replies_of, with_stop}
+use Rattle.rtgs_batches.specs.Batches.{replies_of, with_stop}
 use Rattle.rtgs_http_bodies.specs.Refusals.{refused_message}
 use Rattle.rtgs_http_input.specs.Input.{Requests}
 use Rattle.rtgs_http_input.specs.Known.{KnowsOf}

@@ -1,6 +1,6 @@
 -- Faults that are told by number and name alone.
 use Rattle.std.proofs.Common.{◌≡◌, refl}
-use Rattle.rtgs_exchange.specs.declared.batch_fault.BatchFault.{BatchFault}
+use Rattle.rtgs_order_files.specs.declared.batch_fault.BatchFault.{BatchFault}
 use Rattle.rtgs_http_replies.specs.Kinds.{kind_message}
 use Rattle.rtgs_http_requests.specs.Faults.{http_kind_of}
 use Rattle.rtgs_http_requests.specs.declared.http_fault.HttpFault.{HttpFault}

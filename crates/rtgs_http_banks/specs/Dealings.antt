@@ -11,11 +11,11 @@ use Rattle.rtgs_book.specs.Session.{IsSession, open_command}
 use Rattle.rtgs_keeper.specs.declared.keeper.Keeper.{Ghosts}
 use Rattle.rtgs_desk.specs.Holding.{Holds, Acts}
 use Rattle.rtgs_desk.specs.Seen.{Seen}
-use Rattle.rtgs_exchange.specs.Batches.{StopsAfter, orders_of}
-use Rattle.rtgs_exchange.specs.Results.{results_text}
-use Rattle.rtgs_exchange.specs.Sent.{Sent}
-use Rattle.rtgs_exchange.specs.declared.batch_result.RowReply.{RowReply}
-use Rattle.rtgs_exchange.specs.declared.order_row.OrderRow.{OrderRow}
+use Rattle.rtgs_batches.specs.Batches.{StopsAfter, orders_of}
+use Rattle.rtgs_order_files.specs.Results.{results_text}
+use Rattle.rtgs_batches.specs.Sent.{Sent}
+use Rattle.rtgs_order_files.specs.declared.batch_result.RowReply.{RowReply}
+use Rattle.rtgs_order_files.specs.declared.order_row.OrderRow.{OrderRow}
 use Rattle.rtgs_http_bodies.specs.Refusals.{refused_message}
 use Rattle.rtgs_http_bodies.specs.Statuses.{batch_status}
 use Rattle.rtgs_http_replies.specs.Kinds.{no_memory}

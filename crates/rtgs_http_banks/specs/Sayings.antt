@@ -7,7 +7,7 @@ use Rattle.rtgs_book.specs.Outcome.{Reply}
 use Rattle.rtgs_desk.specs.Readings.{account_told, queue_told, order_told}
 use Rattle.rtgs_desk.specs.declared.reading.AccountReading.{AccountReading}
 use Rattle.rtgs_http_bodies.specs.Answers.{answer_data}
-use Rattle.rtgs_http_bodies.specs.Readings.{account_data, order_data, queue_data}
+use Rattle.rtgs_http_bodies.specs.Readings.{order_data, queue_data}
 use Rattle.rtgs_http_bodies.specs.Refusals.{refused_message, batch_refused_message}
 use Rattle.rtgs_http_replies.specs.Kinds.{kind_message, no_memory, answer_lost}
 use Rattle.rtgs_http_replies.specs.Messages.{Message, message, json_message}
@@ -17,6 +17,7 @@ use Rattle.rtgs_http_requests.specs.declared.http_fault.HttpFault.{HttpFault}
 use Rattle.rtgs_http_requests.specs.declared.http_fault.HttpFault.TheVariants.{Batch}
 use Rattle.rtgs_book.specs.declared.reading.Reading.{Reading}
 use Rattle.rtgs_book.specs.declared.reading.Reading.TheVariants as reading
+use Rattle.rtgs_desk_texts.specs.Accounts.{account_data}
 use Rattle.rtgs_desk_texts.specs.Written.{statement_wanted, report_wanted}
 
 -- What is sent is this, or that there was no memory for it. No command was given.

@@ -11,14 +11,15 @@ ghost use Rattle.rtgs_http_replies.specs.Messages.{Message};
 
 use crate::faults::failed_reply;
 use crate::readings::{read, stands};
+use rtgs_batches::submit_batch;
 use rtgs_book::{Answer, Command, Refusal};
 use rtgs_desk::Desk;
-use rtgs_exchange::{OrderRow, submit_batch};
 use rtgs_http_bodies::{answer_reply, batch_reply, refusal_reply};
 use rtgs_http_replies::Reply;
 use rtgs_http_requests::Asked;
 use rtgs_keeper::Keeper;
 use rtgs_money::Code;
+use rtgs_order_files::OrderRow;
 use std::alloc::{AllocError, Global};
 
 /// Does what is asked, and makes the reply. Lack of memory before the desk was given a command has one fixed reply, and

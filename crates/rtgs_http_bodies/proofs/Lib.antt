@@ -1,5 +1,4 @@
 mod InRange
 mod NoFloat
-mod QueueValues
 mod Spelled
 mod Undetailed

@@ -1,31 +1,11 @@
--- No account, queue or order tells a float.
-use Rattle.std.proofs.Common.{◌≡◌, ◌∙◌, ◌||◌, ◌+◌, ℕ, ℤ, pos, negsuc, Bool, List, [], ◌∷◌, Option, Some, None, false, refl}
+-- No queue or order tells a float.
+use Rattle.std.proofs.Common.{◌≡◌, ◌∙◌, ◌||◌, ◌+◌, ℕ, Bool, List, [], ◌∷◌, false, refl}
 use Rattle.serde_json.specs.View.{items_of}
-use Rattle.serde_json.specs.Written.{has_float, items_have_float, members_have_float}
+use Rattle.serde_json.specs.Written.{has_float, items_have_float}
 use Rattle.rtgs_book.specs.declared.order.Order.{Order}
 use Rattle.rtgs_book.specs.declared.order_state.OrderState.{OrderState}
 use Rattle.rtgs_book.specs.declared.order_state.OrderState.TheVariants as state
-use Rattle.rtgs_desk.specs.declared.reading.AccountReading.{AccountReading}
-use Rattle.rtgs_http_bodies.specs.Readings.{account_members, account_with, order_data, order_in, queue_data, queued_from}
-use Rattle.rtgs_http_bodies.specs.Readings.{with_date}
-use Rattle.rtgs_http_replies.specs.Bodies.{signed}
-
-signed_has_no_float : (z : ℤ) → has_float (signed z) ≡ false
-signed_has_no_float (pos n) = refl
-signed_has_no_float (negsuc n) = refl
-
-members_have_no_float : (value : ℤ) (reading : AccountReading)
-    → members_have_float (account_members value reading) ≡ false
-members_have_no_float value reading = rw (signed_has_no_float value) refl
-
-dated_have_no_float : (date : Option ℕ) (value : ℤ) (reading : AccountReading)
-    → members_have_float (with_date date (account_members value reading)) ≡ false
-dated_have_no_float (Some date) value reading = members_have_no_float value reading
-dated_have_no_float None value reading = members_have_no_float value reading
-
-pub account_has_no_float : (value : ℤ) (reading : AccountReading) → has_float (account_with value reading) ≡ false
-account_has_no_float value reading =
-    rw (signed_has_no_float reading.balance, dated_have_no_float reading.day.date value reading) refl
+use Rattle.rtgs_http_bodies.specs.Readings.{order_data, order_in, queue_data, queued_from}
 
 in_state_has_no_float : (state : OrderState) (order : Order) → has_float (order_in state order) ≡ false
 in_state_has_no_float (state.Settled mark) order = refl

@@ -1,5 +1,5 @@
--- The values that the bodies of replies to readings spell. Keys stand in byte order.
-use Rattle.std.specs.Prelude.{ℕ, ℤ, ◌+◌, List, [], ◌∷◌, Option, Some, None, codes}
+-- The values that the bodies of replies on orders and queues spell. Keys stand in byte order.
+use Rattle.std.specs.Prelude.{ℕ, ◌+◌, List, [], ◌∷◌, codes}
 use Rattle.serde_json.specs.Data.{Data, string, array, object, Members, member, no_members}
 use Rattle.serde_json.specs.View.{items_of}
 use Rattle.rtgs_money.specs.Date.{date_text}
@@ -9,15 +9,7 @@ use Rattle.rtgs_book.specs.declared.order_state.OrderState.TheVariants as state
 use Rattle.rtgs_book.specs.declared.standing.Standing.{Standing}
 use Rattle.rtgs_book.specs.declared.standing.Standing.TheVariants as standing
 use Rattle.rtgs_book.specs.Standings.{word_of}
-use Rattle.rtgs_book.specs.declared.phase.Phase.{Phase}
-use Rattle.rtgs_book.specs.declared.phase.Phase.TheVariants as phase
-use Rattle.rtgs_desk.specs.declared.reading.AccountReading.{AccountReading}
-use Rattle.rtgs_http_replies.specs.Bodies.{whole, signed}
-
-abbrev pub phase_name : Phase → List ℕ
-phase_name phase.Closed = codes "CLOSED"
-phase_name phase.Open = codes "OPEN"
-phase_name phase.CutOff = codes "CUTOFF"
+use Rattle.rtgs_http_replies.specs.Bodies.{whole}
 
 -- an order's members from its number on; it stands so
 abbrev pub order_members : Order → Standing → Members
@@ -45,27 +37,6 @@ order_in state.Rejected order = unsettled_order order standing.Rejected
 -- what its sender is told of an order; its mark where it has settled
 abbrev pub order_data : Order → Data
 order_data order = order_in order.state order
-
--- an account's members from its name on; the orders of its queue pay so much together
-abbrev pub account_members : ℤ → AccountReading → Members
-account_members value reading = member (codes "name") (string reading.participant.name)
-    (member (codes "phase") (string (phase_name reading.day.phase)) (member (codes "queued") (whole reading.queued)
-    (member (codes "queued_value") (signed value) no_members)))
-
--- the date of the day, once there was one, before the other members
-abbrev pub with_date : Option ℕ → Members → Members
-with_date (Some date) members = member (codes "date") (string (date_text date)) members
-with_date None members = members
-
--- an account whose queue pays so much
-abbrev pub account_with : ℤ → AccountReading → Data
-account_with value reading = object (member (codes "balance") (signed reading.balance)
-    (member (codes "code") (string reading.participant.code) (member (codes "credit") (whole reading.participant.credit)
-    (with_date reading.day.date (account_members value reading)))))
-
--- what a participant is told of its account
-abbrev pub account_data : AccountReading → Data
-account_data reading = account_with reading.queued_value reading
 
 -- an order at this place of its queue
 abbrev pub queued_data : ℕ → Order → Data

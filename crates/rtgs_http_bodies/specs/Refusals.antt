@@ -6,9 +6,9 @@ use Rattle.rtgs_refusals.specs.declared.refusal_kind.RefusalKind.TheVariants as 
 use Rattle.rtgs_book.specs.Refusals.{refusal_kind_of}
 use Rattle.rtgs_book.specs.declared.refusal.Refusal.{Refusal}
 use Rattle.rtgs_book.specs.declared.refusal.Refusal.TheVariants.{Overdrawn}
-use Rattle.rtgs_exchange.specs.BatchFaults.{batch_kind_of}
-use Rattle.rtgs_exchange.specs.declared.batch_fault.BatchFault.{BatchFault}
-use Rattle.rtgs_exchange.specs.declared.batch_fault.BatchFault.TheVariants.{BadRow}
+use Rattle.rtgs_order_files.specs.BatchFaults.{batch_kind_of}
+use Rattle.rtgs_order_files.specs.declared.batch_fault.BatchFault.{BatchFault}
+use Rattle.rtgs_order_files.specs.declared.batch_fault.BatchFault.TheVariants.{BadRow}
 use Rattle.rtgs_http_replies.specs.Bodies.{whole}
 use Rattle.rtgs_http_replies.specs.Kinds.{kind_status, kind_data}
 use Rattle.rtgs_http_replies.specs.Messages.{Message, json_message}

@@ -1,24 +1,11 @@
 //! What the bodies of replies look like, as laws over the definitions.
-ghost use Rattle.std.specs.Prelude.{◌≡◌, ℕ, List, Ok, FitsSigned};
-ghost use Rattle.std.specs.Int.{w64};
+ghost use Rattle.std.specs.Prelude.{◌≡◌};
 ghost use Rattle.serde_json.specs.Written.{compact_text};
 ghost use Rattle.rtgs_book.specs.declared.answer.Answer.{Answer};
-ghost use Rattle.rtgs_book.specs.declared.book.Book.{Book};
-ghost use Rattle.rtgs_book.specs.Ranges.{Fits};
-ghost use Rattle.rtgs_book.specs.Soundness.{IsSound};
-ghost use Rattle.rtgs_desk.specs.Readings.{account_told};
-ghost use Rattle.rtgs_desk.specs.declared.reading.AccountReading.{AccountReading};
 ghost use Rattle.rtgs_http_bodies.specs.Answers.{answer_data};
 ghost use Rattle.rtgs_http_bodies.specs.Spellings.{answer_text};
 
 /// The body of each answer, byte for byte.
 pub fn answers_are_spelled()
     ensures { (answer : Answer) → compact_text (answer_data answer) ≡ answer_text answer }
-{}
-
-/// What the orders of a queue pay together is far below 2^63 cents, in each account of a sound book whose amounts are
-/// in their ranges.
-pub fn queued_values_fit()
-    ensures { (book : Book) (code : List ℕ) (reading : AccountReading) → IsSound book → Fits book
-        → account_told book code ≡ Ok reading → FitsSigned w64 reading.queued_value }
 {}

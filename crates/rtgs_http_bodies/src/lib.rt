@@ -2,7 +2,6 @@
 //! reports.
 #![tactic(auto)]
 
-mod account;
 mod answered;
 mod batch;
 pub mod laws;
@@ -11,7 +10,6 @@ mod queue;
 mod refused;
 mod text;
 
-pub use crate::account::{account_reply, account_text};
 pub use crate::answered::answer_reply;
 pub use crate::batch::batch_reply;
 pub use crate::order::{order_reply, order_text};

@@ -9,9 +9,9 @@ ghost use Rattle.rtgs_http_replies.specs.Kinds.{kind_status, kind_message};
 
 use http::StatusCode;
 use rtgs_book::Refusal;
-use rtgs_exchange::BatchFault;
 use rtgs_http_replies::Reply;
 use rtgs_money::Code;
+use rtgs_order_files::BatchFault;
 use rtgs_refusals::RefusalKind;
 use serde_json::{Value, json};
 use std::alloc::{AllocError, Global};

@@ -14,11 +14,11 @@ use Rattle.rtgs_keeper.specs.declared.keeper.Keeper.{Ghosts}
 use Rattle.rtgs_ledger.specs.Keys.{code_under}
 use Rattle.rtgs_desk.specs.Holding.{Holds}
 use Rattle.rtgs_desk.specs.Seen.{Seen}
-use Rattle.rtgs_exchange.specs.Batches.{orders_of, reply_of, replies_of, StopsAfter}
-use Rattle.rtgs_exchange.specs.Results.{results_text}
-use Rattle.rtgs_exchange.specs.declared.batch_result.RowReply.{RowReply}
-use Rattle.rtgs_exchange.specs.declared.batch_result.RowReply.TheVariants.{Settled, Queued, Repeated, Refused}
-use Rattle.rtgs_exchange.specs.declared.order_row.OrderRow.{OrderRow}
+use Rattle.rtgs_batches.specs.Batches.{orders_of, reply_of, replies_of, StopsAfter}
+use Rattle.rtgs_order_files.specs.Results.{results_text}
+use Rattle.rtgs_order_files.specs.declared.batch_result.RowReply.{RowReply}
+use Rattle.rtgs_order_files.specs.declared.batch_result.RowReply.TheVariants.{Settled, Queued, Repeated, Refused}
+use Rattle.rtgs_order_files.specs.declared.order_row.OrderRow.{OrderRow}
 use Rattle.rtgs_http_bodies.specs.Statuses.{batch_status}
 use Rattle.rtgs_http_replies.specs.Messages.{Message, message}
 use Rattle.rtgs_http_replies.specs.declared.content_type.ContentType.TheVariants.{Csv}

@@ -4,12 +4,12 @@ use Rattle.std.proofs.Common.{◌∙◌, arith, Global}
 use Rattle.std.specs.Prelude.{◌≢◌}
 use Rattle.std.specs.Global.{Vec}
 use denote.RawPtr.{null_ptr}
-use Rattle.rtgs_exchange.specs.OrderFile.{BeginWith, Fields, HasUnderHeader, IsFaultOf, IsNoRow, IsOrderFile, IsRow}
-use Rattle.rtgs_exchange.specs.OrderFile.{fields_of_row}
-use Rattle.rtgs_exchange.specs.declared.batch_fault.BatchFault.{BatchFault}
-use Rattle.rtgs_exchange.specs.declared.batch_fault.BatchFault.TheVariants as batch
-use Rattle.rtgs_exchange.specs.declared.limits.TheConstants.{MOST_ROWS}
-use Rattle.rtgs_exchange.specs.declared.order_row.OrderRow.{OrderRow}
+use Rattle.rtgs_order_files.specs.OrderFile.{BeginWith, Fields, HasUnderHeader, IsFaultOf, IsNoRow, IsOrderFile, IsRow}
+use Rattle.rtgs_order_files.specs.OrderFile.{fields_of_row}
+use Rattle.rtgs_order_files.specs.declared.batch_fault.BatchFault.{BatchFault}
+use Rattle.rtgs_order_files.specs.declared.batch_fault.BatchFault.TheVariants as batch
+use Rattle.rtgs_order_files.specs.declared.limits.TheConstants.{MOST_ROWS}
+use Rattle.rtgs_order_files.specs.declared.order_row.OrderRow.{OrderRow}
 use Rattle.rtgs_http_requests.specs.Meaning.{Answer, AsksBatch}
 use Rattle.rtgs_http_requests.specs.Steps.{HasAnswer}
 use Rattle.rtgs_http_requests.specs.declared.asked.Asked.TheVariants.{Batch}

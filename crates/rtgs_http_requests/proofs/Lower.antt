@@ -3,10 +3,10 @@ use Rattle.std.proofs.Common.{◌≡◌, ℕ, List, Option}
 use Rattle.std.specs.Prelude.{◌≢◌}
 use Rattle.httparse.specs.Grammar.{RequestHead}
 use Rattle.rtgs_money.specs.Date.{IsBusinessDate, date_text}
-use Rattle.rtgs_exchange.specs.OrderFile.{IsOrderFile, IsFaultOf}
-use Rattle.rtgs_exchange.specs.declared.batch_fault.BatchFault.{BatchFault}
-use Rattle.rtgs_exchange.specs.declared.batch_fault.BatchFault.TheVariants.{OutOfMemory}
-use Rattle.rtgs_exchange.specs.declared.order_row.OrderRow.{OrderRow}
+use Rattle.rtgs_order_files.specs.OrderFile.{IsOrderFile, IsFaultOf}
+use Rattle.rtgs_order_files.specs.declared.batch_fault.BatchFault.{BatchFault}
+use Rattle.rtgs_order_files.specs.declared.batch_fault.BatchFault.TheVariants.{OutOfMemory}
+use Rattle.rtgs_order_files.specs.declared.order_row.OrderRow.{OrderRow}
 use Rattle.rtgs_http_feeds.specs.Region.{StartsWith, IsTooLong, IsOpen}
 use Rattle.rtgs_http_heads.specs.Fields.{Fields, HasKey}
 use Rattle.rtgs_http_heads.specs.Heads.{IsGoodHead}

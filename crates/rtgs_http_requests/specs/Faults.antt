@@ -2,9 +2,9 @@
 use Rattle.rtgs_refusals.specs.declared.refusal_kind.RefusalKind.{RefusalKind}
 use Rattle.rtgs_refusals.specs.declared.refusal_kind.RefusalKind.TheVariants as kind
 use Rattle.rtgs_money.specs.Lexical.{lexical_kind_of}
-use Rattle.rtgs_exchange.specs.BatchFaults.{batch_kind_of}
-use Rattle.rtgs_exchange.specs.declared.batch_fault.BatchFault.{BatchFault}
-use Rattle.rtgs_exchange.specs.declared.batch_fault.BatchFault.TheVariants as batch
+use Rattle.rtgs_order_files.specs.BatchFaults.{batch_kind_of}
+use Rattle.rtgs_order_files.specs.declared.batch_fault.BatchFault.{BatchFault}
+use Rattle.rtgs_order_files.specs.declared.batch_fault.BatchFault.TheVariants as batch
 use Rattle.rtgs_http_heads.specs.declared.head_fault.HeadFault.{HeadFault}
 use Rattle.rtgs_http_heads.specs.declared.head_fault.HeadFault.TheVariants as head
 use Rattle.rtgs_http_requests.specs.declared.http_fault.HttpFault.{HttpFault}

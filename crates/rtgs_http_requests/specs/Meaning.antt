@@ -5,8 +5,8 @@ use Rattle.rtgs_money.specs.Date.{IsBusinessDate, date_text}
 use Rattle.rtgs_money.specs.Forms.{IsCode, IsReference}
 use Rattle.rtgs_money.specs.declared.lexical.Lexical.TheVariants.{BadCode, BadReference, BadAmount, BadDate}
 use Rattle.rtgs_book.specs.declared.command.Command.TheVariants as command
-use Rattle.rtgs_exchange.specs.OrderFile.{IsOrderFile, IsFaultOf}
-use Rattle.rtgs_exchange.specs.declared.batch_fault.BatchFault.TheVariants as batch
+use Rattle.rtgs_order_files.specs.OrderFile.{IsOrderFile, IsFaultOf}
+use Rattle.rtgs_order_files.specs.declared.batch_fault.BatchFault.TheVariants as batch
 use Rattle.rtgs_http_heads.specs.declared.bank_route.BankRoute.{BankRoute}
 use Rattle.rtgs_http_heads.specs.declared.bank_route.BankRoute.TheVariants.{SendOrder, WithdrawOrder, SendBatch}
 use Rattle.rtgs_http_heads.specs.declared.bank_route.BankRoute.TheVariants.{ReadOrder, ReadAccount, ReadQueue}

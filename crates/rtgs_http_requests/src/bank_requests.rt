@@ -8,9 +8,9 @@ use crate::contents::{is_nothing, order_of};
 use crate::http_fault::HttpFault;
 use crate::spelling::{spell_date, spell_reference};
 use rtgs_book::{Command, Reading};
-use rtgs_exchange::read_orders;
 use rtgs_http_heads::BankRoute;
 use rtgs_money::{Amount, Code, Lexical, Reference};
+use rtgs_order_files::read_orders;
 use std::alloc::Global;
 
 /// What a participant asks for under a route.

@@ -2,9 +2,9 @@
 ghost use Rattle.std.specs.Prelude.{◌≡◌};
 ghost use Rattle.rtgs_http_requests.specs.Faults.{http_kind_of};
 
-use rtgs_exchange::BatchFault;
 use rtgs_http_heads::HeadFault;
 use rtgs_money::Lexical;
+use rtgs_order_files::BatchFault;
 use rtgs_refusals::RefusalKind;
 
 /// Why a request asks for nothing.

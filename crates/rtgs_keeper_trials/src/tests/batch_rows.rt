@@ -1,9 +1,10 @@
 //! Orders of ALFA in one batch, and what is replied to them.
 use super::setting::{Reply, Row, code};
+use rtgs_batches::submit_batch;
 use rtgs_book::{Answer, Command, Known, Refusal};
 use rtgs_desk::Desk;
-use rtgs_exchange::{BatchResult, OrderRow, RowReply, submit_batch};
 use rtgs_keeper::Keeper;
+use rtgs_order_files::{BatchResult, OrderRow, RowReply};
 use std::alloc::Global;
 use std::test::Fail;
 

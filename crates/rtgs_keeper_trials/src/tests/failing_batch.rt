@@ -5,9 +5,9 @@ use super::failing_keeper::{FailingKeeper, Trouble};
 use super::setting::{code, desk_over, reference};
 use rtgs_book::Refusal;
 use rtgs_desk::Desk;
-use rtgs_exchange::{BatchResult, OrderRow, write_results};
 use rtgs_keeper::{Keeper, MemoryKeeper};
 use rtgs_money::Amount;
+use rtgs_order_files::{BatchResult, OrderRow, write_results};
 use std::alloc::Global;
 use std::test::Fail;
 

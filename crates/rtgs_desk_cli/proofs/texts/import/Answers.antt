@@ -1,6 +1,6 @@
 use Rattle.std.proofs.Common.{refl, inl, inr, string_bytes}
 use Rattle.std.proofs.lemmas.Result.{IfOk-weaker, IfErr-weaker}
-use Rattle.rtgs_exchange.specs.Results.{results_text}
+use Rattle.rtgs_order_files.specs.Results.{results_text}
 use Rattle.rtgs_desk_cli.specs.Runs.{IsNotSent}
 use Rattle.rtgs_desk_cli.proofs.Finished.{imported_with, idle_for, either_way, not_done, refused_with}
 use Rattle.rtgs_desk_cli.proofs.Finished.{when_refused, closed_as, refused_of}

@@ -4,7 +4,7 @@ use Rattle.std.proofs.lemmas.Result.{IfOk-weaker}
 use Rattle.rtgs_book.specs.declared.refusal.Refusal.TheVariants.{OutOfMemory}
 use Rattle.rtgs_desk_lines.specs.Texts.{Prints}
 use Rattle.rtgs_desk_lines.specs.declared.failure.Failure.TheVariants.{Refused}
-use Rattle.rtgs_exchange.specs.Results.{results_text}
+use Rattle.rtgs_order_files.specs.Results.{results_text}
 use Rattle.rtgs_desk_cli.proofs.Finished.{refused_as}
 use Rattle.rtgs_desk_cli.proofs.texts.print_sent.Goals as goal
 

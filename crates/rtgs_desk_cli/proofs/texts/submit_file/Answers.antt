@@ -3,8 +3,8 @@ use Rattle.std.specs.Result.{IfErr}
 use Rattle.std.proofs.lemmas.Result.{IfOk-weaker}
 use Rattle.rtgs_book.specs.declared.refusal.Refusal.TheVariants.{OutOfMemory}
 use Rattle.rtgs_desk_lines.specs.declared.failure.Failure.TheVariants.{Refused, Orders}
-use Rattle.rtgs_exchange.specs.OrderFile.{IsFaultOf}
-use Rattle.rtgs_exchange.specs.declared.batch_fault.BatchFault.{BatchFault}
+use Rattle.rtgs_order_files.specs.OrderFile.{IsFaultOf}
+use Rattle.rtgs_order_files.specs.declared.batch_fault.BatchFault.{BatchFault}
 use Rattle.rtgs_desk_cli.proofs.OrdersRead.{taken_refused}
 use Rattle.rtgs_desk_cli.proofs.texts.submit_file.Goals as goal
 

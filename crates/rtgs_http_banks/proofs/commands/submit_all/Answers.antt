@@ -1,5 +1,5 @@
 use Rattle.std.proofs.Common.{inr, ◌∙◌}
-use Rattle.rtgs_exchange.specs.Results.{results_text}
+use Rattle.rtgs_order_files.specs.Results.{results_text}
 use Rattle.rtgs_http_bodies.specs.Statuses.{batch_status}
 use Rattle.rtgs_http_replies.specs.Messages.{message}
 use Rattle.rtgs_http_replies.specs.declared.content_type.ContentType.TheVariants.{Csv}

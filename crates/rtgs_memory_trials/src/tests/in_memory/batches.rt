@@ -1,7 +1,7 @@
 //! Order files, and batches of orders.
 use super::super::scarce::setting::code;
 use super::super::scarce::{Call, InMemory, ORDERS, Outcome, Sends, for_each_refusal};
-use rtgs_exchange::{BatchFault, OrderRow, read_orders};
+use rtgs_order_files::{BatchFault, OrderRow, read_orders};
 use std::alloc::Global;
 use std::test::Fail;
 

@@ -2,7 +2,7 @@
 use super::super::scarce::setting::code;
 use super::super::scarce::{ORDERS, Sends, for_each_refusal};
 use super::over_sql::{BLOCKS, OverSql};
-use rtgs_exchange::read_orders;
+use rtgs_order_files::read_orders;
 use std::test::Fail;
 
 #[test]

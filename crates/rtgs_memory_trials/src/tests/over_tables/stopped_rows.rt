@@ -2,10 +2,11 @@
 use super::super::scarce::setting::{code, seen_of};
 use super::super::scarce::{Held, ORDERS, Store, in_a_process, is_limited, orders_desk, same};
 use super::over_sql::OverSql;
+use rtgs_batches::submit_batch;
 use rtgs_book::Refusal;
 use rtgs_desk::Desk;
-use rtgs_exchange::{BatchResult, OrderRow, read_orders, submit_batch, write_results};
 use rtgs_keeper::Keeper;
+use rtgs_order_files::{BatchResult, OrderRow, read_orders, write_results};
 use std::alloc::Global;
 use std::test::Fail;
 

@@ -2,11 +2,12 @@
 use super::call::{Call, Outcome};
 use super::setting::{desk_after, desk_over, opens, posts, seen_of};
 use super::store::Store;
+use rtgs_batches::submit_batch;
 use rtgs_book::Refusal;
 use rtgs_desk::Desk;
-use rtgs_exchange::{BatchResult, OrderRow, RowReply, submit_batch};
 use rtgs_keeper::Keeper;
 use rtgs_money::Code;
+use rtgs_order_files::{BatchResult, OrderRow, RowReply};
 use std::alloc::{AllocError, Global};
 use std::test::Fail;
 

@@ -1,5 +1,0 @@
-use Rattle.rtgs_exchange.proofs.ReaderSteps.{all_records}
-use Rattle.rtgs_exchange.proofs.laws.records_are_those_read.Goals as goal
-
-pub returns : goal.returns
-returns c = all_records

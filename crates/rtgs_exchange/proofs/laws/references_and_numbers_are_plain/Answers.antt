@@ -1,8 +1,0 @@
-use Rattle.rtgs_exchange.proofs.Plain.{plain_reference, plain_number}
-use Rattle.rtgs_exchange.proofs.laws.references_and_numbers_are_plain.Goals as goal
-
-pub returns-clause-reference : goal.returns-clause-reference
-returns-clause-reference c = plain_reference
-
-pub returns-clause-number : goal.returns-clause-number
-returns-clause-number c = plain_number

@@ -1,5 +1,0 @@
-use Rattle.rtgs_exchange.proofs.OrderFiles.{one_file}
-use Rattle.rtgs_exchange.proofs.laws.rows_are_determined.Goals as goal
-
-pub returns : goal.returns
-returns c = one_file

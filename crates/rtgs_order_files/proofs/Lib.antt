@@ -1,0 +1,5 @@
+mod Fields
+mod Lines
+mod OrderFiles
+mod Plain
+mod ReaderSteps

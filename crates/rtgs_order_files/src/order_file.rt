@@ -1,0 +1,105 @@
+//! Reading order files.
+ghost use Rattle.std.specs.Prelude.{◌≡◌, ◌≢◌, ◌↔◌, ◌⊎◌, ◌∷◌, List, Err, IsTrue, IfOk, IfErr, OnOk};
+ghost use Rattle.csv.specs.Records.{fields_of};
+ghost use Rattle.rtgs_order_files.specs.declared.batch_fault.BatchFault.{BatchFault};
+ghost use Rattle.rtgs_order_files.specs.declared.order_row.OrderRow.{OrderRow};
+ghost use Rattle.rtgs_order_files.specs.OrderFile.{Fields, header, records_of, AreRows, IsFaultOf, IsFaultOfRows};
+ghost use Rattle.rtgs_order_files.specs.OrderFile.{IsOrderFile};
+ghost use Rattle.rtgs_order_files.specs.Reading.{IsReading, left_of};
+
+use crate::batch_fault::BatchFault;
+use crate::limits::MOST_ROWS;
+use crate::order_row::{OrderRow, three_fields};
+use csv::{ByteRecord, ByteRecordsIntoIter, ReaderBuilder};
+use std::alloc::Global;
+
+/// The rows of an order file: CSV (RFC 4180) whose first record is `reference,to,amount`, and then 1 to `MOST_ROWS`
+/// records of a reference, a code and an amount in cents. A byte order mark at the start and empty lines are passed
+/// over. The faults come in this order: `BadHeader`, `BadCount` where there is no row, `BadRow` with the first bad row
+/// of the first `MOST_ROWS`, counted from 1, and `BadCount` where there are more. `OutOfMemory` stands for every error
+/// of the reader of the bytes.
+pub fn read_orders(alloc: Global, bytes: &[u8]) -> Result<Vec<OrderRow>, BatchFault>
+    ensures rows { IfOk result (λ rows. IsOrderFile bytes.now rows.items) }
+    ensures fault { IfErr result (λ fault. IsFaultOf bytes.now fault) }
+
+    // An order file gives its rows, and what is wrong with another file is named, but for lack of memory.
+    ensures taken { (rows : List OrderRow) → IsOrderFile bytes.now rows
+        → IfOk result (λ taken. taken.items ≡ rows) × IfErr result (λ fault. fault ≡ BatchFault.OutOfMemory) }
+    ensures refused { (fault : BatchFault) → IsFaultOf bytes.now fault → fault ≢ BatchFault.OutOfMemory
+        → (result ≡ Err fault) ⊎ (result ≡ Err BatchFault.OutOfMemory) }
+{
+    let mut records = records_of(alloc, bytes);
+    take_header(&mut records)?;
+    read_rows(alloc, records)
+}
+
+// The records of these bytes.
+fn records_of(alloc: Global, bytes: &[u8]) -> ByteRecordsIntoIter<&[u8]>
+    ensures reading { IsReading result }
+    ensures left { left_of result ≡ records_of bytes.now }
+{
+    ReaderBuilder::new()
+        .has_headers(false)
+        .flexible(true)
+        .from_reader(alloc, bytes)
+        .into_byte_records()
+}
+
+// Takes the header from the records.
+fn take_header(records: &mut ByteRecordsIntoIter<&[u8]>) -> Result<(), BatchFault>
+    requires { IsReading records.old }
+    ensures reading { OnOk result (IsReading records.new) }
+    ensures taken { OnOk result (left_of records.old ≡ header ∷ left_of records.new) }
+    ensures fault { IfErr result (λ fault. (fault ≡ BatchFault.OutOfMemory)
+        ⊎ ((fault ≡ BatchFault.BadHeader) × ((under : List Fields) → left_of records.old ≢ header ∷ under))) }
+{
+    let first = match records.next() {
+        Some(Ok(first)) => first,
+        Some(Err(error)) => return Err(BatchFault::of_reader(&error)),
+        None => return Err(BatchFault::BadHeader),
+    };
+    if !is_header(&first) {
+        return Err(BatchFault::BadHeader);
+    }
+    Ok(())
+}
+
+// The rows that the records under the header spell.
+fn read_rows(
+    alloc: Global,
+    records: ByteRecordsIntoIter<&[u8]>,
+) -> Result<Vec<OrderRow>, BatchFault>
+    requires { IsReading records }
+    ensures rows { IfOk result (λ rows. AreRows rows.items (left_of records.entry)) }
+    ensures fault { IfErr result (λ fault. IsFaultOfRows fault (left_of records.entry)) }
+{
+    let mut rows = Vec::new(alloc);
+    for record in records {
+        let record = match record {
+            Ok(record) => record,
+            Err(error) => return Err(BatchFault::of_reader(&error)),
+        };
+        if rows.len() == MOST_ROWS {
+            return Err(BatchFault::BadCount);
+        }
+        let Some(row) = OrderRow::read(&record) else {
+            let row = rows.len() as u64 + 1;
+            return Err(BatchFault::BadRow { row });
+        };
+        rows.push(row)?;
+    }
+    if rows.is_empty() {
+        return Err(BatchFault::BadCount);
+    }
+    Ok(rows)
+}
+
+// Whether these fields are the header of an order file.
+fn is_header(fields: &ByteRecord) -> bool
+    ensures { IsTrue result ↔ (fields_of fields.now ≡ header) }
+{
+    let Some((first, second, third)) = three_fields(fields) else {
+        return false;
+    };
+    first == b"reference".as_slice() && second == b"to".as_slice() && third == b"amount".as_slice()
+}

@@ -1,0 +1,61 @@
+//! Calls of a desk one after another are one session.
+ghost use Rattle.std.specs.Prelude.{◌≡◌, ◌≢◌, ◌∷◌, length, take, Err, IfOk};
+ghost use Rattle.rtgs_book.specs.declared.Book.{Book};
+ghost use Rattle.rtgs_book.specs.Session.{IsSession};
+ghost use Rattle.rtgs_desk.specs.Holding.{Holds};
+ghost use Rattle.rtgs_batches.specs.Batches.{orders_of, replies_of, with_stop};
+
+use super::super::setting::code;
+use super::{THREE_ROWS, open_desk, rows_of};
+use rtgs_batches::submit_batch;
+use rtgs_book::{Answer, Command, Refusal};
+use rtgs_desk::Desk;
+use rtgs_keeper::Keeper;
+use rtgs_money::Code;
+use rtgs_order_files::{BatchResult, OrderRow};
+use rtgs_repeats::laws::sessions_join;
+use std::alloc::{AllocError, Global};
+use std::test::Fail;
+
+// Submits a command and then a batch.
+fn submit_and_send<K: Keeper>(
+    alloc: Global,
+    desk: &mut Desk<K>,
+    command: Command,
+    sender: Code,
+    rows: &[OrderRow],
+) -> Result<(Result<Answer, Refusal>, BatchResult), AllocError>
+    ensures { IfOk result (λ (reply, batch). K.is_honest desk.new.keeper → (book : Book) → Holds K.Keeper desk.old book
+        → reply ≢ Err Refusal.StoreFault → (found : Book) → K.leaves desk.new.keeper found
+        → IsSession (record {
+          start = book;
+          commands = command
+              ∷ orders_of sender (take (length (with_stop (replies_of batch.replies.items) batch.stopped)) rows.now);
+          replies = reply ∷ with_stop (replies_of batch.replies.items) batch.stopped;
+          found = found;
+        })) }
+{
+    sessions_join();
+    desk.holds_a_sound_book();
+    let reply = desk.submit(command);
+    desk.holds_a_sound_book();
+    let batch = submit_batch(alloc, desk, sender, rows)?;
+    Ok((reply, batch))
+}
+
+#[test]
+fn a_command_and_a_batch_are_a_session(rt: HostRuntime) -> Result<(), Fail> {
+    let sender = code("ALFA")?;
+    let rows = rows_of(rt.alloc(), THREE_ROWS)?;
+    let mut desk = open_desk(rt.alloc())?;
+    let (reply, batch) = submit_and_send(
+        rt.alloc(),
+        &mut desk,
+        Command::Resolve,
+        sender,
+        rows.as_slice(),
+    )?;
+    assert_eq!(rt; reply, Ok(Answer::Nothing));
+    assert_eq!(rt; batch.replies.len(), 3);
+    Ok(())
+}
