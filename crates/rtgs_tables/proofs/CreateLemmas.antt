@@ -19,8 +19,7 @@ use Rattle.sqlite.specs.Listing.{understood}
 use Rattle.sqlite.specs.Effect.{Database}
 use Rattle.sqlite.specs.State.{State, mode_of, Writes, ExecutesInside}
 use Rattle.sqlite.proofs.Callers.{statement_of, runs_as}
-use Rattle.rtgs_rows.specs.Tables.{no_schema, with_desk, with_participant, with_posting, with_payment, desk_schema}
-use Rattle.rtgs_rows.specs.Tables.{desk_at, participant_at, posting_at, payment_at, mark_at}
+use Rattle.rtgs_rows.specs.Tables.{no_schema, desk_schema, desk_at}
 use Rattle.rtgs_rows.specs.Content.{tables_of, tables_for, Stands}
 use Rattle.rtgs_rows.specs.Rows.{day_row}
 use Rattle.rtgs_tables.specs.Building.{IsBuilt, Makes, IsBlank, first_content}
@@ -35,10 +34,8 @@ use Rattle.sqlite.specs.Held.{Held, state}
 use Rattle.rtgs_tables.proofs.Casts.{cast_null, cast_int}
 use Rattle.rtgs_tables.proofs.Steps.{IsPlainTable, inserts}
 use Rattle.rtgs_tables.proofs.StateLemmas.{desk_over, frame_but, framed}
-use Rattle.rtgs_tables.proofs.CreateTexts.{desk_plain, participant_plain, posting_plain, payment_plain, mark_plain}
-use Rattle.rtgs_tables.proofs.CreateTexts.{first_day_plain, desk_text, participant_text, posting_text, payment_text}
-use Rattle.rtgs_tables.proofs.CreateTexts.{mark_text, first_day_text, desk_is, participant_is, posting_is, payment_is}
-use Rattle.rtgs_tables.proofs.CreateTexts.{mark_is, first_day_is}
+use Rattle.rtgs_tables.specs.TableQueries.{desk_query}
+use Rattle.rtgs_tables.proofs.CreateTexts.{first_day_text, first_day_is, first_day_plain}
 
 -- a part that gave a value did not stop on the way
 went : {B E R : Type 0} {b : B} {Stops : E → Type 0} → ((stop : E) × Stops stop × (Ok b ≡ Err stop)) ⊎ R → R
@@ -108,76 +105,25 @@ pub builds : (was : Database) (schema next : Schema) (table : Table) (old new : 
 builds was schema next table old new text (Ok count) is it h = built was schema next table old new text count is it h
 builds was schema next table old new text (Err e) is it h = tt
 
-pub makes_desk : Makes desk_text no_schema (desk_at 0) with_desk
-unfolding with_desk
-makes_desk = record {
-  command = desk_is.0;
-  whole = desk_is.1;
-  plain = desk_plain;
-  defined = desk_is.2;
-  is = refl;
-  uncounted = refl;
-}
+abbrev desk_table : Table
+desk_table = desk_at desk_query.tree
 
-pub makes_participant : Makes participant_text with_desk (participant_at 0) with_participant
-unfolding with_desk with_participant
-makes_participant = record {
-  command = participant_is.0;
-  whole = participant_is.1;
-  plain = participant_plain;
-  defined = participant_is.2;
-  is = refl;
-  uncounted = refl;
-}
-
-pub makes_posting : Makes posting_text with_participant (posting_at 0) with_posting
-unfolding with_participant with_posting
-makes_posting = record {
-  command = posting_is.0;
-  whole = posting_is.1;
-  plain = posting_plain;
-  defined = posting_is.2;
-  is = refl;
-  uncounted = refl;
-}
-
-pub makes_payment : Makes payment_text with_posting (payment_at 0) with_payment
-unfolding with_posting with_payment
-makes_payment = record {
-  command = payment_is.0;
-  whole = payment_is.1;
-  plain = payment_plain;
-  defined = payment_is.2;
-  is = refl;
-  uncounted = refl;
-}
-
-pub makes_mark : Makes mark_text with_payment (mark_at 0) desk_schema
-unfolding with_payment desk_schema
-makes_mark = record {
-  command = mark_is.0;
-  whole = mark_is.1;
-  plain = mark_plain;
-  defined = mark_is.2;
-  is = refl;
-  uncounted = refl;
-}
-
-desk_is_plain : (trees : Trees) (mode : Mode) → IsPlainTable (desk_over trees) mode 0 (desk_at 0)
+desk_is_plain : (trees : Trees) (mode : Mode) → IsPlainTable (desk_over trees) mode 0 desk_table
 unfolding desk_schema
 desk_is_plain trees mode = record { place = refl; uncounted = refl; still = λ _ _. refl }
 
 abbrev first_terms : List Term
 first_terms = lit (Int (pos 1)) ∷ lit Null ∷ lit (Int (pos 1)) ∷ lit Null ∷ lit (Int (pos 0)) ∷ []
 
-first_edit : (trees : Trees) → trees 0 ≡ [] → edited trees (edit_of trees (desk_at 0) [] Chosen 0
-    (value_rows (stamped (desk_at 0) []) 5 1 first_terms)) ≡ (day_row first_content.day ∷ [])
+first_edit : (trees : Trees) → trees desk_table.tree ≡ [] → edited trees (edit_of trees desk_table [] Chosen 0
+    (value_rows (stamped desk_table []) 5 1 first_terms)) ≡ (day_row first_content.day ∷ [])
 first_edit trees none = rw (cast_int (pos 1), cast_null, cast_int (pos 0), none)
 
-first_frame : (old new : Trees) → AllByRecursion (λ t. old t.tree ≡ []) desk_schema.tables → frame_but 0 old new
-    → new 0 ≡ (day_row first_content.day ∷ []) → tables_of new ≡ tables_for first_content
+first_frame : (old new : Trees) → AllByRecursion (λ t. old t.tree ≡ []) desk_schema.tables
+    → frame_but desk_table.tree old new → new desk_table.tree ≡ (day_row first_content.day ∷ [])
+    → tables_of new ≡ tables_for first_content
 unfolding desk_schema
-first_frame old new none others here = framed 0 old new _ others here ∙ (λ i. record {
+first_frame old new none others here = framed desk_table.tree old new _ others here ∙ (λ i. record {
   desk = day_row first_content.day ∷ [];
   participants = none.1.0 i;
   postings = none.1.1.0 i;
@@ -185,7 +131,7 @@ first_frame old new none others here = framed 0 old new _ others here ∙ (λ i.
   marks = none.1.1.1.1.0 i;
 })
 
-desk_empty : (trees : Trees) → AllByRecursion (λ t. trees t.tree ≡ []) desk_schema.tables → trees 0 ≡ []
+desk_empty : (trees : Trees) → AllByRecursion (λ t. trees t.tree ≡ []) desk_schema.tables → trees desk_table.tree ≡ []
 unfolding desk_schema
 desk_empty trees none = none.0
 
@@ -197,9 +143,9 @@ begun was old new count is h =
     let text = statement_of first_day_text (understood desk_schema first_day_text) in
     let done = subst (λ s. Does old.step_limit (mode_of old) [] (record old.now { schema = s }) text None
     (Insert 0 (Values first_terms 5)) (Ok (w.tally, new.now))) is.schema_is w.changed in
-    let step = inserts old.step_limit (mode_of old) [] (desk_over old.now.trees) text 0 (desk_at 0) w.tally new.now
+    let step = inserts old.step_limit (mode_of old) [] (desk_over old.now.trees) text 0 desk_table w.tally new.now
     (desk_is_plain old.now.trees (mode_of old)) first_terms 5 done in
-    let rows : new.now.trees 0 ≡ (day_row first_content.day ∷ []) = step.applies.rows
+    let rows : new.now.trees desk_table.tree ≡ (day_row first_content.day ∷ []) = step.applies.rows
     ∙ first_edit old.now.trees (desk_empty old.now.trees is.empty) in
     record {
       is_open = h.1.is_open;

@@ -33,10 +33,15 @@ use Rattle.rtgs_book.specs.declared.Day.{Day}
 use Rattle.rtgs_book.specs.declared.RowChange.TheVariants.{SetDay}
 use Rattle.rtgs_rows.specs.Rows.{date_value, phase_number, day_row}
 use Rattle.rtgs_rows.specs.Content.{Tables, Content, Stands, with_change}
+use Rattle.sqlite.specs.Table.{Table}
+use Rattle.rtgs_tables.specs.TableQueries.{desk_query}
 use Rattle.rtgs_rows.specs.Tables.{desk_schema, desk_at}
 
 abbrev pub set_day_text : List ℕ
 set_day_text = codes "UPDATE desk SET date = ?1, phase = ?2 WHERE id = 1"
+
+abbrev table : Table
+table = desk_at desk_query.tree
 
 abbrev tests : List Term
 tests = op2 (Compare Eq Binary) (col 1 0) (lit (Int (pos 1))) ∷ []
@@ -45,7 +50,7 @@ abbrev project : List Term
 project = col 1 0 ∷ col 1 0 ∷ lit Null ∷ col 1 2 ∷ col 0 0 ∷ col 0 1 ∷ []
 
 is : command_of (understood desk_schema set_day_text) ≡ Update 0
-    (record { lets = []; body = simple 0 tests project [] })
+    (record { lets = []; body = simple table.tree tests project [] })
 unfolding understood everything desk_schema
 is = refl
 
@@ -53,7 +58,7 @@ plain : IsPlain (understood desk_schema set_day_text)
 unfolding understood everything desk_schema
 plain = (refl, refl)
 
-desk_is_plain : (trees : Trees) (mode : Mode) → IsPlainTable (desk_over trees) mode 0 (desk_at 0)
+desk_is_plain : (trees : Trees) (mode : Mode) → IsPlainTable (desk_over trees) mode 0 table
 unfolding desk_schema
 desk_is_plain trees mode = record { place = refl; uncounted = refl; still = λ _ _. refl }
 
@@ -64,9 +69,9 @@ passes_one : (day old : Day) → passes tests (params day) (day_row old) ≡ tru
 unfolding binary
 passes_one day old = truth_of _ ∙ same_number 1 1
 
-edit : (trees : Trees) (old day : Day) (rows : List Row) → trees 0 ≡ day_row old ∷ []
+edit : (trees : Trees) (old day : Day) (rows : List Row) → trees table.tree ≡ day_row old ∷ []
     → IsPermutation (map (shows project (params day)) (day_row old ∷ [])) rows
-    → edited trees (edit_of trees (desk_at 0) (ids_of rows) Given 1 rows) ≡ day_row day ∷ []
+    → edited trees (edit_of trees table (ids_of rows) Given 1 rows) ≡ day_row day ∷ []
 edit trees old day rows are same =
     let one : rows ≡ shows project (params day) (day_row old) ∷ [] = one_permutation _ rows same in
     rw (
@@ -89,14 +94,14 @@ sets_day was content old new day (Err e) values same stands h = tt
 sets_day was content old new day (Ok count) values same stands given =
     let h = subst (λ all. ExecutesInside 0 set_day_text all old new (Ok count)) (same ∙ ap (λ date. date ∷ Int (pos
     (phase_number day.phase)) ∷ []) (bound_date day.date)) given in
-    let made = updated set_day_text 0 (desk_at 0) plain desk_is_plain old new (params day) count stands.schema h.0 0
+    let made = updated set_day_text 0 table plain desk_is_plain old new (params day) count stands.schema h.0 table.tree
     tests project is in
-    let here : old.now.trees 0 ≡ day_row content.day ∷ [] = ap (λ (t : Tables). t.desk) stands.holds.rows in
-    let passed : filter (passes tests (params day)) (old.now.trees 0)
+    let here : old.now.trees table.tree ≡ day_row content.day ∷ [] = ap (λ (t : Tables). t.desk) stands.holds.rows in
+    let passed : filter (passes tests (params day)) (old.now.trees table.tree)
     ≡ day_row content.day ∷ [] = rw (here, passes_one day content.day) in
-    let rows : new.now.trees 0 ≡ day_row day ∷ [] = made.2.rows
+    let rows : new.now.trees table.tree ≡ day_row day ∷ [] = made.2.rows
     ∙ edit old.now.trees content.day day made.0 here (subst
     (λ f. IsPermutation (map (shows project (params day)) f) made.0) passed made.1) in
     stands_on was old new content (with_change content (SetDay day)) stands h.1 made.2.schema made.2.sound
-    (framed 0 old.now.trees new.now.trees _ made.2.frame rows
+    (framed table.tree old.now.trees new.now.trees _ made.2.frame rows
     ∙ ap (λ (t : Tables). record t { desk = day_row day ∷ [] }) stands.holds.rows)

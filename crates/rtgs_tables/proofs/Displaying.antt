@@ -1,6 +1,6 @@
 -- What the five queries show of a database, and why they show nothing, whatever its schema is.
 use Rattle.std.proofs.Common.{◌≡◌, ◌⊎◌, inl, inr, ℕ, Bool, true, false, List, [], ◌∷◌, map, length, Option, None, Ok}
-use Rattle.std.proofs.Common.{◌≢◌, Err, Result, IfOk, IfErr, OnOk, Vec, Global, refl, sym, ap, ap₂, subst, subst₂, ◌∙◌}
+use Rattle.std.proofs.Common.{◌≢◌, Err, Result, IfOk, IfErr, OnOk, Vec, Global, refl, sym, ap, ap₂, subst, ◌∙◌}
 use Rattle.std.proofs.Common.{arith}
 use Rattle.std.specs.Result.{IsErrAnd}
 use Rattle.std.proofs.lemmas.Bool.{cases_Bool}
@@ -28,23 +28,19 @@ use Rattle.sqlite_resolve.specs.Lowering.{Checked}
 use Rattle.sqlite_resolve.specs.Program.{query, program}
 use Rattle.sqlite_resolve.specs.Compile.{first, command, read, returning, timed, meaning, planned, with_command}
 use Rattle.sqlite_resolve.specs.Compile.{compiled}
-use Rattle.sqlite_keyed.proofs.ListLemmas.{all_map}
 use Rattle.rtgs_book.specs.declared.Book.{Book}
 use Rattle.rtgs_book.specs.declared.Day.{Day}
-use Rattle.rtgs_book.specs.declared.Posting.{Posting}
-use Rattle.rtgs_book.specs.declared.Order.{Order}
-use Rattle.rtgs_book.specs.declared.Mark.{Mark}
 use Rattle.rtgs_book.specs.declared.Rule.{Rule}
 use Rattle.rtgs_book.specs.declared.account.Account.{Account}
 use Rattle.rtgs_book.specs.declared.Fault.{Fault}
 use Rattle.rtgs_book.specs.declared.Fault.TheVariants.{OutOfMemory, StoreFault, NotADeskFile, Inconsistent}
 use Rattle.rtgs_book.specs.Soundness.{IsSound}
-use Rattle.rtgs_rows.specs.Fitting.{FitsDate, FitsParticipant, FitsPosting, FitsOrder, FitsMark}
-use Rattle.rtgs_rows.specs.Rows.{shown_day, shown_account, shown_posting, shown_order, shown_mark}
+use Rattle.rtgs_rows.specs.Fitting.{FitsDate}
+use Rattle.rtgs_rows.specs.Rows.{shown_day, shown_posting, shown_order, shown_mark}
 use Rattle.rtgs_tables.specs.Accounts.{AreBalances, ExplainsRead}
 use Rattle.rtgs_tables.specs.Answering.{Returnless}
 use Rattle.rtgs_tables.specs.Faults.{IsOfStore}
-use Rattle.rtgs_tables.specs.Displaying.{desk_text, participants_text, postings_text, payments_text, marks_text}
+use Rattle.rtgs_tables.specs.Displaying.{postings_text, payments_text, marks_text}
 use Rattle.rtgs_tables.specs.Displaying.{Displays, DisplaysAs, HasNoAnswer, IsUnread, IsIllegible, ExplainsDatabase}
 use Rattle.rtgs_tables.specs.Displaying.{AreDisplayed, IsDisplayed}
 use Rattle.rtgs_tables.specs.Numbers.{as_read, counted_of_posting, counted_of_order, counted_of_mark, IsNumberedPosting}
@@ -244,43 +240,7 @@ pub day_displayed : (db : Database) (text : List ℕ) (rows seen : List Row) (r 
 day_displayed db text rows seen (Ok day) same shows is = (is.0, subst (Displays db text) (sym same ∙ is.1) shows)
 day_displayed db text rows seen (Err e) same shows is = tt
 
--- ---- the five together
-
--- each is shown by the database as it was before the first
-pub are_displayed : (db a b c d : Database) (accounts : List Account) (book : Book) {postings : List Posting}
-    {orders : List Order} {marks : List Mark}
-    → book.participants ≡ map (λ (a : Account). a.participant) accounts → book.postings ≡ postings
-    → book.orders ≡ orders → book.marks ≡ marks → a ≡ db → b ≡ db → c ≡ db → d ≡ db
-    → FitsDate book.day.date × Displays db desk_text (shown_day book.day ∷ [])
-    → AllByRecursion (λ (a : Account). FitsParticipant a.participant) accounts
-    × DisplaysAs a participants_text [] (map (λ (a : Account). shown_account a.participant a.balance) accounts)
-    → AllByRecursion FitsPosting postings × DisplaysAs b postings_text counted_of_posting (map shown_posting postings)
-    → AllByRecursion FitsOrder orders × DisplaysAs c payments_text counted_of_order (map shown_order orders)
-    → AllByRecursion FitsMark marks × DisplaysAs d marks_text counted_of_mark (map shown_mark marks)
-    → AreDisplayed db accounts book
-are_displayed db a b c d accounts book named postings orders marks from_a from_b from_c from_d day stored some_postings
-    some_orders some_marks =
-    record {
-      fits = record {
-        participants = subst (AllByRecursion FitsParticipant) (sym named)
-            (all_map FitsParticipant (λ (a : Account). a.participant) accounts stored.0);
-        postings = subst (AllByRecursion FitsPosting) (sym postings) some_postings.0;
-        orders = subst (AllByRecursion FitsOrder) (sym orders) some_orders.0;
-        marks = subst (AllByRecursion FitsMark) (sym marks) some_marks.0;
-        day = day.0;
-      };
-      named = named;
-      desk = day.1;
-      participants = subst (λ k. Displays k participants_text
-          (map (λ (a : Account). shown_account a.participant a.balance) accounts)) from_a
-          (displays_plainly a participants_text _ stored.1);
-      postings = subst₂ (λ k all. DisplaysAs k postings_text counted_of_posting (map shown_posting all)) from_b
-          (sym postings) some_postings.1;
-      payments = subst₂ (λ k all. DisplaysAs k payments_text counted_of_order (map shown_order all)) from_c (sym orders)
-          some_orders.1;
-      marks = subst₂ (λ k all. DisplaysAs k marks_text counted_of_mark (map shown_mark all)) from_d (sym marks)
-          some_marks.1;
-    }
+-- ---- what was read
 
 -- where the numbers of records are above zero, the rows are their own
 module _ {A : Type 0} (counted : List Bool) (shown : A → Row) (numbered : A → Type 0)

@@ -58,7 +58,7 @@ use Rattle.rtgs_tables.proofs.ReadingAlone.{commits_nothing}
 use Rattle.rtgs_tables.proofs.Passing.{none_moved, truth_of, same_text, filter_map}
 use Rattle.rtgs_tables.proofs.Resting.{file_of, rests_of}
 use Rattle.rtgs_tables.proofs.Keeps.{survives_on, file_after}
-use Rattle.rtgs_tables.proofs.FindingTexts.{Seeks, first_after, after_tests, order_tests, posting_tests, order_text}
+use Rattle.rtgs_tables.proofs.FindingTexts.{Seeks, first_row_query, after_tests, order_tests, posting_tests, order_text}
 use Rattle.rtgs_tables.proofs.FindingTexts.{posting_text, order_seeks, posting_seeks}
 use Rattle.rtgs_tables.specs.TableQueries.{TableQuery, columns_of, postings_query, payments_query}
 
@@ -270,14 +270,14 @@ take_found shown hit (a ∷ all) = elim (cases_Bool (hit a)) [
 
 pub first_rows : {A : Type 0} (t : TableQuery) (row shown : A → Row) (id : A → ℤ) (hit : A → Bool) (params : Row)
     → ((a : A) → passes after_tests params (row a) ≡ hit a)
-    → ((a b : A) → int_cmp (id a) (id b) ≡ Less → output_cmp (first_after t)
-    (output (first_after t) (params ∷ row a ∷ [])) (output (first_after t) (params ∷ row b ∷ [])) ≡ Less)
-    → ((a : A) → (output (first_after t) (params ∷ row a ∷ [])).1 ≡ shown a)
+    → ((a b : A) → int_cmp (id a) (id b) ≡ Less → output_cmp (first_row_query t)
+    (output (first_row_query t) (params ∷ row a ∷ [])) (output (first_row_query t) (params ∷ row b ∷ [])) ≡ Less)
+    → ((a : A) → (output (first_row_query t) (params ∷ row a ∷ [])).1 ≡ shown a)
     → (trees : Trees) (all : List A) → IsAscending (λ a b. int_cmp (id a) (id b) ≡ Less) all
     → overlay trees [] t.tree ≡ map row all → (rows : List Row)
-    → IsAnswer (first_after t) (overlay trees []) params rows → rows ≡ map shown (one_of (find hit all))
+    → IsAnswer (first_row_query t) (overlay trees []) params rows → rows ≡ map shown (one_of (find hit all))
 first_rows {A = A} t row shown id hit params tested by shows_it trees all up here rows a =
-    let q : Query = first_after t in
+    let q : Query = first_row_query t in
     let out = λ (a : A). output q (params ∷ row a ∷ []) in
     let s = sorts t.tree after_tests (columns_of t) q.order (overlay trees []) params (map (λ
     (o : Output). o.1) a.ordered) (record {
@@ -424,12 +424,12 @@ pub finds_posting : (reference : List ℕ) (book : Book) (old new : State) (cont
     → IfOk r (λ rows. rows.items ≡ map shown_posting (one_of (posting_named book reference)))
 unfolding posting_named
 finds_posting reference book old new content rests of r given same shown =
-    let here : old.now.trees 4 ≡ map posting_row book.postings = ap (λ (d : Database). d.trees 4) rests.clean
+    let here : old.now.trees postings_query.tree ≡ map posting_row book.postings =
+    ap (λ (d : Database). d.trees postings_query.tree) rests.clean
     ∙ ap (λ (t : Tables). t.postings) rests.holds.rows ∙ ap (map posting_row) of.records.postings in
-    found_rows posting_row shown_posting (is_posting_named reference) posting_text (Text reference ∷ []) 4 posting_tests
-    (columns_of postings_query) postings_query.names posting_seeks (posting_passes reference) (λ p. refl) old new
-    old.committed.trees
-    (file_of content old rests) book.postings here
+    found_rows posting_row shown_posting (is_posting_named reference) posting_text (Text reference ∷ [])
+    postings_query.tree posting_tests (columns_of postings_query) postings_query.names posting_seeks
+    (posting_passes reference) (λ p. refl) old new old.committed.trees (file_of content old rests) book.postings here
     (one_named (λ (p : Posting). p.reference) bytes_eq reference book.postings (bytes_tied reference)
     of.sound.posting_references) r
     (subst (λ p. IfOk r (λ rows. Shown posting_text p old new rows.items)) same shown)
@@ -440,12 +440,12 @@ pub finds_order : (sender reference : List ℕ) (book : Book) (old new : State) 
     → IfOk r (λ rows. rows.items ≡ map shown_order (one_of (order_named book sender reference)))
 unfolding order_named
 finds_order sender reference book old new content rests of r given same shown =
-    let here : old.now.trees 6 ≡ map payment_row book.orders = ap (λ (d : Database). d.trees 6) rests.clean
+    let here : old.now.trees payments_query.tree ≡ map payment_row book.orders =
+    ap (λ (d : Database). d.trees payments_query.tree) rests.clean
     ∙ ap (λ (t : Tables). t.payments) rests.holds.rows ∙ ap (map payment_row) of.records.orders in
     found_rows payment_row shown_order (is_order_named sender reference) order_text (Text sender ∷ Text reference ∷ [])
-    6 order_tests (columns_of payments_query) payments_query.names order_seeks (order_passes sender reference) (λ o.
-    refl) old new
-    old.committed.trees (file_of content old rests) book.orders here
+    payments_query.tree order_tests (columns_of payments_query) payments_query.names order_seeks
+    (order_passes sender reference) (λ o. refl) old new old.committed.trees (file_of content old rests) book.orders here
     (one_named (λ (o : Order). (o.sender, o.reference)) is_same_name (sender, reference) book.orders
     (names_tied (sender, reference)) of.sound.order_references) r
     (subst (λ p. IfOk r (λ rows. Shown order_text p old new rows.items)) same shown)

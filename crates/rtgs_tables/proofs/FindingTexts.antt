@@ -1,5 +1,5 @@
 -- The texts that look up a record.
-use Rattle.std.proofs.Common.{ℕ, List, [], ◌∷◌, codes, refl}
+use Rattle.std.proofs.Common.{ℕ, List, [], ◌∷◌, codes, refl, ◌++◌}
 use Rattle.sqlite.specs.Collation.TheVariants.{Binary}
 use Rattle.sqlite_sql.specs.declared.ops.BinaryOp.TheVariants.{Compare}
 use Rattle.sqlite_sql.specs.declared.ops.CompareOp.TheVariants.{Eq}
@@ -10,19 +10,20 @@ use Rattle.sqlite.specs.Listing.{understood}
 use Rattle.rtgs_rows.specs.Tables.{desk_schema}
 use Rattle.rtgs_tables.proofs.Queries.{simple}
 use Rattle.rtgs_tables.specs.Answering.{Returnless}
-pub use Rattle.rtgs_tables.specs.TableQueries.{Seeks, first_after, after_tests}
+pub use Rattle.rtgs_tables.specs.TableQueries.{Seeks, first_row_query, after_tests}
 use Rattle.rtgs_tables.specs.TableQueries.{IsFirstQuery, columns_of, postings_query, payments_query, marks_query}
 
 -- ---- by name
 
 abbrev pub order_text : List ℕ
-order_text = codes
-    "SELECT number, sender, reference, receiver, amount, date, state, mark FROM payment WHERE sender = ?1 AND reference = ?2"
+order_text = codes "SELECT number, sender, reference, receiver, amount, date, state, mark FROM payment "
+    ++ codes "WHERE sender = ?1 AND reference = ?2"
 
 abbrev pub order_tests : List Term
 order_tests = op2 (Compare Eq Binary) (col 1 2) (col 0 0) ∷ op2 (Compare Eq Binary) (col 1 3) (col 0 1) ∷ []
 
-pub order_seeks : Seeks order_text 2 (simple 6 order_tests (columns_of payments_query) []) payments_query.names
+pub order_seeks : Seeks order_text 2 (simple payments_query.tree order_tests (columns_of payments_query) [])
+    payments_query.names
 unfolding understood everything desk_schema
 order_seeks = record {
   asks = record { command = refl; plain = (refl, refl); whole = refl; given = refl };
@@ -39,7 +40,8 @@ posting_text = codes "SELECT number, code, reference, cents, date FROM posting W
 abbrev pub posting_tests : List Term
 posting_tests = op2 (Compare Eq Binary) (col 1 3) (col 0 0) ∷ []
 
-pub posting_seeks : Seeks posting_text 1 (simple 4 posting_tests (columns_of postings_query) []) postings_query.names
+pub posting_seeks : Seeks posting_text 1 (simple postings_query.tree posting_tests (columns_of postings_query) [])
+    postings_query.names
 unfolding understood everything desk_schema
 posting_seeks = record {
   asks = record { command = refl; plain = (refl, refl); whole = refl; given = refl };
@@ -67,8 +69,8 @@ posting_after_asks = record {
 }
 
 abbrev pub order_after_text : List ℕ
-order_after_text = codes
-    "SELECT number, sender, reference, receiver, amount, date, state, mark FROM payment WHERE number > ?1 ORDER BY number LIMIT 1"
+order_after_text = codes "SELECT number, sender, reference, receiver, amount, date, state, mark FROM payment "
+    ++ codes "WHERE number > ?1 ORDER BY number LIMIT 1"
 
 pub order_after_asks : IsFirstQuery payments_query order_after_text
 unfolding understood everything desk_schema

@@ -42,10 +42,15 @@ use Rattle.rtgs_book.specs.declared.RowChange.TheVariants.{AddParticipant, SetCr
 use Rattle.rtgs_rows.specs.Rows.{participant_row}
 use Rattle.rtgs_rows.specs.Content.{Tables, Holding, Content, holding_row, Stands, IsInOrder, with_change}
 use Rattle.rtgs_rows.specs.Content.{with_credit_in, with_balance_in, newcomer}
+use Rattle.sqlite.specs.Table.{Table}
+use Rattle.rtgs_tables.specs.TableQueries.{participants_query}
 use Rattle.rtgs_rows.specs.Tables.{desk_schema, participant_at}
 
 abbrev pub participant_text : List ℕ
 participant_text = codes "INSERT INTO participant (code, name, key, credit, balance) VALUES (?1, ?2, ?3, ?4, 0)"
+
+abbrev table : Table
+table = participant_at participants_query.tree
 
 abbrev terms : List Term
 terms = lit Null ∷ col 0 0 ∷ col 0 1 ∷ col 0 2 ∷ col 0 3 ∷ lit (Int (pos 0)) ∷ []
@@ -58,16 +63,16 @@ plain : IsPlain (understood desk_schema participant_text)
 unfolding understood everything desk_schema
 plain = (refl, refl)
 
-participant_is_plain : (trees : Trees) (mode : Mode) → IsPlainTable (desk_over trees) mode 1 (participant_at 1)
+participant_is_plain : (trees : Trees) (mode : Mode) → IsPlainTable (desk_over trees) mode 1 table
 unfolding desk_schema
 participant_is_plain trees mode = record { place = refl; uncounted = refl; still = λ _ _. refl }
 
 abbrev pub participant_given : Participant → Row
 participant_given p = Text p.code ∷ Text p.name ∷ Blob p.key ∷ Int (pos p.credit) ∷ []
 
-edit : (trees : Trees) (p : Participant) → edited trees (edit_of trees (participant_at 1) [] Chosen 0
-    (value_rows (stamped (participant_at 1) (participant_given p)) 6 1 terms))
-    ≡ put_row (participant_row (next_rowid (trees 1)) p (pos 0)) (trees 1)
+edit : (trees : Trees) (p : Participant) → edited trees (edit_of trees table [] Chosen 0
+    (value_rows (stamped table (participant_given p)) 6 1 terms))
+    ≡ put_row (participant_row (next_rowid (trees table.tree)) p (pos 0)) (trees table.tree)
 edit trees p = rw (cast_null, cast_int (pos p.credit), cast_int (pos 0))
 
 pub adds_participant : NextRowIsAbove → (was : Database) (content : Content) (old new : State) (p : Participant)
@@ -77,16 +82,16 @@ pub adds_participant : NextRowIsAbove → (was : Database) (content : Content) (
 adds_participant above was content old new p (Err e) values same stands order h = tt
 adds_participant above was content old new p (Ok count) values same stands order given =
     let h = subst (λ all. ExecutesInside 0 participant_text all old new (Ok count)) same given in
-    let made = inserted participant_text 1 (participant_at 1) plain participant_is_plain old new (participant_given p)
+    let made = inserted participant_text 1 table plain participant_is_plain old new (participant_given p)
     count stands.schema h.0 terms 6 is in
-    let here : old.now.trees 1 ≡ map holding_row content.holdings =
+    let here : old.now.trees table.tree ≡ map holding_row content.holdings =
     ap (λ (t : Tables). t.participants) stands.holds.rows in
     let fresh = newcomer content p in
-    let rows : new.now.trees 1 ≡ map holding_row (content.holdings ++ fresh ∷ []) =
+    let rows : new.now.trees table.tree ≡ map holding_row (content.holdings ++ fresh ∷ []) =
     made.rows ∙ edit old.now.trees p ∙ ap (λ rows. put_row (participant_row (next_rowid rows) p (pos 0)) rows) here
     ∙ put_last holding_row (λ q. q.id) (λ _. refl) fresh content.holdings (above content.holdings order.ids) in
     stands_on was old new content (with_change content (AddParticipant p)) stands h.1 made.schema made.sound
-    (framed 1 old.now.trees new.now.trees _ made.frame rows
+    (framed table.tree old.now.trees new.now.trees _ made.frame rows
     ∙ ap (λ (t : Tables). record t { participants = map holding_row (content.holdings ++ fresh ∷ []) })
     stands.holds.rows)
 
@@ -131,7 +136,7 @@ abbrev balance_project : List Term
 balance_project = col 1 0 ∷ col 1 0 ∷ col 1 1 ∷ col 1 2 ∷ col 1 3 ∷ col 1 4 ∷ col 0 1 ∷ []
 
 balance_is : command_of (understood desk_schema balance_text)
-    ≡ Update 1 (record { lets = []; body = simple 1 tests balance_project [] })
+    ≡ Update 1 (record { lets = []; body = simple table.tree tests balance_project [] })
 unfolding understood everything desk_schema
 balance_is = refl
 
@@ -146,12 +151,12 @@ module _ (code : List ℕ) (balance : ℤ) where
   abbrev pub balance_given : Row
   balance_given = Text code ∷ Int balance ∷ []
 
-  balance_edit : (trees : Trees) (all : List Holding) (rows : List Row) → trees 1 ≡ map holding_row all
+  balance_edit : (trees : Trees) (all : List Holding) (rows : List Row) → trees table.tree ≡ map holding_row all
       → ((filter (has code) all ≡ []) × (map holding_row (map (with_balance_in code balance) all)
       ≡ map holding_row all)) ⊎ Replaces holding_row (λ h. h.id) (λ _. refl) (has code) (balance_set balance)
       (λ _. refl) all
       → IsPermutation (map (shows balance_project balance_given) (map holding_row (filter (has code) all))) rows
-      → edited trees (edit_of trees (participant_at 1) (ids_of rows) Given 1 rows)
+      → edited trees (edit_of trees table (ids_of rows) Given 1 rows)
       ≡ map holding_row (map (with_balance_in code balance) all)
   balance_edit trees all rows are (inl none) same =
       let empty : rows ≡ [] = none_moved _ rows (rw none.0) same in
@@ -169,20 +174,21 @@ module _ (code : List ℕ) (balance : ℤ) where
   sets_balance was content old new (Ok count) values same stands order given =
       let h = subst (λ all. ExecutesInside 0 balance_text all old new (Ok count)) same given in
       let all = content.holdings in
-      let made = updated balance_text 1 (participant_at 1) balance_plain participant_is_plain old new balance_given
-      count stands.schema h.0 1 tests balance_project balance_is in
-      let here : old.now.trees 1 ≡ map holding_row all = ap (λ (t : Tables). t.participants) stands.holds.rows in
-      let passed : filter (passes tests balance_given) (old.now.trees 1)
+      let made = updated balance_text 1 table balance_plain participant_is_plain old new balance_given
+      count stands.schema h.0 table.tree tests balance_project balance_is in
+      let here : old.now.trees table.tree ≡ map holding_row all =
+      ap (λ (t : Tables). t.participants) stands.holds.rows in
+      let passed : filter (passes tests balance_given) (old.now.trees table.tree)
       ≡ map holding_row (filter (has code) all) = rw here
       (filter_map holding_row _ (has code) (passes_one code (Int balance)) all) in
       let found = replaces holding_row (λ h. h.id) (λ _. refl) (has code) (balance_set balance) (λ _. refl) all
       order.ids (differ code all order.codes) in
-      let rows : new.now.trees 1 ≡ map holding_row (map (with_balance_in code balance) all) =
+      let rows : new.now.trees table.tree ≡ map holding_row (map (with_balance_in code balance) all) =
       made.2.rows ∙ balance_edit old.now.trees all made.0 here found
       (subst (λ f. IsPermutation (map (shows balance_project balance_given) f) made.0) passed made.1) in
       stands_on was old new content (with_change content (SetBalance code balance)) stands h.1 made.2.schema
       made.2.sound
-      (framed 1 old.now.trees new.now.trees _ made.2.frame rows
+      (framed table.tree old.now.trees new.now.trees _ made.2.frame rows
       ∙ ap (λ (t : Tables). record t { participants = map holding_row (map (with_balance_in code balance) all) })
       stands.holds.rows)
 
@@ -195,7 +201,7 @@ abbrev credit_project : List Term
 credit_project = col 1 0 ∷ col 1 0 ∷ col 1 1 ∷ col 1 2 ∷ col 1 3 ∷ col 0 1 ∷ col 1 5 ∷ []
 
 credit_is : command_of (understood desk_schema credit_text) ≡ Update 1
-    (record { lets = []; body = simple 1 tests credit_project [] })
+    (record { lets = []; body = simple table.tree tests credit_project [] })
 unfolding understood everything desk_schema
 credit_is = refl
 
@@ -210,11 +216,11 @@ module _ (code : List ℕ) (credit : ℕ) where
   abbrev pub credit_given : Row
   credit_given = Text code ∷ Int (pos credit) ∷ []
 
-  credit_edit : (trees : Trees) (all : List Holding) (rows : List Row) → trees 1 ≡ map holding_row all
+  credit_edit : (trees : Trees) (all : List Holding) (rows : List Row) → trees table.tree ≡ map holding_row all
       → ((filter (has code) all ≡ []) × (map holding_row (map (with_credit_in code credit) all) ≡ map holding_row all))
       ⊎ Replaces holding_row (λ h. h.id) (λ _. refl) (has code) (credit_set credit) (λ _. refl) all
       → IsPermutation (map (shows credit_project credit_given) (map holding_row (filter (has code) all))) rows
-      → edited trees (edit_of trees (participant_at 1) (ids_of rows) Given 1 rows)
+      → edited trees (edit_of trees table (ids_of rows) Given 1 rows)
       ≡ map holding_row (map (with_credit_in code credit) all)
   credit_edit trees all rows are (inl none) same =
       let empty : rows ≡ [] = none_moved _ rows (rw none.0) same in
@@ -232,18 +238,19 @@ module _ (code : List ℕ) (credit : ℕ) where
   sets_credit was content old new (Ok count) values same stands order given =
       let h = subst (λ all. ExecutesInside 0 credit_text all old new (Ok count)) same given in
       let all = content.holdings in
-      let made = updated credit_text 1 (participant_at 1) credit_plain participant_is_plain old new credit_given count
-      stands.schema h.0 1 tests credit_project credit_is in
-      let here : old.now.trees 1 ≡ map holding_row all = ap (λ (t : Tables). t.participants) stands.holds.rows in
-      let passed : filter (passes tests credit_given) (old.now.trees 1)
+      let made = updated credit_text 1 table credit_plain participant_is_plain old new credit_given count
+      stands.schema h.0 table.tree tests credit_project credit_is in
+      let here : old.now.trees table.tree ≡ map holding_row all =
+      ap (λ (t : Tables). t.participants) stands.holds.rows in
+      let passed : filter (passes tests credit_given) (old.now.trees table.tree)
       ≡ map holding_row (filter (has code) all) = rw here
       (filter_map holding_row _ (has code) (passes_one code (Int (pos credit))) all) in
       let found = replaces holding_row (λ h. h.id) (λ _. refl) (has code) (credit_set credit) (λ _. refl) all order.ids
       (differ code all order.codes) in
-      let rows : new.now.trees 1 ≡ map holding_row (map (with_credit_in code credit) all) =
+      let rows : new.now.trees table.tree ≡ map holding_row (map (with_credit_in code credit) all) =
       made.2.rows ∙ credit_edit old.now.trees all made.0 here found
       (subst (λ f. IsPermutation (map (shows credit_project credit_given) f) made.0) passed made.1) in
       stands_on was old new content (with_change content (SetCredit code credit)) stands h.1 made.2.schema made.2.sound
-      (framed 1 old.now.trees new.now.trees _ made.2.frame rows
+      (framed table.tree old.now.trees new.now.trees _ made.2.frame rows
       ∙ ap (λ (t : Tables). record t { participants = map holding_row (map (with_credit_in code credit) all) })
       stands.holds.rows)

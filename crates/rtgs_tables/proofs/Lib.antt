@@ -14,6 +14,7 @@ pub mod ListingLemmas
 pub mod KeepingLooks
 pub mod StateLemmas
 pub mod Writing
+pub mod Adding
 pub mod PostingLemmas
 pub mod Passing
 pub mod OrderLemmas
@@ -33,6 +34,7 @@ pub mod AboveZero
 pub mod AsRead
 pub mod Told
 pub mod ReadingAlone
+pub mod ReadTables
 pub mod Together
 pub mod Lists
 pub mod Resting

@@ -25,7 +25,8 @@ pub posting_first : RecordsStandInOrder → (number : ℕ) (book : Book) (s : St
     → IsBookOf book content → ShowsFirst postings_query counted_of_posting shown_posting s.now.trees number
     (first_above (λ (p : Posting). p.number) number book.postings)
 posting_first in_order number book s content rests of rows a =
-    let here : s.now.trees 4 ≡ map posting_row book.postings = ap (λ (d : Database). d.trees 4) rests.clean
+    let here : s.now.trees postings_query.tree ≡ map posting_row book.postings =
+    ap (λ (d : Database). d.trees postings_query.tree) rests.clean
     ∙ ap (λ (t : Tables). t.postings) rests.holds.rows ∙ ap (map posting_row) of.records.postings in
     let up = subst (IsAscending (λ (a b : Posting). int_cmp (pos a.number) (pos b.number) ≡ Less)) of.records.postings
     (in_order book content of).postings in
@@ -39,7 +40,8 @@ pub order_first : RecordsStandInOrder → (number : ℕ) (book : Book) (s : Stat
     → IsBookOf book content → ShowsFirst payments_query counted_of_order shown_order s.now.trees number
     (first_above (λ (o : Order). o.number) number book.orders)
 order_first in_order number book s content rests of rows a =
-    let here : s.now.trees 6 ≡ map payment_row book.orders = ap (λ (d : Database). d.trees 6) rests.clean
+    let here : s.now.trees payments_query.tree ≡ map payment_row book.orders =
+    ap (λ (d : Database). d.trees payments_query.tree) rests.clean
     ∙ ap (λ (t : Tables). t.payments) rests.holds.rows ∙ ap (map payment_row) of.records.orders in
     let up = subst (IsAscending (λ (a b : Order). int_cmp (pos a.number) (pos b.number) ≡ Less)) of.records.orders
     (in_order book content of).orders in
@@ -53,7 +55,8 @@ pub mark_first : RecordsStandInOrder → (number : ℕ) (book : Book) (s : State
     → IsBookOf book content → ShowsFirst marks_query counted_of_mark shown_mark s.now.trees number
     (first_above (λ (m : Mark). m.number) number book.marks)
 mark_first in_order number book s content rests of rows a =
-    let here : s.now.trees 8 ≡ map mark_row book.marks = ap (λ (d : Database). d.trees 8) rests.clean
+    let here : s.now.trees marks_query.tree ≡ map mark_row book.marks =
+    ap (λ (d : Database). d.trees marks_query.tree) rests.clean
     ∙ ap (λ (t : Tables). t.marks) rests.holds.rows ∙ ap (map mark_row) of.records.marks in
     let up = subst (IsAscending (λ (a b : Mark). int_cmp (pos a.number) (pos b.number) ≡ Less)) of.records.marks
     (in_order book content of).marks in

@@ -15,6 +15,7 @@ use Rattle.sqlite_sql.specs.Ops.{binary}
 use Rattle.sqlite_sql.specs.declared.ops.BinaryOp.TheVariants.{Compare}
 use Rattle.sqlite_sql.specs.declared.ops.CompareOp.TheVariants.{Eq}
 use Rattle.sqlite.specs.Collation.TheVariants.{Binary}
+use Rattle.sqlite.specs.Table.{Table}
 use Rattle.sqlite.specs.Source.TheVariants.{Values}
 use Rattle.sqlite.specs.Command.TheVariants.{Insert, Update}
 use Rattle.sqlite.specs.Edit.{edit_of, edited}
@@ -32,12 +33,13 @@ use Rattle.sqlite_tied.specs.Compute.{everything}
 use Rattle.std.proofs.lemmas.Cmp.{int_cmp_total, tied_itself}
 use Rattle.std.proofs.lemmas.Bool.{cases_Bool}
 use Rattle.rtgs_tables.proofs.Casts.{cast_null, cast_int, cast_mark, bound_mark}
-use Rattle.rtgs_tables.proofs.Lists.{put_last, before_last}
 use Rattle.rtgs_tables.proofs.Steps.{IsPlainTable}
 use Rattle.rtgs_tables.proofs.Queries.{simple, passes, shows}
 use Rattle.rtgs_tables.proofs.Replacing.{Replaces, replaces}
 use Rattle.rtgs_tables.proofs.StateLemmas.{desk_over, framed, stands_on}
-use Rattle.rtgs_tables.proofs.Writing.{inserted, updated}
+use Rattle.rtgs_tables.specs.TableQueries.{payments_query}
+use Rattle.rtgs_tables.proofs.Adding.{adds}
+use Rattle.rtgs_tables.proofs.Writing.{updated}
 use Rattle.rtgs_tables.proofs.Passing.{none_moved, truth_of, same_number, filter_map}
 use Rattle.rtgs_book.specs.declared.Order.{Order}
 use Rattle.rtgs_book.specs.declared.OrderState.{OrderState}
@@ -50,8 +52,11 @@ use Rattle.rtgs_rows.specs.Content.{Tables, Content, Stands, IsInOrder, with_cha
 use Rattle.rtgs_rows.specs.Tables.{desk_schema, payment_at}
 
 abbrev pub order_text : List ℕ
-order_text = codes
-    "INSERT INTO payment (number, sender, reference, receiver, amount, date, state, mark) VALUES (?1, ?2, ?3, ?4, ?5, ?8, ?6, ?7)"
+order_text = codes "INSERT INTO payment (number, sender, reference, receiver, amount, date, state, mark) "
+    ++ codes "VALUES (?1, ?2, ?3, ?4, ?5, ?8, ?6, ?7)"
+
+abbrev table : Table
+table = payment_at payments_query.tree
 
 abbrev terms : List Term
 terms = col 0 0 ∷ lit Null ∷ col 0 1 ∷ col 0 2 ∷ col 0 3 ∷ col 0 4 ∷ col 0 7 ∷ col 0 5 ∷ col 0 6 ∷ []
@@ -64,7 +69,7 @@ plain : IsPlain (understood desk_schema order_text)
 unfolding understood everything desk_schema
 plain = (refl, refl)
 
-payment_is_plain : (trees : Trees) (mode : Mode) → IsPlainTable (desk_over trees) mode 3 (payment_at 6)
+payment_is_plain : (trees : Trees) (mode : Mode) → IsPlainTable (desk_over trees) mode 3 table
 unfolding desk_schema
 payment_is_plain trees mode = record { place = refl; uncounted = refl; still = λ _ _. refl }
 
@@ -72,8 +77,8 @@ abbrev params : Order → Row
 params o = Int (pos o.number) ∷ Text o.sender ∷ Text o.reference ∷ Text o.receiver ∷ Int (pos o.amount)
     ∷ Int (pos (state_number o.state)) ∷ mark_value o.state ∷ Text (date_text o.date) ∷ []
 
-edit : (trees : Trees) (o : Order) → edited trees (edit_of trees (payment_at 6) [] Chosen 0
-    (value_rows (stamped (payment_at 6) (params o)) 9 1 terms)) ≡ put_row (payment_row o) (trees 6)
+edit : (trees : Trees) (o : Order) → edited trees (edit_of trees table [] Chosen 0
+    (value_rows (stamped table (params o)) 9 1 terms)) ≡ put_row (payment_row o) (trees table.tree)
 edit trees o = rw (
   cast_int (pos o.number),
   cast_null,
@@ -93,20 +98,12 @@ given_is o = ap (λ mark. Int (pos o.number) ∷ Text o.sender ∷ Text o.refere
 pub adds_order : (was : Database) (content : Content) (old new : State) (o : Order) (r : Result ℕ Error) (values : Row)
     → values ≡ order_given o → Stands was content old → IsInOrder (with_change content (AddOrder o))
     → ExecutesInside 0 order_text values old new r → OnOk r (Stands was (with_change content (AddOrder o)) new)
-adds_order was content old new o (Err e) values same stands order h = tt
-adds_order was content old new o (Ok count) values same stands order given =
-    let h = subst (λ all. ExecutesInside 0 order_text all old new (Ok count)) (same ∙ given_is o) given in
-    let made = inserted order_text 3 (payment_at 6) plain payment_is_plain old new (params o) count stands.schema h.0
-    terms 9 is in
-    let here : old.now.trees 6 ≡ map payment_row content.orders = ap (λ (t : Tables). t.payments) stands.holds.rows in
-    let low = before_last (λ (a b : Order). int_cmp (pos a.number) (pos b.number) ≡ Less) content.orders o order.orders
-    in
-    let rows : new.now.trees 6 ≡ map payment_row (content.orders ++ o ∷ []) =
-    made.rows ∙ edit old.now.trees o ∙ ap (put_row (payment_row o)) here
-    ∙ put_last payment_row (λ q. pos q.number) (λ _. refl) o content.orders low in
-    stands_on was old new content (with_change content (AddOrder o)) stands h.1 made.schema made.sound
-    (framed 6 old.now.trees new.now.trees _ made.frame rows
-    ∙ ap (λ (t : Tables). record t { payments = map payment_row (content.orders ++ o ∷ []) }) stands.holds.rows)
+adds_order was content old new o r values same stands order h =
+    adds order_text 3 table terms 9 payment_row (λ q. pos q.number) (λ _. refl) is plain payment_is_plain (params o) o
+    (λ trees. edit trees o) was content (with_change content (AddOrder o)) content.orders old new r stands
+    (ap (λ (t : Tables). t.payments) stands.holds.rows) order.orders
+    (ap (λ (t : Tables). record t { payments = map payment_row (content.orders ++ o ∷ []) }) stands.holds.rows)
+    (subst (λ all. ExecutesInside 0 order_text all old new r) (same ∙ given_is o) h)
 
 -- ---- the state of one order
 
@@ -120,7 +117,7 @@ abbrev project : List Term
 project = col 1 0 ∷ col 1 0 ∷ lit Null ∷ col 1 2 ∷ col 1 3 ∷ col 1 4 ∷ col 1 5 ∷ col 1 6 ∷ col 0 1 ∷ col 0 2 ∷ []
 
 set_state_is : command_of (understood desk_schema set_state_text)
-    ≡ Update 3 (record { lets = []; body = simple 6 tests project [] })
+    ≡ Update 3 (record { lets = []; body = simple table.tree tests project [] })
 unfolding understood everything desk_schema
 set_state_is = refl
 
@@ -164,11 +161,11 @@ module _ (number : ℕ) (state : OrderState) where
   abbrev IsOne : List Order → Type 0
   IsOne = Replaces payment_row (λ o. pos o.number) (λ _. refl) (has_number number) (set_to state) (λ _. refl)
 
-  state_edit : (trees : Trees) (all : List Order) (rows : List Row) → trees 6 ≡ map payment_row all
+  state_edit : (trees : Trees) (all : List Order) (rows : List Row) → trees table.tree ≡ map payment_row all
       → ((filter (has_number number) all ≡ []) × (map payment_row (map (restated (has_number number) state) all)
       ≡ map payment_row all)) ⊎ IsOne all
       → IsPermutation (map (shows project state_params) (map payment_row (filter (has_number number) all))) rows
-      → edited trees (edit_of trees (payment_at 6) (ids_of rows) Given 1 rows)
+      → edited trees (edit_of trees table (ids_of rows) Given 1 rows)
       ≡ map payment_row (map (restated (has_number number) state) all)
   state_edit trees all rows are (inl none) same =
       let empty : rows ≡ [] = none_moved _ rows (rw none.0) same in
@@ -199,19 +196,19 @@ module _ (number : ℕ) (state : OrderState) where
       let h = subst (λ all. ExecutesInside 0 set_state_text all old new (Ok count)) (same ∙ ap (λ mark. Int (pos
       number) ∷ Int (pos (state_number state)) ∷ mark ∷ []) (bound_mark state)) given in
       let all = content.orders in
-      let made = updated set_state_text 3 (payment_at 6) set_state_plain payment_is_plain old new state_params count
-      stands.schema h.0 6 tests project set_state_is in
-      let here : old.now.trees 6 ≡ map payment_row all = ap (λ (t : Tables). t.payments) stands.holds.rows in
-      let passed : filter (passes tests state_params) (old.now.trees 6)
+      let made = updated set_state_text 3 table set_state_plain payment_is_plain old new state_params count
+      stands.schema h.0 table.tree tests project set_state_is in
+      let here : old.now.trees table.tree ≡ map payment_row all = ap (λ (t : Tables). t.payments) stands.holds.rows in
+      let passed : filter (passes tests state_params) (old.now.trees table.tree)
       ≡ map payment_row (filter (has_number number) all) =
       rw here (filter_map payment_row _ (has_number number) (passes_one number (Int (pos (state_number state)))
       (mark_value state)) all) in
       let found = replaces payment_row (λ o. pos o.number) (λ _. refl) (has_number number) (set_to state) (λ _. refl)
       all order.orders (differ number all order.orders) in
-      let rows : new.now.trees 6 ≡ map payment_row (map (restated (has_number number) state) all) =
+      let rows : new.now.trees table.tree ≡ map payment_row (map (restated (has_number number) state) all) =
       made.2.rows ∙ state_edit old.now.trees all made.0 here found
       (subst (λ f. IsPermutation (map (shows project state_params) f) made.0) passed made.1) in
       stands_on was old new content (with_change content (SetState number state)) stands h.1 made.2.schema made.2.sound
-      (framed 6 old.now.trees new.now.trees _ made.2.frame rows
+      (framed table.tree old.now.trees new.now.trees _ made.2.frame rows
       ∙ ap (λ (t : Tables). record t { payments = map payment_row (map (restated (has_number number) state) all) })
       stands.holds.rows)

@@ -131,11 +131,11 @@ participants_own content accounts book are = (
       let up = ascending-map (λ (a b : Output). output_cmp q a b ≡ Less) out accounts
       (ascending_weaker _ _ (λ a b low. then-Equal _ ∙ value_cmp-Text a.participant.code b.participant.code ∙ low)
       accounts are.rising) in
-      let same : IsPermutation (map out accounts) (map (λ r. output q ([] ∷ r ∷ [])) (trees 1)) =
+      let same : IsPermutation (map out accounts) (map (λ r. output q ([] ∷ r ∷ [])) (trees participants_query.tree)) =
       subst (IsPermutation (map out accounts)) (sym (ap (λ (t : Tables).
       map (λ r. output q ([] ∷ r ∷ [])) t.participants) held ∙ stored_outputs content.holdings))
       (IsPermutation-map out _ _ (IsPermutation-sym _ _ are.stored)) in
-      shown_are q (trees 1) rows (map out accounts) up same s
+      shown_are q (trees participants_query.tree) rows (map out accounts) up same s
       ∙ map-map (λ (o : Output). o.1) out accounts
       ∙ map_same (λ (a : Account). (out a).1) (λ a. shown_account a.participant a.balance) (λ a. refl) accounts,
 )

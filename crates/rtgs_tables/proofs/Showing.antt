@@ -83,7 +83,7 @@ module _ (t : TableQuery) (is : IsTableQuery t) (old new : State) (trees : Trees
   refused (Err e) (inl early) = of_store t.text [] old new _ t.names asked e
       (subst (λ s. reads_listing s t.text ≡ false) (sym schema_is) is.unlisted)
       (subst (λ s. accepts_program s [] (whole_table t) [] ≡ true) (sym schema_is) is.typed)
-      (overflows_never t.tree (shown_columns t.places) (rising_by t.key) (overlay old.now.trees []) []) early
+      (overflows_never t.tree (shown_columns t.places) (rising_by t.sorted_by) (overlay old.now.trees []) []) early
   refused (Err e) (inr memory) = subst IsOfStore (sym memory.0) tt
 
   pub intact_after : (r : Result (Vec Row Global) Error) → IfOk r (λ rows. Shown t.text [] old new rows.items)
@@ -104,7 +104,7 @@ module _ (t : TableQuery) (is : IsTableQuery t) (old new : State) (trees : Trees
   sorted rows h =
       let read = reads_as t.text [] old new desk_schema schema_is _ is.asks.command is.asks.plain is.unlisted rows h in
       subst (λ passed. Sorts (whole_table t) [] passed rows) (all_pass _ ∙ none_given old.now.trees t.tree)
-      (sorts t.tree [] (shown_columns t.places) (rising_by t.key) _ [] rows (read.answer Null))
+      (sorts t.tree [] (shown_columns t.places) (rising_by t.sorted_by) _ [] rows (read.answer Null))
 
   -- it shows the columns that it names, of each row of the table
   pub shows_all : (r : Result (Vec Row Global) Error) → IfOk r (λ rows. Shown t.text [] old new rows.items)

@@ -14,6 +14,7 @@ use Rattle.sqlite.specs.Held.{Held, state}
 use Rattle.sqlite.proofs.StateLemmas.{survives_then}
 use Rattle.sqlite.proofs.Callers.{survives_begin}
 use Rattle.rtgs_rows.specs.Content.{tables_of, tables_for, Content, Holds, Stands, Rests}
+use Rattle.rtgs_tables.specs.Tables.{desk_query, participants_query, postings_query, payments_query, marks_query}
 
 -- the database, with its schema written out
 abbrev pub desk_over : Trees → Database
@@ -37,11 +38,11 @@ framed tree old new rows others here =
       | inl same ↦ rw same (ap new (eqb-true t tree same) ∙ here)
       | inr apart ↦ rw apart (other (λ same. absurd (true≢false (sym (eq-eqb t tree same) ∙ apart))))
     ] in
-    let desk = at 0 others.0 in
-    let participants = at 1 others.1.0 in
-    let postings = at 4 others.1.1.0 in
-    let payments = at 6 others.1.1.1.0 in
-    let marks = at 8 others.1.1.1.1.0 in
+    let desk = at desk_query.tree others.0 in
+    let participants = at participants_query.tree others.1.0 in
+    let postings = at postings_query.tree others.1.1.0 in
+    let payments = at payments_query.tree others.1.1.1.0 in
+    let marks = at marks_query.tree others.1.1.1.1.0 in
     λ i. record {
       desk = desk i;
       participants = participants i;

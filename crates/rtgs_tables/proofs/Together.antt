@@ -1,5 +1,5 @@
 -- The five tables together, and the book that they hold.
-use Rattle.std.proofs.Common.{◌≡◌, ◌≢◌, ℤ, List, [], ◌∷◌, IsPermutation, map, sym, subst, ◌∙◌, Ok, Err, Result, IfOk}
+use Rattle.std.proofs.Common.{◌≡◌, ◌≢◌, ℤ, List, map, sym, subst, ◌∙◌, Ok, Err, Result, IfOk}
 use Rattle.std.proofs.Common.{OnOk}
 use Rattle.std.specs.List.{AllByRecursion}
 use Rattle.sqlite.specs.Tree.{Trees}
@@ -19,64 +19,15 @@ use Rattle.rtgs_tables.proofs.Resting.{rests_of}
 use Rattle.rtgs_rows.specs.Keeping.{IsBookOf}
 use Rattle.rtgs_tables.proofs.AboveZero.{above_zero}
 use Rattle.rtgs_book.specs.declared.Participant.{Participant}
-use Rattle.rtgs_book.specs.declared.Posting.{Posting}
-use Rattle.rtgs_book.specs.declared.Order.{Order}
-use Rattle.rtgs_book.specs.declared.Mark.{Mark}
-use Rattle.rtgs_rows.specs.Rows.{shown_day, shown_account, shown_posting, shown_order, shown_mark}
-use Rattle.rtgs_rows.specs.Fitting.{FitsDate, FitsParticipant, FitsPosting, FitsOrder, FitsMark, Fits}
-use Rattle.rtgs_rows.specs.Querying.{picked, IsDeskFile, AreWhole, ShowsBook, shown_entry, ShowsDesk, ShowsParticipants}
+use Rattle.rtgs_rows.specs.Rows.{shown_posting, shown_order, shown_mark}
+use Rattle.rtgs_rows.specs.Fitting.{Fits}
+use Rattle.rtgs_rows.specs.Querying.{picked, IsDeskFile, AreWhole, ShowsBook, shown_entry, ShowsParticipants}
 use Rattle.rtgs_book.specs.declared.account.Account.{Account}
-use Rattle.rtgs_tables.specs.Accounts.{AreBalances, entry_of, AreTold, AreReadOf, IsShown}
+use Rattle.rtgs_tables.specs.Accounts.{AreBalances, entry_of, AreReadOf, IsShown}
 use Rattle.rtgs_tables.specs.Numbers.{counted_of_posting, counted_of_order, counted_of_mark, IsNumberedPosting}
 use Rattle.rtgs_tables.specs.Numbers.{IsNumberedOrder, IsNumberedMark, IsNumberedBook}
-use Rattle.rtgs_tables.specs.Loading.{ReadsOn}
-use Rattle.rtgs_tables.specs.TableQueries.{participants_query, postings_query, payments_query, marks_query}
-use Rattle.rtgs_tables.proofs.Told.{as_they_are}
+use Rattle.rtgs_tables.specs.TableQueries.{postings_query, payments_query, marks_query}
 use Rattle.rtgs_tables.proofs.AsRead.{told_plainly, posting_own, order_own, mark_own}
-
--- one reading after another
-pub followed : {a b c : State} → ReadsOn a b → ReadsOn b c → ReadsOn a c
-followed one two = record {
-  clean = λ clean. one.clean (two.clean clean);
-  file = λ clean trees file. two.file clean trees (one.file (two.clean clean) trees file);
-  same = λ clean. two.same clean ∙ one.same (two.clean clean);
-}
-
--- what is read of each table
-pub are_read_of : (trees : Trees) (accounts : List Account) (book : Book) {postings : List Posting}
-    {orders : List Order} {marks : List Mark}
-    → book.participants ≡ map (λ (a : Account). a.participant) accounts → book.postings ≡ postings
-    → book.orders ≡ orders → book.marks ≡ marks
-    → FitsDate book.day.date × ShowsDesk trees (shown_day book.day ∷ [])
-    → AllByRecursion (λ (a : Account). FitsParticipant a.participant) accounts
-    × AreTold participants_query.places [] (trees 1)
-    (map (λ (a : Account). shown_account a.participant a.balance) accounts)
-    → AllByRecursion FitsPosting postings × AreTold postings_query.places counted_of_posting (trees 4)
-    (map shown_posting postings)
-    → AllByRecursion FitsOrder orders × AreTold payments_query.places counted_of_order (trees 6)
-    (map shown_order orders)
-    → AllByRecursion FitsMark marks × AreTold marks_query.places counted_of_mark (trees 8) (map shown_mark marks)
-    → AreReadOf trees accounts book
-are_read_of trees accounts book named postings orders marks day stored some_postings some_orders some_marks = record {
-  fits = record {
-    participants = subst (AllByRecursion FitsParticipant) (sym named)
-        (all_map FitsParticipant (λ (a : Account). a.participant) accounts stored.0);
-    postings = subst (AllByRecursion FitsPosting) (sym postings) some_postings.0;
-    orders = subst (AllByRecursion FitsOrder) (sym orders) some_orders.0;
-    marks = subst (AllByRecursion FitsMark) (sym marks) some_marks.0;
-    day = day.0;
-  };
-  named = named;
-  desk = day.1;
-  participants = subst (λ rows. IsPermutation rows (map (λ (a : Account). shown_account a.participant a.balance)
-      accounts)) (as_they_are _) stored.1;
-  postings = subst (λ all. AreTold postings_query.places counted_of_posting (trees 4) (map shown_posting all))
-      (sym postings) some_postings.1;
-  payments = subst (λ all. AreTold payments_query.places counted_of_order (trees 6)
-      (map shown_order all)) (sym orders) some_orders.1;
-  marks = subst (λ all. AreTold marks_query.places counted_of_mark (trees 8) (map shown_mark all)) (sym marks)
-      some_marks.1;
-}
 
 -- where the numbers are above zero, the tables show the records' own rows
 pub shows_of : (trees : Trees) (accounts : List Account) (book : Book) → AreReadOf trees accounts book
@@ -86,11 +37,11 @@ shows_of trees accounts book read numbered = record {
   participants = subst (ShowsParticipants trees) (sym (map-map shown_entry entry_of accounts)) read.participants;
   named = read.named ∙ sym (map-map (λ (entry : Participant × ℤ). entry.0) entry_of accounts);
   postings = told_plainly counted_of_posting shown_posting IsNumberedPosting posting_own
-      (map (picked postings_query.places) (trees 4)) book.postings numbered.postings read.postings;
+      (map (picked postings_query.places) (trees postings_query.tree)) book.postings numbered.postings read.postings;
   payments = told_plainly counted_of_order shown_order IsNumberedOrder order_own
-      (map (picked payments_query.places) (trees 6)) book.orders numbered.orders read.payments;
-  marks = told_plainly counted_of_mark shown_mark IsNumberedMark mark_own (map (picked marks_query.places) (trees 8))
-      book.marks numbered.marks read.marks;
+      (map (picked payments_query.places) (trees payments_query.tree)) book.orders numbered.orders read.payments;
+  marks = told_plainly counted_of_mark shown_mark IsNumberedMark mark_own
+      (map (picked marks_query.places) (trees marks_query.tree)) book.marks numbered.marks read.marks;
 }
 
 -- what was read, and judged to be sound with its balances stored, is what the tables show

@@ -1,5 +1,5 @@
 -- Rows of a query and the records that are read of them.
-use Rattle.std.proofs.Common.{◌≡◌, ◌≢◌, ℕ, ap, List, [], ◌∷◌, map, length, IsPermutation, Bool, sym, ◌∙◌, Ok, Err}
+use Rattle.std.proofs.Common.{◌≡◌, ◌≢◌, ℕ, ap, List, [], ◌∷◌, map, length, IsPermutation, Bool, sym, Ok, Err}
 use Rattle.std.proofs.Common.{Result, IfOk, IfErr, Vec, Global, refl, subst, arith}
 use Rattle.std.specs.List.{AllByRecursion}
 use Rattle.std.proofs.lemmas.List.Sorted.{IsPermutation-map, IsPermutation-sym, IsPermutation-trans, length_permutation}
@@ -29,14 +29,6 @@ read_as fits counted shown places stored rows (Err e) same told = tt
 pub as_they_are : (rows : List Row) → map (as_read []) rows ≡ rows
 as_they_are [] = refl
 as_they_are (row ∷ rows) = ap (λ rs. row ∷ rs) (as_they_are rows)
-
-pub read_plainly : {A : Type 0} (fits : A → Type 0) (shown : A → Row) (places : List ℕ) (stored rows : List Row)
-    (r : Result (Vec A Global) Fault) → IsPermutation (map (picked places) stored) rows
-    → IfOk r (λ v. AllByRecursion fits v.items × (map (as_read []) rows ≡ map shown v.items))
-    → IfOk r (λ v. AllByRecursion fits v.items × IsPermutation (map (picked places) stored) (map shown v.items))
-read_plainly fits shown places stored rows (Ok v) same told =
-    (told.0, subst (IsPermutation (map (picked places) stored)) (sym (as_they_are rows) ∙ told.1) same)
-read_plainly fits shown places stored rows (Err e) same told = tt
 
 -- a row that the query shows is in no form, so one that the table has
 pub misread : {A : Type 0} (fits : A → Type 0) (counted : List Bool) (shown : A → Row) (places : List ℕ)

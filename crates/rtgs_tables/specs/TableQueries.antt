@@ -101,7 +101,7 @@ rising_by place = (col 1 place, record { collation = Binary; descending = false 
 
 -- the columns that are named, of all rows of the table, sorted by one of them
 abbrev pub whole_table : TableQuery → Query
-whole_table t = simple t.tree [] (columns_of t) (rising_by t.key)
+whole_table t = simple t.tree [] (columns_of t) (rising_by t.sorted_by)
 
 -- the text is that query: over the tables of a desk it is this one, and over any schema it is some query
 pub record IsTableQuery (t : TableQuery) : Type 0 where
@@ -122,18 +122,20 @@ abbrev pub after_tests : List Term
 after_tests = op2 (Compare Gt Binary) (col 1 0) (col 0 0) ∷ []
 
 -- the first row of the table whose number is above the parameter
-abbrev pub first_after : TableQuery → Query
-first_after t = record (simple t.tree after_tests (columns_of t) (rising_by t.key)) { limit = lit (Int (pos 1)) }
+abbrev pub first_row_query : TableQuery → Query
+first_row_query t = record (simple t.tree after_tests (columns_of t) (rising_by t.sorted_by)) {
+  limit = lit (Int (pos 1));
+}
 
 -- the text is that query, which writes nothing
 pub record IsFirstQuery (t : TableQuery) (text : List ℕ) : Type 0 where
-  pub seeks : Seeks text 1 (first_after t) t.names
+  pub seeks : Seeks text 1 (first_row_query t) t.names
   pub reads : Returnless (first text)
 
 -- what it answers over these trees tells this record, or none
 abbrev pub ShowsFirst : {A : Type 0} → TableQuery → List Bool → (A → Row) → Trees → ℕ → Option A → Type 0
 ShowsFirst t counted shown trees number found = (rows : List Row)
-    → IsAnswer (first_after t) (overlay trees []) (Int (pos number) ∷ []) rows
+    → IsAnswer (first_row_query t) (overlay trees []) (Int (pos number) ∷ []) rows
     → map (as_read counted) rows ≡ map shown (one_of found)
 
 -- ---- what it shows of a book

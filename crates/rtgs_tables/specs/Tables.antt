@@ -7,7 +7,7 @@ pub record TableQuery : Type 0 where
   pub text : List ℕ
   pub tree : ℕ
   pub places : List ℕ
-  pub key : ℕ
+  pub sorted_by : ℕ
   pub names : List (List ℕ)
 
 abbrev pub desk_text : List ℕ
@@ -18,7 +18,7 @@ desk_query = record {
   text = desk_text;
   tree = 0;
   places = 0 ∷ 2 ∷ 3 ∷ 4 ∷ [];
-  key = 0;
+  sorted_by = 0;
   names = codes "id" ∷ codes "version" ∷ codes "date" ∷ codes "phase" ∷ [];
 }
 
@@ -30,7 +30,7 @@ participants_query = record {
   text = participants_text;
   tree = 1;
   places = 1 ∷ 2 ∷ 3 ∷ 4 ∷ 5 ∷ [];
-  key = 1;
+  sorted_by = 1;
   names = codes "code" ∷ codes "name" ∷ codes "key" ∷ codes "credit" ∷ codes "balance" ∷ [];
 }
 
@@ -42,7 +42,7 @@ postings_query = record {
   text = postings_text;
   tree = 4;
   places = 0 ∷ 2 ∷ 3 ∷ 4 ∷ 5 ∷ [];
-  key = 0;
+  sorted_by = 0;
   names = codes "number" ∷ codes "code" ∷ codes "reference" ∷ codes "cents" ∷ codes "date" ∷ [];
 }
 
@@ -55,7 +55,7 @@ payments_query = record {
   text = payments_text;
   tree = 6;
   places = 0 ∷ 2 ∷ 3 ∷ 4 ∷ 5 ∷ 6 ∷ 7 ∷ 8 ∷ [];
-  key = 0;
+  sorted_by = 0;
   names = codes "number" ∷ codes "sender" ∷ codes "reference" ∷ codes "receiver" ∷ codes "amount" ∷ codes "date"
       ∷ codes "state" ∷ codes "mark" ∷ [];
 }
@@ -68,6 +68,6 @@ marks_query = record {
   text = marks_text;
   tree = 8;
   places = 0 ∷ 2 ∷ 3 ∷ 4 ∷ [];
-  key = 0;
+  sorted_by = 0;
   names = codes "number" ∷ codes "date" ∷ codes "many" ∷ codes "value" ∷ [];
 }

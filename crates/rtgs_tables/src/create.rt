@@ -55,23 +55,29 @@ fn build<S: Alter>(tx: &mut Transaction<'_, S>) -> Result<(), Error>
 {
     create_table(
         tx,
-        "CREATE TABLE desk (id INTEGER PRIMARY KEY, version INTEGER NOT NULL, date TEXT, phase INTEGER NOT NULL) STRICT",
+        "CREATE TABLE desk (id INTEGER PRIMARY KEY, version INTEGER NOT NULL, date TEXT, \
+         phase INTEGER NOT NULL) STRICT",
     )?;
     create_table(
         tx,
-        "CREATE TABLE participant (code TEXT PRIMARY KEY NOT NULL, name TEXT NOT NULL, key BLOB NOT NULL UNIQUE, credit INTEGER NOT NULL, balance INTEGER NOT NULL) STRICT",
+        "CREATE TABLE participant (code TEXT PRIMARY KEY NOT NULL, name TEXT NOT NULL, key BLOB NOT NULL UNIQUE, \
+         credit INTEGER NOT NULL, balance INTEGER NOT NULL) STRICT",
     )?;
     create_table(
         tx,
-        "CREATE TABLE posting (number INTEGER PRIMARY KEY, code TEXT NOT NULL, reference TEXT NOT NULL UNIQUE, cents INTEGER NOT NULL, date TEXT) STRICT",
+        "CREATE TABLE posting (number INTEGER PRIMARY KEY, code TEXT NOT NULL, reference TEXT NOT NULL UNIQUE, \
+         cents INTEGER NOT NULL, date TEXT) STRICT",
     )?;
     create_table(
         tx,
-        "CREATE TABLE payment (number INTEGER PRIMARY KEY, sender TEXT NOT NULL, reference TEXT NOT NULL, receiver TEXT NOT NULL, amount INTEGER NOT NULL, date TEXT NOT NULL, state INTEGER NOT NULL, mark INTEGER, UNIQUE (sender, reference)) STRICT",
+        "CREATE TABLE payment (number INTEGER PRIMARY KEY, sender TEXT NOT NULL, reference TEXT NOT NULL, \
+         receiver TEXT NOT NULL, amount INTEGER NOT NULL, date TEXT NOT NULL, state INTEGER NOT NULL, mark INTEGER, \
+         UNIQUE (sender, reference)) STRICT",
     )?;
     create_table(
         tx,
-        "CREATE TABLE mark (number INTEGER PRIMARY KEY, date TEXT NOT NULL, many INTEGER NOT NULL, value INTEGER NOT NULL) STRICT",
+        "CREATE TABLE mark (number INTEGER PRIMARY KEY, date TEXT NOT NULL, many INTEGER NOT NULL, \
+         value INTEGER NOT NULL) STRICT",
     )?;
     first_day(tx)?;
     Ok(())

@@ -29,7 +29,8 @@ fn order_rows<S: Alter>(
         → IfOk result (λ rows. rows.items ≡ map shown_order (one_of (order_named book sender.now reference.now))) }
 {
     conn.query_all(
-        "SELECT number, sender, reference, receiver, amount, date, state, mark FROM payment WHERE sender = ?1 AND reference = ?2",
+        "SELECT number, sender, reference, receiver, amount, date, state, mark FROM payment \
+         WHERE sender = ?1 AND reference = ?2",
         &[text(sender.as_bytes()), text(reference.as_bytes())],
     )
 }

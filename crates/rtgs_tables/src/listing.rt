@@ -4,7 +4,7 @@ ghost use Rattle.std.specs.List.{AllByRecursion};
 ghost use Rattle.rtgs_cores.specs.Nexts.{date_of_posting};
 ghost use Rattle.rtgs_rows.specs.Content.{Content, Rests};
 ghost use Rattle.rtgs_tables.specs.Finding.{one_of, IsQuery, IsLook};
-ghost use Rattle.rtgs_tables.specs.TableQueries.{IsFirstQuery, ShowsFirst, first_after};
+ghost use Rattle.rtgs_tables.specs.TableQueries.{IsFirstQuery, ShowsFirst, first_row_query};
 ghost use Rattle.sqlite.specs.declared.types.Value.TheVariants.{Int};
 ghost use Rattle.sqlite.specs.Query.{IsAnswer};
 ghost use Rattle.sqlite_sql.specs.Program.{overlay};
@@ -28,7 +28,7 @@ fn rows_after<T: TableRow, S: Alter>(
     requires { (number < 2 ^ 63) × IsFirstQuery T.table text.now }
     ensures asks { IsQuery S.Store conn.old conn.new result }
     ensures rows { HasCleanDisk (state S.Store conn.new) → (content : Content) → Rests content (state S.Store conn.old)
-        → IfOk result (λ rows. IsAnswer (first_after T.table) (overlay (state S.Store conn.old).now.trees [])
+        → IfOk result (λ rows. IsAnswer (first_row_query T.table) (overlay (state S.Store conn.old).now.trees [])
         (Int (pos number) ∷ []) rows.items) }
 {
     conn.query_all(text, &[number_value(number)])
@@ -99,7 +99,8 @@ impl Listed for Order {
         laws::records_stand_in_order();
         first_record::<Order, S>(
             conn,
-            "SELECT number, sender, reference, receiver, amount, date, state, mark FROM payment WHERE number > ?1 ORDER BY number LIMIT 1",
+            "SELECT number, sender, reference, receiver, amount, date, state, mark FROM payment \
+             WHERE number > ?1 ORDER BY number LIMIT 1",
             number,
         )
     }

@@ -3,10 +3,11 @@ ghost use Rattle.std.specs.Prelude.{◌≡◌, ◌≢◌, false, map, List, Err,
 ghost use Rattle.rtgs_book.specs.declared.Book.{Book};
 ghost use Rattle.rtgs_book.specs.declared.Rule.{Rule};
 ghost use Rattle.rtgs_book.specs.declared.account.Account.{Account as AccountSpec};
-ghost use Rattle.rtgs_tables.specs.Accounts.{HasRecords, AreBalances, AreReadOf, AreFormed, ExplainsRead};
+ghost use Rattle.rtgs_tables.specs.Accounts.{HasRecords, AreBalances, AreFormed, ExplainsRead};
 ghost use Rattle.rtgs_tables.specs.Accounts.{ExplainsTrees, IsShown};
 ghost use Rattle.rtgs_tables.specs.Building.{IsBlank};
-ghost use Rattle.rtgs_tables.specs.Displaying.{AreDisplayed, IsDisplayed, IsIllegible, ExplainsDatabase};
+ghost use Rattle.rtgs_tables.specs.Displaying.{IsDisplayed, IsIllegible, ExplainsDatabase};
+ghost use Rattle.rtgs_tables.specs.Loading.{Tells, Stops};
 ghost use Rattle.rtgs_book.specs.Ranges.{Fits};
 ghost use Rattle.rtgs_book.specs.Soundness.{IsSound};
 ghost use Rattle.rtgs_rows.specs.Content.{Content, Holds};
@@ -33,23 +34,12 @@ struct Stored {
 
 /// Reads the five tables.
 fn read_tables<S: Alter>(alloc: Global, conn: &mut Connection<S>) -> Result<Stored, Fault>
-    ensures read { HasCleanDisk (state S.Store conn.new) → (accounts : List AccountSpec) (book : Book)
-        → HasRecords accounts book (state S.Store conn.old)
-        → IfOk result (λ stored. (stored.book ≡ book) × (stored.accounts.items ≡ accounts)) }
-    ensures is { HasCleanDisk (state S.Store conn.new) → (trees : Trees) → IsDeskFile trees (state S.Store conn.old)
-        → IfOk result (λ stored. AreReadOf trees stored.accounts.items stored.book) }
-    ensures right { HasCleanDisk (state S.Store conn.new) → (accounts : List AccountSpec) (book : Book)
-        → HasRecords accounts book (state S.Store conn.old) → result ≢ Err Fault.NotADeskFile }
-    ensures wrong { HasCleanDisk (state S.Store conn.new) → (trees : Trees) → IsDeskFile trees (state S.Store conn.old)
-        → result ≡ Err Fault.NotADeskFile → ¬ AreFormed trees }
+    ensures told { HasCleanDisk (state S.Store conn.new) → IfOk result (λ stored.
+        Tells (state S.Store conn.old) stored.accounts.items stored.book) }
+    ensures stops { Stops (state S.Store conn.old) (state S.Store conn.new) result (λ trees. ¬ AreFormed trees)
+        IsIllegible }
     ensures kinds { (rule : Rule) → result ≢ Err (Fault.Inconsistent rule) }
-    ensures displayed { HasCleanDisk (state S.Store conn.new) → IfOk result (λ stored.
-        AreDisplayed (state S.Store conn.old).now stored.accounts.items stored.book) }
-    ensures illegible { HasCleanDisk (state S.Store conn.new) → result ≡ Err Fault.NotADeskFile
-        → IsIllegible (state S.Store conn.old).now }
     ensures blank { HasCleanDisk (state S.Store conn.new) → IsBlank (state S.Store conn.old) → IfOk result (λ _. ⊥) }
-    ensures same { HasCleanDisk (state S.Store conn.new) → (trees : Trees) → IsDeskFile trees (state S.Store conn.old)
-        → result ≢ Err Fault.StoreFault → IsDeskFile trees (state S.Store conn.new) }
     ensures survives { Survives (state S.Store conn.old) (state S.Store conn.new) (λ _. ⊥) }
     ensures mode { conn.old.in_transaction ≡ false → conn.new.in_transaction ≡ false }
     ensures honest { HasCleanDisk (state S.Store conn.new) → HasCleanDisk (state S.Store conn.old) }

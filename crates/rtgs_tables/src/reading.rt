@@ -13,7 +13,7 @@ ghost use Rattle.rtgs_rows.specs.Rows.{shown_day};
 ghost use Rattle.rtgs_rows.specs.Querying.{picked, IsDeskFile, ShowsDesk};
 ghost use Rattle.rtgs_tables.specs.Displaying.{desk_text, Displays, DisplaysAs, HasNoAnswer, IsUnread, IsOneDay};
 ghost use Rattle.rtgs_tables.specs.Faults.{IsOfStore, LookFailed};
-ghost use Rattle.rtgs_tables.specs.Loading.{ReadsOn};
+ghost use Rattle.rtgs_tables.specs.Loading.{ReadsOn, Stops};
 ghost use Rattle.rtgs_tables.specs.Numbers.{as_read, IsFormed};
 ghost use Rattle.sqlite.specs.State.{HasCleanDisk, IsUnchanged, Survives};
 ghost use Rattle.sqlite.specs.Held.{state};
@@ -128,19 +128,13 @@ pub(crate) fn read_day<S: Alter>(alloc: Global, conn: &mut Connection<S>) -> Res
         → HasRecords accounts book (state S.Store conn.old) → IfOk result (λ day. day ≡ book.day) }
     ensures is { HasCleanDisk (state S.Store conn.new) → (trees : Trees) → IsDeskFile trees (state S.Store conn.old)
         → IfOk result (λ day. FitsDate day.date × ShowsDesk trees (shown_day day ∷ [])) }
-    ensures right { HasCleanDisk (state S.Store conn.new) → (accounts : List AccountSpec) (book : Book)
-        → HasRecords accounts book (state S.Store conn.old) → result ≢ Err Fault.NotADeskFile }
-    ensures wrong { HasCleanDisk (state S.Store conn.new) → (trees : Trees) → IsDeskFile trees (state S.Store conn.old)
-        → result ≡ Err Fault.NotADeskFile → ¬ ((day : DaySpec) × FitsDate day.date
-        × ShowsDesk trees (shown_day day ∷ [])) }
+    ensures stops { Stops (state S.Store conn.old) (state S.Store conn.new) result
+        (λ trees. ¬ ((day : DaySpec) × FitsDate day.date × ShowsDesk trees (shown_day day ∷ [])))
+        (λ db. IsUnread db desk_text IsOneDay) }
     ensures told { HasCleanDisk (state S.Store conn.new) → IfOk result (λ day. FitsDate day.date
         × Displays (state S.Store conn.old).now desk_text (shown_day day ∷ [])) }
     ensures on { OnOk result (ReadsOn (state S.Store conn.old) (state S.Store conn.new)) }
-    ensures unread { HasCleanDisk (state S.Store conn.new) → result ≡ Err Fault.NotADeskFile
-        → IsUnread (state S.Store conn.old).now desk_text IsOneDay }
     ensures kinds { (rule : Rule) → result ≢ Err (Fault.Inconsistent rule) }
-    ensures same { HasCleanDisk (state S.Store conn.new) → (trees : Trees) → IsDeskFile trees (state S.Store conn.old)
-        → result ≢ Err Fault.StoreFault → IsDeskFile trees (state S.Store conn.new) }
     ensures blank { HasCleanDisk (state S.Store conn.new) → IsBlank (state S.Store conn.old) → IfOk result (λ _. ⊥) }
     ensures survives { Survives (state S.Store conn.old) (state S.Store conn.new) (λ _. ⊥) }
     ensures mode { conn.old.in_transaction ≡ false → conn.new.in_transaction ≡ false }
@@ -163,20 +157,14 @@ pub(crate) fn read_records<T: TableRow + Drop, S: Alter>(
     ensures is { HasCleanDisk (state S.Store conn.new) → (trees : Trees) → IsDeskFile trees (state S.Store conn.old)
         → IfOk result (λ v. AllByRecursion T.fits v.items
         × AreTold T.table.places T.counted (trees T.table.tree) (map T.shown v.items)) }
-    ensures right { HasCleanDisk (state S.Store conn.new) → (accounts : List AccountSpec) (book : Book)
-        → HasRecords accounts book (state S.Store conn.old) → result ≢ Err Fault.NotADeskFile }
-    ensures wrong { HasCleanDisk (state S.Store conn.new) → (trees : Trees) → IsDeskFile trees (state S.Store conn.old)
-        → result ≡ Err Fault.NotADeskFile → ¬ AllByRecursion (IsFormed T.fits T.counted T.shown)
-        (map (picked T.table.places) (trees T.table.tree)) }
+    ensures stops { Stops (state S.Store conn.old) (state S.Store conn.new) result
+        (λ trees. ¬ AllByRecursion (IsFormed T.fits T.counted T.shown)
+        (map (picked T.table.places) (trees T.table.tree)))
+        (λ db. IsUnread db T.table.text (AllByRecursion (IsFormed T.fits T.counted T.shown))) }
     ensures told { HasCleanDisk (state S.Store conn.new) → IfOk result (λ v. AllByRecursion T.fits v.items
         × DisplaysAs (state S.Store conn.old).now T.table.text T.counted (map T.shown v.items)) }
-    ensures unread { HasCleanDisk (state S.Store conn.new) → result ≡ Err Fault.NotADeskFile
-        → IsUnread (state S.Store conn.old).now T.table.text
-        (AllByRecursion (IsFormed T.fits T.counted T.shown)) }
     ensures kinds { (rule : Rule) → result ≢ Err (Fault.Inconsistent rule) }
     ensures on { OnOk result (ReadsOn (state S.Store conn.old) (state S.Store conn.new)) }
-    ensures same { HasCleanDisk (state S.Store conn.new) → (trees : Trees) → IsDeskFile trees (state S.Store conn.old)
-        → result ≢ Err Fault.StoreFault → IsDeskFile trees (state S.Store conn.new) }
     ensures survives { Survives (state S.Store conn.old) (state S.Store conn.new) (λ _. ⊥) }
     ensures mode { conn.old.in_transaction ≡ false → conn.new.in_transaction ≡ false }
     ensures honest { HasCleanDisk (state S.Store conn.new) → HasCleanDisk (state S.Store conn.old) }

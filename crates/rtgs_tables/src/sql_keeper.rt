@@ -184,13 +184,45 @@ impl<S: Alter + Drop> Keeper for SqlKeeper<S> {
 
     ghost is_honest = { λ k. HasCleanDisk (state S.Store k.conn) };
 
-    ghost settled = { λ k. settling.settled (record { view = S.Store.view; faults = S.Store.faults; recovers = S.Store.recovers; is_shielded = S.Store.is_shielded; is_step = S.Store.is_step; blamed = S.Store.blamed; names = S.Store.names }) k.conn k.tells (S.Store.settled k.conn.store) };
+    ghost settled = { λ k. settling.settled (record {
+      view = S.Store.view;
+      faults = S.Store.faults;
+      recovers = S.Store.recovers;
+      is_shielded = S.Store.is_shielded;
+      is_step = S.Store.is_step;
+      blamed = S.Store.blamed;
+      names = S.Store.names;
+    }) k.conn k.tells (S.Store.settled k.conn.store) };
 
-    ghost stays = { λ k. settling.stays (record { view = S.Store.view; faults = S.Store.faults; recovers = S.Store.recovers; is_shielded = S.Store.is_shielded; is_step = S.Store.is_step; blamed = S.Store.blamed; names = S.Store.names }) k.conn (S.Store.stays k.conn.store) };
+    ghost stays = { λ k. settling.stays (record {
+      view = S.Store.view;
+      faults = S.Store.faults;
+      recovers = S.Store.recovers;
+      is_shielded = S.Store.is_shielded;
+      is_step = S.Store.is_step;
+      blamed = S.Store.blamed;
+      names = S.Store.names;
+    }) k.conn (S.Store.stays k.conn.store) };
 
-    ghost tabled = { λ k. settling.tabled (record { view = S.Store.view; faults = S.Store.faults; recovers = S.Store.recovers; is_shielded = S.Store.is_shielded; is_step = S.Store.is_step; blamed = S.Store.blamed; names = S.Store.names }) k.conn k.tables_are_whole };
+    ghost tabled = { λ k. settling.tabled (record {
+      view = S.Store.view;
+      faults = S.Store.faults;
+      recovers = S.Store.recovers;
+      is_shielded = S.Store.is_shielded;
+      is_step = S.Store.is_step;
+      blamed = S.Store.blamed;
+      names = S.Store.names;
+    }) k.conn k.tables_are_whole };
 
-    ghost whole = { λ k. settling.whole (record { view = S.Store.view; faults = S.Store.faults; recovers = S.Store.recovers; is_shielded = S.Store.is_shielded; is_step = S.Store.is_step; blamed = S.Store.blamed; names = S.Store.names }) k.conn (S.Store.settled k.conn.store) };
+    ghost whole = { λ k. settling.whole (record {
+      view = S.Store.view;
+      faults = S.Store.faults;
+      recovers = S.Store.recovers;
+      is_shielded = S.Store.is_shielded;
+      is_step = S.Store.is_step;
+      blamed = S.Store.blamed;
+      names = S.Store.names;
+    }) k.conn (S.Store.settled k.conn.store) };
 
     ghost unmoved = { λ _ _ left. left };
 

@@ -87,7 +87,8 @@ pub(crate) fn add_order<S: Alter>(
     check_mark(order.state)?;
     let date = text_of(Some(order.date));
     tx.execute(
-        "INSERT INTO payment (number, sender, reference, receiver, amount, date, state, mark) VALUES (?1, ?2, ?3, ?4, ?5, ?8, ?6, ?7)",
+        "INSERT INTO payment (number, sender, reference, receiver, amount, date, state, mark) \
+         VALUES (?1, ?2, ?3, ?4, ?5, ?8, ?6, ?7)",
         &[
             number_value(order.number),
             text(order.sender.as_bytes()),

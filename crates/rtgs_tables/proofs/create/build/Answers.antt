@@ -1,7 +1,7 @@
 use Rattle.std.proofs.Common.{arith}
 use Rattle.sqlite.specs.State.{HasCleanDisk}
 use Rattle.sqlite.specs.Held.{state}
-use Rattle.rtgs_tables.proofs.CreateLemmas.{makes_desk, makes_participant, makes_posting, makes_payment, makes_mark}
+use Rattle.rtgs_tables.proofs.CreateTexts.{makes_desk, makes_participant, makes_posting, makes_payment, makes_mark}
 use Rattle.rtgs_tables.proofs.create.build.Goals as goal
 
 pub returns-clause-made : goal.returns-clause-made

@@ -13,7 +13,8 @@ returns-clause-asks g c =
     let sender = ap bound_value (c.text.ensures ∙ ap Text c.as_bytes.ensures.value) in
     let reference = ap bound_value (c.text-2.ensures ∙ ap Text c.as_bytes-2.ensures.value) in
     is_query_of g.S.Store order_text (Text c.args.sender.now ∷ Text c.args.reference.now ∷ [])
-    (simple 6 order_tests (columns_of payments_query) []) payments_query.names order_seeks order_reads c.args.conn.now
+    (simple payments_query.tree order_tests (columns_of payments_query) []) payments_query.names order_seeks order_reads
+    c.args.conn.now
     c.query_all.new.self c.query_all.result _ (λ i. sender i ∷ reference i ∷ []) c.query_all.ensures.ok
     c.query_all.ensures.err c.query_all.ensures.mode c.query_all.ensures.survives
 

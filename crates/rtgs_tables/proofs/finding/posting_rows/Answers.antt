@@ -11,9 +11,9 @@ use Rattle.rtgs_tables.proofs.finding.posting_rows.Goals as goal
 pub returns-clause-asks : goal.returns-clause-asks
 returns-clause-asks g c =
     let reference = ap bound_value (c.text.ensures ∙ ap Text c.as_bytes.ensures.value) in
-    is_query_of g.S.Store posting_text (Text c.args.reference.now ∷ []) (simple 4 posting_tests (columns_of
-    postings_query) [])
-    postings_query.names posting_seeks posting_reads c.args.conn.now c.query_all.new.self c.query_all.result _
+    is_query_of g.S.Store posting_text (Text c.args.reference.now ∷ [])
+    (simple postings_query.tree posting_tests (columns_of postings_query) []) postings_query.names posting_seeks
+    posting_reads c.args.conn.now c.query_all.new.self c.query_all.result _
     (λ i. reference i ∷ []) c.query_all.ensures.ok c.query_all.ensures.err c.query_all.ensures.mode
     c.query_all.ensures.survives
 

@@ -16,44 +16,12 @@ returns-in-Ok-clause-given g c clean accounts book held =
     (c.as_slice.ensures.value ∙ c.in-Ok.ensures.rows clean accounts book held) in
     rw is refl
 
-pub returns-in-Ok-clause-right : goal.returns-in-Ok-clause-right
-returns-in-Ok-clause-right g c clean accounts book held e =
-    let is = c.one_day.ensures.given book.day held.2.fits.day
-    (c.as_slice.ensures.value ∙ c.in-Ok.ensures.rows clean accounts book held) in
-    absurd (let clash = sym is ∙ e in cc)
-
 pub returns-in-Ok-clause-is : goal.returns-in-Ok-clause-is
 returns-in-Ok-clause-is g c clean trees file =
     let places = desk_query.places in
-    let seen = subst (IsPermutation (map (picked places) (trees 0))) (sym c.as_slice.ensures.value)
+    let seen = subst (IsPermutation (map (picked places) (trees desk_query.tree))) (sym c.as_slice.ensures.value)
     (c.in-Ok.ensures.raw clean trees file) in
-    day_shown places (trees 0) _ c.one_day.result seen c.one_day.ensures.is
-
-pub returns-in-Ok-clause-wrong : goal.returns-in-Ok-clause-wrong
-returns-in-Ok-clause-wrong g c clean trees file e =
-    let places = desk_query.places in
-    let seen = subst (IsPermutation (map (picked places) (trees 0))) (sym c.as_slice.ensures.value)
-    (c.in-Ok.ensures.raw clean trees file) in
-    no_day places (trees 0) _ seen (not_read c.one_day.result _ _ c.one_day.ensures.wrong e)
-
-pub returns-in-Err-clause-wrong : goal.returns-in-Err-clause-wrong
-returns-in-Err-clause-wrong g c clean trees file e = absurd (not_foreign c.fault_of.result
-    (c.fault_of.ensures.right (c.in-Err.ensures.refused (c.fault_of.ensures.honest clean) trees file)) e)
-
-pub returns-in-Ok-clause-same : goal.returns-in-Ok-clause-same
-returns-in-Ok-clause-same g c clean trees file _ = c.in-Ok.ensures.kept clean trees file
-
-pub returns-in-Err-clause-right : goal.returns-in-Err-clause-right
-returns-in-Err-clause-right g c clean accounts book held = not_foreign c.fault_of.result
-    (c.fault_of.ensures.right (c.in-Err.ensures.refused (c.fault_of.ensures.honest clean) _
-    (file_of held.0 (state g.S.Store c.args.conn.now) held.1)))
-
-pub returns-in-Err-clause-same : goal.returns-in-Err-clause-same
-returns-in-Err-clause-same g c clean trees file =
-    let was = c.fault_of.ensures.honest clean in
-    file_after trees (state g.S.Store c.table_rows.new.conn) (state g.S.Store c.fault_of.new.conn) c.fault_of.result
-    (c.in-Err.ensures.intact was trees file) (c.fault_of.ensures.right (c.in-Err.ensures.refused was trees file))
-    (λ memory. c.fault_of.ensures.same memory clean)
+    day_shown places (trees desk_query.tree) _ c.one_day.result seen c.one_day.ensures.is
 
 pub returns-in-Ok-clause-on : goal.returns-in-Ok-clause-on
 returns-in-Ok-clause-on g c = reads_on (state g.S.Store c.args.conn.now) (state g.S.Store c.table_rows.new.conn)
@@ -67,13 +35,40 @@ pub returns-in-Ok-clause-told : goal.returns-in-Ok-clause-told
 returns-in-Ok-clause-told g c clean = day_displayed (state g.S.Store c.args.conn.now).now desk_text _ _
     c.one_day.result c.as_slice.ensures.value (c.in-Ok.ensures.answered clean).0 c.one_day.ensures.is
 
-pub returns-in-Ok-clause-unread : goal.returns-in-Ok-clause-unread
-returns-in-Ok-clause-unread g c clean e =
-    let none = not_read c.one_day.result _ _ c.one_day.ensures.wrong e in
-    without_form (state g.S.Store c.args.conn.now).now desk_text IsOneDay _ _ c.as_slice.ensures.value
-    (c.in-Ok.ensures.answered clean).0 (λ found. none found.0 found.1 found.2)
+pub returns-in-Ok-clause-stops : goal.returns-in-Ok-clause-stops
+returns-in-Ok-clause-stops g c = record {
+  right = λ clean accounts book held e.
+      let is = c.one_day.ensures.given book.day held.2.fits.day
+      (c.as_slice.ensures.value ∙ c.in-Ok.ensures.rows clean accounts book held) in
+      absurd (let clash = sym is ∙ e in cc);
+  wrong = λ clean trees file e.
+      let places = desk_query.places in
+      let seen = subst (IsPermutation (map (picked places) (trees desk_query.tree))) (sym c.as_slice.ensures.value)
+      (c.in-Ok.ensures.raw clean trees file) in
+      no_day places (trees desk_query.tree) _ seen (not_read c.one_day.result _ _ c.one_day.ensures.wrong e);
+  unread = λ clean e.
+      let none = not_read c.one_day.result _ _ c.one_day.ensures.wrong e in
+      without_form (state g.S.Store c.args.conn.now).now desk_text IsOneDay _ _ c.as_slice.ensures.value
+      (c.in-Ok.ensures.answered clean).0 (λ found. none found.0 found.1 found.2);
+  same = λ clean trees file _.
+      c.in-Ok.ensures.kept clean trees file;
+}
 
-pub returns-in-Err-clause-unread : goal.returns-in-Err-clause-unread
-returns-in-Err-clause-unread g c clean =
-    without_answer (state g.S.Store c.args.conn.now).now desk_text IsOneDay c.fault_of.result _
-    c.fault_of.ensures.wrong (c.in-Err.ensures.unanswered (c.fault_of.ensures.honest clean))
+pub returns-in-Err-clause-stops : goal.returns-in-Err-clause-stops
+returns-in-Err-clause-stops g c = record {
+  right = λ clean accounts book held.
+      not_foreign c.fault_of.result
+      (c.fault_of.ensures.right (c.in-Err.ensures.refused (c.fault_of.ensures.honest clean) _
+      (file_of held.0 (state g.S.Store c.args.conn.now) held.1)));
+  wrong = λ clean trees file e.
+      absurd (not_foreign c.fault_of.result
+      (c.fault_of.ensures.right (c.in-Err.ensures.refused (c.fault_of.ensures.honest clean) trees file)) e);
+  unread = λ clean.
+      without_answer (state g.S.Store c.args.conn.now).now desk_text IsOneDay c.fault_of.result _
+      c.fault_of.ensures.wrong (c.in-Err.ensures.unanswered (c.fault_of.ensures.honest clean));
+  same = λ clean trees file.
+      let was = c.fault_of.ensures.honest clean in
+      file_after trees (state g.S.Store c.table_rows.new.conn) (state g.S.Store c.fault_of.new.conn) c.fault_of.result
+      (c.in-Err.ensures.intact was trees file) (c.fault_of.ensures.right (c.in-Err.ensures.refused was trees file))
+      (λ memory. c.fault_of.ensures.same memory clean);
+}

@@ -17,13 +17,6 @@ returns-in-Ok-clause-given g c clean accounts book held =
     (rows_same t.counted t.shown c.table_rows.ensures.own _ _
     (c.as_slice.ensures.value ∙ c.in-Ok.ensures.rows clean accounts book held))
 
-pub returns-in-Ok-clause-right : goal.returns-in-Ok-clause-right
-returns-in-Ok-clause-right g c clean accounts book held e =
-    let t = g.T.TableRow in
-    c.decode.ensures.wrong e (are_formed t.fits t.counted t.shown (t.records accounts book)
-    (c.table_rows.ensures.fit clean accounts book held) _ (rows_same t.counted t.shown c.table_rows.ensures.own _ _
-    (c.as_slice.ensures.value ∙ c.in-Ok.ensures.rows clean accounts book held)))
-
 pub returns-in-Ok-clause-is : goal.returns-in-Ok-clause-is
 returns-in-Ok-clause-is g c clean trees file =
     let t = g.T.TableRow in
@@ -32,36 +25,9 @@ returns-in-Ok-clause-is g c clean trees file =
     (c.in-Ok.ensures.raw clean trees file) in
     read_as t.fits t.counted t.shown t.table.places stored _ c.decode.result seen c.decode.ensures.is
 
-pub returns-in-Ok-clause-wrong : goal.returns-in-Ok-clause-wrong
-returns-in-Ok-clause-wrong g c clean trees file e =
-    let t = g.T.TableRow in
-    let stored = trees t.table.tree in
-    let seen = subst (IsPermutation (map (picked t.table.places) stored)) (sym c.as_slice.ensures.value)
-    (c.in-Ok.ensures.raw clean trees file) in
-    misread t.fits t.counted t.shown t.table.places stored _ seen (c.decode.ensures.wrong e)
-
-pub returns-in-Err-clause-wrong : goal.returns-in-Err-clause-wrong
-returns-in-Err-clause-wrong g c clean trees file e = absurd (not_foreign c.fault_of.result
-    (c.fault_of.ensures.right (c.in-Err.ensures.refused (c.fault_of.ensures.honest clean) trees file)) e)
-
-pub returns-in-Err-clause-right : goal.returns-in-Err-clause-right
-returns-in-Err-clause-right g c clean accounts book held = not_foreign c.fault_of.result
-    (c.fault_of.ensures.right (c.in-Err.ensures.refused (c.fault_of.ensures.honest clean) _
-    (file_of held.0 (state g.S.Store c.args.conn.now) held.1)))
-
 pub returns-in-Ok-clause-on : goal.returns-in-Ok-clause-on
 returns-in-Ok-clause-on g c = reads_on (state g.S.Store c.args.conn.now) (state g.S.Store c.table_rows.new.conn)
     c.decode.result c.table_rows.ensures.honest c.in-Ok.ensures.kept (λ clean. (c.in-Ok.ensures.answered clean).1)
-
-pub returns-in-Ok-clause-same : goal.returns-in-Ok-clause-same
-returns-in-Ok-clause-same g c clean trees file _ = c.in-Ok.ensures.kept clean trees file
-
-pub returns-in-Err-clause-same : goal.returns-in-Err-clause-same
-returns-in-Err-clause-same g c clean trees file =
-    let was = c.fault_of.ensures.honest clean in
-    file_after trees (state g.S.Store c.table_rows.new.conn) (state g.S.Store c.fault_of.new.conn) c.fault_of.result
-    (c.in-Err.ensures.intact was trees file) (c.fault_of.ensures.right (c.in-Err.ensures.refused was trees file))
-    (λ memory. c.fault_of.ensures.same memory clean)
 
 pub returns-in-Ok-clause-told : goal.returns-in-Ok-clause-told
 returns-in-Ok-clause-told g c clean =
@@ -69,16 +35,45 @@ returns-in-Ok-clause-told g c clean =
     recorded t.fits t.counted t.shown (state g.S.Store c.args.conn.now).now t.table.text _ _ c.decode.result
     c.as_slice.ensures.value (c.in-Ok.ensures.answered clean).0 c.decode.ensures.is
 
-pub returns-in-Ok-clause-unread : goal.returns-in-Ok-clause-unread
-returns-in-Ok-clause-unread g c clean e =
-    let t = g.T.TableRow in
-    without_form (state g.S.Store c.args.conn.now).now t.table.text
-    (AllByRecursion (IsFormed t.fits t.counted t.shown)) _ _ c.as_slice.ensures.value
-    (c.in-Ok.ensures.answered clean).0 (c.decode.ensures.wrong e)
+pub returns-in-Ok-clause-stops : goal.returns-in-Ok-clause-stops
+returns-in-Ok-clause-stops g c = record {
+  right = λ clean accounts book held e.
+      let t = g.T.TableRow in
+      c.decode.ensures.wrong e (are_formed t.fits t.counted t.shown (t.records accounts book)
+      (c.table_rows.ensures.fit clean accounts book held) _ (rows_same t.counted t.shown c.table_rows.ensures.own _ _
+      (c.as_slice.ensures.value ∙ c.in-Ok.ensures.rows clean accounts book held)));
+  wrong = λ clean trees file e.
+      let t = g.T.TableRow in
+      let stored = trees t.table.tree in
+      let seen = subst (IsPermutation (map (picked t.table.places) stored)) (sym c.as_slice.ensures.value)
+      (c.in-Ok.ensures.raw clean trees file) in
+      misread t.fits t.counted t.shown t.table.places stored _ seen (c.decode.ensures.wrong e);
+  unread = λ clean e.
+      let t = g.T.TableRow in
+      without_form (state g.S.Store c.args.conn.now).now t.table.text
+      (AllByRecursion (IsFormed t.fits t.counted t.shown)) _ _ c.as_slice.ensures.value
+      (c.in-Ok.ensures.answered clean).0 (c.decode.ensures.wrong e);
+  same = λ clean trees file _.
+      c.in-Ok.ensures.kept clean trees file;
+}
 
-pub returns-in-Err-clause-unread : goal.returns-in-Err-clause-unread
-returns-in-Err-clause-unread g c clean =
-    let t = g.T.TableRow in
-    without_answer (state g.S.Store c.args.conn.now).now t.table.text
-    (AllByRecursion (IsFormed t.fits t.counted t.shown)) c.fault_of.result _ c.fault_of.ensures.wrong
-    (c.in-Err.ensures.unanswered (c.fault_of.ensures.honest clean))
+pub returns-in-Err-clause-stops : goal.returns-in-Err-clause-stops
+returns-in-Err-clause-stops g c = record {
+  right = λ clean accounts book held.
+      not_foreign c.fault_of.result
+      (c.fault_of.ensures.right (c.in-Err.ensures.refused (c.fault_of.ensures.honest clean) _
+      (file_of held.0 (state g.S.Store c.args.conn.now) held.1)));
+  wrong = λ clean trees file e.
+      absurd (not_foreign c.fault_of.result
+      (c.fault_of.ensures.right (c.in-Err.ensures.refused (c.fault_of.ensures.honest clean) trees file)) e);
+  unread = λ clean.
+      let t = g.T.TableRow in
+      without_answer (state g.S.Store c.args.conn.now).now t.table.text
+      (AllByRecursion (IsFormed t.fits t.counted t.shown)) c.fault_of.result _ c.fault_of.ensures.wrong
+      (c.in-Err.ensures.unanswered (c.fault_of.ensures.honest clean));
+  same = λ clean trees file.
+      let was = c.fault_of.ensures.honest clean in
+      file_after trees (state g.S.Store c.table_rows.new.conn) (state g.S.Store c.fault_of.new.conn) c.fault_of.result
+      (c.in-Err.ensures.intact was trees file) (c.fault_of.ensures.right (c.in-Err.ensures.refused was trees file))
+      (λ memory. c.fault_of.ensures.same memory clean);
+}
