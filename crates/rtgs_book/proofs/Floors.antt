@@ -1,21 +1,24 @@
 -- The floors of participants, and what was issued.
-use Rattle.std.proofs.Common.{◌≡◌, ◌≤ℤ◌, Bool, true, List, [], ◌∷◌, map, Less, nat_cmp, ◌↔◌, refl, sym, subst}
+use Rattle.std.proofs.Common.{◌≡◌, ℕ, ◌≤ℤ◌, Bool, true, List, [], ◌∷◌, map, find, option_map, unwrap_or, Less, nat_cmp}
+use Rattle.std.proofs.Common.{◌↔◌, refl, sym, subst}
 use Rattle.std.specs.Cmp.Lexicographic.{slice_cmp, bytes_decides}
 use Rattle.std.specs.List.{AllByRecursion}
 use Rattle.std.specs.List.Sorted.{IsStrictlySortedBy}
 use Rattle.rtgs_book.specs.Books.{Book, Participant}
-use Rattle.rtgs_book.specs.Lookup.{participant_of, credit_of, accounts}
+use Rattle.rtgs_book.specs.Lookup.{has_code, participant_of, credit_of, accounts}
 use Rattle.rtgs_book.specs.Balance.{balance, floor, floor_at}
 use Rattle.rtgs_book.specs.Soundness.{CodesRise, FloorsHold}
-use Rattle.rtgs_book.proofs.Lists.{all_map}
-use Rattle.rtgs_book.proofs.SoundCredit.{limit}
 use Rattle.rtgs_lists.proofs.Codes.{later_differs}
-use Rattle.rtgs_lists.proofs.Lists.{all_both}
+use Rattle.rtgs_lists.proofs.Lists.{all_both, all_map}
 
 pub all_unmap : {X Y : Type 0} (P : Y → Type 0) (f : X → Y) (xs : List X) → AllByRecursion P (map f xs)
     → AllByRecursion (λ x. P (f x)) xs
 all_unmap P f [] h = tt
 all_unmap P f (x ∷ xs) h = (h.0, all_unmap P f xs h.1)
+
+-- the credit of the first participant with this code
+abbrev limit : List ℕ → List Participant → ℕ
+limit code ps = unwrap_or (option_map (λ (p : Participant). p.credit) (find (has_code code) ps)) 0
 
 -- where codes rise, each participant's limit is its own credit
 own_credit : (ps : List Participant) → IsStrictlySortedBy (slice_cmp nat_cmp) (map (λ (p : Participant). p.code) ps)

@@ -11,9 +11,8 @@ use Rattle.rtgs_book.specs.Queue.{queue}
 use Rattle.rtgs_book.specs.Settle.{today}
 use Rattle.rtgs_book.specs.Soundness.{QueuesFit}
 use Rattle.rtgs_book.proofs.Floors.{all_unmap}
-use Rattle.rtgs_book.proofs.Lists.{all_map}
 use Rattle.rtgs_lists.proofs.Bools.{and_left, and_right}
-use Rattle.rtgs_lists.proofs.Lists.{all_weaker}
+use Rattle.rtgs_lists.proofs.Lists.{all_map, all_weaker}
 
 -- the test of one order
 abbrev pub is_queued_on : Bool → ℕ → Order → Bool

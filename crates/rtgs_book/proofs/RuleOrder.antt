@@ -14,7 +14,7 @@ use Rattle.rtgs_book.specs.Judgement.{number_of}
 use Rattle.rtgs_book.specs.Soundness.{CodesRise, PartiesAreKnown, TotalFits, IsSound}
 use Rattle.rtgs_book.specs.Balance.{issued, total}
 use Rattle.rtgs_book.specs.IntSum.{int_sum_by}
-use Rattle.rtgs_book.proofs.Sound.{total_from_rules}
+use Rattle.rtgs_book.proofs.Issue.{total_from_rules}
 
 -- a rule before this one
 pub earlier : (book : Book) (rule this other : Rule) → rule ≡ this → number_of other < number_of this

@@ -1,9 +1,8 @@
-//! Laws of the definitions. Each function does nothing: its contract is the law.
-ghost use Rattle.std.specs.Prelude.{◌≡◌, ◌≤◌, ◌+ℤ◌, ◌≤ℤ◌, pos, Bool, true, false, if◌then◌else◌, ℕ, List, [], ◌∷◌};
-ghost use Rattle.std.specs.Prelude.{◌++◌, filter, length, take, drop};
+//! Laws of a book, whatever commands led to it. Each function does nothing: its contract is the law.
+ghost use Rattle.std.specs.Prelude.{◌≡◌, ◌+ℤ◌, ◌≤ℤ◌, pos, Bool, true, false, if◌then◌else◌, ℕ, List, [], ◌∷◌, ◌++◌};
+ghost use Rattle.std.specs.Prelude.{filter, take, drop};
 ghost use Rattle.std.specs.List.{AllByRecursion};
 ghost use Rattle.rtgs_book.specs.declared.book.Book.{Book};
-ghost use Rattle.rtgs_book.specs.declared.command.Command.{Command};
 ghost use Rattle.rtgs_book.specs.declared.order.Order.{Order};
 ghost use Rattle.rtgs_book.specs.declared.order_state.OrderState.{OrderState};
 ghost use Rattle.rtgs_book.specs.declared.posting.Posting.{Posting};
@@ -12,18 +11,15 @@ ghost use Rattle.rtgs_book.specs.Books.{is_queued, is_settled, is_settled_state,
 ghost use Rattle.rtgs_book.specs.Commands.{with_state};
 ghost use Rattle.rtgs_book.specs.IntSum.{int_sum_by};
 ghost use Rattle.rtgs_book.specs.Lookup.{accounts, is_participant};
-ghost use Rattle.rtgs_book.specs.Laws.{posted, Stands, CommandFits, BalancesFit};
-ghost use Rattle.rtgs_book.specs.Outcome.{Reply};
+ghost use Rattle.rtgs_book.specs.Laws.{BalancesFit};
 ghost use Rattle.rtgs_book.specs.Procedure.{Reaches};
 ghost use Rattle.rtgs_book.specs.Queue.{queue};
 ghost use Rattle.rtgs_book.specs.Balance.{balance, floor, gain, total, issued};
 ghost use Rattle.rtgs_book.specs.Settle.{settle};
 ghost use Rattle.rtgs_book.specs.Ranges.{Fits};
-ghost use Rattle.rtgs_book.specs.Run.{Run};
-ghost use Rattle.rtgs_book.specs.Step.{Step};
 ghost use Rattle.rtgs_book.specs.Choice.{Choice, nothing_chosen, larger, is_chosen, chosen, balance_after, IsFeasible};
 ghost use Rattle.rtgs_book.specs.Choice.{IsGreatest};
-ghost use Rattle.rtgs_book.specs.Soundness.{OrdersAreNumbered, FloorsHold, IsSound};
+ghost use Rattle.rtgs_book.specs.Soundness.{CodesRise, FloorsHold, IsSound, OrdersAreNumbered, PartiesAreKnown};
 
 /// The book of a new desk is sound.
 pub fn new_book_is_sound()
@@ -51,30 +47,6 @@ pub fn greatest_exists()
     ensures { (book : Book) → FloorsHold book → (choice : Choice) × IsGreatest book choice }
 {}
 
-/// A command has one reply at most, and leaves one book.
-pub fn step_is_determined()
-    ensures { (old new last : Book) (command : Command) (reply other : Reply) → Step old command reply new
-        → Step old command other last → (reply ≡ other) × (new ≡ last) }
-{}
-
-/// A command has a reply, where no balance is below its floor.
-pub fn step_exists()
-    ensures { (book : Book) (command : Command) → FloorsHold book
-        → (reply : Reply) × (new : Book) × Step book command reply new }
-{}
-
-/// Each command leaves a sound book sound.
-pub fn step_keeps_soundness()
-    ensures { (old new : Book) (command : Command) (reply : Reply) → IsSound old → Step old command reply new
-        → IsSound new }
-{}
-
-/// So does each list of commands.
-pub fn run_keeps_soundness()
-    ensures { (old new : Book) (commands : List Command) (replies : List Reply) → IsSound old
-        → Run old commands replies new → IsSound new }
-{}
-
 /// Of each queue just the first orders are chosen, as many as the choice says.
 pub fn chosen_are_beginnings()
     ensures { (book : Book) (choice : Choice) (code : List ℕ) → OrdersAreNumbered book
@@ -94,51 +66,15 @@ pub fn procedure_finds_the_greatest()
         → IsGreatest book choice }
 {}
 
-/// In a sound book all balances together are what was posted.
+/// All balances together are what was posted, where codes rise and all parties have accounts, as in a sound book.
 pub fn total_is_issued()
-    ensures { (book : Book) → IsSound book → total book ≡ issued book }
+    ensures { (book : Book) → CodesRise book → PartiesAreKnown book → total book ≡ issued book }
 {}
 
 /// Settling the chosen orders leaves the balances that the choice was judged by.
 pub fn settled_balances()
     ensures { (book : Book) (choice : Choice) (code : List ℕ)
         → balance (settle book (is_chosen book choice)) code ≡ balance_after book choice code }
-{}
-
-/// A sound book has no more marks than orders, so that numbers of marks never run out before those of orders.
-pub fn marks_are_few()
-    ensures { (book : Book) → IsSound book → length book.marks ≤ length book.orders }
-{}
-
-/// To settle queued orders moves money, and makes none.
-pub fn settling_keeps_the_total()
-    ensures { (book : Book) (is_in : Order → Bool) → IsSound book
-        → AllByRecursion (λ order. is_in order ≡ true → is_queued order ≡ true) book.orders
-        → total (settle book is_in) ≡ total book }
-{}
-
-/// All balances together move by the cents of an accepted posting alone.
-pub fn total_moves_by_postings()
-    ensures { (old new : Book) (command : Command) (reply : Reply) → IsSound old → Step old command reply new
-        → total new ≡ total old +ℤ posted command reply }
-{}
-
-/// A mark stands for good, and so does a settled order.
-pub fn step_keeps_what_is_final()
-    ensures { (old new : Book) (command : Command) (reply : Reply) → IsSound old → Step old command reply new
-        → Stands old new }
-{}
-
-/// So they do over each list of commands.
-pub fn run_keeps_what_is_final()
-    ensures { (old new : Book) (commands : List Command) (replies : List Reply) → IsSound old
-        → Run old commands replies new → Stands old new }
-{}
-
-/// Amounts stay in their ranges.
-pub fn step_keeps_ranges()
-    ensures { (old new : Book) (command : Command) (reply : Reply) → CommandFits command → Fits old
-        → Step old command reply new → Fits new }
 {}
 
 /// In a sound book with amounts in their ranges no balance is large: each fits 64 bits with a sign.

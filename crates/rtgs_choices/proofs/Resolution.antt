@@ -57,9 +57,10 @@ module _ (book : Book) (choice : Choice) (mark : Mark) (sound : IsSound book) (g
       (settle book (is_chosen book choice))
   resolution = (choice, greatest, resolved)
 
-  pub mark-number : mark.number ≡ next_mark book
-  unfolding mark_of
-  mark-number i = (is i).number
+pub mark-number : (book : Book) (choice : Choice) (mark : Mark) → mark ≡ mark_of book (chosen book choice)
+    → mark.number ≡ next_mark book
+unfolding mark_of
+mark-number book choice mark is i = (is i).number
 
 -- no row adds a participant
 start_empty : (new : Book) (all rows : List RowChange) → AllByRecursion IsOfBalance rows

@@ -23,7 +23,7 @@ use Rattle.rtgs_choices.proofs.Agree.{length_is}
 use Rattle.rtgs_choices.proofs.Told.{HasIndexes, parties_have_indexes}
 use Rattle.rtgs_choices.proofs.Chosen.{ChosenAreBeginnings, gets, gives, gains_are, sum_by-senders, sum_by-chosen}
 use Rattle.rtgs_lists.proofs.Lists.{all_both, all_filter, all_weaker}
-use Rattle.rtgs_lists.proofs.Numbers.{eq_self}
+use Rattle.rtgs_lists.proofs.Numbers.{eq_self, not_below}
 
 -- ---- sums
 
@@ -70,24 +70,13 @@ abbrev Rises : List Order → Type 0
 Rises [] = Unit {0}
 Rises (o ∷ os) = AllByRecursion (λ (x : Order). o.number < x.number) os × Rises os
 
-not_below : (first : ℕ) (os : List Order) → map number_of os ≡ range_with_len first (length os)
-    → AllByRecursion (λ (x : Order). first ≤ x.number) os
-not_below first [] e = tt
-not_below first (o ∷ os) e =
-    let head : o.number ≡ first = cc in
-    let rest : map number_of os ≡ range_with_len (first + 1) (length os) = cc in (
-      omega arith,
-      all_weaker (λ (x : Order). first + 1 ≤ x.number) (λ (x : Order). first ≤ x.number)
-          (λ x le. omega arith) os (not_below (first + 1) os rest),
-    )
-
 rises_from : (first : ℕ) (os : List Order) → map number_of os ≡ range_with_len first (length os) → Rises os
 rises_from first [] e = tt
 rises_from first (o ∷ os) e =
     let head : o.number ≡ first = cc in
     let rest : map number_of os ≡ range_with_len (first + 1) (length os) = cc in (
       all_weaker (λ (x : Order). first + 1 ≤ x.number) (λ (x : Order). o.number < x.number) (λ x le. omega arith) os
-          (not_below (first + 1) os rest),
+          (not_below number_of (first + 1) os rest),
       rises_from (first + 1) os rest,
     )
 

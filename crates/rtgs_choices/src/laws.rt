@@ -25,7 +25,7 @@ ghost use Rattle.rtgs_book.specs.Queue.{queued_numbers};
 ghost use Rattle.rtgs_book.specs.Choice.{Choice, is_chosen, chosen, balance_after, IsGreatest};
 ghost use Rattle.rtgs_book.specs.Commands.{is_on, overdrawn, with_state};
 ghost use Rattle.rtgs_book.specs.Settle.{settle, mark_of, next_mark};
-ghost use Rattle.rtgs_book.specs.Changes.{changed, SetsBalances, IsChange};
+ghost use Rattle.rtgs_book.specs.Changes.{changed, SetsBalances, Leads, StartsEmpty};
 ghost use Rattle.rtgs_book.specs.Soundness.{IsSound};
 ghost use Rattle.rtgs_book.specs.Step.{Step};
 ghost use Rattle.rtgs_choices.specs.ByIndex.{code_at, index_of, positions_of, queues_of, by_code};
@@ -33,9 +33,7 @@ ghost use Rattle.rtgs_choices.specs.Closing.{closed_book, closing_rows};
 ghost use Rattle.rtgs_choices.specs.Settling.{orders_taken, numbers_taken, is_numbered, state_rows, IsOfBalance};
 ghost use Rattle.rtgs_choices.specs.Settling.{settling_rows};
 
-use rtgs_book::laws::{
-    balance_after_restating, chosen_are_beginnings, settled_balances, step_keeps_soundness,
-};
+use rtgs_book::laws::{balance_after_restating, chosen_are_beginnings, settled_balances};
 
 /// What the resolver is told of a sound book meets its conditions, with `MOST_QUEUED` payments at most.
 pub fn conditions_hold()
@@ -129,34 +127,34 @@ pub fn balances_one_by_one()
 }
 
 /// Where the greatest choice has orders, they are what a gridlock's resolution settles, and the
-/// rows that settle them make a change to that book.
+/// rows that settle them lead to that book and add no participant.
 pub fn rows_settle()
     ensures step { (book : Book) (choice : Choice) (mark : Mark) → IsSound book → IsGreatest book choice
         → is_empty (chosen book choice) ≡ false → mark ≡ mark_of book (chosen book choice) →
         Step book Resolve (Ok (Resolved mark.number mark.count mark.value)) (settle book (is_chosen book choice)) }
-    ensures change { (book : Book) (choice : Choice) (mark : Mark) → IsSound book → IsGreatest book choice
+    ensures leads { (book : Book) (choice : Choice) (mark : Mark) → IsSound book
         → is_empty (chosen book choice) ≡ false → mark ≡ mark_of book (chosen book choice) →
-        IsChange book (settling_rows book choice (numbers_taken book choice) mark)
+        Leads book (settling_rows book choice (numbers_taken book choice) mark)
         (settle book (is_chosen book choice)) }
+    ensures added { (book new : Book) (choice : Choice) (mark : Mark) → AllByRecursion
+        (StartsEmpty new (settling_rows book choice (numbers_taken book choice) mark))
+        (settling_rows book choice (numbers_taken book choice) mark) }
 {
-    step_keeps_soundness();
     chosen_numbers();
     states_one_by_one();
     balances_one_by_one();
 }
 
 /// Where the greatest choice has no order and nobody is below zero, the day that was cut off can be
-/// closed, and the rows that reject what is queued and close the day make a change to that book.
+/// closed, and the rows that reject what is queued and close the day lead to that book and add no participant.
 pub fn rows_close()
     ensures step { (book : Book) (choice : Choice) (date : ℕ) → is_cut_off book.day.phase ≡ true
         → is_on book date ≡ true → IsGreatest book choice → is_empty (chosen book choice) ≡ true → overdrawn book ≡ [] →
         Step book (CloseDay date) (Ok (answer.Closed (length (filter is_queued book.orders)))) (closed_book book) }
-    ensures change { (book : Book) (choice : Choice) (date : ℕ) → IsSound book → is_cut_off book.day.phase ≡ true
-        → is_on book date ≡ true → IsGreatest book choice → is_empty (chosen book choice) ≡ true → overdrawn book ≡ [] →
-        IsChange book (closing_rows book) (closed_book book) }
+    ensures leads { (book : Book) → IsSound book → Leads book (closing_rows book) (closed_book book) }
+    ensures added { (book new : Book) → AllByRecursion (StartsEmpty new (closing_rows book)) (closing_rows book) }
 {
     balance_after_restating();
-    step_keeps_soundness();
     queued_are_numbered();
     states_one_by_one();
 }

@@ -20,11 +20,11 @@ ghost use Rattle.rtgs_book.specs.declared.reading.Reading.{Reading};
 ghost use Rattle.rtgs_ledger.specs.Keys.{code_under};
 ghost use Rattle.rtgs_repeats.specs.Repeats.{answered_number};
 
-use rtgs_book::laws::step_is_determined;
 use rtgs_http_feeds::laws::regions_are_determined;
 use rtgs_http_heads::laws::{heads_are_determined, keys_are_determined};
 use rtgs_http_requests::laws::{answers_are_determined, participants_ask_for_their_own};
 use rtgs_keeper::Keeper;
+use rtgs_laws::laws::step_is_determined;
 use rtgs_repeats::laws::acted_is_repeated;
 
 /// A participant reads its own rows alone: two books that agree in the day and in its record, its postings, the orders

@@ -22,7 +22,7 @@ use Rattle.rtgs_book.specs.Commands.{is_before}
 use Rattle.rtgs_book.specs.Lookup.{accounts}
 use Rattle.rtgs_ledger.specs.Accounts.{code_of, is_of, has_key, with_account}
 use Rattle.rtgs_ledger.proofs.Balances.{same_int, all_same, balance_unknown}
-use Rattle.rtgs_ledger.proofs.Kept.{StepKeepsRanges, StepKeepsSoundness, participant_none, is_unknown, any-participants}
+use Rattle.rtgs_ledger.proofs.Kept.{participant_none, is_unknown, any-participants}
 use Rattle.rtgs_ledger.proofs.Kept.{length-participants, prepared_done}
 use Rattle.rtgs_cores.specs.Following.{AreBalanced}
 use Rattle.rtgs_ledger.proofs.Whole.{IsKept, IsPrepared, Whole, book_of, held_of}
@@ -87,12 +87,12 @@ module _ (r : Whole) (kept : IsKept (held_of r)) (code name key : List ℕ)
       r.accounts.accounts kept.balanced)
       (sym (balance_same code ∙ no_balance))
 
-  pub prepared_add : StepKeepsRanges → StepKeepsSoundness → list_any (has_key key) r.accounts.accounts ≡ false
+  pub prepared_add : list_any (has_key key) r.accounts.accounts ≡ false
       → nat_le MOST_PARTICIPANTS (length r.accounts.accounts) ≡ false
       → IsPrepared (held_of r) (Add code name key) Added (AddParticipant p ∷ [])
-  prepared_add ranges soundness free few =
+  prepared_add free few =
       let step = adds (book_of r) code name key (participant_none r kept code absent)
       (any-participants key r.accounts.accounts ∙ free) (rw (length-participants r.accounts.accounts) few) in
-      prepared_done (held_of r) (Add code name key) Added (AddParticipant p ∷ []) (with_participant (book_of r) p) kept
-      ranges soundness tt step leads_to_it ((refl, balance_same code ∙ no_balance), tt) stays_balanced
+      prepared_done (held_of r) (Add code name key) Added (AddParticipant p ∷ []) (with_participant (book_of r) p) tt step
+      leads_to_it ((refl, balance_same code ∙ no_balance), tt) stays_balanced
       (λ k e. absurd (cc)) (λ e. absurd (cc))

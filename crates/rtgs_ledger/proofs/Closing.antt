@@ -3,7 +3,7 @@ use Rattle.std.proofs.Common.{◌≡◌, ℕ, pos, Bool, true, false, ◌&&◌, 
 use Rattle.std.proofs.Common.{filter, length, find, Ok, Err, Some, None, refl, sym, ap, subst, ◌∙◌}
 use Rattle.std.specs.Prelude.{int_lt}
 use Rattle.std.proofs.lemmas.List.{length-map}
-use Rattle.std.specs.List.{flat_map}
+use Rattle.std.specs.List.{AllByRecursion, flat_map}
 use Rattle.rtgs_book.specs.declared.command.Command.TheVariants as command
 use Rattle.rtgs_book.specs.declared.answer.Answer.TheVariants as answer
 use Rattle.rtgs_book.specs.declared.answer.Known.TheVariants.{Nothing}
@@ -17,7 +17,7 @@ use Rattle.rtgs_book.specs.declared.phase.Phase.{Phase}
 use Rattle.rtgs_book.specs.declared.phase.Phase.TheVariants.{Closed, Open, CutOff}
 use Rattle.rtgs_book.specs.Balance.{balance}
 use Rattle.rtgs_book.specs.Books.{is_closed, is_cut_off, is_empty, is_queued}
-use Rattle.rtgs_book.specs.Changes.{IsChange}
+use Rattle.rtgs_book.specs.Changes.{Leads, StartsEmpty}
 use Rattle.rtgs_book.specs.Choice.{Choice, chosen, IsGreatest}
 use Rattle.rtgs_book.specs.Commands.{close_day, overdrawn, is_date, is_on}
 use Rattle.rtgs_book.specs.Lookup.{accounts}
@@ -30,7 +30,6 @@ use Rattle.rtgs_book.specs.declared.account.Account.{Account}
 use Rattle.rtgs_book.specs.Accounts.{is_overdrawn}
 use Rattle.rtgs_ledger.specs.Accounts.{code_of, participant_of}
 use Rattle.rtgs_ledger.proofs.Balances.{all_same}
-use Rattle.rtgs_ledger.proofs.Kept.{StepKeepsRanges}
 use Rattle.rtgs_ledger.proofs.Ordering.{is_shut, is_opened, is_day}
 use Rattle.rtgs_ledger.proofs.Rooms.{after-append, accounts_after-states}
 use Rattle.rtgs_ledger.proofs.Withdrawing.{BalanceAfterRestating}
@@ -190,17 +189,18 @@ module _ (held : Held) (kept : IsKept held) (law : BalanceAfterRestating) where
       (SetDay (record held.content.day { phase = Closed }) ∷ []))
       ∙ accounts_after-states Rejected (flat_map (queued_numbers held.content.orders) (accounts held.content)) held
 
-  pub prepared_closing : StepKeepsRanges → (date : ℕ) → Step held.content (command.CloseDay date)
+  pub prepared_closing : (date : ℕ) → Step held.content (command.CloseDay date)
       (Ok (answer.Closed (length (filter is_queued held.content.orders)))) (closed_book held.content)
-      → IsChange held.content (closing_rows held.content) (closed_book held.content)
+      → Leads held.content (closing_rows held.content) (closed_book held.content)
+      → AllByRecursion (StartsEmpty (closed_book held.content) (closing_rows held.content)) (closing_rows held.content)
       → IsPrepared held (command.CloseDay date) (answer.Closed (length (filter is_queued held.content.orders)))
       (closing_rows held.content)
-  prepared_closing ranges date step change = record {
+  prepared_closing date step leads added = record {
     book = closed_book held.content;
     step = step;
-    change = change;
-    fits = ranges held.content (closed_book held.content) (command.CloseDay date)
-        (Ok (answer.Closed (length (filter is_queued held.content.orders)))) tt kept.fits step;
+    leads = leads;
+    added = added;
+    in_range = λ _. tt;
     balanced = subst (AreBalanced (closed_book held.content)) (sym accounts_stay)
         (all_same (balance held.content) (balance (closed_book held.content)) balance_same held.accounts
         kept.balanced);

@@ -20,7 +20,7 @@ use Rattle.rtgs_book.specs.Step.{Step}
 use Rattle.rtgs_book.specs.declared.account.Account.{Account}
 use Rattle.rtgs_ledger.specs.Accounts.{code_of, is_of, with_limit}
 use Rattle.rtgs_ledger.proofs.Balances.{same_int, all_same}
-use Rattle.rtgs_ledger.proofs.Kept.{StepKeepsRanges, StepKeepsSoundness, prepared_done}
+use Rattle.rtgs_ledger.proofs.Kept.{prepared_done}
 use Rattle.rtgs_ledger.proofs.Whole.{Held, IsKept, IsPrepared}
 use Rattle.rtgs_lists.proofs.Lists.{all_of}
 
@@ -68,12 +68,12 @@ module _ (held : Held) (kept : IsKept held) (code : List ℕ) (credit : ℕ) whe
         (accounts (with_credit held.content code credit));
   }
 
-  pub prepared_credit : StepKeepsRanges → StepKeepsSoundness → IsCredit credit → is_participant held.content code ≡ true
+  pub prepared_credit : IsCredit credit → is_participant held.content code ≡ true
       → (not (is_closed held.content.day.phase) && int_lt (balance held.content code) (neg_ℤ (pos credit))) ≡ false
       → IsPrepared held (command.SetCredit code credit) CreditSet (SetCredit code credit ∷ [])
-  prepared_credit ranges soundness fits known within =
+  prepared_credit fits known within =
       prepared_done held (command.SetCredit code credit) CreditSet (SetCredit code credit ∷ [])
-      (with_credit held.content code credit) kept ranges soundness fits (sets held.content code credit known within)
+      (with_credit held.content code credit) fits (sets held.content code credit known within)
       leads_to_it (tt, tt)
       (all_same (balance held.content) (balance (with_credit held.content code credit)) balance_same
       (with_limit code credit held.accounts) (balanced_limit (balance held.content) code credit held.accounts

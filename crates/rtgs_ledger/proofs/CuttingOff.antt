@@ -18,7 +18,7 @@ use Rattle.rtgs_book.specs.Lookup.{accounts}
 use Rattle.rtgs_book.specs.Outcome.{first_of}
 use Rattle.rtgs_book.specs.Step.{Step}
 use Rattle.rtgs_ledger.proofs.Balances.{same_int, all_same}
-use Rattle.rtgs_ledger.proofs.Kept.{StepKeepsRanges, StepKeepsSoundness, prepared_done}
+use Rattle.rtgs_ledger.proofs.Kept.{prepared_done}
 use Rattle.rtgs_ledger.proofs.Whole.{Held, IsKept, IsPrepared}
 use Rattle.rtgs_lists.proofs.Lists.{all_of}
 
@@ -74,12 +74,11 @@ module _ (held : Held) (kept : IsKept held) (date : ℕ) where
         (λ c. rw (← balance_same c, same_int (balance held.content c)) refl) (accounts (with_day held.content day));
   }
 
-  pub prepared_cut_off : StepKeepsRanges → StepKeepsSoundness
-      → (is_cut_off held.content.day.phase && is_date held.content.day.date date) ≡ false
+  pub prepared_cut_off : (is_cut_off held.content.day.phase && is_date held.content.day.date date) ≡ false
       → is_open held.content.day.phase ≡ true → is_date held.content.day.date date ≡ true
       → IsPrepared held (command.CutOff date) CutOffDone (SetDay day ∷ [])
-  prepared_cut_off ranges soundness new opened same =
-      prepared_done held (command.CutOff date) CutOffDone (SetDay day ∷ []) (with_day held.content day) kept ranges
-      soundness tt (cuts_off held.content date new opened same) leads_to_it (tt, tt)
+  prepared_cut_off new opened same =
+      prepared_done held (command.CutOff date) CutOffDone (SetDay day ∷ []) (with_day held.content day) tt
+      (cuts_off held.content date new opened same) leads_to_it (tt, tt)
       (all_same (balance held.content) (balance (with_day held.content day)) balance_same held.accounts kept.balanced)
       (λ k e. absurd (cc)) (λ e. absurd (cc))

@@ -6,8 +6,6 @@ use Rattle.std.specs.List.{list_any, AllByRecursion}
 use Rattle.std.specs.Str.{bytes_eq}
 use Rattle.std.specs.Ordering.{int_eq}
 use Rattle.rtgs_book.specs.Laws.{CommandFits, BalancesFit}
-use Rattle.rtgs_book.specs.Outcome.{Reply}
-use Rattle.rtgs_book.specs.Ranges.{Fits}
 use Rattle.rtgs_book.specs.Totals.{Within}
 use Rattle.std.specs.Cmp.Lexicographic.{bytes_decides}
 use Rattle.rtgs_book.specs.declared.book.Book.{Book}
@@ -23,7 +21,6 @@ use Rattle.rtgs_book.specs.Changes.{Leads, StartsEmpty, balance_set, SetsBalance
 use Rattle.rtgs_book.specs.IntSum.{int_sum_by}
 use Rattle.rtgs_book.specs.Lookup as lookup
 use Rattle.rtgs_book.specs.Lookup.{has_code, accounts, is_participant, credit_of}
-use Rattle.rtgs_book.specs.Soundness.{IsSound}
 use Rattle.rtgs_book.specs.Step.{Step}
 use Rattle.rtgs_ledger.proofs.Balances.{same_int}
 use Rattle.rtgs_book.specs.declared.account.Account.{Account}
@@ -134,12 +131,9 @@ pub prepared_repeat : (held : Held) (c : Command) (k : Known) → IsKept held
 prepared_repeat held c k kept step = record {
   book = held.content;
   step = step;
-  change = record {
-    leads = record { book = refl; balances = no_balance_set held.content };
-    added = tt;
-    sound = kept.sound;
-  };
-  fits = kept.fits;
+  leads = record { book = refl; balances = no_balance_set held.content };
+  added = tt;
+  in_range = λ some. absurd (some refl);
   balanced = kept.balanced;
   repeated = λ _ _. refl;
   nothing = λ _. refl;
@@ -186,26 +180,18 @@ module _ (r : Whole) (kept : IsKept (held_of r)) where
   unfolding total accounts
   total_at = sum_of_balances (book_of r) r.accounts.accounts kept.balanced
 
--- the law that amounts stay in their ranges
-abbrev pub StepKeepsRanges : Type 0
-StepKeepsRanges = (old new : Book) (c : Command) (reply : Reply) → CommandFits c → Fits old → Step old c reply new
-    → Fits new
-
--- and that books stay sound
-abbrev pub StepKeepsSoundness : Type 0
-StepKeepsSoundness = (old new : Book) (c : Command) (reply : Reply) → IsSound old → Step old c reply new → IsSound new
-
--- a change that leads on, where the laws say that the book stays sound and in range
-pub prepared_done : (held : Held) (c : Command) (a : Answer) (rows : List RowChange) (book : Book) → IsKept held
-    → StepKeepsRanges → StepKeepsSoundness → CommandFits c → Step held.content c (Ok a) book
+-- a command that was not done before, and rows that lead on
+pub prepared_done : (held : Held) (c : Command) (a : Answer) (rows : List RowChange) (book : Book)
+    → CommandFits c → Step held.content c (Ok a) book
     → Leads held.content rows book → AllByRecursion (StartsEmpty book rows) rows
     → AreBalanced book (after held rows).accounts → ((k : Known) → a ≡ Repeated k → ⊥)
     → (a ≡ Nothing → ⊥) → IsPrepared held c a rows
-prepared_done held c a rows book kept ranges soundness in_range step leads added balanced new some = record {
+prepared_done held c a rows book in_range step leads added balanced new some = record {
   book = book;
   step = step;
-  change = record { leads = leads; added = added; sound = soundness held.content book c (Ok a) kept.sound step };
-  fits = ranges held.content book c (Ok a) in_range kept.fits step;
+  leads = leads;
+  added = added;
+  in_range = λ some. in_range;
   balanced = balanced;
   repeated = λ k e. absurd (new k e);
   nothing = λ e. absurd (some e);

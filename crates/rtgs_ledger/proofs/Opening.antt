@@ -18,7 +18,7 @@ use Rattle.rtgs_book.specs.Lookup.{accounts}
 use Rattle.rtgs_book.specs.Outcome.{first_of}
 use Rattle.rtgs_book.specs.Step.{Step}
 use Rattle.rtgs_ledger.proofs.Balances.{same_int, all_same}
-use Rattle.rtgs_ledger.proofs.Kept.{StepKeepsRanges, StepKeepsSoundness, prepared_done}
+use Rattle.rtgs_ledger.proofs.Kept.{prepared_done}
 use Rattle.rtgs_ledger.proofs.Whole.{Held, IsKept, IsPrepared}
 use Rattle.rtgs_lists.proofs.Lists.{all_of}
 
@@ -64,12 +64,12 @@ module _ (held : Held) (kept : IsKept held) (date : ℕ) where
         (λ c. rw (← balance_same c, same_int (balance held.content c)) refl) (accounts (with_day held.content day));
   }
 
-  pub prepared_open : StepKeepsRanges → StepKeepsSoundness → (is_open held.content.day.phase && is_date
+  pub prepared_open : (is_open held.content.day.phase && is_date
       held.content.day.date date) ≡ false → is_closed held.content.day.phase ≡ true
       → is_later date held.content.day.date ≡ true → is_weekend date ≡ false
       → IsPrepared held (OpenDay date) Opened (SetDay day ∷ [])
-  prepared_open ranges soundness new closed later working =
-      prepared_done held (OpenDay date) Opened (SetDay day ∷ []) (with_day held.content day) kept ranges soundness tt
+  prepared_open new closed later working =
+      prepared_done held (OpenDay date) Opened (SetDay day ∷ []) (with_day held.content day) tt
       (opens held.content date new closed later working) leads_to_it (tt, tt)
       (all_same (balance held.content) (balance (with_day held.content day)) balance_same held.accounts kept.balanced)
       (λ k e. absurd (cc)) (λ e. absurd (cc))

@@ -40,7 +40,7 @@ use Rattle.rtgs_book.specs.declared.limits.TheConstants.{LONGEST_QUEUE, LARGEST_
 use Rattle.rtgs_ledger.specs.Accounts.{code_of, is_of, with_balance}
 use Rattle.rtgs_ledger.specs.Ordering.{IsTaken}
 use Rattle.rtgs_ledger.proofs.Balances.{same_int, other_int, moved, all_moved, all_same, balance-with_order}
-use Rattle.rtgs_ledger.proofs.Kept.{StepKeepsRanges, StepKeepsSoundness, found_balance, found_is, is_known, balance_at}
+use Rattle.rtgs_ledger.proofs.Kept.{found_balance, found_is, is_known, balance_at}
 use Rattle.rtgs_ledger.proofs.Kept.{floor_at as floor_is, prepared_done}
 use Rattle.rtgs_cores.specs.declared.Core.{Core}
 use Rattle.rtgs_ledger.specs.declared.records.Records.{Records}
@@ -301,10 +301,10 @@ module _ (held : Held) (kept : IsKept held) (o : Order) (taken : IsTaken held.co
       let queued : is_settled o ≡ false = ap is_settled taken.next in
       sym (rw (balance-with_order held.content o held.content.marks c, queued) (omega (arith, ints)))
 
-  pub prepared_queued : StepKeepsRanges → StepKeepsSoundness → settles_at_once held.content o.sender o.amount ≡ false
+  pub prepared_queued : settles_at_once held.content o.sender o.amount ≡ false
       → IsPrepared held (command.Order o.sender o.reference o.receiver o.amount)
       (answer.Queued o.number (length (queue held.content o.sender) + 1)) (AddOrder o ∷ [])
-  prepared_queued ranges soundness waits =
+  prepared_queued waits =
       let leads : Leads held.content (AddOrder o ∷ []) (with_order held.content o) = record {
         book = refl;
         balances = all_of (λ c. balance_set c (AddOrder o ∷ [])
@@ -314,7 +314,7 @@ module _ (held : Held) (kept : IsKept held) (o : Order) (taken : IsTaken held.co
       } in
       prepared_done held (command.Order o.sender o.reference o.receiver o.amount)
       (answer.Queued o.number (length (queue held.content o.sender) + 1)) (AddOrder o ∷ [])
-      (with_order held.content o) kept ranges soundness taken.fits (step_queued waits) leads (tt, tt)
+      (with_order held.content o) taken.fits (step_queued waits) leads (tt, tt)
       (all_same (balance held.content) (balance (with_order held.content o)) same_balance held.accounts kept.balanced)
       (λ k e. absurd (cc)) (λ e. absurd (cc))
 
@@ -393,17 +393,17 @@ module _ (held : Held) (kept : IsKept held) (o : Order) (taken : IsTaken held.co
             (ap Some (balance_of_sender c e f))
         by false false e f = rw (← balance_of_other c e f, same_int (balance held.content c)) refl
 
-    pub prepared_settled : StepKeepsRanges → StepKeepsSoundness → settles_at_once held.content o.sender o.amount ≡ true
+    pub prepared_settled : settles_at_once held.content o.sender o.amount ≡ true
         → IsPrepared held (command.Order o.sender o.reference o.receiver o.amount)
         (answer.Settled o.number (next_mark held.content)) rows
-    prepared_settled ranges soundness settles =
+    prepared_settled settles =
         let leads : Leads held.content rows (with_settled held.content o) = record {
           book = refl;
           balances = all_of _ (sets (let f = taken.fits in f.0)) (accounts (with_settled held.content o));
         } in
         prepared_done held (command.Order o.sender o.reference o.receiver o.amount)
-        (answer.Settled o.number (next_mark held.content)) rows (with_settled held.content o) kept ranges soundness
-        taken.fits (step_settled settles) leads (tt, (tt, (tt, (tt, tt))))
+        (answer.Settled o.number (next_mark held.content)) rows (with_settled held.content o) taken.fits
+        (step_settled settles) leads (tt, (tt, (tt, (tt, tt))))
         (all_same (moved o.receiver more (moved o.sender less (balance held.content)))
         (balance (with_settled held.content o)) is_moved
         (with_balance o.receiver more (with_balance o.sender less held.accounts))

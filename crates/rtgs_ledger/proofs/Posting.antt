@@ -26,7 +26,7 @@ use Rattle.rtgs_book.specs.declared.account.Account.{Account}
 use Rattle.rtgs_book.specs.declared.limits.TheConstants.{LARGEST_NUMBER, LARGEST_TOTAL}
 use Rattle.rtgs_ledger.specs.Accounts.{is_of, with_balance}
 use Rattle.rtgs_ledger.proofs.Balances.{same_int, other_int, moved, all_moved, all_same, balance-with_posting}
-use Rattle.rtgs_ledger.proofs.Kept.{StepKeepsRanges, StepKeepsSoundness, is_known, balance_at, prepared_done}
+use Rattle.rtgs_ledger.proofs.Kept.{is_known, balance_at, prepared_done}
 use Rattle.rtgs_ledger.proofs.Whole.{IsKept, IsPrepared, Whole, book_of, held_of}
 use Rattle.rtgs_lists.proofs.Lists.{all_of}
 
@@ -129,18 +129,18 @@ module _ (r : Whole) (kept : IsKept (held_of r)) (code reference : List ℕ) (ce
       by true e = balance_of_it c e
       by false e = sym (balance_of_other c e)
 
-  pub prepared_post : StepKeepsRanges → StepKeepsSoundness → IsPostingAmount cents
+  pub prepared_post : IsPostingAmount cents
       → posting_named (book_of r) reference ≡ None → nat_le LARGEST_NUMBER (length r.postings) ≡ false
       → (int_lt (pos 0) cents && int_lt (pos LARGEST_TOTAL) (total (book_of r) +ℤ cents)) ≡ false
       → (int_lt cents (pos 0) && int_lt (balance (book_of r) code +ℤ cents) (floor (book_of r) code)) ≡ false
       → IsPrepared (held_of r) (command.Post code reference cents) (Posted (length r.postings + 1))
       (AddPosting q ∷ SetBalance code b ∷ [])
-  prepared_post ranges soundness in_range absent few small covered =
+  prepared_post in_range absent few small covered =
       let step = posts (book_of r) code reference cents (is_known r kept code a found) absent few small covered in
       let leads : Leads (book_of r) (AddPosting q ∷ SetBalance code b ∷ []) (with_posting (book_of r) q) =
       record { book = refl; balances = all_of _ (sets_one in_range.0) (accounts (with_posting (book_of r) q)) } in
       prepared_done (held_of r) (command.Post code reference cents) (Posted (length r.postings + 1))
-      (AddPosting q ∷ SetBalance code b ∷ []) (with_posting (book_of r) q) kept ranges soundness in_range step leads
+      (AddPosting q ∷ SetBalance code b ∷ []) (with_posting (book_of r) q) in_range step leads
       (tt, (tt, tt))
       (all_same (moved code b (balance (book_of r))) (balance (with_posting (book_of r) q)) is_moved
       (with_balance code b r.accounts.accounts) (all_moved code b (balance (book_of r)) r.accounts.accounts

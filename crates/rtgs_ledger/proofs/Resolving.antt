@@ -21,7 +21,7 @@ use Rattle.rtgs_book.specs.declared.participant.Participant.{Participant}
 use Rattle.rtgs_book.specs.declared.refusal.Refusal.TheVariants.{WrongPhase}
 use Rattle.rtgs_book.specs.Balance.{balance, gain}
 use Rattle.rtgs_book.specs.Books.{is_closed, is_empty}
-use Rattle.rtgs_book.specs.Changes.{IsChange, SetsBalances, balance_set, or_else}
+use Rattle.rtgs_book.specs.Changes.{Leads, StartsEmpty, SetsBalances, balance_set, or_else}
 use Rattle.rtgs_book.specs.Choice.{Choice, chosen, is_chosen, balance_after, IsGreatest}
 use Rattle.rtgs_book.specs.Commands.{resolve}
 use Rattle.rtgs_book.specs.IntSum.{int_sum_by}
@@ -36,7 +36,7 @@ use Rattle.rtgs_book.specs.declared.account.Account.{Account}
 use Rattle.rtgs_ledger.specs.Accounts.{code_of, participant_of, is_of, with_balance}
 use Rattle.rtgs_ledger.specs.Resolving.{AreGreatest, after_orders, moved_rows}
 use Rattle.rtgs_ledger.proofs.Balances.{moved, all_moved, int_eq-same}
-use Rattle.rtgs_ledger.proofs.Kept.{StepKeepsRanges, codes-participants, no_balance_set}
+use Rattle.rtgs_ledger.proofs.Kept.{codes-participants, no_balance_set}
 use Rattle.rtgs_cores.specs.Following.{AreBalanced}
 use Rattle.rtgs_ledger.proofs.Whole.{Held, IsKept, IsPrepared, Whole, after, after_row, held_of}
 use Rattle.rtgs_lists.proofs.Lists.{all_weaker}
@@ -283,12 +283,9 @@ module _ (held : Held) (kept : IsKept held) (orders : List Order) (g : AreGreate
       record {
         book = book;
         step = nothing book g.choice g.greatest opened (none_chosen count numbers book orders g kept.sound none);
-        change = record {
-          leads = record { book = refl; balances = no_balance_set book };
-          added = tt;
-          sound = kept.sound;
-        };
-        fits = kept.fits;
+        leads = record { book = refl; balances = no_balance_set book };
+        added = tt;
+        in_range = λ some. absurd (some refl);
         balanced = kept.balanced;
         repeated = λ _ _. refl;
         nothing = λ _. refl;
@@ -302,7 +299,6 @@ module _ (held : Held) (kept : IsKept held) (orders : List Order) (g : AreGreate
         count = length orders;
         value = pos (sum_by (λ (o : Order). o.amount) orders);
       })
-      (ranges : StepKeepsRanges)
       (value : (book : Book) (choice : Choice) → IsSound book
       → sum_by (λ (o : Order). o.amount) (orders_taken book choice)
       ≡ sum_by (λ (o : Order). o.amount) (chosen book choice))
@@ -312,10 +308,12 @@ module _ (held : Held) (kept : IsKept held) (orders : List Order) (g : AreGreate
       → is_empty (chosen book choice) ≡ false → mark ≡ mark_of book (chosen book choice)
       → Step book Resolve (Ok (answer.Resolved mark.number mark.count mark.value))
       (settle book (is_chosen book choice)))
-      (changes : (book : Book) (choice : Choice) (mark : Mark) → IsSound book → IsGreatest book choice
-      → is_empty (chosen book choice) ≡ false → mark ≡ mark_of book (chosen book choice)
-      → IsChange book (settling_rows book choice (numbers_taken book choice) mark)
-      (settle book (is_chosen book choice))) where
+      (leading : (book : Book) (choice : Choice) (mark : Mark) → IsSound book → is_empty (chosen book choice) ≡ false
+      → mark ≡ mark_of book (chosen book choice)
+      → Leads book (settling_rows book choice (numbers_taken book choice) mark) (settle book (is_chosen book choice)))
+      (adding : (book new : Book) (choice : Choice) (mark : Mark)
+      → AllByRecursion (StartsEmpty new (settling_rows book choice (numbers_taken book choice) mark))
+      (settling_rows book choice (numbers_taken book choice) mark)) where
     is_mark : mark ≡ mark_of book (chosen book g.choice)
     unfolding mark_of
     is_mark =
@@ -355,19 +353,19 @@ module _ (held : Held) (kept : IsKept held) (orders : List Order) (g : AreGreate
         ∷ moved_rows orders held.accounts)
     resolved =
         let step = steps book g.choice mark kept.sound g.greatest any is_mark in
-        let change = changes book g.choice mark kept.sound g.greatest any is_mark in
+        let leads = leading book g.choice mark kept.sound any is_mark in
         let rows = numbers_taken book g.choice in
         subst (IsPrepared held Resolve (answer.Resolved mark.number mark.count mark.value))
         (λ i. sym numbers_are i ++ AddMark mark ∷ sym balances_are i)
         (record {
           book = settle book (is_chosen book g.choice);
           step = step;
-          change = change;
-          fits = ranges book (settle book (is_chosen book g.choice)) Resolve
-              (Ok (answer.Resolved mark.number mark.count mark.value)) tt kept.fits step;
+          leads = leads;
+          added = adding book (settle book (is_chosen book g.choice)) g.choice mark;
+          in_range = λ _. tt;
           balanced = balanced_after held (settling_rows book g.choice rows mark)
               (settle book (is_chosen book g.choice)) (settling_leaves book g.choice rows mark) kept.balanced
-              (codes_settled book (is_chosen book g.choice) ∙ codes_are) change.leads.balances;
+              (codes_settled book (is_chosen book g.choice) ∙ codes_are) leads.balances;
           repeated = λ k e. absurd (cc);
           nothing = λ e. absurd (cc);
         })

@@ -1,6 +1,7 @@
 -- A book as its records and running balances, and a change of it, row by row: what the preparations are proved of.
-use Rattle.std.proofs.Common.{◌≡◌, List, [], ◌∷◌, map, filter, length, ◌+◌, pos, Ok, refl, sym, ap, subst, ◌∙◌, ◌≤◌}
-use Rattle.std.proofs.Common.{arith}
+use Rattle.std.proofs.Common.{◌≡◌, ◌≢◌, List, [], ◌∷◌, map, filter, length, ◌+◌, pos, Ok, refl, sym, ap, subst, ◌∙◌}
+use Rattle.std.proofs.Common.{◌≤◌, arith}
+use Rattle.std.specs.List.{AllByRecursion}
 use Rattle.std.proofs.lemmas.List.{length-map}
 use Rattle.rtgs_book.specs.declared.limits.TheConstants.{LARGEST_NUMBER}
 use Rattle.rtgs_book.specs.declared.account.Account.{Account}
@@ -19,7 +20,8 @@ use Rattle.rtgs_book.specs.declared.answer.Answer.TheVariants.{Nothing, Repeated
 use Rattle.rtgs_book.specs.declared.answer.Known.{Known}
 use Rattle.rtgs_book.specs.declared.refusal.Refusal.{Refusal}
 use Rattle.rtgs_book.specs.Books.{is_queued}
-use Rattle.rtgs_book.specs.Changes.{IsChange, with_row}
+use Rattle.rtgs_book.specs.Changes.{Leads, StartsEmpty, with_row}
+use Rattle.rtgs_book.specs.Laws.{CommandFits}
 use Rattle.rtgs_book.specs.Ranges.{Fits}
 use Rattle.rtgs_book.specs.Soundness.{IsSound}
 use Rattle.rtgs_book.specs.Step.{Step}
@@ -60,8 +62,9 @@ pub record IsKept (held : Held) : Type 0 where
 pub record IsPrepared (held : Held) (command : Command) (answer : Answer) (rows : List RowChange) : Type 0 where
   pub book : Book
   pub step : Step held.content command (Ok answer) book
-  pub change : IsChange held.content rows book
-  pub fits : Fits book
+  pub leads : Leads held.content rows book
+  pub added : AllByRecursion (StartsEmpty book rows) rows
+  pub in_range : rows ≢ [] → CommandFits command
   pub balanced : AreBalanced book (after held rows).accounts
   pub repeated : (known : Known) → answer ≡ Repeated known → rows ≡ []
   pub nothing : answer ≡ Nothing → rows ≡ []
@@ -169,8 +172,9 @@ module _ (book : Book) (r : Records) (core : Core) (of : IsOf book r core) where
   to_prepared command answer rows p = record {
     book = p.book;
     step = subst (λ b. Step b command (Ok answer) p.book) of.same p.step;
-    change = subst (λ b. IsChange b rows p.book) of.same p.change;
-    fits = p.fits;
+    leads = subst (λ b. Leads b rows p.book) of.same p.leads;
+    added = p.added;
+    in_range = p.in_range;
     balanced = subst (AreBalanced p.book) (same_accounts (held_of (whole book r)) core rows of.accounts) p.balanced;
     repeated = p.repeated;
     nothing = p.nothing;

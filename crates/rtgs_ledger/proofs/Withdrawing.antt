@@ -23,7 +23,7 @@ use Rattle.rtgs_book.specs.Outcome.{first_of}
 use Rattle.rtgs_book.specs.Soundness.{OrdersAreNumbered}
 use Rattle.rtgs_book.specs.Step.{Step}
 use Rattle.rtgs_ledger.proofs.Balances.{same_int, all_same}
-use Rattle.rtgs_ledger.proofs.Kept.{StepKeepsRanges, StepKeepsSoundness, prepared_done}
+use Rattle.rtgs_ledger.proofs.Kept.{prepared_done}
 use Rattle.rtgs_ledger.proofs.Loading.{rising_from}
 use Rattle.rtgs_ledger.proofs.Reading.{found_by_number}
 use Rattle.rtgs_ledger.proofs.Whole.{Held, IsKept, IsPrepared}
@@ -120,13 +120,13 @@ module _ (held : Held) (kept : IsKept held) (law : BalanceAfterRestating) (sende
         (λ c. rw (← balance_same c, same_int (balance held.content c)) refl) (accounts new);
   }
 
-  pub prepared_withdraw : StepKeepsRanges → StepKeepsSoundness → is_participant held.content sender ≡ true
+  pub prepared_withdraw : is_participant held.content sender ≡ true
       → is_withdrawn_state o.state ≡ false
       → IsPrepared held (command.Withdraw sender reference) (answer.Withdrawn o.number)
       (SetState o.number Withdrawn ∷ [])
-  prepared_withdraw ranges soundness there not_back =
+  prepared_withdraw there not_back =
       prepared_done held (command.Withdraw sender reference) (answer.Withdrawn o.number)
-      (SetState o.number Withdrawn ∷ []) new kept ranges soundness tt
+      (SetState o.number Withdrawn ∷ []) new tt
       (withdraws held.content sender reference there o found not_back waits) leads_to_it (tt, tt)
       (all_same (balance held.content) (balance new) balance_same held.accounts kept.balanced)
       (λ k e. absurd (cc)) (λ e. absurd (cc))

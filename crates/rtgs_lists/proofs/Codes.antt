@@ -1,8 +1,8 @@
 -- Texts in the order of their bytes, as participants' codes stand, and one that is put in at its place.
-use Rattle.std.proofs.Common.{◌≡◌, ℕ, Bool, true, false, cond, not, List, [], ◌∷◌, ◌++◌, filter, nat_cmp, Ordering, Less}
-use Rattle.std.proofs.Common.{Equal, Greater, is_lt, refl, sym, ap, ◌∙◌, subst, true≢false, arith}
+use Rattle.std.proofs.Common.{◌≡◌, ℕ, Bool, true, false, cond, not, ◌||◌, List, [], ◌∷◌, ◌++◌, filter, nat_cmp, Ordering}
+use Rattle.std.proofs.Common.{Less, Equal, Greater, is_lt, refl, sym, ap, ◌∙◌, subst, true≢false, arith}
 use Rattle.std.proofs.lemmas.Bool.Decides.{same_from_decides, Decides-like, nat_tests}
-use Rattle.std.specs.List.{AllByRecursion}
+use Rattle.std.specs.List.{AllByRecursion, list_any}
 use Rattle.std.specs.List.Sorted.{IsStrictlySortedBy}
 use Rattle.std.specs.Ordering.{ordering_reverse}
 use Rattle.std.specs.Str.{bytes_eq}
@@ -83,3 +83,14 @@ sorted_put_in x (y ∷ ys) rise new = by (is_before y x) refl (sorted_put_in x y
         in
         rw (filter_nothing (λ z. is_before z x) ys none_before, filter_all (λ z. not (is_before z x)) ys all_after)
         ((less, all_more), (rise.0, rise.1))
+
+-- a text that is among these differs from one that differs from each of them
+pub apart_from : (s code : List ℕ) (codes : List (List ℕ)) → AllByRecursion (λ c. bytes_eq c code ≡ false) codes
+    → list_any (bytes_eq s) codes ≡ true → bytes_eq s code ≡ false
+apart_from s code [] h e = absurd (true≢false (sym e))
+apart_from s code (c ∷ codes) h e = by (bytes_eq s c) refl e (apart_from s code codes h.1)
+  where
+    by : (b : Bool) → bytes_eq s c ≡ b → (b || list_any (bytes_eq s) codes) ≡ true
+        → (list_any (bytes_eq s) codes ≡ true → bytes_eq s code ≡ false) → bytes_eq s code ≡ false
+    by true f k rest = ap (λ x. bytes_eq x code) ((bytes_decides s c).0 f) ∙ h.0
+    by false f k rest = rest k

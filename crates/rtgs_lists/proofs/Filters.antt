@@ -29,3 +29,16 @@ pub all_put_in : {X : Type 0} (P : X → Type 0) (p : X → Bool) (x : X) (xs : 
     → AllByRecursion P (put_in p x xs)
 all_put_in P p x xs h k = all_append P (filter p xs) (x ∷ filter (λ y. not (p y)) xs) (all_filter P p xs h)
     (k, all_filter P (λ y. not (p y)) xs h)
+
+-- a filter that passes neither the old nor the new of the elements that are changed
+pub filter_changed : {X : Type 0} (p is_in : X → Bool) (f : X → X) → ((x : X) → p (f x) ≡ false) → (xs : List X)
+    → AllByRecursion (λ x. is_in x ≡ true → p x ≡ false) xs
+    → filter p (map (λ x. cond (is_in x) (f x) x) xs) ≡ filter p xs
+filter_changed p is_in f never [] h = refl
+filter_changed p is_in f never (x ∷ xs) h = by (is_in x) refl (filter_changed p is_in f never xs h.1)
+  where
+    by : (b : Bool) → is_in x ≡ b → filter p (map (λ x. cond (is_in x) (f x) x) xs) ≡ filter p xs
+        → cond (p (cond b (f x) x)) (cond b (f x) x ∷ filter p (map (λ x. cond (is_in x) (f x) x) xs))
+        (filter p (map (λ x. cond (is_in x) (f x) x) xs)) ≡ cond (p x) (x ∷ filter p xs) (filter p xs)
+    by true e rest = rw (never x, h.0 e, rest) refl
+    by false e rest = rw rest refl

@@ -1,7 +1,16 @@
--- The first element that passes a test.
-use Rattle.std.proofs.Common.{◌≡◌, Bool, false, List, [], ◌∷◌, find, None, refl}
-use Rattle.std.specs.List.{AllByRecursion}
+-- The first element that passes a test, and lists of which none does.
+use Rattle.std.proofs.Common.{◌≡◌, Bool, true, false, ◌||◌, List, [], ◌∷◌, find, None, refl, true≢false}
+use Rattle.std.specs.List.{AllByRecursion, list_any}
 
 pub find_nothing : {X : Type 0} (p : X → Bool) (xs : List X) → AllByRecursion (λ x. p x ≡ false) xs → find p xs ≡ None
 find_nothing p [] h = refl
 find_nothing p (x ∷ xs) h = rw h.0 (find_nothing p xs h.1)
+
+pub none_any : {X : Type 0} (q : X → Bool) (xs : List X) → list_any q xs ≡ false → AllByRecursion (λ x. q x ≡ false) xs
+none_any q [] e = tt
+none_any q (x ∷ xs) e = by (q x) refl e (none_any q xs)
+  where
+    by : (b : Bool) → q x ≡ b → (b || list_any q xs) ≡ false
+        → (list_any q xs ≡ false → AllByRecursion (λ x. q x ≡ false) xs) → AllByRecursion (λ x. q x ≡ false) (x ∷ xs)
+    by true f k rest = absurd (true≢false k)
+    by false f k rest = (f, rest k)

@@ -1,6 +1,6 @@
 -- What holds of each element of a list.
 use Rattle.std.proofs.Common.{◌≡◌, ℕ, zero, suc, ◌<◌, Bool, true, false, cond, List, [], ◌∷◌, ◌++◌, map, filter, length}
-use Rattle.std.proofs.Common.{get_or, find, Some, refl, arith}
+use Rattle.std.proofs.Common.{get_or, refl, arith}
 use Rattle.std.specs.List.{AllByRecursion}
 
 pub all_of : {X : Type 0} (P : X → Type 0) → ((x : X) → P x) → (xs : List X) → AllByRecursion P xs
@@ -47,3 +47,8 @@ pub map_same : {X Y : Type 0} (g : X → Y) (f : X → X) → ((x : X) → g (f 
     → map g (map f xs) ≡ map g xs
 map_same g f same [] = refl
 map_same g f same (x ∷ xs) = λ i. same x i ∷ map_same g f same xs i
+
+pub all_map : {X Y : Type 0} (P : Y → Type 0) (f : X → Y) (xs : List X) → AllByRecursion (λ x. P (f x)) xs
+    → AllByRecursion P (map f xs)
+all_map P f [] h = tt
+all_map P f (x ∷ xs) h = (h.0, all_map P f xs h.1)

@@ -1,11 +1,16 @@
 -- Numbers, and lists of them from 1 on.
-use Rattle.std.proofs.Common.{◌≡◌, ◌==◌, ℕ, zero, suc, ◌+◌, true, List, [], ◌∷◌, ◌++◌, length, length-append}
-use Rattle.std.proofs.Common.{sym, ap, ◌∙◌, arith}
+use Rattle.std.proofs.Common.{◌≡◌, ◌==◌, ℕ, zero, suc, ◌+◌, ◌≤◌, ℤ, ◌≤ℤ◌, int_le, true, List, [], ◌∷◌, ◌++◌, map}
+use Rattle.std.proofs.Common.{length, length-append, sym, ap, ◌∙◌, arith}
 use Rattle.std.proofs.lemmas.Bool.Decides.{nat_tests}
-use Rattle.std.specs.List.{range_with_len}
+use Rattle.std.proofs.lemmas.Int.{ints}
+use Rattle.std.specs.List.{AllByRecursion, range_with_len}
+use Rattle.rtgs_lists.proofs.Lists.{all_weaker}
 
 pub eq_self : (n : ℕ) → (n == n) ≡ true
 eq_self n = grind (arith, nat_tests)
+
+pub le_from_test : (a b : ℤ) → int_le a b ≡ true → a ≤ℤ b
+le_from_test a b e = grind (arith, ints)
 
 range_suc : (a n : ℕ) → range_with_len a (suc n) ≡ range_with_len a n ++ (a + n) ∷ []
 range_suc a zero = ap (λ m. m ∷ []) (omega arith)
@@ -24,3 +29,15 @@ numbered_push numbers e =
     let next : 1 + length numbers ≡ length numbers + 1 = omega arith in
     ap (λ xs. xs ++ (length numbers + 1) ∷ []) e ∙ sym (ap (range_with_len 1) long ∙ range_push 1 (length numbers)
     ∙ ap (λ m. range_with_len 1 (length numbers) ++ m ∷ []) next)
+
+-- what is numbered one after another has no number below the first
+pub not_below : {X : Type 0} (number : X → ℕ) (first : ℕ) (xs : List X)
+    → map number xs ≡ range_with_len first (length xs) → AllByRecursion (λ x. first ≤ number x) xs
+not_below number first [] e = tt
+not_below number first (x ∷ xs) e =
+    let head : number x ≡ first = cc in
+    let rest : map number xs ≡ range_with_len (first + 1) (length xs) = cc in (
+      omega arith,
+      all_weaker (λ y. first + 1 ≤ number y) (λ y. first ≤ number y) (λ y le. omega arith) xs
+          (not_below number (first + 1) xs rest),
+    )

@@ -7,6 +7,7 @@ use Rattle.std.specs.Option.{option_map}
 use Rattle.rtgs_book.specs.declared.order.Order.{Order}
 use Rattle.rtgs_book.specs.Commands.{has_number}
 use Rattle.rtgs_lists.proofs.Lists.{all_weaker}
+use Rattle.rtgs_lists.proofs.Numbers.{not_below}
 
 module _ {X : Type 0} (p : X → Bool) where
   pub find_left : (xs ys : List X) (x : X) → find p xs ≡ Some x → find p (xs ++ ys) ≡ Some x
@@ -86,17 +87,6 @@ module _ {X : Type 0} (p : X → Bool) where
 
 -- ---- orders by their numbers
 
-not_below : (first : ℕ) (os : List Order) → map (λ (o : Order). o.number) os ≡ range_with_len first (length os)
-    → AllByRecursion (λ (o : Order). first ≤ o.number) os
-not_below first [] e = tt
-not_below first (o ∷ os) e =
-    let head : o.number ≡ first = cc in
-    let rest : map (λ (o : Order). o.number) os ≡ range_with_len (first + 1) (length os) = cc in (
-      omega arith,
-      all_weaker (λ (x : Order). first + 1 ≤ x.number) (λ (x : Order). first ≤ x.number)
-          (λ x le. omega arith) os (not_below (first + 1) os rest),
-    )
-
 pub all_below : (first : ℕ) (os : List Order) → map (λ (o : Order). o.number) os ≡ range_with_len first (length os)
     → AllByRecursion (λ (o : Order). o.number < first + length os) os
 all_below first [] e = tt
@@ -137,10 +127,10 @@ only_one p first (o ∷ os) x e f = by (p o) f (only_one p (first + 1) os x rest
           (λ _. same),
           all_weaker (λ (y : Order). first + 1 ≤ y.number) (λ y. has_number x.number y ≡ true → y ≡ x)
               (λ y le t. absurd (true≢false (sym t ∙ other_number x.number y.number (omega arith)))) os
-              (not_below (first + 1) os rest),
+              (not_below (λ (o : Order). o.number) (first + 1) os rest),
         )
     by false k more =
         let above : first + 1 ≤ x.number = (found p (λ (y : Order). first + 1 ≤ y.number) os x
-        (not_below (first + 1) os rest) k).0 in
+        (not_below (λ (o : Order). o.number) (first + 1) os rest) k).0 in
         let first_is : o.number ≡ first = head in
         ((λ t. absurd (true≢false (sym t ∙ less_number o.number x.number (omega arith)))), more k)

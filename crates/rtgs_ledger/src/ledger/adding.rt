@@ -8,7 +8,7 @@ ghost use Rattle.rtgs_ledger.specs.Kinds.{CanAnswer, is_of_the_store};
 
 use super::Ledger;
 use rtgs_book::{
-    Answer, Change, Command, Known, MOST_PARTICIPANTS, Participant, Refusal, RowChange, Rows, laws,
+    Answer, Change, Command, Known, MOST_PARTICIPANTS, Participant, Refusal, RowChange, Rows,
 };
 use rtgs_money::{Code, Credit, KeyDigest, Name};
 
@@ -48,8 +48,6 @@ impl Ledger {
             key,
             credit: Credit::NONE,
         };
-        laws::step_keeps_ranges();
-        laws::step_keeps_soundness();
         let rows = vec![in self.alloc; RowChange::AddParticipant(participant)]?;
         self.records.accounts.reserve()?;
         Ok((Answer::Added, Rows::from_vec(rows)))

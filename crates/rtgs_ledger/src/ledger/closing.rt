@@ -73,7 +73,6 @@ impl Ledger {
                 count: self.records.accounts.overdrawn() as u64,
             });
         }
-        laws::step_keeps_ranges();
         laws::balance_after_restating();
         queued_are_numbered();
         rows_close();

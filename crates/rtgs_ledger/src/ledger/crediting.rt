@@ -7,7 +7,7 @@ ghost use Rattle.rtgs_ledger.specs.Kept.{IsPrepared, IsRefused};
 ghost use Rattle.rtgs_ledger.specs.Kinds.{CanAnswer, is_of_the_store};
 
 use super::Ledger;
-use rtgs_book::{Answer, Change, Command, Refusal, RowChange, Rows, laws};
+use rtgs_book::{Answer, Change, Command, Refusal, RowChange, Rows};
 use rtgs_money::{Code, Credit};
 
 impl Ledger {
@@ -33,8 +33,6 @@ impl Ledger {
         if self.records.is_past_limit(&account, credit) {
             return Err(Refusal::NoCover);
         }
-        laws::step_keeps_ranges();
-        laws::step_keeps_soundness();
         let rows = vec![in self.alloc; RowChange::SetCredit { code, credit }]?;
         Ok((Answer::CreditSet, Rows::from_vec(rows)))
     }

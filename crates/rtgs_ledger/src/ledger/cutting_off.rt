@@ -7,7 +7,7 @@ ghost use Rattle.rtgs_ledger.specs.Kept.{IsPrepared, IsRefused};
 ghost use Rattle.rtgs_ledger.specs.Kinds.{CanAnswer, is_of_the_store};
 
 use super::Ledger;
-use rtgs_book::{Answer, Change, Command, Day, Known, Phase, Refusal, RowChange, Rows, laws};
+use rtgs_book::{Answer, Change, Command, Day, Known, Phase, Refusal, RowChange, Rows};
 use rtgs_money::BusinessDate;
 
 impl Ledger {
@@ -35,8 +35,6 @@ impl Ledger {
         if today != date {
             return Err(Refusal::WrongDate);
         }
-        laws::step_keeps_ranges();
-        laws::step_keeps_soundness();
         let day = Day {
             phase: Phase::CutOff,
             ..self.records.day

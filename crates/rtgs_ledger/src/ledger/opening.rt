@@ -7,7 +7,7 @@ ghost use Rattle.rtgs_ledger.specs.Kept.{IsPrepared, IsRefused};
 ghost use Rattle.rtgs_ledger.specs.Kinds.{CanAnswer, is_of_the_store};
 
 use super::Ledger;
-use rtgs_book::{Answer, Change, Command, Day, Known, Phase, Refusal, RowChange, Rows, laws};
+use rtgs_book::{Answer, Change, Command, Day, Known, Phase, Refusal, RowChange, Rows};
 use rtgs_money::BusinessDate;
 
 impl Ledger {
@@ -38,8 +38,6 @@ impl Ledger {
         if date.is_weekend() {
             return Err(Refusal::Weekend);
         }
-        laws::step_keeps_ranges();
-        laws::step_keeps_soundness();
         let day = Day {
             date: Some(date),
             phase: Phase::Open,

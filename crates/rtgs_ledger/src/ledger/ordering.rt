@@ -101,8 +101,6 @@ impl Ledger {
         ensures refused { (book : Book) → IsCoreOf book self.old.core
             → IfErr result (λ refusal. refusal ≡ Refusal.OutOfMemory) }
     {
-        laws::step_keeps_ranges();
-        laws::step_keeps_soundness();
         laws::balances_are_small();
         if !self.records.counts_marks() {
             return Err(Refusal::NumbersUsedUp);
@@ -132,8 +130,6 @@ impl Ledger {
             (Command.Order order.sender order.reference order.receiver order.amount) answer change) }
         ensures refused { IfErr result (λ refusal. refusal ≡ Refusal.OutOfMemory) }
     {
-        laws::step_keeps_ranges();
-        laws::step_keeps_soundness();
         let place = self.records.orders.queue(&order.sender).len() as u64 + 1;
         let rows = vec![in self.alloc; RowChange::AddOrder(order)]?;
         self.records.orders.reserve(order.sender)?;

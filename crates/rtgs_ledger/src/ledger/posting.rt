@@ -57,8 +57,6 @@ impl Ledger {
         if self.records.is_uncovered(&account, cents, balance) {
             return Err(Refusal::NoCover);
         }
-        laws::step_keeps_ranges();
-        laws::step_keeps_soundness();
         let posting = Posting {
             number,
             code,

@@ -70,7 +70,6 @@ impl Ledger {
         if !self.records.counts_marks() {
             return Err(Refusal::NumbersUsedUp);
         }
-        laws::step_keeps_ranges();
         laws::balances_are_small();
         chosen_numbers();
         taken_are_chosen();

@@ -49,8 +49,6 @@ impl Ledger {
             OrderState::Settled(_) | OrderState::Rejected => return Err(Refusal::NotQueued),
             OrderState::Queued => {}
         }
-        laws::step_keeps_ranges();
-        laws::step_keeps_soundness();
         laws::balance_after_restating();
         let state = OrderState::Withdrawn;
         let rows = vec![in self.alloc; RowChange::SetState { number, state }]?;

@@ -1,4 +1,4 @@
-use Rattle.rtgs_book.proofs.SoundStates.{balance-restated}
+use Rattle.rtgs_book.proofs.Balances.{balance-restated}
 use Rattle.rtgs_book.proofs.laws.balance_after_restating.Goals as goal
 
 pub returns : goal.returns

@@ -17,5 +17,5 @@ returns c book content of =
     stored_sum book content.holdings of.balances
     ∙ sym (int_sum_by-permuted (balance book) (map code who) (map code book.participants)
     (IsPermutation-map code who book.participants of.records.participants))
-    ∙ c.total_is_issued.ensures book of.sound
+    ∙ c.total_is_issued.ensures book of.sound.codes_rise of.sound.parties
     ∙ ap (int_sum_by (λ (p : Posting). p.cents)) (sym of.records.postings)

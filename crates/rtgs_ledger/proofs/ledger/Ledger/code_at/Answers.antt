@@ -1,7 +1,6 @@
-use Rattle.std.proofs.Common.{◌≡◌, ◌∙◌, List, ℕ, map, ap}
+use Rattle.std.proofs.Common.{◌∙◌, List, ℕ, ap}
 use Rattle.std.specs.Prelude.{slice_get}
 use Rattle.rtgs_book.specs.Lookup.{accounts}
-use Rattle.rtgs_ledger.specs.Accounts.{code_of}
 use Rattle.rtgs_ledger.proofs.Kept.{codes-participants}
 use Rattle.rtgs_ledger.proofs.Whole.{is_of_book}
 use Rattle.rtgs_ledger.proofs.ledger.Ledger.code_at.Goals as goal

@@ -1,6 +1,5 @@
-use Rattle.std.proofs.Common.{◌≡◌, ◌∙◌, sym, ap, subst, map, List, find, Some, None}
+use Rattle.std.proofs.Common.{◌≡◌, ◌∙◌, sym, ap, map, List, find}
 use Rattle.std.specs.Option.{option_map}
-use Rattle.rtgs_book.specs.declared.book.Book.{Book}
 use Rattle.rtgs_book.specs.declared.participant.Participant.{Participant}
 use Rattle.rtgs_ledger.specs.Accounts.{code_of, participant_of}
 use Rattle.rtgs_ledger.specs.Held.{Held}

@@ -84,5 +84,4 @@ returns-clause-prepared c book is =
     ≡ false = grind (arith, nat_tests, c.len.ensures, c.if-len-ge-MOST_PARTICIPANTS.false) in
     let free : list_any (has_key c.args.key) r.accounts.accounts ≡ false = sym c.has_key.ensures ∙ c.if-has_key.false in
     rw (c.from_vec.ensures, c.in_ok-rows.ensures.items) (to_prepared book c.self.inside.records c.args.self.now.core of
-    _ _ _ (prepared_add r of.kept c.args.code c.args.name c.args.key absent c.step_keeps_ranges.ensures
-    c.step_keeps_soundness.ensures free few))
+    _ _ _ (prepared_add r of.kept c.args.code c.args.name c.args.key absent free few))

@@ -48,8 +48,7 @@ returns-clause-prepared c book is =
     let of = is_of_book book r c.args.self.now c.self.view_is is in
     let day = sym c.open_date.ensures ∙ c.in-Some.is in
     rw (c.from_vec.ensures, c.in_ok-rows.ensures.items) (to_prepared book r c.args.self.now.core of _ _ _
-    (prepared_cut_off (held_of (whole book r)) of.kept c.args.date c.step_keeps_ranges.ensures
-    c.step_keeps_soundness.ensures
+    (prepared_cut_off (held_of (whole book r)) of.kept c.args.date
     (sym c.is_cut_off_on.ensures ∙ c.if-is_cut_off_on.false) (open_now (whole book r) of.kept c.in-Some.today day)
     (ap (λ d. is_date d c.args.date) (is_today (whole book r) of.kept c.in-Some.today day)
     ∙ same_date c.in-Some.today c.args.date (sym c.ne.ensures ∙ c.if-ne.false))))

@@ -51,7 +51,6 @@ returns-clause-prepared c book is =
     let r = c.self.inside.records in
     let of = is_of_book book r c.args.self.now c.self.view_is is in
     rw (c.from_vec.ensures, c.in_ok-rows.ensures.items) (to_prepared book r c.args.self.now.core of _ _ _
-    (prepared_open (held_of (whole book r)) of.kept c.args.date c.step_keeps_ranges.ensures
-    c.step_keeps_soundness.ensures
+    (prepared_open (held_of (whole book r)) of.kept c.args.date
     (sym c.is_open_on.ensures ∙ c.if-is_open_on.false) (sym c.is_closed.ensures ∙ c.if-not-is_closed.false)
     (sym c.is_before.ensures ∙ c.if-not-is_before.false) (sym c.is_weekend.ensures ∙ c.if-is_weekend.false)))

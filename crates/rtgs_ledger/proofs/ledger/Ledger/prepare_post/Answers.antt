@@ -157,5 +157,5 @@ returns-clause-prepared c book is found =
     rw (c.from_vec.ensures, c.in_ok-rows.ensures.items, of.postings) (to_prepared book c.self.inside.records
     c.args.self.now.core of _ _ _ (prepared_post r of.kept c.args.code c.args.reference c.args.cents
     c.in-Some.account account_found c.moved-balance.result sum
-    c.step_keeps_ranges.ensures c.step_keeps_soundness.ensures (c.cents.ensures.not_zero, c.cents.ensures.in_range)
+    (c.cents.ensures.not_zero, c.cents.ensures.in_range)
     (sym found_here ∙ c.in_default-found.is) few small covered))

@@ -22,5 +22,4 @@ returns-clause-prepared c book is taken waits =
     ∙ length-map (queued_among r.orders.orders o.sender) (λ (x : Order). x.number)
     ∙ ap length (queue_is (book_of w) r.orders.orders o.sender of.queued) in
     rw (c.from_vec.ensures, c.in_ok-rows.ensures.items, place) (to_prepared book r c.args.self.now.core of _ _ _
-    (prepared_queued (held_of w) of.kept o taken_here c.step_keeps_ranges.ensures
-    c.step_keeps_soundness.ensures waits_here))
+    (prepared_queued (held_of w) of.kept o taken_here waits_here))

@@ -36,6 +36,5 @@ returns-clause-prepared c book is =
     let within = rw (balance_at (whole book r) of.kept c.args.code c.in-Some.account found) at
     (sym c.is_past_limit.ensures.value ∙ c.if-is_past_limit.false) in
     rw (c.from_vec.ensures, c.in_ok-rows.ensures.items) (to_prepared book r c.args.self.now.core of _ _ _
-    (prepared_credit (held_of (whole book r)) of.kept c.args.code c.args.credit c.step_keeps_ranges.ensures
-    c.step_keeps_soundness.ensures c.is_past_limit.ensures.fits
+    (prepared_credit (held_of (whole book r)) of.kept c.args.code c.args.credit c.is_past_limit.ensures.fits
     (is_known (whole book r) of.kept c.args.code c.in-Some.account found) within))

@@ -46,7 +46,7 @@ returns-clause-prepared c book is taken settles from to =
     rw (c.from_vec.ensures, c.in_ok-rows.ensures, mark) (to_prepared book r c.args.self.now.core of _ _ _
     (prepared_settled (held_of w) of.kept o taken_here debtor creditor from_here to_here
     c.with_less-debited.result c.with_more-credited.result less more
-    c.step_keeps_ranges.ensures c.step_keeps_soundness.ensures settles_here))
+    settles_here))
 
 pub returns-clause-room : goal.returns-clause-room
 returns-clause-room c =

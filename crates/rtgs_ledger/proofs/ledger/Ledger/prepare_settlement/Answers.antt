@@ -59,8 +59,8 @@ returns-clause-prepared c book is chosen dated =
     rw (c.from_vec.ensures ∙ rows, c.resolved.ensures) (to_prepared book r c.args.self.now.core of _ _ _
     (resolved (held_of w) of.kept orders chosen_here c.chosen_numbers.ensures.count
     c.taken_are_chosen.ensures.numbers refl c.requires.some mark c.args.date dated_here mark_is
-    c.step_keeps_ranges.ensures c.taken_are_chosen.ensures.value c.taken_are_chosen.ensures.gains
-    c.rows_settle.ensures.step c.rows_settle.ensures.change))
+    c.taken_are_chosen.ensures.value c.taken_are_chosen.ensures.gains
+    c.rows_settle.ensures.step c.rows_settle.ensures.leads c.rows_settle.ensures.added))
 
 pub returns-clause-room : goal.returns-clause-room
 returns-clause-room c =

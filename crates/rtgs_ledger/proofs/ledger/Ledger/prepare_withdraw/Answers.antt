@@ -78,4 +78,4 @@ returns-clause-prepared c book is found =
     rw (c.from_vec.ensures, c.in_ok-rows.ensures.items) (to_prepared book c.self.inside.records c.args.self.now.core of
     _ _ _ (prepared_withdraw (held_of r) of.kept c.balance_after_restating.ensures c.args.sender c.args.reference o
     (sym found_here ∙ c.in-Some-found.is) (ap is_queued_state c.in-Queued.is)
-    c.step_keeps_ranges.ensures c.step_keeps_soundness.ensures there (ap is_withdrawn_state c.in-Queued.is)))
+    there (ap is_withdrawn_state c.in-Queued.is)))

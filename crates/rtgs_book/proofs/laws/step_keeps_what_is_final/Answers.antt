@@ -1,5 +1,0 @@
-use Rattle.rtgs_book.proofs.Steady.{step_stands}
-use Rattle.rtgs_book.proofs.laws.step_keeps_what_is_final.Goals as goal
-
-pub returns : goal.returns
-returns c = step_stands

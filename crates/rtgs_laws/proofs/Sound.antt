@@ -1,0 +1,49 @@
+-- Steps and runs keep a book sound.
+use Rattle.std.proofs.Common.{◌≡◌, List, [], ◌∷◌, sym, ap, subst}
+use Rattle.rtgs_book.specs.declared.command.Command.TheVariants.{Add, SetCredit, Post, OpenDay, Order as PlaceOrder}
+use Rattle.rtgs_book.specs.declared.command.Command.TheVariants.{Withdraw, Resolve, CutOff, CloseDay}
+use Rattle.rtgs_book.specs.declared.book.Book.{Book}
+use Rattle.rtgs_book.specs.declared.command.Command.{Command}
+use Rattle.rtgs_book.specs.Outcome.{Reply, Outcome}
+use Rattle.rtgs_book.specs.Run.{Run}
+use Rattle.rtgs_book.specs.Step.{Step}
+use Rattle.rtgs_book.specs.Soundness.{IsSound}
+use Rattle.rtgs_laws.proofs.BookLaws.{BookLaws}
+use Rattle.rtgs_laws.proofs.SoundAdd.{sound_add}
+use Rattle.rtgs_laws.proofs.SoundCommands.{sound_order, sound_resolve}
+use Rattle.rtgs_laws.proofs.SoundCredit.{sound_set_credit}
+use Rattle.rtgs_laws.proofs.SoundDays.{sound_open_day, sound_cut_off}
+use Rattle.rtgs_laws.proofs.SoundPost.{sound_post}
+use Rattle.rtgs_laws.proofs.SoundStates.{sound_withdraw, sound_close_day}
+
+ends : (outcome : Outcome) (reply : Reply) (new : Book) → record { reply = reply; book = new } ≡ outcome
+    → IsSound outcome.book → IsSound new
+ends outcome reply new e h = subst IsSound (sym (ap (λ (o : Outcome). o.book) e)) h
+
+pub step_sound : BookLaws → (old new : Book) (command : Command) (reply : Reply) → IsSound old
+    → Step old command reply new → IsSound new
+step_sound laws old new (Add code full key) reply h e = ends _ reply new e (sound_add laws old code full key h)
+step_sound laws old new (SetCredit code credit) reply h e = ends _ reply new e (sound_set_credit old code credit h)
+step_sound laws old new (Post code reference cents) reply h e =
+    ends _ reply new e (sound_post laws old code reference cents h)
+step_sound laws old new (OpenDay date) reply h e = ends _ reply new e (sound_open_day old date h)
+step_sound laws old new (PlaceOrder sender reference receiver amount) reply h e =
+    ends _ reply new e (sound_order laws old sender reference receiver amount h)
+step_sound laws old new (Withdraw sender reference) reply h e =
+    ends _ reply new e (sound_withdraw laws old sender reference h)
+step_sound laws old new Resolve reply h e = ends _ reply new e.2 (sound_resolve laws old e.0 h e.1.feasible)
+step_sound laws old new (CutOff date) reply h e = ends _ reply new e (sound_cut_off old date h)
+step_sound laws old new (CloseDay date) reply h e = ends _ reply new e.2 (sound_close_day laws old e.0 date h)
+
+-- each command keeps a sound book sound
+abbrev pub KeepsSoundness : Type 0
+KeepsSoundness = (old new : Book) (command : Command) (reply : Reply) → IsSound old → Step old command reply new
+    → IsSound new
+
+pub run_sound : KeepsSoundness → (old new : Book) (commands : List Command) (replies : List Reply) → IsSound old
+    → Run old commands replies new → IsSound new
+run_sound keeps old new [] [] h r = subst IsSound (sym r) h
+run_sound keeps old new [] (reply ∷ replies) h r = absurd r
+run_sound keeps old new (command ∷ commands) [] h r = absurd r
+run_sound keeps old new (command ∷ commands) (reply ∷ replies) h r =
+    run_sound keeps r.0 new commands replies (keeps old r.0 command reply h r.1) r.2

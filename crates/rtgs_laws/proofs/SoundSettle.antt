@@ -1,0 +1,173 @@
+-- A batch that is settled keeps a book sound.
+use Rattle.std.proofs.Common.{◌≡◌, ℕ, ◌≤◌, ◌<◌, ◌+◌, ◌==◌, pos, ◌+ℤ◌, ◌≤ℤ◌, Bool, true, false, ◌&&◌, List, [], ◌∷◌}
+use Rattle.std.proofs.Common.{map, filter, length, refl, sym, ap, ◌∙◌, true≢false, arith}
+use Rattle.std.proofs.lemmas.Bool.Decides.{nat_tests}
+use Rattle.std.proofs.lemmas.List.{length-map, map-append}
+use Rattle.std.specs.List.{AllByRecursion, range_with_len}
+use Rattle.std.specs.Str.{bytes_eq}
+use Rattle.rtgs_money.specs.Date.{is_weekend}
+use Rattle.rtgs_book.specs.declared.limits.TheConstants.{LONGEST_QUEUE}
+use Rattle.rtgs_book.specs.declared.book.Book.{Book}
+use Rattle.rtgs_book.specs.declared.mark.Mark.{Mark}
+use Rattle.rtgs_book.specs.declared.order.Order.{Order}
+use Rattle.rtgs_book.specs.declared.order_state.OrderState.{OrderState}
+use Rattle.rtgs_book.specs.declared.order_state.OrderState.TheVariants.{Settled}
+use Rattle.rtgs_book.specs.Books.{is_closed, is_queued}
+use Rattle.rtgs_book.specs.Lookup.{accounts, is_participant, participant_of, credit_of}
+use Rattle.rtgs_book.specs.IntSum.{int_sum_by}
+use Rattle.rtgs_book.specs.Balance.{balance, floor, total, issued, gain}
+use Rattle.rtgs_book.specs.Queue.{queue}
+use Rattle.rtgs_book.specs.Settle.{restated, settle, mark_of, next_mark, today}
+use Rattle.rtgs_book.specs.Soundness.{PartiesAreKnown, has_parties, is_state_under, CountsItsOrders, IsSound}
+use Rattle.rtgs_laws.proofs.BookLaws.{AreQueued, BookLaws, TotalIsIssued}
+use Rattle.rtgs_laws.proofs.Batches.{all_from_filter, none_under_next, under_new, amounts_restated}
+use Rattle.rtgs_laws.proofs.Batches.{marks_settled, marks_le}
+use Rattle.rtgs_laws.proofs.Lists.{numbered_after, never_fall_push}
+use Rattle.rtgs_laws.proofs.Settling.{with_batch, settled_either}
+use Rattle.rtgs_laws.proofs.SoundStates.{name}
+use Rattle.rtgs_laws.proofs.States.{restated_same, all_filter_restated, length-filter_restated}
+use Rattle.rtgs_laws.proofs.States.{queued_not_under}
+use Rattle.rtgs_lists.proofs.Filters.{filter_changed}
+use Rattle.rtgs_lists.proofs.Lists.{all_both, all_map, all_push, all_weaker, map_same}
+
+-- numbers that count up from 1 are at most as many
+below_next : (first : ℕ) (ms : List Mark) → map (λ (m : Mark). m.number) ms
+    ≡ range_with_len first (length (map (λ (m : Mark). m.number) ms))
+    → AllByRecursion (λ (m : Mark). m.number < first + length ms) ms
+below_next first [] e = tt
+below_next first (m ∷ ms) e =
+    let head : m.number ≡ first = cc in
+    let rest : map (λ (m : Mark). m.number) ms ≡ range_with_len (first + 1) (length (map (λ (m : Mark). m.number) ms)) =
+    cc in (
+      omega arith,
+      all_weaker (λ (k : Mark). k.number < first + 1 + length ms)
+          (λ (k : Mark). k.number < first + length (m ∷ ms)) (λ k less. omega arith) ms
+          (below_next (first + 1) ms rest),
+    )
+
+kept : {Y : Type 0} (g : Order → Y) → ((o : Order) (s : OrderState) → g (record o { state = s }) ≡ g o)
+    → (is_in : Order → Bool) (s : OrderState) (os : List Order) → map g (map (restated is_in s) os) ≡ map g os
+kept g same is_in s os = map_same g (restated is_in s) (restated_same g same is_in s) os
+
+not_equal : (a b : ℕ) → a < b → (b == a) ≡ false
+not_equal a b less = grind (arith, nat_tests)
+
+-- the orders of a batch are between participants still
+parties_settled : (book : Book) (is_in : Order → Bool) → PartiesAreKnown book
+    → PartiesAreKnown (with_batch book is_in)
+unfolding is_participant accounts
+parties_settled book is_in h = (
+  all_map (λ o. has_parties book o ≡ true) (restated is_in (Settled (next_mark book))) book.orders
+      (all_weaker (λ o. has_parties book o ≡ true)
+      (λ o. has_parties book (restated is_in (Settled (next_mark book)) o) ≡ true)
+      (λ o x. restated_same (has_parties book) (λ o s. refl) is_in (Settled (next_mark book)) o ∙ x) book.orders h.0),
+  h.1,
+)
+
+pub total-with_batch : TotalIsIssued → (book : Book) (is_in : Order → Bool) → IsSound book
+    → total (with_batch book is_in) ≡ total book
+unfolding accounts issued
+total-with_batch issue book is_in h =
+    issue (with_batch book is_in) h.codes_rise (parties_settled book is_in h.parties)
+    ∙ sym (issue book h.codes_rise h.parties)
+
+module _ (laws : BookLaws) (book : Book) (is_in : Order → Bool) (queued : AreQueued book is_in) (h : IsSound book)
+    (not_closed : is_closed book.day.phase ≡ false) where
+  below : AllByRecursion (λ (m : Mark). m.number < next_mark book) book.marks
+  below = all_weaker (λ (m : Mark). m.number < 1 + length book.marks) (λ (m : Mark). m.number < next_mark book)
+      (λ m less. omega arith) book.marks (below_next 1 book.marks h.marks_numbered.0)
+
+  -- an old mark has its orders still
+  counts_old : (m : Mark) → m.number < next_mark book → CountsItsOrders book m
+      → CountsItsOrders (with_batch book is_in) m
+  counts_old m less c =
+      let same : filter (λ (o : Order). is_state_under m.number o.state)
+      (map (restated is_in (Settled (next_mark book))) book.orders)
+      ≡ filter (λ (o : Order). is_state_under m.number o.state) book.orders =
+      filter_changed (λ (o : Order). is_state_under m.number o.state) is_in
+      (λ o. record o { state = Settled (next_mark book) })
+      (λ o. not_equal m.number (next_mark book) less) book.orders
+      (all_weaker (λ o. is_in o ≡ true → is_queued o ≡ true)
+      (λ o. is_in o ≡ true → is_state_under m.number o.state ≡ false)
+      (λ o f e. queued_not_under m.number o.state (f e)) book.orders queued) in
+      record { some = c.some; count = rw same c.count; value = rw same c.value }
+
+  -- the new mark has the batch
+  counts_new : 1 ≤ length (filter is_in book.orders) → CountsItsOrders (with_batch book is_in)
+      (mark_of book (filter is_in book.orders))
+  unfolding mark_of
+  counts_new some =
+      let same = under_new (next_mark book) is_in book.orders
+      (none_under_next book.marks (next_mark book) book.orders below h.marks.0) in
+      record {
+        some = some;
+        count = rw same (sym (length-map (filter is_in book.orders)
+            (λ (o : Order). record o { state = Settled (next_mark book) })));
+        value = rw same (ap pos (sym (amounts_restated (next_mark book) (filter is_in book.orders))));
+      }
+
+  of_today : AllByRecursion (λ o. is_in o ≡ true → o.date ≡ today book) book.orders
+  of_today = all_both (λ o. is_in o ≡ true → is_queued o ≡ true) (λ o. is_queued o ≡ true → o.date ≡ today book)
+      (λ o. is_in o ≡ true → o.date ≡ today book) (λ o f g e. g (f e)) book.orders queued
+      (all_from_filter (λ (o : Order). o.date ≡ today book) is_queued book.orders h.queues.of_the_day)
+
+  batch_sound : 1 ≤ length (filter is_in book.orders) → ((code : List ℕ) → balance (with_batch book is_in) code
+      ≡ balance book code +ℤ int_sum_by (gain code) (filter is_in book.orders)) → AllByRecursion
+      (λ code. floor book code ≤ℤ (balance book code +ℤ int_sum_by (gain code) (filter is_in book.orders)))
+      (accounts book) → IsSound (with_batch book is_in)
+  unfolding mark_of accounts is_participant queue floor credit_of participant_of
+  batch_sound some balances covered =
+      let s : OrderState = Settled (next_mark book) in
+      let mark = mark_of book (filter is_in book.orders) in
+      let many = marks_le book is_in h.marks_numbered h.marks.1 queued in
+      let enough = h.orders_numbered.1 in
+      let long = length-map book.orders (λ (o : Order). o.number) in
+      let date_same = kept (λ (o : Order). o.date) (λ o s. refl) is_in s book.orders in
+      record {
+        orders_numbered = rw (kept (λ (o : Order). o.number) (λ o s. refl) is_in s book.orders) h.orders_numbered;
+        postings_numbered = h.postings_numbered;
+        marks_numbered = numbered_after (λ (m : Mark). m.number) book.marks mark h.marks_numbered refl (omega arith);
+        codes_rise = h.codes_rise;
+        keys_distinct = h.keys_distinct;
+        order_references = rw (kept name (λ o s. refl) is_in s book.orders) h.order_references;
+        posting_references = h.posting_references;
+        parties = parties_settled book is_in h.parties;
+        marks = (
+          marks_settled book.marks mark is_in book.orders h.marks.0 of_today,
+          all_push (CountsItsOrders (with_batch book is_in)) book.marks mark
+              (all_both (λ (m : Mark). m.number < next_mark book) (CountsItsOrders book)
+              (CountsItsOrders (with_batch book is_in)) counts_old book.marks below h.marks.1) (counts_new some),
+        );
+        queues = record {
+          closed = λ e. absurd (true≢false (sym e ∙ not_closed));
+          short = all_weaker (λ code. length (queue book code) ≤ LONGEST_QUEUE)
+              (λ code. length (queue (with_batch book is_in) code) ≤ LONGEST_QUEUE)
+              (λ code x. let le = length-filter_restated (λ o. is_queued o && bytes_eq o.sender code) is_in s
+              (λ o. refl) book.orders in omega arith) (accounts book) h.queues.short;
+          of_the_day = all_filter_restated is_queued is_in s (λ o. refl) (λ o. o.date ≡ today book) book.orders
+              h.queues.of_the_day;
+        };
+        dates = record {
+          dated = h.dates.dated;
+          weekday = h.dates.weekday;
+          order_weekdays = rw date_same h.dates.order_weekdays;
+          mark_weekdays = rw (map-append (λ (m : Mark). m.date) book.marks (mark ∷ []))
+              (all_push (λ date. is_weekend date ≡ false) _ (today book) h.dates.mark_weekdays
+              (h.dates.weekday (h.dates.dated not_closed)));
+          orders = rw date_same h.dates.orders;
+          marks = rw (map-append (λ (m : Mark). m.date) book.marks (mark ∷ [])) (never_fall_push _ _ h.dates.marks);
+          postings = h.dates.postings;
+        };
+        floors = all_weaker (λ code. floor book code ≤ℤ (balance book code +ℤ int_sum_by (gain code)
+            (filter is_in book.orders))) (λ code. floor book code ≤ℤ balance (with_batch book is_in) code)
+            (λ code x. rw (balances code) x) (accounts book) covered;
+        total_fits = rw (total-with_batch laws.issue book is_in h) h.total_fits;
+      }
+
+  pub sound_settle : AllByRecursion (λ code. floor book code ≤ℤ
+      (balance book code +ℤ int_sum_by (gain code) (filter is_in book.orders))) (accounts book)
+      → IsSound (settle book is_in)
+  sound_settle covered =
+      settled_either (λ new. ((code : List ℕ) → balance new code
+      ≡ balance book code +ℤ int_sum_by (gain code) (filter is_in book.orders)) → IsSound new) book is_in (λ _. h)
+      (λ some balances. batch_sound some balances covered) (λ code. laws.settling book is_in code queued)

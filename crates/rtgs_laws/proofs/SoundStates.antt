@@ -1,0 +1,200 @@
+-- Withdrawing an order and closing a day keep a book sound.
+use Rattle.std.proofs.Common.{◌≡◌, ℕ, ◌≤◌, ℤ, pos, ◌≤ℤ◌, int_lt, Bool, true, false, cond, not, ◌&&◌, List, [], ◌∷◌, map}
+use Rattle.std.proofs.Common.{filter, length, Option, Some, None, refl, sym, ap, ◌∙◌, subst, true≢false, arith}
+use Rattle.std.proofs.lemmas.Int.{ints}
+use Rattle.std.specs.List.{AllByRecursion, range_with_len}
+use Rattle.std.specs.Str.{bytes_eq}
+use Rattle.rtgs_book.specs.declared.book.Book.{Book}
+use Rattle.rtgs_book.specs.declared.mark.Mark.{Mark}
+use Rattle.rtgs_book.specs.declared.order.Order.{Order}
+use Rattle.rtgs_book.specs.declared.order_state.OrderState.{OrderState}
+use Rattle.rtgs_book.specs.declared.order_state.OrderState.TheVariants.{Withdrawn, Rejected}
+use Rattle.rtgs_book.specs.declared.phase.Phase.TheVariants.{Closed}
+use Rattle.rtgs_book.specs.Books.{is_queued}
+use Rattle.rtgs_book.specs.Books.{is_queued_state, is_settled_state, is_empty}
+use Rattle.rtgs_book.specs.Lookup.{accounts, is_participant, participant_of, credit_of, is_order_named, order_named}
+use Rattle.rtgs_book.specs.IntSum.{int_sum_by}
+use Rattle.rtgs_book.specs.Balance.{balance, floor, total}
+use Rattle.rtgs_book.specs.Queue.{queue}
+use Rattle.rtgs_book.specs.Settle.{restated, today}
+use Rattle.rtgs_book.specs.Choice.{Choice}
+use Rattle.rtgs_book.specs.Commands.{with_state, with_day, has_number, number_of, is_queued_order, withdraw, overdrawn}
+use Rattle.rtgs_book.specs.Commands.{close_day}
+use Rattle.rtgs_book.specs.Soundness.{HasMark, is_state_under, has_parties, CountsItsOrders, IsSound}
+use Rattle.std.proofs.lemmas.List.{length-map}
+use Rattle.rtgs_book.specs.declared.limits.TheConstants.{LONGEST_QUEUE, LARGEST_TOTAL}
+use Rattle.rtgs_laws.proofs.BookLaws.{BookLaws}
+use Rattle.rtgs_laws.proofs.Outcomes.{sound_first_of, not_false}
+use Rattle.rtgs_laws.proofs.SoundDays.{sound_with_day}
+use Rattle.rtgs_laws.proofs.States.{restated_same, all_filter_restated, length-filter_restated}
+use Rattle.rtgs_laws.proofs.States.{no_length, marks_restated, queued_not_under, found_by_number}
+use Rattle.rtgs_lists.proofs.Bools.{and_left_false}
+use Rattle.rtgs_lists.proofs.Filters.{filter_changed}
+use Rattle.rtgs_lists.proofs.Lists.{all_map, all_of, all_weaker, map_same}
+
+abbrev pub name : Order → List ℕ × List ℕ
+name o = (o.sender, o.reference)
+
+-- queued orders of a batch get a state in which they are neither queued nor settled
+module _ (laws : BookLaws) (book : Book) (is_in : Order → Bool) (s : OrderState)
+    (not_queued : is_queued_state s ≡ false) (not_settled : is_settled_state s ≡ false)
+    (not_under : (mark : ℕ) → is_state_under mark s ≡ false) (no_mark : (ms : List Mark) (date : ℕ) → HasMark ms date s)
+    (queued : AllByRecursion (λ o. is_in o ≡ true → is_queued o ≡ true) book.orders) where
+  pub balance-with_state : (code : List ℕ) → balance (with_state book is_in s) code ≡ balance book code
+  balance-with_state code = laws.restating book is_in s code queued not_settled
+
+  under_same : (mark : ℕ) → filter (λ (o : Order). is_state_under mark o.state) (map (restated is_in s) book.orders)
+      ≡ filter (λ (o : Order). is_state_under mark o.state) book.orders
+  under_same mark = filter_changed (λ (o : Order). is_state_under mark o.state) is_in (λ o. record o { state = s })
+      (λ o. not_under mark)
+      book.orders (all_weaker (λ o. is_in o ≡ true → is_queued o ≡ true)
+      (λ o. is_in o ≡ true → is_state_under mark o.state ≡ false) (λ o f e. queued_not_under mark o.state (f e))
+      book.orders queued)
+
+  parties_same : (o : Order) → has_parties book (restated is_in s o) ≡ has_parties book o
+  parties_same o = restated_same (has_parties book) (λ o s. refl) is_in s o
+
+  number_same : map (λ (o : Order). o.number) (map (restated is_in s) book.orders)
+      ≡ map (λ (o : Order). o.number) book.orders
+  number_same = map_same (λ (o : Order). o.number) (restated is_in s)
+      (restated_same (λ (o : Order). o.number) (λ o s. refl) is_in s) book.orders
+
+  name_same : map name (map (restated is_in s) book.orders) ≡ map name book.orders
+  name_same = map_same name (restated is_in s) (restated_same name (λ o s. refl) is_in s) book.orders
+
+  date_same : map (λ (o : Order). o.date) (map (restated is_in s) book.orders) ≡ map (λ (o : Order). o.date) book.orders
+  date_same = map_same (λ (o : Order). o.date) (restated is_in s)
+      (restated_same (λ (o : Order). o.date) (λ o s. refl) is_in s) book.orders
+
+  pub sound_with_state : IsSound book → IsSound (with_state book is_in s)
+  unfolding with_state accounts is_participant queue total floor credit_of participant_of
+  sound_with_state h = record {
+    orders_numbered = rw number_same h.orders_numbered;
+    postings_numbered = h.postings_numbered;
+    marks_numbered = h.marks_numbered;
+    codes_rise = h.codes_rise;
+    keys_distinct = h.keys_distinct;
+    order_references = rw name_same h.order_references;
+    posting_references = h.posting_references;
+    parties = (
+      all_map (λ o. has_parties book o ≡ true) (restated is_in s) book.orders
+          (all_weaker (λ o. has_parties book o ≡ true) (λ o. has_parties book (restated is_in s o) ≡ true)
+          (λ o x. parties_same o ∙ x) book.orders h.parties.0),
+      h.parties.1,
+    );
+    marks = (
+      marks_restated book.marks is_in s (no_mark book.marks) book.orders h.marks.0,
+      all_weaker (CountsItsOrders book) (CountsItsOrders (with_state book is_in s))
+          (λ (m : Mark) c. record {
+            some = c.some;
+            count = rw (under_same m.number) c.count;
+            value = rw (under_same m.number) c.value;
+          }) book.marks h.marks.1,
+    );
+    queues = record {
+      closed = λ e.
+          let le = length-filter_restated is_queued is_in s (λ o. not_queued) book.orders in
+          let none = ap length (h.queues.closed e) in
+          no_length _ (omega arith);
+      short = all_weaker (λ code. length (queue book code) ≤ LONGEST_QUEUE)
+          (λ code. length (queue (with_state book is_in s) code) ≤ LONGEST_QUEUE)
+          (λ code x. let le = length-filter_restated (λ o. is_queued o && bytes_eq o.sender code) is_in s
+          (λ o. and_left_false _ _ not_queued) book.orders in omega arith) (accounts book) h.queues.short;
+      of_the_day = all_filter_restated is_queued is_in s (λ o. not_queued) (λ o. o.date ≡ today book) book.orders
+          h.queues.of_the_day;
+    };
+    dates = record {
+      dated = h.dates.dated;
+      weekday = h.dates.weekday;
+      order_weekdays = rw date_same h.dates.order_weekdays;
+      mark_weekdays = h.dates.mark_weekdays;
+      orders = rw date_same h.dates.orders;
+      marks = h.dates.marks;
+      postings = h.dates.postings;
+    };
+    floors = all_weaker (λ code. floor book code ≤ℤ balance book code)
+        (λ code. floor book code ≤ℤ balance (with_state book is_in s) code) (λ code x. rw (balance-with_state code) x)
+        (accounts book) h.floors;
+    total_fits = subst (λ (f : List ℕ → ℤ). int_sum_by f (accounts book) ≤ℤ pos LARGEST_TOTAL)
+        (λ i code. sym (balance-with_state code) i) h.total_fits;
+  }
+
+pub sound_withdraw : BookLaws → (book : Book) (sender reference : List ℕ) → IsSound book
+    → IsSound (withdraw book sender reference).book
+unfolding withdraw order_named
+sound_withdraw laws book sender reference h = sound_first_of book _ _ h
+    (λ passed. by (order_named book sender reference) refl (not_false _ passed.1.1.1.0))
+  where
+    found_queued : (o : Order) → order_named book sender reference ≡ Some o → is_queued o ≡ true
+        → AllByRecursion (λ other. has_number o.number other ≡ true → is_queued other ≡ true) book.orders
+    found_queued o e q = found_by_number (λ other. is_queued other ≡ true) (is_order_named sender reference) 1
+        book.orders o (h.orders_numbered.0 ∙ ap (range_with_len 1) (length-map book.orders (λ (o : Order). o.number))) e
+        q
+
+    by : (found : Option Order) → order_named book sender reference ≡ found → is_queued_order found ≡ true
+        → IsSound (with_state book (has_number (number_of found)) Withdrawn)
+    by None e q = absurd (true≢false (sym q))
+    by (Some o) e q = sound_with_state laws book (has_number o.number) Withdrawn refl refl (λ _. refl) (λ _ _. tt)
+        (found_queued o e q) h
+
+none_pass : {X : Type 0} (p : X → Bool) (xs : List X) → not (is_empty (filter p xs)) ≡ false
+    → AllByRecursion (λ x. p x ≡ false) xs
+none_pass p [] e = tt
+none_pass p (x ∷ xs) e = by (p x) refl e (none_pass p xs)
+  where
+    by : (b : Bool) → p x ≡ b → not (is_empty (cond b (x ∷ filter p xs) (filter p xs))) ≡ false
+        → (not (is_empty (filter p xs)) ≡ false → AllByRecursion (λ x. p x ≡ false) xs)
+        → AllByRecursion (λ x. p x ≡ false) (x ∷ xs)
+    by true f k rest = absurd (true≢false k)
+    by false f k rest = (f, rest k)
+
+none_queued : (os : List Order) → filter is_queued (map (restated is_queued Rejected) os) ≡ []
+none_queued [] = refl
+none_queued (o ∷ os) = by (is_queued o) refl (none_queued os)
+  where
+    by : (b : Bool) → is_queued o ≡ b → filter is_queued (map (restated is_queued Rejected) os) ≡ []
+        → cond (is_queued (cond b (record o { state = Rejected }) o))
+        (cond b (record o { state = Rejected }) o ∷ filter is_queued (map (restated is_queued Rejected) os))
+        (filter is_queued (map (restated is_queued Rejected) os)) ≡ []
+    by true e rest = rest
+    by false e rest = rw e rest
+
+pub all_queued : (os : List Order) → AllByRecursion (λ o. is_queued o ≡ true → is_queued o ≡ true) os
+all_queued os = all_of (λ o. is_queued o ≡ true → is_queued o ≡ true) (λ o e. e) os
+
+not_negative : (a : ℤ) → int_lt a (pos 0) ≡ false → pos 0 ≤ℤ a
+not_negative a e = grind (arith, ints)
+
+close_sound : BookLaws → (book : Book) → IsSound book
+    → AllByRecursion (λ code. int_lt (balance book code) (pos 0) ≡ false) (accounts book) → IsSound (with_day (with_state book is_queued Rejected) (record book.day { phase = Closed }))
+unfolding with_state accounts queue floor balance
+close_sound laws book h positive =
+    let rejected = with_state book is_queued Rejected in
+    let sound = sound_with_state laws book is_queued Rejected refl refl (λ _. refl) (λ _ _. tt)
+    (all_queued book.orders) h in
+    sound_with_day rejected (record book.day { phase = Closed }) sound
+    (record {
+      closed = λ _. none_queued book.orders;
+      short = sound.queues.short;
+      of_the_day = rw (none_queued book.orders) tt;
+    })
+    (record {
+      dated = λ e. absurd (true≢false e);
+      weekday = sound.dates.weekday;
+      order_weekdays = sound.dates.order_weekdays;
+      mark_weekdays = sound.dates.mark_weekdays;
+      orders = sound.dates.orders;
+      marks = sound.dates.marks;
+      postings = sound.dates.postings;
+    })
+    (all_weaker (λ code. int_lt (balance book code) (pos 0) ≡ false)
+    (λ code. floor (with_day rejected (record book.day { phase = Closed })) code ≤ℤ balance
+    (with_day rejected (record book.day { phase = Closed })) code)
+    (λ code e. rw (balance-with_state laws book is_queued Rejected refl refl (λ _. refl) (λ _ _. tt)
+    (all_queued book.orders) code) (not_negative _ e)) (accounts book) positive)
+
+pub sound_close_day : BookLaws → (book : Book) (choice : Choice) (date : ℕ) → IsSound book
+    → IsSound (close_day book choice date).book
+unfolding close_day overdrawn
+sound_close_day laws book choice date h = sound_first_of book _ _ h
+    (λ passed. close_sound laws book h (none_pass _ _ passed.1.1.1.1.0))
