@@ -1,28 +1,26 @@
-//! A book's file as another program reads and changes it. Only these functions name the store, since each proof over it
-//! takes in all that it does.
-use sqlite::Connection;
+//! A book's file as another program changes it. Only these functions name the store, since each proof over it takes in
+//! all that it does.
+use sqlite::{Connection, Error, FileStore};
+use sqlite_disk::Disk;
 use std::test::Fail;
 
-/// Changes a file by SQL. Its log is copied into it.
-pub fn meddle(rt: &HostRuntime, file: &str, sql: &str) -> Result<(), Fail> {
-    let mut conn = Connection::open(rt, file)?;
+/// Changes a database by SQL, and closes it, unless this says that the changes stay in its log.
+fn changed<D: Disk + Drop>(
+    conn: Connection<FileStore<D>>,
+    sql: &str,
+    is_logged: bool,
+) -> Result<(), Error> {
+    let mut conn = conn;
     let done = conn.execute_batch(sql);
+    if is_logged {
+        return done;
+    }
     conn.close()?;
-    Ok(done?)
+    done
 }
 
-/// Changes a file by SQL, and leaves the changes in its log.
-pub fn log_changes(rt: &HostRuntime, file: &str, sql: &str) -> Result<(), Fail> {
-    let mut conn = Connection::open(rt, file)?;
-    conn.execute_batch(sql)?;
-    Ok(())
-}
-
-/// The number that a query of a file gives.
-pub fn number_in(rt: &HostRuntime, file: &str, query: &str) -> Result<i64, Fail> {
-    let mut conn = Connection::open(rt, file)?;
-    let row = conn.query_row(query, &[])?;
-    let number = row.get::<i64>(0)?;
-    conn.close()?;
-    Ok(number)
+/// Changes a file by SQL. The changes stay in its log where this says so, and are else copied into the file.
+pub fn change(rt: &HostRuntime, file: &str, sql: &str, is_logged: bool) -> Result<(), Fail> {
+    let conn = Connection::open(rt, file)?;
+    Ok(changed(conn, sql, is_logged)?)
 }

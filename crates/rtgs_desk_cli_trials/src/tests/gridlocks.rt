@@ -1,20 +1,20 @@
 //! Orders that wait for each other, on the command line.
-use super::days::begin_day;
-use super::script::follows;
+use super::days::OPEN_DAY;
+use super::script::follows_both;
 use std::test::Fail;
 
 const DEADLOCK: &str = "
 $ orders deadlock.csv A-1,BETA,100
-$ desk import F ALFA deadlock.csv
+$ desk import @ ALFA deadlock.csv
 > reference,result,number,detail
 > A-1,queued,1,1
 $ orders deadlock.csv B-1,GAMA,90
-$ desk import F BETA deadlock.csv
+$ desk import @ BETA deadlock.csv
 > reference,result,number,detail
 > B-1,queued,2,1
-$ desk resolve F
+$ desk resolve @
 > nothing
-$ desk report F 2024-03-04
+$ desk report @ 2024-03-04
 > report 2024-03-04
 > ALFA                               0.00                           0.00                           0.00
 > BETA                               0.00                           0.00                           0.00
@@ -24,101 +24,97 @@ $ desk report F 2024-03-04
 > withdrawn          0                           0.00
 > rejected           0                           0.00
 > marks              0
-$ desk cutoff F 2024-03-04
+$ desk cutoff @ 2024-03-04
 > cut off
 $ orders deadlock.csv A-2,BETA,1
-$ desk import F ALFA deadlock.csv
+$ desk import @ ALFA deadlock.csv
 > reference,result,number,detail
 > A-2,refused,,5
-$ desk close F 2024-03-04
+$ desk close @ 2024-03-04
 > closed rejected 2
-$ desk close F 2024-03-04
+$ desk close @ 2024-03-04
 > repeated
 $ orders deadlock.csv A-1,BETA,100
-$ desk import F ALFA deadlock.csv
+$ desk import @ ALFA deadlock.csv
 > reference,result,number,detail
 > A-1,repeated,1,rejected
 ";
 
 #[test]
 fn a_deadlock_stays_until_the_close(rt: HostRuntime) -> Result<(), Fail> {
-    begin_day(&rt, "deadlock")?;
-    follows(&rt, "deadlock", DEADLOCK)
+    follows_both(&rt, "deadlock", OPEN_DAY, DEADLOCK)
 }
 
 const PARTIAL: &str = "
 $ orders partial.csv A-1,BETA,100 A-2,GAMA,50
-$ desk import F ALFA partial.csv
+$ desk import @ ALFA partial.csv
 > reference,result,number,detail
 > A-1,queued,1,1
 > A-2,queued,2,2
 $ orders partial.csv B-1,ALFA,100
-$ desk import F BETA partial.csv
+$ desk import @ BETA partial.csv
 > reference,result,number,detail
 > B-1,queued,3,1
-$ desk resolve F
+$ desk resolve @
 > resolved mark 1 count 2 value 200
 ";
 
 #[test]
 fn the_newest_order_without_cover_waits(rt: HostRuntime) -> Result<(), Fail> {
-    begin_day(&rt, "partial")?;
-    follows(&rt, "partial", PARTIAL)
+    follows_both(&rt, "partial", OPEN_DAY, PARTIAL)
 }
 
 const QUEUED: &str = "
-$ desk post F ALFA P-1 100
+$ desk post @ ALFA P-1 100
 > posted 1
 $ orders queue.csv A-1,BETA,150 A-2,BETA,20
-$ desk import F ALFA queue.csv
+$ desk import @ ALFA queue.csv
 > reference,result,number,detail
 > A-1,queued,1,1
 > A-2,queued,2,2
-$ desk resolve F
+$ desk resolve @
 > nothing
 ";
 
 #[test]
 fn no_order_passes_its_senders_queue(rt: HostRuntime) -> Result<(), Fail> {
-    begin_day(&rt, "queue")?;
-    follows(&rt, "queue", QUEUED)
+    follows_both(&rt, "queue", OPEN_DAY, QUEUED)
 }
 
 const READ: &str = "
 $ orders read.csv A-1,BETA,100
-$ desk import F ALFA read.csv
+$ desk import @ ALFA read.csv
 > reference,result,number,detail
 > A-1,queued,1,1
 $ orders read.csv B-1,GAMA,100
-$ desk import F BETA read.csv
+$ desk import @ BETA read.csv
 > reference,result,number,detail
 > B-1,queued,2,1
 $ orders read.csv G-1,ALFA,100
-$ desk import F GAMA read.csv
+$ desk import @ GAMA read.csv
 > reference,result,number,detail
 > G-1,queued,3,1
-$ desk account F ALFA
+$ desk account @ ALFA
 > {\"balance\":0,\"code\":\"ALFA\",\"credit\":0,\"date\":\"2024-03-04\",\"name\":\"Alfa Bank\",\
    \"phase\":\"OPEN\",\"queued\":1,\"queued_value\":100}
-$ desk queue F ALFA
+$ desk queue @ ALFA
 > {\"orders\":[{\"amount\":100,\"number\":1,\"place\":1,\"reference\":\"A-1\",\"to\":\"BETA\"}]}
-$ desk statement F ALFA 2024-03-04
+$ desk statement @ ALFA 2024-03-04
 > statement ALFA 2024-03-04
 > queued     000000001 A-1              BETA                     1.00         -
 > sum-posted                           0.00
 > sum-sent                             0.00
 > sum-recv                             0.00
 > net                                  0.00
-$ desk order F ALFA A-1
+$ desk order @ ALFA A-1
 > {\"amount\":100,\"date\":\"2024-03-04\",\"number\":1,\"reference\":\"A-1\",\"state\":\"queued\",\"to\":\"BETA\"}
-$ desk order F ALFA A-1
+$ desk order @ ALFA A-1
 > {\"amount\":100,\"date\":\"2024-03-04\",\"number\":1,\"reference\":\"A-1\",\"state\":\"queued\",\"to\":\"BETA\"}
-$ desk resolve F
+$ desk resolve @
 > resolved mark 1 count 3 value 300
 ";
 
 #[test]
 fn what_is_read_settles_nothing(rt: HostRuntime) -> Result<(), Fail> {
-    begin_day(&rt, "read")?;
-    follows(&rt, "read", READ)
+    follows_both(&rt, "read", OPEN_DAY, READ)
 }

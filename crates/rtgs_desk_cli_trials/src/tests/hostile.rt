@@ -1,5 +1,6 @@
 //! What is told of hostile requests and files, and that nothing is changed where they are refused.
+mod bytes;
 mod draw;
-mod files;
-mod parts;
+pub mod files;
+mod met;
 mod requests;

@@ -1,89 +1,86 @@
 //! One row for each refusal of a command.
 use super::BEGIN;
-use super::databases::meddle;
-use super::script::{are_refused, follows};
+use super::databases::change;
+use super::script::{REFUSED, follows, follows_both, follows_each};
 use std::fmt::Write;
 use std::test::Fail;
 
-const ADDING: &str = "
-add F '' 'Alfa Bank' 0000000000000000000000000000000a ! refused 30 BadCode
-add F AL 'Alfa Bank' 0000000000000000000000000000000a ! refused 30 BadCode
-add F ALFAALFAA 'Alfa Bank' 0000000000000000000000000000000a ! refused 30 BadCode
-add F 1LFA 'Alfa Bank' 0000000000000000000000000000000a ! refused 30 BadCode
-add F ALFÄ 'Alfa Bank' 0000000000000000000000000000000a ! refused 30 BadCode
-add F -ALFA '' '' ! refused 30 BadCode
-add F BETA '' 0000000000000000000000000000000b ! refused 33 BadName
-add F BETA ' Beta' 0000000000000000000000000000000b ! refused 33 BadName
-add F BETA 12345678901234567890123456789012345678901 0000000000000000000000000000000b ! refused 33 BadName
-add F BETA 'Bêta Bank' '' ! refused 33 BadName
-add F BETA 'Beta Bank' '' ! refused 34 BadKey
-add F BETA 'Beta Bank' 0000000000000000000000000000000G ! refused 34 BadKey
-add F ALFA 'Other Bank' 0000000000000000000000000000000a ! refused 10 CodeTaken
-add F BETA 'Beta Bank' 0000000000000000000000000000000a ! refused 11 KeyTaken
-";
+const ADDING: &str = "\
+add @ '' 'Alfa Bank' 0000000000000000000000000000000a ! refused 30 BadCode
+add @ AL 'Alfa Bank' 0000000000000000000000000000000a ! refused 30 BadCode
+add @ ALFAALFAA 'Alfa Bank' 0000000000000000000000000000000a ! refused 30 BadCode
+add @ 1LFA 'Alfa Bank' 0000000000000000000000000000000a ! refused 30 BadCode
+add @ ALFÄ 'Alfa Bank' 0000000000000000000000000000000a ! refused 30 BadCode
+add @ -ALFA '' '' ! refused 30 BadCode
+add @ BETA '' 0000000000000000000000000000000b ! refused 33 BadName
+add @ BETA ' Beta' 0000000000000000000000000000000b ! refused 33 BadName
+add @ BETA 12345678901234567890123456789012345678901 0000000000000000000000000000000b ! refused 33 BadName
+add @ BETA 'Bêta Bank' '' ! refused 33 BadName
+add @ BETA 'Beta Bank' '' ! refused 34 BadKey
+add @ BETA 'Beta Bank' 0000000000000000000000000000000G ! refused 34 BadKey
+add @ ALFA 'Other Bank' 0000000000000000000000000000000a ! refused 10 CodeTaken
+add @ BETA 'Beta Bank' 0000000000000000000000000000000a ! refused 11 KeyTaken";
 
 const ADDED: &str = "
-$ desk add F ALFA 'Alfa Bank' 0000000000000000000000000000000a
+$ desk add @ ALFA 'Alfa Bank' 0000000000000000000000000000000a
 > repeated
 ";
 
 #[test]
 fn of_adding(rt: HostRuntime) -> Result<(), Fail> {
     follows(&rt, "adding", BEGIN)?;
-    are_refused(&rt, "adding", ADDING)?;
+    follows_each(&rt, "adding", REFUSED, ADDING)?;
     follows(&rt, "adding", ADDED)
 }
 
-const POSTING: &str = "
-post F '' P-1 1 ! refused 30 BadCode
-post F alfa p-1 x ! refused 30 BadCode
-post F ALFA '' 1 ! refused 31 BadReference
-post F ALFA p-1 1 ! refused 31 BadReference
-post F ALFA 12345678901234567 1 ! refused 31 BadReference
-post F ALFA É 1 ! refused 31 BadReference
-post F ALFA -p 1 ! refused 31 BadReference
-post F ALFA P-1 '' ! refused 32 BadAmount
-post F ALFA P-1 0 ! refused 32 BadAmount
-post F ALFA P-1 007 ! refused 32 BadAmount
-post F ALFA P-1 -1 ! refused 32 BadAmount
-post F ALFA P-1 +1 ! refused 32 BadAmount
-post F ALFA P-1 1000000000000001 ! refused 32 BadAmount
-post F ALFA P-1 １ ! refused 32 BadAmount
-post F ZETA P-1 1 ! refused 01 UnknownParticipant
-post F ALFA P-1 0 --debit ! refused 32 BadAmount
-post F ALFA P-1 -1 --debit ! refused 32 BadAmount
-post F ALFA P-1 '' --debit ! refused 32 BadAmount
-post F ALFA P-1 1000000000000001 --debit ! refused 32 BadAmount
-post F --debit ALFA P-1 1 ! refused 06 NoCover
-";
+const POSTING: &str = "\
+post @ '' P-1 1 ! refused 30 BadCode
+post @ alfa p-1 x ! refused 30 BadCode
+post @ ALFA '' 1 ! refused 31 BadReference
+post @ ALFA p-1 1 ! refused 31 BadReference
+post @ ALFA 12345678901234567 1 ! refused 31 BadReference
+post @ ALFA É 1 ! refused 31 BadReference
+post @ ALFA -p 1 ! refused 31 BadReference
+post @ ALFA P-1 '' ! refused 32 BadAmount
+post @ ALFA P-1 0 ! refused 32 BadAmount
+post @ ALFA P-1 007 ! refused 32 BadAmount
+post @ ALFA P-1 -1 ! refused 32 BadAmount
+post @ ALFA P-1 +1 ! refused 32 BadAmount
+post @ ALFA P-1 1000000000000001 ! refused 32 BadAmount
+post @ ALFA P-1 １ ! refused 32 BadAmount
+post @ ZETA P-1 1 ! refused 01 UnknownParticipant
+post @ ALFA P-1 0 --debit ! refused 32 BadAmount
+post @ ALFA P-1 -1 --debit ! refused 32 BadAmount
+post @ ALFA P-1 '' --debit ! refused 32 BadAmount
+post @ ALFA P-1 1000000000000001 --debit ! refused 32 BadAmount
+post @ --debit ALFA P-1 1 ! refused 06 NoCover";
 
 #[test]
 fn of_posting(rt: HostRuntime) -> Result<(), Fail> {
     follows(&rt, "posting", BEGIN)?;
-    are_refused(&rt, "posting", POSTING)
+    follows_each(&rt, "posting", REFUSED, POSTING)
 }
 
 const TOTALS: &str = "
-$ desk add F BETA 'Beta Bank' 0000000000000000000000000000000b
+$ desk add @ BETA 'Beta Bank' 0000000000000000000000000000000b
 > added
-$ desk post F ALFA P-1 1000000000000000
+$ desk post @ ALFA P-1 1000000000000000
 > posted 1
-$ desk post F BETA P-2 1
+$ desk post @ BETA P-2 1
 ! refused 13 TotalTooLarge
 status 1
-$ desk post F ALFA P-3 1 --debit
+$ desk post @ ALFA P-3 1 --debit
 > posted 2
-$ desk post F BETA P-2 1
+$ desk post @ BETA P-2 1
 > posted 3
-$ desk post F BETA P-1 1
+$ desk post @ BETA P-1 1
 ! refused 04 ReferenceUsed
 status 1
 ";
 
 #[test]
 fn of_totals(rt: HostRuntime) -> Result<(), Fail> {
-    follows(&rt, "totals", BEGIN)?;
-    follows(&rt, "totals", TOTALS)
+    follows_both(&rt, "totals", BEGIN, TOTALS)
 }
 
 /// Adds the statement that adds a participant.
@@ -105,70 +102,69 @@ fn hundred(rt: &HostRuntime) -> Result<String, Fail> {
 }
 
 const MORE: &str = "
-$ desk add F ALFA 'Alfa Bank' 0000000000000000000000000000000a
+$ desk add @ ALFA 'Alfa Bank' 0000000000000000000000000000000a
 ! refused 12 TooManyParticipants
 status 1
 ";
 
 #[test]
 fn of_a_hundred_and_first_participant(rt: HostRuntime) -> Result<(), Fail> {
-    follows(&rt, "hundred", "\n$ desk init F\n> initialised\n")?;
+    follows(&rt, "hundred", "\n$ desk init @\n> initialised\n")?;
     let sql = hundred(&rt)?;
-    meddle(&rt, "hundred", sql.as_str())?;
+    change(&rt, "hundred", sql.as_str(), false)?;
     follows(&rt, "hundred", MORE)
 }
 
 const OPENING: &str = "
-$ desk open F ''
+$ desk open @ ''
 ! refused 35 BadDate
 status 1
-$ desk open F 2024-02-30
+$ desk open @ 2024-02-30
 ! refused 35 BadDate
 status 1
-$ desk open F 2024-3-4
+$ desk open @ 2024-3-4
 ! refused 35 BadDate
 status 1
-$ desk open F 20240304
+$ desk open @ 20240304
 ! refused 35 BadDate
 status 1
-$ desk open F -024-03-04
+$ desk open @ -024-03-04
 ! refused 35 BadDate
 status 1
-$ desk open F 1999-12-31
+$ desk open @ 1999-12-31
 ! refused 35 BadDate
 status 1
-$ desk open F 3000-01-01
+$ desk open @ 3000-01-01
 ! refused 35 BadDate
 status 1
-$ desk open F 2024-03-09
+$ desk open @ 2024-03-09
 ! refused 16 Weekend
 status 1
-$ desk open F 2024-03-04
+$ desk open @ 2024-03-04
 > opened
-$ desk open F 2024-03-04
+$ desk open @ 2024-03-04
 > repeated
-$ desk open F 2024-03-05
+$ desk open @ 2024-03-05
 ! refused 14 WrongPhase
 status 1
-$ desk open F 2024-03-01
+$ desk open @ 2024-03-01
 ! refused 14 WrongPhase
 status 1
-$ sql F UPDATE desk SET phase = 0
-$ desk open F 2024-03-04
+$ sql @ UPDATE desk SET phase = 0
+$ desk open @ 2024-03-04
 ! refused 15 WrongDate
 status 1
-$ desk open F 2024-03-01
+$ desk open @ 2024-03-01
 ! refused 15 WrongDate
 status 1
-$ desk open F 2024-03-10
+$ desk open @ 2024-03-10
 ! refused 16 Weekend
 status 1
-$ desk open F 2024-03-05
+$ desk open @ 2024-03-05
 > opened
 ";
 
 #[test]
 fn of_opening_a_day(rt: HostRuntime) -> Result<(), Fail> {
-    follows(&rt, "days", BEGIN)?;
-    follows(&rt, "days", OPENING)
+    follows_both(&rt, "days", BEGIN, OPENING)
 }

@@ -1,8 +1,19 @@
 //! Whole runs of the program.
+use super::paper::Paper;
+use rtgs_book::Refusal;
 use rtgs_desk_cli::run_words;
 use rtgs_desk_lines::{Ended, Printed};
 use sqlite::Unknown;
 use std::io::Write;
+
+/// What a run printed, and how it ended.
+#[derive(Drop)]
+pub struct Outcome {
+    pub out: Paper,
+    pub err: Paper,
+    pub status: u8,
+    pub end: &'static str,
+}
 
 /// Runs the program with these words, and tells how it ended. Only this function calls it, since each proof of a call
 /// takes in all that the contract of a run says.
@@ -16,7 +27,31 @@ pub fn ending<O: Write, E: Write>(
     ended
 }
 
-/// Whether what a run printed was lost, by which it failed.
-pub fn is_lost(ended: &Ended) -> bool {
-    matches!(ended, Ended::Printed(Printed::Lost(_))) && ended.exit_status() == 3
+/// How a run ended, in a word. None stands for a text that was printed whole, and for a refusal.
+pub fn end_of(ended: &Ended) -> &'static str {
+    match ended {
+        Ended::Helped(Ok(())) => "helped",
+        Ended::Helped(Err(_)) => "unheard",
+        Ended::Misused(Ok(())) => "misused",
+        Ended::Misused(Err(_)) => "unheard",
+        Ended::Printed(Printed::Lost(_)) => "lost",
+        Ended::Printed(Printed::Stopped(Refusal::StoreFault)) => "stopped",
+        Ended::Printed(Printed::Stopped(_)) => "stopped otherwise",
+        Ended::Printed(Printed::Whole) => "",
+        Ended::Refused(_, _) => "",
+    }
+}
+
+/// Runs the program with these words, where standard output and standard error take so many bytes.
+pub fn run(rt: &HostRuntime, words: &[&str], out_room: usize, err_room: usize) -> Outcome {
+    let mut out = Paper::new(rt.alloc(), out_room);
+    let mut err = Paper::new(rt.alloc(), err_room);
+    let ended = ending(rt, words, &mut out, &mut err);
+    let (status, end) = (ended.exit_status(), end_of(&ended));
+    Outcome {
+        out,
+        err,
+        status,
+        end,
+    }
 }

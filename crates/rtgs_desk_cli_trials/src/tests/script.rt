@@ -3,189 +3,306 @@
 //! A script begins with a line's end. Each step is a line that begins with `$ `:
 //!
 //! - `$ desk WORDS` is a run of the program. Below it stands all that the run prints: each line of standard output
-//!   after `> `, each of standard error after `! `, and `status N` where the status is not 0. A word in single quotes
-//!   may hold spaces, or nothing.
+//!   after `> `, each of standard error after `! `, and `status N` where the status is not 0. Where the run ended
+//!   otherwise than with a text that was printed or with a refusal, that line ends with a word for it (`end_of`). A `~`
+//!   stands for an end that a line lacks. A word in single quotes may hold spaces, or nothing.
+//! - `$ out N WORDS` is the same where standard output takes only N bytes, and `$ err N WORDS` where standard error
+//!   does.
+//! - `$ names WORDS` is a run whose standard output has each text after `> ` in it, and each after `= ` as a line.
+//! - `$ writes WORDS` is one of which only is told in how many writes it printed its lines.
+//! - `$ ends WORDS` is one of which only is told on which streams it printed, by `>` and `!`, and how it ended.
 //! - `$ file PATH TEXT` writes a file; `\n` in the text is a line's end.
 //! - `$ orders PATH ROWS` writes a file of orders: their header, and a line for each of these rows.
-//! - `$ sql PATH STATEMENT` changes a book's file by SQL, as another program does.
-//! - `$ keep PATH` keeps a copy of a file, and `$ kept PATH` compares the file with it, byte for byte.
+//! - `$ sql PATH STATEMENT` changes a book's file by SQL, as another program does; `$ log PATH STATEMENT` leaves the
+//!   change in its log.
+//! - `$ folder PATH` makes a folder.
+//! - `$ copy PATH OTHER` copies a file to the other, which then has no log. With another word in place of `copy`, the
+//!   copy is made hostile (`files::made`).
+//! - `$ same PATH OTHER` compares two files, byte for byte, and `$ gone PATH` holds that there is none.
 //!
-//! The word or the path `F` is the book that the script is followed over. All tests share a folder, so that each has a
-//! book of its own.
-use super::databases::meddle;
-use super::runs::ending;
+//! Each `@` stands for the book that the script is followed over. All tests share a folder, so that each has a book of
+//! its own.
+use super::databases::change;
+use super::hostile::files::made;
+use super::runs::{Outcome, run};
+use std::alloc::{AllocError, Global};
 use std::fmt::Write;
 use std::fs;
 use std::test::Fail;
 
-/// What a word or a path of a script stands for.
-fn meant<'a>(book: &'a str, word: &'a str) -> &'a str {
-    if word == "F" { book } else { word }
-}
-
 /// Adds the words that spaces part.
-fn add_words<'a>(words: &mut Vec<&'a str>, book: &'a str, text: &'a str) -> Result<(), Fail> {
+fn add_words<'a>(words: &mut Vec<&'a str>, text: &'a str) -> Result<(), AllocError> {
     for word in text.split(' ') {
         if !word.is_empty() {
-            words.push(meant(book, word))?;
+            words.push(word)?;
         }
     }
     Ok(())
 }
 
 /// Adds the words of a line, some of which may be quoted.
-pub fn read_words<'a>(words: &mut Vec<&'a str>, book: &'a str, line: &'a str) -> Result<(), Fail> {
+fn read_words<'a>(words: &mut Vec<&'a str>, line: &'a str) -> Result<(), Fail> {
     let mut quoted = false;
     for part in line.split('\'') {
         if quoted {
             words.push(part)?;
         } else {
-            add_words(words, book, part)?;
+            add_words(words, part)?;
         }
         quoted = !quoted;
     }
     if quoted {
-        Ok(())
-    } else {
-        Err(Fail::from("a quote that has no end"))
+        return Ok(());
     }
+    Err(Fail::from("a quote that has no end"))
 }
 
-/// Adds each line of what was printed, after its mark.
-fn mark(shown: &mut String, sign: &str, printed: &[u8]) -> Result<(), Fail> {
-    let printed = std::str::from_utf8(printed)?;
+/// Runs the program with the words of a line, where standard output and standard error take so many bytes.
+fn run_line(
+    rt: &HostRuntime,
+    line: &str,
+    out_room: usize,
+    err_room: usize,
+) -> Result<Outcome, Fail> {
+    let mut words = Vec::new(rt.alloc());
+    read_words(&mut words, line)?;
+    Ok(run(rt, words.as_slice(), out_room, err_room))
+}
+
+/// Runs the program with the words of a line, where one stream takes only as many bytes as stand before them.
+fn run_in_room(rt: &HostRuntime, kind: &str, words: &str) -> Result<Outcome, Fail> {
+    let (room, line) = words.split_once(' ').unwrap_or((words, ""));
+    let room = room.parse::<usize>()?;
+    if kind == "out" {
+        return run_line(rt, line, room, usize::MAX);
+    }
+    run_line(rt, line, usize::MAX, room)
+}
+
+/// Adds each line of what was printed, after its sign.
+fn add_lines(shown: &mut String, sign: &str, printed: &str) -> Result<(), AllocError> {
     for line in printed.split_inclusive('\n') {
         shown.push_str(sign)?;
         shown.push_str(line)?;
     }
-    Ok(())
+    if printed.is_empty() || printed.ends_with('\n') {
+        return Ok(());
+    }
+    shown.push_str("~\n")
 }
 
-/// Runs the program with the words of a line, and adds what it prints.
-fn run(rt: &HostRuntime, book: &str, line: &str, shown: &mut String) -> Result<(), Fail> {
-    let mut words = Vec::new(rt.alloc());
-    let mut out = Vec::new(rt.alloc());
-    let mut err = Vec::new(rt.alloc());
-    read_words(&mut words, book, line)?;
-    let ended = ending(rt, words.as_slice(), &mut out, &mut err);
-    mark(shown, "> ", out.as_slice())?;
-    mark(shown, "! ", err.as_slice())?;
-    let status = ended.exit_status();
-    if status != 0 {
-        writeln!(shown, "status {status}")?;
+/// Whether the text has this line.
+fn has_line(text: &str, wanted: &str) -> bool {
+    for line in text.split_inclusive('\n') {
+        if line == wanted {
+            return true;
+        }
+    }
+    false
+}
+
+/// Whether what was printed has what is told by a line: a line after `= `, or a part of one after `> `.
+fn has_told(printed: &str, told: &str) -> bool {
+    if let Some(line) = told.strip_prefix("= ") {
+        return has_line(printed, line);
+    }
+    match told.strip_prefix("> ") {
+        Some(part) => printed.contains(part.strip_suffix('\n').unwrap_or(part)),
+        None => false,
+    }
+}
+
+/// Adds those lines of what is told that was printed.
+fn add_told(shown: &mut String, told: &str, printed: &str) -> Result<(), AllocError> {
+    for line in told.split_inclusive('\n') {
+        if has_told(printed, line) {
+            shown.push_str(line)?;
+        }
     }
     Ok(())
 }
 
-/// Writes a file of orders.
-fn write_orders(rt: &HostRuntime, path: &str, rows: &str) -> Result<(), Fail> {
-    let mut text = String::from_str(rt.alloc(), "reference,to,amount\n")?;
-    if rows.is_empty() {
-        return Err(Fail::from("a file of no orders"));
+/// Adds what a step of this kind shows of a run's standard output.
+fn add_out(shown: &mut String, kind: &str, told: &str, run: &Outcome) -> Result<(), Fail> {
+    let printed = std::str::from_utf8(run.out.bytes())?;
+    if kind == "names" {
+        return Ok(add_told(shown, told, printed)?);
     }
-    for row in rows.split(' ') {
-        text.push_str(row)?;
-        text.push('\n')?;
+    if kind == "writes" && printed.ends_with('\n') {
+        return Ok(writeln!(shown, "{} writes", run.out.writes())?);
     }
-    fs::write(rt, path, text.as_str())?;
-    Ok(())
+    if kind == "ends" {
+        let sign = if printed.is_empty() { "" } else { ">\n" };
+        return Ok(shown.push_str(sign)?);
+    }
+    Ok(add_lines(shown, "> ", printed)?)
 }
 
-/// Keeps a copy of a file, or compares the file with it.
-fn keep(rt: &HostRuntime, path: &str, is_kept: bool) -> Result<(), Fail> {
-    let copy = format!(in rt.alloc(); "{path}.kept")?;
-    let found = fs::read(rt, path)?;
-    if !is_kept {
-        fs::write(rt, copy.as_str(), found.as_slice())?;
-    } else if fs::read(rt, copy.as_str())?.as_slice() != found.as_slice() {
-        return Err(Fail::from("the file was changed"));
+/// Adds what a step of this kind shows of a run's standard error.
+fn add_err(shown: &mut String, kind: &str, run: &Outcome) -> Result<(), Fail> {
+    let printed = std::str::from_utf8(run.err.bytes())?;
+    if kind == "ends" && !printed.is_empty() {
+        return Ok(shown.push_str("!\n")?);
     }
-    Ok(())
+    Ok(add_lines(shown, "! ", printed)?)
 }
 
-/// Writes a file, in whose text `\n` is a line's end.
-fn write_text(rt: &HostRuntime, path: &str, text: &str) -> Result<(), Fail> {
-    let text = text.replace(rt.alloc(), "\\n", "\n")?;
-    fs::write(rt, path, text.as_str())?;
-    Ok(())
+/// Adds how a run ended.
+fn add_end(shown: &mut String, status: u8, end: &str) -> Result<(), Fail> {
+    if end.is_empty() && status == 0 {
+        return Ok(());
+    }
+    let gap = if end.is_empty() { "" } else { " " };
+    Ok(writeln!(shown, "status {status}{gap}{end}")?)
 }
 
-/// Keeps a copy of a file, or compares the file with it, as the kind of a step says.
-fn keep_or_compare(rt: &HostRuntime, kind: &str, path: &str) -> Result<(), Fail> {
-    if kind == "keep" {
-        return keep(rt, path, false);
-    }
-    if kind == "kept" {
-        return keep(rt, path, true);
-    }
-    Err(Fail::from("a step of no known kind"))
+/// What a step of this kind shows of a run.
+fn shown_of(alloc: Global, kind: &str, told: &str, run: &Outcome) -> Result<String, Fail> {
+    let mut shown = String::new(alloc);
+    add_out(&mut shown, kind, told, run)?;
+    add_err(&mut shown, kind, run)?;
+    add_end(&mut shown, run.status, run.end)?;
+    Ok(shown)
 }
 
-/// Follows a step that writes or changes a file, or one that says nothing behind the path.
-fn change(rt: &HostRuntime, kind: &str, path: &str, text: &str) -> Result<(), Fail> {
+/// The text of a file, as a step gives it.
+fn text_of(alloc: Global, kind: &str, text: &str) -> Result<String, AllocError> {
     if kind == "file" {
-        return write_text(rt, path, text);
+        return text.replace(alloc, "\\n", "\n");
     }
-    if kind == "orders" {
-        return write_orders(rt, path, text);
-    }
-    if kind == "sql" {
-        return meddle(rt, path, text);
-    }
-    if text.is_empty() {
-        return keep_or_compare(rt, kind, path);
-    }
-    Err(Fail::from("a step of no known kind"))
+    let lines = format!(in alloc; "reference,to,amount {text} ")?;
+    lines.as_str().replace(alloc, " ", "\n")
 }
 
-/// Follows a step that prints nothing.
-fn prepare(rt: &HostRuntime, book: &str, kind: &str, words: &str) -> Result<(), Fail> {
-    let (path, text) = words.split_once(' ').unwrap_or((words, ""));
-    change(rt, kind, meant(book, path), text)
+/// Makes a file of another one, as a step of this kind says.
+fn remake(rt: &HostRuntime, kind: &str, from: &str, words: &str) -> Result<(), Fail> {
+    let (to, number) = words.split_once(' ').unwrap_or((words, "0"));
+    let number = number.parse::<u32>()?;
+    let bytes = fs::read(rt, from)?;
+    let made = made(rt.alloc(), kind, bytes.as_slice(), number)?;
+    write(rt, to, made.as_slice())
 }
 
-/// Follows one step: its line, and below that what it prints.
-fn follow(rt: &HostRuntime, book: &str, step: &str) -> Result<(), Fail> {
-    let Some((line, told)) = step.split_once('\n') else {
-        return Err(Fail::from("a line that has no end"));
-    };
+/// Writes a file, which then has no log.
+pub fn write(rt: &HostRuntime, path: &str, bytes: &[u8]) -> Result<(), Fail> {
+    fs::write(rt, path, bytes)?;
+    let log = format!(in rt.alloc(); "{path}-wal")?;
+    let _ = fs::remove_file(rt, log.as_str());
+    Ok(())
+}
+
+/// The file has these bytes.
+pub fn has_bytes(rt: &HostRuntime, path: &str, bytes: &[u8]) -> Result<(), Fail> {
+    if fs::read(rt, path)?.as_slice() == bytes {
+        return Ok(());
+    }
+    Err(Fail::from("the file was changed"))
+}
+
+/// There is no file.
+fn is_gone(rt: &HostRuntime, path: &str) -> Result<(), Fail> {
+    if fs::metadata(rt, path).is_err() {
+        return Ok(());
+    }
+    Err(Fail::from("a file"))
+}
+
+/// Writes a file, as a step of this kind says.
+fn write_text(rt: &HostRuntime, kind: &str, path: &str, text: &str) -> Result<(), Fail> {
+    let text = text_of(rt.alloc(), kind, text)?;
+    write(rt, path, text.as_bytes())
+}
+
+/// Two files are the same.
+fn is_same(rt: &HostRuntime, path: &str, other: &str) -> Result<(), Fail> {
+    let bytes = fs::read(rt, other)?;
+    has_bytes(rt, path, bytes.as_slice())
+}
+
+/// Follows a step that runs nothing.
+fn prepare(rt: &HostRuntime, kind: &str, path: &str, text: &str) -> Result<(), Fail> {
+    if kind == "file" || kind == "orders" {
+        return write_text(rt, kind, path, text);
+    }
+    if kind == "sql" || kind == "log" {
+        return change(rt, path, text, kind == "log");
+    }
+    if kind == "same" {
+        return is_same(rt, path, text);
+    }
+    if kind == "gone" {
+        return is_gone(rt, path);
+    }
+    if kind == "folder" {
+        return Ok(fs::create_dir(rt, path)?);
+    }
+    remake(rt, kind, path, text)
+}
+
+/// What a step shows.
+fn shown_by(rt: &HostRuntime, line: &str, told: &str) -> Result<String, Fail> {
     let (kind, words) = line.split_once(' ').unwrap_or((line, ""));
-    let mut shown = String::new(rt.alloc());
-    if kind == "desk" {
-        run(rt, book, words, &mut shown)?;
-    } else {
-        prepare(rt, book, kind, words)?;
+    if kind == "out" || kind == "err" {
+        return shown_of(rt.alloc(), kind, told, &run_in_room(rt, kind, words)?);
     }
+    if kind == "desk" || kind == "names" || kind == "writes" || kind == "ends" {
+        let run = run_line(rt, words, usize::MAX, usize::MAX)?;
+        return shown_of(rt.alloc(), kind, told, &run);
+    }
+    let (path, text) = words.split_once(' ').unwrap_or((words, ""));
+    prepare(rt, kind, path, text)?;
+    Ok(String::new(rt.alloc()))
+}
+
+/// Follows one step: its line, and below that what it shows.
+fn follow(rt: &HostRuntime, step: &str) -> Result<(), Fail> {
+    let (line, told) = step.split_once('\n').unwrap_or((step, "a line's end"));
+    let shown = shown_by(rt, line, told)?;
     if shown.as_str() == told {
         return Ok(());
     }
-    let found = format!(in rt.alloc(); "{line} printed {shown:?} and not {told:?}")?;
-    Err(Fail::from(found))
+    Err(Fail::new(format_args!("{line} printed {shown:?} and not {told:?}")))
 }
 
-/// Follows a script over a book.
-pub fn follows(rt: &HostRuntime, book: &str, script: &str) -> Result<(), Fail> {
+/// Follows the steps of a script.
+fn follow_all(rt: &HostRuntime, script: &str) -> Result<(), Fail> {
     let Some(steps) = script.strip_prefix("\n$ ") else {
         return Err(Fail::from("a script begins with a step"));
     };
     for step in steps.split("$ ") {
-        follow(rt, book, step)?;
+        follow(rt, step)?;
+    }
+    Ok(())
+}
+
+/// Follows a script over a book.
+pub fn follows(rt: &HostRuntime, book: &str, script: &str) -> Result<(), Fail> {
+    let script = script.replace(rt.alloc(), "@", book)?;
+    follow_all(rt, script.as_str())
+}
+
+/// Follows two scripts over a book.
+pub fn follows_both(rt: &HostRuntime, book: &str, first: &str, then: &str) -> Result<(), Fail> {
+    follows(rt, book, first)?;
+    follows(rt, book, then)
+}
+
+/// Follows a script over a book, in which the case stands in place of the `%1` and the `%2`: what stands before ` ! `
+/// in it, and what behind.
+pub fn follows_case(rt: &HostRuntime, book: &str, script: &str, case: &str) -> Result<(), Fail> {
+    let (first, second) = case.split_once(" ! ").unwrap_or((case, ""));
+    let script = script.replace(rt.alloc(), "%1", first)?;
+    let script = script.as_str().replace(rt.alloc(), "%2", second)?;
+    follows(rt, book, script.as_str())
+}
+
+/// Follows a script over a book for each case, which is a line.
+pub fn follows_each(rt: &HostRuntime, book: &str, script: &str, cases: &str) -> Result<(), Fail> {
+    for case in cases.split('\n') {
+        follows_case(rt, book, script, case)?;
     }
     Ok(())
 }
 
 /// Runs that are refused, with status 1. Each line has the words of a run and, after ` ! `, what it says.
-pub fn are_refused(rt: &HostRuntime, book: &str, table: &str) -> Result<(), Fail> {
-    let lines = match table.strip_prefix('\n') {
-        Some(lines) if !lines.is_empty() => lines,
-        _ => return Err(Fail::from("a table begins with a line's end, and has lines")),
-    };
-    for line in lines.split_inclusive('\n') {
-        let Some((words, said)) = line.split_once(" ! ") else {
-            return Err(Fail::from("a line that says nothing"));
-        };
-        let step = format!(in rt.alloc(); "desk {words}\n! {said}status 1\n")?;
-        follow(rt, book, step.as_str())?;
-    }
-    Ok(())
-}
+pub const REFUSED: &str = "\n$ desk %1\n! %2\nstatus 1\n";

@@ -1,8 +1,8 @@
 //! The server, over loopback, as a process of its own.
-use super::helps::are_misused;
+use super::helps::MISUSED;
 use super::imports::DAY;
 use super::runs::ending;
-use super::script::{are_refused, follows};
+use super::script::{REFUSED, follows, follows_case, follows_each};
 use std::env;
 use std::io::{ErrorKind, Read, Write};
 use std::net::{Ipv4Addr, TcpListener, TcpStream};
@@ -13,21 +13,54 @@ use std::time::Duration;
 /// The port of the server. It is set where the test that serves was started by another one.
 const PORT: &str = "DESK_PORT";
 
-const KEY_A: &str = "0000000000000000000000000000000a";
-
 const OPERATOR: &str = "000000000000000000000000000000ff";
 
-const ORDER: &str = "{\"amount\":100,\"reference\":\"A-1\",\"to\":\"BETA\"}";
+/// Requests and their replies: an order that comes twice settles once, the operator's resolution finds nothing, and one
+/// that bears a bank's key is refused. Each line but the last of one ends as lines of HTTP do.
+const EXCHANGES: &str = r#"POST /orders HTTP/1.1
+desk-key: 0000000000000000000000000000000a
+Content-Length: 44
 
-const SETTLED: &str = "{\"answer\":\"settled\",\"mark\":1,\"number\":1}";
+{"amount":100,"reference":"A-1","to":"BETA"}
+> HTTP/1.1 200 OK
+Content-Type: application/json
+Content-Length: 40
+Connection: close
 
-const REPEATED: &str = "{\"answer\":\"repeated\",\"mark\":1,\"number\":1,\"state\":\"settled\"}";
+{"answer":"settled","mark":1,"number":1}
+= POST /orders HTTP/1.1
+desk-key: 0000000000000000000000000000000a
+Content-Length: 44
 
-const NOTHING: &str = "{\"answer\":\"nothing\"}";
+{"amount":100,"reference":"A-1","to":"BETA"}
+> HTTP/1.1 200 OK
+Content-Type: application/json
+Content-Length: 59
+Connection: close
 
-const WITHDRAWN: &str = "
-withdraw F ALFA A-1 ! refused 17 NotQueued
-";
+{"answer":"repeated","mark":1,"number":1,"state":"settled"}
+= POST /desk/resolve HTTP/1.1
+desk-key: 000000000000000000000000000000ff
+Content-Length: 2
+
+{}
+> HTTP/1.1 200 OK
+Content-Type: application/json
+Content-Length: 20
+Connection: close
+
+{"answer":"nothing"}
+= POST /desk/resolve HTTP/1.1
+desk-key: 0000000000000000000000000000000a
+Content-Length: 2
+
+{}
+> HTTP/1.1 403 Forbidden
+Content-Type: application/json
+Content-Length: 26
+Connection: close
+
+{"code":68,"name":"NoKey"}"#;
 
 /// The book is served at this port, and the run ends well.
 fn serves(rt: &HostRuntime, port: &str) -> Result<(), Fail> {
@@ -63,14 +96,14 @@ fn free_port(rt: &HostRuntime) -> Result<u16, Fail> {
     Ok(listener.local_addr()?.port())
 }
 
-/// The program that serves at this port.
-fn program(rt: &HostRuntime, port: u16) -> Result<Command, Fail> {
+/// Starts the server.
+fn start(rt: &HostRuntime, port: u16) -> Result<Child, Fail> {
     let port = format!(in rt.alloc(); "{port}")?;
     let mut program = Command::new(rt.alloc(), env::current_exe(rt)?)?;
     program.arg("tests::serving::serve_six")?;
     program.env(PORT, port)?;
     program.stdout(Stdio::piped());
-    Ok(program)
+    Ok(program.spawn(rt)?)
 }
 
 /// Hears one more byte of what is said, if there is one.
@@ -103,31 +136,34 @@ fn listens(rt: &HostRuntime, server: &mut Child, port: u16) -> Result<(), Fail> 
     }
 }
 
-/// Starts the server.
-fn start(rt: &HostRuntime, port: u16) -> Result<Child, Fail> {
-    Ok(program(rt, port)?.spawn(rt)?)
-}
-
-/// Sends a request, and adds what is replied.
-fn exchange(stream: &mut TcpStream, request: &str, reply: &mut String) -> Result<(), Fail> {
-    stream.write_all(request.as_bytes())?;
-    stream.read_to_string(reply)?;
-    Ok(())
-}
-
-/// What the server replies to a request.
-fn asks(rt: &HostRuntime, port: u16, request: &str) -> Result<String, Fail> {
+/// The server replies to a request with this reply, whole.
+fn is_replied(rt: &HostRuntime, port: u16, request: &str, wanted: &str) -> Result<(), Fail> {
     let mut reply = String::new(rt.alloc());
     let mut stream = TcpStream::connect(rt, (Ipv4Addr::LOCALHOST, port))?;
-    exchange(&mut stream, request, &mut reply)?;
-    Ok(reply)
+    stream.write_all(request.as_bytes())?;
+    stream.read_to_string(&mut reply)?;
+    if reply.as_str() == wanted {
+        return Ok(());
+    }
+    Err(Fail::from(reply))
 }
 
-/// A resolution that bears this key.
-fn resolution(rt: &HostRuntime, key: &str) -> Result<String, Fail> {
-    Ok(format!(in rt.alloc();
-        "POST /desk/resolve HTTP/1.1\r\ndesk-key: {key}\r\nContent-Length: 2\r\n\r\n{{}}"
-    )?)
+/// The server replies as an exchange says: a request, and its reply after `> `.
+fn is_exchanged(rt: &HostRuntime, port: u16, exchange: &str) -> Result<(), Fail> {
+    let lines = exchange.replace(rt.alloc(), "\n", "\r\n")?;
+    let (request, reply) = lines
+        .as_str()
+        .split_once("\r\n> ")
+        .unwrap_or(("", "no reply"));
+    is_replied(rt, port, request, reply)
+}
+
+/// The server replies as each exchange says, and to nothing with nothing.
+fn are_exchanged(rt: &HostRuntime, port: u16) -> Result<(), Fail> {
+    for exchange in EXCHANGES.split("\n= ") {
+        is_exchanged(rt, port, exchange)?;
+    }
+    is_replied(rt, port, "", "")
 }
 
 /// Whether a wait for one more byte ran out of its time.
@@ -138,60 +174,16 @@ fn waits(stream: &mut TcpStream) -> bool {
     }
 }
 
-/// Whether a peer that sends a byte a second is let go within nine seconds.
-fn is_let_go(rt: &HostRuntime, port: u16) -> Result<bool, Fail> {
+/// A peer that sends a byte a second is let go within nine seconds.
+fn is_let_go(rt: &HostRuntime, port: u16) -> Result<(), Fail> {
     let mut stream = TcpStream::connect(rt, (Ipv4Addr::LOCALHOST, port))?;
     stream.set_read_timeout(Some(Duration::from_secs(1)))?;
     for _ in 0..9 {
         if stream.write_all(b"G").is_err() || !waits(&mut stream) {
-            return Ok(true);
+            return Ok(());
         }
     }
-    Ok(false)
-}
-
-/// The whole reply with this body.
-fn reply_of(rt: &HostRuntime, body: &str) -> Result<String, Fail> {
-    let length = body.len();
-    Ok(format!(in rt.alloc();
-        "HTTP/1.1 200 OK\r\nContent-Type: application/json\r\nContent-Length: {length}\r\n\
-         Connection: close\r\n\r\n{body}"
-    )?)
-}
-
-/// The server replies to a request with this body, in a reply that is this one whole.
-fn is_replied(rt: &HostRuntime, port: u16, request: &str, body: &str) -> Result<(), Fail> {
-    let whole = reply_of(rt, body)?;
-    let reply = asks(rt, port, request)?;
-    if reply.as_str() == whole.as_str() {
-        return Ok(());
-    }
-    Err(Fail::from(reply))
-}
-
-/// The reply to a request begins so.
-fn is_begun(rt: &HostRuntime, port: u16, request: &str, first: &str) -> Result<(), Fail> {
-    let reply = asks(rt, port, request)?;
-    if reply.as_str().starts_with(first) {
-        return Ok(());
-    }
-    Err(Fail::from(reply))
-}
-
-/// The reply to nothing is nothing.
-fn is_silent(rt: &HostRuntime, port: u16) -> Result<(), Fail> {
-    let reply = asks(rt, port, "")?;
-    if reply.is_empty() {
-        return Ok(());
-    }
-    Err(Fail::from(reply))
-}
-
-/// A resolution that bears a bank's key is refused, and the reply to nothing is nothing.
-fn is_refused(rt: &HostRuntime, port: u16) -> Result<(), Fail> {
-    let resolution = resolution(rt, KEY_A)?;
-    is_begun(rt, port, resolution.as_str(), "HTTP/1.1 403 Forbidden\r\n")?;
-    is_silent(rt, port)
+    Err(Fail::from("a slow peer was not let go"))
 }
 
 /// No connection is taken at another address of this machine.
@@ -201,34 +193,6 @@ fn is_at_one_address(rt: &HostRuntime, port: u16) -> Result<(), Fail> {
         Err(error) if error.kind() == ErrorKind::ConnectionRefused => Ok(()),
         Err(error) => Err(Fail::from(error)),
     }
-}
-
-/// An order that comes twice settles once.
-fn settles_once(rt: &HostRuntime, port: u16) -> Result<(), Fail> {
-    let length = ORDER.len();
-    let order = format!(in rt.alloc();
-        "POST /orders HTTP/1.1\r\ndesk-key: {KEY_A}\r\nContent-Length: {length}\r\n\r\n{ORDER}"
-    )?;
-    is_replied(rt, port, order.as_str(), SETTLED)?;
-    is_replied(rt, port, order.as_str(), REPEATED)
-}
-
-/// The operator's resolution finds nothing.
-fn resolves_nothing(rt: &HostRuntime, port: u16) -> Result<(), Fail> {
-    let resolution = resolution(rt, OPERATOR)?;
-    is_replied(rt, port, resolution.as_str(), NOTHING)
-}
-
-/// Six peers, of which the last is slow.
-fn ask_all(rt: &HostRuntime, port: u16) -> Result<(), Fail> {
-    is_at_one_address(rt, port)?;
-    settles_once(rt, port)?;
-    resolves_nothing(rt, port)?;
-    is_refused(rt, port)?;
-    if is_let_go(rt, port)? {
-        return Ok(());
-    }
-    Err(Fail::from("a slow peer was not let go"))
 }
 
 /// The server says how many it served, and ends well.
@@ -244,12 +208,16 @@ fn has_served(rt: &HostRuntime, server: &mut Child) -> Result<(), Fail> {
     Err(Fail::from(said))
 }
 
-/// The server listens, replies to six peers, and ends well.
+/// The server listens, replies to six peers, of which the last is slow, and ends well.
 fn serves_all(rt: &HostRuntime, server: &mut Child, port: u16) -> Result<(), Fail> {
     listens(rt, server, port)?;
-    ask_all(rt, port)?;
+    is_at_one_address(rt, port)?;
+    are_exchanged(rt, port)?;
+    is_let_go(rt, port)?;
     has_served(rt, server)
 }
+
+const WITHDRAWN: &str = "withdraw @ ALFA A-1 ! refused 17 NotQueued";
 
 #[test]
 fn requests_are_replied_to_and_slow_peers_are_let_go(rt: HostRuntime) -> Result<(), Fail> {
@@ -257,25 +225,25 @@ fn requests_are_replied_to_and_slow_peers_are_let_go(rt: HostRuntime) -> Result<
     let port = free_port(&rt)?;
     let mut server = start(&rt, port)?;
     serves_all(&rt, &mut server, port)?;
-    are_refused(&rt, "served", WITHDRAWN)
+    follows_each(&rt, "served", REFUSED, WITHDRAWN)
 }
 
-/// Two runs that serve at this port, of which the second has no book.
-fn taken(rt: &HostRuntime, port: u16) -> Result<String, Fail> {
-    Ok(format!(in rt.alloc();
-        "\n$ desk serve F --port {port} --count 1 --operator-key {OPERATOR}\n\
-         ! refused 97 NoListen\nstatus 3\n\
-         $ desk serve missing --port {port} --count 1 --operator-key {OPERATOR}\n\
-         ! refused 93 NotADeskFile\nstatus 3\n"
-    )?)
-}
+/// Two runs that serve at a port which is taken, of which the second has no book.
+const TAKEN: &str = "
+$ desk serve @ --port %1 --count 1 --operator-key 000000000000000000000000000000ff
+! refused 97 NoListen
+status 3
+$ desk serve missing --port %1 --count 1 --operator-key 000000000000000000000000000000ff
+! refused 93 NotADeskFile
+status 3
+";
 
 #[test]
 fn a_port_that_is_taken_is_refused(rt: HostRuntime) -> Result<(), Fail> {
     follows(&rt, "taken", DAY)?;
     let listener = TcpListener::bind(&rt, (Ipv4Addr::LOCALHOST, 0))?;
-    let script = taken(&rt, listener.local_addr()?.port())?;
-    follows(&rt, "taken", script.as_str())
+    let port = format!(in rt.alloc(); "{}", listener.local_addr()?.port())?;
+    follows_case(&rt, "taken", TAKEN, port.as_str())
 }
 
 const OUT_OF_RANGE: &str = "\
@@ -284,12 +252,10 @@ serve nowhere --port 65536 --count 1 --operator-key 0000000000000000000000000000
 serve nowhere --port 8080 --count 0 --operator-key 000000000000000000000000000000ff
 serve nowhere --port 8080 --count 1000001 --operator-key 000000000000000000000000000000ff";
 
-const BAD_KEY: &str = "
-serve nowhere --port 8080 --count 1 --operator-key key ! refused 34 BadKey
-";
+const BAD_KEY: &str = "serve nowhere --port 8080 --count 1 --operator-key key ! refused 34 BadKey";
 
 #[test]
 fn ports_and_counts_have_their_ranges(rt: HostRuntime) -> Result<(), Fail> {
-    are_misused(&rt, OUT_OF_RANGE)?;
-    are_refused(&rt, "nowhere", BAD_KEY)
+    follows_each(&rt, "nowhere", MISUSED, OUT_OF_RANGE)?;
+    follows_each(&rt, "nowhere", REFUSED, BAD_KEY)
 }

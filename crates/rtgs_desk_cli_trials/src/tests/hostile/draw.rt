@@ -1,5 +1,8 @@
 //! Numbers as chance would have them.
 
+/// The length of a page of a file.
+pub const PAGE: usize = 4096;
+
 /// Gives numbers in an order that is the same for each seed.
 #[derive(Drop)]
 pub struct Draw {
@@ -19,5 +22,21 @@ impl Draw {
             .wrapping_mul(6364136223846793005)
             .wrapping_add(1442695040888963407);
         (self.state >> 33) as usize % bound.max(1)
+    }
+
+    /// Where some page begins of a file of this length.
+    pub fn page(&mut self, length: usize) -> usize {
+        self.below(length / PAGE).saturating_mul(PAGE)
+    }
+
+    /// A place in a text of this length, or in a page of a file: in its first bytes, which tell of the others, more
+    /// often than not.
+    pub fn place(&mut self, length: usize, is_file: bool) -> usize {
+        if !is_file {
+            return self.below(length);
+        }
+        let within = if self.below(4) == 0 { PAGE } else { 128 };
+        let page = self.page(length);
+        page.saturating_add(self.below(within))
     }
 }

@@ -1,61 +1,34 @@
-//! Files that list more objects than a desk's file does.
-use super::super::parts::spliced;
-use super::setting::{NO_BOOK, begin_day, book_bytes, is_told, keeps, remove, reports, write};
-use super::views::with_views;
-use crate::tests::databases::log_changes;
+//! Files that list more objects than a desk's file does, or pages that lead to one another.
+use super::listed::{REFUSED, REPORTED};
+use super::making::BOOK;
+use crate::tests::databases::change;
+use crate::tests::script::{follows, follows_each};
 use std::fmt::Write;
 use std::test::Fail;
 
 // A report on the book with so many views more is that on the book, up to a hundred objects, and refused above that.
 // An opening would compare each of them with each other. Of 30000 that would take minutes, and a test has one.
-const REPORTED: &str = "1 70 71 91";
+const FEW: &str = "\
+views @.book @ 1
+views @.book @ 70
+views @.book @ 71
+views @.book @ 91";
 
-const REFUSED: &str = "92 500 1000 2000 4000 8000 16000 30000";
-
-// A report on the book with so many views more prints this text.
-fn is_told_with(
-    rt: &HostRuntime,
-    file: &str,
-    book: &[u8],
-    count: u32,
-    text: &str,
-) -> Result<(), Fail> {
-    let bytes = with_views(rt.alloc(), book, count)?;
-    write(rt, file, bytes.as_slice())?;
-    is_told(rt, file, text)
-}
-
-// A report on the book with each of these numbers of views more prints this text.
-fn are_told_of(
-    rt: &HostRuntime,
-    file: &str,
-    book: &[u8],
-    counts: &str,
-    text: &str,
-) -> Result<(), Fail> {
-    for count in counts.split(' ') {
-        is_told_with(rt, file, book, count.parse::<u32>()?, text)?;
-    }
-    Ok(())
-}
-
-// The report on this book.
-fn report_on(rt: &HostRuntime, file: &str, book: &[u8]) -> Result<String, Fail> {
-    write(rt, file, book)?;
-    let (text, status) = keeps(rt, file)?;
-    if status == 0 {
-        return Ok(text);
-    }
-    Err(Fail::from(text))
-}
+const MANY: &str = "\
+93 NotADeskFile ! views @.book @ 92
+93 NotADeskFile ! views @.book @ 500
+93 NotADeskFile ! views @.book @ 1000
+93 NotADeskFile ! views @.book @ 2000
+93 NotADeskFile ! views @.book @ 4000
+93 NotADeskFile ! views @.book @ 8000
+93 NotADeskFile ! views @.book @ 16000
+93 NotADeskFile ! views @.book @ 30000";
 
 #[test]
 fn with_more_objects(rt: HostRuntime) -> Result<(), Fail> {
-    let book = book_bytes(&rt, "crowd")?;
-    let text = report_on(&rt, "crowd", book.as_slice())?;
-    are_told_of(&rt, "crowd", book.as_slice(), REPORTED, text.as_str())?;
-    are_told_of(&rt, "crowd", book.as_slice(), REFUSED, NO_BOOK)?;
-    remove(&rt, "crowd")
+    follows(&rt, "crowd", BOOK)?;
+    follows_each(&rt, "crowd", REPORTED, FEW)?;
+    follows_each(&rt, "crowd", REFUSED, MANY)
 }
 
 // Makes the views of these numbers, and leaves them in the log of the file.
@@ -64,41 +37,51 @@ fn leave_views(rt: &HostRuntime, file: &str, first: u32, last: u32) -> Result<()
     for view in first..=last {
         writeln!(sql, "CREATE VIEW v{view} AS SELECT 1;")?;
     }
-    log_changes(rt, file, sql.as_str())
+    change(rt, file, sql.as_str(), true)
 }
 
-// The file is reported on.
-fn is_reported(rt: &HostRuntime, file: &str) -> Result<(), Fail> {
-    let (said, status) = reports(rt, file)?;
-    if status == 0 {
-        return Ok(());
-    }
-    Err(Fail::from(said))
-}
+const LOGGED: &str = "
+$ names report @ 2024-03-04
+= report 2024-03-04
+";
+
+const TOO_MANY_LOGGED: &str = "
+$ copy @ @.kept
+$ desk report @ 2024-03-04
+! refused 93 NotADeskFile
+status 3
+$ same @ @.kept
+";
 
 // A report moves the log into the file, where it does not refuse it.
 #[test]
 fn with_objects_in_the_log(rt: HostRuntime) -> Result<(), Fail> {
-    begin_day(&rt, "crowd_log")?;
+    follows(&rt, "crowd_log", BOOK)?;
     leave_views(&rt, "crowd_log", 1, 91)?;
-    is_reported(&rt, "crowd_log")?;
+    follows(&rt, "crowd_log", LOGGED)?;
     leave_views(&rt, "crowd_log", 92, 92)?;
-    is_told(&rt, "crowd_log", NO_BOOK)?;
-    remove(&rt, "crowd_log")
+    follows(&rt, "crowd_log", TOO_MANY_LOGGED)
 }
 
-// The book with so many views more is refused where its header says that each page ends in a checksum, and none does.
-fn lacks_its_sums(rt: &HostRuntime, book: &[u8], count: u32) -> Result<(), Fail> {
-    let file = with_views(rt.alloc(), book, count)?;
-    let other = spliced(rt.alloc(), file.as_slice(), 20, 4, &[8, 64, 32, 32])?;
-    write(rt, "sums", other.as_slice())?;
-    is_told(rt, "sums", NO_BOOK)
-}
+// Each page is said to end in a checksum, and none does.
+const NO_SUMS: &str = "\
+93 NotADeskFile ! no_sums @.book @ 1
+93 NotADeskFile ! no_sums @.book @ 8000";
 
 #[test]
 fn with_pages_that_lack_their_sums(rt: HostRuntime) -> Result<(), Fail> {
-    let book = book_bytes(&rt, "sums")?;
-    lacks_its_sums(&rt, book.as_slice(), 1)?;
-    lacks_its_sums(&rt, book.as_slice(), 8000)?;
-    remove(&rt, "sums")
+    follows(&rt, "sums", BOOK)?;
+    follows_each(&rt, "sums", REFUSED, NO_SUMS)
+}
+
+// Ten megabytes of pages, each of which leads to itself, to the pages behind it, or to pages far from it.
+const CIRCLES: &str = "\
+91 StoreFault ! circles @.book @ 0
+91 StoreFault ! circles @.book @ 1
+91 StoreFault ! circles @.book @ 37";
+
+#[test]
+fn of_ten_megabytes(rt: HostRuntime) -> Result<(), Fail> {
+    follows(&rt, "ten_megabytes", BOOK)?;
+    follows_each(&rt, "ten_megabytes", REFUSED, CIRCLES)
 }

@@ -1,6 +1,6 @@
 //! A book's file with many views more, or with pages that lead to one another, made page by page.
-use super::super::parts::{parts, spliced};
-use super::edits::PAGE;
+use super::super::bytes::{Edit, edited, parts, piece};
+use super::super::draw::PAGE;
 use std::alloc::{AllocError, Global};
 
 // How many views a page of them has at most.
@@ -71,11 +71,10 @@ fn push_page(
 
 // The book, and behind it the page on which it lists its own objects: its first one, less the head of the file.
 fn with_own(alloc: Global, book: &[u8]) -> Result<Vec<u8>, AllocError> {
-    let (first, _) = parts(book, PAGE);
-    let (_, rest) = parts(first, 100);
-    let (head, _) = parts(rest, 26);
-    let own = spliced(alloc, first, 0, head.len(), head)?;
-    spliced(alloc, book, book.len(), 0, own.as_slice())
+    let mut file = Vec::from_slice(alloc, book)?;
+    file.extend_from_slice(piece(book, 100, 26))?;
+    file.extend_from_slice(piece(book, 26, PAGE - 26))?;
+    Ok(file)
 }
 
 // The file with a root of its list that has these children, the last of which is this page, and so many pages.
@@ -86,10 +85,16 @@ fn with_root(
     last: u32,
     pages: u32,
 ) -> Result<Vec<u8>, AllocError> {
-    let (head, _) = parts(file, 100);
-    let mut root = spliced(alloc, head, 28, 4, &pages.to_be_bytes())?;
+    let mut root = Vec::from_slice(alloc, piece(file, 0, 28))?;
+    root.extend_from_slice(&pages.to_be_bytes())?;
+    root.extend_from_slice(piece(file, 32, 68))?;
     push_page(&mut root, 5, &last.to_be_bytes(), children, CHILD)?;
-    spliced(alloc, file, 0, PAGE, root.as_slice())
+    let edit = Edit {
+        at: 0,
+        gone: PAGE,
+        others: root.as_slice(),
+    };
+    edited(alloc, file, edit)
 }
 
 // Appends a page with the views from the one of this number to the last.

@@ -1,5 +1,5 @@
 //! Numbers at a limit of some form, or just beyond it, and words that are of some form, or nearly.
-use super::super::parts::part;
+use super::super::bytes::part;
 
 // Numbers at a limit of some form, or just beyond it, and what is nearly a number: 32 of them. The first is empty.
 const LIMITS: &str =

@@ -1,138 +1,57 @@
 //! What may be told of an input, and whether the bytes of a reply tell it.
+use super::super::met::{column, row_of};
 use std::alloc::{AllocError, Global};
 use std::test::Fail;
 
-/// What is told by a reply with what was read.
-pub const READ: u8 = 0;
+/// What may be told: the number of a refusal, or what was read or done, by how the body begins and ends. Then the
+/// status with its reason, and the type of the body.
+pub const TOLD: &str = r#"read | {"amount": |  | 200 OK | application/json
+= read | {"balance": |  | 200 OK | application/json
+= read | {"orders":[ |  | 200 OK | application/json
+= read | statement ALFA 2 |  | 200 OK | text/plain
+= read | report 2 |  | 200 OK | text/plain
+= 1 | {"code":1, | "name":"UnknownParticipant"} | 404 Not Found | application/json
+= 2 | {"code":2, | "name":"UnknownReceiver"} | 409 Conflict | application/json
+= 3 | {"code":3, | "name":"SameParty"} | 409 Conflict | application/json
+= 4 | {"code":4, | "name":"ReferenceUsed"} | 409 Conflict | application/json
+= 5 | {"code":5, | "name":"NotOpen"} | 409 Conflict | application/json
+= 6 | {"code":6, | "name":"NoCover"} | 409 Conflict | application/json
+= 7 | {"code":7, | "name":"QueueFull"} | 409 Conflict | application/json
+= 8 | {"code":8, | "name":"NumbersUsedUp"} | 409 Conflict | application/json
+= 9 | {"code":9, | "name":"UnknownOrder"} | 404 Not Found | application/json
+= 13 | {"code":13, | "name":"TotalTooLarge"} | 409 Conflict | application/json
+= 14 | {"code":14, | "name":"WrongPhase"} | 409 Conflict | application/json
+= 15 | {"code":15, | "name":"WrongDate"} | 409 Conflict | application/json
+= 16 | {"code":16, | "name":"Weekend"} | 409 Conflict | application/json
+= 17 | {"code":17, | "name":"NotQueued"} | 409 Conflict | application/json
+= 18 | {"code":18, | "name":"Resolvable"} | 409 Conflict | application/json
+= 19 | {"code":19, | "name":"Overdrawn"} | 409 Conflict | application/json
+= 30 | {"code":30, | "name":"BadCode"} | 400 Bad Request | application/json
+= 31 | {"code":31, | "name":"BadReference"} | 400 Bad Request | application/json
+= 32 | {"code":32, | "name":"BadAmount"} | 400 Bad Request | application/json
+= 35 | {"code":35, | "name":"BadDate"} | 400 Bad Request | application/json
+= 40 | {"code":40, | "name":"BadHeader"} | 400 Bad Request | application/json
+= 41 | {"code":41, | "name":"BadRow"} | 400 Bad Request | application/json
+= 41 | {"code":41,"name":"BadRow","row": | } | 400 Bad Request | application/json
+= 42 | {"code":42, | "name":"BadCount"} | 400 Bad Request | application/json
+= 60 | {"code":60, | "name":"BadHead"} | 400 Bad Request | application/json
+= 61 | {"code":61, | "name":"HeadTooLong"} | 413 Content Too Large | application/json
+= 62 | {"code":62, | "name":"NoLength"} | 411 Length Required | application/json
+= 63 | {"code":63, | "name":"BodyTooLong"} | 413 Content Too Large | application/json
+= 64 | {"code":64, | "name":"Truncated"} | 400 Bad Request | application/json
+= 65 | {"code":65, | "name":"BadJson"} | 400 Bad Request | application/json
+= 66 | {"code":66, | "name":"WrongFields"} | 400 Bad Request | application/json
+= 67 | {"code":67, | "name":"NoSuchRoute"} | 404 Not Found | application/json
+= 68 | {"code":68, | "name":"NoKey"} | 403 Forbidden | application/json
+= 90 | {"code":90, | "name":"OutOfMemory"} | 503 Service Unavailable | application/json
+= done | {"answer":" |  | 200 OK | application/json
+= done | reference,result,number,detail
+ |  | 200 OK | text/csv"#;
 
-/// What is told by a reply with what came of commands.
-pub const DONE: u8 = 255;
-
-/// What is told where nothing is done: the status with its reason, and the number and the name of the refusal.
-const REFUSED: &str = "\
-404 Not Found: 1 UnknownParticipant
-409 Conflict: 2 UnknownReceiver
-409 Conflict: 3 SameParty
-409 Conflict: 4 ReferenceUsed
-409 Conflict: 5 NotOpen
-409 Conflict: 6 NoCover
-409 Conflict: 7 QueueFull
-409 Conflict: 8 NumbersUsedUp
-404 Not Found: 9 UnknownOrder
-409 Conflict: 13 TotalTooLarge
-409 Conflict: 14 WrongPhase
-409 Conflict: 15 WrongDate
-409 Conflict: 16 Weekend
-409 Conflict: 17 NotQueued
-409 Conflict: 18 Resolvable
-409 Conflict: 19 Overdrawn
-400 Bad Request: 30 BadCode
-400 Bad Request: 31 BadReference
-400 Bad Request: 32 BadAmount
-400 Bad Request: 35 BadDate
-400 Bad Request: 40 BadHeader
-400 Bad Request: 41 BadRow
-400 Bad Request: 42 BadCount
-400 Bad Request: 60 BadHead
-413 Content Too Large: 61 HeadTooLong
-411 Length Required: 62 NoLength
-413 Content Too Large: 63 BodyTooLong
-400 Bad Request: 64 Truncated
-400 Bad Request: 65 BadJson
-400 Bad Request: 66 WrongFields
-404 Not Found: 67 NoSuchRoute
-403 Forbidden: 68 NoKey
-503 Service Unavailable: 90 OutOfMemory";
-
-/// How the body begins that tells what was done or read, behind the type of such a body and what it tells of.
-const DID: &str = r#"application/json done {"answer":"
-= application/json read {"amount":
-= application/json read {"balance":
-= application/json read {"orders":[
-= text/csv done reference,result,number,detail
-
-= text/plain read statement ALFA 2
-= text/plain read report 2"#;
-
-/// What a body means: the status with its reason, the type of the body, and what it tells.
-type Meaning = (&'static str, &'static str, u8);
-
-// Whether the body begins with this number.
-fn begins(body: &str, number: &str) -> bool {
-    let Some(rest) = body.strip_prefix("{\"code\":") else {
-        return false;
-    };
-    match rest.strip_prefix(number) {
-        Some(rest) => rest.starts_with(","),
-        None => false,
-    }
-}
-
-// Whether the body ends with this name.
-fn ends(body: &str, name: &str) -> bool {
-    let Some(rest) = body.strip_suffix("\"}") else {
-        return false;
-    };
-    match rest.strip_suffix(name) {
-        Some(rest) => rest.ends_with("\"name\":\""),
-        None => false,
-    }
-}
-
-// Whether the body tells of a row.
-fn is_of_row(body: &str, number: &str, name: &str) -> bool {
-    number == "41" && name == "BadRow" && body.contains("\"name\":\"BadRow\",\"row\":")
-}
-
-// Whether the body is that of the refusal with this number and name.
-fn is_refusal(body: &str, number: &str, name: &str) -> bool {
-    begins(body, number) && (ends(body, name) || is_of_row(body, number, name))
-}
-
-// What the body means, if it is that of the refusal of this line.
-fn refused(body: &str, line: &'static str) -> Result<Option<Meaning>, Fail> {
-    let (status, refusal) = line.split_once(": ").ok_or("no status")?;
-    let (number, name) = refusal.split_once(' ').ok_or("no name")?;
-    if is_refusal(body, number, name) {
-        return Ok(Some((status, "application/json", number.parse::<u8>()?)));
-    }
-    Ok(None)
-}
-
-// What the body means, if it begins in the way of this line.
-fn done(body: &str, line: &'static str) -> Result<Option<Meaning>, Fail> {
-    let (content, answer) = line.split_once(' ').ok_or("no type")?;
-    let (kind, first) = answer.split_once(' ').ok_or("no beginning")?;
-    let told = if kind == "done" { DONE } else { READ };
-    if body.starts_with(first) {
-        return Ok(Some(("200 OK", content, told)));
-    }
-    Ok(None)
-}
-
-// What this body means.
-fn meaning(body: &str) -> Result<Meaning, Fail> {
-    for line in REFUSED.split('\n') {
-        if let Some(meaning) = refused(body, line)? {
-            return Ok(meaning);
-        }
-    }
-    done_meaning(body)
-}
-
-// What this body means, of what was read or done.
-fn done_meaning(body: &str) -> Result<Meaning, Fail> {
-    for line in DID.split("\n= ") {
-        if let Some(meaning) = done(body, line)? {
-            return Ok(meaning);
-        }
-    }
-    Err(Fail::from("a body that tells nothing"))
-}
-
-// The whole reply with this body, which means this.
-fn reply_of(alloc: Global, meaning: Meaning, body: &str) -> Result<String, AllocError> {
-    let (line, content, _) = meaning;
+// The whole reply that has this body, by its row.
+fn reply_of(alloc: Global, row: &'static str, body: &str) -> Result<String, AllocError> {
+    let line = column(row, 3);
+    let content = column(row, 4);
     let length = body.len();
     format!(in alloc;
         "HTTP/1.1 {line}\r\nContent-Type: {content}\r\nContent-Length: {length}\r\n\
@@ -140,33 +59,33 @@ fn reply_of(alloc: Global, meaning: Meaning, body: &str) -> Result<String, Alloc
     )
 }
 
-// Whether a reply bears this status.
-fn bears(alloc: Global, reply: &str, status: u16) -> Result<bool, AllocError> {
-    let head = format!(in alloc; "HTTP/1.1 {status} ")?;
-    Ok(reply.starts_with(head.as_str()))
-}
-
-// An error that shows a reply, and the one that was wanted.
-fn another(alloc: Global, status: u16, reply: &str, whole: &str) -> Result<(), Fail> {
-    let said = format!(in alloc; "{status}: {reply:?}, not {whole:?}")?;
-    Err(Fail::from(said))
-}
-
-// A reply is this one whole, and bears this status.
-fn is_whole(alloc: Global, status: u16, reply: &str, whole: &str) -> Result<(), Fail> {
-    if reply == whole && bears(alloc, reply, status)? {
-        return Ok(());
+// The body of a reply.
+fn body_of(reply: &str) -> &str {
+    match reply.split_once("\r\n\r\n") {
+        Some((_, body)) => body,
+        None => "",
     }
-    another(alloc, status, reply, whole)
 }
 
-/// What a whole reply tells, which bears this status: a number of a refusal, or what was read or done. Each of its bytes
-/// is as its body wants it.
-pub fn told_by(alloc: Global, status: u16, reply: &[u8]) -> Result<u8, Fail> {
-    let reply = std::str::from_utf8(reply)?;
-    let (_, body) = reply.split_once("\r\n\r\n").ok_or("no body")?;
-    let meaning = meaning(body)?;
-    let whole = reply_of(alloc, meaning, body)?;
-    is_whole(alloc, status, reply, whole.as_str())?;
-    Ok(meaning.2)
+// A row, where this reply is the one whole, and bears this status.
+fn checked(
+    row: &'static str,
+    status: &str,
+    reply: &str,
+    whole: &str,
+) -> Result<&'static str, Fail> {
+    if reply == whole && column(row, 3).starts_with(status) {
+        return Ok(row);
+    }
+    Err(Fail::new(format_args!("{status}: {reply:?}, not {whole:?}")))
+}
+
+/// The row that tells what a whole reply tells, which bears this status. Each of its bytes is as its body wants it.
+pub fn told_by(alloc: Global, status: &str, reply: &str) -> Result<&'static str, Fail> {
+    let body = body_of(reply);
+    let Some(row) = row_of(TOLD, body) else {
+        return Err(Fail::from("a body that tells nothing"));
+    };
+    let whole = reply_of(alloc, row, body)?;
+    checked(row, status, reply, whole.as_str())
 }

@@ -1,118 +1,129 @@
 //! A desk on an open Monday, and what one input does to it.
+use super::super::met::column;
 use super::counting_keeper::CountingKeeper;
-use super::replies::{DONE, told_by};
-use super::sent::{ALFA, OPERATOR};
+use super::replies::told_by;
+use super::sent::{body, with_body};
 use rtgs_book::{Book, Command};
 use rtgs_desk::Desk;
 use rtgs_http_banks::{Served, serve_one};
 use rtgs_keeper::{Keeper, MemoryKeeper};
-use rtgs_money::{
-    Amount, BusinessDate, Code, Credit, Key, KeyDigest, Name, PostingAmount, Reference,
-};
+use rtgs_money::{Code, Key, Name};
 use std::alloc::Global;
 use std::cell::Cell;
 use std::test::Fail;
 
-// Three banks, money and a credit limit for ALFA, a Monday, and its orders: one that settled, and two that wait.
-const BEGUN: &str = "\
-add ALFA 0000000000000000000000000000000a
-add BETA 0000000000000000000000000000000b
-add GAMA 0000000000000000000000000000000c
-post P-1 100
-limit 50
-open 2024-03-04
-pay A-1 BETA 100
-pay A-2 GAMA 500
-pay A-3 BETA 7";
+/// The book that a desk begins with, and how many commits made it.
+#[derive(Drop)]
+pub struct Beginning {
+    book: Book,
+    commits: usize,
+}
 
-fn adds(words: &str) -> Result<Command, Fail> {
-    let (code, key) = words.split_once(' ').ok_or("no key")?;
-    Ok(Command::Add {
+// Three banks, by the last digit of their keys.
+const BANKS: &str = "ALFA a\nBETA b\nGAMA c";
+
+// Money and a credit limit for ALFA, a Monday, and its orders: one that settled, and two that wait.
+const BEGUN: &str = r#"OPERATOR | POST /desk/post | {"cents":100,"code":"ALFA","reference":"P-1"}
+= OPERATOR | POST /desk/credit | {"code":"ALFA","credit":50}
+= OPERATOR | POST /desk/open | {"date":"2024-03-04"}
+= ALFA | POST /orders | {"amount":100,"reference":"A-1","to":"BETA"}
+= ALFA | POST /orders | {"amount":500,"reference":"A-2","to":"GAMA"}
+= ALFA | POST /orders | {"amount":7,"reference":"A-3","to":"BETA"}"#;
+
+// The key whose last digit this is.
+fn key(last: &str) -> Result<Key, Fail> {
+    let mut text = *b"00000000000000000000000000000000";
+    text[31] = last.as_bytes().first().copied().unwrap_or(b' ');
+    Ok(Key::read(text.as_slice())?)
+}
+
+// Adds a bank, by its code and the last digit of its key.
+fn add<K: Keeper>(desk: &mut Desk<K>, code: &str, last: &str) -> Result<(), Fail> {
+    desk.submit(Command::Add {
         code: Code::read(code.as_bytes())?,
         name: Name::read(b"A Bank")?,
-        key: Key::read(key.as_bytes())?.digest(),
-    })
-}
-
-fn posts(words: &str) -> Result<Command, Fail> {
-    let (reference, cents) = words.split_once(' ').ok_or("no posting")?;
-    Ok(Command::Post {
-        code: Code::read(b"ALFA")?,
-        reference: Reference::read(reference.as_bytes())?,
-        cents: PostingAmount::from_cents(cents.parse::<i64>()?).ok_or("a posting")?,
-    })
-}
-
-fn limits(cents: &str) -> Result<Command, Fail> {
-    Ok(Command::SetCredit {
-        code: Code::read(b"ALFA")?,
-        credit: Credit::from_cents(cents.parse::<u64>()?).ok_or("a limit")?,
-    })
-}
-
-fn pays(words: &str) -> Result<Command, Fail> {
-    let (reference, words) = words.split_once(' ').ok_or("no receiver")?;
-    let (receiver, cents) = words.split_once(' ').ok_or("no amount")?;
-    Ok(Command::Order {
-        sender: Code::read(b"ALFA")?,
-        reference: Reference::read(reference.as_bytes())?,
-        receiver: Code::read(receiver.as_bytes())?,
-        amount: Amount::from_cents(cents.parse::<u64>()?).ok_or("an amount")?,
-    })
-}
-
-fn opens(date: &str) -> Result<Command, Fail> {
-    Ok(Command::OpenDay(BusinessDate::read(date.as_bytes())?))
-}
-
-// The command of a line.
-fn command(line: &str) -> Result<Command, Fail> {
-    let (kind, words) = line.split_once(' ').ok_or("no words")?;
-    if kind == "add" {
-        return adds(words);
-    }
-    if kind == "post" {
-        return posts(words);
-    }
-    if kind == "limit" {
-        return limits(words);
-    }
-    if kind == "open" {
-        return opens(words);
-    }
-    if kind == "pay" {
-        return pays(words);
-    }
-    Err(Fail::from("no command"))
-}
-
-// Gives a desk the command of a line.
-fn does<K: Keeper>(desk: &mut Desk<K>, line: &str) -> Result<(), Fail> {
-    desk.submit(command(line)?)?;
+        key: key(last)?.digest(),
+    })?;
     Ok(())
 }
 
-// A desk over a keeper of no book.
-fn opened<K: Keeper + Drop>(alloc: Global, keeper: K) -> Result<Desk<K>, Fail> {
-    match Desk::open(alloc, keeper) {
+// Adds the banks.
+fn add_all<K: Keeper>(desk: &mut Desk<K>) -> Result<(), Fail> {
+    for bank in BANKS.split('\n') {
+        let (code, last) = bank.split_once(' ').unwrap_or((bank, ""));
+        add(desk, code, last)?;
+    }
+    Ok(())
+}
+
+// The status of what is written of an input.
+fn status_of<K: Keeper>(
+    alloc: Global,
+    desk: &mut Desk<K>,
+    input: &[u8],
+    written: &mut Vec<u8>,
+) -> Result<&'static str, Fail> {
+    let operator = key("f")?.digest();
+    let mut reader = input;
+    match serve_one(alloc, &mut reader, written, desk, &operator) {
+        Served::Answered(status) => Ok(status.as_str()),
+        _ => Err(Fail::from("not answered")),
+    }
+}
+
+// The row that tells what is replied to an input.
+fn told<K: Keeper>(alloc: Global, desk: &mut Desk<K>, input: &[u8]) -> Result<&'static str, Fail> {
+    let mut written = Vec::new(alloc);
+    let status = status_of(alloc, desk, input, &mut written)?;
+    told_by(alloc, status, std::str::from_utf8(written.as_slice())?)
+}
+
+// Does what a request asks for.
+fn does<K: Keeper>(alloc: Global, desk: &mut Desk<K>, request: &'static str) -> Result<(), Fail> {
+    let input = with_body(alloc, request, body(request).as_bytes())?;
+    let mut written = Vec::new(alloc);
+    if status_of(alloc, desk, input.as_slice(), &mut written)? == "200" {
+        return Ok(());
+    }
+    Err(Fail::from(request))
+}
+
+// Has a new desk do all that it begins with.
+fn begin<K: Keeper>(alloc: Global, desk: &mut Desk<K>) -> Result<(), Fail> {
+    add_all(desk)?;
+    for request in BEGUN.split("\n= ") {
+        does(alloc, desk, request)?;
+    }
+    Ok(())
+}
+
+// A desk over a keeper of no book, which counts its commits here.
+fn opened(
+    alloc: Global,
+    commits: &Cell<usize>,
+) -> Result<Desk<CountingKeeper<'_, MemoryKeeper>>, Fail> {
+    match Desk::open(
+        alloc,
+        CountingKeeper::new(MemoryKeeper::new(alloc), commits),
+    ) {
         Ok(desk) => Ok(desk),
         Err((fault, _)) => Err(Fail::from(fault)),
     }
 }
 
-// A desk over a new keeper, which was given these commands.
-fn begun<K: Keeper + Drop>(alloc: Global, keeper: K) -> Result<Desk<K>, Fail> {
-    let mut desk = opened(alloc, keeper)?;
-    for line in BEGUN.split('\n') {
-        does(&mut desk, line)?;
-    }
-    Ok(desk)
+// The book of a desk that is over.
+fn book_after(alloc: Global, desk: Desk<CountingKeeper<'_, MemoryKeeper>>) -> Result<Book, Fail> {
+    Ok(desk.into_keeper().into_kept().load(alloc)?)
 }
 
-/// The book that the desk begins with.
-pub fn book_before(alloc: Global) -> Result<Book, Fail> {
-    let desk = begun(alloc, MemoryKeeper::new(alloc))?;
-    Ok(desk.into_keeper().load(alloc)?)
+/// What the desk begins with.
+pub fn before(alloc: Global) -> Result<Beginning, Fail> {
+    let counted = Cell::new(0);
+    let mut desk = opened(alloc, &counted)?;
+    begin(alloc, &mut desk)?;
+    let book = book_after(alloc, desk)?;
+    let commits = counted.get();
+    Ok(Beginning { book, commits })
 }
 
 fn is_same_book(one: &Book, other: &Book) -> bool {
@@ -123,53 +134,29 @@ fn is_same_book(one: &Book, other: &Book) -> bool {
         && one.day == other.day
 }
 
-fn operator() -> Result<KeyDigest, Fail> {
-    Ok(Key::read(OPERATOR.as_bytes())?.digest())
-}
-
-// The status of what is written of an input.
-fn status_of<K: Keeper>(
-    alloc: Global,
-    desk: &mut Desk<K>,
-    input: &[u8],
-    written: &mut Vec<u8>,
-) -> Result<u16, Fail> {
-    let operator = operator()?;
-    let mut reader = input;
-    match serve_one(alloc, &mut reader, written, desk, &operator) {
-        Served::Answered(status) => Ok(status.as_u16()),
-        _ => Err(Fail::from("not answered")),
+// The row of what is told of a command, or of another input by which a desk made no commit and kept the book.
+fn judged(
+    row: &'static str,
+    before: &Beginning,
+    book: &Book,
+    commits: usize,
+) -> Result<&'static str, Fail> {
+    if column(row, 0) == "done" {
+        return Ok(row);
     }
-}
-
-// What the desk tells of an input.
-fn answered<K: Keeper>(alloc: Global, desk: &mut Desk<K>, input: &[u8]) -> Result<u8, Fail> {
-    let mut written = Vec::new(alloc);
-    let status = status_of(alloc, desk, input, &mut written)?;
-    told_by(alloc, status, written.as_slice())
-}
-
-// The book of a desk that is over.
-fn book_after(alloc: Global, desk: Desk<CountingKeeper<'_, MemoryKeeper>>) -> Result<Book, Fail> {
-    Ok(desk.into_keeper().into_kept().load(alloc)?)
-}
-
-// What a desk tells of a command, or of another input by which it made no commit and kept the book that was before.
-fn judged(told: u8, has_committed: bool, book: &Book, before: &Book) -> Result<u8, Fail> {
-    if told == DONE || (!has_committed && is_same_book(book, before)) {
-        return Ok(told);
+    if commits == before.commits && is_same_book(book, &before.book) {
+        return Ok(row);
     }
-    Err(Fail::new(format_args!("{told} with a commit, or another book")))
+    Err(Fail::new(format_args!("{row}, with a commit, or another book")))
 }
 
-/// What a desk tells of an input. A desk that did not tell of a command made no commit, and has the book that it began
-/// with.
-pub fn serve(alloc: Global, before: &Book, input: &[u8]) -> Result<u8, Fail> {
+/// The row of what a desk tells of an input. A desk that did not tell of a command made no commit, and has the book
+/// that it began with.
+pub fn serve(alloc: Global, before: &Beginning, input: &[u8]) -> Result<&'static str, Fail> {
     let commits = Cell::new(0);
-    let keeper = CountingKeeper::new(MemoryKeeper::new(alloc), &commits);
-    let mut desk = begun(alloc, keeper)?;
-    let begun = commits.get();
-    let told = answered(alloc, &mut desk, input)?;
+    let mut desk = opened(alloc, &commits)?;
+    begin(alloc, &mut desk)?;
+    let row = told(alloc, &mut desk, input)?;
     let book = book_after(alloc, desk)?;
-    judged(told, commits.get() != begun, &book, before)
+    judged(row, before, &book, commits.get())
 }
