@@ -1,8 +1,9 @@
 //! Commands, as chance would have them.
-ghost use Rattle.std.specs.Prelude.{◌<◌, ◌≤◌, IfOk};
+ghost use Rattle.std.specs.Prelude.{◌<◌, ◌≤◌};
 
 use rtgs_book::{Answer, Command, Refusal};
-use rtgs_money::{Amount, BusinessDate, Code, Credit, Key, Name, PostingAmount, Reference};
+use rtgs_money::BusinessDate;
+use rtgs_tests_desks::command;
 use std::alloc::Global;
 use std::test::Fail;
 
@@ -20,8 +21,8 @@ pub struct Business {
     alloc: Global,
     state: u64,
     // the day that was opened last, and the one that was asked for last, as places among the days
-    today: usize,
-    asked: usize,
+    today: u64,
+    asked: u64,
     // the last order: its sender, and the number in its reference
     sender: u64,
     number: u64,
@@ -36,16 +37,10 @@ pub const ORDERS: u64 = 150;
 /// How many references there are for postings: P-0 and those after it.
 pub const POSTINGS: u64 = 900;
 
-/// The code of this number.
-pub fn code_numbered(alloc: Global, number: u64) -> Result<Code, Fail> {
-    let text = format!(in alloc; "BANK{number}")?;
-    Ok(Code::read(text.as_bytes())?)
-}
-
-/// The reference of this letter and number.
-pub fn reference_numbered(alloc: Global, letter: char, number: u64) -> Result<Reference, Fail> {
-    let text = format!(in alloc; "{letter}-{number}")?;
-    Ok(Reference::read(text.as_bytes())?)
+/// The day at this place, where they come again and again.
+pub fn day_at(place: u64) -> Result<BusinessDate, Fail> {
+    let place = place as usize % DAYS.len();
+    Ok(BusinessDate::from_number(DAYS[place]).ok_or("a date")?)
 }
 
 impl Business {
@@ -64,16 +59,39 @@ impl Business {
     /// The next command.
     pub fn command(&mut self) -> Result<Command, Fail> {
         match self.below(32) {
-            0 => self.addition(),
-            1 => self.limit(),
-            2 | 3 | 4 => self.posting(),
-            5 | 6 => self.opening(),
-            7 | 8 => self.withdrawal(),
+            5 | 6 => {
+                self.asked = self.today.wrapping_add(self.below(3));
+                Ok(Command::OpenDay(day_at(self.asked)?))
+            }
             9 | 10 => Ok(Command::Resolve),
             11 if self.below(8) == 0 => Ok(Command::CutOff(self.day()?)),
             12 | 13 | 14 => Ok(Command::CloseDay(self.day()?)),
-            _ => self.order(),
+            kind => command(self.words(kind)?.as_str()),
         }
+    }
+
+    // The words of a command of this kind, which names participants.
+    fn words(&mut self, kind: u64) -> Result<String, Fail> {
+        if matches!(kind, 7 | 8) {
+            // of the last order
+            return Ok(format!(in self.alloc; "withdraw BANK{} R-{}", self.sender, self.number)?);
+        }
+        let code = self.below(CODES);
+        Ok(match kind {
+            0 => format!(in self.alloc; "add BANK{code} {:032}", self.below(11))?,
+            1 => format!(in self.alloc; "credit BANK{code} {}", self.below(400))?,
+            2 | 3 | 4 => {
+                let (number, size) = (self.below(POSTINGS), self.below(1_500) + 1);
+                let word = if self.below(4) == 0 { "debit" } else { "post" };
+                format!(in self.alloc; "{word} BANK{code} P-{number} {size}")?
+            }
+            _ => {
+                self.sender = code;
+                self.number = self.below(ORDERS);
+                let (receiver, cents) = (self.below(CODES), self.below(900) + 1);
+                format!(in self.alloc; "order BANK{code} R-{} BANK{receiver} {cents}", self.number)?
+            }
+        })
     }
 
     /// Takes notice of a day that was opened.
@@ -95,76 +113,9 @@ impl Business {
         (self.state >> 33) % bound
     }
 
-    fn code(&mut self) -> Result<Code, Fail> {
-        let number = self.below(CODES);
-        code_numbered(self.alloc, number)
-    }
-
-    fn addition(&mut self) -> Result<Command, Fail> {
-        let code = self.code()?;
-        let number = self.below(11);
-        let key = format!(in self.alloc; "{number:032}")?;
-        Ok(Command::Add {
-            code,
-            name: Name::read(b"A Bank")?,
-            key: Key::read(key.as_bytes())?.digest(),
-        })
-    }
-
-    fn posting(&mut self) -> Result<Command, Fail> {
-        let code = self.code()?;
-        let number = self.below(POSTINGS);
-        let reference = reference_numbered(self.alloc, 'P', number)?;
-        let size = self.below(1_500) as i64 + 1;
-        let cents = if self.below(4) == 0 { -size } else { size };
-        Ok(Command::Post {
-            code,
-            reference,
-            cents: PostingAmount::from_cents(cents).ok_or("a posting")?,
-        })
-    }
-
-    fn limit(&mut self) -> Result<Command, Fail> {
-        let code = self.code()?;
-        let cents = self.below(400);
-        let credit = Credit::from_cents(cents).ok_or("a limit")?;
-        Ok(Command::SetCredit { code, credit })
-    }
-
-    // One of the next days, or one that was before.
-    fn opening(&mut self) -> Result<Command, Fail> {
-        let step = self.below(3) as usize;
-        self.asked = self.today.wrapping_add(step) % DAYS.len();
-        let date = BusinessDate::from_number(DAYS[self.asked]).ok_or("a date")?;
-        Ok(Command::OpenDay(date))
-    }
-
     // Mostly the day that was opened last.
     fn day(&mut self) -> Result<BusinessDate, Fail> {
         let step = if self.below(8) == 0 { 1 } else { 0 };
-        let place = self.today.wrapping_add(step) % DAYS.len();
-        Ok(BusinessDate::from_number(DAYS[place]).ok_or("a date")?)
-    }
-
-    // Of the last order.
-    fn withdrawal(&mut self) -> Result<Command, Fail> {
-        let sender = code_numbered(self.alloc, self.sender)?;
-        let reference = reference_numbered(self.alloc, 'R', self.number)?;
-        Ok(Command::Withdraw { sender, reference })
-    }
-
-    fn order(&mut self) -> Result<Command, Fail> {
-        self.sender = self.below(CODES);
-        self.number = self.below(ORDERS);
-        let sender = code_numbered(self.alloc, self.sender)?;
-        let reference = reference_numbered(self.alloc, 'R', self.number)?;
-        let receiver = self.code()?;
-        let amount = self.below(900) + 1;
-        Ok(Command::Order {
-            sender,
-            reference,
-            receiver,
-            amount: Amount::from_cents(amount).ok_or("an amount")?,
-        })
+        day_at(self.today.wrapping_add(step))
     }
 }

@@ -1,32 +1,26 @@
 //! The making of a desk, at each call of its store that fails.
-use super::disk_keeper::{DiskKeeper, Work, on_disks};
-use super::disk_runs::ended;
-use super::disks::{Disks, blank, crashed};
-use super::found::{ShowsBook, are_same_books};
-use super::fuses::Failing;
+use super::disks::{Work, on_disks};
+use super::found::are_same_books;
+use super::runs::ended;
+use super::store::{Failing, Store, keeper_on};
 use super::trial::Progress;
 use rtgs_book::{Book, Fault};
 use rtgs_desk::Desk;
-use rtgs_keeper::{Keeper, MemoryKeeper};
+use rtgs_keeper::MemoryKeeper;
 use std::alloc::Global;
 use std::test::Fail;
 
-// How far the making of a desk came on these disks.
-fn made<K: DiskKeeper>(alloc: Global, disks: Disks) -> Result<(Progress, Disks), Fail> {
-    match K::opened(alloc, disks, true)? {
+// How far the making of a desk came in this store.
+fn made<S: Store>(alloc: Global, left: S::Left) -> Result<(Progress, S::Left), Fail> {
+    match S::opened(alloc, left, true)? {
         Ok(keeper) => ended(keeper),
         Err(left) => Ok((Progress::Unopened, left)),
     }
 }
 
 // The book that is found after a crash, or none where there are no tables.
-fn found<K: Keeper + ShowsBook + DiskKeeper + Drop>(
-    alloc: Global,
-    disks: Disks,
-) -> Result<Option<Book>, Fail> {
-    let Ok(keeper) = K::opened(alloc, crashed(disks), false)? else {
-        return Err(Fail::from("not opened again"));
-    };
+fn found<S: Store>(alloc: Global, left: S::Left) -> Result<Option<Book>, Fail> {
+    let keeper = keeper_on::<S>(alloc, S::crashed(left), false)?;
     match Desk::open(alloc, keeper) {
         Ok(desk) => Ok(Some(desk.into_keeper().book(alloc)?)),
         Err((Fault::NotADeskFile, _)) => Ok(None),
@@ -34,53 +28,33 @@ fn found<K: Keeper + ShowsBook + DiskKeeper + Drop>(
     }
 }
 
-// Whether what is found may be: an empty book, or no tables where the desk was not made.
-fn may_be_found(empty: &Book, progress: Progress, found: Option<Book>) -> bool {
-    let is_made = matches!(progress, Progress::Unclosed | Progress::Whole);
-    match found {
-        Some(book) => are_same_books(&book, empty),
-        None => !is_made,
-    }
-}
-
-// How many calls a disk passes on where first no making of a desk meets a failure, and how many of the books before
-// were there nevertheless.
-fn failures<K: Keeper + ShowsBook + DiskKeeper + Drop>(
-    alloc: Global,
-    disk: Failing,
-) -> Result<(u64, u64), Fail> {
-    let empty = MemoryKeeper::new(alloc).load(alloc)?;
-    let mut books = 0u64;
-    for calls in 0..1000 {
-        let (progress, left) = made::<K>(alloc, blank(alloc, disk.after(calls)))?;
-        if progress == Progress::Whole {
-            return Ok((calls, books));
-        }
-        let found = found::<K>(alloc, left)?;
-        if found.is_some() {
-            books = books.saturating_add(1);
-        }
-        if !may_be_found(&empty, progress, found) {
-            return Err(Fail::from("another book"));
-        }
-    }
-    Err(Fail::from("each run failed"))
-}
-
-// The making of a desk, at each failure of one of its disks.
+// The making of a desk, at each failure of one of its disks: how many calls the disk passes on where first none is met,
+// and how many of the books before were there nevertheless. What is found is an empty book, or no tables where the desk
+// was not made.
 #[derive(Clone, Copy)]
 struct Making {
     disk: Failing,
 }
 
 impl Work for Making {
-    type Seen = (u64, u64);
+    type Seen = (usize, usize);
 
-    fn done_with<K: Keeper + ShowsBook + DiskKeeper + Drop>(
-        self,
-        alloc: Global,
-    ) -> Result<(u64, u64), Fail> {
-        failures::<K>(alloc, self.disk)
+    fn done_with<S: Store>(self, alloc: Global) -> Result<(usize, usize), Fail> {
+        let empty = MemoryKeeper::new(alloc).load(alloc)?;
+        let mut books = 0usize;
+        for calls in 0..1000 {
+            let left = S::failing(alloc, S::blank(alloc), self.disk, calls)?;
+            let (progress, left) = made::<S>(alloc, left)?;
+            if matches!(progress, Progress::Whole) {
+                return Ok((calls, books));
+            }
+            match found::<S>(alloc, left)? {
+                Some(book) if are_same_books(&book, &empty) => books = books.saturating_add(1),
+                None if matches!(progress, Progress::Unopened) => (),
+                _ => return Err(Fail::new("another book")),
+            }
+        }
+        Err(Fail::new("each run failed"))
     }
 }
 

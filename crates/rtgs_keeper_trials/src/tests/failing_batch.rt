@@ -1,13 +1,13 @@
 //! A batch whose store fails, and its result files before and after the desk is opened again.
-use super::banks::prepared;
-use super::batch_rows::submitted;
-use super::failing_keeper::{FailingKeeper, Trouble};
-use super::setting::{code, desk_over, reference};
-use rtgs_book::Refusal;
+use super::memory::InMemory;
+use super::store::{Failing, Store, desk_again};
+use super::trial::{begun, orders};
+use rtgs_batches::submit_batch;
 use rtgs_desk::Desk;
-use rtgs_keeper::{Keeper, MemoryKeeper};
-use rtgs_money::Amount;
-use rtgs_order_files::{BatchResult, OrderRow, write_results};
+use rtgs_keeper::Keeper;
+use rtgs_money::Code;
+use rtgs_order_files::write_results;
+use rtgs_tests_desks::Trouble;
 use std::alloc::Global;
 use std::test::Fail;
 
@@ -17,123 +17,91 @@ const BEFORE_THE_ORDERS: usize = 7;
 // The calls of an order: it is looked up, and then kept.
 const CALLS: [usize; 2] = [0, 1];
 
-/// The result file of the three rows, sent again after a batch that stopped at the third.
-const SENT_AGAIN: &[u8] =
-    b"reference,result,number,detail\nA-1,repeated,1,settled\nA-2,repeated,2,settled\nA-3,queued,3,1\n";
-
-/// The result file of a batch that stopped at its second row.
-const STOPPED: &[u8] = b"reference,result,number,detail\nA-1,settled,1,1\nA-2,stopped,,91\n";
-
-fn row(name: &str, receiver: &str, cents: u64) -> Result<OrderRow, Fail> {
-    Ok(OrderRow {
-        reference: reference(name)?,
-        receiver: code(receiver)?,
-        amount: Amount::from_cents(cents).ok_or("an amount")?,
-    })
-}
+// What ALFA has before its orders.
+const BEFORE: &str = "\
+post ALFA P-1 150 => Ok(Posted { number: 1 })
+open 2024-03-04 => Ok(Opened)";
 
 // ALFA can pay the first two of them from 150 cents.
-fn three_rows() -> Result<[OrderRow; 3], Fail> {
-    Ok([
-        row("A-1", "BETA", 100)?,
-        row("A-2", "GAMA", 50)?,
-        row("A-3", "BETA", 25)?,
-    ])
+const ROWS: &str = "\
+order ALFA A-1 BETA 100
+order ALFA A-2 GAMA 50
+order ALFA A-3 BETA 25";
+
+/// The result file of a batch that stopped at its second row.
+const STOPPED: &str = "reference,result,number,detail\nA-1,settled,1,1\nA-2,stopped,,91\n";
+
+/// The result file of one that was sent to a desk whose store had failed.
+const FAILED: &str = "reference,result,number,detail\nA-1,stopped,,92\n";
+
+/// The result file of one that stopped at its third row.
+const STOPPED_LATER: &str =
+    "reference,result,number,detail\nA-1,settled,1,1\nA-2,settled,2,2\nA-3,stopped,,91\n";
+
+/// The result file of that one, sent again.
+const SENT_AGAIN: &str =
+    "reference,result,number,detail\nA-1,repeated,1,settled\nA-2,repeated,2,settled\nA-3,queued,3,1\n";
+
+// A desk over a new keeper that fails after so many orders, at this call of the next one.
+fn failing_at<S: Store>(alloc: Global, orders: usize, call: usize) -> Result<Desk<S>, Fail> {
+    let calls = orders
+        .saturating_mul(CALLS.len())
+        .saturating_add(BEFORE_THE_ORDERS);
+    let lost = Failing::Keeper(Trouble::Lost);
+    let left = S::failing(alloc, S::blank(alloc), lost, calls.saturating_add(call))?;
+    begun::<S>(alloc, left, BEFORE)
 }
 
-// A new keeper that fails after so many orders of a desk that is prepared, at this call of the next one.
-fn failing(alloc: Global, orders: usize, call: usize) -> FailingKeeper<MemoryKeeper> {
-    let before = orders.saturating_mul(CALLS.len());
-    let calls = BEFORE_THE_ORDERS
-        .saturating_add(before)
-        .saturating_add(call);
-    FailingKeeper::new(MemoryKeeper::new(alloc), calls, Trouble::Lost)
-}
-
-// A desk over a new keeper with three banks on an open day, of which ALFA has 150 cents.
-fn new_desk<K: Keeper + Drop>(alloc: Global, keeper: K) -> Result<Desk<K>, Fail> {
-    prepared(alloc, keeper, "post ALFA P-1 150\nopen 20240304")
-}
-
-// The result file of the rows of ALFA, over a keeper that is new, or has the book of an earlier desk.
-fn result_file<K: Keeper + Drop>(
-    alloc: Global,
-    keeper: K,
-    is_new: bool,
-    rows: &[OrderRow],
-) -> Result<(Vec<u8>, K), Fail> {
-    let mut desk = if is_new {
-        new_desk(alloc, keeper)?
-    } else {
-        desk_over(alloc, keeper)?
-    };
-    let batch = submitted(alloc, &mut desk, rows)?;
+// Sends the rows in a batch, and fails unless this is their result file.
+fn results_in<K: Keeper>(alloc: Global, desk: &mut Desk<K>, told: &str) -> Result<(), Fail> {
+    let rows = orders(alloc, ROWS, usize::MAX)?;
+    let batch = submit_batch(alloc, desk, Code::read(b"ALFA")?, rows.as_slice())?;
     let mut text = Vec::new(alloc);
-    write_results(alloc, &mut text, rows, &batch)?;
-    Ok((text, desk.into_keeper()))
+    write_results(alloc, &mut text, rows.as_slice(), &batch)?;
+    if text.as_slice() == told.as_bytes() {
+        Ok(())
+    } else {
+        Err(Fail::new("another result file"))
+    }
 }
 
-// What comes of the rows and of the same rows again, over a new keeper.
-fn submitted_twice<K: Keeper + Drop>(
-    alloc: Global,
-    keeper: K,
-    rows: &[OrderRow],
-) -> Result<(BatchResult, BatchResult), Fail> {
-    let mut desk = new_desk(alloc, keeper)?;
-    let first = submitted(alloc, &mut desk, rows)?;
-    Ok((first, submitted(alloc, &mut desk, rows)?))
-}
-
-// Whether so many rows were replied to, and the next was refused so.
-fn is_stopped_after(batch: &BatchResult, count: usize, refusal: Refusal) -> bool {
-    batch.replies.len() == count && batch.stopped == Some(refusal)
-}
-
-// Whether a batch stops at its second row, where the store fails at this call, and comes to nothing after that.
-fn stops_for_good(alloc: Global, call: usize) -> Result<bool, Fail> {
-    let (batch, later) = submitted_twice(alloc, failing(alloc, 1, call), &three_rows()?)?;
-    Ok(
-        is_stopped_after(&batch, 1, Refusal::StoreFault)
-            && is_stopped_after(&later, 0, Refusal::Failed),
-    )
+// Sends the rows as often as there are result files of them, where the store fails at this call of the second row.
+fn stops<S: Store>(alloc: Global, call: usize, told: &[&str]) -> Result<(), Fail> {
+    let mut desk = failing_at::<S>(alloc, 1, call)?;
+    for told in told {
+        results_in(alloc, &mut desk, told)?;
+    }
+    Ok(())
 }
 
 #[test]
 fn a_batch_stops_where_the_store_fails(rt: HostRuntime) -> Result<(), Fail> {
     for call in CALLS {
-        assert!(rt; stops_for_good(rt.alloc(), call)?);
+        stops::<InMemory>(rt.alloc(), call, &[STOPPED, FAILED])?;
     }
     Ok(())
 }
 
-// The result file of a batch that is sent again after a restart, where the store failed at this call of its third row.
-fn sent_again(alloc: Global, call: usize) -> Result<Vec<u8>, Fail> {
-    let rows = three_rows()?;
-    let (_, left) = result_file(alloc, failing(alloc, 2, call), true, &rows)?;
-    let (text, _) = result_file(alloc, left.into_kept(), false, &rows)?;
-    Ok(text)
+// Sends the rows where the store fails at this call of the third, and again after a restart.
+fn is_sent_again<S: Store>(alloc: Global, call: usize) -> Result<(), Fail> {
+    let mut desk = failing_at::<S>(alloc, 2, call)?;
+    results_in(alloc, &mut desk, STOPPED_LATER)?;
+    let mut desk = desk_again::<S>(alloc, S::crashed(desk.into_keeper().stopped()))?;
+    results_in(alloc, &mut desk, SENT_AGAIN)
 }
 
 #[test]
 fn a_stopped_batch_is_sent_again_after_a_restart(rt: HostRuntime) -> Result<(), Fail> {
     for call in CALLS {
-        let text = sent_again(rt.alloc(), call)?;
-        assert_eq!(rt; text.as_slice(), SENT_AGAIN);
+        is_sent_again::<InMemory>(rt.alloc(), call)?;
     }
     Ok(())
-}
-
-// The result file of a batch, where the store failed at this call of its second row.
-fn stopped(alloc: Global, call: usize) -> Result<Vec<u8>, Fail> {
-    let (text, _) = result_file(alloc, failing(alloc, 1, call), true, &three_rows()?)?;
-    Ok(text)
 }
 
 #[test]
 fn no_line_follows_a_stop(rt: HostRuntime) -> Result<(), Fail> {
     for call in CALLS {
-        let text = stopped(rt.alloc(), call)?;
-        assert_eq!(rt; text.as_slice(), STOPPED);
+        stops::<InMemory>(rt.alloc(), call, &[STOPPED])?;
     }
     Ok(())
 }

@@ -1,10 +1,9 @@
 //! A desk over a keeper that fails, and opened again over what it kept.
-use super::failing_keeper::{FailingKeeper, Trouble};
-use super::scripts::commands_of;
-use super::setting::{Reply, adds_alfa, desk_over, posts};
-use rtgs_book::{Answer, Command, Fault, Known, Refusal};
+use super::memory::failing;
+use rtgs_book::{Command, Fault};
 use rtgs_desk::Desk;
-use rtgs_keeper::{Keeper, MemoryKeeper};
+use rtgs_keeper::Keeper;
+use rtgs_tests_desks::{Reply, Trouble, commands, desk_over, follows, is_told};
 use std::alloc::Global;
 use std::test::Fail;
 
@@ -14,10 +13,10 @@ const LOOK_UP: usize = 2;
 // How many it makes before the posting is kept.
 const COMMIT: usize = 3;
 
-// A keeper of a new book, which meets trouble after so many calls.
-fn failing(alloc: Global, calls: usize, trouble: Trouble) -> FailingKeeper<MemoryKeeper> {
-    FailingKeeper::new(MemoryKeeper::new(alloc), calls, trouble)
-}
+const FAILS: &str = "\
+add ALFA 0000000000000000000000000000000a => Ok(Added)
+post ALFA P-1 100 => Err(StoreFault)
+add ALFA 0000000000000000000000000000000a => Err(Failed)";
 
 // The replies of a desk over this keeper to a list of commands.
 fn replies_over<K: Keeper + Drop>(
@@ -29,64 +28,39 @@ fn replies_over<K: Keeper + Drop>(
     Ok(desk.run(commands)?)
 }
 
-const LIST: &str = "\
-add ALFA 0000000000000000000000000000000a
-post ALFA P-1 100
-add ALFA 0000000000000000000000000000000a";
-
-fn are_refused_after_the_first(replies: &[Reply]) -> bool {
-    matches!(
-        replies,
-        [
-            Ok(Answer::Added),
-            Err(Refusal::StoreFault),
-            Err(Refusal::Failed),
-        ]
-    )
+// Fails unless the replies are those that the script tells.
+fn are_told(alloc: Global, replies: &[Reply], script: &str) -> Result<(), Fail> {
+    let mut are_told = replies.len() == script.lines().count();
+    for (line, reply) in script.lines().zip(replies) {
+        are_told = is_told(alloc, reply, line, false)? && are_told;
+    }
+    if are_told {
+        Ok(())
+    } else {
+        Err(Fail::new("other replies"))
+    }
 }
 
 #[test]
 fn a_fault_of_the_store_fails_the_rest_of_a_list(rt: HostRuntime) -> Result<(), Fail> {
-    let commands = commands_of(rt.alloc(), LIST)?;
+    let commands = commands(rt.alloc(), FAILS)?;
     let keeper = failing(rt.alloc(), COMMIT, Trouble::Kept);
     let replies = replies_over(rt.alloc(), keeper, commands.as_slice())?;
-    assert!(rt; are_refused_after_the_first(replies.as_slice()));
-    Ok(())
+    are_told(rt.alloc(), replies.as_slice(), FAILS)
 }
 
-// Adds ALFA, where the desk can.
-fn is_added<K: Keeper>(desk: &mut Desk<K>) -> Result<bool, Fail> {
-    Ok(matches!(desk.submit(adds_alfa()?), Ok(Answer::Added)))
-}
-
-// What a posting to ALFA is answered.
-fn posting<K: Keeper>(desk: &mut Desk<K>) -> Result<Reply, Fail> {
-    Ok(desk.submit(posts("ALFA", "P-1", 100)?))
-}
-
-// The keeper of a desk whose posting met a fault.
-fn after_a_fault<K: Keeper + Drop>(alloc: Global, keeper: K) -> Result<K, Fail> {
+// The keeper of a desk whose commands are answered as the script tells.
+fn after<K: Keeper + Drop>(alloc: Global, keeper: K, script: &str) -> Result<K, Fail> {
     let mut desk = desk_over(alloc, keeper)?;
-    if fails_at_the_posting(&mut desk)? {
-        Ok(desk.into_keeper())
-    } else {
-        Err(Fail::from("other replies"))
-    }
+    follows(alloc, &mut desk, script)?;
+    Ok(desk.into_keeper())
 }
 
-// Whether the desk adds ALFA, meets a fault of the store at a posting, and then answers that it has failed.
-fn fails_at_the_posting<K: Keeper>(desk: &mut Desk<K>) -> Result<bool, Fail> {
-    let is_added = is_added(desk)?;
-    let is_fault = matches!(posting(desk)?, Err(Refusal::StoreFault));
-    let is_failed = matches!(desk.submit(adds_alfa()?), Err(Refusal::Failed));
-    Ok(is_added && is_fault && is_failed && desk.failed())
-}
-
-// What a posting is answered, by a desk over what a keeper kept that met this trouble at the same posting before.
-fn posted_again(alloc: Global, calls: usize, trouble: Trouble) -> Result<Reply, Fail> {
-    let found = after_a_fault(alloc, failing(alloc, calls, trouble))?.into_kept();
-    let replies = replies_over(alloc, found, &[posts("ALFA", "P-1", 100)?])?;
-    Ok(*replies.as_slice().first().ok_or("no reply")?)
+// The desk meets this trouble at a posting, and the same posting comes again over what its keeper kept.
+fn posts_again(alloc: Global, calls: usize, trouble: Trouble, again: &str) -> Result<(), Fail> {
+    let failed = after(alloc, failing(alloc, calls, trouble), FAILS)?;
+    after(alloc, failed.kept, again)?;
+    Ok(())
 }
 
 #[test]
@@ -96,39 +70,28 @@ fn a_change_that_was_lost_is_made_again(rt: HostRuntime) -> Result<(), Fail> {
         (LOOK_UP, Trouble::Kept),
         (COMMIT, Trouble::Lost),
     ] {
-        let reply = posted_again(rt.alloc(), calls, trouble)?;
-        assert!(rt;
-            matches!(reply, Ok(Answer::Posted { number: 1 })),
-            "{calls}: {reply:?}"
-        );
+        let posted = "post ALFA P-1 100 => Ok(Posted { number: 1 })";
+        posts_again(rt.alloc(), calls, trouble, posted)?;
     }
     Ok(())
 }
 
 #[test]
 fn a_change_that_was_kept_is_not_made_again(rt: HostRuntime) -> Result<(), Fail> {
-    let reply = posted_again(rt.alloc(), COMMIT, Trouble::Kept)?;
-    assert_eq!(rt; reply, Ok(Answer::Repeated(Known::Posting { number: 1 })));
-    Ok(())
+    let repeated = "post ALFA P-1 100 => Ok(Repeated(Posting { number: 1 }))";
+    posts_again(rt.alloc(), COMMIT, Trouble::Kept, repeated)
 }
 
-// Whether a command that lacked memory leaves the desk as it was, and goes well when it comes again.
-fn is_sent_again<K: Keeper + Drop>(alloc: Global, keeper: K) -> Result<bool, Fail> {
-    let mut desk = desk_over(alloc, keeper)?;
-    let is_added = is_added(&mut desk)?;
-    let is_refused = matches!(posting(&mut desk)?, Err(Refusal::OutOfMemory)) && !desk.failed();
-    Ok(is_added && is_refused && is_posted(&mut desk)?)
-}
-
-fn is_posted<K: Keeper>(desk: &mut Desk<K>) -> Result<bool, Fail> {
-    Ok(matches!(posting(desk)?, Ok(Answer::Posted { number: 1 })))
-}
+const LACKS_MEMORY: &str = "\
+add ALFA 0000000000000000000000000000000a => Ok(Added)
+post ALFA P-1 100 => Err(OutOfMemory)
+post ALFA P-1 100 => Ok(Posted { number: 1 })";
 
 #[test]
 fn a_command_that_lacked_memory_is_sent_again(rt: HostRuntime) -> Result<(), Fail> {
     for calls in [LOOK_UP, COMMIT] {
         let keeper = failing(rt.alloc(), calls, Trouble::OutOfMemory);
-        assert!(rt; is_sent_again(rt.alloc(), keeper)?, "{calls}");
+        after(rt.alloc(), keeper, LACKS_MEMORY)?;
     }
     Ok(())
 }
@@ -143,7 +106,11 @@ fn fault_of<K: Keeper + Drop>(alloc: Global, keeper: K) -> Option<Fault> {
 
 #[test]
 fn a_failed_keeper_opens_no_desk(rt: HostRuntime) -> Result<(), Fail> {
-    let failed = after_a_fault(rt.alloc(), failing(rt.alloc(), COMMIT, Trouble::Lost))?;
+    let failed = after(
+        rt.alloc(),
+        failing(rt.alloc(), COMMIT, Trouble::Lost),
+        FAILS,
+    )?;
     assert_eq!(rt; fault_of(rt.alloc(), failed), Some(Fault::StoreFault));
     Ok(())
 }

@@ -1,21 +1,23 @@
-//! What is found of a desk: its book, and how its banks stand.
-use super::setting::{Standings, standings};
-use rtgs_book::{Book, Fault, Rows};
+//! What is found of a desk: its book, and how its three banks stand.
+use super::store::Store;
+use rtgs_book::{Book, Rows};
 use rtgs_desk::Desk;
-use rtgs_keeper::{Keeper, MemoryKeeper};
+use rtgs_keeper::Keeper;
+use rtgs_money::Code;
 use std::alloc::Global;
 use std::test::Fail;
 
-/// A keeper whose whole book can be seen.
-pub trait ShowsBook {
-    /// The book that is kept.
-    fn book(&mut self, alloc: Global) -> Result<Book, Fault>;
-}
+/// The balances of ALFA, BETA and GAMA in cents, and how many orders each of them has in its queue.
+pub type Standings = [(i64, usize); 3];
 
-impl ShowsBook for MemoryKeeper {
-    fn book(&mut self, alloc: Global) -> Result<Book, Fault> {
-        self.load(alloc)
+/// How the three stand.
+pub fn standings<K: Keeper>(desk: &Desk<K>) -> Result<Standings, Fail> {
+    let mut standings = [(0, 0); 3];
+    for (code, standing) in [b"ALFA", b"BETA", b"GAMA"].iter().zip(&mut standings) {
+        let account = desk.account(&Code::read(*code)?)?;
+        *standing = (account.balance.cents(), account.queued);
     }
+    Ok(standings)
 }
 
 /// The three balances and queues of a desk, and its records.
@@ -27,10 +29,7 @@ pub struct Found {
 
 impl Found {
     /// Of a desk with three banks, which ends so.
-    pub fn of<K: Keeper + ShowsBook + Drop>(
-        alloc: Global,
-        desk: Desk<K>,
-    ) -> Result<(Found, K), Fail> {
+    pub fn of<S: Store>(alloc: Global, desk: Desk<S>) -> Result<(Found, S), Fail> {
         let standings = standings(&desk)?;
         let mut keeper = desk.into_keeper();
         let book = keeper.book(alloc)?;

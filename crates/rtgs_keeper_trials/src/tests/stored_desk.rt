@@ -13,9 +13,8 @@ ghost use Rattle.rtgs_tables.specs.Building.{IsBlank};
 ghost use Rattle.rtgs_keeper_trials.specs.Lives.{AreTwoSessions};
 ghost use Rattle.rtgs_stored_desk.specs.Stored.{AreTablesOf};
 
-use super::banks::BANKS;
-use super::scripts::{command, commands_of};
-use super::setting::{Reply, standings};
+use super::found::standings;
+use super::trial::BANKS;
 use rtgs_book::laws::new_book_is_sound;
 use rtgs_book::{Answer, Command, Fault};
 use rtgs_desk::Desk;
@@ -23,6 +22,7 @@ use rtgs_keeper::Keeper;
 use rtgs_repeats::laws::life_is_a_run;
 use rtgs_stored_desk::{create, make, open, run};
 use rtgs_tables::SqlKeeper;
+use rtgs_tests_desks::{Reply, command, commands};
 use sqlite::{Alter, Connection, MemStore};
 use sqlite_trees::store::Reopen;
 use std::alloc::Global;
@@ -189,14 +189,10 @@ fn are_posted(replies: &[Reply]) -> bool {
 
 // Whether two sessions in memory, of the banks and a posting each, end as they should.
 fn live_twice(alloc: Global) -> Result<bool, Fail> {
-    let mut commands = commands_of(alloc, BANKS)?;
-    commands.push(command(alloc, "post ALFA P-1 1000")?)?;
-    let more = commands_of(alloc, "post BETA P-2 5")?;
-    let (replies, others, desk) = lived_twice_in_memory(
-        alloc,
-        commands.as_slice(),
-        more.as_slice(),
-    )?;
+    let mut first = commands(alloc, BANKS)?;
+    first.push(command("post ALFA P-1 1000")?)?;
+    let more = commands(alloc, "post BETA P-2 5")?;
+    let (replies, others, desk) = lived_twice_in_memory(alloc, first.as_slice(), more.as_slice())?;
     end_so(replies.as_slice(), others.as_slice(), &desk)
 }
 

@@ -1,223 +1,178 @@
-//! What two keepers tell of one book: each record by its name, and the records of each date one after another.
-use super::business::{CODES, DAYS, ORDERS, POSTINGS, code_numbered, reference_numbered};
+//! What a keeper tells of its book: each record by its name, and the records of each date one after another.
+use super::business::{CODES, DAYS, ORDERS, POSTINGS, day_at};
+use rtgs_book::{Mark, Order, Posting};
 use rtgs_cores::Core;
 use rtgs_keeper::Keeper;
 use rtgs_money::{BusinessDate, Code, Reference};
 use std::alloc::Global;
 use std::test::Fail;
 
-/// All names that the commands use, and of each kind one that they do not use.
+/// All names of orders and postings that the commands use, and of each kind of text one that they do not use.
 #[derive(Drop)]
 pub struct Names {
-    codes: Vec<Code>,
-    orders: Vec<Reference>,
+    orders: Vec<(Code, Reference)>,
     postings: Vec<Reference>,
-}
-
-// The references with this letter, with the numbers up to this one.
-fn references(alloc: Global, letter: char, last: u64) -> Result<Vec<Reference>, Fail> {
-    let mut references = Vec::new(alloc);
-    for number in 0..=last {
-        references.push(reference_numbered(alloc, letter, number)?)?;
-    }
-    Ok(references)
 }
 
 impl Names {
     /// All of them.
     pub fn new(alloc: Global) -> Result<Names, Fail> {
-        let mut codes = Vec::new(alloc);
-        for number in 0..=CODES {
-            codes.push(code_numbered(alloc, number)?)?;
+        let mut orders = Vec::new(alloc);
+        for place in 0..(CODES + 1) * (ORDERS + 1) {
+            orders.push(order_name(alloc, place)?)?;
         }
         Ok(Names {
-            codes,
-            orders: references(alloc, 'R', ORDERS)?,
-            postings: references(alloc, 'P', POSTINGS)?,
+            orders,
+            postings: posting_names(alloc)?,
         })
     }
 }
 
-// Whether both find the same order of this sender by this reference.
-fn agree_in_order<M: Keeper, K: Keeper>(
-    one: &mut M,
-    other: &mut K,
-    sender: &Code,
-    reference: &Reference,
-) -> Result<bool, Fail> {
-    let found = one.find_order(sender, reference)?;
-    Ok(other.find_order(sender, reference)? == found)
+// The sender and the reference of the order at this place among all.
+fn order_name(alloc: Global, place: u64) -> Result<(Code, Reference), Fail> {
+    let code = format!(in alloc; "BANK{}", place / (ORDERS + 1))?;
+    let reference = format!(in alloc; "R-{}", place % (ORDERS + 1))?;
+    Ok((
+        Code::read(code.as_bytes())?,
+        Reference::read(reference.as_bytes())?,
+    ))
 }
 
-// Whether both find the same order of this sender by each reference.
-fn agree_in_orders<M: Keeper, K: Keeper>(
-    one: &mut M,
-    other: &mut K,
-    sender: &Code,
-    references: &[Reference],
-) -> Result<bool, Fail> {
-    let mut agree = true;
-    for reference in references {
-        agree = agree_in_order(one, other, sender, reference)? && agree;
+fn posting_names(alloc: Global) -> Result<Vec<Reference>, Fail> {
+    let mut postings = Vec::new(alloc);
+    for number in 0..=POSTINGS {
+        let text = format!(in alloc; "P-{number}")?;
+        postings.push(Reference::read(text.as_bytes())?)?;
     }
-    Ok(agree)
+    Ok(postings)
 }
 
-// Whether both find the same posting by this reference.
-fn agree_in_posting<M: Keeper, K: Keeper>(
-    one: &mut M,
-    other: &mut K,
-    reference: &Reference,
-) -> Result<bool, Fail> {
-    let found = one.find_posting(reference)?;
-    Ok(other.find_posting(reference)? == found)
+/// What a keeper answered to the same questions, in their order.
+#[derive(Drop)]
+pub struct Told {
+    core: Core,
+    postings: Vec<Option<Posting>>,
+    orders: Vec<Option<Order>>,
+    marks: Vec<Option<Mark>>,
 }
 
-// Whether both find the same posting by each reference.
-fn agree_in_postings<M: Keeper, K: Keeper>(
-    one: &mut M,
-    other: &mut K,
-    references: &[Reference],
-) -> Result<bool, Fail> {
-    let mut agree = true;
-    for reference in references {
-        agree = agree_in_posting(one, other, reference)? && agree;
-    }
-    Ok(agree)
-}
-
-// Whether both find the same by all names.
-fn agree_in_names<M: Keeper, K: Keeper>(
-    names: &Names,
-    one: &mut M,
-    other: &mut K,
-) -> Result<bool, Fail> {
-    let mut agree = agree_in_postings(one, other, names.postings.as_slice())?;
-    for sender in names.codes.as_slice() {
-        agree = agree && agree_in_orders(one, other, sender, names.orders.as_slice())?;
-    }
-    Ok(agree)
-}
-
-// The number of the posting that comes next on this date, where both tell the same one.
-fn next_posting_alike<M: Keeper, K: Keeper>(
-    one: &mut M,
-    other: &mut K,
-    date: BusinessDate,
-    number: u64,
-) -> Result<Option<u64>, Fail> {
-    let posting = one.next_posting(date, number)?;
-    if other.next_posting(date, number)? != posting {
-        return Err(Fail::from("another posting of a date"));
-    }
-    Ok(match posting {
-        Some(posting) => Some(posting.number),
-        None => None,
-    })
-}
-
-// The number of the order that comes next on this date, where both tell the same one.
-fn next_order_alike<M: Keeper, K: Keeper>(
-    one: &mut M,
-    other: &mut K,
-    date: BusinessDate,
-    number: u64,
-) -> Result<Option<u64>, Fail> {
-    let order = one.next_order(date, number)?;
-    if other.next_order(date, number)? != order {
-        return Err(Fail::from("another order of a date"));
-    }
-    Ok(match order {
-        Some(order) => Some(order.number),
-        None => None,
-    })
-}
-
-// The number of the mark that comes next on this date, where both tell the same one.
-fn next_mark_alike<M: Keeper, K: Keeper>(
-    one: &mut M,
-    other: &mut K,
-    date: BusinessDate,
-    number: u64,
-) -> Result<Option<u64>, Fail> {
-    let mark = one.next_mark(date, number)?;
-    if other.next_mark(date, number)? != mark {
-        return Err(Fail::from("another mark of a date"));
-    }
-    Ok(match mark {
-        Some(mark) => Some(mark.number),
-        None => None,
-    })
-}
-
-// The least of the numbers that come next on this date, where both tell the same three records.
-fn next_alike<M: Keeper, K: Keeper>(
-    one: &mut M,
-    other: &mut K,
-    date: BusinessDate,
-    number: u64,
-) -> Result<Option<u64>, Fail> {
-    let posting = next_posting_alike(one, other, date, number)?;
-    let order = next_order_alike(one, other, date, number)?;
-    let mark = next_mark_alike(one, other, date, number)?;
-    Ok(lesser(posting, lesser(order, mark)))
-}
-
-// The lesser of two numbers, where there are two.
-fn lesser(one: Option<u64>, other: Option<u64>) -> Option<u64> {
-    match (one, other) {
-        (Some(one), Some(other)) => Some(one.min(other)),
-        (None, number) | (number, None) => number,
-    }
-}
-
-// Goes through a date, from each record to the next.
-fn go_through<M: Keeper, K: Keeper>(
-    one: &mut M,
-    other: &mut K,
-    date: BusinessDate,
-    most: u64,
-) -> Result<(), Fail> {
-    let mut number = 0;
-    for _ in 0..=most {
-        let Some(next) = next_alike(one, other, date, number)? else {
-            return Ok(());
+impl Told {
+    /// What this one tells: from record to record through all dates, after each number on a date that the shift moves
+    /// on, so that all dates come to each number as the shift grows, and by all names.
+    pub fn by<K: Keeper>(
+        alloc: Global,
+        names: &Names,
+        keeper: &mut K,
+        shift: u64,
+    ) -> Result<Told, Fail> {
+        let mut told = Told {
+            core: keeper.core(alloc)?,
+            postings: Vec::new(alloc),
+            orders: Vec::new(alloc),
+            marks: Vec::new(alloc),
         };
-        number = next;
+        told.goes_through_all(keeper)?;
+        told.asks_after_each(keeper, shift)?;
+        told.finds_orders(keeper, names.orders.as_slice())?;
+        told.finds_postings(keeper, names.postings.as_slice())?;
+        Ok(told)
     }
-    Err(Fail::from("more records than there are"))
-}
 
-// The date at this place among the days, which come again and again.
-fn date_at(place: u64) -> Result<BusinessDate, Fail> {
-    let place = place as usize % DAYS.len();
-    Ok(BusinessDate::from_number(DAYS[place]).ok_or("a date")?)
-}
-
-// Asks for what comes after each number up to this one, on a date that changes with the number.
-fn ask_after_each<M: Keeper, K: Keeper>(
-    one: &mut M,
-    other: &mut K,
-    last: u64,
-    shift: u64,
-) -> Result<(), Fail> {
-    for number in 0..=last {
-        next_alike(one, other, date_at(number.wrapping_add(shift))?, number)?;
+    // The greatest number that a record has or comes next.
+    fn last(&self) -> u64 {
+        let core = &self.core;
+        core.next_posting.max(core.next_order).max(core.next_mark)
     }
-    Ok(())
+
+    // Goes through all dates.
+    fn goes_through_all<K: Keeper>(&mut self, keeper: &mut K) -> Result<(), Fail> {
+        for place in 0..DAYS.len() {
+            self.goes_through(keeper, day_at(place as u64)?)?;
+        }
+        Ok(())
+    }
+
+    // Goes through a date, from each record to the next.
+    fn goes_through<K: Keeper>(&mut self, keeper: &mut K, date: BusinessDate) -> Result<(), Fail> {
+        let mut number = 0;
+        for _ in 0..=self.last().saturating_mul(3) {
+            number = self.asks_after(keeper, date, number)?;
+            if number == u64::MAX {
+                return Ok(());
+            }
+        }
+        Err(Fail::new("more records than there are"))
+    }
+
+    // Asks for what comes after each number, on a date that changes with the number.
+    fn asks_after_each<K: Keeper>(&mut self, keeper: &mut K, shift: u64) -> Result<(), Fail> {
+        for number in 0..=self.last() {
+            self.asks_after(keeper, day_at(number.wrapping_add(shift))?, number)?;
+        }
+        Ok(())
+    }
+
+    // The least of the numbers that come next on this date, or the greatest number where none does.
+    fn asks_after<K: Keeper>(
+        &mut self,
+        keeper: &mut K,
+        date: BusinessDate,
+        number: u64,
+    ) -> Result<u64, Fail> {
+        let posting = keeper.next_posting(date, number)?;
+        let order = keeper.next_order(date, number)?;
+        let mark = keeper.next_mark(date, number)?;
+        let next = least_of(&posting, &order, &mark);
+        self.postings.push(posting)?;
+        self.orders.push(order)?;
+        self.marks.push(mark)?;
+        Ok(next)
+    }
+
+    fn finds_orders<K: Keeper>(
+        &mut self,
+        keeper: &mut K,
+        names: &[(Code, Reference)],
+    ) -> Result<(), Fail> {
+        for (sender, reference) in names {
+            self.orders.push(keeper.find_order(sender, reference)?)?;
+        }
+        Ok(())
+    }
+
+    fn finds_postings<K: Keeper>(
+        &mut self,
+        keeper: &mut K,
+        names: &[Reference],
+    ) -> Result<(), Fail> {
+        for reference in names {
+            self.postings.push(keeper.find_posting(reference)?)?;
+        }
+        Ok(())
+    }
+
+    /// Whether both tell the same.
+    pub fn is_like(&self, other: &Told) -> bool {
+        self.postings.as_slice() == other.postings.as_slice()
+            && self.orders.as_slice() == other.orders.as_slice()
+            && self.marks.as_slice() == other.marks.as_slice()
+            && are_same_cores(&self.core, &other.core)
+    }
 }
 
-// The greatest number that a record has or comes next, where both have one core.
-fn last_number<M: Keeper, K: Keeper>(
-    alloc: Global,
-    one: &mut M,
-    other: &mut K,
-) -> Result<u64, Fail> {
-    let core = one.core(alloc)?;
-    if are_same_cores(&other.core(alloc)?, &core) {
-        Ok(core.next_posting.max(core.next_order).max(core.next_mark))
-    } else {
-        Err(Fail::from("two cores"))
+// The least of their numbers, or the greatest number where there is none.
+fn least_of(posting: &Option<Posting>, order: &Option<Order>, mark: &Option<Mark>) -> u64 {
+    let posting = match posting {
+        Some(posting) => posting.number,
+        None => u64::MAX,
+    };
+    let order = match order {
+        Some(order) => order.number,
+        None => u64::MAX,
+    };
+    match mark {
+        Some(mark) => posting.min(order).min(mark.number),
+        None => posting.min(order),
     }
 }
 
@@ -228,27 +183,4 @@ fn are_same_cores(one: &Core, other: &Core) -> bool {
         && one.next_posting == other.next_posting
         && one.next_order == other.next_order
         && one.next_mark == other.next_mark
-}
-
-// Goes through all dates, with so many steps on each at most.
-fn go_through_all<M: Keeper, K: Keeper>(one: &mut M, other: &mut K, most: u64) -> Result<(), Fail> {
-    for place in 0..DAYS.len() {
-        go_through(one, other, date_at(place as u64)?, most)?;
-    }
-    Ok(())
-}
-
-/// Whether two keepers tell the same: by all names, from record to record through all dates, and after each number on a
-/// date that the shift moves on, so that all dates come to each number as the shift grows.
-pub fn tell_the_same<M: Keeper, K: Keeper>(
-    alloc: Global,
-    names: &Names,
-    one: &mut M,
-    other: &mut K,
-    shift: u64,
-) -> Result<bool, Fail> {
-    let last = last_number(alloc, one, other)?;
-    go_through_all(one, other, last.saturating_mul(3))?;
-    ask_after_each(one, other, last, shift)?;
-    agree_in_names(names, one, other)
 }

@@ -1,35 +1,47 @@
-//! Commands during which the store fails, and the books that may be found then.
-use super::banks::{BANKS, follow};
-use super::batch_rows::sent;
-use super::found::{Found, ShowsBook};
-use super::setting::{
-    KEY, MONDAY, Reply, Row, Standings, are_alike, code, date, desk_over, reference,
-};
-use rtgs_book::{Command, Refusal};
+//! What is given to a desk while its store fails, and the books that may be found then.
+use super::found::{Found, Standings};
+use super::store::{Store, keeper_on};
+use rtgs_batches::submit_batch;
+use rtgs_book::{Answer, Command, Known, Refusal};
 use rtgs_desk::Desk;
-use rtgs_keeper::{Keeper, MemoryKeeper};
+use rtgs_keeper::Keeper;
 use rtgs_money::{BusinessDate, Code, Key, Reference};
+use rtgs_order_files::{BatchResult, OrderRow, RowReply};
 use rtgs_statements::Source;
+use rtgs_tests_desks::{Reply, answered, command, desk_over, follows, is_told};
 use std::alloc::Global;
 use std::test::Fail;
 
-/// What a desk with three banks is given.
-#[derive(Clone, Copy)]
-pub struct Trial<'a> {
+/// What adds ALFA, BETA and GAMA.
+pub const BANKS: &str = "\
+add ALFA 0000000000000000000000000000000a => Ok(Added)
+add BETA 0000000000000000000000000000000b => Ok(Added)
+add GAMA 0000000000000000000000000000000c => Ok(Added)";
+
+/// What a desk with three banks is given, in words.
+pub struct Trial {
     /// Commands before the store fails.
-    pub before: &'a [Row],
-    /// Commands while it fails.
-    pub rows: &'a [Row],
-    /// What each of these is answered when it comes again.
-    pub again: &'a [Reply],
+    pub before: &'static str,
+    /// Commands while it fails. Each has a second answer, for where it comes again. There may be none.
+    pub rows: &'static str,
     /// These are orders of ALFA, and come in one batch.
     pub is_batch: bool,
     /// How the banks stand before the first of these, and after each.
-    pub standings: &'a [Standings],
+    pub standings: &'static str,
+    /// The store was closed after the commands before, or else it crashed.
+    pub is_closed: bool,
+}
+
+/// A desk of a new book in this store, with three banks, after these commands.
+pub fn begun<S: Store>(alloc: Global, left: S::Left, before: &str) -> Result<Desk<S>, Fail> {
+    let mut desk = desk_over(alloc, keeper_on::<S>(alloc, left, true)?)?;
+    follows(alloc, &mut desk, BANKS)?;
+    follows(alloc, &mut desk, before)?;
+    Ok(desk)
 }
 
 /// How far a trial came.
-#[derive(Clone, Copy, PartialEq, Eq)]
+#[derive(Clone, Copy)]
 pub enum Progress {
     /// The desk could not be opened.
     Unopened,
@@ -41,181 +53,189 @@ pub enum Progress {
     Whole,
 }
 
-impl Trial<'_> {
-    /// Gives the desk three banks and the commands before.
-    pub fn prepare<K: Keeper>(&self, alloc: Global, desk: &mut Desk<K>) -> Result<(), Fail> {
-        follow(alloc, desk, BANKS)?;
-        answered(desk, self.before)?;
-        Ok(())
+impl Trial {
+    /// How many commands there are while the store fails.
+    pub fn count(&self) -> usize {
+        self.rows.lines().count()
     }
 
-    /// Gives the desk the commands. Once the store has failed, the desk answers nothing else.
-    pub fn work<K: Keeper>(&self, alloc: Global, desk: &mut Desk<K>) -> Result<Progress, Fail> {
-        let answered = self.given(alloc, desk, self.rows)?;
-        if answered == self.rows.len() {
-            return Ok(Progress::Whole);
-        }
-        if is_silent(desk)? {
-            Ok(Progress::Failed(answered))
-        } else {
-            Err(Fail::from("a failed desk spoke"))
-        }
-    }
-
-    // Gives the desk these commands, and counts those that are answered.
-    fn given<K: Keeper>(
+    /// Gives the desk the first of the commands, of which so many come again, and counts those that are answered.
+    pub fn given<K: Keeper>(
         &self,
         alloc: Global,
         desk: &mut Desk<K>,
-        rows: &[Row],
+        known: usize,
+        most: usize,
     ) -> Result<usize, Fail> {
         if self.is_batch {
-            sent(alloc, desk, rows)
+            sent(alloc, desk, self.rows, known, most)
         } else {
-            answered(desk, rows)
+            answered(alloc, desk, self.rows, known, most)
         }
     }
 
-    /// The first of the commands alone.
-    pub fn first(&self, count: usize) -> Result<Trial<'_>, Fail> {
-        Ok(Trial {
-            rows: self.rows.get(..count).ok_or("rows")?,
-            ..*self
-        })
+    /// Gives the desk the first of the commands. Once the store has failed, the desk answers nothing else.
+    pub fn worked<K: Keeper>(
+        &self,
+        alloc: Global,
+        desk: &mut Desk<K>,
+        most: usize,
+    ) -> Result<Progress, Fail> {
+        let count = self.given(alloc, desk, 0, most)?;
+        if count == most {
+            return Ok(Progress::Whole);
+        }
+        is_silent(desk)?;
+        Ok(Progress::Failed(count))
     }
 
-    /// What a desk in memory has before the first of the commands, and after each.
-    pub fn books(&self, alloc: Global) -> Result<Vec<Found>, Fail> {
+    /// What a desk has before the first of the commands, and after each.
+    pub fn books<S: Store>(&self, alloc: Global) -> Result<Vec<Found>, Fail> {
         let mut books = Vec::new(alloc);
-        for count in 0..=self.rows.len() {
-            books.push(self.book_after(alloc, MemoryKeeper::new(alloc), count)?)?;
+        for count in 0..=self.count() {
+            books.push(self.book_after::<S>(alloc, count)?)?;
         }
         Ok(books)
     }
 
-    fn book_after<K: Keeper + ShowsBook + Drop>(
-        &self,
-        alloc: Global,
-        keeper: K,
-        count: usize,
-    ) -> Result<Found, Fail> {
-        let mut desk = desk_over(alloc, keeper)?;
-        self.prepare(alloc, &mut desk)?;
-        answered(&mut desk, self.rows.get(..count).ok_or("rows")?)?;
+    // What a desk has after so many of the commands. The banks then stand as it is told.
+    fn book_after<S: Store>(&self, alloc: Global, count: usize) -> Result<Found, Fail> {
+        let mut desk = begun::<S>(alloc, S::blank(alloc), self.before)?;
+        answered(alloc, &mut desk, self.rows, 0, count)?;
         let (found, _) = Found::of(alloc, desk)?;
-        self.standing_so(found, count)
+        self.stand_so(alloc, &found.standings, count)?;
+        Ok(found)
     }
 
-    fn standing_so(&self, found: Found, count: usize) -> Result<Found, Fail> {
-        if self.standings.get(count) == Some(&found.standings) {
-            Ok(found)
+    // Fails unless the banks stand so after so many of the commands.
+    fn stand_so(&self, alloc: Global, found: &Standings, count: usize) -> Result<(), Fail> {
+        let text = format!(in alloc; "{found:?}")?;
+        if self.standings.lines().nth(count) == Some(text.as_str()) {
+            Ok(())
         } else {
-            Err(Fail::from("other standings"))
+            Err(Fail::from(text))
         }
-    }
-
-    /// Behind how many of the commands this is found, where it may be: with all that was answered, and with at most the
-    /// one command more that was open.
-    pub fn place_of(&self, books: &[Found], progress: Progress, found: &Found) -> Option<usize> {
-        let all = self.rows.len();
-        let (least, most) = match progress {
-            Progress::Unopened => (0, 0),
-            Progress::Failed(count) => (count, count.saturating_add(1)),
-            Progress::Unclosed | Progress::Whole => (all, all),
-        };
-        if is_at(books, least, found) {
-            return Some(least);
-        }
-        if is_at(books, most, found) {
-            Some(most)
-        } else {
-            None
-        }
-    }
-
-    /// Whether the commands, given once more behind so many of them, end in the last of the books. Those are answered
-    /// as what comes again, and the others as the first time.
-    pub fn ends_alike<K: Keeper + ShowsBook + Drop>(
-        &self,
-        alloc: Global,
-        books: &[Found],
-        keeper: K,
-        place: usize,
-    ) -> Result<bool, Fail> {
-        let mut desk = desk_over(alloc, keeper)?;
-        let count = self.given_behind(alloc, &mut desk, place)?;
-        let (found, _) = Found::of(alloc, desk)?;
-        Ok(count == self.rows.len() && is_at(books, count, &found))
-    }
-
-    fn given_behind<K: Keeper>(
-        &self,
-        alloc: Global,
-        desk: &mut Desk<K>,
-        place: usize,
-    ) -> Result<usize, Fail> {
-        let rows = self.rows_behind(alloc, place)?;
-        self.given(alloc, desk, rows.as_slice())
-    }
-
-    // The commands, and what they are answered behind so many of them.
-    fn rows_behind(&self, alloc: Global, place: usize) -> Result<Vec<Row>, Fail> {
-        let mut rows = Vec::new(alloc);
-        for ((command, reply), again) in self.rows.iter().zip(self.again) {
-            let expected = if rows.len() < place { *again } else { *reply };
-            rows.push((*command, expected))?;
-        }
-        Ok(rows)
     }
 }
 
-fn is_at(books: &[Found], place: usize, found: &Found) -> bool {
+/// Whether this is what was found after so many commands.
+pub fn is_at(books: &[Found], place: usize, found: &Found) -> bool {
     match books.get(place) {
         Some(book) => book.is_like(found),
         None => false,
     }
 }
 
-// How many commands are answered, before a fault of the store. Each is answered as it should be.
-fn answered<K: Keeper>(desk: &mut Desk<K>, rows: &[Row]) -> Result<usize, Fail> {
+/// Behind how many of so many commands this is found, where it may be: with all that was answered, and with at most the
+/// one command more that was open.
+pub fn place_of(books: &[Found], all: usize, progress: Progress, found: &Found) -> Option<usize> {
+    let (least, most) = match progress {
+        Progress::Unopened => (0, 0),
+        Progress::Failed(count) => (count, count.saturating_add(1)),
+        Progress::Unclosed | Progress::Whole => (all, all),
+    };
+    if is_at(books, least, found) {
+        return Some(least);
+    }
+    if is_at(books, most, found) {
+        Some(most)
+    } else {
+        None
+    }
+}
+
+/// The orders of the first of these lines.
+pub fn orders(alloc: Global, script: &str, most: usize) -> Result<Vec<OrderRow>, Fail> {
+    let mut orders = Vec::new(alloc);
+    for line in script.lines().take(most) {
+        orders.push(order(line)?)?;
+    }
+    Ok(orders)
+}
+
+fn order(line: &str) -> Result<OrderRow, Fail> {
+    match command(line)? {
+        Command::Order {
+            reference,
+            receiver,
+            amount,
+            ..
+        } => Ok(OrderRow {
+            reference,
+            receiver,
+            amount,
+        }),
+        _ => Err(Fail::new("no order")),
+    }
+}
+
+// Sends the first of ALFA's orders in one batch, of which so many come again, and counts those that are replied to
+// before a fault of the store. Each is replied to as its order is answered.
+fn sent<K: Keeper>(
+    alloc: Global,
+    desk: &mut Desk<K>,
+    script: &str,
+    known: usize,
+    most: usize,
+) -> Result<usize, Fail> {
+    let orders = orders(alloc, script, most)?;
+    let batch = submit_batch(alloc, desk, Code::read(b"ALFA")?, orders.as_slice())?;
+    count_of_replies(alloc, &batch, script, known)
+}
+
+// How many replies there are, each of which is right. Nothing but a fault of the store stopped them.
+fn count_of_replies(
+    alloc: Global,
+    batch: &BatchResult,
+    script: &str,
+    known: usize,
+) -> Result<usize, Fail> {
+    if !matches!(batch.stopped, None | Some(Refusal::StoreFault)) {
+        return Err(Fail::new("another stop"));
+    }
     let mut count = 0usize;
-    for (command, reply) in rows {
-        let found = desk.submit(*command);
-        if matches!(found, Err(Refusal::StoreFault)) {
-            return Ok(count);
-        }
-        if !are_alike(&found, reply) {
-            return Err(Fail::from("another reply"));
+    for (line, reply) in script.lines().zip(batch.replies.as_slice()) {
+        if !is_told(alloc, &answer_of(*reply), line, count < known)? {
+            return Err(Fail::new("another row reply"));
         }
         count = count.saturating_add(1);
     }
     Ok(count)
 }
 
+// The answer to the order of a row that has this reply.
+fn answer_of(reply: RowReply) -> Reply {
+    match reply {
+        RowReply::Settled { number, mark } => Ok(Answer::Settled { number, mark }),
+        RowReply::Queued { number, place } => Ok(Answer::Queued { number, place }),
+        RowReply::Repeated { number, state } => {
+            Ok(Answer::Repeated(Known::Order { number, state }))
+        }
+        RowReply::Refused(refusal) => Err(refusal),
+    }
+}
+
 fn is_failed<T: Drop>(reply: Result<T, Refusal>) -> bool {
     matches!(reply, Err(Refusal::Failed))
 }
 
-/// Whether a desk answers nothing but that it has failed.
-pub fn is_silent<K: Keeper>(desk: &mut Desk<K>) -> Result<bool, Fail> {
-    let has_failed = desk.failed();
-    let (alfa, name) = (code("ALFA")?, reference("A-1")?);
-    let is_silent_of_banks = is_silent_of(desk, &alfa, &name);
-    let is_silent_of_dates = is_silent_of_date(desk, date(MONDAY)?);
-    let key = Key::read(KEY.as_bytes())?.digest();
-    let is_silent_of_keys = is_failed(desk.code_of(&key));
-    Ok(has_failed && is_silent_of_banks && is_silent_of_dates && is_silent_of_keys)
-}
-
-fn is_silent_of<K: Keeper>(desk: &mut Desk<K>, alfa: &Code, name: &Reference) -> bool {
-    is_failed(desk.submit(Command::Resolve))
-        && is_failed(desk.account(alfa))
-        && is_failed(desk.queue_of(alfa))
-        && is_failed(desk.order_of(alfa, name))
-}
-
-fn is_silent_of_date<K: Keeper>(desk: &mut Desk<K>, date: BusinessDate) -> bool {
-    is_failed(desk.next_posting(date, 0))
+/// Fails unless the desk answers nothing but that it has failed.
+pub fn is_silent<K: Keeper>(desk: &mut Desk<K>) -> Result<(), Fail> {
+    let (alfa, name) = (Code::read(b"ALFA")?, Reference::read(b"A-1")?);
+    let date = BusinessDate::read(b"2024-03-04")?;
+    let key = Key::read(b"0000000000000000000000000000000a")?.digest();
+    let is_silent = desk.failed()
+        && is_failed(desk.submit(Command::Resolve))
+        && is_failed(desk.account(&alfa))
+        && is_failed(desk.queue_of(&alfa))
+        && is_failed(desk.order_of(&alfa, &name))
+        && is_failed(desk.code_of(&key))
+        && is_failed(desk.next_posting(date, 0))
         && is_failed(desk.next_order(date, 0))
-        && is_failed(desk.next_mark(date, 0))
+        && is_failed(desk.next_mark(date, 0));
+    if is_silent {
+        Ok(())
+    } else {
+        Err(Fail::new("a failed desk spoke"))
+    }
 }

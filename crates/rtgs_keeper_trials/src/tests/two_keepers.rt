@@ -1,34 +1,48 @@
-//! Ten thousand commands over both keepers: in memory, and on disks that are closed and opened again every hundred. After
-//! each fifty both tell the same of their books.
+//! Ten thousand commands over both keepers: in memory, and on disks that are closed and opened again every hundred.
+//! After each fifty both tell the same of their books.
 use super::business::Business;
-use super::disk_desk::{closed, desk_again, end_in_one_book, new_desk};
-use super::disk_keeper::{DiskKeeper, Work, on_disks};
-use super::disks::Disks;
-use super::found::ShowsBook;
+use super::disks::{Work, on_disks};
+use super::found::are_same_books;
+use super::memory::{InMemory, failing};
 use super::seen::Seen;
-use super::setting::{Reply, are_alike, desk_over};
-use super::told::{Names, tell_the_same};
+use super::store::{Store, closed, desk_again, keeper_on, new_desk};
+use super::told::{Names, Told};
 use rtgs_book::{Command, Refusal};
 use rtgs_desk::Desk;
-use rtgs_keeper::{Keeper, MemoryKeeper};
+use rtgs_keeper::Keeper;
+use rtgs_tests_desks::{Reply, Trouble, desk_over};
 use std::alloc::Global;
 use std::test::Fail;
 
-/// Whether a reply says that the desk has judged the command.
-fn is_judged(reply: &Reply) -> bool {
-    !matches!(
-        reply,
-        Err(Refusal::OutOfMemory | Refusal::StoreFault | Refusal::Failed)
-    )
-}
-
-/// Fails unless both replies to a command are the same, and say that it was judged.
-fn judge_alike(alloc: Global, command: &Command, one: &Reply, other: &Reply) -> Result<(), Fail> {
-    if are_alike(one, other) && is_judged(one) {
-        return Ok(());
+/// What a desk in memory and one on disks both answer to a command.
+pub fn answer_alike<M: Keeper, K: Keeper>(
+    alloc: Global,
+    held: &mut Desk<M>,
+    kept: &mut Desk<K>,
+    command: Command,
+) -> Result<Reply, Fail> {
+    let (one, other) = (held.submit(command), kept.submit(command));
+    if one == other {
+        return Ok(one);
     }
     let said = format!(in alloc; "{command:?}: {one:?} and {other:?}")?;
     Err(Fail::from(said))
+}
+
+/// Fails unless the book of a desk in memory is that of the store.
+pub fn end_in_one_book<M: Store, S: Store>(
+    alloc: Global,
+    memory: M,
+    left: S::Left,
+) -> Result<(), Fail> {
+    let mut memory = memory;
+    let in_memory = memory.book(alloc)?;
+    let on_disks = desk_again::<S>(alloc, left)?.into_keeper().book(alloc)?;
+    if are_same_books(&on_disks, &in_memory) {
+        Ok(())
+    } else {
+        Err(Fail::new("two books"))
+    }
 }
 
 /// The commands of one seed, what came of them, and the names that they use.
@@ -43,88 +57,67 @@ struct Run {
 }
 
 impl Run {
-    /// None of the commands is given yet.
-    fn new(alloc: Global, seed: u64) -> Result<Run, Fail> {
-        Ok(Run {
-            alloc,
-            business: Business::new(alloc, seed),
-            seen: Seen::new(),
-            names: Names::new(alloc)?,
-            fifties: 0,
-        })
-    }
-
-    /// Gives two desks the next fifty commands: each answers as the other does, and has judged them.
-    fn fifty<M: Keeper, K: Keeper>(
+    /// Gives two desks the next command: each answers as the other does, and has judged it.
+    fn command<M: Keeper, K: Keeper>(
         &mut self,
         one: &mut Desk<M>,
         other: &mut Desk<K>,
     ) -> Result<(), Fail> {
-        for _ in 0..50 {
-            let command = self.business.command()?;
-            let reply = one.submit(command);
-            self.hear(&reply);
-            let answered = other.submit(command);
-            judge_alike(self.alloc, &command, &reply, &answered)?;
+        let reply = answer_alike(self.alloc, one, other, self.business.command()?)?;
+        if let Err(Refusal::OutOfMemory | Refusal::StoreFault | Refusal::Failed) = reply {
+            return Err(Fail::new("a command was not judged"));
         }
+        self.business.hear(&reply);
+        self.seen.count(&reply);
         Ok(())
     }
 
-    /// Takes notice of a reply.
-    fn hear(&mut self, reply: &Reply) {
-        self.business.hear(reply);
-        self.seen.count(reply);
+    /// Gives two desks fifty commands, and then both keepers tell the same of their books.
+    fn fifty<M: Store, S: Store>(&mut self, one: M, other: S) -> Result<(M, S), Fail> {
+        let (mut one, mut other) = (desk_over(self.alloc, one)?, desk_over(self.alloc, other)?);
+        for _ in 0..50 {
+            self.command(&mut one, &mut other)?;
+        }
+        let (mut one, mut other) = (one.into_keeper(), other.into_keeper());
+        self.compare(&mut one, &mut other)?;
+        Ok((one, other))
     }
 
     /// Fails unless both keepers tell the same of their books after fifty more commands.
     fn compare<M: Keeper, K: Keeper>(&mut self, one: &mut M, other: &mut K) -> Result<(), Fail> {
         self.fifties = self.fifties.wrapping_add(1);
-        if tell_the_same(self.alloc, &self.names, one, other, self.fifties)? {
+        let told = Told::by(self.alloc, &self.names, one, self.fifties)?;
+        if told.is_like(&Told::by(self.alloc, &self.names, other, self.fifties)?) {
             Ok(())
         } else {
-            Err(Fail::from("another record"))
+            Err(Fail::new("another record"))
         }
     }
 
-    /// Gives two desks fifty commands, and then both keepers tell the same of their books. Both desks are opened again.
-    fn fifty_told<M: Keeper + Drop, K: Keeper + Drop>(
+    /// A hundred commands, with the store opened before and closed after.
+    fn hundred<M: Store, S: Store>(
         &mut self,
-        one: Desk<M>,
-        other: Desk<K>,
-    ) -> Result<(Desk<M>, Desk<K>), Fail> {
-        let (mut one, mut other) = (one, other);
-        self.fifty(&mut one, &mut other)?;
-        let (mut memory, mut kept) = (one.into_keeper(), other.into_keeper());
-        self.compare(&mut memory, &mut kept)?;
-        Ok((desk_over(self.alloc, memory)?, desk_over(self.alloc, kept)?))
+        memory: M,
+        left: S::Left,
+    ) -> Result<(M, S::Left), Fail> {
+        let keeper = keeper_on::<S>(self.alloc, left, false)?;
+        let (memory, keeper) = self.fifty(memory, keeper)?;
+        let (memory, keeper) = self.fifty(memory, keeper)?;
+        Ok((memory, closed(desk_over(self.alloc, keeper)?)?))
     }
 
-    /// A hundred commands, with the desk on disks opened before and closed after.
-    fn hundred_on_disks<M: Keeper + Drop, K: Keeper + DiskKeeper + Drop>(
-        &mut self,
-        held: Desk<M>,
-        disks: Disks,
-    ) -> Result<(Desk<M>, Disks), Fail> {
-        let desk = desk_again::<K>(self.alloc, disks)?;
-        let (held, desk) = self.fifty_told(held, desk)?;
-        let (held, desk) = self.fifty_told(held, desk)?;
-        Ok((held, closed(desk.into_keeper())?))
+    /// Five thousand commands, of all kinds and with all kinds of answers, that end in one book.
+    fn five_thousand<M: Store, S: Store>(&mut self, memory: M) -> Result<(), Fail> {
+        let mut memory = memory;
+        let mut left = closed(new_desk::<S>(self.alloc)?)?;
+        for _ in 0..50 {
+            (memory, left) = self.hundred::<M, S>(memory, left)?;
+        }
+        if !self.seen.is_varied() {
+            return Err(Fail::new("a kind of answer that was not given"));
+        }
+        end_in_one_book::<M, S>(self.alloc, memory, left)
     }
-}
-
-/// Whether five thousand commands of this seed, of all kinds and with all kinds of answers, end in one book.
-fn five_thousand<M: Keeper + ShowsBook + Drop, K: Keeper + ShowsBook + DiskKeeper + Drop>(
-    alloc: Global,
-    memory: M,
-    seed: u64,
-) -> Result<bool, Fail> {
-    let mut run = Run::new(alloc, seed)?;
-    let mut held = desk_over(alloc, memory)?;
-    let mut disks = closed(new_desk::<K>(alloc)?.into_keeper())?;
-    for _ in 0..50 {
-        (held, disks) = run.hundred_on_disks::<M, K>(held, disks)?;
-    }
-    Ok(run.seen.is_varied() && end_in_one_book::<M, K>(alloc, held, disks)?)
 }
 
 // Five thousand commands of this seed.
@@ -134,24 +127,26 @@ struct FiveThousand {
 }
 
 impl Work for FiveThousand {
-    type Seen = bool;
+    type Seen = ();
 
-    fn done_with<K: Keeper + ShowsBook + DiskKeeper + Drop>(
-        self,
-        alloc: Global,
-    ) -> Result<bool, Fail> {
-        five_thousand::<MemoryKeeper, K>(alloc, MemoryKeeper::new(alloc), self.seed)
+    fn done_with<S: Store>(self, alloc: Global) -> Result<(), Fail> {
+        let mut run = Run {
+            alloc,
+            business: Business::new(alloc, self.seed),
+            seen: Seen::new(),
+            names: Names::new(alloc)?,
+            fifties: 0,
+        };
+        run.five_thousand::<InMemory, S>(failing(alloc, usize::MAX, Trouble::Lost))
     }
 }
 
 #[test]
 fn the_first_five_thousand_commands_end_in_one_book(rt: HostRuntime) -> Result<(), Fail> {
-    assert!(rt; on_disks(rt.alloc(), FiveThousand { seed: 2024 })?);
-    Ok(())
+    on_disks(rt.alloc(), FiveThousand { seed: 2024 })
 }
 
 #[test]
 fn another_five_thousand_commands_end_in_one_book(rt: HostRuntime) -> Result<(), Fail> {
-    assert!(rt; on_disks(rt.alloc(), FiveThousand { seed: 2025 })?);
-    Ok(())
+    on_disks(rt.alloc(), FiveThousand { seed: 2025 })
 }

@@ -1,35 +1,15 @@
 //! A keeper that hands each call on.
-use super::found::ShowsBook;
-use rtgs_book::{Book, Change, Fault, Mark, Order, Posting};
+use rtgs_book::{Change, Fault, Mark, Order, Posting};
 use rtgs_cores::Core;
 use rtgs_keeper::{CommitFault, Keeper};
 use rtgs_money::{BusinessDate, Code, Reference};
-use rtgs_tables::SqlKeeper;
-use sqlite::Alter;
 use std::alloc::Global;
 
 /// Hands each call on to another keeper. Nothing is claimed of what is kept, but when it has failed.
 #[derive(Drop)]
 pub struct PlainKeeper<K> {
-    kept: K,
-}
-
-impl<K: Keeper> PlainKeeper<K> {
-    /// Over this keeper.
-    pub fn new(kept: K) -> PlainKeeper<K> {
-        PlainKeeper { kept }
-    }
-
-    /// The keeper to which calls were handed on.
-    pub fn into_kept(self) -> K {
-        self.kept
-    }
-}
-
-impl<S: Alter + Drop> ShowsBook for PlainKeeper<SqlKeeper<S>> {
-    fn book(&mut self, alloc: Global) -> Result<Book, Fault> {
-        self.kept.load(alloc)
-    }
+    /// The keeper to which calls are handed on.
+    pub kept: K,
 }
 
 impl<K: Keeper> Keeper for PlainKeeper<K> {

@@ -34,7 +34,8 @@ impl Trouble {
 /// failed.
 #[derive(Drop)]
 pub struct FailingKeeper<K> {
-    kept: K,
+    /// The keeper to which calls are passed on, as a restart finds it.
+    pub kept: K,
     // how many calls go well before the trouble
     calls: usize,
     trouble: Option<Trouble>,
@@ -50,11 +51,6 @@ impl<K: Keeper> FailingKeeper<K> {
             trouble: Some(trouble),
             failed: false,
         }
-    }
-
-    /// The keeper as a restart finds it.
-    pub fn into_kept(self) -> K {
-        self.kept
     }
 
     // The trouble that this call meets.
