@@ -84,7 +84,7 @@ fn meet(
     (what, turn): (What, usize),
     met: &mut Met,
 ) -> Result<(), Fail> {
-    let request = good(turn / times(what));
+    let request = good(turn.checked_div(times(what)).ok_or("no change")?);
     if !has(what, request) {
         return Ok(());
     }
@@ -97,7 +97,7 @@ fn are_met(alloc: Global, what: What, seed: u64, all: &str) -> Result<(), Fail> 
     let before = before(alloc)?;
     let mut draw = Draw::new(seed);
     let mut met = Met::new(alloc, TOLD);
-    for turn in 0..(ROUTES * times(what)) {
+    for turn in 0..ROUTES.saturating_mul(times(what)) {
         meet(alloc, &before, &mut draw, (what, turn), &mut met)?;
     }
     met.is(alloc, all)
