@@ -247,6 +247,6 @@ module _ (laws : BookLaws) (book : Book) (code full key : List ℕ) (h : IsSound
 
 pub sound_add : BookLaws → (book : Book) (code full key : List ℕ) → IsSound book → IsSound (add book code full key).book
 unfolding add participant_of
-sound_add laws book code full key h = sound_first_of book _ _ h (λ passed.
-    participant_sound laws book code full key h (find_none (has_code code) book.participants passed.1.0)
-    (none_any _ book.participants passed.1.1.0) (lt_from_test _ _ passed.1.1.1.0))
+sound_add laws book code full key h = sound_first_of book _ _ h (λ (_, (code_unused, (key_unused, (places_left, _)))).
+    participant_sound laws book code full key h (find_none (has_code code) book.participants code_unused)
+    (none_any _ book.participants key_unused) (lt_from_test _ _ places_left))

@@ -171,7 +171,8 @@ module _ (book : Book) (sender reference receiver : List ℕ) (amount : ℕ) (h 
 pub sound_order : BookLaws → (book : Book) (sender reference receiver : List ℕ) (amount : ℕ) → IsSound book
     → IsSound (order book sender reference receiver amount).book
 unfolding order
-sound_order laws book sender reference receiver amount h = sound_first_of book _ _ h (λ passed.
-    takes_sound book sender reference receiver amount h laws (lt_from_test _ _ passed.1.1.1.1.1.1.0) passed.1.1.0
-    (all_three _ _ _ (not_false _ passed.0) (not_false _ passed.1.1.1.1.0) passed.1.1.1.1.1.0) passed.1.1.1.1.1.0
-    (open_not_closed book.day.phase (not_false _ passed.1.1.1.0)) passed.1.1.1.1.1.1.1.0)
+sound_order laws book sender reference receiver amount h = sound_first_of book _ _ h
+    (λ (sender_known, (_, (unused, (day_open, (receiver_known, (apart, (numbers_left, (short, _)))))))).
+    takes_sound book sender reference receiver amount h laws (lt_from_test _ _ numbers_left) unused
+    (all_three _ _ _ (not_false _ sender_known) (not_false _ receiver_known) apart) apart
+    (open_not_closed book.day.phase (not_false _ day_open)) short)

@@ -99,5 +99,5 @@ open_day_sound book date h e le weekday = sound_with_day book (record { date = S
 
 pub sound_open_day : (book : Book) (date : ℕ) → IsSound book → IsSound (open_day book date).book
 unfolding open_day
-sound_open_day book date h = sound_first_of book _ _ h (λ passed. open_day_sound book date h (not_false _ passed.1.0)
-    (later_le date book.day.date (not_false _ passed.1.1.0)) passed.1.1.1.0)
+sound_open_day book date h = sound_first_of book _ _ h (λ (_, (closed, (later, (weekday, _)))).
+    open_day_sound book date h (not_false _ closed) (later_le date book.day.date (not_false _ later)) weekday)

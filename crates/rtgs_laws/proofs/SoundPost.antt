@@ -129,5 +129,5 @@ pub sound_post : BookLaws → (book : Book) (code reference : List ℕ) (cents :
     → IsSound (post book code reference cents).book
 unfolding post
 sound_post laws book code reference cents h = sound_first_of book _ _ h
-    (λ passed. post_sound laws book code reference cents h (not_false _ passed.0) passed.1.1.0 passed.1.1.1.0
-    passed.1.1.1.1.0 passed.1.1.1.1.1.0)
+    (λ (known, (_, (unused, (numbers_left, (total_fits, (covered, _)))))).
+    post_sound laws book code reference cents h (not_false _ known) unused numbers_left total_fits covered)

@@ -123,7 +123,7 @@ pub sound_withdraw : BookLaws → (book : Book) (sender reference : List ℕ) �
     → IsSound (withdraw book sender reference).book
 unfolding withdraw order_named
 sound_withdraw laws book sender reference h = sound_first_of book _ _ h
-    (λ passed. by (order_named book sender reference) refl (not_false _ passed.1.1.1.0))
+    (λ (_, (_, (_, (queued, _)))). by (order_named book sender reference) refl (not_false _ queued))
   where
     found_queued : (o : Order) → order_named book sender reference ≡ Some o → is_queued o ≡ true
         → AllByRecursion (λ other. has_number o.number other ≡ true → is_queued other ≡ true) book.orders
@@ -197,4 +197,4 @@ pub sound_close_day : BookLaws → (book : Book) (choice : Choice) (date : ℕ) 
     → IsSound (close_day book choice date).book
 unfolding close_day overdrawn
 sound_close_day laws book choice date h = sound_first_of book _ _ h
-    (λ passed. close_sound laws book h (none_pass _ _ passed.1.1.1.1.0))
+    (λ (_, (_, (_, (_, (none_overdrawn, _))))). close_sound laws book h (none_pass _ _ none_overdrawn))

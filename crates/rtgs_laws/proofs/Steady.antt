@@ -245,7 +245,7 @@ module _ (book : Book) (sender reference receiver : List ℕ) (amount : ℕ) (h 
   withdraw_stands : Stands book (withdraw book sender reference).book
   unfolding withdraw with_state order_named
   withdraw_stands = sound_first (Stands book) book _ _ (stands_same book book refl refl)
-      (λ passed. by (order_named book sender reference) refl (not_false _ passed.1.1.1.0))
+      (λ (_, (_, (_, (queued, _)))). by (order_named book sender reference) refl (not_false _ queued))
     where
       by : (found : Option Order) → order_named book sender reference ≡ found → is_queued_order found ≡ true
           → Stands book (with_state book (has_number (number_of found)) Withdrawn)

@@ -85,7 +85,7 @@ kept_withdrawn : (book : Book) (sender reference : List ℕ) → OrdersAreNumber
     → AreKept book (withdraw book sender reference).book
 unfolding withdraw with_state
 kept_withdrawn book sender reference h = after_tests (AreKept book) book _ _ (kept_itself book)
-    (λ passed. by (order_named book sender reference) refl (not-false _ passed.1.1.1.0))
+    (λ (_, (_, (_, (queued, _)))). by (order_named book sender reference) refl (not-false _ queued))
   where
     by : (found : Option Order) → order_named book sender reference ≡ found → is_queued_order found ≡ true
         → AreKept book (with_state book (has_number (number_of found)) Withdrawn)
