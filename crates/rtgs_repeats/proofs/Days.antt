@@ -41,8 +41,8 @@ pub closed_empty : OneGreatest → (old new : Book) (date count : ℕ) (choice :
 unfolding close_day
 closed_empty law old new date count choice s greatest =
     let p = passed_step old new (Ok (Closed count)) _ _ (refl, (refl, (refl, (refl, (refl, tt))))) refl s.2 in
-    ap (chosen old) (law old choice s.0 greatest s.1)
-    ∙ (λ (_, (_, (_, (none_chosen, _)))). nothing_in _ (not-false _ none_chosen)) p.0
+    let none_chosen = not-false _ p.0.1.1.1.0 in
+    ap (chosen old) (law old choice s.0 greatest s.1) ∙ nothing_in _ none_chosen
 
 pub closed_count : (old new : Book) (date count : ℕ) → Step old (CloseDay date) (Ok (Closed count)) new
     → count ≡ length (filter is_queued old.orders)
