@@ -20,7 +20,7 @@ use Rattle.rtgs_book.specs.Balance.{balance}
 use Rattle.rtgs_book.specs.Changes.{Leads, balance_set}
 use Rattle.rtgs_book.specs.Commands.{is_before}
 use Rattle.rtgs_book.specs.Lookup.{accounts}
-use Rattle.rtgs_ledger.specs.Accounts.{code_of, is_of, has_key, with_account}
+use Rattle.rtgs_accounts.specs.Accounts.{code_of, is_of, has_key, with_account}
 use Rattle.rtgs_ledger.proofs.Balances.{same_int, all_same, balance_unknown}
 use Rattle.rtgs_ledger.proofs.Kept.{participant_none, is_unknown, any-participants}
 use Rattle.rtgs_ledger.proofs.Kept.{length-participants, prepared_done}
@@ -93,6 +93,7 @@ module _ (r : Whole) (kept : IsKept (held_of r)) (code name key : List ℕ)
   prepared_add free few =
       let step = adds (book_of r) code name key (participant_none r kept code absent)
       (any-participants key r.accounts.accounts ∙ free) (rw (length-participants r.accounts.accounts) few) in
-      prepared_done (held_of r) (Add code name key) Added (AddParticipant p ∷ []) (with_participant (book_of r) p) tt step
+      prepared_done (held_of r) (Add code name key) Added (AddParticipant p ∷ []) (with_participant (book_of r) p) tt
+          step
       leads_to_it ((refl, balance_same code ∙ no_balance), tt) stays_balanced
       (λ k e. absurd (cc)) (λ e. absurd (cc))

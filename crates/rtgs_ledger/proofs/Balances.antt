@@ -19,7 +19,7 @@ use Rattle.rtgs_book.specs.Lookup.{accounts, is_participant}
 use Rattle.rtgs_book.specs.IntSum.{int_sum_by}
 use Rattle.rtgs_book.specs.Soundness.{has_parties, PartiesAreKnown}
 use Rattle.rtgs_book.specs.declared.account.Account.{Account}
-use Rattle.rtgs_ledger.specs.Accounts.{code_of, is_of, rebalanced, with_balance}
+use Rattle.rtgs_accounts.specs.Accounts.{code_of, is_of, rebalanced, with_balance}
 use Rattle.rtgs_lists.proofs.Codes.{bytes_eq_comm}
 use Rattle.rtgs_lists.proofs.Lists.{all_weaker}
 use Rattle.rtgs_lists.proofs.Sums.{int_sum_by-append}
@@ -133,7 +133,8 @@ pub balance_unknown : (book : Book) (code : List ℕ) → PartiesAreKnown book �
     → balance book code ≡ pos 0
 unfolding balance is_participant
 balance_unknown book code parties none =
-    let postings = no_postings code book.postings (all_weaker (λ (p : Posting). list_any (bytes_eq p.code) (accounts book)
+    let postings = no_postings code book.postings (all_weaker (λ (p : Posting). list_any (bytes_eq p.code) (accounts
+    book)
     ≡ true) (λ (p : Posting). bytes_eq p.code code ≡ false) (λ p e. apart_from p.code code (accounts book) none e)
     book.postings parties.1) in
     let orders = no_gains code book.orders (all_weaker (λ o. has_parties book o ≡ true)

@@ -28,13 +28,14 @@ use Rattle.rtgs_choices.specs.Closing.{closed_book, closing_rows}
 use Rattle.rtgs_choices.specs.Settling.{state_rows}
 use Rattle.rtgs_book.specs.declared.account.Account.{Account}
 use Rattle.rtgs_book.specs.Accounts.{is_overdrawn}
-use Rattle.rtgs_ledger.specs.Accounts.{code_of, participant_of}
+use Rattle.rtgs_accounts.specs.Accounts.{code_of, participant_of}
 use Rattle.rtgs_ledger.proofs.Balances.{all_same}
 use Rattle.rtgs_ledger.proofs.Ordering.{is_shut, is_opened, is_day}
 use Rattle.rtgs_ledger.proofs.Rooms.{after-append, accounts_after-states}
 use Rattle.rtgs_ledger.proofs.Withdrawing.{BalanceAfterRestating}
 use Rattle.rtgs_ledger.specs.Closing.{IsClosable}
-use Rattle.rtgs_ledger.proofs.OrderLemmas.{same_numbers}
+use Rattle.rtgs_queues.specs.Laws.{QueuesAreOfTheQueued}
+use Rattle.rtgs_ledger.proofs.Reading.{numbers_are}
 use Rattle.rtgs_cores.specs.Following.{AreBalanced}
 use Rattle.rtgs_ledger.proofs.Whole.{Held, IsKept, IsPrepared, Whole, after, book_of, held_of}
 use Rattle.rtgs_lists.proofs.Lists.{all_of}
@@ -167,12 +168,12 @@ unfolding accounts
 all_queued r = queues_are (book_of r) r.accounts.accounts
 
 -- the queues of the queued orders alone are the same
-pub numbers_queued : (orders queued : List Order) (xs : List Account) → queued ≡ filter is_queued orders
+pub numbers_queued : QueuesAreOfTheQueued → (orders queued : List Order) (xs : List Account) → queued ≡ filter
+    is_queued orders
     → flat_map (λ a. queued_numbers queued (code_of a)) xs ≡ flat_map (λ a. queued_numbers orders (code_of a)) xs
-numbers_queued orders queued [] e = refl
-numbers_queued orders queued (x ∷ xs) e = λ i.
-    (ap (λ os. queued_numbers os (code_of x)) e ∙ sym (same_numbers (code_of x) orders)) i
-    ++ numbers_queued orders queued xs e i
+numbers_queued law orders queued [] e = refl
+numbers_queued law orders queued (x ∷ xs) e = λ i. numbers_are law orders queued (code_of x) e i
+    ++ numbers_queued law orders queued xs e i
 
 -- ---- the closing
 

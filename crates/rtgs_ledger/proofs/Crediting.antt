@@ -18,7 +18,7 @@ use Rattle.rtgs_book.specs.Lookup.{accounts, is_participant}
 use Rattle.rtgs_book.specs.Outcome.{first_of}
 use Rattle.rtgs_book.specs.Step.{Step}
 use Rattle.rtgs_book.specs.declared.account.Account.{Account}
-use Rattle.rtgs_ledger.specs.Accounts.{code_of, is_of, with_limit}
+use Rattle.rtgs_accounts.specs.Accounts.{code_of, is_of, with_limit}
 use Rattle.rtgs_ledger.proofs.Balances.{same_int, all_same}
 use Rattle.rtgs_ledger.proofs.Kept.{prepared_done}
 use Rattle.rtgs_ledger.proofs.Whole.{Held, IsKept, IsPrepared}

@@ -25,7 +25,7 @@ use Rattle.rtgs_book.specs.Step.{Step}
 use Rattle.rtgs_ledger.proofs.Balances.{same_int}
 use Rattle.rtgs_book.specs.declared.account.Account.{Account}
 use Rattle.rtgs_book.specs.declared.limits.TheConstants.{LARGEST_BALANCE}
-use Rattle.rtgs_ledger.specs.Accounts.{code_of, participant_of, balance_of, is_of, has_key}
+use Rattle.rtgs_accounts.specs.Accounts.{code_of, participant_of, balance_of, is_of, has_key}
 use Rattle.rtgs_cores.specs.Following.{AreBalanced}
 use Rattle.rtgs_ledger.proofs.Whole.{Held, IsKept, IsPrepared, Whole, after, book_of, held_of}
 use Rattle.rtgs_lists.proofs.Codes.{bytes_eq_comm}

@@ -37,13 +37,13 @@ use Rattle.rtgs_book.specs.Soundness.{OrdersAreNumbered}
 use Rattle.rtgs_book.specs.Step.{Step}
 use Rattle.rtgs_book.specs.declared.account.Account.{Account}
 use Rattle.rtgs_book.specs.declared.limits.TheConstants.{LONGEST_QUEUE, LARGEST_NUMBER}
-use Rattle.rtgs_ledger.specs.Accounts.{code_of, is_of, with_balance}
+use Rattle.rtgs_accounts.specs.Accounts.{code_of, is_of, with_balance}
 use Rattle.rtgs_ledger.specs.Ordering.{IsTaken}
 use Rattle.rtgs_ledger.proofs.Balances.{same_int, other_int, moved, all_moved, all_same, balance-with_order}
 use Rattle.rtgs_ledger.proofs.Kept.{found_balance, found_is, is_known, balance_at}
 use Rattle.rtgs_ledger.proofs.Kept.{floor_at as floor_is, prepared_done}
 use Rattle.rtgs_cores.specs.declared.Core.{Core}
-use Rattle.rtgs_ledger.specs.declared.records.Records.{Records}
+use Rattle.rtgs_records.specs.declared.records.Records.{Records}
 use Rattle.rtgs_ledger.proofs.Whole.{Held, IsKept, IsOf, IsPrepared, Whole, book_of, held_of, whole}
 use Rattle.rtgs_lists.proofs.Filters.{filter_nothing}
 use Rattle.rtgs_lists.proofs.Lists.{all_of}

@@ -1,78 +1,27 @@
 -- What the desk reads from the records.
-use Rattle.std.proofs.Common.{◌≡◌, ℕ, ◌<◌, Bool, true, false, ◌&&◌, cond, List, [], ◌∷◌, map, filter, length, get_or}
-use Rattle.std.proofs.Common.{find}
-use Rattle.std.proofs.Common.{Some, refl, ap, ◌∙◌, arith}
-use Rattle.std.proofs.lemmas.Bool.Decides.{nat_tests}
-use Rattle.std.proofs.lemmas.List.{get_or-map}
-use Rattle.std.specs.List.{AllByRecursion}
-use Rattle.std.specs.Str.{bytes_eq}
+use Rattle.std.proofs.Common.{◌≡◌, ℕ, ◌<◌, List, [], ◌∷◌, map, filter, length, get_or, find, Some, ap, ◌∙◌, arith}
 use Rattle.rtgs_book.specs.declared.book.Book.{Book}
 use Rattle.rtgs_book.specs.declared.order.Order.{Order}
 use Rattle.rtgs_book.specs.Books.{is_queued}
 use Rattle.rtgs_book.specs.Commands.{has_number}
 use Rattle.rtgs_book.specs.Queue.{queue, queued_among, queued_numbers}
-use Rattle.rtgs_ledger.specs.Orders.{AreRising}
-use Rattle.rtgs_lists.proofs.Lists.{all_at_place, all_filter, all_weaker}
-use Rattle.rtgs_lists.proofs.Numbers.{eq_self}
+use Rattle.rtgs_queues.specs.Laws.{QueuesAreOfTheQueued}
 
-all_both : {X : Type 0} (P Q : X → Type 0) (xs : List X) → AllByRecursion P xs → AllByRecursion Q xs
-    → AllByRecursion (λ x. P x × Q x) xs
-all_both P Q [] h k = tt
-all_both P Q (x ∷ xs) h k = ((h.0, k.0), all_both P Q xs h.1 k.1)
-
--- where numbers rise, each order is found by its own
-pub found_by_number : (os : List Order) → AreRising os → AllByRecursion (λ x. find (has_number x.number) os ≡ Some x) os
-found_by_number [] h = tt
-found_by_number (o ∷ os) h = (
-  rw (eq_self o.number) refl,
-  all_weaker (λ x. (o.number < x.number) × (find (has_number x.number) os ≡ Some x))
-      (λ x. find (has_number x.number) (o ∷ os) ≡ Some x) (λ x k. later x k.0 k.1) os
-      (all_both (λ x. o.number < x.number) (λ x. find (has_number x.number) os ≡ Some x) os h.0
-      (found_by_number os h.1)),
-)
-  where
-    later : (x : Order) → o.number < x.number → find (has_number x.number) os ≡ Some x
-        → find (has_number x.number) (o ∷ os) ≡ Some x
-    later x above found =
-        let apart : has_number x.number o ≡ false = grind (arith, nat_tests, above) in
-        rw apart found
-
--- so the numbers in a queue lead to its orders
-pub queued_at : (os : List Order) → AreRising os → (sender : List ℕ) (k : ℕ) (d : Order)
-    → k < length (queued_among os sender)
-    → find (has_number (get_or (queued_numbers os sender) k 0)) os ≡ Some (get_or (queued_among os sender) k d)
-queued_at os rise sender k d lt =
-    ap (λ n. find (has_number n) os) (get_or-map (λ (o : Order). o.number) (queued_among os sender) k d 0 lt)
-    ∙ all_at_place (λ x. find (has_number x.number) os ≡ Some x) (queued_among os sender)
-    (all_filter (λ x. find (has_number x.number) os ≡ Some x) (λ o. is_queued o && bytes_eq o.sender sender) os
-    (found_by_number os rise)) k d lt
-
--- so each number there leads to an order
+-- each number of a queue leads to an order
 pub leads_home : (os queue : List Order) (numbers : List ℕ) → ((k : ℕ) (d : Order) → k < length numbers
     → find (has_number (get_or numbers k 0)) os ≡ Some (get_or queue k d)) → length numbers ≡ length queue
     → (k : ℕ) → k < length numbers → (o : Order) × (find (has_number (get_or numbers k 0)) os ≡ Some o)
 leads_home os [] numbers found same k lt = absurd (omega (arith, same, lt))
 leads_home os (o ∷ queue) numbers found same k lt = (get_or (o ∷ queue) k o, found k o lt)
 
--- the queues are those among the queued orders
-pub among_queued : (sender : List ℕ) (os : List Order) → queued_among (filter is_queued os) sender
-    ≡ queued_among os sender
-among_queued sender [] = refl
-among_queued sender (o ∷ os) = by (is_queued o) (bytes_eq o.sender sender) refl refl (among_queued sender os)
-  where
-    by : (a b : Bool) → is_queued o ≡ a → bytes_eq o.sender sender ≡ b
-        → queued_among (filter is_queued os) sender ≡ queued_among os sender
-        → queued_among (cond a (o ∷ filter is_queued os) (filter is_queued os)) sender ≡ queued_among (o ∷ os) sender
-    by true true e f rest = rw (e, f) (ap (λ xs. o ∷ xs) rest)
-    by true false e f rest = rw (e, f) rest
-    by false b e f rest = rw e rest
+-- the queues of a ledger are those of its book
+module _ (law : QueuesAreOfTheQueued) where
+  pub queue_is : (book : Book) (os : List Order) (sender : List ℕ) → os ≡ filter is_queued book.orders
+      → queued_among os sender ≡ queue book sender
+  unfolding queue
+  queue_is book os sender e = ap (λ (xs : List Order). queued_among xs sender) e ∙ law book.orders sender
 
-pub queue_is : (book : Book) (os : List Order) (sender : List ℕ) → os ≡ filter is_queued book.orders
-    → queued_among os sender ≡ queue book sender
-unfolding queue
-queue_is book os sender e = ap (λ (xs : List Order). queued_among xs sender) e ∙ among_queued sender book.orders
-
-pub numbers_are : (book : Book) (os : List Order) (sender : List ℕ) → os ≡ filter is_queued book.orders
-    → queued_numbers os sender ≡ queued_numbers book.orders sender
-numbers_are book os sender e = ap (λ (xs : List Order). queued_numbers xs sender) e
-    ∙ ap (map (λ (o : Order). o.number)) (among_queued sender book.orders)
+  pub numbers_are : (all os : List Order) (sender : List ℕ) → os ≡ filter is_queued all
+      → queued_numbers os sender ≡ queued_numbers all sender
+  numbers_are all os sender e = ap (λ (xs : List Order). queued_numbers xs sender) e
+      ∙ ap (map (λ (o : Order). o.number)) (law all sender)

@@ -3,7 +3,7 @@ use Rattle.std.proofs.Common.{◌≡◌, ℕ, ◌≤◌, List, [], ◌∷◌, le
 use Rattle.std.proofs.lemmas.List.{drop_all}
 use Rattle.rtgs_book.specs.declared.change.RowChange.{RowChange}
 use Rattle.rtgs_cores.specs.Following.{core_after}
-use Rattle.rtgs_ledger.specs.Held.{Held, after_row}
+use Rattle.rtgs_records.specs.Held.{Held, after_row}
 
 -- what the rows leave
 abbrev pub after : Held → List RowChange → Held

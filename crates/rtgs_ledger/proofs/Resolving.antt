@@ -33,7 +33,7 @@ use Rattle.rtgs_book.specs.Step.{Step}
 use Rattle.rtgs_choices.specs.Settling.{orders_taken, numbers_taken, state_rows, IsOfBalance, moves, balance_rows}
 use Rattle.rtgs_choices.specs.Settling.{settling_rows}
 use Rattle.rtgs_book.specs.declared.account.Account.{Account}
-use Rattle.rtgs_ledger.specs.Accounts.{code_of, participant_of, is_of, with_balance}
+use Rattle.rtgs_accounts.specs.Accounts.{code_of, participant_of, is_of, with_balance}
 use Rattle.rtgs_ledger.specs.Resolving.{AreGreatest, after_orders, moved_rows}
 use Rattle.rtgs_ledger.proofs.Balances.{moved, all_moved, int_eq-same}
 use Rattle.rtgs_ledger.proofs.Kept.{codes-participants, no_balance_set}

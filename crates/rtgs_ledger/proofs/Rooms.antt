@@ -8,8 +8,8 @@ use Rattle.rtgs_book.specs.declared.order.Order.{Order}
 use Rattle.rtgs_book.specs.declared.order_state.OrderState.{OrderState}
 use Rattle.rtgs_book.specs.Books.{is_queued_state}
 use Rattle.rtgs_choices.specs.Settling.{state_rows, IsOfBalance}
-use Rattle.rtgs_ledger.specs.Held as seen
-use Rattle.rtgs_ledger.specs.Held.{HasRoom}
+use Rattle.rtgs_records.specs.Held as seen
+use Rattle.rtgs_records.specs.Held.{HasRoom}
 use Rattle.rtgs_ledger.proofs.Whole.{Held, after, after_row}
 
 pub after-append : (held : Held) (rows more : List RowChange) → after held (rows ++ more) ≡ after (after held rows) more

@@ -1,11 +1,12 @@
 -- What the resolver is told of the accounts.
 use Rattle.std.proofs.Common.{◌≡◌, ℕ, List, [], ◌∷◌, ◌++◌, map, find, Some, Less, nat_cmp, refl, sym, ap, ◌∙◌, subst}
-use Rattle.std.proofs.Common.{take, drop, length, length-append, append_assoc, suc, ◌<◌, ◌≤◌, ◌+◌, ◌*◌, get_or, true, arith}
+use Rattle.std.proofs.Common.{take, drop, length, length-append, append_assoc, suc, ◌<◌, ◌≤◌, ◌+◌, ◌*◌, get_or, true}
+use Rattle.std.proofs.Common.{arith}
 use Rattle.std.proofs.lemmas.List.{append-nil, length-map, length-take, get_or-map, at_drop_more}
 use Rattle.std.specs.List.{AllByRecursion, position_or_len, flat_map}
 use Rattle.std.specs.Str.{bytes_eq}
 use Rattle.std.specs.List.Sorted.{IsStrictlySortedBy}
-use Rattle.std.specs.Cmp.Lexicographic.{slice_cmp}
+use Rattle.std.specs.Cmp.Lexicographic.{slice_cmp, bytes_decides}
 use Rattle.rtgs_book.specs.declared.book.Book.{Book}
 use Rattle.rtgs_book.specs.Balance.{balance}
 use Rattle.rtgs_book.specs.Lookup.{accounts}
@@ -18,9 +19,8 @@ use Rattle.rtgs_book.specs.Choice.{Choice}
 use Rattle.rtgs_book.specs.Queue.{queue, queued_among}
 use Rattle.rtgs_book.specs.declared.account.Account.{Account}
 use Rattle.rtgs_book.specs.declared.limits.TheConstants.{LONGEST_QUEUE, MOST_PARTICIPANTS, MOST_QUEUED}
-use Rattle.rtgs_ledger.specs.Accounts.{code_of, is_of, AreInCodeOrder}
+use Rattle.rtgs_accounts.specs.Accounts.{code_of, is_of, AreInCodeOrder}
 use Rattle.rtgs_ledger.specs.Choosing.{position_at, taken_from}
-use Rattle.rtgs_ledger.proofs.AccountLemmas.{apart_from_less, equal_codes}
 use Rattle.rtgs_ledger.proofs.Kept.{codes-participants, floor_at as floor_is}
 use Rattle.rtgs_cores.specs.Following.{AreBalanced}
 use Rattle.rtgs_book.specs.Choice.{IsGreatest}
@@ -28,11 +28,13 @@ use Rattle.rtgs_choices.specs.ByIndex.{by_code}
 use Rattle.rtgs_cores.specs.Cores.{IsCoreOf}
 use Rattle.rtgs_gridlock.specs.declared.queues.Payment.{Payment}
 use Rattle.rtgs_gridlock.specs.Choices.{AreFloored, AreInRange, payment_count}
-use Rattle.rtgs_ledger.specs.declared.records.Records.{Records}
+use Rattle.rtgs_records.specs.declared.records.Records.{Records}
 use Rattle.rtgs_ledger.specs.Choosing.{positions_in, queues_in}
-use Rattle.rtgs_ledger.specs.Held as seen
-use Rattle.rtgs_ledger.specs.Records.{held_of as seen_of}
+use Rattle.rtgs_records.specs.Held as seen
+use Rattle.rtgs_records.specs.Records.{held_of as seen_of}
 use Rattle.rtgs_ledger.specs.Resolving.{AreGreatest, CanResolve}
+use Rattle.rtgs_queues.specs.Laws.{QueuesAreOfTheQueued}
+use Rattle.rtgs_lists.proofs.Codes.{later_differs}
 use Rattle.rtgs_ledger.proofs.Loading.{in_order}
 use Rattle.rtgs_ledger.proofs.Reading.{queue_is}
 use Rattle.rtgs_ledger.proofs.Whole.{IsKept, Whole, book_of, held_of, is_of_book, whole}
@@ -50,7 +52,7 @@ apart_from : (x : Account) (xs ys : List Account) → AllByRecursion (λ c. slic
     → AllByRecursion (λ a. find (is_of (code_of a)) (x ∷ xs) ≡ Some a) ys
 apart_from x xs [] less h = tt
 apart_from x xs (y ∷ ys) less h = (
-  rw (apart_from_less (code_of x) (code_of y) less.0) h.0,
+  rw (later_differs (code_of x) (code_of y) less.0) h.0,
   apart_from x xs ys less.1
       h.1,
 )
@@ -60,7 +62,7 @@ all_found : (xs : List Account) → AreInCodeOrder xs → AllByRecursion (λ a. 
 unfolding IsStrictlySortedBy
 all_found [] rise = tt
 all_found (x ∷ xs) rise = (
-  rw (equal_codes (code_of x) (code_of x) refl) refl,
+  rw ((bytes_decides (code_of x) (code_of x)).1 refl) refl,
   apart_from x xs xs rise.0
       (all_found xs rise.1),
 )
@@ -219,10 +221,11 @@ records_of held = record {
 
 -- ---- what the resolver is told of a ledger that has the core of a book
 
-module _ (book : Book) (r : Records) (held : seen.Held) (view : seen_of r ≡ held) (is : IsCoreOf book held.core) where
+module _ (book : Book) (r : Records) (held : seen.Held) (view : seen_of r ≡ held) (is : IsCoreOf book held.core)
+    (law : QueuesAreOfTheQueued) where
   queues_same : (code : List ℕ) → queued_among r.orders.orders code ≡ queue (book_of (whole book r)) code
   queues_same code = let of = is_of_book book r held view is in
-      queue_is (book_of (whole book r)) r.orders.orders code of.queued
+      queue_is law (book_of (whole book r)) r.orders.orders code of.queued
 
   pub positions_told : positions_in held.core ≡ positions_of book
   positions_told =
@@ -242,13 +245,13 @@ module _ (book : Book) (r : Records) (held : seen.Held) (view : seen_of r ≡ he
       → i < length (accounts b) → by_code b lengths (code_at b i) ≡ lengths i) → IsGreatest book (by_code book lengths)
       → (orders : List Order) → orders ≡ taken_from lengths held.core.queued 0 held.core.accounts
       → AreGreatest book orders
-  greatest_taken lengths law greatest orders e =
+  greatest_taken lengths agreed greatest orders e =
       let of = is_of_book book r held view is in
       let choice = by_code book lengths in
       let agree : (k : ℕ) (d : Account) → k < length r.accounts.accounts
       → choice (code_of (get_or r.accounts.accounts k d)) ≡ lengths k = λ k d lt.
       ap choice (sym (code_at_is (whole book r) k d lt) ∙ ap (λ (b : Book). code_at b k) of.same)
-      ∙ law book lengths k is.sound (subst (λ n. k < n) (sym (count_is (whole book r))
+      ∙ agreed book lengths k is.sound (subst (λ n. k < n) (sym (count_is (whole book r))
       ∙ ap (λ (b : Book). length (accounts b)) of.same) lt) in
       let here : orders ≡ taken_from lengths r.orders.orders 0 r.accounts.accounts = e
       ∙ ap (λ (h : seen.Held). taken_from lengths h.core.queued 0 h.core.accounts) (sym view) in

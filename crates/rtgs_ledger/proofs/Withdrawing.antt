@@ -2,8 +2,7 @@
 use Rattle.std.proofs.Common.{◌≡◌, ℕ, Bool, true, false, cond, if◌then◌else◌, List, [], ◌∷◌, find, Ok, Err, Some}
 use Rattle.std.proofs.Common.{None, ◌⊎◌, inl, inr, refl, sym, ap, subst, ◌∙◌, arith}
 use Rattle.std.proofs.lemmas.Bool.Decides.{nat_tests}
-use Rattle.std.proofs.lemmas.List.{length-map}
-use Rattle.std.specs.List.{AllByRecursion, range_with_len}
+use Rattle.std.specs.List.{AllByRecursion}
 use Rattle.std.specs.Ordering.{int_eq}
 use Rattle.rtgs_book.specs.declared.command.Command.TheVariants as command
 use Rattle.rtgs_book.specs.declared.answer.Answer.TheVariants as answer
@@ -24,8 +23,7 @@ use Rattle.rtgs_book.specs.Soundness.{OrdersAreNumbered}
 use Rattle.rtgs_book.specs.Step.{Step}
 use Rattle.rtgs_ledger.proofs.Balances.{same_int, all_same}
 use Rattle.rtgs_ledger.proofs.Kept.{prepared_done}
-use Rattle.rtgs_ledger.proofs.Loading.{rising_from}
-use Rattle.rtgs_ledger.proofs.Reading.{found_by_number}
+use Rattle.rtgs_queues.specs.Laws.{NumbersLeadToOrders}
 use Rattle.rtgs_ledger.proofs.Whole.{Held, IsKept, IsPrepared}
 use Rattle.rtgs_lists.proofs.Lists.{all_of, all_weaker}
 
@@ -75,11 +73,10 @@ found_has {X} P p (y ∷ ys) x h e = by (p y) e (found_has P p ys x h.1)
     by false e rest = rest e
 
 -- it is the one that was found
-pub alone_in_number : (book : Book) → OrdersAreNumbered book → (p : Order → Bool) (o : Order)
+pub alone_in_number : NumbersLeadToOrders → (book : Book) → OrdersAreNumbered book → (p : Order → Bool) (o : Order)
     → find p book.orders ≡ Some o → AllByRecursion (λ x. has_number o.number x ≡ true → x ≡ o) book.orders
-alone_in_number book numbered p o found =
-    let all = found_by_number book.orders (rising_from 1 book.orders (numbered.0 ∙ ap (range_with_len 1)
-    (length-map book.orders (λ (x : Order). x.number)))) in
+alone_in_number law book numbered p o found =
+    let all = law book numbered in
     let its : find (has_number o.number) book.orders ≡ Some o =
     found_has (λ x. find (has_number x.number) book.orders ≡ Some x) p book.orders o all found in
     all_weaker (λ x. find (has_number x.number) book.orders ≡ Some x) (λ x. has_number o.number x ≡ true → x ≡ o)
@@ -98,16 +95,19 @@ BalanceAfterRestating = (book : Book) (is_in : Order → Bool) (state : OrderSta
     → AllByRecursion (λ order. is_in order ≡ true → is_queued order ≡ true) book.orders → is_settled_state state ≡ false
     → balance (with_state book is_in state) code ≡ balance book code
 
-module _ (held : Held) (kept : IsKept held) (law : BalanceAfterRestating) (sender reference : List ℕ) (o : Order)
+module _ (held : Held) (kept : IsKept held) (law : BalanceAfterRestating) (numbers : NumbersLeadToOrders)
+    (sender reference : List ℕ) (o : Order)
     (found : order_named held.content sender reference ≡ Some o) (waits : is_queued_state o.state ≡ true) where
   abbrev new : Book
   new = with_state held.content (has_number o.number) Withdrawn
 
   all_wait : AllByRecursion (λ x. has_number o.number x ≡ true → is_queued x ≡ true) held.content.orders
   unfolding order_named
-  all_wait = all_weaker (λ x. has_number o.number x ≡ true → x ≡ o) (λ x. has_number o.number x ≡ true → is_queued x ≡ true)
+  all_wait = all_weaker (λ x. has_number o.number x ≡ true → x ≡ o) (λ x. has_number o.number x ≡ true → is_queued x ≡
+      true)
       (λ x h e. ap is_queued (h e) ∙ waits) held.content.orders
-      (alone_in_number held.content (let s = kept.sound in s.orders_numbered) (is_order_named sender reference) o found)
+      (alone_in_number numbers held.content (let s = kept.sound in s.orders_numbered) (is_order_named sender
+      reference) o found)
 
   balance_same : (c : List ℕ) → balance held.content c ≡ balance new c
   balance_same c = sym (law held.content (has_number o.number) Withdrawn c all_wait refl)

@@ -10,7 +10,7 @@ use Rattle.rtgs_book.specs.Queue.{queued_among}
 use Rattle.rtgs_cores.specs.declared.Core.{Core}
 use Rattle.rtgs_gridlock.specs.declared.positions.Position.{Position}
 use Rattle.rtgs_gridlock.specs.declared.queues.Payment.{Payment}
-use Rattle.rtgs_ledger.specs.Accounts.{code_of}
+use Rattle.rtgs_accounts.specs.Accounts.{code_of}
 
 -- the balance of an account, and the least that it may be
 abbrev pub position_at : Phase → Account → Position

@@ -1,13 +1,8 @@
-pub mod Accounts
 pub mod Alone
 pub mod Choosing
 pub mod Closing
-pub mod Held
 pub mod Keys
+pub mod Kept
 pub mod Kinds
 pub mod Ordering
-pub mod Orders
-pub mod Queues
-pub mod Records
 pub mod Resolving
-pub mod Kept

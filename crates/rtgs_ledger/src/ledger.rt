@@ -3,7 +3,7 @@ ghost use Rattle.std.specs.Prelude.{◌≡◌, [], IfOk, IfErr, false};
 ghost use Rattle.rtgs_book.specs.declared.book.Book.{Book};
 ghost use Rattle.rtgs_cores.specs.Cores.{IsCoreOf, found_for};
 ghost use Rattle.rtgs_cores.specs.Following.{core_after};
-ghost use Rattle.rtgs_ledger.specs.Held.{HasRoom};
+ghost use Rattle.rtgs_records.specs.Held.{HasRoom};
 ghost use Rattle.rtgs_ledger.specs.Kept.{IsPrepared, IsRefused};
 ghost use Rattle.rtgs_ledger.specs.Kinds.{CanAnswer, is_of_the_store};
 
@@ -19,11 +19,12 @@ mod reading;
 mod resolving;
 mod withdrawing;
 
-use crate::accounts::Accounts;
-use crate::orders::Orders;
-use crate::records::Records;
+use rtgs_accounts::Accounts;
 use rtgs_book::{Answer, Change, Command, Known, Refusal, Rows};
 use rtgs_cores::{Core, Found};
+use rtgs_queues::Orders;
+use rtgs_queues::laws::queued_orders_can_be_loaded;
+use rtgs_records::Records;
 use std::alloc::{AllocError, Global};
 use std::marker::Model;
 
@@ -37,8 +38,8 @@ pub struct Ledger {
 
 impl Model for Ledger {
     ghost use Rattle.std.specs.Prelude.{◌≡◌, true};
-    ghost use Rattle.rtgs_ledger.specs.Held.{Held};
-    ghost use Rattle.rtgs_ledger.specs.Records.{held_of};
+    ghost use Rattle.rtgs_records.specs.Held.{Held};
+    ghost use Rattle.rtgs_records.specs.Records.{held_of};
 
     ghost Value = { Held };
 
@@ -53,6 +54,7 @@ impl Ledger {
         requires { (book : Book) × IsCoreOf book core }
         ensures { IfOk result (λ ledger. ledger.core ≡ core) }
     {
+        queued_orders_can_be_loaded();
         let Core {
             accounts,
             queued,

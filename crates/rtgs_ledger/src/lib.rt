@@ -3,11 +3,6 @@
 //! nothing, and its change is adopted, which takes no memory.
 #![tactic(auto)]
 
-mod accounts;
 mod ledger;
-mod orders;
-mod queues;
-mod records;
-mod sums;
 
 pub use crate::ledger::Ledger;

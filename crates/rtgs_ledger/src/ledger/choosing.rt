@@ -13,6 +13,7 @@ use rtgs_book::{MOST_QUEUED, Order};
 use rtgs_choices::laws;
 use rtgs_gridlock::{OutOfMemory, Payment, Position, Positions, Queues, Workspace, greatest};
 use rtgs_money::Code;
+use rtgs_queues::laws::queues_are_of_the_queued;
 use std::alloc::AllocError;
 
 impl Ledger {
@@ -21,6 +22,7 @@ impl Ledger {
         ensures { (book : Book) → IsCoreOf book self.now.core → IfOk result (λ orders. AreGreatest book orders.items) }
     {
         laws::choices_agree();
+        queues_are_of_the_queued();
         let lengths = self.greatest_lengths()?;
         let orders = self.beginnings(lengths.as_slice())?;
         Ok(orders)
@@ -36,6 +38,7 @@ impl Ledger {
     {
         laws::conditions_hold();
         laws::greatest_means_greatest();
+        queues_are_of_the_queued();
         let positions = self.positions()?;
         let queues = self.payments()?;
         if !can_resolve(&positions, &queues) {

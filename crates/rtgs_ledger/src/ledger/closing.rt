@@ -5,9 +5,9 @@ ghost use Rattle.rtgs_book.specs.Queue.{queued_numbers};
 ghost use Rattle.rtgs_choices.specs.Settling.{state_rows};
 ghost use Rattle.rtgs_book.specs.declared.book.Book.{Book};
 ghost use Rattle.rtgs_cores.specs.Cores.{IsCoreOf};
-ghost use Rattle.rtgs_ledger.specs.Accounts.{code_of};
+ghost use Rattle.rtgs_accounts.specs.Accounts.{code_of};
 ghost use Rattle.rtgs_ledger.specs.Closing.{IsClosable};
-ghost use Rattle.rtgs_ledger.specs.Held.{HasRoom};
+ghost use Rattle.rtgs_records.specs.Held.{HasRoom};
 ghost use Rattle.rtgs_ledger.specs.Kept.{IsPrepared, IsRefused};
 ghost use Rattle.rtgs_ledger.specs.Kinds.{CanAnswer, is_of_the_store};
 
@@ -17,6 +17,7 @@ use rtgs_book::{
 };
 use rtgs_choices::laws::{chosen_numbers, queued_are_numbered, rows_close, taken_are_chosen};
 use rtgs_money::BusinessDate;
+use rtgs_queues::laws::queues_are_of_the_queued;
 use std::alloc::{AllocError, Global};
 
 impl Ledger {
@@ -75,6 +76,7 @@ impl Ledger {
         }
         laws::balance_after_restating();
         queued_are_numbered();
+        queues_are_of_the_queued();
         rows_close();
         let numbers = self.queued_numbers()?;
         let day = Day {

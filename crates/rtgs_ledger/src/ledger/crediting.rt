@@ -2,7 +2,7 @@
 ghost use Rattle.std.specs.Prelude.{◌≡◌, IfOk, IfErr, false};
 ghost use Rattle.rtgs_book.specs.declared.book.Book.{Book};
 ghost use Rattle.rtgs_cores.specs.Cores.{IsCoreOf};
-ghost use Rattle.rtgs_ledger.specs.Held.{HasRoom};
+ghost use Rattle.rtgs_records.specs.Held.{HasRoom};
 ghost use Rattle.rtgs_ledger.specs.Kept.{IsPrepared, IsRefused};
 ghost use Rattle.rtgs_ledger.specs.Kinds.{CanAnswer, is_of_the_store};
 

@@ -3,22 +3,23 @@ ghost use Rattle.std.specs.Prelude.{◌≡◌, ◌≤◌, ◌∷◌, [], true, f
 ghost use Rattle.std.specs.List.{find};
 ghost use Rattle.rtgs_book.specs.Commands.{settles_at_once};
 ghost use Rattle.rtgs_book.specs.declared.limits.TheConstants.{LARGEST_NUMBER};
-ghost use Rattle.rtgs_ledger.specs.Accounts.{is_of};
+ghost use Rattle.rtgs_accounts.specs.Accounts.{is_of};
 ghost use Rattle.rtgs_book.specs.declared.book.Book.{Book};
 ghost use Rattle.rtgs_book.specs.Lookup.{order_named};
 ghost use Rattle.rtgs_cores.specs.Cores.{IsCoreOf};
-ghost use Rattle.rtgs_ledger.specs.Held.{HasRoom};
+ghost use Rattle.rtgs_records.specs.Held.{HasRoom};
 ghost use Rattle.rtgs_ledger.specs.Kept.{IsPrepared, IsRefused};
 ghost use Rattle.rtgs_ledger.specs.Kinds.{CanAnswer, is_of_the_store};
 ghost use Rattle.rtgs_ledger.specs.Ordering.{IsTaken};
 
 use super::Ledger;
-use crate::sums::{with_less, with_more};
+use rtgs_accounts::sums::{with_less, with_more};
 use rtgs_book::{
     Account, Answer, Change, Command, Known, LARGEST_NUMBER, LONGEST_QUEUE, Mark, Order,
     OrderState, Refusal, RowChange, Rows, laws,
 };
 use rtgs_money::{Amount, Cents, Code, Reference};
+use rtgs_queues::laws::queues_are_of_the_queued;
 use std::alloc::{AllocError, Global};
 
 impl Ledger {
@@ -42,6 +43,7 @@ impl Ledger {
         ensures refused { (book : Book) → IsCoreOf book self.old.core → found ≡ order_named book sender reference
             → IfErr result (IsRefused book (Command.Order sender reference receiver amount)) }
     {
+        queues_are_of_the_queued();
         let Some(debtor) = self.records.accounts.get(&sender) else {
             return Err(Refusal::UnknownParticipant);
         };
@@ -130,6 +132,7 @@ impl Ledger {
             (Command.Order order.sender order.reference order.receiver order.amount) answer change) }
         ensures refused { IfErr result (λ refusal. refusal ≡ Refusal.OutOfMemory) }
     {
+        queues_are_of_the_queued();
         let place = self.records.orders.queue(&order.sender).len() as u64 + 1;
         let rows = vec![in self.alloc; RowChange::AddOrder(order)]?;
         self.records.orders.reserve(order.sender)?;

@@ -8,13 +8,14 @@ ghost use Rattle.rtgs_book.specs.Lookup as lookup;
 ghost use Rattle.rtgs_book.specs.Queue.{queue, queued_among};
 ghost use Rattle.rtgs_book.specs.Soundness.{IsSound};
 ghost use Rattle.rtgs_cores.specs.Cores.{IsCoreOf};
-ghost use Rattle.rtgs_ledger.specs.Accounts.{participant_of};
+ghost use Rattle.rtgs_accounts.specs.Accounts.{participant_of};
 ghost use Rattle.rtgs_ledger.specs.Alone.{book_of};
 ghost use Rattle.rtgs_ledger.specs.Keys.{code_under};
 
 use super::Ledger;
 use rtgs_book::{Account, Day, Order};
 use rtgs_money::{Code, KeyDigest};
+use rtgs_queues::laws::queues_are_of_the_queued;
 use std::alloc::AllocError;
 
 impl Ledger {
@@ -52,6 +53,7 @@ impl Ledger {
         ensures told { (book : Book) → IsCoreOf book self.now.core
             → IfOk result (λ orders. orders.items ≡ queue book sender.now) }
     {
+        queues_are_of_the_queued();
         let numbers = self.records.orders.queue(sender);
         let mut queue = Vec::with_capacity(self.alloc, numbers.len())?;
         for number in numbers {

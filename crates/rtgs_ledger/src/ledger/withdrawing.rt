@@ -3,7 +3,7 @@ ghost use Rattle.std.specs.Prelude.{◌≡◌, IfOk, IfErr, false};
 ghost use Rattle.rtgs_book.specs.declared.book.Book.{Book};
 ghost use Rattle.rtgs_book.specs.Lookup.{order_named};
 ghost use Rattle.rtgs_cores.specs.Cores.{IsCoreOf};
-ghost use Rattle.rtgs_ledger.specs.Held.{HasRoom};
+ghost use Rattle.rtgs_records.specs.Held.{HasRoom};
 ghost use Rattle.rtgs_ledger.specs.Kept.{IsPrepared, IsRefused};
 ghost use Rattle.rtgs_ledger.specs.Kinds.{CanAnswer, is_of_the_store};
 
@@ -12,6 +12,7 @@ use rtgs_book::{
     Answer, Change, Command, Known, Order, OrderState, Refusal, RowChange, Rows, laws,
 };
 use rtgs_money::{Code, Reference};
+use rtgs_queues::laws::numbers_lead_to_orders;
 
 impl Ledger {
     /// A queued order is taken back by its sender.
@@ -50,6 +51,7 @@ impl Ledger {
             OrderState::Queued => {}
         }
         laws::balance_after_restating();
+        numbers_lead_to_orders();
         let state = OrderState::Withdrawn;
         let rows = vec![in self.alloc; RowChange::SetState { number, state }]?;
         Ok((Answer::Withdrawn { number }, Rows::from_vec(rows)))

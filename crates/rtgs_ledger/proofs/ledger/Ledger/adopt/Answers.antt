@@ -1,6 +1,6 @@
 use Rattle.std.proofs.Common.{◌≡◌, ◌∙◌, ap}
-use Rattle.rtgs_ledger.specs.Held.{Held}
-use Rattle.rtgs_ledger.specs.Records.{held_of, core_in}
+use Rattle.rtgs_records.specs.Held.{Held}
+use Rattle.rtgs_records.specs.Records.{held_of, core_in}
 use Rattle.rtgs_ledger.proofs.RecordLemmas.{arrived, core-after}
 use Rattle.rtgs_ledger.proofs.ledger.Ledger.adopt.Goals as goal
 

@@ -1,6 +1,6 @@
 use Rattle.std.proofs.Common.{◌≡◌, drop}
-use Rattle.rtgs_ledger.specs.Records.{held_of}
-use Rattle.rtgs_ledger.specs.Held.{HasRoom}
+use Rattle.rtgs_records.specs.Records.{held_of}
+use Rattle.rtgs_records.specs.Held.{HasRoom}
 use Rattle.rtgs_ledger.proofs.RecordLemmas.{after}
 use Rattle.rtgs_ledger.proofs.ledger.Ledger.adopt.Given as goal
 

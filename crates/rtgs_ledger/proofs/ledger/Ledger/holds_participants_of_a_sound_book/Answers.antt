@@ -1,5 +1,5 @@
 use Rattle.std.proofs.Common.{ap}
-use Rattle.rtgs_ledger.specs.Held.{Held}
+use Rattle.rtgs_records.specs.Held.{Held}
 use Rattle.rtgs_ledger.proofs.Alone.{sound_alone}
 use Rattle.rtgs_ledger.proofs.ledger.Ledger.holds_participants_of_a_sound_book.Goals as goal
 

@@ -3,7 +3,7 @@ use Rattle.std.proofs.Common.{sym, ap, Vec, Global, arith}
 use Rattle.std.proofs.lemmas.List.{get_or-map, drop_all}
 use Rattle.rtgs_book.specs.declared.order.Order.{Order}
 use Rattle.rtgs_book.specs.declared.account.Account.{Account}
-use Rattle.rtgs_ledger.specs.Held.{Held}
+use Rattle.rtgs_records.specs.Held.{Held}
 use Rattle.rtgs_ledger.specs.Resolving.{after_orders, moved_accounts}
 use Rattle.rtgs_ledger.proofs.Settling.{does_move, one_moves, one_stays}
 use Rattle.rtgs_ledger.proofs.Telling.{all_done}

@@ -1,6 +1,6 @@
 use Rattle.std.proofs.Common.{◌∙◌, ap}
 use Rattle.rtgs_ledger.specs.Choosing.{payment_in}
-use Rattle.rtgs_ledger.specs.Held.{Held}
+use Rattle.rtgs_records.specs.Held.{Held}
 use Rattle.rtgs_ledger.proofs.ledger.Ledger.payment_of.Goals as goal
 
 pub returns : goal.returns

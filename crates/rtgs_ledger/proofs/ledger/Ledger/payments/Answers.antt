@@ -1,9 +1,9 @@
 use Rattle.std.proofs.Common.{◌∙◌, ap, map}
 use Rattle.std.proofs.lemmas.List.{drop_all}
 use Rattle.rtgs_book.specs.declared.account.Account.{Account}
-use Rattle.rtgs_ledger.specs.Accounts.{code_of}
+use Rattle.rtgs_accounts.specs.Accounts.{code_of}
 use Rattle.rtgs_ledger.specs.Choosing.{payments_in}
-use Rattle.rtgs_ledger.specs.Held.{Held}
+use Rattle.rtgs_records.specs.Held.{Held}
 use Rattle.rtgs_ledger.proofs.Telling.{all_done}
 use Rattle.rtgs_ledger.proofs.ledger.Ledger.payments.Goals as goal
 

@@ -5,7 +5,7 @@ use Rattle.std.specs.Str.{bytes_eq}
 use Rattle.std.specs.List.{list_any}
 use Rattle.rtgs_book.specs.declared.answer.Known.TheVariants.{Nothing}
 use Rattle.rtgs_book.specs.declared.limits.TheConstants.{MOST_PARTICIPANTS}
-use Rattle.rtgs_ledger.specs.Accounts.{has_key}
+use Rattle.rtgs_accounts.specs.Accounts.{has_key}
 use Rattle.rtgs_ledger.proofs.Adding.{repeats, code_taken, key_taken, too_many, prepared_add}
 use Rattle.rtgs_ledger.proofs.Kept.{participant_at, participant_none, prepared_repeat, any-participants}
 use Rattle.rtgs_ledger.proofs.Kept.{length-participants}

@@ -9,9 +9,9 @@ use Rattle.rtgs_book.specs.Books.{is_queued}
 use Rattle.rtgs_book.specs.Lookup.{accounts}
 use Rattle.rtgs_book.specs.Queue.{queued_numbers}
 use Rattle.rtgs_choices.specs.Closing.{closed_book}
-use Rattle.rtgs_ledger.specs.Accounts.{code_of}
+use Rattle.rtgs_accounts.specs.Accounts.{code_of}
 use Rattle.rtgs_ledger.specs.Closing.{IsClosable}
-use Rattle.rtgs_ledger.specs.Held as seen
+use Rattle.rtgs_records.specs.Held as seen
 use Rattle.rtgs_ledger.proofs.Closing.{overdraws, nobody_below, prepared_closing, all_queued, numbers_queued}
 use Rattle.rtgs_ledger.proofs.Rooms.{room_for_states}
 use Rattle.rtgs_ledger.proofs.Whole.{held_of, book_of, whole, is_of_book, to_refused, to_prepared}
@@ -45,7 +45,8 @@ returns-clause-prepared c book is can =
     c.in_ok-numbers.ensures
     ∙ ap (λ (h : seen.Held). flat_map (λ (a : Account). queued_numbers h.core.queued (code_of a)) h.core.accounts)
     (sym c.self.view_is)
-    ∙ numbers_queued book.orders c.self.inside.records.orders.orders r.accounts.accounts of.queued ∙ all_queued r in
+    ∙ numbers_queued c.queues_are_of_the_queued.ensures book.orders c.self.inside.records.orders.orders
+    r.accounts.accounts of.queued ∙ all_queued r in
     let count : c.len-rejected.result ≡ length (filter is_queued here.orders) = c.len-rejected.ensures
     ∙ c.in_ok-numbers.numbers.ok.0 ∙ ap length numbers
     ∙ sym (c.queued_are_numbered.ensures.count here of.kept.sound) in

@@ -8,7 +8,7 @@ use Rattle.rtgs_book.specs.declared.limits.TheConstants.{LONGEST_QUEUE, LARGEST_
 use Rattle.rtgs_book.specs.Commands.{settles_at_once}
 use Rattle.rtgs_book.specs.Lookup.{order_named}
 use Rattle.rtgs_book.specs.Queue.{queue}
-use Rattle.rtgs_ledger.specs.Accounts.{code_of, is_of}
+use Rattle.rtgs_accounts.specs.Accounts.{code_of, is_of}
 use Rattle.rtgs_ledger.proofs.Reading.{numbers_are}
 use Rattle.rtgs_ledger.proofs.Kept.{is_known, is_unknown, prepared_repeat}
 use Rattle.rtgs_ledger.proofs.Ordering.{unknown, repeats, reference_used, not_open, unknown_receiver, same_party}
@@ -58,7 +58,8 @@ returns-in-Some-found-clause-refused c book is found =
     let o = c.in-Some-found.found in
     let there = is_known r of.kept c.args.sender c.in-Some.debtor (sym c.get.ensures ∙ c.in-Some.is) in
     let other : (bytes_eq o.receiver c.args.receiver && (o.amount == c.args.amount)) ≡ false = elim c.else-eq.branch [
-      | else-eq-via-then-eq+else-eq-2 w ↦ and_right_false (bytes_eq o.receiver c.args.receiver) (o.amount == c.args.amount)
+      | else-eq-via-then-eq+else-eq-2 w ↦ and_right_false (bytes_eq o.receiver c.args.receiver) (o.amount ==
+          c.args.amount)
           (sym w.eq-then-eq.ensures ∙ w.if-eq-2.false)
       | else-eq-via-else-eq w ↦ and_left_false (bytes_eq o.receiver c.args.receiver) (o.amount == c.args.amount)
           (sym c.eq.ensures ∙ w.if-eq.false)
@@ -157,7 +158,8 @@ returns-then-settles_at_once-clause-prepared c book is found =
     let few : nat_le LARGEST_NUMBER (length book.orders)
     ≡ false = (let next = c.next.ensures ∙ of.orders in let test = c.if-next.false in
     grind (arith, nat_tests, next, test)) in
-    let numbers = numbers_are book c.self.inside.records.orders.orders (code_of c.in-Some.debtor) of.queued in
+    let numbers = numbers_are c.queues_are_of_the_queued.ensures book.orders c.self.inside.records.orders.orders
+    (code_of c.in-Some.debtor) of.queued in
     let settles = settles_is r of.kept c.args.sender c.in-Some.debtor c.args.amount from
     ∙ (rw numbers at (sym c.settles_at_once.ensures.value ∙ c.if-settles_at_once.true)) in
     let o = c.next_order-order.result in
@@ -191,11 +193,13 @@ returns-then-queue-ge-LONGEST_QUEUE-clause-refused c book is found =
     let few : nat_le LARGEST_NUMBER (length r.orders)
     ≡ false = (let next = c.next.ensures ∙ of.orders in let test = c.if-next.false in grind
     (arith, nat_tests, next, test)) in
-    let numbers = numbers_are book c.self.inside.records.orders.orders (code_of c.in-Some.debtor) of.queued in
+    let numbers = numbers_are c.queues_are_of_the_queued.ensures book.orders c.self.inside.records.orders.orders
+    (code_of c.in-Some.debtor) of.queued in
     let waits = settles_is r of.kept c.args.sender c.in-Some.debtor c.args.amount from
     ∙ (rw numbers at (sym c.settles_at_once.ensures.value ∙ c.if-settles_at_once.false)) in
     let long : length c.queue.result.now ≡ length (queue (book_of r) c.args.sender) = ap length (c.queue.ensures.numbers
-    ∙ numbers_are book c.self.inside.records.orders.orders c.args.sender of.queued)
+    ∙ numbers_are c.queues_are_of_the_queued.ensures book.orders c.self.inside.records.orders.orders c.args.sender
+    of.queued)
     ∙ queued_length (book_of r) c.args.sender in
     let full : nat_le LONGEST_QUEUE (length (queue (book_of r) c.args.sender))
     ≡ true = grind (arith, nat_tests, long, c.if-queue-ge-LONGEST_QUEUE.true) in
@@ -219,11 +223,13 @@ returns-clause-prepared c book is found =
     let few : nat_le LARGEST_NUMBER (length book.orders)
     ≡ false = (let next = c.next.ensures ∙ of.orders in let test = c.if-next.false in
     grind (arith, nat_tests, next, test)) in
-    let numbers = numbers_are book c.self.inside.records.orders.orders (code_of c.in-Some.debtor) of.queued in
+    let numbers = numbers_are c.queues_are_of_the_queued.ensures book.orders c.self.inside.records.orders.orders
+    (code_of c.in-Some.debtor) of.queued in
     let waits = settles_is r of.kept c.args.sender c.in-Some.debtor c.args.amount from
     ∙ (rw numbers at (sym c.settles_at_once.ensures.value ∙ c.if-settles_at_once.false)) in
     let long : length c.queue.result.now ≡ length (queue (book_of r) c.args.sender) = ap length (c.queue.ensures.numbers
-    ∙ numbers_are book c.self.inside.records.orders.orders c.args.sender of.queued)
+    ∙ numbers_are c.queues_are_of_the_queued.ensures book.orders c.self.inside.records.orders.orders c.args.sender
+    of.queued)
     ∙ queued_length (book_of r) c.args.sender in
     let short : nat_le LONGEST_QUEUE (length (queue (book_of r) c.args.sender))
     ≡ false = grind (arith, nat_tests, long, c.if-queue-ge-LONGEST_QUEUE.false) in

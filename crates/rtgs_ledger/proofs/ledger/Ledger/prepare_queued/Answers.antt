@@ -20,6 +20,6 @@ returns-clause-prepared c book is taken waits =
     let waits_here = subst (λ (b : Book). settles_at_once b o.sender o.amount ≡ false) (sym of.same) waits in
     let place : length c.queue.result.now ≡ length (queue (book_of w) o.sender) = ap length c.queue.ensures.numbers
     ∙ length-map (queued_among r.orders.orders o.sender) (λ (x : Order). x.number)
-    ∙ ap length (queue_is (book_of w) r.orders.orders o.sender of.queued) in
+    ∙ ap length (queue_is c.queues_are_of_the_queued.ensures (book_of w) r.orders.orders o.sender of.queued) in
     rw (c.from_vec.ensures, c.in_ok-rows.ensures.items, place) (to_prepared book r c.args.self.now.core of _ _ _
     (prepared_queued (held_of w) of.kept o taken_here waits_here))

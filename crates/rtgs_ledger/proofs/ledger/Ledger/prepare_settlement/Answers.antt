@@ -7,8 +7,8 @@ use Rattle.rtgs_book.specs.declared.book.Book.{Book}
 use Rattle.rtgs_book.specs.declared.change.RowChange.TheVariants.{AddMark, SetState}
 use Rattle.rtgs_book.specs.declared.order.Order.{Order}
 use Rattle.rtgs_book.specs.declared.order_state.OrderState.TheVariants.{Settled}
-use Rattle.rtgs_ledger.specs.Held as seen
-use Rattle.rtgs_ledger.specs.Held.{HasRoom}
+use Rattle.rtgs_records.specs.Held as seen
+use Rattle.rtgs_records.specs.Held.{HasRoom}
 use Rattle.rtgs_ledger.specs.Resolving.{AreGreatest, AreSmall, moved_rows}
 use Rattle.rtgs_ledger.proofs.Resolving.{resolved}
 use Rattle.rtgs_ledger.proofs.Rooms.{room_for_orders, balances_fit}

@@ -76,6 +76,7 @@ returns-clause-prepared c book is found =
     let o = c.in-Some-found.found in
     let there = is_known r of.kept c.args.sender c.in-Some.field-0 (sym c.get.ensures ∙ c.in-Some.is) in
     rw (c.from_vec.ensures, c.in_ok-rows.ensures.items) (to_prepared book c.self.inside.records c.args.self.now.core of
-    _ _ _ (prepared_withdraw (held_of r) of.kept c.balance_after_restating.ensures c.args.sender c.args.reference o
+    _ _ _ (prepared_withdraw (held_of r) of.kept c.balance_after_restating.ensures
+    c.numbers_lead_to_orders.ensures c.args.sender c.args.reference o
     (sym found_here ∙ c.in-Some-found.is) (ap is_queued_state c.in-Queued.is)
     there (ap is_withdrawn_state c.in-Queued.is)))

@@ -4,7 +4,7 @@ use Rattle.std.proofs.Common.{arith}
 use Rattle.std.proofs.lemmas.List.{take_more, take_all, length-map}
 use Rattle.rtgs_book.specs.declared.order.Order.{Order}
 use Rattle.rtgs_book.specs.Queue.{queued_among}
-use Rattle.rtgs_ledger.specs.Held.{Held}
+use Rattle.rtgs_records.specs.Held.{Held}
 use Rattle.rtgs_ledger.proofs.Reading.{queue_is, leads_home}
 use Rattle.rtgs_ledger.proofs.Whole.{is_of_book}
 use Rattle.rtgs_ledger.proofs.ledger.Ledger.queue.Goals as goal
@@ -58,4 +58,5 @@ returns-clause-told c book is =
     ap length c.queue-numbers.ensures.numbers ∙ length-map (queued_among orders sender) (λ (o : Order). o.number) in
     let of = is_of_book book c.self.inside.records c.args.self.now c.self.view_is is in
     c.loop-number.invariant.orders ∙ take_all c.loop-number.number-index (queued_among orders sender)
-    (omega (arith, many, c.loop-number-test.false)) ∙ queue_is book orders sender of.queued
+    (omega (arith, many, c.loop-number-test.false)) ∙ queue_is c.queues_are_of_the_queued.ensures book orders
+    sender of.queued

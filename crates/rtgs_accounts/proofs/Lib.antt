@@ -1,0 +1,3 @@
+pub mod AccountLemmas
+pub mod Indexes
+pub mod Settling

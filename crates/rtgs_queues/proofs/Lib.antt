@@ -1,0 +1,4 @@
+pub mod Numbering
+pub mod OrderLemmas
+pub mod QueueLemmas
+pub mod Reading

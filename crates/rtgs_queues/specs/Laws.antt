@@ -1,0 +1,19 @@
+-- What holds of a book's orders, their numbers and their queues.
+use Rattle.std.specs.Prelude.{◌≡◌, ℕ, List, filter, Some}
+use Rattle.std.specs.List.{AllByRecursion, find}
+use Rattle.rtgs_book.specs.declared.book.Book.{Book}
+use Rattle.rtgs_book.specs.declared.order.Order.{Order}
+use Rattle.rtgs_book.specs.Books.{is_queued}
+use Rattle.rtgs_book.specs.Commands.{has_number}
+use Rattle.rtgs_book.specs.Queue.{queued_among}
+use Rattle.rtgs_book.specs.Soundness.{OrdersAreNumbered}
+
+-- where the orders are numbered from one, each is the first with its number
+abbrev pub NumbersLeadToOrders : Type 0
+NumbersLeadToOrders = (book : Book) → OrdersAreNumbered book
+    → AllByRecursion (λ (o : Order). find (has_number o.number) book.orders ≡ Some o) book.orders
+
+-- a sender's queue among the queued orders is its queue among all
+abbrev pub QueuesAreOfTheQueued : Type 0
+QueuesAreOfTheQueued = (orders : List Order) (sender : List ℕ)
+    → queued_among (filter is_queued orders) sender ≡ queued_among orders sender
