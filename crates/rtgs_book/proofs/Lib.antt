@@ -1,17 +1,9 @@
 pub mod Balances
 pub mod Beginnings
 pub mod Choices
-pub mod Floors
 pub mod IntSums
 pub mod Issue
 pub mod Lists
-pub mod Loops
 pub mod Magnitudes
-pub mod Marks
-pub mod Names
-pub mod Parties
-pub mod Queues
-pub mod RuleOrder
 pub mod Settling
-pub mod Totals
 pub mod Unknown

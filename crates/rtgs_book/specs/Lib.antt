@@ -19,5 +19,4 @@ pub mod Settle
 pub mod Soundness
 pub mod Standings
 pub mod Step
-pub mod Tallies
 pub mod Totals

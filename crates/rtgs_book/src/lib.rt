@@ -1,4 +1,4 @@
-//! The settlement book: its records, the commands, what they mean, and the test of soundness.
+//! The settlement book: its records, the commands, and what they mean.
 #![tactic(auto)]
 
 mod account;
@@ -17,11 +17,9 @@ mod participant;
 mod phase;
 mod posting;
 mod reading;
-mod recorded;
 mod refusal;
 mod rows;
 mod rule;
-mod rules;
 mod standing;
 
 pub use crate::account::Account;

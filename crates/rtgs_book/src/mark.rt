@@ -1,5 +1,4 @@
 //! Settlement marks.
-use crate::recorded::Recorded;
 use rtgs_money::{BusinessDate, Cents};
 
 /// One settlement: how many orders it settled together, and their value. From then on they are final. Marks are
@@ -10,18 +9,4 @@ pub struct Mark {
     pub date: BusinessDate,
     pub count: u64,
     pub value: Cents,
-}
-
-impl Recorded for Mark {
-    ghost number_of = { λ mark. mark.number };
-
-    ghost date_of = { λ mark. mark.date };
-
-    fn number(&self) -> u64 {
-        self.number
-    }
-
-    fn date_number(&self) -> u32 {
-        self.date.number()
-    }
 }

@@ -1,6 +1,5 @@
 //! Payment orders.
 use crate::order_state::OrderState;
-use crate::recorded::Recorded;
 use rtgs_money::{Amount, BusinessDate, Code, Reference};
 
 /// A payment order of one participant to another. Orders are numbered from 1.
@@ -15,18 +14,4 @@ pub struct Order {
     /// The business date on which it was accepted.
     pub date: BusinessDate,
     pub state: OrderState,
-}
-
-impl Recorded for Order {
-    ghost number_of = { λ order. order.number };
-
-    ghost date_of = { λ order. order.date };
-
-    fn number(&self) -> u64 {
-        self.number
-    }
-
-    fn date_number(&self) -> u32 {
-        self.date.number()
-    }
 }

@@ -51,7 +51,7 @@ impl<T> Rows<T> {
     }
 
     /// The allocator of the vector.
-    pub(crate) fn allocator(&self) -> Global {
+    pub fn allocator(&self) -> Global {
         *self.rows.allocator()
     }
 

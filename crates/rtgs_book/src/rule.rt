@@ -37,23 +37,6 @@ pub enum Rule {
 }
 
 impl Rule {
-    /// The rules about a book, by number. The last one is about stored balances, which a book has not.
-    pub const OF_A_BOOK: [Rule; 13] = [
-        Rule::OrderNumbers,
-        Rule::PostingNumbers,
-        Rule::MarkNumbers,
-        Rule::ParticipantCodes,
-        Rule::Keys,
-        Rule::OrderReferences,
-        Rule::PostingReferences,
-        Rule::Parties,
-        Rule::Marks,
-        Rule::Queues,
-        Rule::Dates,
-        Rule::Floors,
-        Rule::Total,
-    ];
-
     /// The number by which the rule is known, from 1.
     pub fn number(self) -> u8
         ensures { result ≡ number_of self }

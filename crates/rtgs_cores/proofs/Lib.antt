@@ -1,3 +1,2 @@
-pub mod Balances
 pub mod Following
 pub mod Lists

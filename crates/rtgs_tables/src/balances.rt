@@ -7,6 +7,7 @@ ghost use Rattle.rtgs_tables.specs.Accounts.{AreBalances, is_stored as is_stored
 
 use rtgs_book::{Account, Book};
 use rtgs_money::Code;
+use rtgs_soundness::balances;
 use std::alloc::AllocError;
 use std::collections::BTreeMap;
 
@@ -16,7 +17,7 @@ pub(crate) fn balances_agree(accounts: &[Account], book: &Book) -> Result<bool, 
     requires participants { book.now.participants ≡ map (λ (a : AccountSpec). a.participant) accounts.now }
     ensures { IfOk result (λ yes. IsTrue yes ↔ AreBalances book.now accounts.now) }
 {
-    let balances = book.balances()?;
+    let balances = balances(book)?;
     Ok(are_stored(&balances, accounts))
 }
 

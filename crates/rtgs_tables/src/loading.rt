@@ -21,6 +21,7 @@ use crate::balances::balances_agree;
 use crate::reading::{read_day, read_records};
 use rtgs_book::{Account, Book, Fault, Mark, Order, Participant, Posting, Rows, Rule};
 use rtgs_rows::laws::shown_records_are_held;
+use rtgs_soundness::check;
 use sqlite::{Alter, Connection};
 use std::alloc::{AllocError, Global};
 
@@ -81,7 +82,7 @@ fn judged(stored: Stored) -> Result<Book, Fault>
     ensures explained { IfErr result (ExplainsRead stored.accounts.items stored.book) }
 {
     let Stored { accounts, book } = stored;
-    book.check()?;
+    check(&book)?;
     if balances_agree(accounts.as_slice(), &book)? {
         Ok(book)
     } else {

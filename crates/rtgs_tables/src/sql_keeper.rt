@@ -32,6 +32,7 @@ use rtgs_cores::laws::records_are_listed;
 use rtgs_keeper::{CommitFault, Keeper};
 use rtgs_money::{BusinessDate, Code, Reference};
 use rtgs_rows::laws;
+use rtgs_soundness::core_of;
 use sqlite::{Alter, Connection, Error, ErrorCode};
 use std::alloc::Global;
 
@@ -228,7 +229,7 @@ impl<S: Alter + Drop> Keeper for SqlKeeper<S> {
 
     fn core(&mut self, alloc: Global) -> Result<Core, Fault> {
         let book = self.load(alloc)?;
-        Ok(Core::of(alloc, &book)?)
+        Ok(core_of(alloc, &book)?)
     }
 
     fn find_order(&mut self, sender: &Code, reference: &Reference) -> Result<Option<Order>, Fault> {

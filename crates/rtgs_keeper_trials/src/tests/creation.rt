@@ -6,7 +6,7 @@ use super::store::{Failing, Store, keeper_on};
 use super::trial::Progress;
 use rtgs_book::{Book, Fault};
 use rtgs_desk::Desk;
-use rtgs_keeper::MemoryKeeper;
+use rtgs_memory_keeper::MemoryKeeper;
 use std::alloc::Global;
 use std::test::Fail;
 

@@ -1,7 +1,7 @@
 //! A keeper in memory as a store, which may meet trouble at one of its calls.
 use super::store::{Failing, Store};
 use rtgs_book::{Book, Fault};
-use rtgs_keeper::MemoryKeeper;
+use rtgs_memory_keeper::MemoryKeeper;
 use rtgs_tests_desks::{FailingKeeper, Trouble};
 use std::alloc::Global;
 use std::test::Fail;

@@ -6,7 +6,8 @@ use super::scripts::command;
 use super::setting::desk_over;
 use rtgs_book::{Answer, Refusal};
 use rtgs_desk::Desk;
-use rtgs_keeper::{Keeper, MemoryKeeper};
+use rtgs_keeper::Keeper;
+use rtgs_memory_keeper::MemoryKeeper;
 use std::alloc::Global;
 use std::test::Fail;
 

@@ -4,7 +4,8 @@ use super::scripts::ledgers::{funded_ledger_follows, new_ledger, new_ledger_foll
 use super::setting::change;
 use rtgs_book::{Answer, Day, Fault, Phase, Refusal, RowChange};
 use rtgs_cores::Found;
-use rtgs_keeper::{Keeper, MemoryKeeper};
+use rtgs_keeper::Keeper;
+use rtgs_memory_keeper::MemoryKeeper;
 use std::alloc::Global;
 use std::test::Fail;
 

@@ -8,6 +8,7 @@ use rtgs_book::{
 use rtgs_money::{
     Amount, BusinessDate, Cents, Code, Credit, KeyDigest, Name, PostingAmount, Reference,
 };
+use rtgs_soundness::{RULES_OF_A_BOOK, balances, check};
 use std::alloc::Global;
 use std::collections::BTreeMap;
 use std::test::Fail;
@@ -113,7 +114,7 @@ fn book_of(alloc: Global, banks: u32, orders: u32) -> Result<Book, Fail> {
 // A book of 100 banks with so many orders is sound.
 fn is_sound(alloc: Global, orders: u32) -> Result<(), Fail> {
     let book = book_of(alloc, 100, orders)?;
-    book.check()?;
+    check(&book)?;
     ensure(book.orders.len() == orders as usize)
 }
 
@@ -211,7 +212,7 @@ fn book_with(alloc: Global, records: &Records) -> Result<Book, Fail> {
 
 // The check of a book names this rule.
 fn breaks(book: &Book, rule: Rule) -> Result<(), Fail> {
-    match book.check() {
+    match check(book) {
         Ok(()) => Err(Fail::from("no rule is broken")),
         Err(Fault::Inconsistent { rule: named }) if named == rule => Ok(()),
         Err(fault) => Err(Fail::from(fault)),
@@ -227,7 +228,7 @@ fn broken(alloc: Global, rule: Rule) -> Result<Book, Fail> {
 
 #[test]
 fn each_broken_rule_is_named(rt: HostRuntime) -> Result<(), Fail> {
-    for rule in Rule::OF_A_BOOK {
+    for rule in RULES_OF_A_BOOK {
         breaks(&broken(rt.alloc(), rule)?, rule)?;
     }
     Ok(())
@@ -272,8 +273,8 @@ fn has_all(balances: &BTreeMap<Code, i128>) -> Result<(), Fail> {
 #[test]
 fn balances_are_summed(rt: HostRuntime) -> Result<(), Fail> {
     let book = book_with(rt.alloc(), &sound_records()?)?;
-    book.check()?;
-    has_all(&book.balances()?)
+    check(&book)?;
+    has_all(&balances(&book)?)
 }
 
 // Whether rows have no number.
@@ -297,7 +298,7 @@ fn rows_are_lists(rt: HostRuntime) -> Result<(), Fail> {
 #[test]
 fn rules_are_numbered(_rt: HostRuntime) -> Result<(), Fail> {
     let mut number = 0u8;
-    for rule in Rule::OF_A_BOOK {
+    for rule in RULES_OF_A_BOOK {
         number = number.saturating_add(1);
         ensure(rule.number() == number)?;
     }

@@ -4,6 +4,7 @@ use super::setting::{MONDAY, code, date};
 use rtgs_book::{Account, Book, Day, Mark, Order, OrderState, Participant, Phase, Posting, Rows};
 use rtgs_cores::Core;
 use rtgs_money::{Amount, Cents, Credit, KeyDigest, Name, PostingAmount, Reference};
+use rtgs_soundness::{check, core_of};
 use std::alloc::Global;
 use std::test::Fail;
 
@@ -86,8 +87,8 @@ fn book(alloc: Global) -> Result<Book, Fail> {
 // The core of that book, which is sound.
 fn core(alloc: Global) -> Result<Core, Fail> {
     let book = book(alloc)?;
-    book.check()?;
-    Ok(Core::of(alloc, &book)?)
+    check(&book)?;
+    Ok(core_of(alloc, &book)?)
 }
 
 // The accounts of ALFA and of BETA are these two.

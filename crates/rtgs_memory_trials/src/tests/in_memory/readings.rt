@@ -6,7 +6,7 @@ use super::super::scarce::{Call, Outcome, for_each_refusal};
 use super::page::Page;
 use rtgs_book::{Order, Reading, Refusal};
 use rtgs_desk::{AccountReading, Desk};
-use rtgs_keeper::MemoryKeeper;
+use rtgs_memory_keeper::MemoryKeeper;
 use rtgs_money::{Code, Key, KeyDigest};
 use rtgs_output::TextFault;
 use rtgs_statements::{BookTextFault, write_report, write_statement};

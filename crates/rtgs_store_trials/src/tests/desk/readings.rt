@@ -2,7 +2,8 @@
 use super::super::setting::{MONDAY, code, date, desk_over, kept, order, participant};
 use rtgs_book::{Day, Order, OrderState, Phase, Refusal, RowChange};
 use rtgs_desk::{AccountReading, Desk};
-use rtgs_keeper::{Keeper, MemoryKeeper};
+use rtgs_keeper::Keeper;
+use rtgs_memory_keeper::MemoryKeeper;
 use rtgs_money::{Cents, Code, Reference, Units};
 use std::alloc::Global;
 use std::test::Fail;

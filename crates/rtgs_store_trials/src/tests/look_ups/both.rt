@@ -3,7 +3,8 @@ use super::super::setting::{MONDAY, code, date, kept, new_keeper, order, partici
 use super::asking::answers;
 use rtgs_book::{Account, Day, Fault, Mark, Order, OrderState, Phase, RowChange, Rule};
 use rtgs_cores::Core;
-use rtgs_keeper::{Keeper, MemoryKeeper};
+use rtgs_keeper::Keeper;
+use rtgs_memory_keeper::MemoryKeeper;
 use rtgs_money::Cents;
 use rtgs_tables::SqlKeeper;
 use sqlite::MemStore;

@@ -2,7 +2,8 @@
 //! last numbers, in a keeper in memory and in one over tables.
 use super::super::setting::{MONDAY, code, date, new_keeper, reference};
 use rtgs_book::{Change, Mark, Order, OrderState, Posting, RowChange, Rows};
-use rtgs_keeper::{Keeper, MemoryKeeper};
+use rtgs_keeper::Keeper;
+use rtgs_memory_keeper::MemoryKeeper;
 use rtgs_money::{Amount, BusinessDate, Cents, PostingAmount, Reference};
 use std::alloc::Global;
 use std::process::Abort;

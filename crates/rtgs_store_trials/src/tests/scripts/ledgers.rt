@@ -4,8 +4,9 @@ use super::records::{order_if_any, queue_text};
 use super::{Answers, command_of, follows, reply_text, words_of};
 use rtgs_book::{Answer, Command, Refusal};
 use rtgs_cores::Found;
-use rtgs_keeper::{Keeper, MemoryKeeper};
+use rtgs_keeper::Keeper;
 use rtgs_ledger::Ledger;
+use rtgs_memory_keeper::MemoryKeeper;
 use std::alloc::Global;
 use std::test::Fail;
 

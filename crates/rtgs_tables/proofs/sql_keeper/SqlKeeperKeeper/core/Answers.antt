@@ -14,5 +14,5 @@ returns-in_err-book-clause-accepted g c clean book holds =
 pub returns-clause-given : goal.returns-clause-given
 returns-clause-given g c clean book holds =
     let it = c.in_ok-book.ensures in
-    subst (λ (b : Book). IsCoreOf b c.in_ok-of.field-0) (it.given clean book holds)
-    (record { sound = it.sound; fits = it.fits; is = c.in_ok-of.ensures })
+    subst (λ (b : Book). IsCoreOf b c.in_ok-core_of.field-0) (it.given clean book holds)
+    (record { sound = it.sound; fits = it.fits; is = c.in_ok-core_of.ensures })

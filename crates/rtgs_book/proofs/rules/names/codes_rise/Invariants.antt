@@ -1,6 +1,0 @@
-use Rattle.rtgs_book.specs.declared.participant.Participant.{Participant}
-use Rattle.rtgs_book.proofs.Names.{Climbing}
-use Rattle.rtgs_book.proofs.rules.names.codes_rise.Given as goal
-
-abbrev pub invariant-loop-participant : goal.invariant-loop-participant
-invariant-loop-participant l = Climbing (λ (p : Participant). p.code) l.participants l.previous l.participant-index

@@ -1,6 +1,0 @@
-use Rattle.rtgs_book.proofs.Names.{distinct_texts}
-use Rattle.rtgs_book.proofs.rules.names.posting_references_are_distinct.Goals as goal
-
-pub returns : goal.returns
-returns c = distinct_texts c.are_distinct.result c.in_ok-references_of.field-0.items _ c.in_ok-references_of.ensures
-    c.are_distinct.ensures

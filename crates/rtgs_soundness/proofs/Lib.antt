@@ -1,0 +1,9 @@
+pub mod Accounts
+pub mod Floors
+pub mod Loops
+pub mod Marks
+pub mod Names
+pub mod Parties
+pub mod Queues
+pub mod RuleOrder
+pub mod Totals

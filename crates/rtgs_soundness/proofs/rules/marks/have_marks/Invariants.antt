@@ -1,0 +1,8 @@
+use Rattle.std.proofs.Common.{take}
+use Rattle.std.specs.List.{AllByRecursion}
+use Rattle.rtgs_book.specs.declared.order.Order.{Order}
+use Rattle.rtgs_book.specs.Soundness.{HasMark}
+use Rattle.rtgs_soundness.proofs.rules.marks.have_marks.Given as goal
+
+abbrev pub invariant-loop-order : goal.invariant-loop-order
+invariant-loop-order l = AllByRecursion (λ (o : Order). HasMark l.marks o.date o.state) (take l.order-index l.orders)
