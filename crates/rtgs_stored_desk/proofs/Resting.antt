@@ -20,8 +20,7 @@ use Rattle.rtgs_rows.specs.Content.{HasNoTables}
 use Rattle.rtgs_rows.specs.Keeping.{IsBookOf, HoldsBook}
 use Rattle.rtgs_rows.specs.Querying.{IsDeskFile}
 use Rattle.rtgs_rows.specs.Tables.{no_schema, desk_schema}
-use Rattle.rtgs_tables.specs.Accounts.{ExplainsTrees}
-use Rattle.rtgs_tables.specs.Displaying.{ExplainsDatabase}
+use Rattle.rtgs_tables.specs.Loading.{ExplainsTrees, ExplainsDatabase}
 use Rattle.rtgs_tables.specs.Building.{IsBlank, IsNoneOrNew, first_content}
 use Rattle.rtgs_stored_desk.specs.Stored.{AreTablesOf, IsAtRest, IsMemoryOrStore, fault_of_making}
 

@@ -20,9 +20,8 @@ use Rattle.rtgs_rows.specs.Content as rows
 use Rattle.rtgs_rows.specs.Keeping.{IsBookOf, AddsUp}
 use Rattle.rtgs_rows.specs.Querying.{AreWhole}
 use Rattle.rtgs_rows.specs.Tables.{desk_schema, no_schema}
-use Rattle.rtgs_tables.specs.Accounts.{ExplainsTrees}
 use Rattle.rtgs_tables.specs.Building.{IsBlank}
-use Rattle.rtgs_tables.specs.Displaying.{IsDisplayed, ExplainsDatabase}
+use Rattle.rtgs_tables.specs.Loading.{ExplainsTrees, IsDisplayed, ExplainsDatabase}
 use Rattle.rtgs_desk.specs.Holding.{HasInMemory, Holds}
 use Rattle.rtgs_desk.specs.Seen.{Seen}
 

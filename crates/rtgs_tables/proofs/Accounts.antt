@@ -7,9 +7,8 @@ use Rattle.std.specs.Ordering.{nat_cmp}
 use Rattle.std.specs.declared.cmp.Ordering.TheVariants.{Less}
 use Rattle.std.specs.Cmp.Lexicographic.{slice_cmp}
 use Rattle.sqlite.specs.State.{State}
-use Rattle.sqlite.specs.Tree.{Trees, IsAscending}
-use Rattle.rtgs_rows.specs.Querying.{IsDeskFile}
-use Rattle.rtgs_tables.proofs.Resting.{file_of, rests_of}
+use Rattle.sqlite.specs.Tree.{IsAscending}
+use Rattle.rtgs_sql_queries.specs.Records.{stored_account, AreRead, HasRecords}
 use Rattle.sqlite_keyed.proofs.ListLemmas.{ascending-map, ascending_from_map, map_back}
 use Rattle.rtgs_book.specs.declared.Book.{Book}
 use Rattle.rtgs_book.specs.Balance.{balance}
@@ -17,21 +16,17 @@ use Rattle.rtgs_book.specs.declared.Participant.{Participant}
 use Rattle.rtgs_book.specs.Lookup.{accounts}
 use Rattle.rtgs_book.specs.Soundness.{CodesRise}
 use Rattle.rtgs_rows.specs.Content.{Holding, Content, Rests}
-use Rattle.rtgs_rows.specs.Fitting.{FitsParticipant}
 use Rattle.rtgs_book.specs.declared.account.Account.{Account}
 use Rattle.rtgs_rows.specs.Keeping.{IsBookOf}
 use Rattle.rtgs_rows.specs.RowLaws.{RecordsStandInOrder}
-use Rattle.rtgs_tables.specs.Accounts.{account_of, accounts_of, stored_account, AreRead, HasRecords, AreBalances}
+use Rattle.rtgs_sql_loading.specs.Accounts.{AreBalances}
 
-all_from_map : {A B : Type 0} (P : B → Type 0) (f : A → B) (xs : List A) → AllByRecursion P (map f xs)
-    → AllByRecursion (λ x. P (f x)) xs
-all_from_map P f [] all = tt
-all_from_map P f (x ∷ xs) all = (all.0, all_from_map P f xs all.1)
+abbrev account_of : Book → Participant → Account
+account_of book p = record { participant = p; balance = balance book p.code }
 
-pub accounts_fit : (content : Content) (accounts : List Account) (book : Book) → AreRead content accounts book
-    → AllByRecursion (λ (a : Account). FitsParticipant a.participant) accounts
-accounts_fit content accounts book are = all_from_map FitsParticipant (λ (a : Account). a.participant) accounts
-    (subst (AllByRecursion FitsParticipant) are.participants are.fits.participants)
+-- the participants of a book with their balances
+abbrev pub accounts_of : Book → List Account
+accounts_of book = map (account_of book) book.participants
 
 strict_codes : (codes : List (List ℕ)) → IsStrictlySortedBy (slice_cmp nat_cmp) codes
     → IsAscending (λ a b. slice_cmp nat_cmp a b ≡ Less) codes
@@ -80,14 +75,3 @@ balances_of book (p ∷ ps) = (refl, balances_of book ps)
 
 pub own_balances : (book : Book) → AreBalances book (accounts_of book)
 own_balances book = balances_of book book.participants
-
--- the tables keep their records where they keep their rows
-pub kept_on : (accounts : List Account) (book : Book) (old new : State)
-    → ((trees : Trees) → IsDeskFile trees old → IsDeskFile trees new) → HasRecords accounts book old
-    → HasRecords accounts book new
-kept_on accounts book old new kept held = (
-  held.0,
-  rests_of held.0 new old.committed.trees
-      (kept old.committed.trees (file_of held.0 old held.1)) held.1.holds,
-  held.2,
-)

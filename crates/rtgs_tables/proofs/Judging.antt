@@ -1,23 +1,10 @@
--- Which rule a fault names.
-use Rattle.std.proofs.Common.{◌≡◌, ◌≢◌, ◌⊎◌, inl, inr, ℕ, ℤ, ◌↔◌, Bool, true, false, cond, List, [], ◌∷◌, Some, None}
-use Rattle.std.proofs.Common.{map, option_map, unwrap_or, Ok, Err, Result, IfOk, IfErr, OnOk, nat_cmp, refl, sym, ap}
-use Rattle.std.proofs.Common.{subst, subst₂, ◌∙◌}
-use Rattle.std.specs.List.{AllByRecursion, list_all}
-use Rattle.std.specs.BTreeMap.{BTreeMap}
-use Rattle.std.specs.Cmp.Lexicographic.{slice_cmp}
-use Rattle.std.specs.Ordering.{eq_by_cmp, int_eq}
-use Rattle.std.specs.Set.{is_member}
+-- Why a sound book is refused, and what a fault explains.
+use Rattle.std.proofs.Common.{◌≡◌, ◌⊎◌, inl, inr, List, Ok, Err, Result, IfOk, IfErr, refl, sym, subst}
 use Rattle.std.specs.Result.{IsErrAnd}
-use Rattle.std.proofs.lemmas.Bool.{and_parts}
-use Rattle.std.proofs.lemmas.Bool.Decides.{Decides-int_eq}
-use Rattle.std.proofs.lemmas.Cmp.{nat_list_cmp_total, eq_by_cmp_equiv}
-use Rattle.std.proofs.Math.Bool.{or-true}
-use Rattle.sqlite_keyed.proofs.ListLemmas.{all_weaker, map-map}
+use Rattle.sqlite.specs.Tree.{Trees}
+use Rattle.sqlite.specs.Effect.{Database}
 use Rattle.rtgs_book.specs.declared.Book.{Book}
-use Rattle.rtgs_book.specs.Balance.{balance}
-use Rattle.rtgs_book.specs.Lookup.{accounts}
-use Rattle.rtgs_book.specs.Totals.{Totals}
-use Rattle.rtgs_book.specs.declared.Participant.{Participant}
+use Rattle.rtgs_book.specs.declared.account.Account.{Account}
 use Rattle.rtgs_book.specs.declared.Fault.{Fault}
 use Rattle.rtgs_book.specs.declared.Fault.TheVariants.{OutOfMemory, StoreFault, NotADeskFile, Inconsistent}
 use Rattle.rtgs_book.specs.declared.Rule.{Rule}
@@ -26,11 +13,8 @@ use Rattle.rtgs_book.specs.declared.Rule.TheVariants.{OrderReferences, PostingRe
 use Rattle.rtgs_book.specs.declared.Rule.TheVariants.{Floors, Total, StoredBalances}
 use Rattle.rtgs_book.specs.Judgement.{Keeps}
 use Rattle.rtgs_book.specs.Soundness.{IsSound}
-use Rattle.rtgs_book.specs.declared.account.Account.{Account}
-use Rattle.rtgs_tables.specs.Accounts.{AreBalances, AreReadOf, AreFormed, is_stored, ExplainsRead, ExplainsTrees}
-use Rattle.sqlite.specs.Tree.{Trees}
-use Rattle.sqlite.specs.Effect.{Database}
-use Rattle.rtgs_tables.specs.Displaying.{ExplainsDatabase}
+use Rattle.rtgs_sql_loading.specs.Accounts.{AreBalances, ExplainsRead, ExplainsTrees}
+use Rattle.rtgs_sql_loading.specs.Displaying.{ExplainsDatabase}
 
 -- a sound book keeps each rule of a book
 keeps_all : (book : Book) → IsSound book → (rule : Rule) → Keeps book rule
@@ -57,65 +41,12 @@ of_sound accounts book sound agree StoreFault why = inr refl
 of_sound accounts book sound agree NotADeskFile why = absurd why
 of_sound accounts book sound agree (Inconsistent rule) why = absurd (why.broken (keeps_all book sound rule, λ _. agree))
 
--- a `?` answers the fault that it meets
-pub same_fault : {A B : Type 0} (met : Result A Fault) (fault kind : Fault) (answer : Result B Fault) → met ≡ Err fault
-    → IsErrAnd answer (λ told. told ≡ fault) → answer ≡ Err kind → met ≡ Err kind
-same_fault met fault kind (Ok b) was told e = absurd (let clash : ◌≡◌ {A = Result _ Fault} (Ok b) (Err kind) = e in cc)
-same_fault met fault kind (Err told_fault) was told e =
-    let is : told_fault ≡ kind = cc in
-    was ∙ ap Err (sym told ∙ is)
-
--- and answers that fault
-pub answered : {A B : Type 0} (met : Result A Fault) (fault kind : Fault) (answer : Result B Fault) → met ≡ Err fault
-    → IsErrAnd answer (λ told. told ≡ fault) → met ≡ Err kind → answer ≡ Err kind
-answered met fault kind (Ok b) was told e = absurd told
-answered met fault kind (Err told_fault) was told e =
-    let is : fault ≡ kind = cc in
-    ap Err (told ∙ is)
-
 -- and what holds of the one holds of the other
 pub passed_on : {A B : Type 0} (P : Fault → Type 0) (met : Result A Fault) (fault : Fault) (answer : Result B Fault)
     → met ≡ Err fault → IsErrAnd answer (λ told. told ≡ fault) → IfErr met P → IfErr answer P
 passed_on P met fault (Ok b) was told holds = tt
 passed_on {A = A} P met fault (Err told_fault) was told holds =
     subst P (sym told) (subst (λ (r : Result A Fault). IfErr r P) was holds)
-
--- what was read was judged
-pub judged_book : (stored accounts : List Account) (read book : Book) (answer : Result Book Fault) → read ≡ book
-    → stored ≡ accounts → IfOk answer (λ it. it ≡ read) → OnOk answer (AreBalances read stored)
-    → IfOk answer (λ it. (it ≡ book) × AreBalances book accounts)
-judged_book stored accounts read book (Ok it) same alike given agree =
-    (given ∙ same, subst₂ (λ b a. AreBalances b a) same alike agree)
-judged_book stored accounts read book (Err fault) same alike given agree = tt
-
--- nothing was read, for no fault of the tables
-pub unread : {A : Type 0} (accounts : List Account) (book : Book) (read : Result A Fault) (fault : Fault)
-    (answer : Result Book Fault) → read ≢ Err NotADeskFile → ((rule : Rule) → read ≢ Err (Inconsistent rule))
-    → read ≡ Err fault → IsErrAnd answer (λ told. told ≡ fault) → IfErr answer (ExplainsRead accounts book)
-unread accounts book read fault (Ok it) form rules was told = tt
-unread accounts book read OutOfMemory (Err it) form rules was told = subst (ExplainsRead accounts book) (sym told) tt
-unread accounts book read StoreFault (Err it) form rules was told = subst (ExplainsRead accounts book) (sym told) tt
-unread accounts book read NotADeskFile (Err it) form rules was told = absurd (form was)
-unread accounts book read (Inconsistent rule) (Err it) form rules was told = absurd (rules rule was)
-
--- nothing was read of tables: a row is in no form, or the store failed or memory was refused
-pub unread_of : {A : Type 0} (trees : Trees) (read : Result A Fault) (fault : Fault) (answer : Result Book Fault)
-    → (read ≡ Err NotADeskFile → ¬ AreFormed trees) → ((rule : Rule) → read ≢ Err (Inconsistent rule))
-    → read ≡ Err fault → IsErrAnd answer (λ told. told ≡ fault) → IfErr answer (ExplainsTrees trees)
-unread_of trees read fault (Ok it) wrong rules was told = tt
-unread_of trees read OutOfMemory (Err it) wrong rules was told = subst (ExplainsTrees trees) (sym told) tt
-unread_of trees read StoreFault (Err it) wrong rules was told = subst (ExplainsTrees trees) (sym told) tt
-unread_of trees read NotADeskFile (Err it) wrong rules was told = subst (ExplainsTrees trees) (sym told) (wrong was)
-unread_of trees read (Inconsistent rule) (Err it) wrong rules was told = absurd (rules rule was)
-
--- what was read of tables was judged
-pub judged_of : (trees : Trees) (accounts : List Account) (book : Book) (answer : Result Book Fault)
-    → AreReadOf trees accounts book → IfErr answer (ExplainsRead accounts book) → IfErr answer (ExplainsTrees trees)
-judged_of trees accounts book (Ok it) read why = tt
-judged_of trees accounts book (Err OutOfMemory) read why = tt
-judged_of trees accounts book (Err StoreFault) read why = tt
-judged_of trees accounts book (Err NotADeskFile) read why = absurd why
-judged_of trees accounts book (Err (Inconsistent rule)) read why = (accounts, book, read, why)
 
 -- the same fault explains whatever records there are
 pub explained : (Are : List Account → Book → Type 0) (File : Trees → Type 0) (db : Database)
@@ -138,51 +69,3 @@ pub the_book : (accounts : List Account) (book : Book) (answer : Result Book Fau
     → IfOk answer (λ it. (it ≡ book) × AreBalances book accounts) → IfOk answer (λ it. it ≡ book)
 the_book accounts book (Ok it) h = h.0
 the_book accounts book (Err fault) h = tt
-
--- ---- the stored balances against a map of sums
-
-abbrev same_code : List ℕ → List ℕ → Bool
-same_code = eq_by_cmp (slice_cmp nat_cmp)
-
-abbrev code_of : Account → List ℕ
-code_of a = a.participant.code
-
-are_members : (all : List Account) → AllByRecursion (λ (a : Account). is_member same_code (map code_of all) (code_of a)
-    ≡ true) all
-are_members [] = tt
-are_members (a ∷ all) = (
-  rw ((eq_by_cmp_equiv nat_list_cmp_total).refl (code_of a)) refl,
-  all_weaker (λ (b : Account). is_member same_code (map code_of all) (code_of b) ≡ true)
-      (λ (b : Account). is_member same_code (map code_of (a ∷ all)) (code_of b) ≡ true)
-      (λ b is. rw is (or-true (same_code (code_of b) (code_of a)))) all (are_members all),
-)
-
-module _ (sum_of : List ℕ → ℤ) (keys : List (List ℕ)) (sums : BTreeMap (List ℕ) ℤ)
-    (totals : Totals (slice_cmp nat_cmp) keys sum_of sums) where
-  one_stored : (a : Account) → is_member same_code keys (code_of a) ≡ true
-      → is_stored sums a ≡ int_eq a.balance (sum_of (code_of a))
-  one_stored a known = ap (λ found. unwrap_or (option_map (int_eq a.balance) found) false)
-      (totals (code_of a) ∙ ap (λ b. cond b (Some (sum_of (code_of a))) None) known)
-
-  all_stored : (all : List Account) → AllByRecursion (λ (a : Account). is_member same_code keys (code_of a) ≡ true) all
-      → (list_all (is_stored sums) all ≡ true) ↔ AllByRecursion (λ (a : Account). a.balance ≡ sum_of (code_of a)) all
-  all_stored [] known = (λ _. tt, λ _. refl)
-  all_stored (a ∷ all) known =
-      let is = one_stored a known.0 in
-      let same = Decides-int_eq a.balance (sum_of (code_of a)) in
-      let more = all_stored all known.1 in (
-        λ e. let parts = and_parts _ _ e in (same.0 (sym is ∙ parts.0), more.0 parts.1),
-        λ each. rw (is ∙ same.1 each.0, more.1 each.1) refl,
-      )
-
-pub stored_agree : (book : Book) (all : List Account) (sums : BTreeMap (List ℕ) ℤ)
-    → book.participants ≡ map (λ (a : Account). a.participant) all
-    → Totals (slice_cmp nat_cmp) (accounts book) (balance book) sums
-    → (list_all (is_stored sums) all ≡ true) ↔ AreBalances book all
-unfolding accounts
-stored_agree book all sums same totals =
-    let codes : map (λ (p : Participant). p.code) book.participants
-    ≡ map code_of all = ap (map (λ (p : Participant). p.code)) same
-    ∙ map-map (λ (p : Participant). p.code) (λ (a : Account). a.participant) all in
-    all_stored (balance book) (map code_of all) sums (subst (λ keys. Totals (slice_cmp nat_cmp) keys (balance book)
-    sums) codes totals) all (are_members all)

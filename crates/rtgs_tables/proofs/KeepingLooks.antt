@@ -15,15 +15,21 @@ use Rattle.rtgs_book.specs.declared.Fault.TheVariants.{OutOfMemory, StoreFault, 
 use Rattle.rtgs_book.specs.declared.Rule.{Rule}
 use Rattle.rtgs_book.specs.Commands.{is_date}
 use Rattle.rtgs_cores.specs.Nexts.{posting_after, is_posting_after, date_of_posting}
-use Rattle.rtgs_rows.specs.Keeping.{IsWhole}
-use Rattle.rtgs_tables.specs.Finding.{IsLook}
-use Rattle.rtgs_tables.specs.Seeking.{first_of_date}
-use Rattle.rtgs_tables.proofs.Keeps.{leaves_on}
+use Rattle.rtgs_rows.specs.Keeping.{HoldsBook, IsWhole}
+use Rattle.rtgs_sql_look_ups.specs.Finding.{IsLook}
+use Rattle.rtgs_sql_look_ups.specs.Seeking.{first_of_date}
+use Rattle.rtgs_tables.proofs.Settling.{leaves_on}
 
 pub whole_on : {S A : Type 0} (g : Ghosts S) (old new : Held S) (r : Result A Fault) → IsLook g old new r
     → HasCleanDisk (state g new) → IsWhole g old → IsWhole g new
 whole_on g old new r look clean whole trees left =
     whole trees (leaves_on (state g old) (state g new) look.survives clean trees left)
+
+-- the tables hold the book still
+pub holds_on : {S A : Type 0} (g : Ghosts S) (old new : Held S) (r : Result A Fault) (book : Book) → IsLook g old new r
+    → HasCleanDisk (state g new) → ◌≢◌ r (Err StoreFault) → HoldsBook g old book → HoldsBook g new book
+holds_on g old new r book look clean other held =
+    (held.0, (look.same clean other).rests held.0 held.1, held.2)
 
 no_desk : (fault : Fault) → (fault ≡ OutOfMemory) ⊎ (fault ≡ StoreFault) → fault ≢ NotADeskFile
 no_desk fault (inl is) e = let clash : OutOfMemory ≡ NotADeskFile = sym is ∙ e in cc

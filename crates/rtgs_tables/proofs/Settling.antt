@@ -26,6 +26,14 @@ pub leaves_less : {S : Type 0} (g : Ghosts S) (old new : Held S) → Survives (s
 leaves_less g old new s clean other left = elim (s.crash clean left.0 left.1)
     [ inl was ↦ (left.0, was, left.2) | inr none ↦ absurd none ]
 
+-- a crash leaves what it could leave before
+pub leaves_on : (old new : State) → Survives old new (λ _. ⊥) → HasCleanDisk new → (trees : Trees) → new.may_leave trees
+    → old.may_leave trees
+leaves_on old new survives clean trees left = elim (survives.crash clean trees left) [
+  | inl was ↦ was
+  | inr none ↦ absurd none
+]
+
 abbrev pub Made : {S : Type 0} → Ghosts S → Held S → List RowChange → Trees → Type 0
 Made g old rows trees = (content : Content) → Rests content (state g old) → AreInOrder content rows
     → Holds (with_changes content rows) trees

@@ -1,12 +1,2 @@
-pub mod Stops
-pub mod Tables
-pub mod Faults
 pub mod Building
-pub mod Accounts
-pub mod Numbers
-pub mod Displaying
-pub mod TableQueries
 pub mod Loading
-pub mod Finding
-pub mod Seeking
-pub mod Answering

@@ -1,15 +1,15 @@
 -- What a loading of the book says of the state that it began in.
-use Rattle.std.specs.Prelude.{◌≡◌, ◌≢◌, List, Err, Result}
-use Rattle.sqlite.specs.State.{State, HasCleanDisk}
+use Rattle.std.specs.Prelude.{List}
+use Rattle.sqlite.specs.State.{State}
 use Rattle.sqlite.specs.Tree.{Trees}
 use Rattle.rtgs_book.specs.declared.account.Account.{Account}
 use Rattle.rtgs_book.specs.declared.Book.{Book}
 use Rattle.rtgs_book.specs.declared.Fault.{Fault}
-use Rattle.rtgs_book.specs.declared.Fault.TheVariants.{StoreFault, NotADeskFile}
-use Rattle.sqlite.specs.Effect.{Database}
 use Rattle.rtgs_rows.specs.Querying.{IsDeskFile}
-use Rattle.rtgs_tables.specs.Accounts.{HasRecords, AreReadOf, ExplainsRead, ExplainsTrees, IsShown}
-use Rattle.rtgs_tables.specs.Displaying.{AreDisplayed, IsDisplayed, ExplainsDatabase}
+use Rattle.rtgs_sql_queries.specs.Records.{HasRecords}
+use Rattle.rtgs_sql_loading.specs.Accounts.{ExplainsRead}
+pub use Rattle.rtgs_sql_loading.specs.Accounts.{ExplainsTrees, IsShown}
+pub use Rattle.rtgs_sql_loading.specs.Displaying.{IsDisplayed, ExplainsDatabase}
 
 -- Why no book is given, in three ways: by the records, where the tables have any; by the rows, where the schema is a
 -- desk's; and by what the queries show, whatever the schema is.
@@ -25,28 +25,3 @@ ShowsBalanced s book = ((trees : Trees) → IsDeskFile trees s → IsShown trees
 -- whatever a stop leaves in the second state, it could leave in the first
 abbrev pub LeavesNoMore : State → State → Type 0
 LeavesNoMore old new = (trees : Trees) → new.may_leave trees → old.may_leave trees
-
--- nothing is written: a clean disk was clean before, and the tables and what the database shows stay
-pub record ReadsOn (old new : State) : Type 0 where
-  pub clean : HasCleanDisk new → HasCleanDisk old
-  pub file : HasCleanDisk new → (trees : Trees) → IsDeskFile trees old → IsDeskFile trees new
-  pub same : HasCleanDisk new → new.now ≡ old.now
-
--- What is read, in three ways: these are the records, where the tables have any; the rows tell them, where the schema
--- is a desk's; and the queries show them, whatever the schema is.
-pub record Tells (s : State) (accounts : List Account) (book : Book) : Type 0 where
-  pub records : (others : List Account) (other : Book) → HasRecords others other s
-      → (book ≡ other) × (accounts ≡ others)
-  pub rows : (trees : Trees) → IsDeskFile trees s → AreReadOf trees accounts book
-  pub displayed : AreDisplayed s.now accounts book
-
--- Where a reading answers `NotADeskFile`, the tables have no records; the trees are bad, where the schema is a desk's;
--- and the database cannot be read, whatever the schema is. The tables stay unless the store failed.
-pub record Stops {A : Type 0} (old new : State) (result : Result A Fault) (AreBad : Trees → Type 0)
-    (IsUnread : Database → Type 0) : Type 0 where
-  pub right : HasCleanDisk new → (accounts : List Account) (book : Book) → HasRecords accounts book old
-      → result ≢ Err NotADeskFile
-  pub wrong : HasCleanDisk new → (trees : Trees) → IsDeskFile trees old → result ≡ Err NotADeskFile → AreBad trees
-  pub unread : HasCleanDisk new → result ≡ Err NotADeskFile → IsUnread old.now
-  pub same : HasCleanDisk new → (trees : Trees) → IsDeskFile trees old → result ≢ Err StoreFault
-      → IsDeskFile trees new

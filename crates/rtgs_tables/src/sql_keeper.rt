@@ -13,18 +13,12 @@ ghost use Rattle.sqlite.specs.State.{HasCleanDisk, IsLive, IsUnchanged, Opens, S
 ghost use Rattle.sqlite.specs.Held.{state};
 ghost use Rattle.sqlite.specs.Tree.{Trees};
 ghost use Rattle.rtgs_rows.specs.Content.{Content, Holds, HasNoTables};
-ghost use Rattle.rtgs_tables.specs.Faults.{LookFailed};
+ghost use Rattle.rtgs_sql_queries.specs.Faults.{LookFailed};
 ghost use Rattle.rtgs_tables.specs.Loading.{ExplainsLoad, ShowsBalanced, LeavesNoMore};
-ghost use Rattle.rtgs_tables.specs.Stops.{IsBefore};
+ghost use Rattle.rtgs_sql_writes.specs.Stops.{IsBefore};
 ghost use Rattle.rtgs_rows.specs.RowLaws.{RowsTellTheBook, TablesOfABookAreWhole, TablesOfABookAreWhole-prop};
 
-use crate::create::create_tables;
-use crate::finding;
 use crate::forms::rows_fit;
-use crate::loading::load_book;
-use crate::reading::is_alive;
-use crate::seeking::next_of;
-use crate::staging::{Stopped, write};
 use rtgs_book::laws::new_book_is_sound;
 use rtgs_book::{Book, Change, Fault, Mark, Order, Posting};
 use rtgs_cores::Core;
@@ -33,6 +27,10 @@ use rtgs_keeper::{CommitFault, Keeper};
 use rtgs_money::{BusinessDate, Code, Reference};
 use rtgs_rows::laws;
 use rtgs_soundness::core_of;
+use rtgs_sql_loading::load_book;
+use rtgs_sql_look_ups::{find_order, find_posting, next_of};
+use rtgs_sql_queries::alive::is_alive;
+use rtgs_sql_writes::{Stopped, create_tables, write};
 use sqlite::{Alter, Connection, Error, ErrorCode};
 use std::alloc::Global;
 
@@ -236,7 +234,7 @@ impl<S: Alter + Drop> Keeper for SqlKeeper<S> {
         if self.failed {
             return Err(Fault::StoreFault);
         }
-        let found = finding::find_order(&mut self.conn, sender, reference);
+        let found = find_order(&mut self.conn, sender, reference);
         self.failed = is_store_fault(&found);
         found
     }
@@ -245,7 +243,7 @@ impl<S: Alter + Drop> Keeper for SqlKeeper<S> {
         if self.failed {
             return Err(Fault::StoreFault);
         }
-        let found = finding::find_posting(&mut self.conn, reference);
+        let found = find_posting(&mut self.conn, reference);
         self.failed = is_store_fault(&found);
         found
     }

@@ -1,10 +1,8 @@
 use Rattle.sqlite.specs.Held.{state}
-use Rattle.rtgs_tables.specs.Accounts.{accounts_of, HasRecords}
-use Rattle.rtgs_tables.proofs.Accounts.{has_own, own_balances}
+use Rattle.rtgs_sql_queries.specs.Records.{HasRecords}
+use Rattle.rtgs_tables.proofs.Accounts.{accounts_of, has_own, own_balances}
 use Rattle.rtgs_rows.specs.Querying.{IsDeskFile}
-use Rattle.rtgs_tables.proofs.Resting.{file_of, rests_of}
-use Rattle.rtgs_tables.proofs.Settling.{leaves_less}
-use Rattle.rtgs_tables.proofs.Keeps.{leaves_on}
+use Rattle.rtgs_tables.proofs.Settling.{leaves_less, leaves_on}
 use Rattle.rtgs_tables.proofs.Together.{kept_book, shown_always}
 use Rattle.rtgs_tables.proofs.Judging.{accepted, explained, the_book}
 use Rattle.rtgs_tables.proofs.sql_keeper.SqlKeeper.load.Goals as goal
@@ -56,34 +54,26 @@ returns-else-self-clause-explained g c clean = explained (λ accounts book. HasR
 pub returns-else-self-2-clause-kept : goal.returns-else-self-2-clause-kept
 returns-else-self-2-clause-kept g c clean tables =
     let was = state g.S.Store c.args.self.now.conn in
-    kept_book (state g.S.Store c.load_book-loaded.new.conn) was.committed.trees c.load_book-loaded.result
+    kept_book (state g.S.Store c.load_book-loaded.new.conn) was.committed.trees
+    c.load_book-loaded.result
     (c.load_book-loaded.ensures.held clean was.committed.trees tables.0 tables.1)
-    (c.load_book-loaded.ensures.same clean was.committed.trees tables.0)
+    (λ other. (c.load_book-loaded.ensures.same clean other).file was.committed.trees tables.0)
 
 pub returns-else-self-2-clause-same : goal.returns-else-self-2-clause-same
 returns-else-self-2-clause-same g c clean book holds other =
-    let was = state g.S.Store c.args.self.now.conn in (
-      holds.0,
-      rests_of holds.0 (state g.S.Store c.load_book-loaded.new.conn) was.committed.trees
-          (c.load_book-loaded.ensures.same clean was.committed.trees (file_of holds.0 was holds.1) other) holds.1.holds,
-      holds.2,
-    )
+    (holds.0, (c.load_book-loaded.ensures.same clean other).rests holds.0 holds.1, holds.2)
 
 pub returns-else-self-clause-kept : goal.returns-else-self-clause-kept
 returns-else-self-clause-kept g c clean tables =
     let was = state g.S.Store c.args.self.now.conn in
-    kept_book (state g.S.Store c.load_book-loaded.new.conn) was.committed.trees c.load_book-loaded.result
+    kept_book (state g.S.Store c.load_book-loaded.new.conn) was.committed.trees
+    c.load_book-loaded.result
     (c.load_book-loaded.ensures.held clean was.committed.trees tables.0 tables.1)
-    (c.load_book-loaded.ensures.same clean was.committed.trees tables.0)
+    (λ other. (c.load_book-loaded.ensures.same clean other).file was.committed.trees tables.0)
 
 pub returns-else-self-clause-same : goal.returns-else-self-clause-same
 returns-else-self-clause-same g c clean book holds other =
-    let was = state g.S.Store c.args.self.now.conn in (
-      holds.0,
-      rests_of holds.0 (state g.S.Store c.load_book-loaded.new.conn) was.committed.trees
-          (c.load_book-loaded.ensures.same clean was.committed.trees (file_of holds.0 was holds.1) other) holds.1.holds,
-      holds.2,
-    )
+    (holds.0, (c.load_book-loaded.ensures.same clean other).rests holds.0 holds.1, holds.2)
 
 pub returns-in-Err-StoreFault-clause-stops : goal.returns-in-Err-StoreFault-clause-stops
 returns-in-Err-StoreFault-clause-stops g c clean other left =

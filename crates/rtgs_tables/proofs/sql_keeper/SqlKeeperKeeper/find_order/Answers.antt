@@ -1,5 +1,5 @@
 use Rattle.sqlite.specs.Held.{state}
-use Rattle.rtgs_tables.proofs.Keeps.{leaves_on}
+use Rattle.rtgs_tables.proofs.Settling.{leaves_on}
 use Rattle.rtgs_tables.proofs.sql_keeper.SqlKeeperKeeper.find_order.Goals as goal
 
 pub returns-clause-untouched : goal.returns-clause-untouched

@@ -3,9 +3,9 @@ use Rattle.std.proofs.lemmas.Result.{IfOk-weaker}
 use Rattle.sqlite.specs.Held.{state}
 use Rattle.rtgs_book.specs.declared.Order.{Order}
 use Rattle.rtgs_cores.specs.Nexts.{order_after}
-use Rattle.rtgs_tables.specs.Seeking.{first_of_date}
-use Rattle.rtgs_tables.proofs.FindingLemmas.{holds_on}
-use Rattle.rtgs_tables.proofs.Keeps.{leaves_on}
+use Rattle.rtgs_sql_look_ups.specs.Seeking.{first_of_date}
+use Rattle.rtgs_tables.proofs.KeepingLooks.{holds_on}
+use Rattle.rtgs_tables.proofs.Settling.{leaves_on}
 use Rattle.rtgs_tables.proofs.sql_keeper.SqlKeeperKeeper.next_order.Goals as goal
 
 pub returns-clause-found : goal.returns-clause-found

@@ -4,10 +4,9 @@ use Rattle.sqlite.specs.Held.{state}
 use Rattle.rtgs_book.specs.declared.Posting.{Posting}
 use Rattle.rtgs_cores.specs.Nexts.{posting_after}
 use Rattle.rtgs_cores.specs.Nexts.{date_of_posting}
-use Rattle.rtgs_tables.specs.Seeking.{first_of_date}
-use Rattle.rtgs_tables.proofs.FindingLemmas.{holds_on}
-use Rattle.rtgs_tables.proofs.KeepingLooks.{posting_of_date, some_date}
-use Rattle.rtgs_tables.proofs.Keeps.{leaves_on}
+use Rattle.rtgs_sql_look_ups.specs.Seeking.{first_of_date}
+use Rattle.rtgs_tables.proofs.KeepingLooks.{holds_on, posting_of_date, some_date}
+use Rattle.rtgs_tables.proofs.Settling.{leaves_on}
 use Rattle.rtgs_tables.proofs.sql_keeper.SqlKeeperKeeper.next_posting.Goals as goal
 
 pub returns-clause-found : goal.returns-clause-found

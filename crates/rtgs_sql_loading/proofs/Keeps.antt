@@ -1,0 +1,51 @@
+-- What is left by a query that failed.
+use Rattle.std.proofs.Common.{◌≡◌, ◌≢◌, ◌⊎◌, inl, inr, Err, Result, IsTrue, ap, ◌∙◌}
+use Rattle.sqlite.specs.Effect.{Database}
+use Rattle.sqlite.proofs.StateLemmas.{survives_then}
+use Rattle.sqlite.specs.State.{State, Survives}
+use Rattle.sqlite.specs.Tree.{Trees}
+use Rattle.rtgs_book.specs.declared.Fault.{Fault}
+use Rattle.rtgs_book.specs.declared.Fault.TheVariants.{OutOfMemory, StoreFault, NotADeskFile, Inconsistent}
+use Rattle.rtgs_rows.specs.Content.{Content, Rests}
+use Rattle.rtgs_rows.specs.Querying.{IsDeskFile}
+use Rattle.rtgs_rows.specs.Tables.{desk_schema}
+use Rattle.rtgs_sql_queries.specs.Answering.{KeepsTables}
+
+pub survives_on : (a b c : State) → Survives a b (λ _. ⊥) → Survives b c (λ _. ⊥) → Survives a c (λ _. ⊥)
+survives_on a b c = survives_then a b c (λ _. ⊥) (λ _. ⊥) (λ _. ⊥) (λ _ db none. none) (λ _ db none. none)
+
+pub not_foreign : {A : Type 0} (fault : Fault) → (fault ≡ OutOfMemory) ⊎ (fault ≡ StoreFault)
+    → ◌≢◌ {A = Result A Fault} (Err fault) (Err NotADeskFile)
+not_foreign OutOfMemory why e = absurd cc
+not_foreign StoreFault why e = absurd cc
+not_foreign NotADeskFile (inl m) e = absurd cc
+not_foreign NotADeskFile (inr m) e = absurd cc
+not_foreign (Inconsistent rule) (inl m) e = absurd cc
+not_foreign (Inconsistent rule) (inr m) e = absurd cc
+
+pub keeps_then : (old mid new : State) → KeepsTables old mid → KeepsTables mid new → KeepsTables old new
+keeps_then old mid new one two = record {
+  file = λ trees file. two.file trees (one.file trees file);
+  rests = λ content rests. two.rests content (one.rests content rests);
+}
+
+pub schema_of : (trees : Trees) (s : State) → IsDeskFile trees s → s.now.schema ≡ desk_schema
+schema_of trees s file = ap (λ (d : Database). d.schema) file.clean ∙ file.schema
+
+pub schema_at : (content : Content) (s : State) → Rests content s → s.now.schema ≡ desk_schema
+schema_at content s rests = ap (λ (d : Database). d.schema) rests.clean ∙ rests.schema
+
+-- memory was refused, and the connection is seen to be open still: the tables of a desk stay
+pub keeps_after : {A : Type 0} (old mid new : State) (fault : Fault)
+    → (old.now.schema ≡ desk_schema → (fault ≡ OutOfMemory) ⊎ (fault ≡ StoreFault))
+    → (IsTrue mid.is_open → KeepsTables old mid)
+    → (fault ≡ OutOfMemory → IsTrue mid.is_open × KeepsTables mid new)
+    → ◌≢◌ {A = Result A Fault} (Err fault) (Err StoreFault) → KeepsTables old new
+keeps_after {A = A} old mid new fault kinds first second other = record {
+  file = λ trees file. (stay (kinds (schema_of trees old file))).file trees file;
+  rests = λ content rests. (stay (kinds (schema_at content old rests))).rests content rests;
+}
+  where
+    stay : (fault ≡ OutOfMemory) ⊎ (fault ≡ StoreFault) → KeepsTables old new
+    stay (inl memory) = let on = second memory in keeps_then old mid new (first on.0) on.1
+    stay (inr failed) = absurd (other (ap Err failed))

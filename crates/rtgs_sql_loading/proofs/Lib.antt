@@ -1,0 +1,9 @@
+pub mod Keeps
+pub mod OwnRows
+pub mod AboveZero
+pub mod Told
+pub mod Displaying
+pub mod Blank
+pub mod Judging
+pub mod ReadTables
+pub mod Together

@@ -1,0 +1,127 @@
+-- Rows of records whose numbers are above zero, as in a sound book.
+use Rattle.std.proofs.Common.{◌≡◌, ℕ, suc, ◌<◌, ℤ, pos, negsuc, Bool, List, [], ◌∷◌, map, length, IsPermutation, Option}
+use Rattle.std.proofs.Common.{Some, None, refl, sym, subst, ap, ap₂, ◌∙◌, arith}
+use Rattle.std.specs.List.{AllByRecursion}
+use Rattle.std.proofs.lemmas.List.Sorted.{IsPermutation-sym}
+use Rattle.sqlite.specs.Order.{Row}
+use Rattle.sqlite.specs.declared.types.Value.{Value}
+use Rattle.sqlite.specs.declared.types.Value.TheVariants.{Null, Int, Real, Text, Blob}
+use Rattle.sqlite_keyed.proofs.ListLemmas.{map-map, map_same, all_unmap}
+use Rattle.sqlite_trees.proofs.ListLemmas.{all-permutation}
+use Rattle.rtgs_book.specs.declared.Posting.{Posting}
+use Rattle.rtgs_book.specs.declared.Order.{Order}
+use Rattle.rtgs_book.specs.declared.OrderState.{OrderState}
+use Rattle.rtgs_book.specs.declared.OrderState.TheVariants.{Queued, Settled, Withdrawn, Rejected}
+use Rattle.rtgs_book.specs.declared.Mark.{Mark}
+use Rattle.rtgs_rows.specs.Rows.{shown_posting, shown_order, shown_mark, mark_value}
+use Rattle.rtgs_sql_columns.specs.Numbers.{number_of, at_least_zero, as_read, counted_of_posting, counted_of_order}
+use Rattle.rtgs_sql_columns.specs.Numbers.{counted_of_mark, IsFormed, IsNumberedPosting, IsNumberedState}
+use Rattle.rtgs_sql_columns.specs.Numbers.{IsNumberedOrder}
+use Rattle.rtgs_sql_columns.specs.Numbers.{IsNumberedMark}
+
+-- what is read as a number is one
+pub number_in : (v : Value) (n : ℕ) → at_least_zero v ≡ Int (pos n) → (m : ℤ) × (v ≡ Int m) × (number_of m ≡ n)
+number_in Null n e = absurd cc
+number_in (Int m) n e = (m, refl, cc)
+number_in (Real x) n e = absurd cc
+number_in (Text t) n e = absurd cc
+number_in (Blob b) n e = absurd cc
+
+-- a number above zero is read as it is
+pub above_in : (v : Value) (n : ℕ) → 0 < n → at_least_zero v ≡ Int (pos n) → v ≡ Int (pos n)
+above_in v n low e = at (number_in v n e)
+  where
+    at : ((m : ℤ) × (v ≡ Int m) × (number_of m ≡ n)) → v ≡ Int (pos n)
+    at (pos m, is, same) = is ∙ ap (λ k. Int (pos k)) same
+    at (negsuc m, is, same) = absurd (omega (arith, same, low))
+
+-- ---- where the numbers are above zero, the row is the record's own
+
+state_own : (state : OrderState) (v : Value) → IsNumberedState state → at_least_zero v ≡ mark_value state
+    → v ≡ mark_value state
+state_own Queued Null low e = e
+state_own Queued (Int n) low e = absurd cc
+state_own Queued (Real x) low e = absurd cc
+state_own Queued (Text t) low e = absurd cc
+state_own Queued (Blob b) low e = absurd cc
+state_own (Settled mark) v low e = above_in v mark low e
+state_own Withdrawn Null low e = e
+state_own Withdrawn (Int n) low e = absurd cc
+state_own Withdrawn (Real x) low e = absurd cc
+state_own Withdrawn (Text t) low e = absurd cc
+state_own Withdrawn (Blob b) low e = absurd cc
+state_own Rejected Null low e = e
+state_own Rejected (Int n) low e = absurd cc
+state_own Rejected (Real x) low e = absurd cc
+state_own Rejected (Text t) low e = absurd cc
+state_own Rejected (Blob b) low e = absurd cc
+
+head_of : (v u : Value) (r s : Row) → ◌≡◌ {A = Row} (v ∷ r) (u ∷ s) → v ≡ u
+head_of v u r s e = cc
+
+tail_of : (v u : Value) (r s : Row) → ◌≡◌ {A = Row} (v ∷ r) (u ∷ s) → r ≡ s
+tail_of v u r s e = cc
+
+pub posting_own : (row : Row) (p : Posting) → IsNumberedPosting p → as_read counted_of_posting row ≡ shown_posting p
+    → row ≡ shown_posting p
+posting_own [] p low e = absurd cc
+posting_own (v ∷ row) p low e = ap₂ ◌∷◌ (above_in v p.number low (head_of _ _ _ _ e)) (tail_of _ _ _ _ e)
+
+pub order_own : (row : Row) (o : Order) → IsNumberedOrder o → as_read counted_of_order row ≡ shown_order o
+    → row ≡ shown_order o
+order_own [] o low e = absurd cc
+order_own (a ∷ []) o low e = absurd cc
+order_own (a ∷ b ∷ []) o low e = absurd cc
+order_own (a ∷ b ∷ c ∷ []) o low e = absurd cc
+order_own (a ∷ b ∷ c ∷ d ∷ []) o low e = absurd cc
+order_own (a ∷ b ∷ c ∷ d ∷ f ∷ []) o low e = absurd cc
+order_own (a ∷ b ∷ c ∷ d ∷ f ∷ g ∷ []) o low e = absurd cc
+order_own (a ∷ b ∷ c ∷ d ∷ f ∷ g ∷ h ∷ []) o low e = absurd cc
+order_own (a ∷ b ∷ c ∷ d ∷ f ∷ g ∷ h ∷ k ∷ rest) o low e =
+    let number = above_in a o.number low.0 (let is : at_least_zero a ≡ Int (pos o.number) = cc in is) in
+    let mark = state_own o.state k low.1 (let is : at_least_zero k ≡ mark_value o.state = cc in is) in
+    cc
+
+pub mark_own : (row : Row) (m : Mark) → IsNumberedMark m → as_read counted_of_mark row ≡ shown_mark m
+    → row ≡ shown_mark m
+mark_own [] m low e = absurd cc
+mark_own (a ∷ []) m low e = absurd cc
+mark_own (a ∷ b ∷ []) m low e = absurd cc
+mark_own (a ∷ b ∷ c ∷ rest) m low e =
+    let number = above_in a m.number low.0 (let is : at_least_zero a ≡ Int (pos m.number) = cc in is) in
+    let count = above_in c m.count low.1 (let is : at_least_zero c ≡ Int (pos m.count) = cc in is) in
+    cc
+
+-- records with numbers above zero are told by their own rows
+module _ {A : Type 0} (counted : List Bool) (shown : A → Row) (numbered : A → Type 0)
+    (own : (row : Row) (a : A) → numbered a → as_read counted row ≡ shown a → row ≡ shown a) where
+  abbrev IsOwn : Row → Type 0
+  IsOwn read = (row : Row) → as_read counted row ≡ read → row ≡ read
+
+  owns : (all : List A) → AllByRecursion numbered all → AllByRecursion IsOwn (map shown all)
+  owns [] low = tt
+  owns (a ∷ all) low = (λ row e. own row a low.0 e, owns all low.1)
+
+  same_rows : (rows : List Row) → AllByRecursion (λ row. IsOwn (as_read counted row)) rows
+      → map (as_read counted) rows ≡ rows
+  same_rows [] each = refl
+  same_rows (row ∷ rows) each = ap₂ ◌∷◌ (sym (each.0 row refl)) (same_rows rows each.1)
+
+  pub told_plainly : (rows : List Row) (all : List A) → AllByRecursion numbered all
+      → IsPermutation (map (as_read counted) rows) (map shown all) → IsPermutation rows (map shown all)
+  told_plainly rows all low same =
+      let each = all_unmap IsOwn (as_read counted) rows (all-permutation IsOwn _ _ (IsPermutation-sym _ _ same)
+      (owns all low)) in
+      subst (λ rs. IsPermutation rs (map shown all)) (same_rows rows each) same
+
+-- the rows of records are in their forms
+pub are_formed : {A : Type 0} (fits : A → Type 0) (counted : List Bool) (shown : A → Row) (all : List A)
+    → AllByRecursion fits all → (rows : List Row) → map (as_read counted) rows ≡ map shown all
+    → AllByRecursion (IsFormed fits counted shown) rows
+are_formed fits counted shown [] fit [] is = tt
+are_formed fits counted shown [] fit (row ∷ rows) is = absurd cc
+are_formed fits counted shown (a ∷ all) fit [] is = absurd cc
+are_formed fits counted shown (a ∷ all) fit (row ∷ rows) is =
+    let first : as_read counted row ≡ shown a = cc in
+    let rest : map (as_read counted) rows ≡ map shown all = cc in
+    ((a, fit.0, first), are_formed fits counted shown all fit.1 rows rest)

@@ -1,0 +1,74 @@
+-- The five tables together, and the book that they hold.
+use Rattle.std.proofs.Common.{◌≡◌, ℤ, List, map, sym, subst, ◌∙◌, Ok, Err, Result, IfOk}
+use Rattle.std.proofs.Common.{OnOk}
+use Rattle.std.specs.List.{AllByRecursion}
+use Rattle.sqlite.specs.Tree.{Trees}
+use Rattle.sqlite_keyed.proofs.ListLemmas.{map-map, all_map}
+use Rattle.sqlite_catalog.specs.Listing.{IsSound}
+use Rattle.rtgs_book.specs.declared.Book.{Book}
+use Rattle.rtgs_book.specs.declared.Fault.{Fault}
+use Rattle.rtgs_book.specs.Balance.{balance}
+use Rattle.rtgs_book.specs.Soundness.{IsSound as IsSoundBook}
+use Rattle.rtgs_rows.specs.Tables.{desk_schema}
+use Rattle.rtgs_rows.specs.Content.{Content, Holds}
+use Rattle.rtgs_rows.specs.Keeping.{IsBookOf}
+use Rattle.rtgs_sql_loading.proofs.AboveZero.{above_zero}
+use Rattle.rtgs_book.specs.declared.Participant.{Participant}
+use Rattle.rtgs_rows.specs.Rows.{shown_posting, shown_order, shown_mark}
+use Rattle.rtgs_rows.specs.Fitting.{Fits}
+use Rattle.rtgs_rows.specs.Querying.{picked, AreWhole, ShowsBook, shown_entry, ShowsParticipants}
+use Rattle.rtgs_book.specs.declared.account.Account.{Account}
+use Rattle.rtgs_sql_loading.specs.Accounts.{AreBalances, entry_of, AreReadOf, IsShown}
+use Rattle.rtgs_sql_columns.specs.Numbers.{counted_of_posting, counted_of_order, counted_of_mark, IsNumberedPosting}
+use Rattle.rtgs_sql_columns.specs.Numbers.{IsNumberedOrder, IsNumberedMark, IsNumberedBook}
+use Rattle.rtgs_sql_columns.specs.Tables.{postings_query, payments_query, marks_query}
+use Rattle.rtgs_sql_loading.proofs.OwnRows.{told_plainly, posting_own, order_own, mark_own}
+
+-- where the numbers are above zero, the tables show the records' own rows
+pub shows_of : (trees : Trees) (accounts : List Account) (book : Book) → AreReadOf trees accounts book
+    → IsNumberedBook book → ShowsBook trees book (map entry_of accounts)
+shows_of trees accounts book read numbered = record {
+  desk = read.desk;
+  participants = subst (ShowsParticipants trees) (sym (map-map shown_entry entry_of accounts)) read.participants;
+  named = read.named ∙ sym (map-map (λ (entry : Participant × ℤ). entry.0) entry_of accounts);
+  postings = told_plainly counted_of_posting shown_posting IsNumberedPosting posting_own
+      (map (picked postings_query.places) (trees postings_query.tree)) book.postings numbered.postings read.postings;
+  payments = told_plainly counted_of_order shown_order IsNumberedOrder order_own
+      (map (picked payments_query.places) (trees payments_query.tree)) book.orders numbered.orders read.payments;
+  marks = told_plainly counted_of_mark shown_mark IsNumberedMark mark_own
+      (map (picked marks_query.places) (trees marks_query.tree)) book.marks numbered.marks read.marks;
+}
+
+-- what was read, and judged to be sound with its balances stored, is what the tables show
+pub shown_book : (trees : Trees) (accounts : List Account) (book : Book) (answer : Result Book Fault)
+    → AreReadOf trees accounts book → IfOk answer (λ it. it ≡ book) → IfOk answer IsSoundBook
+    → OnOk answer (AreBalances book accounts)
+    → IfOk answer (IsShown trees)
+shown_book trees accounts book (Ok it) read is right agree =
+    let sound_book = subst IsSoundBook is right in
+    let balances = all_map (λ (entry : Participant × ℤ). entry.1 ≡ balance book entry.0.code) entry_of accounts agree in
+    subst (IsShown trees) (sym is) (
+      map entry_of accounts,
+      shows_of trees accounts book read
+          (above_zero book sound_book),
+      balances,
+    )
+shown_book trees accounts book (Err fault) read is right agree = tt
+
+module _ (law : (trees : Trees) (book : Book) (entries : List (Participant × ℤ)) → IsSound desk_schema trees
+    → AreWhole trees → IsSoundBook book → Fits book → ShowsBook trees book entries
+    → AllByRecursion (λ (entry : Participant × ℤ). entry.1 ≡ balance book entry.0.code) entries
+    → (content : Content) × Holds content trees × IsBookOf book content) where
+  -- what was read, and judged to be sound with its balances stored, is what the tables hold
+  pub held_book : (trees : Trees) (accounts : List Account) (book : Book) (answer : Result Book Fault)
+      → IsSound desk_schema trees → AreWhole trees → AreReadOf trees accounts book
+      → IfOk answer (λ it. it ≡ book) → IfOk answer IsSoundBook → OnOk answer (AreBalances book accounts)
+      → IfOk answer (λ it. (content : Content) × Holds content trees × IsBookOf it content)
+  held_book trees accounts book (Ok it) sound whole read is right agree =
+      let sound_book = subst IsSoundBook is right in
+      let balances = all_map (λ (entry : Participant × ℤ). entry.1 ≡ balance book entry.0.code) entry_of accounts agree
+      in
+      subst (λ b. (content : Content) × Holds content trees × IsBookOf b content) (sym is)
+      (law trees book (map entry_of accounts) sound whole sound_book read.fits
+      (shows_of trees accounts book read (above_zero book sound_book)) balances)
+  held_book trees accounts book (Err fault) sound whole read is right agree = tt

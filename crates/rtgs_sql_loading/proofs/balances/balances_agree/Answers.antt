@@ -1,0 +1,10 @@
+use Rattle.std.proofs.Common.{◌≡◌, Bool, true, ◌↔◌, sym, subst}
+use Rattle.rtgs_sql_loading.specs.Accounts.{AreBalances}
+use Rattle.rtgs_sql_loading.proofs.Judging.{stored_agree}
+use Rattle.rtgs_sql_loading.proofs.balances.balances_agree.Goals as goal
+
+pub returns : goal.returns
+returns c =
+    subst (λ (yes : Bool). (yes ≡ true) ↔ AreBalances c.args.book.now c.args.accounts.now) (sym c.are_stored.ensures)
+    (stored_agree c.args.book.now c.args.accounts.now c.in_ok-balances.balances c.requires.participants
+    c.in_ok-balances.ensures)

@@ -1,0 +1,130 @@
+//! The book that the tables hold.
+ghost use Rattle.std.specs.Prelude.{◌≡◌, ◌≢◌, false, map, List, Err, IfOk, IfErr, OnOk};
+ghost use Rattle.rtgs_book.specs.declared.Book.{Book};
+ghost use Rattle.rtgs_book.specs.declared.Rule.{Rule};
+ghost use Rattle.rtgs_book.specs.declared.account.Account.{Account as AccountSpec};
+ghost use Rattle.rtgs_sql_queries.specs.Answering.{KeepsTables};
+ghost use Rattle.rtgs_sql_queries.specs.Records.{HasRecords};
+ghost use Rattle.rtgs_sql_loading.specs.Accounts.{AreBalances, AreFormed, ExplainsRead};
+ghost use Rattle.rtgs_sql_loading.specs.Accounts.{ExplainsTrees, IsShown};
+ghost use Rattle.rtgs_sql_columns.specs.Blank.{IsBlank};
+ghost use Rattle.rtgs_sql_loading.specs.Displaying.{IsDisplayed, IsIllegible, ExplainsDatabase};
+ghost use Rattle.rtgs_sql_loading.specs.Loading.{Tells, Stops};
+ghost use Rattle.rtgs_book.specs.Ranges.{Fits};
+ghost use Rattle.rtgs_book.specs.Soundness.{IsSound};
+ghost use Rattle.rtgs_rows.specs.Content.{Content, Holds};
+ghost use Rattle.rtgs_rows.specs.Keeping.{IsBookOf};
+ghost use Rattle.rtgs_rows.specs.Querying.{IsDeskFile, AreWhole};
+ghost use Rattle.sqlite.specs.State.{HasCleanDisk, Survives};
+ghost use Rattle.sqlite.specs.Held.{state};
+ghost use Rattle.sqlite.specs.Tree.{Trees};
+
+use crate::balances::balances_agree;
+use crate::reading::{read_day, read_records};
+use rtgs_book::{Account, Book, Fault, Mark, Order, Participant, Posting, Rows, Rule};
+use rtgs_rows::laws::shown_records_are_held;
+use rtgs_soundness::check;
+use sqlite::{Alter, Connection};
+use std::alloc::{AllocError, Global};
+
+/// A book as it stands in the tables, with the stored balances.
+#[derive(Drop)]
+struct Stored {
+    accounts: Vec<Account>,
+    book: Book,
+    ghost participants: { book.participants ≡ map (λ (a : AccountSpec). a.participant) accounts.items },
+}
+
+/// Reads the five tables.
+fn read_tables<S: Alter>(alloc: Global, conn: &mut Connection<S>) -> Result<Stored, Fault>
+    ensures told { HasCleanDisk (state S.Store conn.new) → IfOk result (λ stored.
+        Tells (state S.Store conn.old) stored.accounts.items stored.book) }
+    ensures stops { Stops (state S.Store conn.old) (state S.Store conn.new) result (λ trees. ¬ AreFormed trees)
+        IsIllegible }
+    ensures kinds { (rule : Rule) → result ≢ Err (Fault.Inconsistent rule) }
+    ensures blank { HasCleanDisk (state S.Store conn.new) → IsBlank (state S.Store conn.old) → IfOk result (λ _. ⊥) }
+    ensures survives { Survives (state S.Store conn.old) (state S.Store conn.new) (λ _. ⊥) }
+    ensures mode { conn.old.in_transaction ≡ false → conn.new.in_transaction ≡ false }
+    ensures honest { HasCleanDisk (state S.Store conn.new) → HasCleanDisk (state S.Store conn.old) }
+{
+    let day = read_day(alloc, conn)?;
+    let accounts = read_records::<Account, S>(alloc, conn)?;
+    let postings = read_records::<Posting, S>(alloc, conn)?;
+    let orders = read_records::<Order, S>(alloc, conn)?;
+    let marks = read_records::<Mark, S>(alloc, conn)?;
+    let participants = participants_of(alloc, accounts.as_slice())?;
+    let book = Book {
+        participants: Rows::from_vec(participants),
+        postings: Rows::from_vec(postings),
+        orders: Rows::from_vec(orders),
+        marks: Rows::from_vec(marks),
+        day,
+    };
+    Ok(Stored { accounts, book })
+}
+
+/// The participants of the accounts.
+fn participants_of(alloc: Global, accounts: &[Account]) -> Result<Vec<Participant>, AllocError>
+    ensures { IfOk result (λ v. v.items ≡ map (λ (a : AccountSpec). a.participant) accounts.now) }
+{
+    accounts
+        .iter()
+        .map(|account| account.participant)
+        .collect(alloc)
+}
+
+/// The book of the tables, once it is seen to be sound, and the stored balances to be its balances. Else the fault
+/// names the first rule that is broken, or memory was refused.
+fn judged(stored: Stored) -> Result<Book, Fault>
+    ensures given { IfOk result (λ book. book ≡ stored.book) }
+    ensures sound { IfOk result IsSound }
+    ensures fits { IfOk result Fits }
+    ensures balances { OnOk result (AreBalances stored.book stored.accounts.items) }
+    ensures fault { result ≢ Err Fault.StoreFault }
+    ensures explained { IfErr result (ExplainsRead stored.accounts.items stored.book) }
+{
+    let Stored { accounts, book } = stored;
+    check(&book)?;
+    if balances_agree(accounts.as_slice(), &book)? {
+        Ok(book)
+    } else {
+        Err(Fault::Inconsistent {
+            rule: Rule::StoredBalances,
+        })
+    }
+}
+
+/// Loads the book, and judges it. Records that break a rule are answered by the first one that they break, and what is
+/// no desk's tables by `NotADeskFile`. A book is given only where the tables hold it.
+pub fn load_book<S: Alter>(alloc: Global, conn: &mut Connection<S>) -> Result<Book, Fault>
+    ensures read { HasCleanDisk (state S.Store conn.new) → (accounts : List AccountSpec) (book : Book)
+        → HasRecords accounts book (state S.Store conn.old)
+        → IfOk result (λ loaded. (loaded ≡ book) × AreBalances book accounts) }
+    ensures held { HasCleanDisk (state S.Store conn.new) → (trees : Trees) → IsDeskFile trees (state S.Store conn.old)
+        → AreWhole trees → IfOk result (λ book. (content : Content) × Holds content trees × IsBookOf book content) }
+    ensures shown { HasCleanDisk (state S.Store conn.new) → (trees : Trees) → IsDeskFile trees (state S.Store conn.old)
+        → IfOk result (IsShown trees) }
+    ensures explained { HasCleanDisk (state S.Store conn.new) → (accounts : List AccountSpec) (book : Book)
+        → HasRecords accounts book (state S.Store conn.old) → IfErr result (ExplainsRead accounts book) }
+    ensures caused { HasCleanDisk (state S.Store conn.new) → (trees : Trees) → IsDeskFile trees (state S.Store conn.old)
+        → IfErr result (ExplainsTrees trees) }
+    ensures displayed { HasCleanDisk (state S.Store conn.new)
+        → IfOk result (IsDisplayed (state S.Store conn.old).now) }
+    ensures told { HasCleanDisk (state S.Store conn.new)
+        → IfErr result (ExplainsDatabase (state S.Store conn.old).now) }
+    ensures blank { HasCleanDisk (state S.Store conn.new) → IsBlank (state S.Store conn.old)
+        → IfOk result (λ _. ⊥) × ((rule : Rule) → result ≢ Err (Fault.Inconsistent rule)) }
+    ensures same { HasCleanDisk (state S.Store conn.new) → result ≢ Err Fault.StoreFault
+        → KeepsTables (state S.Store conn.old) (state S.Store conn.new) }
+    ensures survives { Survives (state S.Store conn.old) (state S.Store conn.new) (λ _. ⊥) }
+    ensures sound { IfOk result IsSound }
+    ensures fits { IfOk result Fits }
+    ensures mode { conn.old.in_transaction ≡ false → conn.new.in_transaction ≡ false }
+    ensures honest { HasCleanDisk (state S.Store conn.new) → HasCleanDisk (state S.Store conn.old) }
+{
+    // The engine keeps the rows as the schema says, so what the queries show of a sound book is what the tables hold.
+    conn.schema();
+    shown_records_are_held();
+    let stored = read_tables(alloc, conn)?;
+    judged(stored)
+}

@@ -1,0 +1,5 @@
+pub mod Passing
+pub mod FindingTexts
+pub mod FindingLemmas
+pub mod SeekingLemmas
+pub mod ListingLemmas

@@ -1,0 +1,24 @@
+use Rattle.std.proofs.Common.{◌∙◌}
+use Rattle.rtgs_book.specs.Lookup.{order_named, is_order_named}
+use Rattle.rtgs_rows.specs.Fitting.{FitsOrder}
+use Rattle.rtgs_sql_look_ups.proofs.FindingLemmas.{looks_ok, looks_err, is_found, fits_found}
+use Rattle.rtgs_sql_look_ups.proofs.finding.find_order.Goals as goal
+
+pub returns-in-Ok-clause-looks : goal.returns-in-Ok-clause-looks
+returns-in-Ok-clause-looks g c =
+    looks_ok g.S.Store c.args.conn.now c.order_rows.new.conn _ c.only_record.result c.in-Ok.ensures.asks
+    c.only_record.ensures.kinds
+
+pub returns-in-Err-clause-looks : goal.returns-in-Err-clause-looks
+returns-in-Err-clause-looks g c =
+    looks_err g.S.Store c.args.conn.now c.order_rows.new.conn c.fault_of.new.conn _ c.fault_of.result
+    c.in-Err.ensures.asks c.fault_of.ensures.kinds c.fault_of.ensures.kept c.fault_of.ensures.mode
+    c.fault_of.ensures.survives
+
+pub returns-in-Ok-clause-found : goal.returns-in-Ok-clause-found
+unfolding order_named
+returns-in-Ok-clause-found g c clean book held =
+    is_found c.only_record.result (order_named book c.args.sender.now c.args.reference.now) (c.only_record.ensures.found
+    (order_named book c.args.sender.now c.args.reference.now)
+    (fits_found FitsOrder (is_order_named c.args.sender.now c.args.reference.now) book.orders held.2.fits.orders)
+    (c.records_are_read.ensures.orders _ _ (c.as_slice.ensures.value ∙ c.in-Ok.ensures.rows clean book held)))

@@ -1,0 +1,57 @@
+-- Looks at the tables, which write nothing.
+use Rattle.std.specs.Prelude.{◌≡◌, ◌≢◌, ◌⊎◌, ℕ, pos, false, List, [], ◌∷◌, map, Bool, Option, Some, None, Err, Result}
+use Rattle.std.specs.Prelude.{IfErr}
+use Rattle.sqlite.specs.Collation.TheVariants.{Binary}
+use Rattle.sqlite.specs.declared.types.Value.TheVariants.{Int}
+use Rattle.sqlite.specs.Order.{Row}
+use Rattle.sqlite.specs.Query.{Query, IsAnswer}
+use Rattle.sqlite.specs.Term.{Term, lit, col, op2}
+use Rattle.sqlite.specs.Tree.{Trees}
+use Rattle.sqlite.specs.State.{HasCleanDisk, Survives}
+use Rattle.sqlite.specs.Held.{Held, state}
+use Rattle.sqlite_sql.specs.Program.{overlay}
+use Rattle.sqlite_sql.specs.declared.ops.BinaryOp.TheVariants.{Compare}
+use Rattle.sqlite_sql.specs.declared.ops.CompareOp.TheVariants.{Gt}
+use Rattle.sqlite_resolve.specs.Compile.{first}
+use Rattle.sqlite_trees.specs.declared.store.Store.{Ghosts}
+use Rattle.rtgs_book.specs.declared.Fault.{Fault}
+use Rattle.rtgs_book.specs.declared.Fault.TheVariants.{OutOfMemory, StoreFault}
+use Rattle.rtgs_sql_columns.specs.Numbers.{as_read}
+use Rattle.rtgs_sql_columns.specs.OneTable.{simple}
+use Rattle.rtgs_sql_queries.specs.Answering.{KeepsTables, Returnless}
+use Rattle.rtgs_sql_queries.specs.TableQueries.{TableQuery, Seeks, columns_of, rising_by}
+
+-- the value alone, or nothing
+abbrev pub one_of : {A : Type 0} → Option A → List A
+one_of None = []
+one_of (Some a) = a ∷ []
+
+-- What a look leaves: nothing is written, and the tables stay unless the store failed. It fails by the store or for
+-- want of memory alone.
+pub record IsLook {S A : Type 0} (g : Ghosts S) (old new : Held S) (result : Result A Fault) : Type 0 where
+  pub survives : Survives (state g old) (state g new) (λ _. ⊥)
+  pub mode : old.in_transaction ≡ false → new.in_transaction ≡ false
+  pub same : HasCleanDisk (state g new) → result ≢ Err StoreFault → KeepsTables (state g old) (state g new)
+  pub kinds : IfErr result (λ fault. (fault ≡ OutOfMemory) ⊎ (fault ≡ StoreFault))
+
+-- ---- the first row above a number
+
+abbrev pub after_tests : List Term
+after_tests = op2 (Compare Gt Binary) (col 1 0) (col 0 0) ∷ []
+
+-- the first row of the table whose number is above the parameter
+abbrev pub first_row_query : TableQuery → Query
+first_row_query t = record (simple t.tree after_tests (columns_of t) (rising_by t.sorted_by)) {
+  limit = lit (Int (pos 1));
+}
+
+-- the text is that query, which writes nothing
+pub record IsFirstQuery (t : TableQuery) (text : List ℕ) : Type 0 where
+  pub seeks : Seeks text 1 (first_row_query t) t.names
+  pub reads : Returnless (first text)
+
+-- what it answers over these trees tells this record, or none
+abbrev pub ShowsFirst : {A : Type 0} → TableQuery → List Bool → (A → Row) → Trees → ℕ → Option A → Type 0
+ShowsFirst t counted shown trees number found = (rows : List Row)
+    → IsAnswer (first_row_query t) (overlay trees []) (Int (pos number) ∷ []) rows
+    → map (as_read counted) rows ≡ map shown (one_of found)

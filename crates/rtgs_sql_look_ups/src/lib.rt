@@ -1,0 +1,9 @@
+//! Looking up one record: by its name, and the next of a date.
+#![tactic(auto)]
+
+mod finding;
+mod listing;
+mod seeking;
+
+pub use crate::finding::{find_order, find_posting};
+pub use crate::seeking::{Listed, next_of};

@@ -1,0 +1,12 @@
+pub mod Refusals
+pub mod Looking
+pub mod Resting
+pub mod Showing
+pub mod ReadingAlone
+pub mod Displaying
+pub mod Answering
+pub mod Asking
+pub mod RowColumns
+pub mod AsRead
+pub mod Selecting
+pub mod Decoding

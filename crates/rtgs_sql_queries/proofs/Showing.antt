@@ -1,0 +1,172 @@
+-- What the query of one whole table shows, and what it leaves.
+use Rattle.std.proofs.Common.{◌≡◌, ◌⊎◌, inl, inr, ℕ, ℤ, List, [], ◌∷◌, map, filter, true, false, Ok, Err, Result}
+use Rattle.std.proofs.Common.{Option, None, cond, unwrap_or, nat_le, ◌^◌, IsTrue, IfOk, IfErr, OnOk, Vec, Global, refl}
+use Rattle.std.proofs.Common.{sym, ap, subst, ◌∙◌}
+use Rattle.std.specs.List.Sorted.{IsPermutation}
+use Rattle.std.proofs.lemmas.List.Sorted.{IsPermutation-trans}
+use Rattle.std.specs.declared.cmp.Ordering.TheVariants.{Less}
+use Rattle.sqlite.specs.declared.types.Value.TheVariants.{Null}
+use Rattle.sqlite.specs.declared.error.Error.{Error}
+use Rattle.sqlite.specs.Order.{Row, column}
+use Rattle.sqlite.specs.Query.{Query, output, Output}
+use Rattle.sqlite_sql.specs.Query.{output_cmp}
+use Rattle.sqlite_sql.specs.Program.{overlay, QueryOverflows}
+use Rattle.sqlite.specs.Term.{Term}
+use Rattle.sqlite_value.specs.declared.keys.Key.{Key}
+use Rattle.sqlite_sql.proofs.QueryLemmas.{output_cmp_total}
+use Rattle.sqlite_keyed.proofs.SortLemmas.{sorted_unique}
+use Rattle.sqlite_keyed.proofs.ListLemmas.{ascending-map, ascending_weaker, map-map, map_same, IsPermutation-same}
+use Rattle.std.specs.Ordering.{int_cmp}
+use Rattle.sqlite.specs.Tree.{Trees, IsAscending}
+use Rattle.sqlite.specs.Effect.{Database}
+use Rattle.sqlite.specs.State.{State, Shown, IsUnchanged, IsRolledBack}
+use Rattle.sqlite.proofs.Callers.{reads_as, IsPlain}
+use Rattle.sqlite.specs.Listing.{reads_listing}
+use Rattle.sqlite_typing.specs.Types.{accepts_program}
+use Rattle.rtgs_book.specs.declared.Book.{Book}
+use Rattle.rtgs_book.specs.declared.account.Account.{Account}
+use Rattle.rtgs_rows.specs.Tables.{desk_schema}
+use Rattle.rtgs_rows.specs.Content.{Content, Rests, tables_of}
+use Rattle.rtgs_rows.specs.Querying.{IsDeskFile, picked}
+use Rattle.rtgs_sql_queries.specs.Records.{AreRead}
+use Rattle.rtgs_sql_queries.specs.Answering.{FailsAmid}
+use Rattle.rtgs_sql_queries.specs.Faults.{IsOfStore}
+use Rattle.rtgs_sql_queries.specs.TableQueries.{TableQuery, IsTableQuery, Asks, ShowsOwn, whole_table, shown_columns}
+use Rattle.rtgs_sql_queries.specs.TableQueries.{rising_by}
+use Rattle.rtgs_sql_queries.proofs.Refusals.{of_store, intact}
+use Rattle.rtgs_sql_queries.specs.Answering.{KeepsTables}
+use Rattle.rtgs_sql_queries.proofs.Resting.{keeps, schema_of}
+use Rattle.rtgs_sql_columns.specs.OneTable.{simple, passes, shows, Sorts, OneTableAnswers}
+
+-- it sums nothing, so nothing in it is too large
+overflows_never : (t : ℕ) (project : List Term) (order : List (Term × Key)) (db : Trees) (params : Row)
+    → ¬ QueryOverflows (simple t [] project order) db params
+overflows_never t project order db params (inl none) = none
+overflows_never t project order db params (inr some) = some.4
+
+-- the tables are kept, where the connection stays open
+pub file_on : (trees : Trees) (old new : State) → IsDeskFile trees old → IsUnchanged old new ⊎ IsRolledBack old new
+    → IsTrue new.is_open → IsDeskFile trees new
+file_on trees old new file (inl same) alive = record {
+  is_open = alive;
+  schema = ap (λ (d : Database). d.schema) same.0.committed_is ∙ file.schema;
+  trees_are = ap (λ (d : Database). d.trees) same.0.committed_is ∙ file.trees_are;
+  clean = same.0.now_is ∙ file.clean ∙ sym same.0.committed_is;
+}
+file_on trees old new file (inr back) alive = record {
+  is_open = alive;
+  schema = ap (λ (d : Database). d.schema) (back.undone alive).1 ∙ file.schema;
+  trees_are = ap (λ (d : Database). d.trees) (back.undone alive).1 ∙ file.trees_are;
+  clean = (back.undone alive).0 ∙ sym (back.undone alive).1;
+}
+
+all_pass : (rows : List Row) → filter (passes [] []) rows ≡ rows
+all_pass [] = refl
+all_pass (r ∷ rows) = ap (λ more. r ∷ more) (all_pass rows)
+
+shows_places : (places : List ℕ) (row : Row) → shows (shown_columns places) [] row ≡ picked places row
+shows_places [] row = refl
+shows_places (place ∷ places) row = ap (λ (more : Row). column row place ∷ more) (shows_places places row)
+
+-- no table of a query stands in place of one that is stored
+none_given : (trees : Trees) (tree : ℕ) → overlay trees [] tree ≡ trees tree
+none_given trees tree = elim (nat_le (2 ^ 31) tree) as (λ b. unwrap_or (cond {A = Option (List Row)} b None None)
+    (trees tree) ≡ trees tree) [ true ↦ refl | false ↦ refl ]
+
+module _ (t : TableQuery) (is : IsTableQuery t) (old new : State) (schema_is : old.now.schema ≡ desk_schema) where
+  asked : Asks old.now.schema t.text 0 (record { lets = []; body = whole_table t }) t.names
+  asked = subst (λ k. Asks k t.text 0 (record { lets = []; body = whole_table t }) t.names) (sym schema_is) is.asks
+
+  unchanged : (rows : List Row) → Shown t.text [] old new rows → IsUnchanged old new
+  unfolding Shown
+  unchanged rows h =
+      let bare = subst IsPlain h.1.is asked.plain in
+      let it = rw bare.0 at h.2 in
+      it.3
+
+  pub refused : (r : Result (Vec Row Global) Error) → IfErr r (FailsAmid t.text old new) → IfErr r IsOfStore
+  refused (Ok rows) h = tt
+  refused (Err e) (inl early) = of_store t.text [] old new _ t.names asked e
+      (subst (λ s. reads_listing s t.text ≡ false) (sym schema_is) is.unlisted)
+      (subst (λ s. accepts_program s [] (whole_table t) [] ≡ true) (sym schema_is) is.typed)
+      (overflows_never t.tree (shown_columns t.places) (rising_by t.sorted_by) (overlay old.now.trees []) []) early
+  refused (Err e) (inr memory) = subst IsOfStore (sym memory.0) tt
+
+  -- nothing was changed, or all was rolled back
+  left : (r : Result (Vec Row Global) Error) → IfOk r (λ rows. Shown t.text [] old new rows.items)
+      → IfErr r (FailsAmid t.text old new) → IsUnchanged old new ⊎ IsRolledBack old new
+  left (Ok rows) shown failed = inl (unchanged rows.items shown)
+  left (Err e) shown (inl early) = intact t.text [] old new _ t.names asked e early
+  left (Err e) shown (inr memory) = inl memory.1
+
+  sorted : OneTableAnswers → (rows : List Row) → Shown t.text [] old new rows
+      → Sorts (whole_table t) [] (old.now.trees t.tree) rows
+  sorted answers rows h =
+      let read = reads_as t.text [] old new desk_schema schema_is _ is.asks.command is.asks.plain is.unlisted rows h in
+      subst (λ passed. Sorts (whole_table t) [] passed rows) (all_pass _ ∙ none_given old.now.trees t.tree)
+      (answers.sorted t.tree [] (shown_columns t.places) (rising_by t.sorted_by) _ [] rows (read.answer Null))
+
+module _ (t : TableQuery) (is : IsTableQuery t) (old new : State) where
+  pub intact_after : (r : Result (Vec Row Global) Error) → IfOk r (λ rows. Shown t.text [] old new rows.items)
+      → IfErr r (FailsAmid t.text old new) → IsTrue new.is_open → KeepsTables old new
+  intact_after r shown failed alive = keeps old new (λ trees file. file_on trees old new file
+      (left t is old new (schema_of trees old file) r shown failed) alive)
+
+  pub kept_after : (r : Result (Vec Row Global) Error) → IfOk r (λ rows. Shown t.text [] old new rows.items)
+      → OnOk r (KeepsTables old new)
+  kept_after (Ok rows) shown = keeps old new (λ trees file.
+      let same = unchanged t is old new (schema_of trees old file) rows.items shown in
+      file_on trees old new file (inl same) same.0.is_open)
+  kept_after (Err e) shown = tt
+
+  -- it shows the columns that it names, of each row of the table
+  pub shows_all : OneTableAnswers → (trees : Trees) → IsDeskFile trees old → (r : Result (Vec Row Global) Error)
+      → IfOk r (λ rows. Shown t.text [] old new rows.items)
+      → IfOk r (λ rows. IsPermutation (map (picked t.places) (trees t.tree)) rows.items)
+  shows_all answers trees file (Err e) h = tt
+  shows_all answers trees file (Ok rows) h =
+      let here : old.now.trees t.tree ≡ trees t.tree = ap (λ (d : Database). d.trees t.tree) file.clean
+      ∙ ap (λ (all : Trees). all t.tree) file.trees_are in
+      subst (λ all. IsPermutation all rows.items)
+      (map_same (shows (shown_columns t.places) []) (picked t.places) (shows_places t.places) _
+      ∙ ap (map (picked t.places)) here)
+      (answers.shown (whole_table t) [] _ rows.items
+      (sorted t is old new (schema_of trees old file) answers rows.items h))
+
+-- over tables with records, it shows those that a book has of the table
+pub shows_own : OneTableAnswers → {A : Type 0} (t : TableQuery) (is : IsTableQuery t) (fits : A → Type 0) (shown : A
+    → Row)
+    (records : List Account → Book → List A) → ShowsOwn t fits shown records → (old new : State) (content : Content)
+    (accounts : List Account) (book : Book) → Rests content old → AreRead content accounts book
+    → (r : Result (Vec Row Global) Error) → IfOk r (λ rows. Shown t.text [] old new rows.items)
+    → IfOk r (λ rows. rows.items ≡ map shown (records accounts book))
+shows_own answers t is fits shown records own old new content accounts book rests are (Err e) h = tt
+shows_own answers t is fits shown records own old new content accounts book rests are (Ok rows) h =
+    (own content accounts book are).1 old.now.trees
+    (ap (λ (d : Database). tables_of d.trees) rests.clean ∙ rests.holds.rows) rows.items
+    (sorted t is old new (ap (λ (d : Database). d.schema) rests.clean ∙ rests.schema) answers rows.items h)
+
+-- of the rows of the table the query shows these, which rise by what it sorts by
+pub shown_are : (q : Query) (stored rows : List Row) (goals : List Output)
+    → IsAscending (λ a b. output_cmp q a b ≡ Less) goals
+    → IsPermutation goals (map (λ r. output q ([] ∷ r ∷ [])) stored) → Sorts q [] stored rows
+    → rows ≡ map (λ (o : Output). o.1) goals
+shown_are q stored rows goals up same s = s.shown ∙ ap (map (λ (o : Output). o.1))
+    (sorted_unique (output_cmp q) (output_cmp_total q) goals s.ordered up (IsPermutation-trans _ _ _ same s.same)
+    s.sorted)
+
+-- a table in the order of its row numbers
+pub numbered : {A : Type 0} (t : TableQuery) (row shown : A → Row) (id : A → ℤ)
+    → ((a b : A) → int_cmp (id a) (id b) ≡ Less → output_cmp (whole_table t)
+    (output (whole_table t) ([] ∷ row a ∷ [])) (output (whole_table t) ([] ∷ row b ∷ [])) ≡ Less)
+    → ((a : A) → (output (whole_table t) ([] ∷ row a ∷ [])).1 ≡ shown a)
+    → (all told : List A) → IsAscending (λ a b. int_cmp (id a) (id b) ≡ Less) all → all ≡ told
+    → (stored rows : List Row) → stored ≡ map row all → Sorts (whole_table t) [] stored rows → rows ≡ map shown told
+numbered {A = A} t row shown id by shows all told up same stored rows here s =
+    let q = whole_table t in
+    let out = λ (a : A). output q ([] ∷ row a ∷ []) in
+    shown_are q stored rows (map out all)
+    (ascending-map (λ (a b : Output). output_cmp q a b ≡ Less) out all (ascending_weaker _ _ by all up))
+    (IsPermutation-same _ _ (sym (map-map (λ (r : Row). output q ([] ∷ r ∷ [])) row all)
+    ∙ ap (map (λ (r : Row). output q ([] ∷ r ∷ []))) (sym here))) s
+    ∙ map-map (λ (o : Output). o.1) out all ∙ map_same (λ (a : A). (out a).1) shown shows all ∙ ap (map shown) same

@@ -1,0 +1,85 @@
+use Rattle.std.proofs.Common.{[], IfOk, IfErr, sym, subst}
+use Rattle.sqlite.specs.Held.{state}
+use Rattle.sqlite.specs.State.{Shown}
+use Rattle.sqlite_resolve.specs.Compile.{first}
+use Rattle.rtgs_sql_queries.specs.Answering.{Returnless, FailsAmid}
+use Rattle.rtgs_sql_queries.proofs.Showing.{shows_all, shows_own, refused, intact_after, kept_after}
+use Rattle.rtgs_sql_queries.proofs.AsRead.{read_so}
+use Rattle.rtgs_sql_queries.proofs.Answering.{unanswered_amid}
+use Rattle.rtgs_sql_queries.proofs.Displaying.{displayed, returnless}
+use Rattle.rtgs_sql_queries.proofs.whole_table.table_rows.Goals as goal
+
+pub all_rows-requires : goal.all_rows-requires
+all_rows-requires g c = subst (λ text. Returnless (first text)) (sym c.query.ensures.is)
+    (returnless g.T.TableRow.table.text _ c.query.ensures.asks.query)
+
+pub returns-clause-rows : goal.returns-clause-rows
+returns-clause-rows g c clean accounts book held =
+    let old = state g.S.Store c.args.conn.now in
+    let new = state g.S.Store c.all_rows.new.conn in
+    shows_own c.one_table_answers.ensures g.T.TableRow.table c.query.ensures.asks g.T.TableRow.fits g.T.TableRow.shown
+    g.T.TableRow.records
+    c.query.ensures.shows old new held.0 accounts book held.1 held.2 c.all_rows.result
+    (subst (λ text. IfOk c.all_rows.result (λ rows. Shown text [] old new rows.items)) c.query.ensures.is
+    (c.all_rows.ensures.ok clean))
+
+pub returns-clause-read : goal.returns-clause-read
+returns-clause-read g c clean accounts book held =
+    let t = g.T.TableRow in
+    read_so t.counted t.shown c.query.ensures.own c.all_rows.result (t.records accounts book)
+    (returns-clause-rows g c clean accounts book held)
+
+pub returns-clause-fit : goal.returns-clause-fit
+returns-clause-fit g c clean accounts book held = (c.query.ensures.shows held.0 accounts book held.2).0
+
+pub returns-clause-own : goal.returns-clause-own
+returns-clause-own g c = c.query.ensures.own
+
+pub returns-clause-raw : goal.returns-clause-raw
+returns-clause-raw g c clean trees file =
+    let old = state g.S.Store c.args.conn.now in
+    let new = state g.S.Store c.all_rows.new.conn in
+    shows_all g.T.TableRow.table c.query.ensures.asks old new c.one_table_answers.ensures trees file c.all_rows.result
+    (subst (λ text. IfOk c.all_rows.result (λ rows. Shown text [] old new rows.items)) c.query.ensures.is
+    (c.all_rows.ensures.ok clean))
+
+pub returns-clause-kept : goal.returns-clause-kept
+returns-clause-kept g c clean =
+    let old = state g.S.Store c.args.conn.now in
+    let new = state g.S.Store c.all_rows.new.conn in
+    kept_after g.T.TableRow.table c.query.ensures.asks old new c.all_rows.result
+    (subst (λ text. IfOk c.all_rows.result (λ rows. Shown text [] old new rows.items)) c.query.ensures.is
+    (c.all_rows.ensures.ok clean))
+
+pub returns-clause-refused : goal.returns-clause-refused
+returns-clause-refused g c clean schema =
+    let old = state g.S.Store c.args.conn.now in
+    let new = state g.S.Store c.all_rows.new.conn in
+    refused g.T.TableRow.table c.query.ensures.asks old new schema c.all_rows.result
+    (subst (λ text. IfErr c.all_rows.result (FailsAmid text old new)) c.query.ensures.is (c.all_rows.ensures.err clean))
+
+pub returns-clause-intact : goal.returns-clause-intact
+returns-clause-intact g c clean alive =
+    let old = state g.S.Store c.args.conn.now in
+    let new = state g.S.Store c.all_rows.new.conn in
+    intact_after g.T.TableRow.table c.query.ensures.asks old new c.all_rows.result
+    (subst (λ text. IfOk c.all_rows.result (λ rows. Shown text [] old new rows.items)) c.query.ensures.is
+    (c.all_rows.ensures.ok clean))
+    (subst (λ text. IfErr c.all_rows.result (FailsAmid text old new)) c.query.ensures.is (c.all_rows.ensures.err clean))
+    alive
+
+pub returns-clause-answered : goal.returns-clause-answered
+returns-clause-answered g c clean =
+    let old = state g.S.Store c.args.conn.now in
+    let new = state g.S.Store c.all_rows.new.conn in
+    displayed g.T.TableRow.table.text c.query.ensures.asks.query c.query.ensures.asks.foreign old new c.all_rows.result
+    (subst (λ text. IfOk c.all_rows.result (λ rows. Shown text [] old new rows.items)) c.query.ensures.is
+    (c.all_rows.ensures.ok clean))
+
+pub returns-clause-unanswered : goal.returns-clause-unanswered
+returns-clause-unanswered g c clean =
+    let old = state g.S.Store c.args.conn.now in
+    let new = state g.S.Store c.all_rows.new.conn in
+    unanswered_amid g.T.TableRow.table.text c.query.ensures.asks.query c.query.ensures.asks.foreign old new
+    c.all_rows.result
+    (subst (λ text. IfErr c.all_rows.result (FailsAmid text old new)) c.query.ensures.is (c.all_rows.ensures.err clean))

@@ -1,0 +1,31 @@
+-- The records of tables at rest.
+use Rattle.std.specs.Prelude.{◌≡◌, List, map, IsPermutation}
+use Rattle.std.specs.Ordering.{nat_cmp}
+use Rattle.std.specs.declared.cmp.Ordering.TheVariants.{Less}
+use Rattle.std.specs.Cmp.Lexicographic.{slice_cmp}
+use Rattle.sqlite.specs.Tree.{IsAscending}
+use Rattle.sqlite.specs.State.{State}
+use Rattle.rtgs_book.specs.declared.Book.{Book}
+use Rattle.rtgs_book.specs.declared.account.Account.{Account}
+use Rattle.rtgs_rows.specs.Content.{Holding, Content, IsInOrder, Rests}
+use Rattle.rtgs_rows.specs.Fitting.{Fits}
+
+abbrev pub stored_account : Holding → Account
+stored_account h = record { participant = h.participant; balance = h.balance }
+
+-- What is read of such tables, sound or not: the accounts in the order of their codes, all else as it stands. Each
+-- value is in its form and range.
+pub record AreRead (content : Content) (accounts : List Account) (book : Book) : Type 0 where
+  pub order : IsInOrder content
+  pub stored : IsPermutation (map stored_account content.holdings) accounts
+  pub rising : IsAscending (λ (a b : Account). slice_cmp nat_cmp a.participant.code b.participant.code ≡ Less) accounts
+  pub participants : book.participants ≡ map (λ (a : Account). a.participant) accounts
+  pub day : content.day ≡ book.day
+  pub postings : content.postings ≡ book.postings
+  pub orders : content.orders ≡ book.orders
+  pub marks : content.marks ≡ book.marks
+  pub fits : Fits book
+
+-- the tables at rest have these records
+abbrev pub HasRecords : List Account → Book → State → Type 0
+HasRecords accounts book s = (content : Content) × Rests content s × AreRead content accounts book

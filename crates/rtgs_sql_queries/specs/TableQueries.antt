@@ -1,0 +1,99 @@
+-- What the query of a whole table is to the engine, and what it shows of a book. With the table's description this is
+-- all that the reading of a table needs to know of it, apart from how a row is read.
+use Rattle.std.specs.Prelude.{◌≡◌, ℕ, Bool, true, false, List, [], ◌∷◌, map, length, Ok, Err, Result}
+use Rattle.std.specs.List.{AllByRecursion}
+use Rattle.sqlite_value.specs.declared.keys.Key.{Key}
+use Rattle.sqlite.specs.Collation.TheVariants.{Binary}
+use Rattle.sqlite.specs.Command.TheVariants.{Select}
+use Rattle.sqlite.specs.Order.{Row}
+use Rattle.sqlite.specs.Schema.{Schema}
+use Rattle.sqlite.specs.Term.{Term, col}
+use Rattle.sqlite.specs.Tree.{Trees}
+use Rattle.sqlite.specs.Query.{Query}
+use Rattle.sqlite.specs.Listing.{understood, reads_listing, listing_schema}
+use Rattle.sqlite.specs.Given.{IsPlain}
+use Rattle.sqlite.proofs.Callers.{command_of}
+use Rattle.sqlite_ast.specs.declared.Statement.{Statement}
+use Rattle.sqlite_ast.specs.declared.Statement.TheVariants as written
+use Rattle.sqlite_schema.specs.declared.program.Program.{Program}
+use Rattle.sqlite_syntax.specs.declared.statement.Parsed.{Parsed}
+use Rattle.sqlite_typing.specs.Types.{accepts_program}
+use Rattle.sqlite_resolve.specs.declared.compiled.Compiled.{Compiled}
+use Rattle.sqlite_resolve.specs.declared.error.CompileError.{CompileError}
+use Rattle.sqlite_resolve.specs.declared.error.CompileError.TheVariants.{NoSuchTable}
+use Rattle.sqlite_resolve.specs.Lowering.{Checked}
+use Rattle.sqlite_resolve.specs.Compile.{first, compiled}
+use Rattle.rtgs_book.specs.declared.Book.{Book}
+use Rattle.rtgs_book.specs.declared.account.Account.{Account}
+use Rattle.rtgs_rows.specs.Tables.{desk_schema}
+use Rattle.rtgs_rows.specs.Content.{Content, tables_of, tables_for}
+use Rattle.rtgs_sql_queries.specs.Records.{AreRead}
+use Rattle.rtgs_sql_columns.specs.OneTable.{simple, Sorts}
+pub use Rattle.rtgs_sql_columns.specs.Tables.{TableQuery, desk_query, participants_query, postings_query}
+pub use Rattle.rtgs_sql_columns.specs.Tables.{payments_query}
+pub use Rattle.rtgs_sql_columns.specs.Tables.{marks_query}
+
+-- ---- what such a text is to the engine
+
+abbrev pub is_selection : Statement → Bool
+is_selection (written.Select s) = true
+is_selection _ = false
+
+-- the text is one query, without parameters, which reads no time
+abbrev pub IsQueryText : List ℕ → Checked Parsed → Type 0
+IsQueryText text (Ok p) = (is_selection p.statement ≡ true) × (p.names ≡ []) × (p.formats ≡ []) × (p.tail ≡ length text)
+IsQueryText text (Err e) = ⊥
+
+abbrev pub tail_of : Result Compiled CompileError → ℕ
+tail_of (Ok c) = c.tail
+tail_of (Err e) = 0
+
+abbrev pub count_of : Result Compiled CompileError → ℕ
+count_of (Ok c) = length c.names
+count_of (Err e) = 0
+
+-- the text is one query over this schema, with so many parameters
+pub record Asks (schema : Schema) (sql : List ℕ) (count : ℕ) (q : Program) (names : List (List ℕ)) : Type 0 where
+  pub command : command_of (understood schema sql) ≡ Select q names
+  pub plain : IsPlain (understood schema sql)
+  pub whole : tail_of (understood schema sql) ≡ length sql
+  pub given : count_of (understood schema sql) ≡ count
+
+abbrev pub shown_columns : List ℕ → List Term
+shown_columns = map (col 1)
+
+-- what the query shows of a row
+abbrev pub columns_of : TableQuery → List Term
+columns_of t = shown_columns t.places
+
+-- sorted by one column, upward
+abbrev pub rising_by : ℕ → List (Term × Key)
+rising_by place = (col 1 place, record { collation = Binary; descending = false }) ∷ []
+
+-- the columns that are named, of all rows of the table, sorted by one of them
+abbrev pub whole_table : TableQuery → Query
+whole_table t = simple t.tree [] (columns_of t) (rising_by t.sorted_by)
+
+-- the text is that query: over the tables of a desk it is this one, and over any schema it is some query
+pub record IsTableQuery (t : TableQuery) : Type 0 where
+  pub asks : Asks desk_schema t.text 0 (record { lets = []; body = whole_table t }) t.names
+  pub typed : accepts_program desk_schema [] (whole_table t) [] ≡ true
+  pub unlisted : reads_listing desk_schema t.text ≡ false
+  pub query : IsQueryText t.text (first t.text)
+  pub foreign : compiled listing_schema t.text ≡ Err NoSuchTable
+
+-- ---- a query with parameters
+
+-- the text is this query, with so many parameters
+pub record Seeks (text : List ℕ) (count : ℕ) (query : Query) (names : List (List ℕ)) : Type 0 where
+  pub asks : Asks desk_schema text count (record { lets = []; body = query }) names
+  pub unlisted : reads_listing desk_schema text ≡ false
+
+-- ---- what it shows of a book
+
+-- Where the tables have records, each of those that a book has of the table is in its form and range, and the rows that
+-- the query shows are theirs, in their order.
+abbrev pub ShowsOwn : {A : Type 0} → TableQuery → (A → Type 0) → (A → Row) → (List Account → Book → List A) → Type 0
+ShowsOwn t fits shown of = (content : Content) (accounts : List Account) (book : Book) → AreRead content accounts book
+    → AllByRecursion fits (of accounts book) × ((trees : Trees) → tables_of trees ≡ tables_for content
+    → (rows : List Row) → Sorts (whole_table t) [] (trees t.tree) rows → rows ≡ map shown (of accounts book))

@@ -1,0 +1,10 @@
+//! The queries of the five tables: what each shows, and the record that each row tells.
+#![tactic(auto)]
+
+pub mod alive;
+mod answer;
+pub mod asked;
+pub mod laws;
+mod rows;
+pub mod table_row;
+pub mod whole_table;

@@ -1,0 +1,203 @@
+//! The record of each table's row.
+ghost use Rattle.std.specs.Prelude.{◌≡◌, ◌<◌, pos, List, [], ◌∷◌, length, Some, IfSome};
+ghost use Rattle.sqlite_value.specs.Order.{column};
+ghost use Rattle.sqlite.specs.declared.types.Value.TheVariants.{Int};
+ghost use Rattle.rtgs_book.specs.declared.Phase.{Phase as PhaseSpec};
+ghost use Rattle.rtgs_book.specs.declared.OrderState.{OrderState as StateSpec};
+ghost use Rattle.rtgs_rows.specs.Rows.{phase_number, state_number, mark_value, shown_day, shown_account, shown_posting};
+ghost use Rattle.rtgs_rows.specs.Rows.{shown_order, shown_mark};
+ghost use Rattle.rtgs_rows.specs.Fitting.{FitsDate, FitsParticipant, FitsPosting, FitsOrder, FitsMark};
+ghost use Rattle.rtgs_book.specs.declared.Book.{Book};
+ghost use Rattle.rtgs_book.specs.declared.account.Account.{Account as AccountSpec};
+ghost use Rattle.rtgs_sql_queries.specs.TableQueries.{desk_query, participants_query, postings_query, payments_query};
+ghost use Rattle.rtgs_sql_queries.specs.TableQueries.{marks_query};
+ghost use Rattle.rtgs_sql_columns.specs.Numbers.{at_least_zero, counted_of_posting, counted_of_order, counted_of_mark};
+
+use crate::table_row::TableRow;
+use rtgs_book::{Account, Day, Mark, Order, OrderState, Participant, Phase, Posting};
+use rtgs_money::{Amount, Credit, KeyDigest, PostingAmount};
+use rtgs_rows::numbers::{
+    PHASE_CLOSED, PHASE_CUT_OFF, PHASE_OPEN, STATE_QUEUED, STATE_REJECTED, STATE_SETTLED,
+    STATE_WITHDRAWN,
+};
+use rtgs_sql_columns::fields::{
+    blob, cents, code, date, date_or_null, int, is_null, name, number, reference, unsigned, width,
+};
+use sqlite::Row;
+
+/// The number of the row of the table `desk`.
+const DESK_ID: i64 = 1;
+
+/// The version of the tables.
+const VERSION: i64 = 1;
+
+impl TableRow for Day {
+    ghost shown = { shown_day };
+
+    ghost fits = { λ day. FitsDate day.date };
+
+    ghost counted = { [] };
+
+    ghost table = { desk_query };
+
+    ghost records = { λ (_ : List AccountSpec) (book : Book). book.day ∷ [] };
+
+    fn query() -> &'static str {
+        "SELECT id, version, date, phase FROM desk ORDER BY id"
+    }
+
+    fn from_row(row: &Row) -> Option<Day> {
+        width(row, 4)?;
+        if int(row, 0)? != DESK_ID || int(row, 1)? != VERSION {
+            return None;
+        }
+        Some(Day {
+            date: date_or_null(row, 2)?,
+            phase: phase_of(unsigned(row, 3)?)?,
+        })
+    }
+}
+
+impl TableRow for Account {
+    ghost shown = { λ a. shown_account a.participant a.balance };
+
+    ghost fits = { λ a. FitsParticipant a.participant };
+
+    ghost counted = { [] };
+
+    ghost table = { participants_query };
+
+    ghost records = { λ accounts (_ : Book). accounts };
+
+    fn query() -> &'static str {
+        "SELECT code, name, key, credit, balance FROM participant ORDER BY code"
+    }
+
+    fn from_row(row: &Row) -> Option<Account> {
+        width(row, 5)?;
+        let participant = Participant {
+            code: code(row, 0)?,
+            name: name(row, 1)?,
+            key: KeyDigest::from_slice(blob(row, 2)?)?,
+            credit: Credit::from_cents(unsigned(row, 3)?)?,
+        };
+        Some(Account {
+            participant,
+            balance: cents(row, 4)?,
+        })
+    }
+}
+
+impl TableRow for Posting {
+    ghost shown = { shown_posting };
+
+    ghost fits = { FitsPosting };
+
+    ghost counted = { counted_of_posting };
+
+    ghost table = { postings_query };
+
+    ghost records = { λ (_ : List AccountSpec) (book : Book). book.postings };
+
+    fn query() -> &'static str {
+        "SELECT number, code, reference, cents, date FROM posting ORDER BY number"
+    }
+
+    fn from_row(row: &Row) -> Option<Posting> {
+        width(row, 5)?;
+        Some(Posting {
+            number: number(row, 0)?,
+            code: code(row, 1)?,
+            reference: reference(row, 2)?,
+            cents: PostingAmount::from_cents(int(row, 3)?)?,
+            date: date_or_null(row, 4)?,
+        })
+    }
+}
+
+impl TableRow for Order {
+    ghost shown = { shown_order };
+
+    ghost fits = { FitsOrder };
+
+    ghost counted = { counted_of_order };
+
+    ghost table = { payments_query };
+
+    ghost records = { λ (_ : List AccountSpec) (book : Book). book.orders };
+
+    fn query() -> &'static str {
+        "SELECT number, sender, reference, receiver, amount, date, state, mark FROM payment ORDER BY number"
+    }
+
+    fn from_row(row: &Row) -> Option<Order> {
+        width(row, 8)?;
+        Some(Order {
+            number: number(row, 0)?,
+            sender: code(row, 1)?,
+            reference: reference(row, 2)?,
+            receiver: code(row, 3)?,
+            amount: Amount::from_cents(unsigned(row, 4)?)?,
+            date: date(row, 5)?,
+            state: state(row, 6, 7)?,
+        })
+    }
+}
+
+impl TableRow for Mark {
+    ghost shown = { shown_mark };
+
+    ghost fits = { FitsMark };
+
+    ghost counted = { counted_of_mark };
+
+    ghost table = { marks_query };
+
+    ghost records = { λ (_ : List AccountSpec) (book : Book). book.marks };
+
+    fn query() -> &'static str {
+        "SELECT number, date, many, value FROM mark ORDER BY number"
+    }
+
+    fn from_row(row: &Row) -> Option<Mark> {
+        width(row, 4)?;
+        Some(Mark {
+            number: number(row, 0)?,
+            date: date(row, 1)?,
+            count: number(row, 2)?,
+            value: cents(row, 3)?,
+        })
+    }
+}
+
+/// The phase with this number.
+fn phase_of(number: u64) -> Option<Phase>
+    ensures found { (phase : PhaseSpec) → number ≡ phase_number phase → result ≡ Some phase }
+    ensures is { IfSome result (λ it. number ≡ phase_number it) }
+{
+    match number {
+        PHASE_CLOSED => Some(Phase::Closed),
+        PHASE_OPEN => Some(Phase::Open),
+        PHASE_CUT_OFF => Some(Phase::CutOff),
+        _ => None,
+    }
+}
+
+/// The state at one place, and at the other the mark of a settled order, which no other order has. A mark below zero is
+/// read as 0.
+fn state(row: &Row, at: usize, mark_at: usize) -> Option<OrderState>
+    ensures found { (state : StateSpec) → at < length row.now → mark_at < length row.now
+        → column row.now at ≡ Int (pos (state_number state)) → at_least_zero (column row.now mark_at) ≡ mark_value state
+        → result ≡ Some state }
+    ensures is { IfSome result (λ it. (column row.now at ≡ Int (pos (state_number it)))
+        × (at_least_zero (column row.now mark_at) ≡ mark_value it)) }
+{
+    let has_mark = !is_null(row, mark_at);
+    match (unsigned(row, at)?, has_mark) {
+        (STATE_QUEUED, false) => Some(OrderState::Queued),
+        (STATE_SETTLED, true) => Some(OrderState::Settled(number(row, mark_at)?)),
+        (STATE_WITHDRAWN, false) => Some(OrderState::Withdrawn),
+        (STATE_REJECTED, false) => Some(OrderState::Rejected),
+        _ => None,
+    }
+}

@@ -1,0 +1,56 @@
+//! All rows of a table.
+ghost use Rattle.std.specs.Prelude.{◌≡◌, ◌⊎◌, false, map, List, IsTrue, IfOk, IfErr, OnOk, IsPermutation};
+ghost use Rattle.std.specs.List.{AllByRecursion};
+ghost use Rattle.rtgs_book.specs.declared.Book.{Book};
+ghost use Rattle.rtgs_book.specs.declared.account.Account.{Account as AccountSpec};
+ghost use Rattle.rtgs_rows.specs.Querying.{picked, IsDeskFile};
+ghost use Rattle.rtgs_rows.specs.Tables.{desk_schema};
+ghost use Rattle.rtgs_sql_columns.specs.Numbers.{as_read};
+ghost use Rattle.rtgs_sql_queries.specs.Answering.{KeepsTables};
+ghost use Rattle.rtgs_sql_queries.specs.Records.{HasRecords};
+ghost use Rattle.rtgs_sql_queries.specs.Displaying.{Displays, HasNoAnswer};
+ghost use Rattle.rtgs_sql_queries.specs.Faults.{IsOfStore};
+ghost use Rattle.sqlite.specs.State.{HasCleanDisk, Survives};
+ghost use Rattle.sqlite.specs.Held.{state};
+ghost use Rattle.sqlite.specs.Tree.{Trees};
+
+use crate::answer::all_rows;
+use crate::table_row::TableRow;
+use rtgs_sql_columns::laws::one_table_answers;
+use sqlite::{Alter, Connection, Error, Row};
+use std::alloc::Global;
+
+/// All rows of a table, in the order of its query.
+pub fn table_rows<T: TableRow, S: Alter>(
+    alloc: Global,
+    conn: &mut Connection<S>,
+) -> Result<Vec<Row>, Error>
+    ensures rows { HasCleanDisk (state S.Store conn.new) → (accounts : List AccountSpec) (book : Book)
+        → HasRecords accounts book (state S.Store conn.old)
+        → IfOk result (λ rows. rows.items ≡ map T.shown (T.records accounts book)) }
+    ensures read { HasCleanDisk (state S.Store conn.new) → (accounts : List AccountSpec) (book : Book)
+        → HasRecords accounts book (state S.Store conn.old)
+        → IfOk result (λ rows. map (as_read T.counted) rows.items ≡ map T.shown (T.records accounts book)) }
+    ensures fit { HasCleanDisk (state S.Store conn.new) → (accounts : List AccountSpec) (book : Book)
+        → HasRecords accounts book (state S.Store conn.old) → AllByRecursion T.fits (T.records accounts book) }
+    ensures own { (it : T) → as_read T.counted (T.shown it) ≡ T.shown it }
+    ensures raw { HasCleanDisk (state S.Store conn.new) → (trees : Trees) → IsDeskFile trees (state S.Store conn.old)
+        → IfOk result (λ rows. IsPermutation (map (picked T.table.places) (trees T.table.tree)) rows.items) }
+    ensures kept { HasCleanDisk (state S.Store conn.new)
+        → OnOk result (KeepsTables (state S.Store conn.old) (state S.Store conn.new)) }
+    ensures refused { HasCleanDisk (state S.Store conn.new) → (state S.Store conn.old).now.schema ≡ desk_schema
+        → IfErr result IsOfStore }
+    ensures intact { HasCleanDisk (state S.Store conn.new) → IsTrue (state S.Store conn.new).is_open
+        → KeepsTables (state S.Store conn.old) (state S.Store conn.new) }
+    ensures answered { HasCleanDisk (state S.Store conn.new) → IfOk result (λ rows.
+        Displays (state S.Store conn.old).now T.table.text rows.items
+        × ((state S.Store conn.new).now ≡ (state S.Store conn.old).now)) }
+    ensures unanswered { HasCleanDisk (state S.Store conn.new) → IfErr result (λ error.
+        IsOfStore error ⊎ HasNoAnswer (state S.Store conn.old).now T.table.text) }
+    ensures survives { Survives (state S.Store conn.old) (state S.Store conn.new) (λ _. ⊥) }
+    ensures mode { conn.old.in_transaction ≡ false → conn.new.in_transaction ≡ false }
+    ensures honest { HasCleanDisk (state S.Store conn.new) → HasCleanDisk (state S.Store conn.old) }
+{
+    one_table_answers();
+    all_rows(alloc, conn, T::query())
+}

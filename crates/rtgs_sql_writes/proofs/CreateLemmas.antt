@@ -1,0 +1,175 @@
+-- What CREATE TABLE does.
+use Rattle.std.proofs.Common.{◌≡◌, ◌⊎◌, inl, inr, ℕ, pos, List, [], ◌∷◌, ◌++◌, true, false, Option, None, Ok, Err}
+use Rattle.std.proofs.Common.{Result, OnOk, refl, sym, ap, subst, ◌∙◌}
+use Rattle.std.specs.List.{AllByRecursion}
+use Rattle.sqlite.specs.Order.{Row}
+use Rattle.sqlite.specs.declared.error.Error.{Error}
+use Rattle.sqlite.specs.declared.types.Value.TheVariants.{Null, Int}
+use Rattle.sqlite.specs.Term.{Term}
+use Rattle.sqlite.specs.Table.{Table}
+use Rattle.sqlite.specs.Schema.{Schema}
+use Rattle.sqlite.specs.Source.TheVariants.{Values}
+use Rattle.sqlite.specs.Command.TheVariants.{CreateTable, Insert}
+use Rattle.sqlite.specs.Compile.{table_defined_by}
+use Rattle.sqlite.specs.Change.{created, next_tree, KeepsRows}
+use Rattle.sqlite.specs.declared.run.Mode.{Mode}
+use Rattle.sqlite.specs.Does.{Tally, Does, lacks_sequence}
+use Rattle.sqlite.specs.Tree.{Trees}
+use Rattle.sqlite.specs.Listing.{understood}
+use Rattle.sqlite.specs.Effect.{Database}
+use Rattle.sqlite.specs.State.{State, mode_of, Writes, ExecutesInside}
+use Rattle.sqlite.proofs.Callers.{statement_of, runs_as}
+use Rattle.rtgs_rows.specs.Tables.{no_schema, desk_schema, desk_at}
+use Rattle.rtgs_rows.specs.Content.{tables_of, tables_for, Stands}
+use Rattle.rtgs_rows.specs.Rows.{day_row}
+use Rattle.rtgs_sql_columns.specs.Blank.{IsBlank}
+use Rattle.rtgs_sql_writes.specs.Building.{IsBuilt, Makes, first_content}
+use Rattle.sqlite.specs.Term.{lit}
+use Rattle.sqlite.specs.Effect.{value_rows}
+use Rattle.sqlite.specs.Rows.{stamped}
+use Rattle.sqlite.specs.Edit.{edit_of, edited}
+use Rattle.sqlite.specs.Rowids.TheVariants.{Chosen}
+use Rattle.sqlite_catalog.specs.Listing.{IsSound}
+use Rattle.sqlite_trees.specs.declared.store.Store.{Ghosts}
+use Rattle.sqlite.specs.Held.{Held, state}
+use Rattle.rtgs_sql_writes.proofs.Casts.{cast_null, cast_int}
+use Rattle.rtgs_sql_writes.proofs.Steps.{IsPlainTable, inserts}
+use Rattle.rtgs_sql_writes.proofs.StateLemmas.{desk_over, frame_but, framed}
+use Rattle.rtgs_sql_columns.specs.Tables.{desk_query}
+use Rattle.rtgs_sql_writes.proofs.CreateTexts.{first_day_text, first_day_is, first_day_plain}
+
+-- a part that gave a value did not stop on the way
+went : {B E R : Type 0} {b : B} {Stops : E → Type 0} → ((stop : E) × Stops stop × (Ok b ≡ Err stop)) ⊎ R → R
+went (inl stopped) = absurd (let e = stopped.2 in cc)
+went (inr on) = on
+
+same_value : {B E : Type 0} {a b : B} → ◌≡◌ {A = Result B E} (Ok a) (Ok b) → a ≡ b
+same_value e = cc
+
+record IsMade (db : Database) (table : Table) (after : Database) : Type 0 where
+  pub schema : after.schema ≡ created db.schema table
+  pub empty : after.trees (next_tree db.schema) ≡ []
+  pub others : KeepsRows db.schema.tables db.trees after.trees
+
+makes : (limit : Option ℕ) (mode : Mode) (params : Row) (db : Database) (text : List ℕ) (table : Table) (tally : Tally)
+    (after : Database) → table_defined_by text ≡ Ok table → lacks_sequence (created db.schema table) ≡ false
+    → Does limit mode params db text None CreateTable (Ok (tally, after)) → IsMade db table after
+makes limit mode params db text table tally after defined plain h =
+    let all = went h in
+    let first = went all.1 in
+    let made = first.1 in
+    let same : made.table ≡ table = same_value (sym made.defined ∙ defined) in
+    let schema : first.0.schema ≡ created db.schema table = made.is ∙ ap (created db.schema) same in
+    let none : lacks_sequence first.0.schema ≡ false = ap lacks_sequence schema ∙ plain in
+    let now : after ≡ first.0 = ap (λ (p : Tally × Database). p.1) (same_value all.2) ∙ same_value (rw none at first.2)
+    in
+    record {
+      schema = ap (λ (d : Database). d.schema) now ∙ schema;
+      empty = ap (λ (d : Database). d.trees (next_tree db.schema)) now ∙ made.empty;
+      others = subst (λ (d : Database). KeepsRows db.schema.tables db.trees d.trees) (sym now) made.others;
+    }
+
+still_empty : (tables : List Table) (old new : Trees) → KeepsRows tables old new
+    → AllByRecursion (λ t. old t.tree ≡ []) tables → AllByRecursion (λ t. new t.tree ≡ []) tables
+still_empty [] old new kept empty = tt
+still_empty (t ∷ more) old new kept empty = (kept.0 ∙ empty.0, still_empty more old new kept.1 empty.1)
+
+one_more : (tables : List Table) (table : Table) (new : Trees) → AllByRecursion (λ t. new t.tree ≡ []) tables
+    → new table.tree ≡ [] → AllByRecursion (λ t. new t.tree ≡ []) (tables ++ table ∷ [])
+one_more [] table new all one = (one, tt)
+one_more (t ∷ more) table new all one = (all.0, one_more more table new all.1 one)
+
+built : (was : Database) (schema next : Schema) (table : Table) (old new : State) (text : List ℕ) (count : ℕ)
+    → IsBuilt was schema old → Makes text schema table next → ExecutesInside 0 text [] old new (Ok count)
+    → IsBuilt was next new
+built was schema next table old new text count is it h =
+    let w = subst (λ t. Writes old new None CreateTable t [] count) it.whole
+    (runs_as text [] old new schema is.schema_is CreateTable it.command it.plain count h.0) in
+    let db : Database = record { schema = schema; trees = old.now.trees } in
+    let done = subst (λ s. Does old.step_limit (mode_of old) [] (record old.now { schema = s }) text None CreateTable
+    (Ok (w.tally, new.now))) is.schema_is w.changed in
+    let made = makes old.step_limit (mode_of old) [] db text table w.tally new.now it.defined
+    (ap lacks_sequence it.is ∙ it.uncounted) done in
+    record {
+      is_open = h.1.is_open;
+      inside = h.1.mode;
+      schema_is = made.schema ∙ it.is;
+      empty = subst (λ (s : Schema). AllByRecursion (λ t. new.now.trees t.tree ≡ []) s.tables) it.is
+          (one_more schema.tables (record table { tree = next_tree schema }) new.now.trees
+          (still_empty schema.tables old.now.trees new.now.trees made.others is.empty) made.empty);
+      committed = h.1.committed_is ∙ is.committed;
+    }
+
+pub builds : (was : Database) (schema next : Schema) (table : Table) (old new : State) (text : List ℕ)
+    (r : Result ℕ Error) → IsBuilt was schema old → Makes text schema table next → ExecutesInside 0 text [] old new r
+    → OnOk r (IsBuilt was next new)
+builds was schema next table old new text (Ok count) is it h = built was schema next table old new text count is it h
+builds was schema next table old new text (Err e) is it h = tt
+
+abbrev desk_table : Table
+desk_table = desk_at desk_query.tree
+
+desk_is_plain : (trees : Trees) (mode : Mode) → IsPlainTable (desk_over trees) mode 0 desk_table
+unfolding desk_schema
+desk_is_plain trees mode = record { place = refl; uncounted = refl; still = λ _ _. refl }
+
+abbrev first_terms : List Term
+first_terms = lit (Int (pos 1)) ∷ lit Null ∷ lit (Int (pos 1)) ∷ lit Null ∷ lit (Int (pos 0)) ∷ []
+
+first_edit : (trees : Trees) → trees desk_table.tree ≡ [] → edited trees (edit_of trees desk_table [] Chosen 0
+    (value_rows (stamped desk_table []) 5 1 first_terms)) ≡ (day_row first_content.day ∷ [])
+first_edit trees none = rw (cast_int (pos 1), cast_null, cast_int (pos 0), none)
+
+first_frame : (old new : Trees) → AllByRecursion (λ t. old t.tree ≡ []) desk_schema.tables
+    → frame_but desk_table.tree old new → new desk_table.tree ≡ (day_row first_content.day ∷ [])
+    → tables_of new ≡ tables_for first_content
+unfolding desk_schema
+first_frame old new none others here = framed desk_table.tree old new _ others here ∙ (λ i. record {
+  desk = day_row first_content.day ∷ [];
+  participants = none.1.0 i;
+  postings = none.1.1.0 i;
+  payments = none.1.1.1.0 i;
+  marks = none.1.1.1.1.0 i;
+})
+
+desk_empty : (trees : Trees) → AllByRecursion (λ t. trees t.tree ≡ []) desk_schema.tables → trees desk_table.tree ≡ []
+unfolding desk_schema
+desk_empty trees none = none.0
+
+begun : (was : Database) (old new : State) (count : ℕ) → IsBuilt was desk_schema old
+    → ExecutesInside 0 first_day_text [] old new (Ok count) → Stands was first_content new
+begun was old new count is h =
+    let w = runs_as first_day_text [] old new desk_schema is.schema_is (Insert 0 (Values first_terms 5)) first_day_is
+    first_day_plain count h.0 in
+    let text = statement_of first_day_text (understood desk_schema first_day_text) in
+    let done = subst (λ s. Does old.step_limit (mode_of old) [] (record old.now { schema = s }) text None
+    (Insert 0 (Values first_terms 5)) (Ok (w.tally, new.now))) is.schema_is w.changed in
+    let step = inserts old.step_limit (mode_of old) [] (desk_over old.now.trees) text 0 desk_table w.tally new.now
+    (desk_is_plain old.now.trees (mode_of old)) first_terms 5 done in
+    let rows : new.now.trees desk_table.tree ≡ (day_row first_content.day ∷ []) = step.applies.rows
+    ∙ first_edit old.now.trees (desk_empty old.now.trees is.empty) in
+    record {
+      is_open = h.1.is_open;
+      inside = h.1.mode;
+      schema = step.schema;
+      holds = record {
+        sound = subst (λ s. IsSound s new.now.trees) step.schema w.sound;
+        rows = first_frame old.now.trees new.now.trees is.empty step.applies.tables rows;
+      };
+      committed = h.1.committed_is ∙ is.committed;
+    }
+
+pub begins : (was : Database) (old new : State) (r : Result ℕ Error) → IsBuilt was desk_schema old
+    → ExecutesInside 0 first_day_text [] old new r → OnOk r (Stands was first_content new)
+begins was old new (Ok count) is h = begun was old new count is h
+begins was old new (Err e) is h = tt
+
+pub built_begun : {S : Type 0} (g : Ghosts S) (h : Held S) → IsBlank (state g h)
+    → IsBuilt (state g h).committed no_schema (state g (record h { in_transaction = true }))
+built_begun g h blank = record {
+  is_open = blank.is_open;
+  inside = refl;
+  schema_is = ap (λ (d : Database). d.schema) blank.clean ∙ blank.schema;
+  empty = tt;
+  committed = refl;
+}

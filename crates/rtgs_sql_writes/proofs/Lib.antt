@@ -1,0 +1,17 @@
+pub mod Keeps
+pub mod Casts
+pub mod Lists
+pub mod Steps
+pub mod StateLemmas
+pub mod Passing
+pub mod Writing
+pub mod Adding
+pub mod Replacing
+pub mod PostingLemmas
+pub mod OrderLemmas
+pub mod MarkLemmas
+pub mod DayLemmas
+pub mod HoldingLemmas
+pub mod Changing
+pub mod CreateTexts
+pub mod CreateLemmas

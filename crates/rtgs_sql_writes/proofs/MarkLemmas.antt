@@ -1,0 +1,68 @@
+-- What an INSERT of a mark does.
+use Rattle.std.proofs.Common.{◌≡◌, ℕ, pos, List, [], ◌∷◌, ◌++◌, map, codes, Result, OnOk, refl, ap, subst}
+use Rattle.sqlite.specs.declared.types.Value.TheVariants.{Null, Int, Text}
+use Rattle.sqlite.specs.declared.error.Error.{Error}
+use Rattle.sqlite.specs.Order.{Row}
+use Rattle.sqlite.specs.Term.{Term, lit, col}
+use Rattle.sqlite.specs.Table.{Table}
+use Rattle.sqlite.specs.Source.TheVariants.{Values}
+use Rattle.sqlite.specs.Command.TheVariants.{Insert}
+use Rattle.sqlite.specs.Edit.{edit_of, edited}
+use Rattle.sqlite.specs.Rowids.TheVariants.{Chosen}
+use Rattle.sqlite.specs.declared.run.Mode.{Mode}
+use Rattle.sqlite.specs.Rows.{stamped}
+use Rattle.sqlite.specs.Tree.{Trees, put_row}
+use Rattle.sqlite.specs.Listing.{understood}
+use Rattle.sqlite.specs.Effect.{Database, value_rows}
+use Rattle.sqlite.specs.State.{State, ExecutesInside}
+use Rattle.sqlite.proofs.Callers.{IsPlain, command_of}
+use Rattle.sqlite_tied.specs.Compute.{everything}
+use Rattle.rtgs_sql_writes.proofs.Casts.{cast_null, cast_int}
+use Rattle.rtgs_sql_writes.proofs.Steps.{IsPlainTable}
+use Rattle.rtgs_sql_writes.proofs.StateLemmas.{desk_over}
+use Rattle.rtgs_sql_columns.specs.Tables.{marks_query}
+use Rattle.rtgs_sql_writes.proofs.Adding.{adds}
+use Rattle.rtgs_book.specs.declared.Mark.{Mark}
+use Rattle.rtgs_book.specs.declared.RowChange.TheVariants.{AddMark}
+use Rattle.rtgs_money.specs.Date.{date_text}
+use Rattle.rtgs_rows.specs.Rows.{mark_row}
+use Rattle.rtgs_rows.specs.Content.{Tables, Content, Stands, IsInOrder, with_change}
+use Rattle.rtgs_rows.specs.Tables.{desk_schema, mark_at}
+
+abbrev pub mark_text : List ℕ
+mark_text = codes "INSERT INTO mark (number, date, many, value) VALUES (?1, ?2, ?3, ?4)"
+
+abbrev table : Table
+table = mark_at marks_query.tree
+
+abbrev terms : List Term
+terms = col 0 0 ∷ lit Null ∷ col 0 1 ∷ col 0 2 ∷ col 0 3 ∷ []
+
+is : command_of (understood desk_schema mark_text) ≡ Insert 4 (Values terms 5)
+unfolding understood everything desk_schema
+is = refl
+
+plain : IsPlain (understood desk_schema mark_text)
+unfolding understood everything desk_schema
+plain = (refl, refl)
+
+mark_is_plain : (trees : Trees) (mode : Mode) → IsPlainTable (desk_over trees) mode 4 table
+unfolding desk_schema
+mark_is_plain trees mode = record { place = refl; uncounted = refl; still = λ _ _. refl }
+
+abbrev pub mark_given : Mark → Row
+mark_given m = Int (pos m.number) ∷ Text (date_text m.date) ∷ Int (pos m.count) ∷ Int m.value ∷ []
+
+edit : (trees : Trees) (m : Mark) → edited trees (edit_of trees table [] Chosen 0
+    (value_rows (stamped table (mark_given m)) 5 1 terms)) ≡ put_row (mark_row m) (trees table.tree)
+edit trees m = rw (cast_int (pos m.number), cast_null, cast_int (pos m.count), cast_int m.value)
+
+pub adds_mark : (was : Database) (content : Content) (old new : State) (m : Mark) (r : Result ℕ Error) (values : Row)
+    → values ≡ mark_given m → Stands was content old → IsInOrder (with_change content (AddMark m))
+    → ExecutesInside 0 mark_text values old new r → OnOk r (Stands was (with_change content (AddMark m)) new)
+adds_mark was content old new m r values same stands order h =
+    adds mark_text 4 table terms 5 mark_row (λ q. pos q.number) (λ _. refl) is plain mark_is_plain (mark_given m) m
+    (λ trees. edit trees m) was content (with_change content (AddMark m)) content.marks old new r stands
+    (ap (λ (t : Tables). t.marks) stands.holds.rows) order.marks
+    (ap (λ (t : Tables). record t { marks = map mark_row (content.marks ++ m ∷ []) }) stands.holds.rows)
+    (subst (λ all. ExecutesInside 0 mark_text all old new r) same h)

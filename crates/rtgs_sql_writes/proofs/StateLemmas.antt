@@ -1,0 +1,92 @@
+-- From one state of a transaction to the next.
+use Rattle.std.proofs.Common.{◌≡◌, ◌≢◌, inl, inr, ℕ, ◌==◌, List, true, false, if◌then◌else◌, eqb-true, eq-eqb}
+use Rattle.std.proofs.Common.{true≢false, refl, sym, ap, subst, ◌∙◌}
+use Rattle.std.proofs.lemmas.Bool.{cases_Bool}
+use Rattle.sqlite.specs.Order.{Row}
+use Rattle.std.specs.List.{AllByRecursion}
+use Rattle.sqlite.specs.Effect.{Database, IsDatabase}
+use Rattle.sqlite_catalog.specs.Listing.{IsSound}
+use Rattle.sqlite.specs.State.{State, HasCleanDisk, Survives, Shows}
+use Rattle.rtgs_rows.specs.Tables.{desk_schema}
+use Rattle.sqlite_trees.specs.declared.store.Store.{Ghosts}
+use Rattle.sqlite.specs.Tree.{Trees}
+use Rattle.sqlite.specs.Held.{Held, state}
+use Rattle.sqlite.proofs.StateLemmas.{survives_then}
+use Rattle.sqlite.proofs.Callers.{survives_begin}
+use Rattle.rtgs_rows.specs.Content.{tables_of, tables_for, Content, Holds, Stands, Rests}
+use Rattle.rtgs_sql_columns.specs.Tables.{desk_query, participants_query, postings_query, payments_query, marks_query}
+
+-- the database, with its schema written out
+abbrev pub desk_over : Trees → Database
+desk_over trees = record { schema = desk_schema; trees = trees }
+
+-- no tree of the tables has changed but this one
+abbrev pub frame_but : ℕ → Trees → Trees → Type 0
+frame_but tree old new = AllByRecursion (λ t. t.tree ≢ tree → new t.tree ≡ old t.tree) desk_schema.tables
+
+-- these rows in place of those of one tree
+abbrev pub with_tree : ℕ → List Row → Trees → Trees
+with_tree tree rows trees t = if t == tree then rows else trees t
+
+-- so the tables are as they were, with the rows of that tree
+pub framed : (tree : ℕ) (old new : Trees) (rows : List Row) → frame_but tree old new → new tree ≡ rows
+    → tables_of new ≡ tables_of (with_tree tree rows old)
+unfolding desk_schema
+framed tree old new rows others here =
+    let at : (t : ℕ) → (t ≢ tree → new t ≡ old t) → new t ≡ with_tree tree rows old t =
+    λ t other. elim (cases_Bool (t == tree)) [
+      | inl same ↦ rw same (ap new (eqb-true t tree same) ∙ here)
+      | inr apart ↦ rw apart (other (λ same. absurd (true≢false (sym (eq-eqb t tree same) ∙ apart))))
+    ] in
+    let desk = at desk_query.tree others.0 in
+    let participants = at participants_query.tree others.1.0 in
+    let postings = at postings_query.tree others.1.1.0 in
+    let payments = at payments_query.tree others.1.1.1.0 in
+    let marks = at marks_query.tree others.1.1.1.1.0 in
+    λ i. record {
+      desk = desk i;
+      participants = participants i;
+      postings = postings i;
+      payments = payments i;
+      marks = marks i;
+    }
+
+pub stands_on : (was : Database) (old new : State) (content after : Content) → Stands was content old
+    → Shows old new new.now old.committed true → new.now.schema ≡ desk_schema → IsDatabase new.now
+    → tables_of new.now.trees ≡ tables_for after
+    → Stands was after new
+stands_on was old new content after stands shown schema sound rows = record {
+  is_open = shown.is_open;
+  inside = shown.mode;
+  schema = schema;
+  holds = record { sound = subst (λ s. IsSound s new.now.trees) schema sound; rows = rows };
+  committed = shown.committed_is ∙ stands.committed;
+}
+
+pub stands_begun : {S : Type 0} (g : Ghosts S) (h : Held S) (content : Content) → Rests content (state g h)
+    → Stands (state g h).committed content (state g (record h { in_transaction = true }))
+stands_begun g h content rests = record {
+  is_open = rests.is_open;
+  inside = refl;
+  schema = ap (λ (d : Database). d.schema) rests.clean ∙ rests.schema;
+  holds = subst (λ (d : Database). Holds content d.trees) (sym rests.clean) rests.holds;
+  committed = refl;
+}
+
+pub rests_committed : (was : Database) (mid new : State) (content : Content) → Stands was content mid
+    → Shows mid new mid.now mid.now false → Rests content new
+rests_committed was mid new content stands shown = record {
+  is_open = shown.is_open;
+  schema = ap (λ (d : Database). d.schema) shown.committed_is ∙ stands.schema;
+  holds = subst (λ (d : Database). Holds content d.trees) (sym shown.committed_is) stands.holds;
+  clean = shown.now_is ∙ sym shown.committed_is;
+}
+
+-- a transaction in which nothing commits, and then its commit
+pub survives_commit : {S : Type 0} (g : Ghosts S) (old : Held S) (mid new : State) (P : Trees → Type 0)
+    → (HasCleanDisk new → P mid.now.trees)
+    → Survives (state g (record old { in_transaction = true })) mid (λ _. ⊥)
+    → Survives mid new (λ db. db ≡ mid.now.trees) → Survives (state g old) new P
+survives_commit g old mid new P made inside ended =
+    survives_then (state g old) mid new (λ _. ⊥) (λ db. db ≡ mid.now.trees) P (λ _ db none. absurd none)
+    (λ clean db is. subst P (sym is) (made clean)) (survives_begin g old mid _ inside) ended

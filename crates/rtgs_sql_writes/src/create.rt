@@ -1,0 +1,109 @@
+//! The tables of a new book.
+ghost use Rattle.std.specs.Prelude.{◌≡◌, false, IsTrue, OnOk, IfErr};
+ghost use Rattle.sqlite.specs.Effect.{Database};
+ghost use Rattle.sqlite.specs.Schema.{Schema};
+ghost use Rattle.sqlite.specs.Table.{Table};
+ghost use Rattle.rtgs_rows.specs.Tables.{no_schema, desk_schema};
+ghost use Rattle.rtgs_rows.specs.Content.{Holds, Stands, Rests};
+ghost use Rattle.rtgs_sql_writes.specs.Stops.{IsBefore};
+ghost use Rattle.rtgs_sql_columns.specs.Blank.{IsBlank};
+ghost use Rattle.rtgs_sql_writes.specs.Building.{IsBuilt, Makes, first_content};
+ghost use Rattle.sqlite.specs.State.{HasCleanDisk, KeepsCommit, Survives};
+ghost use Rattle.sqlite.specs.Held.{state};
+
+use crate::staging::Stopped;
+use sqlite::{Alter, Connection, Error, Transaction};
+
+/// Makes one more table.
+fn create_table<S: Alter>(tx: &mut Transaction<'_, S>, sql: &str) -> Result<usize, Error>
+    ensures same_reference { tx.new.conn.ghost_name ≡ tx.old.conn.ghost_name }
+    ensures made { HasCleanDisk (state S.Store tx.new.conn.now)
+        → (was : Database) (schema next : Schema) (table : Table) → IsBuilt was schema (state S.Store tx.old.conn.now)
+        → Makes sql.now schema table next
+        → OnOk result (IsBuilt was next (state S.Store tx.new.conn.now)) }
+    ensures kept { HasCleanDisk (state S.Store tx.new.conn.now)
+        → KeepsCommit (state S.Store tx.old.conn.now) (state S.Store tx.new.conn.now) }
+    ensures survives { Survives (state S.Store tx.old.conn.now) (state S.Store tx.new.conn.now) (λ _. ⊥) }
+{
+    tx.execute(sql, &[])
+}
+
+/// The one row of the desk.
+fn first_day<S: Alter>(tx: &mut Transaction<'_, S>) -> Result<usize, Error>
+    ensures same_reference { tx.new.conn.ghost_name ≡ tx.old.conn.ghost_name }
+    ensures made { HasCleanDisk (state S.Store tx.new.conn.now) → (was : Database)
+        → IsBuilt was desk_schema (state S.Store tx.old.conn.now)
+        → OnOk result (Stands was first_content (state S.Store tx.new.conn.now)) }
+    ensures kept { HasCleanDisk (state S.Store tx.new.conn.now)
+        → KeepsCommit (state S.Store tx.old.conn.now) (state S.Store tx.new.conn.now) }
+    ensures survives { Survives (state S.Store tx.old.conn.now) (state S.Store tx.new.conn.now) (λ _. ⊥) }
+{
+    tx.execute(
+        "INSERT INTO desk (id, version, phase) VALUES (1, 1, 0)",
+        &[],
+    )
+}
+
+/// Makes the five tables inside the transaction.
+fn build<S: Alter>(tx: &mut Transaction<'_, S>) -> Result<(), Error>
+    ensures same_reference { tx.new.conn.ghost_name ≡ tx.old.conn.ghost_name }
+    ensures made { HasCleanDisk (state S.Store tx.new.conn.now) → (was : Database)
+        → IsBuilt was no_schema (state S.Store tx.old.conn.now)
+        → OnOk result (Stands was first_content (state S.Store tx.new.conn.now)) }
+    ensures kept { HasCleanDisk (state S.Store tx.new.conn.now)
+        → KeepsCommit (state S.Store tx.old.conn.now) (state S.Store tx.new.conn.now) }
+    ensures survives { Survives (state S.Store tx.old.conn.now) (state S.Store tx.new.conn.now) (λ _. ⊥) }
+{
+    create_table(
+        tx,
+        "CREATE TABLE desk (id INTEGER PRIMARY KEY, version INTEGER NOT NULL, date TEXT, \
+         phase INTEGER NOT NULL) STRICT",
+    )?;
+    create_table(
+        tx,
+        "CREATE TABLE participant (code TEXT PRIMARY KEY NOT NULL, name TEXT NOT NULL, key BLOB NOT NULL UNIQUE, \
+         credit INTEGER NOT NULL, balance INTEGER NOT NULL) STRICT",
+    )?;
+    create_table(
+        tx,
+        "CREATE TABLE posting (number INTEGER PRIMARY KEY, code TEXT NOT NULL, reference TEXT NOT NULL UNIQUE, \
+         cents INTEGER NOT NULL, date TEXT) STRICT",
+    )?;
+    create_table(
+        tx,
+        "CREATE TABLE payment (number INTEGER PRIMARY KEY, sender TEXT NOT NULL, reference TEXT NOT NULL, \
+         receiver TEXT NOT NULL, amount INTEGER NOT NULL, date TEXT NOT NULL, state INTEGER NOT NULL, mark INTEGER, \
+         UNIQUE (sender, reference)) STRICT",
+    )?;
+    create_table(
+        tx,
+        "CREATE TABLE mark (number INTEGER PRIMARY KEY, date TEXT NOT NULL, many INTEGER NOT NULL, \
+         value INTEGER NOT NULL) STRICT",
+    )?;
+    first_day(tx)?;
+    Ok(())
+}
+
+/// Makes the five tables in a transaction of their own.
+pub fn create_tables<S: Alter>(conn: &mut Connection<S>) -> Result<(), Stopped>
+    requires { conn.old.in_transaction ≡ false }
+    ensures mode { conn.new.in_transaction ≡ false }
+    ensures done { HasCleanDisk (state S.Store conn.new) → IsBlank (state S.Store conn.old)
+        → OnOk result (Rests first_content (state S.Store conn.new)) }
+    ensures undone { HasCleanDisk (state S.Store conn.new) → IsBlank (state S.Store conn.old)
+        → IsTrue (state S.Store conn.new).is_open → IfErr result (λ e. IsBefore e → IsBlank (state S.Store conn.new)) }
+    ensures early { IfErr result (λ e. IsBefore e → Survives (state S.Store conn.old) (state S.Store conn.new)
+        (λ _. ⊥)) }
+    ensures crash { Survives (state S.Store conn.old) (state S.Store conn.new)
+        (λ trees. IsBlank (state S.Store conn.old) → Holds first_content trees) }
+{
+    let mut tx = conn.transaction();
+    match build(&mut tx) {
+        Ok(()) => {}
+        Err(error) => return Err(Stopped::Before(error)),
+    }
+    match tx.commit() {
+        Ok(()) => Ok(()),
+        Err(error) => Err(Stopped::AtCommit(error)),
+    }
+}

@@ -1,0 +1,102 @@
+//! Columns that are set.
+ghost use Rattle.std.specs.Prelude.{◌≡◌, OnOk};
+ghost use Rattle.sqlite.specs.Effect.{Database};
+ghost use Rattle.rtgs_book.specs.declared.RowChange.TheVariants as change;
+ghost use Rattle.rtgs_rows.specs.Content.{Content, Stands, IsInOrder, with_change};
+ghost use Rattle.sqlite.specs.State.{HasCleanDisk, KeepsCommit, Survives};
+ghost use Rattle.sqlite.specs.Held.{state};
+
+use rtgs_book::{Day, OrderState};
+use rtgs_money::{Cents, Code, Credit};
+use rtgs_sql_columns::columns::{
+    cents_value, check_mark, check_number, credit_value, mark_value, number_value, phase_value,
+    state_value, text, text_of, text_or_null,
+};
+use rtgs_sql_columns::laws::one_table_answers;
+use sqlite::{Alter, Error, Transaction};
+
+/// Sets the credit limit of a participant.
+pub(crate) fn set_credit<S: Alter>(
+    tx: &mut Transaction<'_, S>,
+    code: &Code,
+    credit: Credit,
+) -> Result<usize, Error>
+    ensures same_reference { tx.new.conn.ghost_name ≡ tx.old.conn.ghost_name }
+    ensures made { HasCleanDisk (state S.Store tx.new.conn.now) → (was : Database) (content : Content)
+        → Stands was content (state S.Store tx.old.conn.now) → IsInOrder content
+        → OnOk result (Stands was (with_change content (change.SetCredit code.now credit))
+        (state S.Store tx.new.conn.now)) }
+    ensures kept { HasCleanDisk (state S.Store tx.new.conn.now)
+        → KeepsCommit (state S.Store tx.old.conn.now) (state S.Store tx.new.conn.now) }
+    ensures survives { Survives (state S.Store tx.old.conn.now) (state S.Store tx.new.conn.now) (λ _. ⊥) }
+{
+    one_table_answers();
+    tx.execute(
+        "UPDATE participant SET credit = ?2 WHERE code = ?1",
+        &[text(code.as_bytes()), credit_value(credit)],
+    )
+}
+
+/// Sets the stored balance of a participant.
+pub(crate) fn set_balance<S: Alter>(
+    tx: &mut Transaction<'_, S>,
+    code: &Code,
+    balance: Cents,
+) -> Result<usize, Error>
+    ensures same_reference { tx.new.conn.ghost_name ≡ tx.old.conn.ghost_name }
+    ensures made { HasCleanDisk (state S.Store tx.new.conn.now) → (was : Database) (content : Content)
+        → Stands was content (state S.Store tx.old.conn.now) → IsInOrder content
+        → OnOk result (Stands was (with_change content (change.SetBalance code.now balance))
+        (state S.Store tx.new.conn.now)) }
+    ensures kept { HasCleanDisk (state S.Store tx.new.conn.now)
+        → KeepsCommit (state S.Store tx.old.conn.now) (state S.Store tx.new.conn.now) }
+    ensures survives { Survives (state S.Store tx.old.conn.now) (state S.Store tx.new.conn.now) (λ _. ⊥) }
+{
+    one_table_answers();
+    tx.execute(
+        "UPDATE participant SET balance = ?2 WHERE code = ?1",
+        &[text(code.as_bytes()), cents_value(balance)],
+    )
+}
+
+/// Sets the state of an order, and its mark.
+pub(crate) fn set_state<S: Alter>(
+    tx: &mut Transaction<'_, S>,
+    number: u64,
+    stage: OrderState,
+) -> Result<usize, Error>
+    ensures same_reference { tx.new.conn.ghost_name ≡ tx.old.conn.ghost_name }
+    ensures made { HasCleanDisk (state S.Store tx.new.conn.now) → (was : Database) (content : Content)
+        → Stands was content (state S.Store tx.old.conn.now) → IsInOrder content
+        → OnOk result (Stands was (with_change content (change.SetState number stage))
+        (state S.Store tx.new.conn.now)) }
+    ensures kept { HasCleanDisk (state S.Store tx.new.conn.now)
+        → KeepsCommit (state S.Store tx.old.conn.now) (state S.Store tx.new.conn.now) }
+    ensures survives { Survives (state S.Store tx.old.conn.now) (state S.Store tx.new.conn.now) (λ _. ⊥) }
+{
+    one_table_answers();
+    check_number(number)?;
+    check_mark(stage)?;
+    tx.execute(
+        "UPDATE payment SET state = ?2, mark = ?3 WHERE number = ?1",
+        &[number_value(number), state_value(stage), mark_value(stage)],
+    )
+}
+
+/// Sets the business day.
+pub(crate) fn set_day<S: Alter>(tx: &mut Transaction<'_, S>, day: Day) -> Result<usize, Error>
+    ensures same_reference { tx.new.conn.ghost_name ≡ tx.old.conn.ghost_name }
+    ensures made { HasCleanDisk (state S.Store tx.new.conn.now) → (was : Database) (content : Content)
+        → Stands was content (state S.Store tx.old.conn.now) → IsInOrder content
+        → OnOk result (Stands was (with_change content (change.SetDay day)) (state S.Store tx.new.conn.now)) }
+    ensures kept { HasCleanDisk (state S.Store tx.new.conn.now)
+        → KeepsCommit (state S.Store tx.old.conn.now) (state S.Store tx.new.conn.now) }
+    ensures survives { Survives (state S.Store tx.old.conn.now) (state S.Store tx.new.conn.now) (λ _. ⊥) }
+{
+    one_table_answers();
+    let date = text_of(day.date);
+    tx.execute(
+        "UPDATE desk SET date = ?1, phase = ?2 WHERE id = 1",
+        &[text_or_null(&date), phase_value(day.phase)],
+    )
+}
