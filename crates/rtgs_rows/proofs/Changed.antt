@@ -5,11 +5,11 @@ use Rattle.rtgs_book.specs.declared.Book.{Book}
 use Rattle.rtgs_book.specs.declared.RowChange.{RowChange}
 use Rattle.rtgs_book.specs.Changes.{IsChange}
 use Rattle.rtgs_rows.specs.Content.{Content, AreInOrder, with_changes}
-use Rattle.rtgs_rows.specs.Fitting.{Fits, FitsRow}
+use Rattle.rtgs_rows.specs.Fitting.{HasFormedValues, FitsRow}
 use Rattle.rtgs_rows.specs.Keeping.{AreOf, IsBookOf}
 use Rattle.rtgs_rows.proofs.Formed.{formed_after}
 use Rattle.rtgs_rows.proofs.Matching.{steps}
-use Rattle.rtgs_rows.proofs.Ordered.{ids_after, all_in_order, keys_of}
+use Rattle.rtgs_rows.proofs.Ordered.{ids_after, all_in_order, order_of}
 use Rattle.rtgs_rows.proofs.Stored.{balances_after}
 
 records_after : (old new : Book) (rows : List RowChange) (content : Content) → IsBookOf old content
@@ -19,8 +19,9 @@ records_after old new rows content of change = subst (λ b. AreOf b (with_change
 
 pub in_order : (old new : Book) (rows : List RowChange) (content : Content) → IsBookOf old content
     → IsChange old rows new → AreInOrder content rows
-in_order old new rows content of change = all_in_order rows content of.ids
-    (keys_of new (with_changes content rows) (records_after old new rows content of change) change.sound)
+in_order old new rows content of change = all_in_order old rows content of.ids
+    (order_of new (with_changes content rows) (records_after old new rows content of change)
+    (ids_after rows content of.ids) change.sound)
 
 pub changes : (old new : Book) (rows : List RowChange) (content : Content) → IsBookOf old content
     → IsChange old rows new → AllByRecursion FitsRow rows → IsBookOf new (with_changes content rows)
@@ -30,5 +31,5 @@ changes old new rows content of change forms = record {
       change.leads.balances change.added;
   ids = ids_after rows content of.ids;
   sound = change.sound;
-  fits = subst Fits change.leads.book (formed_after rows old forms of.fits);
+  fits = subst HasFormedValues change.leads.book (formed_after rows old content forms of.fits);
 }

@@ -1,118 +1,57 @@
 -- A change whose values are in their forms leaves the values of the book in theirs.
-use Rattle.std.proofs.Common.{inl, inr, ℕ, List, [], ◌∷◌, ◌++◌, map, filter, Bool, not, cond}
+use Rattle.std.proofs.Common.{inl, inr, ℕ, List, [], ◌∷◌, cond}
 use Rattle.std.specs.List.{AllByRecursion}
 use Rattle.std.proofs.lemmas.Bool.{cases_Bool}
+use Rattle.rtgs_lists.proofs.Filters.{all_put_in}
+use Rattle.rtgs_lists.proofs.Lists.{all_map, all_weaker}
 use Rattle.rtgs_money.specs.Amounts.{IsCredit}
 use Rattle.rtgs_book.specs.declared.Book.{Book}
 use Rattle.rtgs_book.specs.declared.Participant.{Participant}
-use Rattle.rtgs_book.specs.declared.Order.{Order}
-use Rattle.rtgs_book.specs.declared.OrderState.{OrderState}
 use Rattle.rtgs_book.specs.declared.RowChange.{RowChange}
-use Rattle.rtgs_book.specs.declared.RowChange.TheVariants.{AddParticipant, AddPosting, AddOrder, AddMark, SetCredit}
-use Rattle.rtgs_book.specs.declared.RowChange.TheVariants.{SetBalance, SetState, SetDay}
-use Rattle.rtgs_book.specs.Commands.{is_before, with_participant, with_credit, with_state, has_number}
+use Rattle.rtgs_book.specs.declared.RowChange.TheVariants.{AddParticipant, SetCredit, SetDay}
+use Rattle.rtgs_book.specs.Commands.{is_before, with_participant, with_credit, with_state}
 use Rattle.rtgs_book.specs.Changes.{with_row, changed}
 use Rattle.rtgs_book.specs.Lookup.{has_code}
-use Rattle.rtgs_book.specs.Settle.{restated}
-use Rattle.rtgs_rows.specs.Fitting.{FitsParticipant, FitsOrder, FitsRow, Fits}
+use Rattle.rtgs_rows.specs.Content.{Content, with_change}
+use Rattle.rtgs_rows.specs.Fitting.{FitsDate, FitsParticipant, FitsRow, HasFormedValues}
+use Rattle.rtgs_rows.proofs.Steps.{posting_step, order_step, mark_step}
 
-all_join : {A : Type 0} (P : A → Type 0) (xs ys : List A) → AllByRecursion P xs → AllByRecursion P ys
-    → AllByRecursion P (xs ++ ys)
-all_join P [] ys h k = k
-all_join P (x ∷ xs) ys h k = (h.0, all_join P xs ys h.1 k)
+abbrev credited : List ℕ → ℕ → Participant → Participant
+credited code credit p = cond (has_code code p) (record p { credit = credit }) p
 
-all_chosen : {A : Type 0} (P : A → Type 0) (p : A → Bool) (xs : List A) → AllByRecursion P xs
-    → AllByRecursion P (filter p xs)
-all_chosen P p [] h = tt
-all_chosen P p (x ∷ xs) h = elim (cases_Bool (p x)) [
-  | inl hit ↦ rw hit (h.0, all_chosen P p xs h.1)
-  | inr miss ↦ rw miss (all_chosen P p xs h.1)
-]
-
-all_mapped : {A : Type 0} (P : A → Type 0) (f : A → A) → ((x : A) → P x → P (f x)) → (xs : List A) → AllByRecursion P xs
-    → AllByRecursion P (map f xs)
-all_mapped P f keeps [] h = tt
-all_mapped P f keeps (x ∷ xs) h = (keeps x h.0, all_mapped P f keeps xs h.1)
-
-credited : (code : List ℕ) (credit : ℕ) → IsCredit credit → (p : Participant) → FitsParticipant p
-    → FitsParticipant (cond (has_code code p) (record p { credit = credit }) p)
-credited code credit limit p h = elim (cases_Bool (has_code code p)) [
+credited_fits : (code : List ℕ) (credit : ℕ) → IsCredit credit → (p : Participant) → FitsParticipant p
+    → FitsParticipant (credited code credit p)
+credited_fits code credit limit p h = elim (cases_Bool (has_code code p)) [
   | inl hit ↦ rw hit (record { code = h.code; name = h.name; key = h.key; credit = limit })
   | inr miss ↦ rw miss h
 ]
 
-restated_fits : (number : ℕ) (state : OrderState) (o : Order) → FitsOrder o
-    → FitsOrder (restated (has_number number) state o)
-restated_fits number state o h = elim (cases_Bool (has_number number o)) [
-  | inl hit ↦ rw hit (record {
-    sender = h.sender;
-    reference = h.reference;
-    receiver = h.receiver;
-    amount = h.amount;
-    date = h.date;
-  })
-  | inr miss ↦ rw miss h
-]
-
-formed : (b : Book) (row : RowChange) → FitsRow row → Fits b → Fits (with_row b row)
+participants_formed : (b : Book) (row : RowChange) → FitsRow row → AllByRecursion FitsParticipant b.participants
+    → AllByRecursion FitsParticipant ((with_row b row).participants)
 unfolding with_participant with_credit with_state
-formed b (AddParticipant p) new h = record {
-  participants = all_join FitsParticipant _ _ (all_chosen FitsParticipant (λ q. is_before q.code p.code) b.participants
-      h.participants) (
-        new,
-        all_chosen FitsParticipant (λ q. not (is_before q.code p.code)) b.participants
-            h.participants,
-      );
-  postings = h.postings;
-  orders = h.orders;
-  marks = h.marks;
-  day = h.day;
-}
-formed b (AddPosting p) new h = record {
-  participants = h.participants;
-  postings = all_join _ b.postings (p ∷ []) h.postings (new, tt);
-  orders = h.orders;
-  marks = h.marks;
-  day = h.day;
-}
-formed b (AddOrder o) new h = record {
-  participants = h.participants;
-  postings = h.postings;
-  orders = all_join _ b.orders (o ∷ []) h.orders (new, tt);
-  marks = h.marks;
-  day = h.day;
-}
-formed b (AddMark m) new h = record {
-  participants = h.participants;
-  postings = h.postings;
-  orders = h.orders;
-  marks = all_join _ b.marks (m ∷ []) h.marks (new, tt);
-  day = h.day;
-}
-formed b (SetCredit code credit) new h = record {
-  participants =
-      all_mapped FitsParticipant _ (credited code credit new) b.participants h.participants;
-  postings = h.postings;
-  orders = h.orders;
-  marks = h.marks;
-  day = h.day;
-}
-formed b (SetBalance code balance) new h = h
-formed b (SetState number state) new h = record {
-  participants = h.participants;
-  postings = h.postings;
-  orders = all_mapped FitsOrder _ (restated_fits number state) b.orders h.orders;
-  marks = h.marks;
-  day = h.day;
-}
-formed b (SetDay day) new h = record {
-  participants = h.participants;
-  postings = h.postings;
-  orders = h.orders;
-  marks = h.marks;
-  day = new;
+participants_formed b (AddParticipant p) new h = all_put_in FitsParticipant (λ q. is_before q.code p.code) p
+    b.participants h new
+participants_formed b (SetCredit code credit) new h = all_map FitsParticipant (credited code credit) b.participants
+    (all_weaker FitsParticipant (λ p. FitsParticipant (credited code credit p)) (credited_fits code credit new)
+    b.participants h)
+participants_formed b row new h = h
+
+day_formed : (b : Book) (row : RowChange) → FitsRow row → FitsDate b.day.date → FitsDate ((with_row b row).day.date)
+unfolding with_participant with_credit with_state
+day_formed b (SetDay day) new h = new
+day_formed b row new h = h
+
+formed : (b : Book) (c : Content) (row : RowChange) → FitsRow row → HasFormedValues b → HasFormedValues (with_row b row)
+formed b c row new h = record {
+  participants = participants_formed b row new h.participants;
+  postings = (posting_step b c row).fits new h.postings;
+  orders = (order_step b c row).fits new h.orders;
+  marks = (mark_step b c row).fits new h.marks;
+  day = day_formed b row new h.day;
 }
 
-pub formed_after : (rows : List RowChange) (b : Book) → AllByRecursion FitsRow rows → Fits b → Fits (changed b rows)
-formed_after [] b new h = h
-formed_after (row ∷ rows) b new h = formed_after rows (with_row b row) new.1 (formed b row new.0 h)
+pub formed_after : (rows : List RowChange) (b : Book) (c : Content) → AllByRecursion FitsRow rows → HasFormedValues b
+    → HasFormedValues (changed b rows)
+formed_after [] b c new h = h
+formed_after (row ∷ rows) b c new h = formed_after rows (with_row b row) (with_change c row) new.1
+    (formed b c row new.0 h)

@@ -1,4 +1,5 @@
 pub mod NextRow
+pub mod Steps
 pub mod Matching
 pub mod Ordered
 pub mod Stored

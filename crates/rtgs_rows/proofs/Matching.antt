@@ -9,15 +9,14 @@ use Rattle.std.specs.Str.{bytes_eq}
 use Rattle.rtgs_book.specs.declared.Book.{Book}
 use Rattle.rtgs_book.specs.declared.Participant.{Participant}
 use Rattle.rtgs_book.specs.declared.RowChange.{RowChange}
-use Rattle.rtgs_book.specs.declared.RowChange.TheVariants.{AddParticipant, AddPosting, AddOrder, AddMark, SetCredit}
-use Rattle.rtgs_book.specs.declared.RowChange.TheVariants.{SetBalance, SetState, SetDay}
-use Rattle.rtgs_book.specs.Commands.{is_before, with_participant, with_credit, with_state, has_number}
-use Rattle.rtgs_book.specs.Settle.{restated}
+use Rattle.rtgs_book.specs.declared.RowChange.TheVariants.{AddParticipant, SetCredit, SetBalance, SetDay}
+use Rattle.rtgs_book.specs.Commands.{is_before, with_participant, with_credit, with_state}
 use Rattle.rtgs_book.specs.Lookup.{has_code}
 use Rattle.rtgs_book.specs.Changes.{with_row, changed}
 use Rattle.rtgs_rows.specs.Content.{Holding, Content, newcomer, with_credit_in, with_balance_in, with_change}
 use Rattle.rtgs_rows.specs.Content.{with_changes}
 use Rattle.rtgs_rows.specs.Keeping.{AreOf}
+use Rattle.rtgs_rows.proofs.Steps.{posting_step, order_step, mark_step}
 
 abbrev who : Holding → Participant
 who h = h.participant
@@ -50,67 +49,31 @@ who_balance code balance (h ∷ hs) = elim (cases_Bool (bytes_eq h.participant.c
   | inr miss ↦ rw (miss, who_balance code balance hs)
 ]
 
-pub step : (b : Book) (c : Content) (row : RowChange) → AreOf b c → AreOf (with_row b row) (with_change c row)
+day_on : (b : Book) (c : Content) (row : RowChange) → c.day ≡ b.day → (with_change c row).day ≡ (with_row b row).day
 unfolding with_participant with_credit with_state
-step b c (AddParticipant p) are = record {
-  day = are.day;
-  participants =
-      rw (map_snoc who c.holdings (newcomer c p))
-      (IsPermutation-trans _ _ _ (IsPermutation-to_front (map who c.holdings) p)
-      (IsPermutation-trans _ _ _ (IsPermutation-cons p _ _ are.participants)
-      (placed (λ q. is_before q.code p.code) p b.participants)));
-  postings = are.postings;
-  orders = are.orders;
-  marks = are.marks;
-}
-step b c (AddPosting p) are = record {
-  day = are.day;
-  participants = are.participants;
-  postings = ap (λ l. l ++ p ∷ []) are.postings;
-  orders = are.orders;
-  marks = are.marks;
-}
-step b c (AddOrder o) are = record {
-  day = are.day;
-  participants = are.participants;
-  postings = are.postings;
-  orders = ap (λ l. l ++ o ∷ []) are.orders;
-  marks = are.marks;
-}
-step b c (AddMark m) are = record {
-  day = are.day;
-  participants = are.participants;
-  postings = are.postings;
-  orders = are.orders;
-  marks = ap (λ l. l ++ m ∷ []) are.marks;
-}
-step b c (SetCredit code credit) are = record {
-  day = are.day;
-  participants = rw (who_credit code credit c.holdings) (IsPermutation-map _ _ _ are.participants);
-  postings = are.postings;
-  orders = are.orders;
-  marks = are.marks;
-}
-step b c (SetBalance code balance) are = record {
-  day = are.day;
-  participants = rw (who_balance code balance c.holdings) are.participants;
-  postings = are.postings;
-  orders = are.orders;
-  marks = are.marks;
-}
-step b c (SetState number state) are = record {
-  day = are.day;
-  participants = are.participants;
-  postings = are.postings;
-  orders = ap (map (restated (has_number number) state)) are.orders;
-  marks = are.marks;
-}
-step b c (SetDay day) are = record {
-  day = refl;
-  participants = are.participants;
-  postings = are.postings;
-  orders = are.orders;
-  marks = are.marks;
+day_on b c (SetDay day) same = refl
+day_on b c row same = same
+
+abbrev HasParticipants : Book → Content → Type 0
+HasParticipants b c = IsPermutation (map who c.holdings) b.participants
+
+participants_on : (b : Book) (c : Content) (row : RowChange) → HasParticipants b c
+    → HasParticipants (with_row b row) (with_change c row)
+unfolding with_participant with_credit with_state
+participants_on b c (AddParticipant p) same = rw (map_snoc who c.holdings (newcomer c p))
+    (IsPermutation-trans _ _ _ (IsPermutation-to_front (map who c.holdings) p)
+    (IsPermutation-trans _ _ _ (IsPermutation-cons p _ _ same) (placed (λ q. is_before q.code p.code) p b.participants)))
+participants_on b c (SetCredit code credit) same = rw (who_credit code credit c.holdings) (IsPermutation-map _ _ _ same)
+participants_on b c (SetBalance code balance) same = rw (who_balance code balance c.holdings) same
+participants_on b c row same = same
+
+step : (b : Book) (c : Content) (row : RowChange) → AreOf b c → AreOf (with_row b row) (with_change c row)
+step b c row are = record {
+  day = day_on b c row are.day;
+  participants = participants_on b c row are.participants;
+  postings = (posting_step b c row).same are.postings;
+  orders = (order_step b c row).same are.orders;
+  marks = (mark_step b c row).same are.marks;
 }
 
 pub steps : (b : Book) (c : Content) (rows : List RowChange) → AreOf b c → AreOf (changed b rows) (with_changes c rows)

@@ -9,70 +9,41 @@ use Rattle.std.specs.Cmp.{int_cmp_is}
 use Rattle.std.specs.Cmp.Lexicographic.{slice_cmp}
 use Rattle.std.specs.Str.{bytes_eq}
 use Rattle.std.proofs.lemmas.Bool.{cases_Bool}
-use Rattle.std.proofs.lemmas.Bool.Decides.{same_from_decides, Decides-like}
 use Rattle.std.proofs.lemmas.Int.{ints}
 use Rattle.std.proofs.lemmas.List.Sorted.{IsPermutation-map, IsPermutation-sym}
 use Rattle.std.proofs.lemmas.Map.Keys.{IsDistinct-IsPermutation, IsDistinct-from_sorted}
 use Rattle.std.proofs.lemmas.Map.Text.{is_eq-slice_cmp}
 use Rattle.std.proofs.lemmas.Slice.Eq.{bytes_eq-Decides}
 use Rattle.sqlite.specs.Tree.{IsAscending}
+use Rattle.rtgs_lists.proofs.Codes.{bytes_eq_comm}
+use Rattle.rtgs_lists.proofs.Lists.{all_push}
 use Rattle.sqlite_keyed.proofs.ListLemmas.{ascending-map, ascending_from_map, ascending_weaker}
 use Rattle.rtgs_book.specs.declared.Book.{Book}
 use Rattle.rtgs_book.specs.declared.Participant.{Participant}
 use Rattle.rtgs_book.specs.declared.Posting.{Posting}
 use Rattle.rtgs_book.specs.declared.Order.{Order}
 use Rattle.rtgs_book.specs.declared.Mark.{Mark}
-use Rattle.rtgs_book.specs.declared.OrderState.{OrderState}
 use Rattle.rtgs_book.specs.declared.RowChange.{RowChange}
-use Rattle.rtgs_book.specs.declared.RowChange.TheVariants.{AddParticipant, AddPosting, AddOrder, AddMark, SetCredit}
-use Rattle.rtgs_book.specs.declared.RowChange.TheVariants.{SetBalance, SetState, SetDay}
-use Rattle.rtgs_book.specs.Settle.{restated}
-use Rattle.rtgs_book.specs.Commands.{has_number}
+use Rattle.rtgs_book.specs.declared.RowChange.TheVariants.{AddParticipant, SetCredit, SetBalance}
+use Rattle.rtgs_book.specs.Changes.{with_row}
 use Rattle.rtgs_book.specs.Lookup.{accounts}
-use Rattle.rtgs_book.specs.Soundness.{IsSound}
+use Rattle.rtgs_book.specs.Soundness.{AreNumbered, IsSound}
 use Rattle.rtgs_rows.specs.Content.{Holding, Content, newcomer, with_credit_in, with_balance_in, with_change}
-use Rattle.rtgs_rows.specs.Content.{with_changes, IsInOrder, AreInOrder}
+use Rattle.rtgs_rows.specs.Content.{with_changes, Rise, IsInOrder, AreInOrder}
 use Rattle.rtgs_rows.specs.Keeping.{AreOf}
 use Rattle.rtgs_rows.proofs.NextRow.{all_below}
-
-all_front : {A : Type 0} (P : A → Type 0) (xs : List A) (x : A) → AllByRecursion P (xs ++ x ∷ []) → AllByRecursion P xs
-all_front P [] x h = tt
-all_front P (y ∷ ys) x h = (h.0, all_front P ys x h.1)
-
-front : {A : Type 0} (R : A → A → Type 0) (xs : List A) (x : A) → IsAscending R (xs ++ x ∷ []) → IsAscending R xs
-front R [] x h = tt
-front R (y ∷ ys) x h = (all_front (R y) ys x h.0, front R ys x h.1)
-
-all_snoc : {A : Type 0} (P : A → Type 0) (xs : List A) (x : A) → AllByRecursion P xs → P x
-    → AllByRecursion P (xs ++ x ∷ [])
-all_snoc P [] x h p = (p, tt)
-all_snoc P (y ∷ ys) x h p = (h.0, all_snoc P ys x h.1 p)
+use Rattle.rtgs_rows.proofs.Steps.{all_front, front, posting_step, order_step, mark_step}
 
 snoc : {A : Type 0} (R : A → A → Type 0) (xs : List A) (x : A) → IsAscending R xs → AllByRecursion (λ a. R a x) xs
     → IsAscending R (xs ++ x ∷ [])
 snoc R [] x h below = (tt, tt)
-snoc R (y ∷ ys) x h below = (all_snoc (R y) ys x h.0 below.0, snoc R ys x h.1 below.1)
+snoc R (y ∷ ys) x h below = (all_push (R y) ys x h.0 below.0, snoc R ys x h.1 below.1)
 
 abbrev Ids : Content → Type 0
-Ids c = IsAscending (λ (a b : Holding). int_cmp a.id b.id ≡ Less) c.holdings
+Ids c = Rise (λ (h : Holding). h.id) c.holdings
 
 abbrev Differ : List Holding → Type 0
 Differ = IsAscending (λ (a b : Holding). a.participant.code ≢ b.participant.code)
-
-abbrev RisePostings : List Posting → Type 0
-RisePostings = IsAscending (λ (a b : Posting). int_cmp (pos a.number) (pos b.number) ≡ Less)
-
-abbrev RiseOrders : List Order → Type 0
-RiseOrders = IsAscending (λ (a b : Order). int_cmp (pos a.number) (pos b.number) ≡ Less)
-
-abbrev RiseMarks : List Mark → Type 0
-RiseMarks = IsAscending (λ (a b : Mark). int_cmp (pos a.number) (pos b.number) ≡ Less)
-
-pub record Keys (c : Content) : Type 0 where
-  pub codes : Differ c.holdings
-  pub postings : RisePostings c.postings
-  pub orders : RiseOrders c.orders
-  pub marks : RiseMarks c.marks
 
 -- ---- a change keeps what names a record
 
@@ -86,10 +57,6 @@ balance_id : (code : List ℕ) (balance : ℤ) (h : Holding) → ((with_balance_
 balance_id code balance h = elim (cases_Bool (bytes_eq h.participant.code code))
     [ inl hit ↦ (rw hit, rw hit) | inr miss ↦ (rw miss, rw miss) ]
 
-state_number_is : (number : ℕ) (state : OrderState) (o : Order)
-    → (restated (has_number number) state o).number ≡ o.number
-state_number_is number state o = elim (cases_Bool (has_number number o)) [ inl hit ↦ rw hit | inr miss ↦ rw miss ]
-
 differ_back : (f : Holding → Holding) → ((h : Holding) → (f h).participant.code ≡ h.participant.code)
     → (hs : List Holding) → Differ (map f hs) → Differ hs
 differ_back f same hs h =
@@ -98,96 +65,52 @@ differ_back f same hs h =
     (ascending_from_map (λ (a b : Holding). a.participant.code ≢ b.participant.code) f hs h)
 
 ids_map : (f : Holding → Holding) → ((h : Holding) → (f h).id ≡ h.id) → (hs : List Holding)
-    → IsAscending (λ (a b : Holding). int_cmp a.id b.id ≡ Less) hs
-    → IsAscending (λ (a b : Holding). int_cmp a.id b.id ≡ Less) (map f hs)
+    → Rise (λ (h : Holding). h.id) hs → Rise (λ (h : Holding). h.id) (map f hs)
 ids_map f same hs h =
     ascending-map (λ (a b : Holding). int_cmp a.id b.id ≡ Less) f hs
     (ascending_weaker (λ (a b : Holding). int_cmp a.id b.id ≡ Less) (λ a b. int_cmp (f a).id (f b).id ≡ Less)
     (λ a b low. rw (same a, same b) low) hs h)
 
-orders_back : (f : Order → Order) → ((o : Order) → (f o).number ≡ o.number) → (os : List Order) → RiseOrders (map f os)
-    → RiseOrders os
-orders_back f same os h =
-    ascending_weaker (λ a b. int_cmp (pos (f a).number) (pos (f b).number) ≡ Less)
-    (λ (a b : Order). int_cmp (pos a.number) (pos b.number) ≡ Less) (λ a b low. rw (same a, same b) at low) os
-    (ascending_from_map (λ (a b : Order). int_cmp (pos a.number) (pos b.number) ≡ Less) f os h)
+differed : (c : Content) (row : RowChange) → Differ ((with_change c row).holdings) → Differ c.holdings
+differed c (AddParticipant p) h = front _ c.holdings (newcomer c p) h
+differed c (SetCredit code credit) h = differ_back (with_credit_in code credit) (λ h. (credit_id code credit h).1)
+    c.holdings h
+differed c (SetBalance code balance) h = differ_back (with_balance_in code balance)
+    (λ h. (balance_id code balance h).1) c.holdings h
+differed c row h = h
 
-back : (c : Content) (row : RowChange) → Keys (with_change c row) → Keys c
-back c (AddParticipant p) k = record {
-  codes = front _ c.holdings (newcomer c p) k.codes;
-  postings = k.postings;
-  orders = k.orders;
-  marks = k.marks;
+back : (b : Book) (c : Content) (row : RowChange) → Ids c → IsInOrder (with_change c row) → IsInOrder c
+back b c row ids order = record {
+  ids = ids;
+  codes = differed c row order.codes;
+  postings = (posting_step b c row).rose order.postings;
+  orders = (order_step b c row).rose order.orders;
+  marks = (mark_step b c row).rose order.marks;
 }
-back c (AddPosting p) k = record {
-  codes = k.codes;
-  postings = front _ c.postings p k.postings;
-  orders = k.orders;
-  marks = k.marks;
-}
-back c (AddOrder o) k = record {
-  codes = k.codes;
-  postings = k.postings;
-  orders = front _ c.orders o k.orders;
-  marks = k.marks;
-}
-back c (AddMark m) k = record {
-  codes = k.codes;
-  postings = k.postings;
-  orders = k.orders;
-  marks = front _ c.marks m k.marks;
-}
-back c (SetCredit code credit) k = record {
-  codes = differ_back (with_credit_in code credit)
-      (λ h. (credit_id code credit h).1) c.holdings k.codes;
-  postings = k.postings;
-  orders = k.orders;
-  marks = k.marks;
-}
-back c (SetBalance code balance) k = record {
-  codes = differ_back (with_balance_in code balance)
-      (λ h. (balance_id code balance h).1) c.holdings k.codes;
-  postings = k.postings;
-  orders = k.orders;
-  marks = k.marks;
-}
-back c (SetState number state) k = record {
-  codes = k.codes;
-  postings = k.postings;
-  orders = orders_back (restated (has_number number) state) (state_number_is number state) c.orders k.orders;
-  marks = k.marks;
-}
-back c (SetDay day) k = record { codes = k.codes; postings = k.postings; orders = k.orders; marks = k.marks }
-
-all_back : (rows : List RowChange) (c : Content) → Keys (with_changes c rows) → Keys c
-all_back [] c k = k
-all_back (row ∷ rows) c k = back c row (all_back rows (with_change c row) k)
 
 ids_on : (c : Content) (row : RowChange) → Ids c → Ids (with_change c row)
 ids_on c (AddParticipant p) ids = snoc _ c.holdings (newcomer c p) ids (all_below c.holdings ids)
-ids_on c (AddPosting p) ids = ids
-ids_on c (AddOrder o) ids = ids
-ids_on c (AddMark m) ids = ids
 ids_on c (SetCredit code credit) ids = ids_map (with_credit_in code credit) (λ h. (credit_id code credit h).0)
     c.holdings ids
 ids_on c (SetBalance code balance) ids = ids_map (with_balance_in code balance) (λ h. (balance_id code balance h).0)
     c.holdings ids
-ids_on c (SetState number state) ids = ids
-ids_on c (SetDay day) ids = ids
+ids_on c row ids = ids
 
 pub ids_after : (rows : List RowChange) (c : Content) → Ids c → Ids (with_changes c rows)
 ids_after [] c ids = ids
 ids_after (row ∷ rows) c ids = ids_after rows (with_change c row) (ids_on c row ids)
 
-here : (c : Content) → Ids c → Keys c → IsInOrder c
-here c ids k = record { ids = ids; codes = k.codes; postings = k.postings; orders = k.orders; marks = k.marks }
+all_back : (b : Book) (rows : List RowChange) (c : Content) → Ids c → IsInOrder (with_changes c rows) → IsInOrder c
+all_back b [] c ids order = order
+all_back b (row ∷ rows) c ids order = back b c row ids
+    (all_back (with_row b row) rows (with_change c row) (ids_on c row ids) order)
 
-pub all_in_order : (rows : List RowChange) (c : Content) → Ids c → Keys (with_changes c rows) → AreInOrder c rows
-all_in_order [] c ids k = here c ids k
-all_in_order (row ∷ rows) c ids k = (
-  here c ids (all_back (row ∷ rows) c k),
-  all_in_order rows (with_change c row)
-      (ids_on c row ids) k,
+pub all_in_order : (b : Book) (rows : List RowChange) (c : Content) → Ids c → IsInOrder (with_changes c rows)
+    → AreInOrder c rows
+all_in_order b [] c ids order = order
+all_in_order b (row ∷ rows) c ids order = (
+  all_back b (row ∷ rows) c ids order,
+  all_in_order (with_row b row) rows (with_change c row) (ids_on c row ids) order,
 )
 
 -- ---- a sound book names its records apart
@@ -204,11 +127,16 @@ range_rises : (s len : ℕ) → IsAscending (λ m n. int_cmp (pos m) (pos n) ≡
 range_rises s zero = tt
 range_rises s (suc len) = (above s (s + 1) len (omega arith), range_rises (s + 1) len)
 
-pub numbered : {A : Type 0} (number : A → ℕ) (xs : List A) → map number xs ≡ range_with_len 1 (length (map number xs))
-    → IsAscending (λ a b. int_cmp (pos (number a)) (pos (number b)) ≡ Less) xs
-numbered number xs is =
+pub rises : {A : Type 0} (number : A → ℕ) (xs : List A) → AreNumbered (map number xs)
+    → Rise (λ a. pos (number a)) xs
+rises number xs is =
     ascending_from_map (λ m n. int_cmp (pos m) (pos n) ≡ Less) number xs
-    (subst (IsAscending (λ m n. int_cmp (pos m) (pos n) ≡ Less)) (sym is) (range_rises 1 (length (map number xs))))
+    (subst (IsAscending (λ m n. int_cmp (pos m) (pos n) ≡ Less)) (sym is.0) (range_rises 1 (length (map number xs))))
+
+-- a list of a content that is a book's
+list_rises : {A : Type 0} (number : A → ℕ) {xs ys : List A} → xs ≡ ys → AreNumbered (map number ys)
+    → Rise (λ a. pos (number a)) xs
+list_rises number {ys = ys} same is = subst (Rise (λ a. pos (number a))) (sym same) (rises number ys is)
 
 each_test : {A : Type 0} (e f : A → A → Bool) → ((x y : A) → e x y ≡ f x y) → (x : A) (ys : List A)
     → AllByRecursion (λ y. e x y ≡ false) ys → AllByRecursion (λ y. f x y ≡ false) ys
@@ -220,10 +148,6 @@ same_test : {A : Type 0} (e f : A → A → Bool) → ((x y : A) → e x y ≡ f
 unfolding IsDistinct
 same_test e f same [] h = tt
 same_test e f same (x ∷ xs) h = (each_test e f same x xs h.0, same_test e f same xs h.1)
-
-pub bytes_eq_comm : (a b : List ℕ) → bytes_eq a b ≡ bytes_eq b a
-bytes_eq_comm a b = same_from_decides _ _ (bytes_eq-Decides a b)
-    (Decides-like _ (λ e. sym e) (λ e. sym e) (bytes_eq-Decides b a))
 
 apart : (xs : List (List ℕ)) → IsDistinct bytes_eq xs → IsAscending (λ a b. a ≢ b) xs
 unfolding IsDistinct
@@ -251,13 +175,13 @@ codes_apart b hs same sorted =
     (ascending_from_map (λ (a b : List ℕ). a ≢ b) (λ (p : Participant). p.code)
     (map (λ (h : Holding). h.participant) hs) (apart _ of_holdings))
 
-pub keys_of : (b : Book) (c : Content) → AreOf b c → IsSound b → Keys c
-keys_of b c are sound = record {
+pub order_of : (b : Book) (c : Content) → AreOf b c → Ids c → IsSound b → IsInOrder c
+order_of b c are ids sound = record {
+  ids = ids;
   codes = codes_apart b c.holdings are.participants sound.codes_rise.0;
-  postings = subst RisePostings (sym are.postings) (numbered (λ (p : Posting). p.number) b.postings
-      sound.postings_numbered.0);
-  orders = subst RiseOrders (sym are.orders) (numbered (λ (o : Order). o.number) b.orders sound.orders_numbered.0);
-  marks = subst RiseMarks (sym are.marks) (numbered (λ (m : Mark). m.number) b.marks sound.marks_numbered.0);
+  postings = list_rises (λ (p : Posting). p.number) are.postings sound.postings_numbered;
+  orders = list_rises (λ (o : Order). o.number) are.orders sound.orders_numbered;
+  marks = list_rises (λ (m : Mark). m.number) are.marks sound.marks_numbered;
 }
 
 -- what holds of the codes after changes held before
@@ -272,15 +196,11 @@ code_back : (P : List ℕ → Type 0) (c : Content) (row : RowChange)
     → AllByRecursion (λ (h : Holding). P h.participant.code) ((with_change c row).holdings)
     → AllByRecursion (λ (h : Holding). P h.participant.code) c.holdings
 code_back P c (AddParticipant p) all = all_front _ c.holdings (newcomer c p) all
-code_back P c (AddPosting p) all = all
-code_back P c (AddOrder o) all = all
-code_back P c (AddMark m) all = all
 code_back P c (SetCredit code credit) all = codes_back P (with_credit_in code credit) (λ h. (credit_id code credit h).1)
     c.holdings all
 code_back P c (SetBalance code balance) all = codes_back P (with_balance_in code balance)
     (λ h. (balance_id code balance h).1) c.holdings all
-code_back P c (SetState number state) all = all
-code_back P c (SetDay day) all = all
+code_back P c row all = all
 
 pub all_codes_back : (P : List ℕ → Type 0) (rows : List RowChange) (c : Content)
     → AllByRecursion (λ (h : Holding). P h.participant.code) ((with_changes c rows).holdings)

@@ -12,15 +12,15 @@ use Rattle.sqlite_keyed.proofs.ListLemmas.{all_unmap}
 use Rattle.rtgs_book.specs.declared.Book.{Book}
 use Rattle.rtgs_book.specs.declared.Participant.{Participant}
 use Rattle.rtgs_book.specs.declared.RowChange.{RowChange}
-use Rattle.rtgs_book.specs.declared.RowChange.TheVariants.{AddParticipant, AddPosting, AddOrder, AddMark, SetCredit}
-use Rattle.rtgs_book.specs.declared.RowChange.TheVariants.{SetBalance, SetState, SetDay}
+use Rattle.rtgs_book.specs.declared.RowChange.TheVariants.{AddParticipant, SetCredit, SetBalance}
 use Rattle.rtgs_book.specs.Balance.{balance}
 use Rattle.rtgs_book.specs.Lookup.{accounts}
 use Rattle.rtgs_book.specs.Changes.{balance_set, or_else, SetsBalances, StartsEmpty}
 use Rattle.rtgs_rows.specs.Content.{Holding, Content, newcomer, with_credit_in, with_balance_in, with_change}
 use Rattle.rtgs_rows.specs.Content.{with_changes}
 use Rattle.rtgs_rows.specs.Keeping.{AreOf}
-use Rattle.rtgs_rows.proofs.Ordered.{bytes_eq_comm, all_codes_back}
+use Rattle.rtgs_lists.proofs.Codes.{bytes_eq_comm}
+use Rattle.rtgs_rows.proofs.Ordered.{all_codes_back}
 
 -- the rows to come bring each stored balance to its target
 abbrev Come : (List ℕ → ℤ) → List RowChange → List Holding → Type 0
@@ -34,29 +34,17 @@ Starts target rows row = Unit {0}
 
 rest_none : (code : List ℕ) (row : RowChange) (rows : List RowChange) → balance_set code (row ∷ rows) ≡ None
     → balance_set code rows ≡ None
-rest_none code (AddParticipant p) rows h = h
-rest_none code (AddPosting p) rows h = h
-rest_none code (AddOrder o) rows h = h
-rest_none code (AddMark m) rows h = h
-rest_none code (SetCredit c credit) rows h = h
 rest_none code (SetBalance other balance) rows h = none_first (balance_set code rows) _ h
   where
     none_first : (a b : Option ℤ) → or_else a b ≡ None → a ≡ None
     none_first None b h = refl
     none_first (Some z) b h = h
-rest_none code (SetState number state) rows h = h
-rest_none code (SetDay day) rows h = h
+rest_none code row rows h = h
 
 start_later : (target : List ℕ → ℤ) (row : RowChange) (rows : List RowChange) (other : RowChange)
     → Starts target (row ∷ rows) other → Starts target rows other
 start_later target row rows (AddParticipant p) h = (rest_none p.code row rows h.0, h.1)
-start_later target row rows (AddPosting p) h = tt
-start_later target row rows (AddOrder o) h = tt
-start_later target row rows (AddMark m) h = tt
-start_later target row rows (SetCredit code credit) h = tt
-start_later target row rows (SetBalance code balance) h = tt
-start_later target row rows (SetState number state) h = tt
-start_later target row rows (SetDay day) h = tt
+start_later target row rows other h = tt
 
 starts_later : (target : List ℕ → ℤ) (row : RowChange) (rows others : List RowChange)
     → AllByRecursion (Starts target (row ∷ rows)) others → AllByRecursion (Starts target rows) others
@@ -105,13 +93,9 @@ come_on : (target : List ℕ → ℤ) (c : Content) (row : RowChange) (rows : Li
     → Come target (row ∷ rows) c.holdings → Come target rows ((with_change c row).holdings)
 come_on target c (AddParticipant p) rows starts all = come_snoc target rows c.holdings (newcomer c p) all
     (rw (rest_none p.code (AddParticipant p) rows starts.0) (sym starts.1))
-come_on target c (AddPosting p) rows starts all = all
-come_on target c (AddOrder o) rows starts all = all
-come_on target c (AddMark m) rows starts all = all
 come_on target c (SetCredit code credit) rows starts all = come_credit target rows code credit c.holdings all
 come_on target c (SetBalance code cents) rows starts all = come_balance target rows code cents c.holdings all
-come_on target c (SetState number state) rows starts all = all
-come_on target c (SetDay day) rows starts all = all
+come_on target c row rows starts all = all
 
 arrive : (target : List ℕ → ℤ) (c : Content) (rows : List RowChange) → AllByRecursion (Starts target rows) rows
     → Come target rows c.holdings → AllByRecursion (λ (h : Holding). h.balance ≡ target h.participant.code)
@@ -125,13 +109,7 @@ same_starts : (new : Book) (rows others : List RowChange) → AllByRecursion (St
     → AllByRecursion (Starts (balance new) rows) others
 same_starts new rows [] h = tt
 same_starts new rows (AddParticipant p ∷ others) h = (h.0, same_starts new rows others h.1)
-same_starts new rows (AddPosting p ∷ others) h = (tt, same_starts new rows others h.1)
-same_starts new rows (AddOrder o ∷ others) h = (tt, same_starts new rows others h.1)
-same_starts new rows (AddMark m ∷ others) h = (tt, same_starts new rows others h.1)
-same_starts new rows (SetCredit code credit ∷ others) h = (tt, same_starts new rows others h.1)
-same_starts new rows (SetBalance code b ∷ others) h = (tt, same_starts new rows others h.1)
-same_starts new rows (SetState number state ∷ others) h = (tt, same_starts new rows others h.1)
-same_starts new rows (SetDay day ∷ others) h = (tt, same_starts new rows others h.1)
+same_starts new rows (other ∷ others) h = (tt, same_starts new rows others h.1)
 
 chosen : (a b : ℤ) → unwrap_or (cond (int_eq a b) None (Some b)) a ≡ b
 chosen a b = elim (cases_Bool (int_eq a b)) [ inl same ↦ rw same ((Decides-int_eq a b).0 same) | inr other ↦ rw other ]

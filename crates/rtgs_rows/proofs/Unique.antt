@@ -16,6 +16,7 @@ use Rattle.sqlite.specs.Order.{Row}
 use Rattle.sqlite.specs.Tree.{IsAscending}
 use Rattle.sqlite_keyed.proofs.SortLemmas.{sorted_unique}
 use Rattle.sqlite_keyed.proofs.ListLemmas.{ascending_from_map}
+use Rattle.rtgs_lists.proofs.Lists.{all_of}
 use Rattle.rtgs_money.specs.Date.{date_text, IsBusinessDate}
 use Rattle.rtgs_book.specs.declared.Book.{Book}
 use Rattle.rtgs_book.specs.declared.Day.{Day}
@@ -152,9 +153,12 @@ rows_once row P once (x ∷ xs) (y ∷ ys) p q e =
     let tail : map row xs ≡ map row ys = cc in
     ap₂ ◌∷◌ (once x y p.0 q.0 head) (rows_once row P once xs ys p.1 q.1 tail)
 
-all_true : {A : Type 0} (xs : List A) → AllByRecursion (λ _. Unit {0}) xs
-all_true [] = tt
-all_true (x ∷ xs) = (tt, all_true xs)
+-- so two lists with one list of rows are equal
+same_records : {A : Type 0} (row : A → Row) (P : A → Type 0) → ((a b : A) → P a → P b → row a ≡ row b → a ≡ b)
+    → {xs ys xs_held ys_held : List A} → xs_held ≡ xs → ys_held ≡ ys → AllByRecursion P xs → AllByRecursion P ys
+    → map row ys_held ≡ map row xs_held → xs ≡ ys
+same_records row P once {xs = xs} {ys = ys} first second p q e =
+    rows_once row P once xs ys p q (ap (map row) (sym first) ∙ sym e ∙ ap (map row) second)
 
 -- ---- participants in the order of their codes
 
@@ -201,25 +205,22 @@ pub once : DatesTell → (one other : Book) (c d : Content) → IsBookOf one c �
     → tables_for c ≡ tables_for d → other ≡ one
 once dates one other c d h k e =
     let holdings : d.holdings ≡ c.holdings = rows_once holding_row (λ _. Unit {0}) (λ a b _ _. holding_once a b)
-    d.holdings c.holdings (all_true _) (all_true _) (sym (ap (λ (t : Tables). t.participants) e)) in
+    d.holdings c.holdings (all_of _ (λ _. tt) _) (all_of _ (λ _. tt) _)
+    (sym (ap (λ (t : Tables). t.participants) e)) in
     let participants = same_participants one other (map (λ (h : Holding). h.participant) c.holdings) h.sound.codes_rise
     k.sound.codes_rise h.records.participants
     (subst (λ hs. IsPermutation (map (λ (h : Holding). h.participant) hs) other.participants) holdings
     k.records.participants) in
-    let postings = rows_once posting_row FitsPosting (posting_once dates) other.postings one.postings k.fits.postings
-    h.fits.postings
-    (ap (map posting_row) (sym k.records.postings) ∙ sym (ap (λ (t : Tables). t.postings) e)
-    ∙ ap (map posting_row) h.records.postings) in
-    let orders = rows_once payment_row FitsOrder (order_once dates) other.orders one.orders k.fits.orders h.fits.orders
-    (ap (map payment_row) (sym k.records.orders) ∙ sym (ap (λ (t : Tables). t.payments) e)
-    ∙ ap (map payment_row) h.records.orders) in
-    let marks = rows_once mark_row FitsMark (mark_once dates) other.marks one.marks k.fits.marks h.fits.marks
-    (ap (map mark_row) (sym k.records.marks) ∙ sym (ap (λ (t : Tables). t.marks) e) ∙ ap (map mark_row) h.records.marks)
-    in
-    let desks : day_row other.day ∷ [] ≡ day_row one.day ∷ [] = ap (λ day. day_row day ∷ []) (sym k.records.day)
-    ∙ sym (ap (λ (t : Tables). t.desk) e) ∙ ap (λ day. day_row day ∷ []) h.records.day in
-    let rows : day_row other.day ≡ day_row one.day = cc in
-    let day = day_once dates other.day one.day k.fits.day h.fits.day rows in
+    let postings = same_records posting_row FitsPosting (posting_once dates) k.records.postings h.records.postings
+    k.fits.postings h.fits.postings (ap (λ (t : Tables). t.postings) e) in
+    let orders = same_records payment_row FitsOrder (order_once dates) k.records.orders h.records.orders
+    k.fits.orders h.fits.orders (ap (λ (t : Tables). t.payments) e) in
+    let marks = same_records mark_row FitsMark (mark_once dates) k.records.marks h.records.marks k.fits.marks h.fits.marks
+    (ap (λ (t : Tables). t.marks) e) in
+    let days = same_records day_row (λ (day : Day). FitsDate day.date) (day_once dates)
+    (ap (λ day. day ∷ []) k.records.day) (ap (λ day. day ∷ []) h.records.day) (k.fits.day, tt) (h.fits.day, tt)
+    (ap (λ (t : Tables). t.desk) e) in
+    let day : other.day ≡ one.day = cc in
     λ i. record {
       participants = participants i;
       postings = postings i;

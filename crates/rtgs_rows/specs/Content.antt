@@ -19,7 +19,8 @@ use Rattle.rtgs_book.specs.declared.RowChange.TheVariants.{AddParticipant, AddPo
 use Rattle.rtgs_book.specs.declared.RowChange.TheVariants.{SetBalance, SetState, SetDay}
 use Rattle.rtgs_book.specs.Settle.{restated}
 use Rattle.rtgs_book.specs.Commands.{has_number}
-use Rattle.rtgs_rows.specs.Tables.{no_schema, desk_schema}
+use Rattle.rtgs_rows.specs.Tables.{no_schema, desk_schema, desk_table, participant_table, posting_table, payment_table}
+use Rattle.rtgs_rows.specs.Tables.{mark_table}
 use Rattle.rtgs_rows.specs.Rows.{day_row, participant_row, posting_row, payment_row, mark_row}
 
 -- the rows of the five tables
@@ -30,13 +31,14 @@ pub record Tables : Type 0 where
   pub payments : List Row
   pub marks : List Row
 
+-- those that a database has
 abbrev pub tables_of : Trees → Tables
 tables_of trees = record {
-  desk = trees 0;
-  participants = trees 1;
-  postings = trees 4;
-  payments = trees 6;
-  marks = trees 8;
+  desk = trees desk_table.tree;
+  participants = trees participant_table.tree;
+  postings = trees posting_table.tree;
+  payments = trees payment_table.tree;
+  marks = trees mark_table.tree;
 }
 
 -- a participant with its stored balance, under its row number
@@ -45,6 +47,7 @@ pub record Holding : Type 0 where
   pub participant : Participant
   pub balance : ℤ
 
+-- its row
 abbrev pub holding_row : Holding → Row
 holding_row h = participant_row h.id h.participant h.balance
 
@@ -56,6 +59,7 @@ pub record Content : Type 0 where
   pub orders : List Order
   pub marks : List Mark
 
+-- those that these records have
 abbrev pub tables_for : Content → Tables
 tables_for c = record {
   desk = day_row c.day ∷ [];
@@ -74,8 +78,8 @@ pub record Holds (content : Content) (trees : Trees) : Type 0 where
   pub sound : IsSound desk_schema trees
   pub rows : tables_of trees ≡ tables_for content
 
--- inside a transaction over the last commit
-pub record Stands (was : Database) (content : Content) (s : State) : Type 0 where
+-- inside a transaction over the last commit, with these records
+pub record IsUnderWay (was : Database) (content : Content) (s : State) : Type 0 where
   pub is_open : IsTrue s.is_open
   pub inside : s.in_transaction ≡ true
   pub schema : s.now.schema ≡ desk_schema
@@ -91,13 +95,16 @@ pub record Rests (content : Content) (s : State) : Type 0 where
 
 -- ---- changes
 
+-- a new participant, which has no money, under the next row number
 abbrev pub newcomer : Content → Participant → Holding
 newcomer c p = record { id = next_rowid (map holding_row c.holdings); participant = p; balance = pos 0 }
 
+-- with this limit of credit, if it has the code
 abbrev pub with_credit_in : List ℕ → ℕ → Holding → Holding
 with_credit_in code credit h =
     if bytes_eq h.participant.code code then record h { participant = record h.participant { credit = credit } } else h
 
+-- with this balance, if it has the code
 abbrev pub with_balance_in : List ℕ → ℤ → Holding → Holding
 with_balance_in code balance h = if bytes_eq h.participant.code code then record h { balance = balance } else h
 
@@ -112,17 +119,22 @@ with_change c (SetBalance code balance) = record c { holdings = map (with_balanc
 with_change c (SetState number state) = record c { orders = map (restated (has_number number) state) c.orders }
 with_change c (SetDay day) = record c { day = day }
 
+-- and after one after another
 abbrev pub with_changes : Content → List RowChange → Content
 with_changes c [] = c
 with_changes c (row ∷ rows) = with_changes (with_change c row) rows
 
+-- each has a greater number than those before it
+abbrev pub Rise : {A : Type 0} → (A → ℤ) → List A → Type 0
+Rise number = IsAscending (λ a b. int_cmp (number a) (number b) ≡ Less)
+
 -- no key comes twice, and the lists stand in the order of their row numbers
 pub record IsInOrder (c : Content) : Type 0 where
-  pub ids : IsAscending (λ a b. int_cmp a.id b.id ≡ Less) c.holdings
+  pub ids : Rise (λ (h : Holding). h.id) c.holdings
   pub codes : IsAscending (λ a b. a.participant.code ≢ b.participant.code) c.holdings
-  pub postings : IsAscending (λ a b. int_cmp (pos a.number) (pos b.number) ≡ Less) c.postings
-  pub orders : IsAscending (λ a b. int_cmp (pos a.number) (pos b.number) ≡ Less) c.orders
-  pub marks : IsAscending (λ a b. int_cmp (pos a.number) (pos b.number) ≡ Less) c.marks
+  pub postings : Rise (λ (p : Posting). pos p.number) c.postings
+  pub orders : Rise (λ (o : Order). pos o.number) c.orders
+  pub marks : Rise (λ (m : Mark). pos m.number) c.marks
 
 -- so before each change and after the last
 abbrev pub AreInOrder : Content → List RowChange → Type 0

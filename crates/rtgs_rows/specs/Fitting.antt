@@ -14,22 +14,26 @@ use Rattle.rtgs_book.specs.declared.RowChange.{RowChange}
 use Rattle.rtgs_book.specs.declared.RowChange.TheVariants.{AddParticipant, AddPosting, AddOrder, AddMark, SetCredit}
 use Rattle.rtgs_book.specs.declared.RowChange.TheVariants.{SetDay}
 
+-- no date, or a business date
 abbrev pub FitsDate : Option ℕ → Type 0
 FitsDate None = ⊤
 FitsDate (Some date) = IsBusinessDate date
 
+-- each value of the participant is in its form and range
 pub record FitsParticipant (p : Participant) : Type 0 where
   pub code : IsCode p.code
   pub name : IsName p.name
   pub key : length p.key ≡ KeyDigest.LENGTH
   pub credit : IsCredit p.credit
 
+-- so those of a posting
 pub record FitsPosting (p : Posting) : Type 0 where
   pub code : IsCode p.code
   pub reference : IsReference p.reference
   pub cents : IsPostingAmount p.cents
   pub date : FitsDate p.date
 
+-- so those of an order
 pub record FitsOrder (o : Order) : Type 0 where
   pub sender : IsCode o.sender
   pub reference : IsReference o.reference
@@ -37,11 +41,12 @@ pub record FitsOrder (o : Order) : Type 0 where
   pub amount : IsAmount o.amount
   pub date : IsBusinessDate o.date
 
+-- so those of a mark
 pub record FitsMark (m : Mark) : Type 0 where
   pub date : IsBusinessDate m.date
 
 -- each value of the book is in its form and range
-pub record Fits (book : Book) : Type 0 where
+pub record HasFormedValues (book : Book) : Type 0 where
   pub participants : AllByRecursion FitsParticipant book.participants
   pub postings : AllByRecursion FitsPosting book.postings
   pub orders : AllByRecursion FitsOrder book.orders

@@ -1,18 +1,16 @@
 -- The book that the tables hold.
 use Rattle.std.specs.Prelude.{◌≡◌, map, IsPermutation}
 use Rattle.std.specs.List.{AllByRecursion}
-use Rattle.std.specs.Ordering.{int_cmp}
-use Rattle.std.specs.declared.cmp.Ordering.TheVariants.{Less}
 use Rattle.sqlite_trees.specs.declared.store.Store.{Ghosts}
-use Rattle.sqlite.specs.Tree.{Trees, IsAscending}
+use Rattle.sqlite.specs.Tree.{Trees}
 use Rattle.sqlite.specs.Held.{Held, state}
 use Rattle.rtgs_book.specs.declared.Book.{Book}
 use Rattle.rtgs_book.specs.declared.Posting.{Posting}
 use Rattle.rtgs_book.specs.Balance.{balance}
 use Rattle.rtgs_book.specs.IntSum.{int_sum_by}
 use Rattle.rtgs_book.specs.Soundness.{IsSound}
-use Rattle.rtgs_rows.specs.Content.{Holding, Content, Holds, Rests}
-use Rattle.rtgs_rows.specs.Fitting.{Fits}
+use Rattle.rtgs_rows.specs.Content.{Holding, Content, Holds, Rests, Rise}
+use Rattle.rtgs_rows.specs.Fitting.{HasFormedValues}
 
 -- The records are those of the book. A book has the participants in the order of their codes, and the tables have them
 -- in the order in which they came.
@@ -27,9 +25,9 @@ pub record AreOf (book : Book) (content : Content) : Type 0 where
 pub record IsBookOf (book : Book) (content : Content) : Type 0 where
   pub records : AreOf book content
   pub balances : AllByRecursion (λ (h : Holding). h.balance ≡ balance book h.participant.code) content.holdings
-  pub ids : IsAscending (λ (a b : Holding). int_cmp a.id b.id ≡ Less) content.holdings
+  pub ids : Rise (λ (h : Holding). h.id) content.holdings
   pub sound : IsSound book
-  pub fits : Fits book
+  pub fits : HasFormedValues book
 
 -- the stored balances add up to the postings' cents
 abbrev pub AddsUp : Content → Type 0

@@ -2,6 +2,7 @@
 use Rattle.std.specs.Prelude.{◌≡◌, ℕ, ◌+◌, ℤ, List, [], ◌∷◌, length, map, IsTrue, IsPermutation}
 use Rattle.std.specs.List.{AllByRecursion}
 use Rattle.sqlite.specs.Order.{Row, column}
+use Rattle.sqlite.specs.Table.{Table}
 use Rattle.sqlite.specs.Tree.{Trees}
 use Rattle.sqlite.specs.State.{State}
 use Rattle.sqlite.specs.Held.{Held, state}
@@ -10,7 +11,8 @@ use Rattle.sqlite_trees.specs.Tree.{rowid, IsTable}
 use Rattle.sqlite_trees.specs.View.{is_int}
 use Rattle.rtgs_book.specs.declared.Book.{Book}
 use Rattle.rtgs_book.specs.declared.Participant.{Participant}
-use Rattle.rtgs_rows.specs.Tables.{desk_schema}
+use Rattle.rtgs_rows.specs.Tables.{desk_schema, desk_tables, desk_table, participant_table, posting_table, payment_table}
+use Rattle.rtgs_rows.specs.Tables.{mark_table, width, places}
 use Rattle.rtgs_rows.specs.Rows.{shown_day, shown_account, shown_posting, shown_order, shown_mark}
 
 -- outside a transaction, with the tables of a desk, and these trees committed
@@ -25,14 +27,10 @@ abbrev pub AreNumberedRows : ℕ → List Row → Type 0
 AreNumberedRows width rows = IsTable rows × AllByRecursion
     (λ row. IsTrue (is_int (rowid row)) × (length row ≡ width + 1)) rows
 
--- Each row of the five tables has a value in each column, and the rows stand in the order of their numbers. (A row from
+-- Each row of each table has a value in each column, and the rows stand in the order of their numbers. (A row from
 -- before a column was added lacks it, and the queries show null there.)
-pub record AreWhole (trees : Trees) : Type 0 where
-  pub desk : AreNumberedRows 4 (trees 0)
-  pub participants : AreNumberedRows 5 (trees 1)
-  pub postings : AreNumberedRows 5 (trees 4)
-  pub payments : AreNumberedRows 8 (trees 6)
-  pub marks : AreNumberedRows 4 (trees 8)
+abbrev pub AreWhole : Trees → Type 0
+AreWhole trees = AllByRecursion (λ table. AreNumberedRows (width table) (trees table.tree)) desk_tables
 
 -- the connection has the tables of a desk, and each row of them has all its columns, whatever its values are
 abbrev pub HasTables : {S : Type 0} → Ghosts S → Held S → Type 0
@@ -42,22 +40,15 @@ HasTables g h = IsDeskFile (state g h).committed.trees (state g h) × AreWhole (
 abbrev pub picked : List ℕ → Row → Row
 picked places row = map (column row) places
 
--- ---- each row of a table, at the places of the columns that its query names
+-- these are the rows of the table, in whatever order, without the row number where no column is it
+abbrev pub ShowsTable : Table → Trees → List Row → Type 0
+ShowsTable table trees = IsPermutation (map (picked (places table)) (trees table.tree))
 
 abbrev pub ShowsDesk : Trees → List Row → Type 0
-ShowsDesk trees = IsPermutation (map (picked (0 ∷ 2 ∷ 3 ∷ 4 ∷ [])) (trees 0))
+ShowsDesk = ShowsTable desk_table
 
 abbrev pub ShowsParticipants : Trees → List Row → Type 0
-ShowsParticipants trees = IsPermutation (map (picked (1 ∷ 2 ∷ 3 ∷ 4 ∷ 5 ∷ [])) (trees 1))
-
-abbrev pub ShowsPostings : Trees → List Row → Type 0
-ShowsPostings trees = IsPermutation (map (picked (0 ∷ 2 ∷ 3 ∷ 4 ∷ 5 ∷ [])) (trees 4))
-
-abbrev pub ShowsPayments : Trees → List Row → Type 0
-ShowsPayments trees = IsPermutation (map (picked (0 ∷ 2 ∷ 3 ∷ 4 ∷ 5 ∷ 6 ∷ 7 ∷ 8 ∷ [])) (trees 6))
-
-abbrev pub ShowsMarks : Trees → List Row → Type 0
-ShowsMarks trees = IsPermutation (map (picked (0 ∷ 2 ∷ 3 ∷ 4 ∷ [])) (trees 8))
+ShowsParticipants = ShowsTable participant_table
 
 -- a participant with its stored balance, as the query shows them
 abbrev pub shown_entry : Participant × ℤ → Row
@@ -68,6 +59,6 @@ pub record ShowsBook (trees : Trees) (book : Book) (entries : List (Participant 
   pub desk : ShowsDesk trees (shown_day book.day ∷ [])
   pub participants : ShowsParticipants trees (map shown_entry entries)
   pub named : book.participants ≡ map (λ (entry : Participant × ℤ). entry.0) entries
-  pub postings : ShowsPostings trees (map shown_posting book.postings)
-  pub payments : ShowsPayments trees (map shown_order book.orders)
-  pub marks : ShowsMarks trees (map shown_mark book.marks)
+  pub postings : ShowsTable posting_table trees (map shown_posting book.postings)
+  pub payments : ShowsTable payment_table trees (map shown_order book.orders)
+  pub marks : ShowsTable mark_table trees (map shown_mark book.marks)

@@ -10,16 +10,16 @@ use Rattle.sqlite.specs.Order.{Row}
 use Rattle.sqlite_trees.specs.Props.{Ordering-set, AllByRecursion-prop, IsAscending-prop}
 use Rattle.sqlite.specs.Edit.{next_rowid}
 use Rattle.sqlite.specs.Schema.{Schema}
-use Rattle.sqlite.specs.Tree.{Trees, IsAscending}
+use Rattle.sqlite.specs.Tree.{Trees}
 use Rattle.sqlite_catalog.specs.Listing.{IsSound}
 use Rattle.rtgs_book.specs.declared.Book.{Book}
 use Rattle.rtgs_book.specs.declared.RowChange.{RowChange}
 use Rattle.rtgs_book.specs.Changes.{IsChange}
 use Rattle.rtgs_rows.specs.Content.{Holding, Content, HasNoTables, Holds, IsInOrder, AreInOrder, holding_row}
-use Rattle.rtgs_rows.specs.Content.{tables_for, with_changes}
+use Rattle.rtgs_rows.specs.Content.{tables_for, with_changes, Rise}
 use Rattle.rtgs_rows.specs.Fitting.{FitsRow}
 use Rattle.rtgs_rows.specs.Keeping.{IsBookOf}
-use Rattle.rtgs_rows.specs.Tables.{no_schema, desk_schema}
+use Rattle.rtgs_rows.specs.Tables.{no_schema, desk_schema, desk_tables, width}
 use Rattle.rtgs_rows.specs.Querying.{AreWhole, AreNumberedRows}
 
 -- no key comes twice in the rows of a book, and each list stands in the order of its row numbers
@@ -38,7 +38,7 @@ ChangedRowsAreTheBook = (old new : Book) (rows : List RowChange) (content : Cont
 
 -- the row number that comes next is above all
 abbrev pub NextRowIsAbove : Type 0
-NextRowIsAbove = (holdings : List Holding) → IsAscending (λ (a b : Holding). int_cmp a.id b.id ≡ Less) holdings
+NextRowIsAbove = (holdings : List Holding) → Rise (λ (h : Holding). h.id) holdings
     → AllByRecursion (λ (h : Holding). int_cmp h.id (next_rowid (map holding_row holdings)) ≡ Less) holdings
 
 -- tables hold one book at most
@@ -72,13 +72,7 @@ AreNumberedRows-prop width rows = ×_prop (IsAscending-prop _ (λ a b. Ordering-
     (AllByRecursion-prop _ (λ row. ×_prop (Bool-set _ _) (ℕ_set _ _)) rows)
 
 AreWhole-prop : (trees : Trees) → IsProp (AreWhole trees)
-AreWhole-prop trees a b = λ i. record {
-  desk = AreNumberedRows-prop 4 (trees 0) a.desk b.desk i;
-  participants = AreNumberedRows-prop 5 (trees 1) a.participants b.participants i;
-  postings = AreNumberedRows-prop 5 (trees 4) a.postings b.postings i;
-  payments = AreNumberedRows-prop 8 (trees 6) a.payments b.payments i;
-  marks = AreNumberedRows-prop 4 (trees 8) a.marks b.marks i;
-}
+AreWhole-prop trees = AllByRecursion-prop _ (λ table. AreNumberedRows-prop (width table) (trees table.tree)) desk_tables
 
 pub TablesOfABookAreWhole-prop : IsProp TablesOfABookAreWhole
 TablesOfABookAreWhole-prop = Π_prop (λ trees. Π_prop (λ book. Π_prop

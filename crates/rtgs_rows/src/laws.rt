@@ -16,7 +16,7 @@ ghost use Rattle.rtgs_rows.specs.RowLaws.{RowsTellTheBook, NoTablesAreReadAsNone
 ghost use Rattle.rtgs_rows.specs.RowLaws.{NoTablesHoldNoBook, TablesOfABookAreWhole};
 ghost use Rattle.rtgs_rows.specs.Tables.{desk_schema};
 ghost use Rattle.rtgs_rows.specs.Querying.{AreWhole, ShowsBook};
-ghost use Rattle.rtgs_rows.specs.Fitting.{Fits, FitsRow};
+ghost use Rattle.rtgs_rows.specs.Fitting.{HasFormedValues, FitsRow};
 ghost use Rattle.rtgs_book.specs.declared.Participant.{Participant};
 ghost use Rattle.rtgs_book.specs.Balance.{balance};
 ghost use Rattle.rtgs_book.specs.Soundness.{IsSound as IsSoundBook};
@@ -71,7 +71,7 @@ pub fn no_tables_hold_no_book()
 /// Where the queries show the records of a sound book, with its balances stored, the tables hold that book.
 pub fn shown_records_are_held()
     ensures { (trees : Trees) (book : Book) (entries : List (Participant × ℤ)) → IsSound desk_schema trees
-        → AreWhole trees → IsSoundBook book → Fits book → ShowsBook trees book entries
+        → AreWhole trees → IsSoundBook book → HasFormedValues book → ShowsBook trees book entries
         → AllByRecursion (λ (entry : Participant × ℤ). entry.1 ≡ balance book entry.0.code) entries
         → (content : Content) × Holds content trees × IsBookOf book content }
 {}
