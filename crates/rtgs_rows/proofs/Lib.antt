@@ -7,5 +7,7 @@ pub mod Formed
 pub mod Changed
 pub mod Unique
 pub mod Blank
+pub mod Numbered
+pub mod Participants
 pub mod Querying
 pub mod Money

@@ -62,7 +62,8 @@ participants_on : (b : Book) (c : Content) (row : RowChange) → HasParticipants
 unfolding with_participant with_credit with_state
 participants_on b c (AddParticipant p) same = rw (map_snoc who c.holdings (newcomer c p))
     (IsPermutation-trans _ _ _ (IsPermutation-to_front (map who c.holdings) p)
-    (IsPermutation-trans _ _ _ (IsPermutation-cons p _ _ same) (placed (λ q. is_before q.code p.code) p b.participants)))
+    (IsPermutation-trans _ _ _ (IsPermutation-cons p _ _ same)
+    (placed (λ q. is_before q.code p.code) p b.participants)))
 participants_on b c (SetCredit code credit) same = rw (who_credit code credit c.holdings) (IsPermutation-map _ _ _ same)
 participants_on b c (SetBalance code balance) same = rw (who_balance code balance c.holdings) same
 participants_on b c row same = same

@@ -20,9 +20,6 @@ use Rattle.rtgs_lists.proofs.Lists.{all_push}
 use Rattle.sqlite_keyed.proofs.ListLemmas.{ascending-map, ascending_from_map, ascending_weaker}
 use Rattle.rtgs_book.specs.declared.Book.{Book}
 use Rattle.rtgs_book.specs.declared.Participant.{Participant}
-use Rattle.rtgs_book.specs.declared.Posting.{Posting}
-use Rattle.rtgs_book.specs.declared.Order.{Order}
-use Rattle.rtgs_book.specs.declared.Mark.{Mark}
 use Rattle.rtgs_book.specs.declared.RowChange.{RowChange}
 use Rattle.rtgs_book.specs.declared.RowChange.TheVariants.{AddParticipant, SetCredit, SetBalance}
 use Rattle.rtgs_book.specs.Changes.{with_row}
@@ -179,9 +176,9 @@ pub order_of : (b : Book) (c : Content) → AreOf b c → Ids c → IsSound b �
 order_of b c are ids sound = record {
   ids = ids;
   codes = codes_apart b c.holdings are.participants sound.codes_rise.0;
-  postings = list_rises (λ (p : Posting). p.number) are.postings sound.postings_numbered;
-  orders = list_rises (λ (o : Order). o.number) are.orders sound.orders_numbered;
-  marks = list_rises (λ (m : Mark). m.number) are.marks sound.marks_numbered;
+  postings = list_rises _ are.postings sound.postings_numbered;
+  orders = list_rises _ are.orders sound.orders_numbered;
+  marks = list_rises _ are.marks sound.marks_numbered;
 }
 
 -- what holds of the codes after changes held before

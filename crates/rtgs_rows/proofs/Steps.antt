@@ -8,9 +8,7 @@ use Rattle.sqlite.specs.Tree.{IsAscending}
 use Rattle.sqlite_keyed.proofs.ListLemmas.{ascending_from_map, ascending_weaker}
 use Rattle.rtgs_lists.proofs.Lists.{all_map, all_push, all_weaker}
 use Rattle.rtgs_book.specs.declared.Book.{Book}
-use Rattle.rtgs_book.specs.declared.Posting.{Posting}
 use Rattle.rtgs_book.specs.declared.Order.{Order}
-use Rattle.rtgs_book.specs.declared.Mark.{Mark}
 use Rattle.rtgs_book.specs.declared.OrderState.{OrderState}
 use Rattle.rtgs_book.specs.declared.RowChange.{RowChange}
 use Rattle.rtgs_book.specs.declared.RowChange.TheVariants.{AddPosting, AddOrder, AddMark, SetState}
@@ -20,9 +18,9 @@ use Rattle.rtgs_book.specs.Settle.{restated}
 use Rattle.rtgs_rows.specs.Content.{Content, Rise, with_change}
 use Rattle.rtgs_rows.specs.Fitting.{FitsPosting, FitsOrder, FitsMark, FitsRow}
 
--- One list of a book and one of its content, before and after. If the two were the same, they are so after. If the values
--- were in their forms, and those that the change brings are, they are so after. What stands in the order of its numbers
--- after stood so before.
+-- One list of a book and one of its content, before and after. If the two were the same, they are so after. If the
+-- values were in their forms, and those that the change brings are, they are so after. What stands in the order of its
+-- numbers after stood so before.
 pub record Step {A : Type 0} (Fits : A → Type 0) (number : A → ℕ) (Brings : Type 0)
     (book content book_after content_after : List A) : Type 0 where
   pub same : content ≡ book → content_after ≡ book_after
@@ -35,7 +33,8 @@ kept = record { same = λ e. e; fits = λ _ h. h; rose = λ h. h }
 
 -- ---- one record more
 
-pub all_front : {A : Type 0} (P : A → Type 0) (xs : List A) (x : A) → AllByRecursion P (xs ++ x ∷ []) → AllByRecursion P xs
+pub all_front : {A : Type 0} (P : A → Type 0) (xs : List A) (x : A) → AllByRecursion P (xs ++ x ∷ [])
+    → AllByRecursion P xs
 all_front P [] x h = tt
 all_front P (y ∷ ys) x h = (h.0, all_front P ys x h.1)
 
@@ -92,19 +91,19 @@ abbrev StepOf : {A : Type 0} → (A → Type 0) → (A → ℕ) → (Book → Li
 StepOf Fits number in_book in_content = (b : Book) (c : Content) (row : RowChange) → Step Fits number (FitsRow row)
     (in_book b) (in_content c) (in_book (with_row b row)) (in_content (with_change c row))
 
-pub posting_step : StepOf FitsPosting (λ (p : Posting). p.number) (λ b. b.postings) (λ c. c.postings)
+pub posting_step : StepOf FitsPosting (λ p. p.number) (λ b. b.postings) (λ c. c.postings)
 unfolding with_participant with_credit with_state
 posting_step b c (AddPosting p) = added p (λ fits. fits)
 posting_step b c row = kept
 
-pub order_step : StepOf FitsOrder (λ (o : Order). o.number) (λ b. b.orders) (λ c. c.orders)
+pub order_step : StepOf FitsOrder (λ o. o.number) (λ b. b.orders) (λ c. c.orders)
 unfolding with_participant with_credit with_state
 order_step b c (AddOrder o) = added o (λ fits. fits)
 order_step b c (SetState number state) = mapped (restated (has_number number) state) (restated_number number state)
     (restated_fits number state)
 order_step b c row = kept
 
-pub mark_step : StepOf FitsMark (λ (m : Mark). m.number) (λ b. b.marks) (λ c. c.marks)
+pub mark_step : StepOf FitsMark (λ m. m.number) (λ b. b.marks) (λ c. c.marks)
 unfolding with_participant with_credit with_state
 mark_step b c (AddMark m) = added m (λ fits. fits)
 mark_step b c row = kept

@@ -153,11 +153,11 @@ rows_once row P once (x ∷ xs) (y ∷ ys) p q e =
     let tail : map row xs ≡ map row ys = cc in
     ap₂ ◌∷◌ (once x y p.0 q.0 head) (rows_once row P once xs ys p.1 q.1 tail)
 
--- so two lists with one list of rows are equal
-same_records : {A : Type 0} (row : A → Row) (P : A → Type 0) → ((a b : A) → P a → P b → row a ≡ row b → a ≡ b)
+-- so records of two books, whose rows are those of what the tables hold
+same_records : {A : Type 0} {row : A → Row} {P : A → Type 0} → ((a b : A) → P a → P b → row a ≡ row b → a ≡ b)
     → {xs ys xs_held ys_held : List A} → xs_held ≡ xs → ys_held ≡ ys → AllByRecursion P xs → AllByRecursion P ys
     → map row ys_held ≡ map row xs_held → xs ≡ ys
-same_records row P once {xs = xs} {ys = ys} first second p q e =
+same_records {row = row} {P = P} once {xs = xs} {ys = ys} first second p q e =
     rows_once row P once xs ys p q (ap (map row) (sym first) ∙ sym e ∙ ap (map row) second)
 
 -- ---- participants in the order of their codes
@@ -211,20 +211,17 @@ once dates one other c d h k e =
     k.sound.codes_rise h.records.participants
     (subst (λ hs. IsPermutation (map (λ (h : Holding). h.participant) hs) other.participants) holdings
     k.records.participants) in
-    let postings = same_records posting_row FitsPosting (posting_once dates) k.records.postings h.records.postings
-    k.fits.postings h.fits.postings (ap (λ (t : Tables). t.postings) e) in
-    let orders = same_records payment_row FitsOrder (order_once dates) k.records.orders h.records.orders
-    k.fits.orders h.fits.orders (ap (λ (t : Tables). t.payments) e) in
-    let marks = same_records mark_row FitsMark (mark_once dates) k.records.marks h.records.marks k.fits.marks h.fits.marks
-    (ap (λ (t : Tables). t.marks) e) in
-    let days = same_records day_row (λ (day : Day). FitsDate day.date) (day_once dates)
+    let days = same_records {row = day_row} {P = λ (day : Day). FitsDate day.date} (day_once dates)
     (ap (λ day. day ∷ []) k.records.day) (ap (λ day. day ∷ []) h.records.day) (k.fits.day, tt) (h.fits.day, tt)
     (ap (λ (t : Tables). t.desk) e) in
     let day : other.day ≡ one.day = cc in
     λ i. record {
       participants = participants i;
-      postings = postings i;
-      orders = orders i;
-      marks = marks i;
+      postings = same_records (posting_once dates) k.records.postings h.records.postings k.fits.postings h.fits.postings
+          (ap (λ (t : Tables). t.postings) e) i;
+      orders = same_records (order_once dates) k.records.orders h.records.orders k.fits.orders h.fits.orders
+          (ap (λ (t : Tables). t.payments) e) i;
+      marks = same_records (mark_once dates) k.records.marks h.records.marks k.fits.marks h.fits.marks
+          (ap (λ (t : Tables). t.marks) e) i;
       day = day i;
     }

@@ -11,8 +11,8 @@ use Rattle.sqlite_trees.specs.Tree.{rowid, IsTable}
 use Rattle.sqlite_trees.specs.View.{is_int}
 use Rattle.rtgs_book.specs.declared.Book.{Book}
 use Rattle.rtgs_book.specs.declared.Participant.{Participant}
-use Rattle.rtgs_rows.specs.Tables.{desk_schema, desk_tables, desk_table, participant_table, posting_table, payment_table}
-use Rattle.rtgs_rows.specs.Tables.{mark_table, width, places}
+use Rattle.rtgs_rows.specs.Tables.{desk_schema, desk_tables, desk_table, participant_table, posting_table}
+use Rattle.rtgs_rows.specs.Tables.{payment_table, mark_table, width, places}
 use Rattle.rtgs_rows.specs.Rows.{shown_day, shown_account, shown_posting, shown_order, shown_mark}
 
 -- outside a transaction, with the tables of a desk, and these trees committed
