@@ -47,20 +47,14 @@ pub book_is_whole : (content : Content) (trees : Trees) (book : Book) → Holds 
     → AreWhole trees
 book_is_whole content trees book holds of =
     let order = book_in_order book content of in
-    let rows = holds.rows in (
-      numbered_rows day_told (content.day ∷ []) (ap (λ (t : Tables). t.desk) rows) (tt, tt),
-      (
-        are_numbered (width participant_table) holding_row (λ h. h.id) (λ h. (refl, refl)) content.holdings
-            (ap (λ (t : Tables). t.participants) rows) order.ids,
-        (
-          numbered_rows posting_told content.postings (ap (λ (t : Tables). t.postings) rows) order.postings,
-          (
-            numbered_rows order_told content.orders (ap (λ (t : Tables). t.payments) rows) order.orders,
-            (numbered_rows mark_told content.marks (ap (λ (t : Tables). t.marks) rows) order.marks, tt),
-          ),
-        ),
-      ),
-    )
+    let rows = holds.rows in
+    let desk = numbered_rows day_told (content.day ∷ []) (ap (λ (t : Tables). t.desk) rows) (tt, tt) in
+    let participants = are_numbered (width participant_table) holding_row (λ (h : Holding). h.id) (λ h. (refl, refl))
+    content.holdings (ap (λ (t : Tables). t.participants) rows) order.ids in
+    let postings = numbered_rows posting_told content.postings (ap (λ (t : Tables). t.postings) rows) order.postings in
+    let payments = numbered_rows order_told content.orders (ap (λ (t : Tables). t.payments) rows) order.orders in
+    let marks = numbered_rows mark_told content.marks (ap (λ (t : Tables). t.marks) rows) order.marks in
+    (desk, (participants, (postings, (payments, (marks, tt)))))
 
 -- ---- tables that show a book hold it
 

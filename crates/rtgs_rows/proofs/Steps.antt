@@ -27,6 +27,7 @@ pub record Step {A : Type 0} (Fits : A → Type 0) (number : A → ℕ) (Brings 
   pub fits : Brings → AllByRecursion Fits book → AllByRecursion Fits book_after
   pub rose : Rise (λ a. pos (number a)) content_after → Rise (λ a. pos (number a)) content
 
+-- the change is one of other records
 kept : {A : Type 0} {Fits : A → Type 0} {number : A → ℕ} {Brings : Type 0} {book content : List A}
     → Step Fits number Brings book content book content
 kept = record { same = λ e. e; fits = λ _ h. h; rose = λ h. h }
@@ -87,6 +88,7 @@ restated_fits number state o h = elim (cases_Bool (has_number number o)) [
 
 -- ---- the records that a book numbers
 
+-- each change does so to the list
 abbrev StepOf : {A : Type 0} → (A → Type 0) → (A → ℕ) → (Book → List A) → (Content → List A) → Type 0
 StepOf Fits number in_book in_content = (b : Book) (c : Content) (row : RowChange) → Step Fits number (FitsRow row)
     (in_book b) (in_content c) (in_book (with_row b row)) (in_content (with_change c row))

@@ -44,9 +44,11 @@ picked places row = map (column row) places
 abbrev pub ShowsTable : Table → Trees → List Row → Type 0
 ShowsTable table trees = IsPermutation (map (picked (places table)) (trees table.tree))
 
+-- so the row of the day
 abbrev pub ShowsDesk : Trees → List Row → Type 0
 ShowsDesk = ShowsTable desk_table
 
+-- and those of the participants
 abbrev pub ShowsParticipants : Trees → List Row → Type 0
 ShowsParticipants = ShowsTable participant_table
 

@@ -18,11 +18,13 @@ use Rattle.rtgs_book.specs.declared.OrderState.TheVariants.{Queued, Settled, Wit
 use Rattle.rtgs_rows.specs.declared.numbers.TheConstants.{PHASE_CLOSED, PHASE_OPEN, PHASE_CUT_OFF, STATE_QUEUED}
 use Rattle.rtgs_rows.specs.declared.numbers.TheConstants.{STATE_SETTLED, STATE_WITHDRAWN, STATE_REJECTED}
 
+-- what stands for a phase in its column
 abbrev pub phase_number : Phase → ℕ
 phase_number Closed = PHASE_CLOSED
 phase_number Open = PHASE_OPEN
 phase_number CutOff = PHASE_CUT_OFF
 
+-- and for an order's state
 abbrev pub state_number : OrderState → ℕ
 state_number Queued = STATE_QUEUED
 state_number (Settled mark) = STATE_SETTLED
