@@ -13,7 +13,7 @@ use Rattle.rtgs_book.specs.declared.Day.{Day}
 use Rattle.rtgs_book.specs.declared.account.Account.{Account}
 use Rattle.rtgs_book.specs.declared.Fault.{Fault}
 use Rattle.rtgs_book.specs.declared.Fault.TheVariants.{OutOfMemory, StoreFault, NotADeskFile}
-use Rattle.rtgs_rows.specs.Fitting.{Fits, FitsDate, FitsParticipant, FitsPosting, FitsOrder, FitsMark}
+use Rattle.rtgs_rows.specs.Fitting.{HasFormedValues, FitsDate, FitsParticipant, FitsPosting, FitsOrder, FitsMark}
 use Rattle.rtgs_rows.specs.Querying.{IsDeskFile, ShowsDesk}
 use Rattle.rtgs_rows.specs.Rows.{shown_day, shown_account, shown_posting, shown_order, shown_mark}
 use Rattle.rtgs_sql_queries.specs.Records.{HasRecords}
@@ -126,7 +126,7 @@ pub tells : (s : State) (accounts : List Account) (book : Book)
     → Reads marks_query FitsMark counted_of_mark shown_mark (λ _ b. b.marks) s book.marks
     → Tells s accounts book
 tells s accounts book named day stored postings orders marks =
-    let fits : Fits book = record {
+    let fits : HasFormedValues book = record {
       participants = subst (AllByRecursion FitsParticipant) (sym named)
           (all_map FitsParticipant (λ (a : Account). a.participant) accounts stored.fit);
       postings = postings.fit;

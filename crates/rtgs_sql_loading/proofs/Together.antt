@@ -15,7 +15,7 @@ use Rattle.rtgs_rows.specs.Keeping.{IsBookOf}
 use Rattle.rtgs_sql_loading.proofs.AboveZero.{above_zero}
 use Rattle.rtgs_book.specs.declared.Participant.{Participant}
 use Rattle.rtgs_rows.specs.Rows.{shown_posting, shown_order, shown_mark}
-use Rattle.rtgs_rows.specs.Fitting.{Fits}
+use Rattle.rtgs_rows.specs.Fitting.{HasFormedValues}
 use Rattle.rtgs_rows.specs.Querying.{picked, AreWhole, ShowsBook, shown_entry, ShowsParticipants}
 use Rattle.rtgs_book.specs.declared.account.Account.{Account}
 use Rattle.rtgs_sql_loading.specs.Accounts.{AreBalances, entry_of, AreReadOf, IsShown}
@@ -56,7 +56,7 @@ shown_book trees accounts book (Ok it) read is right agree =
 shown_book trees accounts book (Err fault) read is right agree = tt
 
 module _ (law : (trees : Trees) (book : Book) (entries : List (Participant × ℤ)) → IsSound desk_schema trees
-    → AreWhole trees → IsSoundBook book → Fits book → ShowsBook trees book entries
+    → AreWhole trees → IsSoundBook book → HasFormedValues book → ShowsBook trees book entries
     → AllByRecursion (λ (entry : Participant × ℤ). entry.1 ≡ balance book entry.0.code) entries
     → (content : Content) × Holds content trees × IsBookOf book content) where
   -- what was read, and judged to be sound with its balances stored, is what the tables hold

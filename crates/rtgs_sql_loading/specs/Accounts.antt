@@ -15,7 +15,7 @@ use Rattle.rtgs_book.specs.declared.Rule.TheVariants.{StoredBalances}
 use Rattle.rtgs_book.specs.Balance.{balance}
 use Rattle.rtgs_book.specs.Judgement.{Keeps, KeepsBefore}
 use Rattle.rtgs_book.specs.declared.Day.{Day}
-use Rattle.rtgs_rows.specs.Fitting.{Fits, FitsDate, FitsParticipant, FitsPosting, FitsOrder, FitsMark}
+use Rattle.rtgs_rows.specs.Fitting.{HasFormedValues, FitsDate, FitsParticipant, FitsPosting, FitsOrder, FitsMark}
 use Rattle.rtgs_rows.specs.Rows.{shown_day, shown_account, shown_posting, shown_order, shown_mark}
 use Rattle.rtgs_rows.specs.Querying.{picked, ShowsDesk, ShowsParticipants, ShowsBook}
 use Rattle.rtgs_sql_columns.specs.Tables.{participants_query, postings_query, payments_query, marks_query}
@@ -33,7 +33,7 @@ AreTold places counted stored = IsPermutation (map (as_read counted) (map (picke
 -- What is read of trees, sound or not: each value is in its form and range, and each row of the five tables is told by
 -- one record. A number below zero is read as 0, which breaks the same rule of a sound book.
 pub record AreReadOf (trees : Trees) (accounts : List Account) (book : Book) : Type 0 where
-  pub fits : Fits book
+  pub fits : HasFormedValues book
   pub named : book.participants ≡ map (λ (a : Account). a.participant) accounts
   pub desk : ShowsDesk trees (shown_day book.day ∷ [])
   pub participants : ShowsParticipants trees (map (λ (a : Account). shown_account a.participant a.balance) accounts)

@@ -8,7 +8,7 @@ use Rattle.rtgs_book.specs.declared.Day.{Day}
 use Rattle.rtgs_book.specs.declared.account.Account.{Account}
 use Rattle.rtgs_book.specs.declared.Fault.{Fault}
 use Rattle.rtgs_book.specs.declared.Fault.TheVariants.{OutOfMemory, StoreFault, NotADeskFile, Inconsistent}
-use Rattle.rtgs_rows.specs.Fitting.{Fits, FitsDate, FitsParticipant, FitsPosting, FitsOrder, FitsMark}
+use Rattle.rtgs_rows.specs.Fitting.{HasFormedValues, FitsDate, FitsParticipant, FitsPosting, FitsOrder, FitsMark}
 use Rattle.rtgs_rows.specs.Rows.{shown_day, shown_account, shown_posting, shown_order, shown_mark}
 use Rattle.rtgs_sql_queries.specs.Displaying.{Displays, HasNoAnswer}
 pub use Rattle.rtgs_sql_columns.specs.Tables.{desk_text, participants_text, postings_text, payments_text, marks_text}
@@ -24,7 +24,7 @@ DisplaysAs db text counted told = (rows : List Row) × Displays db text rows × 
 
 -- What is read: each value is in its form and range, and each row that is shown is told by one record, in its place.
 pub record AreDisplayed (db : Database) (accounts : List Account) (book : Book) : Type 0 where
-  pub fits : Fits book
+  pub fits : HasFormedValues book
   pub named : book.participants ≡ map (λ (a : Account). a.participant) accounts
   pub desk : Displays db desk_text (shown_day book.day ∷ [])
   pub participants : Displays db participants_text

@@ -8,7 +8,7 @@ use Rattle.sqlite.specs.State.{State}
 use Rattle.rtgs_book.specs.declared.Book.{Book}
 use Rattle.rtgs_book.specs.declared.account.Account.{Account}
 use Rattle.rtgs_rows.specs.Content.{Holding, Content, IsInOrder, Rests}
-use Rattle.rtgs_rows.specs.Fitting.{Fits}
+use Rattle.rtgs_rows.specs.Fitting.{HasFormedValues}
 
 abbrev pub stored_account : Holding → Account
 stored_account h = record { participant = h.participant; balance = h.balance }
@@ -24,7 +24,7 @@ pub record AreRead (content : Content) (accounts : List Account) (book : Book) :
   pub postings : content.postings ≡ book.postings
   pub orders : content.orders ≡ book.orders
   pub marks : content.marks ≡ book.marks
-  pub fits : Fits book
+  pub fits : HasFormedValues book
 
 -- the tables at rest have these records
 abbrev pub HasRecords : List Account → Book → State → Type 0

@@ -19,7 +19,7 @@ use Rattle.sqlite.specs.Effect.{Database, value_rows}
 use Rattle.sqlite.specs.State.{State, ExecutesInside}
 use Rattle.sqlite.proofs.Callers.{IsPlain, command_of}
 use Rattle.rtgs_rows.specs.Tables.{desk_schema}
-use Rattle.rtgs_rows.specs.Content.{Content, Stands, tables_of, tables_for}
+use Rattle.rtgs_rows.specs.Content.{Content, IsUnderWay, tables_of, tables_for}
 use Rattle.rtgs_sql_writes.proofs.Lists.{put_last, before_last}
 use Rattle.rtgs_sql_writes.proofs.StateLemmas.{desk_over, with_tree, framed, stands_on}
 use Rattle.rtgs_sql_writes.proofs.Steps.{IsPlainTable}
@@ -35,10 +35,10 @@ module _ {A : Type 0} (text : List ℕ) (at : ℕ) (table : Table) (terms : List
   pub adds : (params : Row) (it : A) → ((trees : Trees) → edited trees (edit_of trees table [] Chosen 0
       (value_rows (stamped table params) width (length terms / width) terms)) ≡ put_row (row it) (trees table.tree))
       → (was : Database) (content after : Content) (all : List A) (old new : State) (r : Result ℕ Error)
-      → Stands was content old → old.now.trees table.tree ≡ map row all
+      → IsUnderWay was content old → old.now.trees table.tree ≡ map row all
       → IsAscending (λ a b. int_cmp (id a) (id b) ≡ Less) (all ++ it ∷ [])
       → tables_of (with_tree table.tree (map row (all ++ it ∷ [])) old.now.trees) ≡ tables_for after
-      → ExecutesInside 0 text params old new r → OnOk r (Stands was after new)
+      → ExecutesInside 0 text params old new r → OnOk r (IsUnderWay was after new)
   adds params it edit was content after all old new (Err e) stands here rise next h = tt
   adds params it edit was content after all old new (Ok count) stands here rise next h =
       let made = inserted text at table plain is_table old new params count stands.schema h.0 terms width is in

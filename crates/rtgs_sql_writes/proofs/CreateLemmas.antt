@@ -20,7 +20,7 @@ use Rattle.sqlite.specs.Effect.{Database}
 use Rattle.sqlite.specs.State.{State, mode_of, Writes, ExecutesInside}
 use Rattle.sqlite.proofs.Callers.{statement_of, runs_as}
 use Rattle.rtgs_rows.specs.Tables.{no_schema, desk_schema, desk_at}
-use Rattle.rtgs_rows.specs.Content.{tables_of, tables_for, Stands}
+use Rattle.rtgs_rows.specs.Content.{tables_of, tables_for, IsUnderWay}
 use Rattle.rtgs_rows.specs.Rows.{day_row}
 use Rattle.rtgs_sql_columns.specs.Blank.{IsBlank}
 use Rattle.rtgs_sql_writes.specs.Building.{IsBuilt, Makes, first_content}
@@ -137,7 +137,7 @@ unfolding desk_schema
 desk_empty trees none = none.0
 
 begun : (was : Database) (old new : State) (count : ℕ) → IsBuilt was desk_schema old
-    → ExecutesInside 0 first_day_text [] old new (Ok count) → Stands was first_content new
+    → ExecutesInside 0 first_day_text [] old new (Ok count) → IsUnderWay was first_content new
 begun was old new count is h =
     let w = runs_as first_day_text [] old new desk_schema is.schema_is (Insert 0 (Values first_terms 5)) first_day_is
     first_day_plain count h.0 in
@@ -160,7 +160,7 @@ begun was old new count is h =
     }
 
 pub begins : (was : Database) (old new : State) (r : Result ℕ Error) → IsBuilt was desk_schema old
-    → ExecutesInside 0 first_day_text [] old new r → OnOk r (Stands was first_content new)
+    → ExecutesInside 0 first_day_text [] old new r → OnOk r (IsUnderWay was first_content new)
 begins was old new (Ok count) is h = begun was old new count is h
 begins was old new (Err e) is h = tt
 

@@ -32,7 +32,7 @@ use Rattle.rtgs_sql_writes.proofs.Passing.{truth_of, same_number}
 use Rattle.rtgs_book.specs.declared.Day.{Day}
 use Rattle.rtgs_book.specs.declared.RowChange.TheVariants.{SetDay}
 use Rattle.rtgs_rows.specs.Rows.{date_value, phase_number, day_row}
-use Rattle.rtgs_rows.specs.Content.{Tables, Content, Stands, with_change}
+use Rattle.rtgs_rows.specs.Content.{Tables, Content, IsUnderWay, with_change}
 use Rattle.sqlite.specs.Table.{Table}
 use Rattle.rtgs_sql_columns.specs.Tables.{desk_query}
 use Rattle.rtgs_rows.specs.Tables.{desk_schema, desk_at}
@@ -89,8 +89,8 @@ day_given day = bound_value (date_value day.date) ∷ Int (pos (phase_number day
 
 pub sets_day : OneTableAnswers → (was : Database) (content : Content) (old new : State) (day : Day) (r : Result ℕ
     Error) (values : Row)
-    → values ≡ day_given day → Stands was content old
-    → ExecutesInside 0 set_day_text values old new r → OnOk r (Stands was (with_change content (SetDay day)) new)
+    → values ≡ day_given day → IsUnderWay was content old
+    → ExecutesInside 0 set_day_text values old new r → OnOk r (IsUnderWay was (with_change content (SetDay day)) new)
 sets_day answers was content old new day (Err e) values same stands h = tt
 sets_day answers was content old new day (Ok count) values same stands given =
     let h = subst (λ all. ExecutesInside 0 set_day_text all old new (Ok count)) (same ∙ ap (λ date. date ∷ Int (pos

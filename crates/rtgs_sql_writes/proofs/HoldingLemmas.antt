@@ -40,7 +40,7 @@ use Rattle.rtgs_sql_writes.proofs.Passing.{none_moved, truth_of, same_text, filt
 use Rattle.rtgs_book.specs.declared.Participant.{Participant}
 use Rattle.rtgs_book.specs.declared.RowChange.TheVariants.{AddParticipant, SetCredit, SetBalance}
 use Rattle.rtgs_rows.specs.Rows.{participant_row}
-use Rattle.rtgs_rows.specs.Content.{Tables, Holding, Content, holding_row, Stands, IsInOrder, with_change}
+use Rattle.rtgs_rows.specs.Content.{Tables, Holding, Content, holding_row, IsUnderWay, IsInOrder, with_change}
 use Rattle.rtgs_rows.specs.Content.{with_credit_in, with_balance_in, newcomer}
 use Rattle.sqlite.specs.Table.{Table}
 use Rattle.rtgs_sql_columns.specs.Tables.{participants_query}
@@ -76,9 +76,9 @@ edit : (trees : Trees) (p : Participant) → edited trees (edit_of trees table [
 edit trees p = rw (cast_null, cast_int (pos p.credit), cast_int (pos 0))
 
 pub adds_participant : NextRowIsAbove → (was : Database) (content : Content) (old new : State) (p : Participant)
-    (r : Result ℕ Error) (values : Row) → values ≡ participant_given p → Stands was content old → IsInOrder content
+    (r : Result ℕ Error) (values : Row) → values ≡ participant_given p → IsUnderWay was content old → IsInOrder content
     → ExecutesInside 0 participant_text values old new r → OnOk r
-    (Stands was (with_change content (AddParticipant p)) new)
+    (IsUnderWay was (with_change content (AddParticipant p)) new)
 adds_participant above was content old new p (Err e) values same stands order h = tt
 adds_participant above was content old new p (Ok count) values same stands order given =
     let h = subst (λ all. ExecutesInside 0 participant_text all old new (Ok count)) same given in
@@ -168,9 +168,9 @@ module _ (code : List ℕ) (balance : ℤ) where
 
   pub sets_balance : OneTableAnswers → (was : Database) (content : Content) (old new : State) (r : Result ℕ Error)
       (values : Row)
-      → values ≡ balance_given → Stands was content old → IsInOrder content
+      → values ≡ balance_given → IsUnderWay was content old → IsInOrder content
       → ExecutesInside 0 balance_text values old new r → OnOk r
-      (Stands was (with_change content (SetBalance code balance)) new)
+      (IsUnderWay was (with_change content (SetBalance code balance)) new)
   sets_balance answers was content old new (Err e) values same stands order h = tt
   sets_balance answers was content old new (Ok count) values same stands order given =
       let h = subst (λ all. ExecutesInside 0 balance_text all old new (Ok count)) same given in
@@ -233,9 +233,9 @@ module _ (code : List ℕ) (credit : ℕ) where
 
   pub sets_credit : OneTableAnswers → (was : Database) (content : Content) (old new : State) (r : Result ℕ Error)
       (values : Row)
-      → values ≡ credit_given → Stands was content old → IsInOrder content
+      → values ≡ credit_given → IsUnderWay was content old → IsInOrder content
       → ExecutesInside 0 credit_text values old new r → OnOk r
-      (Stands was (with_change content (SetCredit code credit)) new)
+      (IsUnderWay was (with_change content (SetCredit code credit)) new)
   sets_credit answers was content old new (Err e) values same stands order h = tt
   sets_credit answers was content old new (Ok count) values same stands order given =
       let h = subst (λ all. ExecutesInside 0 credit_text all old new (Ok count)) same given in

@@ -26,7 +26,7 @@ use Rattle.rtgs_book.specs.declared.Mark.{Mark}
 use Rattle.rtgs_book.specs.declared.RowChange.TheVariants.{AddMark}
 use Rattle.rtgs_money.specs.Date.{date_text}
 use Rattle.rtgs_rows.specs.Rows.{mark_row}
-use Rattle.rtgs_rows.specs.Content.{Tables, Content, Stands, IsInOrder, with_change}
+use Rattle.rtgs_rows.specs.Content.{Tables, Content, IsUnderWay, IsInOrder, with_change}
 use Rattle.rtgs_rows.specs.Tables.{desk_schema, mark_at}
 
 abbrev pub mark_text : List ℕ
@@ -58,8 +58,8 @@ edit : (trees : Trees) (m : Mark) → edited trees (edit_of trees table [] Chose
 edit trees m = rw (cast_int (pos m.number), cast_null, cast_int (pos m.count), cast_int m.value)
 
 pub adds_mark : (was : Database) (content : Content) (old new : State) (m : Mark) (r : Result ℕ Error) (values : Row)
-    → values ≡ mark_given m → Stands was content old → IsInOrder (with_change content (AddMark m))
-    → ExecutesInside 0 mark_text values old new r → OnOk r (Stands was (with_change content (AddMark m)) new)
+    → values ≡ mark_given m → IsUnderWay was content old → IsInOrder (with_change content (AddMark m))
+    → ExecutesInside 0 mark_text values old new r → OnOk r (IsUnderWay was (with_change content (AddMark m)) new)
 adds_mark was content old new m r values same stands order h =
     adds mark_text 4 table terms 5 mark_row (λ q. pos q.number) (λ _. refl) is plain mark_is_plain (mark_given m) m
     (λ trees. edit trees m) was content (with_change content (AddMark m)) content.marks old new r stands

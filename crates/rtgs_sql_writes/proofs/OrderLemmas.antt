@@ -48,7 +48,7 @@ use Rattle.rtgs_book.specs.Settle.{restated}
 use Rattle.rtgs_book.specs.Commands.{has_number}
 use Rattle.rtgs_money.specs.Date.{date_text}
 use Rattle.rtgs_rows.specs.Rows.{mark_value, state_number, payment_row}
-use Rattle.rtgs_rows.specs.Content.{Tables, Content, Stands, IsInOrder, with_change}
+use Rattle.rtgs_rows.specs.Content.{Tables, Content, IsUnderWay, IsInOrder, with_change}
 use Rattle.rtgs_rows.specs.Tables.{desk_schema, payment_at}
 
 abbrev pub order_text : List ℕ
@@ -96,8 +96,8 @@ given_is o = ap (λ mark. Int (pos o.number) ∷ Text o.sender ∷ Text o.refere
     ∷ Int (pos (state_number o.state)) ∷ mark ∷ Text (date_text o.date) ∷ []) (bound_mark o.state)
 
 pub adds_order : (was : Database) (content : Content) (old new : State) (o : Order) (r : Result ℕ Error) (values : Row)
-    → values ≡ order_given o → Stands was content old → IsInOrder (with_change content (AddOrder o))
-    → ExecutesInside 0 order_text values old new r → OnOk r (Stands was (with_change content (AddOrder o)) new)
+    → values ≡ order_given o → IsUnderWay was content old → IsInOrder (with_change content (AddOrder o))
+    → ExecutesInside 0 order_text values old new r → OnOk r (IsUnderWay was (with_change content (AddOrder o)) new)
 adds_order was content old new o r values same stands order h =
     adds order_text 3 table terms 9 payment_row (λ q. pos q.number) (λ _. refl) is plain payment_is_plain (params o) o
     (λ trees. edit trees o) was content (with_change content (AddOrder o)) content.orders old new r stands
@@ -189,9 +189,9 @@ module _ (number : ℕ) (state : OrderState) where
 
   pub sets_state : OneTableAnswers → (was : Database) (content : Content) (old new : State) (r : Result ℕ Error)
       (values : Row)
-      → values ≡ state_given → Stands was content old → IsInOrder content
+      → values ≡ state_given → IsUnderWay was content old → IsInOrder content
       → ExecutesInside 0 set_state_text values old new r → OnOk r
-      (Stands was (with_change content (SetState number state)) new)
+      (IsUnderWay was (with_change content (SetState number state)) new)
   sets_state answers was content old new (Err e) values same stands order h = tt
   sets_state answers was content old new (Ok count) values same stands order given =
       let h = subst (λ all. ExecutesInside 0 set_state_text all old new (Ok count)) (same ∙ ap (λ mark. Int (pos

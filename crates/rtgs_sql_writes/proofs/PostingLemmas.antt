@@ -22,7 +22,7 @@ use Rattle.rtgs_book.specs.declared.Posting.{Posting}
 use Rattle.rtgs_book.specs.declared.RowChange.TheVariants.{AddPosting}
 use Rattle.rtgs_rows.specs.Tables.{desk_schema, posting_at}
 use Rattle.rtgs_rows.specs.Rows.{date_value, posting_row}
-use Rattle.rtgs_rows.specs.Content.{Tables, Content, Stands, IsInOrder, with_change}
+use Rattle.rtgs_rows.specs.Content.{Tables, Content, IsUnderWay, IsInOrder, with_change}
 use Rattle.rtgs_sql_writes.proofs.Casts.{cast_null, cast_int, cast_date, bound_date}
 use Rattle.rtgs_sql_writes.proofs.Steps.{IsPlainTable}
 use Rattle.rtgs_sql_writes.proofs.StateLemmas.{desk_over}
@@ -66,8 +66,9 @@ given_is p = ap (λ date. Int (pos p.number) ∷ Text p.code ∷ Text p.referenc
     (bound_date p.date)
 
 pub adds_posting : (was : Database) (content : Content) (old new : State) (p : Posting) (r : Result ℕ Error)
-    (values : Row) → values ≡ posting_given p → Stands was content old → IsInOrder (with_change content (AddPosting p))
-    → ExecutesInside 0 posting_text values old new r → OnOk r (Stands was (with_change content (AddPosting p)) new)
+    (values : Row) → values ≡ posting_given p → IsUnderWay was content old → IsInOrder (with_change content (AddPosting
+    p))
+    → ExecutesInside 0 posting_text values old new r → OnOk r (IsUnderWay was (with_change content (AddPosting p)) new)
 adds_posting was content old new p r values same stands order h =
     adds posting_text 2 table terms 6 posting_row (λ q. pos q.number) (λ _. refl) is plain posting_is_plain (params p) p
     (λ trees. edit trees p) was content (with_change content (AddPosting p)) content.postings old new r stands

@@ -13,7 +13,7 @@ use Rattle.sqlite.specs.Tree.{Trees}
 use Rattle.sqlite.specs.Held.{Held, state}
 use Rattle.sqlite.proofs.StateLemmas.{survives_then}
 use Rattle.sqlite.proofs.Callers.{survives_begin}
-use Rattle.rtgs_rows.specs.Content.{tables_of, tables_for, Content, Holds, Stands, Rests}
+use Rattle.rtgs_rows.specs.Content.{tables_of, tables_for, Content, Holds, IsUnderWay, Rests}
 use Rattle.rtgs_sql_columns.specs.Tables.{desk_query, participants_query, postings_query, payments_query, marks_query}
 
 -- the database, with its schema written out
@@ -51,10 +51,10 @@ framed tree old new rows others here =
       marks = marks i;
     }
 
-pub stands_on : (was : Database) (old new : State) (content after : Content) → Stands was content old
+pub stands_on : (was : Database) (old new : State) (content after : Content) → IsUnderWay was content old
     → Shows old new new.now old.committed true → new.now.schema ≡ desk_schema → IsDatabase new.now
     → tables_of new.now.trees ≡ tables_for after
-    → Stands was after new
+    → IsUnderWay was after new
 stands_on was old new content after stands shown schema sound rows = record {
   is_open = shown.is_open;
   inside = shown.mode;
@@ -64,7 +64,7 @@ stands_on was old new content after stands shown schema sound rows = record {
 }
 
 pub stands_begun : {S : Type 0} (g : Ghosts S) (h : Held S) (content : Content) → Rests content (state g h)
-    → Stands (state g h).committed content (state g (record h { in_transaction = true }))
+    → IsUnderWay (state g h).committed content (state g (record h { in_transaction = true }))
 stands_begun g h content rests = record {
   is_open = rests.is_open;
   inside = refl;
@@ -73,7 +73,7 @@ stands_begun g h content rests = record {
   committed = refl;
 }
 
-pub rests_committed : (was : Database) (mid new : State) (content : Content) → Stands was content mid
+pub rests_committed : (was : Database) (mid new : State) (content : Content) → IsUnderWay was content mid
     → Shows mid new mid.now mid.now false → Rests content new
 rests_committed was mid new content stands shown = record {
   is_open = shown.is_open;

@@ -4,7 +4,7 @@ ghost use Rattle.sqlite.specs.Effect.{Database};
 ghost use Rattle.sqlite.specs.Schema.{Schema};
 ghost use Rattle.sqlite.specs.Table.{Table};
 ghost use Rattle.rtgs_rows.specs.Tables.{no_schema, desk_schema};
-ghost use Rattle.rtgs_rows.specs.Content.{Holds, Stands, Rests};
+ghost use Rattle.rtgs_rows.specs.Content.{Holds, IsUnderWay, Rests};
 ghost use Rattle.rtgs_sql_writes.specs.Stops.{IsBefore};
 ghost use Rattle.rtgs_sql_columns.specs.Blank.{IsBlank};
 ghost use Rattle.rtgs_sql_writes.specs.Building.{IsBuilt, Makes, first_content};
@@ -33,7 +33,7 @@ fn first_day<S: Alter>(tx: &mut Transaction<'_, S>) -> Result<usize, Error>
     ensures same_reference { tx.new.conn.ghost_name ≡ tx.old.conn.ghost_name }
     ensures made { HasCleanDisk (state S.Store tx.new.conn.now) → (was : Database)
         → IsBuilt was desk_schema (state S.Store tx.old.conn.now)
-        → OnOk result (Stands was first_content (state S.Store tx.new.conn.now)) }
+        → OnOk result (IsUnderWay was first_content (state S.Store tx.new.conn.now)) }
     ensures kept { HasCleanDisk (state S.Store tx.new.conn.now)
         → KeepsCommit (state S.Store tx.old.conn.now) (state S.Store tx.new.conn.now) }
     ensures survives { Survives (state S.Store tx.old.conn.now) (state S.Store tx.new.conn.now) (λ _. ⊥) }
@@ -49,7 +49,7 @@ fn build<S: Alter>(tx: &mut Transaction<'_, S>) -> Result<(), Error>
     ensures same_reference { tx.new.conn.ghost_name ≡ tx.old.conn.ghost_name }
     ensures made { HasCleanDisk (state S.Store tx.new.conn.now) → (was : Database)
         → IsBuilt was no_schema (state S.Store tx.old.conn.now)
-        → OnOk result (Stands was first_content (state S.Store tx.new.conn.now)) }
+        → OnOk result (IsUnderWay was first_content (state S.Store tx.new.conn.now)) }
     ensures kept { HasCleanDisk (state S.Store tx.new.conn.now)
         → KeepsCommit (state S.Store tx.old.conn.now) (state S.Store tx.new.conn.now) }
     ensures survives { Survives (state S.Store tx.old.conn.now) (state S.Store tx.new.conn.now) (λ _. ⊥) }

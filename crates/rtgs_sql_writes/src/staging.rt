@@ -1,7 +1,7 @@
 //! A change in a transaction of its own.
 ghost use Rattle.std.specs.Prelude.{◌≡◌, false, IsTrue, OnOk, IfErr};
 ghost use Rattle.sqlite.specs.Effect.{Database};
-ghost use Rattle.rtgs_rows.specs.Content.{Content, Holds, Stands, Rests, IsInOrder, AreInOrder, with_change};
+ghost use Rattle.rtgs_rows.specs.Content.{Content, Holds, IsUnderWay, Rests, IsInOrder, AreInOrder, with_change};
 ghost use Rattle.rtgs_rows.specs.Content.{with_changes};
 ghost use Rattle.sqlite.specs.State.{HasCleanDisk, KeepsCommit, Survives};
 ghost use Rattle.sqlite.specs.Held.{state};
@@ -26,9 +26,9 @@ pub enum Stopped {
 fn stage_row<S: Alter>(tx: &mut Transaction<'_, S>, row: &RowChange) -> Result<usize, Error>
     ensures same_reference { tx.new.conn.ghost_name ≡ tx.old.conn.ghost_name }
     ensures made { HasCleanDisk (state S.Store tx.new.conn.now) → (was : Database) (content : Content)
-        → Stands was content (state S.Store tx.old.conn.now) → IsInOrder content
+        → IsUnderWay was content (state S.Store tx.old.conn.now) → IsInOrder content
         → IsInOrder (with_change content row.now)
-        → OnOk result (Stands was (with_change content row.now) (state S.Store tx.new.conn.now)) }
+        → OnOk result (IsUnderWay was (with_change content row.now) (state S.Store tx.new.conn.now)) }
     ensures kept { HasCleanDisk (state S.Store tx.new.conn.now)
         → KeepsCommit (state S.Store tx.old.conn.now) (state S.Store tx.new.conn.now) }
     ensures survives { Survives (state S.Store tx.old.conn.now) (state S.Store tx.new.conn.now) (λ _. ⊥) }
@@ -49,8 +49,8 @@ fn stage_row<S: Alter>(tx: &mut Transaction<'_, S>, row: &RowChange) -> Result<u
 fn stage<S: Alter>(tx: &mut Transaction<'_, S>, rows: &[RowChange]) -> Result<(), Error>
     ensures same_reference { tx.new.conn.ghost_name ≡ tx.old.conn.ghost_name }
     ensures made { HasCleanDisk (state S.Store tx.new.conn.now) → (was : Database) (content : Content)
-        → Stands was content (state S.Store tx.old.conn.now) → AreInOrder content rows.now
-        → OnOk result (Stands was (with_changes content rows.now) (state S.Store tx.new.conn.now)) }
+        → IsUnderWay was content (state S.Store tx.old.conn.now) → AreInOrder content rows.now
+        → OnOk result (IsUnderWay was (with_changes content rows.now) (state S.Store tx.new.conn.now)) }
     ensures kept { HasCleanDisk (state S.Store tx.new.conn.now)
         → KeepsCommit (state S.Store tx.old.conn.now) (state S.Store tx.new.conn.now) }
     ensures survives { Survives (state S.Store tx.old.conn.now) (state S.Store tx.new.conn.now) (λ _. ⊥) }

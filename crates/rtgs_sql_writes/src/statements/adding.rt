@@ -2,7 +2,7 @@
 ghost use Rattle.std.specs.Prelude.{◌≡◌, OnOk};
 ghost use Rattle.sqlite.specs.Effect.{Database};
 ghost use Rattle.rtgs_book.specs.declared.RowChange.TheVariants as change;
-ghost use Rattle.rtgs_rows.specs.Content.{Content, Stands, IsInOrder, with_change};
+ghost use Rattle.rtgs_rows.specs.Content.{Content, IsUnderWay, IsInOrder, with_change};
 ghost use Rattle.sqlite.specs.State.{HasCleanDisk, KeepsCommit, Survives};
 ghost use Rattle.sqlite.specs.Held.{state};
 
@@ -21,8 +21,8 @@ pub(crate) fn add_participant<S: Alter>(
 ) -> Result<usize, Error>
     ensures same_reference { tx.new.conn.ghost_name ≡ tx.old.conn.ghost_name }
     ensures made { HasCleanDisk (state S.Store tx.new.conn.now) → (was : Database) (content : Content)
-        → Stands was content (state S.Store tx.old.conn.now) → IsInOrder content
-        → OnOk result (Stands was (with_change content (change.AddParticipant participant.now))
+        → IsUnderWay was content (state S.Store tx.old.conn.now) → IsInOrder content
+        → OnOk result (IsUnderWay was (with_change content (change.AddParticipant participant.now))
         (state S.Store tx.new.conn.now)) }
     ensures kept { HasCleanDisk (state S.Store tx.new.conn.now)
         → KeepsCommit (state S.Store tx.old.conn.now) (state S.Store tx.new.conn.now) }
@@ -47,9 +47,9 @@ pub(crate) fn add_posting<S: Alter>(
 ) -> Result<usize, Error>
     ensures same_reference { tx.new.conn.ghost_name ≡ tx.old.conn.ghost_name }
     ensures made { HasCleanDisk (state S.Store tx.new.conn.now) → (was : Database) (content : Content)
-        → Stands was content (state S.Store tx.old.conn.now)
+        → IsUnderWay was content (state S.Store tx.old.conn.now)
         → IsInOrder (with_change content (change.AddPosting posting.now))
-        → OnOk result (Stands was (with_change content (change.AddPosting posting.now))
+        → OnOk result (IsUnderWay was (with_change content (change.AddPosting posting.now))
         (state S.Store tx.new.conn.now)) }
     ensures kept { HasCleanDisk (state S.Store tx.new.conn.now)
         → KeepsCommit (state S.Store tx.old.conn.now) (state S.Store tx.new.conn.now) }
@@ -76,9 +76,9 @@ pub(crate) fn add_order<S: Alter>(
 ) -> Result<usize, Error>
     ensures same_reference { tx.new.conn.ghost_name ≡ tx.old.conn.ghost_name }
     ensures made { HasCleanDisk (state S.Store tx.new.conn.now) → (was : Database) (content : Content)
-        → Stands was content (state S.Store tx.old.conn.now)
+        → IsUnderWay was content (state S.Store tx.old.conn.now)
         → IsInOrder (with_change content (change.AddOrder order.now))
-        → OnOk result (Stands was (with_change content (change.AddOrder order.now)) (state S.Store tx.new.conn.now)) }
+        → OnOk result (IsUnderWay was (with_change content (change.AddOrder order.now)) (state S.Store tx.new.conn.now)) }
     ensures kept { HasCleanDisk (state S.Store tx.new.conn.now)
         → KeepsCommit (state S.Store tx.old.conn.now) (state S.Store tx.new.conn.now) }
     ensures survives { Survives (state S.Store tx.old.conn.now) (state S.Store tx.new.conn.now) (λ _. ⊥) }
@@ -106,8 +106,9 @@ pub(crate) fn add_order<S: Alter>(
 pub(crate) fn add_mark<S: Alter>(tx: &mut Transaction<'_, S>, mark: &Mark) -> Result<usize, Error>
     ensures same_reference { tx.new.conn.ghost_name ≡ tx.old.conn.ghost_name }
     ensures made { HasCleanDisk (state S.Store tx.new.conn.now) → (was : Database) (content : Content)
-        → Stands was content (state S.Store tx.old.conn.now) → IsInOrder (with_change content (change.AddMark mark.now))
-        → OnOk result (Stands was (with_change content (change.AddMark mark.now)) (state S.Store tx.new.conn.now)) }
+        → IsUnderWay was content (state S.Store tx.old.conn.now) → IsInOrder (with_change content (change.AddMark
+        mark.now))
+        → OnOk result (IsUnderWay was (with_change content (change.AddMark mark.now)) (state S.Store tx.new.conn.now)) }
     ensures kept { HasCleanDisk (state S.Store tx.new.conn.now)
         → KeepsCommit (state S.Store tx.old.conn.now) (state S.Store tx.new.conn.now) }
     ensures survives { Survives (state S.Store tx.old.conn.now) (state S.Store tx.new.conn.now) (λ _. ⊥) }

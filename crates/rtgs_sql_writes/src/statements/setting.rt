@@ -2,7 +2,7 @@
 ghost use Rattle.std.specs.Prelude.{◌≡◌, OnOk};
 ghost use Rattle.sqlite.specs.Effect.{Database};
 ghost use Rattle.rtgs_book.specs.declared.RowChange.TheVariants as change;
-ghost use Rattle.rtgs_rows.specs.Content.{Content, Stands, IsInOrder, with_change};
+ghost use Rattle.rtgs_rows.specs.Content.{Content, IsUnderWay, IsInOrder, with_change};
 ghost use Rattle.sqlite.specs.State.{HasCleanDisk, KeepsCommit, Survives};
 ghost use Rattle.sqlite.specs.Held.{state};
 
@@ -23,8 +23,8 @@ pub(crate) fn set_credit<S: Alter>(
 ) -> Result<usize, Error>
     ensures same_reference { tx.new.conn.ghost_name ≡ tx.old.conn.ghost_name }
     ensures made { HasCleanDisk (state S.Store tx.new.conn.now) → (was : Database) (content : Content)
-        → Stands was content (state S.Store tx.old.conn.now) → IsInOrder content
-        → OnOk result (Stands was (with_change content (change.SetCredit code.now credit))
+        → IsUnderWay was content (state S.Store tx.old.conn.now) → IsInOrder content
+        → OnOk result (IsUnderWay was (with_change content (change.SetCredit code.now credit))
         (state S.Store tx.new.conn.now)) }
     ensures kept { HasCleanDisk (state S.Store tx.new.conn.now)
         → KeepsCommit (state S.Store tx.old.conn.now) (state S.Store tx.new.conn.now) }
@@ -45,8 +45,8 @@ pub(crate) fn set_balance<S: Alter>(
 ) -> Result<usize, Error>
     ensures same_reference { tx.new.conn.ghost_name ≡ tx.old.conn.ghost_name }
     ensures made { HasCleanDisk (state S.Store tx.new.conn.now) → (was : Database) (content : Content)
-        → Stands was content (state S.Store tx.old.conn.now) → IsInOrder content
-        → OnOk result (Stands was (with_change content (change.SetBalance code.now balance))
+        → IsUnderWay was content (state S.Store tx.old.conn.now) → IsInOrder content
+        → OnOk result (IsUnderWay was (with_change content (change.SetBalance code.now balance))
         (state S.Store tx.new.conn.now)) }
     ensures kept { HasCleanDisk (state S.Store tx.new.conn.now)
         → KeepsCommit (state S.Store tx.old.conn.now) (state S.Store tx.new.conn.now) }
@@ -67,8 +67,8 @@ pub(crate) fn set_state<S: Alter>(
 ) -> Result<usize, Error>
     ensures same_reference { tx.new.conn.ghost_name ≡ tx.old.conn.ghost_name }
     ensures made { HasCleanDisk (state S.Store tx.new.conn.now) → (was : Database) (content : Content)
-        → Stands was content (state S.Store tx.old.conn.now) → IsInOrder content
-        → OnOk result (Stands was (with_change content (change.SetState number stage))
+        → IsUnderWay was content (state S.Store tx.old.conn.now) → IsInOrder content
+        → OnOk result (IsUnderWay was (with_change content (change.SetState number stage))
         (state S.Store tx.new.conn.now)) }
     ensures kept { HasCleanDisk (state S.Store tx.new.conn.now)
         → KeepsCommit (state S.Store tx.old.conn.now) (state S.Store tx.new.conn.now) }
@@ -87,8 +87,8 @@ pub(crate) fn set_state<S: Alter>(
 pub(crate) fn set_day<S: Alter>(tx: &mut Transaction<'_, S>, day: Day) -> Result<usize, Error>
     ensures same_reference { tx.new.conn.ghost_name ≡ tx.old.conn.ghost_name }
     ensures made { HasCleanDisk (state S.Store tx.new.conn.now) → (was : Database) (content : Content)
-        → Stands was content (state S.Store tx.old.conn.now) → IsInOrder content
-        → OnOk result (Stands was (with_change content (change.SetDay day)) (state S.Store tx.new.conn.now)) }
+        → IsUnderWay was content (state S.Store tx.old.conn.now) → IsInOrder content
+        → OnOk result (IsUnderWay was (with_change content (change.SetDay day)) (state S.Store tx.new.conn.now)) }
     ensures kept { HasCleanDisk (state S.Store tx.new.conn.now)
         → KeepsCommit (state S.Store tx.old.conn.now) (state S.Store tx.new.conn.now) }
     ensures survives { Survives (state S.Store tx.old.conn.now) (state S.Store tx.new.conn.now) (λ _. ⊥) }

@@ -1,6 +1,6 @@
 use Rattle.std.proofs.Common.{◌∙◌, arith, subst, take, take_all}
 use Rattle.sqlite.specs.Effect.{Database}
-use Rattle.rtgs_rows.specs.Content.{Content, Stands, AreInOrder, with_changes}
+use Rattle.rtgs_rows.specs.Content.{Content, IsUnderWay, AreInOrder, with_changes}
 use Rattle.rtgs_sql_writes.proofs.Changing.{more_changes, order_at, order_after}
 use Rattle.sqlite.specs.State.{HasCleanDisk}
 use Rattle.sqlite.specs.Held.{state}
@@ -19,14 +19,14 @@ loop-row-preserved g c =
       survives = survives_on old mid now inv.survives step.survives;
       kept = λ (clean : HasCleanDisk now). keeps_on old mid now (inv.kept (omega (arith, step.survives.clean)))
           (step.kept clean);
-      made = λ (clean : HasCleanDisk now) (was : Database) (content : Content) (stands : Stands was content old)
+      made = λ (clean : HasCleanDisk now) (was : Database) (content : Content) (stands : IsUnderWay was content old)
           (order : AreInOrder content c.args.rows.now).
           let before = inv.made (omega (arith, step.survives.clean)) was content stands order in
           let at = order_at c.args.rows.now c.loop-row.row-index c.row-item.result content (omega arith) c.row-item.is
           order in
           let after = order_after c.args.rows.now c.loop-row.row-index c.row-item.result content (omega arith)
           c.row-item.is order in
-          subst (λ t. Stands was t now) (more_changes c.args.rows.now c.loop-row.row-index c.row-item.result content
+          subst (λ t. IsUnderWay was t now) (more_changes c.args.rows.now c.loop-row.row-index c.row-item.result content
           (omega arith) c.row-item.is)
           (step.made clean was (with_changes content (take c.loop-row.row-index c.args.rows.now)) before at after);
     }
