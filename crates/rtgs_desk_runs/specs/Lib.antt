@@ -1,0 +1,4 @@
+pub mod Causes
+pub mod Did
+pub mod Outcomes
+pub mod Runs
