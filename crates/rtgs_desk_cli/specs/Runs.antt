@@ -18,15 +18,17 @@ use Rattle.rtgs_desk_lines.specs.declared.ended.Ended.TheVariants as ended
 use Rattle.rtgs_desk_lines.specs.declared.failure.Failure.{Failure}
 use Rattle.rtgs_desk_lines.specs.declared.failure.Failure.TheVariants.{Form, Refused}
 use Rattle.rtgs_desk_lines.specs.declared.printed.Printed.{Printed}
-use Rattle.rtgs_http_server.specs.declared.port.Port.{Port}
+use Rattle.rtgs_http_specs.declared.port.Port.{Port}
 use Rattle.rtgs_book_file.specs.OverFile.{OverFile}
 use Rattle.rtgs_desk_files.specs.Printing.{ended_line, PrintsText}
 use Rattle.rtgs_desk_files.specs.Touching.{IsNotMade, IsOf, IsUntouched}
 use Rattle.rtgs_desk_files.specs.declared.met.Met.{Met}
 use Rattle.rtgs_desk_files.specs.declared.touched.Touched.{Touched}
-use Rattle.rtgs_desk_runs.specs.Runs as runs
-use Rattle.rtgs_desk_runs.specs.declared.order_file.OrderFile.{OrderFile}
-use Rattle.rtgs_desk_serving.specs.Serving as server
+use Rattle.rtgs_desk_commands.specs.Commands.{HasMade, HasAnswered, IsNotAnswered}
+use Rattle.rtgs_desk_imports.specs.Imports.{HasSent, IsNotImported}
+use Rattle.rtgs_desk_imports.specs.declared.order_file.OrderFile.{OrderFile}
+use Rattle.rtgs_desk_readings.specs.Readings as readings
+use Rattle.rtgs_desk_serving.specs.Serving.{Serves, IsNotServed}
 use Rattle.rtgs_desk_serving.specs.declared.no_port.NoPort.{NoPort}
 
 -- help, or the version, and no fault of the command line
@@ -64,27 +66,27 @@ Traces A U C = Touched A U C (Met (Snapshot OrderFile) (Snapshot Port) (Snapshot
 module _ {A K U C : Type 0} (book_file : OverFile K U C) where
   -- the run printed what it had to, as far as standard output took it
   abbrev pub PrintsFor : Request → Traces A U C → Printed → Option (List ℕ) → Option (List ℕ) → Type 0
-  PrintsFor (Make file) touched printed old new = PrintsText (runs.HasMade book_file touched) printed old new
+  PrintsFor (Make file) touched printed old new = PrintsText (HasMade book_file touched) printed old new
   PrintsFor (Submit file command) touched printed old new =
-      PrintsText (runs.HasAnswered book_file command touched) printed old new
+      PrintsText (HasAnswered book_file command touched) printed old new
   PrintsFor (Import file sender orders) touched printed old new =
-      PrintsText (runs.HasSent book_file sender touched) printed old new
-  PrintsFor (Read file reading) touched printed old new = runs.Shows book_file reading touched printed old new
+      PrintsText (HasSent book_file sender touched) printed old new
+  PrintsFor (Read file reading) touched printed old new = readings.Shows book_file reading touched printed old new
   PrintsFor (Serve file port count operator) touched printed old new =
-      server.Serves book_file port count operator touched printed old new
+      Serves book_file port count operator touched printed old new
 
   -- Why a run with this request is refused, and what it leaves on standard output: nothing, or the beginning of a
   -- statement that was refused after some of its rows.
   abbrev pub Denies : {O : Type 0} → (O → Option (List ℕ)) → Request → Traces A U C → Failure → O → O → Type 0
   Denies contents (Make file) touched why out out' = IsNotMade book_file touched why × (out' ≡ out)
   Denies contents (Submit file command) touched why out out' =
-      runs.IsNotAnswered book_file command touched why × (out' ≡ out)
+      IsNotAnswered book_file command touched why × (out' ≡ out)
   Denies contents (Import file sender orders) touched why out out' =
-      runs.IsNotImported book_file sender touched why × (out' ≡ out)
+      IsNotImported book_file sender touched why × (out' ≡ out)
   Denies contents (Read file reading) touched why out out' =
-      runs.Denies book_file contents reading touched why out out'
+      readings.Denies book_file contents reading touched why out out'
   Denies contents (Serve file port count operator) touched why out out' =
-      server.IsNotServed book_file touched why × (out' ≡ out)
+      IsNotServed book_file touched why × (out' ≡ out)
 
   -- the words spell a request for which this was printed, and whose file was touched
   abbrev pub IsObeyed : Words → Traces A U C → Printed → Option (List ℕ) → Option (List ℕ) → Type 0

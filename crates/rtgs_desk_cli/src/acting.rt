@@ -5,10 +5,12 @@ ghost use Rattle.rtgs_desk_files.specs.Touching.{IsOf};
 ghost use Rattle.rtgs_desk_cli.specs.Runs.{file_of, Denies, PrintsFor};
 
 use rtgs_book_file::{FileKeeper, LetGo, Start, Unopened};
+use rtgs_desk_commands::{answer, make_book};
 use rtgs_desk_files::{Met, Touched};
+use rtgs_desk_imports::{OrderFile, import};
 use rtgs_desk_lines::{Failure, Printed};
+use rtgs_desk_readings::show;
 use rtgs_desk_requests::Request;
-use rtgs_desk_runs::{OrderFile, answer, import, make_book, show};
 use rtgs_desk_serving::{NoPort, serve};
 use rtgs_http_server::Port;
 use rtgs_keeper::Keeper;
@@ -17,8 +19,12 @@ use std::snapshot::Snapshot;
 
 /// What a run touched of a book's file that held what `S` says, and what it met beside it. What was met has no bytes:
 /// it is there for contracts.
-pub type Traces<S> =
-    Touched<S, Unopened<S>, LetGo<S>, Met<Snapshot<OrderFile>, Snapshot<Port>, Snapshot<NoPort>>>;
+pub type Traces<S> = Touched<
+    S,
+    Unopened<S>,
+    LetGo<S>,
+    Met<Snapshot<OrderFile>, Snapshot<Port>, Snapshot<NoPort>>,
+>;
 
 /// What a run printed, or why it was refused, and what it touched of the file.
 pub type Acted<S> = (Result<Printed, Failure>, Traces<S>);

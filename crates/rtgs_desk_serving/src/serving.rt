@@ -15,9 +15,7 @@ use crate::no_port::NoPort;
 use rtgs_book::Refusal;
 use rtgs_book_file::{FileKeeper, Start};
 use rtgs_desk::Desk;
-use rtgs_desk_files::{
-    Acted, Finished, Met, Touched, close_book, failure_of_unopened, open,
-};
+use rtgs_desk_files::{Acted, Finished, Met, Touched, close_book, failure_of_unopened, open};
 use rtgs_desk_lines::{Done, Failure, Printed};
 use rtgs_http_server::laws::a_desk_at_rest_works_for_all;
 use rtgs_http_server::{Connections, Port, serve_connections};
@@ -55,7 +53,10 @@ pub fn serve<S: Start, O: Write, F>(
             let (served, met) = done;
             (served, Touched::Book(closed, met))
         }
-        Err(unopened) => (Err(failure_of_unopened(&unopened)), Touched::Refused(unopened)),
+        Err(unopened) => (
+            Err(failure_of_unopened(&unopened)),
+            Touched::Refused(unopened),
+        ),
     }
 }
 

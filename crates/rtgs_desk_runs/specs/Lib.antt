@@ -1,4 +1,0 @@
-pub mod Causes
-pub mod Did
-pub mod Outcomes
-pub mod Runs
