@@ -4,11 +4,10 @@ ghost use Rattle.rtgs_book_file.specs.OverFile.{file_from};
 ghost use Rattle.rtgs_desk_files.specs.Touching.{IsOf};
 ghost use Rattle.rtgs_desk_cli.specs.Runs.{file_of, Denies, PrintsFor};
 
-use rtgs_book_file::{FileKeeper, LetGo, Start, Unopened};
+use rtgs_book_file::{FileKeeper, Start};
 use rtgs_desk_commands::{answer, make_book};
-use rtgs_desk_files::{Met, Touched};
+use rtgs_desk_files::{Acted, Met};
 use rtgs_desk_imports::{OrderFile, import};
-use rtgs_desk_lines::{Failure, Printed};
 use rtgs_desk_readings::show;
 use rtgs_desk_requests::Request;
 use rtgs_desk_serving::{NoPort, serve};
@@ -17,17 +16,8 @@ use rtgs_keeper::Keeper;
 use std::io::Write;
 use std::snapshot::Snapshot;
 
-/// What a run touched of a book's file that held what `S` says, and what it met beside it. What was met has no bytes:
-/// it is there for contracts.
-pub type Traces<S> = Touched<
-    S,
-    Unopened<S>,
-    LetGo<S>,
-    Met<Snapshot<OrderFile>, Snapshot<Port>, Snapshot<NoPort>>,
->;
-
-/// What a run printed, or why it was refused, and what it touched of the file.
-pub type Acted<S> = (Result<Printed, Failure>, Traces<S>);
+/// What a run met beside the file of its book. It has no bytes: it is there for contracts.
+pub type RunMet = Met<Snapshot<OrderFile>, Snapshot<Port>, Snapshot<NoPort>>;
 
 /// Does what was asked for, and prints what came of it. Where it is refused, nothing is printed but the rows of a
 /// statement before the one that was not read.
@@ -36,7 +26,7 @@ pub fn act<S: Start, O: Write>(
     request: &Request<'_>,
     start: S,
     out: &mut O,
-) -> Acted<S>
+) -> Acted<S, RunMet>
     ensures printed { IfOk result.0 (λ printed. PrintsFor
         (file_from ⟦<FileKeeper<S> as Keeper>⟧ S.Start (λ keeper. keeper.conn)) request.now result.1 printed
         (O.contents out.old) (O.contents out.new)) }
