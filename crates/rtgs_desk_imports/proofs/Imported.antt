@@ -47,8 +47,8 @@ module _ {K U C : Type 0} (file : OverFile K U C) {opened lent left finished : S
   was_sent (Ok it) sender rows_of replies_of stop_of did = subst
       (IsSent file sender (rows_of it) (replies_of it) (stop_of it)) (sym same) (record {
         opened = lent;
-        over = λ was_honest.
-            subst (λ desk. file.keeper.is_honest desk.keeper → file.was_opened desk) (sym lends) over (honest was_honest);
+        over = λ was_honest. subst (λ desk. file.keeper.is_honest desk.keeper → file.was_opened desk) (sym lends) over
+            (honest was_honest);
         did = did;
       })
   was_sent (Err why) sender rows_of replies_of stop_of did = tt

@@ -1,5 +1,5 @@
--- What a run that submits a file of orders did with the desk over the file of its book, what it has to print, and why it
--- is refused.
+-- What a run that submits a file of orders did with the desk over the file of its book, what it has to print, and why
+-- it is refused.
 use Rattle.std.specs.Prelude.{◌≡◌, ◌⊎◌, ℕ, List, length, take, Option}
 use Rattle.std.specs.declared.snapshot.Snapshot.{Snapshot}
 use Rattle.rtgs_book.specs.declared.book.Book.{Book}
@@ -43,7 +43,8 @@ SentOver file book sender rows replies stopped desk =
 module _ {K U C : Type 0} (file : OverFile K U C) where
   -- the rows of a batch were submitted, with these replies, and it stopped so, if it did
   abbrev pub IsSent : List ℕ → List OrderRow → List RowReply → Option Refusal → Seen K → Type 0
-  IsSent sender rows replies stopped left = IsDone file left (λ book. SentOver file book sender rows replies stopped left)
+  IsSent sender rows replies stopped left =
+      IsDone file left (λ book. SentOver file book sender rows replies stopped left)
 
 module _ {A K U C P N : Type 0} (book_file : OverFile K U C) where
   -- the rows of an order file were submitted, with these replies, and the batch stopped so, if it did
