@@ -5,15 +5,15 @@ ghost use Rattle.clap.specs.Words.{kind_of};
 ghost use Rattle.rtgs_output.specs.declared.WriterFailed.{WriterFailed};
 ghost use Rattle.rtgs_desk_lines.specs.Failures.{line_of as refusal_line};
 ghost use Rattle.rtgs_desk_lines.specs.Told.{IsTold};
-ghost use Rattle.rtgs_desk_cli.specs.Runs.{ended_line, Ends, EndsAfter, IsDenied, IsObeyed, IsExplained};
+ghost use Rattle.rtgs_desk_files.specs.Printing.{ended_line};
+ghost use Rattle.rtgs_desk_cli.specs.Runs.{Ends, EndsAfter, IsDenied, IsExplained, IsObeyed};
 
-use crate::acting::act;
-use crate::files::{Acted, Traces};
-use crate::touched::Touched;
+use crate::acting::{RunMet, act};
 use clap::Error;
 use clap::error::ErrorKind;
 use rtgs_book_file::{FileKeeper, Start};
 use rtgs_desk_arguments::read_words;
+use rtgs_desk_files::{Acted, Touched, Traces};
 use rtgs_desk_lines::{Ended, Failure, Printed};
 use rtgs_desk_requests::{Request, Words};
 use rtgs_keeper::Keeper;
@@ -45,7 +45,12 @@ fn refused<E: Write>(failure: Failure, err: &mut E) -> Ended
 }
 
 /// Reads the words' forms, and does what they ask for.
-fn obey<S: Start, O: Write>(rt: &HostRuntime, words: &Words<'_>, start: S, out: &mut O) -> Acted<S>
+fn obey<S: Start, O: Write>(
+    rt: &HostRuntime,
+    words: &Words<'_>,
+    start: S,
+    out: &mut O,
+) -> Acted<S, RunMet>
     ensures printed { IfOk result.0 (λ printed. IsObeyed
         (file_from ⟦<FileKeeper<S> as Keeper>⟧ S.Start (λ keeper. keeper.conn)) words.now result.1 printed
         (O.contents out.old) (O.contents out.new)) }
@@ -65,7 +70,7 @@ fn end<S: Start, O: Write, E: Write>(
     start: S,
     out: &mut O,
     err: &mut E,
-) -> (Ended, Traces<S>)
+) -> (Ended, Traces<S, RunMet>)
     ensures { EndsAfter (file_from ⟦<FileKeeper<S> as Keeper>⟧ S.Start (λ keeper. keeper.conn))
         read.entry O.contents E.contents result.0 result.1 out.old out.new err.old err.new }
 {
@@ -95,7 +100,7 @@ pub fn run_words<S: Start, O: Write, E: Write>(
     start: S,
     out: &mut O,
     err: &mut E,
-) -> (Ended, Traces<S>)
+) -> (Ended, Traces<S, RunMet>)
     ensures { Ends (file_from ⟦<FileKeeper<S> as Keeper>⟧ S.Start (λ keeper. keeper.conn))
         O.contents E.contents result.0 result.1 out.old out.new err.old err.new }
 {

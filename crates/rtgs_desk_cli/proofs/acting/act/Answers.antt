@@ -1,5 +1,4 @@
-use Rattle.rtgs_desk_cli.proofs.Finished.{refused_and}
-use Rattle.rtgs_desk_cli.proofs.ForRequest.{denied_for, printed_for, touched_as, touched_for}
+use Rattle.rtgs_desk_cli.proofs.ForRequest.{denied_for, printed_for, refused_and, touched_for}
 use Rattle.rtgs_desk_cli.proofs.acting.act.Goals as goal
 
 pub returns-in-Make-clause-refused : goal.returns-in-Make-clause-refused
@@ -36,16 +35,16 @@ returns-in-Serve-clause-refused g c = denied_for _ _ c.in-Serve.is g.O.Write.con
 
 pub returns-in-Submit-clause-at : goal.returns-in-Submit-clause-at
 returns-in-Submit-clause-at g c =
-    touched_for _ _ c.in-Submit.is c.answer.result.0 c.answer.ensures.refused c.answer.ensures.at
+    touched_for _ _ c.in-Submit.is c.answer.result.0 _ _ c.answer.ensures.printed c.answer.ensures.at
 
 pub returns-in-Import-clause-at : goal.returns-in-Import-clause-at
 returns-in-Import-clause-at g c =
-    touched_for _ _ c.in-Import.is c.import.result.0 c.import.ensures.refused c.import.ensures.at
+    touched_for _ _ c.in-Import.is c.import.result.0 _ _ c.import.ensures.printed c.import.ensures.at
 
 pub returns-in-Read-clause-at : goal.returns-in-Read-clause-at
 returns-in-Read-clause-at g c =
-    touched_as _ _ c.in-Read.is g.O.Write.contents c.show.result.0 _ _ c.show.ensures.refused c.show.ensures.at
+    touched_for _ _ c.in-Read.is c.show.result.0 _ _ c.show.ensures.printed c.show.ensures.at
 
 pub returns-in-Serve-clause-at : goal.returns-in-Serve-clause-at
 returns-in-Serve-clause-at g c =
-    touched_for _ _ c.in-Serve.is c.serve.result.0 c.serve.ensures.refused c.serve.ensures.at
+    touched_for _ _ c.in-Serve.is c.serve.result.0 _ _ c.serve.ensures.printed c.serve.ensures.at

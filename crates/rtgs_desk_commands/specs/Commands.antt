@@ -1,0 +1,48 @@
+-- What a run that makes a book, or gives the desk a command, has to print, and why it is refused.
+use Rattle.std.specs.Prelude.{◌≡◌, ◌⊎◌, ◌∷◌, [], true, ℕ, List, Option, None, Ok, Err}
+use Rattle.rtgs_book.specs.declared.answer.Answer.{Answer}
+use Rattle.rtgs_book.specs.declared.command.Command.{Command}
+use Rattle.rtgs_book.specs.declared.refusal.Refusal.{Refusal}
+use Rattle.rtgs_book.specs.Outcome.{Reply}
+use Rattle.rtgs_desk.specs.Holding.{Acts}
+use Rattle.rtgs_desk.specs.Replies.{answers_its_kind}
+use Rattle.rtgs_desk.specs.Seen.{Seen}
+use Rattle.rtgs_desk_lines.specs.Lines.{line_of}
+use Rattle.rtgs_desk_lines.specs.declared.done.Done.TheVariants.{Made, Answered}
+use Rattle.rtgs_desk_lines.specs.declared.failure.Failure.{Failure}
+use Rattle.rtgs_desk_lines.specs.declared.failure.Failure.TheVariants.{Refused}
+use Rattle.rtgs_book_file.specs.OverFile.{OverFile}
+use Rattle.rtgs_desk_files.specs.Done.{IsDone}
+use Rattle.rtgs_desk_files.specs.Printing.{ended_line}
+use Rattle.rtgs_desk_files.specs.Touching.{IsClosed, IsNotOpened}
+use Rattle.rtgs_desk_files.specs.declared.met.Met.{Met}
+use Rattle.rtgs_desk_files.specs.declared.met.Met.TheVariants as met
+use Rattle.rtgs_desk_files.specs.declared.touched.Touched.{Touched}
+use Rattle.rtgs_desk_files.specs.declared.touched.Touched.TheVariants as traces
+
+module _ {K U C : Type 0} (file : OverFile K U C) where
+  -- the desk gave the command this reply, and a stop leaves the book before it or the one that it leads to
+  abbrev pub IsSubmitted : Command → Reply → Seen K → Type 0
+  IsSubmitted command reply left = IsDone file left (λ book.
+      Acts file.keeper book command reply left × file.stop_leaves left book (command ∷ []) (reply ∷ []))
+
+module _ {A K U C F P N : Type 0} (book_file : OverFile K U C) where
+  -- what a run that makes a book has to print: the line that says so
+  abbrev pub HasMade : Touched A U C (Met F P N) → List ℕ → Option Refusal → Type 0
+  HasMade touched text stopped =
+      ((made : C) × (touched ≡ traces.Book made met.Nothing) × book_file.was_made made)
+      × (text ≡ ended_line (line_of Made)) × (stopped ≡ None)
+
+  -- what a run that gives a command has to print: the line of its answer
+  abbrev pub HasAnswered : Command → Touched A U C (Met F P N) → List ℕ → Option Refusal → Type 0
+  HasAnswered command touched text stopped =
+      (answer : Answer) × (left : Seen K) × IsClosed book_file left met.Nothing touched
+      × IsSubmitted book_file command (Ok answer) left
+      × (answers_its_kind command answer ≡ true) × (text ≡ ended_line (line_of (Answered answer))) × (stopped ≡ None)
+
+  -- why a run that gives a command is refused
+  abbrev pub IsNotAnswered : Command → Touched A U C (Met F P N) → Failure → Type 0
+  IsNotAnswered command touched why =
+      IsNotOpened book_file touched why
+      ⊎ ((refusal : Refusal) × (left : Seen K) × IsClosed book_file left met.Nothing touched
+      × IsSubmitted book_file command (Err refusal) left × (why ≡ Refused refusal))

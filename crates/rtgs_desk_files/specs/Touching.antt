@@ -1,0 +1,52 @@
+-- What a run touched of the file of its book, and how it is told that the file was refused.
+use Rattle.std.specs.Prelude.{◌≡◌, ℕ, List}
+use Rattle.rtgs_desk.specs.Seen.{Seen}
+use Rattle.rtgs_desk_lines.specs.declared.failure.Failure.{Failure}
+use Rattle.rtgs_desk_lines.specs.declared.failure.Failure.TheVariants.{Opening, InUse, FileExists}
+use Rattle.rtgs_book_file.specs.OverFile.{OverFile}
+use Rattle.rtgs_book_file.specs.declared.file_fault.FileFault.{FileFault}
+use Rattle.rtgs_book_file.specs.declared.file_fault.FileFault.TheVariants as file
+use Rattle.rtgs_desk_files.specs.declared.met.Met.{Met}
+use Rattle.rtgs_desk_files.specs.declared.met.Met.TheVariants as met
+use Rattle.rtgs_desk_files.specs.declared.touched.Touched.{Touched}
+use Rattle.rtgs_desk_files.specs.declared.touched.Touched.TheVariants as traces
+
+-- how a fault of a book's file is told
+abbrev pub failure_of_file : FileFault → Failure
+failure_of_file file.InUse = InUse
+failure_of_file file.FileExists = FileExists
+failure_of_file (file.Book fault) = Opening fault
+
+-- a file was touched, of which the first is so where it was refused, and the second where it was closed
+abbrev pub IsFile : {A U C M : Type 0} → (U → Type 0) → (C → Type 0) → Touched A U C M → Type 0
+IsFile WhenRefused WhenClosed (traces.Nothing start) = ⊥
+IsFile WhenRefused WhenClosed (traces.Refused unopened) = WhenRefused unopened
+IsFile WhenRefused WhenClosed (traces.Book closed beside) = WhenClosed closed
+
+-- what a run met beside the file of its book
+abbrev pub met_of : {A U C F P N : Type 0} → Touched A U C (Met F P N) → Met F P N
+met_of (traces.Book closed beside) = beside
+met_of _ = met.Nothing
+
+module _ {A K U C M : Type 0} (book_file : OverFile K U C) where
+  -- no desk was opened over the file, and what is told is what refused it
+  abbrev pub IsNotOpened : Touched A U C M → Failure → Type 0
+  IsNotOpened touched why = (unopened : U) × (touched ≡ traces.Refused unopened) × book_file.was_unopened unopened
+      × (why ≡ failure_of_file (book_file.fault_of unopened))
+
+  -- no book was made in the file, and what is told is what refused it
+  abbrev pub IsNotMade : Touched A U C M → Failure → Type 0
+  IsNotMade touched why = (unmade : U) × (touched ≡ traces.Refused unmade) × book_file.was_unmade unmade
+      × (why ≡ failure_of_file (book_file.fault_of unmade))
+
+  -- the desk was left so, and then the file was closed, which is this one; and beside it the run met this
+  abbrev pub IsClosed : Seen K → M → Touched A U C M → Type 0
+  IsClosed left beside touched = (closed : C) × (touched ≡ traces.Book closed beside) × book_file.was_closed left closed
+
+  -- what was touched is the file at this path
+  abbrev pub IsOf : List ℕ → Touched A U C M → Type 0
+  IsOf path touched = IsFile (book_file.refused_at path) (book_file.closed_at path) touched
+
+  -- the file was not touched
+  abbrev pub IsUntouched : Touched A U C M → Type 0
+  IsUntouched touched = (start : A) × (touched ≡ traces.Nothing start)

@@ -1,0 +1,12 @@
+//! The book's file, as a run uses it: the run opens it or makes a book in it, closes it, and says what it touched.
+#![tactic(auto)]
+
+mod files;
+mod met;
+mod touched;
+
+pub use crate::files::{
+    Acted, Closed, Finished, Traces, close_book, failure_of_unopened, make, open,
+};
+pub use crate::met::Met;
+pub use crate::touched::Touched;

@@ -1,0 +1,4 @@
+pub mod BytesRead
+pub mod ForReading
+pub mod Shown
+pub mod Stated

@@ -1,0 +1,3 @@
+pub mod PrintedAfter
+pub mod Served
+pub mod ServerPrints
