@@ -87,7 +87,8 @@ fn submit<S: Start>(
 // Prints the line of what the desk answered. Where it refused the command, nothing is printed.
 fn told<O: Write>(reply: Result<Answer, Refusal>, out: &mut O) -> Result<Printed, Failure>
     ensures printed { IfOk result (λ printed. (answer : _) × (reply ≡ Ok answer)
-        × Prints (ended_line (line_of (Done.Answered answer))) None printed (O.contents out.old) (O.contents out.new)) }
+        × Prints (ended_line (line_of (Done.Answered answer))) None printed (O.contents out.old)
+        (O.contents out.new)) }
     ensures refused { IfErr result (λ why. (refusal : _) × (reply ≡ Err refusal) × (why ≡ Failure.Refused refusal)) }
     ensures unchanged { OnErr result (out.new ≡ out.old) }
 {
