@@ -18,7 +18,7 @@ use Rattle.std.proofs.lemmas.Bool.{cases_lt}
 use Rattle.rtgs_book.specs.declared.participant.Participant.{Participant}
 use Rattle.rtgs_book.specs.declared.account.Account.{Account}
 use Rattle.rtgs_book.specs.declared.limits.TheConstants.{MOST_PARTICIPANTS}
-use Rattle.rtgs_accounts.specs.Accounts.{code_of, key_of, has_key, participant_of, is_of, AreInCodeOrder, AreOfABook}
+use Rattle.rtgs_accounts.specs.Accounts.{code_of, key_of, has_key, participant_of, is_of, CodesRiseStrictly, AreOfABook}
 use Rattle.rtgs_accounts.specs.Accounts.{with_account, with_balance}
 use Rattle.rtgs_accounts.specs.Accounts.{with_limit, IsAt, IsGapFor}
 use Rattle.rtgs_lists.proofs.Bools.{or_left_false, or_right_false}
@@ -60,7 +60,7 @@ at_index P [] h i d lt = absurd (omega arith)
 at_index P (x ∷ xs) h zero d lt = h.0
 at_index P (x ∷ xs) h (suc i) d lt = at_index P xs h.1 i d (omega arith)
 
-adjacent : (xs : List Account) → AreInCodeOrder xs → (k : ℕ) (d : Account) → suc k < length xs
+adjacent : (xs : List Account) → CodesRiseStrictly xs → (k : ℕ) (d : Account) → suc k < length xs
     → slice_cmp nat_cmp (code_of (get_or xs k d)) (code_of (get_or xs (suc k) d)) ≡ Less
 unfolding IsStrictlySortedBy
 adjacent [] rise k d lt = absurd (omega arith)
@@ -68,7 +68,7 @@ adjacent (x ∷ xs) rise zero d lt = at_index (λ c. slice_cmp nat_cmp (code_of 
 adjacent (x ∷ xs) rise (suc k) d lt = adjacent xs rise.1 k d (omega arith)
 
 -- an account by its index, and by its code
-pub find_at : (code : List ℕ) (xs : List Account) → AreInCodeOrder xs → (i : ℕ) → IsAt code xs i → (d : Account)
+pub find_at : (code : List ℕ) (xs : List Account) → CodesRiseStrictly xs → (i : ℕ) → IsAt code xs i → (d : Account)
     → find (is_of code) xs ≡ Some (get_or xs i d)
 unfolding IsStrictlySortedBy
 find_at code [] rise i at d = absurd (let h = at.in_range in omega arith)
@@ -85,7 +85,7 @@ pub find_in_gap : (code : List ℕ) (xs : List Account) (i : ℕ) → IsGapFor c
 find_in_gap code xs i gap = find_nothing (is_of code) xs gap.apart
 
 -- a search ends at the account with the code, or at the gap for it
-pub searched : (xs : List Account) → AreInCodeOrder xs → (code : List ℕ) (r : Result ℕ ℕ)
+pub searched : (xs : List Account) → CodesRiseStrictly xs → (code : List ℕ) (r : Result ℕ ℕ)
     → IsSearchInRange r (length xs) → IsBinarySearchResult (λ a. slice_cmp nat_cmp (code_of a) code) xs r
     → record { found : IfOk r (IsAt code xs); absent : IfErr r (IsGapFor code xs) }
 searched xs rise code (Ok at) in_range equal = record {
@@ -161,8 +161,8 @@ all_codes : (P : List ℕ → Type 0) (xs : List Account) → AllByRecursion (λ
 all_codes P [] h = tt
 all_codes P (x ∷ xs) h = (h.0, all_codes P xs h.1)
 
-pub ordered_with_account : (new : Account) (xs : List Account) → AreInCodeOrder xs
-    → AllByRecursion (λ a. is_of (code_of new) a ≡ false) xs → AreInCodeOrder (with_account new xs)
+pub ordered_with_account : (new : Account) (xs : List Account) → CodesRiseStrictly xs
+    → AllByRecursion (λ a. is_of (code_of new) a ≡ false) xs → CodesRiseStrictly (with_account new xs)
 ordered_with_account new xs rise apart =
     rw (code_of-with_account new xs) (sorted_put_in (code_of new) (map code_of xs) rise
     (all_codes (λ c. bytes_eq c (code_of new) ≡ false) xs apart))
@@ -190,7 +190,7 @@ module _ (f : Account → Account) (keeps : (a : Account) → code_of (f a) ≡ 
     later_apart c e xs h.1,
   )
 
-  pub altered_at : (xs : List Account) → AreInCodeOrder xs → (i : ℕ) → IsAt code xs i → (d : Account)
+  pub altered_at : (xs : List Account) → CodesRiseStrictly xs → (i : ℕ) → IsAt code xs i → (d : Account)
       → set xs i (f (get_or xs i d)) ≡ map (altered f code) xs
   unfolding IsStrictlySortedBy
   altered_at [] rise i at d = absurd (let h = at.in_range in omega arith)
@@ -218,7 +218,7 @@ module _ (f : Account → Account) (keeps : (a : Account) → code_of (f a) ≡ 
   same_codes [] = refl
   same_codes (x ∷ xs) = λ i. same_code x i ∷ same_codes xs i
 
-  pub ordered_altered : (xs : List Account) → AreInCodeOrder xs → AreInCodeOrder (map (altered f code) xs)
+  pub ordered_altered : (xs : List Account) → CodesRiseStrictly xs → CodesRiseStrictly (map (altered f code) xs)
   ordered_altered xs rise = rw (same_codes xs) rise
 
 -- so they stay those of a book, where the key stays too
@@ -264,7 +264,7 @@ keys_inserted new (suc i) (x ∷ xs) h free = (
 pub of_a_book_inserted : (new : Account) (xs : List Account) (i : ℕ) → AreOfABook xs → IsGapFor (code_of new) xs i
     → list_any (has_key (key_of new)) xs ≡ false → length xs < MOST_PARTICIPANTS → AreOfABook (insert xs i new)
 of_a_book_inserted new xs i of gap free few = record {
-  ordered = subst AreInCodeOrder (sym (inserted new xs i gap)) (ordered_with_account new xs of.ordered gap.apart);
+  ordered = subst CodesRiseStrictly (sym (inserted new xs i gap)) (ordered_with_account new xs of.ordered gap.apart);
   keys = keys_inserted new i xs of.keys free;
   few = let long = length_inserted i xs gap.in_range in omega (arith, long, few);
 }

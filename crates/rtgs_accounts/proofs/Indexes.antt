@@ -6,11 +6,11 @@ use Rattle.std.specs.List.Sorted.{IsStrictlySortedBy}
 use Rattle.std.specs.Str.{bytes_eq}
 use Rattle.std.specs.Cmp.Lexicographic.{slice_cmp}
 use Rattle.rtgs_book.specs.declared.account.Account.{Account}
-use Rattle.rtgs_accounts.specs.Accounts.{code_of, is_of, AreInCodeOrder, IsAt}
+use Rattle.rtgs_accounts.specs.Accounts.{code_of, is_of, CodesRiseStrictly, IsAt}
 use Rattle.rtgs_accounts.proofs.AccountLemmas.{apart_from_less, at_index, equal_codes}
 use Rattle.rtgs_lists.proofs.Codes.{bytes_eq_comm}
 
-pub position_at : (code : List ℕ) (xs : List Account) → AreInCodeOrder xs → (i : ℕ) → IsAt code xs i
+pub position_at : (code : List ℕ) (xs : List Account) → CodesRiseStrictly xs → (i : ℕ) → IsAt code xs i
     → position_or_len (bytes_eq code) (map code_of xs) ≡ i
 unfolding IsStrictlySortedBy
 position_at code [] rise i at = absurd (let h = at.in_range in omega arith)

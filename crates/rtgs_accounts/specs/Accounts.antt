@@ -29,12 +29,12 @@ abbrev pub balance_of : Account → ℤ
 balance_of a = a.balance
 
 -- codes rise strictly
-abbrev pub AreInCodeOrder : List Account → Type 0
-AreInCodeOrder accounts = IsStrictlySortedBy (slice_cmp nat_cmp) (map code_of accounts)
+abbrev pub CodesRiseStrictly : List Account → Type 0
+CodesRiseStrictly accounts = IsStrictlySortedBy (slice_cmp nat_cmp) (map code_of accounts)
 
 -- Their participants can be those of a sound book: codes rise, no two have a key, and they are not too many.
 pub record AreOfABook (accounts : List Account) : Type 0 where
-  pub ordered : AreInCodeOrder accounts
+  pub ordered : CodesRiseStrictly accounts
   pub keys : IsDistinct bytes_eq (map key_of accounts)
   pub few : length accounts ≤ MOST_PARTICIPANTS
 

@@ -12,21 +12,21 @@ use Rattle.rtgs_book.specs.Soundness.{KeysAreDistinct, OrderReferencesAreDistinc
 use Rattle.rtgs_book.specs.Soundness.{PartiesAreKnown, MarksFitOrders, QueuesFit, DatesFit, FloorsHold, TotalFits}
 
 -- the number by which a rule is known
-abbrev pub number_of : Rule → ℕ
-number_of OrderNumbers = 1
-number_of PostingNumbers = 2
-number_of MarkNumbers = 3
-number_of ParticipantCodes = 4
-number_of Keys = 5
-number_of OrderReferences = 6
-number_of PostingReferences = 7
-number_of Parties = 8
-number_of Marks = 9
-number_of Queues = 10
-number_of Dates = 11
-number_of Floors = 12
-number_of Total = 13
-number_of StoredBalances = 14
+abbrev pub rule_number : Rule → ℕ
+rule_number OrderNumbers = 1
+rule_number PostingNumbers = 2
+rule_number MarkNumbers = 3
+rule_number ParticipantCodes = 4
+rule_number Keys = 5
+rule_number OrderReferences = 6
+rule_number PostingReferences = 7
+rule_number Parties = 8
+rule_number Marks = 9
+rule_number Queues = 10
+rule_number Dates = 11
+rule_number Floors = 12
+rule_number Total = 13
+rule_number StoredBalances = 14
 
 -- the book keeps the rule
 abbrev pub Keeps : Book → Rule → Type 0
@@ -47,7 +47,7 @@ Keeps book StoredBalances = ⊤
 
 -- the book keeps each rule before this one
 abbrev pub KeepsBefore : Book → Rule → Type 0
-KeepsBefore book rule = (other : Rule) → number_of other < number_of rule → Keeps book other
+KeepsBefore book rule = (other : Rule) → rule_number other < rule_number rule → Keeps book other
 
 -- of the rules that the book breaks, this is the first
 pub record BreaksFirst (book : Book) (rule : Rule) : Type 0 where

@@ -18,7 +18,7 @@ posted (Post code reference cents) (Ok (Posted number)) = cents
 posted command reply = pos 0
 
 -- the old marks stand, and so do the old orders that were settled
-pub record Stands (old new : Book) : Type 0 where
+pub record KeepsWhatIsFinal (old new : Book) : Type 0 where
   pub marks : (later : List Mark) × (new.marks ≡ old.marks ++ later)
   pub orders : (o : Order) → Has old.orders o → is_settled o ≡ true → Has new.orders o
 

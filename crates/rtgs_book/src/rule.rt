@@ -1,6 +1,6 @@
 //! Rules of soundness.
 ghost use Rattle.std.specs.Prelude.{◌≡◌};
-ghost use Rattle.rtgs_book.specs.Judgement.{number_of};
+ghost use Rattle.rtgs_book.specs.Judgement.{rule_number};
 
 /// What a sound book keeps, in the order in which a check names what is broken.
 #[derive(Clone, Copy, Debug, PartialEq, Eq)]
@@ -39,7 +39,7 @@ pub enum Rule {
 impl Rule {
     /// The number by which the rule is known, from 1.
     pub fn number(self) -> u8
-        ensures { result ≡ number_of self }
+        ensures { result ≡ rule_number self }
     {
         match self {
             Rule::OrderNumbers => 1,

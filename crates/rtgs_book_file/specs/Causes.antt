@@ -6,7 +6,7 @@ use Rattle.sqlite.specs.Held.{Held}
 use Rattle.sqlite.specs.Recovery.{Image}
 use Rattle.sqlite.specs.declared.FileStore.{FileStore}
 use Rattle.rtgs_keeper.specs.declared.keeper.Keeper.{Ghosts}
-use Rattle.rtgs_book_file.specs.Refused.{IsNotLocked, IsNotVacant, IsUnread, IsNoBook, WasRefused, WasUnmade}
+use Rattle.rtgs_book_file.specs.Refused.{IsNotLocked, IsNotVacant, ShowsFault, IsNoBook, WasRefused, WasUnmade}
 use Rattle.rtgs_book_file.specs.declared.cause.Cause.{Cause}
 use Rattle.rtgs_book_file.specs.declared.cause.Cause.TheVariants.{NotLocked, NotVacant, Unread, NotReached, GivenUp}
 use Rattle.rtgs_book_file.specs.declared.file_fault.FileFault.{FileFault}
@@ -29,7 +29,7 @@ module _ {K D : Type 0} {g : disk.Ghosts D} (k : Ghosts K) (conn : K → Held (F
     {B : Type 0} (files_of : B → Files D) where
   -- why a file whose lock was taken is no book's, and in what state the book is left that was opened
   abbrev pub ShowsNoBook : Cause B → Type 0
-  ShowsNoBook (Unread unread) = IsUnread unread.fault
+  ShowsNoBook (Unread unread) = ShowsFault unread.fault
   ShowsNoBook (NotReached unreached) = IsNoBook g held unreached.fault
   ShowsNoBook (GivenUp fault closed) = WasRefused k conn held fault (files_of closed)
   ShowsNoBook _ = ⊥

@@ -19,7 +19,7 @@ module _ {D : Type 0} {g : Ghosts D} where
   Counts old new has_sums Unknown = Unit {0}
 
 -- It is what a store reads in files that hold this, where the disk gives back what was written to it.
-pub record IsRead {D : Type 0} (g : Ghosts D) (held : Image) (listed : Listed) : Type 0 where
+pub record IsListingOf {D : Type 0} (g : Ghosts D) (held : Image) (listed : Listed) : Type 0 where
   -- the files before they were read, and after
   pub old : Unopened D g
   pub new : Unopened D g
@@ -30,5 +30,5 @@ pub record IsRead {D : Type 0} (g : Ghosts D) (held : Image) (listed : Listed) :
 -- the same, where anything is known
 abbrev pub IsReadIn : {D : Type 0} → Ghosts D → Image → Listed → Type 0
 IsReadIn g held Unknown = Unit {0}
-IsReadIn g held (Objects count) = IsRead g held (Objects count)
-IsReadIn g held WithoutSums = IsRead g held WithoutSums
+IsReadIn g held (Objects count) = IsListingOf g held (Objects count)
+IsReadIn g held WithoutSums = IsListingOf g held WithoutSums

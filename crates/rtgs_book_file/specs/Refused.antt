@@ -55,8 +55,8 @@ IsCrowded WithoutSums fault = fault ≡ NotADeskFile
 IsCrowded Unknown fault = ⊥
 
 -- a look at the file showed the one or the other
-abbrev pub IsUnread : Fault → Type 0
-IsUnread fault = IsOfItsBeginning fault ⊎ ((listed : Listed) × IsCrowded listed fault)
+abbrev pub ShowsFault : Fault → Type 0
+ShowsFault fault = IsOfItsBeginning fault ⊎ ((listed : Listed) × IsCrowded listed fault)
 
 -- no file was opened: it cannot be, memory was wanting, or another program has it open
 abbrev pub IsOutOfReach : SqlError → Type 0
@@ -112,7 +112,7 @@ module _ {K D : Type 0} {g : disk.Ghosts D} (k : Ghosts K) (conn : K → Held (F
 
   -- why a file whose lock was taken is no book's
   abbrev pub HasNoBook : Fault → Type 0
-  HasNoBook fault = IsUnread fault ⊎ (IsNoBook g held fault ⊎ ((files : Files D) × WasRefused fault files))
+  HasNoBook fault = ShowsFault fault ⊎ (IsNoBook g held fault ⊎ ((files : Files D) × WasRefused fault files))
 
   -- why no desk was opened over a file
   abbrev pub IsUnopened : FileFault → Type 0

@@ -1,6 +1,6 @@
 //! Looks at what stands at a path, before anything opens it that could write into it.
 ghost use Rattle.std.specs.Prelude.{◌≡◌, IfOk, IfErr};
-ghost use Rattle.rtgs_book_file.specs.Refused.{IsNotVacant, IsUnread};
+ghost use Rattle.rtgs_book_file.specs.Refused.{IsNotVacant, ShowsFault};
 
 use crate::book_lock::BookLock;
 use crate::looked_at::LookedAt;
@@ -26,7 +26,7 @@ impl<'a, S: Start> BookLock<'a, S> {
     /// Looks whether the file begins as a database does, and whether it lists no more objects than a desk's may: a
     /// fault where it does not, is missing or shorter, or cannot be read.
     pub(crate) fn with_database(self, rt: &HostRuntime) -> Result<LookedAt<'a, S>, Unread>
-        ensures refused { IfErr result (λ unread. IsUnread unread.fault) }
+        ensures refused { IfErr result (λ unread. ShowsFault unread.fault) }
         ensures same { IfOk result (λ file. file.lock ≡ self.entry) }
     {
         let path = self.path();

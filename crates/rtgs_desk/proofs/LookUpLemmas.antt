@@ -11,7 +11,7 @@ use Rattle.rtgs_book.specs.declared.Rule.{Rule}
 use Rattle.rtgs_cores.specs.declared.Core.{Core}
 use Rattle.rtgs_cores.specs.Cores.{IsCoreOf}
 use Rattle.rtgs_keeper.specs.declared.keeper.Keeper.{Ghosts}
-use Rattle.rtgs_statements.specs.Reads.{IsRead}
+use Rattle.rtgs_statements.specs.Reads.{LeavesRead}
 use Rattle.rtgs_desk.specs.Holding.{Holds, IsLeft, KeepsAsBefore}
 use Rattle.rtgs_desk.specs.LookUps.{LooksUp, refusal_of}
 use Rattle.rtgs_desk.specs.Seen.{Seen}
@@ -42,7 +42,8 @@ untouched g laws keeper = record {
 }
 
 -- a desk that has failed looks nothing up
-pub failed_before : {K : Type 0} (g : Ghosts K) → KeeperLaws g → (keeper : K) (core : Core) (desk : Seen K) (failed : Bool)
+pub failed_before : {K : Type 0} (g : Ghosts K) → KeeperLaws g → (keeper : K) (core : Core) (desk : Seen K) (failed :
+    Bool)
     → record { keeper = keeper; core = core } ≡ desk → failed ≡ g.has_failed keeper → failed ≡ true
     → LooksUp g desk desk (Some Failed)
 failed_before {K} g laws keeper core desk failed view says fails =
@@ -167,7 +168,7 @@ told_failed g old new ended looked is = by (g.has_failed old.keeper) refl
 
 -- what a text asks of a read
 pub reads : {K : Type 0} (g : Ghosts K) (old new : Seen K) (ended : Option Refusal) → LooksUp g old new ended
-    → IsRead (λ (desk : Seen K). Holds g desk) (λ (desk : Seen K). IsLeft g desk)
+    → LeavesRead (λ (desk : Seen K). Holds g desk) (λ (desk : Seen K). IsLeft g desk)
     (λ (desk : Seen K). g.is_honest desk.keeper) (λ (desk : Seen K). g.has_failed desk.keeper) old new ended
 reads g old new ended looked = record {
   honest = looked.honest;

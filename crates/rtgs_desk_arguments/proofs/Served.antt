@@ -11,7 +11,7 @@ use Rattle.rtgs_desk_requests.specs.declared.reading_words.ReadingWords.TheVaria
 use Rattle.rtgs_desk_requests.specs.declared.reading_words.ReadingWords.TheVariants.{Report}
 use Rattle.rtgs_desk_requests.specs.declared.words.Words.{Words}
 use Rattle.rtgs_desk_requests.specs.declared.words.Words.TheVariants.{Init, Submit, Import, Read, Serve}
-use Rattle.rtgs_desk_arguments.specs.Asked.{IsAsked, IsCommand, IsNumber, IsReading}
+use Rattle.rtgs_desk_arguments.specs.Asked.{AreWordsOfRun, IsCommand, IsNumber, AreWordsOfReading}
 
 -- two names differ where a look at their bytes says so
 pub differ : (a b : Text) → bytes_eq a b ≡ false → ¬ a ≡ b
@@ -27,7 +27,7 @@ no_command given Resolve asked = differ _ (codes "resolve") refl asked
 no_command given (CutOff date) asked = differ _ (codes "cutoff") refl asked.0
 no_command given (Close date) asked = differ _ (codes "close") refl asked.0
 
-no_reading : (given : List Row) (reading : ReadingWords) → ¬ IsReading (codes "serve") given reading
+no_reading : (given : List Row) (reading : ReadingWords) → ¬ AreWordsOfReading (codes "serve") given reading
 no_reading given (Account code) asked = differ _ (codes "account") refl asked.0
 no_reading given (Queue code) asked = differ _ (codes "queue") refl asked.0
 no_reading given (Order code reference) asked = differ _ (codes "order") refl asked.0
@@ -37,7 +37,7 @@ no_reading given (Report date) asked = differ _ (codes "report") refl asked.0
 -- without its port, or how many connections it serves, no server is asked for
 pub no_server : (given : List Row)
     → ((n : ℕ) → ¬ IsNumber 16 given (codes "port") n) ⊎ ((n : ℕ) → ¬ IsNumber 32 given (codes "count") n)
-    → (words : Words) → ¬ IsAsked (codes "serve") given words
+    → (words : Words) → ¬ AreWordsOfRun (codes "serve") given words
 no_server given missing (Init file) asked = differ _ (codes "init") refl asked.0
 no_server given missing (Submit file command) asked = no_command given command asked.1
 no_server given missing (Import file code orders) asked = differ _ (codes "import") refl asked.0

@@ -45,23 +45,24 @@ IsCommand called given (CutOff date) = (called ≡ codes "cutoff") × IsWord giv
 IsCommand called given (Close date) = (called ≡ codes "close") × IsWord given (codes "date") date
 
 -- the words of a reading, by the name of its subcommand
-abbrev pub IsReading : Text → List Row → ReadingWords → Type 0
-IsReading called given (Account code) = (called ≡ codes "account") × IsWord given (codes "code") code
-IsReading called given (Queue code) = (called ≡ codes "queue") × IsWord given (codes "code") code
-IsReading called given (Order code reference) = (called ≡ codes "order") × IsWord given (codes "code") code
+abbrev pub AreWordsOfReading : Text → List Row → ReadingWords → Type 0
+AreWordsOfReading called given (Account code) = (called ≡ codes "account") × IsWord given (codes "code") code
+AreWordsOfReading called given (Queue code) = (called ≡ codes "queue") × IsWord given (codes "code") code
+AreWordsOfReading called given (Order code reference) = (called ≡ codes "order") × IsWord given (codes "code") code
     × IsWord given (codes "reference") reference
-IsReading called given (Statement code date) = (called ≡ codes "statement") × IsWord given (codes "code") code
+AreWordsOfReading called given (Statement code date) = (called ≡ codes "statement") × IsWord given (codes "code") code
     × IsWord given (codes "date") date
-IsReading called given (Report date) = (called ≡ codes "report") × IsWord given (codes "date") date
+AreWordsOfReading called given (Report date) = (called ≡ codes "report") × IsWord given (codes "date") date
 
 -- the words of a run, by the name of its subcommand
-abbrev pub IsAsked : Text → List Row → Words → Type 0
-IsAsked called given (Init file) = (called ≡ codes "init") × IsWord given (codes "file") file
-IsAsked called given (Submit file command) = IsWord given (codes "file") file × IsCommand called given command
-IsAsked called given (Import file code orders) = (called ≡ codes "import") × IsWord given (codes "file") file
+abbrev pub AreWordsOfRun : Text → List Row → Words → Type 0
+AreWordsOfRun called given (Init file) = (called ≡ codes "init") × IsWord given (codes "file") file
+AreWordsOfRun called given (Submit file command) = IsWord given (codes "file") file × IsCommand called given command
+AreWordsOfRun called given (Import file code orders) = (called ≡ codes "import") × IsWord given (codes "file") file
     × IsWord given (codes "code") code × IsWord given (codes "orders") orders
-IsAsked called given (Read file reading) = IsWord given (codes "file") file × IsReading called given reading
-IsAsked called given (Serve file port count key) = (called ≡ codes "serve") × IsWord given (codes "file") file
+AreWordsOfRun called given (Read file reading) = IsWord given (codes "file") file × AreWordsOfReading called given
+    reading
+AreWordsOfRun called given (Serve file port count key) = (called ≡ codes "serve") × IsWord given (codes "file") file
     × IsNumber 16 given (codes "port") port × IsNumber 32 given (codes "count") count
     × IsWord given (codes "operator-key") key
 
@@ -71,6 +72,6 @@ IsChosen IsMeant (Some words) = IsMeant words
 IsChosen {W} IsMeant None = (words : W) → ¬ IsMeant words
 
 -- the words of a run, by the subcommand that was met, if any
-abbrev pub Asks : Option (Text × List Row) → Option Words → Type 0
-Asks None asked = asked ≡ None
-Asks (Some met) asked = IsChosen (IsAsked met.0 met.1) asked
+abbrev pub WordsAskFor : Option (Text × List Row) → Option Words → Type 0
+WordsAskFor None asked = asked ≡ None
+WordsAskFor (Some met) asked = IsChosen (AreWordsOfRun met.0 met.1) asked

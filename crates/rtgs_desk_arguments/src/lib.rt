@@ -4,7 +4,7 @@
 ghost use Rattle.std.specs.Prelude.{◌≡◌, ◌++◌, IfOk, codes, false, true};
 ghost use Rattle.clap.specs.Words.{App, Shape, found_of, rows_of, rule_of, subcommand_rows_of, with_subcommand};
 ghost use Rattle.clap.specs.declared.parser.matches.ArgMatches.{ArgMatches as Found};
-ghost use Rattle.rtgs_desk_arguments.specs.Asked.{Asks, IsChosen, IsCommand, IsFlag, IsReading, IsWord};
+ghost use Rattle.rtgs_desk_arguments.specs.Asked.{WordsAskFor, IsChosen, IsCommand, IsFlag, AreWordsOfReading, IsWord};
 ghost use Rattle.rtgs_desk_arguments.specs.CommandLine as line;
 
 use clap::{Arg, ArgAction, ArgMatches, Command, Error};
@@ -184,7 +184,7 @@ fn command_words<'a>(name: &str, given: &ArgMatches<'a>) -> Option<CommandWords<
 
 /// The words of a reading.
 fn reading_words<'a>(name: &str, given: &ArgMatches<'a>) -> Option<ReadingWords<'a>>
-    ensures { IsChosen (IsReading name.now (rows_of (found_of given.now))) result }
+    ensures { IsChosen (AreWordsOfReading name.now (rows_of (found_of given.now))) result }
 {
     match name {
         "account" => Some(readings::account_words(given)),
@@ -198,7 +198,7 @@ fn reading_words<'a>(name: &str, given: &ArgMatches<'a>) -> Option<ReadingWords<
 
 /// What the matches ask for.
 fn words_of<'a>(matches: &ArgMatches<'a>) -> Option<Words<'a>>
-    ensures { Asks (subcommand_rows_of matches.now) result }
+    ensures { WordsAskFor (subcommand_rows_of matches.now) result }
 {
     let (name, given) = matches.subcommand()?;
     let file = file_word(given);
@@ -218,7 +218,8 @@ fn words_of<'a>(matches: &ArgMatches<'a>) -> Option<Words<'a>>
 
 /// What the words ask for, or the fault or the help of the command line.
 pub fn read_words<'a>(alloc: Global, words: &'a [&'a str]) -> Result<Option<Words<'a>>, Error>
-    ensures { IfOk result (λ asked. (found : Found) × line.MeetsOne found × Asks (subcommand_rows_of found) asked) }
+    ensures { IfOk result (λ asked. (found : Found) × line.MeetsOne found × WordsAskFor (subcommand_rows_of found)
+        asked) }
 {
     let matches = desk_command(alloc)?.try_get_matches_from(words)?;
     Ok(words_of(&matches))

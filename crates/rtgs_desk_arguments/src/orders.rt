@@ -1,7 +1,7 @@
 //! Files of orders and withdrawals, as the command line names them.
 ghost use Rattle.std.specs.Prelude.{IfOk, codes};
 ghost use Rattle.clap.specs.Words.{found_of, rows_of};
-ghost use Rattle.rtgs_desk_arguments.specs.Asked.{IsAsked, IsCommand};
+ghost use Rattle.rtgs_desk_arguments.specs.Asked.{AreWordsOfRun, IsCommand};
 ghost use Rattle.rtgs_desk_arguments.specs.CommandLine as line;
 
 use crate::{code_argument, file_argument, file_word, reference_argument, word, word_argument};
@@ -23,7 +23,7 @@ pub fn import_command<'a>(alloc: Global) -> Result<Command<'a>, AllocError>
 
 /// The book's file, the participant and the file of orders, as they were given.
 pub fn import_words<'a>(given: &ArgMatches<'a>) -> Words<'a>
-    ensures { IsAsked (codes "import") (rows_of (found_of given.now)) result }
+    ensures { AreWordsOfRun (codes "import") (rows_of (found_of given.now)) result }
 {
     Words::Import {
         file: file_word(given),

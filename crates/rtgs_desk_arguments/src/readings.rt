@@ -1,7 +1,7 @@
 //! What the desk tells, as the command line names it.
 ghost use Rattle.std.specs.Prelude.{IfOk, ◌∷◌, [], codes};
 ghost use Rattle.clap.specs.Words.{found_of, rows_of};
-ghost use Rattle.rtgs_desk_arguments.specs.Asked.{IsReading};
+ghost use Rattle.rtgs_desk_arguments.specs.Asked.{AreWordsOfReading};
 ghost use Rattle.rtgs_desk_arguments.specs.CommandLine as line;
 
 use crate::{code_argument, date_argument, file_argument, reference_argument, word};
@@ -32,7 +32,7 @@ pub fn account_command<'a>(alloc: Global) -> Result<Command<'a>, AllocError>
 
 /// The participant of an account, as it was given.
 pub fn account_words<'a>(given: &ArgMatches<'a>) -> ReadingWords<'a>
-    ensures { IsReading (codes "account") (rows_of (found_of given.now)) result }
+    ensures { AreWordsOfReading (codes "account") (rows_of (found_of given.now)) result }
 {
     ReadingWords::Account {
         code: word(given, "code"),
@@ -52,7 +52,7 @@ pub fn queue_command<'a>(alloc: Global) -> Result<Command<'a>, AllocError>
 
 /// The participant of a queue, as it was given.
 pub fn queue_words<'a>(given: &ArgMatches<'a>) -> ReadingWords<'a>
-    ensures { IsReading (codes "queue") (rows_of (found_of given.now)) result }
+    ensures { AreWordsOfReading (codes "queue") (rows_of (found_of given.now)) result }
 {
     ReadingWords::Queue {
         code: word(given, "code"),
@@ -70,7 +70,7 @@ pub fn order_command<'a>(alloc: Global) -> Result<Command<'a>, AllocError>
 
 /// The sender and the reference of an order, as they were given.
 pub fn order_words<'a>(given: &ArgMatches<'a>) -> ReadingWords<'a>
-    ensures { IsReading (codes "order") (rows_of (found_of given.now)) result }
+    ensures { AreWordsOfReading (codes "order") (rows_of (found_of given.now)) result }
 {
     ReadingWords::Order {
         code: word(given, "code"),
@@ -89,7 +89,7 @@ pub fn statement_command<'a>(alloc: Global) -> Result<Command<'a>, AllocError>
 
 /// The participant and the date of a statement, as they were given.
 pub fn statement_words<'a>(given: &ArgMatches<'a>) -> ReadingWords<'a>
-    ensures { IsReading (codes "statement") (rows_of (found_of given.now)) result }
+    ensures { AreWordsOfReading (codes "statement") (rows_of (found_of given.now)) result }
 {
     ReadingWords::Statement {
         code: word(given, "code"),
@@ -109,7 +109,7 @@ pub fn report_command<'a>(alloc: Global) -> Result<Command<'a>, AllocError>
 
 /// The date of a report, as it was given.
 pub fn report_words<'a>(given: &ArgMatches<'a>) -> ReadingWords<'a>
-    ensures { IsReading (codes "report") (rows_of (found_of given.now)) result }
+    ensures { AreWordsOfReading (codes "report") (rows_of (found_of given.now)) result }
 {
     ReadingWords::Report {
         date: word(given, "date"),

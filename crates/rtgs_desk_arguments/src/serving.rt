@@ -1,7 +1,7 @@
 //! The server, as the command line names it.
 ghost use Rattle.std.specs.Prelude.{◌≡◌, IfOk, codes, false, true};
 ghost use Rattle.clap.specs.Words.{found_of, rows_of, rule_of};
-ghost use Rattle.rtgs_desk_arguments.specs.Asked.{IsAsked, IsChosen, IsNumber};
+ghost use Rattle.rtgs_desk_arguments.specs.Asked.{AreWordsOfRun, IsChosen, IsNumber};
 ghost use Rattle.rtgs_desk_arguments.specs.CommandLine as line;
 
 use crate::{file_argument, file_word, word};
@@ -91,7 +91,7 @@ fn count_number(given: &ArgMatches<'_>) -> Option<u32>
 
 /// The book's file, the port, the number of connections and the operator's key, as they were given.
 pub fn serve_words<'a>(given: &ArgMatches<'a>) -> Option<Words<'a>>
-    ensures { IsChosen (IsAsked (codes "serve") (rows_of (found_of given.now))) result }
+    ensures { IsChosen (AreWordsOfRun (codes "serve") (rows_of (found_of given.now))) result }
 {
     Some(Words::Serve {
         file: file_word(given),

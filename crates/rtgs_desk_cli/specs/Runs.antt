@@ -7,11 +7,11 @@ use Rattle.clap.specs.declared.error.kind.ErrorKind.{ErrorKind}
 use Rattle.clap.specs.declared.error.kind.ErrorKind.TheVariants as kind
 use Rattle.rtgs_money.specs.declared.lexical.Lexical.{Lexical}
 use Rattle.rtgs_book.specs.declared.refusal.Refusal.TheVariants.{OutOfMemory}
-use Rattle.rtgs_desk_requests.specs.Requests.{Reads}
+use Rattle.rtgs_desk_requests.specs.Requests.{ReadsRequest}
 use Rattle.rtgs_desk_requests.specs.declared.words.Words.{Words}
 use Rattle.rtgs_desk_requests.specs.declared.request.Request.{Request}
 use Rattle.rtgs_desk_requests.specs.declared.request.Request.TheVariants.{Make, Submit, Import, Read, Serve}
-use Rattle.rtgs_desk_lines.specs.Failures.{line_of as refusal_line}
+use Rattle.rtgs_desk_lines.specs.Failures.{failure_line as refusal_line}
 use Rattle.rtgs_desk_lines.specs.Told.{IsTold}
 use Rattle.rtgs_desk_lines.specs.declared.ended.Ended.{Ended}
 use Rattle.rtgs_desk_lines.specs.declared.ended.Ended.TheVariants as ended
@@ -21,7 +21,7 @@ use Rattle.rtgs_desk_lines.specs.declared.printed.Printed.{Printed}
 use Rattle.rtgs_http_specs.declared.port.Port.{Port}
 use Rattle.rtgs_book_file.specs.OverFile.{OverFile}
 use Rattle.rtgs_desk_files.specs.Printing.{ended_line, PrintsText}
-use Rattle.rtgs_desk_files.specs.Touching.{IsNotMade, IsOf, IsUntouched}
+use Rattle.rtgs_desk_files.specs.Touching.{IsNoBookMade, IsOf, IsUntouched}
 use Rattle.rtgs_desk_files.specs.declared.met.Met.{Met}
 use Rattle.rtgs_desk_files.specs.declared.touched.Touched.{Touched}
 use Rattle.rtgs_desk_commands.specs.Commands.{HasMade, HasAnswered, IsNotAnswered}
@@ -78,7 +78,7 @@ module _ {A K U C : Type 0} (book_file : OverFile K U C) where
   -- Why a run with this request is refused, and what it leaves on standard output: nothing, or the beginning of a
   -- statement that was refused after some of its rows.
   abbrev pub Denies : {O : Type 0} → (O → Option (List ℕ)) → Request → Traces A U C → Failure → O → O → Type 0
-  Denies contents (Make file) touched why out out' = IsNotMade book_file touched why × (out' ≡ out)
+  Denies contents (Make file) touched why out out' = IsNoBookMade book_file touched why × (out' ≡ out)
   Denies contents (Submit file command) touched why out out' =
       IsNotAnswered book_file command touched why × (out' ≡ out)
   Denies contents (Import file sender orders) touched why out out' =
@@ -91,14 +91,15 @@ module _ {A K U C : Type 0} (book_file : OverFile K U C) where
   -- the words spell a request for which this was printed, and whose file was touched
   abbrev pub IsObeyed : Words → Traces A U C → Printed → Option (List ℕ) → Option (List ℕ) → Type 0
   IsObeyed words touched printed old new =
-      (request : Request) × Reads words (Ok request) × PrintsFor request touched printed old new
+      (request : Request) × ReadsRequest words (Ok request) × PrintsFor request touched printed old new
       × IsOf book_file (file_of request) touched
 
   -- a word is not of its form, or the request that the words spell is refused, and its file was touched
   abbrev pub IsDenied : {O : Type 0} → (O → Option (List ℕ)) → Words → Traces A U C → Failure → O → O → Type 0
   IsDenied contents words touched why out out' =
-      ((form : Lexical) × Reads words (Err form) × (why ≡ Form form) × IsUntouched book_file touched × (out' ≡ out))
-      ⊎ ((request : Request) × Reads words (Ok request) × Denies contents request touched why out out'
+      ((form : Lexical) × ReadsRequest words (Err form) × (why ≡ Form form) × IsUntouched book_file touched × (out'
+      ≡ out))
+      ⊎ ((request : Request) × ReadsRequest words (Ok request) × Denies contents request touched why out out'
       × IsOf book_file (file_of request) touched)
 
   -- What a run that was given these words did, by how it ended, and leaves on its writers: what was printed for the

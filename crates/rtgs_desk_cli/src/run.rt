@@ -3,7 +3,7 @@ ghost use Rattle.std.specs.Prelude.{◌≡◌, ⊤, Result, IfOk, IfErr};
 ghost use Rattle.rtgs_book_file.specs.OverFile.{file_from};
 ghost use Rattle.clap.specs.Words.{kind_of};
 ghost use Rattle.rtgs_output.specs.declared.WriterFailed.{WriterFailed};
-ghost use Rattle.rtgs_desk_lines.specs.Failures.{line_of as refusal_line};
+ghost use Rattle.rtgs_desk_lines.specs.Failures.{failure_line as refusal_line};
 ghost use Rattle.rtgs_desk_lines.specs.Told.{IsTold};
 ghost use Rattle.rtgs_desk_files.specs.Printing.{ended_line};
 ghost use Rattle.rtgs_desk_cli.specs.Runs.{Ends, EndsAfter, IsDenied, IsExplained, IsObeyed};

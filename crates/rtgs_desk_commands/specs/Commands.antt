@@ -7,7 +7,7 @@ use Rattle.rtgs_book.specs.Outcome.{Reply}
 use Rattle.rtgs_desk.specs.Holding.{Acts}
 use Rattle.rtgs_desk.specs.Replies.{answers_its_kind}
 use Rattle.rtgs_desk.specs.Seen.{Seen}
-use Rattle.rtgs_desk_lines.specs.Lines.{line_of}
+use Rattle.rtgs_desk_lines.specs.Lines.{done_line}
 use Rattle.rtgs_desk_lines.specs.declared.done.Done.TheVariants.{Made, Answered}
 use Rattle.rtgs_desk_lines.specs.declared.failure.Failure.{Failure}
 use Rattle.rtgs_desk_lines.specs.declared.failure.Failure.TheVariants.{Refused}
@@ -31,14 +31,14 @@ module _ {A K U C F P N : Type 0} (book_file : OverFile K U C) where
   abbrev pub HasMade : Touched A U C (Met F P N) → List ℕ → Option Refusal → Type 0
   HasMade touched text stopped =
       ((made : C) × (touched ≡ traces.Book made met.Nothing) × book_file.was_made made)
-      × (text ≡ ended_line (line_of Made)) × (stopped ≡ None)
+      × (text ≡ ended_line (done_line Made)) × (stopped ≡ None)
 
   -- what a run that gives a command has to print: the line of its answer
   abbrev pub HasAnswered : Command → Touched A U C (Met F P N) → List ℕ → Option Refusal → Type 0
   HasAnswered command touched text stopped =
       (answer : Answer) × (left : Seen K) × IsClosed book_file left met.Nothing touched
       × IsSubmitted book_file command (Ok answer) left
-      × (answers_its_kind command answer ≡ true) × (text ≡ ended_line (line_of (Answered answer))) × (stopped ≡ None)
+      × (answers_its_kind command answer ≡ true) × (text ≡ ended_line (done_line (Answered answer))) × (stopped ≡ None)
 
   -- why a run that gives a command is refused
   abbrev pub IsNotAnswered : Command → Touched A U C (Met F P N) → Failure → Type 0

@@ -5,8 +5,8 @@ ghost use Rattle.rtgs_book_file.specs.OverFile.{file_from};
 ghost use Rattle.rtgs_desk.specs.Replies.{answers_its_kind};
 ghost use Rattle.rtgs_desk_commands.specs.Commands.{HasAnswered, HasMade, IsNotAnswered, IsSubmitted};
 ghost use Rattle.rtgs_desk_files.specs.Printing.{ended_line, PrintsText};
-ghost use Rattle.rtgs_desk_files.specs.Touching.{IsNotMade, IsOf};
-ghost use Rattle.rtgs_desk_lines.specs.Lines.{line_of};
+ghost use Rattle.rtgs_desk_files.specs.Touching.{IsNoBookMade, IsOf};
+ghost use Rattle.rtgs_desk_lines.specs.Lines.{done_line};
 ghost use Rattle.rtgs_desk_lines.specs.Texts.{Prints};
 
 use rtgs_book::{Answer, Command, Refusal};
@@ -27,7 +27,7 @@ pub fn make_book<S: Start, O: Write, F, P, N>(
         (HasMade (file_from ⟦<FileKeeper<S> as Keeper>⟧ S.Start (λ keeper. keeper.conn)) result.1) printed
         (O.contents out.old) (O.contents out.new)) }
     ensures refused { IfErr result.0
-        (IsNotMade (file_from ⟦<FileKeeper<S> as Keeper>⟧ S.Start (λ keeper. keeper.conn)) result.1) }
+        (IsNoBookMade (file_from ⟦<FileKeeper<S> as Keeper>⟧ S.Start (λ keeper. keeper.conn)) result.1) }
     ensures unchanged { OnErr result.0 (out.new ≡ out.old) }
     ensures at { IsOf (file_from ⟦<FileKeeper<S> as Keeper>⟧ S.Start (λ keeper. keeper.conn)) file.now result.1 }
 {
@@ -87,7 +87,7 @@ fn submit<S: Start>(
 // Prints the line of what the desk answered. Where it refused the command, nothing is printed.
 fn told<O: Write>(reply: Result<Answer, Refusal>, out: &mut O) -> Result<Printed, Failure>
     ensures printed { IfOk result (λ printed. (answer : _) × (reply ≡ Ok answer)
-        × Prints (ended_line (line_of (Done.Answered answer))) None printed (O.contents out.old)
+        × Prints (ended_line (done_line (Done.Answered answer))) None printed (O.contents out.old)
         (O.contents out.new)) }
     ensures refused { IfErr result (λ why. (refusal : _) × (reply ≡ Err refusal) × (why ≡ Failure.Refused refusal)) }
     ensures unchanged { OnErr result (out.new ≡ out.old) }
@@ -100,7 +100,7 @@ fn told<O: Write>(reply: Result<Answer, Refusal>, out: &mut O) -> Result<Printed
 
 // Prints the line of what was done.
 fn say<O: Write>(done: Done, out: &mut O) -> Printed
-    ensures { Prints (ended_line (line_of done)) None result (O.contents out.old) (O.contents out.new) }
+    ensures { Prints (ended_line (done_line done)) None result (O.contents out.old) (O.contents out.new) }
 {
     Printed::sent(done.print(out))
 }

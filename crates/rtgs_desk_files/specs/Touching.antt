@@ -35,8 +35,8 @@ module _ {A K U C M : Type 0} (book_file : OverFile K U C) where
       × (why ≡ failure_of_file (book_file.fault_of unopened))
 
   -- no book was made in the file, and what is told is what refused it
-  abbrev pub IsNotMade : Touched A U C M → Failure → Type 0
-  IsNotMade touched why = (unmade : U) × (touched ≡ traces.Refused unmade) × book_file.was_unmade unmade
+  abbrev pub IsNoBookMade : Touched A U C M → Failure → Type 0
+  IsNoBookMade touched why = (unmade : U) × (touched ≡ traces.Refused unmade) × book_file.was_unmade unmade
       × (why ≡ failure_of_file (book_file.fault_of unmade))
 
   -- the desk was left so, and then the file was closed, which is this one; and beside it the run met this

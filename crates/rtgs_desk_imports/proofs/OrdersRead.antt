@@ -9,11 +9,11 @@ use Rattle.rtgs_desk_lines.specs.declared.failure.Failure.TheVariants.{Refused, 
 use Rattle.rtgs_order_files.specs.OrderFile.{IsOrderFile, IsFaultOf}
 use Rattle.rtgs_order_files.specs.declared.batch_fault.BatchFault.{BatchFault}
 use Rattle.rtgs_order_files.specs.declared.order_row.OrderRow.{OrderRow}
-use Rattle.rtgs_desk_imports.specs.Causes.{failure_of_reading, IsTaken, AreRowsOf, RefusesRows}
+use Rattle.rtgs_desk_imports.specs.Causes.{failure_of_reading, IsFileTaken, AreRowsOf, RefusesRows}
 
 module _ {V : Type 0} (bytes_of : V → List ℕ) where
   -- the rows of what was taken are those of what was read
-  pub rows_taken : (read : Result V Error) (bytes : V) → IsTaken bytes_of read (Ok bytes) → (rows : List OrderRow)
+  pub rows_taken : (read : Result V Error) (bytes : V) → IsFileTaken bytes_of read (Ok bytes) → (rows : List OrderRow)
       → IsOrderFile (bytes_of bytes) rows → AreRowsOf bytes_of read rows
   rows_taken (Ok read) bytes taken rows are = (taken.1, subst (λ bytes. IsOrderFile bytes rows) taken.0 are)
   rows_taken (Err error) bytes taken rows are =
@@ -21,7 +21,7 @@ module _ {V : Type 0} (bytes_of : V → List ℕ) where
       absurd no
 
   -- what was not taken is refused
-  pub not_taken : (read : Result V Error) (why : Failure) → IsTaken bytes_of read (Err why)
+  pub not_taken : (read : Result V Error) (why : Failure) → IsFileTaken bytes_of read (Err why)
       → RefusesRows bytes_of read why
   not_taken (Ok read) why taken = inl taken
   not_taken (Err error) why taken =
@@ -29,7 +29,7 @@ module _ {V : Type 0} (bytes_of : V → List ℕ) where
       is
 
   -- what was taken, and then refused
-  pub taken_refused : {T : Type 0} (read : Result V Error) (bytes : V) → IsTaken bytes_of read (Ok bytes)
+  pub taken_refused : {T : Type 0} (read : Result V Error) (bytes : V) → IsFileTaken bytes_of read (Ok bytes)
       → (sent : Result T Failure) → IfErr sent (λ why. (why ≡ Refused OutOfMemory)
       ⊎ ((fault : BatchFault) × IsFaultOf (bytes_of bytes) fault × (why ≡ Orders fault)))
       → IfErr sent (λ why. RefusesRows bytes_of read why)

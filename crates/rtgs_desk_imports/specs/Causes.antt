@@ -19,10 +19,10 @@ failure_of_reading _ = NoOrders
 
 -- What was read of a file of orders is taken as it is, where it has no more bytes than such a file may have. `bytes_of`
 -- gives the bytes of what was read.
-abbrev pub IsTaken : {V : Type 0} → (V → List ℕ) → Result V Error → Result V Failure → Type 0
-IsTaken bytes_of (Ok read) (Ok taken) = (bytes_of taken ≡ bytes_of read) × (length (bytes_of read) ≤ MOST_BYTES)
-IsTaken bytes_of (Ok read) (Err failure) = (failure ≡ OrdersTooLong) × (MOST_BYTES < length (bytes_of read))
-IsTaken bytes_of (Err error) result = result ≡ Err (failure_of_reading (error_kind error))
+abbrev pub IsFileTaken : {V : Type 0} → (V → List ℕ) → Result V Error → Result V Failure → Type 0
+IsFileTaken bytes_of (Ok read) (Ok taken) = (bytes_of taken ≡ bytes_of read) × (length (bytes_of read) ≤ MOST_BYTES)
+IsFileTaken bytes_of (Ok read) (Err failure) = (failure ≡ OrdersTooLong) × (MOST_BYTES < length (bytes_of read))
+IsFileTaken bytes_of (Err error) result = result ≡ Err (failure_of_reading (error_kind error))
 
 -- the rows of a file of orders, as its bytes were read
 abbrev pub AreRowsOf : {V : Type 0} → (V → List ℕ) → Result V Error → List OrderRow → Type 0

@@ -1,6 +1,6 @@
 //! The bytes of a file of orders.
 ghost use Rattle.std.specs.Prelude.{◌≡◌};
-ghost use Rattle.rtgs_desk_imports.specs.Causes.{failure_of_reading, IsTaken};
+ghost use Rattle.rtgs_desk_imports.specs.Causes.{failure_of_reading, IsFileTaken};
 
 use rtgs_book::Refusal;
 use rtgs_desk_lines::Failure;
@@ -25,7 +25,7 @@ impl OrderFile {
 
     /// The bytes that were read, if they are no more than a file of orders may have.
     pub(crate) fn taken(self) -> Result<Vec<u8>, Failure>
-        ensures { IsTaken (λ bytes. bytes.items) self.answer result }
+        ensures { IsFileTaken (λ bytes. bytes.items) self.answer result }
     {
         match self.answer {
             Ok(bytes) if bytes.len() > MOST_BYTES => Err(Failure::OrdersTooLong),

@@ -36,7 +36,7 @@ refusal_detail (Overdrawn first count) = codes " " ++ first ++ codes " " ++ deci
 refusal_detail _ = []
 
 abbrev pub fault_detail : Fault → List ℕ
-fault_detail (fault.Inconsistent rule) = codes " " ++ decimal (rules.number_of rule)
+fault_detail (fault.Inconsistent rule) = codes " " ++ decimal (rules.rule_number rule)
 fault_detail fault.OutOfMemory = []
 fault_detail fault.StoreFault = []
 fault_detail fault.NotADeskFile = []
@@ -62,7 +62,7 @@ detail_of NoListen = []
 abbrev pub two_digits : ℕ → List ℕ
 two_digits number = (if nat_lt number 10 then codes "0" else []) ++ decimal number
 
-abbrev pub line_of : Failure → List ℕ
-line_of failure =
+abbrev pub failure_line : Failure → List ℕ
+failure_line failure =
     codes "refused " ++ two_digits (failure_entry_of failure).number ++ codes " " ++ (failure_entry_of failure).name
     ++ detail_of failure

@@ -28,8 +28,8 @@ answer_line CutOffDone = codes "cut off"
 answer_line (Closed rejected) = codes "closed rejected " ++ decimal rejected
 answer_line (Repeated known) = codes "repeated"
 
-abbrev pub line_of : Done → List ℕ
-line_of Made = codes "initialised"
-line_of (Answered answer) = answer_line answer
-line_of (Listening port) = codes "listening " ++ decimal port
-line_of (Served count) = codes "served " ++ decimal count
+abbrev pub done_line : Done → List ℕ
+done_line Made = codes "initialised"
+done_line (Answered answer) = answer_line answer
+done_line (Listening port) = codes "listening " ++ decimal port
+done_line (Served count) = codes "served " ++ decimal count

@@ -1,7 +1,7 @@
 //! What a run did, as it is printed.
 ghost use Rattle.std.specs.Prelude.{◌≡◌, ◌+◌, ◌<◌, ◌≤◌, ◌++◌, ◌∷◌, [], Some};
 ghost use Rattle.arrayvec.specs.ArrayString.{array_string_len};
-ghost use Rattle.rtgs_desk_lines.specs.Lines.{answer_line, line_of};
+ghost use Rattle.rtgs_desk_lines.specs.Lines.{answer_line, done_line};
 ghost use Rattle.rtgs_desk_lines.specs.Told.{IsTold};
 
 use crate::line::{Line, ROOM};
@@ -26,14 +26,14 @@ pub enum Done {
 impl Done {
     /// Prints the line with its end, in one piece. Where the writer fails, a beginning of it is printed, and not all.
     pub fn print<O: Write>(self, out: &mut O) -> Result<(), WriterFailed>
-        ensures { IsTold result (O.contents out.old) (O.contents out.new) (line_of self ++ 10 ∷ []) }
+        ensures { IsTold result (O.contents out.old) (O.contents out.new) (done_line self ++ 10 ∷ []) }
     {
         self.line().send(out)
     }
 
     // The line, without its end.
     fn line(self) -> Line
-        ensures text { result.text.bytes ≡ line_of self }
+        ensures text { result.text.bytes ≡ done_line self }
         ensures room { array_string_len result.text < ROOM }
     {
         match self {
@@ -88,9 +88,9 @@ fn answer_line(answer: Answer) -> Line
 
 impl fmt::Display for Done {
     ghost use Rattle.std.specs.Prelude.{Some};
-    ghost use Rattle.rtgs_desk_lines.specs.Lines.{line_of};
+    ghost use Rattle.rtgs_desk_lines.specs.Lines.{done_line};
 
-    ghost output = { λ done. Some (line_of done) };
+    ghost output = { λ done. Some (done_line done) };
 
     fn fmt<W: fmt::Write>(&self, f: &mut fmt::Formatter<W>) -> fmt::Result {
         f.write_str(self.line().as_str())

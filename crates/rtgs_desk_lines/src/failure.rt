@@ -2,7 +2,7 @@
 ghost use Rattle.std.specs.Prelude.{◌≡◌, ◌⊎◌, ◌+◌, ◌<◌, ◌≤◌, ◌++◌, ◌∷◌, [], Some};
 ghost use Rattle.arrayvec.specs.ArrayString.{array_string_len};
 ghost use Rattle.rtgs_desk_lines.specs.Failures.{failure_kind_of, failure_entry_of, refusal_detail, fault_detail};
-ghost use Rattle.rtgs_desk_lines.specs.Failures.{detail_of, line_of};
+ghost use Rattle.rtgs_desk_lines.specs.Failures.{detail_of, failure_line};
 ghost use Rattle.rtgs_desk_lines.specs.Told.{IsTold};
 
 use crate::line::{Line, ROOM};
@@ -70,14 +70,14 @@ impl Failure {
 
     /// Prints the line with its end, in one piece. Where the writer fails, a beginning of it is printed, and not all.
     pub fn print<E: Write>(&self, err: &mut E) -> Result<(), WriterFailed>
-        ensures { IsTold result (E.contents err.old) (E.contents err.new) (line_of self.now ++ 10 ∷ []) }
+        ensures { IsTold result (E.contents err.old) (E.contents err.new) (failure_line self.now ++ 10 ∷ []) }
     {
         self.line().send(err)
     }
 
     // The line, without its end.
     fn line(&self) -> Line
-        ensures text { result.text.bytes ≡ line_of self.now }
+        ensures text { result.text.bytes ≡ failure_line self.now }
         ensures room { array_string_len result.text < ROOM }
     {
         let kind = self.kind();
@@ -133,9 +133,9 @@ fn fault_detail(fault: Fault) -> Line
 
 impl fmt::Display for Failure {
     ghost use Rattle.std.specs.Prelude.{Some};
-    ghost use Rattle.rtgs_desk_lines.specs.Failures.{line_of};
+    ghost use Rattle.rtgs_desk_lines.specs.Failures.{failure_line};
 
-    ghost output = { λ failure. Some (line_of failure) };
+    ghost output = { λ failure. Some (failure_line failure) };
 
     fn fmt<W: fmt::Write>(&self, f: &mut fmt::Formatter<W>) -> fmt::Result {
         f.write_str(self.line().as_str())

@@ -7,7 +7,7 @@ use Rattle.rtgs_book.specs.declared.reading.Reading.{Reading}
 use Rattle.rtgs_book.specs.declared.reading.Reading.TheVariants as reading
 use Rattle.rtgs_desk.specs.Readings.{Tells}
 use Rattle.rtgs_desk.specs.Seen.{Seen}
-use Rattle.rtgs_desk_texts.specs.Readings.{Fails, text_wanted}
+use Rattle.rtgs_desk_texts.specs.Readings.{ReadingFails, text_wanted}
 use Rattle.rtgs_keeper.specs.declared.keeper.Keeper.{Ghosts}
 use Rattle.rtgs_book_file.specs.OverFile.{OverFile}
 use Rattle.rtgs_desk_readings.specs.Readings.{IsRead}
@@ -28,7 +28,7 @@ tells_refusal bytes_of (Err first) why told =
 
 -- what failed was not read
 fails_unread : {K V : Type 0} (g : Ghosts K) (book : Book) (asked : Reading) (desk : Seen K) (text : V)
-    → Fails g book asked desk (Ok text) → ⊥
+    → ReadingFails g book asked desk (Ok text) → ⊥
 fails_unread g book (reading.Order sender reference) desk text (known, inl memory) = cc
 fails_unread g book (reading.Order sender reference) desk text (known, inr fails) =
     let fault = fails.1 in
@@ -43,7 +43,7 @@ fails_unread g book (reading.Report date) desk text fails =
     cc
 
 fails_alike : {K : Type 0} (V : Type 0) (g : Ghosts K) (book : Book) (asked : Reading) (desk : Seen K) (why : Refusal)
-    → Fails {V = V} g book asked desk (Err why) → Fails {V = List ℕ} g book asked desk (Err why)
+    → ReadingFails {V = V} g book asked desk (Err why) → ReadingFails {V = List ℕ} g book asked desk (Err why)
 fails_alike V g book (reading.Order sender reference) desk why (known, inl memory) =
     let same : why ≡ OutOfMemory = cc in
     (known, inl (ap Err same))
@@ -72,13 +72,13 @@ module _ {K U C : Type 0} (file : OverFile K U C) {V : Type 0} (bytes_of : V →
         let it = did.did honest book held in (
           it.0,
           by book (text_wanted book asked) (subst (λ read. Tells bytes_of (text_wanted book asked) read
-              ⊎ Fails file.keeper book asked left read) is it.1),
+              ⊎ ReadingFails file.keeper book asked left read) is it.1),
         );
   }
     where
       by : (book : Book) (wanted : Result (List ℕ) Refusal) → Tells bytes_of wanted (Ok text)
-          ⊎ Fails file.keeper book asked left (Ok text) → Tells (λ bytes. bytes) wanted (Ok (bytes_of text))
-          ⊎ Fails file.keeper book asked left (Ok (bytes_of text))
+          ⊎ ReadingFails file.keeper book asked left (Ok text) → Tells (λ bytes. bytes) wanted (Ok (bytes_of text))
+          ⊎ ReadingFails file.keeper book asked left (Ok (bytes_of text))
       by book wanted (inl told) = inl (tells_bytes bytes_of wanted text told)
       by book wanted (inr fails) = absurd (fails_unread file.keeper book asked left text fails)
 
@@ -90,12 +90,13 @@ module _ {K U C : Type 0} (file : OverFile K U C) {V : Type 0} (bytes_of : V →
         let it = did.did honest book held in (
           it.0,
           by book (text_wanted book asked) (subst (λ read. Tells bytes_of (text_wanted book asked) read
-              ⊎ Fails file.keeper book asked left read) is it.1),
+              ⊎ ReadingFails file.keeper book asked left read) is it.1),
         );
   }
     where
       by : (book : Book) (wanted : Result (List ℕ) Refusal) → Tells bytes_of wanted (Err why)
-          ⊎ Fails {V = V} file.keeper book asked left (Err why) → Tells {Y = List ℕ} (λ bytes. bytes) wanted (Err why)
-          ⊎ Fails {V = List ℕ} file.keeper book asked left (Err why)
+          ⊎ ReadingFails {V = V} file.keeper book asked left (Err why) → Tells {Y = List ℕ} (λ bytes. bytes) wanted (Err
+          why)
+          ⊎ ReadingFails {V = List ℕ} file.keeper book asked left (Err why)
       by book wanted (inl told) = inl (tells_refusal bytes_of wanted why told)
       by book wanted (inr fails) = inr (fails_alike V file.keeper book asked left why fails)

@@ -10,7 +10,7 @@ use Rattle.rtgs_book.specs.declared.refusal.Refusal.{Refusal}
 use Rattle.rtgs_desk.specs.Holding.{Holds}
 use Rattle.rtgs_desk.specs.Readings.{Tells}
 use Rattle.rtgs_desk.specs.Seen.{Seen}
-use Rattle.rtgs_desk_texts.specs.Readings.{Fails, text_wanted}
+use Rattle.rtgs_desk_texts.specs.Readings.{ReadingFails, text_wanted}
 use Rattle.rtgs_desk_texts.specs.Written.{Writes, statement_wanted}
 use Rattle.rtgs_statements.specs.declared.book_text_fault.BookTextFault.{BookTextFault}
 use Rattle.rtgs_book_file.specs.OverFile.{OverFile}
@@ -59,7 +59,8 @@ module _ {K U C : Type 0} (file : OverFile K U C) {opened lent left finished : S
 
   pub was_read : {V : Type 0} (text_of : V → List ℕ) (reading : Reading) (read : Result V Refusal)
       → Promises (λ book. StillHolds file.keeper book left)
-      → Promises (λ book. Tells text_of (text_wanted book reading) read ⊎ Fails file.keeper book reading left read)
+      → Promises (λ book. Tells text_of (text_wanted book reading) read ⊎ ReadingFails file.keeper book reading left
+      read)
       → IsRead file text_of reading read finished
   was_read text_of reading read stands told = subst (IsRead file text_of reading read) (sym same)
       (is_done _ (λ was_honest book held. (stands was_honest book held, told was_honest book held)))

@@ -10,7 +10,7 @@ use Rattle.rtgs_keeper.specs.declared.keeper.Keeper.{Ghosts}
 use Rattle.rtgs_desk.specs.Holding.{Holds}
 use Rattle.rtgs_desk.specs.Readings.{Tells}
 use Rattle.rtgs_desk.specs.Seen.{Seen}
-use Rattle.rtgs_desk_texts.specs.Readings.{Fails, text_wanted}
+use Rattle.rtgs_desk_texts.specs.Readings.{ReadingFails, text_wanted}
 use Rattle.rtgs_desk_texts.specs.Written.{Writes, statement_wanted}
 use Rattle.rtgs_statements.specs.Reads.{LeavesLines}
 use Rattle.rtgs_statements.specs.declared.book_text_fault.BookTextFault.{BookTextFault}
@@ -43,7 +43,7 @@ module _ {K U C : Type 0} (file : OverFile K U C) where
   -- book. `text_of` gives the bytes of what was read.
   abbrev pub IsRead : {V : Type 0} → (V → List ℕ) → Reading → Result V Refusal → Seen K → Type 0
   IsRead text_of reading read left = IsDone file left (λ book. StillHolds file.keeper book left
-      × (Tells text_of (text_wanted book reading) read ⊎ Fails file.keeper book reading left read))
+      × (Tells text_of (text_wanted book reading) read ⊎ ReadingFails file.keeper book reading left read))
 
   -- The statement that is wanted of the book was written, or a beginning of it before memory was wanting, or the store
   -- or the writer failed; or what refuses it came, and nothing was written. Nothing was done to the book.

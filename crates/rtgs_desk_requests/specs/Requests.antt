@@ -20,8 +20,8 @@ use Rattle.rtgs_desk_requests.specs.Words.{ReadsAdd, ReadsCode, ReadsCredit, Rea
 use Rattle.rtgs_desk_requests.specs.Words.{ReadsKey, ReadsOrderName, ReadsStatement}
 
 -- What is read like this is made into the result. Where a word is not of its form, that is the result.
-abbrev pub Makes : {A B : Type 0} → (Result A Lexical → Type 0) → (A → B) → Result B Lexical → Type 0
-Makes {A} IsRead made result = (read : Result A Lexical) × IsRead read
+abbrev pub IsMadeOf : {A B : Type 0} → (Result A Lexical → Type 0) → (A → B) → Result B Lexical → Type 0
+IsMadeOf {A} IsRead made result = (read : Result A Lexical) × IsRead read
     × (result ≡ result_map_both made (λ form. form) read)
 
 -- the command that the words spell
@@ -29,7 +29,7 @@ abbrev pub ReadsCommand : CommandWords → Result Command Lexical → Type 0
 ReadsCommand (Add code name key) result = ReadsAdd code.now name.now key.now result
 ReadsCommand (Credit code cents) result = ReadsCredit code.now cents.now result
 ReadsCommand (Post code reference cents debit) result = ReadsPost code.now reference.now cents.now debit result
-ReadsCommand (Withdraw code reference) result = Makes (ReadsOrderName code.now reference.now)
+ReadsCommand (Withdraw code reference) result = IsMadeOf (ReadsOrderName code.now reference.now)
     (λ order. command.Withdraw order.0 order.1) result
 ReadsCommand (Open date) result = ReadsDay command.OpenDay date.now result
 ReadsCommand Resolve result = result ≡ Ok command.Resolve
@@ -38,19 +38,20 @@ ReadsCommand (Close date) result = ReadsDay command.CloseDay date.now result
 
 -- the reading that the words spell
 abbrev pub ReadsReading : ReadingWords → Result Reading Lexical → Type 0
-ReadsReading (Order code reference) result = Makes (ReadsOrderName code.now reference.now)
+ReadsReading (Order code reference) result = IsMadeOf (ReadsOrderName code.now reference.now)
     (λ order. reading.Order order.0 order.1) result
-ReadsReading (Account code) result = Makes (ReadsCode code.now) (λ code. reading.Account code) result
-ReadsReading (Queue code) result = Makes (ReadsCode code.now) (λ code. reading.Queue code) result
-ReadsReading (Statement code date) result = Makes (ReadsStatement code.now date.now)
+ReadsReading (Account code) result = IsMadeOf (ReadsCode code.now) (λ code. reading.Account code) result
+ReadsReading (Queue code) result = IsMadeOf (ReadsCode code.now) (λ code. reading.Queue code) result
+ReadsReading (Statement code date) result = IsMadeOf (ReadsStatement code.now date.now)
     (λ read. reading.Statement read.0 read.1) result
-ReadsReading (Report date) result = Makes (ReadsDate date.now) (λ day. reading.Report day) result
+ReadsReading (Report date) result = IsMadeOf (ReadsDate date.now) (λ day. reading.Report day) result
 
 -- what the words ask for, or the refusal of the first word that is not of its form, and nothing else
-abbrev pub Reads : Words → Result Request Lexical → Type 0
-Reads (words.Init file) result = result ≡ Ok (Make file)
-Reads (words.Submit file spelt) result = Makes (ReadsCommand spelt) (λ c. Submit file c) result
-Reads (words.Import file code orders) result = Makes (ReadsCode code.now) (λ sender. Import file sender orders) result
-Reads (words.Read file spelt) result = Makes (ReadsReading spelt) (λ reading. Read file reading) result
-Reads (words.Serve file port count key) result = Makes (ReadsKey key.now)
+abbrev pub ReadsRequest : Words → Result Request Lexical → Type 0
+ReadsRequest (words.Init file) result = result ≡ Ok (Make file)
+ReadsRequest (words.Submit file spelt) result = IsMadeOf (ReadsCommand spelt) (λ c. Submit file c) result
+ReadsRequest (words.Import file code orders) result = IsMadeOf (ReadsCode code.now) (λ sender. Import file sender
+    orders) result
+ReadsRequest (words.Read file spelt) result = IsMadeOf (ReadsReading spelt) (λ reading. Read file reading) result
+ReadsRequest (words.Serve file port count key) result = IsMadeOf (ReadsKey key.now)
     (λ operator. Serve file port count operator) result

@@ -39,11 +39,11 @@ pub enum Request<'a> {
 }
 
 impl<'a> Request<'a> {
-    ghost use Rattle.rtgs_desk_requests.specs.Requests.{Reads};
+    ghost use Rattle.rtgs_desk_requests.specs.Requests.{ReadsRequest};
 
     /// The request, or the refusal of the first word, from the left, that is not of its form.
     pub fn read(words: &Words<'a>) -> Result<Request<'a>, Lexical>
-        ensures { Reads words.now result }
+        ensures { ReadsRequest words.now result }
     {
         match *words {
             Words::Init { file } => Ok(Request::Make { file }),

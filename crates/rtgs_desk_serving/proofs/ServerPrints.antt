@@ -6,7 +6,7 @@ use Rattle.std.specs.Io.KnownBytes.{Appends}
 use Rattle.rtgs_book.specs.declared.refusal.Refusal.TheVariants.{Failed}
 use Rattle.rtgs_output.specs.Sent.{AppendsPart}
 use Rattle.rtgs_output.specs.declared.writer_failed.WriterFailed.{WriterFailed}
-use Rattle.rtgs_desk_lines.specs.Lines.{line_of}
+use Rattle.rtgs_desk_lines.specs.Lines.{done_line}
 use Rattle.rtgs_desk_lines.specs.Texts.{Prints, printed_of}
 use Rattle.rtgs_desk_lines.specs.Told.{IsTold}
 use Rattle.rtgs_desk_lines.specs.declared.done.Done.TheVariants.{Listening, Served}
@@ -23,8 +23,8 @@ both_lines old mid new first second (Err failed) one two = appends_part_after ol
 module _ (port count : ℕ) (old : Option (List ℕ)) where
   -- all were served, as far as the desk goes
   pub served_prints : (failed : Bool) (mid new : Option (List ℕ)) (told : Result ⊤ WriterFailed) → failed ≡ false
-      → Appends old mid (ended_line (line_of (Listening port)))
-      → IsTold told mid new (ended_line (line_of (Served count)))
+      → Appends old mid (ended_line (done_line (Listening port)))
+      → IsTold told mid new (ended_line (done_line (Served count)))
       → Prints (server_text port count failed) (stop_of_desk failed) (printed_of told) old new
   served_prints true mid new told works one two =
       let no : ⊥ = cc in
@@ -33,7 +33,7 @@ module _ (port count : ℕ) (old : Option (List ℕ)) where
 
   -- the desk failed
   pub stopped_prints : (failed : Bool) (new : Option (List ℕ)) → failed ≡ true
-      → Appends old new (ended_line (line_of (Listening port)))
+      → Appends old new (ended_line (done_line (Listening port)))
       → Prints (server_text port count failed) (stop_of_desk failed) (Stopped Failed) old new
   stopped_prints true new fails one = (refl, subst (Appends old new) (sym (append-nil _)) one)
   stopped_prints false new fails one =
@@ -42,7 +42,7 @@ module _ (port count : ℕ) (old : Option (List ℕ)) where
 
   -- nobody heard that it listens
   pub lost_prints : (failed : Bool) (new : Option (List ℕ)) (why : WriterFailed)
-      → AppendsPart old new (ended_line (line_of (Listening port)))
+      → AppendsPart old new (ended_line (done_line (Listening port)))
       → Prints (server_text port count failed) (stop_of_desk failed) (Lost why) old new
   lost_prints failed new why one = appends_part_before old new _ _ one
 
@@ -57,7 +57,7 @@ module _ (port count : ℕ) (old : Option (List ℕ)) where
           absurd no
 
   -- connections were taken until the desk failed
-  pub taken_until : (left : ℕ) (new : Option (List ℕ)) → Appends old new (ended_line (line_of (Listening port)))
+  pub taken_until : (left : ℕ) (new : Option (List ℕ)) → Appends old new (ended_line (done_line (Listening port)))
       → TakesAsTold port count left (Stopped Failed) old new
   taken_until left new one = (none_whole, inr ([], subst (Appends old new) (sym (append-nil _)) one))
     where
@@ -68,7 +68,7 @@ module _ (port count : ℕ) (old : Option (List ℕ)) where
 
   -- all connections were taken
   pub all_taken : (left : ℕ) (mid new : Option (List ℕ)) (second : List ℕ) (told : Result ⊤ WriterFailed) → left ≡ 0
-      → Appends old mid (ended_line (line_of (Listening port))) → IsTold told mid new second
+      → Appends old mid (ended_line (done_line (Listening port))) → IsTold told mid new second
       → TakesAsTold port count left (printed_of told) old new
   all_taken left mid new second (Ok done) none one two =
       ((λ _. none), inr (second, appends_both old mid new _ second one two))

@@ -11,7 +11,7 @@ use Rattle.rtgs_book.specs.declared.refusal.Refusal.{Refusal}
 use Rattle.rtgs_book.specs.declared.refusal.Refusal.TheVariants.{OutOfMemory, Failed}
 use Rattle.rtgs_book.specs.Outcome.{Reply}
 use Rattle.rtgs_desk.specs.Seen.{Seen}
-use Rattle.rtgs_desk_lines.specs.Lines.{line_of}
+use Rattle.rtgs_desk_lines.specs.Lines.{done_line}
 use Rattle.rtgs_desk_lines.specs.declared.done.Done.TheVariants.{Listening, Served}
 use Rattle.rtgs_desk_lines.specs.declared.failure.Failure.{Failure}
 use Rattle.rtgs_desk_lines.specs.declared.failure.Failure.TheVariants.{Refused, NoListen}
@@ -41,14 +41,14 @@ IsNotListening _ why = ⊥
 
 -- that connections are taken on this port, and then how many were served, unless the desk has failed
 abbrev pub server_text : ℕ → ℕ → Bool → List ℕ
-server_text port count failed = ended_line (line_of (Listening port))
-    ++ (if failed then [] else ended_line (line_of (Served count)))
+server_text port count failed = ended_line (done_line (Listening port))
+    ++ (if failed then [] else ended_line (done_line (Served count)))
 
 -- Of so many connections on a port some are left. None is where all was printed; and all are, where the line that says
 -- on which port they are taken was not printed whole.
 abbrev pub TakesAsTold : ℕ → ℕ → ℕ → Printed → Option (List ℕ) → Option (List ℕ) → Type 0
 TakesAsTold port count left printed old new = (printed ≡ Whole → left ≡ 0)
-    × ((left ≡ count) ⊎ ((rest : List ℕ) × Appends old new (ended_line (line_of (Listening port)) ++ rest)))
+    × ((left ≡ count) ⊎ ((rest : List ℕ) × Appends old new (ended_line (done_line (Listening port)) ++ rest)))
 
 -- the same of the port that a run met
 abbrev pub TakesAt : {F N : Type 0} → ℕ → ℕ → Met F (Snapshot Port) N → Printed → Option (List ℕ) → Option (List ℕ)

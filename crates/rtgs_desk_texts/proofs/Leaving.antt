@@ -5,12 +5,12 @@ use Rattle.rtgs_book.specs.declared.Refusal.{Refusal}
 use Rattle.rtgs_keeper.specs.declared.keeper.Keeper.{Ghosts}
 use Rattle.rtgs_desk.specs.Holding.{Holds, IsLeft}
 use Rattle.rtgs_desk.specs.Seen.{Seen}
-use Rattle.rtgs_statements.specs.Reads.{IsRead}
+use Rattle.rtgs_statements.specs.Reads.{LeavesRead}
 use Rattle.rtgs_desk_texts.specs.Written.{LeavesBook}
 
 module _ {K : Type 0} (g : Ghosts K) where
   pub leaves_book : (old new : Seen K) (ended : Option Refusal)
-      → IsRead (Holds g) (IsLeft g) (λ (desk : Seen K). g.is_honest desk.keeper)
+      → LeavesRead (Holds g) (IsLeft g) (λ (desk : Seen K). g.is_honest desk.keeper)
       (λ (desk : Seen K). g.has_failed desk.keeper) old new ended → LeavesBook g old new
   leaves_book old new ended read = record {
     honest = λ honest. read.honest honest;

@@ -31,10 +31,10 @@ text_wanted book (reading.Report date) = report_wanted book date
 -- What can stand in place of a text, or of what refuses it: the store was asked, and failed. For an order memory can be
 -- wanting too. An account and a queue are read without asking the store, and it is not asked for a code that nobody
 -- has.
-abbrev pub Fails : {K V : Type 0} → Ghosts K → Book → Reading → Seen K → Result V Refusal → Type 0
-Fails g book (reading.Order sender reference) desk result =
+abbrev pub ReadingFails : {K V : Type 0} → Ghosts K → Book → Reading → Seen K → Result V Refusal → Type 0
+ReadingFails g book (reading.Order sender reference) desk result =
     (participant_of book sender ≢ None) × ((result ≡ Err OutOfMemory) ⊎ IsLost g desk result)
-Fails g book (reading.Account code) desk result = ⊥
-Fails g book (reading.Queue code) desk result = ⊥
-Fails g book (reading.Statement code date) desk result = (participant_of book code ≢ None) × IsLost g desk result
-Fails g book (reading.Report date) desk result = IsLost g desk result
+ReadingFails g book (reading.Account code) desk result = ⊥
+ReadingFails g book (reading.Queue code) desk result = ⊥
+ReadingFails g book (reading.Statement code date) desk result = (participant_of book code ≢ None) × IsLost g desk result
+ReadingFails g book (reading.Report date) desk result = IsLost g desk result

@@ -8,7 +8,7 @@ ghost use Rattle.rtgs_desk.specs.Holding.{Holds};
 ghost use Rattle.rtgs_desk.specs.Readings.{Tells, account_told, order_told, queue_told};
 ghost use Rattle.rtgs_http_bodies.specs.Readings.{order_data, queue_data};
 ghost use Rattle.rtgs_desk_texts.specs.Accounts.{account_data};
-ghost use Rattle.rtgs_desk_texts.specs.Readings.{Fails, json_line, text_wanted};
+ghost use Rattle.rtgs_desk_texts.specs.Readings.{ReadingFails, json_line, text_wanted};
 ghost use Rattle.rtgs_desk_texts.specs.Written.{IsLost, LeavesBook, statement_wanted, report_wanted, refusal_of_text};
 
 use crate::account::account_text;
@@ -32,7 +32,7 @@ pub fn text_of<K: Keeper>(
 ) -> Result<Vec<u8>, Refusal>
     ensures told { K.is_honest desk.new.keeper → (book : Book) → Holds K.Keeper desk.old book
         → Tells (λ text. text.items) (text_wanted book reading.now) result
-        ⊎ Fails K.Keeper book reading.now desk.new result }
+        ⊎ ReadingFails K.Keeper book reading.now desk.new result }
     ensures failed { K.has_failed desk.old.keeper ≡ true → (result ≡ Err Refusal.Failed) × (desk.new ≡ desk.old) }
     ensures only_failed { result ≡ Err Refusal.Failed → K.has_failed desk.old.keeper ≡ true }
     ensures fault { result ≡ Err Refusal.StoreFault

@@ -6,16 +6,16 @@ use Rattle.rtgs_gridlock.specs.declared.standings.Standing.{Standing}
 use Rattle.rtgs_gridlock.specs.Choices.{position_of, queue_of, sent, received}
 
 -- the standing of a participant
-abbrev pub standing_of : List Standing → ℕ → Standing
-standing_of standings p = slice_index_or standings p (record { funds = 0; owed = 0 })
+abbrev pub standing_at : List Standing → ℕ → Standing
+standing_at standings p = slice_index_or standings p (record { funds = 0; owed = 0 })
 
 -- what a participant may spend
 abbrev pub funds_of : List Standing → ℕ → ℕ
-funds_of standings p = (standing_of standings p).funds
+funds_of standings p = (standing_at standings p).funds
 
 -- what a participant sends
 abbrev pub owed_of : List Standing → ℕ → ℕ
-owed_of standings p = (standing_of standings p).owed
+owed_of standings p = (standing_at standings p).owed
 
 -- a participant may spend what it sends
 abbrev pub HasEnough : List Standing → ℕ → Type 0

@@ -15,7 +15,7 @@ use Rattle.rtgs_http_replies.specs.Messages.{Message}
 use Rattle.rtgs_http_requests.specs.Access.{BearsKey, MayAsk}
 use Rattle.rtgs_http_requests.specs.Callers.{CodeOf}
 use Rattle.rtgs_http_requests.specs.Exchange.{AsksFor}
-use Rattle.rtgs_http_requests.specs.Plans.{LooksUp}
+use Rattle.rtgs_http_requests.specs.Plans.{PlanLooksUp}
 use Rattle.rtgs_http_requests.specs.declared.asked.Asked.{Asked}
 use Rattle.rtgs_http_requests.specs.declared.asked.Asked.TheVariants.{Submit, Batch, Read}
 use Rattle.rtgs_http_requests.specs.declared.http_fault.HttpFault.{HttpFault}
@@ -133,7 +133,7 @@ fault_exchange g operator input desk fault sent asks has stands work said = reco
 
 -- a request whose caller was to be looked up by a desk that had failed
 pub failed_exchange : {K : Type 0} (g : Ghosts K) (operator input : List ℕ) (desk : Seen K) (sent : Message)
-    → ((book : Book) → Holds g desk book → g.has_failed desk.keeper ≡ false) → LooksUp operator input
+    → ((book : Book) → Holds g desk book → g.has_failed desk.keeper ≡ false) → PlanLooksUp operator input
     → g.has_failed desk.keeper ≡ true → IsSaid (refused_message Failed) sent
     → Exchanges g operator desk input desk sent
 failed_exchange g operator input desk sent work looks failed said = record {

@@ -25,7 +25,7 @@ use Rattle.rtgs_http_requests.specs.declared.asked.Asked.{Asked}
 use Rattle.rtgs_http_requests.specs.declared.asked.Asked.TheVariants.{Submit, Batch, Read}
 use Rattle.rtgs_http_requests.specs.declared.http_fault.HttpFault.{HttpFault}
 use Rattle.rtgs_book.specs.declared.reading.Reading.{Reading}
-use Rattle.rtgs_http_banks.specs.Sayings.{IsSaid, IsTold, fault_message, reply_message, reading_message}
+use Rattle.rtgs_http_banks.specs.Sayings.{IsSaid, IsSentOrLost, fault_message, reply_message, reading_message}
 
 -- nothing was done to the book: the desk holds it, unless the store failed, and a crash leaves it and no other, whole
 pub record Stands {K : Type 0} (g : Ghosts K) (book : Book) (desk : Seen K) : Type 0 where
@@ -38,7 +38,7 @@ pub record Submits {K : Type 0} (g : Ghosts K) (old : Book) (command : Command) 
     : Type 0 where
   pub reply : Reply
   pub acts : Acts g old command reply desk
-  pub told : IsTold (reply_message reply) sent
+  pub told : IsSentOrLost (reply_message reply) sent
   -- that memory was refused for the command is told without taking any
   pub refused : reply ≡ Err OutOfMemory → sent ≡ no_memory
   pub not_failed : reply ≢ Err Failed
@@ -53,7 +53,7 @@ pub record SubmitsAll {K : Type 0} (g : Ghosts K) (old : Book) (sender : List �
   pub fault : stopped ≡ Some StoreFault → g.has_failed desk.keeper ≡ true
   pub works : stopped ≢ Some StoreFault → g.has_failed desk.keeper ≡ false
   pub acts : Sent g old sender rows replies stopped desk
-  pub told : IsTold (message (batch_status stopped) Csv (results_text rows replies stopped)) sent
+  pub told : IsSentOrLost (message (batch_status stopped) Csv (results_text rows replies stopped)) sent
   pub not_failed : stopped ≢ Some Failed
 
 -- nothing was given for lack of memory, and the store works

@@ -11,7 +11,7 @@ use Rattle.rtgs_http_replies.specs.Messages.{Message}
 use Rattle.rtgs_http_requests.specs.Access.{BearsKey, MayAsk}
 use Rattle.rtgs_http_requests.specs.Callers.{CodeOf}
 use Rattle.rtgs_http_requests.specs.Exchange.{AsksFor}
-use Rattle.rtgs_http_requests.specs.Plans.{LooksUp}
+use Rattle.rtgs_http_requests.specs.Plans.{PlanLooksUp}
 use Rattle.rtgs_http_requests.specs.declared.asked.Asked.{Asked}
 use Rattle.rtgs_http_requests.specs.declared.http_fault.HttpFault.{HttpFault}
 use Rattle.rtgs_http_banks.specs.Dealings.{ComesTo, WorksFor}
@@ -37,7 +37,7 @@ pub record Deals {K : Type 0} (g : Ghosts K) (operator : List ℕ) (old : Book) 
 -- are, all is read of what is asked.
 abbrev pub NeedsBook : List ℕ → List ℕ → Type 0
 NeedsBook operator input =
-    LooksUp operator input ⊎ ((asked : Asked) × ((code_of : CodeOf) → AsksFor operator code_of input (Ok asked)))
+    PlanLooksUp operator input ⊎ ((asked : Asked) × ((code_of : CodeOf) → AsksFor operator code_of input (Ok asked)))
 
 -- A desk that had failed says so at the first step that needs the book. A fault of a step before it is told.
 abbrev pub TurnsAway : List ℕ → List ℕ → Message → Type 0

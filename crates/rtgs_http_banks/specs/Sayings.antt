@@ -25,8 +25,8 @@ abbrev pub IsSaid : Message → Message → Type 0
 IsSaid wanted sent = (sent ≡ wanted) ⊎ (sent ≡ no_memory)
 
 -- What is sent is this, or that there was no memory for it. The desk had answered.
-abbrev pub IsTold : Message → Message → Type 0
-IsTold wanted sent = (sent ≡ wanted) ⊎ (sent ≡ answer_lost)
+abbrev pub IsSentOrLost : Message → Message → Type 0
+IsSentOrLost wanted sent = (sent ≡ wanted) ⊎ (sent ≡ answer_lost)
 
 -- why nothing is asked
 abbrev pub fault_message : HttpFault → Message

@@ -16,7 +16,7 @@ use Rattle.rtgs_http_requests.specs.declared.admitted.Admitted.TheVariants as ad
 use Rattle.rtgs_http_requests.specs.declared.asked.Asked.{Asked}
 use Rattle.rtgs_http_requests.specs.declared.http_fault.HttpFault.{HttpFault}
 use Rattle.rtgs_http_requests.specs.declared.plan.Plan.{Plan}
-use Rattle.rtgs_http_input.specs.Input.{OfInput, Fails, Says, FindsCaller, Requests}
+use Rattle.rtgs_http_input.specs.Input.{OfInput, StepFails, Says, FindsCaller, Requests}
 use Rattle.rtgs_http_input.specs.declared.unread.Unread.{Unread}
 use Rattle.rtgs_http_input.specs.declared.unread.Unread.TheVariants.{Reader, DirectoryFailed, Faulty}
 
@@ -27,7 +27,7 @@ asks_none {X} None Step result h e = subst (λ (r : Result X Unread). Says (Step
 asks_none {X} (Some rest) Step result h e = subst (λ (r : Result X Unread). Says (Step rest) r) e h
 
 pub region_fails : (Knows : CodeOf → Type 0) (operator input : List ℕ) (unread : Unread)
-    → Fails (λ fault. HasRegion input (Err fault)) unread → Requests Knows operator input (Err unread)
+    → StepFails (λ fault. HasRegion input (Err fault)) unread → Requests Knows operator input (Err unread)
 region_fails Knows operator input (Reader failed) h = tt
 region_fails Knows operator input DirectoryFailed h = absurd h
 region_fails Knows operator input (Faulty fault) h = λ code_of known. (Err fault, h, refl)
@@ -58,8 +58,8 @@ participant_found Knows given route digest caller e told =
 
 pub body_fails : (plan : Plan) (rest : List ℕ) (caller : Admitted) (size : ℕ) (unread : Unread)
     → Ok size ≡ body_length plan.posts plan.length
-    → Fails (λ fault. HasBody rest size (Err fault)) unread
-    → Fails (λ fault. AfterCaller plan rest caller (Err fault)) unread
+    → StepFails (λ fault. HasBody rest size (Err fault)) unread
+    → StepFails (λ fault. AfterCaller plan rest caller (Err fault)) unread
 body_fails plan rest caller size (Reader failed) e h = tt
 body_fails plan rest caller size DirectoryFailed e h = absurd h
 body_fails plan rest caller size (Faulty fault) e h = (Ok size, e, (Err fault, h, refl))

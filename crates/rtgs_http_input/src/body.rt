@@ -1,7 +1,7 @@
 //! The body of a request, from a reader.
 ghost use Rattle.std.specs.Prelude.{◌≤◌, ◌<◌, length, Ok, Err, IfOk, IfErr, OnOk};
 ghost use Rattle.rtgs_http_feeds.specs.declared.limits.TheConstants.{LONGEST_BODY};
-ghost use Rattle.rtgs_http_input.specs.Input.{Fails, Behind, part};
+ghost use Rattle.rtgs_http_input.specs.Input.{StepFails, Behind, part};
 ghost use Rattle.rtgs_http_input.specs.declared.piece.TheConstants.{PIECE};
 ghost use Rattle.rtgs_http_requests.specs.Exchange.{HasBody};
 
@@ -28,7 +28,7 @@ pub fn read_body<R: Read>(
     ensures body { IfOk result (λ body. Behind (part from to piece.old) (R.remaining reader.old)
         (λ rest. HasBody rest size (Ok body.bytes))) }
     ensures fault { IfErr result (λ unread. Behind (part from to piece.old) (R.remaining reader.old)
-        (λ rest. Fails (λ fault. HasBody rest size (Err fault)) unread)) }
+        (λ rest. StepFails (λ fault. HasBody rest size (Err fault)) unread)) }
 {
     let Ok(mut feed) = BodyFeed::new(alloc, size) else {
         return Err(Unread::Faulty(HttpFault::OutOfMemory));
@@ -50,7 +50,7 @@ fn fill<R: Read>(reader: &mut R, piece: &mut [u8; PIECE], feed: &mut BodyFeed) -
     ensures body { OnOk result (Behind feed.old.bytes (R.remaining reader.old)
         (λ rest. HasBody rest feed.old.wanted (Ok feed.new.bytes))) }
     ensures fault { IfErr result (λ unread. Behind feed.old.bytes (R.remaining reader.old)
-        (λ rest. Fails (λ fault. HasBody rest feed.old.wanted (Err fault)) unread)) }
+        (λ rest. StepFails (λ fault. HasBody rest feed.old.wanted (Err fault)) unread)) }
 {
     // Each piece has a byte at least.
     for _turn in 0..LONGEST_BODY {

@@ -2,7 +2,7 @@
 ghost use Rattle.std.specs.Prelude.{◌≤◌, ◌++◌, Err, IfOk, IfErr};
 ghost use Rattle.std.specs.Io.KnownBytes.{Consumes};
 ghost use Rattle.rtgs_http_feeds.specs.Region.{IsRegion};
-ghost use Rattle.rtgs_http_input.specs.Input.{Fails, OfInput, part};
+ghost use Rattle.rtgs_http_input.specs.Input.{StepFails, OfInput, part};
 ghost use Rattle.rtgs_http_input.specs.declared.piece.TheConstants.{PIECE};
 ghost use Rattle.rtgs_http_requests.specs.Exchange.{HasRegion};
 
@@ -26,7 +26,7 @@ pub fn read_region<R: Read>(
     ensures taken { IfOk result (λ (region, from, to).
         Consumes (R.remaining reader.old) (R.remaining reader.new) (region ++ part from to piece.new)) }
     ensures fault { IfErr result (λ unread. OfInput (R.remaining reader.old)
-        (λ input. Fails (λ fault. HasRegion input (Err fault)) unread)) }
+        (λ input. StepFails (λ fault. HasRegion input (Err fault)) unread)) }
 {
     let Ok(mut feed) = HeadFeed::new(alloc) else {
         return Err(Unread::Faulty(HttpFault::OutOfMemory));

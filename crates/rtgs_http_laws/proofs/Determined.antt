@@ -33,7 +33,7 @@ use Rattle.rtgs_book.specs.declared.reading.Reading.{Reading}
 use Rattle.rtgs_http_laws.specs.Alike.{EndAlike}
 use Rattle.rtgs_http_banks.specs.Dealings.{ComesTo, Submits, SubmitsAll, Reads, IsReadOf}
 use Rattle.rtgs_http_banks.specs.Exchange.{Deals}
-use Rattle.rtgs_http_banks.specs.Sayings.{IsSaid, IsTold, fault_message, reply_message, reading_message}
+use Rattle.rtgs_http_banks.specs.Sayings.{IsSaid, IsSentOrLost, fault_message, reply_message, reading_message}
 
 -- a step has one outcome
 abbrev pub StepsOnce : Type 0
@@ -64,7 +64,7 @@ said : (wanted sent : Message) → sent.status ≢ 503 → IsSaid wanted sent �
 said wanted sent done (inl e) = e
 said wanted sent done (inr e) = absurd (done (ap (λ (m : Message). m.status) e))
 
-pub told_of : (wanted sent : Message) → sent.status ≢ 503 → IsTold wanted sent → sent ≡ wanted
+pub told_of : (wanted sent : Message) → sent.status ≢ 503 → IsSentOrLost wanted sent → sent ≡ wanted
 told_of wanted sent done (inl e) = e
 told_of wanted sent done (inr e) = absurd (done (ap (λ (m : Message). m.status) e))
 

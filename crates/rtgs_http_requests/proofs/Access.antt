@@ -20,7 +20,7 @@ use Rattle.rtgs_http_heads.specs.declared.route.Route.{Route}
 use Rattle.rtgs_http_heads.specs.declared.route.Route.TheVariants.{Bank, Operator}
 use Rattle.rtgs_http_requests.specs.Bodies.{ReadsJson, body_length}
 use Rattle.rtgs_http_requests.specs.Callers.{CodeOf, caller_under, known}
-use Rattle.rtgs_http_requests.specs.Contents.{Finds, HasOrder, HasNothing}
+use Rattle.rtgs_http_requests.specs.Contents.{FindsContent, HasOrder, HasNothing}
 use Rattle.rtgs_http_requests.specs.Exchange.{AsksFor, HasRegion, HasHead, HasRoute, HasCaller, HasBody}
 use Rattle.rtgs_http_requests.specs.Meaning.{Answer, AsksPlainly, AsksBatch, Means, MeansBank, SpellsDate}
 use Rattle.rtgs_http_requests.specs.Meaning.{SpellsOrder, SpellsReference}
@@ -71,21 +71,22 @@ batch_own caller body (Batch sender rows) x = x.0
 batch_own caller body (Read read) x = absurd x
 
 abbrev plainly : Asked → Data → Answer → Type 0
-plainly asked value = Then (Finds (λ (_ : Unit {0}) given. HasNothing given) value)
+plainly asked value = Then (FindsContent (λ (_ : Unit {0}) given. HasNothing given) value)
     (λ (_ : Unit {0}) (answer : Answer). answer ≡ Ok asked)
 
 bank_own : (route : BankRoute) (caller parameter body : List ℕ) (asked : Asked)
     → MeansBank route caller parameter body (Ok asked) → IsOwn caller asked
 bank_own SendOrder caller parameter body asked x =
-    let v = value_of (ReadsJson body) (λ value. Then (Finds HasOrder value) (λ values. SpellsOrder caller values)) asked
+    let v = value_of (ReadsJson body) (λ value. Then (FindsContent HasOrder value) (λ values. SpellsOrder caller
+    values)) asked
     x in
-    let w = value_of (Finds HasOrder v.0) (λ values. SpellsOrder caller values) asked v.2 in
+    let w = value_of (FindsContent HasOrder v.0) (λ values. SpellsOrder caller values) asked v.2 in
     order_own caller w.0 asked w.2
 bank_own WithdrawOrder caller parameter body asked x =
     let r = value_of (SpellsReference parameter) (λ reference. AsksPlainly body
     (Submit (command.Withdraw caller reference))) asked x in
     let v = value_of (ReadsJson body) (plainly (Submit (command.Withdraw caller r.0))) asked r.2 in
-    let w = value_of (Finds (λ (_ : Unit {0}) given. HasNothing given) v.0)
+    let w = value_of (FindsContent (λ (_ : Unit {0}) given. HasNothing given) v.0)
     (λ (_ : Unit {0}) (answer : Answer). answer ≡ Ok (Submit (command.Withdraw caller r.0))) asked v.2 in
     same_own caller asked (Submit (command.Withdraw caller r.0)) w.2 refl
 bank_own SendBatch caller parameter body asked x = batch_own caller body asked x

@@ -9,7 +9,7 @@ use Rattle.rtgs_http_heads.specs.declared.head_fault.HeadFault.{HeadFault}
 use Rattle.rtgs_http_heads.specs.declared.head_fault.HeadFault.TheVariants as head
 use Rattle.rtgs_http_heads.specs.declared.route.Route.{Route}
 use Rattle.rtgs_http_requests.specs.Bodies.{body_length}
-use Rattle.rtgs_http_requests.specs.Callers.{CodeOf, caller_under, Leads}
+use Rattle.rtgs_http_requests.specs.Callers.{CodeOf, caller_under, LeadsToCaller}
 use Rattle.rtgs_http_requests.specs.Exchange.{HasBody}
 use Rattle.rtgs_http_requests.specs.Faults.{of_head}
 use Rattle.rtgs_http_requests.specs.Meaning.{Answer, Means}
@@ -33,7 +33,7 @@ head_fails operator region head.OutOfMemory told code_of input rest starts = (Er
 
 -- so is the fault of its key
 pub key_fails : (operator region : List ℕ) (read : Head) (bad : HttpFault) → ReadsHead region (Ok read)
-    → Leads operator read.route read.key (Err bad) → Plans operator region (Err bad)
+    → LeadsToCaller operator read.route read.key (Err bad) → Plans operator region (Err bad)
 key_fails operator region read bad told leads code_of input rest starts = (
   Ok (region, rest),
   starts,
@@ -53,7 +53,7 @@ key_fails operator region read bad told leads code_of input rest starts = (
 )
 
 led : (operator : List ℕ) (read : Head) (known : Admission) (code_of : CodeOf)
-    → Leads operator read.route read.key (Ok known) → caller_under operator code_of read.route read.key
+    → LeadsToCaller operator read.route read.key (Ok known) → caller_under operator code_of read.route read.key
     ≡ admitted_by code_of known
 led operator read (admission.Operator route) code_of leads = leads code_of
 led operator read (admission.LookUp route digest) code_of leads = leads.3 code_of
@@ -75,7 +75,7 @@ same_behind posts other length declared parameter rest told answer p l goes =
 
 -- what is asked under a plan is asked by each input that starts with its region
 pub planned : (operator region : List ℕ) (read : Head) (plan : Plan) → ReadsHead region (Ok read)
-    → Leads operator read.route read.key (Ok plan.admission)
+    → LeadsToCaller operator read.route read.key (Ok plan.admission)
     → plan.parameter.now ≡ read.parameter.now → plan.posts ≡ read.posts → plan.length ≡ read.length
     → Plans operator region (Ok plan)
 planned operator region read plan told leads parameter posts length code_of input rest answer starts after =
@@ -101,7 +101,7 @@ planned operator region read plan told leads parameter posts length code_of inpu
 
 -- where a key leaves its bearer to be looked up, each input that starts with the region does
 pub looked_up : (operator region : List ℕ) (read : Head) (known : Admission) → ReadsHead region (Ok read)
-    → Leads operator read.route read.key (Ok known) → MayLookUp operator region known
+    → LeadsToCaller operator read.route read.key (Ok known) → MayLookUp operator region known
 looked_up operator region read (admission.Operator route) told leads = tt
 looked_up operator region read (admission.LookUp route digest) told leads = λ input rest starts. record {
   region = region;

@@ -9,8 +9,8 @@ use Rattle.rtgs_money.specs.Date.{IsBusinessDate, date_text}
 use Rattle.rtgs_money.specs.Forms.{IsCode, IsReference, is_code, is_reference}
 use Rattle.rtgs_money.specs.declared.lexical.Lexical.TheVariants.{BadDate}
 use Rattle.rtgs_http_requests.specs.Bodies.{ReadsJson}
-use Rattle.rtgs_http_requests.specs.Contents.{Finds, HasOrder, HasPosting, HasCredit, HasDate, HasNothing}
-use Rattle.rtgs_http_requests.specs.Meaning.{SpellsReference, SpellsDate, SpellsOrder, SpellsPosting, SpellsCredit}
+use Rattle.rtgs_http_requests.specs.Contents.{FindsContent, HasOrder, HasPosting, HasCredit, HasDate, HasNothing}
+use Rattle.rtgs_http_requests.specs.Meaning.{SpellsReference, SpellsDate, SpellsOrder, IsPostingOf, SpellsCredit}
 use Rattle.rtgs_http_requests.specs.declared.http_fault.HttpFault.{HttpFault}
 use Rattle.rtgs_http_requests.specs.declared.http_fault.HttpFault.TheVariants as fault
 use Rattle.rtgs_http_requests.proofs.Agreement.{IsDetermined, Tells, told_once, told_equal}
@@ -41,14 +41,14 @@ json_once body one other x y = told_once (Spells body) fault.BadJson (one_value 
 -- ---- the content of a value
 
 tells_content : {A : Type 0} (Has : A → Data → Type 0) (value : Data) (told : Result A HttpFault)
-    → Finds Has value told → Tells (λ content. Has content value) fault.WrongFields told
+    → FindsContent Has value told → Tells (λ content. Has content value) fault.WrongFields told
 tells_content Has value (Ok content) x = inl (content, refl, x)
 tells_content Has value (Err fault.WrongFields) none = inr (inl (refl, none))
 tells_content Has value (Err _) x = absurd x
 
 pub content_once : {A : Type 0} (Has : A → Data → Type 0)
     → ((value : Data) (one other : A) → Has one value → Has other value → one ≡ other) → (value : Data)
-    → IsDetermined (Finds Has value)
+    → IsDetermined (FindsContent Has value)
 content_once Has same value one other x y =
     told_once (λ content. Has content value) fault.WrongFields (same value) one other (tells_content Has value one x)
     (tells_content Has value other y)
@@ -132,7 +132,7 @@ order_once caller values one other x y = by (truth (is_reference values.0)) (tru
     by (inl r) (inr t) _ = told_equal _ one other (x.bad_code r t) (y.bad_code r t)
     by (inr r) _ _ = told_equal _ one other (x.bad_reference r) (y.bad_reference r)
 
-pub posting_once : (values : List ℕ × List ℕ × ℤ) → IsDetermined (SpellsPosting values)
+pub posting_once : (values : List ℕ × List ℕ × ℤ) → IsDetermined (IsPostingOf values)
 posting_once values one other x y = by (truth (is_code values.0)) (truth (is_reference values.1)) (posting values.2)
   where
     by : IsCode values.0 ⊎ (¬ IsCode values.0) → IsReference values.1 ⊎ (¬ IsReference values.1)

@@ -16,9 +16,9 @@ use Rattle.rtgs_http_heads.specs.declared.operator_route.OperatorRoute.TheVarian
 use Rattle.rtgs_http_heads.specs.declared.operator_route.OperatorRoute.TheVariants.{Resolve, CutOff, CloseDay}
 use Rattle.rtgs_http_heads.specs.declared.operator_route.OperatorRoute.TheVariants.{ReadReport}
 use Rattle.rtgs_http_requests.specs.Bodies.{ReadsJson}
-use Rattle.rtgs_http_requests.specs.Contents.{Finds, HasOrder, HasPosting, HasCredit, HasDate, HasNothing}
+use Rattle.rtgs_http_requests.specs.Contents.{FindsContent, HasOrder, HasPosting, HasCredit, HasDate, HasNothing}
 use Rattle.rtgs_http_requests.specs.Meaning.{AsksDay, AsksPlainly, Means, MeansBank, MeansOperator, SpellsReference}
-use Rattle.rtgs_http_requests.specs.Meaning.{Answer, SpellsDate, SpellsOrder, SpellsPosting, SpellsCredit}
+use Rattle.rtgs_http_requests.specs.Meaning.{Answer, SpellsDate, SpellsOrder, IsPostingOf, SpellsCredit}
 use Rattle.rtgs_http_requests.specs.Steps.{Then, HasAnswer}
 use Rattle.rtgs_http_requests.specs.declared.admitted.Admitted.{Admitted}
 use Rattle.rtgs_http_requests.specs.declared.admitted.Admitted.TheVariants as admitted
@@ -46,18 +46,19 @@ json_answered body =
     told_answered (Spells body) fault.BadJson (ReadsJson body) (λ e. cc) (λ value has. has)
     (λ none text. no_json body (read body) refl none text)
 
-content_answered : {A : Type 0} (Has : A → Data → Type 0) (value : Data) → HasAnswer (Finds Has value)
+content_answered : {A : Type 0} (Has : A → Data → Type 0) (value : Data) → HasAnswer (FindsContent Has value)
 content_answered Has value =
-    told_answered (λ content. Has content value) fault.WrongFields (Finds Has value) (λ e. cc) (λ content has. has)
+    told_answered (λ content. Has content value) fault.WrongFields (FindsContent Has value) (λ e. cc) (λ content has.
+    has)
     (λ none. none)
 
 -- the value of a body, its content, and what is made of it
 spelt_answered : {A B : Type 0} (Has : A → Data → Type 0) (next : A → Result B HttpFault → Type 0) (body : List ℕ)
     → ((content : A) → HasAnswer (next content)) → HasAnswer
-    (Then (ReadsJson body) (λ value. Then (Finds Has value) next))
+    (Then (ReadsJson body) (λ value. Then (FindsContent Has value) next))
 spelt_answered Has next body go =
-    then_answered (ReadsJson body) (λ value. Then (Finds Has value) next) (json_answered body) (λ value.
-    then_answered (Finds Has value) next (content_answered Has value) go)
+    then_answered (ReadsJson body) (λ value. Then (FindsContent Has value) next) (json_answered body) (λ value.
+    then_answered (FindsContent Has value) next (content_answered Has value) go)
 
 -- ---- what values spell
 
@@ -115,7 +116,7 @@ order_answered caller values none = by (truth (is_reference values.0)) (truth (i
         }) in
         cc
 
-posting_answered : (values : List ℕ × List ℕ × ℤ) → HasAnswer (SpellsPosting values)
+posting_answered : (values : List ℕ × List ℕ × ℤ) → HasAnswer (IsPostingOf values)
 posting_answered values none = by (truth (is_code values.0)) (truth (is_reference values.1)) (posting values.2)
   where
     by : IsCode values.0 ⊎ (¬ IsCode values.0) → IsReference values.1 ⊎ (¬ IsReference values.1)
@@ -225,7 +226,7 @@ bank_answered alloc ReadStatement caller parameter body = dated_answered paramet
     (λ date. Read (reading.Statement caller date))
 
 operator_answered : (route : OperatorRoute) (parameter body : List ℕ) → HasAnswer (MeansOperator route parameter body)
-operator_answered Post parameter body = spelt_answered HasPosting (λ values. SpellsPosting values) body posting_answered
+operator_answered Post parameter body = spelt_answered HasPosting (λ values. IsPostingOf values) body posting_answered
 operator_answered SetCredit parameter body = spelt_answered HasCredit (λ values. SpellsCredit values) body
     credit_answered
 operator_answered OpenDay parameter body = day_answered body (λ date. Submit (command.OpenDay date))

@@ -11,9 +11,9 @@ use Rattle.rtgs_http_heads.specs.declared.operator_route.OperatorRoute.TheVarian
 use Rattle.rtgs_http_heads.specs.declared.operator_route.OperatorRoute.TheVariants.{Resolve, CutOff, CloseDay}
 use Rattle.rtgs_http_heads.specs.declared.operator_route.OperatorRoute.TheVariants.{ReadReport}
 use Rattle.rtgs_http_requests.specs.Bodies.{ReadsJson}
-use Rattle.rtgs_http_requests.specs.Contents.{Finds, HasOrder, HasPosting, HasCredit, HasDate, HasNothing}
+use Rattle.rtgs_http_requests.specs.Contents.{FindsContent, HasOrder, HasPosting, HasCredit, HasDate, HasNothing}
 use Rattle.rtgs_http_requests.specs.Meaning.{Answer, AsksBatch, AsksDay, AsksPlainly, Means, MeansBank}
-use Rattle.rtgs_http_requests.specs.Meaning.{MeansOperator, SpellsReference, SpellsDate, SpellsOrder, SpellsPosting}
+use Rattle.rtgs_http_requests.specs.Meaning.{MeansOperator, SpellsReference, SpellsDate, SpellsOrder, IsPostingOf}
 use Rattle.rtgs_http_requests.specs.Meaning.{SpellsCredit}
 use Rattle.rtgs_http_requests.specs.Same.{AreTheSame}
 use Rattle.rtgs_http_requests.specs.Steps.{Then}
@@ -45,10 +45,10 @@ the_same one other (inr (inr e)) = inr (inr (subst (λ t. AreTheSame one t) e (s
 spelt_once : {A B : Type 0} (Has : A → Data → Type 0) (next : A → Result B HttpFault → Type 0) (body : List ℕ)
     → ((value : Data) (one other : A) → Has one value → Has other value → one ≡ other)
     → ((content : A) → IsDetermined (next content))
-    → IsDetermined (Then (ReadsJson body) (λ value. Then (Finds Has value) next))
+    → IsDetermined (Then (ReadsJson body) (λ value. Then (FindsContent Has value) next))
 spelt_once Has next body one_content once =
-    then_determined (ReadsJson body) (λ value. Then (Finds Has value) next) (json_once body) (λ value.
-    then_determined (Finds Has value) next (content_once Has one_content value) once)
+    then_determined (ReadsJson body) (λ value. Then (FindsContent Has value) next) (json_once body) (λ value.
+    then_determined (FindsContent Has value) next (content_once Has one_content value) once)
 
 -- the answer is this one, whatever the step before told
 equal_once : {A B : Type 0} (answer : A → Result B HttpFault) (value : A)
@@ -126,7 +126,7 @@ bank_once laws ReadStatement caller parameter body one other x y =
 
 operator_once : LowerLaws → (route : OperatorRoute) (parameter body : List ℕ)
     → IsDetermined (MeansOperator route parameter body)
-operator_once laws Post parameter body = spelt_once HasPosting (λ values. SpellsPosting values) body one_posting
+operator_once laws Post parameter body = spelt_once HasPosting (λ values. IsPostingOf values) body one_posting
     posting_once
 operator_once laws SetCredit parameter body = spelt_once HasCredit (λ values. SpellsCredit values) body one_credit
     credit_once

@@ -35,10 +35,10 @@ caller_under operator code_of route (Some digest) = bearer operator code_of rout
 -- What is known before the participants are, whoever they are. A caller is to be looked up under a route of banks, with
 -- a
 -- key that is not the operator's.
-abbrev pub Leads : List ℕ → Route → Option (List ℕ) → Result Admission HttpFault → Type 0
-Leads operator route key (Ok (admission.Operator served)) =
+abbrev pub LeadsToCaller : List ℕ → Route → Option (List ℕ) → Result Admission HttpFault → Type 0
+LeadsToCaller operator route key (Ok (admission.Operator served)) =
     (code_of : CodeOf) → caller_under operator code_of route key ≡ Ok (admitted.Operator served)
-Leads operator route key (Ok (admission.LookUp served digest)) =
+LeadsToCaller operator route key (Ok (admission.LookUp served digest)) =
     (route ≡ Bank served) × (key ≡ Some digest) × (digest ≢ operator)
     × ((code_of : CodeOf) → caller_under operator code_of route key ≡ known served (code_of digest))
-Leads operator route key (Err fault) = (code_of : CodeOf) → caller_under operator code_of route key ≡ Err fault
+LeadsToCaller operator route key (Err fault) = (code_of : CodeOf) → caller_under operator code_of route key ≡ Err fault

@@ -30,7 +30,7 @@ abbrev pub HasNothing : Data → Type 0
 HasNothing value = value ≡ object no_members
 
 -- The value has this content, or it has none of the kind.
-abbrev pub Finds : {A : Type 0} → (A → Data → Type 0) → Data → Result A HttpFault → Type 0
-Finds {A} Has value (Ok content) = Has content value
-Finds {A} Has value (Err WrongFields) = (content : A) → ¬ Has content value
-Finds {A} Has value (Err _) = ⊥
+abbrev pub FindsContent : {A : Type 0} → (A → Data → Type 0) → Data → Result A HttpFault → Type 0
+FindsContent {A} Has value (Ok content) = Has content value
+FindsContent {A} Has value (Err WrongFields) = (content : A) → ¬ Has content value
+FindsContent {A} Has value (Err _) = ⊥

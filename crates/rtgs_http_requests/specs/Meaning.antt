@@ -23,7 +23,7 @@ use Rattle.rtgs_http_requests.specs.declared.http_fault.HttpFault.{HttpFault}
 use Rattle.rtgs_http_requests.specs.declared.http_fault.HttpFault.TheVariants as fault
 use Rattle.rtgs_book.specs.declared.reading.Reading.TheVariants as reading
 use Rattle.rtgs_http_requests.specs.Bodies.{ReadsJson}
-use Rattle.rtgs_http_requests.specs.Contents.{Finds, HasOrder, HasPosting, HasCredit, HasDate, HasNothing}
+use Rattle.rtgs_http_requests.specs.Contents.{FindsContent, HasOrder, HasPosting, HasCredit, HasDate, HasNothing}
 use Rattle.rtgs_http_requests.specs.Steps.{Then}
 
 -- what a request may come to
@@ -50,7 +50,7 @@ pub record SpellsOrder (caller : List ℕ) (values : List ℕ × List ℕ × ℕ
   pub bad_amount : IsReference values.0 → IsCode values.1 → ¬ IsAmount values.2 → answer ≡ Err (fault.Form BadAmount)
 
 -- the posting with these values, judged in this order
-pub record SpellsPosting (values : List ℕ × List ℕ × ℤ) (answer : Answer) : Type 0 where
+pub record IsPostingOf (values : List ℕ × List ℕ × ℤ) (answer : Answer) : Type 0 where
   pub found : IsCode values.0 → IsReference values.1 → IsPostingAmount values.2
       → answer ≡ Ok (Submit (command.Post values.0 values.1 values.2))
   pub bad_code : ¬ IsCode values.0 → answer ≡ Err (fault.Form BadCode)
@@ -68,11 +68,11 @@ pub record SpellsCredit (values : List ℕ × ℕ) (answer : Answer) : Type 0 wh
 abbrev pub AsksPlainly : List ℕ → Asked → Answer → Type 0
 AsksPlainly body asked =
     Then (ReadsJson body) (λ value.
-    Then (Finds (λ (_ : Unit {0}) given. HasNothing given) value) (λ _ answer. answer ≡ Ok asked))
+    Then (FindsContent (λ (_ : Unit {0}) given. HasNothing given) value) (λ _ answer. answer ≡ Ok asked))
 
 abbrev pub AsksOrder : List ℕ → List ℕ → Answer → Type 0
 AsksOrder caller body =
-    Then (ReadsJson body) (λ value. Then (Finds HasOrder value) (λ values. SpellsOrder caller values))
+    Then (ReadsJson body) (λ value. Then (FindsContent HasOrder value) (λ values. SpellsOrder caller values))
 
 abbrev pub AsksWithdrawal : List ℕ → List ℕ → List ℕ → Answer → Type 0
 AsksWithdrawal caller parameter body =
@@ -99,13 +99,13 @@ abbrev pub AsksReport : List ℕ → Answer → Type 0
 AsksReport parameter = Then (SpellsDate parameter) (λ date answer. answer ≡ Ok (Read (reading.Report date)))
 
 abbrev pub AsksPosting : List ℕ → Answer → Type 0
-AsksPosting body = Then (ReadsJson body) (λ value. Then (Finds HasPosting value) (λ values. SpellsPosting values))
+AsksPosting body = Then (ReadsJson body) (λ value. Then (FindsContent HasPosting value) (λ values. IsPostingOf values))
 
 abbrev pub AsksCredit : List ℕ → Answer → Type 0
-AsksCredit body = Then (ReadsJson body) (λ value. Then (Finds HasCredit value) (λ values. SpellsCredit values))
+AsksCredit body = Then (ReadsJson body) (λ value. Then (FindsContent HasCredit value) (λ values. SpellsCredit values))
 
 abbrev pub AsksDay : List ℕ → Result ℕ HttpFault → Type 0
-AsksDay body = Then (ReadsJson body) (λ value. Then (Finds HasDate value) (λ text. SpellsDate text))
+AsksDay body = Then (ReadsJson body) (λ value. Then (FindsContent HasDate value) (λ text. SpellsDate text))
 
 abbrev pub AsksResolution : List ℕ → Answer → Type 0
 AsksResolution body = AsksPlainly body (Submit command.Resolve)

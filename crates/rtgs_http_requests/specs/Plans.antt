@@ -45,7 +45,7 @@ Plans operator region (Err fault) = (code_of : CodeOf) (input rest : List ℕ)
 -- The input's head is good, its route is one of banks, and its only key is not the operator's: so the next step looks
 -- up
 -- whose the key is.
-pub record LooksUp (operator input : List ℕ) : Type 0 where
+pub record PlanLooksUp (operator input : List ℕ) : Type 0 where
   pub region : List ℕ
   pub rest : List ℕ
   pub head : RequestHead
@@ -63,4 +63,4 @@ pub record LooksUp (operator input : List ℕ) : Type 0 where
 abbrev pub MayLookUp : List ℕ → List ℕ → Admission → Type 0
 MayLookUp operator region (admission.Operator route) = ⊤
 MayLookUp operator region (admission.LookUp route digest) =
-    (input rest : List ℕ) → StartsWith input region rest → LooksUp operator input
+    (input rest : List ℕ) → StartsWith input region rest → PlanLooksUp operator input

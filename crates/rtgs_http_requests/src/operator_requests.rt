@@ -1,5 +1,5 @@
 //! What the operator asks for.
-ghost use Rattle.rtgs_http_requests.specs.Meaning.{AsksPosting, SpellsPosting, AsksCredit, SpellsCredit};
+ghost use Rattle.rtgs_http_requests.specs.Meaning.{AsksPosting, IsPostingOf, AsksCredit, SpellsCredit};
 ghost use Rattle.rtgs_http_requests.specs.Meaning.{AsksDay, AsksResolution, AsksReport, MeansOperator};
 
 use crate::asked::Asked;
@@ -45,7 +45,7 @@ fn read_posting(alloc: Global, body: &[u8]) -> Result<Asked, HttpFault>
 
 // The posting that these values are, each judged by its form.
 fn spell_posting(code: &str, reference: &str, cents: i128) -> Result<Asked, HttpFault>
-    ensures { SpellsPosting (code.now, reference.now, cents) result }
+    ensures { IsPostingOf (code.now, reference.now, cents) result }
 {
     let code = Code::read(code.as_bytes())?;
     let reference = Reference::read(reference.as_bytes())?;

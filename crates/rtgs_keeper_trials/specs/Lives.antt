@@ -3,7 +3,7 @@ use Rattle.std.specs.Prelude.{◌≡◌, List, [], ◌∷◌}
 use Rattle.rtgs_book.specs.declared.book.Book.{Book}
 use Rattle.rtgs_book.specs.declared.command.Command.{Command}
 use Rattle.rtgs_book.specs.Books.{new_book}
-use Rattle.rtgs_book.specs.Laws.{Stands}
+use Rattle.rtgs_book.specs.Laws.{KeepsWhatIsFinal}
 use Rattle.rtgs_book.specs.Outcome.{Reply}
 use Rattle.rtgs_book.specs.Run.{Run}
 use Rattle.rtgs_book.specs.Session.{Session, IsLife}
@@ -27,4 +27,4 @@ pub record AreTwoSessions (commands : List Command) (replies : List Reply) (more
   pub run : Run new_book all heard found
   -- what was final stands, and the book is sound
   pub sound : IsSound found
-  pub stands : Stands new_book found
+  pub stands : KeepsWhatIsFinal new_book found

@@ -30,7 +30,7 @@ use Rattle.rtgs_book.specs.Procedure.{Has}
 use Rattle.rtgs_book.specs.Soundness.{IsSound}
 use Rattle.rtgs_book.specs.Run.{Run}
 use Rattle.rtgs_book.specs.Step.{Step}
-use Rattle.rtgs_book.specs.Laws.{posted, Stands, CommandFits}
+use Rattle.rtgs_book.specs.Laws.{posted, KeepsWhatIsFinal, CommandFits}
 use Rattle.rtgs_book.specs.Ranges.{Fits}
 use Rattle.rtgs_laws.proofs.Batches.{marks_le}
 use Rattle.rtgs_laws.proofs.BookLaws.{TotalIsIssued}
@@ -192,7 +192,7 @@ settled_stays is_in s o queued settled = by (is_in o) queued
     by true q = absurd (clash o.state (q refl) settled)
     by false q = refl
 
-stands_same : (old new : Book) → new.marks ≡ old.marks → new.orders ≡ old.orders → Stands old new
+stands_same : (old new : Book) → new.marks ≡ old.marks → new.orders ≡ old.orders → KeepsWhatIsFinal old new
 stands_same old new m o = record {
   marks = ([], m ∙ sym (append-nil old.marks));
   orders = λ x h settled. subst (λ os. Has os x) (sym o) h;
@@ -200,7 +200,7 @@ stands_same old new m o = record {
 
 stands_restated : (old new : Book) (is_in : Order → Bool) (s : OrderState)
     → AllByRecursion (λ o. is_in o ≡ true → is_queued o ≡ true) old.orders → (later : List Mark)
-    → new.marks ≡ old.marks ++ later → new.orders ≡ map (restated is_in s) old.orders → Stands old new
+    → new.marks ≡ old.marks ++ later → new.orders ≡ map (restated is_in s) old.orders → KeepsWhatIsFinal old new
 stands_restated old new is_in s queued later m o = record {
   marks = (later, m);
   orders = λ x h settled. subst (λ os. Has os x) (sym o) (has_map (restated is_in s) old.orders x
@@ -208,14 +208,14 @@ stands_restated old new is_in s queued later m o = record {
 }
 
 stands_settle : (old : Book) (is_in : Order → Bool) → AllByRecursion (λ o. is_in o ≡ true → is_queued o ≡ true)
-    old.orders → Stands old (settle old is_in)
+    old.orders → KeepsWhatIsFinal old (settle old is_in)
 stands_settle old is_in queued =
-    settled_either (Stands old) old is_in (stands_same old old refl refl)
+    settled_either (KeepsWhatIsFinal old) old is_in (stands_same old old refl refl)
     (λ _. stands_restated old _ is_in (Settled (next_mark old)) queued (mark_of old (filter is_in old.orders) ∷ [])
     refl refl)
 
 stands_after : (old mid new : Book) → mid.marks ≡ old.marks → (later : List Order) → mid.orders ≡ old.orders ++ later
-    → Stands mid new → Stands old new
+    → KeepsWhatIsFinal mid new → KeepsWhatIsFinal old new
 stands_after old mid new m later o h = record {
   marks = (h.marks.0, h.marks.1 ∙ ap (λ ms. ms ++ h.marks.0) m);
   orders = λ x has settled. h.orders x (subst (λ os. Has os x) (sym o) (has_left old.orders later x has)) settled;
@@ -232,23 +232,23 @@ module _ (book : Book) (sender reference receiver : List ℕ) (amount : ℕ) (h 
       (λ o none e. absurd (true≢false (sym e ∙ none))) book.orders
       (old_numbers book sender reference receiver amount h)) (λ _. refl)
 
-  takes_stands : Stands book (takes book (new_order book sender reference receiver amount)).book
+  takes_stands : KeepsWhatIsFinal book (takes book (new_order book sender reference receiver amount)).book
   unfolding takes
   takes_stands =
       let new = new_order book sender reference receiver amount in
-      choose_book (Stands book) (settles_at_once book sender amount) _ _
+      choose_book (KeepsWhatIsFinal book) (settles_at_once book sender amount) _ _
       (stands_after book (with_order book new) (settle (with_order book new) (has_number (length book.orders + 1))) refl
       (new ∷ []) refl (stands_settle (with_order book new) (has_number (length book.orders + 1)) one_new))
       (stands_after book (with_order book new) (with_order book new) refl (new ∷ []) refl
       (stands_same (with_order book new) (with_order book new) refl refl))
 
-  withdraw_stands : Stands book (withdraw book sender reference).book
+  withdraw_stands : KeepsWhatIsFinal book (withdraw book sender reference).book
   unfolding withdraw with_state order_named
-  withdraw_stands = sound_first (Stands book) book _ _ (stands_same book book refl refl)
+  withdraw_stands = sound_first (KeepsWhatIsFinal book) book _ _ (stands_same book book refl refl)
       (λ (_, (_, (_, (queued, _)))). by (order_named book sender reference) refl (not_false _ queued))
     where
       by : (found : Option Order) → order_named book sender reference ≡ found → is_queued_order found ≡ true
-          → Stands book (with_state book (has_number (number_of found)) Withdrawn)
+          → KeepsWhatIsFinal book (with_state book (has_number (number_of found)) Withdrawn)
       by None e q = absurd (true≢false (sym q))
       by (Some o) e q = stands_restated book _ (has_number o.number) Withdrawn
           (found_by_number (λ other. is_queued other ≡ true) (is_order_named sender reference) 1 book.orders o
@@ -256,44 +256,44 @@ module _ (book : Book) (sender reference receiver : List ℕ) (amount : ℕ) (h 
           (sym (append-nil book.marks)) refl
 
 stays : (old new : Book) (reply : Reply) (outcome : Outcome) → record { reply = reply; book = new } ≡ outcome
-    → Stands old outcome.book → Stands old new
-stays old new reply outcome e h = subst (λ (o : Outcome). Stands old o.book) (sym e) h
+    → KeepsWhatIsFinal old outcome.book → KeepsWhatIsFinal old new
+stays old new reply outcome e h = subst (λ (o : Outcome). KeepsWhatIsFinal old o.book) (sym e) h
 
 pub step_stands : (old new : Book) (command : Command) (reply : Reply) → IsSound old → Step old command reply new
-    → Stands old new
+    → KeepsWhatIsFinal old new
 unfolding add with_participant set_credit with_credit post open_day order with_state cut_off resolve close_day
 step_stands old new (Add code name key) reply h e = stays old new reply _ e
-    (book_first_of (Stands old) old _ _ (stands_same old old refl refl) (stands_same old _ refl refl))
+    (book_first_of (KeepsWhatIsFinal old) old _ _ (stands_same old old refl refl) (stands_same old _ refl refl))
 step_stands old new (SetCredit code credit) reply h e = stays old new reply _ e
-    (book_first_of (Stands old) old _ _ (stands_same old old refl refl) (stands_same old _ refl refl))
+    (book_first_of (KeepsWhatIsFinal old) old _ _ (stands_same old old refl refl) (stands_same old _ refl refl))
 step_stands old new (Post code reference cents) reply h e = stays old new reply _ e
-    (book_first_of (Stands old) old _ _ (stands_same old old refl refl) (stands_same old _ refl refl))
+    (book_first_of (KeepsWhatIsFinal old) old _ _ (stands_same old old refl refl) (stands_same old _ refl refl))
 step_stands old new (OpenDay date) reply h e = stays old new reply _ e
-    (book_first_of (Stands old) old _ _ (stands_same old old refl refl) (stands_same old _ refl refl))
+    (book_first_of (KeepsWhatIsFinal old) old _ _ (stands_same old old refl refl) (stands_same old _ refl refl))
 step_stands old new (PlaceOrder sender reference receiver amount) reply h e =
-    stays old new reply _ e (book_first_of (Stands old) old _ _ (stands_same old old refl refl)
+    stays old new reply _ e (book_first_of (KeepsWhatIsFinal old) old _ _ (stands_same old old refl refl)
     (takes_stands old sender reference receiver amount h))
 step_stands old new (Withdraw sender reference) reply h e = stays old new reply _ e
     (withdraw_stands old sender reference [] 0 h)
 step_stands old new Resolve reply h e = stays old new reply _ e.2
-    (book_first_of (Stands old) old _ _ (stands_same old old refl refl)
-    (choose_book (Stands old) (is_empty (chosen old e.0)) _ _ (stands_same old old refl refl)
+    (book_first_of (KeepsWhatIsFinal old) old _ _ (stands_same old old refl refl)
+    (choose_book (KeepsWhatIsFinal old) (is_empty (chosen old e.0)) _ _ (stands_same old old refl refl)
     (stands_settle old (is_chosen old e.0) (all_of (λ o. is_chosen old e.0 o ≡ true → is_queued o ≡ true)
     (chosen_queued old e.0) old.orders))))
 step_stands old new (CutOff date) reply h e = stays old new reply _ e
-    (book_first_of (Stands old) old _ _ (stands_same old old refl refl) (stands_same old _ refl refl))
+    (book_first_of (KeepsWhatIsFinal old) old _ _ (stands_same old old refl refl) (stands_same old _ refl refl))
 step_stands old new (CloseDay date) reply h e = stays old new reply _ e.2
-    (book_first_of (Stands old) old _ _ (stands_same old old refl refl)
+    (book_first_of (KeepsWhatIsFinal old) old _ _ (stands_same old old refl refl)
     (stands_restated old _ is_queued Rejected (all_queued old.orders) [] (sym (append-nil old.marks)) refl))
 
 -- each command leaves marks and settled orders as they are
 abbrev pub StandsFinal : Type 0
 StandsFinal = (old new : Book) (command : Command) (reply : Reply) → IsSound old → Step old command reply new
-    → Stands old new
+    → KeepsWhatIsFinal old new
 
 pub run_stands : KeepsSoundness → StandsFinal → (old new : Book) (commands : List Command) (replies : List Reply)
-    → IsSound old → Run old commands replies new → Stands old new
-run_stands keeps stands old new [] [] h r = subst (Stands old) (sym r) (stands_same old old refl refl)
+    → IsSound old → Run old commands replies new → KeepsWhatIsFinal old new
+run_stands keeps stands old new [] [] h r = subst (KeepsWhatIsFinal old) (sym r) (stands_same old old refl refl)
 run_stands keeps stands old new [] (reply ∷ replies) h r = absurd r
 run_stands keeps stands old new (command ∷ commands) [] h r = absurd r
 run_stands keeps stands old new (command ∷ commands) (reply ∷ replies) h r =

@@ -6,7 +6,7 @@ ghost use Rattle.rtgs_book.specs.declared.book.Book.{Book};
 ghost use Rattle.rtgs_book.specs.declared.command.Command.{Command};
 ghost use Rattle.rtgs_book.specs.declared.order.Order.{Order};
 ghost use Rattle.rtgs_book.specs.Books.{is_queued};
-ghost use Rattle.rtgs_book.specs.Laws.{posted, Stands, CommandFits};
+ghost use Rattle.rtgs_book.specs.Laws.{posted, KeepsWhatIsFinal, CommandFits};
 ghost use Rattle.rtgs_book.specs.Outcome.{Reply};
 ghost use Rattle.rtgs_book.specs.Balance.{total};
 ghost use Rattle.rtgs_book.specs.Settle.{settle};
@@ -77,13 +77,13 @@ pub fn total_moves_by_postings()
 /// A mark stands for good, and so does a settled order.
 pub fn step_keeps_what_is_final()
     ensures { (old new : Book) (command : Command) (reply : Reply) → IsSound old → Step old command reply new
-        → Stands old new }
+        → KeepsWhatIsFinal old new }
 {}
 
 /// So they do over each list of commands.
 pub fn run_keeps_what_is_final()
     ensures { (old new : Book) (commands : List Command) (replies : List Reply) → IsSound old
-        → Run old commands replies new → Stands old new }
+        → Run old commands replies new → KeepsWhatIsFinal old new }
 {
     step_keeps_soundness();
     step_keeps_what_is_final();

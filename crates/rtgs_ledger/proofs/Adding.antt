@@ -94,6 +94,6 @@ module _ (r : Whole) (kept : IsKept (held_of r)) (code name key : List ℕ)
       let step = adds (book_of r) code name key (participant_none r kept code absent)
       (any-participants key r.accounts.accounts ∙ free) (rw (length-participants r.accounts.accounts) few) in
       prepared_done (held_of r) (Add code name key) Added (AddParticipant p ∷ []) (with_participant (book_of r) p) tt
-          step
+      step
       leads_to_it ((refl, balance_same code ∙ no_balance), tt) stays_balanced
       (λ k e. absurd (cc)) (λ e. absurd (cc))

@@ -13,7 +13,7 @@ use Rattle.rtgs_book.specs.Lookup.{accounts}
 use Rattle.rtgs_book.specs.Queue.{queue}
 use Rattle.rtgs_book.specs.Soundness.{IsSound}
 use Rattle.rtgs_accounts.specs.Accounts.{AreOfABook, participant_of, code_of, key_of}
-use Rattle.rtgs_ledger.specs.Alone.{book_of}
+use Rattle.rtgs_ledger.specs.Alone.{book_of_participants}
 use Rattle.rtgs_lists.proofs.Lists.{all_of}
 
 codes_are : (xs : List Account) → map (λ (p : Participant). p.code) (map participant_of xs) ≡ map code_of xs
@@ -24,12 +24,12 @@ keys_are : (xs : List Account) → map (λ (p : Participant). p.key) (map partic
 keys_are [] = refl
 keys_are (x ∷ xs) = ap (λ ks. key_of x ∷ ks) (keys_are xs)
 
-nothing : (ps : List Participant) (codes : List (List ℕ)) → int_sum_by (balance (book_of ps)) codes ≡ pos 0
+nothing : (ps : List Participant) (codes : List (List ℕ)) → int_sum_by (balance (book_of_participants ps)) codes ≡ pos 0
 unfolding balance
 nothing ps [] = refl
 nothing ps (c ∷ codes) = let rest = nothing ps codes in omega (arith, ints, rest)
 
-pub sound_alone : (xs : List Account) → AreOfABook xs → IsSound (book_of (map participant_of xs))
+pub sound_alone : (xs : List Account) → AreOfABook xs → IsSound (book_of_participants (map participant_of xs))
 unfolding accounts balance floor total queue IsDistinct
 sound_alone xs of = record {
   orders_numbered = (refl, omega arith);
@@ -43,8 +43,9 @@ sound_alone xs of = record {
   marks = (tt, tt);
   queues = record {
     closed = λ _. refl;
-    short = all_of (λ code. length (queue (book_of (map participant_of xs)) code) ≤ LONGEST_QUEUE) (λ code. omega arith)
-        (accounts (book_of (map participant_of xs)));
+    short = all_of (λ code. length (queue (book_of_participants (map participant_of xs)) code) ≤ LONGEST_QUEUE) (λ code.
+        omega arith)
+        (accounts (book_of_participants (map participant_of xs)));
     of_the_day = tt;
   };
   dates = record {
@@ -56,9 +57,10 @@ sound_alone xs of = record {
     marks = tt;
     postings = tt;
   };
-  floors = all_of (λ code. floor (book_of (map participant_of xs)) code ≤ℤ balance (book_of (map participant_of xs))
+  floors = all_of (λ code. floor (book_of_participants (map participant_of xs)) code ≤ℤ balance (book_of_participants
+      (map participant_of xs))
       code)
-      (λ code. omega (arith, ints)) (accounts (book_of (map participant_of xs)));
-  total_fits = let none = nothing (map participant_of xs) (accounts (book_of (map participant_of xs)))
+      (λ code. omega (arith, ints)) (accounts (book_of_participants (map participant_of xs)));
+  total_fits = let none = nothing (map participant_of xs) (accounts (book_of_participants (map participant_of xs)))
       in omega (arith, ints, none);
 }

@@ -12,7 +12,7 @@ use Rattle.rtgs_book.specs.Lookup.{accounts}
 use Rattle.rtgs_book.specs.Soundness.{OrdersAreNumbered}
 use Rattle.rtgs_cores.specs.declared.Core.{Core}
 use Rattle.rtgs_cores.specs.Cores.{account_of, core_of, IsCoreOf}
-use Rattle.rtgs_accounts.specs.Accounts.{AreInCodeOrder, AreOfABook, code_of, key_of}
+use Rattle.rtgs_accounts.specs.Accounts.{CodesRiseStrictly, AreOfABook, code_of, key_of}
 use Rattle.rtgs_queues.specs.Orders.{AreRising, AreQueued}
 
 own_codes : (book : Book) (ps : List Participant) → map code_of (map (account_of book) ps) ≡ map (λ
@@ -31,9 +31,9 @@ module _ (book : Book) (core : Core) (is : IsCoreOf book core) where
   unfolding core_of
   queued = ap (λ (c : Core). c.queued) is.is
 
-  pub in_order : AreInCodeOrder core.accounts
+  pub in_order : CodesRiseStrictly core.accounts
   unfolding core_of accounts
-  in_order = subst AreInCodeOrder (sym (ap (λ (c : Core). c.accounts) is.is))
+  in_order = subst CodesRiseStrictly (sym (ap (λ (c : Core). c.accounts) is.is))
       (rw (own_codes book book.participants) is.sound.codes_rise.0)
 
   pub of_a_book : AreOfABook core.accounts

@@ -19,7 +19,7 @@ use Rattle.rtgs_book.specs.Choice.{Choice}
 use Rattle.rtgs_book.specs.Queue.{queue, queued_among}
 use Rattle.rtgs_book.specs.declared.account.Account.{Account}
 use Rattle.rtgs_book.specs.declared.limits.TheConstants.{LONGEST_QUEUE, MOST_PARTICIPANTS, MOST_QUEUED}
-use Rattle.rtgs_accounts.specs.Accounts.{code_of, is_of, AreInCodeOrder}
+use Rattle.rtgs_accounts.specs.Accounts.{code_of, is_of, CodesRiseStrictly}
 use Rattle.rtgs_ledger.specs.Choosing.{position_at, taken_from}
 use Rattle.rtgs_ledger.proofs.Kept.{codes-participants, floor_at as floor_is}
 use Rattle.rtgs_cores.specs.Following.{AreBalanced}
@@ -58,7 +58,7 @@ apart_from x xs (y ∷ ys) less h = (
 )
 
 -- each account is found by its code
-all_found : (xs : List Account) → AreInCodeOrder xs → AllByRecursion (λ a. find (is_of (code_of a)) xs ≡ Some a) xs
+all_found : (xs : List Account) → CodesRiseStrictly xs → AllByRecursion (λ a. find (is_of (code_of a)) xs ≡ Some a) xs
 unfolding IsStrictlySortedBy
 all_found [] rise = tt
 all_found (x ∷ xs) rise = (
@@ -77,7 +77,7 @@ module _ (r : Whole) (kept : IsKept (held_of r)) where
   each_position [] h e = refl
   each_position (x ∷ xs) h e = λ i. position_is x h.0 e.0 i ∷ each_position xs h.1 e.1 i
 
-  pub positions_are : AreInCodeOrder r.accounts.accounts → map (position_in (book_of r)) r.accounts.accounts
+  pub positions_are : CodesRiseStrictly r.accounts.accounts → map (position_in (book_of r)) r.accounts.accounts
       ≡ positions_of (book_of r)
   unfolding positions_of accounts
   positions_are rise = each_position r.accounts.accounts (all_found r.accounts.accounts rise) kept.balanced
@@ -231,7 +231,7 @@ module _ (book : Book) (r : Records) (held : seen.Held) (view : seen_of r ≡ he
   positions_told =
       let of = is_of_book book r held view is in
       ap (λ (h : seen.Held). positions_in h.core) (sym view)
-      ∙ positions_are (whole book r) of.kept (subst AreInCodeOrder (sym of.accounts) (in_order book held.core is))
+      ∙ positions_are (whole book r) of.kept (subst CodesRiseStrictly (sym of.accounts) (in_order book held.core is))
       ∙ ap positions_of of.same
 
   pub queues_told : queues_in held.core ≡ queues_of book

@@ -163,9 +163,10 @@ is_of_book book r held view is =
     }
 
 module _ (book : Book) (r : Records) (core : Core) (of : IsOf book r core) where
-  pub to_refused : (command : Command) (refusal : Refusal) → kept.IsRefused (book_of (whole book r)) command refusal
-      → kept.IsRefused book command refusal
-  to_refused command refusal refused = subst (λ b. kept.IsRefused b command refusal) of.same refused
+  pub to_refused : (command : Command) (refusal : Refusal) → kept.IsCommandRefused (book_of (whole book r)) command
+      refusal
+      → kept.IsCommandRefused book command refusal
+  to_refused command refusal refused = subst (λ b. kept.IsCommandRefused b command refusal) of.same refused
 
   pub to_prepared : (command : Command) (answer : Answer) (rows : List RowChange)
       → IsPrepared (held_of (whole book r)) command answer rows → kept.IsPrepared book core command answer rows

@@ -5,8 +5,8 @@ use Rattle.rtgs_book.specs.declared.Participant.{Participant}
 use Rattle.rtgs_book.specs.declared.Phase.TheVariants.{Closed}
 
 -- the book of these participants before its first day, to whom nothing was posted
-abbrev pub book_of : List Participant → Book
-book_of participants = record {
+abbrev pub book_of_participants : List Participant → Book
+book_of_participants participants = record {
   participants = participants;
   postings = [];
   orders = [];

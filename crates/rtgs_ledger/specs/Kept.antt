@@ -33,6 +33,6 @@ pub record IsPrepared (old : Book) (core : Core) (command : Command) (answer : A
     pub nothing : answer ≡ Nothing → rows ≡ []
 
 -- the refusal is that of the command's first test that holds, or lack of memory
-abbrev pub IsRefused : Book → Command → Refusal → Type 0
-IsRefused book command refusal = (refusal ≡ OutOfMemory)
+abbrev pub IsCommandRefused : Book → Command → Refusal → Type 0
+IsCommandRefused book command refusal = (refusal ≡ OutOfMemory)
     ⊎ (Step book command (Err refusal) book × (is_judged (Err refusal) ≡ true))

@@ -4,7 +4,7 @@ ghost use Rattle.rtgs_book.specs.declared.book.Book.{Book};
 ghost use Rattle.rtgs_cores.specs.Cores.{IsCoreOf, found_for};
 ghost use Rattle.rtgs_cores.specs.Following.{core_after};
 ghost use Rattle.rtgs_records.specs.Held.{HasRoom};
-ghost use Rattle.rtgs_ledger.specs.Kept.{IsPrepared, IsRefused};
+ghost use Rattle.rtgs_ledger.specs.Kept.{IsPrepared, IsCommandRefused};
 ghost use Rattle.rtgs_ledger.specs.Kinds.{CanAnswer, is_of_the_store};
 
 mod adding;
@@ -84,7 +84,7 @@ impl Ledger {
         ensures prepared { (book : Book) → IsCoreOf book self.old.core → found.now ≡ found_for book command.now
             → IfOk result (λ (answer, change). IsPrepared book self.old.core command.now answer change) }
         ensures refused { (book : Book) → IsCoreOf book self.old.core → found.now ≡ found_for book command.now
-            → IfErr result (IsRefused book command.now) }
+            → IfErr result (IsCommandRefused book command.now) }
     {
         match *command {
             Command::Add { code, name, key } => self.prepare_add(code, name, key),

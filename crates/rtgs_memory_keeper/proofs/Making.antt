@@ -15,7 +15,8 @@ use Rattle.rtgs_book.specs.Commands.{with_participant, with_credit, with_state, 
 use Rattle.rtgs_book.specs.Lookup.{accounts, has_code}
 use Rattle.rtgs_book.specs.Soundness.{OrdersAreNumbered, AreNumbered, IsSound}
 use Rattle.rtgs_memory_keeper.specs.declared.memory_keeper.MemoryKeeper.{MemoryKeeper}
-use Rattle.rtgs_memory_keeper.specs.Memory.{AreInCodeOrder, HasRoom, adds_participant, adds_posting, adds_order, adds_mark}
+use Rattle.rtgs_memory_keeper.specs.Memory.{AreInCodeOrder, ListsHaveRoom, adds_participant, adds_posting, adds_order}
+use Rattle.rtgs_memory_keeper.specs.Memory.{adds_mark}
 use Rattle.rtgs_memory_keeper.proofs.CodeOrder.{order_put_in, order_map, order_of_codes}
 use Rattle.rtgs_memory_keeper.proofs.OrderNumbers.{beginning_numbered, restated_numbers}
 
@@ -93,8 +94,8 @@ one_of p row rows =
     let all = sum_by-cons (λ r. cond (p r) 1 0) row rows in
     omega arith
 
-pub room_for_one : (k : MemoryKeeper) (row : RowChange) (rows : List RowChange) → HasRoom k (row ∷ rows)
-    → HasRoom k (row ∷ [])
+pub room_for_one : (k : MemoryKeeper) (row : RowChange) (rows : List RowChange) → ListsHaveRoom k (row ∷ rows)
+    → ListsHaveRoom k (row ∷ [])
 room_for_one k row rows room = record {
   participants = let one = one_of adds_participant row rows in let all = room.participants in omega arith;
   postings = let one = one_of adds_posting row rows in let all = room.postings in omega arith;

@@ -48,7 +48,7 @@ adds_mark (AddMark mark) = true
 adds_mark row = false
 
 -- each list has room for the rows that go into it
-pub record HasRoom (k : MemoryKeeper) (rows : List RowChange) : Type 0 where
+pub record ListsHaveRoom (k : MemoryKeeper) (rows : List RowChange) : Type 0 where
   pub participants : vec_len k.participants + count_by adds_participant rows ≤ vec_capacity k.participants
   pub postings : vec_len k.postings + count_by adds_posting rows ≤ vec_capacity k.postings
   pub orders : vec_len k.orders + count_by adds_order rows ≤ vec_capacity k.orders

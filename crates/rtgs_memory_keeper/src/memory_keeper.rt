@@ -17,7 +17,8 @@ ghost use Rattle.rtgs_book.specs.Ranges.{Fits};
 ghost use Rattle.rtgs_book.specs.Settle.{restated};
 ghost use Rattle.rtgs_book.specs.Soundness.{AreNumbered, OrdersAreNumbered, IsSound};
 ghost use Rattle.rtgs_cores.specs.Nexts.{is_posting_after, is_order_after, is_mark_after};
-ghost use Rattle.rtgs_memory_keeper.specs.Memory.{book_of, KeepsBook, AreInCodeOrder, HasRoom, adds_participant, adds_posting};
+ghost use Rattle.rtgs_memory_keeper.specs.Memory.{book_of, KeepsBook, AreInCodeOrder, ListsHaveRoom, adds_participant};
+ghost use Rattle.rtgs_memory_keeper.specs.Memory.{adds_posting};
 ghost use Rattle.rtgs_memory_keeper.specs.Memory.{adds_order, adds_mark};
 
 use rtgs_book::laws::new_book_is_sound;
@@ -97,7 +98,7 @@ impl MemoryKeeper {
 
     // Makes room for the rows that are added. Nothing else changes.
     fn reserve(&mut self, rows: &[RowChange]) -> Result<(), AllocError>
-        ensures room { OnOk result (HasRoom self.new rows.now) }
+        ensures room { OnOk result (ListsHaveRoom self.new rows.now) }
         ensures same { book_of self.new ≡ book_of self.old }
     {
         self.participants.reserve(added_participants(rows))?;
@@ -109,7 +110,7 @@ impl MemoryKeeper {
 
     // Makes the rows one after another, in the order in which they stand.
     fn apply_all(&mut self, rows: &[RowChange])
-        requires { HasRoom self.old rows.now }
+        requires { ListsHaveRoom self.old rows.now }
         ensures { IsSound (book_of self.old) → IsSound (changed (book_of self.old) rows.now)
             → book_of self.new ≡ changed (book_of self.old) rows.now }
     {
@@ -121,10 +122,11 @@ impl MemoryKeeper {
     // Makes one row.
     #[tactic(auto, unfolding(rtgs_book::specs::Commands::with_participant, rtgs_book::specs::Commands::with_credit, rtgs_book::specs::Commands::with_state))]
     fn apply(&mut self, row: &RowChange)
-        requires { HasRoom self.old (row.now ∷ []) }
+        requires { ListsHaveRoom self.old (row.now ∷ []) }
         ensures made { AreInCodeOrder self.old.participants.items → OrdersAreNumbered (book_of self.old)
             → book_of self.new ≡ with_row (book_of self.old) row.now }
-        ensures room { (rows : List RowChangeSpec) → HasRoom self.old (row.now ∷ rows) → HasRoom self.new rows }
+        ensures room { (rows : List RowChangeSpec) → ListsHaveRoom self.old (row.now ∷ rows) → ListsHaveRoom self.new
+            rows }
     {
         match row {
             RowChange::AddParticipant(participant) => {

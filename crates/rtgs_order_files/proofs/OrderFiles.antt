@@ -7,7 +7,8 @@ use Rattle.std.proofs.lemmas.List.{append-nil, length-append, length-map, map-ap
 use Rattle.rtgs_order_files.specs.declared.order_row.OrderRow.{OrderRow}
 use Rattle.rtgs_order_files.specs.declared.batch_fault.BatchFault.{BatchFault}
 use Rattle.rtgs_order_files.specs.declared.batch_fault.BatchFault.TheVariants.{BadHeader, BadRow, BadCount, OutOfMemory}
-use Rattle.rtgs_order_files.specs.OrderFile.{Fields, HasUnderHeader, IsFaultOf, IsOrderFile, IsRow, IsNoRow, BeginWith}
+use Rattle.rtgs_order_files.specs.OrderFile.{CsvFields, HasUnderHeader, IsFaultOf, IsOrderFile, IsRow, IsNoRow}
+use Rattle.rtgs_order_files.specs.OrderFile.{BeginWith}
 use Rattle.rtgs_order_files.specs.OrderFile.{AreRows, FirstBadRow, Miscount, IsFaultOfRows, fields_of_row, header}
 use Rattle.rtgs_order_files.specs.OrderFile.{records_of}
 
@@ -18,7 +19,7 @@ all_more : (rows : List OrderRow) (row : OrderRow) → AllByRecursion IsRow rows
 all_more [] row h g = (g, tt)
 all_more (r ∷ rows) row h g = (h.0, all_more rows row h.1 g)
 
-pub begin_more : (rows : List OrderRow) (row : OrderRow) (fields : Fields) (left rest records : List Fields)
+pub begin_more : (rows : List OrderRow) (row : OrderRow) (fields : CsvFields) (left rest records : List CsvFields)
     → BeginWith rows left records → left ≡ fields ∷ rest → fields ≡ fields_of_row row → IsRow row
     → BeginWith (rows ++ row ∷ []) rest records
 begin_more rows row fields left rest records b e f good = (
@@ -27,7 +28,7 @@ begin_more rows row fields left rest records b e f good = (
   all_more rows row b.1 good,
 )
 
-pub no_rows : (rows : List OrderRow) (records : List Fields) → BeginWith rows [] records → length rows ≡ 0
+pub no_rows : (rows : List OrderRow) (records : List CsvFields) → BeginWith rows [] records → length rows ≡ 0
     → records ≡ []
 no_rows [] records b e = b.0
 no_rows (r ∷ rows) records b e = absurd (omega arith)
@@ -56,7 +57,7 @@ same_rows (x ∷ a) (y ∷ b) ga gb e =
     cc
 
 -- rows end before fields that spell none
-ends_before : (a b : List OrderRow) (bad : Fields) (rest left : List Fields)
+ends_before : (a b : List OrderRow) (bad : CsvFields) (rest left : List CsvFields)
     → map fields_of_row a ++ bad ∷ rest ≡ map fields_of_row b ++ left → IsNoRow bad → AllByRecursion IsRow b
     → length b ≤ length a
 ends_before a [] bad rest left e none good = omega arith
@@ -66,22 +67,22 @@ ends_before (x ∷ a) (y ∷ b) bad rest left e none good =
     omega arith
 
 -- how many records there are
-counted : (rows : List OrderRow) (rest records : List Fields) → BeginWith rows rest records
+counted : (rows : List OrderRow) (rest records : List CsvFields) → BeginWith rows rest records
     → length records ≡ length rows + length rest
 counted rows rest records b = rw (b.0, length-append, length-map) refl
 
 -- ---- the answers exclude one another
 
-rows_once : (a b : List OrderRow) (records : List Fields) → AreRows a records → AreRows b records → a ≡ b
+rows_once : (a b : List OrderRow) (records : List CsvFields) → AreRows a records → AreRows b records → a ≡ b
 rows_once a b records ha hb = same_rows a b ha.0.1 hb.0.1 (rw (append-nil, append-nil) at (sym ha.0.0 ∙ hb.0.0))
 
-first_bad_once : (r q : ℕ) (records : List Fields) → FirstBadRow r records → FirstBadRow q records → r ≡ q
+first_bad_once : (r q : ℕ) (records : List CsvFields) → FirstBadRow r records → FirstBadRow q records → r ≡ q
 first_bad_once r q records (a, bad, rest, ha, nothing, er, few) (b, worse, left, hb, none, eq, small) =
     let up = ends_before a b bad rest (worse ∷ left) (sym ha.0 ∙ hb.0) nothing hb.1 in
     let down = ends_before b a worse left (bad ∷ rest) (sym hb.0 ∙ ha.0) none ha.1 in
     omega arith
 
-bad_or_miscount : (r : ℕ) (records : List Fields) → FirstBadRow r records → Miscount records → ⊥
+bad_or_miscount : (r : ℕ) (records : List CsvFields) → FirstBadRow r records → Miscount records → ⊥
 bad_or_miscount r records (a, bad, rest, ha, nothing, er, few) (inl empty) =
     let n = counted a (bad ∷ rest) records ha in
     let none : length records ≡ 0 = ap length empty in
@@ -90,7 +91,7 @@ bad_or_miscount r records (a, bad, rest, ha, nothing, er, few) (inr (b, next, le
     let up = ends_before a b bad rest (next ∷ left) (sym ha.0 ∙ hb.0) nothing hb.1 in
     omega arith
 
-faults_once : (a b : BatchFault) (records : List Fields) → IsFaultOfRows a records → IsFaultOfRows b records
+faults_once : (a b : BatchFault) (records : List CsvFields) → IsFaultOfRows a records → IsFaultOfRows b records
     → a ≢ OutOfMemory → b ≢ OutOfMemory → a ≡ b
 faults_once a OutOfMemory records ha hb na nb = absurd (nb refl)
 faults_once OutOfMemory b records ha hb na nb = absurd (na refl)
@@ -101,7 +102,7 @@ faults_once (BadRow r) BadCount records ha hb na nb = absurd (bad_or_miscount r 
 faults_once BadCount (BadRow q) records ha hb na nb = absurd (bad_or_miscount q records hb ha)
 faults_once BadCount BadCount records ha hb na nb = refl
 
-no_fault : (rows : List OrderRow) (fault : BatchFault) (records : List Fields) → AreRows rows records
+no_fault : (rows : List OrderRow) (fault : BatchFault) (records : List CsvFields) → AreRows rows records
     → IsFaultOfRows fault records → fault ≡ OutOfMemory
 no_fault rows OutOfMemory records h f = refl
 no_fault rows BadHeader records h f = absurd f
@@ -121,19 +122,19 @@ no_fault rows BadCount records h (inr (b, next, left, hb, full)) =
 
 -- ---- the same of a text
 
-under_once : (bytes : List ℕ) (a b : List Fields) → HasUnderHeader bytes a → HasUnderHeader bytes b → a ≡ b
+under_once : (bytes : List ℕ) (a b : List CsvFields) → HasUnderHeader bytes a → HasUnderHeader bytes b → a ≡ b
 under_once bytes a b ha hb = cc
 
-of_rows : (bytes : List ℕ) (under : List Fields) (fault : BatchFault) → HasUnderHeader bytes under
+of_rows : (bytes : List ℕ) (under : List CsvFields) (fault : BatchFault) → HasUnderHeader bytes under
     → IsFaultOf bytes fault → IsFaultOfRows fault under
 of_rows bytes under BadHeader h f = absurd (f under h)
-of_rows bytes under (BadRow r) h (other, g, f) = subst (λ (u : List Fields). FirstBadRow r u)
+of_rows bytes under (BadRow r) h (other, g, f) = subst (λ (u : List CsvFields). FirstBadRow r u)
     (under_once bytes other under g h) f
-of_rows bytes under BadCount h (other, g, f) = subst (λ (u : List Fields). Miscount u)
+of_rows bytes under BadCount h (other, g, f) = subst (λ (u : List CsvFields). Miscount u)
     (under_once bytes other under g h) f
 of_rows bytes under OutOfMemory h f = tt
 
-of_text : (bytes : List ℕ) (under : List Fields) (fault : BatchFault) → HasUnderHeader bytes under
+of_text : (bytes : List ℕ) (under : List CsvFields) (fault : BatchFault) → HasUnderHeader bytes under
     → IsFaultOfRows fault under → IsFaultOf bytes fault
 of_text bytes under BadHeader h f = absurd f
 of_text bytes under (BadRow r) h f = (under, h, f)
@@ -142,7 +143,7 @@ of_text bytes under OutOfMemory h f = tt
 
 pub one_file : (bytes : List ℕ) (a b : List OrderRow) → IsOrderFile bytes a → IsOrderFile bytes b → a ≡ b
 one_file bytes a b (under, h, good) (other, g, file) = rows_once a b under good
-    (subst (λ (u : List Fields). AreRows b u) (under_once bytes other under g h) file)
+    (subst (λ (u : List CsvFields). AreRows b u) (under_once bytes other under g h) file)
 
 pub file_or_fault : (bytes : List ℕ) (rows : List OrderRow) (fault : BatchFault) → IsOrderFile bytes rows
     → IsFaultOf bytes fault → fault ≡ OutOfMemory
@@ -160,7 +161,7 @@ one_fault bytes BadHeader BadCount fa (under, h, f) na nb = absurd (fa under h)
 one_fault bytes BadHeader OutOfMemory fa fb na nb = absurd (nb refl)
 
 -- what a read answers, whose rows are seen by `items`
-pub of_under : {V : Type 0} (items : V → List OrderRow) (bytes : List ℕ) (under : List Fields)
+pub of_under : {V : Type 0} (items : V → List OrderRow) (bytes : List ℕ) (under : List CsvFields)
     (result : Result V BatchFault) → HasUnderHeader bytes under
     → IfOk result (λ v. AreRows (items v) under) → IfErr result (λ fault. IsFaultOfRows fault under)
     → IfOk result (λ v. IsOrderFile bytes (items v)) × IfErr result (λ fault. IsFaultOf bytes fault)
@@ -188,9 +189,9 @@ refused items bytes (Err BadCount) o f fault is other = inl (ap (λ (b : BatchFa
     (one_fault bytes BadCount fault f is (λ e. cc e) other))
 
 -- the answer of a read that found no header
-pub refused_at_once : {V : Type 0} (bytes : List ℕ) (read : List Fields) (given : BatchFault)
+pub refused_at_once : {V : Type 0} (bytes : List ℕ) (read : List CsvFields) (given : BatchFault)
     (result : Result V BatchFault) → read ≡ records_of bytes → result ≡ Err given
-    → (given ≡ OutOfMemory) ⊎ ((given ≡ BadHeader) × ((under : List Fields) → read ≢ header ∷ under))
+    → (given ≡ OutOfMemory) ⊎ ((given ≡ BadHeader) × ((under : List CsvFields) → read ≢ header ∷ under))
     → (fault : BatchFault) → IsFaultOf bytes fault → fault ≢ OutOfMemory
     → (result ≡ Err fault) ⊎ (result ≡ Err OutOfMemory)
 refused_at_once bytes read given result start is (inl e) fault f other = inr (is ∙ ap (λ (b : BatchFault). Err b) e)

@@ -20,7 +20,7 @@ use Rattle.csv.specs.declared.parser.State.TheVariants as st
 use Rattle.csv.specs.declared.reader.Reader.{Reader}
 use Rattle.csv.specs.declared.reader.Trim.TheVariants as trim
 use Rattle.csv.proofs.ReadFacts.{rows-end, rows-more}
-use Rattle.rtgs_order_files.specs.OrderFile.{Fields, records_of}
+use Rattle.rtgs_order_files.specs.OrderFile.{CsvFields, records_of}
 use Rattle.rtgs_order_files.specs.Reading.{IsReading, left_of, records_after}
 
 -- a step that ends a record leaves the machine between records
@@ -58,7 +58,7 @@ record_ends st.InComment c = either (c == 10) _ _ (λ e. cc) (λ e. cc)
 record_ends st.AfterCr c = either (c == 10) _ _ (λ e. cc) (start_record_ends c)
 
 -- a record leaves no more bytes than there were, and the machine between records
-shrinks : (n : ℕ) (s : State) (fields : Fields) (field bytes : List ℕ) → length bytes ≤ n
+shrinks : (n : ℕ) (s : State) (fields : CsvFields) (field bytes : List ℕ) → length bytes ≤ n
     → IfSome (next_record default_config s fields field bytes) (λ p. (length p.2 < suc n) × (ends_at_end p.1 ≡ false))
 unfolding next_record
 shrinks n s fields field [] h = by (ends_at_end s) refl
@@ -108,18 +108,21 @@ enough (suc n) (suc m) s bytes e h g = by (next_record default_config s [] [] by
         → records_from default_config n s2 rest ≡ records_from default_config m s2 rest)
         → records_from default_config (suc n) s bytes ≡ records_from default_config (suc m) s bytes
     by None at t later = rw at refl
-    by (Some p) at t later = rw at (ap (λ (rest : List Fields). p.0 ∷ rest)
+    by (Some p) at t later = rw at (ap (λ (rest : List CsvFields). p.0 ∷ rest)
         (later p.1 p.2 t.1 (omega arith) (omega arith)))
 
 -- the first record of some bytes, and then those after it
-first_of : (s s2 : State) (bytes rest : List ℕ) (fields : Fields) → ends_at_end s ≡ false
+first_of : (s s2 : State) (bytes rest : List ℕ) (fields : CsvFields) → ends_at_end s ≡ false
     → Reached default_config s bytes (fields ∷ []) s2 rest
     → (ends_at_end s2 ≡ false) × (records_after s (Some bytes) ≡ fields ∷ records_after s2 (Some rest))
 unfolding Reached records_from
 first_of s s2 bytes rest fields e (p, at, f, same) =
     let t : (length p.2 < length bytes) × (ends_at_end p.1 ≡ false) = rw at at (takes s bytes e) in
-    let more = enough (length bytes) (suc (length p.2)) p.1 p.2 t.1 t.0 (omega arith) in
-    (rw (← same.0) t.1, rw (add-one, at, f, ← same.0, ← same.1, add-one) (ap (λ (rest : List Fields). p.0 ∷ rest) more))
+    let more = enough (length bytes) (suc (length p.2)) p.1 p.2 t.1 t.0 (omega arith) in (
+      rw (← same.0) t.1,
+      rw (add-one, at, f, ← same.0, ← same.1, add-one) (ap (λ (rest : List CsvFields). p.0 ∷ rest)
+          more),
+    )
 
 -- no record at all
 none_of : (s : State) (bytes : List ℕ) → next_record default_config s [] [] bytes ≡ None
@@ -187,13 +190,13 @@ stepped a b (Some (Err error)) i steps = why (λ (s : Bor (List ℕ)). Some s.no
 -- ---- all records of a text
 
 -- records that were read one by one to the end of the bytes are these
-all_of : (s : State) (bytes : List ℕ) (rows : List Fields) → ends_at_end s ≡ false
+all_of : (s : State) (bytes : List ℕ) (rows : List CsvFields) → ends_at_end s ≡ false
     → AreRecords default_config s bytes rows → records_after s (Some bytes) ≡ rows
 unfolding Reached
 all_of s bytes [] e (s2, rest, (same, left), none) = none_of s bytes (rw (same, left) none)
 all_of s bytes (row ∷ rows) e (s2, rest, (p, at, f, more), none) =
     let first = first_of s p.1 bytes p.2 row e (p, at, f, (refl, refl)) in
-    first.1 ∙ ap (λ (tail : List Fields). row ∷ tail) (all_of p.1 p.2 rows first.0 (s2, rest, more, none))
+    first.1 ∙ ap (λ (tail : List CsvFields). row ∷ tail) (all_of p.1 p.2 rows first.0 (s2, rest, more, none))
 
 -- and these can be read so
 read_all : (n : ℕ) (s : State) (bytes : List ℕ) → ends_at_end s ≡ false → length bytes < n
@@ -213,11 +216,11 @@ read_all (suc n) s bytes e h = by (next_record default_config s [] [] bytes) ref
         let (s2, rest, reached, none) = later p.1 p.2 t.1 (omega arith) in
         rw at (s2, rest, (p, at, refl, reached), none)
 
-pub all_records : (bytes : List ℕ) (rows : List Fields) → (records_of bytes ≡ rows
+pub all_records : (bytes : List ℕ) (rows : List CsvFields) → (records_of bytes ≡ rows
     → AreRecords default_config st.StartRecord (strip_bom bytes) rows)
     × (AreRecords default_config st.StartRecord (strip_bom bytes) rows → records_of bytes ≡ rows)
 all_records bytes rows = (
-  λ e. subst (λ (all : List Fields). AreRecords default_config st.StartRecord (strip_bom bytes) all) e
+  λ e. subst (λ (all : List CsvFields). AreRecords default_config st.StartRecord (strip_bom bytes) all) e
       (read_all (length (strip_bom bytes) + 1) st.StartRecord (strip_bom bytes) refl (omega arith)),
   all_of st.StartRecord (strip_bom bytes) rows refl,
 )

@@ -7,10 +7,10 @@ use Rattle.csv.specs.Reading.{reader_state, reader_trim, records_from, source_of
 use Rattle.csv.specs.declared.iter.ByteRecordsIntoIter.{ByteRecordsIntoIter}
 use Rattle.csv.specs.declared.parser.State.{State}
 use Rattle.csv.specs.declared.reader.Trim.TheVariants as trim
-use Rattle.rtgs_order_files.specs.OrderFile.{Fields}
+use Rattle.rtgs_order_files.specs.OrderFile.{CsvFields}
 
 -- the records of the bytes that follow a state, where they are known
-abbrev pub records_after : State → Option (List ℕ) → List Fields
+abbrev pub records_after : State → Option (List ℕ) → List CsvFields
 records_after state None = []
 records_after state (Some bytes) = records_from default_config (length bytes + 1) state bytes
 
@@ -19,7 +19,7 @@ abbrev pub unread : ByteRecordsIntoIter (Bor (List ℕ)) → Option (List ℕ)
 unread it = source_of (λ s. Some s.now) (owned_rows_reader it)
 
 -- the records that it has left
-abbrev pub left_of : ByteRecordsIntoIter (Bor (List ℕ)) → List Fields
+abbrev pub left_of : ByteRecordsIntoIter (Bor (List ℕ)) → List CsvFields
 left_of it = records_after (reader_state (owned_rows_reader it)) (unread it)
 
 -- It reads plain records of any lengths, stands between two of them, and has not failed.

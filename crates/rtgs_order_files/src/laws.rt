@@ -5,14 +5,14 @@ ghost use Rattle.csv.specs.declared.parser.State.TheVariants as st;
 ghost use Rattle.rtgs_money.specs.Forms.{IsReference};
 ghost use Rattle.rtgs_order_files.specs.declared.batch_fault.BatchFault.{BatchFault};
 ghost use Rattle.rtgs_order_files.specs.declared.order_row.OrderRow.{OrderRow};
-ghost use Rattle.rtgs_order_files.specs.OrderFile.{Fields, records_of, IsFaultOf, IsOrderFile};
+ghost use Rattle.rtgs_order_files.specs.OrderFile.{CsvFields, records_of, IsFaultOf, IsOrderFile};
 ghost use Rattle.rtgs_order_files.specs.Plain.{IsPlain, joined};
 ghost use Rattle.rtgs_order_files.specs.Results.{line};
 
 /// The records of a text are those that a reader takes from it one by one, to its end, with the usual commas and
 /// quotes.
 pub fn records_are_those_read()
-    ensures { (bytes : List ℕ) (rows : List Fields) → (records_of bytes ≡ rows)
+    ensures { (bytes : List ℕ) (rows : List CsvFields) → (records_of bytes ≡ rows)
         ↔ AreRecords default_config st.StartRecord (strip_bom bytes) rows }
 {}
 

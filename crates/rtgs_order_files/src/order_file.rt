@@ -3,7 +3,7 @@ ghost use Rattle.std.specs.Prelude.{◌≡◌, ◌≢◌, ◌↔◌, ◌⊎◌, 
 ghost use Rattle.csv.specs.Records.{fields_of};
 ghost use Rattle.rtgs_order_files.specs.declared.batch_fault.BatchFault.{BatchFault};
 ghost use Rattle.rtgs_order_files.specs.declared.order_row.OrderRow.{OrderRow};
-ghost use Rattle.rtgs_order_files.specs.OrderFile.{Fields, header, records_of, AreRows, IsFaultOf, IsFaultOfRows};
+ghost use Rattle.rtgs_order_files.specs.OrderFile.{CsvFields, header, records_of, AreRows, IsFaultOf, IsFaultOfRows};
 ghost use Rattle.rtgs_order_files.specs.OrderFile.{IsOrderFile};
 ghost use Rattle.rtgs_order_files.specs.Reading.{IsReading, left_of};
 
@@ -51,7 +51,7 @@ fn take_header(records: &mut ByteRecordsIntoIter<&[u8]>) -> Result<(), BatchFaul
     ensures reading { OnOk result (IsReading records.new) }
     ensures taken { OnOk result (left_of records.old ≡ header ∷ left_of records.new) }
     ensures fault { IfErr result (λ fault. (fault ≡ BatchFault.OutOfMemory)
-        ⊎ ((fault ≡ BatchFault.BadHeader) × ((under : List Fields) → left_of records.old ≢ header ∷ under))) }
+        ⊎ ((fault ≡ BatchFault.BadHeader) × ((under : List CsvFields) → left_of records.old ≢ header ∷ under))) }
 {
     let first = match records.next() {
         Some(Ok(first)) => first,

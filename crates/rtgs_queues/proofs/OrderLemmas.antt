@@ -21,7 +21,7 @@ use Rattle.rtgs_book.specs.Settle.{restated}
 use Rattle.rtgs_book.specs.Queue.{queued_numbers}
 use Rattle.rtgs_queues.specs.declared.queues.Queues.{Queues}
 use Rattle.rtgs_queues.specs.Orders.{IsKept, AreRising, AreQueued, HasNumberAt}
-use Rattle.rtgs_queues.specs.Queues.{queue_of, room_of}
+use Rattle.rtgs_queues.specs.Queues.{numbers_queued_by, room_of}
 use Rattle.rtgs_lists.proofs.Filters.{filter_all}
 use Rattle.rtgs_lists.proofs.Lists.{all_at_place, all_filter, all_push, all_weaker}
 
@@ -348,7 +348,7 @@ same_numbers sender os = sym (numbers_again sender os)
 module _ (orders : List Order) (queues : Queues) (next : ℕ) (awaited : Option (List ℕ)) (tidy : Bool)
     (kept : IsKept orders queues next awaited tidy) where
   -- nothing is awaited
-  pub kept_alone : (new : Queues) → ((sender : List ℕ) → queue_of new sender ≡ queue_of queues sender)
+  pub kept_alone : (new : Queues) → ((sender : List ℕ) → numbers_queued_by new sender ≡ numbers_queued_by queues sender)
       → IsKept orders new next None tidy
   kept_alone new same = record {
     rising = kept.rising;
@@ -359,7 +359,8 @@ module _ (orders : List Order) (queues : Queues) (next : ℕ) (awaited : Option 
   }
 
   -- an order of this sender is awaited
-  pub kept_awaiting : (sender : List ℕ) (new : Queues) → ((other : List ℕ) → queue_of new other ≡ queue_of queues other)
+  pub kept_awaiting : (sender : List ℕ) (new : Queues) → ((other : List ℕ) → numbers_queued_by new other
+      ≡ numbers_queued_by queues other)
       → 1 ≤ room_of new sender → IsKept orders new next (Some sender) tidy
   kept_awaiting sender new same room = record {
     rising = kept.rising;
@@ -383,8 +384,8 @@ module _ (orders : List Order) (queues : Queues) (next : ℕ) (awaited : Option 
 
   -- the awaited order is queued
   pub kept_push : (order : Order) (new : Queues) → order.number ≡ next → is_queued order ≡ true
-      → ((sender : List ℕ) → queue_of new sender ≡ cond (bytes_eq order.sender sender)
-      (queue_of queues sender ++ order.number ∷ []) (queue_of queues sender))
+      → ((sender : List ℕ) → numbers_queued_by new sender ≡ cond (bytes_eq order.sender sender)
+      (numbers_queued_by queues sender ++ order.number ∷ []) (numbers_queued_by queues sender))
       → IsKept (orders ++ order ∷ []) new (next + 1) None tidy
   kept_push order new number waits pushed = record {
     rising = rising_end orders order kept.rising (subst (λ n. AllByRecursion (λ (o : Order). o.number < n) orders)
@@ -401,8 +402,8 @@ module _ (orders : List Order) (queues : Queues) (next : ℕ) (awaited : Option 
   -- an order gets a state in which it is not queued, and they are tidy no more
   pub kept_restated : (number : ℕ) (state : OrderState) (at : ℕ) (order : Order) (new : Queues)
       → is_queued_state state ≡ false → HasNumberAt number orders at → ((d : Order) → order ≡ get_or orders at d)
-      → ((sender : List ℕ) → queue_of new sender ≡ cond (bytes_eq order.sender sender)
-      (filter (λ (n : ℕ). not (n == number)) (queue_of queues sender)) (queue_of queues sender))
+      → ((sender : List ℕ) → numbers_queued_by new sender ≡ cond (bytes_eq order.sender sender)
+      (filter (λ (n : ℕ). not (n == number)) (numbers_queued_by queues sender)) (numbers_queued_by queues sender))
       → ((sender : List ℕ) → room_of queues sender ≤ room_of new sender)
       → IsKept (map (restated (has_number number) state) orders) new next awaited false
   kept_restated number state at order new settled there is left room = record {

@@ -5,7 +5,7 @@ use Rattle.rtgs_book.specs.declared.order.Order.{Order}
 use Rattle.rtgs_book.specs.Books.{is_queued}
 use Rattle.rtgs_book.specs.Queue.{queued_numbers}
 use Rattle.rtgs_queues.specs.declared.queues.Queues.{Queues}
-use Rattle.rtgs_queues.specs.Queues.{queue_of, room_of}
+use Rattle.rtgs_queues.specs.Queues.{numbers_queued_by, room_of}
 
 -- the queued orders, whether they are all that is in memory, the number of the next order, how many more can be queued
 -- without memory, and the sender whose queue has room for one more
@@ -31,7 +31,7 @@ pub record IsKept (orders : List Order) (queues : Queues) (next : ℕ) (awaited 
   where
     pub rising : AreRising orders
     pub before : AllByRecursion (λ (o : Order). o.number < next) orders
-    pub queued : (sender : List ℕ) → queue_of queues sender ≡ queued_numbers orders sender
+    pub queued : (sender : List ℕ) → numbers_queued_by queues sender ≡ queued_numbers orders sender
     pub ready : (sender : List ℕ) → awaited ≡ Some sender → 1 ≤ room_of queues sender
     pub waiting : tidy ≡ true → AreQueued orders
 

@@ -8,8 +8,9 @@ use Rattle.std.specs.Vec.{vec_capacity}
 use Rattle.rtgs_queues.specs.declared.queues.Queues.{Queues}
 
 -- the numbers in the sender's queue
-abbrev pub queue_of : Queues → List ℕ → List ℕ
-queue_of queues sender = option_map_or (λ queue. queue.items) (get (slice_cmp nat_cmp) queues.numbers sender) []
+abbrev pub numbers_queued_by : Queues → List ℕ → List ℕ
+numbers_queued_by queues sender = option_map_or (λ queue. queue.items) (get (slice_cmp nat_cmp) queues.numbers sender)
+    []
 
 -- how many more can be put there without memory
 abbrev pub room_of : Queues → List ℕ → ℕ

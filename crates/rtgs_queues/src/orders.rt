@@ -9,7 +9,7 @@ ghost use Rattle.rtgs_book.specs.Books.{is_queued, is_queued_state};
 ghost use Rattle.rtgs_book.specs.Commands.{has_number};
 ghost use Rattle.rtgs_book.specs.Queue.{queued_among, queued_numbers};
 ghost use Rattle.rtgs_queues.specs.Orders.{AreRising, AreQueued, HasNumberAt};
-ghost use Rattle.rtgs_queues.specs.Queues.{queue_of};
+ghost use Rattle.rtgs_queues.specs.Queues.{numbers_queued_by};
 
 use crate::queues::Queues;
 use rtgs_book::{Order, OrderState, Rows};
@@ -201,7 +201,8 @@ fn is_queued(order: &Order) -> bool
 
 // The queue of each sender.
 fn queues_of(alloc: Global, orders: &[Order]) -> Result<Queues, AllocError>
-    ensures { IfOk result (λ queues. (sender : List ℕ) → queue_of queues sender ≡ queued_numbers orders.now sender) }
+    ensures { IfOk result (λ queues. (sender : List ℕ) → numbers_queued_by queues sender ≡ queued_numbers orders.now
+        sender) }
 {
     let mut queues = Queues::new(alloc);
     for order in orders {

@@ -1,7 +1,7 @@
 //! The queue of each sender.
 ghost use Rattle.std.specs.Prelude.{◌≡◌, ◌≤◌, ◌++◌, ◌∷◌, [], ℕ, List, not, ◌==◌, if◌then◌else◌, filter, OnOk};
 ghost use Rattle.std.specs.Str.{bytes_eq};
-ghost use Rattle.rtgs_queues.specs.Queues.{queue_of, room_of};
+ghost use Rattle.rtgs_queues.specs.Queues.{numbers_queued_by, room_of};
 
 use rtgs_money::Code;
 use std::alloc::{AllocError, Global};
@@ -16,7 +16,7 @@ pub struct Queues {
 impl Queues {
     /// Empty queues.
     pub fn new(alloc: Global) -> Self
-        ensures { (sender : List ℕ) → queue_of result sender ≡ [] }
+        ensures { (sender : List ℕ) → numbers_queued_by result sender ≡ [] }
     {
         Queues {
             numbers: BTreeMap::new(alloc),
@@ -25,7 +25,7 @@ impl Queues {
 
     /// The numbers in the sender's queue.
     pub fn get(&self, sender: &Code) -> &[u64]
-        ensures { result.now ≡ queue_of self.now sender.now }
+        ensures { result.now ≡ numbers_queued_by self.now sender.now }
     {
         match self.numbers.get(sender) {
             Some(queue) => queue.as_slice(),
@@ -35,7 +35,7 @@ impl Queues {
 
     /// Makes room for a number in the sender's queue.
     pub fn reserve(&mut self, sender: Code) -> Result<(), AllocError>
-        ensures same { (other : List ℕ) → queue_of self.new other ≡ queue_of self.old other }
+        ensures same { (other : List ℕ) → numbers_queued_by self.new other ≡ numbers_queued_by self.old other }
         ensures room { OnOk result (1 ≤ room_of self.new sender) }
     {
         let queue = self.numbers.entry(sender)?.or_default();
@@ -45,8 +45,9 @@ impl Queues {
     /// Puts a number at the end of the sender's queue, in the room that was made for it.
     pub fn push(&mut self, sender: &Code, number: u64)
         requires { 1 ≤ room_of self.old sender.now }
-        ensures { (other : List ℕ) → queue_of self.new other
-            ≡ (if bytes_eq sender.now other then queue_of self.old other ++ number ∷ [] else queue_of self.old other) }
+        ensures { (other : List ℕ) → numbers_queued_by self.new other
+            ≡ (if bytes_eq sender.now other then numbers_queued_by self.old other ++ number ∷ [] else numbers_queued_by
+            self.old other) }
     {
         if let Some(queue) = self.numbers.get_mut(sender) {
             queue.push_reserved(number);
@@ -55,9 +56,9 @@ impl Queues {
 
     /// Takes a number out of the sender's queue.
     pub fn remove(&mut self, sender: &Code, number: u64)
-        ensures queues { (other : List ℕ) → queue_of self.new other
+        ensures queues { (other : List ℕ) → numbers_queued_by self.new other
             ≡ (if bytes_eq sender.now other then filter (λ n. not (n == number))
-            (queue_of self.old other) else queue_of self.old other) }
+            (numbers_queued_by self.old other) else numbers_queued_by self.old other) }
         ensures room { (other : List ℕ) → room_of self.old other ≤ room_of self.new other }
     {
         if let Some(queue) = self.numbers.get_mut(sender) {

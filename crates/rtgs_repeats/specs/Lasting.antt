@@ -7,7 +7,7 @@ use Rattle.rtgs_book.specs.declared.answer.Answer.TheVariants.{CreditSet, Nothin
 use Rattle.rtgs_book.specs.Balance.{total}
 use Rattle.rtgs_book.specs.Choice.{Choice, chosen, IsGreatest}
 use Rattle.rtgs_book.specs.Commands.{repeated}
-use Rattle.rtgs_book.specs.Laws.{posted, Stands}
+use Rattle.rtgs_book.specs.Laws.{posted, KeepsWhatIsFinal}
 use Rattle.rtgs_book.specs.Outcome.{Reply}
 use Rattle.rtgs_book.specs.Run.{Run, is_accepted, once}
 use Rattle.rtgs_book.specs.Step.{Step}
@@ -32,7 +32,7 @@ StaysAtOnce book command = ⊤
 -- what lasts of a command, its reply, and the book that it leaves
 pub record IsLasting (old : Book) (command : Command) (reply : Reply) (new : Book) : Type 0 where
   -- marks and settled orders stand
-  pub stands : Stands old new
+  pub stands : KeepsWhatIsFinal old new
   -- money is what was posted
   pub money : total new ≡ total old +ℤ posted command reply
   -- what acts once is known for good
@@ -50,7 +50,7 @@ posted_by commands replies = pos 0
 
 -- what lasts of a list of commands
 pub record AreLasting (old : Book) (commands : List Command) (replies : List Reply) (new : Book) : Type 0 where
-  pub stands : Stands old new
+  pub stands : KeepsWhatIsFinal old new
   -- money is what was posted
   pub money : total new ≡ total old +ℤ posted_by commands replies
   -- each order and posting but once makes the same book, with the same replies to what stays

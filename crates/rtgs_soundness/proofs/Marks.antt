@@ -15,7 +15,7 @@ use Rattle.rtgs_book.specs.declared.OrderState.TheVariants.{Queued, Settled, Wit
 use Rattle.rtgs_book.specs.Soundness.{AreNumbered, HasMark, is_state_under, orders_under, CountsItsOrders}
 use Rattle.rtgs_book.specs.Soundness.{MarksFitOrders}
 use Rattle.rtgs_soundness.specs.declared.rules.tally.Tally.{Tally}
-use Rattle.rtgs_soundness.specs.Tallies.{AreTallies, IsCounted, IsWithin, tally_at, tally_of, with_amount}
+use Rattle.rtgs_soundness.specs.Tallies.{AreTallies, IsCounted, IsTallyWithin, tally_at, tally_of_mark, with_amount}
 use Rattle.rtgs_money.specs.declared.amount.TheConstants.Amount as Amount
 use Rattle.rtgs_soundness.proofs.Totals.{count_is_sum, amounts_are_sum, sum_pushed}
 use Rattle.rtgs_lists.proofs.Lists.{all_weaker}
@@ -85,20 +85,20 @@ same_sum : (a b : ℤ) → a ≡ b +ℤ pos 0 → a ≡ b
 same_sum a b e = omega (arith, ints)
 
 -- one order more at the end
-pub tally_pushed : (orders : List Order) (o : Order) (mark : ℕ) → tally_of (orders ++ o ∷ []) mark
-    ≡ cond (is_state_under mark o.state) (with_amount o.amount (tally_of orders mark)) (tally_of orders mark)
+pub tally_pushed : (orders : List Order) (o : Order) (mark : ℕ) → tally_of_mark (orders ++ o ∷ []) mark
+    ≡ cond (is_state_under mark o.state) (with_amount o.amount (tally_of_mark orders mark)) (tally_of_mark orders mark)
 tally_pushed orders o mark = whole (is_state_under mark o.state)
     (sum_pushed (λ (o : Order). is_state_under mark o.state) (λ (o : Order). pos 1) orders o)
     (sum_pushed (λ (o : Order). is_state_under mark o.state) (λ (o : Order). pos o.amount) orders o)
   where
-    whole : (b : Bool) → (tally_of (orders ++ o ∷ []) mark).count ≡ (tally_of orders mark).count
-        +ℤ cond b (pos 1) (pos 0) → (tally_of (orders ++ o ∷ []) mark).value ≡ (tally_of orders mark).value
-        +ℤ cond b (pos o.amount) (pos 0) → tally_of (orders ++ o ∷ []) mark
-        ≡ cond b (with_amount o.amount (tally_of orders mark)) (tally_of orders mark)
+    whole : (b : Bool) → (tally_of_mark (orders ++ o ∷ []) mark).count ≡ (tally_of_mark orders mark).count
+        +ℤ cond b (pos 1) (pos 0) → (tally_of_mark (orders ++ o ∷ []) mark).value ≡ (tally_of_mark orders mark).value
+        +ℤ cond b (pos o.amount) (pos 0) → tally_of_mark (orders ++ o ∷ []) mark
+        ≡ cond b (with_amount o.amount (tally_of_mark orders mark)) (tally_of_mark orders mark)
     whole true e f = λ i. record { count = e i; value = f i }
     whole false e f = λ i. record {
-      count = same_sum (tally_of (orders ++ o ∷ []) mark).count (tally_of orders mark).count e i;
-      value = same_sum (tally_of (orders ++ o ∷ []) mark).value (tally_of orders mark).value f i;
+      count = same_sum (tally_of_mark (orders ++ o ∷ []) mark).count (tally_of_mark orders mark).count e i;
+      value = same_sum (tally_of_mark (orders ++ o ∷ []) mark).value (tally_of_mark orders mark).value f i;
     }
 
 under_none : (mark : ℕ) (s : OrderState) → ((k : ℕ) → s ≡ Settled k → ⊥) → is_state_under mark s ≡ false
@@ -109,18 +109,19 @@ under_none mark Rejected h = refl
 
 -- an order that is not settled
 pub tally_kept : (orders : List Order) (o : Order) (mark : ℕ) → ((k : ℕ) → o.state ≡ Settled k → ⊥)
-    → tally_of (orders ++ o ∷ []) mark ≡ tally_of orders mark
+    → tally_of_mark (orders ++ o ∷ []) mark ≡ tally_of_mark orders mark
 tally_kept orders o mark h = tally_pushed orders o mark
-    ∙ ap (λ b. cond b (with_amount o.amount (tally_of orders mark)) (tally_of orders mark)) (under_none mark o.state h)
+    ∙ ap (λ b. cond b (with_amount o.amount (tally_of_mark orders mark)) (tally_of_mark orders mark)) (under_none mark
+    o.state h)
 
 -- each bound is the larger by one amount
-pub within_wider : (bound : ℕ) (tally : Tally) → IsWithin bound tally → IsWithin (bound + Amount.MAX) tally
+pub within_wider : (bound : ℕ) (tally : Tally) → IsTallyWithin bound tally → IsTallyWithin (bound + Amount.MAX) tally
 within_wider bound tally h =
     let a = h.0.0 in let b = h.0.1 in let c = h.1.0 in let d = h.1.1 in
     ((omega (arith, ints), omega (arith, ints)), (omega (arith, ints), omega (arith, ints)))
 
-pub within_more : (bound amount : ℕ) (tally : Tally) → amount ≤ Amount.MAX → IsWithin bound tally
-    → IsWithin (bound + Amount.MAX) (with_amount amount tally)
+pub within_more : (bound amount : ℕ) (tally : Tally) → amount ≤ Amount.MAX → IsTallyWithin bound tally
+    → IsTallyWithin (bound + Amount.MAX) (with_amount amount tally)
 within_more bound amount tally few h =
     let a = h.0.0 in let b = h.0.1 in let c = h.1.0 in let d = h.1.1 in
     ((omega (arith, ints), omega (arith, ints)), (omega (arith, ints), omega (arith, ints)))
@@ -128,9 +129,9 @@ within_more bound amount tally few h =
 -- the tally at a mark's place is of its orders
 pub tally_here : (orders : List Order) (tallies : List Tally) (marks : List Mark) (place : ℕ) (m : Mark)
     → AreNumbered (map (λ (m : Mark). m.number) marks) → length tallies ≡ length marks → place < length marks
-    → m ≡ get_or marks place m → AreTallies orders tallies → tally_at tallies place ≡ tally_of orders m.number
+    → m ≡ get_or marks place m → AreTallies orders tallies → tally_at tallies place ≡ tally_of_mark orders m.number
 tally_here orders tallies marks place m numbered same within is are =
-    are place (omega arith) ∙ ap (tally_of orders) (sym (ap (λ (m : Mark). m.number) is
+    are place (omega arith) ∙ ap (tally_of_mark orders) (sym (ap (λ (m : Mark). m.number) is
     ∙ number_at marks place m numbered within))
 
 same_count : (m n : ℕ) → pos m ≡ pos n → m ≡ n
@@ -138,19 +139,20 @@ same_count m n e = omega (arith, ints)
 
 -- what the comparison of marks with tallies tells of the book
 pub tallies_of : (book : Book) (b : Bool) → AllByRecursion (λ (o : Order). HasMark book.marks o.date o.state)
-    book.orders → (b ≡ true) ↔ AllByRecursion (λ (m : Mark). IsCounted m (tally_of book.orders m.number)) book.marks
+    book.orders → (b ≡ true) ↔ AllByRecursion (λ (m : Mark). IsCounted m (tally_of_mark book.orders m.number))
+    book.marks
     → (b ≡ true) ↔ MarksFitOrders book
 tallies_of book b orders told = (
   λ e. (
     orders,
-    all_weaker (λ (m : Mark). IsCounted m (tally_of book.orders m.number)) (CountsItsOrders book)
+    all_weaker (λ (m : Mark). IsCounted m (tally_of_mark book.orders m.number)) (CountsItsOrders book)
         (λ m k. record {
           some = k.some;
           count = same_count _ _ (k.count ∙ count_is_sum (orders_under book m.number));
           value = k.value ∙ amounts_are_sum (λ (o : Order). o.amount) (orders_under book m.number);
         }) book.marks (told.0 e),
   ),
-  λ fit. told.1 (all_weaker (CountsItsOrders book) (λ (m : Mark). IsCounted m (tally_of book.orders m.number))
+  λ fit. told.1 (all_weaker (CountsItsOrders book) (λ (m : Mark). IsCounted m (tally_of_mark book.orders m.number))
       (λ m k. record {
         some = k.some;
         count = ap pos k.count ∙ sym (count_is_sum (orders_under book m.number));

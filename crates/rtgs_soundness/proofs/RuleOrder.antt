@@ -12,15 +12,15 @@ use Rattle.rtgs_book.specs.declared.Book.{Book}
 use Rattle.rtgs_book.specs.declared.Posting.{Posting}
 use Rattle.rtgs_book.specs.declared.Order.{Order}
 use Rattle.rtgs_book.specs.Judgement.{Keeps, KeepsBefore}
-use Rattle.rtgs_book.specs.Judgement.{number_of}
+use Rattle.rtgs_book.specs.Judgement.{rule_number}
 use Rattle.rtgs_book.specs.Soundness.{TotalFits, IsSound}
 use Rattle.rtgs_book.specs.Balance.{issued, total}
 use Rattle.rtgs_book.specs.IntSum.{int_sum_by}
 
 -- a rule before this one
-pub earlier : (book : Book) (rule this other : Rule) → rule ≡ this → number_of other < number_of this
+pub earlier : (book : Book) (rule this other : Rule) → rule ≡ this → rule_number other < rule_number this
     → KeepsBefore book rule → Keeps book other
-earlier book rule this other is less h = h other (subst (λ r. number_of other < number_of r) (sym is) less)
+earlier book rule this other is less h = h other (subst (λ r. rule_number other < rule_number r) (sym is) less)
 
 pub few_orders : (book : Book) → Keeps book OrderNumbers → length book.orders ≤ LARGEST_NUMBER
 few_orders book h = let long = length-map book.orders (λ (o : Order). o.number) in let few = h.1 in omega arith
@@ -33,7 +33,7 @@ abbrev pub numbered : ℕ → Rule
 numbered n = get_or (StoredBalances ∷ OrderNumbers ∷ PostingNumbers ∷ MarkNumbers ∷ ParticipantCodes ∷ Keys
     ∷ OrderReferences ∷ PostingReferences ∷ Parties ∷ Marks ∷ Queues ∷ Dates ∷ Floors ∷ Total ∷ []) n StoredBalances
 
-numbered_is : (rule : Rule) → numbered (number_of rule) ≡ rule
+numbered_is : (rule : Rule) → numbered (rule_number rule) ≡ rule
 numbered_is OrderNumbers = refl
 numbered_is PostingNumbers = refl
 numbered_is MarkNumbers = refl
@@ -51,21 +51,21 @@ numbered_is StoredBalances = refl
 
 -- the rules with the first numbers are kept
 abbrev pub KeepsFirst : Book → ℕ → Type 0
-KeepsFirst book count = (rule : Rule) → number_of rule ≤ count → Keeps book rule
+KeepsFirst book count = (rule : Rule) → rule_number rule ≤ count → Keeps book rule
 
-same_rule : (one other : Rule) → number_of one ≡ number_of other → one ≡ other
+same_rule : (one other : Rule) → rule_number one ≡ rule_number other → one ≡ other
 same_rule one other e = sym (numbered_is one) ∙ ap numbered e ∙ numbered_is other
 
 split_last : (a b : ℕ) → a ≤ b + 1 → (a ≤ b) ⊎ (a ≡ b + 1)
 split_last a b h = ⊎_elim (λ less. inl (omega arith)) (λ past. inr (omega arith)) (cases_lt a (b + 1))
 
-pub keeps_more : (book : Book) (count : ℕ) (rule : Rule) → number_of rule ≡ count + 1 → KeepsFirst book count
+pub keeps_more : (book : Book) (count : ℕ) (rule : Rule) → rule_number rule ≡ count + 1 → KeepsFirst book count
     → Keeps book rule → KeepsFirst book (count + 1)
 keeps_more book count rule next first kept other within =
     ⊎_elim (λ less. first other less) (λ is. subst (Keeps book) (same_rule rule other (next ∙ sym is)) kept)
-    (split_last (number_of other) count within)
+    (split_last (rule_number other) count within)
 
-pub before_next : (book : Book) (count : ℕ) (rule : Rule) → number_of rule ≡ count + 1 → KeepsFirst book count
+pub before_next : (book : Book) (count : ℕ) (rule : Rule) → rule_number rule ≡ count + 1 → KeepsFirst book count
     → KeepsBefore book rule
 before_next book count rule next first other less = first other (omega arith)
 

@@ -12,12 +12,12 @@ abbrev pub with_amount : ℕ → Tally → Tally
 with_amount amount tally = record { count = tally.count +ℤ pos 1; value = tally.value +ℤ pos amount }
 
 -- neither number is past the bound
-abbrev pub IsWithin : ℕ → Tally → Type 0
-IsWithin bound tally = Within bound tally.count × Within bound tally.value
+abbrev pub IsTallyWithin : ℕ → Tally → Type 0
+IsTallyWithin bound tally = Within bound tally.count × Within bound tally.value
 
 -- what the orders of the mark with this number add up to
-abbrev pub tally_of : List Order → ℕ → Tally
-tally_of orders mark = record {
+abbrev pub tally_of_mark : List Order → ℕ → Tally
+tally_of_mark orders mark = record {
   count = int_sum_by (λ (o : Order). pos 1) (filter (λ (o : Order). is_state_under mark o.state) orders);
   value = int_sum_by (λ (o : Order). pos o.amount) (filter (λ (o : Order). is_state_under mark o.state) orders);
 }
@@ -29,7 +29,7 @@ tally_at tallies place = slice_index_or tallies place (record { count = pos 0; v
 -- the tallies are of these orders, for the marks 1, 2, 3 and so on
 abbrev pub AreTallies : List Order → List Tally → Type 0
 AreTallies orders tallies = (place : ℕ) → place < length tallies
-    → tally_at tallies place ≡ tally_of orders (place + 1)
+    → tally_at tallies place ≡ tally_of_mark orders (place + 1)
 
 -- the mark has this count, which is not 0, and this value
 pub record IsCounted (mark : Mark) (tally : Tally) : Type 0 where

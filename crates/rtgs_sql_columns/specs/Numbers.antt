@@ -12,14 +12,14 @@ use Rattle.rtgs_book.specs.declared.OrderState.TheVariants.{Queued, Settled, Wit
 use Rattle.rtgs_book.specs.declared.Mark.{Mark}
 
 -- below zero is read as 0, which is no number of a sound book
-abbrev pub number_of : ℤ → ℕ
-number_of (pos n) = n
-number_of (negsuc n) = 0
+abbrev pub natural_of : ℤ → ℕ
+natural_of (pos n) = n
+natural_of (negsuc n) = 0
 
 -- the value with a number below zero read as 0
 abbrev pub at_least_zero : Value → Value
 at_least_zero Null = Null
-at_least_zero (Int n) = Int (pos (number_of n))
+at_least_zero (Int n) = Int (pos (natural_of n))
 at_least_zero (Real x) = Real x
 at_least_zero (Text t) = Text t
 at_least_zero (Blob b) = Blob b

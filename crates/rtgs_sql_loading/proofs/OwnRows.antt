@@ -14,13 +14,13 @@ use Rattle.rtgs_book.specs.declared.OrderState.{OrderState}
 use Rattle.rtgs_book.specs.declared.OrderState.TheVariants.{Queued, Settled, Withdrawn, Rejected}
 use Rattle.rtgs_book.specs.declared.Mark.{Mark}
 use Rattle.rtgs_rows.specs.Rows.{shown_posting, shown_order, shown_mark, mark_value}
-use Rattle.rtgs_sql_columns.specs.Numbers.{number_of, at_least_zero, as_read, counted_of_posting, counted_of_order}
+use Rattle.rtgs_sql_columns.specs.Numbers.{natural_of, at_least_zero, as_read, counted_of_posting, counted_of_order}
 use Rattle.rtgs_sql_columns.specs.Numbers.{counted_of_mark, IsFormed, IsNumberedPosting, IsNumberedState}
 use Rattle.rtgs_sql_columns.specs.Numbers.{IsNumberedOrder}
 use Rattle.rtgs_sql_columns.specs.Numbers.{IsNumberedMark}
 
 -- what is read as a number is one
-pub number_in : (v : Value) (n : ℕ) → at_least_zero v ≡ Int (pos n) → (m : ℤ) × (v ≡ Int m) × (number_of m ≡ n)
+pub number_in : (v : Value) (n : ℕ) → at_least_zero v ≡ Int (pos n) → (m : ℤ) × (v ≡ Int m) × (natural_of m ≡ n)
 number_in Null n e = absurd cc
 number_in (Int m) n e = (m, refl, cc)
 number_in (Real x) n e = absurd cc
@@ -31,7 +31,7 @@ number_in (Blob b) n e = absurd cc
 pub above_in : (v : Value) (n : ℕ) → 0 < n → at_least_zero v ≡ Int (pos n) → v ≡ Int (pos n)
 above_in v n low e = at (number_in v n e)
   where
-    at : ((m : ℤ) × (v ≡ Int m) × (number_of m ≡ n)) → v ≡ Int (pos n)
+    at : ((m : ℤ) × (v ≡ Int m) × (natural_of m ≡ n)) → v ≡ Int (pos n)
     at (pos m, is, same) = is ∙ ap (λ k. Int (pos k)) same
     at (negsuc m, is, same) = absurd (omega (arith, same, low))
 

@@ -21,7 +21,7 @@ use Rattle.rtgs_sql_queries.specs.Answering.{KeepsTables}
 use Rattle.rtgs_sql_loading.specs.Accounts.{AreTold}
 use Rattle.rtgs_sql_queries.specs.Displaying.{Displays}
 use Rattle.rtgs_sql_loading.specs.Displaying.{DisplaysAs, desk_text, participants_text}
-use Rattle.rtgs_sql_loading.specs.Loading.{ReadsOn, Stops, Tells}
+use Rattle.rtgs_sql_loading.specs.Loading.{ReadsOn, Stops, TellsRecords}
 use Rattle.rtgs_sql_columns.specs.Numbers.{counted_of_posting, counted_of_order, counted_of_mark}
 use Rattle.rtgs_sql_columns.specs.Tables.{TableQuery, participants_query, postings_query, payments_query, marks_query}
 use Rattle.rtgs_sql_loading.proofs.Displaying.{displays_plainly}
@@ -124,7 +124,7 @@ pub tells : (s : State) (accounts : List Account) (book : Book)
     → Reads postings_query FitsPosting counted_of_posting shown_posting (λ _ b. b.postings) s book.postings
     → Reads payments_query FitsOrder counted_of_order shown_order (λ _ b. b.orders) s book.orders
     → Reads marks_query FitsMark counted_of_mark shown_mark (λ _ b. b.marks) s book.marks
-    → Tells s accounts book
+    → TellsRecords s accounts book
 tells s accounts book named day stored postings orders marks =
     let fits : HasFormedValues book = record {
       participants = subst (AllByRecursion FitsParticipant) (sym named)

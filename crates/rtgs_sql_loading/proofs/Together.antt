@@ -18,7 +18,7 @@ use Rattle.rtgs_rows.specs.Rows.{shown_posting, shown_order, shown_mark}
 use Rattle.rtgs_rows.specs.Fitting.{HasFormedValues}
 use Rattle.rtgs_rows.specs.Querying.{picked, AreWhole, ShowsBook, shown_entry, ShowsParticipants}
 use Rattle.rtgs_book.specs.declared.account.Account.{Account}
-use Rattle.rtgs_sql_loading.specs.Accounts.{AreBalances, entry_of, AreReadOf, IsShown}
+use Rattle.rtgs_sql_loading.specs.Accounts.{AreBalances, account_entry, AreReadOf, IsShown}
 use Rattle.rtgs_sql_columns.specs.Numbers.{counted_of_posting, counted_of_order, counted_of_mark, IsNumberedPosting}
 use Rattle.rtgs_sql_columns.specs.Numbers.{IsNumberedOrder, IsNumberedMark, IsNumberedBook}
 use Rattle.rtgs_sql_columns.specs.Tables.{postings_query, payments_query, marks_query}
@@ -26,11 +26,11 @@ use Rattle.rtgs_sql_loading.proofs.OwnRows.{told_plainly, posting_own, order_own
 
 -- where the numbers are above zero, the tables show the records' own rows
 pub shows_of : (trees : Trees) (accounts : List Account) (book : Book) → AreReadOf trees accounts book
-    → IsNumberedBook book → ShowsBook trees book (map entry_of accounts)
+    → IsNumberedBook book → ShowsBook trees book (map account_entry accounts)
 shows_of trees accounts book read numbered = record {
   desk = read.desk;
-  participants = subst (ShowsParticipants trees) (sym (map-map shown_entry entry_of accounts)) read.participants;
-  named = read.named ∙ sym (map-map (λ (entry : Participant × ℤ). entry.0) entry_of accounts);
+  participants = subst (ShowsParticipants trees) (sym (map-map shown_entry account_entry accounts)) read.participants;
+  named = read.named ∙ sym (map-map (λ (entry : Participant × ℤ). entry.0) account_entry accounts);
   postings = told_plainly counted_of_posting shown_posting IsNumberedPosting posting_own
       (map (picked postings_query.places) (trees postings_query.tree)) book.postings numbered.postings read.postings;
   payments = told_plainly counted_of_order shown_order IsNumberedOrder order_own
@@ -46,9 +46,10 @@ pub shown_book : (trees : Trees) (accounts : List Account) (book : Book) (answer
     → IfOk answer (IsShown trees)
 shown_book trees accounts book (Ok it) read is right agree =
     let sound_book = subst IsSoundBook is right in
-    let balances = all_map (λ (entry : Participant × ℤ). entry.1 ≡ balance book entry.0.code) entry_of accounts agree in
+    let balances = all_map (λ (entry : Participant × ℤ). entry.1 ≡ balance book entry.0.code) account_entry accounts
+    agree in
     subst (IsShown trees) (sym is) (
-      map entry_of accounts,
+      map account_entry accounts,
       shows_of trees accounts book read
           (above_zero book sound_book),
       balances,
@@ -66,9 +67,10 @@ module _ (law : (trees : Trees) (book : Book) (entries : List (Participant × �
       → IfOk answer (λ it. (content : Content) × Holds content trees × IsBookOf it content)
   held_book trees accounts book (Ok it) sound whole read is right agree =
       let sound_book = subst IsSoundBook is right in
-      let balances = all_map (λ (entry : Participant × ℤ). entry.1 ≡ balance book entry.0.code) entry_of accounts agree
+      let balances = all_map (λ (entry : Participant × ℤ). entry.1 ≡ balance book entry.0.code) account_entry accounts
+      agree
       in
       subst (λ b. (content : Content) × Holds content trees × IsBookOf b content) (sym is)
-      (law trees book (map entry_of accounts) sound whole sound_book read.fits
+      (law trees book (map account_entry accounts) sound whole sound_book read.fits
       (shows_of trees accounts book read (above_zero book sound_book)) balances)
   held_book trees accounts book (Err fault) sound whole read is right agree = tt

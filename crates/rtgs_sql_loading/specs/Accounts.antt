@@ -23,8 +23,8 @@ use Rattle.rtgs_sql_columns.specs.Numbers.{as_read, counted_of_posting, counted_
 use Rattle.rtgs_book.specs.declared.account.Account.{Account}
 
 -- an account as an entry of the tables
-abbrev pub entry_of : Account → Participant × ℤ
-entry_of a = (a.participant, a.balance)
+abbrev pub account_entry : Account → Participant × ℤ
+account_entry a = (a.participant, a.balance)
 
 -- the rows of a table as its query shows them and as they are read, in some order
 abbrev pub AreTold : List ℕ → List Bool → List Row → List Row → Type 0
@@ -70,7 +70,7 @@ abbrev pub KeepsStored : List Account → Book → Rule → Type 0
 KeepsStored accounts book rule = Keeps book rule × (rule ≡ StoredBalances → AreBalances book accounts)
 
 -- of the rules that the records break, this is the first
-pub record BreaksFirst (accounts : List Account) (book : Book) (rule : Rule) : Type 0 where
+pub record StoredBreaksFirst (accounts : List Account) (book : Book) (rule : Rule) : Type 0 where
   pub broken : ¬ KeepsStored accounts book rule
   pub before : KeepsBefore book rule
 
@@ -80,7 +80,7 @@ abbrev pub ExplainsRead : List Account → Book → Fault → Type 0
 ExplainsRead accounts book OutOfMemory = ⊤
 ExplainsRead accounts book StoreFault = ⊤
 ExplainsRead accounts book NotADeskFile = ⊥
-ExplainsRead accounts book (Inconsistent rule) = BreaksFirst accounts book rule
+ExplainsRead accounts book (Inconsistent rule) = StoredBreaksFirst accounts book rule
 
 -- Why tables with the schema of a desk give no book, whatever their rows are: a row is in no form; or all are, and this
 -- is the first rule that the records break; or else the store failed or memory was refused.
@@ -89,7 +89,7 @@ ExplainsTrees trees OutOfMemory = ⊤
 ExplainsTrees trees StoreFault = ⊤
 ExplainsTrees trees NotADeskFile = ¬ AreFormed trees
 ExplainsTrees trees (Inconsistent rule) = (accounts : List Account) × (book : Book) × AreReadOf trees accounts book
-    × BreaksFirst accounts book rule
+    × StoredBreaksFirst accounts book rule
 
 -- The queries show the records of the book, with stored balances that are the sums from scratch.
 abbrev pub IsShown : Trees → Book → Type 0

@@ -12,7 +12,7 @@ use Rattle.rtgs_rows.specs.Fitting.{HasFormedValues, FitsDate, FitsParticipant, 
 use Rattle.rtgs_rows.specs.Rows.{shown_day, shown_account, shown_posting, shown_order, shown_mark}
 use Rattle.rtgs_sql_queries.specs.Displaying.{Displays, HasNoAnswer}
 pub use Rattle.rtgs_sql_columns.specs.Tables.{desk_text, participants_text, postings_text, payments_text, marks_text}
-use Rattle.rtgs_sql_loading.specs.Accounts.{AreBalances, BreaksFirst}
+use Rattle.rtgs_sql_loading.specs.Accounts.{AreBalances, StoredBreaksFirst}
 use Rattle.rtgs_sql_columns.specs.Numbers.{as_read, counted_of_posting, counted_of_order, counted_of_mark, IsFormed}
 
 -- ---- what they show
@@ -84,4 +84,4 @@ ExplainsDatabase db OutOfMemory = ⊤
 ExplainsDatabase db StoreFault = ⊤
 ExplainsDatabase db NotADeskFile = IsIllegible db
 ExplainsDatabase db (Inconsistent rule) = (accounts : List Account) × (book : Book) × AreDisplayed db accounts book
-    × BreaksFirst accounts book rule
+    × StoredBreaksFirst accounts book rule

@@ -21,7 +21,7 @@ pub record ReadsOn (old new : State) : Type 0 where
 
 -- What is read, in three ways: these are the records, where the tables have any; the rows tell them, where the schema
 -- is a desk's; and the queries show them, whatever the schema is.
-pub record Tells (s : State) (accounts : List Account) (book : Book) : Type 0 where
+pub record TellsRecords (s : State) (accounts : List Account) (book : Book) : Type 0 where
   pub records : (others : List Account) (other : Book) → HasRecords others other s
       → (book ≡ other) × (accounts ≡ others)
   pub rows : (trees : Trees) → IsDeskFile trees s → AreReadOf trees accounts book

@@ -9,7 +9,7 @@ ghost use Rattle.rtgs_sql_loading.specs.Accounts.{AreBalances, AreFormed, Explai
 ghost use Rattle.rtgs_sql_loading.specs.Accounts.{ExplainsTrees, IsShown};
 ghost use Rattle.rtgs_sql_columns.specs.Blank.{IsBlank};
 ghost use Rattle.rtgs_sql_loading.specs.Displaying.{IsDisplayed, IsIllegible, ExplainsDatabase};
-ghost use Rattle.rtgs_sql_loading.specs.Loading.{Tells, Stops};
+ghost use Rattle.rtgs_sql_loading.specs.Loading.{TellsRecords, Stops};
 ghost use Rattle.rtgs_book.specs.Ranges.{Fits};
 ghost use Rattle.rtgs_book.specs.Soundness.{IsSound};
 ghost use Rattle.rtgs_rows.specs.Content.{Content, Holds};
@@ -38,7 +38,7 @@ struct Stored {
 /// Reads the five tables.
 fn read_tables<S: Alter>(alloc: Global, conn: &mut Connection<S>) -> Result<Stored, Fault>
     ensures told { HasCleanDisk (state S.Store conn.new) → IfOk result (λ stored.
-        Tells (state S.Store conn.old) stored.accounts.items stored.book) }
+        TellsRecords (state S.Store conn.old) stored.accounts.items stored.book) }
     ensures stops { Stops (state S.Store conn.old) (state S.Store conn.new) result (λ trees. ¬ AreFormed trees)
         IsIllegible }
     ensures kinds { (rule : Rule) → result ≢ Err (Fault.Inconsistent rule) }

@@ -19,7 +19,7 @@ use Rattle.rtgs_money.specs.Date.{date_text, IsBusinessDate}
 use Rattle.rtgs_rows.specs.Fitting.{FitsDate}
 use Rattle.rtgs_rows.specs.Rows.{shown_posting, shown_order, shown_mark, mark_value, date_value, state_number}
 use Rattle.rtgs_sql_queries.proofs.RowColumns.{of_four, of_eight}
-use Rattle.rtgs_sql_columns.specs.Numbers.{number_of, at_least_zero, as_read, counted_of_posting, counted_of_order}
+use Rattle.rtgs_sql_columns.specs.Numbers.{natural_of, at_least_zero, as_read, counted_of_posting, counted_of_order}
 use Rattle.rtgs_sql_columns.specs.Numbers.{counted_of_mark, IsFormed, IsNumberedPosting, IsNumberedState}
 use Rattle.rtgs_sql_columns.specs.Numbers.{IsNumberedOrder}
 use Rattle.rtgs_sql_columns.specs.Numbers.{IsNumberedMark}

@@ -20,7 +20,7 @@ use Rattle.sqlite_trees.specs.declared.store.Store.{Ghosts}
 use Rattle.rtgs_rows.specs.Tables.{desk_schema}
 use Rattle.rtgs_rows.specs.Querying.{IsDeskFile}
 use Rattle.rtgs_sql_queries.specs.Answering.{IsQuery, KeepsTables, Returnless}
-use Rattle.rtgs_sql_queries.specs.TableQueries.{Asks, Seeks}
+use Rattle.rtgs_sql_queries.specs.TableQueries.{IsOneQuery, Seeks}
 use Rattle.rtgs_sql_queries.proofs.Refusals.{intact}
 use Rattle.rtgs_sql_queries.proofs.Resting.{keeps, schema_of}
 use Rattle.rtgs_sql_queries.proofs.Showing.{file_on}
@@ -28,8 +28,9 @@ use Rattle.rtgs_sql_queries.proofs.ReadingAlone.{commits_nothing}
 
 module _ (text : List ℕ) (params : Row) (query : Query) (names : List (List ℕ))
     (is : Seeks text (length params) query names) (old new : State) (schema_is : old.now.schema ≡ desk_schema) where
-  asked : Asks old.now.schema text (length params) (record { lets = []; body = query }) names
-  asked = subst (λ k. Asks k text (length params) (record { lets = []; body = query }) names) (sym schema_is) is.asks
+  asked : IsOneQuery old.now.schema text (length params) (record { lets = []; body = query }) names
+  asked = subst (λ k. IsOneQuery k text (length params) (record { lets = []; body = query }) names) (sym schema_is)
+      is.asks
 
   plain : IsPlain (understood old.now.schema text)
   plain = subst (λ s. IsPlain (understood s text)) (sym schema_is) is.asks.plain

@@ -19,7 +19,7 @@ use Rattle.sqlite.specs.State.{State, Fails, IsUnchanged, IsRolledBack, IsNotRun
 use Rattle.sqlite.specs.State.{FailsToShow, store_error}
 use Rattle.sqlite.proofs.Callers.{IsPlain, command_of}
 use Rattle.rtgs_sql_queries.specs.Faults.{IsOfStore}
-use Rattle.rtgs_sql_queries.specs.TableQueries.{tail_of, count_of, Asks}
+use Rattle.rtgs_sql_queries.specs.TableQueries.{tail_of, count_of, IsOneQuery}
 
 pub told : (cause : StoreError) → IsOfStore (store_error cause)
 told OutOfMemory = tt
@@ -30,7 +30,7 @@ told Broken = tt
 told Unstorable = tt
 
 module _ (sql : List ℕ) (params : Row) (old new : State) (q : Program) (names : List (List ℕ))
-    (asks : Asks old.now.schema sql (length params) q names) (e : Error) where
+    (asks : IsOneQuery old.now.schema sql (length params) q names) (e : Error) where
   fails : (U : Type 0) → Fails old new U e → IsOfStore e
   fails U h = subst IsOfStore (sym h.1) (told h.0)
 

@@ -31,7 +31,8 @@ use Rattle.rtgs_rows.specs.Querying.{IsDeskFile, picked}
 use Rattle.rtgs_sql_queries.specs.Records.{AreRead}
 use Rattle.rtgs_sql_queries.specs.Answering.{FailsAmid}
 use Rattle.rtgs_sql_queries.specs.Faults.{IsOfStore}
-use Rattle.rtgs_sql_queries.specs.TableQueries.{TableQuery, IsTableQuery, Asks, ShowsOwn, whole_table, shown_columns}
+use Rattle.rtgs_sql_queries.specs.TableQueries.{TableQuery, IsTableQuery, IsOneQuery, ShowsOwn, whole_table}
+use Rattle.rtgs_sql_queries.specs.TableQueries.{shown_columns}
 use Rattle.rtgs_sql_queries.specs.TableQueries.{rising_by}
 use Rattle.rtgs_sql_queries.proofs.Refusals.{of_store, intact}
 use Rattle.rtgs_sql_queries.specs.Answering.{KeepsTables}
@@ -74,8 +75,9 @@ none_given trees tree = elim (nat_le (2 ^ 31) tree) as (λ b. unwrap_or (cond {A
     (trees tree) ≡ trees tree) [ true ↦ refl | false ↦ refl ]
 
 module _ (t : TableQuery) (is : IsTableQuery t) (old new : State) (schema_is : old.now.schema ≡ desk_schema) where
-  asked : Asks old.now.schema t.text 0 (record { lets = []; body = whole_table t }) t.names
-  asked = subst (λ k. Asks k t.text 0 (record { lets = []; body = whole_table t }) t.names) (sym schema_is) is.asks
+  asked : IsOneQuery old.now.schema t.text 0 (record { lets = []; body = whole_table t }) t.names
+  asked = subst (λ k. IsOneQuery k t.text 0 (record { lets = []; body = whole_table t }) t.names) (sym schema_is)
+      is.asks
 
   unchanged : (rows : List Row) → Shown t.text [] old new rows → IsUnchanged old new
   unfolding Shown

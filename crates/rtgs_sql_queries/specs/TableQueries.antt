@@ -53,7 +53,7 @@ count_of (Ok c) = length c.names
 count_of (Err e) = 0
 
 -- the text is one query over this schema, with so many parameters
-pub record Asks (schema : Schema) (sql : List ℕ) (count : ℕ) (q : Program) (names : List (List ℕ)) : Type 0 where
+pub record IsOneQuery (schema : Schema) (sql : List ℕ) (count : ℕ) (q : Program) (names : List (List ℕ)) : Type 0 where
   pub command : command_of (understood schema sql) ≡ Select q names
   pub plain : IsPlain (understood schema sql)
   pub whole : tail_of (understood schema sql) ≡ length sql
@@ -76,7 +76,7 @@ whole_table t = simple t.tree [] (columns_of t) (rising_by t.sorted_by)
 
 -- the text is that query: over the tables of a desk it is this one, and over any schema it is some query
 pub record IsTableQuery (t : TableQuery) : Type 0 where
-  pub asks : Asks desk_schema t.text 0 (record { lets = []; body = whole_table t }) t.names
+  pub asks : IsOneQuery desk_schema t.text 0 (record { lets = []; body = whole_table t }) t.names
   pub typed : accepts_program desk_schema [] (whole_table t) [] ≡ true
   pub unlisted : reads_listing desk_schema t.text ≡ false
   pub query : IsQueryText t.text (first t.text)
@@ -86,7 +86,7 @@ pub record IsTableQuery (t : TableQuery) : Type 0 where
 
 -- the text is this query, with so many parameters
 pub record Seeks (text : List ℕ) (count : ℕ) (query : Query) (names : List (List ℕ)) : Type 0 where
-  pub asks : Asks desk_schema text count (record { lets = []; body = query }) names
+  pub asks : IsOneQuery desk_schema text count (record { lets = []; body = query }) names
   pub unlisted : reads_listing desk_schema text ≡ false
 
 -- ---- what it shows of a book

@@ -23,7 +23,7 @@ use Rattle.rtgs_rows.specs.Tables.{no_schema, desk_schema, desk_at}
 use Rattle.rtgs_rows.specs.Content.{tables_of, tables_for, IsUnderWay}
 use Rattle.rtgs_rows.specs.Rows.{day_row}
 use Rattle.rtgs_sql_columns.specs.Blank.{IsBlank}
-use Rattle.rtgs_sql_writes.specs.Building.{IsBuilt, Makes, first_content}
+use Rattle.rtgs_sql_writes.specs.Building.{IsBuilt, MakesTable, first_content}
 use Rattle.sqlite.specs.Term.{lit}
 use Rattle.sqlite.specs.Effect.{value_rows}
 use Rattle.sqlite.specs.Rows.{stamped}
@@ -80,7 +80,7 @@ one_more [] table new all one = (one, tt)
 one_more (t ∷ more) table new all one = (all.0, one_more more table new all.1 one)
 
 built : (was : Database) (schema next : Schema) (table : Table) (old new : State) (text : List ℕ) (count : ℕ)
-    → IsBuilt was schema old → Makes text schema table next → ExecutesInside 0 text [] old new (Ok count)
+    → IsBuilt was schema old → MakesTable text schema table next → ExecutesInside 0 text [] old new (Ok count)
     → IsBuilt was next new
 built was schema next table old new text count is it h =
     let w = subst (λ t. Writes old new None CreateTable t [] count) it.whole
@@ -101,7 +101,8 @@ built was schema next table old new text count is it h =
     }
 
 pub builds : (was : Database) (schema next : Schema) (table : Table) (old new : State) (text : List ℕ)
-    (r : Result ℕ Error) → IsBuilt was schema old → Makes text schema table next → ExecutesInside 0 text [] old new r
+    (r : Result ℕ Error) → IsBuilt was schema old → MakesTable text schema table next → ExecutesInside 0 text [] old new
+    r
     → OnOk r (IsBuilt was next new)
 builds was schema next table old new text (Ok count) is it h = built was schema next table old new text count is it h
 builds was schema next table old new text (Err e) is it h = tt

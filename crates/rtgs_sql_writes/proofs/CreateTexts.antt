@@ -9,7 +9,7 @@ use Rattle.sqlite.specs.Listing.{understood}
 use Rattle.sqlite.proofs.Callers.{IsPlain, command_of}
 use Rattle.rtgs_rows.specs.Tables.{desk_at, participant_at, posting_at, payment_at, mark_at, no_schema, with_desk}
 use Rattle.rtgs_rows.specs.Tables.{with_participant, with_posting, with_payment, desk_schema}
-use Rattle.rtgs_sql_writes.specs.Building.{Makes}
+use Rattle.rtgs_sql_writes.specs.Building.{MakesTable}
 
 abbrev pub desk_text : List ℕ
 desk_text = codes
@@ -35,7 +35,7 @@ mark_text = codes "CREATE TABLE mark (number INTEGER PRIMARY KEY, date TEXT NOT 
 abbrev pub first_day_text : List ℕ
 first_day_text = codes "INSERT INTO desk (id, version, phase) VALUES (1, 1, 0)"
 
-pub makes_desk : Makes desk_text no_schema (desk_at 0) with_desk
+pub makes_desk : MakesTable desk_text no_schema (desk_at 0) with_desk
 unfolding understood everything with_desk
 makes_desk = record {
   command = refl;
@@ -46,7 +46,7 @@ makes_desk = record {
   uncounted = refl;
 }
 
-pub makes_participant : Makes participant_text with_desk (participant_at 0) with_participant
+pub makes_participant : MakesTable participant_text with_desk (participant_at 0) with_participant
 unfolding understood everything with_desk with_participant
 makes_participant = record {
   command = refl;
@@ -57,7 +57,7 @@ makes_participant = record {
   uncounted = refl;
 }
 
-pub makes_posting : Makes posting_text with_participant (posting_at 0) with_posting
+pub makes_posting : MakesTable posting_text with_participant (posting_at 0) with_posting
 unfolding understood everything with_participant with_posting
 makes_posting = record {
   command = refl;
@@ -68,7 +68,7 @@ makes_posting = record {
   uncounted = refl;
 }
 
-pub makes_payment : Makes payment_text with_posting (payment_at 0) with_payment
+pub makes_payment : MakesTable payment_text with_posting (payment_at 0) with_payment
 unfolding understood everything with_posting with_payment
 makes_payment = record {
   command = refl;
@@ -79,7 +79,7 @@ makes_payment = record {
   uncounted = refl;
 }
 
-pub makes_mark : Makes mark_text with_payment (mark_at 0) desk_schema
+pub makes_mark : MakesTable mark_text with_payment (mark_at 0) desk_schema
 unfolding understood everything with_payment desk_schema
 makes_mark = record {
   command = refl;

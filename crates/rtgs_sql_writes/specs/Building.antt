@@ -24,7 +24,7 @@ pub record IsBuilt (was : Database) (schema : Schema) (s : State) : Type 0 where
   pub committed : s.committed ≡ was
 
 -- the text makes the table in that schema, which is then the next
-pub record Makes (text : List ℕ) (schema : Schema) (table : Table) (next : Schema) : Type 0 where
+pub record MakesTable (text : List ℕ) (schema : Schema) (table : Table) (next : Schema) : Type 0 where
   pub command : command_of (understood schema text) ≡ CreateTable
   pub whole : statement_of text (understood schema text) ≡ text
   pub plain : IsPlain (understood schema text)

@@ -7,7 +7,7 @@ ghost use Rattle.rtgs_rows.specs.Tables.{no_schema, desk_schema};
 ghost use Rattle.rtgs_rows.specs.Content.{Holds, IsUnderWay, Rests};
 ghost use Rattle.rtgs_sql_writes.specs.Stops.{IsBefore};
 ghost use Rattle.rtgs_sql_columns.specs.Blank.{IsBlank};
-ghost use Rattle.rtgs_sql_writes.specs.Building.{IsBuilt, Makes, first_content};
+ghost use Rattle.rtgs_sql_writes.specs.Building.{IsBuilt, MakesTable, first_content};
 ghost use Rattle.sqlite.specs.State.{HasCleanDisk, KeepsCommit, Survives};
 ghost use Rattle.sqlite.specs.Held.{state};
 
@@ -19,7 +19,7 @@ fn create_table<S: Alter>(tx: &mut Transaction<'_, S>, sql: &str) -> Result<usiz
     ensures same_reference { tx.new.conn.ghost_name ≡ tx.old.conn.ghost_name }
     ensures made { HasCleanDisk (state S.Store tx.new.conn.now)
         → (was : Database) (schema next : Schema) (table : Table) → IsBuilt was schema (state S.Store tx.old.conn.now)
-        → Makes sql.now schema table next
+        → MakesTable sql.now schema table next
         → OnOk result (IsBuilt was next (state S.Store tx.new.conn.now)) }
     ensures kept { HasCleanDisk (state S.Store tx.new.conn.now)
         → KeepsCommit (state S.Store tx.old.conn.now) (state S.Store tx.new.conn.now) }

@@ -15,9 +15,11 @@ use Rattle.rtgs_book.specs.Lookup.{accounts, is_participant}
 use Rattle.rtgs_book.specs.Soundness.{CodesRise, PartiesAreKnown, has_parties}
 use Rattle.rtgs_statements.specs.declared.party.Party.{Party}
 use Rattle.rtgs_statements.specs.declared.party.Party.TheVariants.{Sender, Receiver}
-use Rattle.rtgs_statements.specs.Records.{is_posted_on, is_ordered_on, is_posting_of, is_order_of, postings_of}
-use Rattle.rtgs_statements.specs.Records.{orders_of, postings_on, orders_on}
-use Rattle.rtgs_statements.specs.Sums.{cents_of, amount_of, code_of, posted, sent, received, settled_for, sums_of, net}
+use Rattle.rtgs_statements.specs.Records.{is_posted_on, is_ordered_on, is_posting_of, is_order_of}
+use Rattle.rtgs_statements.specs.Records.{postings_on_statement}
+use Rattle.rtgs_statements.specs.Records.{orders_on_statement, postings_on, orders_on}
+use Rattle.rtgs_statements.specs.Sums.{cents_of, amount_of, party_code, posted, sent, received, settled_for, sums_of}
+use Rattle.rtgs_statements.specs.Sums.{net}
 use Rattle.rtgs_statements.proofs.Terms.{sum-cons}
 use Rattle.rtgs_lists.proofs.Sums.{at_code, int_sum_by-both, int_sum_by-same, sum_later}
 
@@ -62,7 +64,8 @@ module _ {X : Type 0} (f : X → ℤ) (p : X → Bool) (code_in : X → List ℕ
       let split = int_sum_by-same (λ code. int_sum_by f (filter (counts code) (x ∷ xs)))
       (λ code. cond (counts code x) (f x) (pos 0) +ℤ int_sum_by f (filter (counts code) xs))
       (λ code. sum-cons f (counts code) x xs) codes in
-      let apart = int_sum_by-both (λ code. cond (counts code x) (f x) (pos 0)) (λ code. int_sum_by f (filter (counts code) xs))
+      let apart = int_sum_by-both (λ code. cond (counts code x) (f x) (pos 0)) (λ code. int_sum_by f (filter (counts
+      code) xs))
       codes in
       let here = one_term (p x) x h.0 in
       let rest = all_codes xs h.1 in
@@ -90,7 +93,7 @@ second true false c h = absurd (grind arith)
 second false b c h = absurd (grind arith)
 
 party_known : (book : Book) (party : Party) (order : Order) → IsTrue (has_parties book order)
-    → list_any (bytes_eq (code_of party order)) (accounts book) ≡ true
+    → list_any (bytes_eq (party_code party order)) (accounts book) ≡ true
 unfolding is_participant
 party_known book Sender order h = first _ _ _ h
 party_known book Receiver order h = second _ _ _ h
@@ -99,7 +102,7 @@ settled_of_all : (book : Book) (date : ℕ) (party : Party) → CodesRise book �
     → int_sum_by (λ code. settled_for party code (orders_on date book.orders)) (accounts book)
     ≡ int_sum_by amount_of (filter is_settled (orders_on date book.orders))
 settled_of_all book date party rise known =
-    all_codes amount_of is_settled (code_of party) (accounts book) rise.0 (orders_on date book.orders)
+    all_codes amount_of is_settled (party_code party) (accounts book) rise.0 (orders_on date book.orders)
     (all_left _ _ (is_ordered_on date) (λ order h. party_known book party order h) book.orders known.0)
 
 pub sent_as_received : (book : Book) (date : ℕ) → CodesRise book → PartiesAreKnown book
@@ -129,7 +132,8 @@ pub net_as_posted : (book : Book) (date : ℕ) → CodesRise book → PartiesAre
     → int_sum_by (λ code. net (sums_of code (postings_on date book.postings) (orders_on date book.orders)))
     (accounts book) ≡ int_sum_by cents_of (postings_on date book.postings)
 net_as_posted book date rise known =
-    let one = int_sum_by-both (λ code. posted code (postings_on date book.postings) -ℤ sent code (orders_on date book.orders))
+    let one = int_sum_by-both (λ code. posted code (postings_on date book.postings) -ℤ sent code (orders_on date
+    book.orders))
     (λ code. received code (orders_on date book.orders)) (accounts book) in
     let two = less (λ code. posted code (postings_on date book.postings))
     (λ code. sent code (orders_on date book.orders)) (accounts book) in
@@ -174,7 +178,7 @@ receiver_alike true false false receiver = refl
 receiver_alike false sender settled receiver = refl
 
 pub agree : (code : List ℕ) (date : ℕ) (postings : List Posting) (orders : List Order)
-    → sums_of code (postings_of code date postings) (orders_of code date orders)
+    → sums_of code (postings_on_statement code date postings) (orders_on_statement code date orders)
     ≡ sums_of code (postings_on date postings) (orders_on date orders)
 agree code date postings orders =
     let p = again (λ (posting : Posting). bytes_eq posting.code code) (is_posting_of code date) postings

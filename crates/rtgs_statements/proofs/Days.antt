@@ -11,7 +11,7 @@ use Rattle.rtgs_book.specs.IntSum.{int_sum_by}
 use Rattle.rtgs_book.specs.Standings.{stands}
 use Rattle.rtgs_statements.specs.declared.line.Line.TheVariants.{Orders}
 use Rattle.rtgs_statements.specs.declared.ordered.Ordered.{Ordered}
-use Rattle.rtgs_statements.specs.Days.{HasNone, IsRoomy, Adds, ComesTo}
+use Rattle.rtgs_statements.specs.Days.{HasNone, IsRoomy, Adds, GathersOrders}
 use Rattle.rtgs_statements.specs.Sums.{amount_of, sent, received, sum_at}
 use Rattle.rtgs_statements.specs.Tallies.{tally_of}
 use Rattle.rtgs_statements.specs.Texts.{standing_orders}
@@ -91,12 +91,14 @@ module _ (old new : Ordered) (order : Order) (adds : Adds old order new) where
   more_within n m less most before =
       let small : Within Amount.MAX (pos order.amount) = (omega (arith, ints), omega (arith, ints)) in record {
         out = λ code.
-            let part = term-within (is_settled order && bytes_eq order.sender code) Amount.MAX (pos order.amount) small in
+            let part = term-within (is_settled order && bytes_eq order.sender code) Amount.MAX (pos order.amount) small
+            in
             let low = part.0 in let high = part.1 in
             let so_low = (before.out code).0 in let so_high = (before.out code).1 in
             let more = adds.sent code in (omega (arith, ints), omega (arith, ints));
         back = λ code.
-            let part = term-within (is_settled order && bytes_eq order.receiver code) Amount.MAX (pos order.amount) small
+            let part = term-within (is_settled order && bytes_eq order.receiver code) Amount.MAX (pos order.amount)
+            small
             in
             let low = part.0 in let high = part.1 in
             let so_low = (before.back code).0 in let so_high = (before.back code).1 in
@@ -125,7 +127,7 @@ within_is_roomy n ordered fits within = record {
 
 -- nothing is left
 pub comes_to_all : (ordered : Ordered) (left all : List Order) → left ≡ [] → IsWithLeft ordered left all
-    → ComesTo ordered all
+    → GathersOrders ordered all
 comes_to_all ordered left all over with_left = record {
   sent = λ code. let none = ap (sent code) over in let h = with_left.out code in omega (arith, ints);
   received = λ code. let none = ap (received code) over in let h = with_left.back code in omega (arith, ints);

@@ -9,7 +9,7 @@ use Rattle.rtgs_statements.specs.declared.line.Line.TheVariants.{ReportOf, Marks
 use Rattle.rtgs_book.specs.declared.standing.Standing.TheVariants.{Settled, Queued, Withdrawn, Rejected}
 use Rattle.rtgs_book.specs.Lookup.{accounts}
 use Rattle.rtgs_statements.specs.Lines.{row_of_posting, row_of_order}
-use Rattle.rtgs_statements.specs.Records.{postings_on, orders_on, marks_on, postings_of, orders_of}
+use Rattle.rtgs_statements.specs.Records.{postings_on, orders_on, marks_on, postings_on_statement, orders_on_statement}
 use Rattle.rtgs_statements.specs.Sums.{sums_of}
 use Rattle.rtgs_statements.specs.Texts.{text_of, account_line, orders_line, report, report_text, sum_lines}
 use Rattle.rtgs_statements.specs.Texts.{statement, statement_text}
@@ -33,7 +33,7 @@ report-has_bytes book date =
 pub statement-has_bytes : (book : Book) (code : List ℕ) (date : ℕ) → 0 < length (statement book code date)
 unfolding statement_text
 statement-has_bytes book code date =
-    let postings = postings_of code date book.postings in
-    let orders = orders_of code date book.orders in
+    let postings = postings_on_statement code date book.postings in
+    let orders = orders_on_statement code date book.orders in
     lines-have_bytes (StatementOf code date) (map (λ posting. Record (row_of_posting posting)) postings
     ++ map (λ order. Record (row_of_order code order)) orders ++ sum_lines (sums_of code postings orders))

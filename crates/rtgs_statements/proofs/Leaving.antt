@@ -3,7 +3,7 @@ use Rattle.std.proofs.Common.{◌≢◌, Bool, Option, Some, None, refl, sym, �
 use Rattle.rtgs_book.specs.declared.Book.{Book}
 use Rattle.rtgs_book.specs.declared.Refusal.{Refusal}
 use Rattle.rtgs_book.specs.declared.Refusal.TheVariants.{StoreFault}
-use Rattle.rtgs_statements.specs.Reads.{IsRead}
+use Rattle.rtgs_statements.specs.Reads.{LeavesRead}
 
 pub no_fault : ◌≢◌ {A = Option Refusal} None (Some StoreFault)
 no_fault e = absurd cc
@@ -11,7 +11,7 @@ no_fault e = absurd cc
 module _ {S : Type 0} (holds leaves : S → Book → Type 0) (is_honest : S → Type 0) (has_failed : S → Bool) where
   -- nothing was read
   pub nothing_read : (s : S) → ((book : Book) → holds s book → leaves s book)
-      → IsRead holds leaves is_honest has_failed s s None
+      → LeavesRead holds leaves is_honest has_failed s s None
   nothing_read s left = record {
     honest = λ honest. honest;
     held = λ honest book held ended. held;
@@ -25,8 +25,8 @@ module _ {S : Type 0} (holds leaves : S → Book → Type 0) (is_honest : S → 
   }
 
   -- more was read
-  pub read_more : (a b c : S) (ended : Option Refusal) → IsRead holds leaves is_honest has_failed a b None
-      → IsRead holds leaves is_honest has_failed b c ended → IsRead holds leaves is_honest has_failed a c ended
+  pub read_more : (a b c : S) (ended : Option Refusal) → LeavesRead holds leaves is_honest has_failed a b None
+      → LeavesRead holds leaves is_honest has_failed b c ended → LeavesRead holds leaves is_honest has_failed a c ended
   read_more a b c ended one two = record {
     honest = λ honest. one.honest (two.honest honest);
     held = λ honest book held. two.held honest book (one.held (two.honest honest) book held no_fault);

@@ -1,11 +1,12 @@
 -- A statement from its parts.
-use Rattle.std.proofs.Common.{◌≡◌, ◌<◌, ◌++◌, ◌∷◌, ℕ, List, map, length, [], length-append, append_assoc, arith, sym, ap, ◌∙◌}
+use Rattle.std.proofs.Common.{◌≡◌, ◌<◌, ◌++◌, ◌∷◌, ℕ, List, map, length, [], length-append, append_assoc, arith, sym}
+use Rattle.std.proofs.Common.{ap, ◌∙◌}
 use Rattle.rtgs_book.specs.declared.Book.{Book}
 use Rattle.rtgs_statements.specs.Lines.{row_of_posting, row_of_order}
 use Rattle.rtgs_statements.specs.declared.line.Line.TheVariants.{StatementOf, Record, Sum}
 use Rattle.rtgs_statements.specs.declared.total.Total.TheVariants.{Posted, Sent, Received, Net}
 use Rattle.std.proofs.lemmas.List.{append-nil}
-use Rattle.rtgs_statements.specs.Records.{postings_on, orders_on, postings_of, orders_of}
+use Rattle.rtgs_statements.specs.Records.{postings_on, orders_on, postings_on_statement, orders_on_statement}
 use Rattle.rtgs_statements.specs.Rows.{posting_rows, order_rows}
 use Rattle.rtgs_statements.specs.Sums.{sums_of, net}
 use Rattle.rtgs_statements.specs.Texts.{line_text, text_of, sum_lines, statement, statement_text}
@@ -34,13 +35,14 @@ module _ (book : Book) (code : List ℕ) (date : ℕ) where
       ++ text_of (map (λ order. Record (row_of_order code order)) (orders_of_are code date book.orders i)))
       ++ text_of (sum_lines (sym (agree code date book.postings book.orders) i)))
       ∙ sym (
-      text_of-append (map (λ posting. Record (row_of_posting posting)) (postings_of code date book.postings)
-      ++ map (λ order. Record (row_of_order code order)) (orders_of code date book.orders))
-      (sum_lines (sums_of code (postings_of code date book.postings) (orders_of code date book.orders)))
-      ∙ ap (λ t. t ++ text_of (sum_lines (sums_of code (postings_of code date book.postings)
-      (orders_of code date book.orders))))
-      (text_of-append (map (λ posting. Record (row_of_posting posting)) (postings_of code date book.postings))
-      (map (λ order. Record (row_of_order code order)) (orders_of code date book.orders)))
+      text_of-append (map (λ posting. Record (row_of_posting posting)) (postings_on_statement code date book.postings)
+      ++ map (λ order. Record (row_of_order code order)) (orders_on_statement code date book.orders))
+      (sum_lines (sums_of code (postings_on_statement code date book.postings) (orders_on_statement code date
+      book.orders)))
+      ∙ ap (λ t. t ++ text_of (sum_lines (sums_of code (postings_on_statement code date book.postings)
+      (orders_on_statement code date book.orders))))
+      (text_of-append (map (λ posting. Record (row_of_posting posting)) (postings_on_statement code date book.postings))
+      (map (λ order. Record (row_of_order code order)) (orders_on_statement code date book.orders)))
       )
       )
 

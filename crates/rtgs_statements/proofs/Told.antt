@@ -1,5 +1,6 @@
 -- The records of a date, as they are read one after another, and the rows of those that a participant is told of.
-use Rattle.std.proofs.Common.{◌≡◌, ◌<◌, ◌≤◌, ◌+◌, ℕ, ◌++◌, take, slice_get, arith, Bool, true, false, cond, ◌&&◌, ◌+ℤ◌, pos, List, [], ◌∷◌, map, filter, length, Some, None}
+use Rattle.std.proofs.Common.{◌≡◌, ◌<◌, ◌≤◌, ◌+◌, ℕ, ◌++◌, take, slice_get, arith, Bool, true, false, cond, ◌&&◌, ◌+ℤ◌}
+use Rattle.std.proofs.Common.{pos, List, [], ◌∷◌, map, filter, length, Some, None}
 use Rattle.std.proofs.Common.{refl, sym, ap, subst, ◌∙◌}
 use Rattle.std.proofs.lemmas.List.{length-map, take_more}
 use Rattle.std.proofs.lemmas.Option.{slice_get_within, get_or_from_slice_get}
@@ -11,15 +12,17 @@ use Rattle.rtgs_book.specs.declared.Posting.{Posting}
 use Rattle.rtgs_book.specs.declared.Order.{Order}
 use Rattle.rtgs_book.specs.declared.Mark.{Mark}
 use Rattle.rtgs_book.specs.Soundness.{IsSound, AreNumbered}
-use Rattle.rtgs_cores.specs.Nexts.{AreListed, date_of_posting, posting_after, order_after, is_posting_after, is_order_after}
+use Rattle.rtgs_cores.specs.Nexts.{AreListed, date_of_posting, posting_after, order_after, is_posting_after}
+use Rattle.rtgs_cores.specs.Nexts.{is_order_after}
 use Rattle.rtgs_cores.specs.Nexts.{mark_after, is_mark_after}
 use Rattle.rtgs_statements.specs.Lines.{row_of_posting, row_of_order, row_text}
 use Rattle.rtgs_statements.specs.declared.line.Line.TheVariants.{Record}
-use Rattle.rtgs_statements.specs.Records.{is_posted_on, is_ordered_on, is_marked_on, postings_on, orders_on, marks_on, postings_of, orders_of}
+use Rattle.rtgs_statements.specs.Records.{is_posted_on, is_ordered_on, is_marked_on, postings_on, orders_on, marks_on}
+use Rattle.rtgs_statements.specs.Records.{postings_on_statement, orders_on_statement}
 use Rattle.rtgs_statements.specs.Rows.{is_to, is_told_to, posting_row, order_row, posting_rows, order_rows}
 use Rattle.rtgs_statements.specs.Rows.{settled_by}
 use Rattle.rtgs_statements.specs.declared.party.Party.{Party}
-use Rattle.rtgs_statements.specs.Sums.{cents_of, amount_of, code_of, posted, settled_for}
+use Rattle.rtgs_statements.specs.Sums.{cents_of, amount_of, party_code, posted, settled_for}
 use Rattle.rtgs_statements.specs.Texts.{text_of}
 use Rattle.rtgs_statements.proofs.Terms.{sum-cons}
 use Rattle.rtgs_statements.proofs.Nexts.{next_splits, next_ends, next_above, all_left, filter_twice}
@@ -83,7 +86,7 @@ module _ (code : List ℕ) (date number : ℕ) (book : Book) (next : Posting) (l
       ∙ sum-cons cents_of (is_to code) next (postings_left date next.number book)
 
 pub postings_of_are : (code : List ℕ) (date : ℕ) (ps : List Posting) → filter (is_to code) (postings_on date ps)
-    ≡ postings_of code date ps
+    ≡ postings_on_statement code date ps
 postings_of_are code date ps = filter_twice (is_posted_on date) (is_to code) ps
 
 -- ---- orders
@@ -136,11 +139,11 @@ module _ (code : List ℕ) (date number : ℕ) (book : Book) (next : Order) (lis
   pub settled_split : (party : Party) → settled_for party code (orders_left date number book)
       ≡ settled_by party code next +ℤ settled_for party code (orders_left date next.number book)
   settled_split party = ap (settled_for party code) (order_splits date number book next listed is)
-      ∙ sum-cons amount_of (λ order. is_settled order && bytes_eq (code_of party order) code) next
+      ∙ sum-cons amount_of (λ order. is_settled order && bytes_eq (party_code party order) code) next
       (orders_left date next.number book)
 
 pub orders_of_are : (code : List ℕ) (date : ℕ) (os : List Order) → filter (is_told_to code) (orders_on date os)
-    ≡ orders_of code date os
+    ≡ orders_on_statement code date os
 orders_of_are code date os = filter_twice (is_ordered_on date) (is_told_to code) os
 
 -- ---- marks

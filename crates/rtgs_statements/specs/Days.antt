@@ -17,14 +17,14 @@ use Rattle.rtgs_statements.specs.Texts.{orders_line}
 
 -- ---- totals under codes
 
-abbrev pub Totals : Type 0
-Totals = BTreeMap (List ℕ) ℤ
+abbrev pub TotalsByCode : Type 0
+TotalsByCode = BTreeMap (List ℕ) ℤ
 
-abbrev pub AreSmall : Totals → Type 0
-AreSmall totals = (code : List ℕ) → IsSmall (sum_at totals code)
+abbrev pub TotalsAreSmall : TotalsByCode → Type 0
+TotalsAreSmall totals = (code : List ℕ) → IsSmall (sum_at totals code)
 
 -- each total grew by so much
-abbrev pub IsAddedTo : Totals → (List ℕ → ℤ) → Totals → Type 0
+abbrev pub IsAddedTo : TotalsByCode → (List ℕ → ℤ) → TotalsByCode → Type 0
 IsAddedTo old by new = (code : List ℕ) → sum_at new code ≡ sum_at old code +ℤ by code
 
 -- ---- what orders come to
@@ -36,8 +36,8 @@ pub record HasNone (ordered : Ordered) : Type 0 where
 
 -- it leaves room for one order more
 pub record IsRoomy (ordered : Ordered) : Type 0 where
-  pub sent : AreSmall ordered.sent
-  pub received : AreSmall ordered.received
+  pub sent : TotalsAreSmall ordered.sent
+  pub received : TotalsAreSmall ordered.received
   pub tallies : HaveRoom ordered.tallies
 
 -- with this order too
@@ -48,7 +48,7 @@ pub record Adds (old : Ordered) (order : Order) (new : Ordered) : Type 0 where
       ≡ tally_with (tally_of old.tallies standing) standing order
 
 -- these are all the orders
-pub record ComesTo (ordered : Ordered) (orders : List Order) : Type 0 where
+pub record GathersOrders (ordered : Ordered) (orders : List Order) : Type 0 where
   pub sent : (code : List ℕ) → sum_at ordered.sent code ≡ sent code orders
   pub received : (code : List ℕ) → sum_at ordered.received code ≡ received code orders
   pub standings : (standing : Standing) → Orders standing (tally_of ordered.tallies standing).count
@@ -60,5 +60,5 @@ pub record ComesTo (ordered : Ordered) (orders : List Order) : Type 0 where
 pub record IsDayOf (day : DaySums) (book : Book) (date : ℕ) : Type 0 where
   pub codes : day.codes.items ≡ accounts book
   pub posted : (code : List ℕ) → sum_at day.posted code ≡ posted code (postings_on date book.postings)
-  pub ordered : ComesTo day.ordered (orders_on date book.orders)
+  pub ordered : GathersOrders day.ordered (orders_on date book.orders)
   pub marks : day.marks ≡ length (marks_on date book.marks)

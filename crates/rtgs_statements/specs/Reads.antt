@@ -21,7 +21,7 @@ read_refused_by (Err (Refused refusal)) = Some refusal
 read_refused_by (Err (Text fault)) = None
 
 -- What reads that ended so leave of what they read from. Reading changes nothing in the book.
-pub record IsRead {S : Type 0} (holds leaves : S → Book → Type 0) (is_honest : S → Type 0) (has_failed : S → Bool)
+pub record LeavesRead {S : Type 0} (holds leaves : S → Book → Type 0) (is_honest : S → Type 0) (has_failed : S → Bool)
     (old new : S) (ended : Option Refusal) : Type 0 where
   pub honest : is_honest new → is_honest old
   -- unless the store failed, the book is read from as before

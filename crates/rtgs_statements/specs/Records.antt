@@ -26,11 +26,11 @@ is_order_of code date order = is_ordered_on date order
     && (bytes_eq order.sender code || (is_settled order && bytes_eq order.receiver code))
 
 -- what a statement takes
-abbrev pub postings_of : List ℕ → ℕ → List Posting → List Posting
-postings_of code date postings = filter (is_posting_of code date) postings
+abbrev pub postings_on_statement : List ℕ → ℕ → List Posting → List Posting
+postings_on_statement code date postings = filter (is_posting_of code date) postings
 
-abbrev pub orders_of : List ℕ → ℕ → List Order → List Order
-orders_of code date orders = filter (is_order_of code date) orders
+abbrev pub orders_on_statement : List ℕ → ℕ → List Order → List Order
+orders_on_statement code date orders = filter (is_order_of code date) orders
 
 -- what a report takes
 abbrev pub postings_on : ℕ → List Posting → List Posting

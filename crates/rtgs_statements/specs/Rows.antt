@@ -7,7 +7,7 @@ use Rattle.rtgs_book.specs.Books.{is_settled}
 use Rattle.rtgs_statements.specs.declared.line.Line.TheVariants.{Record}
 use Rattle.rtgs_statements.specs.declared.party.Party.{Party}
 use Rattle.rtgs_statements.specs.Lines.{row_of_posting, row_of_order, row_text}
-use Rattle.rtgs_statements.specs.Sums.{code_of}
+use Rattle.rtgs_statements.specs.Sums.{party_code}
 use Rattle.rtgs_statements.specs.Texts.{text_of}
 
 -- a posting to the participant
@@ -33,9 +33,9 @@ abbrev pub order_rows : List ℕ → List Order → List ℕ
 order_rows code orders = text_of (map (λ order. Record (row_of_order code order)) (filter (is_told_to code) orders))
 
 -- what one record adds to a sum
-abbrev pub posted_by : List ℕ → Posting → ℤ
-posted_by code posting = if is_to code posting then posting.cents else pos 0
+abbrev pub cents_posted_to : List ℕ → Posting → ℤ
+cents_posted_to code posting = if is_to code posting then posting.cents else pos 0
 
 abbrev pub settled_by : Party → List ℕ → Order → ℤ
 settled_by party code order =
-    if is_settled order && bytes_eq (code_of party order) code then pos order.amount else pos 0
+    if is_settled order && bytes_eq (party_code party order) code then pos order.amount else pos 0

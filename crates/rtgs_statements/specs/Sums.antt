@@ -22,14 +22,14 @@ amount_of order = pos order.amount
 abbrev pub posted : List ℕ → List Posting → ℤ
 posted code postings = int_sum_by cents_of (filter (λ posting. bytes_eq posting.code code) postings)
 
-abbrev pub code_of : Party → Order → List ℕ
-code_of Sender order = order.sender
-code_of Receiver order = order.receiver
+abbrev pub party_code : Party → Order → List ℕ
+party_code Sender order = order.sender
+party_code Receiver order = order.receiver
 
 -- the settled orders in which the participant is this party
 abbrev pub settled_for : Party → List ℕ → List Order → ℤ
 settled_for party code orders = int_sum_by amount_of (filter
-    (λ order. is_settled order && bytes_eq (code_of party order) code) orders)
+    (λ order. is_settled order && bytes_eq (party_code party order) code) orders)
 
 abbrev pub sent : List ℕ → List Order → ℤ
 sent code orders = settled_for Sender code orders

@@ -25,8 +25,8 @@ tally_with tally standing order = record {
 }
 
 -- it leaves room for one order more
-abbrev pub HasRoom : Tally → Type 0
-HasRoom tally = (tally.count + 1 < 2 ^ 64) × IsSmall tally.cents
+abbrev pub HasRoomForOrder : Tally → Type 0
+HasRoomForOrder tally = (tally.count + 1 < 2 ^ 64) × IsSmall tally.cents
 
 abbrev pub HaveRoom : Tallies → Type 0
-HaveRoom tallies = (standing : Standing) → HasRoom (tally_of tallies standing)
+HaveRoom tallies = (standing : Standing) → HasRoomForOrder (tally_of tallies standing)

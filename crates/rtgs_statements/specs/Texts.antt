@@ -19,7 +19,7 @@ use Rattle.rtgs_statements.specs.declared.total.Total.{Total}
 use Rattle.rtgs_statements.specs.declared.total.Total.TheVariants.{Posted, Sent, Received, Net}
 use Rattle.rtgs_statements.specs.Columns.{left_in, right_in}
 use Rattle.rtgs_statements.specs.Lines.{row_of_posting, row_of_order, row_text}
-use Rattle.rtgs_statements.specs.Records.{postings_of, orders_of, postings_on, orders_on, marks_on}
+use Rattle.rtgs_statements.specs.Records.{postings_on_statement, orders_on_statement, postings_on, orders_on, marks_on}
 use Rattle.rtgs_statements.specs.Sums.{amount_of, sums_of, net}
 
 abbrev pub total_text : Total → List ℕ
@@ -78,8 +78,8 @@ statement_text code date postings orders = text_of (statement_lines code date po
 
 -- the statement of the participant with this code, for this date
 abbrev pub statement : Book → List ℕ → ℕ → List ℕ
-statement book code date = statement_text code date (postings_of code date book.postings)
-    (orders_of code date book.orders)
+statement book code date = statement_text code date (postings_on_statement code date book.postings)
+    (orders_on_statement code date book.orders)
 
 -- the orders that stand so
 abbrev pub standing_orders : Standing → List Order → List Order

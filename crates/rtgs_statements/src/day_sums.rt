@@ -3,7 +3,7 @@ ghost use Rattle.std.specs.Prelude.{◌≡◌, map, IfOk, string_bytes};
 ghost use Rattle.rtgs_book.specs.declared.Book.{Book};
 ghost use Rattle.rtgs_statements.specs.declared.line.Line.{Line};
 ghost use Rattle.rtgs_statements.specs.Days.{IsDayOf};
-ghost use Rattle.rtgs_statements.specs.Reads.{IsRead, refused_by};
+ghost use Rattle.rtgs_statements.specs.Reads.{LeavesRead, refused_by};
 ghost use Rattle.rtgs_statements.specs.Sums.{sums_at};
 ghost use Rattle.rtgs_statements.specs.Texts.{report};
 
@@ -37,7 +37,7 @@ impl DaySums {
     ) -> Result<DaySums, Refusal>
         ensures told { S.is_honest source.new → (book : Book) → S.holds source.old book
             → IfOk result (λ day. IsDayOf day book date) }
-        ensures read { IsRead S.holds S.leaves S.is_honest S.has_failed source.old source.new (refused_by result) }
+        ensures read { LeavesRead S.holds S.leaves S.is_honest S.has_failed source.old source.new (refused_by result) }
     {
         let posted = match posted_on(alloc, source, date) {
             Ok(posted) => posted,

@@ -2,8 +2,8 @@
 ghost use Rattle.std.specs.Prelude.{◌≡◌, ℕ, List, IfOk, length};
 ghost use Rattle.rtgs_book.specs.declared.Book.{Book};
 ghost use Rattle.rtgs_book.specs.Lookup.{accounts};
-ghost use Rattle.rtgs_statements.specs.Days.{ComesTo};
-ghost use Rattle.rtgs_statements.specs.Reads.{IsRead, refused_by};
+ghost use Rattle.rtgs_statements.specs.Days.{GathersOrders};
+ghost use Rattle.rtgs_statements.specs.Reads.{LeavesRead, refused_by};
 ghost use Rattle.rtgs_statements.specs.Records.{postings_on, orders_on, marks_on};
 ghost use Rattle.rtgs_statements.specs.Sums.{posted, sum_at};
 
@@ -25,7 +25,7 @@ pub fn posted_on<S: Source>(
 ) -> Result<BTreeMap<Code, i128>, Refusal>
     ensures sums { S.is_honest source.new → (book : Book) → S.holds source.old book → IfOk result
         (λ totals. (code : List ℕ) → sum_at totals code ≡ posted code (postings_on date book.postings)) }
-    ensures read { IsRead S.holds S.leaves S.is_honest S.has_failed source.old source.new (refused_by result) }
+    ensures read { LeavesRead S.holds S.leaves S.is_honest S.has_failed source.old source.new (refused_by result) }
 {
     source.reads_a_sound_book();
     records_are_listed();
@@ -51,8 +51,8 @@ pub fn ordered_on<S: Source>(
     date: BusinessDate,
 ) -> Result<Ordered, Refusal>
     ensures sums { S.is_honest source.new → (book : Book) → S.holds source.old book
-        → IfOk result (λ ordered. ComesTo ordered (orders_on date book.orders)) }
-    ensures read { IsRead S.holds S.leaves S.is_honest S.has_failed source.old source.new (refused_by result) }
+        → IfOk result (λ ordered. GathersOrders ordered (orders_on date book.orders)) }
+    ensures read { LeavesRead S.holds S.leaves S.is_honest S.has_failed source.old source.new (refused_by result) }
 {
     source.reads_a_sound_book();
     records_are_listed();
@@ -75,7 +75,7 @@ pub fn ordered_on<S: Source>(
 pub fn marks_on<S: Source>(source: &mut S, date: BusinessDate) -> Result<usize, Refusal>
     ensures count { S.is_honest source.new → (book : Book) → S.holds source.old book
         → IfOk result (λ count. count ≡ length (marks_on date book.marks)) }
-    ensures read { IsRead S.holds S.leaves S.is_honest S.has_failed source.old source.new (refused_by result) }
+    ensures read { LeavesRead S.holds S.leaves S.is_honest S.has_failed source.old source.new (refused_by result) }
 {
     source.reads_a_sound_book();
     records_are_listed();

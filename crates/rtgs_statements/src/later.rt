@@ -2,7 +2,7 @@
 ghost use Rattle.std.specs.Prelude.{◌≡◌, ◌<◌, IfOk, IfSome};
 ghost use Rattle.rtgs_book.specs.declared.Book.{Book};
 ghost use Rattle.rtgs_cores.specs.Nexts.{posting_after, order_after, mark_after};
-ghost use Rattle.rtgs_statements.specs.Reads.{IsRead, refused_by};
+ghost use Rattle.rtgs_statements.specs.Reads.{LeavesRead, refused_by};
 
 use crate::source::Source;
 use rtgs_book::{Mark, Order, Posting, Refusal};
@@ -15,7 +15,7 @@ pub fn later_posting<S: Source>(
     date: BusinessDate,
     number: u64,
 ) -> Result<Option<Posting>, Refusal>
-    ensures read { IsRead S.holds S.leaves S.is_honest S.has_failed source.old source.new (refused_by result) }
+    ensures read { LeavesRead S.holds S.leaves S.is_honest S.has_failed source.old source.new (refused_by result) }
     ensures above { IfOk result (λ next. IfSome next (λ posting. number < posting.number)) }
     ensures told { S.is_honest source.new → (book : Book) → S.holds source.old book
         → IfOk result (λ next. next ≡ posting_after book date number) }
@@ -40,7 +40,7 @@ pub fn later_order<S: Source>(
     date: BusinessDate,
     number: u64,
 ) -> Result<Option<Order>, Refusal>
-    ensures read { IsRead S.holds S.leaves S.is_honest S.has_failed source.old source.new (refused_by result) }
+    ensures read { LeavesRead S.holds S.leaves S.is_honest S.has_failed source.old source.new (refused_by result) }
     ensures above { IfOk result (λ next. IfSome next (λ order. number < order.number)) }
     ensures told { S.is_honest source.new → (book : Book) → S.holds source.old book
         → IfOk result (λ next. next ≡ order_after book date number) }
@@ -65,7 +65,7 @@ pub fn later_mark<S: Source>(
     date: BusinessDate,
     number: u64,
 ) -> Result<Option<Mark>, Refusal>
-    ensures read { IsRead S.holds S.leaves S.is_honest S.has_failed source.old source.new (refused_by result) }
+    ensures read { LeavesRead S.holds S.leaves S.is_honest S.has_failed source.old source.new (refused_by result) }
     ensures above { IfOk result (λ next. IfSome next (λ mark. number < mark.number)) }
     ensures told { S.is_honest source.new → (book : Book) → S.holds source.old book
         → IfOk result (λ next. next ≡ mark_after book date number) }

@@ -12,14 +12,14 @@ ghost use Rattle.rtgs_book.specs.Soundness.{CodesRise, PartiesAreKnown};
 ghost use Rattle.rtgs_statements.specs.declared.line.Line.{Line};
 ghost use Rattle.rtgs_statements.specs.declared.total.Total.{Total};
 ghost use Rattle.rtgs_statements.specs.Lines.{mark_of, row_of_posting, row_of_order, row_text};
-ghost use Rattle.rtgs_statements.specs.Records.{postings_of, orders_of, postings_on, orders_on};
+ghost use Rattle.rtgs_statements.specs.Records.{postings_on_statement, orders_on_statement, postings_on, orders_on};
 ghost use Rattle.rtgs_statements.specs.Sums.{cents_of, sent, received, sums_of, net};
 ghost use Rattle.rtgs_statements.specs.Texts.{line_text, statement, report};
 
 /// The sums of a participant's statement are those of its line in the day's report.
 pub fn statement_and_report_agree()
     ensures { (code : List ℕ) (date : ℕ) (postings : List Posting) (orders : List Order)
-        → sums_of code (postings_of code date postings) (orders_of code date orders)
+        → sums_of code (postings_on_statement code date postings) (orders_on_statement code date orders)
         ≡ sums_of code (postings_on date postings) (orders_on date orders) }
 {}
 

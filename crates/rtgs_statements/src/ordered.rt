@@ -1,6 +1,6 @@
 //! What the orders of a day come to.
 ghost use Rattle.std.specs.Prelude.{◌≡◌, OnOk};
-ghost use Rattle.rtgs_statements.specs.Days.{Adds, AreSmall, HasNone, IsAddedTo, IsRoomy};
+ghost use Rattle.rtgs_statements.specs.Days.{Adds, TotalsAreSmall, HasNone, IsAddedTo, IsRoomy};
 ghost use Rattle.rtgs_statements.specs.Rows.{settled_by};
 
 use crate::party::Party;
@@ -49,7 +49,7 @@ fn add_settled(
     party: Party,
     order: &Order,
 ) -> Result<(), AllocError>
-    requires { AreSmall totals.old }
+    requires { TotalsAreSmall totals.old }
     ensures { OnOk result (IsAddedTo totals.old (λ code. settled_by party code order.now) totals.new) }
 {
     let OrderState::Settled(_) = order.state else {

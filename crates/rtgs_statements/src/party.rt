@@ -1,6 +1,6 @@
 //! The parties of an order.
 ghost use Rattle.std.specs.Prelude.{◌≡◌};
-ghost use Rattle.rtgs_statements.specs.Sums.{code_of};
+ghost use Rattle.rtgs_statements.specs.Sums.{party_code};
 
 use rtgs_book::Order;
 use rtgs_money::Code;
@@ -15,7 +15,7 @@ pub enum Party {
 impl Party {
     /// The party's code.
     pub fn code(self, order: &Order) -> Code
-        ensures { result ≡ code_of self order.now }
+        ensures { result ≡ party_code self order.now }
     {
         match self {
             Party::Sender => order.sender,

@@ -4,7 +4,7 @@ ghost use Rattle.std.specs.Io.KnownBytes.{Appends};
 ghost use Rattle.rtgs_book.specs.declared.Book.{Book};
 ghost use Rattle.rtgs_book.specs.declared.refusal.Refusal.{Refusal};
 ghost use Rattle.rtgs_output.specs.Sent.{AppendsPart};
-ghost use Rattle.rtgs_statements.specs.Reads.{IsRead, refused_by, read_refused_by};
+ghost use Rattle.rtgs_statements.specs.Reads.{LeavesRead, refused_by, read_refused_by};
 ghost use Rattle.rtgs_statements.specs.Texts.{report};
 
 use crate::book_text_fault::BookTextFault;
@@ -33,7 +33,7 @@ pub fn write_report<S: Source, W: Write>(
     ensures refused { (refusal : Refusal) → IfErr result (λ fault. fault ≡ BookTextFault.Refused refusal
         → out.new ≡ out.old) }
     ensures memory { IfErr result (λ fault. fault ≢ BookTextFault.Text TextFault.OutOfMemory) }
-    ensures read { IsRead S.holds S.leaves S.is_honest S.has_failed source.old source.new (read_refused_by result) }
+    ensures read { LeavesRead S.holds S.leaves S.is_honest S.has_failed source.old source.new (read_refused_by result) }
 {
     let text = match text_of(alloc, source, date) {
         Ok(text) => text,
@@ -49,7 +49,7 @@ pub fn write_report<S: Source, W: Write>(
 fn text_of<S: Source>(alloc: Global, source: &mut S, date: BusinessDate) -> Result<String, Refusal>
     ensures told { S.is_honest source.new → (book : Book) → S.holds source.old book
         → IfOk result (λ text. string_bytes text ≡ report book date) }
-    ensures read { IsRead S.holds S.leaves S.is_honest S.has_failed source.old source.new (refused_by result) }
+    ensures read { LeavesRead S.holds S.leaves S.is_honest S.has_failed source.old source.new (refused_by result) }
 {
     let day = match DaySums::read(alloc, source, date) {
         Ok(day) => day,

@@ -3,10 +3,11 @@ ghost use Rattle.std.specs.Prelude.{◌≡◌, IfOk, IfErr, OnOk, OnErr};
 ghost use Rattle.std.specs.Io.KnownBytes.{Appends};
 ghost use Rattle.rtgs_book.specs.declared.Book.{Book};
 ghost use Rattle.rtgs_output.specs.Sent.{AppendsPart};
-ghost use Rattle.rtgs_statements.specs.Reads.{IsRead, AppendsBeginning, read_refused_by};
+ghost use Rattle.rtgs_statements.specs.Reads.{LeavesRead, AppendsBeginning, read_refused_by};
 ghost use Rattle.rtgs_statements.specs.Reads.{AppendsWholeLines, LeavesLines, LeavesWholeLines};
 ghost use Rattle.rtgs_statements.specs.Records.{postings_on, orders_on};
-ghost use Rattle.rtgs_statements.specs.Rows.{posting_row, order_row, posting_rows, order_rows, posted_by, settled_by};
+ghost use Rattle.rtgs_statements.specs.Rows.{posting_row, order_row, posting_rows, order_rows, cents_posted_to};
+ghost use Rattle.rtgs_statements.specs.Rows.{settled_by};
 ghost use Rattle.rtgs_statements.specs.Rows.{is_told_to};
 ghost use Rattle.rtgs_statements.specs.Sums.{IsSmall, posted, sent, received};
 ghost use Rattle.rtgs_statements.specs.Texts.{statement};
@@ -43,7 +44,7 @@ pub fn write_statement<S: Source, W: Write>(
         → OnErr result (AppendsPart (W.contents out.old) (W.contents out.new) (statement book code.now date)) }
     // Whatever was read, and of whatever source, unless the writer failed.
     ensures lines { LeavesLines result (W.contents out.old) (W.contents out.new) }
-    ensures read { IsRead S.holds S.leaves S.is_honest S.has_failed source.old source.new (read_refused_by result) }
+    ensures read { LeavesRead S.holds S.leaves S.is_honest S.has_failed source.old source.new (read_refused_by result) }
 {
     if let Err(fault) = write_line(alloc, out, &Line::StatementOf(*code, date)) {
         return Err(BookTextFault::Text(fault));
@@ -85,7 +86,7 @@ fn write_postings<S: Source, W: Write>(
     ensures small { IfOk result IsSmall }
     ensures lines { OnOk result (AppendsWholeLines (W.contents out.old) (W.contents out.new)) }
     ensures whole { IfErr result (λ fault. LeavesWholeLines fault (W.contents out.old) (W.contents out.new)) }
-    ensures read { IsRead S.holds S.leaves S.is_honest S.has_failed source.old source.new (read_refused_by result) }
+    ensures read { LeavesRead S.holds S.leaves S.is_honest S.has_failed source.old source.new (read_refused_by result) }
 {
     source.reads_a_sound_book();
     records_are_listed();
@@ -126,7 +127,7 @@ fn write_orders<S: Source, W: Write>(
     ensures small { IfOk result (λ (out, back). IsSmall out × IsSmall back) }
     ensures lines { OnOk result (AppendsWholeLines (W.contents out.old) (W.contents out.new)) }
     ensures whole { IfErr result (λ fault. LeavesWholeLines fault (W.contents out.old) (W.contents out.new)) }
-    ensures read { IsRead S.holds S.leaves S.is_honest S.has_failed source.old source.new (read_refused_by result) }
+    ensures read { LeavesRead S.holds S.leaves S.is_honest S.has_failed source.old source.new (read_refused_by result) }
 {
     source.reads_a_sound_book();
     records_are_listed();
@@ -162,7 +163,7 @@ fn write_posting<W: Write>(
     ensures begun { OnErr result (AppendsBeginning (W.contents out.old) (W.contents out.new)
         (posting_row code.now posting.now)) }
     ensures memory { IfErr result (λ fault. fault ≡ TextFault.OutOfMemory → out.new ≡ out.old) }
-    ensures sum { IfOk result (λ cents. cents ≡ posted_by code.now posting.now) }
+    ensures sum { IfOk result (λ cents. cents ≡ cents_posted_to code.now posting.now) }
 {
     if posting.code != *code {
         return Ok(0);

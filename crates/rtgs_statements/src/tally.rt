@@ -1,6 +1,6 @@
 //! How many orders stand so, and their value.
 ghost use Rattle.std.specs.Prelude.{◌≡◌};
-ghost use Rattle.rtgs_statements.specs.Tallies.{tally_with, HasRoom};
+ghost use Rattle.rtgs_statements.specs.Tallies.{tally_with, HasRoomForOrder};
 
 use rtgs_book::{Order, Standing};
 
@@ -14,7 +14,7 @@ pub struct Tally {
 impl Tally {
     /// With this order too, where it stands so.
     pub fn with(self, standing: Standing, order: &Order) -> Tally
-        requires { HasRoom self }
+        requires { HasRoomForOrder self }
         ensures { result ≡ tally_with self standing order.now }
     {
         if !standing.holds(order.state) {

@@ -1,7 +1,7 @@
 //! Totals of participants, in cents. A code without an entry has nothing.
 ghost use Rattle.std.specs.Prelude.{◌≡◌, if◌then◌else◌, pos, OnOk};
 ghost use Rattle.std.specs.Str.{bytes_eq};
-ghost use Rattle.rtgs_statements.specs.Days.{AreSmall, IsAddedTo};
+ghost use Rattle.rtgs_statements.specs.Days.{TotalsAreSmall, IsAddedTo};
 ghost use Rattle.rtgs_statements.specs.Sums.{IsSmall, sum_at};
 
 use rtgs_money::Code;
@@ -17,7 +17,7 @@ pub fn total_at(totals: &BTreeMap<Code, i128>, code: &Code) -> i128
 
 /// Adds to the total under the code.
 pub fn add(totals: &mut BTreeMap<Code, i128>, code: Code, cents: i128) -> Result<(), AllocError>
-    requires totals { AreSmall totals.old }
+    requires totals { TotalsAreSmall totals.old }
     requires cents { IsSmall cents }
     ensures { OnOk result (IsAddedTo totals.old (λ other. if bytes_eq code other then cents else pos 0) totals.new) }
 {

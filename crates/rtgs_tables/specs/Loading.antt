@@ -23,5 +23,5 @@ abbrev pub ShowsBalanced : State → Book → Type 0
 ShowsBalanced s book = ((trees : Trees) → IsDeskFile trees s → IsShown trees book) × IsDisplayed s.now book
 
 -- whatever a stop leaves in the second state, it could leave in the first
-abbrev pub LeavesNoMore : State → State → Type 0
-LeavesNoMore old new = (trees : Trees) → new.may_leave trees → old.may_leave trees
+abbrev pub MayLeaveNoMore : State → State → Type 0
+MayLeaveNoMore old new = (trees : Trees) → new.may_leave trees → old.may_leave trees

@@ -14,7 +14,7 @@ ghost use Rattle.sqlite.specs.Held.{state};
 ghost use Rattle.sqlite.specs.Tree.{Trees};
 ghost use Rattle.rtgs_rows.specs.Content.{Content, Holds, HasNoTables};
 ghost use Rattle.rtgs_sql_queries.specs.Faults.{LookFailed};
-ghost use Rattle.rtgs_tables.specs.Loading.{ExplainsLoad, ShowsBalanced, LeavesNoMore};
+ghost use Rattle.rtgs_tables.specs.Loading.{ExplainsLoad, ShowsBalanced, MayLeaveNoMore};
 ghost use Rattle.rtgs_sql_writes.specs.Stops.{IsBefore};
 ghost use Rattle.rtgs_rows.specs.RowLaws.{RowsTellTheBook, TablesOfABookAreWhole, TablesOfABookAreWhole-prop};
 
@@ -129,7 +129,7 @@ impl<S: Alter + Drop> SqlKeeper<S> {
         ensures stops { HasCleanDisk (state S.Store self.new.conn) → (other : Book)
             → MayLeave S.Store self.new.conn other → MayLeave S.Store self.old.conn other }
         ensures untouched { HasCleanDisk (state S.Store self.new.conn)
-            → LeavesNoMore (state S.Store self.old.conn) (state S.Store self.new.conn) }
+            → MayLeaveNoMore (state S.Store self.old.conn) (state S.Store self.new.conn) }
         ensures whole { HasCleanDisk (state S.Store self.new.conn) → IsWhole S.Store self.old.conn
             → IsWhole S.Store self.new.conn }
         ensures fault { result ≡ Err Fault.StoreFault → self.new.failed ≡ true }
@@ -161,7 +161,7 @@ impl<S: Alter + Drop> Keeper for SqlKeeper<S> {
     ghost use Rattle.rtgs_rows.specs.Settling as settling;
     ghost use Rattle.rtgs_rows.specs.Querying.{HasTables};
     ghost use Rattle.rtgs_tables.specs.Building.{IsBlank};
-    ghost use Rattle.rtgs_tables.specs.Loading.{ExplainsLoad, ShowsBalanced, LeavesNoMore};
+    ghost use Rattle.rtgs_tables.specs.Loading.{ExplainsLoad, ShowsBalanced, MayLeaveNoMore};
 
     ghost content = { λ k. HoldsBook S.Store k.conn };
 
@@ -179,7 +179,7 @@ impl<S: Alter + Drop> Keeper for SqlKeeper<S> {
 
     ghost shows = { λ k. ShowsBalanced (state S.Store k.conn) };
 
-    ghost leaves_no_more = { λ old new. LeavesNoMore (state S.Store old.conn) (state S.Store new.conn) };
+    ghost leaves_no_more = { λ old new. MayLeaveNoMore (state S.Store old.conn) (state S.Store new.conn) };
 
     ghost is_honest = { λ k. HasCleanDisk (state S.Store k.conn) };
 

@@ -3,7 +3,7 @@ ghost use Rattle.std.specs.Prelude.{◌≡◌, IfOk, IfErr, false};
 ghost use Rattle.rtgs_book.specs.declared.book.Book.{Book};
 ghost use Rattle.rtgs_cores.specs.Cores.{IsCoreOf};
 ghost use Rattle.rtgs_records.specs.Held.{HasRoom};
-ghost use Rattle.rtgs_ledger.specs.Kept.{IsPrepared, IsRefused};
+ghost use Rattle.rtgs_ledger.specs.Kept.{IsPrepared, IsCommandRefused};
 ghost use Rattle.rtgs_ledger.specs.Kinds.{CanAnswer, is_of_the_store};
 
 use super::Ledger;
@@ -28,7 +28,7 @@ impl Ledger {
             → IfOk result (λ (answer, change). IsPrepared book self.old.core
             (Command.Add code name key) answer change) }
         ensures refused { (book : Book) → IsCoreOf book self.old.core
-            → IfErr result (IsRefused book (Command.Add code name key)) }
+            → IfErr result (IsCommandRefused book (Command.Add code name key)) }
     {
         if let Some(found) = self.records.accounts.get(&code) {
             if found.participant.name == name && found.participant.key == key {

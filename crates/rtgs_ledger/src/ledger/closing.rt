@@ -8,7 +8,7 @@ ghost use Rattle.rtgs_cores.specs.Cores.{IsCoreOf};
 ghost use Rattle.rtgs_accounts.specs.Accounts.{code_of};
 ghost use Rattle.rtgs_ledger.specs.Closing.{IsClosable};
 ghost use Rattle.rtgs_records.specs.Held.{HasRoom};
-ghost use Rattle.rtgs_ledger.specs.Kept.{IsPrepared, IsRefused};
+ghost use Rattle.rtgs_ledger.specs.Kept.{IsPrepared, IsCommandRefused};
 ghost use Rattle.rtgs_ledger.specs.Kinds.{CanAnswer, is_of_the_store};
 
 use super::Ledger;
@@ -34,7 +34,7 @@ impl Ledger {
         ensures prepared { (book : Book) → IsCoreOf book self.old.core
             → IfOk result (λ (answer, change). IsPrepared book self.old.core (Command.CloseDay date) answer change) }
         ensures refused { (book : Book) → IsCoreOf book self.old.core
-            → IfErr result (IsRefused book (Command.CloseDay date)) }
+            → IfErr result (IsCommandRefused book (Command.CloseDay date)) }
     {
         laws::greatest_exists();
         chosen_numbers();
@@ -66,7 +66,7 @@ impl Ledger {
         ensures prepared { (book : Book) → IsCoreOf book self.old.core → IsClosable book date
             → IfOk result (λ (answer, change). IsPrepared book self.old.core (Command.CloseDay date) answer change) }
         ensures refused { (book : Book) → IsCoreOf book self.old.core → IsClosable book date
-            → IfErr result (IsRefused book (Command.CloseDay date)) }
+            → IfErr result (IsCommandRefused book (Command.CloseDay date)) }
     {
         if let Some(account) = self.records.accounts.first_overdrawn() {
             return Err(Refusal::Overdrawn {

@@ -3,7 +3,7 @@ ghost use Rattle.std.specs.Prelude.{◌≡◌, IfOk, IfErr, false};
 ghost use Rattle.rtgs_book.specs.declared.book.Book.{Book};
 ghost use Rattle.rtgs_cores.specs.Cores.{IsCoreOf};
 ghost use Rattle.rtgs_records.specs.Held.{HasRoom};
-ghost use Rattle.rtgs_ledger.specs.Kept.{IsPrepared, IsRefused};
+ghost use Rattle.rtgs_ledger.specs.Kept.{IsPrepared, IsCommandRefused};
 ghost use Rattle.rtgs_ledger.specs.Kinds.{CanAnswer, is_of_the_store};
 
 use super::Ledger;
@@ -24,7 +24,7 @@ impl Ledger {
             → IfOk result (λ (answer, change). IsPrepared book self.old.core
             (Command.OpenDay date) answer change) }
         ensures refused { (book : Book) → IsCoreOf book self.old.core
-            → IfErr result (IsRefused book (Command.OpenDay date)) }
+            → IfErr result (IsCommandRefused book (Command.OpenDay date)) }
     {
         if self.records.is_open_on(date) {
             return Ok(self.repeated(Known::Nothing));

@@ -8,7 +8,7 @@ ghost use Rattle.rtgs_book.specs.declared.book.Book.{Book};
 ghost use Rattle.rtgs_book.specs.Lookup.{order_named};
 ghost use Rattle.rtgs_cores.specs.Cores.{IsCoreOf};
 ghost use Rattle.rtgs_records.specs.Held.{HasRoom};
-ghost use Rattle.rtgs_ledger.specs.Kept.{IsPrepared, IsRefused};
+ghost use Rattle.rtgs_ledger.specs.Kept.{IsPrepared, IsCommandRefused};
 ghost use Rattle.rtgs_ledger.specs.Kinds.{CanAnswer, is_of_the_store};
 ghost use Rattle.rtgs_ledger.specs.Ordering.{IsTaken};
 
@@ -41,7 +41,7 @@ impl Ledger {
             → IfOk result (λ (answer, change). IsPrepared book self.old.core
             (Command.Order sender reference receiver amount) answer change) }
         ensures refused { (book : Book) → IsCoreOf book self.old.core → found ≡ order_named book sender reference
-            → IfErr result (IsRefused book (Command.Order sender reference receiver amount)) }
+            → IfErr result (IsCommandRefused book (Command.Order sender reference receiver amount)) }
     {
         queues_are_of_the_queued();
         let Some(debtor) = self.records.accounts.get(&sender) else {

@@ -4,7 +4,7 @@ ghost use Rattle.rtgs_book.specs.declared.book.Book.{Book};
 ghost use Rattle.rtgs_book.specs.Lookup.{posting_named};
 ghost use Rattle.rtgs_cores.specs.Cores.{IsCoreOf};
 ghost use Rattle.rtgs_records.specs.Held.{HasRoom};
-ghost use Rattle.rtgs_ledger.specs.Kept.{IsPrepared, IsRefused};
+ghost use Rattle.rtgs_ledger.specs.Kept.{IsPrepared, IsCommandRefused};
 ghost use Rattle.rtgs_ledger.specs.Kinds.{CanAnswer, is_of_the_store};
 
 use super::Ledger;
@@ -32,7 +32,7 @@ impl Ledger {
             → IfOk result (λ (answer, change). IsPrepared book self.old.core
             (Command.Post code reference cents) answer change) }
         ensures refused { (book : Book) → IsCoreOf book self.old.core → found ≡ posting_named book reference
-            → IfErr result (IsRefused book (Command.Post code reference cents)) }
+            → IfErr result (IsCommandRefused book (Command.Post code reference cents)) }
     {
         let Some(account) = self.records.accounts.get(&code) else {
             return Err(Refusal::UnknownParticipant);

@@ -9,7 +9,7 @@ ghost use Rattle.rtgs_book.specs.Queue.{queue, queued_among};
 ghost use Rattle.rtgs_book.specs.Soundness.{IsSound};
 ghost use Rattle.rtgs_cores.specs.Cores.{IsCoreOf};
 ghost use Rattle.rtgs_accounts.specs.Accounts.{participant_of};
-ghost use Rattle.rtgs_ledger.specs.Alone.{book_of};
+ghost use Rattle.rtgs_ledger.specs.Alone.{book_of_participants};
 ghost use Rattle.rtgs_ledger.specs.Keys.{code_under};
 
 use super::Ledger;
@@ -71,7 +71,7 @@ impl Ledger {
 
     /// Whatever was looked up and adopted, the participants are those of a sound book.
     pub fn holds_participants_of_a_sound_book(&self)
-        ensures { IsSound (book_of (map participant_of self.now.core.accounts)) }
+        ensures { IsSound (book_of_participants (map participant_of self.now.core.accounts)) }
     {
         let _accounts = self.records.accounts.as_slice();
     }

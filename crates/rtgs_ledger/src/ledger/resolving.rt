@@ -8,7 +8,7 @@ ghost use Rattle.rtgs_accounts.specs.Accounts.{code_of};
 ghost use Rattle.rtgs_book.specs.declared.book.Book.{Book};
 ghost use Rattle.rtgs_cores.specs.Cores.{IsCoreOf};
 ghost use Rattle.rtgs_records.specs.Held.{HasRoom};
-ghost use Rattle.rtgs_ledger.specs.Kept.{IsPrepared, IsRefused};
+ghost use Rattle.rtgs_ledger.specs.Kept.{IsPrepared, IsCommandRefused};
 ghost use Rattle.rtgs_ledger.specs.Kinds.{CanAnswer, is_of_the_store};
 ghost use Rattle.rtgs_choices.specs.Settling.{IsOfBalance};
 ghost use Rattle.rtgs_ledger.specs.Resolving.{AreGreatest, AreSmall, after_orders, moved_accounts, moved_rows};
@@ -33,7 +33,7 @@ impl Ledger {
         ensures prepared { (book : Book) → IsCoreOf book self.old.core
             → IfOk result (λ (answer, change). IsPrepared book self.old.core Command.Resolve answer change) }
         ensures refused { (book : Book) → IsCoreOf book self.old.core
-            → IfErr result (IsRefused book Command.Resolve) }
+            → IfErr result (IsCommandRefused book Command.Resolve) }
     {
         laws::greatest_exists();
         chosen_numbers();

@@ -4,7 +4,7 @@ ghost use Rattle.rtgs_book.specs.declared.book.Book.{Book};
 ghost use Rattle.rtgs_book.specs.Lookup.{order_named};
 ghost use Rattle.rtgs_cores.specs.Cores.{IsCoreOf};
 ghost use Rattle.rtgs_records.specs.Held.{HasRoom};
-ghost use Rattle.rtgs_ledger.specs.Kept.{IsPrepared, IsRefused};
+ghost use Rattle.rtgs_ledger.specs.Kept.{IsPrepared, IsCommandRefused};
 ghost use Rattle.rtgs_ledger.specs.Kinds.{CanAnswer, is_of_the_store};
 
 use super::Ledger;
@@ -31,7 +31,7 @@ impl Ledger {
             → IfOk result (λ (answer, change). IsPrepared book self.old.core
             (Command.Withdraw sender reference) answer change) }
         ensures refused { (book : Book) → IsCoreOf book self.old.core → found ≡ order_named book sender reference
-            → IfErr result (IsRefused book (Command.Withdraw sender reference)) }
+            → IfErr result (IsCommandRefused book (Command.Withdraw sender reference)) }
     {
         let Some(_) = self.records.accounts.get(&sender) else {
             return Err(Refusal::UnknownParticipant);

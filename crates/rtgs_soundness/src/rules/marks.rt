@@ -7,7 +7,8 @@ ghost use Rattle.rtgs_book.specs.declared.mark.Mark.{Mark};
 ghost use Rattle.rtgs_book.specs.declared.limits.TheConstants.{LARGEST_NUMBER};
 ghost use Rattle.rtgs_book.specs.declared.order.Order.{Order};
 ghost use Rattle.rtgs_book.specs.Soundness.{AreNumbered, MarksAreNumbered, MarksFitOrders, HasMark};
-ghost use Rattle.rtgs_soundness.specs.Tallies.{AreTallies, IsCounted, IsWithin, tally_at, tally_of, with_amount};
+ghost use Rattle.rtgs_soundness.specs.Tallies.{AreTallies, IsCounted, IsTallyWithin, tally_at, tally_of_mark};
+ghost use Rattle.rtgs_soundness.specs.Tallies.{with_amount};
 
 use crate::rules::tally::Tally;
 use rtgs_book::{Book, Mark, Order, OrderState};
@@ -80,7 +81,7 @@ fn tallied(alloc: Global, marks: usize, orders: &[Order]) -> Result<Vec<Tally>, 
 fn add_orders(tallies: &mut [Tally], orders: &[Order])
     requires few { length orders.now ≤ LARGEST_NUMBER }
     requires none { AreTallies [] tallies.old }
-    requires zeros { All (IsWithin 0) tallies.old }
+    requires zeros { All (IsTallyWithin 0) tallies.old }
     ensures length { length tallies.new ≡ length tallies.old }
     ensures sums { AreTallies orders.now tallies.new }
 {
@@ -91,12 +92,12 @@ fn add_orders(tallies: &mut [Tally], orders: &[Order])
 
 // Adds the order, if it is settled, to the tally of its mark, if there is one.
 fn add_order(tallies: &mut [Tally], order: &Order)
-    requires { All (IsWithin (10 ^ 28)) tallies.old }
+    requires { All (IsTallyWithin (10 ^ 28)) tallies.old }
     ensures length { length tallies.new ≡ length tallies.old }
     ensures sums { (earlier : List Order) → AreTallies earlier tallies.old
         → AreTallies (earlier ++ order.now ∷ []) tallies.new }
-    ensures within { (bound : ℕ) → All (IsWithin bound) tallies.old
-        → All (IsWithin (bound + Amount.MAX)) tallies.new }
+    ensures within { (bound : ℕ) → All (IsTallyWithin bound) tallies.old
+        → All (IsTallyWithin (bound + Amount.MAX)) tallies.new }
 {
     if let OrderState::Settled(mark) = order.state {
         add_under(tallies, mark, order.amount);
@@ -105,12 +106,12 @@ fn add_order(tallies: &mut [Tally], order: &Order)
 
 // Adds an order of this amount to the tally of the mark with this number, if there is one.
 fn add_under(tallies: &mut [Tally], mark: u64, amount: Amount)
-    requires { All (IsWithin (10 ^ 28)) tallies.old }
+    requires { All (IsTallyWithin (10 ^ 28)) tallies.old }
     ensures length { length tallies.new ≡ length tallies.old }
     ensures added { (place : ℕ) → place < length tallies.old → tally_at tallies.new place
         ≡ (if mark == place + 1 then with_amount amount (tally_at tallies.old place) else tally_at tallies.old place) }
-    ensures within { (bound : ℕ) → All (IsWithin bound) tallies.old
-        → All (IsWithin (bound + Amount.MAX)) tallies.new }
+    ensures within { (bound : ℕ) → All (IsTallyWithin bound) tallies.old
+        → All (IsTallyWithin (bound + Amount.MAX)) tallies.new }
 {
     if (1..=tallies.len() as u64).contains(&mark) {
         let tally = &mut tallies[mark as usize - 1];
@@ -123,7 +124,7 @@ fn are_counted(tallies: &[Tally], marks: &[Mark]) -> bool
     requires length { length tallies.now ≡ length marks.now }
     requires numbered { AreNumbered (map (λ (m : Mark). m.number) marks.now) }
     ensures { (orders : List Order) → AreTallies orders tallies.now → (IsTrue result
-        ↔ AllByRecursion (λ (m : Mark). IsCounted m (tally_of orders m.number)) marks.now) }
+        ↔ AllByRecursion (λ (m : Mark). IsCounted m (tally_of_mark orders m.number)) marks.now) }
 {
     for (place, mark) in marks.iter().enumerate() {
         if !tallies[place].agrees_with(mark) {

@@ -1,7 +1,7 @@
 //! What the orders of a mark add up to.
 ghost use Rattle.std.specs.Prelude.{◌≡◌, ◌↔◌, ◌≤◌, ◌^◌, IsTrue};
 ghost use Rattle.rtgs_money.specs.declared.amount.TheConstants.Amount as Amount;
-ghost use Rattle.rtgs_soundness.specs.Tallies.{IsCounted, IsWithin, with_amount};
+ghost use Rattle.rtgs_soundness.specs.Tallies.{IsCounted, IsTallyWithin, with_amount};
 
 use rtgs_book::Mark;
 use rtgs_money::Amount;
@@ -16,7 +16,7 @@ pub struct Tally {
 impl Tally {
     /// Adds an order of this amount.
     pub fn add(&mut self, amount: Amount)
-        requires { IsWithin (10 ^ 28) self.old }
+        requires { IsTallyWithin (10 ^ 28) self.old }
         ensures added { self.new ≡ with_amount amount self.old }
         ensures in_range { amount ≤ Amount.MAX }
     {

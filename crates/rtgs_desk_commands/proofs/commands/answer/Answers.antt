@@ -3,7 +3,7 @@ use Rattle.std.specs.Result.{IfOk}
 use Rattle.std.proofs.lemmas.Result.{IfOk-at_ok, IfOk-weaker, IfErr-at_err, IfErr-weaker}
 use Rattle.rtgs_desk.specs.Replies.{answers_its_kind}
 use Rattle.rtgs_desk_files.specs.Printing.{ended_line}
-use Rattle.rtgs_desk_lines.specs.Lines.{line_of}
+use Rattle.rtgs_desk_lines.specs.Lines.{done_line}
 use Rattle.rtgs_desk_lines.specs.declared.done.Done.TheVariants.{Answered}
 use Rattle.rtgs_desk_commands.proofs.Submitted.{submitted_with}
 use Rattle.rtgs_desk_commands.proofs.commands.answer.Goals as goal
@@ -15,7 +15,7 @@ returns-in-Ok-clause-printed g c =
     let of_kind = IfOk-at_ok (λ p. IfOk p.1 (λ answer. answers_its_kind command answer ≡ true)) is
     c.submit.ensures.of_its_kind in
     IfOk-weaker c.told.result _ _ (λ printed it. (
-      ended_line (line_of (Answered it.0)),
+      ended_line (done_line (Answered it.0)),
       None,
       (
         it.0,

@@ -1,5 +1,5 @@
 use Rattle.std.proofs.Common.{◌∙◌, refl, sym, subst}
-use Rattle.rtgs_desk_lines.specs.Lines.{line_of}
+use Rattle.rtgs_desk_lines.specs.Lines.{done_line}
 use Rattle.rtgs_desk_lines.specs.Texts.{Prints}
 use Rattle.rtgs_desk_lines.specs.Told.{IsTold}
 use Rattle.rtgs_desk_lines.specs.declared.done.Done.TheVariants.{Served}
@@ -31,7 +31,7 @@ returns-clause-printed g c =
     let new = g.O.Write.contents c.print-2.new.out in
     let count = g.C.Connections.to_come c.args.connections.now in
     let failed = g.K.Keeper.has_failed c.serve_connections.new.desk.keeper in
-    let told = subst (λ count. IsTold c.print-2.result mid new (ended_line (line_of (Served count))))
+    let told = subst (λ count. IsTold c.print-2.result mid new (ended_line (done_line (Served count))))
     c.left-count.ensures c.print-2.ensures in
     subst (λ printed. Prints (server_text c.args.port count failed) (stop_of_desk failed) printed old new)
     (sym c.sent.ensures)

@@ -2,7 +2,7 @@ use Rattle.std.proofs.Common.{Ok, Err, ◌++◌, subst}
 use Rattle.rtgs_http_requests.specs.Plans.{AfterCaller}
 use Rattle.rtgs_http_requests.specs.Exchange.{HasBody}
 use Rattle.rtgs_http_requests.specs.Meaning.{Means}
-use Rattle.rtgs_http_input.specs.Input.{Fails, part}
+use Rattle.rtgs_http_input.specs.Input.{StepFails, part}
 use Rattle.rtgs_http_input.proofs.Known.{known_map}
 use Rattle.rtgs_http_input.proofs.Told.{body_fails}
 use Rattle.rtgs_http_input.proofs.request.read_content.Goals as goal
@@ -11,8 +11,8 @@ pub returns-in-Err-read_body : goal.returns-in-Err-read_body
 returns-in-Err-read_body g c =
     let first = part c.args.from c.args.to c.args.piece.now in
     known_map (g.R.Read.remaining c.args.reader.now) (λ rest.
-    Fails (λ fault. HasBody (first ++ rest) c.in-Ok.size (Err fault)) c.in-Err-read_body.unread)
-    (λ rest. Fails (λ fault. AfterCaller c.args.plan.now (first ++ rest) c.args.caller
+    StepFails (λ fault. HasBody (first ++ rest) c.in-Ok.size (Err fault)) c.in-Err-read_body.unread)
+    (λ rest. StepFails (λ fault. AfterCaller c.args.plan.now (first ++ rest) c.args.caller
     (Err fault)) c.in-Err-read_body.unread)
     (λ rest h. body_fails c.args.plan.now
     (first ++ rest) c.args.caller c.in-Ok.size c.in-Err-read_body.unread c.in-Ok.ensures h)

@@ -2,7 +2,7 @@ use Rattle.std.proofs.Common.{◌≡◌, Err, ◌++◌, ap, subst, sym}
 use Rattle.std.specs.Io.KnownBytes.{Consumes}
 use Rattle.rtgs_http_feeds.specs.Region.{IsRegion}
 use Rattle.rtgs_http_requests.specs.Exchange.{HasRegion}
-use Rattle.rtgs_http_input.specs.Input.{Fails, Requests, part}
+use Rattle.rtgs_http_input.specs.Input.{StepFails, Requests, part}
 use Rattle.rtgs_http_input.specs.declared.unread.Unread.TheVariants.{DirectoryFailed}
 use Rattle.rtgs_http_input.proofs.Known.{known_map}
 use Rattle.rtgs_http_input.proofs.Told.{asks_none, region_fails, whole}
@@ -11,7 +11,7 @@ use Rattle.rtgs_http_input.proofs.request.read_request.Goals as goal
 pub returns-in-Err-clause-asked : goal.returns-in-Err-clause-asked
 returns-in-Err-clause-asked g c =
     known_map (g.R.Read.remaining c.args.reader.now)
-    (λ input. Fails (λ fault. HasRegion input (Err fault)) c.in-Err.unread)
+    (λ input. StepFails (λ fault. HasRegion input (Err fault)) c.in-Err.unread)
     (λ input. Requests (g.D.Directory.knows c.args.directory.now) c.args.operator.now input (Err c.in-Err.unread))
     (λ input h. region_fails (g.D.Directory.knows c.args.directory.now) c.args.operator.now input c.in-Err.unread h)
     c.in-Err.ensures.fault

@@ -1,6 +1,6 @@
 use Rattle.std.proofs.Common.{◌≡◌, ◌∷◌, List, ap, ◌∙◌, inr, refl}
 use Rattle.csv.specs.Records.{fields_of}
-use Rattle.rtgs_order_files.specs.OrderFile.{Fields, header}
+use Rattle.rtgs_order_files.specs.OrderFile.{CsvFields, header}
 use Rattle.rtgs_order_files.specs.Reading.{left_of}
 use Rattle.rtgs_order_files.proofs.ReaderSteps.{stepped}
 use Rattle.rtgs_order_files.proofs.order_file.take_header.Goals as goal
@@ -21,7 +21,7 @@ returns-then-not-is_header-clause-fault c =
     (stepped c.args.records.now c.next.new.self c.next.result c.requires c.next.ensures.steps) in
     inr (
       refl,
-      λ (under : List Fields) (e : left_of c.args.records.now ≡ header ∷ under).
+      λ (under : List CsvFields) (e : left_of c.args.records.now ≡ header ∷ under).
           let same : fields_of c.in-Some-Ok.first ≡ header = cc (one.1, e) in
           cc (c.if-not-is_header.ensures.1 same),
     )
@@ -34,4 +34,4 @@ pub returns-clause-taken : goal.returns-clause-taken
 returns-clause-taken c =
     let one = rw (c.in-Some-Ok.is, c.in-Some-Ok.field-0-is) at
     (stepped c.args.records.now c.next.new.self c.next.result c.requires c.next.ensures.steps) in
-    one.1 ∙ ap (λ (f : Fields). f ∷ left_of c.next.new.self) (c.if-not-is_header.ensures.0 refl)
+    one.1 ∙ ap (λ (f : CsvFields). f ∷ left_of c.next.new.self) (c.if-not-is_header.ensures.0 refl)

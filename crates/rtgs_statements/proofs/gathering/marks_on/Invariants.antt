@@ -1,6 +1,6 @@
 use Rattle.std.proofs.Common.{◌≡◌, ◌+◌, ◌≤◌, ◌<◌, ◌-◌, ◌^◌, length, None}
 use Rattle.rtgs_book.specs.declared.Book.{Book}
-use Rattle.rtgs_statements.specs.Reads.{IsRead}
+use Rattle.rtgs_statements.specs.Reads.{LeavesRead}
 use Rattle.rtgs_statements.specs.Records.{marks_on}
 use Rattle.rtgs_statements.proofs.Told.{marks_left}
 use Rattle.rtgs_statements.proofs.gathering.marks_on.Given as goal
@@ -10,7 +10,8 @@ abbrev pub invariant-loop-next : goal.invariant-loop-next
 invariant-loop-next g l = record {
   fits : l.last < 2 ^ 64;
   few : l.count ≤ l.last;
-  read : IsRead g.S.Source.holds g.S.Source.leaves g.S.Source.is_honest g.S.Source.has_failed l.initial.source l.source
+  read : LeavesRead g.S.Source.holds g.S.Source.leaves g.S.Source.is_honest g.S.Source.has_failed l.initial.source
+      l.source
       None;
   count : g.S.Source.is_honest l.source → (book : Book) → g.S.Source.holds l.initial.source book
       → l.count + length (marks_left l.date l.last book) ≡ length (marks_on l.date book.marks);

@@ -1,6 +1,6 @@
 use Rattle.std.proofs.Common.{◌<◌, ◌-◌, ◌^◌, None}
 use Rattle.rtgs_book.specs.declared.Book.{Book}
-use Rattle.rtgs_statements.specs.Reads.{IsRead}
+use Rattle.rtgs_statements.specs.Reads.{LeavesRead}
 use Rattle.rtgs_statements.specs.Records.{orders_on}
 use Rattle.rtgs_statements.proofs.Days.{IsWithin, IsWithLeft}
 use Rattle.rtgs_statements.proofs.Told.{orders_left}
@@ -11,7 +11,8 @@ abbrev pub invariant-loop-next : goal.invariant-loop-next
 invariant-loop-next g l = record {
   fits : l.last < 2 ^ 64;
   within : IsWithin l.last l.ordered;
-  read : IsRead g.S.Source.holds g.S.Source.leaves g.S.Source.is_honest g.S.Source.has_failed l.initial.source l.source
+  read : LeavesRead g.S.Source.holds g.S.Source.leaves g.S.Source.is_honest g.S.Source.has_failed l.initial.source
+      l.source
       None;
   sums : g.S.Source.is_honest l.source → (book : Book) → g.S.Source.holds l.initial.source book
       → IsWithLeft l.ordered (orders_left l.date l.last book) (orders_on l.date book.orders);

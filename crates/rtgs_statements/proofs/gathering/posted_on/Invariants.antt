@@ -1,7 +1,7 @@
 use Rattle.std.proofs.Common.{◌≡◌, ◌<◌, ◌-◌, ◌*◌, ◌^◌, ◌+ℤ◌, ℕ, List, None}
 use Rattle.rtgs_book.specs.declared.Book.{Book}
 use Rattle.rtgs_money.specs.declared.posting_amount.TheConstants.PostingAmount as PostingAmount
-use Rattle.rtgs_statements.specs.Reads.{IsRead}
+use Rattle.rtgs_statements.specs.Reads.{LeavesRead}
 use Rattle.rtgs_statements.specs.Records.{postings_on}
 use Rattle.rtgs_statements.specs.Sums.{posted, sum_at}
 use Rattle.rtgs_statements.proofs.Terms.{Within}
@@ -13,7 +13,8 @@ abbrev pub invariant-loop-next : goal.invariant-loop-next
 invariant-loop-next g l = record {
   fits : l.last < 2 ^ 64;
   within : (code : List ℕ) → Within (l.last * PostingAmount.MAX) (sum_at l.totals code);
-  read : IsRead g.S.Source.holds g.S.Source.leaves g.S.Source.is_honest g.S.Source.has_failed l.initial.source l.source
+  read : LeavesRead g.S.Source.holds g.S.Source.leaves g.S.Source.is_honest g.S.Source.has_failed l.initial.source
+      l.source
       None;
   sums : g.S.Source.is_honest l.source → (book : Book) → g.S.Source.holds l.initial.source book → (code : List ℕ)
       → (sum_at l.totals code +ℤ posted code (postings_left l.date l.last book))

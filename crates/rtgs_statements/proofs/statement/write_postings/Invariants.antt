@@ -2,7 +2,7 @@ use Rattle.std.proofs.Common.{◌≡◌, ◌<◌, ◌-◌, ◌*◌, ◌^◌, ◌
 use Rattle.std.specs.Io.KnownBytes.{Appends}
 use Rattle.rtgs_book.specs.declared.Book.{Book}
 use Rattle.rtgs_money.specs.declared.posting_amount.TheConstants.PostingAmount as PostingAmount
-use Rattle.rtgs_statements.specs.Reads.{IsRead, AppendsWholeLines}
+use Rattle.rtgs_statements.specs.Reads.{LeavesRead, AppendsWholeLines}
 use Rattle.rtgs_statements.specs.Records.{postings_on}
 use Rattle.rtgs_statements.specs.Rows.{posting_rows}
 use Rattle.rtgs_statements.specs.Sums.{posted}
@@ -15,7 +15,8 @@ abbrev pub invariant-loop-next : goal.invariant-loop-next
 invariant-loop-next g l = record {
   fits : l.last < 2 ^ 64;
   within : Within (l.last * PostingAmount.MAX) l.sum;
-  read : IsRead g.S.Source.holds g.S.Source.leaves g.S.Source.is_honest g.S.Source.has_failed l.initial.source l.source
+  read : LeavesRead g.S.Source.holds g.S.Source.leaves g.S.Source.is_honest g.S.Source.has_failed l.initial.source
+      l.source
       None;
   whole : AppendsWholeLines (g.W.Write.contents l.initial.out) (g.W.Write.contents l.out);
   sum : g.S.Source.is_honest l.source → (book : Book) → g.S.Source.holds l.initial.source book

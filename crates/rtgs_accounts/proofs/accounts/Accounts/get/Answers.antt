@@ -1,12 +1,12 @@
 use Rattle.std.proofs.Common.{sym, ◌≡◌, subst}
-use Rattle.rtgs_accounts.specs.Accounts.{AreInCodeOrder}
+use Rattle.rtgs_accounts.specs.Accounts.{CodesRiseStrictly}
 use Rattle.rtgs_accounts.proofs.AccountLemmas.{find_at, find_in_gap}
 use Rattle.rtgs_accounts.proofs.accounts.Accounts.get.Goals as goal
 
 pub returns-in-Ok : goal.returns-in-Ok
 returns-in-Ok c =
     let same : c.self.inside.accounts.items ≡ c.args.self.now.accounts = λ i. (c.self.view_is i).accounts in
-    let found = find_at c.args.code.now c.args.self.now.accounts (subst AreInCodeOrder same c.self.invariant.ordered)
+    let found = find_at c.args.code.now c.args.self.now.accounts (subst CodesRiseStrictly same c.self.invariant.ordered)
     c.in-Ok.at
     c.in-Ok.ensures.found c.index.result.now in
     cc

@@ -1,12 +1,12 @@
 use Rattle.std.proofs.Common.{◌≡◌, length, ap, sym, subst, arith}
-use Rattle.rtgs_accounts.specs.Accounts.{AreInCodeOrder}
+use Rattle.rtgs_accounts.specs.Accounts.{CodesRiseStrictly}
 use Rattle.rtgs_accounts.proofs.Indexes.{position_at, position_nowhere}
 use Rattle.rtgs_accounts.proofs.accounts.Accounts.index_of.Goals as goal
 
 pub returns-in-Ok : goal.returns-in-Ok
 returns-in-Ok c =
     let same : c.self.inside.accounts.items ≡ c.args.self.now.accounts = λ i. (c.self.view_is i).accounts in
-    sym (position_at c.args.code.now c.args.self.now.accounts (subst AreInCodeOrder same c.self.invariant.ordered)
+    sym (position_at c.args.code.now c.args.self.now.accounts (subst CodesRiseStrictly same c.self.invariant.ordered)
     c.in-Ok.at
     c.in-Ok.ensures.found)
 

@@ -2,14 +2,15 @@ use Rattle.std.proofs.Common.{sym, ◌≡◌, ◌∙◌, subst}
 use Rattle.std.proofs.Common.{false, length, ◌<◌}
 use Rattle.std.specs.List.{list_any}
 use Rattle.rtgs_book.specs.declared.limits.TheConstants.{MOST_PARTICIPANTS}
-use Rattle.rtgs_accounts.specs.Accounts.{AreInCodeOrder, AreOfABook, IsGapFor, with_account, code_of, key_of, has_key}
+use Rattle.rtgs_accounts.specs.Accounts.{CodesRiseStrictly, AreOfABook, IsGapFor, with_account, code_of, key_of}
+use Rattle.rtgs_accounts.specs.Accounts.{has_key}
 use Rattle.rtgs_accounts.proofs.AccountLemmas.{find_at, inserted, of_a_book_inserted}
 use Rattle.rtgs_accounts.proofs.accounts.Accounts.insert.Goals as goal
 
 pub unreachable-requires : goal.unreachable-requires
 unreachable-requires c =
     let same : c.self.inside.accounts.items ≡ c.args.self.now.accounts = λ i. (c.self.view_is i).accounts in
-    let found = find_at (code_of c.args.account) c.args.self.now.accounts (subst AreInCodeOrder same
+    let found = find_at (code_of c.args.account) c.args.self.now.accounts (subst CodesRiseStrictly same
     c.self.invariant.ordered)
     c.in-Ok.field-0 c.in-Ok.ensures.found c.args.account in
     cc

@@ -2,7 +2,7 @@ use Rattle.std.proofs.Common.{◌≡◌, ◌+◌, ◌∙◌, [], ◌∷◌, drop
 use Rattle.std.proofs.Math.ListN.{drop_of_length-le}
 use Rattle.std.proofs.lemmas.List.{drop_more}
 use Rattle.rtgs_book.specs.Changes.{changed}
-use Rattle.rtgs_memory_keeper.specs.Memory.{book_of, HasRoom}
+use Rattle.rtgs_memory_keeper.specs.Memory.{book_of, ListsHaveRoom}
 use Rattle.rtgs_memory_keeper.proofs.Making.{Remains, from_start, one_more, at_end, room_for_one}
 use Rattle.rtgs_memory_keeper.proofs.memory_keeper.MemoryKeeper.apply_all.Goals as goal
 
@@ -20,7 +20,7 @@ apply-requires c =
     let row = c.row-item.result in
     let here : drop i rows ≡ row ∷ drop (i + 1) rows = drop_more rows i row c.loop-row-test.true
     ∙ ap (λ r. r ∷ drop (i + 1) rows) (sym c.row-item.is) in
-    room_for_one c.loop-row.self row (drop (i + 1) rows) (subst (HasRoom c.loop-row.self) here
+    room_for_one c.loop-row.self row (drop (i + 1) rows) (subst (ListsHaveRoom c.loop-row.self) here
     c.loop-row.invariant.room)
 
 pub loop-row-preserved : goal.loop-row-preserved
@@ -32,7 +32,8 @@ loop-row-preserved c =
     let here : drop i rows ≡ row ∷ drop (i + 1) rows = drop_more rows i row c.loop-row-test.true
     ∙ ap (λ r. r ∷ drop (i + 1) rows) (sym c.row-item.is) in
     record {
-      room = c.apply.ensures.room (drop (i + 1) rows) (subst (HasRoom c.loop-row.self) here c.loop-row.invariant.room);
+      room = c.apply.ensures.room (drop (i + 1) rows) (subst (ListsHaveRoom c.loop-row.self) here
+          c.loop-row.invariant.room);
       remains = λ sound end. one_more (book_of c.loop-row.self) (book_of c.apply.new.self) row (drop (i + 1) rows)
           (changed start rows) end.orders_numbered
           (subst (λ left. Remains (book_of c.loop-row.self) left (changed start rows)) here

@@ -1,13 +1,13 @@
 use Rattle.std.proofs.Common.{drop}
 use Rattle.rtgs_book.specs.Changes.{changed}
 use Rattle.rtgs_book.specs.Soundness.{IsSound}
-use Rattle.rtgs_memory_keeper.specs.Memory.{book_of, HasRoom}
+use Rattle.rtgs_memory_keeper.specs.Memory.{book_of, ListsHaveRoom}
 use Rattle.rtgs_memory_keeper.proofs.Making.{Remains}
 use Rattle.rtgs_memory_keeper.proofs.memory_keeper.MemoryKeeper.apply_all.Given as goal
 
 abbrev pub invariant-loop-row : goal.invariant-loop-row
 invariant-loop-row l = record {
-  room : HasRoom l.self (drop l.row-index l.rows);
+  room : ListsHaveRoom l.self (drop l.row-index l.rows);
   remains : IsSound (book_of l.initial.self) → IsSound (changed (book_of l.initial.self) l.rows)
       → Remains (book_of l.self) (drop l.row-index l.rows) (changed (book_of l.initial.self) l.rows);
 }

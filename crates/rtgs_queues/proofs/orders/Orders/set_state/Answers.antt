@@ -36,7 +36,7 @@ returns-in_default-clause-orders c =
 pub invariant_of-self : goal.invariant_of-self
 invariant_of-self c =
     subst (λ orders. IsKept orders c.remove.new.self c.self.inside.next c.self.inside.awaited false) (sym (is_restated
-        c))
+    c))
     (kept_restated c.self.inside.orders.items c.self.inside.queues c.self.inside.next c.self.inside.awaited
     c.self.inside.tidy c.self.invariant c.args.number c.args.state c.in-Ok.at c.index.result.now c.remove.new.self
     c.requires (there c)

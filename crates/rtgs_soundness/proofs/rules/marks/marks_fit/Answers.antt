@@ -3,7 +3,7 @@ use Rattle.std.specs.List.{AllByRecursion}
 use Rattle.rtgs_book.specs.declared.Mark.{Mark}
 use Rattle.rtgs_book.specs.declared.Order.{Order}
 use Rattle.rtgs_book.specs.Soundness.{AreNumbered, HasMark}
-use Rattle.rtgs_soundness.specs.Tallies.{AreTallies, IsCounted, tally_of}
+use Rattle.rtgs_soundness.specs.Tallies.{AreTallies, IsCounted, tally_of_mark}
 use Rattle.rtgs_soundness.proofs.Marks.{tallies_of}
 use Rattle.rtgs_soundness.proofs.rules.marks.marks_fit.Goals as goal
 
@@ -19,6 +19,6 @@ returns c =
     (subst (λ (p : List Mark × List Order). AllByRecursion (λ (o : Order). HasMark p.0 o.date o.state) p.1)
     (λ i. (marks i, orders i)) (c.have_marks.ensures.0 c.if-not-have_marks.false))
     (subst (λ (p : List Mark × List Order). (c.are_counted.result ≡ true) ↔ AllByRecursion
-    (λ (m : Mark). IsCounted m (tally_of p.1 m.number)) p.0) (λ i. (marks i, orders i))
+    (λ (m : Mark). IsCounted m (tally_of_mark p.1 m.number)) p.0) (λ i. (marks i, orders i))
     (c.are_counted.ensures c.as_slice-orders.result.now (subst (AreTallies c.as_slice-orders.result.now)
     (sym c.as_slice.ensures.value) c.in_ok-tallies.ensures.1)))
