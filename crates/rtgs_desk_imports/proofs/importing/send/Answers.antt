@@ -8,7 +8,7 @@ pub returns-clause-rows : goal.returns-clause-rows
 returns-clause-rows g c =
     let it = c.submit_file-sent in
     subst (λ read. IfOk it.result (λ sent. AreRowsOf (λ bytes. bytes.items) read.answer sent.0.items))
-    (sym c.of.ensures) it.ensures.rows
+    (sym c.of-answer.ensures) it.ensures.rows
 
 pub returns-clause-sent : goal.returns-clause-sent
 returns-clause-sent g c =
@@ -20,6 +20,6 @@ pub returns-clause-refused : goal.returns-clause-refused
 returns-clause-refused g c =
     let it = c.submit_file-sent in
     was_refused _ c.desk.ensures.value c.finish.ensures.desk c.in_ok-book.ensures.opened it.ensures.honest it.result
-    (RefusesRows (λ bytes. bytes.items) c.of.result.value.answer)
-    (subst (λ read. IfErr it.result (λ why. RefusesRows (λ bytes. bytes.items) read.answer why)) (sym c.of.ensures)
+    (RefusesRows (λ bytes. bytes.items) c.of-answer.result.value.answer)
+    (subst (λ read. IfErr it.result (λ why. RefusesRows (λ bytes. bytes.items) read.answer why)) (sym c.of-answer.ensures)
     it.ensures.refused) it.ensures.unchanged
