@@ -2,7 +2,6 @@
 mod bodies;
 mod callers;
 mod drip;
-mod failing_keeper;
 mod faults;
 mod heads;
 mod numbers;

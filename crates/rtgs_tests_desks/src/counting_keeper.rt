@@ -9,7 +9,8 @@ use std::cell::Cell;
 /// Passes calls on to another keeper, and counts the commits that have returned.
 #[derive(Drop)]
 pub struct CountingKeeper<'a, K> {
-    kept: K,
+    /// The keeper to which calls are passed on.
+    pub kept: K,
     commits: &'a Cell<usize>,
 }
 

@@ -15,6 +15,13 @@ pub struct Outcome {
     pub end: &'static str,
 }
 
+/// The first of two values, of which the other is let go. A function that takes a pair apart names the types of both in
+/// its proof, and this one names none.
+fn first<A, B: Drop>(both: (A, B)) -> A {
+    let (first, _second) = both;
+    first
+}
+
 /// Runs the program with these words, and tells how it ended. Only this function calls it, since each proof of a call
 /// takes in all that the contract of a run says.
 pub fn ending<O: Write, E: Write>(
@@ -23,8 +30,7 @@ pub fn ending<O: Write, E: Write>(
     out: &mut O,
     err: &mut E,
 ) -> Ended {
-    let (ended, _) = run_words(rt, words, Unknown, out, err);
-    ended
+    first(run_words(rt, words, Unknown, out, err))
 }
 
 /// How a run ended, in a word. None stands for a text that was printed whole, and for a refusal.

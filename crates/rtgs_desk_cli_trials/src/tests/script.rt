@@ -57,28 +57,6 @@ fn read_words<'a>(words: &mut Vec<&'a str>, line: &'a str) -> Result<(), Fail> {
     Err(Fail::from("a quote that has no end"))
 }
 
-/// Runs the program with the words of a line, where standard output and standard error take so many bytes.
-fn run_line(
-    rt: &HostRuntime,
-    line: &str,
-    out_room: usize,
-    err_room: usize,
-) -> Result<Outcome, Fail> {
-    let mut words = Vec::new(rt.alloc());
-    read_words(&mut words, line)?;
-    Ok(run(rt, words.as_slice(), out_room, err_room))
-}
-
-/// Runs the program with the words of a line, where one stream takes only as many bytes as stand before them.
-fn run_in_room(rt: &HostRuntime, kind: &str, words: &str) -> Result<Outcome, Fail> {
-    let (room, line) = words.split_once(' ').unwrap_or((words, ""));
-    let room = room.parse::<usize>()?;
-    if kind == "out" {
-        return run_line(rt, line, room, usize::MAX);
-    }
-    run_line(rt, line, usize::MAX, room)
-}
-
 /// Adds each line of what was printed, after its sign.
 fn add_lines(shown: &mut String, sign: &str, printed: &str) -> Result<(), AllocError> {
     for line in printed.split_inclusive('\n') {
@@ -157,12 +135,38 @@ fn add_end(shown: &mut String, status: u8, end: &str) -> Result<(), Fail> {
 }
 
 /// What a step of this kind shows of a run.
-fn shown_of(alloc: Global, kind: &str, told: &str, run: &Outcome) -> Result<String, Fail> {
+pub fn shown_of(alloc: Global, kind: &str, told: &str, run: &Outcome) -> Result<String, Fail> {
     let mut shown = String::new(alloc);
     add_out(&mut shown, kind, told, run)?;
     add_err(&mut shown, kind, run)?;
     add_end(&mut shown, run.status, run.end)?;
     Ok(shown)
+}
+
+/// What a step of this kind shows of a run with these words, where standard output and standard error take so many
+/// bytes.
+fn shown_by_run(
+    rt: &HostRuntime,
+    kind: &str,
+    line: &str,
+    told: &str,
+    (out_room, err_room): (usize, usize),
+) -> Result<String, Fail> {
+    let mut words = Vec::new(rt.alloc());
+    read_words(&mut words, line)?;
+    let run = run(rt, words.as_slice(), out_room, err_room);
+    shown_of(rt.alloc(), kind, told, &run)
+}
+
+/// The same, where one stream takes only as many bytes as stand before the words.
+fn shown_in_room(rt: &HostRuntime, kind: &str, words: &str, told: &str) -> Result<String, Fail> {
+    let (room, line) = words.split_once(' ').unwrap_or((words, ""));
+    let room = room.parse::<usize>()?;
+    let rooms = match kind {
+        "out" => (room, usize::MAX),
+        _ => (usize::MAX, room),
+    };
+    shown_by_run(rt, kind, line, told, rooms)
 }
 
 /// The text of a file, as a step gives it.
@@ -221,33 +225,25 @@ fn is_same(rt: &HostRuntime, path: &str, other: &str) -> Result<(), Fail> {
 
 /// Follows a step that runs nothing.
 fn prepare(rt: &HostRuntime, kind: &str, path: &str, text: &str) -> Result<(), Fail> {
-    if kind == "file" || kind == "orders" {
-        return write_text(rt, kind, path, text);
+    match kind {
+        "file" | "orders" => write_text(rt, kind, path, text),
+        "sql" => change(rt, path, text, false),
+        "log" => change(rt, path, text, true),
+        "same" => is_same(rt, path, text),
+        "gone" => is_gone(rt, path),
+        "folder" => Ok(fs::create_dir(rt, path)?),
+        _ => remake(rt, kind, path, text),
     }
-    if kind == "sql" || kind == "log" {
-        return change(rt, path, text, kind == "log");
-    }
-    if kind == "same" {
-        return is_same(rt, path, text);
-    }
-    if kind == "gone" {
-        return is_gone(rt, path);
-    }
-    if kind == "folder" {
-        return Ok(fs::create_dir(rt, path)?);
-    }
-    remake(rt, kind, path, text)
 }
 
 /// What a step shows.
 fn shown_by(rt: &HostRuntime, line: &str, told: &str) -> Result<String, Fail> {
     let (kind, words) = line.split_once(' ').unwrap_or((line, ""));
     if kind == "out" || kind == "err" {
-        return shown_of(rt.alloc(), kind, told, &run_in_room(rt, kind, words)?);
+        return shown_in_room(rt, kind, words, told);
     }
     if kind == "desk" || kind == "names" || kind == "writes" || kind == "ends" {
-        let run = run_line(rt, words, usize::MAX, usize::MAX)?;
-        return shown_of(rt.alloc(), kind, told, &run);
+        return shown_by_run(rt, kind, words, told, (usize::MAX, usize::MAX));
     }
     let (path, text) = words.split_once(' ').unwrap_or((words, ""));
     prepare(rt, kind, path, text)?;

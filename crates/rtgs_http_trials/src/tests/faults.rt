@@ -1,8 +1,8 @@
 //! What inputs ask for, or the faults that they are told of.
 use super::ALFA;
-use super::failing_keeper::Trouble;
 use super::requests::{Request, spelled};
 use super::test_desk::TestDesk;
+use rtgs_tests_desks::Trouble;
 use std::alloc::Global;
 use std::test::Fail;
 

@@ -4,7 +4,6 @@ mod begun_texts;
 mod beyond_reach;
 mod connections;
 mod counted_reader;
-mod counting_keeper;
 mod cut_writer;
 mod days;
 mod first_day;

@@ -1,5 +1,4 @@
 //! A desk in memory that scripts ask.
-use super::failing_keeper::{FailingKeeper, Trouble};
 use super::requests::{BETA, GAMA, Request, spelled};
 use super::words::in_words;
 use super::{ALFA, OPERATOR, digest};
@@ -10,6 +9,7 @@ use rtgs_http_input::{Unread, read_request};
 use rtgs_keeper::Keeper;
 use rtgs_memory_keeper::MemoryKeeper;
 use rtgs_money::{BusinessDate, Code, KeyDigest, Name};
+use rtgs_tests_desks::{FailingKeeper, Trouble, desk_over};
 use std::alloc::{AllocError, Global};
 use std::io::{Read, Write};
 use std::test::Fail;
@@ -23,14 +23,6 @@ pub struct TestDesk {
     alloc: Global,
     pub desk: Desk<FailingKeeper<MemoryKeeper>>,
     pub operator: KeyDigest,
-}
-
-/// A desk over this keeper.
-pub fn desk_over<K: Keeper + Drop>(alloc: Global, keeper: K) -> Result<Desk<K>, Fail> {
-    match Desk::open(alloc, keeper) {
-        Ok(desk) => Ok(desk),
-        Err((fault, _)) => Err(Fail::from(fault)),
-    }
 }
 
 // Adds a bank.
@@ -171,7 +163,7 @@ impl TestDesk {
             desk,
             operator: _,
         } = self;
-        let kept = desk.into_keeper().into_kept();
+        let kept = desk.into_keeper().kept;
         TestDesk::over(alloc, FailingKeeper::new(kept, calls, trouble))
     }
 

@@ -3,16 +3,7 @@
 //! Rows are parted by `\n= `. Between ` | ` a row has a word for what is met, how its text begins and ends, and what
 //! else stands of it. A `=` in place of the end stands for a text that is the beginning, and no more.
 use super::bytes::part;
-use std::alloc::{AllocError, Global};
-use std::fmt::Write;
 use std::test::Fail;
-
-/// How often each row of a table was met.
-#[derive(Drop)]
-pub struct Met {
-    rows: &'static str,
-    met: Vec<&'static str>,
-}
 
 /// A column of a row.
 pub fn column(row: &'static str, place: usize) -> &'static str {
@@ -21,79 +12,48 @@ pub fn column(row: &'static str, place: usize) -> &'static str {
 
 // Whether a text is that of a row.
 fn fits(row: &'static str, text: &str) -> bool {
-    let first = column(row, 1);
     let last = column(row, 2);
-    if last == "=" {
-        return text == first;
+    match text.strip_prefix(column(row, 1)) {
+        Some(rest) if last == "=" => rest.is_empty(),
+        Some(_) => text.ends_with(last),
+        None => false,
     }
-    text.starts_with(first) && text.ends_with(last)
 }
 
 /// The row of this text.
-pub fn row_of(rows: &'static str, text: &str) -> Option<&'static str> {
+pub fn row_of(rows: &'static str, text: &str) -> Result<&'static str, Fail> {
     for row in rows.split("\n= ") {
         if fits(row, text) {
-            return Some(row);
+            return Ok(row);
         }
     }
-    None
+    Err(Fail::new(format_args!("{text:?}, of which there is no row")))
 }
 
-impl Met {
-    /// Nothing was met.
-    pub fn new(alloc: Global, rows: &'static str) -> Met {
-        Met {
-            rows,
-            met: Vec::new(alloc),
+// How often a word was met.
+fn count_of(met: &[&'static str], word: &str) -> usize {
+    let mut count = 0usize;
+    for other in met {
+        if *other == word {
+            count = count.saturating_add(1);
         }
     }
+    count
+}
 
-    /// Counts this row.
-    pub fn count(&mut self, row: &'static str) -> Result<(), AllocError> {
-        self.met.push(row)?;
-        Ok(())
-    }
-
-    /// How often the rows were met that have this word.
-    pub fn count_of(&self, word: &str) -> usize {
-        let mut count = 0usize;
-        for row in self.met.as_slice() {
-            if column(row, 0) == word {
-                count = count.saturating_add(1);
-            }
+/// The words that were met are these, each as often as it is told behind it, and no other: "word count, word count".
+pub fn are_met(met: &[&'static str], all: &str) -> Result<(), Fail> {
+    let mut sum = 0usize;
+    for told in all.split(", ") {
+        let (word, told_count) = told.split_once(' ').unwrap_or((told, ""));
+        let count = count_of(met, word);
+        if told_count.parse::<usize>().unwrap_or(usize::MAX) != count {
+            return Err(Fail::new(format_args!("{word} {count}, and not {told_count}")));
         }
-        count
+        sum = sum.saturating_add(count);
     }
-
-    // Whether a row is the first with its word.
-    fn is_first(&self, row: &'static str) -> bool {
-        for other in self.rows.split("\n= ") {
-            if column(other, 0) == column(row, 0) {
-                return other == row;
-            }
-        }
-        false
+    if sum == met.len() {
+        return Ok(());
     }
-
-    // "word count, " for each word that was met, in the order of the rows.
-    fn counts(&self, alloc: Global) -> Result<String, Fail> {
-        let mut counts = String::new(alloc);
-        for row in self.rows.split("\n= ") {
-            let word = column(row, 0);
-            let count = self.count_of(word);
-            if count > 0 && self.is_first(row) {
-                write!(counts, "{word} {count}, ")?;
-            }
-        }
-        Ok(counts)
-    }
-
-    /// These counts and no other: "word count, word count".
-    pub fn is(&self, alloc: Global, all: &str) -> Result<(), Fail> {
-        let counts = self.counts(alloc)?;
-        if counts.as_str().strip_suffix(", ") == Some(all) {
-            return Ok(());
-        }
-        Err(Fail::new(format_args!("{counts}and not {all}")))
-    }
+    Err(Fail::new(format_args!("{} besides {all}", met.len().saturating_sub(sum))))
 }

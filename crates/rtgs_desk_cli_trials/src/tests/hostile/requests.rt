@@ -1,7 +1,6 @@
 //! Inputs of which the desk may refuse any, and what it must hold for each: a reply that is one of those that are told,
 //! and no command where it was refused.
 mod changed;
-mod counting_keeper;
 mod edits;
 mod limits;
 mod listed;

@@ -1,6 +1,6 @@
 //! Batches, their result files, and a store that fails in one.
-use super::super::failing_keeper::Trouble;
 use super::super::test_desk::{TestDesk, follows_after};
+use rtgs_tests_desks::Trouble;
 use std::alloc::Global;
 use std::test::Fail;
 

@@ -1,11 +1,11 @@
 //! Statements and reports of a desk whose reads meet trouble, each in turn: which rows the writer then has.
-use super::super::failing_keeper::Trouble;
 use super::super::is_same;
 use super::super::test_desk::TestDesk;
 use rtgs_book::Refusal;
 use rtgs_desk_texts::{write_report, write_statement};
 use rtgs_money::{BusinessDate, Code};
 use rtgs_statements::BookTextFault;
+use rtgs_tests_desks::Trouble;
 use std::alloc::Global;
 use std::test::Fail;
 

@@ -1,10 +1,10 @@
 //! Connections served one after another.
-use super::super::failing_keeper::Trouble;
 use super::super::requests::{OTHER, Request};
 use super::super::test_desk::TestDesk;
 use super::super::{GOOD, OPERATOR, digest};
 use rtgs_book::{Answer, Command};
 use rtgs_http_server::{Connections, serve_connections};
+use rtgs_tests_desks::Trouble;
 use std::alloc::Global;
 use std::test::Fail;
 

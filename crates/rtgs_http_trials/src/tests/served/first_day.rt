@@ -1,6 +1,6 @@
 //! A desk before its first day.
-use super::super::failing_keeper::Trouble;
 use super::super::test_desk::{TestDesk, add_banks};
+use rtgs_tests_desks::Trouble;
 use std::test::Fail;
 
 const BEFORE: &str = r#"

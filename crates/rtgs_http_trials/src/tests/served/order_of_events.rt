@@ -1,13 +1,13 @@
 //! The last commit of a request has returned before the first byte of the reply is written.
 use super::super::requests::Request;
-use super::super::test_desk::{begin_day, desk_over};
+use super::super::test_desk::begin_day;
 use super::super::{OPERATOR, digest};
-use super::counting_keeper::CountingKeeper;
 use super::watching_writer::WatchingWriter;
 use rtgs_desk::Desk;
 use rtgs_http_banks::serve_one;
 use rtgs_keeper::Keeper;
 use rtgs_memory_keeper::MemoryKeeper;
+use rtgs_tests_desks::{CountingKeeper, desk_over};
 use std::alloc::Global;
 use std::cell::Cell;
 use std::test::Fail;

@@ -1,6 +1,6 @@
 //! A store that fails at an order, before or after the order is kept, and memory that is refused.
-use super::super::failing_keeper::Trouble;
 use super::super::test_desk::TestDesk;
+use rtgs_tests_desks::Trouble;
 use std::alloc::Global;
 use std::test::Fail;
 

@@ -1,7 +1,7 @@
 //! What each command is told where the store fails or memory is refused, and each request once the store has failed.
-use super::super::failing_keeper::Trouble;
 use super::super::test_desk::TestDesk;
 use super::steps::COMMANDS;
+use rtgs_tests_desks::Trouble;
 use std::alloc::Global;
 use std::test::Fail;
 

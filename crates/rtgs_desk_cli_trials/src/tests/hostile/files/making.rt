@@ -56,20 +56,13 @@ fn without_sums(alloc: Global, book: &[u8], count: u32) -> Result<Vec<u8>, Alloc
 /// `views` more, or with those and `no_sums` that its header tells of; or one with many pages that lead to one another
 /// in `circles` by so many steps.
 pub fn made(alloc: Global, kind: &str, bytes: &[u8], number: u32) -> Result<Vec<u8>, Fail> {
-    if kind == "copy" {
-        return Ok(Vec::from_slice(alloc, bytes)?);
-    }
-    if kind == "filled" {
-        return Ok(filled(alloc, bytes, number)?);
-    }
-    if kind == "views" {
-        return Ok(with_views(alloc, bytes, number)?);
-    }
-    if kind == "no_sums" {
-        return Ok(without_sums(alloc, bytes, number)?);
-    }
-    if kind == "circles" {
-        return Ok(with_circles(alloc, bytes, number)?);
-    }
-    Err(Fail::from("a step of no known kind"))
+    let made = match kind {
+        "copy" => Vec::from_slice(alloc, bytes),
+        "filled" => filled(alloc, bytes, number),
+        "views" => with_views(alloc, bytes, number),
+        "no_sums" => without_sums(alloc, bytes, number),
+        "circles" => with_circles(alloc, bytes, number),
+        _ => return Err(Fail::from("a step of no known kind")),
+    };
+    Ok(made?)
 }

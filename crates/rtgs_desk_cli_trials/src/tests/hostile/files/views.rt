@@ -25,10 +25,9 @@ fn number_of(number: u32) -> [u8; 3] {
 
 // Appends what the list has of a view: its row's length and number, the forms of its columns, and these.
 fn push_view(alloc: Global, cells: &mut Vec<u8>, view: u32) -> Result<(), AllocError> {
+    let [first, second, third] = number_of(view.saturating_add(OWN));
+    cells.extend_from_slice(&[52, first, second, third, 6, 21, 25, 25, 8, 73])?;
     let text = format!(in alloc; "viewv{view:05}v{view:05}CREATE VIEW v{view:05} AS SELECT 1")?;
-    cells.push(52)?;
-    cells.extend_from_slice(&number_of(view.saturating_add(OWN)))?;
-    cells.extend_from_slice(&[6, 21, 25, 25, 8, 73])?;
     cells.extend_from_slice(text.as_bytes())
 }
 
@@ -54,10 +53,18 @@ fn push_page(
 ) -> Result<(), AllocError> {
     let count = cells.len() / size.max(1);
     let first = PAGE.saturating_sub(cells.len());
-    file.extend_from_slice(&[kind, 0, 0])?;
-    file.extend_from_slice(&short(count))?;
-    file.extend_from_slice(&short(first))?;
-    file.push(0)?;
+    let [count_above, count_below] = short(count);
+    let [first_above, first_below] = short(first);
+    file.extend_from_slice(&[
+        kind,
+        0,
+        0,
+        count_above,
+        count_below,
+        first_above,
+        first_below,
+        0,
+    ])?;
     file.extend_from_slice(behind)?;
     for place in 0..count {
         file.extend_from_slice(&short(first.saturating_add(place.saturating_mul(size))))?;

@@ -1,11 +1,10 @@
 //! Requests that chance has changed: the length of their body, the body, its values, or all of their bytes.
 use super::super::draw::Draw;
-use super::super::met::Met;
+use super::super::met;
 use super::edits::{changed, revalued};
 use super::limits::limit;
-use super::replies::TOLD;
 use super::sent::{ROUTES, body, good, with_body, with_length};
-use super::serving::{Beginning, before, serve};
+use super::serving::{before, serve};
 use std::alloc::{AllocError, Global};
 use std::test::Fail;
 
@@ -19,22 +18,13 @@ enum What {
     Bytes(usize),
 }
 
-// How often each request is changed.
+// How often each request is changed: at least once.
 fn times(what: What) -> usize {
     match what {
         What::Length => 32,
         What::Body | What::Values => 80,
         What::Bytes(_) => 70,
     }
-}
-
-// The body with one or two other values.
-fn with_values(alloc: Global, draw: &mut Draw, own: &[u8]) -> Result<Vec<u8>, AllocError> {
-    let body = revalued(alloc, draw, own)?;
-    if draw.below(2) == 0 {
-        return Ok(body);
-    }
-    revalued(alloc, draw, body.as_slice())
 }
 
 // The bytes with so many changes at most, and with one at least.
@@ -51,6 +41,15 @@ fn with_changes(
     Ok(bytes)
 }
 
+// The body with one or two other values.
+fn with_values(alloc: Global, draw: &mut Draw, own: &[u8]) -> Result<Vec<u8>, AllocError> {
+    let body = revalued(alloc, draw, own)?;
+    if draw.below(2) == 0 {
+        return Ok(body);
+    }
+    revalued(alloc, draw, body.as_slice())
+}
+
 // A request that is changed so.
 fn input_of(
     alloc: Global,
@@ -64,7 +63,7 @@ fn input_of(
         What::Length => with_length(alloc, request, limit(turn), own),
         What::Body => with_body(alloc, request, changed(alloc, draw, own)?.as_slice()),
         What::Values => with_body(alloc, request, with_values(alloc, draw, own)?.as_slice()),
-        What::Bytes(most) => with_changes(alloc, draw, with_body(alloc, request, own)?, most),
+        What::Bytes(most) => { with_changes(alloc, draw, with_body(alloc, request, own)?, most) }
     }
 }
 
@@ -76,31 +75,33 @@ fn has(what: What, request: &'static str) -> bool {
     }
 }
 
-// Changes a request, and counts what it is told.
+// Changes a request, and adds the word for what it is told.
 fn meet(
     alloc: Global,
-    before: &Beginning,
+    before: &str,
     draw: &mut Draw,
-    (what, turn): (What, usize),
-    met: &mut Met,
+    what: What,
+    turn: usize,
+    met: &mut Vec<&'static str>,
 ) -> Result<(), Fail> {
-    let request = good(turn.checked_div(times(what)).ok_or("no change")?);
+    let request = good(turn / times(what).max(1));
     if !has(what, request) {
         return Ok(());
     }
     let input = input_of(alloc, draw, what, request, turn)?;
-    Ok(met.count(serve(alloc, before, input.as_slice())?)?)
+    let word = serve(alloc, before, input.as_slice())?;
+    Ok(met.push(word)?)
 }
 
 // These counts are met where each request is changed so by this seed.
 fn are_met(alloc: Global, what: What, seed: u64, all: &str) -> Result<(), Fail> {
     let before = before(alloc)?;
     let mut draw = Draw::new(seed);
-    let mut met = Met::new(alloc, TOLD);
+    let mut met = Vec::new(alloc);
     for turn in 0..ROUTES.saturating_mul(times(what)) {
-        meet(alloc, &before, &mut draw, (what, turn), &mut met)?;
+        meet(alloc, before.as_str(), &mut draw, what, turn, &mut met)?;
     }
-    met.is(alloc, all)
+    met::are_met(met.as_slice(), all)
 }
 
 #[test]

@@ -59,33 +59,14 @@ fn reply_of(alloc: Global, row: &'static str, body: &str) -> Result<String, Allo
     )
 }
 
-// The body of a reply.
-fn body_of(reply: &str) -> &str {
-    match reply.split_once("\r\n\r\n") {
-        Some((_, body)) => body,
-        None => "",
-    }
-}
-
-// A row, where this reply is the one whole, and bears this status.
-fn checked(
-    row: &'static str,
-    status: &str,
-    reply: &str,
-    whole: &str,
-) -> Result<&'static str, Fail> {
-    if reply == whole && column(row, 3).starts_with(status) {
+/// The row that tells what a whole reply tells, which bears this status. Each of its bytes is as its body wants it.
+pub fn told_by(alloc: Global, status: &str, reply: &[u8]) -> Result<&'static str, Fail> {
+    let text = std::str::from_utf8(reply)?;
+    let (_, body) = text.split_once("\r\n\r\n").unwrap_or((text, ""));
+    let row = row_of(TOLD, body)?;
+    let whole = reply_of(alloc, row, body)?;
+    if whole.as_str() == text && column(row, 3).starts_with(status) {
         return Ok(row);
     }
-    Err(Fail::new(format_args!("{status}: {reply:?}, not {whole:?}")))
-}
-
-/// The row that tells what a whole reply tells, which bears this status. Each of its bytes is as its body wants it.
-pub fn told_by(alloc: Global, status: &str, reply: &str) -> Result<&'static str, Fail> {
-    let body = body_of(reply);
-    let Some(row) = row_of(TOLD, body) else {
-        return Err(Fail::from("a body that tells nothing"));
-    };
-    let whole = reply_of(alloc, row, body)?;
-    checked(row, status, reply, whole.as_str())
+    Err(Fail::new(format_args!("{status}: {text:?}, not {whole:?}")))
 }

@@ -51,7 +51,7 @@ pub fn with_length(
     let head = format!(in alloc;
         "{line} HTTP/1.1\r\ndesk-key: 0000000000000000000000000000000{last}\r\nContent-Length: {length}\r\n\r\n"
     )?;
-    let mut bytes = Vec::from_slice(alloc, head.as_bytes())?;
+    let mut bytes = head.into_bytes();
     bytes.extend_from_slice(body)?;
     Ok(bytes)
 }
