@@ -14,70 +14,64 @@ pub type Reply = Result<Answer, Refusal>;
 
 /// The command of a line's words, which may have its answer behind it. A posting that takes money is a `debit`.
 pub fn command(line: &str) -> Result<Command, Fail> {
-    let mut words = line
-        .split(" => ")
-        .next()
-        .unwrap_or_default()
-        .split_whitespace();
-    let words = [
-        words.next(),
-        words.next(),
-        words.next(),
-        words.next(),
-        words.next(),
-        words.next(),
-    ];
-    let words = match words {
-        [
-            Some("order"),
-            Some(sender),
-            Some(reference),
-            Some(receiver),
-            Some(cents),
-            None,
-        ] => return order(sender, reference, receiver, cents),
-        [Some("add"), Some(code), Some(key), None, ..] => CommandWords::Add {
-            code,
+    let said = line.split(" => ").next().unwrap_or_default();
+    let count = said.split_whitespace().count();
+    let mut words = said.split_whitespace();
+    let kind = words.next().unwrap_or_default();
+    let first = words.next().unwrap_or_default();
+    let second = words.next().unwrap_or_default();
+    let third = words.next().unwrap_or_default();
+    let fourth = words.next().unwrap_or_default();
+    if kind == "order" && count == 5 {
+        return order(first, second, third, fourth);
+    }
+    match spelt(kind, count, first, second, third) {
+        Some(words) => Ok(words.read()?),
+        None => Err(Fail::new("no command")),
+    }
+}
+
+// The words of a command of this kind, of so many words, that is no order.
+fn spelt<'a>(
+    kind: &str,
+    count: usize,
+    first: &'a str,
+    second: &'a str,
+    third: &'a str,
+) -> Option<CommandWords<'a>> {
+    match kind {
+        "add" if count == 3 => Some(CommandWords::Add {
+            code: first,
             name: "A Bank",
-            key,
-        },
-        [Some("credit"), Some(code), Some(cents), None, ..] => CommandWords::Credit { code, cents },
-        [
-            Some("post"),
-            Some(code),
-            Some(reference),
-            Some(cents),
-            None,
-            ..
-        ] => CommandWords::Post {
-            code,
-            reference,
-            cents,
-            debit: false,
-        },
-        [
-            Some("debit"),
-            Some(code),
-            Some(reference),
-            Some(cents),
-            None,
-            ..
-        ] => CommandWords::Post {
-            code,
-            reference,
-            cents,
-            debit: true,
-        },
-        [Some("withdraw"), Some(code), Some(reference), None, ..] => {
-            CommandWords::Withdraw { code, reference }
-        }
-        [Some("open"), Some(date), None, ..] => CommandWords::Open { date },
-        [Some("resolve"), None, ..] => CommandWords::Resolve,
-        [Some("cutoff"), Some(date), None, ..] => CommandWords::CutOff { date },
-        [Some("close"), Some(date), None, ..] => CommandWords::Close { date },
-        _ => return Err(Fail::new("no command")),
-    };
-    Ok(words.read()?)
+            key: second,
+        }),
+        "credit" if count == 3 => Some(CommandWords::Credit {
+            code: first,
+            cents: second,
+        }),
+        "post" | "debit" if count == 4 => Some(CommandWords::Post {
+            code: first,
+            reference: second,
+            cents: third,
+            debit: kind == "debit",
+        }),
+        "withdraw" if count == 3 => Some(CommandWords::Withdraw {
+            code: first,
+            reference: second,
+        }),
+        _ => spelt_for_a_day(kind, count, first),
+    }
+}
+
+// The words of a command about the day.
+fn spelt_for_a_day<'a>(kind: &str, count: usize, date: &'a str) -> Option<CommandWords<'a>> {
+    match kind {
+        "open" if count == 2 => Some(CommandWords::Open { date }),
+        "cutoff" if count == 2 => Some(CommandWords::CutOff { date }),
+        "close" if count == 2 => Some(CommandWords::Close { date }),
+        "resolve" if count == 1 => Some(CommandWords::Resolve),
+        _ => None,
+    }
 }
 
 // The order that these words give.
