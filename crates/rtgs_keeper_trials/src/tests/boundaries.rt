@@ -13,7 +13,7 @@ use std::mem;
 use std::test::Fail;
 
 // Whether all commands but the last were accepted, and the last was refused so.
-fn is_last_refused(replies: &[Reply], refusal: Refusal) -> bool {
+fn is_last_refused(replies: &[Reply], refusal: &Refusal) -> bool {
     let Some((last, accepted)) = replies.split_last() else {
         return false;
     };
@@ -22,7 +22,10 @@ fn is_last_refused(replies: &[Reply], refusal: Refusal) -> bool {
             return false;
         }
     }
-    *last == Err(refusal)
+    match last {
+        Ok(_) => false,
+        Err(last) => last == refusal,
+    }
 }
 
 // Gives the commands to a new desk in this store. All but the last are accepted, and the last is refused so.
@@ -30,7 +33,7 @@ fn refuse_the_last_in<S: Store>(
     alloc: Global,
     store: &mut S,
     listed: &mut Listed,
-    refusal: Refusal,
+    refusal: &Refusal,
 ) -> Result<(), Fail> {
     make(alloc, store)?;
     let ended = store.session(alloc, false, listed)?;
@@ -46,9 +49,9 @@ fn refuse_the_last_in<S: Store>(
 fn refuse_the_last(alloc: Global, commands: Vec<Command>, refusal: Refusal) -> Result<(), Fail> {
     let (mut memory, mut disks) = (InMemory::new(alloc), OnDisks::new(alloc));
     let mut listed = Listed::new(alloc, commands);
-    refuse_the_last_in(alloc, &mut memory, &mut listed, refusal)?;
+    refuse_the_last_in(alloc, &mut memory, &mut listed, &refusal)?;
     let replies = mem::replace(&mut listed.replies, Vec::new(alloc));
-    refuse_the_last_in(alloc, &mut disks, &mut listed, refusal)?;
+    refuse_the_last_in(alloc, &mut disks, &mut listed, &refusal)?;
     if replies.as_slice() != listed.replies.as_slice() {
         return Err(Fail::new("two answers"));
     }
