@@ -1,69 +1,61 @@
 //! The shortest and longest texts, the least and greatest numbers, the first and last days, and as many participants
 //! and queued orders as there may be, over both keepers.
-use super::disks::{Work, on_disks};
-use super::memory::{InMemory, failing};
-use super::store::{Store, closed, desk_again, new_desk};
-use super::two_keepers::{answer_alike, end_in_one_book};
+use super::disks::OnDisks;
+use super::listed::Listed;
+use super::memory::InMemory;
+use super::store::{Ended, Store};
+use super::two_keepers::{end_in_one_book, make};
 use rtgs_book::{Answer, Command, Refusal};
-use rtgs_desk::Desk;
 use rtgs_desk_requests::CommandWords;
-use rtgs_keeper::Keeper;
-use rtgs_tests_desks::{Trouble, command, commands, desk_over};
+use rtgs_tests_desks::{Reply, command, commands};
 use std::alloc::Global;
+use std::mem;
 use std::test::Fail;
 
-// Fails unless both desks accept each of the commands, and answer alike.
-fn accept_alike<M: Keeper, K: Keeper>(
-    alloc: Global,
-    held: &mut Desk<M>,
-    kept: &mut Desk<K>,
-    commands: &[Command],
-) -> Result<(), Fail> {
-    for command in commands {
-        match answer_alike(alloc, held, kept, *command)? {
-            Ok(Answer::Repeated(_)) => return Err(Fail::new("repeated")),
-            Ok(_) => (),
-            Err(refusal) => return Err(Fail::from(refusal)),
+// Whether all commands but the last were accepted, and the last was refused so.
+fn is_last_refused(replies: &[Reply], refusal: &Refusal) -> bool {
+    let Some((last, accepted)) = replies.split_last() else {
+        return false;
+    };
+    for reply in accepted {
+        if matches!(reply, Err(_) | Ok(Answer::Repeated(_))) {
+            return false;
         }
     }
-    Ok(())
+    match last {
+        Ok(_) => false,
+        Err(last) => last == refusal,
+    }
 }
 
-// Two new desks answer the commands alike, accept all but the last, and end with one book.
-fn refuse_the_last_over<M: Store, S: Store>(
+// Gives the commands to a new desk in this store. All but the last are accepted, and the last is refused so.
+fn refuse_the_last_in<S: Store>(
     alloc: Global,
-    memory: M,
-    commands: &[Command],
-    refusal: Refusal,
+    store: &mut S,
+    listed: &mut Listed,
+    refusal: &Refusal,
 ) -> Result<(), Fail> {
-    let (last, accepted) = commands.split_last().ok_or("no command")?;
-    let mut held = desk_over(alloc, memory)?;
-    let mut kept = desk_again::<S>(alloc, closed(new_desk::<S>(alloc)?)?)?;
-    accept_alike(alloc, &mut held, &mut kept, accepted)?;
-    if answer_alike(alloc, &mut held, &mut kept, *last)? != Err(refusal) {
-        return Err(Fail::new("another refusal"));
-    }
-    end_in_one_book::<M, S>(alloc, held.into_keeper(), closed(kept)?)
-}
-
-// Commands of which the last alone is refused, and how.
-#[derive(Clone, Copy)]
-struct Bounded<'a> {
-    commands: &'a [Command],
-    refusal: Refusal,
-}
-
-impl Work for Bounded<'_> {
-    type Seen = ();
-
-    fn done_with<S: Store>(self, alloc: Global) -> Result<(), Fail> {
-        let memory = failing(alloc, usize::MAX, Trouble::Lost);
-        refuse_the_last_over::<InMemory, S>(alloc, memory, self.commands, self.refusal)
+    make(alloc, store)?;
+    let ended = store.session(alloc, false, listed)?;
+    if ended == Ended::Closed && is_last_refused(listed.replies.as_slice(), refusal) {
+        Ok(())
+    } else {
+        Err(Fail::new("another reply"))
     }
 }
 
-fn refuse_the_last(alloc: Global, commands: &[Command], refusal: Refusal) -> Result<(), Fail> {
-    on_disks(alloc, Bounded { commands, refusal })
+// Fails unless new desks in memory and on disks answer the commands alike, accept all but the last, and end with one
+// book.
+fn refuse_the_last(alloc: Global, commands: Vec<Command>, refusal: Refusal) -> Result<(), Fail> {
+    let (mut memory, mut disks) = (InMemory::new(alloc), OnDisks::new(alloc));
+    let mut listed = Listed::new(alloc, commands);
+    refuse_the_last_in(alloc, &mut memory, &mut listed, &refusal)?;
+    let replies = mem::replace(&mut listed.replies, Vec::new(alloc));
+    refuse_the_last_in(alloc, &mut disks, &mut listed, &refusal)?;
+    if replies.as_slice() != listed.replies.as_slice() {
+        return Err(Fail::new("two answers"));
+    }
+    end_in_one_book(alloc, &mut memory, &mut disks)
 }
 
 const LOWEST_KEY: &str = "00000000000000000000000000000000";
@@ -96,7 +88,7 @@ fn texts_and_numbers_reach_their_bounds(rt: HostRuntime) -> Result<(), Fail> {
     all.push(adds("ABC", "A", LOWEST_KEY)?)?;
     all.push(adds("Z9999999", LONGEST_NAME, HIGHEST_KEY)?)?;
     all.extend_from_slice(commands(rt.alloc(), NUMBERS_AT_THEIR_BOUNDS)?.as_slice())?;
-    refuse_the_last(rt.alloc(), all.as_slice(), Refusal::TotalTooLarge)
+    refuse_the_last(rt.alloc(), all, Refusal::TotalTooLarge)
 }
 
 const DAYS_AT_THEIR_BOUNDS: &str = "\
@@ -117,7 +109,7 @@ open 2999-12-31";
 #[test]
 fn days_reach_their_bounds(rt: HostRuntime) -> Result<(), Fail> {
     let days = commands(rt.alloc(), DAYS_AT_THEIR_BOUNDS)?;
-    refuse_the_last(rt.alloc(), days.as_slice(), Refusal::WrongDate)
+    refuse_the_last(rt.alloc(), days, Refusal::WrongDate)
 }
 
 // Adds a participant of this number.
@@ -131,7 +123,7 @@ fn there_are_a_hundred_participants(rt: HostRuntime) -> Result<(), Fail> {
     for number in 0..=100 {
         all.push(adds_numbered(rt.alloc(), number)?)?;
     }
-    refuse_the_last(rt.alloc(), all.as_slice(), Refusal::TooManyParticipants)
+    refuse_the_last(rt.alloc(), all, Refusal::TooManyParticipants)
 }
 
 // BANK1's order of this number, which nothing covers.
@@ -150,5 +142,5 @@ fn five_hundred_orders_of_one_sender_wait(rt: HostRuntime) -> Result<(), Fail> {
     for number in 1..=501 {
         all.push(uncovered(rt.alloc(), number)?)?;
     }
-    refuse_the_last(rt.alloc(), all.as_slice(), Refusal::QueueFull)
+    refuse_the_last(rt.alloc(), all, Refusal::QueueFull)
 }

@@ -2,175 +2,141 @@
 //! calls on and fails each later one.
 ghost use Rattle.std.specs.Prelude.{◌≡◌, false};
 
-use super::store::{Failing, Store};
+use super::store::{Booked, Ended, Failing, Job, Store};
 use rtgs_book::{Book, Fault};
 use rtgs_stored_desk::create;
 use rtgs_tables::SqlKeeper;
-use rtgs_tests_desks::PlainKeeper;
-use sqlite::{Alter, Connection, Error, ErrorCode, FileStore, Files, Options};
+use sqlite::{Alter, Connection, Error, ErrorCode, Files, Options};
 use sqlite_disk::{Crash, Disk, Fuse, Memory};
 use std::alloc::Global;
+use std::mem;
 use std::test::Fail;
 
-/// A disk that is made to fail. A proof over a disk by name takes in all that the disk does, so this trait alone has
-/// its name.
-pub trait TestDisk: Crash + Drop + Sized {
-    /// A new one, which does not fail.
-    fn blank(alloc: Global) -> Self;
+type Disks = Files<Fuse<Memory>>;
 
-    /// A new one with the same bytes, which are synced. It passes so many calls on.
-    fn passing(self, alloc: Global, calls: u64) -> Result<Self, Fail>;
+/// The two disks, while no database is open over them.
+#[derive(Drop)]
+pub struct OnDisks {
+    disks: Disks,
 }
 
-impl TestDisk for Fuse<Memory> {
-    fn blank(alloc: Global) -> Fuse<Memory> {
-        Fuse::new(Memory::new(alloc), u64::MAX)
-    }
-
-    fn passing(self, alloc: Global, calls: u64) -> Result<Fuse<Memory>, Fail> {
-        let mut memory = Memory::new(alloc);
-        memory.write_at(0, self.inner().bytes())?;
-        memory.sync()?;
-        Ok(Fuse::new(memory, calls))
+// Two new disks, which do not fail.
+fn blank(alloc: Global) -> Disks {
+    Files {
+        log: Fuse::new(Memory::new(alloc), u64::MAX),
+        db: Fuse::new(Memory::new(alloc), u64::MAX),
     }
 }
 
-/// The keeper over the tables on two disks of a kind.
-pub type OnDisks<D> = PlainKeeper<SqlKeeper<FileStore<D>>>;
+// A new disk with the same bytes, which are synced. It passes so many calls on.
+fn passing(alloc: Global, disk: &Fuse<Memory>, calls: u64) -> Result<Fuse<Memory>, Fail> {
+    let mut memory = Memory::new(alloc);
+    memory.write_at(0, disk.inner().bytes())?;
+    memory.sync()?;
+    Ok(Fuse::new(memory, calls))
+}
 
-// The keeper over a database, in which the tables of a new desk are made where they are to be made. Where the store
-// fails, it comes back.
-fn kept<S: Alter + Drop>(
+impl<S: Alter + Drop> Booked for SqlKeeper<S> {
+    fn book(&mut self, alloc: Global) -> Result<Book, Fault> {
+        self.load(alloc)
+    }
+}
+
+// Does the job with the keeper over a database, in which the tables of a new desk are made where they are to be made.
+// The database comes back.
+fn worked<S: Alter + Drop, J: Job>(
     alloc: Global,
     conn: Connection<S>,
     is_new: bool,
-) -> Result<Result<PlainKeeper<SqlKeeper<S>>, S>, Fail>
+    job: &mut J,
+) -> Result<(Connection<S>, Ended), Fail>
     requires { conn.in_transaction ≡ false }
 {
     let keeper = if is_new {
         match create(alloc, conn) {
             Ok(desk) => desk.into_keeper(),
-            Err((Fault::StoreFault, conn)) => return Ok(Err(conn.into_store())),
+            Err((Fault::StoreFault, conn)) => return Ok((conn, Ended::Unopened)),
             Err((fault, _)) => return Err(Fail::from(fault)),
         }
     } else {
         SqlKeeper::open(conn)
     };
-    Ok(Ok(PlainKeeper { kept: keeper }))
+    let conn = job.done(alloc, keeper)?.into_connection();
+    if job.closes() {
+        Ok((conn, Ended::Closed))
+    } else {
+        Ok((conn, Ended::Stopped))
+    }
 }
 
 // The disks, where one of them failed, and for no other reason.
-fn left_by<T, L: Drop>(error: Error, left: L) -> Result<Result<T, L>, Fail> {
+fn left_by(error: Error, disks: Disks, ended: Ended) -> Result<(Disks, Ended), Fail> {
     if error == Error::SqliteFailure(ErrorCode::SystemIoFailure) {
-        Ok(Err(left))
+        Ok((disks, ended))
     } else {
         Err(Fail::from(error))
     }
 }
 
-// Calls of the keeper and of its connection stand alone, for any store, so that what they say of it is read nowhere
-// else.
-fn connection_of<S: Alter + Drop>(keeper: PlainKeeper<SqlKeeper<S>>) -> Connection<S> {
-    keeper.kept.into_connection()
+// Does the job with a database over the disks. Only here stands the type of that database.
+fn used<J: Job>(
+    alloc: Global,
+    disks: Disks,
+    is_new: bool,
+    job: &mut J,
+) -> Result<(Disks, Ended), Fail> {
+    if !disks.log.may_be_used() || !disks.db.may_be_used() {
+        return Err(Fail::new("a disk that may not be used"));
+    }
+    let conn = match Connection::open_files(alloc, disks, Options::new(1)) {
+        Ok(conn) => conn,
+        Err((error, left)) => return left_by(error, left.into_files(), Ended::Unopened),
+    };
+    let (conn, ended) = worked(alloc, conn, is_new, job)?;
+    if ended != Ended::Closed {
+        return Ok((conn.into_store().close(), ended));
+    }
+    match conn.close_files() {
+        Ok(disks) => Ok((disks, Ended::Closed)),
+        Err((error, store)) => left_by(error, store.close(), Ended::Unclosed),
+    }
 }
 
-fn store_of<S: Alter + Drop>(conn: Connection<S>) -> S {
-    conn.into_store()
-}
-
-fn book_of<S: Alter + Drop>(keeper: &mut SqlKeeper<S>, alloc: Global) -> Result<Book, Fault> {
-    keeper.load(alloc)
-}
-
-fn closed_files<D: Disk + Drop>(
-    conn: Connection<FileStore<D>>,
-) -> Result<Files<D>, (Error, FileStore<D>)> {
-    conn.close_files()
-}
-
-impl<D: TestDisk> Store for OnDisks<D> {
-    type Left = Files<D>;
-
-    fn blank(alloc: Global) -> Files<D> {
-        Files {
-            log: D::blank(alloc),
-            db: D::blank(alloc),
+impl OnDisks {
+    /// Blank.
+    pub fn new(alloc: Global) -> OnDisks {
+        OnDisks {
+            disks: blank(alloc),
         }
     }
+}
 
-    fn failing(
-        alloc: Global,
-        left: Files<D>,
-        failing: Failing,
-        calls: usize,
-    ) -> Result<Files<D>, Fail> {
+impl Store for OnDisks {
+    fn clear(&mut self, alloc: Global) {
+        self.disks = blank(alloc);
+    }
+
+    fn fail(&mut self, alloc: Global, failing: Failing, calls: usize) -> Result<(), Fail> {
         let calls = calls as u64;
         let (log, db) = match failing {
             Failing::Log => (calls, u64::MAX),
             Failing::Database => (u64::MAX, calls),
             Failing::Keeper(_) => return Err(Fail::new("no keeper that fails")),
         };
-        Ok(Files {
-            log: left.log.passing(alloc, log)?,
-            db: left.db.passing(alloc, db)?,
-        })
+        self.disks.log = passing(alloc, &self.disks.log, log)?;
+        self.disks.db = passing(alloc, &self.disks.db, db)?;
+        Ok(())
     }
 
-    fn opened(
-        alloc: Global,
-        left: Files<D>,
-        is_new: bool,
-    ) -> Result<Result<OnDisks<D>, Files<D>>, Fail> {
-        if !left.log.may_be_used() || !left.db.may_be_used() {
-            return Err(Fail::new("a disk that may not be used"));
-        }
-        let conn = match Connection::open_files(alloc, left, Options::new(1)) {
-            Ok(conn) => conn,
-            Err((error, left)) => return left_by(error, left.into_files()),
-        };
-        match kept(alloc, conn, is_new)? {
-            Ok(keeper) => Ok(Ok(keeper)),
-            Err(store) => Ok(Err(store.close())),
-        }
+    fn session<J: Job>(&mut self, alloc: Global, is_new: bool, job: &mut J) -> Result<Ended, Fail> {
+        let disks = mem::replace(&mut self.disks, blank(alloc));
+        let (disks, ended) = used(alloc, disks, is_new, job)?;
+        self.disks = disks;
+        Ok(ended)
     }
 
-    fn closed(self) -> Result<Result<Files<D>, Files<D>>, Fail> {
-        match closed_files(connection_of(self)) {
-            Ok(disks) => Ok(Ok(disks)),
-            Err((error, store)) => left_by(error, store.close()),
-        }
+    fn crash(&mut self) {
+        self.disks.log.crash();
+        self.disks.db.crash();
     }
-
-    fn stopped(self) -> Files<D> {
-        store_of(connection_of(self)).close()
-    }
-
-    fn crashed(left: Files<D>) -> Files<D> {
-        let mut disks = left;
-        disks.log.crash();
-        disks.db.crash();
-        disks
-    }
-
-    fn book(&mut self, alloc: Global) -> Result<Book, Fault> {
-        book_of(&mut self.kept, alloc)
-    }
-}
-
-/// What is done with a store, and what is seen then.
-pub trait Work {
-    type Seen;
-
-    /// Does it with a store of this kind.
-    fn done_with<S: Store>(self, alloc: Global) -> Result<Self::Seen, Fail>;
-}
-
-// Does this with the tables on disks of a kind.
-fn on<D: TestDisk, W: Work>(alloc: Global, work: W) -> Result<W::Seen, Fail> {
-    work.done_with::<OnDisks<D>>(alloc)
-}
-
-/// Does this with the tables on disks in memory. Only this function names those disks, and none names a store on them.
-pub fn on_disks<W: Work>(alloc: Global, work: W) -> Result<W::Seen, Fail> {
-    on::<Fuse<Memory>, W>(alloc, work)
 }

@@ -1,13 +1,13 @@
 //! A batch whose store fails, and its result files before and after the desk is opened again.
-use super::memory::InMemory;
-use super::store::{Failing, Store, desk_again};
+use super::memory::failing;
 use super::trial::{begun, orders};
 use rtgs_batches::submit_batch;
 use rtgs_desk::Desk;
 use rtgs_keeper::Keeper;
+use rtgs_memory_keeper::MemoryKeeper;
 use rtgs_money::Code;
 use rtgs_order_files::write_results;
-use rtgs_tests_desks::Trouble;
+use rtgs_tests_desks::{FailingKeeper, Trouble, desk_over};
 use std::alloc::Global;
 use std::test::Fail;
 
@@ -42,14 +42,12 @@ const STOPPED_LATER: &str =
 const SENT_AGAIN: &str =
     "reference,result,number,detail\nA-1,repeated,1,settled\nA-2,repeated,2,settled\nA-3,queued,3,1\n";
 
-// A desk over a new keeper that fails after so many orders, at this call of the next one.
-fn failing_at<S: Store>(alloc: Global, orders: usize, call: usize) -> Result<Desk<S>, Fail> {
+// A keeper of a new book that fails after so many orders, at this call of the next one.
+fn failing_at(alloc: Global, orders: usize, call: usize) -> FailingKeeper<MemoryKeeper> {
     let calls = orders
         .saturating_mul(CALLS.len())
         .saturating_add(BEFORE_THE_ORDERS);
-    let lost = Failing::Keeper(Trouble::Lost);
-    let left = S::failing(alloc, S::blank(alloc), lost, calls.saturating_add(call))?;
-    begun::<S>(alloc, left, BEFORE)
+    failing(alloc, calls.saturating_add(call), Trouble::Lost)
 }
 
 // Sends the rows in a batch, and fails unless this is their result file.
@@ -65,43 +63,43 @@ fn results_in<K: Keeper>(alloc: Global, desk: &mut Desk<K>, told: &str) -> Resul
     }
 }
 
-// Sends the rows as often as there are result files of them, where the store fails at this call of the second row.
-fn stops<S: Store>(alloc: Global, call: usize, told: &[&str]) -> Result<(), Fail> {
-    let mut desk = failing_at::<S>(alloc, 1, call)?;
+// Sends the rows as often as there are result files of them, to a desk over this keeper of a new book.
+fn sent_over<K: Keeper + Drop>(alloc: Global, keeper: K, told: &[&str]) -> Result<K, Fail> {
+    let mut desk = begun(alloc, keeper, BEFORE)?;
     for told in told {
         results_in(alloc, &mut desk, told)?;
+    }
+    Ok(desk.into_keeper())
+}
+
+// Fails unless these result files come of the rows, where the store fails at each call of the second row.
+fn stop(alloc: Global, told: &[&str]) -> Result<(), Fail> {
+    for call in CALLS {
+        sent_over(alloc, failing_at(alloc, 1, call), told)?;
     }
     Ok(())
 }
 
 #[test]
 fn a_batch_stops_where_the_store_fails(rt: HostRuntime) -> Result<(), Fail> {
-    for call in CALLS {
-        stops::<InMemory>(rt.alloc(), call, &[STOPPED, FAILED])?;
-    }
-    Ok(())
+    stop(rt.alloc(), &[STOPPED, FAILED])
 }
 
 // Sends the rows where the store fails at this call of the third, and again after a restart.
-fn is_sent_again<S: Store>(alloc: Global, call: usize) -> Result<(), Fail> {
-    let mut desk = failing_at::<S>(alloc, 2, call)?;
-    results_in(alloc, &mut desk, STOPPED_LATER)?;
-    let mut desk = desk_again::<S>(alloc, S::crashed(desk.into_keeper().stopped()))?;
-    results_in(alloc, &mut desk, SENT_AGAIN)
+fn is_sent_again(alloc: Global, call: usize) -> Result<(), Fail> {
+    let failed = sent_over(alloc, failing_at(alloc, 2, call), &[STOPPED_LATER])?;
+    results_in(alloc, &mut desk_over(alloc, failed.kept)?, SENT_AGAIN)
 }
 
 #[test]
 fn a_stopped_batch_is_sent_again_after_a_restart(rt: HostRuntime) -> Result<(), Fail> {
     for call in CALLS {
-        is_sent_again::<InMemory>(rt.alloc(), call)?;
+        is_sent_again(rt.alloc(), call)?;
     }
     Ok(())
 }
 
 #[test]
 fn no_line_follows_a_stop(rt: HostRuntime) -> Result<(), Fail> {
-    for call in CALLS {
-        stops::<InMemory>(rt.alloc(), call, &[STOPPED])?;
-    }
-    Ok(())
+    stop(rt.alloc(), &[STOPPED])
 }

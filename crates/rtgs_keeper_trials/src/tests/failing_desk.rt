@@ -1,6 +1,8 @@
 //! A desk over a keeper that fails, and opened again over what it kept.
-use super::memory::failing;
-use rtgs_book::{Command, Fault};
+use super::listed::Listed;
+use super::memory::{InMemory, failing};
+use super::store::{Failing, Store};
+use rtgs_book::Fault;
 use rtgs_desk::Desk;
 use rtgs_keeper::Keeper;
 use rtgs_tests_desks::{Reply, Trouble, commands, desk_over, follows, is_told};
@@ -18,16 +20,6 @@ add ALFA 0000000000000000000000000000000a => Ok(Added)
 post ALFA P-1 100 => Err(StoreFault)
 add ALFA 0000000000000000000000000000000a => Err(Failed)";
 
-// The replies of a desk over this keeper to a list of commands.
-fn replies_over<K: Keeper + Drop>(
-    alloc: Global,
-    keeper: K,
-    commands: &[Command],
-) -> Result<Vec<Reply>, Fail> {
-    let mut desk = desk_over(alloc, keeper)?;
-    Ok(desk.run(commands)?)
-}
-
 // Fails unless the replies are those that the script tells.
 fn are_told(alloc: Global, replies: &[Reply], script: &str) -> Result<(), Fail> {
     let mut are_told = replies.len() == script.lines().count();
@@ -43,10 +35,11 @@ fn are_told(alloc: Global, replies: &[Reply], script: &str) -> Result<(), Fail> 
 
 #[test]
 fn a_fault_of_the_store_fails_the_rest_of_a_list(rt: HostRuntime) -> Result<(), Fail> {
-    let commands = commands(rt.alloc(), FAILS)?;
-    let keeper = failing(rt.alloc(), COMMIT, Trouble::Kept);
-    let replies = replies_over(rt.alloc(), keeper, commands.as_slice())?;
-    are_told(rt.alloc(), replies.as_slice(), FAILS)
+    let mut store = InMemory::new(rt.alloc());
+    store.fail(rt.alloc(), Failing::Keeper(Trouble::Kept), COMMIT)?;
+    let mut listed = Listed::new(rt.alloc(), commands(rt.alloc(), FAILS)?);
+    store.session(rt.alloc(), true, &mut listed)?;
+    are_told(rt.alloc(), listed.replies.as_slice(), FAILS)
 }
 
 // The keeper of a desk whose commands are answered as the script tells.

@@ -1,47 +1,23 @@
 //! Commands that meet a failure at each call of their store in turn: on the log, on the database file, at the keeper,
 //! before the call is passed on or after. Just the books are found that may be.
-use super::disks::{Work, on_disks};
+use super::disks::OnDisks;
 use super::memory::InMemory;
-use super::runs::{failures, stop_behind_each};
-use super::store::{Failing, Store};
+use super::runs::{books, failures_of_two};
+use super::store::Failing;
 use super::trial::Trial;
 use rtgs_tests_desks::Trouble;
 use std::alloc::Global;
 use std::test::Fail;
 
-/// Commands at each failure of a disk: in how many runs they met one of the log and one of the database file.
-#[derive(Clone, Copy)]
-struct OfTheDisks<'a> {
-    trial: &'a Trial,
-}
-
-impl Work for OfTheDisks<'_> {
-    type Seen = (usize, usize);
-
-    fn done_with<S: Store>(self, alloc: Global) -> Result<(usize, usize), Fail> {
-        let books = self.trial.books::<InMemory>(alloc)?;
-        stop_behind_each::<S>(alloc, self.trial, books.as_slice())?;
-        let log = failures::<S>(alloc, self.trial, books.as_slice(), Failing::Log)?;
-        let db = failures::<S>(alloc, self.trial, books.as_slice(), Failing::Database)?;
-        Ok((log, db))
-    }
-}
-
 /// Tries the commands with each failure of the keeper, before a call is passed on and after.
-fn each_of_the_keeper<S: Store>(alloc: Global, trial: &Trial) -> Result<usize, Fail> {
-    let books = trial.books::<S>(alloc)?;
-    let lost = failures::<S>(
-        alloc,
-        trial,
-        books.as_slice(),
+fn each_of_the_keeper(alloc: Global, trial: &Trial) -> Result<usize, Fail> {
+    let books = books(alloc, trial)?;
+    let two = (
         Failing::Keeper(Trouble::Lost),
-    )?;
-    let kept = failures::<S>(
-        alloc,
-        trial,
-        books.as_slice(),
         Failing::Keeper(Trouble::Kept),
-    )?;
+    );
+    let mut store = InMemory::new(alloc);
+    let (lost, kept) = failures_of_two(alloc, &mut store, trial, books.as_slice(), two)?;
     if lost == kept {
         Ok(lost)
     } else {
@@ -49,12 +25,21 @@ fn each_of_the_keeper<S: Store>(alloc: Global, trial: &Trial) -> Result<usize, F
     }
 }
 
-/// Tries the commands with each failure, and says how many there were.
-fn each_is_met(rt: &HostRuntime, name: &str, trial: &Trial) -> Result<(), Fail> {
-    let keeper = each_of_the_keeper::<InMemory>(rt.alloc(), trial)?;
-    let (log, db) = on_disks(rt.alloc(), OfTheDisks { trial })?;
-    rt.println(format_args!("{name}: log {log}, database {db}, keeper {keeper}"))?;
-    Ok(())
+/// Tries the commands with each failure of a disk: in how many runs they met one of the log and one of the database
+/// file.
+fn each_of_the_disks(alloc: Global, trial: &Trial) -> Result<(usize, usize), Fail> {
+    let books = books(alloc, trial)?;
+    let two = (Failing::Log, Failing::Database);
+    let mut store = OnDisks::new(alloc);
+    failures_of_two(alloc, &mut store, trial, books.as_slice(), two)
+}
+
+/// Tries the commands with each failure: in how many runs they met one of the log, of the database file, and of the
+/// keeper.
+fn all_met(alloc: Global, trial: &Trial) -> Result<[usize; 3], Fail> {
+    let keeper = each_of_the_keeper(alloc, trial)?;
+    let (log, db) = each_of_the_disks(alloc, trial)?;
+    Ok([log, db, keeper])
 }
 
 /// Orders of which two can settle together: ALFA has 10, and each of the three waits.
@@ -79,7 +64,8 @@ const RESOLUTION: Trial = Trial {
 
 #[test]
 fn a_resolution_is_found_whole_or_not_at_all(rt: HostRuntime) -> Result<(), Fail> {
-    each_is_met(&rt, "resolution", &RESOLUTION)
+    assert_eq!(rt; all_met(rt.alloc(), &RESOLUTION)?, [48, 45, 2]);
+    Ok(())
 }
 
 const BATCH: Trial = Trial {
@@ -101,7 +87,8 @@ order ALFA A-3 BETA 25 => Ok(Queued { number: 3, place: 1 }) => Ok(Repeated(Orde
 
 #[test]
 fn a_batch_is_found_up_to_a_row(rt: HostRuntime) -> Result<(), Fail> {
-    each_is_met(&rt, "batch", &BATCH)
+    assert_eq!(rt; all_met(rt.alloc(), &BATCH)?, [61, 46, 7]);
+    Ok(())
 }
 
 const CLOSE: Trial = Trial {
@@ -120,7 +107,8 @@ cutoff 2024-03-04 => Ok(CutOffDone)",
 
 #[test]
 fn a_close_rejects_all_or_nothing(rt: HostRuntime) -> Result<(), Fail> {
-    each_is_met(&rt, "close", &CLOSE)
+    assert_eq!(rt; all_met(rt.alloc(), &CLOSE)?, [46, 44, 2]);
+    Ok(())
 }
 
 const NEW_ORDER: Trial = Trial {
@@ -138,7 +126,8 @@ order ALFA A-1 BETA 100 => Ok(Settled { number: 1, mark: 1 }) => Ok(Repeated(Ord
 
 #[test]
 fn a_new_order_is_found_or_not(rt: HostRuntime) -> Result<(), Fail> {
-    each_is_met(&rt, "new order", &NEW_ORDER)
+    assert_eq!(rt; all_met(rt.alloc(), &NEW_ORDER)?, [50, 46, 3]);
+    Ok(())
 }
 
 const ORDER_THAT_WAITS: Trial = Trial {
@@ -156,8 +145,7 @@ order ALFA A-1 BETA 101 => Ok(Queued { number: 1, place: 1 }) => Ok(Repeated(Ord
 
 #[test]
 fn an_order_that_waits_is_found_or_not(rt: HostRuntime) -> Result<(), Fail> {
-    let calls = each_of_the_keeper::<InMemory>(rt.alloc(), &ORDER_THAT_WAITS)?;
-    rt.println(format_args!("waiting order: {calls} at the keeper"))?;
+    assert_eq!(rt; each_of_the_keeper(rt.alloc(), &ORDER_THAT_WAITS)?, 3);
     Ok(())
 }
 
@@ -178,7 +166,8 @@ Ok(Repeated(Order { number: 1, state: Settled(1) }))",
 
 #[test]
 fn an_order_that_comes_again_changes_nothing(rt: HostRuntime) -> Result<(), Fail> {
-    each_is_met(&rt, "repeated order", &REPEATED_ORDER)
+    assert_eq!(rt; all_met(rt.alloc(), &REPEATED_ORDER)?, [29, 40, 2]);
+    Ok(())
 }
 
 const OPENING: Trial = Trial {
@@ -199,6 +188,7 @@ const OPENING_AFTER_A_CRASH: Trial = Trial {
 
 #[test]
 fn an_opening_leaves_the_book(rt: HostRuntime) -> Result<(), Fail> {
-    each_is_met(&rt, "opening", &OPENING)?;
-    each_is_met(&rt, "opening after a crash", &OPENING_AFTER_A_CRASH)
+    assert_eq!(rt; all_met(rt.alloc(), &OPENING)?, [29, 40, 1]);
+    assert_eq!(rt; all_met(rt.alloc(), &OPENING_AFTER_A_CRASH)?, [207, 20, 1]);
+    Ok(())
 }

@@ -1,10 +1,11 @@
 //! Commands whose look-up meets trouble, and what is found then.
-use super::found::are_same_books;
 use super::memory::InMemory;
-use super::store::{Failing, Store, desk_again, keeper_on};
-use super::trial::{begun, is_silent};
+use super::runs::{begin, found_in, progress_in};
+use super::store::{Failing, Store};
+use super::trial::{Progress, Trial, kept_after};
 use rtgs_book::Refusal;
-use rtgs_tests_desks::{Trouble, command, desk_over, follows};
+use rtgs_keeper::Keeper;
+use rtgs_tests_desks::{FailingKeeper, Trouble, command, desk_over, follows};
 use std::alloc::Global;
 use std::test::Fail;
 
@@ -30,48 +31,59 @@ order ALFA A-2 BETA 90 => Ok(Repeated(Order { number: 2, state: Queued }))
 withdraw ALFA A-2 => Ok(Withdrawn { number: 2 })
 withdraw ALFA A-3 => Err(UnknownOrder)";
 
+// One of the commands, after those before.
+fn trial_of(line: &'static str) -> Trial {
+    Trial {
+        before: COMMANDS,
+        rows: line,
+        is_batch: false,
+        standings: "",
+        is_closed: true,
+    }
+}
+
 /// Fails unless a fault of the store at the look-up of a command leaves the book as it was, and the command acts once
 /// the desk is opened again. Until then the desk answers nothing.
-fn acts_after_a_restart<S: Store>(alloc: Global, line: &str, trouble: Trouble) -> Result<(), Fail> {
-    let mut keeper = prepared::<S>(alloc)?;
-    let before = keeper.book(alloc)?;
-    let left = S::failing(alloc, keeper.stopped(), Failing::Keeper(trouble), BEFORE)?;
-    let mut found = keeper_on::<S>(alloc, after_a_fault::<S>(alloc, left, line)?, false)?;
-    if !are_same_books(&found.book(alloc)?, &before) {
-        return Err(Fail::new("another book"));
+fn acts_after_a_restart<S: Store>(
+    alloc: Global,
+    store: &mut S,
+    trial: &Trial,
+    failing: Failing,
+) -> Result<(), Fail> {
+    begin(alloc, store, trial)?;
+    let before = found_in(alloc, store, trial, 0, 0)?;
+    store.fail(alloc, failing, BEFORE)?;
+    let progress = progress_in(alloc, store, trial, 1, true)?;
+    store.crash();
+    let is_kept = found_in(alloc, store, trial, 0, 0)?.is_like(&before);
+    found_in(alloc, store, trial, 0, 1)?;
+    if progress == Progress::Failed(0) && is_kept {
+        Ok(())
+    } else {
+        Err(Fail::new("no fault of the store, or another book"))
     }
-    follows(alloc, &mut desk_over(alloc, found)?, line)
-}
-
-// The keeper of a desk with three banks, after the commands.
-fn prepared<S: Store>(alloc: Global) -> Result<S, Fail> {
-    Ok(begun::<S>(alloc, S::blank(alloc), COMMANDS)?.into_keeper())
-}
-
-// What a stop leaves of a desk that met a fault of the store at this command, and then answered nothing.
-fn after_a_fault<S: Store>(alloc: Global, left: S::Left, line: &str) -> Result<S::Left, Fail> {
-    let mut desk = desk_again::<S>(alloc, left)?;
-    if desk.submit(command(line)?) != Err(Refusal::StoreFault) {
-        return Err(Fail::new("no fault of the store"));
-    }
-    is_silent(&mut desk)?;
-    Ok(S::crashed(desk.into_keeper().stopped()))
 }
 
 #[test]
 fn a_look_up_that_fails_leaves_the_book(rt: HostRuntime) -> Result<(), Fail> {
     for line in ROWS.lines() {
-        acts_after_a_restart::<InMemory>(rt.alloc(), line, Trouble::Lost)?;
-        acts_after_a_restart::<InMemory>(rt.alloc(), line, Trouble::Kept)?;
+        for trouble in [Trouble::Lost, Trouble::Kept] {
+            let mut store = InMemory::new(rt.alloc());
+            let failing = Failing::Keeper(trouble);
+            acts_after_a_restart(rt.alloc(), &mut store, &trial_of(line), failing)?;
+        }
     }
     Ok(())
 }
 
-/// Fails unless a look-up that lacks memory leaves the desk as it was, so that the command acts when it comes again.
-fn acts_when_sent_again<S: Store>(alloc: Global, line: &str) -> Result<(), Fail> {
-    let no_memory = Failing::Keeper(Trouble::OutOfMemory);
-    let left = S::failing(alloc, prepared::<S>(alloc)?.stopped(), no_memory, BEFORE)?;
-    let mut desk = desk_again::<S>(alloc, left)?;
+// Fails unless a look-up over this keeper lacks memory and leaves the desk as it was, so that the command acts when it
+// comes again.
+fn acts_when_sent_again<K: Keeper + Drop>(
+    alloc: Global,
+    keeper: K,
+    line: &str,
+) -> Result<(), Fail> {
+    let mut desk = desk_over(alloc, keeper)?;
     if desk.submit(command(line)?) != Err(Refusal::OutOfMemory) || desk.failed() {
         return Err(Fail::new("memory was not refused"));
     }
@@ -81,7 +93,9 @@ fn acts_when_sent_again<S: Store>(alloc: Global, line: &str) -> Result<(), Fail>
 #[test]
 fn a_look_up_without_memory_is_made_again(rt: HostRuntime) -> Result<(), Fail> {
     for line in ROWS.lines() {
-        acts_when_sent_again::<InMemory>(rt.alloc(), line)?;
+        let keeper = kept_after(rt.alloc(), COMMANDS)?;
+        let keeper = FailingKeeper::new(keeper, BEFORE, Trouble::OutOfMemory);
+        acts_when_sent_again(rt.alloc(), keeper, line)?;
     }
     Ok(())
 }

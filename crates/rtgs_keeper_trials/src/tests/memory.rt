@@ -1,70 +1,73 @@
 //! A keeper in memory as a store, which may meet trouble at one of its calls.
-use super::store::{Failing, Store};
+use super::store::{Booked, Ended, Failing, Job, Store};
 use rtgs_book::{Book, Fault};
 use rtgs_memory_keeper::MemoryKeeper;
 use rtgs_tests_desks::{FailingKeeper, Trouble};
 use std::alloc::Global;
+use std::mem;
 use std::test::Fail;
 
-/// The keeper in memory, behind one that may meet trouble.
-pub type InMemory = FailingKeeper<MemoryKeeper>;
-
 /// A keeper of a new book, which meets this trouble after so many calls.
-pub fn failing(alloc: Global, calls: usize, trouble: Trouble) -> InMemory {
+pub fn failing(alloc: Global, calls: usize, trouble: Trouble) -> FailingKeeper<MemoryKeeper> {
     FailingKeeper::new(MemoryKeeper::new(alloc), calls, trouble)
 }
 
-/// A keeper that is not open, and the trouble that it meets after so many calls.
+/// A keeper while no desk is open over it, and the trouble that it meets after so many calls.
 #[derive(Drop)]
-pub struct Kept {
+pub struct InMemory {
     kept: MemoryKeeper,
     calls: usize,
     trouble: Trouble,
 }
 
-impl Store for InMemory {
-    type Left = Kept;
-
-    fn blank(alloc: Global) -> Kept {
-        Kept {
+impl InMemory {
+    /// A keeper of a new book.
+    pub fn new(alloc: Global) -> InMemory {
+        InMemory {
             kept: MemoryKeeper::new(alloc),
             calls: usize::MAX,
             trouble: Trouble::Lost,
         }
     }
+}
 
-    fn failing(_alloc: Global, left: Kept, failing: Failing, calls: usize) -> Result<Kept, Fail> {
-        match failing {
-            Failing::Keeper(trouble) => Ok(Kept {
-                kept: left.kept,
-                calls,
-                trouble,
-            }),
-            Failing::Log | Failing::Database => Err(Fail::new("no disk")),
-        }
-    }
-
-    fn opened(_alloc: Global, left: Kept, _is_new: bool) -> Result<Result<InMemory, Kept>, Fail> {
-        Ok(Ok(FailingKeeper::new(left.kept, left.calls, left.trouble)))
-    }
-
-    fn closed(self) -> Result<Result<Kept, Kept>, Fail> {
-        Ok(Ok(self.stopped()))
-    }
-
-    fn stopped(self) -> Kept {
-        Kept {
-            kept: self.kept,
-            calls: usize::MAX,
-            trouble: Trouble::Lost,
-        }
-    }
-
-    fn crashed(left: Kept) -> Kept {
-        left
-    }
-
+impl Booked for FailingKeeper<MemoryKeeper> {
     fn book(&mut self, alloc: Global) -> Result<Book, Fault> {
         self.kept.load(alloc)
     }
+}
+
+impl Store for InMemory {
+    fn clear(&mut self, alloc: Global) {
+        self.kept = MemoryKeeper::new(alloc);
+        self.calls = usize::MAX;
+    }
+
+    fn fail(&mut self, _alloc: Global, failing: Failing, calls: usize) -> Result<(), Fail> {
+        let Failing::Keeper(trouble) = failing else {
+            return Err(Fail::new("no disk"));
+        };
+        self.trouble = trouble;
+        self.calls = calls;
+        Ok(())
+    }
+
+    fn session<J: Job>(
+        &mut self,
+        alloc: Global,
+        _is_new: bool,
+        job: &mut J,
+    ) -> Result<Ended, Fail> {
+        let kept = mem::replace(&mut self.kept, MemoryKeeper::new(alloc));
+        let keeper = FailingKeeper::new(kept, self.calls, self.trouble);
+        self.kept = job.done(alloc, keeper)?.kept;
+        self.calls = usize::MAX;
+        if job.closes() {
+            Ok(Ended::Closed)
+        } else {
+            Ok(Ended::Stopped)
+        }
+    }
+
+    fn crash(&mut self) {}
 }

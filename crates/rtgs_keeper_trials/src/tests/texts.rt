@@ -1,13 +1,12 @@
 //! A statement and a day report whose reads meet trouble, each in turn: what was written is a beginning of the text.
-use super::memory::InMemory;
-use super::store::{Failing, Store, desk_again};
-use super::trial::{begun, is_silent};
+use super::trial::{is_silent, kept_after};
 use rtgs_book::Refusal;
 use rtgs_desk::Desk;
 use rtgs_keeper::Keeper;
+use rtgs_memory_keeper::MemoryKeeper;
 use rtgs_money::{BusinessDate, Code};
 use rtgs_statements::{BookTextFault, write_report, write_statement};
-use rtgs_tests_desks::Trouble;
+use rtgs_tests_desks::{FailingKeeper, Trouble, desk_over};
 use std::alloc::Global;
 use std::test::Fail;
 
@@ -54,67 +53,71 @@ fn write<K: Keeper>(
     }
 }
 
-/// The desk over a new keeper, after the commands, which meets this trouble after so many reads.
-fn failing_after<S: Store>(alloc: Global, reads: usize, trouble: Trouble) -> Result<Desk<S>, Fail> {
-    let desk = begun::<S>(alloc, S::blank(alloc), COMMANDS)?;
-    let left = desk.into_keeper().stopped();
+/// The keeper after the commands. A desk over it meets this trouble after so many reads.
+fn failing_after(
+    alloc: Global,
+    reads: usize,
+    trouble: Trouble,
+) -> Result<FailingKeeper<MemoryKeeper>, Fail> {
     // the opening is a call too
     let calls = reads.saturating_add(1);
-    desk_again::<S>(
-        alloc,
-        S::failing(alloc, left, Failing::Keeper(trouble), calls)?,
-    )
+    let kept = kept_after(alloc, COMMANDS)?;
+    Ok(FailingKeeper::new(kept, calls, trouble))
 }
 
-/// Whether the desk, which may meet trouble, writes the whole text. Else a beginning of it is written. Once the store
-/// has failed, the desk then answers nothing else, and after lack of memory it writes the whole text.
-fn is_written<K: Keeper>(
-    alloc: Global,
-    desk: &mut Desk<K>,
-    text: Text,
-    whole: &[u8],
-) -> Result<bool, Fail> {
-    let mut out = Vec::new(alloc);
-    let refused = write(alloc, desk, text, &mut out)?;
-    let is_whole = out.as_slice() == whole;
+/// What was written, and then once more, after lack of memory.
+#[derive(Drop)]
+struct Written {
+    out: Vec<u8>,
+    refused: Option<Refusal>,
+    again: Vec<u8>,
+}
+
+/// Writes the text by a desk over this keeper. Once the store has failed, the desk then answers nothing else, and after
+/// lack of memory it writes once more.
+fn written_by<K: Keeper + Drop>(alloc: Global, keeper: K, text: Text) -> Result<Written, Fail> {
+    let mut desk = desk_over(alloc, keeper)?;
+    let (mut out, mut again) = (Vec::new(alloc), Vec::new(alloc));
+    let refused = write(alloc, &mut desk, text, &mut out)?;
     match refused {
-        None if is_whole => return Ok(true),
-        Some(Refusal::StoreFault) => is_silent(desk)?,
-        Some(Refusal::OutOfMemory) => is_written_at_last(alloc, desk, text, whole)?,
-        _ => return Err(Fail::new("another text, or another refusal")),
+        None => (),
+        Some(Refusal::StoreFault) => is_silent(&mut desk)?,
+        Some(_) => {
+            if write(alloc, &mut desk, text, &mut again)?.is_some() {
+                return Err(Fail::new("refused once more"));
+            }
+        }
     }
-    if is_whole || !whole.starts_with(out.as_slice()) {
-        return Err(Fail::new("no beginning of the text"));
-    }
-    Ok(false)
+    Ok(Written {
+        out,
+        refused,
+        again,
+    })
 }
 
-/// Fails unless the desk writes the whole text.
-fn is_written_at_last<K: Keeper>(
-    alloc: Global,
-    desk: &mut Desk<K>,
-    text: Text,
-    whole: &[u8],
-) -> Result<(), Fail> {
-    let mut out = Vec::new(alloc);
-    let refused = write(alloc, desk, text, &mut out)?;
-    if refused.is_none() && out.as_slice() == whole {
-        Ok(())
-    } else {
-        Err(Fail::new("another text after lack of memory"))
+impl Written {
+    /// Whether the whole text was written. Else a beginning of it was, and after lack of memory the whole text.
+    fn is_whole(&self, whole: &[u8]) -> Result<bool, Fail> {
+        let (out, again) = (self.out.as_slice(), self.again.as_slice());
+        match self.refused {
+            None if out == whole => return Ok(true),
+            Some(Refusal::StoreFault) if again.is_empty() => (),
+            Some(Refusal::OutOfMemory) if again == whole => (),
+            _ => return Err(Fail::new("another text, or another refusal")),
+        }
+        if out == whole || !whole.starts_with(out) {
+            return Err(Fail::new("no beginning of the text"));
+        }
+        Ok(false)
     }
 }
 
 /// How many reads go well where first no writing meets this trouble.
-fn reads_of<S: Store>(alloc: Global, text: Text, trouble: Trouble) -> Result<usize, Fail> {
-    let mut whole = Vec::new(alloc);
-    let mut desk = failing_after::<S>(alloc, 1000, trouble)?;
-    if write(alloc, &mut desk, text, &mut whole)?.is_some() {
-        return Err(Fail::new("a read was refused"));
-    }
+fn reads_of(alloc: Global, text: Text, trouble: Trouble) -> Result<usize, Fail> {
+    let whole = written_by(alloc, failing_after(alloc, 1000, trouble)?, text)?;
     for reads in 0..100 {
-        let mut desk = failing_after::<S>(alloc, reads, trouble)?;
-        if is_written(alloc, &mut desk, text, whole.as_slice())? {
+        let written = written_by(alloc, failing_after(alloc, reads, trouble)?, text)?;
+        if written.is_whole(whole.out.as_slice())? {
             return Ok(reads);
         }
     }
@@ -125,7 +128,7 @@ fn reads_of<S: Store>(alloc: Global, text: Text, trouble: Trouble) -> Result<usi
 fn a_statement_is_begun_where_a_read_is_refused(rt: HostRuntime) -> Result<(), Fail> {
     // three postings and then none, and three orders and then none
     for trouble in [Trouble::Lost, Trouble::Kept, Trouble::OutOfMemory] {
-        let reads = reads_of::<InMemory>(rt.alloc(), Text::Statement, trouble)?;
+        let reads = reads_of(rt.alloc(), Text::Statement, trouble)?;
         assert_eq!(rt; reads, 8, "{trouble:?}");
     }
     Ok(())
@@ -135,29 +138,17 @@ fn a_statement_is_begun_where_a_read_is_refused(rt: HostRuntime) -> Result<(), F
 fn a_report_is_begun_where_a_read_is_refused(rt: HostRuntime) -> Result<(), Fail> {
     // the same, and then one mark and none
     for trouble in [Trouble::Lost, Trouble::Kept, Trouble::OutOfMemory] {
-        let reads = reads_of::<InMemory>(rt.alloc(), Text::Report, trouble)?;
+        let reads = reads_of(rt.alloc(), Text::Report, trouble)?;
         assert_eq!(rt; reads, 10, "{trouble:?}");
     }
     Ok(())
 }
 
-/// What was written of ALFA's statement where the third read of a posting meets a fault of the store, after which the
-/// desk answers nothing but that it has failed.
-fn written_before_the_third<S: Store>(alloc: Global) -> Result<Vec<u8>, Fail> {
-    let mut desk = failing_after::<S>(alloc, 2, Trouble::Lost)?;
-    let mut out = Vec::new(alloc);
-    let refused = write(alloc, &mut desk, Text::Statement, &mut out)?;
-    is_silent(&mut desk)?;
-    if refused == Some(Refusal::StoreFault) {
-        Ok(out)
-    } else {
-        Err(Fail::new("another refusal"))
-    }
-}
-
 #[test]
 fn two_postings_are_told_where_the_third_is_not_read(rt: HostRuntime) -> Result<(), Fail> {
-    let written = written_before_the_third::<InMemory>(rt.alloc())?;
-    assert_eq!(rt; std::str::from_utf8(written.as_slice())?, BEGINNING);
+    let keeper = failing_after(rt.alloc(), 2, Trouble::Lost)?;
+    let written = written_by(rt.alloc(), keeper, Text::Statement)?;
+    assert_eq!(rt; written.refused, Some(Refusal::StoreFault));
+    assert_eq!(rt; std::str::from_utf8(written.out.as_slice())?, BEGINNING);
     Ok(())
 }

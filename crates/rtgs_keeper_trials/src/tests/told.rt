@@ -1,9 +1,11 @@
-//! What a keeper tells of its book: each record by its name, and the records of each date one after another.
+//! What a desk answers, and what its keeper then tells of its book: each record by its name, and the records of each
+//! date one after another.
 use super::business::{CODES, DAYS, ORDERS, POSTINGS, day_at};
 use rtgs_book::{Mark, Order, Posting};
 use rtgs_cores::Core;
 use rtgs_keeper::Keeper;
 use rtgs_money::{BusinessDate, Code, Reference};
+use rtgs_tests_desks::Reply;
 use std::alloc::Global;
 use std::test::Fail;
 
@@ -47,69 +49,67 @@ fn posting_names(alloc: Global) -> Result<Vec<Reference>, Fail> {
     Ok(postings)
 }
 
-/// What a keeper answered to the same questions, in their order.
+/// What a desk answered to commands, and its keeper to the same questions, in their order.
 #[derive(Drop)]
 pub struct Told {
-    core: Core,
+    pub replies: Vec<Reply>,
+    cores: Vec<Core>,
     postings: Vec<Option<Posting>>,
     orders: Vec<Option<Order>>,
     marks: Vec<Option<Mark>>,
 }
 
 impl Told {
-    /// What this one tells: from record to record through all dates, after each number on a date that the shift moves
-    /// on, so that all dates come to each number as the shift grows, and by all names.
-    pub fn by<K: Keeper>(
+    /// Nothing yet.
+    pub fn new(alloc: Global) -> Told {
+        Told {
+            replies: Vec::new(alloc),
+            cores: Vec::new(alloc),
+            postings: Vec::new(alloc),
+            orders: Vec::new(alloc),
+            marks: Vec::new(alloc),
+        }
+    }
+
+    /// Asks this one: from record to record through all dates, after each number on a date that the shift moves on, so
+    /// that all dates come to each number as the shift grows, and by all names.
+    pub fn asks<K: Keeper>(
+        &mut self,
         alloc: Global,
         names: &Names,
         keeper: &mut K,
         shift: u64,
-    ) -> Result<Told, Fail> {
-        let mut told = Told {
-            core: keeper.core(alloc)?,
-            postings: Vec::new(alloc),
-            orders: Vec::new(alloc),
-            marks: Vec::new(alloc),
-        };
-        told.goes_through_all(keeper)?;
-        told.asks_after_each(keeper, shift)?;
-        told.finds_orders(keeper, names.orders.as_slice())?;
-        told.finds_postings(keeper, names.postings.as_slice())?;
-        Ok(told)
-    }
-
-    // The greatest number that a record has or comes next.
-    fn last(&self) -> u64 {
-        let core = &self.core;
-        core.next_posting.max(core.next_order).max(core.next_mark)
-    }
-
-    // Goes through all dates.
-    fn goes_through_all<K: Keeper>(&mut self, keeper: &mut K) -> Result<(), Fail> {
+    ) -> Result<(), Fail> {
+        let core = keeper.core(alloc)?;
+        let last = core.next_posting.max(core.next_order).max(core.next_mark);
+        self.cores.push(core)?;
         for place in 0..DAYS.len() {
-            self.goes_through(keeper, day_at(place as u64)?)?;
+            self.goes_through(keeper, day_at(place as u64)?, last)?;
         }
-        Ok(())
+        for number in 0..=last {
+            self.asks_after(keeper, day_at(number.wrapping_add(shift))?, number)?;
+        }
+        for (sender, reference) in names.orders.as_slice() {
+            self.orders.push(keeper.find_order(sender, reference)?)?;
+        }
+        self.finds_postings(keeper, names.postings.as_slice())
     }
 
-    // Goes through a date, from each record to the next.
-    fn goes_through<K: Keeper>(&mut self, keeper: &mut K, date: BusinessDate) -> Result<(), Fail> {
+    // Goes through a date, from each record to the next, where no record has a greater number than the last.
+    fn goes_through<K: Keeper>(
+        &mut self,
+        keeper: &mut K,
+        date: BusinessDate,
+        last: u64,
+    ) -> Result<(), Fail> {
         let mut number = 0;
-        for _ in 0..=self.last().saturating_mul(3) {
+        for _ in 0..=last.saturating_mul(3) {
             number = self.asks_after(keeper, date, number)?;
             if number == u64::MAX {
                 return Ok(());
             }
         }
         Err(Fail::new("more records than there are"))
-    }
-
-    // Asks for what comes after each number, on a date that changes with the number.
-    fn asks_after_each<K: Keeper>(&mut self, keeper: &mut K, shift: u64) -> Result<(), Fail> {
-        for number in 0..=self.last() {
-            self.asks_after(keeper, day_at(number.wrapping_add(shift))?, number)?;
-        }
-        Ok(())
     }
 
     // The least of the numbers that come next on this date, or the greatest number where none does.
@@ -129,17 +129,6 @@ impl Told {
         Ok(next)
     }
 
-    fn finds_orders<K: Keeper>(
-        &mut self,
-        keeper: &mut K,
-        names: &[(Code, Reference)],
-    ) -> Result<(), Fail> {
-        for (sender, reference) in names {
-            self.orders.push(keeper.find_order(sender, reference)?)?;
-        }
-        Ok(())
-    }
-
     fn finds_postings<K: Keeper>(
         &mut self,
         keeper: &mut K,
@@ -153,10 +142,11 @@ impl Told {
 
     /// Whether both tell the same.
     pub fn is_like(&self, other: &Told) -> bool {
-        self.postings.as_slice() == other.postings.as_slice()
+        self.replies.as_slice() == other.replies.as_slice()
+            && self.postings.as_slice() == other.postings.as_slice()
             && self.orders.as_slice() == other.orders.as_slice()
             && self.marks.as_slice() == other.marks.as_slice()
-            && are_same_cores(&self.core, &other.core)
+            && are_all_same(self.cores.as_slice(), other.cores.as_slice())
     }
 }
 
@@ -174,6 +164,15 @@ fn least_of(posting: &Option<Posting>, order: &Option<Order>, mark: &Option<Mark
         Some(mark) => posting.min(order).min(mark.number),
         None => posting.min(order),
     }
+}
+
+fn are_all_same(one: &[Core], other: &[Core]) -> bool {
+    for (one, other) in one.iter().zip(other) {
+        if !are_same_cores(one, other) {
+            return false;
+        }
+    }
+    one.len() == other.len()
 }
 
 fn are_same_cores(one: &Core, other: &Core) -> bool {

@@ -1,10 +1,11 @@
-//! What is given to a desk while its store fails, and the books that may be found then.
-use super::found::{Found, Standings};
-use super::store::{Store, keeper_on};
+//! What is given to a desk while its store fails, and what is found then.
+use super::found::Found;
+use super::store::{Booked, Job};
 use rtgs_batches::submit_batch;
-use rtgs_book::{Answer, Command, Known, Refusal};
+use rtgs_book::{Answer, Command, Fault, Known, Refusal};
 use rtgs_desk::Desk;
 use rtgs_keeper::Keeper;
+use rtgs_memory_keeper::MemoryKeeper;
 use rtgs_money::{BusinessDate, Code, Key, Reference};
 use rtgs_order_files::{BatchResult, OrderRow, RowReply};
 use rtgs_statements::Source;
@@ -19,6 +20,7 @@ add BETA 0000000000000000000000000000000b => Ok(Added)
 add GAMA 0000000000000000000000000000000c => Ok(Added)";
 
 /// What a desk with three banks is given, in words.
+#[derive(Clone, Copy)]
 pub struct Trial {
     /// Commands before the store fails.
     pub before: &'static str,
@@ -32,16 +34,45 @@ pub struct Trial {
     pub is_closed: bool,
 }
 
-/// A desk of a new book in this store, with three banks, after these commands.
-pub fn begun<S: Store>(alloc: Global, left: S::Left, before: &str) -> Result<Desk<S>, Fail> {
-    let mut desk = desk_over(alloc, keeper_on::<S>(alloc, left, true)?)?;
+/// A desk that is given nothing.
+pub const NOTHING: Trial = Trial {
+    before: "",
+    rows: "",
+    is_batch: false,
+    standings: "",
+    is_closed: true,
+};
+
+impl Trial {
+    /// How many commands there are while the store fails.
+    pub fn count(&self) -> usize {
+        self.rows.lines().count()
+    }
+
+    /// The same commands, one by one.
+    pub fn one_by_one(&self) -> Trial {
+        Trial {
+            is_batch: false,
+            ..*self
+        }
+    }
+}
+
+/// A desk with three banks over a keeper of a new book, after these commands.
+pub fn begun<K: Keeper + Drop>(alloc: Global, keeper: K, before: &str) -> Result<Desk<K>, Fail> {
+    let mut desk = desk_over(alloc, keeper)?;
     follows(alloc, &mut desk, BANKS)?;
     follows(alloc, &mut desk, before)?;
     Ok(desk)
 }
 
+/// The keeper in memory of a desk with three banks, after these commands.
+pub fn kept_after(alloc: Global, before: &str) -> Result<MemoryKeeper, Fail> {
+    Ok(begun(alloc, MemoryKeeper::new(alloc), before)?.into_keeper())
+}
+
 /// How far a trial came.
-#[derive(Clone, Copy)]
+#[derive(Clone, Copy, PartialEq)]
 pub enum Progress {
     /// The desk could not be opened.
     Unopened,
@@ -53,94 +84,103 @@ pub enum Progress {
     Whole,
 }
 
-impl Trial {
-    /// How many commands there are while the store fails.
-    pub fn count(&self) -> usize {
-        self.rows.lines().count()
+/// What is done in a session of a trial.
+#[derive(Clone, Copy, PartialEq)]
+pub enum Part {
+    /// Nothing is given to a desk.
+    Rest,
+    /// The banks are added to a new book, and the commands before are given.
+    Begin,
+    /// So many of the rows are given.
+    Give(usize),
+    /// All rows behind so many are given, of which so many come again, and it is looked at what is found then.
+    Look { known: usize, most: usize },
+}
+
+/// A session of a trial, and what came of it.
+#[derive(Drop)]
+pub struct Work {
+    trial: Trial,
+    part: Part,
+    closes: bool,
+    /// How far it came.
+    pub progress: Progress,
+    /// Why the desk was not opened.
+    pub fault: Option<Fault>,
+    /// What was found.
+    pub found: Option<Found>,
+}
+
+impl Work {
+    /// This part of the trial. The store is closed then, or not.
+    pub fn new(trial: &Trial, part: Part, closes: bool) -> Work {
+        Work {
+            trial: *trial,
+            part,
+            closes,
+            progress: Progress::Unopened,
+            fault: None,
+            found: None,
+        }
     }
 
-    /// Gives the desk the first of the commands, of which so many come again, and counts those that are answered.
-    pub fn given<K: Keeper>(
-        &self,
+    // Gives the desk the first of the commands, of which so many come again. Once the store has failed, the desk
+    // answers nothing else.
+    fn give<K: Keeper>(
+        &mut self,
         alloc: Global,
         desk: &mut Desk<K>,
         known: usize,
         most: usize,
-    ) -> Result<usize, Fail> {
-        if self.is_batch {
-            sent(alloc, desk, self.rows, known, most)
+    ) -> Result<(), Fail> {
+        let count = if self.trial.is_batch {
+            sent(alloc, desk, self.trial.rows, known, most)?
         } else {
-            answered(alloc, desk, self.rows, known, most)
-        }
-    }
-
-    /// Gives the desk the first of the commands. Once the store has failed, the desk answers nothing else.
-    pub fn worked<K: Keeper>(
-        &self,
-        alloc: Global,
-        desk: &mut Desk<K>,
-        most: usize,
-    ) -> Result<Progress, Fail> {
-        let count = self.given(alloc, desk, 0, most)?;
+            answered(alloc, desk, self.trial.rows, known, most)?
+        };
         if count == most {
-            return Ok(Progress::Whole);
+            self.progress = Progress::Whole;
+            return Ok(());
         }
-        is_silent(desk)?;
-        Ok(Progress::Failed(count))
+        self.progress = Progress::Failed(count);
+        is_silent(desk)
     }
 
-    /// What a desk has before the first of the commands, and after each.
-    pub fn books<S: Store>(&self, alloc: Global) -> Result<Vec<Found>, Fail> {
-        let mut books = Vec::new(alloc);
-        for count in 0..=self.count() {
-            books.push(self.book_after::<S>(alloc, count)?)?;
+    // Does the part with a desk, which ends so.
+    fn with_desk<K: Booked>(&mut self, alloc: Global, desk: Desk<K>) -> Result<K, Fail> {
+        let mut desk = desk;
+        match self.part {
+            Part::Give(most) => self.give(alloc, &mut desk, 0, most)?,
+            Part::Look { known, most } => {
+                self.give(alloc, &mut desk, known, most)?;
+                let (found, keeper) = Found::of(alloc, desk)?;
+                self.found = Some(found);
+                return Ok(keeper);
+            }
+            Part::Rest | Part::Begin => (),
         }
-        Ok(books)
-    }
-
-    // What a desk has after so many of the commands. The banks then stand as it is told.
-    fn book_after<S: Store>(&self, alloc: Global, count: usize) -> Result<Found, Fail> {
-        let mut desk = begun::<S>(alloc, S::blank(alloc), self.before)?;
-        answered(alloc, &mut desk, self.rows, 0, count)?;
-        let (found, _) = Found::of(alloc, desk)?;
-        self.stand_so(alloc, &found.standings, count)?;
-        Ok(found)
-    }
-
-    // Fails unless the banks stand so after so many of the commands.
-    fn stand_so(&self, alloc: Global, found: &Standings, count: usize) -> Result<(), Fail> {
-        let text = format!(in alloc; "{found:?}")?;
-        if self.standings.lines().nth(count) == Some(text.as_str()) {
-            Ok(())
-        } else {
-            Err(Fail::from(text))
-        }
+        Ok(desk.into_keeper())
     }
 }
 
-/// Whether this is what was found after so many commands.
-pub fn is_at(books: &[Found], place: usize, found: &Found) -> bool {
-    match books.get(place) {
-        Some(book) => book.is_like(found),
-        None => false,
+impl Job for Work {
+    fn done<K: Booked>(&mut self, alloc: Global, keeper: K) -> Result<K, Fail> {
+        match self.part {
+            Part::Rest => return Ok(keeper),
+            Part::Begin => return Ok(begun(alloc, keeper, self.trial.before)?.into_keeper()),
+            _ => (),
+        }
+        match Desk::open(alloc, keeper) {
+            Ok(desk) => self.with_desk(alloc, desk),
+            Err((fault, keeper)) => {
+                self.fault = Some(fault);
+                Ok(keeper)
+            }
+        }
     }
-}
 
-/// Behind how many of so many commands this is found, where it may be: with all that was answered, and with at most the
-/// one command more that was open.
-pub fn place_of(books: &[Found], all: usize, progress: Progress, found: &Found) -> Option<usize> {
-    let (least, most) = match progress {
-        Progress::Unopened => (0, 0),
-        Progress::Failed(count) => (count, count.saturating_add(1)),
-        Progress::Unclosed | Progress::Whole => (all, all),
-    };
-    if is_at(books, least, found) {
-        return Some(least);
-    }
-    if is_at(books, most, found) {
-        Some(most)
-    } else {
-        None
+    fn closes(&self) -> bool {
+        self.closes && !matches!(self.progress, Progress::Failed(_)) && self.fault.is_none()
     }
 }
 

@@ -1,152 +1,149 @@
 //! Ten thousand commands over both keepers: in memory, and on disks that are closed and opened again every hundred.
 //! After each fifty both tell the same of their books.
 use super::business::Business;
-use super::disks::{Work, on_disks};
-use super::found::are_same_books;
-use super::memory::{InMemory, failing};
+use super::disks::OnDisks;
+use super::memory::InMemory;
+use super::runs::found_in;
 use super::seen::Seen;
-use super::store::{Store, closed, desk_again, keeper_on, new_desk};
+use super::store::{Booked, Ended, Job, Store};
 use super::told::{Names, Told};
-use rtgs_book::{Command, Refusal};
+use super::trial::{NOTHING, Part, Work};
+use rtgs_book::Refusal;
 use rtgs_desk::Desk;
 use rtgs_keeper::Keeper;
-use rtgs_tests_desks::{Reply, Trouble, desk_over};
+use rtgs_tests_desks::desk_over;
 use std::alloc::Global;
+use std::mem;
 use std::test::Fail;
 
-/// What a desk in memory and one on disks both answer to a command.
-pub fn answer_alike<M: Keeper, K: Keeper>(
-    alloc: Global,
-    held: &mut Desk<M>,
-    kept: &mut Desk<K>,
-    command: Command,
-) -> Result<Reply, Fail> {
-    let (one, other) = (held.submit(command), kept.submit(command));
-    if one == other {
-        return Ok(one);
-    }
-    let said = format!(in alloc; "{command:?}: {one:?} and {other:?}")?;
-    Err(Fail::from(said))
+/// The commands of one seed, which a desk is given by the hundred, and what it answers to a hundred of them.
+#[derive(Drop)]
+struct Run {
+    business: Business,
+    names: Names,
+    // how many times fifty commands were given
+    fifties: u64,
+    told: Told,
 }
 
-/// Fails unless the book of a desk in memory is that of the store.
+impl Run {
+    /// The commands of this seed.
+    fn new(alloc: Global, seed: u64) -> Result<Run, Fail> {
+        Ok(Run {
+            business: Business::new(alloc, seed),
+            names: Names::new(alloc)?,
+            fifties: 0,
+            told: Told::new(alloc),
+        })
+    }
+
+    /// Gives a desk the next command, which it judges.
+    fn command<K: Keeper>(&mut self, desk: &mut Desk<K>) -> Result<(), Fail> {
+        let reply = desk.submit(self.business.command()?);
+        if let Err(Refusal::OutOfMemory | Refusal::StoreFault | Refusal::Failed) = reply {
+            return Err(Fail::new("a command was not judged"));
+        }
+        self.business.hear(&reply);
+        self.told.replies.push(reply)?;
+        Ok(())
+    }
+
+    /// Gives a desk over this keeper fifty commands, and then the keeper tells of its book.
+    fn fifty<K: Booked>(&mut self, alloc: Global, keeper: K) -> Result<K, Fail> {
+        let mut desk = desk_over(alloc, keeper)?;
+        for _ in 0..50 {
+            self.command(&mut desk)?;
+        }
+        let mut keeper = desk.into_keeper();
+        self.fifties = self.fifties.wrapping_add(1);
+        self.told
+            .asks(alloc, &self.names, &mut keeper, self.fifties)?;
+        Ok(keeper)
+    }
+
+    /// Gives a hundred commands to a desk in this store, which is closed then.
+    fn hundred<S: Store>(&mut self, alloc: Global, store: &mut S) -> Result<Told, Fail> {
+        if store.session(alloc, false, self)? == Ended::Closed {
+            Ok(mem::replace(&mut self.told, Told::new(alloc)))
+        } else {
+            Err(Fail::new("not opened, or not closed"))
+        }
+    }
+}
+
+impl Job for Run {
+    fn done<K: Booked>(&mut self, alloc: Global, keeper: K) -> Result<K, Fail> {
+        let keeper = self.fifty(alloc, keeper)?;
+        self.fifty(alloc, keeper)
+    }
+
+    fn closes(&self) -> bool {
+        true
+    }
+}
+
+/// Makes a desk of a new book in this store, and closes it.
+pub fn make<S: Store>(alloc: Global, store: &mut S) -> Result<(), Fail> {
+    if store.session(alloc, true, &mut Work::new(&NOTHING, Part::Rest, true))? == Ended::Closed {
+        Ok(())
+    } else {
+        Err(Fail::new("not made"))
+    }
+}
+
+/// Fails unless both stores have one book.
 pub fn end_in_one_book<M: Store, S: Store>(
     alloc: Global,
-    memory: M,
-    left: S::Left,
+    memory: &mut M,
+    store: &mut S,
 ) -> Result<(), Fail> {
-    let mut memory = memory;
-    let in_memory = memory.book(alloc)?;
-    let on_disks = desk_again::<S>(alloc, left)?.into_keeper().book(alloc)?;
-    if are_same_books(&on_disks, &in_memory) {
+    let in_memory = found_in(alloc, memory, &NOTHING, 0, 0)?;
+    if found_in(alloc, store, &NOTHING, 0, 0)?.is_like(&in_memory) {
         Ok(())
     } else {
         Err(Fail::new("two books"))
     }
 }
 
-/// The commands of one seed, what came of them, and the names that they use.
-#[derive(Drop)]
-struct Run {
+/// Five thousand commands, of all kinds and with all kinds of answers, which both stores answer alike.
+fn answer_alike<M: Store, S: Store>(
     alloc: Global,
-    business: Business,
-    seen: Seen,
-    names: Names,
-    // how many times fifty commands were given
-    fifties: u64,
-}
-
-impl Run {
-    /// Gives two desks the next command: each answers as the other does, and has judged it.
-    fn command<M: Keeper, K: Keeper>(
-        &mut self,
-        one: &mut Desk<M>,
-        other: &mut Desk<K>,
-    ) -> Result<(), Fail> {
-        let reply = answer_alike(self.alloc, one, other, self.business.command()?)?;
-        if let Err(Refusal::OutOfMemory | Refusal::StoreFault | Refusal::Failed) = reply {
-            return Err(Fail::new("a command was not judged"));
-        }
-        self.business.hear(&reply);
-        self.seen.count(&reply);
-        Ok(())
-    }
-
-    /// Gives two desks fifty commands, and then both keepers tell the same of their books.
-    fn fifty<M: Store, S: Store>(&mut self, one: M, other: S) -> Result<(M, S), Fail> {
-        let (mut one, mut other) = (desk_over(self.alloc, one)?, desk_over(self.alloc, other)?);
-        for _ in 0..50 {
-            self.command(&mut one, &mut other)?;
-        }
-        let (mut one, mut other) = (one.into_keeper(), other.into_keeper());
-        self.compare(&mut one, &mut other)?;
-        Ok((one, other))
-    }
-
-    /// Fails unless both keepers tell the same of their books after fifty more commands.
-    fn compare<M: Keeper, K: Keeper>(&mut self, one: &mut M, other: &mut K) -> Result<(), Fail> {
-        self.fifties = self.fifties.wrapping_add(1);
-        let told = Told::by(self.alloc, &self.names, one, self.fifties)?;
-        if told.is_like(&Told::by(self.alloc, &self.names, other, self.fifties)?) {
-            Ok(())
-        } else {
-            Err(Fail::new("another record"))
-        }
-    }
-
-    /// A hundred commands, with the store opened before and closed after.
-    fn hundred<M: Store, S: Store>(
-        &mut self,
-        memory: M,
-        left: S::Left,
-    ) -> Result<(M, S::Left), Fail> {
-        let keeper = keeper_on::<S>(self.alloc, left, false)?;
-        let (memory, keeper) = self.fifty(memory, keeper)?;
-        let (memory, keeper) = self.fifty(memory, keeper)?;
-        Ok((memory, closed(desk_over(self.alloc, keeper)?)?))
-    }
-
-    /// Five thousand commands, of all kinds and with all kinds of answers, that end in one book.
-    fn five_thousand<M: Store, S: Store>(&mut self, memory: M) -> Result<(), Fail> {
-        let mut memory = memory;
-        let mut left = closed(new_desk::<S>(self.alloc)?)?;
-        for _ in 0..50 {
-            (memory, left) = self.hundred::<M, S>(memory, left)?;
-        }
-        if !self.seen.is_varied() {
-            return Err(Fail::new("a kind of answer that was not given"));
-        }
-        end_in_one_book::<M, S>(self.alloc, memory, left)
-    }
-}
-
-// Five thousand commands of this seed.
-#[derive(Clone, Copy)]
-struct FiveThousand {
+    memory: &mut M,
+    store: &mut S,
     seed: u64,
+) -> Result<(), Fail> {
+    let (mut one, mut other) = (Run::new(alloc, seed)?, Run::new(alloc, seed)?);
+    let mut seen = Seen::new();
+    for _ in 0..50 {
+        let told = one.hundred(alloc, memory)?;
+        if !told.is_like(&other.hundred(alloc, store)?) {
+            return Err(Fail::new("another answer, or another record"));
+        }
+        for reply in told.replies.as_slice() {
+            seen.count(reply);
+        }
+    }
+    if seen.is_varied() {
+        Ok(())
+    } else {
+        Err(Fail::new("a kind of answer that was not given"))
+    }
 }
 
-impl Work for FiveThousand {
-    type Seen = ();
-
-    fn done_with<S: Store>(self, alloc: Global) -> Result<(), Fail> {
-        let mut run = Run {
-            alloc,
-            business: Business::new(alloc, self.seed),
-            seen: Seen::new(),
-            names: Names::new(alloc)?,
-            fifties: 0,
-        };
-        run.five_thousand::<InMemory, S>(failing(alloc, usize::MAX, Trouble::Lost))
-    }
+// Five thousand commands of this seed, that end in one book.
+fn five_thousand(alloc: Global, seed: u64) -> Result<(), Fail> {
+    let (mut memory, mut disks) = (InMemory::new(alloc), OnDisks::new(alloc));
+    make(alloc, &mut disks)?;
+    answer_alike(alloc, &mut memory, &mut disks, seed)?;
+    end_in_one_book(alloc, &mut memory, &mut disks)
 }
 
 #[test]
 fn the_first_five_thousand_commands_end_in_one_book(rt: HostRuntime) -> Result<(), Fail> {
-    on_disks(rt.alloc(), FiveThousand { seed: 2024 })
+    five_thousand(rt.alloc(), 2024)
 }
 
 #[test]
 fn another_five_thousand_commands_end_in_one_book(rt: HostRuntime) -> Result<(), Fail> {
-    on_disks(rt.alloc(), FiveThousand { seed: 2025 })
+    five_thousand(rt.alloc(), 2025)
 }
