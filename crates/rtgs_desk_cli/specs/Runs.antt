@@ -18,7 +18,7 @@ use Rattle.rtgs_desk_lines.specs.declared.ended.Ended.TheVariants as ended
 use Rattle.rtgs_desk_lines.specs.declared.failure.Failure.{Failure}
 use Rattle.rtgs_desk_lines.specs.declared.failure.Failure.TheVariants.{Form, Refused}
 use Rattle.rtgs_desk_lines.specs.declared.printed.Printed.{Printed}
-use Rattle.rtgs_http_specs.declared.port.Port.{Port}
+use Rattle.rtgs_http_server.specs.declared.port.Port.{Port}
 use Rattle.rtgs_book_file.specs.OverFile.{OverFile}
 use Rattle.rtgs_desk_files.specs.Printing.{ended_line, PrintsText}
 use Rattle.rtgs_desk_files.specs.Touching.{IsNoBookMade, IsOf, IsUntouched}
