@@ -1,5 +1,6 @@
 pub mod Keeps
 pub mod OwnRows
+pub mod AllTables
 pub mod AboveZero
 pub mod Told
 pub mod Displaying

@@ -1,13 +1,9 @@
 -- Rows of records whose numbers are above zero, as in a sound book.
-use Rattle.std.proofs.Common.{◌≡◌, ℕ, suc, ◌<◌, ℤ, pos, negsuc, Bool, List, [], ◌∷◌, map, length, IsPermutation, Option}
-use Rattle.std.proofs.Common.{Some, None, refl, sym, subst, ap, ap₂, ◌∙◌, arith}
+use Rattle.std.proofs.Common.{◌≡◌, ℕ, ◌<◌, ℤ, pos, negsuc, Bool, List, [], ◌∷◌, map, refl, sym, ap, ap₂, ◌∙◌, arith}
 use Rattle.std.specs.List.{AllByRecursion}
-use Rattle.std.proofs.lemmas.List.Sorted.{IsPermutation-sym}
 use Rattle.sqlite.specs.Order.{Row}
 use Rattle.sqlite.specs.declared.types.Value.{Value}
 use Rattle.sqlite.specs.declared.types.Value.TheVariants.{Null, Int, Real, Text, Blob}
-use Rattle.sqlite_keyed.proofs.ListLemmas.{map-map, map_same, all_unmap}
-use Rattle.sqlite_trees.proofs.ListLemmas.{all-permutation}
 use Rattle.rtgs_book.specs.declared.Posting.{Posting}
 use Rattle.rtgs_book.specs.declared.Order.{Order}
 use Rattle.rtgs_book.specs.declared.OrderState.{OrderState}
@@ -92,27 +88,29 @@ mark_own (a ∷ b ∷ c ∷ rest) m low e =
     let count = above_in c m.count low.1 (let is : at_least_zero c ≡ Int (pos m.count) = cc in is) in
     cc
 
--- records with numbers above zero are told by their own rows
-module _ {A : Type 0} (counted : List Bool) (shown : A → Row) (numbered : A → Type 0)
-    (own : (row : Row) (a : A) → numbered a → as_read counted row ≡ shown a → row ≡ shown a) where
-  abbrev IsOwn : Row → Type 0
-  IsOwn read = (row : Row) → as_read counted row ≡ read → row ≡ read
+-- ---- what is read as a row is the row itself
 
-  owns : (all : List A) → AllByRecursion numbered all → AllByRecursion IsOwn (map shown all)
-  owns [] low = tt
-  owns (a ∷ all) low = (λ row e. own row a low.0 e, owns all low.1)
+abbrev pub IsOwn : List Bool → Row → Type 0
+IsOwn counted told = (row : Row) → as_read counted row ≡ told → row ≡ told
 
-  same_rows : (rows : List Row) → AllByRecursion (λ row. IsOwn (as_read counted row)) rows
-      → map (as_read counted) rows ≡ rows
-  same_rows [] each = refl
-  same_rows (row ∷ rows) each = ap₂ ◌∷◌ (sym (each.0 row refl)) (same_rows rows each.1)
+-- the rows of records with numbers above zero are such
+pub owns : {A : Type 0} (counted : List Bool) (shown : A → Row) (numbered : A → Type 0)
+    → ((row : Row) (a : A) → numbered a → as_read counted row ≡ shown a → row ≡ shown a) → (all : List A)
+    → AllByRecursion numbered all → AllByRecursion (IsOwn counted) (map shown all)
+owns counted shown numbered own [] low = tt
+owns counted shown numbered own (a ∷ all) low =
+    (λ row e. own row a low.0 e, owns counted shown numbered own all low.1)
 
-  pub told_plainly : (rows : List Row) (all : List A) → AllByRecursion numbered all
-      → IsPermutation (map (as_read counted) rows) (map shown all) → IsPermutation rows (map shown all)
-  told_plainly rows all low same =
-      let each = all_unmap IsOwn (as_read counted) rows (all-permutation IsOwn _ _ (IsPermutation-sym _ _ same)
-      (owns all low)) in
-      subst (λ rs. IsPermutation rs (map shown all)) (same_rows rows each) same
+-- so is each, where no number is read in another way
+pub all_own : (rows : List Row) → AllByRecursion (IsOwn []) rows
+all_own [] = tt
+all_own (told ∷ rows) = (λ row e. e, all_own rows)
+
+-- so the rows are read as they are
+pub read_plainly : (counted : List Bool) (rows : List Row) → AllByRecursion (IsOwn counted) (map (as_read counted) rows)
+    → map (as_read counted) rows ≡ rows
+read_plainly counted [] own = refl
+read_plainly counted (row ∷ rows) own = ap₂ ◌∷◌ (sym (own.0 row refl)) (read_plainly counted rows own.1)
 
 -- the rows of records are in their forms
 pub are_formed : {A : Type 0} (fits : A → Type 0) (counted : List Bool) (shown : A → Row) (all : List A)

@@ -1,8 +1,10 @@
 -- The five tables together, and the book that they hold.
-use Rattle.std.proofs.Common.{◌≡◌, ℤ, List, map, sym, subst, ◌∙◌, Ok, Err, Result, IfOk}
+use Rattle.std.proofs.Common.{◌≡◌, ℤ, List, map, IsPermutation, sym, subst, ◌∙◌, Ok, Err, Result, IfOk}
 use Rattle.std.proofs.Common.{OnOk}
 use Rattle.std.specs.List.{AllByRecursion}
+use Rattle.std.proofs.lemmas.List.Sorted.{IsPermutation-sym}
 use Rattle.sqlite.specs.Tree.{Trees}
+use Rattle.sqlite_trees.proofs.ListLemmas.{all-permutation}
 use Rattle.sqlite_keyed.proofs.ListLemmas.{map-map, all_map}
 use Rattle.sqlite_catalog.specs.Listing.{IsSound}
 use Rattle.rtgs_book.specs.declared.Book.{Book}
@@ -14,30 +16,32 @@ use Rattle.rtgs_rows.specs.Content.{Content, Holds}
 use Rattle.rtgs_rows.specs.Keeping.{IsBookOf}
 use Rattle.rtgs_sql_loading.proofs.AboveZero.{above_zero}
 use Rattle.rtgs_book.specs.declared.Participant.{Participant}
-use Rattle.rtgs_rows.specs.Rows.{shown_posting, shown_order, shown_mark}
 use Rattle.rtgs_rows.specs.Fitting.{HasFormedValues}
-use Rattle.rtgs_rows.specs.Querying.{picked, AreWhole, ShowsBook, shown_entry, ShowsParticipants}
+use Rattle.rtgs_rows.specs.Querying.{picked, AreWhole, ShowsTable, ShowsBook, shown_entry, ShowsParticipants}
 use Rattle.rtgs_book.specs.declared.account.Account.{Account}
-use Rattle.rtgs_sql_loading.specs.Accounts.{AreBalances, account_entry, AreReadOf, IsShown}
-use Rattle.rtgs_sql_columns.specs.Numbers.{counted_of_posting, counted_of_order, counted_of_mark, IsNumberedPosting}
-use Rattle.rtgs_sql_columns.specs.Numbers.{IsNumberedOrder, IsNumberedMark, IsNumberedBook}
-use Rattle.rtgs_sql_columns.specs.Tables.{postings_query, payments_query, marks_query}
-use Rattle.rtgs_sql_loading.proofs.OwnRows.{told_plainly, posting_own, order_own, mark_own}
+use Rattle.rtgs_sql_loading.specs.Accounts.{AreBalances, account_entry, AreTheRecords, AreReadOf, IsShown}
+use Rattle.rtgs_sql_columns.specs.Numbers.{IsNumberedBook}
+use Rattle.rtgs_rows.specs.Tables.{places}
+use Rattle.rtgs_sql_loading.proofs.AllTables.{both, own_records}
+use Rattle.rtgs_sql_loading.proofs.OwnRows.{IsOwn, read_plainly}
 
 -- where the numbers are above zero, the tables show the records' own rows
 pub shows_of : (trees : Trees) (accounts : List Account) (book : Book) → AreReadOf trees accounts book
     → IsNumberedBook book → ShowsBook trees book (map account_entry accounts)
-shows_of trees accounts book read numbered = record {
-  desk = read.desk;
-  participants = subst (ShowsParticipants trees) (sym (map-map shown_entry account_entry accounts)) read.participants;
-  named = read.named ∙ sym (map-map (λ (entry : Participant × ℤ). entry.0) account_entry accounts);
-  postings = told_plainly counted_of_posting shown_posting IsNumberedPosting posting_own
-      (map (picked postings_query.places) (trees postings_query.tree)) book.postings numbered.postings read.postings;
-  payments = told_plainly counted_of_order shown_order IsNumberedOrder order_own
-      (map (picked payments_query.places) (trees payments_query.tree)) book.orders numbered.orders read.payments;
-  marks = told_plainly counted_of_mark shown_mark IsNumberedMark mark_own
-      (map (picked marks_query.places) (trees marks_query.tree)) book.marks numbered.marks read.marks;
-}
+shows_of trees accounts book read numbered =
+    let plain : AreTheRecords (λ table _. ShowsTable table trees) accounts book = both (own_records read numbered) read
+    (λ table counted told own same. let rows = map (picked (places table)) (trees table.tree) in
+    subst (λ seen. IsPermutation seen told) (read_plainly counted rows (all-permutation (IsOwn counted) _ _
+    (IsPermutation-sym _ _ same) own)) same) in
+    record {
+      desk = plain.desk;
+      participants = subst (ShowsParticipants trees) (sym (map-map shown_entry account_entry accounts))
+          plain.participants;
+      named = read.named ∙ sym (map-map (λ (entry : Participant × ℤ). entry.0) account_entry accounts);
+      postings = plain.postings;
+      payments = plain.payments;
+      marks = plain.marks;
+    }
 
 -- what was read, and judged to be sound with its balances stored, is what the tables show
 pub shown_book : (trees : Trees) (accounts : List Account) (book : Book) (answer : Result Book Fault)

@@ -5,6 +5,7 @@ use Rattle.std.specs.BTreeMap.{BTreeMap, get}
 use Rattle.std.specs.Ordering.{nat_cmp, int_eq}
 use Rattle.std.specs.Cmp.Lexicographic.{slice_cmp}
 use Rattle.sqlite.specs.Order.{Row}
+use Rattle.sqlite.specs.Table.{Table}
 use Rattle.sqlite.specs.Tree.{Trees}
 use Rattle.rtgs_book.specs.declared.Book.{Book}
 use Rattle.rtgs_book.specs.declared.Participant.{Participant}
@@ -17,8 +18,8 @@ use Rattle.rtgs_book.specs.Judgement.{Keeps, KeepsBefore}
 use Rattle.rtgs_book.specs.declared.Day.{Day}
 use Rattle.rtgs_rows.specs.Fitting.{HasFormedValues, FitsDate, FitsParticipant, FitsPosting, FitsOrder, FitsMark}
 use Rattle.rtgs_rows.specs.Rows.{shown_day, shown_account, shown_posting, shown_order, shown_mark}
-use Rattle.rtgs_rows.specs.Querying.{picked, ShowsDesk, ShowsParticipants, ShowsBook}
-use Rattle.rtgs_sql_columns.specs.Tables.{participants_query, postings_query, payments_query, marks_query}
+use Rattle.rtgs_rows.specs.Querying.{picked, ShowsBook}
+use Rattle.rtgs_rows.specs.Tables.{desk_table, participant_table, posting_table, payment_table, mark_table, places}
 use Rattle.rtgs_sql_columns.specs.Numbers.{as_read, counted_of_posting, counted_of_order, counted_of_mark, IsFormed}
 use Rattle.rtgs_book.specs.declared.account.Account.{Account}
 
@@ -28,33 +29,56 @@ account_entry a = (a.participant, a.balance)
 
 -- the rows of a table as its query shows them and as they are read, in some order
 abbrev pub AreTold : List ℕ → List Bool → List Row → List Row → Type 0
-AreTold places counted stored = IsPermutation (map (as_read counted) (map (picked places) stored))
+AreTold columns counted stored = IsPermutation (map (as_read counted) (map (picked columns) stored))
 
--- What is read of trees, sound or not: each value is in its form and range, and each row of the five tables is told by
--- one record. A number below zero is read as 0, which breaks the same rule of a sound book.
-pub record AreReadOf (trees : Trees) (accounts : List Account) (book : Book) : Type 0 where
+-- ---- of all five tables
+
+-- what is said of a table, of the places of its numbers that are read as 0 where they are below zero, and of rows
+abbrev pub Telling : Type 1
+Telling = Table → List Bool → List Row → Type 0
+
+-- the row of an account
+abbrev pub account_row : Account → Row
+account_row a = shown_account a.participant a.balance
+
+-- These are the records of the five tables: each value is in its form and range, and `Tells` holds of each table and of
+-- the rows of its records.
+pub record AreTheRecords (Tells : Telling) (accounts : List Account) (book : Book) : Type 0 where
   pub fits : HasFormedValues book
   pub named : book.participants ≡ map (λ (a : Account). a.participant) accounts
-  pub desk : ShowsDesk trees (shown_day book.day ∷ [])
-  pub participants : ShowsParticipants trees (map (λ (a : Account). shown_account a.participant a.balance) accounts)
-  pub postings : AreTold postings_query.places counted_of_posting (trees postings_query.tree)
-      (map shown_posting book.postings)
-  pub payments : AreTold payments_query.places counted_of_order (trees payments_query.tree)
-      (map shown_order book.orders)
-  pub marks : AreTold marks_query.places counted_of_mark (trees marks_query.tree) (map shown_mark book.marks)
+  pub desk : Tells desk_table [] (shown_day book.day ∷ [])
+  pub participants : Tells participant_table [] (map account_row accounts)
+  pub postings : Tells posting_table counted_of_posting (map shown_posting book.postings)
+  pub payments : Tells payment_table counted_of_order (map shown_order book.orders)
+  pub marks : Tells mark_table counted_of_mark (map shown_mark book.marks)
+
+-- What is read of trees, sound or not: each row of the five tables is told by one record. A number below zero is read
+-- as 0, which breaks the same rule of a sound book.
+abbrev pub AreReadOf : Trees → List Account → Book → Type 0
+AreReadOf trees = AreTheRecords (λ table counted. AreTold (places table) counted (trees table.tree))
+
+-- one row alone, which is a business day
+abbrev pub IsOneDay : List Row → Type 0
+IsOneDay rows = (day : Day) × FitsDate day.date × (rows ≡ shown_day day ∷ [])
+
+-- each row is in the form of a record
+abbrev pub InForm : {A : Type 0} → (A → Type 0) → List Bool → (A → Row) → List Row → Type 0
+InForm fits counted shown = AllByRecursion (IsFormed fits counted shown)
+
+-- what is said of each table, and of the form of its rows, joined
+abbrev pub of_each : (Table → (List Row → Type 0) → Type 0) → (Type 0 → Type 0 → Type 0) → Type 0
+of_each Says join = join (Says desk_table IsOneDay)
+    (join (Says participant_table (InForm (λ (a : Account). FitsParticipant a.participant) [] account_row))
+    (join (Says posting_table (InForm FitsPosting counted_of_posting shown_posting))
+    (join (Says payment_table (InForm FitsOrder counted_of_order shown_order))
+    (Says mark_table (InForm FitsMark counted_of_mark shown_mark)))))
 
 -- Each row of the five tables is in the form of a record, and the first table has one row.
-pub record AreFormed (trees : Trees) : Type 0 where
-  pub desk : (day : Day) × FitsDate day.date × ShowsDesk trees (shown_day day ∷ [])
-  pub participants : AllByRecursion (IsFormed (λ (a : Account). FitsParticipant a.participant) []
-      (λ (a : Account). shown_account a.participant a.balance))
-      (map (picked participants_query.places) (trees participants_query.tree))
-  pub postings : AllByRecursion (IsFormed FitsPosting counted_of_posting shown_posting)
-      (map (picked postings_query.places) (trees postings_query.tree))
-  pub payments : AllByRecursion (IsFormed FitsOrder counted_of_order shown_order)
-      (map (picked payments_query.places) (trees payments_query.tree))
-  pub marks : AllByRecursion (IsFormed FitsMark counted_of_mark shown_mark)
-      (map (picked marks_query.places) (trees marks_query.tree))
+abbrev pub AreFormed : Trees → Type 0
+AreFormed trees = of_each (λ table Form. Form (map (picked (places table)) (trees table.tree)))
+    (λ one others. one × others)
+
+-- ---- why no book is given
 
 -- each stored balance is the sum from scratch
 abbrev pub AreBalances : Book → List Account → Type 0

@@ -1,23 +1,63 @@
 -- What a reading says of the state that it began in.
-use Rattle.std.specs.Prelude.{◌≡◌, ◌≢◌, List, Err, Result}
-use Rattle.sqlite.specs.State.{State, HasCleanDisk}
+use Rattle.std.specs.Prelude.{◌≡◌, ◌≢◌, Bool, List, [], ◌∷◌, map, Err, Result}
+use Rattle.std.specs.List.{AllByRecursion}
+use Rattle.std.proofs.Common.{subst}
+use Rattle.sqlite.specs.Order.{Row}
+use Rattle.sqlite.specs.State.{State, HasCleanDisk, Survives}
+use Rattle.sqlite.specs.Table.{Table}
 use Rattle.sqlite.specs.Tree.{Trees}
 use Rattle.rtgs_book.specs.declared.account.Account.{Account}
 use Rattle.rtgs_book.specs.declared.Book.{Book}
+use Rattle.rtgs_book.specs.declared.Day.{Day}
 use Rattle.rtgs_book.specs.declared.Fault.{Fault}
 use Rattle.rtgs_book.specs.declared.Fault.TheVariants.{StoreFault, NotADeskFile}
 use Rattle.sqlite.specs.Effect.{Database}
+use Rattle.rtgs_rows.specs.Fitting.{FitsDate}
 use Rattle.rtgs_rows.specs.Querying.{IsDeskFile}
+use Rattle.rtgs_rows.specs.Rows.{shown_day}
+use Rattle.rtgs_rows.specs.Tables.{desk_table, places}
+use Rattle.rtgs_sql_columns.specs.Tables.{query_text}
 use Rattle.rtgs_sql_queries.specs.Answering.{KeepsTables}
 use Rattle.rtgs_sql_queries.specs.Records.{HasRecords}
-use Rattle.rtgs_sql_loading.specs.Accounts.{AreReadOf}
-use Rattle.rtgs_sql_loading.specs.Displaying.{AreDisplayed}
+use Rattle.rtgs_sql_loading.specs.Accounts.{Telling, AreTold, AreReadOf}
+use Rattle.rtgs_sql_loading.specs.Displaying.{DisplaysAs, AreDisplayed}
 
 -- nothing is written: a clean disk was clean before, and the tables and what the database shows stay
 pub record ReadsOn (old new : State) : Type 0 where
   pub clean : HasCleanDisk new → HasCleanDisk old
   pub keeps : HasCleanDisk new → KeepsTables old new
   pub same : HasCleanDisk new → new.now ≡ old.now
+  pub survives : Survives old new (λ _. ⊥)
+
+-- rows of a table are told: by its rows, where the schema is a desk's, and by what its query shows
+abbrev pub IsToldBy : State → Telling
+IsToldBy s table counted told = ((trees : Trees) → IsDeskFile trees s
+    → AreTold (places table) counted (trees table.tree) told) × DisplaysAs s.now (query_text table) counted told
+
+-- These records are read of a table: they are those that it has, where the tables have any, and each is in its form.
+pub record ReadsRecords {A : Type 0} (table : Table) (fits : A → Type 0) (counted : List Bool) (shown : A → Row)
+    (records : List Account → Book → List A) (s : State) (all : List A) : Type 0 where
+  pub given : (accounts : List Account) (book : Book) → HasRecords accounts book s → all ≡ records accounts book
+  pub fit : AllByRecursion fits all
+  pub told : IsToldBy s table counted (map shown all)
+
+-- it was there before what was read first
+pub read_after : {A : Type 0} {t : Table} {fits : A → Type 0} {counted : List Bool} {shown : A → Row}
+    {records : List Account → Book → List A} {first old : State} {all : List A} → ReadsOn first old → HasCleanDisk old
+    → ReadsRecords t fits counted shown records old all → ReadsRecords t fits counted shown records first all
+read_after {t = t} {counted = counted} {shown = shown} {all = all} on clean reads = record {
+  given = λ accounts book held. reads.given accounts book (held.0, (on.keeps clean).rests held.0 held.1, held.2);
+  fit = reads.fit;
+  told = (
+    λ trees file. reads.told.0 trees ((on.keeps clean).file trees file),
+    subst (λ now. DisplaysAs now (query_text t) counted (map shown all)) (on.same clean) reads.told.1,
+  );
+}
+
+-- so the day
+abbrev pub ReadsOneDay : State → Day → Type 0
+ReadsOneDay s day = ReadsRecords desk_table (λ (d : Day). FitsDate d.date) [] shown_day (λ _ book. book.day ∷ []) s
+    (day ∷ [])
 
 -- What is read, in three ways: these are the records, where the tables have any; the rows tell them, where the schema
 -- is a desk's; and the queries show them, whatever the schema is.
@@ -36,3 +76,4 @@ pub record Stops {A : Type 0} (old new : State) (result : Result A Fault) (AreBa
   pub wrong : HasCleanDisk new → (trees : Trees) → IsDeskFile trees old → result ≡ Err NotADeskFile → AreBad trees
   pub unread : HasCleanDisk new → result ≡ Err NotADeskFile → IsUnread old.now
   pub same : HasCleanDisk new → result ≢ Err StoreFault → KeepsTables old new
+  pub survives : Survives old new (λ _. ⊥)

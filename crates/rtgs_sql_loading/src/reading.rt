@@ -1,23 +1,19 @@
 //! The records of a table.
-ghost use Rattle.std.specs.Prelude.{◌≡◌, ◌≢◌, ◌⊎◌, false, Ok, Err, List, [], ◌∷◌, map, IsTrue, IfOk, IfErr, OnOk};
-ghost use Rattle.std.specs.List.{AllByRecursion};
-ghost use Rattle.rtgs_book.specs.declared.Book.{Book};
+ghost use Rattle.std.specs.Prelude.{◌≡◌, ◌≢◌, ◌⊎◌, false, Ok, Err, [], ◌∷◌, map, IsTrue, IfOk, IfErr, OnOk};
 ghost use Rattle.rtgs_book.specs.declared.Rule.{Rule};
 ghost use Rattle.rtgs_book.specs.declared.Day.{Day as DaySpec};
 ghost use Rattle.rtgs_rows.specs.Fitting.{FitsDate};
-ghost use Rattle.rtgs_book.specs.declared.account.Account.{Account as AccountSpec};
-ghost use Rattle.rtgs_sql_queries.specs.Records.{HasRecords};
-ghost use Rattle.rtgs_sql_loading.specs.Accounts.{AreTold};
-ghost use Rattle.rtgs_sql_columns.specs.Blank.{IsBlank};
+ghost use Rattle.rtgs_rows.specs.Querying.{picked};
 ghost use Rattle.rtgs_rows.specs.Rows.{shown_day};
-ghost use Rattle.rtgs_rows.specs.Querying.{picked, IsDeskFile, ShowsDesk};
-ghost use Rattle.rtgs_sql_loading.specs.Displaying.{desk_text, DisplaysAs, IsUnread, IsOneDay};
-ghost use Rattle.rtgs_sql_queries.specs.Displaying.{Displays};
+ghost use Rattle.rtgs_rows.specs.Tables.{desk_table, places};
+ghost use Rattle.rtgs_sql_columns.specs.Tables.{query_text};
 ghost use Rattle.rtgs_sql_queries.specs.Answering.{KeepsTables};
 ghost use Rattle.rtgs_sql_queries.specs.Faults.{IsOfStore, LookFailed};
-ghost use Rattle.rtgs_sql_loading.specs.Loading.{ReadsOn, Stops};
-ghost use Rattle.rtgs_sql_columns.specs.Numbers.{IsFormed};
-ghost use Rattle.sqlite.specs.State.{HasCleanDisk, IsUnchanged, Survives};
+ghost use Rattle.rtgs_sql_loading.specs.Accounts.{InForm, IsOneDay};
+ghost use Rattle.rtgs_sql_loading.specs.Displaying.{IsUnread};
+ghost use Rattle.rtgs_sql_loading.specs.Loading.{ReadsRecords, ReadsOneDay, ReadsOn, Stops, read_after};
+ghost use Rattle.sqlite.specs.Effect.{Database};
+ghost use Rattle.sqlite.specs.State.{State, HasCleanDisk, IsUnchanged, Survives};
 ghost use Rattle.sqlite.specs.Held.{state};
 ghost use Rattle.sqlite.specs.Tree.{Trees};
 
@@ -73,55 +69,82 @@ fn one_day(rows: &[Row]) -> Result<Day, Fault>
     }
 }
 
-/// The business day, of the one row of the table `desk`.
-pub(crate) fn read_day<S: Alter>(alloc: Global, conn: &mut Connection<S>) -> Result<Day, Fault>
-    ensures given { HasCleanDisk (state S.Store conn.new) → (accounts : List AccountSpec) (book : Book)
-        → HasRecords accounts book (state S.Store conn.old) → IfOk result (λ day. day ≡ book.day) }
-    ensures is { HasCleanDisk (state S.Store conn.new) → (trees : Trees) → IsDeskFile trees (state S.Store conn.old)
-        → IfOk result (λ day. FitsDate day.date × ShowsDesk trees (shown_day day ∷ [])) }
-    ensures stops { Stops (state S.Store conn.old) (state S.Store conn.new) result
-        (λ trees. ¬ ((day : DaySpec) × FitsDate day.date × ShowsDesk trees (shown_day day ∷ [])))
-        (λ db. IsUnread db desk_text IsOneDay) }
-    ensures told { HasCleanDisk (state S.Store conn.new) → IfOk result (λ day. FitsDate day.date
-        × Displays (state S.Store conn.old).now desk_text (shown_day day ∷ [])) }
-    ensures on { OnOk result (ReadsOn (state S.Store conn.old) (state S.Store conn.new)) }
-    ensures kinds { (rule : Rule) → result ≢ Err (Fault.Inconsistent rule) }
-    ensures blank { HasCleanDisk (state S.Store conn.new) → IsBlank (state S.Store conn.old) → IfOk result (λ _. ⊥) }
-    ensures survives { Survives (state S.Store conn.old) (state S.Store conn.new) (λ _. ⊥) }
-    ensures mode { conn.old.in_transaction ≡ false → conn.new.in_transaction ≡ false }
-    ensures honest { HasCleanDisk (state S.Store conn.new) → HasCleanDisk (state S.Store conn.old) }
-{
-    match table_rows::<Day, S>(alloc, conn) {
-        Ok(rows) => one_day(rows.as_slice()),
-        Err(error) => Err(fault_of(conn, &error)),
+/// What is read of tables.
+pub(crate) trait FromTables: Sized {
+    // It is what the tables have, where they have records, and what their rows and their queries tell.
+    ghost tells: { State → Self → Type 0 };
+
+    // It was so before what was read first.
+    ghost after: { (first old : State) → ReadsOn first old → HasCleanDisk old → (it : Self) → tells old it
+        → tells first it };
+
+    // The rows of the tables are in form.
+    ghost formed: { Trees → Type 0 };
+
+    // A query has no answer, or shows rows that are not in form.
+    ghost illegible: { Database → Type 0 };
+
+    /// Reads the tables, one after another.
+    fn read<S: Alter>(alloc: Global, conn: &mut Connection<S>) -> Result<Self, Fault>
+        ensures told { HasCleanDisk (state S.Store conn.new) → IfOk result (tells (state S.Store conn.old)) }
+        ensures stops { Stops (state S.Store conn.old) (state S.Store conn.new) result (λ trees. ¬ formed trees)
+            illegible }
+        ensures on { OnOk result (ReadsOn (state S.Store conn.old) (state S.Store conn.new)) }
+        ensures kinds { (rule : Rule) → result ≢ Err (Fault.Inconsistent rule) }
+        ensures mode { conn.old.in_transaction ≡ false → conn.new.in_transaction ≡ false }
+        ensures honest { HasCleanDisk (state S.Store conn.new) → HasCleanDisk (state S.Store conn.old) };
+}
+
+// The business day, of the one row of the table `desk`.
+impl FromTables for Day {
+    ghost tells = { ReadsOneDay };
+
+    ghost after = { λ first old on clean day. read_after on clean };
+
+    ghost formed = { λ trees. IsOneDay (map (picked (places desk_table)) (trees desk_table.tree)) };
+
+    ghost illegible = { λ db. IsUnread db (query_text desk_table) IsOneDay };
+
+    fn read<S: Alter>(alloc: Global, conn: &mut Connection<S>) -> Result<Day, Fault> {
+        match table_rows::<Day, S>(alloc, conn) {
+            Ok(rows) => one_day(rows.as_slice()),
+            Err(error) => Err(fault_of(conn, &error)),
+        }
     }
 }
 
-/// The records of a table, in the order of its query.
-pub(crate) fn read_records<T: TableRow + Drop, S: Alter>(
-    alloc: Global,
-    conn: &mut Connection<S>,
-) -> Result<Vec<T>, Fault>
-    ensures given { HasCleanDisk (state S.Store conn.new) → (accounts : List AccountSpec) (book : Book)
-        → HasRecords accounts book (state S.Store conn.old)
-        → IfOk result (λ v. v.items ≡ T.records accounts book) }
-    ensures is { HasCleanDisk (state S.Store conn.new) → (trees : Trees) → IsDeskFile trees (state S.Store conn.old)
-        → IfOk result (λ v. AllByRecursion T.fits v.items
-        × AreTold T.table.places T.counted (trees T.table.tree) (map T.shown v.items)) }
-    ensures stops { Stops (state S.Store conn.old) (state S.Store conn.new) result
-        (λ trees. ¬ AllByRecursion (IsFormed T.fits T.counted T.shown)
-        (map (picked T.table.places) (trees T.table.tree)))
-        (λ db. IsUnread db T.table.text (AllByRecursion (IsFormed T.fits T.counted T.shown))) }
-    ensures told { HasCleanDisk (state S.Store conn.new) → IfOk result (λ v. AllByRecursion T.fits v.items
-        × DisplaysAs (state S.Store conn.old).now T.table.text T.counted (map T.shown v.items)) }
-    ensures kinds { (rule : Rule) → result ≢ Err (Fault.Inconsistent rule) }
-    ensures on { OnOk result (ReadsOn (state S.Store conn.old) (state S.Store conn.new)) }
-    ensures survives { Survives (state S.Store conn.old) (state S.Store conn.new) (λ _. ⊥) }
-    ensures mode { conn.old.in_transaction ≡ false → conn.new.in_transaction ≡ false }
-    ensures honest { HasCleanDisk (state S.Store conn.new) → HasCleanDisk (state S.Store conn.old) }
-{
-    match table_rows::<T, S>(alloc, conn) {
-        Ok(rows) => decode(alloc, rows.as_slice()),
-        Err(error) => Err(fault_of(conn, &error)),
+// The records of a table, in the order of its query.
+impl<T: TableRow + Drop> FromTables for Vec<T> {
+    ghost tells = { λ s v. ReadsRecords T.table T.fits T.counted T.shown T.records s v.items };
+
+    ghost after = { λ first old on clean v. read_after on clean };
+
+    ghost formed = { λ trees. InForm T.fits T.counted T.shown (map (picked (places T.table)) (trees T.table.tree)) };
+
+    ghost illegible = { λ db. IsUnread db (query_text T.table) (InForm T.fits T.counted T.shown) };
+
+    fn read<S: Alter>(alloc: Global, conn: &mut Connection<S>) -> Result<Vec<T>, Fault> {
+        match table_rows::<T, S>(alloc, conn) {
+            Ok(rows) => decode(alloc, rows.as_slice()),
+            Err(error) => Err(fault_of(conn, &error)),
+        }
+    }
+}
+
+// One after the other.
+impl<A: FromTables + Drop, B: FromTables> FromTables for (A, B) {
+    ghost tells = { λ s both. A.tells s both.0 × B.tells s both.1 };
+
+    ghost after = { λ first old on clean both told.
+        (A.after first old on clean both.0 told.0, B.after first old on clean both.1 told.1) };
+
+    ghost formed = { λ trees. A.formed trees × B.formed trees };
+
+    ghost illegible = { λ db. A.illegible db ⊎ B.illegible db };
+
+    fn read<S: Alter>(alloc: Global, conn: &mut Connection<S>) -> Result<(A, B), Fault> {
+        let one = A::read(alloc, conn)?;
+        let other = B::read(alloc, conn)?;
+        Ok((one, other))
     }
 }

@@ -27,6 +27,7 @@ use Rattle.sqlite_sql.specs.Program.{overlay}
 use Rattle.sqlite_sql.proofs.QueryLemmas.{output_cmp_total}
 use Rattle.sqlite_keyed.proofs.SortLemmas.{sorted_unique}
 use Rattle.sqlite_keyed.proofs.ListLemmas.{ascending-map, ascending-filter, ascending_weaker, map-map, map_same}
+use Rattle.sqlite.specs.Table.{Table}
 use Rattle.sqlite.specs.Tree.{Trees, IsAscending}
 use Rattle.sqlite.specs.Effect.{Database}
 use Rattle.sqlite.specs.State.{State, HasCleanDisk, Survives}
@@ -50,7 +51,8 @@ use Rattle.rtgs_sql_queries.specs.Answering.{IsQuery, KeepsTables}
 use Rattle.rtgs_sql_look_ups.specs.Finding.{one_of, IsLook, first_row_query, after_tests}
 use Rattle.rtgs_sql_look_ups.proofs.Passing.{none_moved, truth_of, same_text, filter_map}
 use Rattle.rtgs_sql_look_ups.proofs.FindingTexts.{order_tests, posting_tests, order_query, posting_query}
-use Rattle.rtgs_sql_queries.specs.TableQueries.{TableQuery, columns_of, postings_query, payments_query}
+use Rattle.rtgs_sql_queries.specs.TableQueries.{columns_of}
+use Rattle.rtgs_rows.specs.Tables.{posting_table, payment_table}
 
 -- ---- what is made of the rows
 
@@ -210,7 +212,7 @@ take_found shown hit (a ∷ all) = elim (cases_Bool (hit a)) [
   | inr other ↦ rw other (take_found shown hit all)
 ]
 
-pub first_rows : OneTableAnswers → {A : Type 0} (t : TableQuery) (row shown : A → Row) (id : A → ℤ) (hit : A
+pub first_rows : OneTableAnswers → {A : Type 0} (t : Table) (row shown : A → Row) (id : A → ℤ) (hit : A
     → Bool) (params : Row)
     → ((a : A) → passes after_tests params (row a) ≡ hit a)
     → ((a b : A) → int_cmp (id a) (id b) ≡ Less → output_cmp (first_row_query t)
@@ -341,11 +343,11 @@ pub finds_posting : OneTableAnswers → (reference : List ℕ) (book : Book) (ol
     → IfOk r (λ rows. rows.items ≡ map shown_posting (one_of (posting_named book reference)))
 unfolding posting_named
 finds_posting answers reference book old content rests of r given same answer =
-    let here : old.now.trees postings_query.tree ≡ map posting_row book.postings =
-    ap (λ (d : Database). d.trees postings_query.tree) rests.clean
+    let here : old.now.trees posting_table.tree ≡ map posting_row book.postings =
+    ap (λ (d : Database). d.trees posting_table.tree) rests.clean
     ∙ ap (λ (t : Tables). t.postings) rests.holds.rows ∙ ap (map posting_row) of.records.postings in
-    found_rows answers posting_row shown_posting (is_posting_named reference) (Text reference ∷ []) postings_query.tree
-    posting_tests (columns_of postings_query) (posting_passes reference) (λ p. refl) old.now.trees book.postings here
+    found_rows answers posting_row shown_posting (is_posting_named reference) (Text reference ∷ []) posting_table.tree
+    posting_tests (columns_of posting_table) (posting_passes reference) (λ p. refl) old.now.trees book.postings here
     (one_named (λ (p : Posting). p.reference) bytes_eq reference book.postings (bytes_tied reference)
     of.sound.posting_references) r
     (subst (λ p. IfOk r (λ rows. IsAnswer posting_query (overlay old.now.trees []) p rows.items)) same answer)
@@ -357,11 +359,11 @@ pub finds_order : OneTableAnswers → (sender reference : List ℕ) (book : Book
     → IfOk r (λ rows. rows.items ≡ map shown_order (one_of (order_named book sender reference)))
 unfolding order_named
 finds_order answers sender reference book old content rests of r given same answer =
-    let here : old.now.trees payments_query.tree ≡ map payment_row book.orders =
-    ap (λ (d : Database). d.trees payments_query.tree) rests.clean
+    let here : old.now.trees payment_table.tree ≡ map payment_row book.orders =
+    ap (λ (d : Database). d.trees payment_table.tree) rests.clean
     ∙ ap (λ (t : Tables). t.payments) rests.holds.rows ∙ ap (map payment_row) of.records.orders in
     found_rows answers payment_row shown_order (is_order_named sender reference) (Text sender ∷ Text reference ∷ [])
-    payments_query.tree order_tests (columns_of payments_query) (order_passes sender reference) (λ o. refl)
+    payment_table.tree order_tests (columns_of payment_table) (order_passes sender reference) (λ o. refl)
     old.now.trees book.orders here
     (one_named (λ (o : Order). (o.sender, o.reference)) is_same_name (sender, reference) book.orders
     (names_tied (sender, reference)) of.sound.order_references) r

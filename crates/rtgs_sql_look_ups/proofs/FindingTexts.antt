@@ -7,13 +7,14 @@ use Rattle.sqlite.specs.Term.{Term, col, op2}
 use Rattle.sqlite_tied.specs.Compute.{everything}
 use Rattle.sqlite_resolve.specs.Compile.{first}
 use Rattle.sqlite.specs.Listing.{understood}
-use Rattle.rtgs_rows.specs.Tables.{desk_schema}
+use Rattle.rtgs_rows.specs.Tables.{desk_schema, posting_table, payment_table, mark_table}
+use Rattle.rtgs_sql_columns.specs.Tables.{column_names}
 use Rattle.sqlite.specs.Query.{Query}
 use Rattle.rtgs_sql_columns.specs.OneTable.{simple}
 use Rattle.rtgs_sql_queries.specs.Answering.{Returnless}
 use Rattle.rtgs_sql_queries.specs.TableQueries.{Seeks}
 use Rattle.rtgs_sql_look_ups.specs.Finding.{IsFirstQuery}
-use Rattle.rtgs_sql_queries.specs.TableQueries.{columns_of, postings_query, payments_query, marks_query}
+use Rattle.rtgs_sql_queries.specs.TableQueries.{columns_of}
 
 -- ---- by name
 
@@ -25,9 +26,9 @@ abbrev pub order_tests : List Term
 order_tests = op2 (Compare Eq Binary) (col 1 2) (col 0 0) ∷ op2 (Compare Eq Binary) (col 1 3) (col 0 1) ∷ []
 
 abbrev pub order_query : Query
-order_query = simple payments_query.tree order_tests (columns_of payments_query) []
+order_query = simple payment_table.tree order_tests (columns_of payment_table) []
 
-pub order_seeks : Seeks order_text 2 order_query payments_query.names
+pub order_seeks : Seeks order_text 2 order_query (column_names payment_table)
 unfolding understood everything desk_schema
 order_seeks = record {
   asks = record { command = refl; plain = (refl, refl); whole = refl; given = refl };
@@ -45,9 +46,9 @@ abbrev pub posting_tests : List Term
 posting_tests = op2 (Compare Eq Binary) (col 1 3) (col 0 0) ∷ []
 
 abbrev pub posting_query : Query
-posting_query = simple postings_query.tree posting_tests (columns_of postings_query) []
+posting_query = simple posting_table.tree posting_tests (columns_of posting_table) []
 
-pub posting_seeks : Seeks posting_text 1 posting_query postings_query.names
+pub posting_seeks : Seeks posting_text 1 posting_query (column_names posting_table)
 unfolding understood everything desk_schema
 posting_seeks = record {
   asks = record { command = refl; plain = (refl, refl); whole = refl; given = refl };
@@ -64,7 +65,7 @@ abbrev pub posting_after_text : List ℕ
 posting_after_text = codes
     "SELECT number, code, reference, cents, date FROM posting WHERE number > ?1 ORDER BY number LIMIT 1"
 
-pub posting_after_asks : IsFirstQuery postings_query posting_after_text
+pub posting_after_asks : IsFirstQuery posting_table posting_after_text
 unfolding understood everything desk_schema
 posting_after_asks = record {
   seeks = record {
@@ -78,7 +79,7 @@ abbrev pub order_after_text : List ℕ
 order_after_text = codes "SELECT number, sender, reference, receiver, amount, date, state, mark FROM payment "
     ++ codes "WHERE number > ?1 ORDER BY number LIMIT 1"
 
-pub order_after_asks : IsFirstQuery payments_query order_after_text
+pub order_after_asks : IsFirstQuery payment_table order_after_text
 unfolding understood everything desk_schema
 order_after_asks = record {
   seeks = record {
@@ -91,7 +92,7 @@ order_after_asks = record {
 abbrev pub mark_after_text : List ℕ
 mark_after_text = codes "SELECT number, date, many, value FROM mark WHERE number > ?1 ORDER BY number LIMIT 1"
 
-pub mark_after_asks : IsFirstQuery marks_query mark_after_text
+pub mark_after_asks : IsFirstQuery mark_table mark_after_text
 unfolding understood everything desk_schema
 mark_after_asks = record {
   seeks = record {

@@ -21,49 +21,49 @@ use Rattle.rtgs_sql_columns.specs.OneTable.{OneTableAnswers}
 use Rattle.rtgs_sql_queries.specs.Laws.{RecordsAreRead}
 use Rattle.rtgs_sql_columns.specs.Numbers.{counted_of_posting, counted_of_order, counted_of_mark}
 use Rattle.rtgs_sql_look_ups.specs.Finding.{ShowsFirst}
-use Rattle.rtgs_sql_columns.specs.Tables.{postings_query, payments_query, marks_query}
+use Rattle.rtgs_rows.specs.Tables.{posting_table, payment_table, mark_table}
 
-pub posting_first : RecordsStandInOrder → OneTableAnswers → RecordsAreRead
+pub posting_first : RecordsStandInOrder → OneTableAnswers → RecordsAreRead counted_of_posting shown_posting
     → (number : ℕ) (book : Book) (s : State) (content : Content) → Rests content s
-    → IsBookOf book content → ShowsFirst postings_query counted_of_posting shown_posting s.now.trees number
+    → IsBookOf book content → ShowsFirst posting_table counted_of_posting shown_posting s.now.trees number
     (first_above (λ (p : Posting). p.number) number book.postings)
 posting_first in_order answers read number book s content rests of rows a =
-    let here : s.now.trees postings_query.tree ≡ map posting_row book.postings =
-    ap (λ (d : Database). d.trees postings_query.tree) rests.clean
+    let here : s.now.trees posting_table.tree ≡ map posting_row book.postings =
+    ap (λ (d : Database). d.trees posting_table.tree) rests.clean
     ∙ ap (λ (t : Tables). t.postings) rests.holds.rows ∙ ap (map posting_row) of.records.postings in
     let up = subst (IsAscending (λ (a b : Posting). int_cmp (pos a.number) (pos b.number) ≡ Less)) of.records.postings
     (in_order book content of).postings in
-    read.postings rows _ (first_rows answers postings_query posting_row shown_posting (λ (p : Posting). pos p.number)
+    read rows _ (first_rows answers posting_table posting_row shown_posting (λ (p : Posting). pos p.number)
     (λ (p : Posting). nat_lt number p.number) (Int (pos number) ∷ []) (posting_is_after number)
     (λ a b low. then-Equal _ ∙ value_cmp-Int (pos a.number) (pos b.number) ∙ low) (λ _. refl) s.now.trees
     book.postings up here rows a)
 
-pub order_first : RecordsStandInOrder → OneTableAnswers → RecordsAreRead
+pub order_first : RecordsStandInOrder → OneTableAnswers → RecordsAreRead counted_of_order shown_order
     → (number : ℕ) (book : Book) (s : State) (content : Content) → Rests content s
-    → IsBookOf book content → ShowsFirst payments_query counted_of_order shown_order s.now.trees number
+    → IsBookOf book content → ShowsFirst payment_table counted_of_order shown_order s.now.trees number
     (first_above (λ (o : Order). o.number) number book.orders)
 order_first in_order answers read number book s content rests of rows a =
-    let here : s.now.trees payments_query.tree ≡ map payment_row book.orders =
-    ap (λ (d : Database). d.trees payments_query.tree) rests.clean
+    let here : s.now.trees payment_table.tree ≡ map payment_row book.orders =
+    ap (λ (d : Database). d.trees payment_table.tree) rests.clean
     ∙ ap (λ (t : Tables). t.payments) rests.holds.rows ∙ ap (map payment_row) of.records.orders in
     let up = subst (IsAscending (λ (a b : Order). int_cmp (pos a.number) (pos b.number) ≡ Less)) of.records.orders
     (in_order book content of).orders in
-    read.orders rows _ (first_rows answers payments_query payment_row shown_order (λ (o : Order). pos o.number)
+    read rows _ (first_rows answers payment_table payment_row shown_order (λ (o : Order). pos o.number)
     (λ (o : Order). nat_lt number o.number) (Int (pos number) ∷ []) (order_is_after number)
     (λ a b low. then-Equal _ ∙ value_cmp-Int (pos a.number) (pos b.number) ∙ low) (λ _. refl) s.now.trees
     book.orders up here rows a)
 
-pub mark_first : RecordsStandInOrder → OneTableAnswers → RecordsAreRead
+pub mark_first : RecordsStandInOrder → OneTableAnswers → RecordsAreRead counted_of_mark shown_mark
     → (number : ℕ) (book : Book) (s : State) (content : Content) → Rests content s
-    → IsBookOf book content → ShowsFirst marks_query counted_of_mark shown_mark s.now.trees number
+    → IsBookOf book content → ShowsFirst mark_table counted_of_mark shown_mark s.now.trees number
     (first_above (λ (m : Mark). m.number) number book.marks)
 mark_first in_order answers read number book s content rests of rows a =
-    let here : s.now.trees marks_query.tree ≡ map mark_row book.marks =
-    ap (λ (d : Database). d.trees marks_query.tree) rests.clean
+    let here : s.now.trees mark_table.tree ≡ map mark_row book.marks =
+    ap (λ (d : Database). d.trees mark_table.tree) rests.clean
     ∙ ap (λ (t : Tables). t.marks) rests.holds.rows ∙ ap (map mark_row) of.records.marks in
     let up = subst (IsAscending (λ (a b : Mark). int_cmp (pos a.number) (pos b.number) ≡ Less)) of.records.marks
     (in_order book content of).marks in
-    read.marks rows _ (first_rows answers marks_query mark_row shown_mark (λ (m : Mark). pos m.number)
+    read rows _ (first_rows answers mark_table mark_row shown_mark (λ (m : Mark). pos m.number)
     (λ (m : Mark). nat_lt number m.number) (Int (pos number) ∷ []) (mark_is_after number)
     (λ a b low. then-Equal _ ∙ value_cmp-Int (pos a.number) (pos b.number) ∙ low) (λ _. refl) s.now.trees
     book.marks up here rows a)

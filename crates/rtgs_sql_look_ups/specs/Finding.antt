@@ -6,6 +6,7 @@ use Rattle.sqlite.specs.declared.types.Value.TheVariants.{Int}
 use Rattle.sqlite.specs.Order.{Row}
 use Rattle.sqlite.specs.Query.{Query, IsAnswer}
 use Rattle.sqlite.specs.Term.{Term, lit, col, op2}
+use Rattle.sqlite.specs.Table.{Table}
 use Rattle.sqlite.specs.Tree.{Trees}
 use Rattle.sqlite.specs.State.{HasCleanDisk, Survives}
 use Rattle.sqlite.specs.Held.{Held, state}
@@ -13,13 +14,15 @@ use Rattle.sqlite_sql.specs.Program.{overlay}
 use Rattle.sqlite_sql.specs.declared.ops.BinaryOp.TheVariants.{Compare}
 use Rattle.sqlite_sql.specs.declared.ops.CompareOp.TheVariants.{Gt}
 use Rattle.sqlite_resolve.specs.Compile.{first}
+use Rattle.sqlite_schema.specs.Names.{place_of}
 use Rattle.sqlite_trees.specs.declared.store.Store.{Ghosts}
 use Rattle.rtgs_book.specs.declared.Fault.{Fault}
 use Rattle.rtgs_book.specs.declared.Fault.TheVariants.{OutOfMemory, StoreFault}
 use Rattle.rtgs_sql_columns.specs.Numbers.{as_read}
 use Rattle.rtgs_sql_columns.specs.OneTable.{simple}
+use Rattle.rtgs_sql_columns.specs.Tables.{column_names}
 use Rattle.rtgs_sql_queries.specs.Answering.{KeepsTables, Returnless}
-use Rattle.rtgs_sql_queries.specs.TableQueries.{TableQuery, Seeks, columns_of, rising_by}
+use Rattle.rtgs_sql_queries.specs.TableQueries.{Seeks, columns_of, rising_by}
 
 -- the value alone, or nothing
 abbrev pub one_of : {A : Type 0} → Option A → List A
@@ -40,18 +43,18 @@ abbrev pub after_tests : List Term
 after_tests = op2 (Compare Gt Binary) (col 1 0) (col 0 0) ∷ []
 
 -- the first row of the table whose number is above the parameter
-abbrev pub first_row_query : TableQuery → Query
-first_row_query t = record (simple t.tree after_tests (columns_of t) (rising_by t.sorted_by)) {
+abbrev pub first_row_query : Table → Query
+first_row_query t = record (simple t.tree after_tests (columns_of t) (rising_by (place_of t 0))) {
   limit = lit (Int (pos 1));
 }
 
 -- the text is that query, which writes nothing
-pub record IsFirstQuery (t : TableQuery) (text : List ℕ) : Type 0 where
-  pub seeks : Seeks text 1 (first_row_query t) t.names
+pub record IsFirstQuery (t : Table) (text : List ℕ) : Type 0 where
+  pub seeks : Seeks text 1 (first_row_query t) (column_names t)
   pub reads : Returnless (first text)
 
 -- what it answers over these trees tells this record, or none
-abbrev pub ShowsFirst : {A : Type 0} → TableQuery → List Bool → (A → Row) → Trees → ℕ → Option A → Type 0
+abbrev pub ShowsFirst : {A : Type 0} → Table → List Bool → (A → Row) → Trees → ℕ → Option A → Type 0
 ShowsFirst t counted shown trees number found = (rows : List Row)
     → IsAnswer (first_row_query t) (overlay trees []) (Int (pos number) ∷ []) rows
     → map (as_read counted) rows ≡ map shown (one_of found)

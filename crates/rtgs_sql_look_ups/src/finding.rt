@@ -106,7 +106,7 @@ pub fn find_order<S: Alter>(
     ensures found { HasCleanDisk (state S.Store conn.new) → (book : Book) → HoldsBook S.Store conn.old book
         → IfOk result (λ found. found ≡ order_named book sender.now reference.now) }
 {
-    records_are_read();
+    records_are_read::<Order>();
     match order_rows(conn, sender, reference) {
         Ok(rows) => only_record(rows.as_slice()),
         Err(error) => Err(fault_of(conn, &error)),
@@ -122,7 +122,7 @@ pub fn find_posting<S: Alter>(
     ensures found { HasCleanDisk (state S.Store conn.new) → (book : Book) → HoldsBook S.Store conn.old book
         → IfOk result (λ found. found ≡ posting_named book reference.now) }
 {
-    records_are_read();
+    records_are_read::<Posting>();
     match posting_rows(conn, reference) {
         Ok(rows) => only_record(rows.as_slice()),
         Err(error) => Err(fault_of(conn, &error)),

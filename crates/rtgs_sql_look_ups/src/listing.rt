@@ -72,7 +72,7 @@ impl Listed for Posting {
     ) -> Result<Option<Posting>, Fault> {
         records_stand_in_order();
         one_table_answers();
-        records_are_read();
+        records_are_read::<Posting>();
         first_record::<Posting, S>(
             conn,
             "SELECT number, code, reference, cents, date FROM posting WHERE number > ?1 ORDER BY number LIMIT 1",
@@ -103,7 +103,7 @@ impl Listed for Order {
     ) -> Result<Option<Order>, Fault> {
         records_stand_in_order();
         one_table_answers();
-        records_are_read();
+        records_are_read::<Order>();
         first_record::<Order, S>(
             conn,
             "SELECT number, sender, reference, receiver, amount, date, state, mark FROM payment \
@@ -129,7 +129,7 @@ impl Listed for Mark {
     fn first_after<S: Alter>(conn: &mut Connection<S>, number: u64) -> Result<Option<Mark>, Fault> {
         records_stand_in_order();
         one_table_answers();
-        records_are_read();
+        records_are_read::<Mark>();
         first_record::<Mark, S>(
             conn,
             "SELECT number, date, many, value FROM mark WHERE number > ?1 ORDER BY number LIMIT 1",

@@ -17,7 +17,9 @@ use Rattle.sqlite_sql.proofs.QueryLemmas.{output_cmp_total}
 use Rattle.sqlite_keyed.proofs.SortLemmas.{sorted_unique}
 use Rattle.sqlite_keyed.proofs.ListLemmas.{ascending-map, ascending_weaker, map-map, map_same, IsPermutation-same}
 use Rattle.std.specs.Ordering.{int_cmp}
+use Rattle.sqlite.specs.Table.{Table}
 use Rattle.sqlite.specs.Tree.{Trees, IsAscending}
+use Rattle.sqlite_schema.specs.Names.{place_of}
 use Rattle.sqlite.specs.Effect.{Database}
 use Rattle.sqlite.specs.State.{State, Shown, IsUnchanged, IsRolledBack}
 use Rattle.sqlite.proofs.Callers.{reads_as, IsPlain}
@@ -25,13 +27,14 @@ use Rattle.sqlite.specs.Listing.{reads_listing}
 use Rattle.sqlite_typing.specs.Types.{accepts_program}
 use Rattle.rtgs_book.specs.declared.Book.{Book}
 use Rattle.rtgs_book.specs.declared.account.Account.{Account}
-use Rattle.rtgs_rows.specs.Tables.{desk_schema}
+use Rattle.rtgs_rows.specs.Tables.{desk_schema, places}
+use Rattle.rtgs_sql_columns.specs.Tables.{column_names, query_text}
 use Rattle.rtgs_rows.specs.Content.{Content, Rests, tables_of}
 use Rattle.rtgs_rows.specs.Querying.{IsDeskFile, picked}
 use Rattle.rtgs_sql_queries.specs.Records.{AreRead}
 use Rattle.rtgs_sql_queries.specs.Answering.{FailsAmid}
 use Rattle.rtgs_sql_queries.specs.Faults.{IsOfStore}
-use Rattle.rtgs_sql_queries.specs.TableQueries.{TableQuery, IsTableQuery, IsOneQuery, ShowsOwn, whole_table}
+use Rattle.rtgs_sql_queries.specs.TableQueries.{IsTableQuery, IsOneQuery, ShowsOwn, whole_table}
 use Rattle.rtgs_sql_queries.specs.TableQueries.{shown_columns}
 use Rattle.rtgs_sql_queries.specs.TableQueries.{rising_by}
 use Rattle.rtgs_sql_queries.proofs.Refusals.{of_store, intact}
@@ -65,56 +68,57 @@ all_pass : (rows : List Row) → filter (passes [] []) rows ≡ rows
 all_pass [] = refl
 all_pass (r ∷ rows) = ap (λ more. r ∷ more) (all_pass rows)
 
-shows_places : (places : List ℕ) (row : Row) → shows (shown_columns places) [] row ≡ picked places row
+shows_places : (columns : List ℕ) (row : Row) → shows (shown_columns columns) [] row ≡ picked columns row
 shows_places [] row = refl
-shows_places (place ∷ places) row = ap (λ (more : Row). column row place ∷ more) (shows_places places row)
+shows_places (at ∷ columns) row = ap (λ (more : Row). column row at ∷ more) (shows_places columns row)
 
 -- no table of a query stands in place of one that is stored
 none_given : (trees : Trees) (tree : ℕ) → overlay trees [] tree ≡ trees tree
 none_given trees tree = elim (nat_le (2 ^ 31) tree) as (λ b. unwrap_or (cond {A = Option (List Row)} b None None)
     (trees tree) ≡ trees tree) [ true ↦ refl | false ↦ refl ]
 
-module _ (t : TableQuery) (is : IsTableQuery t) (old new : State) (schema_is : old.now.schema ≡ desk_schema) where
-  asked : IsOneQuery old.now.schema t.text 0 (record { lets = []; body = whole_table t }) t.names
-  asked = subst (λ k. IsOneQuery k t.text 0 (record { lets = []; body = whole_table t }) t.names) (sym schema_is)
-      is.asks
+module _ (t : Table) (is : IsTableQuery t) (old new : State) (schema_is : old.now.schema ≡ desk_schema) where
+  asked : IsOneQuery old.now.schema (query_text t) 0 (record { lets = []; body = whole_table t }) (column_names t)
+  asked = subst (λ k. IsOneQuery k (query_text t) 0 (record { lets = []; body = whole_table t }) (column_names t))
+      (sym schema_is) is.asks
 
-  unchanged : (rows : List Row) → Shown t.text [] old new rows → IsUnchanged old new
+  unchanged : (rows : List Row) → Shown (query_text t) [] old new rows → IsUnchanged old new
   unfolding Shown
   unchanged rows h =
       let bare = subst IsPlain h.1.is asked.plain in
       let it = rw bare.0 at h.2 in
       it.3
 
-  pub refused : (r : Result (Vec Row Global) Error) → IfErr r (FailsAmid t.text old new) → IfErr r IsOfStore
+  pub refused : (r : Result (Vec Row Global) Error) → IfErr r (FailsAmid (query_text t) old new) → IfErr r IsOfStore
   refused (Ok rows) h = tt
-  refused (Err e) (inl early) = of_store t.text [] old new _ t.names asked e
-      (subst (λ s. reads_listing s t.text ≡ false) (sym schema_is) is.unlisted)
+  refused (Err e) (inl early) = of_store (query_text t) [] old new _ (column_names t) asked e
+      (subst (λ s. reads_listing s (query_text t) ≡ false) (sym schema_is) is.unlisted)
       (subst (λ s. accepts_program s [] (whole_table t) [] ≡ true) (sym schema_is) is.typed)
-      (overflows_never t.tree (shown_columns t.places) (rising_by t.sorted_by) (overlay old.now.trees []) []) early
+      (overflows_never t.tree (shown_columns (places t)) (rising_by (place_of t 0)) (overlay old.now.trees []) []) early
   refused (Err e) (inr memory) = subst IsOfStore (sym memory.0) tt
 
   -- nothing was changed, or all was rolled back
-  left : (r : Result (Vec Row Global) Error) → IfOk r (λ rows. Shown t.text [] old new rows.items)
-      → IfErr r (FailsAmid t.text old new) → IsUnchanged old new ⊎ IsRolledBack old new
+  left : (r : Result (Vec Row Global) Error) → IfOk r (λ rows. Shown (query_text t) [] old new rows.items)
+      → IfErr r (FailsAmid (query_text t) old new) → IsUnchanged old new ⊎ IsRolledBack old new
   left (Ok rows) shown failed = inl (unchanged rows.items shown)
-  left (Err e) shown (inl early) = intact t.text [] old new _ t.names asked e early
+  left (Err e) shown (inl early) = intact (query_text t) [] old new _ (column_names t) asked e early
   left (Err e) shown (inr memory) = inl memory.1
 
-  sorted : OneTableAnswers → (rows : List Row) → Shown t.text [] old new rows
+  sorted : OneTableAnswers → (rows : List Row) → Shown (query_text t) [] old new rows
       → Sorts (whole_table t) [] (old.now.trees t.tree) rows
   sorted answers rows h =
-      let read = reads_as t.text [] old new desk_schema schema_is _ is.asks.command is.asks.plain is.unlisted rows h in
+      let read = reads_as (query_text t) [] old new desk_schema schema_is _ is.asks.command is.asks.plain is.unlisted
+      rows h in
       subst (λ passed. Sorts (whole_table t) [] passed rows) (all_pass _ ∙ none_given old.now.trees t.tree)
-      (answers.sorted t.tree [] (shown_columns t.places) (rising_by t.sorted_by) _ [] rows (read.answer Null))
+      (answers.sorted t.tree [] (shown_columns (places t)) (rising_by (place_of t 0)) _ [] rows (read.answer Null))
 
-module _ (t : TableQuery) (is : IsTableQuery t) (old new : State) where
-  pub intact_after : (r : Result (Vec Row Global) Error) → IfOk r (λ rows. Shown t.text [] old new rows.items)
-      → IfErr r (FailsAmid t.text old new) → IsTrue new.is_open → KeepsTables old new
+module _ (t : Table) (is : IsTableQuery t) (old new : State) where
+  pub intact_after : (r : Result (Vec Row Global) Error) → IfOk r (λ rows. Shown (query_text t) [] old new rows.items)
+      → IfErr r (FailsAmid (query_text t) old new) → IsTrue new.is_open → KeepsTables old new
   intact_after r shown failed alive = keeps old new (λ trees file. file_on trees old new file
       (left t is old new (schema_of trees old file) r shown failed) alive)
 
-  pub kept_after : (r : Result (Vec Row Global) Error) → IfOk r (λ rows. Shown t.text [] old new rows.items)
+  pub kept_after : (r : Result (Vec Row Global) Error) → IfOk r (λ rows. Shown (query_text t) [] old new rows.items)
       → OnOk r (KeepsTables old new)
   kept_after (Ok rows) shown = keeps old new (λ trees file.
       let same = unchanged t is old new (schema_of trees old file) rows.items shown in
@@ -123,28 +127,28 @@ module _ (t : TableQuery) (is : IsTableQuery t) (old new : State) where
 
   -- it shows the columns that it names, of each row of the table
   pub shows_all : OneTableAnswers → (trees : Trees) → IsDeskFile trees old → (r : Result (Vec Row Global) Error)
-      → IfOk r (λ rows. Shown t.text [] old new rows.items)
-      → IfOk r (λ rows. IsPermutation (map (picked t.places) (trees t.tree)) rows.items)
+      → IfOk r (λ rows. Shown (query_text t) [] old new rows.items)
+      → IfOk r (λ rows. IsPermutation (map (picked (places t)) (trees t.tree)) rows.items)
   shows_all answers trees file (Err e) h = tt
   shows_all answers trees file (Ok rows) h =
       let here : old.now.trees t.tree ≡ trees t.tree = ap (λ (d : Database). d.trees t.tree) file.clean
       ∙ ap (λ (all : Trees). all t.tree) file.trees_are in
       subst (λ all. IsPermutation all rows.items)
-      (map_same (shows (shown_columns t.places) []) (picked t.places) (shows_places t.places) _
-      ∙ ap (map (picked t.places)) here)
+      (map_same (shows (shown_columns (places t)) []) (picked (places t)) (shows_places (places t)) _
+      ∙ ap (map (picked (places t))) here)
       (answers.shown (whole_table t) [] _ rows.items
       (sorted t is old new (schema_of trees old file) answers rows.items h))
 
 -- over tables with records, it shows those that a book has of the table
-pub shows_own : OneTableAnswers → {A : Type 0} (t : TableQuery) (is : IsTableQuery t) (fits : A → Type 0) (shown : A
+pub shows_own : OneTableAnswers → {A : Type 0} (t : Table) (is : IsTableQuery t) (fits : A → Type 0) (shown : A
     → Row)
     (records : List Account → Book → List A) → ShowsOwn t fits shown records → (old new : State) (content : Content)
     (accounts : List Account) (book : Book) → Rests content old → AreRead content accounts book
-    → (r : Result (Vec Row Global) Error) → IfOk r (λ rows. Shown t.text [] old new rows.items)
+    → (r : Result (Vec Row Global) Error) → IfOk r (λ rows. Shown (query_text t) [] old new rows.items)
     → IfOk r (λ rows. rows.items ≡ map shown (records accounts book))
 shows_own answers t is fits shown records own old new content accounts book rests are (Err e) h = tt
 shows_own answers t is fits shown records own old new content accounts book rests are (Ok rows) h =
-    (own content accounts book are).1 old.now.trees
+    own.rows content accounts book are old.now.trees
     (ap (λ (d : Database). tables_of d.trees) rests.clean ∙ rests.holds.rows) rows.items
     (sorted t is old new (ap (λ (d : Database). d.schema) rests.clean ∙ rests.schema) answers rows.items h)
 
@@ -158,7 +162,7 @@ shown_are q stored rows goals up same s = s.shown ∙ ap (map (λ (o : Output). 
     s.sorted)
 
 -- a table in the order of its row numbers
-pub numbered : {A : Type 0} (t : TableQuery) (row shown : A → Row) (id : A → ℤ)
+pub numbered : {A : Type 0} (t : Table) (row shown : A → Row) (id : A → ℤ)
     → ((a b : A) → int_cmp (id a) (id b) ≡ Less → output_cmp (whole_table t)
     (output (whole_table t) ([] ∷ row a ∷ [])) (output (whole_table t) ([] ∷ row b ∷ [])) ≡ Less)
     → ((a : A) → (output (whole_table t) ([] ∷ row a ∷ [])).1 ≡ shown a)

@@ -7,6 +7,7 @@ use Rattle.sqlite.specs.Collation.TheVariants.{Binary}
 use Rattle.sqlite.specs.Command.TheVariants.{Select}
 use Rattle.sqlite.specs.Order.{Row}
 use Rattle.sqlite.specs.Schema.{Schema}
+use Rattle.sqlite.specs.Table.{Table}
 use Rattle.sqlite.specs.Term.{Term, col}
 use Rattle.sqlite.specs.Tree.{Trees}
 use Rattle.sqlite.specs.Query.{Query}
@@ -15,6 +16,7 @@ use Rattle.sqlite.specs.Given.{IsPlain}
 use Rattle.sqlite.proofs.Callers.{command_of}
 use Rattle.sqlite_ast.specs.declared.Statement.{Statement}
 use Rattle.sqlite_ast.specs.declared.Statement.TheVariants as written
+use Rattle.sqlite_schema.specs.Names.{place_of}
 use Rattle.sqlite_schema.specs.declared.program.Program.{Program}
 use Rattle.sqlite_syntax.specs.declared.statement.Parsed.{Parsed}
 use Rattle.sqlite_typing.specs.Types.{accepts_program}
@@ -25,13 +27,11 @@ use Rattle.sqlite_resolve.specs.Lowering.{Checked}
 use Rattle.sqlite_resolve.specs.Compile.{first, compiled}
 use Rattle.rtgs_book.specs.declared.Book.{Book}
 use Rattle.rtgs_book.specs.declared.account.Account.{Account}
-use Rattle.rtgs_rows.specs.Tables.{desk_schema}
+use Rattle.rtgs_rows.specs.Tables.{desk_schema, places}
 use Rattle.rtgs_rows.specs.Content.{Content, tables_of, tables_for}
 use Rattle.rtgs_sql_queries.specs.Records.{AreRead}
 use Rattle.rtgs_sql_columns.specs.OneTable.{simple, Sorts}
-pub use Rattle.rtgs_sql_columns.specs.Tables.{TableQuery, desk_query, participants_query, postings_query}
-pub use Rattle.rtgs_sql_columns.specs.Tables.{payments_query}
-pub use Rattle.rtgs_sql_columns.specs.Tables.{marks_query}
+use Rattle.rtgs_sql_columns.specs.Tables.{column_names, query_text}
 
 -- ---- what such a text is to the engine
 
@@ -63,24 +63,24 @@ abbrev pub shown_columns : List ℕ → List Term
 shown_columns = map (col 1)
 
 -- what the query shows of a row
-abbrev pub columns_of : TableQuery → List Term
-columns_of t = shown_columns t.places
+abbrev pub columns_of : Table → List Term
+columns_of t = shown_columns (places t)
 
 -- sorted by one column, upward
 abbrev pub rising_by : ℕ → List (Term × Key)
 rising_by place = (col 1 place, record { collation = Binary; descending = false }) ∷ []
 
 -- the columns that are named, of all rows of the table, sorted by one of them
-abbrev pub whole_table : TableQuery → Query
-whole_table t = simple t.tree [] (columns_of t) (rising_by t.sorted_by)
+abbrev pub whole_table : Table → Query
+whole_table t = simple t.tree [] (columns_of t) (rising_by (place_of t 0))
 
 -- the text is that query: over the tables of a desk it is this one, and over any schema it is some query
-pub record IsTableQuery (t : TableQuery) : Type 0 where
-  pub asks : IsOneQuery desk_schema t.text 0 (record { lets = []; body = whole_table t }) t.names
+pub record IsTableQuery (t : Table) : Type 0 where
+  pub asks : IsOneQuery desk_schema (query_text t) 0 (record { lets = []; body = whole_table t }) (column_names t)
   pub typed : accepts_program desk_schema [] (whole_table t) [] ≡ true
-  pub unlisted : reads_listing desk_schema t.text ≡ false
-  pub query : IsQueryText t.text (first t.text)
-  pub foreign : compiled listing_schema t.text ≡ Err NoSuchTable
+  pub unlisted : reads_listing desk_schema (query_text t) ≡ false
+  pub query : IsQueryText (query_text t) (first (query_text t))
+  pub foreign : compiled listing_schema (query_text t) ≡ Err NoSuchTable
 
 -- ---- a query with parameters
 
@@ -93,7 +93,10 @@ pub record Seeks (text : List ℕ) (count : ℕ) (query : Query) (names : List (
 
 -- Where the tables have records, each of those that a book has of the table is in its form and range, and the rows that
 -- the query shows are theirs, in their order.
-abbrev pub ShowsOwn : {A : Type 0} → TableQuery → (A → Type 0) → (A → Row) → (List Account → Book → List A) → Type 0
-ShowsOwn t fits shown of = (content : Content) (accounts : List Account) (book : Book) → AreRead content accounts book
-    → AllByRecursion fits (of accounts book) × ((trees : Trees) → tables_of trees ≡ tables_for content
-    → (rows : List Row) → Sorts (whole_table t) [] (trees t.tree) rows → rows ≡ map shown (of accounts book))
+pub record ShowsOwn {A : Type 0} (t : Table) (fits : A → Type 0) (shown : A → Row) (of : List Account → Book → List A)
+    : Type 0 where
+  pub fit : (content : Content) (accounts : List Account) (book : Book) → AreRead content accounts book
+      → AllByRecursion fits (of accounts book)
+  pub rows : (content : Content) (accounts : List Account) (book : Book) → AreRead content accounts book
+      → (trees : Trees) → tables_of trees ≡ tables_for content → (rows : List Row)
+      → Sorts (whole_table t) [] (trees t.tree) rows → rows ≡ map shown (of accounts book)

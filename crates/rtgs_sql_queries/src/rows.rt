@@ -9,8 +9,7 @@ ghost use Rattle.rtgs_rows.specs.Rows.{shown_order, shown_mark};
 ghost use Rattle.rtgs_rows.specs.Fitting.{FitsDate, FitsParticipant, FitsPosting, FitsOrder, FitsMark};
 ghost use Rattle.rtgs_book.specs.declared.Book.{Book};
 ghost use Rattle.rtgs_book.specs.declared.account.Account.{Account as AccountSpec};
-ghost use Rattle.rtgs_sql_queries.specs.TableQueries.{desk_query, participants_query, postings_query, payments_query};
-ghost use Rattle.rtgs_sql_queries.specs.TableQueries.{marks_query};
+ghost use Rattle.rtgs_rows.specs.Tables.{desk_table, participant_table, posting_table, payment_table, mark_table};
 ghost use Rattle.rtgs_sql_columns.specs.Numbers.{at_least_zero, counted_of_posting, counted_of_order, counted_of_mark};
 
 use crate::table_row::TableRow;
@@ -38,10 +37,11 @@ impl TableRow for Day {
 
     ghost counted = { [] };
 
-    ghost table = { desk_query };
+    ghost table = { desk_table };
 
     ghost records = { λ (_ : List AccountSpec) (book : Book). book.day ∷ [] };
 
+    #[tactic(auto, using(crate::proofs::Selecting::queries))]
     fn query() -> &'static str {
         "SELECT id, version, date, phase FROM desk ORDER BY id"
     }
@@ -65,10 +65,11 @@ impl TableRow for Account {
 
     ghost counted = { [] };
 
-    ghost table = { participants_query };
+    ghost table = { participant_table };
 
     ghost records = { λ accounts (_ : Book). accounts };
 
+    #[tactic(auto, using(crate::proofs::Selecting::queries))]
     fn query() -> &'static str {
         "SELECT code, name, key, credit, balance FROM participant ORDER BY code"
     }
@@ -95,10 +96,11 @@ impl TableRow for Posting {
 
     ghost counted = { counted_of_posting };
 
-    ghost table = { postings_query };
+    ghost table = { posting_table };
 
     ghost records = { λ (_ : List AccountSpec) (book : Book). book.postings };
 
+    #[tactic(auto, using(crate::proofs::Selecting::queries))]
     fn query() -> &'static str {
         "SELECT number, code, reference, cents, date FROM posting ORDER BY number"
     }
@@ -122,10 +124,11 @@ impl TableRow for Order {
 
     ghost counted = { counted_of_order };
 
-    ghost table = { payments_query };
+    ghost table = { payment_table };
 
     ghost records = { λ (_ : List AccountSpec) (book : Book). book.orders };
 
+    #[tactic(auto, using(crate::proofs::Selecting::queries))]
     fn query() -> &'static str {
         "SELECT number, sender, reference, receiver, amount, date, state, mark FROM payment ORDER BY number"
     }
@@ -151,10 +154,11 @@ impl TableRow for Mark {
 
     ghost counted = { counted_of_mark };
 
-    ghost table = { marks_query };
+    ghost table = { mark_table };
 
     ghost records = { λ (_ : List AccountSpec) (book : Book). book.marks };
 
+    #[tactic(auto, using(crate::proofs::Selecting::queries))]
     fn query() -> &'static str {
         "SELECT number, date, many, value FROM mark ORDER BY number"
     }

@@ -2,11 +2,13 @@
 ghost use Rattle.std.specs.Prelude.{◌≡◌, ◌≢◌, ℕ, Bool, List, map, Some, Err, IfOk, IfSome};
 ghost use Rattle.std.specs.List.{AllByRecursion};
 ghost use Rattle.rtgs_book.specs.declared.Rule.{Rule};
+ghost use Rattle.sqlite.specs.Table.{Table};
 ghost use Rattle.sqlite_value.specs.declared.value.Value.{Value};
 ghost use Rattle.rtgs_book.specs.declared.Book.{Book};
 ghost use Rattle.rtgs_book.specs.declared.account.Account.{Account};
 ghost use Rattle.rtgs_sql_columns.specs.Numbers.{as_read, IsFormed};
-ghost use Rattle.rtgs_sql_queries.specs.TableQueries.{TableQuery, IsTableQuery, ShowsOwn};
+ghost use Rattle.rtgs_sql_columns.specs.Tables.{query_text};
+ghost use Rattle.rtgs_sql_queries.specs.TableQueries.{IsTableQuery, ShowsOwn};
 
 use rtgs_book::Fault;
 use sqlite::Row;
@@ -22,15 +24,15 @@ pub trait TableRow: Sized {
     // The places of the numbers that are read as 0 where they are below zero.
     ghost counted: { List Bool };
 
-    // The query of all rows of the table.
-    ghost table: { TableQuery };
+    // The table.
+    ghost table: { Table };
 
     // What a book has of the table.
     ghost records: { List Account → Book → List Self };
 
     /// The text of the query of all rows.
     fn query() -> &'static str
-        ensures is { result.now ≡ table.text }
+        ensures is { result.now ≡ query_text table }
         ensures asks { IsTableQuery table }
         ensures shows { ShowsOwn table fits shown records }
         ensures own { (it : Self) → as_read counted (shown it) ≡ shown it };

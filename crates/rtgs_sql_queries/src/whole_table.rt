@@ -4,8 +4,9 @@ ghost use Rattle.std.specs.List.{AllByRecursion};
 ghost use Rattle.rtgs_book.specs.declared.Book.{Book};
 ghost use Rattle.rtgs_book.specs.declared.account.Account.{Account as AccountSpec};
 ghost use Rattle.rtgs_rows.specs.Querying.{picked, IsDeskFile};
-ghost use Rattle.rtgs_rows.specs.Tables.{desk_schema};
+ghost use Rattle.rtgs_rows.specs.Tables.{desk_schema, places};
 ghost use Rattle.rtgs_sql_columns.specs.Numbers.{as_read};
+ghost use Rattle.rtgs_sql_columns.specs.Tables.{query_text};
 ghost use Rattle.rtgs_sql_queries.specs.Answering.{KeepsTables};
 ghost use Rattle.rtgs_sql_queries.specs.Records.{HasRecords};
 ghost use Rattle.rtgs_sql_queries.specs.Displaying.{Displays, HasNoAnswer};
@@ -35,7 +36,7 @@ pub fn table_rows<T: TableRow, S: Alter>(
         → HasRecords accounts book (state S.Store conn.old) → AllByRecursion T.fits (T.records accounts book) }
     ensures own { (it : T) → as_read T.counted (T.shown it) ≡ T.shown it }
     ensures raw { HasCleanDisk (state S.Store conn.new) → (trees : Trees) → IsDeskFile trees (state S.Store conn.old)
-        → IfOk result (λ rows. IsPermutation (map (picked T.table.places) (trees T.table.tree)) rows.items) }
+        → IfOk result (λ rows. IsPermutation (map (picked (places T.table)) (trees T.table.tree)) rows.items) }
     ensures kept { HasCleanDisk (state S.Store conn.new)
         → OnOk result (KeepsTables (state S.Store conn.old) (state S.Store conn.new)) }
     ensures refused { HasCleanDisk (state S.Store conn.new) → (state S.Store conn.old).now.schema ≡ desk_schema
@@ -43,10 +44,10 @@ pub fn table_rows<T: TableRow, S: Alter>(
     ensures intact { HasCleanDisk (state S.Store conn.new) → IsTrue (state S.Store conn.new).is_open
         → KeepsTables (state S.Store conn.old) (state S.Store conn.new) }
     ensures answered { HasCleanDisk (state S.Store conn.new) → IfOk result (λ rows.
-        Displays (state S.Store conn.old).now T.table.text rows.items
+        Displays (state S.Store conn.old).now (query_text T.table) rows.items
         × ((state S.Store conn.new).now ≡ (state S.Store conn.old).now)) }
     ensures unanswered { HasCleanDisk (state S.Store conn.new) → IfErr result (λ error.
-        IsOfStore error ⊎ HasNoAnswer (state S.Store conn.old).now T.table.text) }
+        IsOfStore error ⊎ HasNoAnswer (state S.Store conn.old).now (query_text T.table)) }
     ensures survives { Survives (state S.Store conn.old) (state S.Store conn.new) (λ _. ⊥) }
     ensures mode { conn.old.in_transaction ≡ false → conn.new.in_transaction ≡ false }
     ensures honest { HasCleanDisk (state S.Store conn.new) → HasCleanDisk (state S.Store conn.old) }

@@ -1,6 +1,6 @@
 -- What CREATE TABLE does.
 use Rattle.std.proofs.Common.{◌≡◌, ◌⊎◌, inl, inr, ℕ, pos, List, [], ◌∷◌, ◌++◌, true, false, Option, None, Ok, Err}
-use Rattle.std.proofs.Common.{Result, OnOk, refl, sym, ap, subst, ◌∙◌}
+use Rattle.std.proofs.Common.{Result, OnOk, refl, sym, ap, subst, ◌∙◌, arith}
 use Rattle.std.specs.List.{AllByRecursion}
 use Rattle.sqlite.specs.Order.{Row}
 use Rattle.sqlite.specs.declared.error.Error.{Error}
@@ -17,9 +17,9 @@ use Rattle.sqlite.specs.Does.{Tally, Does, lacks_sequence}
 use Rattle.sqlite.specs.Tree.{Trees}
 use Rattle.sqlite.specs.Listing.{understood}
 use Rattle.sqlite.specs.Effect.{Database}
-use Rattle.sqlite.specs.State.{State, mode_of, Writes, ExecutesInside}
+use Rattle.sqlite.specs.State.{State, mode_of, HasCleanDisk, Survives, Writes, ExecutesInside}
 use Rattle.sqlite.proofs.Callers.{statement_of, runs_as}
-use Rattle.rtgs_rows.specs.Tables.{no_schema, desk_schema, desk_at}
+use Rattle.rtgs_rows.specs.Tables.{no_schema, desk_schema, desk_table}
 use Rattle.rtgs_rows.specs.Content.{tables_of, tables_for, IsUnderWay}
 use Rattle.rtgs_rows.specs.Rows.{day_row}
 use Rattle.rtgs_sql_columns.specs.Blank.{IsBlank}
@@ -35,8 +35,8 @@ use Rattle.sqlite.specs.Held.{Held, state}
 use Rattle.rtgs_sql_writes.proofs.Casts.{cast_null, cast_int}
 use Rattle.rtgs_sql_writes.proofs.Steps.{IsPlainTable, inserts}
 use Rattle.rtgs_sql_writes.proofs.StateLemmas.{desk_over, frame_but, framed}
-use Rattle.rtgs_sql_columns.specs.Tables.{desk_query}
-use Rattle.rtgs_sql_writes.proofs.CreateTexts.{first_day_text, first_day_is, first_day_plain}
+use Rattle.rtgs_sql_writes.specs.declared.create.TheConstants.{FIRST_DAY}
+use Rattle.rtgs_sql_writes.proofs.CreateTexts.{first_day_is, first_day_plain}
 
 -- a part that gave a value did not stop on the way
 went : {B E R : Type 0} {b : B} {Stops : E → Type 0} → ((stop : E) × Stops stop × (Ok b ≡ Err stop)) ⊎ R → R
@@ -45,6 +45,10 @@ went (inr on) = on
 
 same_value : {B E : Type 0} {a b : B} → ◌≡◌ {A = Result B E} (Ok a) (Ok b) → a ≡ b
 same_value e = cc
+
+-- what was done on a clean disk began on one
+pub was_clean : (old new : State) → Survives old new (λ _. ⊥) → HasCleanDisk new → HasCleanDisk old
+was_clean old new survives clean = let low = survives.clean in omega (arith, low)
 
 record IsMade (db : Database) (table : Table) (after : Database) : Type 0 where
   pub schema : after.schema ≡ created db.schema table
@@ -107,9 +111,6 @@ pub builds : (was : Database) (schema next : Schema) (table : Table) (old new : 
 builds was schema next table old new text (Ok count) is it h = built was schema next table old new text count is it h
 builds was schema next table old new text (Err e) is it h = tt
 
-abbrev desk_table : Table
-desk_table = desk_at desk_query.tree
-
 desk_is_plain : (trees : Trees) (mode : Mode) → IsPlainTable (desk_over trees) mode 0 desk_table
 unfolding desk_schema
 desk_is_plain trees mode = record { place = refl; uncounted = refl; still = λ _ _. refl }
@@ -138,11 +139,11 @@ unfolding desk_schema
 desk_empty trees none = none.0
 
 begun : (was : Database) (old new : State) (count : ℕ) → IsBuilt was desk_schema old
-    → ExecutesInside 0 first_day_text [] old new (Ok count) → IsUnderWay was first_content new
+    → ExecutesInside 0 FIRST_DAY.now [] old new (Ok count) → IsUnderWay was first_content new
 begun was old new count is h =
-    let w = runs_as first_day_text [] old new desk_schema is.schema_is (Insert 0 (Values first_terms 5)) first_day_is
+    let w = runs_as FIRST_DAY.now [] old new desk_schema is.schema_is (Insert 0 (Values first_terms 5)) first_day_is
     first_day_plain count h.0 in
-    let text = statement_of first_day_text (understood desk_schema first_day_text) in
+    let text = statement_of FIRST_DAY.now (understood desk_schema FIRST_DAY.now) in
     let done = subst (λ s. Does old.step_limit (mode_of old) [] (record old.now { schema = s }) text None
     (Insert 0 (Values first_terms 5)) (Ok (w.tally, new.now))) is.schema_is w.changed in
     let step = inserts old.step_limit (mode_of old) [] (desk_over old.now.trees) text 0 desk_table w.tally new.now
@@ -161,7 +162,7 @@ begun was old new count is h =
     }
 
 pub begins : (was : Database) (old new : State) (r : Result ℕ Error) → IsBuilt was desk_schema old
-    → ExecutesInside 0 first_day_text [] old new r → OnOk r (IsUnderWay was first_content new)
+    → ExecutesInside 0 FIRST_DAY.now [] old new r → OnOk r (IsUnderWay was first_content new)
 begins was old new (Ok count) is h = begun was old new count is h
 begins was old new (Err e) is h = tt
 

@@ -33,15 +33,10 @@ use Rattle.rtgs_book.specs.declared.Day.{Day}
 use Rattle.rtgs_book.specs.declared.RowChange.TheVariants.{SetDay}
 use Rattle.rtgs_rows.specs.Rows.{date_value, phase_number, day_row}
 use Rattle.rtgs_rows.specs.Content.{Tables, Content, IsUnderWay, with_change}
-use Rattle.sqlite.specs.Table.{Table}
-use Rattle.rtgs_sql_columns.specs.Tables.{desk_query}
-use Rattle.rtgs_rows.specs.Tables.{desk_schema, desk_at}
+use Rattle.rtgs_rows.specs.Tables.{desk_schema, desk_table as table}
 
 abbrev pub set_day_text : List ℕ
 set_day_text = codes "UPDATE desk SET date = ?1, phase = ?2 WHERE id = 1"
-
-abbrev table : Table
-table = desk_at desk_query.tree
 
 abbrev tests : List Term
 tests = op2 (Compare Eq Binary) (col 1 0) (lit (Int (pos 1))) ∷ []

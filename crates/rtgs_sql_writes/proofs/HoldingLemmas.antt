@@ -42,15 +42,10 @@ use Rattle.rtgs_book.specs.declared.RowChange.TheVariants.{AddParticipant, SetCr
 use Rattle.rtgs_rows.specs.Rows.{participant_row}
 use Rattle.rtgs_rows.specs.Content.{Tables, Holding, Content, holding_row, IsUnderWay, IsInOrder, with_change}
 use Rattle.rtgs_rows.specs.Content.{with_credit_in, with_balance_in, newcomer}
-use Rattle.sqlite.specs.Table.{Table}
-use Rattle.rtgs_sql_columns.specs.Tables.{participants_query}
-use Rattle.rtgs_rows.specs.Tables.{desk_schema, participant_at}
+use Rattle.rtgs_rows.specs.Tables.{desk_schema, participant_table as table}
 
 abbrev pub participant_text : List ℕ
 participant_text = codes "INSERT INTO participant (code, name, key, credit, balance) VALUES (?1, ?2, ?3, ?4, 0)"
-
-abbrev table : Table
-table = participant_at participants_query.tree
 
 abbrev terms : List Term
 terms = lit Null ∷ col 0 0 ∷ col 0 1 ∷ col 0 2 ∷ col 0 3 ∷ lit (Int (pos 0)) ∷ []

@@ -4,7 +4,6 @@ use Rattle.sqlite.specs.declared.types.Value.TheVariants.{Null, Int, Text}
 use Rattle.sqlite.specs.declared.error.Error.{Error}
 use Rattle.sqlite.specs.Order.{Row}
 use Rattle.sqlite.specs.Term.{Term, lit, col}
-use Rattle.sqlite.specs.Table.{Table}
 use Rattle.sqlite.specs.Source.TheVariants.{Values}
 use Rattle.sqlite.specs.Command.TheVariants.{Insert}
 use Rattle.sqlite.specs.Edit.{edit_of, edited}
@@ -20,20 +19,16 @@ use Rattle.sqlite_tied.specs.Compute.{everything}
 use Rattle.rtgs_sql_writes.proofs.Casts.{cast_null, cast_int}
 use Rattle.rtgs_sql_writes.proofs.Steps.{IsPlainTable}
 use Rattle.rtgs_sql_writes.proofs.StateLemmas.{desk_over}
-use Rattle.rtgs_sql_columns.specs.Tables.{marks_query}
 use Rattle.rtgs_sql_writes.proofs.Adding.{adds}
 use Rattle.rtgs_book.specs.declared.Mark.{Mark}
 use Rattle.rtgs_book.specs.declared.RowChange.TheVariants.{AddMark}
 use Rattle.rtgs_money.specs.Date.{date_text}
 use Rattle.rtgs_rows.specs.Rows.{mark_row}
 use Rattle.rtgs_rows.specs.Content.{Tables, Content, IsUnderWay, IsInOrder, with_change}
-use Rattle.rtgs_rows.specs.Tables.{desk_schema, mark_at}
+use Rattle.rtgs_rows.specs.Tables.{desk_schema, mark_table as table}
 
 abbrev pub mark_text : List ℕ
 mark_text = codes "INSERT INTO mark (number, date, many, value) VALUES (?1, ?2, ?3, ?4)"
-
-abbrev table : Table
-table = mark_at marks_query.tree
 
 abbrev terms : List Term
 terms = col 0 0 ∷ lit Null ∷ col 0 1 ∷ col 0 2 ∷ col 0 3 ∷ []

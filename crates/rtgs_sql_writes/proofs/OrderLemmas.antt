@@ -15,7 +15,6 @@ use Rattle.sqlite_sql.specs.Ops.{binary}
 use Rattle.sqlite_sql.specs.declared.ops.BinaryOp.TheVariants.{Compare}
 use Rattle.sqlite_sql.specs.declared.ops.CompareOp.TheVariants.{Eq}
 use Rattle.sqlite.specs.Collation.TheVariants.{Binary}
-use Rattle.sqlite.specs.Table.{Table}
 use Rattle.sqlite.specs.Source.TheVariants.{Values}
 use Rattle.sqlite.specs.Command.TheVariants.{Insert, Update}
 use Rattle.sqlite.specs.Edit.{edit_of, edited}
@@ -37,7 +36,6 @@ use Rattle.rtgs_sql_writes.proofs.Steps.{IsPlainTable}
 use Rattle.rtgs_sql_columns.specs.OneTable.{simple, passes, shows, OneTableAnswers}
 use Rattle.rtgs_sql_writes.proofs.Replacing.{Replaces, replaces}
 use Rattle.rtgs_sql_writes.proofs.StateLemmas.{desk_over, framed, stands_on}
-use Rattle.rtgs_sql_columns.specs.Tables.{payments_query}
 use Rattle.rtgs_sql_writes.proofs.Adding.{adds}
 use Rattle.rtgs_sql_writes.proofs.Writing.{updated}
 use Rattle.rtgs_sql_writes.proofs.Passing.{none_moved, truth_of, same_number, filter_map}
@@ -49,14 +47,11 @@ use Rattle.rtgs_book.specs.Commands.{has_number}
 use Rattle.rtgs_money.specs.Date.{date_text}
 use Rattle.rtgs_rows.specs.Rows.{mark_value, state_number, payment_row}
 use Rattle.rtgs_rows.specs.Content.{Tables, Content, IsUnderWay, IsInOrder, with_change}
-use Rattle.rtgs_rows.specs.Tables.{desk_schema, payment_at}
+use Rattle.rtgs_rows.specs.Tables.{desk_schema, payment_table as table}
 
 abbrev pub order_text : List ℕ
 order_text = codes "INSERT INTO payment (number, sender, reference, receiver, amount, date, state, mark) "
     ++ codes "VALUES (?1, ?2, ?3, ?4, ?5, ?8, ?6, ?7)"
-
-abbrev table : Table
-table = payment_at payments_query.tree
 
 abbrev terms : List Term
 terms = col 0 0 ∷ lit Null ∷ col 0 1 ∷ col 0 2 ∷ col 0 3 ∷ col 0 4 ∷ col 0 7 ∷ col 0 5 ∷ col 0 6 ∷ []

@@ -4,7 +4,6 @@ use Rattle.sqlite.specs.declared.types.Value.TheVariants.{Null, Int, Text}
 use Rattle.sqlite.specs.declared.error.Error.{Error}
 use Rattle.sqlite.specs.Order.{Row}
 use Rattle.sqlite.specs.Term.{Term, lit, col}
-use Rattle.sqlite.specs.Table.{Table}
 use Rattle.sqlite.specs.Source.TheVariants.{Values}
 use Rattle.sqlite.specs.Command.TheVariants.{Insert}
 use Rattle.sqlite.specs.Edit.{edit_of, edited}
@@ -20,20 +19,16 @@ use Rattle.sqlite.proofs.Callers.{IsPlain, command_of}
 use Rattle.sqlite_tied.specs.Compute.{everything}
 use Rattle.rtgs_book.specs.declared.Posting.{Posting}
 use Rattle.rtgs_book.specs.declared.RowChange.TheVariants.{AddPosting}
-use Rattle.rtgs_rows.specs.Tables.{desk_schema, posting_at}
+use Rattle.rtgs_rows.specs.Tables.{desk_schema, posting_table as table}
 use Rattle.rtgs_rows.specs.Rows.{date_value, posting_row}
 use Rattle.rtgs_rows.specs.Content.{Tables, Content, IsUnderWay, IsInOrder, with_change}
 use Rattle.rtgs_sql_writes.proofs.Casts.{cast_null, cast_int, cast_date, bound_date}
 use Rattle.rtgs_sql_writes.proofs.Steps.{IsPlainTable}
 use Rattle.rtgs_sql_writes.proofs.StateLemmas.{desk_over}
-use Rattle.rtgs_sql_columns.specs.Tables.{postings_query}
 use Rattle.rtgs_sql_writes.proofs.Adding.{adds}
 
 abbrev pub posting_text : List ℕ
 posting_text = codes "INSERT INTO posting (number, code, reference, cents, date) VALUES (?1, ?2, ?3, ?4, ?5)"
-
-abbrev table : Table
-table = posting_at postings_query.tree
 
 abbrev terms : List Term
 terms = col 0 0 ∷ lit Null ∷ col 0 1 ∷ col 0 2 ∷ col 0 3 ∷ col 0 4 ∷ []

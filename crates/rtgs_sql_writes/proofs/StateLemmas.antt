@@ -7,14 +7,13 @@ use Rattle.std.specs.List.{AllByRecursion}
 use Rattle.sqlite.specs.Effect.{Database, IsDatabase}
 use Rattle.sqlite_catalog.specs.Listing.{IsSound}
 use Rattle.sqlite.specs.State.{State, HasCleanDisk, Survives, Shows}
-use Rattle.rtgs_rows.specs.Tables.{desk_schema}
+use Rattle.rtgs_rows.specs.Tables.{desk_schema, desk_table, participant_table, posting_table, payment_table, mark_table}
 use Rattle.sqlite_trees.specs.declared.store.Store.{Ghosts}
 use Rattle.sqlite.specs.Tree.{Trees}
 use Rattle.sqlite.specs.Held.{Held, state}
 use Rattle.sqlite.proofs.StateLemmas.{survives_then}
 use Rattle.sqlite.proofs.Callers.{survives_begin}
 use Rattle.rtgs_rows.specs.Content.{tables_of, tables_for, Content, Holds, IsUnderWay, Rests}
-use Rattle.rtgs_sql_columns.specs.Tables.{desk_query, participants_query, postings_query, payments_query, marks_query}
 
 -- the database, with its schema written out
 abbrev pub desk_over : Trees → Database
@@ -38,17 +37,12 @@ framed tree old new rows others here =
       | inl same ↦ rw same (ap new (eqb-true t tree same) ∙ here)
       | inr apart ↦ rw apart (other (λ same. absurd (true≢false (sym (eq-eqb t tree same) ∙ apart))))
     ] in
-    let desk = at desk_query.tree others.0 in
-    let participants = at participants_query.tree others.1.0 in
-    let postings = at postings_query.tree others.1.1.0 in
-    let payments = at payments_query.tree others.1.1.1.0 in
-    let marks = at marks_query.tree others.1.1.1.1.0 in
     λ i. record {
-      desk = desk i;
-      participants = participants i;
-      postings = postings i;
-      payments = payments i;
-      marks = marks i;
+      desk = at desk_table.tree others.0 i;
+      participants = at participant_table.tree others.1.0 i;
+      postings = at posting_table.tree others.1.1.0 i;
+      payments = at payment_table.tree others.1.1.1.0 i;
+      marks = at mark_table.tree others.1.1.1.1.0 i;
     }
 
 pub stands_on : (was : Database) (old new : State) (content after : Content) → IsUnderWay was content old

@@ -14,6 +14,35 @@ ghost use Rattle.sqlite.specs.Held.{state};
 use crate::staging::Stopped;
 use sqlite::{Alter, Connection, Error, Transaction};
 
+/// The day.
+const DESK: &str =
+    "CREATE TABLE desk (id INTEGER PRIMARY KEY, version INTEGER NOT NULL, date TEXT, \
+     phase INTEGER NOT NULL) STRICT";
+
+/// The participants, with their stored balances.
+const PARTICIPANT: &str =
+    "CREATE TABLE participant (code TEXT PRIMARY KEY NOT NULL, name TEXT NOT NULL, key BLOB NOT NULL UNIQUE, \
+     credit INTEGER NOT NULL, balance INTEGER NOT NULL) STRICT";
+
+/// The postings.
+const POSTING: &str =
+    "CREATE TABLE posting (number INTEGER PRIMARY KEY, code TEXT NOT NULL, reference TEXT NOT NULL UNIQUE, \
+     cents INTEGER NOT NULL, date TEXT) STRICT";
+
+/// The orders.
+const PAYMENT: &str =
+    "CREATE TABLE payment (number INTEGER PRIMARY KEY, sender TEXT NOT NULL, reference TEXT NOT NULL, \
+     receiver TEXT NOT NULL, amount INTEGER NOT NULL, date TEXT NOT NULL, state INTEGER NOT NULL, mark INTEGER, \
+     UNIQUE (sender, reference)) STRICT";
+
+/// What each settlement settled.
+const MARK: &str =
+    "CREATE TABLE mark (number INTEGER PRIMARY KEY, date TEXT NOT NULL, many INTEGER NOT NULL, \
+     value INTEGER NOT NULL) STRICT";
+
+/// The one row of a new desk.
+const FIRST_DAY: &str = "INSERT INTO desk (id, version, phase) VALUES (1, 1, 0)";
+
 /// Makes one more table.
 fn create_table<S: Alter>(tx: &mut Transaction<'_, S>, sql: &str) -> Result<usize, Error>
     ensures same_reference { tx.new.conn.ghost_name ≡ tx.old.conn.ghost_name }
@@ -38,10 +67,7 @@ fn first_day<S: Alter>(tx: &mut Transaction<'_, S>) -> Result<usize, Error>
         → KeepsCommit (state S.Store tx.old.conn.now) (state S.Store tx.new.conn.now) }
     ensures survives { Survives (state S.Store tx.old.conn.now) (state S.Store tx.new.conn.now) (λ _. ⊥) }
 {
-    tx.execute(
-        "INSERT INTO desk (id, version, phase) VALUES (1, 1, 0)",
-        &[],
-    )
+    tx.execute(FIRST_DAY, &[])
 }
 
 /// Makes the five tables inside the transaction.
@@ -54,32 +80,11 @@ fn build<S: Alter>(tx: &mut Transaction<'_, S>) -> Result<(), Error>
         → KeepsCommit (state S.Store tx.old.conn.now) (state S.Store tx.new.conn.now) }
     ensures survives { Survives (state S.Store tx.old.conn.now) (state S.Store tx.new.conn.now) (λ _. ⊥) }
 {
-    create_table(
-        tx,
-        "CREATE TABLE desk (id INTEGER PRIMARY KEY, version INTEGER NOT NULL, date TEXT, \
-         phase INTEGER NOT NULL) STRICT",
-    )?;
-    create_table(
-        tx,
-        "CREATE TABLE participant (code TEXT PRIMARY KEY NOT NULL, name TEXT NOT NULL, key BLOB NOT NULL UNIQUE, \
-         credit INTEGER NOT NULL, balance INTEGER NOT NULL) STRICT",
-    )?;
-    create_table(
-        tx,
-        "CREATE TABLE posting (number INTEGER PRIMARY KEY, code TEXT NOT NULL, reference TEXT NOT NULL UNIQUE, \
-         cents INTEGER NOT NULL, date TEXT) STRICT",
-    )?;
-    create_table(
-        tx,
-        "CREATE TABLE payment (number INTEGER PRIMARY KEY, sender TEXT NOT NULL, reference TEXT NOT NULL, \
-         receiver TEXT NOT NULL, amount INTEGER NOT NULL, date TEXT NOT NULL, state INTEGER NOT NULL, mark INTEGER, \
-         UNIQUE (sender, reference)) STRICT",
-    )?;
-    create_table(
-        tx,
-        "CREATE TABLE mark (number INTEGER PRIMARY KEY, date TEXT NOT NULL, many INTEGER NOT NULL, \
-         value INTEGER NOT NULL) STRICT",
-    )?;
+    create_table(tx, DESK)?;
+    create_table(tx, PARTICIPANT)?;
+    create_table(tx, POSTING)?;
+    create_table(tx, PAYMENT)?;
+    create_table(tx, MARK)?;
     first_day(tx)?;
     Ok(())
 }

@@ -21,4 +21,4 @@ returns-in-Ok-clause-found g c clean book held =
     is_found c.only_record.result (order_named book c.args.sender.now c.args.reference.now) (c.only_record.ensures.found
     (order_named book c.args.sender.now c.args.reference.now)
     (fits_found FitsOrder (is_order_named c.args.sender.now c.args.reference.now) book.orders held.2.fits.orders)
-    (c.records_are_read.ensures.orders _ _ (c.as_slice.ensures.value ∙ c.in-Ok.ensures.rows clean book held)))
+    (c.records_are_read.ensures _ _ (c.as_slice.ensures.value ∙ c.in-Ok.ensures.rows clean book held)))

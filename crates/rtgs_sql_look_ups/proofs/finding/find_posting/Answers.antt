@@ -21,4 +21,4 @@ returns-in-Ok-clause-found g c clean book held =
     is_found c.only_record.result (posting_named book c.args.reference.now) (c.only_record.ensures.found
     (posting_named book c.args.reference.now)
     (fits_found FitsPosting (is_posting_named c.args.reference.now) book.postings held.2.fits.postings)
-    (c.records_are_read.ensures.postings _ _ (c.as_slice.ensures.value ∙ c.in-Ok.ensures.rows clean book held)))
+    (c.records_are_read.ensures _ _ (c.as_slice.ensures.value ∙ c.in-Ok.ensures.rows clean book held)))

@@ -2,6 +2,7 @@ use Rattle.std.proofs.Common.{[], IfOk, IfErr, sym, subst}
 use Rattle.sqlite.specs.Held.{state}
 use Rattle.sqlite.specs.State.{Shown}
 use Rattle.sqlite_resolve.specs.Compile.{first}
+use Rattle.rtgs_sql_columns.specs.Tables.{query_text}
 use Rattle.rtgs_sql_queries.specs.Answering.{Returnless, FailsAmid}
 use Rattle.rtgs_sql_queries.proofs.Showing.{shows_all, shows_own, refused, intact_after, kept_after}
 use Rattle.rtgs_sql_queries.proofs.AsRead.{read_so}
@@ -11,7 +12,7 @@ use Rattle.rtgs_sql_queries.proofs.whole_table.table_rows.Goals as goal
 
 pub all_rows-requires : goal.all_rows-requires
 all_rows-requires g c = subst (λ text. Returnless (first text)) (sym c.query.ensures.is)
-    (returnless g.T.TableRow.table.text _ c.query.ensures.asks.query)
+    (returnless (query_text g.T.TableRow.table) _ c.query.ensures.asks.query)
 
 pub returns-clause-rows : goal.returns-clause-rows
 returns-clause-rows g c clean accounts book held =
@@ -30,7 +31,7 @@ returns-clause-read g c clean accounts book held =
     (returns-clause-rows g c clean accounts book held)
 
 pub returns-clause-fit : goal.returns-clause-fit
-returns-clause-fit g c clean accounts book held = (c.query.ensures.shows held.0 accounts book held.2).0
+returns-clause-fit g c clean accounts book held = c.query.ensures.shows.fit held.0 accounts book held.2
 
 pub returns-clause-own : goal.returns-clause-own
 returns-clause-own g c = c.query.ensures.own
@@ -72,7 +73,8 @@ pub returns-clause-answered : goal.returns-clause-answered
 returns-clause-answered g c clean =
     let old = state g.S.Store c.args.conn.now in
     let new = state g.S.Store c.all_rows.new.conn in
-    displayed g.T.TableRow.table.text c.query.ensures.asks.query c.query.ensures.asks.foreign old new c.all_rows.result
+    displayed (query_text g.T.TableRow.table) c.query.ensures.asks.query c.query.ensures.asks.foreign old new
+    c.all_rows.result
     (subst (λ text. IfOk c.all_rows.result (λ rows. Shown text [] old new rows.items)) c.query.ensures.is
     (c.all_rows.ensures.ok clean))
 
@@ -80,6 +82,6 @@ pub returns-clause-unanswered : goal.returns-clause-unanswered
 returns-clause-unanswered g c clean =
     let old = state g.S.Store c.args.conn.now in
     let new = state g.S.Store c.all_rows.new.conn in
-    unanswered_amid g.T.TableRow.table.text c.query.ensures.asks.query c.query.ensures.asks.foreign old new
+    unanswered_amid (query_text g.T.TableRow.table) c.query.ensures.asks.query c.query.ensures.asks.foreign old new
     c.all_rows.result
     (subst (λ text. IfErr c.all_rows.result (FailsAmid text old new)) c.query.ensures.is (c.all_rows.ensures.err clean))
