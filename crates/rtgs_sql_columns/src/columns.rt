@@ -3,7 +3,9 @@ ghost use Rattle.std.specs.Prelude.{◌≡◌, ◌<◌, ◌≤◌, ◌^◌, pos,
 ghost use Rattle.sqlite.specs.Values.{or_null};
 ghost use Rattle.sqlite.specs.declared.types.Value.TheVariants.{Int, Text as TextValue, Blob};
 ghost use Rattle.sqlite_value.specs.Value.{owned};
-ghost use Rattle.rtgs_money.specs.Date.{date_text};
+ghost use Rattle.rtgs_money.specs.Amounts.{IsAmount, IsPostingAmount, IsCredit};
+ghost use Rattle.rtgs_money.specs.Date.{date_text, IsBusinessDate};
+ghost use Rattle.rtgs_rows.specs.Fitting.{FitsDate};
 ghost use Rattle.rtgs_rows.specs.Rows.{phase_number, state_number, mark_value as value_of_mark, FitsColumn};
 
 use rtgs_book::{OrderState, Phase};
@@ -84,21 +86,24 @@ pub fn phase_value(phase: Phase) -> ValueRef<'static>
 
 /// An amount in cents.
 pub fn amount_value(amount: Amount) -> ValueRef<'static>
-    ensures { owned result ≡ Int (pos amount) }
+    ensures value { owned result ≡ Int (pos amount) }
+    ensures in_range { IsAmount amount }
 {
     number_value(amount.cents())
 }
 
 /// A credit limit in cents.
 pub fn credit_value(credit: Credit) -> ValueRef<'static>
-    ensures { owned result ≡ Int (pos credit) }
+    ensures value { owned result ≡ Int (pos credit) }
+    ensures in_range { IsCredit credit }
 {
     number_value(credit.cents())
 }
 
 /// What a posting adds, in cents.
 pub fn posting_value(amount: PostingAmount) -> ValueRef<'static>
-    ensures { owned result ≡ Int amount }
+    ensures value { owned result ≡ Int amount }
+    ensures in_range { IsPostingAmount amount }
 {
     ValueRef::Int(amount.cents())
 }
@@ -124,12 +129,22 @@ pub fn blob(bytes: &[u8]) -> ValueRef<'_>
     ValueRef::Blob(bytes)
 }
 
+/// The text of a date.
+fn text_of_date(date: BusinessDate) -> Text<10>
+    ensures text { result ≡ date_text date }
+    ensures in_range { IsBusinessDate date }
+{
+    date.number();
+    date.text()
+}
+
 /// The text of a date, if there is one.
 pub fn text_of(date: Option<BusinessDate>) -> Option<Text<10>>
-    ensures { result ≡ option_map date_text date }
+    ensures text { result ≡ option_map date_text date }
+    ensures in_range { FitsDate date }
 {
     match date {
-        Some(date) => Some(date.text()),
+        Some(date) => Some(text_of_date(date)),
         None => None,
     }
 }

@@ -1,7 +1,6 @@
 -- Which rule a fault names.
-use Rattle.std.proofs.Common.{◌≡◌, ◌≢◌, ◌⊎◌, inl, inr, ℕ, ℤ, ◌↔◌, Bool, true, false, cond, List, [], ◌∷◌, Some, None}
-use Rattle.std.proofs.Common.{map, option_map, unwrap_or, Ok, Err, Result, IfOk, IfErr, OnOk, nat_cmp, refl, sym, ap}
-use Rattle.std.proofs.Common.{subst, subst₂, ◌∙◌}
+use Rattle.std.proofs.Common.{◌≡◌, ◌≢◌, ℕ, ℤ, ◌↔◌, Bool, true, false, cond, List, [], ◌∷◌, Some, None, map, option_map}
+use Rattle.std.proofs.Common.{unwrap_or, Ok, Err, Result, IfOk, IfErr, OnOk, nat_cmp, refl, sym, ap, subst, subst₂, ◌∙◌}
 use Rattle.std.specs.List.{AllByRecursion, list_all}
 use Rattle.std.specs.BTreeMap.{BTreeMap}
 use Rattle.std.specs.Cmp.Lexicographic.{slice_cmp}

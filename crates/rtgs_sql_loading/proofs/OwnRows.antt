@@ -12,8 +12,7 @@ use Rattle.rtgs_book.specs.declared.Mark.{Mark}
 use Rattle.rtgs_rows.specs.Rows.{shown_posting, shown_order, shown_mark, mark_value}
 use Rattle.rtgs_sql_columns.specs.Numbers.{natural_of, at_least_zero, as_read, counted_of_posting, counted_of_order}
 use Rattle.rtgs_sql_columns.specs.Numbers.{counted_of_mark, IsFormed, IsNumberedPosting, IsNumberedState}
-use Rattle.rtgs_sql_columns.specs.Numbers.{IsNumberedOrder}
-use Rattle.rtgs_sql_columns.specs.Numbers.{IsNumberedMark}
+use Rattle.rtgs_sql_columns.specs.Numbers.{IsNumberedOrder, IsNumberedMark}
 
 -- what is read as a number is one
 pub number_in : (v : Value) (n : ℕ) → at_least_zero v ≡ Int (pos n) → (m : ℤ) × (v ≡ Int m) × (natural_of m ≡ n)

@@ -1,6 +1,5 @@
 -- The five tables together, and the book that they hold.
-use Rattle.std.proofs.Common.{◌≡◌, ℤ, List, map, IsPermutation, sym, subst, ◌∙◌, Ok, Err, Result, IfOk}
-use Rattle.std.proofs.Common.{OnOk}
+use Rattle.std.proofs.Common.{◌≡◌, ℤ, List, map, IsPermutation, sym, subst, ◌∙◌, Ok, Err, Result, IfOk, OnOk}
 use Rattle.std.specs.List.{AllByRecursion}
 use Rattle.std.proofs.lemmas.List.Sorted.{IsPermutation-sym}
 use Rattle.sqlite.specs.Tree.{Trees}
@@ -11,7 +10,7 @@ use Rattle.rtgs_book.specs.declared.Book.{Book}
 use Rattle.rtgs_book.specs.declared.Fault.{Fault}
 use Rattle.rtgs_book.specs.Balance.{balance}
 use Rattle.rtgs_book.specs.Soundness.{IsSound as IsSoundBook}
-use Rattle.rtgs_rows.specs.Tables.{desk_schema}
+use Rattle.rtgs_rows.specs.Tables.{desk_schema, places}
 use Rattle.rtgs_rows.specs.Content.{Content, Holds}
 use Rattle.rtgs_rows.specs.Keeping.{IsBookOf}
 use Rattle.rtgs_sql_loading.proofs.AboveZero.{above_zero}
@@ -21,7 +20,6 @@ use Rattle.rtgs_rows.specs.Querying.{picked, AreWhole, ShowsTable, ShowsBook, sh
 use Rattle.rtgs_book.specs.declared.account.Account.{Account}
 use Rattle.rtgs_sql_loading.specs.Accounts.{AreBalances, account_entry, AreTheRecords, AreReadOf, IsShown}
 use Rattle.rtgs_sql_columns.specs.Numbers.{IsNumberedBook}
-use Rattle.rtgs_rows.specs.Tables.{places}
 use Rattle.rtgs_sql_loading.proofs.AllTables.{both, own_records}
 use Rattle.rtgs_sql_loading.proofs.OwnRows.{IsOwn, read_plainly}
 

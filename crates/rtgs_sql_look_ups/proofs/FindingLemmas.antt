@@ -1,8 +1,6 @@
 -- The rows that a query of one table shows, where it tests by a parameter.
-use Rattle.std.proofs.Common.{◌≡◌, ◌≢◌, ◌⊎◌, inl, inr, ℕ, ℤ, pos, List}
-use Rattle.std.proofs.Common.{[], ◌∷◌, map, filter, length, take, Bool, true, false}
-use Rattle.std.proofs.Common.{◌&&◌, nat_lt, Option, Some, None, Ok, Err}
-use Rattle.std.proofs.Common.{Result, IsTrue, IfOk, IfErr, OnOk, Vec, Global, ◌<ℤ◌}
+use Rattle.std.proofs.Common.{◌≡◌, ◌≢◌, ◌⊎◌, inl, inr, ℕ, ℤ, pos, List, [], ◌∷◌, map, filter, take, Bool, true, false}
+use Rattle.std.proofs.Common.{◌&&◌, nat_lt, Option, Some, None, Ok, Err, Result, IsTrue, IfOk, IfErr, Vec, Global, ◌<ℤ◌}
 use Rattle.std.proofs.Common.{refl, sym, ap, subst, ◌∙◌, arith}
 use Rattle.std.specs.List.{AllByRecursion, find, IsDistinct}
 use Rattle.std.specs.List.Sorted.{IsPermutation}
@@ -16,7 +14,7 @@ use Rattle.std.proofs.lemmas.Bool.{cases_Bool, ltb-true, lt-ltb, and_parts}
 use Rattle.std.proofs.lemmas.Int.{ints}
 use Rattle.std.proofs.lemmas.Slice.Eq.{bytes_eq-Decides}
 use Rattle.sqlite_value.proofs.OrderLemmas.{value_cmp-Int}
-use Rattle.sqlite.specs.declared.types.Value.TheVariants.{Null, Int, Text}
+use Rattle.sqlite.specs.declared.types.Value.TheVariants.{Int, Text}
 use Rattle.sqlite.specs.declared.error.Error.{Error}
 use Rattle.sqlite.specs.Order.{Row, value_cmp}
 use Rattle.sqlite.specs.Term.{Term}

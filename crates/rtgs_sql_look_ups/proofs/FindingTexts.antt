@@ -12,9 +12,8 @@ use Rattle.rtgs_sql_columns.specs.Tables.{column_names}
 use Rattle.sqlite.specs.Query.{Query}
 use Rattle.rtgs_sql_columns.specs.OneTable.{simple}
 use Rattle.rtgs_sql_queries.specs.Answering.{Returnless}
-use Rattle.rtgs_sql_queries.specs.TableQueries.{Seeks}
+use Rattle.rtgs_sql_queries.specs.TableQueries.{Seeks, columns_of}
 use Rattle.rtgs_sql_look_ups.specs.Finding.{IsFirstQuery}
-use Rattle.rtgs_sql_queries.specs.TableQueries.{columns_of}
 
 -- ---- by name
 

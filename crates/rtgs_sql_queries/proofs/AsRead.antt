@@ -1,14 +1,11 @@
 -- Rows as they are read: a number below zero is read as 0.
-use Rattle.std.proofs.Common.{◌≡◌, ℕ, suc, ◌<◌, ℤ, pos, negsuc, Bool, List, [], ◌∷◌, map, length, IsPermutation, Option}
-use Rattle.std.proofs.Common.{Some, None, refl, sym, subst, ap, ap₂, ◌∙◌, arith}
-use Rattle.std.proofs.Common.{Ok, Err, Result, IfOk, Vec, Global}
+use Rattle.std.proofs.Common.{◌≡◌, ℕ, suc, pos, Bool, List, [], ◌∷◌, map, length, Option, Some, None, refl, ap, ap₂}
+use Rattle.std.proofs.Common.{◌∙◌, arith, Ok, Err, Result, IfOk, Vec, Global}
 use Rattle.sqlite.specs.declared.error.Error.{Error}
-use Rattle.std.proofs.lemmas.List.Sorted.{IsPermutation-sym}
 use Rattle.sqlite.specs.Order.{Row}
 use Rattle.sqlite.specs.declared.types.Value.{Value}
-use Rattle.sqlite.specs.declared.types.Value.TheVariants.{Null, Int, Real, Text, Blob}
-use Rattle.sqlite_keyed.proofs.ListLemmas.{map-map, map_same, all_unmap}
-use Rattle.sqlite_trees.proofs.ListLemmas.{all-permutation}
+use Rattle.sqlite.specs.declared.types.Value.TheVariants.{Null, Int, Text}
+use Rattle.sqlite_keyed.proofs.ListLemmas.{map-map, map_same}
 use Rattle.rtgs_book.specs.declared.Posting.{Posting}
 use Rattle.rtgs_book.specs.declared.Order.{Order}
 use Rattle.rtgs_book.specs.declared.OrderState.{OrderState}
@@ -19,10 +16,8 @@ use Rattle.rtgs_money.specs.Date.{date_text, IsBusinessDate}
 use Rattle.rtgs_rows.specs.Fitting.{FitsDate}
 use Rattle.rtgs_rows.specs.Rows.{shown_posting, shown_order, shown_mark, mark_value, date_value, state_number}
 use Rattle.rtgs_sql_queries.proofs.RowColumns.{of_four, of_eight}
-use Rattle.rtgs_sql_columns.specs.Numbers.{natural_of, at_least_zero, as_read, counted_of_posting, counted_of_order}
-use Rattle.rtgs_sql_columns.specs.Numbers.{counted_of_mark, IsFormed, IsNumberedPosting, IsNumberedState}
-use Rattle.rtgs_sql_columns.specs.Numbers.{IsNumberedOrder}
-use Rattle.rtgs_sql_columns.specs.Numbers.{IsNumberedMark}
+use Rattle.rtgs_sql_columns.specs.Numbers.{at_least_zero, as_read, counted_of_posting, counted_of_order}
+use Rattle.rtgs_sql_columns.specs.Numbers.{counted_of_mark}
 
 -- ---- a record's own row is read as it is
 

@@ -1,14 +1,11 @@
 -- What a query with parameters leaves, and what it shows.
-use Rattle.std.proofs.Common.{◌≡◌, ◌⊎◌, inl, inr, ℕ, List, [], length, false, Ok, Err, Result, IsTrue, IfOk, IfErr}
-use Rattle.std.proofs.Common.{OnOk}
-use Rattle.std.proofs.Common.{Vec, Global, sym, ap, subst, ◌∙◌}
+use Rattle.std.proofs.Common.{◌≡◌, ◌⊎◌, inl, ℕ, List, [], length, false, Ok, Err, Result, IsTrue, IfOk, IfErr, OnOk}
+use Rattle.std.proofs.Common.{Vec, Global, sym, subst}
 use Rattle.sqlite.specs.declared.types.Value.TheVariants.{Null}
 use Rattle.sqlite.specs.declared.error.Error.{Error}
 use Rattle.sqlite.specs.Order.{Row}
 use Rattle.sqlite.specs.Query.{Query, IsAnswer}
 use Rattle.sqlite_sql.specs.Program.{overlay}
-use Rattle.sqlite.specs.Tree.{Trees}
-use Rattle.sqlite.specs.Effect.{Database}
 use Rattle.sqlite.specs.State.{State, Shown, FailsToQuery, IsUnchanged, IsRolledBack, HasCleanDisk, Survives}
 use Rattle.sqlite.specs.State.{CommitsShowing}
 use Rattle.sqlite.specs.Held.{Held, state}
@@ -18,7 +15,6 @@ use Rattle.sqlite.proofs.StateLemmas.{survives_weaker}
 use Rattle.sqlite_resolve.specs.Compile.{first}
 use Rattle.sqlite_trees.specs.declared.store.Store.{Ghosts}
 use Rattle.rtgs_rows.specs.Tables.{desk_schema}
-use Rattle.rtgs_rows.specs.Querying.{IsDeskFile}
 use Rattle.rtgs_sql_queries.specs.Answering.{IsQuery, KeepsTables, Returnless}
 use Rattle.rtgs_sql_queries.specs.TableQueries.{IsOneQuery, Seeks}
 use Rattle.rtgs_sql_queries.proofs.Refusals.{intact}

@@ -20,8 +20,7 @@ use Rattle.rtgs_book.specs.declared.Day.{Day}
 use Rattle.rtgs_book.specs.declared.Posting.{Posting}
 use Rattle.rtgs_book.specs.declared.Order.{Order}
 use Rattle.rtgs_book.specs.declared.Mark.{Mark}
-use Rattle.rtgs_rows.specs.Tables.{desk_schema, desk_table, participant_table, posting_table, payment_table}
-use Rattle.rtgs_rows.specs.Tables.{mark_table}
+use Rattle.rtgs_rows.specs.Tables.{desk_schema, desk_table, participant_table, posting_table, payment_table, mark_table}
 use Rattle.rtgs_rows.specs.Fitting.{FitsDate, FitsParticipant, FitsPosting, FitsOrder, FitsMark}
 use Rattle.rtgs_rows.specs.Rows.{day_row, posting_row, payment_row, mark_row, shown_day, shown_account, shown_posting}
 use Rattle.rtgs_rows.specs.Rows.{shown_order, shown_mark}

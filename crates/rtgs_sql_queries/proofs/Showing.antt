@@ -32,13 +32,11 @@ use Rattle.rtgs_sql_columns.specs.Tables.{column_names, query_text}
 use Rattle.rtgs_rows.specs.Content.{Content, Rests, tables_of}
 use Rattle.rtgs_rows.specs.Querying.{IsDeskFile, picked}
 use Rattle.rtgs_sql_queries.specs.Records.{AreRead}
-use Rattle.rtgs_sql_queries.specs.Answering.{FailsAmid}
+use Rattle.rtgs_sql_queries.specs.Answering.{FailsAmid, KeepsTables}
 use Rattle.rtgs_sql_queries.specs.Faults.{IsOfStore}
-use Rattle.rtgs_sql_queries.specs.TableQueries.{IsTableQuery, IsOneQuery, ShowsOwn, whole_table}
-use Rattle.rtgs_sql_queries.specs.TableQueries.{shown_columns}
+use Rattle.rtgs_sql_queries.specs.TableQueries.{IsTableQuery, IsOneQuery, ShowsOwn, whole_table, shown_columns}
 use Rattle.rtgs_sql_queries.specs.TableQueries.{rising_by}
 use Rattle.rtgs_sql_queries.proofs.Refusals.{of_store, intact}
-use Rattle.rtgs_sql_queries.specs.Answering.{KeepsTables}
 use Rattle.rtgs_sql_queries.proofs.Resting.{keeps, schema_of}
 use Rattle.rtgs_sql_columns.specs.OneTable.{simple, passes, shows, Sorts, OneTableAnswers}
 

@@ -1,8 +1,11 @@
 -- One more change of the records.
 use Rattle.std.proofs.Common.{◌≡◌, ℕ, zero, suc, ◌+◌, ◌<◌, List, [], ◌∷◌, ◌++◌, take, get_or, length, refl, sym, ap}
 use Rattle.std.proofs.Common.{subst, ◌∙◌}
+use Rattle.std.specs.List.{AllByRecursion}
 use Rattle.std.proofs.lemmas.List.{take_more}
+use Rattle.rtgs_lists.proofs.Lists.{all_push}
 use Rattle.rtgs_book.specs.declared.RowChange.{RowChange}
+use Rattle.rtgs_rows.specs.Fitting.{FitsRow}
 use Rattle.rtgs_rows.specs.Content.{Content, IsInOrder, AreInOrder, with_change, with_changes}
 
 pushed : (rows : List RowChange) (row : RowChange) (c : Content)
@@ -15,6 +18,12 @@ pub more_changes : (rows : List RowChange) (i : ℕ) (row : RowChange) (c : Cont
 more_changes rows i row c low here = sym (pushed (take i rows) row c)
     ∙ ap (λ r. with_changes c (take i rows ++ r ∷ [])) here ∙ ap (λ l. with_changes c l)
     (sym (take_more rows i row low))
+
+pub formed_more : (rows : List RowChange) (i : ℕ) (row : RowChange) → i < length rows → row ≡ get_or rows i row
+    → AllByRecursion FitsRow (take i rows) → FitsRow row → AllByRecursion FitsRow (take (i + 1) rows)
+formed_more rows i row low here before fits = subst (AllByRecursion FitsRow)
+    (sym (take_more rows i row low ∙ ap (λ r. take i rows ++ r ∷ []) (sym here)))
+    (all_push FitsRow (take i rows) row before fits)
 
 pub in_order_now : (rows : List RowChange) (c : Content) → AreInOrder c rows → IsInOrder c
 in_order_now [] c order = order

@@ -1,2 +1,3 @@
 pub mod Stops
+pub mod Staging
 pub mod Building

@@ -1,11 +1,14 @@
 //! A change in a transaction of its own.
 ghost use Rattle.std.specs.Prelude.{◌≡◌, false, IsTrue, OnOk, IfErr};
 ghost use Rattle.sqlite.specs.Effect.{Database};
-ghost use Rattle.rtgs_rows.specs.Content.{Content, Holds, IsUnderWay, Rests, IsInOrder, AreInOrder, with_change};
+ghost use Rattle.rtgs_rows.specs.Content.{Content, IsUnderWay, Rests, IsInOrder, AreInOrder, with_change};
 ghost use Rattle.rtgs_rows.specs.Content.{with_changes};
 ghost use Rattle.sqlite.specs.State.{HasCleanDisk, KeepsCommit, Survives};
 ghost use Rattle.sqlite.specs.Held.{state};
+ghost use Rattle.std.specs.List.{AllByRecursion};
+ghost use Rattle.rtgs_rows.specs.Fitting.{FitsRow};
 ghost use Rattle.rtgs_sql_writes.specs.Stops.{IsBefore};
+ghost use Rattle.rtgs_sql_writes.specs.Staging.{HoldsChange};
 
 use crate::statements::{
     add_mark, add_order, add_participant, add_posting, set_balance, set_credit, set_day, set_state,
@@ -29,6 +32,7 @@ fn stage_row<S: Alter>(tx: &mut Transaction<'_, S>, row: &RowChange) -> Result<u
         → IsUnderWay was content (state S.Store tx.old.conn.now) → IsInOrder content
         → IsInOrder (with_change content row.now)
         → OnOk result (IsUnderWay was (with_change content row.now) (state S.Store tx.new.conn.now)) }
+    ensures formed { OnOk result (FitsRow row.now) }
     ensures kept { HasCleanDisk (state S.Store tx.new.conn.now)
         → KeepsCommit (state S.Store tx.old.conn.now) (state S.Store tx.new.conn.now) }
     ensures survives { Survives (state S.Store tx.old.conn.now) (state S.Store tx.new.conn.now) (λ _. ⊥) }
@@ -51,6 +55,7 @@ fn stage<S: Alter>(tx: &mut Transaction<'_, S>, rows: &[RowChange]) -> Result<()
     ensures made { HasCleanDisk (state S.Store tx.new.conn.now) → (was : Database) (content : Content)
         → IsUnderWay was content (state S.Store tx.old.conn.now) → AreInOrder content rows.now
         → OnOk result (IsUnderWay was (with_changes content rows.now) (state S.Store tx.new.conn.now)) }
+    ensures formed { OnOk result (AllByRecursion FitsRow rows.now) }
     ensures kept { HasCleanDisk (state S.Store tx.new.conn.now)
         → KeepsCommit (state S.Store tx.old.conn.now) (state S.Store tx.new.conn.now) }
     ensures survives { Survives (state S.Store tx.old.conn.now) (state S.Store tx.new.conn.now) (λ _. ⊥) }
@@ -68,14 +73,14 @@ pub fn write<S: Alter>(conn: &mut Connection<S>, rows: &[RowChange]) -> Result<(
     ensures done { HasCleanDisk (state S.Store conn.new) → (content : Content) → Rests content (state S.Store conn.old)
         → AreInOrder content rows.now
         → OnOk result (Rests (with_changes content rows.now) (state S.Store conn.new)) }
+    ensures formed { OnOk result (AllByRecursion FitsRow rows.now) }
     ensures undone { HasCleanDisk (state S.Store conn.new) → (content : Content)
         → Rests content (state S.Store conn.old) → IsTrue (state S.Store conn.new).is_open
         → IfErr result (λ e. IsBefore e → Rests content (state S.Store conn.new)) }
     ensures early { IfErr result (λ e. IsBefore e → Survives (state S.Store conn.old) (state S.Store conn.new)
         (λ _. ⊥)) }
     ensures crash { Survives (state S.Store conn.old) (state S.Store conn.new)
-        (λ trees. (content : Content) → Rests content (state S.Store conn.old) → AreInOrder content rows.now
-        → Holds (with_changes content rows.now) trees) }
+        (HoldsChange (state S.Store conn.old) rows.now) }
 {
     let mut tx = conn.transaction();
     match stage(&mut tx, rows) {

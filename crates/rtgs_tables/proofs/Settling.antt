@@ -11,6 +11,7 @@ use Rattle.rtgs_book.specs.declared.RowChange.{RowChange}
 use Rattle.rtgs_book.specs.Changes.{IsChange}
 use Rattle.rtgs_rows.specs.Content.{Content, Holds, Rests, AreInOrder, with_changes}
 use Rattle.rtgs_rows.specs.Fitting.{FitsRow}
+use Rattle.rtgs_sql_writes.specs.Staging.{HoldsChange}
 use Rattle.rtgs_rows.specs.Keeping.{IsBookOf, HoldsBook, MayLeave, IsWhole}
 use Rattle.rtgs_rows.specs.RowLaws.{RowsTellTheBook, ChangesStandInOrder, ChangedRowsAreTheBook, DesksAreReadAsSuch}
 
@@ -34,30 +35,26 @@ leaves_on old new survives clean trees left = elim (survives.crash clean trees l
   | inr none ↦ absurd none
 ]
 
-abbrev pub Made : {S : Type 0} → Ghosts S → Held S → List RowChange → Trees → Type 0
-Made g old rows trees = (content : Content) → Rests content (state g old) → AreInOrder content rows
-    → Holds (with_changes content rows) trees
-
 pub stops_at : RowLaws → {S : Type 0} (g : Ghosts S) (old new : Held S) (rows : List RowChange)
-    → Survives (state g old) (state g new) (Made g old rows) → HasCleanDisk (state g new)
-    → (before after other : Book) → HoldsBook g old before → IsChange before rows after → AllByRecursion FitsRow rows
-    → MayLeave g new other → MayLeave g old other ⊎ (other ≡ after)
-stops_at laws g old new rows first clean before after other holds change forms left =
+    → Survives (state g old) (state g new) (HoldsChange (state g old) rows) → HasCleanDisk (state g new)
+    → (before after other : Book) → HoldsBook g old before → IsChange before rows after → MayLeave g new other
+    → MayLeave g old other ⊎ (other ≡ after)
+stops_at laws g old new rows first clean before after other holds change left =
     elim (first.crash clean left.0 left.1) [
       | inl was ↦ inl (left.0, was, left.2)
       | inr made ↦
-          let there = made holds.0 holds.1 (laws.in_order before after rows holds.0 holds.2 change) in
+          let there = made.holds holds.0 holds.1 (laws.in_order before after rows holds.0 holds.2 change) in
           inr (laws.tells after other (with_changes holds.0 rows) left.2.0
-          (laws.changes before after rows holds.0 holds.2 change forms) left.2.2 (sym there.rows ∙ left.2.1.rows))
+          (laws.changes before after rows holds.0 holds.2 change made.formed) left.2.2 (sym there.rows ∙ left.2.1.rows))
     ]
 
 pub stops : RowLaws → {S : Type 0} (g : Ghosts S) (old mid new : Held S) (rows : List RowChange)
-    → Survives (state g old) (state g mid) (Made g old rows) → Survives (state g mid) (state g new) (λ _. ⊥)
-    → HasCleanDisk (state g new)
-    → (before after other : Book) → HoldsBook g old before → IsChange before rows after → AllByRecursion FitsRow rows
-    → MayLeave g new other → MayLeave g old other ⊎ (other ≡ after)
-stops laws g old mid new rows first second clean before after other holds change forms left =
-    stops_at laws g old mid rows first (omega (arith, second.clean)) before after other holds change forms
+    → Survives (state g old) (state g mid) (HoldsChange (state g old) rows)
+    → Survives (state g mid) (state g new) (λ _. ⊥) → HasCleanDisk (state g new)
+    → (before after other : Book) → HoldsBook g old before → IsChange before rows after → MayLeave g new other
+    → MayLeave g old other ⊎ (other ≡ after)
+stops laws g old mid new rows first second clean before after other holds change left =
+    stops_at laws g old mid rows first (omega (arith, second.clean)) before after other holds change
     (leaves_less g mid new second clean other left)
 
 pub done : RowLaws → {S : Type 0} (g : Ghosts S) (old new : Held S) (rows : List RowChange)
@@ -99,33 +96,29 @@ whole_still g old new s clean was trees left = elim (s.crash clean trees left)
 
 -- where a change was written
 pub whole_at : RowLaws → {S : Type 0} (g : Ghosts S) (old new : Held S) (rows : List RowChange)
-    → Survives (state g old) (state g new) (Made g old rows) → HasCleanDisk (state g new) → IsWhole g old
-    → (before after : Book) → HoldsBook g old before → IsChange before rows after → AllByRecursion FitsRow rows
-    → IsWhole g new
-whole_at laws g old new rows first clean was before after holds change forms trees left =
+    → Survives (state g old) (state g new) (HoldsChange (state g old) rows) → HasCleanDisk (state g new) → IsWhole g old
+    → (before after : Book) → HoldsBook g old before → IsChange before rows after → IsWhole g new
+whole_at laws g old new rows first clean was before after holds change trees left =
     elim (first.crash clean trees left) [
       | inl old ↦ was trees old
       | inr made ↦ (
         after,
         (
           with_changes holds.0 rows,
-          made holds.0 holds.1
-              (laws.in_order before after rows holds.0 holds.2 change),
-          laws.changes before after rows holds.0 holds.2
-              change forms,
+          made.holds holds.0 holds.1 (laws.in_order before after rows holds.0 holds.2 change),
+          laws.changes before after rows holds.0 holds.2 change made.formed,
         ),
       )
     ]
 
 -- where a change was written, and the store was asked for no more
 pub whole_then : RowLaws → {S : Type 0} (g : Ghosts S) (old mid new : Held S) (rows : List RowChange)
-    → Survives (state g old) (state g mid) (Made g old rows) → Survives (state g mid) (state g new) (λ _. ⊥)
-    → HasCleanDisk (state g new) → IsWhole g old
-    → (before after : Book) → HoldsBook g old before → IsChange before rows after → AllByRecursion FitsRow rows
-    → IsWhole g new
-whole_then laws g old mid new rows first second clean was before after holds change forms =
+    → Survives (state g old) (state g mid) (HoldsChange (state g old) rows)
+    → Survives (state g mid) (state g new) (λ _. ⊥) → HasCleanDisk (state g new) → IsWhole g old
+    → (before after : Book) → HoldsBook g old before → IsChange before rows after → IsWhole g new
+whole_then laws g old mid new rows first second clean was before after holds change =
     whole_still g mid new second clean (whole_at laws g old mid rows first (omega (arith, second.clean)) was before
-    after holds change forms)
+    after holds change)
 
 -- a database is opened whose tables hold a book
 pub opened : DesksAreReadAsSuch → {S : Type 0} (g : Ghosts S) (h : Held S) (book : Book) (content : Content)

@@ -18,7 +18,6 @@ ghost use Rattle.rtgs_tables.specs.Loading.{ExplainsLoad, ShowsBalanced, MayLeav
 ghost use Rattle.rtgs_sql_writes.specs.Stops.{IsBefore};
 ghost use Rattle.rtgs_rows.specs.RowLaws.{RowsTellTheBook, TablesOfABookAreWhole, TablesOfABookAreWhole-prop};
 
-use crate::forms::rows_fit;
 use rtgs_book::laws::new_book_is_sound;
 use rtgs_book::{Book, Change, Fault, Mark, Order, Posting};
 use rtgs_cores::Core;
@@ -283,7 +282,6 @@ impl<S: Alter + Drop> Keeper for SqlKeeper<S> {
             return Err(CommitFault::Failed);
         }
         let rows = change.as_slice();
-        rows_fit(rows);
         laws::rows_tell_the_book();
         laws::changes_stand_in_order();
         laws::changed_rows_are_the_changed_book();

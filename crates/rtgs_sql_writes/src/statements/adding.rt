@@ -3,6 +3,7 @@ ghost use Rattle.std.specs.Prelude.{◌≡◌, OnOk};
 ghost use Rattle.sqlite.specs.Effect.{Database};
 ghost use Rattle.rtgs_book.specs.declared.RowChange.TheVariants as change;
 ghost use Rattle.rtgs_rows.specs.Content.{Content, IsUnderWay, IsInOrder, with_change};
+ghost use Rattle.rtgs_rows.specs.Fitting.{FitsParticipant, FitsPosting, FitsOrder, FitsMark};
 ghost use Rattle.sqlite.specs.State.{HasCleanDisk, KeepsCommit, Survives};
 ghost use Rattle.sqlite.specs.Held.{state};
 
@@ -24,6 +25,7 @@ pub(crate) fn add_participant<S: Alter>(
         → IsUnderWay was content (state S.Store tx.old.conn.now) → IsInOrder content
         → OnOk result (IsUnderWay was (with_change content (change.AddParticipant participant.now))
         (state S.Store tx.new.conn.now)) }
+    ensures formed { OnOk result (FitsParticipant participant.now) }
     ensures kept { HasCleanDisk (state S.Store tx.new.conn.now)
         → KeepsCommit (state S.Store tx.old.conn.now) (state S.Store tx.new.conn.now) }
     ensures survives { Survives (state S.Store tx.old.conn.now) (state S.Store tx.new.conn.now) (λ _. ⊥) }
@@ -51,6 +53,7 @@ pub(crate) fn add_posting<S: Alter>(
         → IsInOrder (with_change content (change.AddPosting posting.now))
         → OnOk result (IsUnderWay was (with_change content (change.AddPosting posting.now))
         (state S.Store tx.new.conn.now)) }
+    ensures formed { OnOk result (FitsPosting posting.now) }
     ensures kept { HasCleanDisk (state S.Store tx.new.conn.now)
         → KeepsCommit (state S.Store tx.old.conn.now) (state S.Store tx.new.conn.now) }
     ensures survives { Survives (state S.Store tx.old.conn.now) (state S.Store tx.new.conn.now) (λ _. ⊥) }
@@ -78,7 +81,9 @@ pub(crate) fn add_order<S: Alter>(
     ensures made { HasCleanDisk (state S.Store tx.new.conn.now) → (was : Database) (content : Content)
         → IsUnderWay was content (state S.Store tx.old.conn.now)
         → IsInOrder (with_change content (change.AddOrder order.now))
-        → OnOk result (IsUnderWay was (with_change content (change.AddOrder order.now)) (state S.Store tx.new.conn.now)) }
+        → OnOk result (IsUnderWay was (with_change content (change.AddOrder order.now))
+        (state S.Store tx.new.conn.now)) }
+    ensures formed { OnOk result (FitsOrder order.now) }
     ensures kept { HasCleanDisk (state S.Store tx.new.conn.now)
         → KeepsCommit (state S.Store tx.old.conn.now) (state S.Store tx.new.conn.now) }
     ensures survives { Survives (state S.Store tx.old.conn.now) (state S.Store tx.new.conn.now) (λ _. ⊥) }
@@ -106,9 +111,10 @@ pub(crate) fn add_order<S: Alter>(
 pub(crate) fn add_mark<S: Alter>(tx: &mut Transaction<'_, S>, mark: &Mark) -> Result<usize, Error>
     ensures same_reference { tx.new.conn.ghost_name ≡ tx.old.conn.ghost_name }
     ensures made { HasCleanDisk (state S.Store tx.new.conn.now) → (was : Database) (content : Content)
-        → IsUnderWay was content (state S.Store tx.old.conn.now) → IsInOrder (with_change content (change.AddMark
-        mark.now))
+        → IsUnderWay was content (state S.Store tx.old.conn.now)
+        → IsInOrder (with_change content (change.AddMark mark.now))
         → OnOk result (IsUnderWay was (with_change content (change.AddMark mark.now)) (state S.Store tx.new.conn.now)) }
+    ensures formed { OnOk result (FitsMark mark.now) }
     ensures kept { HasCleanDisk (state S.Store tx.new.conn.now)
         → KeepsCommit (state S.Store tx.old.conn.now) (state S.Store tx.new.conn.now) }
     ensures survives { Survives (state S.Store tx.old.conn.now) (state S.Store tx.new.conn.now) (λ _. ⊥) }

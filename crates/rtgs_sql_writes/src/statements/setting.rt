@@ -3,6 +3,8 @@ ghost use Rattle.std.specs.Prelude.{◌≡◌, OnOk};
 ghost use Rattle.sqlite.specs.Effect.{Database};
 ghost use Rattle.rtgs_book.specs.declared.RowChange.TheVariants as change;
 ghost use Rattle.rtgs_rows.specs.Content.{Content, IsUnderWay, IsInOrder, with_change};
+ghost use Rattle.rtgs_money.specs.Amounts.{IsCredit};
+ghost use Rattle.rtgs_rows.specs.Fitting.{FitsDate};
 ghost use Rattle.sqlite.specs.State.{HasCleanDisk, KeepsCommit, Survives};
 ghost use Rattle.sqlite.specs.Held.{state};
 
@@ -26,6 +28,7 @@ pub(crate) fn set_credit<S: Alter>(
         → IsUnderWay was content (state S.Store tx.old.conn.now) → IsInOrder content
         → OnOk result (IsUnderWay was (with_change content (change.SetCredit code.now credit))
         (state S.Store tx.new.conn.now)) }
+    ensures formed { OnOk result (IsCredit credit) }
     ensures kept { HasCleanDisk (state S.Store tx.new.conn.now)
         → KeepsCommit (state S.Store tx.old.conn.now) (state S.Store tx.new.conn.now) }
     ensures survives { Survives (state S.Store tx.old.conn.now) (state S.Store tx.new.conn.now) (λ _. ⊥) }
@@ -89,6 +92,7 @@ pub(crate) fn set_day<S: Alter>(tx: &mut Transaction<'_, S>, day: Day) -> Result
     ensures made { HasCleanDisk (state S.Store tx.new.conn.now) → (was : Database) (content : Content)
         → IsUnderWay was content (state S.Store tx.old.conn.now) → IsInOrder content
         → OnOk result (IsUnderWay was (with_change content (change.SetDay day)) (state S.Store tx.new.conn.now)) }
+    ensures formed { OnOk result (FitsDate day.date) }
     ensures kept { HasCleanDisk (state S.Store tx.new.conn.now)
         → KeepsCommit (state S.Store tx.old.conn.now) (state S.Store tx.new.conn.now) }
     ensures survives { Survives (state S.Store tx.old.conn.now) (state S.Store tx.new.conn.now) (λ _. ⊥) }

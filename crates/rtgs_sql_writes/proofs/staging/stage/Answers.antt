@@ -1,7 +1,9 @@
 use Rattle.std.proofs.Common.{◌∙◌, arith, subst, take, take_all}
+use Rattle.std.specs.List.{AllByRecursion}
 use Rattle.sqlite.specs.Effect.{Database}
+use Rattle.rtgs_rows.specs.Fitting.{FitsRow}
 use Rattle.rtgs_rows.specs.Content.{Content, IsUnderWay, AreInOrder, with_changes}
-use Rattle.rtgs_sql_writes.proofs.Changing.{more_changes, order_at, order_after}
+use Rattle.rtgs_sql_writes.proofs.Changing.{more_changes, formed_more, order_at, order_after}
 use Rattle.sqlite.specs.State.{HasCleanDisk}
 use Rattle.sqlite.specs.Held.{state}
 use Rattle.rtgs_sql_writes.proofs.Keeps.{survives_on, keeps_on}
@@ -19,6 +21,8 @@ loop-row-preserved g c =
       survives = survives_on old mid now inv.survives step.survives;
       kept = λ (clean : HasCleanDisk now). keeps_on old mid now (inv.kept (omega (arith, step.survives.clean)))
           (step.kept clean);
+      formed = formed_more c.args.rows.now c.loop-row.row-index c.row-item.result (omega arith) c.row-item.is inv.formed
+          step.formed;
       made = λ (clean : HasCleanDisk now) (was : Database) (content : Content) (stands : IsUnderWay was content old)
           (order : AreInOrder content c.args.rows.now).
           let before = inv.made (omega (arith, step.survives.clean)) was content stands order in
@@ -51,3 +55,7 @@ pub returns-clause-made : goal.returns-clause-made
 returns-clause-made g c clean was content stands order =
     rw (take_all c.loop-row.row-index c.args.rows.now (omega arith)) at
     (c.loop-row.invariant.made clean was content stands order)
+
+pub returns-clause-formed : goal.returns-clause-formed
+returns-clause-formed g c = subst (AllByRecursion FitsRow) (take_all c.loop-row.row-index c.args.rows.now (omega arith))
+    c.loop-row.invariant.formed

@@ -1,8 +1,8 @@
 use Rattle.std.proofs.Common.{◌≡◌, arith, rules, subst}
 use Rattle.sqlite.specs.State.{HasCleanDisk, Survives}
-use Rattle.sqlite.specs.Tree.{Trees}
 use Rattle.sqlite.specs.Held.{state}
-use Rattle.rtgs_rows.specs.Content.{Content, Rests, AreInOrder, Holds, with_changes}
+use Rattle.rtgs_rows.specs.Content.{Content, Rests, AreInOrder, with_changes}
+use Rattle.rtgs_sql_writes.specs.Staging.{HoldsChange}
 use Rattle.rtgs_sql_writes.proofs.StateLemmas.{stands_begun, rests_committed, survives_commit}
 use Rattle.rtgs_sql_writes.proofs.staging.write.Goals as goal
 
@@ -25,13 +25,14 @@ returns-in-Ok-commit-clause-crash g c =
     let mid = c.stage.new.tx.conn.now in
     let end = c.commit.new.self.0 in
     let same : end ≡ c.conn-2-1.given.0 = search rules in
-    let P = λ (trees : Trees). (content : Content) → Rests content (state g.S.Store old)
-    → AreInOrder content c.args.rows.now → Holds (with_changes content c.args.rows.now) trees in
-    let made = λ (clean : HasCleanDisk (state g.S.Store end)) (content : Content)
-    (rests : Rests content (state g.S.Store old)) (order : AreInOrder content c.args.rows.now).
-    let begun = stands_begun g.S.Store old content rests in
-    (c.in-Ok.ensures.made (omega (arith, c.commit.ensures.survives.clean)) (state g.S.Store old).committed content
-    (rw c.transaction-tx.ensures.begun begun) order).holds in
+    let P = HoldsChange (state g.S.Store old) c.args.rows.now in
+    let made : HasCleanDisk (state g.S.Store end) → P (state g.S.Store mid).now.trees = λ clean. record {
+      formed = c.in-Ok.ensures.formed;
+      holds = λ content rests order.
+          let begun = stands_begun g.S.Store old content rests in
+          (c.in-Ok.ensures.made (omega (arith, c.commit.ensures.survives.clean)) (state g.S.Store old).committed content
+          (rw c.transaction-tx.ensures.begun begun) order).holds;
+    } in
     subst (λ h. Survives (state g.S.Store old) (state g.S.Store h) P) same
     (survives_commit g.S.Store old (state g.S.Store mid) (state g.S.Store end) P made
     (rw c.transaction-tx.ensures.begun at c.stage.ensures.survives) c.commit.ensures.survives)
@@ -42,13 +43,14 @@ returns-in-Err-commit-clause-crash g c =
     let mid = c.stage.new.tx.conn.now in
     let end = c.commit.new.self.0 in
     let same : end ≡ c.conn-2-1.given.0 = search rules in
-    let P = λ (trees : Trees). (content : Content) → Rests content (state g.S.Store old)
-    → AreInOrder content c.args.rows.now → Holds (with_changes content c.args.rows.now) trees in
-    let made = λ (clean : HasCleanDisk (state g.S.Store end)) (content : Content)
-    (rests : Rests content (state g.S.Store old)) (order : AreInOrder content c.args.rows.now).
-    let begun = stands_begun g.S.Store old content rests in
-    (c.in-Ok.ensures.made (omega (arith, c.commit.ensures.survives.clean)) (state g.S.Store old).committed content
-    (rw c.transaction-tx.ensures.begun begun) order).holds in
+    let P = HoldsChange (state g.S.Store old) c.args.rows.now in
+    let made : HasCleanDisk (state g.S.Store end) → P (state g.S.Store mid).now.trees = λ clean. record {
+      formed = c.in-Ok.ensures.formed;
+      holds = λ content rests order.
+          let begun = stands_begun g.S.Store old content rests in
+          (c.in-Ok.ensures.made (omega (arith, c.commit.ensures.survives.clean)) (state g.S.Store old).committed content
+          (rw c.transaction-tx.ensures.begun begun) order).holds;
+    } in
     subst (λ h. Survives (state g.S.Store old) (state g.S.Store h) P) same
     (survives_commit g.S.Store old (state g.S.Store mid) (state g.S.Store end) P made
     (rw c.transaction-tx.ensures.begun at c.stage.ensures.survives) c.commit.ensures.survives)

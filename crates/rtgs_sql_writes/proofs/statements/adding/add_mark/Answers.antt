@@ -15,7 +15,7 @@ returns-clause-kept g c clean =
 pub returns-clause-made : goal.returns-clause-made
 returns-clause-made g c clean was content stands order =
     let number = ap bound_value c.number_value.ensures in
-    let date = ap bound_value (c.text_or_null.ensures ∙ ap (or_null Text) c.text_of-date.ensures
+    let date = ap bound_value (c.text_or_null.ensures ∙ ap (or_null Text) c.text_of-date.ensures.text
     ∙ date_bound (Some c.args.mark.now.date)) in
     let count = ap bound_value c.number_value-2.ensures in
     let value = ap bound_value c.cents_value.ensures in

@@ -18,10 +18,10 @@ returns-clause-made g c clean was content stands order =
     let sender = ap bound_value (c.text.ensures ∙ ap Text c.as_bytes.ensures.value) in
     let reference = ap bound_value (c.text-2.ensures ∙ ap Text c.as_bytes-2.ensures.value) in
     let receiver = ap bound_value (c.text-3.ensures ∙ ap Text c.as_bytes-3.ensures.value) in
-    let amount = ap bound_value c.amount_value.ensures in
+    let amount = ap bound_value c.amount_value.ensures.value in
     let stage = ap bound_value c.state_value.ensures in
     let mark = ap bound_value c.mark_value.ensures in
-    let date = ap bound_value (c.text_or_null.ensures ∙ ap (or_null Text) c.text_of-date.ensures
+    let date = ap bound_value (c.text_or_null.ensures ∙ ap (or_null Text) c.text_of-date.ensures.text
     ∙ date_bound (Some c.args.order.now.date)) in
     adds_order was content (state g.S.Store c.args.tx.now.conn.now) (state g.S.Store c.execute.new.self.conn.now)
     c.args.order.now c.execute.result _

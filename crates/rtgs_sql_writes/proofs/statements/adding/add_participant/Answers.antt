@@ -16,7 +16,7 @@ returns-clause-made g c clean was content stands order =
     let code = ap bound_value (c.text.ensures ∙ ap Text c.as_bytes.ensures.value) in
     let name = ap bound_value (c.text-2.ensures ∙ ap Text c.as_bytes-2.ensures.value) in
     let key = ap bound_value (c.blob.ensures ∙ ap Blob c.as_bytes-3.ensures.value) in
-    let credit = ap bound_value c.credit_value.ensures in
+    let credit = ap bound_value c.credit_value.ensures.value in
     adds_participant c.next_row_is_above.ensures was content (state g.S.Store c.args.tx.now.conn.now)
     (state g.S.Store c.execute.new.self.conn.now) c.args.participant.now c.execute.result _
     (λ i. code i ∷ name i ∷ key i ∷ credit i ∷ []) stands order

@@ -17,8 +17,8 @@ returns-clause-made g c clean was content stands order =
     let number = ap bound_value c.number_value.ensures in
     let code = ap bound_value (c.text.ensures ∙ ap Text c.as_bytes.ensures.value) in
     let reference = ap bound_value (c.text-2.ensures ∙ ap Text c.as_bytes-2.ensures.value) in
-    let cents = ap bound_value c.posting_value.ensures in
-    let date = ap bound_value (c.text_or_null.ensures ∙ ap (or_null Text) c.text_of-date.ensures ∙ date_bound _) in
+    let cents = ap bound_value c.posting_value.ensures.value in
+    let date = ap bound_value (c.text_or_null.ensures ∙ ap (or_null Text) c.text_of-date.ensures.text ∙ date_bound _) in
     adds_posting was content (state g.S.Store c.args.tx.now.conn.now) (state g.S.Store c.execute.new.self.conn.now)
     c.args.posting.now c.execute.result _
     (λ i. number i ∷ code i ∷ reference i ∷ cents i ∷ date i ∷ []) stands order

@@ -14,7 +14,7 @@ returns-clause-kept g c clean =
 pub returns-clause-made : goal.returns-clause-made
 returns-clause-made g c clean was content stands order =
     let code = ap bound_value (c.text.ensures ∙ ap Text c.as_bytes.ensures.value) in
-    let credit = ap bound_value c.credit_value.ensures in
+    let credit = ap bound_value c.credit_value.ensures.value in
     sets_credit c.args.code.now c.args.credit c.one_table_answers.ensures was content (state g.S.Store
     c.args.tx.now.conn.now)
     (state g.S.Store c.execute.new.self.conn.now) c.execute.result _

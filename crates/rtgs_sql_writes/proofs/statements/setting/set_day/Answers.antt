@@ -14,7 +14,7 @@ returns-clause-kept g c clean =
 
 pub returns-clause-made : goal.returns-clause-made
 returns-clause-made g c clean was content stands order =
-    let date = ap bound_value (c.text_or_null.ensures ∙ ap (or_null Text) c.text_of-date.ensures ∙ date_bound _) in
+    let date = ap bound_value (c.text_or_null.ensures ∙ ap (or_null Text) c.text_of-date.ensures.text ∙ date_bound _) in
     let phase = ap bound_value c.phase_value.ensures in
     sets_day c.one_table_answers.ensures was content (state g.S.Store c.args.tx.now.conn.now) (state g.S.Store
     c.execute.new.self.conn.now)

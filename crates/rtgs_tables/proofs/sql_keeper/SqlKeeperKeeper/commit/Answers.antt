@@ -12,7 +12,7 @@ returns-in-Ok-clause-done g c clean before after holds change =
       changes = c.changed_rows_are_the_changed_book.ensures;
     }) g.S.Store c.args.self.now.conn c.write.new.conn
     c.as_slice-rows.result.now (c.in-Ok.ensures.done clean) before after holds
-    (subst (λ rows. IsChange before rows after) (sym c.as_slice-rows.ensures) change) c.rows_fit.ensures
+    (subst (λ rows. IsChange before rows after) (sym c.as_slice-rows.ensures) change) c.in-Ok.ensures.formed
 
 pub returns-in-Ok-clause-stops : goal.returns-in-Ok-clause-stops
 returns-in-Ok-clause-stops g c clean before after other holds change left =
@@ -22,7 +22,7 @@ returns-in-Ok-clause-stops g c clean before after other holds change left =
       changes = c.changed_rows_are_the_changed_book.ensures;
     }) g.S.Store c.args.self.now.conn c.write.new.conn
     c.as_slice-rows.result.now c.write.ensures.crash clean before after other holds
-    (subst (λ rows. IsChange before rows after) (sym c.as_slice-rows.ensures) change) c.rows_fit.ensures left
+    (subst (λ rows. IsChange before rows after) (sym c.as_slice-rows.ensures) change) left
 
 pub returns-then-eq-clause-stops : goal.returns-then-eq-clause-stops
 returns-then-eq-clause-stops g c clean before after other holds change left =
@@ -33,7 +33,7 @@ returns-then-eq-clause-stops g c clean before after other holds change left =
     }) g.S.Store c.args.self.now.conn c.write.new.conn
     c.fault_of-fault.new.conn c.as_slice-rows.result.now c.write.ensures.crash c.fault_of-fault.ensures.survives
     clean before after other holds
-    (subst (λ rows. IsChange before rows after) (sym c.as_slice-rows.ensures) change) c.rows_fit.ensures left
+    (subst (λ rows. IsChange before rows after) (sym c.as_slice-rows.ensures) change) left
 
 pub returns-else-eq-clause-stops : goal.returns-else-eq-clause-stops
 returns-else-eq-clause-stops g c clean before after other holds change left =
@@ -44,7 +44,7 @@ returns-else-eq-clause-stops g c clean before after other holds change left =
     }) g.S.Store c.args.self.now.conn c.write.new.conn
     c.fault_of-fault.new.conn c.as_slice-rows.result.now c.write.ensures.crash c.fault_of-fault.ensures.survives
     clean before after other holds
-    (subst (λ rows. IsChange before rows after) (sym c.as_slice-rows.ensures) change) c.rows_fit.ensures left
+    (subst (λ rows. IsChange before rows after) (sym c.as_slice-rows.ensures) change) left
 
 pub returns-in-Ok-clause-whole : goal.returns-in-Ok-clause-whole
 returns-in-Ok-clause-whole g c clean before after holds change =
@@ -55,7 +55,7 @@ returns-in-Ok-clause-whole g c clean before after holds change =
       changes = c.changed_rows_are_the_changed_book.ensures;
     }) g.S.Store c.args.self.now.conn c.write.new.conn
     c.as_slice-rows.result.now c.write.ensures.crash clean was before after holds
-    (subst (λ rows. IsChange before rows after) (sym c.as_slice-rows.ensures) change) c.rows_fit.ensures
+    (subst (λ rows. IsChange before rows after) (sym c.as_slice-rows.ensures) change)
 
 pub returns-then-eq-clause-whole : goal.returns-then-eq-clause-whole
 returns-then-eq-clause-whole g c clean before after holds change =
@@ -67,7 +67,7 @@ returns-then-eq-clause-whole g c clean before after holds change =
     }) g.S.Store c.args.self.now.conn c.write.new.conn
     c.fault_of-fault.new.conn c.as_slice-rows.result.now c.write.ensures.crash c.fault_of-fault.ensures.survives
     clean was before after holds
-    (subst (λ rows. IsChange before rows after) (sym c.as_slice-rows.ensures) change) c.rows_fit.ensures
+    (subst (λ rows. IsChange before rows after) (sym c.as_slice-rows.ensures) change)
 
 pub returns-else-eq-clause-whole : goal.returns-else-eq-clause-whole
 returns-else-eq-clause-whole g c clean before after holds change =
@@ -79,4 +79,4 @@ returns-else-eq-clause-whole g c clean before after holds change =
     }) g.S.Store c.args.self.now.conn c.write.new.conn
     c.fault_of-fault.new.conn c.as_slice-rows.result.now c.write.ensures.crash c.fault_of-fault.ensures.survives
     clean was before after holds
-    (subst (λ rows. IsChange before rows after) (sym c.as_slice-rows.ensures) change) c.rows_fit.ensures
+    (subst (λ rows. IsChange before rows after) (sym c.as_slice-rows.ensures) change)

@@ -2,8 +2,7 @@ use Rattle.std.proofs.Common.{◌≡◌, ap, ◌∙◌}
 use Rattle.std.proofs.lemmas.Result.{IfOk-weaker}
 use Rattle.sqlite.specs.Held.{state}
 use Rattle.rtgs_book.specs.declared.Posting.{Posting}
-use Rattle.rtgs_cores.specs.Nexts.{posting_after}
-use Rattle.rtgs_cores.specs.Nexts.{date_of_posting}
+use Rattle.rtgs_cores.specs.Nexts.{posting_after, date_of_posting}
 use Rattle.rtgs_sql_look_ups.specs.Seeking.{first_of_date}
 use Rattle.rtgs_tables.proofs.KeepingLooks.{holds_on, posting_of_date, some_date}
 use Rattle.rtgs_tables.proofs.Settling.{leaves_on}
