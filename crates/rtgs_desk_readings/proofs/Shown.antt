@@ -11,11 +11,11 @@ use Rattle.rtgs_desk.specs.Holding.{Holds}
 use Rattle.rtgs_desk.specs.Readings.{Tells}
 use Rattle.rtgs_desk.specs.Seen.{Seen}
 use Rattle.rtgs_desk_texts.specs.Readings.{ReadingFails, text_wanted}
-use Rattle.rtgs_desk_texts.specs.Written.{Writes, statement_wanted}
+use Rattle.rtgs_desk_texts.specs.Written.{Writes, statement_wanted, StillHolds}
 use Rattle.rtgs_statements.specs.declared.book_text_fault.BookTextFault.{BookTextFault}
 use Rattle.rtgs_book_file.specs.OverFile.{OverFile}
 use Rattle.rtgs_desk_files.specs.Done.{IsDone}
-use Rattle.rtgs_desk_readings.specs.Readings.{IsRead, IsWritten, StillHolds}
+use Rattle.rtgs_desk_readings.specs.Readings.{IsRead, IsWritten}
 
 -- what is so of each outcome that is no refusal, and of each refusal
 pub if_done : {T E : Type 0} (result : Result T E) (P : T → Type 0) → ((done : T) → result ≡ Ok done → P done)

@@ -6,12 +6,10 @@ use Rattle.rtgs_book.specs.declared.reading.Reading.{Reading}
 use Rattle.rtgs_book.specs.declared.reading.Reading.TheVariants as reading
 use Rattle.rtgs_book.specs.declared.refusal.Refusal.{Refusal}
 use Rattle.rtgs_book.specs.declared.refusal.Refusal.TheVariants.{StoreFault, UnknownParticipant}
-use Rattle.rtgs_keeper.specs.declared.keeper.Keeper.{Ghosts}
-use Rattle.rtgs_desk.specs.Holding.{Holds}
 use Rattle.rtgs_desk.specs.Readings.{Tells}
 use Rattle.rtgs_desk.specs.Seen.{Seen}
 use Rattle.rtgs_desk_texts.specs.Readings.{ReadingFails, text_wanted}
-use Rattle.rtgs_desk_texts.specs.Written.{Writes, statement_wanted}
+use Rattle.rtgs_desk_texts.specs.Written.{StillHolds, Writes, statement_wanted}
 use Rattle.rtgs_statements.specs.Reads.{LeavesLines}
 use Rattle.rtgs_statements.specs.declared.book_text_fault.BookTextFault.{BookTextFault}
 use Rattle.rtgs_statements.specs.declared.book_text_fault.BookTextFault.TheVariants as text
@@ -26,12 +24,6 @@ use Rattle.rtgs_desk_files.specs.declared.met.Met.{Met}
 use Rattle.rtgs_desk_files.specs.declared.met.Met.TheVariants as met
 use Rattle.rtgs_desk_files.specs.declared.touched.Touched.{Touched}
 use Rattle.rtgs_desk_readings.specs.Outcomes.{outcome_of_text}
-
--- nothing was done to the book: the desk holds it, unless the store failed, and a crash leaves it and no other, whole
-pub record StillHolds {K : Type 0} (g : Ghosts K) (book : Book) (desk : Seen K) : Type 0 where
-  pub kept : g.has_failed desk.keeper ≡ false → Holds g desk book
-  pub after_a_crash : (found : Book) → g.leaves desk.keeper found → found ≡ book
-  pub whole_after_a_crash : g.is_whole desk.keeper
 
 -- the text of a reading is gathered before a byte of it is printed, as of each but a statement
 abbrev pub is_gathered : Reading → Bool

@@ -1,16 +1,14 @@
 -- What a writer holds after a text.
-use Rattle.std.proofs.Common.{◌≡◌, ◌≢◌, ◌<◌, ◌⊎◌, ℕ, [], List, length, Option, Some, None}
-use Rattle.std.proofs.Common.{Result, Ok, Err, OnOk, OnErr, IfSome, IfErr, refl, sym, ap, subst, inl, inr}
+use Rattle.std.proofs.Common.{◌≡◌, ◌≢◌, ◌<◌, ◌⊎◌, ℕ, [], List, length, Option, Some, None, Result, Ok, Err, OnOk, OnErr}
+use Rattle.std.proofs.Common.{IfSome, IfErr, refl, sym, ap, subst, inl, inr}
 use Rattle.std.proofs.lemmas.List.{append-nil}
-use Rattle.std.specs.Prelude.{⊤}
+use Rattle.std.specs.Prelude.{⊤, ok_or}
 use Rattle.std.specs.Io.KnownBytes.{Appends}
 use Rattle.rtgs_book.specs.declared.Order.{Order}
 use Rattle.rtgs_book.specs.declared.Participant.{Participant}
 use Rattle.rtgs_book.specs.declared.Refusal.{Refusal}
-use Rattle.rtgs_book.specs.declared.Refusal.TheVariants.{OutOfMemory, StoreFault, UnknownParticipant}
-use Rattle.rtgs_book.specs.declared.Refusal.TheVariants.{UnknownOrder}
+use Rattle.rtgs_book.specs.declared.Refusal.TheVariants.{OutOfMemory, StoreFault, UnknownParticipant, UnknownOrder}
 use Rattle.serde_json.specs.Data.{Data}
-use Rattle.std.specs.Prelude.{ok_or}
 use Rattle.rtgs_desk.specs.Readings.{Tells, Finds, if_known}
 use Rattle.rtgs_output.specs.Sent.{AppendsPart}
 use Rattle.rtgs_statements.specs.Reads.{read_refused_by}

@@ -48,3 +48,9 @@ pub record LeavesBook {K : Type 0} (g : Ghosts K) (old new : Seen K) : Type 0 wh
 abbrev pub refusal_of_text : BookTextFault → Refusal
 refusal_of_text (Refused refusal) = refusal
 refusal_of_text (Text fault) = OutOfMemory
+
+-- nothing was done to the book: the desk holds it, unless the store failed, and a crash leaves it and no other, whole
+pub record StillHolds {K : Type 0} (g : Ghosts K) (book : Book) (desk : Seen K) : Type 0 where
+  pub kept : g.has_failed desk.keeper ≡ false → Holds g desk book
+  pub after_a_crash : (found : Book) → g.leaves desk.keeper found → found ≡ book
+  pub whole_after_a_crash : g.is_whole desk.keeper

@@ -19,7 +19,8 @@ use Rattle.rtgs_http_requests.specs.Plans.{PlanLooksUp}
 use Rattle.rtgs_http_requests.specs.declared.asked.Asked.{Asked}
 use Rattle.rtgs_http_requests.specs.declared.asked.Asked.TheVariants.{Submit, Batch, Read}
 use Rattle.rtgs_http_requests.specs.declared.http_fault.HttpFault.{HttpFault}
-use Rattle.rtgs_http_banks.specs.Dealings.{Stands, ComesTo, Makes, Works, WorksFor, given}
+use Rattle.rtgs_desk_texts.specs.Written.{StillHolds}
+use Rattle.rtgs_http_banks.specs.Dealings.{ComesTo, Makes, Works, WorksFor, given}
 use Rattle.rtgs_http_banks.specs.Exchange.{Exchanges}
 use Rattle.rtgs_http_banks.specs.Sayings.{IsSaid, fault_message}
 
@@ -32,7 +33,7 @@ of_book : {K : Type 0} (g : Ghosts K) (desk : Seen K) (book : Book) → HasParti
     → KnowsOf g desk (code_under book)
 of_book g desk book memory = λ works. (book, memory, refl)
 
-stood : {K : Type 0} (g : Ghosts K) (old : Book) (desk : Seen K) → Stands g old desk → Makes g old [] [] desk
+stood : {K : Type 0} (g : Ghosts K) (old : Book) (desk : Seen K) → StillHolds g old desk → Makes g old [] [] desk
 stood g old desk s = record {
   last = old;
   kept = s.kept;
@@ -48,7 +49,7 @@ stood g old desk s = record {
 }
 
 -- no commands
-pub idle : {K : Type 0} (g : Ghosts K) (old : Book) (desk : Seen K) → Stands g old desk → Works g old desk
+pub idle : {K : Type 0} (g : Ghosts K) (old : Book) (desk : Seen K) → StillHolds g old desk → Works g old desk
 idle g old desk s = ([], [], stood g old desk s)
 
 -- the commands that are asked for
@@ -116,7 +117,7 @@ pub fault_exchange : {K : Type 0} (g : Ghosts K) (operator input : List ℕ) (de
     (sent : Message)
     → ((code_of : CodeOf) → KnowsOf g desk code_of → AsksFor operator code_of input (Err fault))
     → ((book : Book) → Holds g desk book → HasParticipants desk book)
-    → ((book : Book) → Holds g desk book → Stands g book desk)
+    → ((book : Book) → Holds g desk book → StillHolds g book desk)
     → ((book : Book) → Holds g desk book → g.has_failed desk.keeper ≡ false) → IsSaid (fault_message fault) sent
     → Exchanges g operator desk input desk sent
 fault_exchange g operator input desk fault sent asks has stands work said = record {

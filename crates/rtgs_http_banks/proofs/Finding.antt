@@ -10,14 +10,14 @@ use Rattle.rtgs_desk.specs.Readings.{Finds}
 use Rattle.rtgs_desk.specs.Seen.{Seen}
 use Rattle.rtgs_http_bodies.specs.Refusals.{refused_message}
 use Rattle.rtgs_http_replies.specs.Messages.{Message}
-use Rattle.rtgs_http_banks.specs.Dealings.{Stands}
+use Rattle.rtgs_desk_texts.specs.Written.{StillHolds}
 use Rattle.rtgs_http_banks.specs.Sayings.{IsSaid, told_message, order_message}
 
 -- a look-up does nothing to the book
 pub stood_still : {K : Type 0} (g : Ghosts K) (book : Book) (desk : Seen K) (result : Result Order Refusal)
     → (result ≢ Err StoreFault → Holds g desk book)
     → ((found : Book) → g.leaves desk.keeper found → found ≡ book) → g.is_whole desk.keeper
-    → (result ≡ Err StoreFault → g.has_failed desk.keeper ≡ true) → Stands g book desk
+    → (result ≡ Err StoreFault → g.has_failed desk.keeper ≡ true) → StillHolds g book desk
 stood_still g book desk result kept left whole fault = record {
   kept = λ works. kept (λ e. let failed = fault e in cc);
   after_a_crash = left;

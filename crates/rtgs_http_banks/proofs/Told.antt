@@ -8,10 +8,10 @@ use Rattle.rtgs_keeper.specs.declared.keeper.Keeper.{Ghosts}
 use Rattle.rtgs_desk.specs.Holding.{Holds}
 use Rattle.rtgs_desk.specs.Readings.{Tells}
 use Rattle.rtgs_desk.specs.Seen.{Seen}
-use Rattle.rtgs_desk_texts.specs.Written.{LeavesBook}
+use Rattle.rtgs_desk_texts.specs.Written.{LeavesBook, StillHolds}
 use Rattle.rtgs_http_bodies.specs.Refusals.{refused_message}
 use Rattle.rtgs_http_replies.specs.Messages.{Message}
-use Rattle.rtgs_http_banks.specs.Dealings.{Stands, IsReadOf}
+use Rattle.rtgs_http_banks.specs.Dealings.{IsReadOf}
 use Rattle.rtgs_http_banks.specs.Sayings.{IsSaid, told_message}
 
 pub refused_said : {X Y : Type 0} (view : Y → X) (told : Result X Refusal) (refusal : Refusal) (say : X → Message)
@@ -79,7 +79,7 @@ module _ {X Y : Type 0} (view : Y → X) (wanted : Result X Refusal) (say : X �
 
 -- a text that was read leaves the desk as it stood
 pub stands_after : {K : Type 0} (g : Ghosts K) (old new : Seen K) (book : Book) → LeavesBook g old new
-    → g.is_honest new.keeper → Holds g old book → Stands g book new
+    → g.is_honest new.keeper → Holds g old book → StillHolds g book new
 stands_after g old new book leaves honest held = record {
   kept = λ works. leaves.kept honest book held works;
   after_a_crash = λ found left. (leaves.left honest book held).after_a_crash found left;

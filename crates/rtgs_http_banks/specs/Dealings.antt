@@ -25,13 +25,8 @@ use Rattle.rtgs_http_requests.specs.declared.asked.Asked.{Asked}
 use Rattle.rtgs_http_requests.specs.declared.asked.Asked.TheVariants.{Submit, Batch, Read}
 use Rattle.rtgs_http_requests.specs.declared.http_fault.HttpFault.{HttpFault}
 use Rattle.rtgs_book.specs.declared.reading.Reading.{Reading}
+use Rattle.rtgs_desk_texts.specs.Written.{StillHolds}
 use Rattle.rtgs_http_banks.specs.Sayings.{IsSaid, IsSentOrLost, fault_message, reply_message, reading_message}
-
--- nothing was done to the book: the desk holds it, unless the store failed, and a crash leaves it and no other, whole
-pub record Stands {K : Type 0} (g : Ghosts K) (book : Book) (desk : Seen K) : Type 0 where
-  pub kept : g.has_failed desk.keeper ≡ false → Holds g desk book
-  pub after_a_crash : (found : Book) → g.leaves desk.keeper found → found ≡ book
-  pub whole_after_a_crash : g.is_whole desk.keeper
 
 -- the command was given once, and what the desk replied is told
 pub record Submits {K : Type 0} (g : Ghosts K) (old : Book) (command : Command) (desk : Seen K) (sent : Message)
@@ -58,7 +53,7 @@ pub record SubmitsAll {K : Type 0} (g : Ghosts K) (old : Book) (sender : List �
 
 -- nothing was given for lack of memory, and the store works
 abbrev pub GivesNothing : {K : Type 0} → Ghosts K → Book → Seen K → Message → Type 0
-GivesNothing g old desk sent = Stands g old desk × (g.has_failed desk.keeper ≡ false) × (sent ≡ no_memory)
+GivesNothing g old desk sent = StillHolds g old desk × (g.has_failed desk.keeper ≡ false) × (sent ≡ no_memory)
 
 -- this was read and the store works, or the store failed
 abbrev pub IsReadOf : {K : Type 0} → Ghosts K → Message → Seen K → Message → Type 0
@@ -68,12 +63,12 @@ IsReadOf g wanted desk sent =
 
 -- the book was read, and nothing done to it
 abbrev pub Reads : {K : Type 0} → Ghosts K → Book → Reading → Seen K → Message → Type 0
-Reads g old reading desk sent = Stands g old desk × IsReadOf g (reading_message old reading) desk sent
+Reads g old reading desk sent = StillHolds g old desk × IsReadOf g (reading_message old reading) desk sent
 
 -- what is done and sent for what a request asks, or for the fault of the first step that fails
 abbrev pub ComesTo : {K : Type 0} → Ghosts K → Book → Result Asked HttpFault → Seen K → Message → Type 0
 ComesTo g old (Err fault) desk sent =
-    Stands g old desk × (g.has_failed desk.keeper ≡ false) × IsSaid (fault_message fault) sent
+    StillHolds g old desk × (g.has_failed desk.keeper ≡ false) × IsSaid (fault_message fault) sent
 ComesTo g old (Ok (Submit command)) desk sent = Submits g old command desk sent
 ComesTo g old (Ok (Batch sender rows)) desk sent =
     GivesNothing g old desk sent ⊎ SubmitsAll g old sender rows.items desk sent

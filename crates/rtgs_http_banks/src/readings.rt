@@ -3,7 +3,8 @@ ghost use Rattle.rtgs_book.specs.declared.Book.{Book};
 ghost use Rattle.rtgs_desk.specs.Holding.{Holds};
 ghost use Rattle.rtgs_desk.specs.Readings.{account_told, queue_told, order_told};
 ghost use Rattle.rtgs_desk_texts.specs.Written.{statement_wanted, report_wanted};
-ghost use Rattle.rtgs_http_banks.specs.Dealings.{Stands, Reads, IsReadOf};
+ghost use Rattle.rtgs_desk_texts.specs.Written.{StillHolds};
+ghost use Rattle.rtgs_http_banks.specs.Dealings.{Reads, IsReadOf};
 ghost use Rattle.rtgs_http_banks.specs.Sayings.{IsSaid, told_message, order_message, account_message, queue_message};
 ghost use Rattle.rtgs_http_banks.specs.Sayings.{text_message};
 
@@ -37,7 +38,7 @@ pub(crate) fn read<K: Keeper>(alloc: Global, desk: &mut Desk<K>, reading: Readin
 
 /// A desk on which nothing is done stands as it stood.
 pub(crate) fn stands<K: Keeper>(desk: &Desk<K>)
-    ensures { (book : Book) → Holds K.Keeper desk.now book → Stands K.Keeper book desk.now }
+    ensures { (book : Book) → Holds K.Keeper desk.now book → StillHolds K.Keeper book desk.now }
 {
     desk.holds_a_sound_book();
 }
@@ -50,7 +51,7 @@ fn read_order<K: Keeper>(
     reference: &Reference,
 ) -> Reply
     ensures reads { K.is_honest desk.new.keeper → (book : Book) → Holds K.Keeper desk.old book
-        → Stands K.Keeper book desk.new
+        → StillHolds K.Keeper book desk.new
         × IsReadOf K.Keeper (told_message order_message (order_told book code.now reference.now)) desk.new result }
     ensures honest { K.is_honest desk.new.keeper → K.is_honest desk.old.keeper }
 {
@@ -105,7 +106,7 @@ fn read_statement<K: Keeper>(
     date: BusinessDate,
 ) -> Reply
     ensures reads { K.is_honest desk.new.keeper → (book : Book) → Holds K.Keeper desk.old book
-        → Stands K.Keeper book desk.new × IsReadOf K.Keeper
+        → StillHolds K.Keeper book desk.new × IsReadOf K.Keeper
         (told_message text_message (statement_wanted book code.now date)) desk.new result }
     ensures honest { K.is_honest desk.new.keeper → K.is_honest desk.old.keeper }
 {
@@ -123,7 +124,7 @@ fn read_statement<K: Keeper>(
 // The report of a date.
 fn read_report<K: Keeper>(alloc: Global, desk: &mut Desk<K>, date: BusinessDate) -> Reply
     ensures reads { K.is_honest desk.new.keeper → (book : Book) → Holds K.Keeper desk.old book
-        → Stands K.Keeper book desk.new × IsReadOf K.Keeper
+        → StillHolds K.Keeper book desk.new × IsReadOf K.Keeper
         (told_message text_message (report_wanted book date)) desk.new result }
     ensures honest { K.is_honest desk.new.keeper → K.is_honest desk.old.keeper }
 {
