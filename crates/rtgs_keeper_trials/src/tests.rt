@@ -8,7 +8,6 @@ mod failing_batch;
 mod failing_desk;
 mod faults;
 mod found;
-mod listed;
 mod look_ups;
 mod memory;
 mod runs;

@@ -53,6 +53,17 @@ impl<K: Keeper> FailingKeeper<K> {
         }
     }
 
+    /// Over what it keeps, as after a restart. So many calls of any kind go well, and the next one meets trouble.
+    pub fn restarted(self, calls: usize, trouble: Trouble) -> FailingKeeper<K> {
+        let FailingKeeper {
+            kept,
+            calls: _,
+            trouble: _,
+            failed: _,
+        } = self;
+        FailingKeeper::new(kept, calls, trouble)
+    }
+
     // The trouble that this call meets.
     fn trouble(&mut self) -> Option<Trouble>
         ensures kept { self.new.kept ≡ self.old.kept }

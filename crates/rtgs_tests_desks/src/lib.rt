@@ -1,15 +1,13 @@
-//! What the tests of desks share: keepers that fail, that count, or that hand each call on; and scripts, which say in
-//! words what a desk is given and what it answers. Only crates of trials stand on this crate.
+//! What the tests of desks share: keepers that fail or count, and scripts, which say in words what a desk is given and
+//! what it answers. Only crates of trials stand on this crate.
 #![tactic(auto)]
 
 mod counting_keeper;
 mod failing_keeper;
 mod opened;
-mod plain_keeper;
 mod scripts;
 
 pub use crate::counting_keeper::CountingKeeper;
 pub use crate::failing_keeper::{FailingKeeper, Trouble};
 pub use crate::opened::desk_over;
-pub use crate::plain_keeper::PlainKeeper;
 pub use crate::scripts::{Reply, answered, command, commands, follows, is_told};

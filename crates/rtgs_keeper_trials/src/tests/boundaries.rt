@@ -1,30 +1,28 @@
 //! The shortest and longest texts, the least and greatest numbers, the first and last days, and as many participants
 //! and queued orders as there may be, over both keepers.
 use super::disks::OnDisks;
-use super::listed::Listed;
 use super::memory::InMemory;
-use super::store::{Ended, Store};
+use super::store::{Booked, Ended, Job, Store};
 use super::two_keepers::{end_in_one_book, make};
 use rtgs_book::{Answer, Command, Refusal};
 use rtgs_desk_requests::CommandWords;
-use rtgs_tests_desks::{Reply, command, commands};
+use rtgs_tests_desks::{Reply, command, commands, desk_over};
 use std::alloc::Global;
 use std::mem;
 use std::test::Fail;
 
-// Whether all commands but the last were accepted, and the last was refused so.
-fn is_last_refused(replies: &[Reply], refusal: &Refusal) -> bool {
-    let Some((last, accepted)) = replies.split_last() else {
-        return false;
-    };
-    for reply in accepted {
-        if matches!(reply, Err(_) | Ok(Answer::Repeated(_))) {
-            return false;
-        }
-    }
-    match last {
-        Ok(_) => false,
-        Err(last) => last == refusal,
+// Commands, and the replies to them once a desk was given them.
+#[derive(Drop)]
+struct Listed {
+    commands: Vec<Command>,
+    replies: Vec<Reply>,
+}
+
+impl Job for Listed {
+    fn done<K: Booked>(&mut self, alloc: Global, keeper: K) -> Result<(K, bool), Fail> {
+        let mut desk = desk_over(alloc, keeper)?;
+        self.replies = desk.run(self.commands.as_slice())?;
+        Ok((desk.into_keeper(), true))
     }
 }
 
@@ -37,18 +35,33 @@ fn refuse_the_last_in<S: Store>(
 ) -> Result<(), Fail> {
     make(alloc, store)?;
     let ended = store.session(alloc, false, listed)?;
-    if ended == Ended::Closed && is_last_refused(listed.replies.as_slice(), refusal) {
+    let mut left = listed.replies.len();
+    for reply in listed.replies.as_slice() {
+        left = left.saturating_sub(1);
+        let is_right = match reply {
+            Ok(Answer::Repeated(_)) => false,
+            Ok(_) => left > 0,
+            Err(other) => left == 0 && other == refusal,
+        };
+        if !is_right {
+            return Err(Fail::new("another reply"));
+        }
+    }
+    if matches!(ended, Ended::Closed) && !listed.replies.is_empty() {
         Ok(())
     } else {
-        Err(Fail::new("another reply"))
+        Err(Fail::new("no reply, or not closed"))
     }
 }
 
 // Fails unless new desks in memory and on disks answer the commands alike, accept all but the last, and end with one
 // book.
 fn refuse_the_last(alloc: Global, commands: Vec<Command>, refusal: Refusal) -> Result<(), Fail> {
-    let (mut memory, mut disks) = (InMemory::new(alloc), OnDisks::new(alloc));
-    let mut listed = Listed::new(alloc, commands);
+    let (mut memory, mut disks) = (InMemory::blank(alloc), OnDisks::blank(alloc));
+    let mut listed = Listed {
+        commands,
+        replies: Vec::new(alloc),
+    };
     refuse_the_last_in(alloc, &mut memory, &mut listed, &refusal)?;
     let replies = mem::replace(&mut listed.replies, Vec::new(alloc));
     refuse_the_last_in(alloc, &mut disks, &mut listed, &refusal)?;
@@ -77,16 +90,21 @@ order ABC Z-0123456789ABC9 Z9999999 1
 post Z9999999 B 1000000000000000
 post ABC C 1";
 
-// Adds a participant.
-fn adds<'a>(code: &'a str, name: &'a str, key: &'a str) -> Result<Command, Fail> {
-    Ok(CommandWords::Add { code, name, key }.read()?)
-}
-
 #[test]
 fn texts_and_numbers_reach_their_bounds(rt: HostRuntime) -> Result<(), Fail> {
-    let mut all = Vec::new(rt.alloc());
-    all.push(adds("ABC", "A", LOWEST_KEY)?)?;
-    all.push(adds("Z9999999", LONGEST_NAME, HIGHEST_KEY)?)?;
+    let shortest = CommandWords::Add {
+        code: "ABC",
+        name: "A",
+        key: LOWEST_KEY,
+    }
+    .read()?;
+    let longest = CommandWords::Add {
+        code: "Z9999999",
+        name: LONGEST_NAME,
+        key: HIGHEST_KEY,
+    }
+    .read()?;
+    let mut all = vec![in rt.alloc(); shortest, longest]?;
     all.extend_from_slice(commands(rt.alloc(), NUMBERS_AT_THEIR_BOUNDS)?.as_slice())?;
     refuse_the_last(rt.alloc(), all, Refusal::TotalTooLarge)
 }
@@ -112,23 +130,14 @@ fn days_reach_their_bounds(rt: HostRuntime) -> Result<(), Fail> {
     refuse_the_last(rt.alloc(), days, Refusal::WrongDate)
 }
 
-// Adds a participant of this number.
-fn adds_numbered(alloc: Global, number: u64) -> Result<Command, Fail> {
-    command(format!(in alloc; "add BANK{number} {number:032}")?.as_str())
-}
-
 #[test]
 fn there_are_a_hundred_participants(rt: HostRuntime) -> Result<(), Fail> {
     let mut all = Vec::new(rt.alloc());
-    for number in 0..=100 {
-        all.push(adds_numbered(rt.alloc(), number)?)?;
+    for number in 0..=100u64 {
+        let line = format!(in rt.alloc(); "add BANK{number} {number:032}")?;
+        all.push(command(line.as_str())?)?;
     }
     refuse_the_last(rt.alloc(), all, Refusal::TooManyParticipants)
-}
-
-// BANK1's order of this number, which nothing covers.
-fn uncovered(alloc: Global, number: u64) -> Result<Command, Fail> {
-    command(format!(in alloc; "order BANK1 A-{number} BANK2 5")?.as_str())
 }
 
 const TWO_BANKS: &str = "\
@@ -139,8 +148,10 @@ open 2024-03-04";
 #[test]
 fn five_hundred_orders_of_one_sender_wait(rt: HostRuntime) -> Result<(), Fail> {
     let mut all = commands(rt.alloc(), TWO_BANKS)?;
-    for number in 1..=501 {
-        all.push(uncovered(rt.alloc(), number)?)?;
+    for number in 1..=501u64 {
+        // nothing covers it
+        let line = format!(in rt.alloc(); "order BANK1 A-{number} BANK2 5")?;
+        all.push(command(line.as_str())?)?;
     }
     refuse_the_last(rt.alloc(), all, Refusal::QueueFull)
 }

@@ -1,6 +1,5 @@
 //! The making of a desk, at each call of its store that fails.
 use super::disks::OnDisks;
-use super::found::Found;
 use super::memory::InMemory;
 use super::runs::found_in;
 use super::store::{Ended, Failing, Store};
@@ -9,37 +8,26 @@ use rtgs_book::Fault;
 use std::alloc::Global;
 use std::test::Fail;
 
-// Makes a desk in a store that fails in this way after so many calls, and says how that ended. Whether a book was there
-// after a crash, which is this empty one. There were no tables else, and then the desk was not made.
-fn made<S: Store>(
-    alloc: Global,
-    store: &mut S,
-    disk: Failing,
-    calls: usize,
-    empty: &Found,
-) -> Result<(Ended, bool), Fail> {
-    store.clear(alloc);
-    store.fail(alloc, disk, calls)?;
-    let ended = store.session(alloc, true, &mut Work::new(&NOTHING, Part::Rest, true))?;
-    store.crash();
-    let mut look = Work::new(&NOTHING, Part::Look { known: 0, most: 0 }, false);
-    store.session(alloc, false, &mut look)?;
-    let is_none = look.fault == Some(Fault::NotADeskFile) && ended == Ended::Unopened;
-    match look.found {
-        Some(found) if found.is_like(empty) => Ok((ended, true)),
-        None if is_none => Ok((ended, false)),
-        _ => Err(Fail::new("another book")),
-    }
-}
-
-// The making of a desk, at each failure of one of its disks: how many calls the disk passes on where first none is met,
-// and how many of the books before were there nevertheless.
+// Makes a desk in a store that fails in this way after so many calls, for as many calls as are met: how many that are,
+// and in how many of these runs a book was there after a crash, which is the empty one. There were no tables else, and
+// then the desk was not made.
 fn makings<S: Store>(alloc: Global, store: &mut S, disk: Failing) -> Result<(usize, usize), Fail> {
-    let empty = found_in(alloc, &mut InMemory::new(alloc), &NOTHING, 0, 0)?;
+    let empty = found_in(alloc, &mut InMemory::blank(alloc), &NOTHING, 0, 0)?;
     let mut books = 0usize;
     for calls in 0..1000 {
-        let (ended, is_there) = made(alloc, store, disk, calls, &empty)?;
-        if ended == Ended::Closed {
+        *store = S::blank(alloc);
+        store.fail(alloc, disk, calls)?;
+        let ended = store.session(alloc, true, &mut Work::new(&NOTHING, Part::Rest, true))?;
+        store.crash();
+        let mut look = Work::new(&NOTHING, Part::Look { known: 0, most: 0 }, false);
+        store.session(alloc, false, &mut look)?;
+        let is_none = look.fault == Some(Fault::NotADeskFile) && matches!(ended, Ended::Unopened);
+        let is_there = match &look.found {
+            Some(found) if found.as_str() == empty.as_str() => true,
+            None if is_none => false,
+            _ => return Err(Fail::new("another book")),
+        };
+        if matches!(ended, Ended::Closed) {
             return Ok((calls, books));
         }
         if is_there {
@@ -51,9 +39,10 @@ fn makings<S: Store>(alloc: Global, store: &mut S, disk: Failing) -> Result<(usi
 
 #[test]
 fn a_desk_is_made_whole_or_not_at_all(rt: HostRuntime) -> Result<(), Fail> {
-    for (disk, told) in [(Failing::Log, (51, 28)), (Failing::Database, (26, 12))] {
-        let met = makings(rt.alloc(), &mut OnDisks::new(rt.alloc()), disk)?;
-        assert_eq!(rt; met, told, "{disk:?}");
-    }
+    let mut store = OnDisks::blank(rt.alloc());
+    let log = makings(rt.alloc(), &mut store, Failing::Log)?;
+    assert_eq!(rt; log, (51, 28));
+    let db = makings(rt.alloc(), &mut store, Failing::Database)?;
+    assert_eq!(rt; db, (26, 12));
     Ok(())
 }

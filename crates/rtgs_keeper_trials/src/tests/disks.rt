@@ -20,14 +20,6 @@ pub struct OnDisks {
     disks: Disks,
 }
 
-// Two new disks, which do not fail.
-fn blank(alloc: Global) -> Disks {
-    Files {
-        log: Fuse::new(Memory::new(alloc), u64::MAX),
-        db: Fuse::new(Memory::new(alloc), u64::MAX),
-    }
-}
-
 // A new disk with the same bytes, which are synced. It passes so many calls on.
 fn passing(alloc: Global, disk: &Fuse<Memory>, calls: u64) -> Result<Fuse<Memory>, Fail> {
     let mut memory = Memory::new(alloc);
@@ -61,8 +53,9 @@ fn worked<S: Alter + Drop, J: Job>(
     } else {
         SqlKeeper::open(conn)
     };
-    let conn = job.done(alloc, keeper)?.into_connection();
-    if job.closes() {
+    let (keeper, closes) = job.done(alloc, keeper)?;
+    let conn = keeper.into_connection();
+    if closes {
         Ok((conn, Ended::Closed))
     } else {
         Ok((conn, Ended::Stopped))
@@ -93,7 +86,7 @@ fn used<J: Job>(
         Err((error, left)) => return left_by(error, left.into_files(), Ended::Unopened),
     };
     let (conn, ended) = worked(alloc, conn, is_new, job)?;
-    if ended != Ended::Closed {
+    if !matches!(ended, Ended::Closed) {
         return Ok((conn.into_store().close(), ended));
     }
     match conn.close_files() {
@@ -102,18 +95,14 @@ fn used<J: Job>(
     }
 }
 
-impl OnDisks {
-    /// Blank.
-    pub fn new(alloc: Global) -> OnDisks {
-        OnDisks {
-            disks: blank(alloc),
-        }
-    }
-}
-
 impl Store for OnDisks {
-    fn clear(&mut self, alloc: Global) {
-        self.disks = blank(alloc);
+    fn blank(alloc: Global) -> OnDisks {
+        OnDisks {
+            disks: Files {
+                log: Fuse::new(Memory::new(alloc), u64::MAX),
+                db: Fuse::new(Memory::new(alloc), u64::MAX),
+            },
+        }
     }
 
     fn fail(&mut self, alloc: Global, failing: Failing, calls: usize) -> Result<(), Fail> {
@@ -129,7 +118,7 @@ impl Store for OnDisks {
     }
 
     fn session<J: Job>(&mut self, alloc: Global, is_new: bool, job: &mut J) -> Result<Ended, Fail> {
-        let disks = mem::replace(&mut self.disks, blank(alloc));
+        let OnDisks { disks } = mem::replace(self, OnDisks::blank(alloc));
         let (disks, ended) = used(alloc, disks, is_new, job)?;
         self.disks = disks;
         Ok(ended)

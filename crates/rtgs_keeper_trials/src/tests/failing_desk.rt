@@ -1,7 +1,5 @@
 //! A desk over a keeper that fails, and opened again over what it kept.
-use super::listed::Listed;
-use super::memory::{InMemory, failing};
-use super::store::{Failing, Store};
+use super::memory::failing;
 use rtgs_book::Fault;
 use rtgs_desk::Desk;
 use rtgs_keeper::Keeper;
@@ -20,6 +18,13 @@ add ALFA 0000000000000000000000000000000a => Ok(Added)
 post ALFA P-1 100 => Err(StoreFault)
 add ALFA 0000000000000000000000000000000a => Err(Failed)";
 
+// Fails unless a desk over this keeper answers the script as it tells, given as one list.
+fn answers_a_list<K: Keeper + Drop>(alloc: Global, keeper: K, script: &str) -> Result<(), Fail> {
+    let commands = commands(alloc, script)?;
+    let replies = desk_over(alloc, keeper)?.run(commands.as_slice())?;
+    are_told(alloc, replies.as_slice(), script)
+}
+
 // Fails unless the replies are those that the script tells.
 fn are_told(alloc: Global, replies: &[Reply], script: &str) -> Result<(), Fail> {
     let mut are_told = replies.len() == script.lines().count();
@@ -35,11 +40,8 @@ fn are_told(alloc: Global, replies: &[Reply], script: &str) -> Result<(), Fail> 
 
 #[test]
 fn a_fault_of_the_store_fails_the_rest_of_a_list(rt: HostRuntime) -> Result<(), Fail> {
-    let mut store = InMemory::new(rt.alloc());
-    store.fail(rt.alloc(), Failing::Keeper(Trouble::Kept), COMMIT)?;
-    let mut listed = Listed::new(rt.alloc(), commands(rt.alloc(), FAILS)?);
-    store.session(rt.alloc(), true, &mut listed)?;
-    are_told(rt.alloc(), listed.replies.as_slice(), FAILS)
+    let keeper = failing(rt.alloc(), COMMIT, Trouble::Kept);
+    answers_a_list(rt.alloc(), keeper, FAILS)
 }
 
 // The keeper of a desk whose commands are answered as the script tells.
@@ -52,27 +54,24 @@ fn after<K: Keeper + Drop>(alloc: Global, keeper: K, script: &str) -> Result<K, 
 // The desk meets this trouble at a posting, and the same posting comes again over what its keeper kept.
 fn posts_again(alloc: Global, calls: usize, trouble: Trouble, again: &str) -> Result<(), Fail> {
     let failed = after(alloc, failing(alloc, calls, trouble), FAILS)?;
-    after(alloc, failed.kept, again)?;
+    after(alloc, failed.restarted(usize::MAX, trouble), again)?;
     Ok(())
 }
 
+const POSTED: &str = "post ALFA P-1 100 => Ok(Posted { number: 1 })";
+
+const REPEATED: &str = "post ALFA P-1 100 => Ok(Repeated(Posting { number: 1 }))";
+
 #[test]
 fn a_change_that_was_lost_is_made_again(rt: HostRuntime) -> Result<(), Fail> {
-    for (calls, trouble) in [
-        (LOOK_UP, Trouble::Lost),
-        (LOOK_UP, Trouble::Kept),
-        (COMMIT, Trouble::Lost),
-    ] {
-        let posted = "post ALFA P-1 100 => Ok(Posted { number: 1 })";
-        posts_again(rt.alloc(), calls, trouble, posted)?;
-    }
-    Ok(())
+    posts_again(rt.alloc(), LOOK_UP, Trouble::Lost, POSTED)?;
+    posts_again(rt.alloc(), LOOK_UP, Trouble::Kept, POSTED)?;
+    posts_again(rt.alloc(), COMMIT, Trouble::Lost, POSTED)
 }
 
 #[test]
 fn a_change_that_was_kept_is_not_made_again(rt: HostRuntime) -> Result<(), Fail> {
-    let repeated = "post ALFA P-1 100 => Ok(Repeated(Posting { number: 1 }))";
-    posts_again(rt.alloc(), COMMIT, Trouble::Kept, repeated)
+    posts_again(rt.alloc(), COMMIT, Trouble::Kept, REPEATED)
 }
 
 const LACKS_MEMORY: &str = "\
@@ -99,23 +98,18 @@ fn fault_of<K: Keeper + Drop>(alloc: Global, keeper: K) -> Option<Fault> {
 
 #[test]
 fn a_failed_keeper_opens_no_desk(rt: HostRuntime) -> Result<(), Fail> {
-    let failed = after(
-        rt.alloc(),
-        failing(rt.alloc(), COMMIT, Trouble::Lost),
-        FAILS,
-    )?;
+    let keeper = failing(rt.alloc(), COMMIT, Trouble::Lost);
+    let failed = after(rt.alloc(), keeper, FAILS)?;
     assert_eq!(rt; fault_of(rt.alloc(), failed), Some(Fault::StoreFault));
     Ok(())
 }
 
 #[test]
 fn a_keeper_that_fails_at_the_opening_opens_no_desk(rt: HostRuntime) {
-    for (trouble, fault) in [
-        (Trouble::Lost, Fault::StoreFault),
-        (Trouble::Kept, Fault::StoreFault),
-        (Trouble::OutOfMemory, Fault::OutOfMemory),
-    ] {
-        let keeper = failing(rt.alloc(), 0, trouble);
-        assert_eq!(rt; fault_of(rt.alloc(), keeper), Some(fault), "{trouble:?}");
-    }
+    let lost = fault_of(rt.alloc(), failing(rt.alloc(), 0, Trouble::Lost));
+    assert_eq!(rt; lost, Some(Fault::StoreFault));
+    let kept = fault_of(rt.alloc(), failing(rt.alloc(), 0, Trouble::Kept));
+    assert_eq!(rt; kept, Some(Fault::StoreFault));
+    let refused = fault_of(rt.alloc(), failing(rt.alloc(), 0, Trouble::OutOfMemory));
+    assert_eq!(rt; refused, Some(Fault::OutOfMemory));
 }

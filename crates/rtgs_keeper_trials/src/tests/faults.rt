@@ -3,7 +3,7 @@
 use super::disks::OnDisks;
 use super::memory::InMemory;
 use super::runs::{books, failures_of_two};
-use super::store::Failing;
+use super::store::{Failing, Store};
 use super::trial::Trial;
 use rtgs_tests_desks::Trouble;
 use std::alloc::Global;
@@ -16,7 +16,7 @@ fn each_of_the_keeper(alloc: Global, trial: &Trial) -> Result<usize, Fail> {
         Failing::Keeper(Trouble::Lost),
         Failing::Keeper(Trouble::Kept),
     );
-    let mut store = InMemory::new(alloc);
+    let mut store = InMemory::blank(alloc);
     let (lost, kept) = failures_of_two(alloc, &mut store, trial, books.as_slice(), two)?;
     if lost == kept {
         Ok(lost)
@@ -25,20 +25,14 @@ fn each_of_the_keeper(alloc: Global, trial: &Trial) -> Result<usize, Fail> {
     }
 }
 
-/// Tries the commands with each failure of a disk: in how many runs they met one of the log and one of the database
-/// file.
-fn each_of_the_disks(alloc: Global, trial: &Trial) -> Result<(usize, usize), Fail> {
-    let books = books(alloc, trial)?;
-    let two = (Failing::Log, Failing::Database);
-    let mut store = OnDisks::new(alloc);
-    failures_of_two(alloc, &mut store, trial, books.as_slice(), two)
-}
-
 /// Tries the commands with each failure: in how many runs they met one of the log, of the database file, and of the
 /// keeper.
 fn all_met(alloc: Global, trial: &Trial) -> Result<[usize; 3], Fail> {
     let keeper = each_of_the_keeper(alloc, trial)?;
-    let (log, db) = each_of_the_disks(alloc, trial)?;
+    let books = books(alloc, trial)?;
+    let two = (Failing::Log, Failing::Database);
+    let mut store = OnDisks::blank(alloc);
+    let (log, db) = failures_of_two(alloc, &mut store, trial, books.as_slice(), two)?;
     Ok([log, db, keeper])
 }
 

@@ -1,6 +1,6 @@
 //! What is found of a desk: its book, and how its three banks stand.
 use super::store::Booked;
-use rtgs_book::{Book, Refusal, Rows};
+use rtgs_book::Refusal;
 use rtgs_desk::Desk;
 use rtgs_keeper::Keeper;
 use rtgs_money::Code;
@@ -23,34 +23,10 @@ pub fn standings<K: Keeper>(desk: &Desk<K>) -> Result<Standings, Fail> {
     Ok(standings)
 }
 
-/// The three balances and queues of a desk, and its records.
-#[derive(Drop)]
-pub struct Found {
-    pub standings: Standings,
-    pub book: Book,
-}
-
-impl Found {
-    /// Of a desk, which ends so.
-    pub fn of<K: Booked>(alloc: Global, desk: Desk<K>) -> Result<(Found, K), Fail> {
-        let standings = standings(&desk)?;
-        let mut keeper = desk.into_keeper();
-        let book = keeper.book(alloc)?;
-        Ok((Found { standings, book }, keeper))
-    }
-
-    /// Whether both are alike.
-    pub fn is_like(&self, other: &Found) -> bool {
-        let (one, two) = (&self.book, &other.book);
-        self.standings == other.standings
-            && one.day == two.day
-            && are_same(&one.participants, &two.participants)
-            && are_same(&one.postings, &two.postings)
-            && are_same(&one.orders, &two.orders)
-            && are_same(&one.marks, &two.marks)
-    }
-}
-
-fn are_same<T: PartialEq>(one: &Rows<T>, other: &Rows<T>) -> bool {
-    one.as_slice() == other.as_slice()
+/// A line of how the three stand, and then the whole book, as both display themselves. The desk ends so.
+pub fn found_of<K: Booked>(alloc: Global, desk: Desk<K>) -> Result<(String, K), Fail> {
+    let standings = standings(&desk)?;
+    let mut keeper = desk.into_keeper();
+    let book = keeper.book(alloc)?;
+    Ok((format!(in alloc; "{standings:?}\n{book:?}")?, keeper))
 }

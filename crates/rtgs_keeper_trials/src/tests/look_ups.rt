@@ -1,11 +1,11 @@
 //! Commands whose look-up meets trouble, and what is found then.
-use super::memory::InMemory;
+use super::memory::{InMemory, failing_after};
 use super::runs::{begin, found_in, progress_in};
 use super::store::{Failing, Store};
-use super::trial::{Progress, Trial, kept_after};
+use super::trial::{Progress, Trial};
 use rtgs_book::Refusal;
 use rtgs_keeper::Keeper;
-use rtgs_tests_desks::{FailingKeeper, Trouble, command, desk_over, follows};
+use rtgs_tests_desks::{Trouble, command, desk_over, follows};
 use std::alloc::Global;
 use std::test::Fail;
 
@@ -31,33 +31,29 @@ order ALFA A-2 BETA 90 => Ok(Repeated(Order { number: 2, state: Queued }))
 withdraw ALFA A-2 => Ok(Withdrawn { number: 2 })
 withdraw ALFA A-3 => Err(UnknownOrder)";
 
-// One of the commands, after those before.
-fn trial_of(line: &'static str) -> Trial {
-    Trial {
-        before: COMMANDS,
-        rows: line,
-        is_batch: false,
-        standings: "",
-        is_closed: true,
-    }
-}
-
 /// Fails unless a fault of the store at the look-up of a command leaves the book as it was, and the command acts once
 /// the desk is opened again. Until then the desk answers nothing.
 fn acts_after_a_restart<S: Store>(
     alloc: Global,
     store: &mut S,
-    trial: &Trial,
+    line: &'static str,
     failing: Failing,
 ) -> Result<(), Fail> {
-    begin(alloc, store, trial)?;
-    let before = found_in(alloc, store, trial, 0, 0)?;
+    let trial = Trial {
+        before: COMMANDS,
+        rows: line,
+        is_batch: false,
+        standings: "",
+        is_closed: true,
+    };
+    begin(alloc, store, &trial)?;
+    let before = found_in(alloc, store, &trial, 0, 0)?;
     store.fail(alloc, failing, BEFORE)?;
-    let progress = progress_in(alloc, store, trial, 1, true)?;
+    let progress = progress_in(alloc, store, &trial, 1, true)?;
     store.crash();
-    let is_kept = found_in(alloc, store, trial, 0, 0)?.is_like(&before);
-    found_in(alloc, store, trial, 0, 1)?;
-    if progress == Progress::Failed(0) && is_kept {
+    let is_kept = found_in(alloc, store, &trial, 0, 0)?.as_str() == before.as_str();
+    found_in(alloc, store, &trial, 0, 1)?;
+    if matches!(progress, Progress::Failed(0)) && is_kept {
         Ok(())
     } else {
         Err(Fail::new("no fault of the store, or another book"))
@@ -66,11 +62,10 @@ fn acts_after_a_restart<S: Store>(
 
 #[test]
 fn a_look_up_that_fails_leaves_the_book(rt: HostRuntime) -> Result<(), Fail> {
+    let mut store = InMemory::blank(rt.alloc());
     for line in ROWS.lines() {
         for trouble in [Trouble::Lost, Trouble::Kept] {
-            let mut store = InMemory::new(rt.alloc());
-            let failing = Failing::Keeper(trouble);
-            acts_after_a_restart(rt.alloc(), &mut store, &trial_of(line), failing)?;
+            acts_after_a_restart(rt.alloc(), &mut store, line, Failing::Keeper(trouble))?;
         }
     }
     Ok(())
@@ -93,8 +88,7 @@ fn acts_when_sent_again<K: Keeper + Drop>(
 #[test]
 fn a_look_up_without_memory_is_made_again(rt: HostRuntime) -> Result<(), Fail> {
     for line in ROWS.lines() {
-        let keeper = kept_after(rt.alloc(), COMMANDS)?;
-        let keeper = FailingKeeper::new(keeper, BEFORE, Trouble::OutOfMemory);
+        let keeper = failing_after(rt.alloc(), COMMANDS, BEFORE, Trouble::OutOfMemory)?;
         acts_when_sent_again(rt.alloc(), keeper, line)?;
     }
     Ok(())

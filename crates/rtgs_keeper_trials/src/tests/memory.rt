@@ -1,5 +1,6 @@
 //! A keeper in memory as a store, which may meet trouble at one of its calls.
 use super::store::{Booked, Ended, Failing, Job, Store};
+use super::trial::begun;
 use rtgs_book::{Book, Fault};
 use rtgs_memory_keeper::MemoryKeeper;
 use rtgs_tests_desks::{FailingKeeper, Trouble};
@@ -12,23 +13,24 @@ pub fn failing(alloc: Global, calls: usize, trouble: Trouble) -> FailingKeeper<M
     FailingKeeper::new(MemoryKeeper::new(alloc), calls, trouble)
 }
 
+/// A keeper that meets this trouble after so many calls. It has the book of a desk with three banks after these
+/// commands.
+pub fn failing_after(
+    alloc: Global,
+    before: &str,
+    calls: usize,
+    trouble: Trouble,
+) -> Result<FailingKeeper<MemoryKeeper>, Fail> {
+    let desk = begun(alloc, failing(alloc, usize::MAX, trouble), before)?;
+    Ok(desk.into_keeper().restarted(calls, trouble))
+}
+
 /// A keeper while no desk is open over it, and the trouble that it meets after so many calls.
 #[derive(Drop)]
 pub struct InMemory {
     kept: MemoryKeeper,
     calls: usize,
     trouble: Trouble,
-}
-
-impl InMemory {
-    /// A keeper of a new book.
-    pub fn new(alloc: Global) -> InMemory {
-        InMemory {
-            kept: MemoryKeeper::new(alloc),
-            calls: usize::MAX,
-            trouble: Trouble::Lost,
-        }
-    }
 }
 
 impl Booked for FailingKeeper<MemoryKeeper> {
@@ -38,9 +40,12 @@ impl Booked for FailingKeeper<MemoryKeeper> {
 }
 
 impl Store for InMemory {
-    fn clear(&mut self, alloc: Global) {
-        self.kept = MemoryKeeper::new(alloc);
-        self.calls = usize::MAX;
+    fn blank(alloc: Global) -> InMemory {
+        InMemory {
+            kept: MemoryKeeper::new(alloc),
+            calls: usize::MAX,
+            trouble: Trouble::Lost,
+        }
     }
 
     fn fail(&mut self, _alloc: Global, failing: Failing, calls: usize) -> Result<(), Fail> {
@@ -60,9 +65,10 @@ impl Store for InMemory {
     ) -> Result<Ended, Fail> {
         let kept = mem::replace(&mut self.kept, MemoryKeeper::new(alloc));
         let keeper = FailingKeeper::new(kept, self.calls, self.trouble);
-        self.kept = job.done(alloc, keeper)?.kept;
+        let (keeper, closes) = job.done(alloc, keeper)?;
+        self.kept = keeper.kept;
         self.calls = usize::MAX;
-        if job.closes() {
+        if closes {
             Ok(Ended::Closed)
         } else {
             Ok(Ended::Stopped)

@@ -1,5 +1,4 @@
 //! Trials in a store that fails at each of its calls in turn, and what is found then.
-use super::found::Found;
 use super::memory::InMemory;
 use super::store::{Ended, Failing, Store};
 use super::trial::{Part, Progress, Trial, Work};
@@ -9,16 +8,15 @@ use std::test::Fail;
 
 /// Makes the store new, with a desk of three banks, after the commands before.
 pub fn begin<S: Store>(alloc: Global, store: &mut S, trial: &Trial) -> Result<(), Fail> {
-    store.clear(alloc);
+    *store = S::blank(alloc);
     let mut work = Work::new(trial, Part::Begin, trial.is_closed);
-    let ended = store.session(alloc, true, &mut work)?;
-    if ended == Ended::Stopped {
-        store.crash();
-    }
-    if (ended == Ended::Closed) == trial.is_closed {
-        Ok(())
-    } else {
-        Err(Fail::new("not begun"))
+    match store.session(alloc, true, &mut work)? {
+        Ended::Closed if trial.is_closed => Ok(()),
+        Ended::Stopped if !trial.is_closed => {
+            store.crash();
+            Ok(())
+        }
+        _ => Err(Fail::new("not begun")),
     }
 }
 
@@ -35,7 +33,7 @@ pub fn progress_in<S: Store>(
     match work.fault {
         Some(Fault::StoreFault) => Ok(Progress::Unopened),
         Some(fault) => Err(Fail::from(fault)),
-        None if ended == Ended::Unclosed => Ok(Progress::Unclosed),
+        None if matches!(ended, Ended::Unclosed) => Ok(Progress::Unclosed),
         None => Ok(work.progress),
     }
 }
@@ -48,45 +46,43 @@ pub fn found_in<S: Store>(
     trial: &Trial,
     known: usize,
     most: usize,
-) -> Result<Found, Fail> {
+) -> Result<String, Fail> {
     let mut work = Work::new(trial, Part::Look { known, most }, false);
     store.session(alloc, false, &mut work)?;
     Ok(work.found.ok_or("nothing was found")?)
 }
 
-/// What a desk has before the first of the commands, and after each.
-pub fn books(alloc: Global, trial: &Trial) -> Result<Vec<Found>, Fail> {
+/// What a desk has before the first of the commands, and after each, where they come one by one. The banks then stand
+/// as it is told.
+pub fn books(alloc: Global, trial: &Trial) -> Result<Vec<String>, Fail> {
+    let trial = Trial {
+        is_batch: false,
+        ..*trial
+    };
+    let mut store = InMemory::blank(alloc);
     let mut books = Vec::new(alloc);
-    for count in 0..=trial.count() {
-        books.push(book_after(alloc, trial, count)?)?;
+    for count in 0..=trial.rows.lines().count() {
+        begin(alloc, &mut store, &trial)?;
+        let found = found_in(alloc, &mut store, &trial, 0, count)?;
+        if found.as_str().lines().next() != trial.standings.lines().nth(count) {
+            return Err(Fail::from(found));
+        }
+        books.push(found)?;
     }
     Ok(books)
 }
 
-// What a desk has after so many of the commands, one by one. The banks then stand as it is told.
-fn book_after(alloc: Global, trial: &Trial, count: usize) -> Result<Found, Fail> {
-    let mut store = InMemory::new(alloc);
-    begin(alloc, &mut store, trial)?;
-    let found = found_in(alloc, &mut store, &trial.one_by_one(), 0, count)?;
-    let text = format!(in alloc; "{:?}", found.standings)?;
-    if trial.standings.lines().nth(count) == Some(text.as_str()) {
-        Ok(found)
-    } else {
-        Err(Fail::from(text))
-    }
-}
-
 // Whether this is what was found after so many commands.
-fn is_at(books: &[Found], place: usize, found: &Found) -> bool {
+fn is_at(books: &[String], place: usize, found: &str) -> bool {
     match books.get(place) {
-        Some(book) => book.is_like(found),
+        Some(book) => book.as_str() == found,
         None => false,
     }
 }
 
 // Behind how many of so many commands this is found, where it may be: with all that was answered, and with at most the
 // one command more that was open.
-fn place_of(books: &[Found], all: usize, progress: Progress, found: &Found) -> Option<usize> {
+fn place_of(books: &[String], all: usize, progress: Progress, found: &str) -> Option<usize> {
     let (least, most) = match progress {
         Progress::Unopened => (0, 0),
         Progress::Failed(count) => (count, count.saturating_add(1)),
@@ -102,75 +98,51 @@ fn place_of(books: &[Found], all: usize, progress: Progress, found: &Found) -> O
     }
 }
 
-// Whether the trial went through in a store that fails in this way after so many calls. A book was found that may be,
-// and the commands, given once more, ended from it as if they had come once.
-fn is_whole<S: Store>(
-    alloc: Global,
-    store: &mut S,
-    trial: &Trial,
-    books: &[Found],
-    failing: Failing,
-    calls: usize,
-) -> Result<bool, Fail> {
-    begin(alloc, store, trial)?;
-    store.fail(alloc, failing, calls)?;
-    let progress = progress_in(alloc, store, trial, trial.count(), true)?;
-    store.crash();
-    let found = found_in(alloc, store, trial, 0, 0)?;
-    let Some(place) = place_of(books, trial.count(), progress, &found) else {
-        return Err(Fail::new("another book"));
-    };
-    let found = found_in(alloc, store, trial, place, trial.count())?;
-    if is_at(books, trial.count(), &found) {
-        Ok(progress == Progress::Whole)
-    } else {
-        Err(Fail::new("another end"))
-    }
-}
-
 // How many calls go well where first no run meets this failure. In each run before one is met, and then a book is
-// found that may be, from which the commands end as if they had come once.
+// found that may be, and the commands, given once more, end from it as if they had come once.
 fn failures<S: Store>(
     alloc: Global,
     store: &mut S,
     trial: &Trial,
-    books: &[Found],
+    books: &[String],
     failing: Failing,
 ) -> Result<usize, Fail> {
+    let all = trial.rows.lines().count();
     for calls in 0..1000 {
-        if is_whole(alloc, store, trial, books, failing, calls)? {
+        begin(alloc, store, trial)?;
+        store.fail(alloc, failing, calls)?;
+        let progress = progress_in(alloc, store, trial, all, true)?;
+        store.crash();
+        let found = found_in(alloc, store, trial, 0, 0)?;
+        let Some(place) = place_of(books, all, progress, found.as_str()) else {
+            return Err(Fail::new("another book"));
+        };
+        let found = found_in(alloc, store, trial, place, all)?;
+        if !is_at(books, all, found.as_str()) {
+            return Err(Fail::new("another end"));
+        }
+        if matches!(progress, Progress::Whole) {
             return Ok(calls);
         }
     }
     Err(Fail::new("each run failed"))
 }
 
-// Whether just so many commands are found after a stop behind them. Nothing is closed.
-fn is_found_behind<S: Store>(
-    alloc: Global,
-    store: &mut S,
-    trial: &Trial,
-    books: &[Found],
-    count: usize,
-) -> Result<bool, Fail> {
-    begin(alloc, store, trial)?;
-    let progress = progress_in(alloc, store, trial, count, false)?;
-    store.crash();
-    let found = found_in(alloc, store, trial, 0, 0)?;
-    Ok(progress == Progress::Whole && is_at(books, count, &found))
-}
-
 /// Tries the commands with each of two failures, and tells how many calls go well where first no run meets them. Just
-/// the answered commands are found after a stop behind each of them.
+/// the answered commands are found after a stop behind each of them, where nothing is closed.
 pub fn failures_of_two<S: Store>(
     alloc: Global,
     store: &mut S,
     trial: &Trial,
-    books: &[Found],
+    books: &[String],
     two: (Failing, Failing),
 ) -> Result<(usize, usize), Fail> {
-    for count in 0..=trial.count() {
-        if !is_found_behind(alloc, store, trial, books, count)? {
+    for count in 0..=trial.rows.lines().count() {
+        begin(alloc, store, trial)?;
+        let progress = progress_in(alloc, store, trial, count, false)?;
+        store.crash();
+        let found = found_in(alloc, store, trial, 0, 0)?;
+        if !matches!(progress, Progress::Whole) || !is_at(books, count, found.as_str()) {
             return Err(Fail::new("another book after a stop"));
         }
     }

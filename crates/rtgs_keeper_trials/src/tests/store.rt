@@ -6,7 +6,7 @@ use std::alloc::Global;
 use std::test::Fail;
 
 /// What fails in a store: one of two disks, which fails for good, or the keeper, which meets this trouble once.
-#[derive(Clone, Copy, Debug)]
+#[derive(Clone, Copy)]
 pub enum Failing {
     Log,
     Database,
@@ -14,7 +14,7 @@ pub enum Failing {
 }
 
 /// How a session with a store ended.
-#[derive(Clone, Copy, PartialEq)]
+#[derive(Clone, Copy)]
 pub enum Ended {
     /// It failed before the job, and was left as it was.
     Unopened,
@@ -34,17 +34,14 @@ pub trait Booked: Keeper + Drop {
 
 /// What is done with a keeper while its store is open.
 pub trait Job {
-    /// Does it, and gives the keeper back.
-    fn done<K: Booked>(&mut self, alloc: Global, keeper: K) -> Result<K, Fail>;
-
-    /// Whether the store is to be closed then.
-    fn closes(&self) -> bool;
+    /// Does it, and gives the keeper back, and whether its store is to be closed then.
+    fn done<K: Booked>(&mut self, alloc: Global, keeper: K) -> Result<(K, bool), Fail>;
 }
 
 /// A store of a book.
-pub trait Store {
-    /// Makes it blank.
-    fn clear(&mut self, alloc: Global);
+pub trait Store: Drop {
+    /// A blank one, which does not fail.
+    fn blank(alloc: Global) -> Self;
 
     /// Makes it fail in this way after so many calls, and in no other.
     fn fail(&mut self, alloc: Global, failing: Failing, calls: usize) -> Result<(), Fail>;

@@ -58,7 +58,8 @@ fn connected<S: Alter + Drop>(alloc: Global, store: S) -> Result<Connection<S>, 
 // Opens a desk over the tables of a database.
 fn opened<S: Alter + Drop>(alloc: Global, conn: Connection<S>) -> Result<Desk<SqlKeeper<S>>, Fail>
     requires { conn.in_transaction ≡ false }
-    ensures held { IfOk result (λ desk. HasCleanDisk (state S.Store desk.keeper.conn) → IsTrue (state S.Store conn).is_open
+    ensures held { IfOk result (λ desk. HasCleanDisk (state S.Store desk.keeper.conn)
+        → IsTrue (state S.Store conn).is_open
         → (book : Book) → AreTablesOf book (state S.Store conn).committed.trees
         → Holds ⟦<SqlKeeper<S> as Keeper>⟧ desk book) }
     ensures honest { IfOk result (λ desk. HasCleanDisk (state S.Store desk.keeper.conn)
@@ -177,66 +178,95 @@ fn lived_twice_in_memory(
     lived_twice(alloc, Connection::open_in_memory(alloc)?, commands, more)
 }
 
-// Whether the replies to a posting to BETA after four commands, and the desk, are as they should be.
-fn end_so<K: Keeper>(replies: &[Reply], others: &[Reply], desk: &Desk<K>) -> Result<bool, Fail> {
-    let are_standing = standings(desk)? == [(1000, 0), (5, 0), (0, 0)];
-    Ok(replies.len() == 4 && are_posted(others) && are_standing)
+// Fails unless the replies to four commands and then to a posting to BETA, and the desk, are as they should be.
+fn ends_so<K: Keeper + Drop>(lived: (Vec<Reply>, Vec<Reply>, Desk<K>)) -> Result<(), Fail> {
+    let (replies, others, desk) = lived;
+    let are_posted = matches!(others.as_slice(), [Ok(Answer::Posted { number: 2 })]);
+    let are_standing = standings(&desk)? == [(1000, 0), (5, 0), (0, 0)];
+    if replies.len() == 4 && are_posted && are_standing {
+        Ok(())
+    } else {
+        Err(Fail::new("other replies, or another end"))
+    }
 }
 
-fn are_posted(replies: &[Reply]) -> bool {
-    matches!(replies, [Ok(Answer::Posted { number: 2 })])
-}
-
-// Whether two sessions in memory, of the banks and a posting each, end as they should.
-fn live_twice(alloc: Global) -> Result<bool, Fail> {
-    let mut first = commands(alloc, BANKS)?;
-    first.push(command("post ALFA P-1 1000")?)?;
-    let more = commands(alloc, "post BETA P-2 5")?;
-    let (replies, others, desk) = lived_twice_in_memory(alloc, first.as_slice(), more.as_slice())?;
-    end_so(replies.as_slice(), others.as_slice(), &desk)
-}
-
-#[test]
-fn a_desk_is_found_again_and_again(rt: HostRuntime) -> Result<(), Fail> {
-    assert!(rt; live_twice(rt.alloc())?);
-    Ok(())
-}
-
-// Whether a desk is opened over tables that were made just now, and has not failed.
-fn works_over_made_tables<S: Alter + Drop>(alloc: Global, conn: Connection<S>) -> Result<bool, Fail>
-    requires { conn.in_transaction ≡ false }
-{
-    let made = match make(conn) {
-        Ok(made) => made,
-        Err((fault, _)) => return Err(Fail::from(fault)),
-    };
-    let desk = opened(alloc, made)?;
-    Ok(!desk.failed())
-}
-
-#[test]
-fn a_desk_is_opened_over_tables_that_were_made(rt: HostRuntime) -> Result<(), Fail> {
-    let conn = Connection::open_in_memory(rt.alloc())?;
-    assert!(rt; works_over_made_tables(rt.alloc(), conn)?);
-    Ok(())
-}
-
-// Why no desk is opened over this database.
+// Why no desk is opened over this database, where none is that has not failed.
 fn fault_of_opening<S: Alter + Drop>(alloc: Global, conn: Connection<S>) -> Option<Fault>
     requires { conn.in_transaction ≡ false }
 {
     match open(alloc, conn) {
-        Ok(_) => None,
+        Ok(desk) => {
+            if desk.failed() {
+                Some(Fault::StoreFault)
+            } else {
+                None
+            }
+        }
         Err((fault, _)) => Some(fault),
     }
 }
 
+// The same over tables that are made in this database.
+fn fault_over_made_tables<S: Alter + Drop>(
+    alloc: Global,
+    conn: Connection<S>,
+) -> Result<Option<Fault>, Fail>
+    requires { conn.in_transaction ≡ false }
+{
+    match make(conn) {
+        Ok(made) => Ok(fault_of_opening(alloc, made)),
+        Err((fault, _)) => Err(Fail::from(fault)),
+    }
+}
+
+// What is tried over a new database.
+enum Tried<'a> {
+    // two sessions of these commands, which have to end as they should
+    Life(&'a [Command], &'a [Command]),
+    // a desk is opened over tables that are made, or over none
+    Opening { is_made: bool },
+}
+
+// Why no desk is opened where this is tried in memory. Only here and in `lived_twice_in_memory` stands the type of a
+// database in memory.
+fn fault_in_memory(alloc: Global, tried: Tried<'_>) -> Result<Option<Fault>, Fail> {
+    match tried {
+        Tried::Life(commands, more) => {
+            ends_so(lived_twice_in_memory(alloc, commands, more)?)?;
+            Ok(None)
+        }
+        Tried::Opening { is_made } => {
+            let conn = Connection::open_in_memory(alloc)?;
+            if is_made {
+                fault_over_made_tables(alloc, conn)
+            } else {
+                Ok(fault_of_opening(alloc, conn))
+            }
+        }
+    }
+}
+
+// The banks and a posting, and then another one.
+#[test]
+fn a_desk_is_found_again_and_again(rt: HostRuntime) -> Result<(), Fail> {
+    let mut first = commands(rt.alloc(), BANKS)?;
+    first.push(command("post ALFA P-1 1000")?)?;
+    let more = commands(rt.alloc(), "post BETA P-2 5")?;
+    let life = Tried::Life(first.as_slice(), more.as_slice());
+    assert_eq!(rt; fault_in_memory(rt.alloc(), life)?, None);
+    Ok(())
+}
+
+#[test]
+fn a_desk_is_opened_over_tables_that_were_made(rt: HostRuntime) -> Result<(), Fail> {
+    let fault = fault_in_memory(rt.alloc(), Tried::Opening { is_made: true })?;
+    assert_eq!(rt; fault, None);
+    Ok(())
+}
+
 #[test]
 fn an_empty_database_is_no_desk(rt: HostRuntime) -> Result<(), Fail> {
-    let conn = Connection::open_in_memory(rt.alloc())?;
-    assert_eq!(rt;
-        fault_of_opening(rt.alloc(), conn),
-        Some(Fault::NotADeskFile)
-    );
+    let fault = fault_in_memory(rt.alloc(), Tried::Opening { is_made: false })?;
+    assert_eq!(rt; fault, Some(Fault::NotADeskFile));
     Ok(())
 }

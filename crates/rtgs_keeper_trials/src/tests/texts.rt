@@ -1,23 +1,14 @@
 //! A statement and a day report whose reads meet trouble, each in turn: what was written is a beginning of the text.
-use super::trial::{is_silent, kept_after};
+use super::memory::failing_after;
+use super::trial::is_silent;
 use rtgs_book::Refusal;
 use rtgs_desk::Desk;
 use rtgs_keeper::Keeper;
-use rtgs_memory_keeper::MemoryKeeper;
 use rtgs_money::{BusinessDate, Code};
 use rtgs_statements::{BookTextFault, write_report, write_statement};
-use rtgs_tests_desks::{FailingKeeper, Trouble, desk_over};
+use rtgs_tests_desks::{Trouble, desk_over};
 use std::alloc::Global;
 use std::test::Fail;
-
-/// What is written of Monday.
-#[derive(Clone, Copy)]
-enum Text {
-    /// ALFA's statement.
-    Statement,
-    /// The day report.
-    Report,
-}
 
 /// The first line of ALFA's statement, and two of its postings.
 const BEGINNING: &str = "statement ALFA 2024-03-04\n\
@@ -34,35 +25,24 @@ order ALFA A-1 BETA 60 => Ok(Settled { number: 1, mark: 1 })
 order ALFA A-2 GAMA 9000 => Ok(Queued { number: 2, place: 1 })
 order BETA B-1 ALFA 500 => Ok(Queued { number: 3, place: 1 })";
 
-/// Writes the text, and tells why a read was refused, where one was.
+/// Writes what is to be told of Monday, which is the statement of this bank, or the day report where none is named. It
+/// tells why a read was refused, where one was.
 fn write<K: Keeper>(
     alloc: Global,
     desk: &mut Desk<K>,
-    text: Text,
+    bank: Option<&str>,
     out: &mut Vec<u8>,
 ) -> Result<Option<Refusal>, Fail> {
     let monday = BusinessDate::read(b"2024-03-04")?;
-    let written = match text {
-        Text::Statement => write_statement(alloc, out, desk, &Code::read(b"ALFA")?, monday),
-        Text::Report => write_report(alloc, out, desk, monday),
+    let written = match bank {
+        Some(code) => write_statement(alloc, out, desk, &Code::read(code.as_bytes())?, monday),
+        None => write_report(alloc, out, desk, monday),
     };
     match written {
         Ok(()) => Ok(None),
         Err(BookTextFault::Refused(refusal)) => Ok(Some(refusal)),
         Err(BookTextFault::Text(_)) => Err(Fail::new("a line was not written")),
     }
-}
-
-/// The keeper after the commands. A desk over it meets this trouble after so many reads.
-fn failing_after(
-    alloc: Global,
-    reads: usize,
-    trouble: Trouble,
-) -> Result<FailingKeeper<MemoryKeeper>, Fail> {
-    // the opening is a call too
-    let calls = reads.saturating_add(1);
-    let kept = kept_after(alloc, COMMANDS)?;
-    Ok(FailingKeeper::new(kept, calls, trouble))
 }
 
 /// What was written, and then once more, after lack of memory.
@@ -75,15 +55,19 @@ struct Written {
 
 /// Writes the text by a desk over this keeper. Once the store has failed, the desk then answers nothing else, and after
 /// lack of memory it writes once more.
-fn written_by<K: Keeper + Drop>(alloc: Global, keeper: K, text: Text) -> Result<Written, Fail> {
+fn written_by<K: Keeper + Drop>(
+    alloc: Global,
+    keeper: K,
+    bank: Option<&str>,
+) -> Result<Written, Fail> {
     let mut desk = desk_over(alloc, keeper)?;
     let (mut out, mut again) = (Vec::new(alloc), Vec::new(alloc));
-    let refused = write(alloc, &mut desk, text, &mut out)?;
+    let refused = write(alloc, &mut desk, bank, &mut out)?;
     match refused {
         None => (),
         Some(Refusal::StoreFault) => is_silent(&mut desk)?,
         Some(_) => {
-            if write(alloc, &mut desk, text, &mut again)?.is_some() {
+            if write(alloc, &mut desk, bank, &mut again)?.is_some() {
                 return Err(Fail::new("refused once more"));
             }
         }
@@ -112,11 +96,23 @@ impl Written {
     }
 }
 
+/// What is written by a desk that meets this trouble after so many reads.
+fn written_after(
+    alloc: Global,
+    bank: Option<&str>,
+    reads: usize,
+    trouble: Trouble,
+) -> Result<Written, Fail> {
+    // the opening is a call too
+    let calls = reads.saturating_add(1);
+    written_by(alloc, failing_after(alloc, COMMANDS, calls, trouble)?, bank)
+}
+
 /// How many reads go well where first no writing meets this trouble.
-fn reads_of(alloc: Global, text: Text, trouble: Trouble) -> Result<usize, Fail> {
-    let whole = written_by(alloc, failing_after(alloc, 1000, trouble)?, text)?;
+fn reads_of(alloc: Global, bank: Option<&str>, trouble: Trouble) -> Result<usize, Fail> {
+    let whole = written_after(alloc, bank, 1000, trouble)?;
     for reads in 0..100 {
-        let written = written_by(alloc, failing_after(alloc, reads, trouble)?, text)?;
+        let written = written_after(alloc, bank, reads, trouble)?;
         if written.is_whole(whole.out.as_slice())? {
             return Ok(reads);
         }
@@ -128,8 +124,11 @@ fn reads_of(alloc: Global, text: Text, trouble: Trouble) -> Result<usize, Fail> 
 fn a_statement_is_begun_where_a_read_is_refused(rt: HostRuntime) -> Result<(), Fail> {
     // three postings and then none, and three orders and then none
     for trouble in [Trouble::Lost, Trouble::Kept, Trouble::OutOfMemory] {
-        let reads = reads_of(rt.alloc(), Text::Statement, trouble)?;
-        assert_eq!(rt; reads, 8, "{trouble:?}");
+        assert_eq!(rt;
+            reads_of(rt.alloc(), Some("ALFA"), trouble)?,
+            8,
+            "{trouble:?}"
+        );
     }
     Ok(())
 }
@@ -138,16 +137,14 @@ fn a_statement_is_begun_where_a_read_is_refused(rt: HostRuntime) -> Result<(), F
 fn a_report_is_begun_where_a_read_is_refused(rt: HostRuntime) -> Result<(), Fail> {
     // the same, and then one mark and none
     for trouble in [Trouble::Lost, Trouble::Kept, Trouble::OutOfMemory] {
-        let reads = reads_of(rt.alloc(), Text::Report, trouble)?;
-        assert_eq!(rt; reads, 10, "{trouble:?}");
+        assert_eq!(rt; reads_of(rt.alloc(), None, trouble)?, 10, "{trouble:?}");
     }
     Ok(())
 }
 
 #[test]
 fn two_postings_are_told_where_the_third_is_not_read(rt: HostRuntime) -> Result<(), Fail> {
-    let keeper = failing_after(rt.alloc(), 2, Trouble::Lost)?;
-    let written = written_by(rt.alloc(), keeper, Text::Statement)?;
+    let written = written_after(rt.alloc(), Some("ALFA"), 2, Trouble::Lost)?;
     assert_eq!(rt; written.refused, Some(Refusal::StoreFault));
     assert_eq!(rt; std::str::from_utf8(written.out.as_slice())?, BEGINNING);
     Ok(())

@@ -1,13 +1,12 @@
 //! What is given to a desk while its store fails, and what is found then.
-use super::found::Found;
+use super::found::found_of;
 use super::store::{Booked, Job};
 use rtgs_batches::submit_batch;
 use rtgs_book::{Answer, Command, Fault, Known, Refusal};
 use rtgs_desk::Desk;
 use rtgs_keeper::Keeper;
-use rtgs_memory_keeper::MemoryKeeper;
 use rtgs_money::{BusinessDate, Code, Key, Reference};
-use rtgs_order_files::{BatchResult, OrderRow, RowReply};
+use rtgs_order_files::{OrderRow, RowReply};
 use rtgs_statements::Source;
 use rtgs_tests_desks::{Reply, answered, command, desk_over, follows, is_told};
 use std::alloc::Global;
@@ -43,21 +42,6 @@ pub const NOTHING: Trial = Trial {
     is_closed: true,
 };
 
-impl Trial {
-    /// How many commands there are while the store fails.
-    pub fn count(&self) -> usize {
-        self.rows.lines().count()
-    }
-
-    /// The same commands, one by one.
-    pub fn one_by_one(&self) -> Trial {
-        Trial {
-            is_batch: false,
-            ..*self
-        }
-    }
-}
-
 /// A desk with three banks over a keeper of a new book, after these commands.
 pub fn begun<K: Keeper + Drop>(alloc: Global, keeper: K, before: &str) -> Result<Desk<K>, Fail> {
     let mut desk = desk_over(alloc, keeper)?;
@@ -66,13 +50,8 @@ pub fn begun<K: Keeper + Drop>(alloc: Global, keeper: K, before: &str) -> Result
     Ok(desk)
 }
 
-/// The keeper in memory of a desk with three banks, after these commands.
-pub fn kept_after(alloc: Global, before: &str) -> Result<MemoryKeeper, Fail> {
-    Ok(begun(alloc, MemoryKeeper::new(alloc), before)?.into_keeper())
-}
-
 /// How far a trial came.
-#[derive(Clone, Copy, PartialEq)]
+#[derive(Clone, Copy)]
 pub enum Progress {
     /// The desk could not be opened.
     Unopened,
@@ -85,7 +64,7 @@ pub enum Progress {
 }
 
 /// What is done in a session of a trial.
-#[derive(Clone, Copy, PartialEq)]
+#[derive(Clone, Copy)]
 pub enum Part {
     /// Nothing is given to a desk.
     Rest,
@@ -108,7 +87,7 @@ pub struct Work {
     /// Why the desk was not opened.
     pub fault: Option<Fault>,
     /// What was found.
-    pub found: Option<Found>,
+    pub found: Option<String>,
 }
 
 impl Work {
@@ -145,42 +124,34 @@ impl Work {
         self.progress = Progress::Failed(count);
         is_silent(desk)
     }
-
-    // Does the part with a desk, which ends so.
-    fn with_desk<K: Booked>(&mut self, alloc: Global, desk: Desk<K>) -> Result<K, Fail> {
-        let mut desk = desk;
-        match self.part {
-            Part::Give(most) => self.give(alloc, &mut desk, 0, most)?,
-            Part::Look { known, most } => {
-                self.give(alloc, &mut desk, known, most)?;
-                let (found, keeper) = Found::of(alloc, desk)?;
-                self.found = Some(found);
-                return Ok(keeper);
-            }
-            Part::Rest | Part::Begin => (),
-        }
-        Ok(desk.into_keeper())
-    }
 }
 
 impl Job for Work {
-    fn done<K: Booked>(&mut self, alloc: Global, keeper: K) -> Result<K, Fail> {
-        match self.part {
-            Part::Rest => return Ok(keeper),
-            Part::Begin => return Ok(begun(alloc, keeper, self.trial.before)?.into_keeper()),
-            _ => (),
-        }
-        match Desk::open(alloc, keeper) {
-            Ok(desk) => self.with_desk(alloc, desk),
+    fn done<K: Booked>(&mut self, alloc: Global, keeper: K) -> Result<(K, bool), Fail> {
+        let (known, most) = match self.part {
+            Part::Rest => return Ok((keeper, self.closes)),
+            Part::Begin => {
+                let desk = begun(alloc, keeper, self.trial.before)?;
+                return Ok((desk.into_keeper(), self.closes));
+            }
+            Part::Give(most) => (0, most),
+            Part::Look { known, most } => (known, most),
+        };
+        let mut desk = match Desk::open(alloc, keeper) {
+            Ok(desk) => desk,
             Err((fault, keeper)) => {
                 self.fault = Some(fault);
-                Ok(keeper)
+                return Ok((keeper, false));
             }
+        };
+        self.give(alloc, &mut desk, known, most)?;
+        let closes = self.closes && !matches!(self.progress, Progress::Failed(_));
+        if matches!(self.part, Part::Give(_)) {
+            return Ok((desk.into_keeper(), closes));
         }
-    }
-
-    fn closes(&self) -> bool {
-        self.closes && !matches!(self.progress, Progress::Failed(_)) && self.fault.is_none()
+        let (found, keeper) = found_of(alloc, desk)?;
+        self.found = Some(found);
+        Ok((keeper, closes))
     }
 }
 
@@ -188,29 +159,26 @@ impl Job for Work {
 pub fn orders(alloc: Global, script: &str, most: usize) -> Result<Vec<OrderRow>, Fail> {
     let mut orders = Vec::new(alloc);
     for line in script.lines().take(most) {
-        orders.push(order(line)?)?;
-    }
-    Ok(orders)
-}
-
-fn order(line: &str) -> Result<OrderRow, Fail> {
-    match command(line)? {
-        Command::Order {
+        let Command::Order {
             reference,
             receiver,
             amount,
             ..
-        } => Ok(OrderRow {
+        } = command(line)?
+        else {
+            return Err(Fail::new("no order"));
+        };
+        orders.push(OrderRow {
             reference,
             receiver,
             amount,
-        }),
-        _ => Err(Fail::new("no order")),
+        })?;
     }
+    Ok(orders)
 }
 
 // Sends the first of ALFA's orders in one batch, of which so many come again, and counts those that are replied to
-// before a fault of the store. Each is replied to as its order is answered.
+// before a fault of the store, and nothing else, stops them. Each is replied to as its order is answered.
 fn sent<K: Keeper>(
     alloc: Global,
     desk: &mut Desk<K>,
@@ -220,39 +188,25 @@ fn sent<K: Keeper>(
 ) -> Result<usize, Fail> {
     let orders = orders(alloc, script, most)?;
     let batch = submit_batch(alloc, desk, Code::read(b"ALFA")?, orders.as_slice())?;
-    count_of_replies(alloc, &batch, script, known)
-}
-
-// How many replies there are, each of which is right. Nothing but a fault of the store stopped them.
-fn count_of_replies(
-    alloc: Global,
-    batch: &BatchResult,
-    script: &str,
-    known: usize,
-) -> Result<usize, Fail> {
     if !matches!(batch.stopped, None | Some(Refusal::StoreFault)) {
         return Err(Fail::new("another stop"));
     }
     let mut count = 0usize;
     for (line, reply) in script.lines().zip(batch.replies.as_slice()) {
-        if !is_told(alloc, &answer_of(*reply), line, count < known)? {
+        let answer: Reply = match *reply {
+            RowReply::Settled { number, mark } => Ok(Answer::Settled { number, mark }),
+            RowReply::Queued { number, place } => Ok(Answer::Queued { number, place }),
+            RowReply::Repeated { number, state } => {
+                Ok(Answer::Repeated(Known::Order { number, state }))
+            }
+            RowReply::Refused(refusal) => Err(refusal),
+        };
+        if !is_told(alloc, &answer, line, count < known)? {
             return Err(Fail::new("another row reply"));
         }
         count = count.saturating_add(1);
     }
     Ok(count)
-}
-
-// The answer to the order of a row that has this reply.
-fn answer_of(reply: RowReply) -> Reply {
-    match reply {
-        RowReply::Settled { number, mark } => Ok(Answer::Settled { number, mark }),
-        RowReply::Queued { number, place } => Ok(Answer::Queued { number, place }),
-        RowReply::Repeated { number, state } => {
-            Ok(Answer::Repeated(Known::Order { number, state }))
-        }
-        RowReply::Refused(refusal) => Err(refusal),
-    }
 }
 
 fn is_failed<T: Drop>(reply: Result<T, Refusal>) -> bool {

@@ -4,13 +4,11 @@ use super::business::Business;
 use super::disks::OnDisks;
 use super::memory::InMemory;
 use super::runs::found_in;
-use super::seen::Seen;
+use super::seen::{KINDS, kind_of};
 use super::store::{Booked, Ended, Job, Store};
-use super::told::{Names, Told};
+use super::told::Told;
 use super::trial::{NOTHING, Part, Work};
 use rtgs_book::Refusal;
-use rtgs_desk::Desk;
-use rtgs_keeper::Keeper;
 use rtgs_tests_desks::desk_over;
 use std::alloc::Global;
 use std::mem;
@@ -20,7 +18,6 @@ use std::test::Fail;
 #[derive(Drop)]
 struct Run {
     business: Business,
-    names: Names,
     // how many times fifty commands were given
     fifties: u64,
     told: Told,
@@ -28,42 +25,34 @@ struct Run {
 
 impl Run {
     /// The commands of this seed.
-    fn new(alloc: Global, seed: u64) -> Result<Run, Fail> {
-        Ok(Run {
+    fn new(alloc: Global, seed: u64) -> Run {
+        Run {
             business: Business::new(alloc, seed),
-            names: Names::new(alloc)?,
             fifties: 0,
             told: Told::new(alloc),
-        })
-    }
-
-    /// Gives a desk the next command, which it judges.
-    fn command<K: Keeper>(&mut self, desk: &mut Desk<K>) -> Result<(), Fail> {
-        let reply = desk.submit(self.business.command()?);
-        if let Err(Refusal::OutOfMemory | Refusal::StoreFault | Refusal::Failed) = reply {
-            return Err(Fail::new("a command was not judged"));
         }
-        self.business.hear(&reply);
-        self.told.replies.push(reply)?;
-        Ok(())
     }
 
-    /// Gives a desk over this keeper fifty commands, and then the keeper tells of its book.
+    /// Gives a desk over this keeper fifty commands, each of which it judges, and then the keeper tells of its book.
     fn fifty<K: Booked>(&mut self, alloc: Global, keeper: K) -> Result<K, Fail> {
         let mut desk = desk_over(alloc, keeper)?;
         for _ in 0..50 {
-            self.command(&mut desk)?;
+            let reply = desk.submit(self.business.command()?);
+            if let Err(Refusal::OutOfMemory | Refusal::StoreFault | Refusal::Failed) = reply {
+                return Err(Fail::new("a command was not judged"));
+            }
+            self.business.hear(&reply);
+            self.told.replies.push(reply)?;
         }
         let mut keeper = desk.into_keeper();
         self.fifties = self.fifties.wrapping_add(1);
-        self.told
-            .asks(alloc, &self.names, &mut keeper, self.fifties)?;
+        self.told.asks(alloc, &mut keeper, self.fifties)?;
         Ok(keeper)
     }
 
     /// Gives a hundred commands to a desk in this store, which is closed then.
     fn hundred<S: Store>(&mut self, alloc: Global, store: &mut S) -> Result<Told, Fail> {
-        if store.session(alloc, false, self)? == Ended::Closed {
+        if matches!(store.session(alloc, false, self)?, Ended::Closed) {
             Ok(mem::replace(&mut self.told, Told::new(alloc)))
         } else {
             Err(Fail::new("not opened, or not closed"))
@@ -72,19 +61,16 @@ impl Run {
 }
 
 impl Job for Run {
-    fn done<K: Booked>(&mut self, alloc: Global, keeper: K) -> Result<K, Fail> {
+    fn done<K: Booked>(&mut self, alloc: Global, keeper: K) -> Result<(K, bool), Fail> {
         let keeper = self.fifty(alloc, keeper)?;
-        self.fifty(alloc, keeper)
-    }
-
-    fn closes(&self) -> bool {
-        true
+        Ok((self.fifty(alloc, keeper)?, true))
     }
 }
 
 /// Makes a desk of a new book in this store, and closes it.
 pub fn make<S: Store>(alloc: Global, store: &mut S) -> Result<(), Fail> {
-    if store.session(alloc, true, &mut Work::new(&NOTHING, Part::Rest, true))? == Ended::Closed {
+    let mut work = Work::new(&NOTHING, Part::Rest, true);
+    if matches!(store.session(alloc, true, &mut work)?, Ended::Closed) {
         Ok(())
     } else {
         Err(Fail::new("not made"))
@@ -98,7 +84,7 @@ pub fn end_in_one_book<M: Store, S: Store>(
     store: &mut S,
 ) -> Result<(), Fail> {
     let in_memory = found_in(alloc, memory, &NOTHING, 0, 0)?;
-    if found_in(alloc, store, &NOTHING, 0, 0)?.is_like(&in_memory) {
+    if found_in(alloc, store, &NOTHING, 0, 0)?.as_str() == in_memory.as_str() {
         Ok(())
     } else {
         Err(Fail::new("two books"))
@@ -112,27 +98,28 @@ fn answer_alike<M: Store, S: Store>(
     store: &mut S,
     seed: u64,
 ) -> Result<(), Fail> {
-    let (mut one, mut other) = (Run::new(alloc, seed)?, Run::new(alloc, seed)?);
-    let mut seen = Seen::new();
+    let (mut one, mut other) = (Run::new(alloc, seed), Run::new(alloc, seed));
+    let mut seen = [false; KINDS];
     for _ in 0..50 {
         let told = one.hundred(alloc, memory)?;
         if !told.is_like(&other.hundred(alloc, store)?) {
             return Err(Fail::new("another answer, or another record"));
         }
         for reply in told.replies.as_slice() {
-            seen.count(reply);
+            let kind = kind_of(reply);
+            seen[kind] = true;
         }
     }
-    if seen.is_varied() {
-        Ok(())
-    } else {
+    if seen.contains(&false) {
         Err(Fail::new("a kind of answer that was not given"))
+    } else {
+        Ok(())
     }
 }
 
 // Five thousand commands of this seed, that end in one book.
 fn five_thousand(alloc: Global, seed: u64) -> Result<(), Fail> {
-    let (mut memory, mut disks) = (InMemory::new(alloc), OnDisks::new(alloc));
+    let (mut memory, mut disks) = (InMemory::blank(alloc), OnDisks::blank(alloc));
     make(alloc, &mut disks)?;
     answer_alike(alloc, &mut memory, &mut disks, seed)?;
     end_in_one_book(alloc, &mut memory, &mut disks)

@@ -15,10 +15,15 @@ unfolding doubt
 memory_is_clean h = refl
 
 new_is_blank : (s : State) → IsEmpty s → IsBlank s
-new_is_blank s empty = record { is_open = empty.0.is_open; schema = ap (λ (db : Database). db.schema) (sym empty.0.clean) ∙ empty.2; clean = empty.0.clean }
+new_is_blank s empty = record {
+  is_open = empty.0.is_open;
+  schema = ap (λ (db : Database). db.schema) (sym empty.0.clean) ∙ empty.2;
+  clean = empty.0.clean;
+}
 
 pub returns : goal.returns
 returns c =
     let conn = c.in_ok-open_in_memory in
     let blank = new_is_blank (state over_memory conn.field-0) conn.ensures.empty in
-    IfOk-weaker c.lived_twice.result _ _ (λ it lived. lived (memory_is_clean it.2.keeper.conn) blank) c.lived_twice.ensures
+    let lived = c.lived_twice.ensures in
+    IfOk-weaker c.lived_twice.result _ _ (λ it so. so (memory_is_clean it.2.keeper.conn) blank) lived
