@@ -1,8 +1,8 @@
 -- Accounts in code order: what a search finds, and what a write at its place does.
-use Rattle.std.proofs.Common.{◌≡◌, ℕ, zero, suc, ◌<◌, ◌≤◌, ℤ, Bool, true, false, not, cond, if◌then◌else◌, List, []}
-use Rattle.std.proofs.Common.{◌∷◌, ◌++◌, map, filter, length, get_or, set, take, drop, find, Some, None, Result, Ok}
-use Rattle.std.proofs.Common.{Err, IfOk, IfErr, Less, Equal, Greater, is_lt, nat_cmp, refl, sym, ap, ◌∙◌, subst, inl}
-use Rattle.std.proofs.Common.{inr, add-one, arith}
+use Rattle.std.proofs.Common.{◌≡◌, ℕ, zero, suc, ◌<◌, ◌≤◌, Bool, true, false, not, cond, if◌then◌else◌, List, [], ◌∷◌}
+use Rattle.std.proofs.Common.{◌++◌, map, filter, length, get_or, set, take, drop, find, Some, None, Result, Ok, Err}
+use Rattle.std.proofs.Common.{IfOk, IfErr, Less, Equal, Greater, is_lt, nat_cmp, refl, sym, ap, ◌∙◌, subst, inl, inr}
+use Rattle.std.proofs.Common.{add-one, arith}
 use Rattle.std.proofs.lemmas.List.Sorted.{searchable_from_sorted}
 use Rattle.std.proofs.lemmas.List.{map-append, length-map}
 use Rattle.std.specs.List.{AllByRecursion, IsDistinct, insert, list_any}
@@ -15,12 +15,10 @@ use Rattle.rtgs_book.specs.Lookup.{has_code}
 use Rattle.std.specs.FinMap.{nat_cmp-IsAntisymmetric, slice_cmp-IsAntisymmetric}
 use Rattle.std.proofs.lemmas.List.Elements.{recursion_from_All}
 use Rattle.std.proofs.lemmas.Bool.{cases_lt}
-use Rattle.rtgs_book.specs.declared.participant.Participant.{Participant}
 use Rattle.rtgs_book.specs.declared.account.Account.{Account}
 use Rattle.rtgs_book.specs.declared.limits.TheConstants.{MOST_PARTICIPANTS}
-use Rattle.rtgs_accounts.specs.Accounts.{code_of, key_of, has_key, participant_of, is_of, CodesRiseStrictly, AreOfABook}
-use Rattle.rtgs_accounts.specs.Accounts.{with_account, with_balance}
-use Rattle.rtgs_accounts.specs.Accounts.{with_limit, IsAt, IsGapFor}
+use Rattle.rtgs_accounts.specs.Accounts.{code_of, key_of, has_key, is_of, CodesRiseStrictly, AreOfABook, with_account}
+use Rattle.rtgs_accounts.specs.Accounts.{IsAt, IsGapFor}
 use Rattle.rtgs_lists.proofs.Bools.{or_left_false, or_right_false}
 use Rattle.rtgs_lists.proofs.Codes.{bytes_eq_comm, not_before, sorted_put_in}
 use Rattle.rtgs_lists.proofs.Filters.{map-filter}

@@ -61,7 +61,11 @@ parties_known : (book : Book) → PartiesAreKnown book → AllByRecursion
 unfolding is_participant
 parties_known book h = all_weaker (λ o. has_parties book o ≡ true)
     (λ (o : Order). (list_any (bytes_eq o.sender) (accounts book) ≡ true)
-    × (list_any (bytes_eq o.receiver) (accounts book) ≡ true)) (λ o e. (and_left _ _ (and_left _ _ e), and_right _ _ (and_left _ _ e)))
+    × (list_any (bytes_eq o.receiver) (accounts book) ≡ true)) (λ o e. (
+      and_left _ _ (and_left _ _ e),
+      and_right _ _
+          (and_left _ _ e),
+    ))
     book.orders h.0
 
 -- ---- each posting stands in one account

@@ -1,6 +1,6 @@
 -- The core of a book, row by row.
-use Rattle.std.proofs.Common.{◌≡◌, ℕ, ◌+◌, ℤ, pos, Bool, true, false, cond, if◌then◌else◌, not, List, [], ◌∷◌, ◌++◌, map, filter, length}
-use Rattle.std.proofs.Common.{refl, sym, ap, subst, ◌∙◌, length-append}
+use Rattle.std.proofs.Common.{◌≡◌, ℕ, ◌+◌, ℤ, pos, Bool, true, false, cond, if◌then◌else◌, not, List, [], ◌∷◌, ◌++◌}
+use Rattle.std.proofs.Common.{map, filter, length, refl, sym, ap, subst, ◌∙◌, length-append}
 use Rattle.std.proofs.lemmas.List.{map-append, length-map}
 use Rattle.std.specs.List.{AllByRecursion}
 use Rattle.rtgs_book.specs.declared.Account.{Account}
@@ -9,8 +9,8 @@ use Rattle.rtgs_book.specs.declared.Order.{Order}
 use Rattle.rtgs_book.specs.declared.OrderState.{OrderState}
 use Rattle.rtgs_book.specs.declared.Participant.{Participant}
 use Rattle.rtgs_book.specs.declared.RowChange.{RowChange}
-use Rattle.rtgs_book.specs.declared.RowChange.TheVariants.{AddParticipant, AddPosting, AddOrder, AddMark}
-use Rattle.rtgs_book.specs.declared.RowChange.TheVariants.{SetCredit, SetBalance, SetState, SetDay}
+use Rattle.rtgs_book.specs.declared.RowChange.TheVariants.{AddParticipant, AddPosting, AddOrder, AddMark, SetCredit}
+use Rattle.rtgs_book.specs.declared.RowChange.TheVariants.{SetBalance, SetState, SetDay}
 use Rattle.rtgs_book.specs.Books.{is_queued, is_queued_state}
 use Rattle.rtgs_book.specs.Changes.{changed, with_row}
 use Rattle.rtgs_book.specs.Commands.{is_before, has_number, with_participant, with_credit, with_state}
@@ -20,8 +20,8 @@ use Rattle.rtgs_book.specs.Settle.{restated}
 use Rattle.rtgs_book.specs.Soundness.{IsSound}
 use Rattle.rtgs_cores.specs.declared.cores.Core.{Core}
 use Rattle.rtgs_cores.specs.Cores.{account_of, core_of, IsCoreOf}
-use Rattle.rtgs_cores.specs.Following.{participant_of, code_of, is_of, with_account, with_balance, with_limit}
-use Rattle.rtgs_cores.specs.Following.{limited, AreBalanced, core_after_row, core_after, QueuesNoneAgain}
+use Rattle.rtgs_cores.specs.Following.{participant_of, code_of, is_of, with_account, with_balance, with_limit, limited}
+use Rattle.rtgs_cores.specs.Following.{AreBalanced, core_after_row, core_after, QueuesNoneAgain}
 use Rattle.rtgs_lists.proofs.Filters.{map-filter}
 
 -- the core agrees with the book in all but balances

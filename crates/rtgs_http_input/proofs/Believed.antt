@@ -17,7 +17,8 @@ answers_work true result code e h = let f = h refl in let no : ⊥ = cc in absur
 -- what an open desk tells is of the book that it has in memory
 pub believed : {K : Type 0} (g : Ghosts K) (desk : Seen K) (digest : List ℕ) (result : Result (Option (List ℕ)) Refusal)
     (code : Option (List ℕ)) (code_of : List ℕ → Option (List ℕ)) → result ≡ Ok code
-    → ((book : Book) → HasParticipants desk book → g.has_failed desk.keeper ≡ false → result ≡ Ok (code_under book digest))
+    → ((book : Book) → HasParticipants desk book → g.has_failed desk.keeper ≡ false → result ≡ Ok
+    (code_under book digest))
     → (g.has_failed desk.keeper ≡ true → result ≡ Err Failed) → KnowsOf g desk code_of → code ≡ code_of digest
 believed g desk digest result code code_of is told failed known =
     let works = answers_work (g.has_failed desk.keeper) result code is failed in

@@ -5,13 +5,12 @@ use Rattle.std.specs.Prelude.{◌≢◌}
 use Rattle.std.specs.Global.{Vec}
 use denote.RawPtr.{null_ptr}
 use Rattle.rtgs_order_files.specs.OrderFile.{BeginWith, CsvFields, HasUnderHeader, IsFaultOf, IsNoRow, IsOrderFile}
-use Rattle.rtgs_order_files.specs.OrderFile.{IsRow}
-use Rattle.rtgs_order_files.specs.OrderFile.{fields_of_row}
+use Rattle.rtgs_order_files.specs.OrderFile.{IsRow, fields_of_row}
 use Rattle.rtgs_order_files.specs.declared.batch_fault.BatchFault.{BatchFault}
 use Rattle.rtgs_order_files.specs.declared.batch_fault.BatchFault.TheVariants as batch
 use Rattle.rtgs_order_files.specs.declared.limits.TheConstants.{MOST_ROWS}
 use Rattle.rtgs_order_files.specs.declared.order_row.OrderRow.{OrderRow}
-use Rattle.rtgs_http_requests.specs.Meaning.{Answer, AsksBatch}
+use Rattle.rtgs_http_requests.specs.Meaning.{AsksBatch}
 use Rattle.rtgs_http_requests.specs.Steps.{HasAnswer}
 use Rattle.rtgs_http_requests.specs.declared.asked.Asked.TheVariants.{Batch}
 use Rattle.rtgs_http_requests.specs.declared.http_fault.HttpFault.TheVariants as fault

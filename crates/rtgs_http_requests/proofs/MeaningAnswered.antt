@@ -12,9 +12,8 @@ use Rattle.rtgs_http_heads.specs.declared.bank_route.BankRoute.TheVariants.{Send
 use Rattle.rtgs_http_heads.specs.declared.bank_route.BankRoute.TheVariants.{ReadOrder, ReadAccount, ReadQueue}
 use Rattle.rtgs_http_heads.specs.declared.bank_route.BankRoute.TheVariants.{ReadStatement}
 use Rattle.rtgs_http_heads.specs.declared.operator_route.OperatorRoute.{OperatorRoute}
-use Rattle.rtgs_http_heads.specs.declared.operator_route.OperatorRoute.TheVariants.{Post, SetCredit, OpenDay}
-use Rattle.rtgs_http_heads.specs.declared.operator_route.OperatorRoute.TheVariants.{Resolve, CutOff, CloseDay}
-use Rattle.rtgs_http_heads.specs.declared.operator_route.OperatorRoute.TheVariants.{ReadReport}
+use Rattle.rtgs_http_heads.specs.declared.operator_route.OperatorRoute.TheVariants.{Post, SetCredit, OpenDay, Resolve}
+use Rattle.rtgs_http_heads.specs.declared.operator_route.OperatorRoute.TheVariants.{CutOff, CloseDay, ReadReport}
 use Rattle.rtgs_http_requests.specs.Bodies.{ReadsJson}
 use Rattle.rtgs_http_requests.specs.Contents.{FindsContent, HasOrder, HasPosting, HasCredit, HasDate, HasNothing}
 use Rattle.rtgs_http_requests.specs.Meaning.{AsksDay, AsksPlainly, Means, MeansBank, MeansOperator, SpellsReference}

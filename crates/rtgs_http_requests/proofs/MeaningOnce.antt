@@ -7,14 +7,12 @@ use Rattle.rtgs_http_heads.specs.declared.bank_route.BankRoute.TheVariants.{Send
 use Rattle.rtgs_http_heads.specs.declared.bank_route.BankRoute.TheVariants.{ReadOrder, ReadAccount, ReadQueue}
 use Rattle.rtgs_http_heads.specs.declared.bank_route.BankRoute.TheVariants.{ReadStatement}
 use Rattle.rtgs_http_heads.specs.declared.operator_route.OperatorRoute.{OperatorRoute}
-use Rattle.rtgs_http_heads.specs.declared.operator_route.OperatorRoute.TheVariants.{Post, SetCredit, OpenDay}
-use Rattle.rtgs_http_heads.specs.declared.operator_route.OperatorRoute.TheVariants.{Resolve, CutOff, CloseDay}
-use Rattle.rtgs_http_heads.specs.declared.operator_route.OperatorRoute.TheVariants.{ReadReport}
+use Rattle.rtgs_http_heads.specs.declared.operator_route.OperatorRoute.TheVariants.{Post, SetCredit, OpenDay, Resolve}
+use Rattle.rtgs_http_heads.specs.declared.operator_route.OperatorRoute.TheVariants.{CutOff, CloseDay, ReadReport}
 use Rattle.rtgs_http_requests.specs.Bodies.{ReadsJson}
 use Rattle.rtgs_http_requests.specs.Contents.{FindsContent, HasOrder, HasPosting, HasCredit, HasDate, HasNothing}
-use Rattle.rtgs_http_requests.specs.Meaning.{Answer, AsksBatch, AsksDay, AsksPlainly, Means, MeansBank}
-use Rattle.rtgs_http_requests.specs.Meaning.{MeansOperator, SpellsReference, SpellsDate, SpellsOrder, IsPostingOf}
-use Rattle.rtgs_http_requests.specs.Meaning.{SpellsCredit}
+use Rattle.rtgs_http_requests.specs.Meaning.{Answer, AsksBatch, AsksDay, AsksPlainly, Means, MeansBank, MeansOperator}
+use Rattle.rtgs_http_requests.specs.Meaning.{SpellsReference, SpellsDate, SpellsOrder, IsPostingOf, SpellsCredit}
 use Rattle.rtgs_http_requests.specs.Same.{AreTheSame}
 use Rattle.rtgs_http_requests.specs.Steps.{Then}
 use Rattle.rtgs_http_requests.specs.declared.admitted.Admitted.{Admitted}

@@ -1,7 +1,6 @@
 -- Each input asks for something, or has a fault.
 use Rattle.std.proofs.Common.{◌≡◌, ◌≤◌, ◌<◌, ◌⊎◌, ◌∷◌, [], inl, inr, ℕ, List, Bool, true, false, length, take, codes}
-use Rattle.std.proofs.Common.{Option, Some, None}
-use Rattle.std.proofs.Common.{Result, Ok, Err, refl, Global, if◌then◌else◌, nat_le}
+use Rattle.std.proofs.Common.{Option, Some, None, Result, Ok, Err, refl, Global, if◌then◌else◌, nat_le}
 use Rattle.std.specs.Prelude.{◌≢◌}
 use Rattle.std.specs.Str.{bytes_eq}
 use Rattle.std.proofs.lemmas.Bool.{cases_lt}

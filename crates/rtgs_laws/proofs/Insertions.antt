@@ -1,7 +1,6 @@
 -- A participant that is put at its place in code order.
-use Rattle.std.proofs.Common.{◌≡◌, suc, ◌+◌, ℤ, ◌+ℤ◌, Bool, true, false, cond, not, ◌||◌, ◌⊎◌, ⊎_elim, inl, inr}
-use Rattle.std.proofs.Common.{List, [], ◌∷◌, ◌++◌, map, filter, length}
-use Rattle.std.proofs.Common.{refl, sym, ap, ◌∙◌, true≢false, arith}
+use Rattle.std.proofs.Common.{◌≡◌, suc, ◌+◌, ℤ, ◌+ℤ◌, Bool, true, false, cond, not, ◌||◌, ◌⊎◌, ⊎_elim, inl, inr, List}
+use Rattle.std.proofs.Common.{[], ◌∷◌, ◌++◌, map, filter, length, refl, sym, ap, ◌∙◌, true≢false, arith}
 use Rattle.std.proofs.lemmas.Int.{ints}
 use Rattle.std.specs.List.{AllByRecursion, IsDistinct, list_any}
 use Rattle.rtgs_book.specs.IntSum.{int_sum_by}

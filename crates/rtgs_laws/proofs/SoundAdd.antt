@@ -1,7 +1,7 @@
 -- A new participant keeps a book sound.
 use Rattle.std.proofs.Common.{◌≡◌, ℕ, ◌≤◌, ◌<◌, ◌+◌, ℤ, pos, neg_ℤ, ◌+ℤ◌, ◌≤ℤ◌, Bool, true, false, cond, not, ◌&&◌}
-use Rattle.std.proofs.Common.{List, [], ◌∷◌, ◌++◌, filter, length, Some, find, option_map, unwrap_or, refl}
-use Rattle.std.proofs.Common.{sym, ap, ◌∙◌, true≢false, arith}
+use Rattle.std.proofs.Common.{List, [], ◌∷◌, ◌++◌, filter, length, Some, find, option_map, unwrap_or, refl, sym, ap}
+use Rattle.std.proofs.Common.{◌∙◌, true≢false, arith}
 use Rattle.std.proofs.lemmas.Int.{ints}
 use Rattle.std.proofs.lemmas.List.{length-map, map-append}
 use Rattle.std.specs.List.{AllByRecursion, list_any}
@@ -20,8 +20,7 @@ use Rattle.rtgs_book.specs.Balance.{balance, floor, total}
 use Rattle.rtgs_book.specs.Queue.{queue}
 use Rattle.rtgs_book.specs.Commands.{is_before, with_participant, add}
 use Rattle.rtgs_book.specs.Soundness.{has_parties, CountsItsOrders, IsSound}
-use Rattle.rtgs_laws.proofs.Insertions.{length-put_in, sum-put_in}
-use Rattle.rtgs_laws.proofs.Insertions.{any-put_in, distinct_put_in}
+use Rattle.rtgs_laws.proofs.Insertions.{length-put_in, sum-put_in, any-put_in, distinct_put_in}
 use Rattle.rtgs_laws.proofs.BookLaws.{BookLaws}
 use Rattle.rtgs_laws.proofs.Lists.{find_none}
 use Rattle.rtgs_laws.proofs.Outcomes.{sound_first_of}

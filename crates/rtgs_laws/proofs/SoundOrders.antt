@@ -19,8 +19,7 @@ use Rattle.rtgs_book.specs.Queue.{queue}
 use Rattle.rtgs_book.specs.Settle.{today}
 use Rattle.rtgs_book.specs.Commands.{new_order, with_order}
 use Rattle.rtgs_book.specs.Soundness.{has_parties, is_state_under, is_same_name, CountsItsOrders, IsSound}
-use Rattle.rtgs_laws.proofs.Lists.{distinct_push, numbered_after, find_none}
-use Rattle.rtgs_laws.proofs.Lists.{never_fall_push}
+use Rattle.rtgs_laws.proofs.Lists.{distinct_push, numbered_after, find_none, never_fall_push}
 use Rattle.rtgs_laws.proofs.SoundStates.{name}
 use Rattle.rtgs_lists.proofs.Lists.{all_map, all_push, all_weaker}
 

@@ -17,8 +17,7 @@ use Rattle.rtgs_book.specs.Queue.{queue}
 use Rattle.rtgs_book.specs.Commands.{post}
 use Rattle.rtgs_book.specs.Soundness.{CountsItsOrders, IsSound}
 use Rattle.rtgs_laws.proofs.BookLaws.{BookLaws}
-use Rattle.rtgs_laws.proofs.Lists.{distinct_push, numbered_after, find_none}
-use Rattle.rtgs_laws.proofs.Lists.{never_fall_push}
+use Rattle.rtgs_laws.proofs.Lists.{distinct_push, numbered_after, find_none, never_fall_push}
 use Rattle.rtgs_laws.proofs.Outcomes.{sound_first_of, not_false}
 use Rattle.rtgs_lists.proofs.Lists.{all_map, all_push, all_weaker}
 use Rattle.rtgs_lists.proofs.Sums.{at_code, int_sum_by-both, sum_at_code}

@@ -1,6 +1,6 @@
 -- A batch that is settled keeps a book sound.
-use Rattle.std.proofs.Common.{◌≡◌, ℕ, ◌≤◌, ◌<◌, ◌+◌, ◌==◌, pos, ◌+ℤ◌, ◌≤ℤ◌, Bool, true, false, ◌&&◌, List, [], ◌∷◌}
-use Rattle.std.proofs.Common.{map, filter, length, refl, sym, ap, ◌∙◌, true≢false, arith}
+use Rattle.std.proofs.Common.{◌≡◌, ℕ, ◌≤◌, ◌<◌, ◌+◌, ◌==◌, pos, ◌+ℤ◌, ◌≤ℤ◌, Bool, true, false, ◌&&◌, List, [], ◌∷◌, map}
+use Rattle.std.proofs.Common.{filter, length, refl, sym, ap, ◌∙◌, true≢false, arith}
 use Rattle.std.proofs.lemmas.Bool.Decides.{nat_tests}
 use Rattle.std.proofs.lemmas.List.{length-map, map-append}
 use Rattle.std.specs.List.{AllByRecursion, range_with_len}
@@ -20,13 +20,12 @@ use Rattle.rtgs_book.specs.Queue.{queue}
 use Rattle.rtgs_book.specs.Settle.{restated, settle, mark_of, next_mark, today}
 use Rattle.rtgs_book.specs.Soundness.{PartiesAreKnown, has_parties, is_state_under, CountsItsOrders, IsSound}
 use Rattle.rtgs_laws.proofs.BookLaws.{AreQueued, BookLaws, TotalIsIssued}
-use Rattle.rtgs_laws.proofs.Batches.{all_from_filter, none_under_next, under_new, amounts_restated}
-use Rattle.rtgs_laws.proofs.Batches.{marks_settled, marks_le}
+use Rattle.rtgs_laws.proofs.Batches.{all_from_filter, none_under_next, under_new, amounts_restated, marks_settled}
+use Rattle.rtgs_laws.proofs.Batches.{marks_le}
 use Rattle.rtgs_laws.proofs.Lists.{numbered_after, never_fall_push}
 use Rattle.rtgs_laws.proofs.Settling.{with_batch, settled_either}
 use Rattle.rtgs_laws.proofs.SoundStates.{name}
-use Rattle.rtgs_laws.proofs.States.{restated_same, all_filter_restated, length-filter_restated}
-use Rattle.rtgs_laws.proofs.States.{queued_not_under}
+use Rattle.rtgs_laws.proofs.States.{restated_same, all_filter_restated, length-filter_restated, queued_not_under}
 use Rattle.rtgs_lists.proofs.Filters.{filter_changed}
 use Rattle.rtgs_lists.proofs.Lists.{all_both, all_map, all_push, all_weaker, map_same}
 

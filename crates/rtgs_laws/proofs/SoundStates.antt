@@ -10,8 +10,7 @@ use Rattle.rtgs_book.specs.declared.order.Order.{Order}
 use Rattle.rtgs_book.specs.declared.order_state.OrderState.{OrderState}
 use Rattle.rtgs_book.specs.declared.order_state.OrderState.TheVariants.{Withdrawn, Rejected}
 use Rattle.rtgs_book.specs.declared.phase.Phase.TheVariants.{Closed}
-use Rattle.rtgs_book.specs.Books.{is_queued}
-use Rattle.rtgs_book.specs.Books.{is_queued_state, is_settled_state, is_empty}
+use Rattle.rtgs_book.specs.Books.{is_queued, is_queued_state, is_settled_state, is_empty}
 use Rattle.rtgs_book.specs.Lookup.{accounts, is_participant, participant_of, credit_of, is_order_named, order_named}
 use Rattle.rtgs_book.specs.IntSum.{int_sum_by}
 use Rattle.rtgs_book.specs.Balance.{balance, floor, total}
@@ -26,8 +25,8 @@ use Rattle.rtgs_book.specs.declared.limits.TheConstants.{LONGEST_QUEUE, LARGEST_
 use Rattle.rtgs_laws.proofs.BookLaws.{BookLaws}
 use Rattle.rtgs_laws.proofs.Outcomes.{sound_first_of, not_false}
 use Rattle.rtgs_laws.proofs.SoundDays.{sound_with_day}
-use Rattle.rtgs_laws.proofs.States.{restated_same, all_filter_restated, length-filter_restated}
-use Rattle.rtgs_laws.proofs.States.{no_length, marks_restated, queued_not_under, found_by_number}
+use Rattle.rtgs_laws.proofs.States.{restated_same, all_filter_restated, length-filter_restated, no_length}
+use Rattle.rtgs_laws.proofs.States.{marks_restated, queued_not_under, found_by_number}
 use Rattle.rtgs_lists.proofs.Bools.{and_left_false}
 use Rattle.rtgs_lists.proofs.Filters.{filter_changed}
 use Rattle.rtgs_lists.proofs.Lists.{all_map, all_of, all_weaker, map_same}
@@ -166,7 +165,8 @@ not_negative : (a : ℤ) → int_lt a (pos 0) ≡ false → pos 0 ≤ℤ a
 not_negative a e = grind (arith, ints)
 
 close_sound : BookLaws → (book : Book) → IsSound book
-    → AllByRecursion (λ code. int_lt (balance book code) (pos 0) ≡ false) (accounts book) → IsSound (with_day (with_state book is_queued Rejected) (record book.day { phase = Closed }))
+    → AllByRecursion (λ code. int_lt (balance book code) (pos 0) ≡ false) (accounts book) → IsSound (with_day
+    (with_state book is_queued Rejected) (record book.day { phase = Closed }))
 unfolding with_state accounts queue floor balance
 close_sound laws book h positive =
     let rejected = with_state book is_queued Rejected in

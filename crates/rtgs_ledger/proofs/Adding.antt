@@ -1,6 +1,6 @@
 -- What adding a participant comes to, test by test, and its change.
-use Rattle.std.proofs.Common.{◌≡◌, ℕ, pos, true, false, ◌&&◌, if◌then◌else◌, nat_le, List, [], ◌∷◌, length, find}
-use Rattle.std.proofs.Common.{Ok, Err, Some, None, refl, sym, ◌∙◌}
+use Rattle.std.proofs.Common.{◌≡◌, ℕ, pos, true, false, ◌&&◌, if◌then◌else◌, nat_le, List, [], ◌∷◌, length, find, Ok}
+use Rattle.std.proofs.Common.{Err, Some, None, refl, sym, ◌∙◌}
 use Rattle.std.specs.List.{list_any}
 use Rattle.std.specs.Str.{bytes_eq}
 use Rattle.rtgs_book.specs.declared.command.Command.TheVariants.{Add}
@@ -11,19 +11,17 @@ use Rattle.rtgs_book.specs.declared.book.Book.{Book}
 use Rattle.rtgs_book.specs.declared.participant.Participant.{Participant}
 use Rattle.rtgs_book.specs.Lookup as lookup
 use Rattle.rtgs_book.specs.Outcome.{first_of}
-use Rattle.rtgs_book.specs.Commands.{add, with_participant}
+use Rattle.rtgs_book.specs.Commands.{add, with_participant, is_before}
 use Rattle.rtgs_book.specs.Step.{Step}
 use Rattle.std.specs.Ordering.{int_eq}
 use Rattle.rtgs_book.specs.declared.change.RowChange.TheVariants.{AddParticipant}
 use Rattle.rtgs_book.specs.declared.limits.TheConstants.{MOST_PARTICIPANTS}
 use Rattle.rtgs_book.specs.Balance.{balance}
 use Rattle.rtgs_book.specs.Changes.{Leads, balance_set}
-use Rattle.rtgs_book.specs.Commands.{is_before}
 use Rattle.rtgs_book.specs.Lookup.{accounts}
 use Rattle.rtgs_accounts.specs.Accounts.{code_of, is_of, has_key, with_account}
 use Rattle.rtgs_ledger.proofs.Balances.{same_int, all_same, balance_unknown}
-use Rattle.rtgs_ledger.proofs.Kept.{participant_none, is_unknown, any-participants}
-use Rattle.rtgs_ledger.proofs.Kept.{length-participants, prepared_done}
+use Rattle.rtgs_ledger.proofs.Kept.{participant_none, is_unknown, any-participants, length-participants, prepared_done}
 use Rattle.rtgs_cores.specs.Following.{AreBalanced}
 use Rattle.rtgs_ledger.proofs.Whole.{IsKept, IsPrepared, Whole, book_of, held_of}
 use Rattle.rtgs_lists.proofs.Filters.{all_put_in}

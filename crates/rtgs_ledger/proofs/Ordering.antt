@@ -40,8 +40,7 @@ use Rattle.rtgs_book.specs.declared.limits.TheConstants.{LONGEST_QUEUE, LARGEST_
 use Rattle.rtgs_accounts.specs.Accounts.{code_of, is_of, with_balance}
 use Rattle.rtgs_ledger.specs.Ordering.{IsTaken}
 use Rattle.rtgs_ledger.proofs.Balances.{same_int, other_int, moved, all_moved, all_same, balance-with_order}
-use Rattle.rtgs_ledger.proofs.Kept.{found_balance, found_is, is_known, balance_at}
-use Rattle.rtgs_ledger.proofs.Kept.{floor_at as floor_is, prepared_done}
+use Rattle.rtgs_ledger.proofs.Kept.{found_balance, found_is, is_known, balance_at, floor_at as floor_is, prepared_done}
 use Rattle.rtgs_cores.specs.declared.Core.{Core}
 use Rattle.rtgs_records.specs.declared.records.Records.{Records}
 use Rattle.rtgs_ledger.proofs.Whole.{Held, IsKept, IsOf, IsPrepared, Whole, book_of, held_of, whole}

@@ -13,23 +13,21 @@ use Rattle.rtgs_book.specs.Lookup.{accounts}
 use Rattle.rtgs_book.specs.Soundness.{IsSound}
 use Rattle.rtgs_gridlock.specs.declared.positions.Position.{Position}
 use Rattle.rtgs_choices.specs.ByIndex.{code_at, index_of, position_of, positions_of, payment_of, payments_of, queues_of}
+use Rattle.rtgs_choices.specs.ByIndex.{by_code}
 use Rattle.rtgs_choices.specs.Settling.{orders_taken}
 use Rattle.rtgs_book.specs.declared.order.Order.{Order}
-use Rattle.rtgs_book.specs.Choice.{Choice}
+use Rattle.rtgs_book.specs.Choice.{Choice, IsGreatest}
 use Rattle.rtgs_book.specs.Queue.{queue, queued_among}
 use Rattle.rtgs_book.specs.declared.account.Account.{Account}
 use Rattle.rtgs_book.specs.declared.limits.TheConstants.{LONGEST_QUEUE, MOST_PARTICIPANTS, MOST_QUEUED}
 use Rattle.rtgs_accounts.specs.Accounts.{code_of, is_of, CodesRiseStrictly}
-use Rattle.rtgs_ledger.specs.Choosing.{position_at, taken_from}
+use Rattle.rtgs_ledger.specs.Choosing.{position_at, taken_from, positions_in, queues_in}
 use Rattle.rtgs_ledger.proofs.Kept.{codes-participants, floor_at as floor_is}
 use Rattle.rtgs_cores.specs.Following.{AreBalanced}
-use Rattle.rtgs_book.specs.Choice.{IsGreatest}
-use Rattle.rtgs_choices.specs.ByIndex.{by_code}
 use Rattle.rtgs_cores.specs.Cores.{IsCoreOf}
 use Rattle.rtgs_gridlock.specs.declared.queues.Payment.{Payment}
 use Rattle.rtgs_gridlock.specs.Choices.{AreFloored, AreInRange, payment_count}
 use Rattle.rtgs_records.specs.declared.records.Records.{Records}
-use Rattle.rtgs_ledger.specs.Choosing.{positions_in, queues_in}
 use Rattle.rtgs_records.specs.Held as seen
 use Rattle.rtgs_records.specs.Records.{held_of as seen_of}
 use Rattle.rtgs_ledger.specs.Resolving.{AreGreatest, CanResolve}

@@ -8,9 +8,8 @@ use Rattle.rtgs_order_files.specs.declared.order_row.OrderRow.{OrderRow}
 use Rattle.rtgs_order_files.specs.declared.batch_fault.BatchFault.{BatchFault}
 use Rattle.rtgs_order_files.specs.declared.batch_fault.BatchFault.TheVariants.{BadHeader, BadRow, BadCount, OutOfMemory}
 use Rattle.rtgs_order_files.specs.OrderFile.{CsvFields, HasUnderHeader, IsFaultOf, IsOrderFile, IsRow, IsNoRow}
-use Rattle.rtgs_order_files.specs.OrderFile.{BeginWith}
-use Rattle.rtgs_order_files.specs.OrderFile.{AreRows, FirstBadRow, Miscount, IsFaultOfRows, fields_of_row, header}
-use Rattle.rtgs_order_files.specs.OrderFile.{records_of}
+use Rattle.rtgs_order_files.specs.OrderFile.{BeginWith, AreRows, FirstBadRow, Miscount, IsFaultOfRows, fields_of_row}
+use Rattle.rtgs_order_files.specs.OrderFile.{header, records_of}
 
 -- ---- one row more
 

@@ -1,9 +1,8 @@
 -- Queued orders: their numbers, which rise, and the queues of their senders.
 use Rattle.std.proofs.Common.{◌≡◌, ◌≢◌, ℕ, zero, suc, ◌+◌, ◌<◌, ◌≤◌, Bool, true, false, cond, not, ◌&&◌, ◌==◌, List, []}
 use Rattle.std.proofs.Common.{◌∷◌, ◌++◌, length, map, filter, get_or, find, Some, None, Option, Result, Ok, Err, IfOk}
-use Rattle.std.proofs.Common.{IfErr}
-use Rattle.std.proofs.Common.{Less, Equal, Greater, Ordering, is_lt, refl, sym, ap, ◌∙◌, subst, true≢false, inl, inr}
-use Rattle.std.proofs.Common.{arith, add-one}
+use Rattle.std.proofs.Common.{IfErr, Less, Equal, Greater, Ordering, is_lt, refl, sym, ap, ◌∙◌, subst, true≢false, inl}
+use Rattle.std.proofs.Common.{inr, arith, add-one}
 use Rattle.std.proofs.Math.ListN.{set}
 use Rattle.std.proofs.lemmas.Bool.{cases_lt}
 use Rattle.std.proofs.lemmas.Bool.Decides.{nat_tests}

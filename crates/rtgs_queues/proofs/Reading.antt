@@ -1,6 +1,5 @@
 -- What is read of queued orders: by their numbers, and in the queues of their senders.
-use Rattle.std.proofs.Common.{◌≡◌, ℕ, ◌<◌, Bool, true, false, ◌&&◌, cond, List, [], ◌∷◌, map, filter, length, get_or}
-use Rattle.std.proofs.Common.{find}
+use Rattle.std.proofs.Common.{◌≡◌, ℕ, ◌<◌, Bool, true, false, ◌&&◌, cond, List, [], ◌∷◌, filter, length, get_or, find}
 use Rattle.std.proofs.Common.{Some, refl, ap, ◌∙◌, arith}
 use Rattle.std.proofs.lemmas.Bool.Decides.{nat_tests}
 use Rattle.std.proofs.lemmas.List.{get_or-map}

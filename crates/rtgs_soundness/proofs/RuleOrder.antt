@@ -11,8 +11,7 @@ use Rattle.rtgs_book.specs.declared.limits.TheConstants.{LARGEST_NUMBER, LARGEST
 use Rattle.rtgs_book.specs.declared.Book.{Book}
 use Rattle.rtgs_book.specs.declared.Posting.{Posting}
 use Rattle.rtgs_book.specs.declared.Order.{Order}
-use Rattle.rtgs_book.specs.Judgement.{Keeps, KeepsBefore}
-use Rattle.rtgs_book.specs.Judgement.{rule_number}
+use Rattle.rtgs_book.specs.Judgement.{Keeps, KeepsBefore, rule_number}
 use Rattle.rtgs_book.specs.Soundness.{TotalFits, IsSound}
 use Rattle.rtgs_book.specs.Balance.{issued, total}
 use Rattle.rtgs_book.specs.IntSum.{int_sum_by}

@@ -14,8 +14,7 @@ use Rattle.std.specs.Str.{bytes_eq}
 use Rattle.rtgs_book.specs.declared.Order.{Order}
 use Rattle.rtgs_book.specs.declared.OrderState.{OrderState}
 use Rattle.rtgs_book.specs.declared.OrderState.TheVariants.{Queued, Settled, Withdrawn, Rejected}
-use Rattle.rtgs_book.specs.Books.{is_settled, is_settled_state}
-use Rattle.rtgs_book.specs.Books.{is_queued}
+use Rattle.rtgs_book.specs.Books.{is_settled, is_settled_state, is_queued}
 use Rattle.rtgs_book.specs.Balance.{gain}
 use Rattle.std.specs.Int.{w128}
 use Rattle.std.specs.Option.{option_map}

@@ -16,8 +16,7 @@ use Rattle.rtgs_book.specs.Soundness.{CodesRise, PartiesAreKnown, has_parties}
 use Rattle.rtgs_statements.specs.declared.party.Party.{Party}
 use Rattle.rtgs_statements.specs.declared.party.Party.TheVariants.{Sender, Receiver}
 use Rattle.rtgs_statements.specs.Records.{is_posted_on, is_ordered_on, is_posting_of, is_order_of}
-use Rattle.rtgs_statements.specs.Records.{postings_on_statement}
-use Rattle.rtgs_statements.specs.Records.{orders_on_statement, postings_on, orders_on}
+use Rattle.rtgs_statements.specs.Records.{postings_on_statement, orders_on_statement, postings_on, orders_on}
 use Rattle.rtgs_statements.specs.Sums.{cents_of, amount_of, party_code, posted, sent, received, settled_for, sums_of}
 use Rattle.rtgs_statements.specs.Sums.{net}
 use Rattle.rtgs_statements.proofs.Terms.{sum-cons}

@@ -1,6 +1,6 @@
 -- Texts that are written part by part.
-use Rattle.std.proofs.Common.{◌≡◌, arith, ◌<◌, ◌+◌, ◌++◌, [], ℕ, List, length, length-append, take, drop, Option, Some, None}
-use Rattle.std.proofs.Common.{refl, sym, ap, subst, ◌∙◌, append_assoc}
+use Rattle.std.proofs.Common.{◌≡◌, arith, ◌<◌, ◌+◌, ◌++◌, [], ℕ, List, length, length-append, take, drop, Option, Some}
+use Rattle.std.proofs.Common.{None, refl, sym, ap, subst, ◌∙◌, append_assoc}
 use Rattle.std.specs.Io.KnownBytes.{Appends}
 use Rattle.std.proofs.lemmas.List.{take-append-drop, take_at, length-drop}
 use Rattle.rtgs_output.specs.Sent.{AppendsPart}
@@ -47,7 +47,8 @@ begins-part old mid new before text after whole first more some is =
     let left = length-append more.1 after in (
       length written,
       omega (arith, long, left),
-      subst (Appends old new) (sym (ap (take (length written)) (sym joined) ∙ take_at written rest (length written) refl))
+      subst (Appends old new) (sym (ap (take (length written)) (sym joined) ∙ take_at written rest
+          (length written) refl))
           all.2,
     )
 
@@ -68,6 +69,7 @@ part-within old mid new before text after whole first more is =
       length (before ++ cut),
       omega (arith, long, left, short, more.1),
       subst (Appends old new)
-          (sym (ap (take (length (before ++ cut))) (sym joined) ∙ take_at (before ++ cut) rest (length (before ++ cut)) refl))
+          (sym (ap (take (length (before ++ cut))) (sym joined) ∙ take_at (before ++ cut) rest (length
+          (before ++ cut)) refl))
           (appends-both old mid new before cut first more.2),
     )

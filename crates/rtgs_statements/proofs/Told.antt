@@ -1,7 +1,6 @@
 -- The records of a date, as they are read one after another, and the rows of those that a participant is told of.
 use Rattle.std.proofs.Common.{◌≡◌, ◌<◌, ◌≤◌, ◌+◌, ℕ, ◌++◌, take, slice_get, arith, Bool, true, false, cond, ◌&&◌, ◌+ℤ◌}
-use Rattle.std.proofs.Common.{pos, List, [], ◌∷◌, map, filter, length, Some, None}
-use Rattle.std.proofs.Common.{refl, sym, ap, subst, ◌∙◌}
+use Rattle.std.proofs.Common.{pos, List, [], ◌∷◌, map, filter, length, Some, None, refl, sym, ap, subst, ◌∙◌}
 use Rattle.std.proofs.lemmas.List.{length-map, take_more}
 use Rattle.std.proofs.lemmas.Option.{slice_get_within, get_or_from_slice_get}
 use Rattle.std.specs.List.{range_with_len}
@@ -13,14 +12,12 @@ use Rattle.rtgs_book.specs.declared.Order.{Order}
 use Rattle.rtgs_book.specs.declared.Mark.{Mark}
 use Rattle.rtgs_book.specs.Soundness.{IsSound, AreNumbered}
 use Rattle.rtgs_cores.specs.Nexts.{AreListed, date_of_posting, posting_after, order_after, is_posting_after}
-use Rattle.rtgs_cores.specs.Nexts.{is_order_after}
-use Rattle.rtgs_cores.specs.Nexts.{mark_after, is_mark_after}
+use Rattle.rtgs_cores.specs.Nexts.{is_order_after, mark_after, is_mark_after}
 use Rattle.rtgs_statements.specs.Lines.{row_of_posting, row_of_order, row_text}
 use Rattle.rtgs_statements.specs.declared.line.Line.TheVariants.{Record}
 use Rattle.rtgs_statements.specs.Records.{is_posted_on, is_ordered_on, is_marked_on, postings_on, orders_on, marks_on}
 use Rattle.rtgs_statements.specs.Records.{postings_on_statement, orders_on_statement}
-use Rattle.rtgs_statements.specs.Rows.{is_to, is_told_to, posting_row, order_row, posting_rows, order_rows}
-use Rattle.rtgs_statements.specs.Rows.{settled_by}
+use Rattle.rtgs_statements.specs.Rows.{is_to, is_told_to, posting_row, order_row, posting_rows, order_rows, settled_by}
 use Rattle.rtgs_statements.specs.declared.party.Party.{Party}
 use Rattle.rtgs_statements.specs.Sums.{cents_of, amount_of, party_code, posted, settled_for}
 use Rattle.rtgs_statements.specs.Texts.{text_of}

@@ -21,5 +21,6 @@ returns-clause-refused g c =
     let it = c.submit_file-sent in
     was_refused _ c.desk.ensures.value c.finish.ensures.desk c.in_ok-book.ensures.opened it.ensures.honest it.result
     (RefusesRows (λ bytes. bytes.items) c.of-answer.result.value.answer)
-    (subst (λ read. IfErr it.result (λ why. RefusesRows (λ bytes. bytes.items) read.answer why)) (sym c.of-answer.ensures)
+    (subst (λ read. IfErr it.result (λ why. RefusesRows (λ bytes. bytes.items) read.answer why))
+    (sym c.of-answer.ensures)
     it.ensures.refused) it.ensures.unchanged

@@ -3,7 +3,8 @@ use Rattle.rtgs_money.specs.declared.amount.TheConstants.Amount as Amount
 use Rattle.rtgs_book.specs.declared.Order.{Order}
 use Rattle.rtgs_cores.specs.Nexts.{order_after}
 use Rattle.rtgs_statements.specs.Records.{orders_on}
-use Rattle.rtgs_statements.proofs.Days.{none_within, none_with_all, more_with_left, more_within, within_is_roomy, comes_to_all}
+use Rattle.rtgs_statements.proofs.Days.{none_within, none_with_all, more_with_left, more_within, within_is_roomy}
+use Rattle.rtgs_statements.proofs.Days.{comes_to_all}
 use Rattle.rtgs_statements.proofs.Leaving.{no_fault, nothing_read, read_more}
 use Rattle.rtgs_statements.proofs.Told.{orders_left, orders_begin, order_splits, orders_end}
 use Rattle.rtgs_statements.proofs.gathering.ordered_on.Goals as goal

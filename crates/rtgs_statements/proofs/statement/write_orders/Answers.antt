@@ -50,15 +50,18 @@ loop-next-preserved g c =
     let inv = c.loop-next.invariant in
     let next = c.in-Some.order in
     let small : Within Amount.MAX (pos next.amount) = (omega (arith, ints), omega (arith, ints)) in
-    let out = term-within (is_settled next && bytes_eq next.sender c.args.code.now) Amount.MAX (pos next.amount) small in
+    let out = term-within (is_settled next && bytes_eq next.sender c.args.code.now) Amount.MAX
+    (pos next.amount) small in
     let out_low = out.0 in let out_high = out.1 in
-    let back = term-within (is_settled next && bytes_eq next.receiver c.args.code.now) Amount.MAX (pos next.amount) small
+    let back = term-within (is_settled next && bytes_eq next.receiver c.args.code.now) Amount.MAX
+    (pos next.amount) small
     in
     let back_low = back.0 in let back_high = back.1 in
     let sent_low = inv.within_sent.0 in let sent_high = inv.within_sent.1 in
     let received_low = inv.within_received.0 in let received_high = inv.within_received.1 in
     let sent_by : c.settled_cents-sent.result ≡ settled_by Sender c.args.code.now next = c.settled_cents-sent.ensures in
-    let received_by : c.settled_cents-received.result ≡ settled_by Receiver c.args.code.now next = c.settled_cents-received.ensures in
+    let received_by : c.settled_cents-received.result ≡ settled_by Receiver c.args.code.now next
+    = c.settled_cents-received.ensures in
     let up : c.loop-next.last < next.number = search rules in
     let fits = inv.fits in
     let written : Appends (g.W.Write.contents c.loop-next.out) (g.W.Write.contents c.write_order.new.out)

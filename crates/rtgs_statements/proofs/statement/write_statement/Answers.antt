@@ -72,7 +72,8 @@ returns-in-Ok-write_four-clause-written g c honest book held =
     let same : text_of c.sum_lines-sums.result ≡ sums book code date =
     ap text_of c.sum_lines-sums.ensures
     ∙ (λ i. text_of (sum_lines (record { posted = posted i; sent = sent i; received = received i }))) in
-    let last = subst (Appends (g.W.Write.contents c.write_orders.new.out) (g.W.Write.contents c.write_four.new.out)) same
+    let last = subst (Appends (g.W.Write.contents c.write_orders.new.out)
+    (g.W.Write.contents c.write_four.new.out)) same
     c.in-Ok-write_four.ensures.written in
     subst (Appends (g.W.Write.contents c.args.out.now) (g.W.Write.contents c.write_four.new.out))
     (from_sums book code date)

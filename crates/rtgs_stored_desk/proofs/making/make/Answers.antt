@@ -2,8 +2,7 @@ use Rattle.std.proofs.Common.{◌∙◌, rules, sym, subst}
 use Rattle.sqlite.specs.Held.{state}
 use Rattle.rtgs_book.specs.Books.{new_book}
 use Rattle.rtgs_stored_desk.specs.Stored.{IsMade, IsMemoryOrStore}
-use Rattle.rtgs_stored_desk.proofs.Resting.{committed_tables, tables_are, none_or_new, making_cause}
-use Rattle.rtgs_stored_desk.proofs.Resting.{making_memory}
+use Rattle.rtgs_stored_desk.proofs.Resting.{committed_tables, tables_are, none_or_new, making_cause, making_memory}
 use Rattle.rtgs_stored_desk.proofs.making.make.Goals as goal
 
 pub returns-in-Ok-clause-stops : goal.returns-in-Ok-clause-stops

@@ -1,5 +1,4 @@
-use Rattle.std.proofs.Common.{sym, ◌≡◌, ◌∙◌, subst}
-use Rattle.std.proofs.Common.{false, length, ◌<◌}
+use Rattle.std.proofs.Common.{sym, ◌≡◌, ◌∙◌, subst, false, length, ◌<◌}
 use Rattle.std.specs.List.{list_any}
 use Rattle.rtgs_book.specs.declared.limits.TheConstants.{MOST_PARTICIPANTS}
 use Rattle.rtgs_accounts.specs.Accounts.{CodesRiseStrictly, AreOfABook, IsGapFor, with_account, code_of, key_of}

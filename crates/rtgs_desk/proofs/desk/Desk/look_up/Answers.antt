@@ -10,8 +10,7 @@ use Rattle.rtgs_desk.specs.LookUps.{LooksUp}
 use Rattle.rtgs_desk.specs.Seen.{Seen}
 use Rattle.rtgs_desk.proofs.LookUpLemmas.{failed_before, looks_at_nothing}
 use Rattle.rtgs_desk.proofs.desk.Desk.look_up.Goals as goal
-use Rattle.rtgs_desk.proofs.desk.Desk.look_up.Goals.{in-Order+in_ok-found-in-Order}
-use Rattle.rtgs_desk.proofs.desk.Desk.look_up.Goals.{in-Withdraw+in_ok-found-in-Withdraw}
+use Rattle.rtgs_desk.proofs.desk.Desk.look_up.Goals.{in-Order+in_ok-found-in-Order, in-Withdraw+in_ok-found-in-Withdraw}
 use Rattle.rtgs_desk.proofs.desk.Desk.look_up.Goals.{in-Post+in_ok-found-in-Post, in_default}
 
 -- what was found for each kind of command

@@ -1,6 +1,5 @@
 use Rattle.std.proofs.Common.{◌≡◌, ◌∙◌, ◌++◌, ◌∷◌, ◌+◌, ◌<◌, ◌^◌, [], Some, length, map, sum_by, pos, append_assoc, sym}
-use Rattle.std.proofs.Common.{ap}
-use Rattle.std.proofs.Common.{subst, refl, arith}
+use Rattle.std.proofs.Common.{ap, subst, refl, arith}
 use Rattle.std.proofs.lemmas.Bool.Decides.{nat_tests}
 use Rattle.rtgs_book.specs.Lookup.{accounts}
 use Rattle.rtgs_book.specs.declared.book.Book.{Book}
@@ -8,7 +7,6 @@ use Rattle.rtgs_book.specs.declared.change.RowChange.TheVariants.{AddMark, SetSt
 use Rattle.rtgs_book.specs.declared.order.Order.{Order}
 use Rattle.rtgs_book.specs.declared.order_state.OrderState.TheVariants.{Settled}
 use Rattle.rtgs_records.specs.Held as seen
-use Rattle.rtgs_records.specs.Held.{HasRoom}
 use Rattle.rtgs_ledger.specs.Resolving.{AreGreatest, AreSmall, moved_rows}
 use Rattle.rtgs_ledger.proofs.Resolving.{resolved}
 use Rattle.rtgs_ledger.proofs.Rooms.{room_for_orders, balances_fit}
