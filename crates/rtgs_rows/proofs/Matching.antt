@@ -70,11 +70,13 @@ participants_on b c row same = same
 
 step : (b : Book) (c : Content) (row : RowChange) → AreOf b c → AreOf (with_row b row) (with_change c row)
 step b c row are = record {
-  day = day_on b c row are.day;
   participants = participants_on b c row are.participants;
-  postings = (posting_step b c row).same are.postings;
-  orders = (order_step b c row).same are.orders;
-  marks = (mark_step b c row).same are.marks;
+  lists = record {
+    day = day_on b c row are.lists.day;
+    postings = (posting_step b c row).same are.lists.postings;
+    orders = (order_step b c row).same are.lists.orders;
+    marks = (mark_step b c row).same are.lists.marks;
+  };
 }
 
 pub steps : (b : Book) (c : Content) (rows : List RowChange) → AreOf b c → AreOf (changed b rows) (with_changes c rows)

@@ -14,8 +14,9 @@ use Rattle.sqlite.specs.Order.{Row}
 use Rattle.sqlite.specs.Tree.{Trees}
 use Rattle.rtgs_book.specs.declared.Posting.{Posting}
 use Rattle.rtgs_rows.specs.Rows.{posting_row}
-use Rattle.rtgs_rows.specs.Content.{Tables, Holding, Content, holding_row, Holds}
+use Rattle.rtgs_rows.specs.Content.{Holding, Content, holding_row, Holds, rows_in}
 use Rattle.rtgs_rows.specs.Keeping.{AddsUp}
+use Rattle.rtgs_rows.specs.Tables.{participant_table, posting_table}
 
 -- what a number is above zero, and below it
 abbrev up : ℤ → ℕ
@@ -81,7 +82,7 @@ pub adds_up_alike : (trees : Trees) (one other : Content) → Holds one trees �
 adds_up_alike trees one other first second sums =
     let same = sym second.rows ∙ first.rows in
     let balances = sums_once holding_row (λ (h : Holding). h.balance) balance_once other.holdings one.holdings
-    (ap (λ (t : Tables). t.participants) same) in
+    (ap (rows_in participant_table) same) in
     let cents = sums_once posting_row (λ (p : Posting). p.cents) cents_once other.postings one.postings
-    (ap (λ (t : Tables). t.postings) same) in
+    (ap (rows_in posting_table) same) in
     balances ∙ sums ∙ sym cents

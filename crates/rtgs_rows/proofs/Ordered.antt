@@ -176,9 +176,9 @@ pub order_of : (b : Book) (c : Content) → AreOf b c → Ids c → IsSound b �
 order_of b c are ids sound = record {
   ids = ids;
   codes = codes_apart b c.holdings are.participants sound.codes_rise.0;
-  postings = list_rises _ are.postings sound.postings_numbered;
-  orders = list_rises _ are.orders sound.orders_numbered;
-  marks = list_rises _ are.marks sound.marks_numbered;
+  postings = list_rises _ are.lists.postings sound.postings_numbered;
+  orders = list_rises _ are.lists.orders sound.orders_numbered;
+  marks = list_rises _ are.lists.marks sound.marks_numbered;
 }
 
 -- what holds of the codes after changes held before

@@ -1,28 +1,29 @@
 -- The records that the queries show are those that the tables hold.
-use Rattle.std.proofs.Common.{◌≡◌, ℤ, true, List, [], ◌∷◌, IsPermutation, refl, sym, ap, subst₂}
+use Rattle.std.proofs.Common.{◌≡◌, true, List, [], ◌∷◌, IsPermutation, refl, sym, ap, subst₂}
 use Rattle.std.specs.List.{AllByRecursion}
 use Rattle.std.proofs.lemmas.List.Sorted.{IsPermutation-map, IsPermutation-sym}
 use Rattle.sqlite.specs.Tree.{Trees}
 use Rattle.sqlite_trees.proofs.ListLemmas.{all-permutation}
 use Rattle.sqlite_schema.specs.Rules.{passes}
 use Rattle.sqlite_schema.specs.declared.schema.Constraint.TheVariants.{Datatype}
-use Rattle.sqlite_keyed.proofs.ListLemmas.{map-map, all_unmap}
+use Rattle.sqlite_keyed.proofs.ListLemmas.{map-map, all_unmap, all_both}
 use Rattle.sqlite_catalog.specs.Listing.{IsSound}
 use Rattle.rtgs_book.specs.declared.Book.{Book}
-use Rattle.rtgs_book.specs.declared.Participant.{Participant}
+use Rattle.rtgs_book.specs.declared.account.Account.{Account}
 use Rattle.rtgs_book.specs.Balance.{balance}
 use Rattle.rtgs_book.specs.Soundness.{IsSound as IsSoundBook}
 use Rattle.rtgs_rows.specs.Tables.{desk_schema, desk_tables, desk_table, participant_table, posting_table}
 use Rattle.rtgs_rows.specs.Tables.{payment_table, mark_table, width}
 use Rattle.rtgs_rows.specs.Rows.{day_row, posting_row, payment_row, mark_row, shown_day, shown_posting, shown_order}
 use Rattle.rtgs_rows.specs.Rows.{shown_mark}
-use Rattle.rtgs_rows.specs.Content.{Tables, tables_of, tables_for, Holding, holding_row, Content, Holds, IsInOrder}
+use Rattle.rtgs_rows.specs.Content.{tables_of, tables_for, rows_in, Holding, holding_row, stored_account}
+use Rattle.rtgs_rows.specs.Content.{Content, Holds, IsInOrder}
 use Rattle.rtgs_rows.specs.Fitting.{HasFormedValues}
-use Rattle.rtgs_rows.specs.Keeping.{IsBookOf}
-use Rattle.rtgs_rows.specs.Querying.{AreWhole, ShowsBook}
+use Rattle.rtgs_rows.specs.Keeping.{IsBookOf, AreBalances}
+use Rattle.rtgs_rows.specs.Querying.{AreNumberedRows, AreWhole, ShowsEach, ShowsBook}
 use Rattle.rtgs_rows.proofs.Ordered.{order_of}
-use Rattle.rtgs_rows.proofs.Numbered.{IsTold, rows_are, are_numbered, numbered_rows}
-use Rattle.rtgs_rows.proofs.Participants.{stored_participants}
+use Rattle.rtgs_rows.proofs.Numbered.{IsTold, AreRowsOf, rows_are, are_numbered, numbered_rows}
+use Rattle.rtgs_rows.proofs.Participants.{Stores, stored_participants}
 
 -- ---- the tables of numbered records
 
@@ -47,61 +48,70 @@ pub book_is_whole : (content : Content) (trees : Trees) (book : Book) → Holds 
     → AreWhole trees
 book_is_whole content trees book holds of =
     let order = book_in_order book content of in
-    let rows = holds.rows in
-    let desk = numbered_rows day_told (content.day ∷ []) (ap (λ (t : Tables). t.desk) rows) (tt, tt) in
-    let participants = are_numbered (width participant_table) holding_row (λ (h : Holding). h.id) (λ h. (refl, refl))
-    content.holdings (ap (λ (t : Tables). t.participants) rows) order.ids in
-    let postings = numbered_rows posting_told content.postings (ap (λ (t : Tables). t.postings) rows) order.postings in
-    let payments = numbered_rows order_told content.orders (ap (λ (t : Tables). t.payments) rows) order.orders in
-    let marks = numbered_rows mark_told content.marks (ap (λ (t : Tables). t.marks) rows) order.marks in
-    (desk, (participants, (postings, (payments, (marks, tt)))))
+    let people = are_numbered (width participant_table) holding_row (λ (h : Holding). h.id) (λ h. (refl, refl))
+    content.holdings (ap (rows_in participant_table) holds.rows) order.ids in
+    let postings = numbered_rows posting_told content.postings (ap (rows_in posting_table) holds.rows) order.postings in
+    let orders = numbered_rows order_told content.orders (ap (rows_in payment_table) holds.rows) order.orders in
+    let marks = numbered_rows mark_told content.marks (ap (rows_in mark_table) holds.rows) order.marks in
+    let day = numbered_rows day_told (content.day ∷ []) (ap (rows_in desk_table) holds.rows) (tt, tt) in
+    (day, (people, (postings, (orders, (marks, tt)))))
 
 -- ---- tables that show a book hold it
 
-abbrev AreTyped : Trees → Type 0
-AreTyped trees = AllByRecursion (λ t. AllByRecursion (λ r. passes Datatype desk_schema trees t r ≡ true) (trees t.tree))
-    desk_tables
+-- the rows of each table are whole and typed
+abbrev AreGood : Trees → Type 0
+AreGood trees = AllByRecursion (AreRowsOf trees) desk_tables
 
-typed_of : (trees : Trees) → IsSound desk_schema trees → AreTyped trees
+good : (trees : Trees) → IsSound desk_schema trees → AreWhole trees → AreGood trees
 unfolding desk_schema
-typed_of trees sound = sound.obeys.rules Datatype
+good trees sound full = all_both (λ t. AreNumberedRows (width t) (trees t.tree))
+    (λ t. AllByRecursion (λ r. passes Datatype desk_schema trees t r ≡ true) (trees t.tree)) (AreRowsOf trees)
+    (λ t whole typed. (whole, typed)) desk_tables full (sound.obeys.rules Datatype)
 
-pub held : (trees : Trees) (book : Book) (entries : List (Participant × ℤ)) → IsSound desk_schema trees → AreWhole trees
-    → IsSoundBook book → HasFormedValues book → ShowsBook trees book entries
-    → AllByRecursion (λ (e : Participant × ℤ). e.1 ≡ balance book e.0.code) entries
+-- the records of the book, and the participants with their balances as they are stored
+abbrev content_of : Book → List Holding → Content
+content_of book holdings = record {
+  day = book.day;
+  holdings = holdings;
+  postings = book.postings;
+  orders = book.orders;
+  marks = book.marks;
+}
+
+participants_of : (trees : Trees) (book : Book) (accounts : List Account) → AreGood trees
+    → ShowsEach trees accounts book → Stores (trees participant_table.tree) accounts
+participants_of trees book accounts (day, (named, others)) (shows_day, (shows_named, more)) =
+    stored_participants (trees participant_table.tree) accounts named.0 shows_named
+
+tables_are : (trees : Trees) (book : Book) (accounts : List Account) (people : Stores (trees participant_table.tree)
+    accounts) → AreGood trees → ShowsEach trees accounts book → IsInOrder (content_of book people.holdings)
+    → tables_of trees ≡ tables_for (content_of book people.holdings)
+tables_are trees book accounts people (day, (named, (postings, (orders, (marks, others)))))
+    (shows_day, (shows_named, (shows_postings, (shows_orders, (shows_marks, more))))) order =
+    let desk = rows_are day_told trees (book.day ∷ []) day (tt, tt) shows_day in
+    let posted = rows_are posting_told trees book.postings postings order.postings shows_postings in
+    let ordered = rows_are order_told trees book.orders orders order.orders shows_orders in
+    let marked = rows_are mark_told trees book.marks marks order.marks shows_marks in
+    λ i. desk i ∷ people.rows_are i ∷ posted i ∷ ordered i ∷ marked i ∷ []
+
+pub held : (trees : Trees) (book : Book) (accounts : List Account) → IsSound desk_schema trees → AreWhole trees
+    → IsSoundBook book → HasFormedValues book → ShowsBook trees accounts book → AreBalances book accounts
     → (content : Content) × Holds content trees × IsBookOf book content
-held trees book entries sound full is fits shows stored =
-    let typed = typed_of trees sound in
-    let people = stored_participants (trees participant_table.tree) entries full.1.0 shows.participants in
-    let both : Holding → Participant × ℤ = λ h. (h.participant, h.balance) in
-    let content : Content = record {
-      day = book.day;
-      holdings = people.holdings;
-      postings = book.postings;
-      orders = book.orders;
-      marks = book.marks;
-    } in
+held trees book accounts sound full is fits shown stored =
+    let all = good trees sound full in
+    let people = participants_of trees book accounts all shown.shows in
+    let content = content_of book people.holdings in
     let of : IsBookOf book content = record {
       records = record {
-        day = refl;
-        participants = subst₂ IsPermutation (map-map (λ (e : Participant × ℤ). e.0) both people.holdings)
-            (sym shows.named) (IsPermutation-map (λ (e : Participant × ℤ). e.0) _ _ people.same);
-        postings = refl;
-        orders = refl;
-        marks = refl;
+        participants = subst₂ IsPermutation (map-map (λ (a : Account). a.participant) stored_account people.holdings)
+            (sym shown.named) (IsPermutation-map (λ (a : Account). a.participant) _ _ people.same);
+        lists = record { day = refl; postings = refl; orders = refl; marks = refl };
       };
-      balances = all_unmap (λ (e : Participant × ℤ). e.1 ≡ balance book e.0.code) both people.holdings
+      balances = all_unmap (λ (a : Account). a.balance ≡ balance book a.participant.code) stored_account people.holdings
           (all-permutation _ _ _ (IsPermutation-sym _ _ people.same) stored);
       ids = people.ids;
       sound = is;
       fits = fits;
     } in
-    let order = book_in_order book content of in
-    let rows : tables_of trees ≡ tables_for content = λ i. record {
-      desk = rows_are day_told trees (book.day ∷ []) full.0 typed.0 (tt, tt) shows.desk i;
-      participants = people.rows_are i;
-      postings = rows_are posting_told trees book.postings full.1.1.0 typed.1.1.0 order.postings shows.postings i;
-      payments = rows_are order_told trees book.orders full.1.1.1.0 typed.1.1.1.0 order.orders shows.payments i;
-      marks = rows_are mark_told trees book.marks full.1.1.1.1.0 typed.1.1.1.1.0 order.marks shows.marks i;
-    } in
+    let rows = tables_are trees book accounts people all shown.shows (book_in_order book content of) in
     (content, record { sound = sound; rows = rows }, of)

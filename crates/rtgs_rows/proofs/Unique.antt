@@ -32,7 +32,8 @@ use Rattle.rtgs_book.specs.Lookup.{accounts}
 use Rattle.rtgs_book.specs.Soundness.{CodesRise}
 use Rattle.rtgs_rows.specs.Rows.{date_value, phase_number, state_number, mark_value, day_row, posting_row, payment_row}
 use Rattle.rtgs_rows.specs.Rows.{mark_row}
-use Rattle.rtgs_rows.specs.Content.{Tables, Holding, Content, holding_row, tables_for}
+use Rattle.rtgs_rows.specs.Tables.{desk_table, participant_table, posting_table, payment_table, mark_table}
+use Rattle.rtgs_rows.specs.Content.{Holding, Content, holding_row, tables_for, rows_in}
 use Rattle.rtgs_rows.specs.Fitting.{FitsDate, FitsPosting, FitsOrder, FitsMark}
 use Rattle.rtgs_rows.specs.Keeping.{IsBookOf}
 
@@ -206,22 +207,22 @@ pub once : DatesTell → (one other : Book) (c d : Content) → IsBookOf one c �
 once dates one other c d h k e =
     let holdings : d.holdings ≡ c.holdings = rows_once holding_row (λ _. Unit {0}) (λ a b _ _. holding_once a b)
     d.holdings c.holdings (all_of _ (λ _. tt) _) (all_of _ (λ _. tt) _)
-    (sym (ap (λ (t : Tables). t.participants) e)) in
+    (sym (ap (rows_in participant_table) e)) in
     let participants = same_participants one other (map (λ (h : Holding). h.participant) c.holdings) h.sound.codes_rise
     k.sound.codes_rise h.records.participants
     (subst (λ hs. IsPermutation (map (λ (h : Holding). h.participant) hs) other.participants) holdings
     k.records.participants) in
     let days = same_records {row = day_row} {P = λ (day : Day). FitsDate day.date} (day_once dates)
-    (ap (λ day. day ∷ []) k.records.day) (ap (λ day. day ∷ []) h.records.day) (k.fits.day, tt) (h.fits.day, tt)
-    (ap (λ (t : Tables). t.desk) e) in
+    (ap (λ day. day ∷ []) k.records.lists.day) (ap (λ day. day ∷ []) h.records.lists.day) (k.fits.day, tt) (h.fits.day, tt)
+    (ap (rows_in desk_table) e) in
     let day : other.day ≡ one.day = cc in
     λ i. record {
       participants = participants i;
-      postings = same_records (posting_once dates) k.records.postings h.records.postings k.fits.postings h.fits.postings
-          (ap (λ (t : Tables). t.postings) e) i;
-      orders = same_records (order_once dates) k.records.orders h.records.orders k.fits.orders h.fits.orders
-          (ap (λ (t : Tables). t.payments) e) i;
-      marks = same_records (mark_once dates) k.records.marks h.records.marks k.fits.marks h.fits.marks
-          (ap (λ (t : Tables). t.marks) e) i;
+      postings = same_records (posting_once dates) k.records.lists.postings h.records.lists.postings k.fits.postings h.fits.postings
+          (ap (rows_in posting_table) e) i;
+      orders = same_records (order_once dates) k.records.lists.orders h.records.lists.orders k.fits.orders h.fits.orders
+          (ap (rows_in payment_table) e) i;
+      marks = same_records (mark_once dates) k.records.lists.marks h.records.lists.marks k.fits.marks h.fits.marks
+          (ap (rows_in mark_table) e) i;
       day = day i;
     }

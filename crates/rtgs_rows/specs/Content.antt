@@ -1,14 +1,16 @@
 -- What the tables hold, record by record.
-use Rattle.std.specs.Prelude.{◌≡◌, ◌≢◌, ℕ, ℤ, pos, true, List, [], ◌∷◌, ◌++◌, map, if◌then◌else◌, IsTrue}
+use Rattle.std.specs.Prelude.{◌≡◌, ◌≢◌, ℕ, ◌==◌, ℤ, pos, true, List, [], ◌∷◌, ◌++◌, map, if◌then◌else◌, IsTrue}
 use Rattle.std.specs.Ordering.{int_cmp}
 use Rattle.std.specs.Str.{bytes_eq}
 use Rattle.std.specs.declared.cmp.Ordering.TheVariants.{Less}
 use Rattle.sqlite.specs.Order.{Row}
+use Rattle.sqlite.specs.Table.{Table}
 use Rattle.sqlite.specs.Tree.{Trees, IsAscending}
 use Rattle.sqlite.specs.Edit.{next_rowid}
 use Rattle.sqlite.specs.State.{State}
 use Rattle.sqlite.specs.Effect.{Database}
 use Rattle.sqlite_catalog.specs.Listing.{IsSound}
+use Rattle.rtgs_book.specs.declared.account.Account.{Account}
 use Rattle.rtgs_book.specs.declared.Day.{Day}
 use Rattle.rtgs_book.specs.declared.Participant.{Participant}
 use Rattle.rtgs_book.specs.declared.Posting.{Posting}
@@ -19,27 +21,24 @@ use Rattle.rtgs_book.specs.declared.RowChange.TheVariants.{AddParticipant, AddPo
 use Rattle.rtgs_book.specs.declared.RowChange.TheVariants.{SetBalance, SetState, SetDay}
 use Rattle.rtgs_book.specs.Settle.{restated}
 use Rattle.rtgs_book.specs.Commands.{has_number}
-use Rattle.rtgs_rows.specs.Tables.{no_schema, desk_schema, desk_table, participant_table, posting_table, payment_table}
-use Rattle.rtgs_rows.specs.Tables.{mark_table}
+use Rattle.rtgs_rows.specs.Tables.{no_schema, desk_schema, desk_tables}
 use Rattle.rtgs_rows.specs.Rows.{day_row, participant_row, posting_row, payment_row, mark_row}
 
--- the rows of the five tables
-pub record Tables : Type 0 where
-  pub desk : List Row
-  pub participants : List Row
-  pub postings : List Row
-  pub payments : List Row
-  pub marks : List Row
+-- the rows of each table of a desk, in the order of the tables
+abbrev pub Tables : Type 0
+Tables = List (List Row)
 
 -- those that a database has
 abbrev pub tables_of : Trees → Tables
-tables_of trees = record {
-  desk = trees desk_table.tree;
-  participants = trees participant_table.tree;
-  postings = trees posting_table.tree;
-  payments = trees payment_table.tree;
-  marks = trees mark_table.tree;
-}
+tables_of trees = map (λ (table : Table). trees table.tree) desk_tables
+
+abbrev rows_at : ℕ → List Table → Tables → List Row
+rows_at tree (table ∷ tables) (rows ∷ more) = if table.tree == tree then rows else rows_at tree tables more
+rows_at tree tables all = []
+
+-- those of this table
+abbrev pub rows_in : Table → Tables → List Row
+rows_in table = rows_at table.tree desk_tables
 
 -- a participant with its stored balance, under its row number
 pub record Holding : Type 0 where
@@ -51,6 +50,10 @@ pub record Holding : Type 0 where
 abbrev pub holding_row : Holding → Row
 holding_row h = participant_row h.id h.participant h.balance
 
+-- its account
+abbrev pub stored_account : Holding → Account
+stored_account h = record { participant = h.participant; balance = h.balance }
+
 -- The records of the five tables. The participants stand in the order in which they came.
 pub record Content : Type 0 where
   pub day : Day
@@ -61,13 +64,8 @@ pub record Content : Type 0 where
 
 -- those that these records have
 abbrev pub tables_for : Content → Tables
-tables_for c = record {
-  desk = day_row c.day ∷ [];
-  participants = map holding_row c.holdings;
-  postings = map posting_row c.postings;
-  payments = map payment_row c.orders;
-  marks = map mark_row c.marks;
-}
+tables_for c = (day_row c.day ∷ []) ∷ map holding_row c.holdings ∷ map posting_row c.postings ∷ map payment_row c.orders
+    ∷ map mark_row c.marks ∷ []
 
 -- the trees are a database that has no tables
 abbrev pub HasNoTables : Trees → Type 0

@@ -1,9 +1,10 @@
 -- The book that the tables hold.
-use Rattle.std.specs.Prelude.{◌≡◌, map, IsPermutation}
+use Rattle.std.specs.Prelude.{◌≡◌, List, map, IsPermutation}
 use Rattle.std.specs.List.{AllByRecursion}
 use Rattle.sqlite_trees.specs.declared.store.Store.{Ghosts}
 use Rattle.sqlite.specs.Tree.{Trees}
 use Rattle.sqlite.specs.Held.{Held, state}
+use Rattle.rtgs_book.specs.declared.account.Account.{Account}
 use Rattle.rtgs_book.specs.declared.Book.{Book}
 use Rattle.rtgs_book.specs.declared.Posting.{Posting}
 use Rattle.rtgs_book.specs.Balance.{balance}
@@ -12,14 +13,18 @@ use Rattle.rtgs_book.specs.Soundness.{IsSound}
 use Rattle.rtgs_rows.specs.Content.{Holding, Content, Holds, Rests, Rise}
 use Rattle.rtgs_rows.specs.Fitting.{HasFormedValues}
 
--- The records are those of the book. A book has the participants in the order of their codes, and the tables have them
--- in the order in which they came.
-pub record AreOf (book : Book) (content : Content) : Type 0 where
+-- the day and the lists of records are those of the book, whoever the participants are
+pub record SameLists (book : Book) (content : Content) : Type 0 where
   pub day : content.day ≡ book.day
-  pub participants : IsPermutation (map (λ (h : Holding). h.participant) content.holdings) book.participants
   pub postings : content.postings ≡ book.postings
   pub orders : content.orders ≡ book.orders
   pub marks : content.marks ≡ book.marks
+
+-- The records are those of the book. A book has the participants in the order of their codes, and the tables have them
+-- in the order in which they came.
+pub record AreOf (book : Book) (content : Content) : Type 0 where
+  pub participants : IsPermutation (map (λ (h : Holding). h.participant) content.holdings) book.participants
+  pub lists : SameLists book content
 
 -- The records are those of the sound book, with each stored balance the sum from scratch.
 pub record IsBookOf (book : Book) (content : Content) : Type 0 where
@@ -28,6 +33,10 @@ pub record IsBookOf (book : Book) (content : Content) : Type 0 where
   pub ids : Rise (λ (h : Holding). h.id) content.holdings
   pub sound : IsSound book
   pub fits : HasFormedValues book
+
+-- each stored balance of an account is the sum from scratch
+abbrev pub AreBalances : Book → List Account → Type 0
+AreBalances book accounts = AllByRecursion (λ (a : Account). a.balance ≡ balance book a.participant.code) accounts
 
 -- the stored balances add up to the postings' cents
 abbrev pub AddsUp : Content → Type 0

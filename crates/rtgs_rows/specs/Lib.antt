@@ -3,6 +3,7 @@ pub mod Rows
 pub mod Content
 pub mod Fitting
 pub mod Keeping
+pub mod TableRecords
 pub mod Querying
 pub mod RowLaws
 pub mod Settling

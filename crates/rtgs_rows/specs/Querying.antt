@@ -1,5 +1,5 @@
 -- The tables of a desk as the queries show them.
-use Rattle.std.specs.Prelude.{◌≡◌, ℕ, ◌+◌, ℤ, List, [], ◌∷◌, length, map, IsTrue, IsPermutation}
+use Rattle.std.specs.Prelude.{◌≡◌, ℕ, ◌+◌, List, length, map, IsTrue, IsPermutation}
 use Rattle.std.specs.List.{AllByRecursion}
 use Rattle.sqlite.specs.Order.{Row, column}
 use Rattle.sqlite.specs.Table.{Table}
@@ -10,10 +10,9 @@ use Rattle.sqlite_trees.specs.declared.store.Store.{Ghosts}
 use Rattle.sqlite_trees.specs.Tree.{rowid, IsTable}
 use Rattle.sqlite_trees.specs.View.{is_int}
 use Rattle.rtgs_book.specs.declared.Book.{Book}
-use Rattle.rtgs_book.specs.declared.Participant.{Participant}
-use Rattle.rtgs_rows.specs.Tables.{desk_schema, desk_tables, desk_table, participant_table, posting_table}
-use Rattle.rtgs_rows.specs.Tables.{payment_table, mark_table, width, places}
-use Rattle.rtgs_rows.specs.Rows.{shown_day, shown_account, shown_posting, shown_order, shown_mark}
+use Rattle.rtgs_book.specs.declared.account.Account.{Account}
+use Rattle.rtgs_rows.specs.Tables.{desk_schema, desk_tables, width, places}
+use Rattle.rtgs_rows.specs.TableRecords.{Each, all_records}
 
 -- outside a transaction, with the tables of a desk, and these trees committed
 pub record IsDeskFile (trees : Trees) (s : State) : Type 0 where
@@ -44,23 +43,12 @@ picked places row = map (column row) places
 abbrev pub ShowsTable : Table → Trees → List Row → Type 0
 ShowsTable table trees = IsPermutation (map (picked (places table)) (trees table.tree))
 
--- so the row of the day
-abbrev pub ShowsDesk : Trees → List Row → Type 0
-ShowsDesk = ShowsTable desk_table
+-- so with the records that a book has of each table
+abbrev pub ShowsEach : Trees → List Account → Book → Type 0
+ShowsEach trees accounts book = Each (λ A records. ShowsTable records.table trees
+    (map records.shown (records.of_book accounts book))) all_records
 
--- and those of the participants
-abbrev pub ShowsParticipants : Trees → List Row → Type 0
-ShowsParticipants = ShowsTable participant_table
-
--- a participant with its stored balance, as the query shows them
-abbrev pub shown_entry : Participant × ℤ → Row
-shown_entry entry = shown_account entry.0 entry.1
-
--- what the queries show are the records of the book, and these stored balances
-pub record ShowsBook (trees : Trees) (book : Book) (entries : List (Participant × ℤ)) : Type 0 where
-  pub desk : ShowsDesk trees (shown_day book.day ∷ [])
-  pub participants : ShowsParticipants trees (map shown_entry entries)
-  pub named : book.participants ≡ map (λ (entry : Participant × ℤ). entry.0) entries
-  pub postings : ShowsTable posting_table trees (map shown_posting book.postings)
-  pub payments : ShowsTable payment_table trees (map shown_order book.orders)
-  pub marks : ShowsTable mark_table trees (map shown_mark book.marks)
+-- what the queries show are the records of the book, and these accounts with their stored balances
+pub record ShowsBook (trees : Trees) (accounts : List Account) (book : Book) : Type 0 where
+  pub named : book.participants ≡ map (λ (a : Account). a.participant) accounts
+  pub shows : ShowsEach trees accounts book

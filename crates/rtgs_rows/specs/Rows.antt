@@ -9,6 +9,7 @@ use Rattle.rtgs_money.specs.Date.{date_text}
 use Rattle.rtgs_book.specs.declared.Day.{Day}
 use Rattle.rtgs_book.specs.declared.Phase.{Phase}
 use Rattle.rtgs_book.specs.declared.Phase.TheVariants.{Closed, Open, CutOff}
+use Rattle.rtgs_book.specs.declared.account.Account.{Account}
 use Rattle.rtgs_book.specs.declared.Participant.{Participant}
 use Rattle.rtgs_book.specs.declared.Posting.{Posting}
 use Rattle.rtgs_book.specs.declared.Order.{Order}
@@ -75,8 +76,9 @@ mark_row m = Int (pos m.number) ∷ Null ∷ Text (date_text m.date) ∷ Int (po
 abbrev pub shown_day : Day → Row
 shown_day day = Int (pos 1) ∷ Int (pos 1) ∷ date_value day.date ∷ Int (pos (phase_number day.phase)) ∷ []
 
-abbrev pub shown_account : Participant → ℤ → Row
-shown_account p balance = Text p.code ∷ Text p.name ∷ Blob p.key ∷ Int (pos p.credit) ∷ Int balance ∷ []
+abbrev pub shown_account : Account → Row
+shown_account a = Text a.participant.code ∷ Text a.participant.name ∷ Blob a.participant.key
+    ∷ Int (pos a.participant.credit) ∷ Int a.balance ∷ []
 
 abbrev pub shown_posting : Posting → Row
 shown_posting p = Int (pos p.number) ∷ Text p.code ∷ Text p.reference ∷ Int p.cents ∷ date_value p.date ∷ []

@@ -1,6 +1,5 @@
 //! Laws of the definitions. Each function does nothing: its contract is the law.
-ghost use Rattle.std.specs.Prelude.{◌≡◌, ℤ, List};
-ghost use Rattle.std.specs.List.{AllByRecursion};
+ghost use Rattle.std.specs.Prelude.{List};
 ghost use Rattle.rtgs_book.specs.declared.Book.{Book};
 ghost use Rattle.rtgs_book.specs.declared.RowChange.{RowChange};
 ghost use Rattle.sqlite.specs.Schema.{Schema};
@@ -9,7 +8,7 @@ ghost use Rattle.sqlite.specs.Held.{state};
 ghost use Rattle.sqlite_catalog.specs.Listing.{IsSound};
 ghost use Rattle.rtgs_rows.specs.Content.{Content, HasNoTables, Holds, AreInOrder, with_changes, tables_for};
 ghost use Rattle.rtgs_book.specs.Changes.{IsChange};
-ghost use Rattle.rtgs_rows.specs.Keeping.{IsBookOf, IsWhole, AddsUp};
+ghost use Rattle.rtgs_rows.specs.Keeping.{IsBookOf, IsWhole, AreBalances, AddsUp};
 ghost use Rattle.rtgs_rows.specs.RowLaws.{RecordsStandInOrder, ChangesStandInOrder, ChangedRowsAreTheBook};
 ghost use Rattle.rtgs_rows.specs.RowLaws.{NextRowIsAbove};
 ghost use Rattle.rtgs_rows.specs.RowLaws.{RowsTellTheBook, NoTablesAreReadAsNone, DesksAreReadAsSuch};
@@ -17,8 +16,7 @@ ghost use Rattle.rtgs_rows.specs.RowLaws.{NoTablesHoldNoBook, TablesOfABookAreWh
 ghost use Rattle.rtgs_rows.specs.Tables.{desk_schema};
 ghost use Rattle.rtgs_rows.specs.Querying.{AreWhole, ShowsBook};
 ghost use Rattle.rtgs_rows.specs.Fitting.{HasFormedValues, FitsRow};
-ghost use Rattle.rtgs_book.specs.declared.Participant.{Participant};
-ghost use Rattle.rtgs_book.specs.Balance.{balance};
+ghost use Rattle.rtgs_book.specs.declared.account.Account.{Account};
 ghost use Rattle.rtgs_book.specs.Soundness.{IsSound as IsSoundBook};
 
 use rtgs_book::laws::total_is_issued;
@@ -70,9 +68,8 @@ pub fn no_tables_hold_no_book()
 
 /// Where the queries show the records of a sound book, with its balances stored, the tables hold that book.
 pub fn shown_records_are_held()
-    ensures { (trees : Trees) (book : Book) (entries : List (Participant × ℤ)) → IsSound desk_schema trees
-        → AreWhole trees → IsSoundBook book → HasFormedValues book → ShowsBook trees book entries
-        → AllByRecursion (λ (entry : Participant × ℤ). entry.1 ≡ balance book entry.0.code) entries
+    ensures { (trees : Trees) (book : Book) (accounts : List Account) → IsSound desk_schema trees → AreWhole trees
+        → IsSoundBook book → HasFormedValues book → ShowsBook trees accounts book → AreBalances book accounts
         → (content : Content) × Holds content trees × IsBookOf book content }
 {}
 

@@ -18,4 +18,4 @@ returns c book content of =
     ∙ sym (int_sum_by-permuted (balance book) (map code who) (map code book.participants)
     (IsPermutation-map code who book.participants of.records.participants))
     ∙ c.total_is_issued.ensures book of.sound.codes_rise of.sound.parties
-    ∙ ap (int_sum_by (λ (p : Posting). p.cents)) (sym of.records.postings)
+    ∙ ap (int_sum_by (λ (p : Posting). p.cents)) (sym of.records.lists.postings)

@@ -1,0 +1,84 @@
+-- The records of each table: how a row shows one, and which of them a book has.
+use Rattle.std.specs.Prelude.{Bool, true, false, List, [], ◌∷◌, ⊤}
+use Rattle.sqlite.specs.Order.{Row}
+use Rattle.sqlite.specs.Table.{Table}
+use Rattle.rtgs_book.specs.declared.account.Account.{Account}
+use Rattle.rtgs_book.specs.declared.Book.{Book}
+use Rattle.rtgs_book.specs.declared.Day.{Day}
+use Rattle.rtgs_book.specs.declared.Posting.{Posting}
+use Rattle.rtgs_book.specs.declared.Order.{Order}
+use Rattle.rtgs_book.specs.declared.Mark.{Mark}
+use Rattle.rtgs_rows.specs.Fitting.{FitsDate, FitsParticipant, FitsPosting, FitsOrder, FitsMark}
+use Rattle.rtgs_rows.specs.Rows.{shown_day, shown_account, shown_posting, shown_order, shown_mark}
+use Rattle.rtgs_rows.specs.Tables.{desk_table, participant_table, posting_table, payment_table, mark_table}
+
+-- the records of a table
+pub record TableRecords (A : Type 0) : Type 1 where
+  pub table : Table
+  -- the row that the query shows of a record
+  pub shown : A → Row
+  -- each value of a record is in its form and range
+  pub fits : A → Type 0
+  -- the places in that row of the numbers that are read as 0 where they are below zero
+  pub counted : List Bool
+  -- those that a book has, whose accounts are its participants with their stored balances
+  pub of_book : List Account → Book → List A
+
+abbrev pub day_records : TableRecords Day
+day_records = record {
+  table = desk_table;
+  shown = shown_day;
+  fits = λ day. FitsDate day.date;
+  counted = [];
+  of_book = λ accounts book. book.day ∷ [];
+}
+
+abbrev pub account_records : TableRecords Account
+account_records = record {
+  table = participant_table;
+  shown = shown_account;
+  fits = λ account. FitsParticipant account.participant;
+  counted = [];
+  of_book = λ accounts book. accounts;
+}
+
+abbrev pub posting_records : TableRecords Posting
+posting_records = record {
+  table = posting_table;
+  shown = shown_posting;
+  fits = FitsPosting;
+  counted = true ∷ [];
+  of_book = λ accounts book. book.postings;
+}
+
+abbrev pub order_records : TableRecords Order
+order_records = record {
+  table = payment_table;
+  shown = shown_order;
+  fits = FitsOrder;
+  counted = true ∷ false ∷ false ∷ false ∷ false ∷ false ∷ false ∷ true ∷ [];
+  of_book = λ accounts book. book.orders;
+}
+
+abbrev pub mark_records : TableRecords Mark
+mark_records = record {
+  table = mark_table;
+  shown = shown_mark;
+  fits = FitsMark;
+  counted = true ∷ false ∷ true ∷ [];
+  of_book = λ accounts book. book.marks;
+}
+
+-- those of the tables that have a row for each record of a list
+abbrev pub listed_records : List ((A : Type 0) × TableRecords A)
+listed_records = (Account, account_records) ∷ (Posting, posting_records) ∷ (Order, order_records) ∷ (Mark, mark_records)
+    ∷ []
+
+-- those of all tables, in the order of the tables
+abbrev pub all_records : List ((A : Type 0) × TableRecords A)
+all_records = (Day, day_records) ∷ listed_records
+
+-- so it is with each of these
+abbrev pub Each : ((A : Type 0) → TableRecords A → Type 0) → List ((A : Type 0) × TableRecords A) → Type 0
+Each Fact [] = ⊤
+Each Fact (one ∷ more) = Fact one.0 one.1 × Each Fact more
