@@ -10,6 +10,7 @@ use Rattle.rtgs_book.specs.declared.Order.{Order}
 use Rattle.rtgs_book.specs.declared.OrderState.{OrderState}
 use Rattle.rtgs_book.specs.declared.OrderState.TheVariants.{Queued, Settled, Withdrawn, Rejected}
 use Rattle.rtgs_book.specs.declared.Mark.{Mark}
+use Rattle.rtgs_rows.specs.TableRecords.{TableRecords}
 
 -- below zero is read as 0, which is no number of a sound book
 abbrev pub natural_of : ℤ → ℕ
@@ -31,20 +32,9 @@ as_read (place ∷ places) [] = []
 as_read (true ∷ places) (value ∷ row) = at_least_zero value ∷ as_read places row
 as_read (false ∷ places) (value ∷ row) = value ∷ as_read places row
 
--- ---- the places of such numbers in the rows that the queries show
-
-abbrev pub counted_of_posting : List Bool
-counted_of_posting = true ∷ []
-
-abbrev pub counted_of_order : List Bool
-counted_of_order = true ∷ false ∷ false ∷ false ∷ false ∷ false ∷ false ∷ true ∷ []
-
-abbrev pub counted_of_mark : List Bool
-counted_of_mark = true ∷ false ∷ true ∷ []
-
--- the row is in the form of a record
-abbrev pub IsFormed : {A : Type 0} → (A → Type 0) → List Bool → (A → Row) → Row → Type 0
-IsFormed {A = A} fits counted shown row = (it : A) × fits it × (as_read counted row ≡ shown it)
+-- the row is in the form of a record of the table
+abbrev pub IsFormed : {A : Type 0} → TableRecords A → Row → Type 0
+IsFormed {A = A} records row = (it : A) × records.fits it × (as_read records.counted row ≡ records.shown it)
 
 -- ---- the numbers of a record are above zero, as in a sound book
 

@@ -1,4 +1,4 @@
-//! The five tables of the desk, the values of their columns, and what a query of one table answers.
+//! The values of the columns of a desk's tables, and what a query of one table answers.
 #![tactic(auto)]
 
 pub mod columns;
