@@ -16,12 +16,12 @@ use Rattle.rtgs_money.specs.Date.{date_text, IsBusinessDate}
 use Rattle.rtgs_rows.specs.Fitting.{FitsDate}
 use Rattle.rtgs_rows.specs.Rows.{shown_posting, shown_order, shown_mark, mark_value, date_value, state_number}
 use Rattle.rtgs_sql_queries.proofs.RowColumns.{of_four, of_eight}
-use Rattle.rtgs_sql_columns.specs.Numbers.{at_least_zero, as_read, counted_of_posting, counted_of_order}
-use Rattle.rtgs_sql_columns.specs.Numbers.{counted_of_mark}
+use Rattle.rtgs_rows.specs.TableRecords.{posting_records, order_records, mark_records}
+use Rattle.rtgs_sql_columns.specs.Numbers.{at_least_zero, as_read}
 
 -- ---- a record's own row is read as it is
 
-pub posting_same : (p : Posting) → as_read counted_of_posting (shown_posting p) ≡ shown_posting p
+pub posting_same : (p : Posting) → as_read posting_records.counted (shown_posting p) ≡ shown_posting p
 posting_same p = refl
 
 mark_same_value : (state : OrderState) → at_least_zero (mark_value state) ≡ mark_value state
@@ -30,10 +30,10 @@ mark_same_value (Settled mark) = refl
 mark_same_value Withdrawn = refl
 mark_same_value Rejected = refl
 
-pub order_same : (o : Order) → as_read counted_of_order (shown_order o) ≡ shown_order o
+pub order_same : (o : Order) → as_read order_records.counted (shown_order o) ≡ shown_order o
 order_same o = let last = mark_same_value o.state in rw last refl
 
-pub mark_same : (m : Mark) → as_read counted_of_mark (shown_mark m) ≡ shown_mark m
+pub mark_same : (m : Mark) → as_read mark_records.counted (shown_mark m) ≡ shown_mark m
 mark_same m = refl
 
 -- so are the rows of records
@@ -65,7 +65,7 @@ pub record PostingColumns (row : Row) (p : Posting) : Type 0 where
   pub cents : column row 3 ≡ Int p.cents
   pub date : column row 4 ≡ date_value p.date
 
-pub posting_columns : (row : Row) (p : Posting) → as_read counted_of_posting row ≡ shown_posting p
+pub posting_columns : (row : Row) (p : Posting) → as_read posting_records.counted row ≡ shown_posting p
     → PostingColumns row p
 posting_columns [] p e = absurd cc
 posting_columns (v ∷ row) p e =
@@ -79,7 +79,7 @@ posting_columns (v ∷ row) p e =
       date = ap (λ (r : Row). column r 3) rest;
     }
 
-pub posting_read : (row : Row) (p : Posting) → PostingColumns row p → as_read counted_of_posting row ≡ shown_posting p
+pub posting_read : (row : Row) (p : Posting) → PostingColumns row p → as_read posting_records.counted row ≡ shown_posting p
 posting_read [] p at = absurd (let wide = at.wide in omega (arith, wide))
 posting_read (v ∷ row) p at = ap₂ ◌∷◌ at.number (of_four row (let wide = at.wide in omega (arith, wide)) at.code
     at.reference at.cents at.date)
@@ -95,7 +95,7 @@ pub record OrderColumns (row : Row) (o : Order) : Type 0 where
   pub state : column row 6 ≡ Int (pos (state_number o.state))
   pub mark : at_least_zero (column row 7) ≡ mark_value o.state
 
-pub order_columns : (row : Row) (o : Order) → as_read counted_of_order row ≡ shown_order o → OrderColumns row o
+pub order_columns : (row : Row) (o : Order) → as_read order_records.counted row ≡ shown_order o → OrderColumns row o
 order_columns [] o e = absurd cc
 order_columns (a ∷ []) o e = absurd cc
 order_columns (a ∷ b ∷ []) o e = absurd cc
@@ -116,10 +116,10 @@ order_columns (a ∷ b ∷ c ∷ d ∷ f ∷ g ∷ h ∷ k ∷ rest) o e = recor
   mark = ap (λ (r : Row). column r 7) e;
 }
 
-pub order_read : (row : Row) (o : Order) → OrderColumns row o → as_read counted_of_order row ≡ shown_order o
+pub order_read : (row : Row) (o : Order) → OrderColumns row o → as_read order_records.counted row ≡ shown_order o
 order_read row o at = at_eight row at.wide at
   where
-    at_eight : (r : Row) → length r ≡ 8 → OrderColumns r o → as_read counted_of_order r ≡ shown_order o
+    at_eight : (r : Row) → length r ≡ 8 → OrderColumns r o → as_read order_records.counted r ≡ shown_order o
     at_eight [] wide at = absurd (omega (arith, wide))
     at_eight (a ∷ []) wide at = absurd (omega (arith, wide))
     at_eight (a ∷ b ∷ []) wide at = absurd (omega (arith, wide))
@@ -140,7 +140,7 @@ pub record MarkColumns (row : Row) (m : Mark) : Type 0 where
   pub count : at_least_zero (column row 2) ≡ Int (pos m.count)
   pub value : column row 3 ≡ Int m.value
 
-pub mark_columns : (row : Row) (m : Mark) → as_read counted_of_mark row ≡ shown_mark m → MarkColumns row m
+pub mark_columns : (row : Row) (m : Mark) → as_read mark_records.counted row ≡ shown_mark m → MarkColumns row m
 mark_columns [] m e = absurd cc
 mark_columns (a ∷ []) m e = absurd cc
 mark_columns (a ∷ b ∷ []) m e = absurd cc
@@ -152,10 +152,10 @@ mark_columns (a ∷ b ∷ c ∷ rest) m e = record {
   value = ap (λ (r : Row). column r 3) e;
 }
 
-pub mark_read : (row : Row) (m : Mark) → MarkColumns row m → as_read counted_of_mark row ≡ shown_mark m
+pub mark_read : (row : Row) (m : Mark) → MarkColumns row m → as_read mark_records.counted row ≡ shown_mark m
 mark_read row m at = at_four row at.wide at
   where
-    at_four : (r : Row) → length r ≡ 4 → MarkColumns r m → as_read counted_of_mark r ≡ shown_mark m
+    at_four : (r : Row) → length r ≡ 4 → MarkColumns r m → as_read mark_records.counted r ≡ shown_mark m
     at_four [] wide at = absurd (omega (arith, wide))
     at_four (a ∷ []) wide at = absurd (omega (arith, wide))
     at_four (a ∷ b ∷ []) wide at = absurd (omega (arith, wide))

@@ -1,11 +1,13 @@
 -- The five queries.
-use Rattle.std.proofs.Common.{◌≡◌, pos, true, false, List, [], ◌∷◌, map, Err, refl, sym, ap, subst, ◌∙◌}
+use Rattle.std.proofs.Common.{◌≡◌, ℕ, pos, true, false, List, [], ◌∷◌, map, Err, refl, sym, ap, subst, ◌∙◌}
 use Rattle.std.specs.List.{AllByRecursion}
+use Rattle.std.specs.Ordering.{int_cmp}
 use Rattle.std.specs.List.Sorted.{IsPermutation}
 use Rattle.std.proofs.lemmas.List.Sorted.{IsPermutation-map, IsPermutation-sym}
 use Rattle.std.specs.declared.cmp.Ordering.TheVariants.{Less}
 use Rattle.sqlite_value.proofs.OrderLemmas.{then-Equal, value_cmp-Int, value_cmp-Text}
-use Rattle.sqlite.specs.Order.{column}
+use Rattle.sqlite.specs.Order.{Row, column}
+use Rattle.sqlite.specs.Tree.{Trees}
 use Rattle.sqlite.specs.Query.{output, Output}
 use Rattle.sqlite_sql.specs.Query.{output_cmp}
 use Rattle.sqlite_tied.specs.Compute.{everything}
@@ -17,16 +19,14 @@ use Rattle.sqlite_resolve.specs.declared.error.CompileError.TheVariants.{NoSuchT
 use Rattle.sqlite_keyed.proofs.ListLemmas.{ascending-map, ascending_weaker, map-map, map_same}
 use Rattle.rtgs_book.specs.declared.Book.{Book}
 use Rattle.rtgs_book.specs.declared.Day.{Day}
-use Rattle.rtgs_book.specs.declared.Posting.{Posting}
-use Rattle.rtgs_book.specs.declared.Order.{Order}
-use Rattle.rtgs_book.specs.declared.Mark.{Mark}
 use Rattle.rtgs_rows.specs.Tables.{desk_schema, desk_table, participant_table, posting_table, payment_table, mark_table}
-use Rattle.rtgs_rows.specs.Fitting.{FitsDate, FitsParticipant, FitsPosting, FitsOrder, FitsMark}
-use Rattle.rtgs_rows.specs.Rows.{day_row, posting_row, payment_row, mark_row, shown_day, shown_account, shown_posting}
-use Rattle.rtgs_rows.specs.Rows.{shown_order, shown_mark}
-use Rattle.rtgs_rows.specs.Content.{Tables, Holding, Content, holding_row}
+use Rattle.rtgs_rows.specs.Fitting.{FitsParticipant}
+use Rattle.rtgs_rows.specs.Rows.{day_row, posting_row, payment_row, mark_row, shown_account}
+use Rattle.rtgs_rows.specs.TableRecords.{TableRecords, day_records, account_records, posting_records, order_records}
+use Rattle.rtgs_rows.specs.TableRecords.{mark_records}
+use Rattle.rtgs_rows.specs.Content.{Holding, Content, holding_row, stored_account, tables_of, tables_for, rows_in, Rise}
 use Rattle.rtgs_book.specs.declared.account.Account.{Account}
-use Rattle.rtgs_sql_queries.specs.Records.{stored_account, AreRead}
+use Rattle.rtgs_sql_queries.specs.Records.{AreRead}
 use Rattle.rtgs_sql_columns.specs.Tables.{column_names, query_text}
 use Rattle.rtgs_sql_queries.specs.TableQueries.{IsTableQuery, IsOneQuery, IsQueryText, ShowsOwn, whole_table}
 use Rattle.rtgs_sql_queries.proofs.AsRead.{posting_same, order_same, mark_same}
@@ -70,40 +70,46 @@ marks_asks = asks_by mark_table refl refl (refl, refl, refl, refl) refl
 
 -- ---- what they show of a book
 
-pub desk_own : ShowsOwn desk_table (λ day. FitsDate day.date) shown_day (λ _ book. book.day ∷ [])
-desk_own = record {
-  fit = λ content accounts book are. (are.fits.day, tt);
-  rows = λ content accounts book are trees held rows. numbered desk_table day_row shown_day (λ (a : Day). pos 1)
-      (λ a b low. then-Equal _ ∙ value_cmp-Int (pos 1) (pos 1) ∙ low) (λ a. refl) (content.day ∷ []) (book.day ∷ [])
-      (tt, tt) (ap (λ (day : Day). day ∷ []) are.day) _ rows (ap (λ (t : Tables). t.desk) held);
+-- a table in the order of its row numbers
+own_numbered : {A : Type 0} (records : TableRecords A) (row : A → Row) (number : A → ℕ) (all : Content → List A)
+    → ((a b : A) → int_cmp (pos (number a)) (pos (number b)) ≡ Less → output_cmp (whole_table records.table)
+    (output (whole_table records.table) ([] ∷ row a ∷ [])) (output (whole_table records.table) ([] ∷ row b ∷ []))
+    ≡ Less) → ((a : A) → (output (whole_table records.table) ([] ∷ row a ∷ [])).1 ≡ records.shown a)
+    → ((content : Content) (accounts : List Account) (book : Book) → AreRead content accounts book
+    → AllByRecursion records.fits (records.of_book accounts book) × Rise (λ a. pos (number a)) (all content)
+    × (all content ≡ records.of_book accounts book))
+    → ((content : Content) (trees : Trees) → tables_of trees ≡ tables_for content
+    → trees records.table.tree ≡ map row (all content)) → ShowsOwn records
+own_numbered records row number all by shows read held = record {
+  fit = λ content accounts book are. (read content accounts book are).0;
+  rows = λ content accounts book are trees has rows. numbered records.table row records.shown (λ a. pos (number a)) by
+      shows (all content) (records.of_book accounts book) (read content accounts book are).1
+      (read content accounts book are).2 (trees records.table.tree) rows (held content trees has);
 }
 
-pub postings_own : ShowsOwn posting_table FitsPosting shown_posting (λ _ book. book.postings)
-postings_own = record {
-  fit = λ content accounts book are. are.fits.postings;
-  rows = λ content accounts book are trees held rows. numbered posting_table posting_row shown_posting
-      (λ (a : Posting). pos a.number) (λ a b low. then-Equal _ ∙ value_cmp-Int (pos a.number) (pos b.number) ∙ low)
-      (λ a. refl) content.postings
-      book.postings are.order.postings are.postings _ rows (ap (λ (t : Tables). t.postings) held);
-}
+pub desk_own : ShowsOwn day_records
+desk_own = own_numbered day_records day_row (λ _. 1) (λ c. c.day ∷ [])
+    (λ a b low. then-Equal _ ∙ value_cmp-Int (pos 1) (pos 1) ∙ low) (λ a. refl)
+    (λ c accounts book are. ((are.fits.day, tt), (tt, tt), ap (λ (day : Day). day ∷ []) are.lists.day))
+    (λ c trees held. ap (rows_in desk_table) held)
 
-pub payments_own : ShowsOwn payment_table FitsOrder shown_order (λ _ book. book.orders)
-payments_own = record {
-  fit = λ content accounts book are. are.fits.orders;
-  rows = λ content accounts book are trees held rows. numbered payment_table payment_row shown_order
-      (λ (a : Order). pos a.number) (λ a b low. then-Equal _ ∙ value_cmp-Int (pos a.number) (pos b.number) ∙ low)
-      (λ a. refl) content.orders
-      book.orders are.order.orders are.orders _ rows (ap (λ (t : Tables). t.payments) held);
-}
+pub postings_own : ShowsOwn posting_records
+postings_own = own_numbered posting_records posting_row (λ p. p.number) (λ c. c.postings)
+    (λ a b low. then-Equal _ ∙ value_cmp-Int (pos a.number) (pos b.number) ∙ low) (λ a. refl)
+    (λ c accounts book are. (are.fits.postings, are.order.postings, are.lists.postings))
+    (λ c trees held. ap (rows_in posting_table) held)
 
-pub marks_own : ShowsOwn mark_table FitsMark shown_mark (λ _ book. book.marks)
-marks_own = record {
-  fit = λ content accounts book are. are.fits.marks;
-  rows = λ content accounts book are trees held rows. numbered mark_table mark_row shown_mark
-      (λ (a : Mark). pos a.number) (λ a b low. then-Equal _ ∙ value_cmp-Int (pos a.number) (pos b.number) ∙ low)
-      (λ a. refl) content.marks
-      book.marks are.order.marks are.marks _ rows (ap (λ (t : Tables). t.marks) held);
-}
+pub payments_own : ShowsOwn order_records
+payments_own = own_numbered order_records payment_row (λ o. o.number) (λ c. c.orders)
+    (λ a b low. then-Equal _ ∙ value_cmp-Int (pos a.number) (pos b.number) ∙ low) (λ a. refl)
+    (λ c accounts book are. (are.fits.orders, are.order.orders, are.lists.orders))
+    (λ c trees held. ap (rows_in payment_table) held)
+
+pub marks_own : ShowsOwn mark_records
+marks_own = own_numbered mark_records mark_row (λ m. m.number) (λ c. c.marks)
+    (λ a b low. then-Equal _ ∙ value_cmp-Int (pos a.number) (pos b.number) ∙ low) (λ a. refl)
+    (λ c accounts book are. (are.fits.marks, are.order.marks, are.lists.marks))
+    (λ c trees held. ap (rows_in mark_table) held)
 
 -- ---- the participants, in the order of their codes
 
@@ -118,15 +124,14 @@ accounts_fit content accounts book are = all_from_map FitsParticipant (λ (a : A
     (subst (AllByRecursion FitsParticipant) are.participants are.fits.participants)
 
 abbrev out : Account → Output
-out a = let shown = shown_account a.participant a.balance in (column shown 0 ∷ [], shown)
+out a = (column (shown_account a) 0 ∷ [], shown_account a)
 
 stored_outputs : (hs : List Holding) → map (λ r. output (whole_table participant_table) ([] ∷ r ∷ []))
     (map holding_row hs) ≡ map out (map stored_account hs)
 stored_outputs [] = refl
 stored_outputs (h ∷ hs) = ap (λ l. out (stored_account h) ∷ l) (stored_outputs hs)
 
-pub participants_own : ShowsOwn participant_table (λ a. FitsParticipant a.participant)
-    (λ a. shown_account a.participant a.balance) (λ accounts _. accounts)
+pub participants_own : ShowsOwn account_records
 participants_own = record {
   fit = accounts_fit;
   rows = λ content accounts book are trees held rows s.
@@ -135,12 +140,12 @@ participants_own = record {
       (ascending_weaker _ _ (λ a b low. then-Equal _ ∙ value_cmp-Text a.participant.code b.participant.code ∙ low)
       accounts are.rising) in
       let same : IsPermutation (map out accounts) (map (λ r. output q ([] ∷ r ∷ [])) (trees participant_table.tree)) =
-      subst (IsPermutation (map out accounts)) (sym (ap (λ (t : Tables).
-      map (λ r. output q ([] ∷ r ∷ [])) t.participants) held ∙ stored_outputs content.holdings))
+      subst (IsPermutation (map out accounts)) (sym (ap (λ t.
+      map (λ r. output q ([] ∷ r ∷ [])) (rows_in participant_table t)) held ∙ stored_outputs content.holdings))
       (IsPermutation-map out _ _ (IsPermutation-sym _ _ are.stored)) in
       shown_are q (trees participant_table.tree) rows (map out accounts) up same s
       ∙ map-map (λ (o : Output). o.1) out accounts
-      ∙ map_same (λ (a : Account). (out a).1) (λ a. shown_account a.participant a.balance) (λ a. refl) accounts;
+      ∙ map_same (λ (a : Account). (out a).1) shown_account (λ a. refl) accounts;
 }
 
 -- ---- what each query is and shows

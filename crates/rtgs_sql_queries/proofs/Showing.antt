@@ -28,6 +28,7 @@ use Rattle.sqlite_typing.specs.Types.{accepts_program}
 use Rattle.rtgs_book.specs.declared.Book.{Book}
 use Rattle.rtgs_book.specs.declared.account.Account.{Account}
 use Rattle.rtgs_rows.specs.Tables.{desk_schema, places}
+use Rattle.rtgs_rows.specs.TableRecords.{TableRecords}
 use Rattle.rtgs_sql_columns.specs.Tables.{column_names, query_text}
 use Rattle.rtgs_rows.specs.Content.{Content, Rests, tables_of}
 use Rattle.rtgs_rows.specs.Querying.{IsDeskFile, picked}
@@ -138,17 +139,16 @@ module _ (t : Table) (is : IsTableQuery t) (old new : State) where
       (sorted t is old new (schema_of trees old file) answers rows.items h))
 
 -- over tables with records, it shows those that a book has of the table
-pub shows_own : OneTableAnswers → {A : Type 0} (t : Table) (is : IsTableQuery t) (fits : A → Type 0) (shown : A
-    → Row)
-    (records : List Account → Book → List A) → ShowsOwn t fits shown records → (old new : State) (content : Content)
-    (accounts : List Account) (book : Book) → Rests content old → AreRead content accounts book
-    → (r : Result (Vec Row Global) Error) → IfOk r (λ rows. Shown (query_text t) [] old new rows.items)
-    → IfOk r (λ rows. rows.items ≡ map shown (records accounts book))
-shows_own answers t is fits shown records own old new content accounts book rests are (Err e) h = tt
-shows_own answers t is fits shown records own old new content accounts book rests are (Ok rows) h =
+pub shows_own : OneTableAnswers → {A : Type 0} (records : TableRecords A) → IsTableQuery records.table
+    → ShowsOwn records → (old new : State) (content : Content) (accounts : List Account) (book : Book)
+    → Rests content old → AreRead content accounts book → (r : Result (Vec Row Global) Error)
+    → IfOk r (λ rows. Shown (query_text records.table) [] old new rows.items)
+    → IfOk r (λ rows. rows.items ≡ map records.shown (records.of_book accounts book))
+shows_own answers records is own old new content accounts book rests are (Err e) h = tt
+shows_own answers records is own old new content accounts book rests are (Ok rows) h =
     own.rows content accounts book are old.now.trees
     (ap (λ (d : Database). tables_of d.trees) rests.clean ∙ rests.holds.rows) rows.items
-    (sorted t is old new (ap (λ (d : Database). d.schema) rests.clean ∙ rests.schema) answers rows.items h)
+    (sorted records.table is old new (ap (λ (d : Database). d.schema) rests.clean ∙ rests.schema) answers rows.items h)
 
 -- of the rows of the table the query shows these, which rise by what it sorts by
 pub shown_are : (q : Query) (stored rows : List Row) (goals : List Output)

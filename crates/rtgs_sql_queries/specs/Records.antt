@@ -7,11 +7,9 @@ use Rattle.sqlite.specs.Tree.{IsAscending}
 use Rattle.sqlite.specs.State.{State}
 use Rattle.rtgs_book.specs.declared.Book.{Book}
 use Rattle.rtgs_book.specs.declared.account.Account.{Account}
-use Rattle.rtgs_rows.specs.Content.{Holding, Content, IsInOrder, Rests}
+use Rattle.rtgs_rows.specs.Content.{Content, IsInOrder, Rests, stored_account}
 use Rattle.rtgs_rows.specs.Fitting.{HasFormedValues}
-
-abbrev pub stored_account : Holding → Account
-stored_account h = record { participant = h.participant; balance = h.balance }
+use Rattle.rtgs_rows.specs.Keeping.{SameLists}
 
 -- What is read of such tables, sound or not: the accounts in the order of their codes, all else as it stands. Each
 -- value is in its form and range.
@@ -20,10 +18,7 @@ pub record AreRead (content : Content) (accounts : List Account) (book : Book) :
   pub stored : IsPermutation (map stored_account content.holdings) accounts
   pub rising : IsAscending (λ (a b : Account). slice_cmp nat_cmp a.participant.code b.participant.code ≡ Less) accounts
   pub participants : book.participants ≡ map (λ (a : Account). a.participant) accounts
-  pub day : content.day ≡ book.day
-  pub postings : content.postings ≡ book.postings
-  pub orders : content.orders ≡ book.orders
-  pub marks : content.marks ≡ book.marks
+  pub lists : SameLists book content
   pub fits : HasFormedValues book
 
 -- the tables at rest have these records

@@ -28,6 +28,7 @@ use Rattle.sqlite_resolve.specs.Compile.{first, compiled}
 use Rattle.rtgs_book.specs.declared.Book.{Book}
 use Rattle.rtgs_book.specs.declared.account.Account.{Account}
 use Rattle.rtgs_rows.specs.Tables.{desk_schema, places}
+use Rattle.rtgs_rows.specs.TableRecords.{TableRecords}
 use Rattle.rtgs_rows.specs.Content.{Content, tables_of, tables_for}
 use Rattle.rtgs_sql_queries.specs.Records.{AreRead}
 use Rattle.rtgs_sql_columns.specs.OneTable.{simple, Sorts}
@@ -93,10 +94,10 @@ pub record Seeks (text : List ℕ) (count : ℕ) (query : Query) (names : List (
 
 -- Where the tables have records, each of those that a book has of the table is in its form and range, and the rows that
 -- the query shows are theirs, in their order.
-pub record ShowsOwn {A : Type 0} (t : Table) (fits : A → Type 0) (shown : A → Row) (of : List Account → Book → List A)
-    : Type 0 where
+pub record ShowsOwn {A : Type 0} (records : TableRecords A) : Type 0 where
   pub fit : (content : Content) (accounts : List Account) (book : Book) → AreRead content accounts book
-      → AllByRecursion fits (of accounts book)
+      → AllByRecursion records.fits (records.of_book accounts book)
   pub rows : (content : Content) (accounts : List Account) (book : Book) → AreRead content accounts book
       → (trees : Trees) → tables_of trees ≡ tables_for content → (rows : List Row)
-      → Sorts (whole_table t) [] (trees t.tree) rows → rows ≡ map shown (of accounts book)
+      → Sorts (whole_table records.table) [] (trees records.table.tree) rows
+      → rows ≡ map records.shown (records.of_book accounts book)

@@ -1,16 +1,13 @@
 //! The record of each table's row.
-ghost use Rattle.std.specs.Prelude.{◌≡◌, ◌<◌, pos, List, [], ◌∷◌, length, Some, IfSome};
+ghost use Rattle.std.specs.Prelude.{◌≡◌, ◌<◌, pos, length, Some, IfSome};
 ghost use Rattle.sqlite_value.specs.Order.{column};
 ghost use Rattle.sqlite.specs.declared.types.Value.TheVariants.{Int};
 ghost use Rattle.rtgs_book.specs.declared.Phase.{Phase as PhaseSpec};
 ghost use Rattle.rtgs_book.specs.declared.OrderState.{OrderState as StateSpec};
-ghost use Rattle.rtgs_rows.specs.Rows.{phase_number, state_number, mark_value, shown_day, shown_account, shown_posting};
-ghost use Rattle.rtgs_rows.specs.Rows.{shown_order, shown_mark};
-ghost use Rattle.rtgs_rows.specs.Fitting.{FitsDate, FitsParticipant, FitsPosting, FitsOrder, FitsMark};
-ghost use Rattle.rtgs_book.specs.declared.Book.{Book};
-ghost use Rattle.rtgs_book.specs.declared.account.Account.{Account as AccountSpec};
-ghost use Rattle.rtgs_rows.specs.Tables.{desk_table, participant_table, posting_table, payment_table, mark_table};
-ghost use Rattle.rtgs_sql_columns.specs.Numbers.{at_least_zero, counted_of_posting, counted_of_order, counted_of_mark};
+ghost use Rattle.rtgs_rows.specs.Rows.{phase_number, state_number, mark_value};
+ghost use Rattle.rtgs_rows.specs.TableRecords.{day_records, account_records, posting_records, order_records};
+ghost use Rattle.rtgs_rows.specs.TableRecords.{mark_records};
+ghost use Rattle.rtgs_sql_columns.specs.Numbers.{at_least_zero};
 
 use crate::table_row::TableRow;
 use rtgs_book::{Account, Day, Mark, Order, OrderState, Participant, Phase, Posting};
@@ -31,15 +28,7 @@ const DESK_ID: i64 = 1;
 const VERSION: i64 = 1;
 
 impl TableRow for Day {
-    ghost shown = { shown_day };
-
-    ghost fits = { λ day. FitsDate day.date };
-
-    ghost counted = { [] };
-
-    ghost table = { desk_table };
-
-    ghost records = { λ (_ : List AccountSpec) (book : Book). book.day ∷ [] };
+    ghost records = { day_records };
 
     #[tactic(auto, using(crate::proofs::Selecting::queries))]
     fn query() -> &'static str {
@@ -59,15 +48,7 @@ impl TableRow for Day {
 }
 
 impl TableRow for Account {
-    ghost shown = { λ a. shown_account a.participant a.balance };
-
-    ghost fits = { λ a. FitsParticipant a.participant };
-
-    ghost counted = { [] };
-
-    ghost table = { participant_table };
-
-    ghost records = { λ accounts (_ : Book). accounts };
+    ghost records = { account_records };
 
     #[tactic(auto, using(crate::proofs::Selecting::queries))]
     fn query() -> &'static str {
@@ -90,15 +71,7 @@ impl TableRow for Account {
 }
 
 impl TableRow for Posting {
-    ghost shown = { shown_posting };
-
-    ghost fits = { FitsPosting };
-
-    ghost counted = { counted_of_posting };
-
-    ghost table = { posting_table };
-
-    ghost records = { λ (_ : List AccountSpec) (book : Book). book.postings };
+    ghost records = { posting_records };
 
     #[tactic(auto, using(crate::proofs::Selecting::queries))]
     fn query() -> &'static str {
@@ -118,15 +91,7 @@ impl TableRow for Posting {
 }
 
 impl TableRow for Order {
-    ghost shown = { shown_order };
-
-    ghost fits = { FitsOrder };
-
-    ghost counted = { counted_of_order };
-
-    ghost table = { payment_table };
-
-    ghost records = { λ (_ : List AccountSpec) (book : Book). book.orders };
+    ghost records = { order_records };
 
     #[tactic(auto, using(crate::proofs::Selecting::queries))]
     fn query() -> &'static str {
@@ -148,15 +113,7 @@ impl TableRow for Order {
 }
 
 impl TableRow for Mark {
-    ghost shown = { shown_mark };
-
-    ghost fits = { FitsMark };
-
-    ghost counted = { counted_of_mark };
-
-    ghost table = { mark_table };
-
-    ghost records = { λ (_ : List AccountSpec) (book : Book). book.marks };
+    ghost records = { mark_records };
 
     #[tactic(auto, using(crate::proofs::Selecting::queries))]
     fn query() -> &'static str {

@@ -1,11 +1,8 @@
 //! What a table's row says.
-ghost use Rattle.std.specs.Prelude.{◌≡◌, ◌≢◌, ℕ, Bool, List, map, Some, Err, IfOk, IfSome};
+ghost use Rattle.std.specs.Prelude.{◌≡◌, ◌≢◌, List, map, Some, Err, IfOk, IfSome};
 ghost use Rattle.std.specs.List.{AllByRecursion};
 ghost use Rattle.rtgs_book.specs.declared.Rule.{Rule};
-ghost use Rattle.sqlite.specs.Table.{Table};
-ghost use Rattle.sqlite_value.specs.declared.value.Value.{Value};
-ghost use Rattle.rtgs_book.specs.declared.Book.{Book};
-ghost use Rattle.rtgs_book.specs.declared.account.Account.{Account};
+ghost use Rattle.rtgs_rows.specs.TableRecords.{TableRecords};
 ghost use Rattle.rtgs_sql_columns.specs.Numbers.{as_read, IsFormed};
 ghost use Rattle.rtgs_sql_columns.specs.Tables.{query_text};
 ghost use Rattle.rtgs_sql_queries.specs.TableQueries.{IsTableQuery, ShowsOwn};
@@ -16,43 +13,34 @@ use std::alloc::Global;
 
 /// A record that is read from a row of one table.
 pub trait TableRow: Sized {
-    // The row that the query shows for the record, and whether each value is in its form and range.
-    ghost shown: { Self → List Value };
-
-    ghost fits: { Self → Type 0 };
-
-    // The places of the numbers that are read as 0 where they are below zero.
-    ghost counted: { List Bool };
-
-    // The table.
-    ghost table: { Table };
-
-    // What a book has of the table.
-    ghost records: { List Account → Book → List Self };
+    // How its rows show it, and which of them a book has.
+    ghost records: { TableRecords Self };
 
     /// The text of the query of all rows.
     fn query() -> &'static str
-        ensures is { result.now ≡ query_text table }
-        ensures asks { IsTableQuery table }
-        ensures shows { ShowsOwn table fits shown records }
-        ensures own { (it : Self) → as_read counted (shown it) ≡ shown it };
+        ensures is { result.now ≡ query_text records.table }
+        ensures asks { IsTableQuery records.table }
+        ensures shows { ShowsOwn records }
+        ensures own { (it : Self) → as_read records.counted (records.shown it) ≡ records.shown it };
 
     /// The record, where each value of the row is in its form and range, and there are no more values.
     fn from_row(row: &Row) -> Option<Self>
-        ensures found { (it : Self) → fits it → as_read counted row.now ≡ shown it → result ≡ Some it }
-        ensures is { IfSome result (λ it. fits it × (as_read counted row.now ≡ shown it)) };
+        ensures found { (it : Self) → records.fits it → as_read records.counted row.now ≡ records.shown it
+            → result ≡ Some it }
+        ensures is { IfSome result (λ it. records.fits it
+            × (as_read records.counted row.now ≡ records.shown it)) };
 }
 
 /// The records of the rows, in their order. A row that is in no form is `NotADeskFile`, also where memory is wanting.
 pub fn decode<T: TableRow + Drop>(alloc: Global, rows: &[Row]) -> Result<Vec<T>, Fault>
-    ensures given { (records : List T) → AllByRecursion T.fits records
-        → map (as_read T.counted) rows.now ≡ map T.shown records → IfOk result (λ v. v.items ≡ records) }
-    ensures is { IfOk result (λ v. AllByRecursion T.fits v.items
-        × (map (as_read T.counted) rows.now ≡ map T.shown v.items)) }
+    ensures given { (records : List T) → AllByRecursion T.records.fits records
+        → map (as_read T.records.counted) rows.now ≡ map T.records.shown records → IfOk result (λ v. v.items ≡ records) }
+    ensures is { IfOk result (λ v. AllByRecursion T.records.fits v.items
+        × (map (as_read T.records.counted) rows.now ≡ map T.records.shown v.items)) }
     ensures wrong { result ≡ Err Fault.NotADeskFile
-        → ¬ AllByRecursion (IsFormed T.fits T.counted T.shown) rows.now }
+        → ¬ AllByRecursion (IsFormed T.records) rows.now }
     ensures memory { result ≡ Err Fault.OutOfMemory
-        → AllByRecursion (IsFormed T.fits T.counted T.shown) rows.now }
+        → AllByRecursion (IsFormed T.records) rows.now }
     ensures kinds { (result ≢ Err Fault.StoreFault) × ((rule : Rule) → result ≢ Err (Fault.Inconsistent rule)) }
 {
     let Ok(mut records) = Vec::with_capacity(alloc, rows.len()) else {
@@ -69,8 +57,8 @@ pub fn decode<T: TableRow + Drop>(alloc: Global, rows: &[Row]) -> Result<Vec<T>,
 
 /// What rows come to for whose records there is no memory.
 fn without_room<T: TableRow + Drop>(rows: &[Row]) -> Fault
-    ensures wrong { result ≡ Fault.NotADeskFile → ¬ AllByRecursion (IsFormed T.fits T.counted T.shown) rows.now }
-    ensures memory { result ≡ Fault.OutOfMemory → AllByRecursion (IsFormed T.fits T.counted T.shown) rows.now }
+    ensures wrong { result ≡ Fault.NotADeskFile → ¬ AllByRecursion (IsFormed T.records) rows.now }
+    ensures memory { result ≡ Fault.OutOfMemory → AllByRecursion (IsFormed T.records) rows.now }
     ensures kinds { (result ≢ Fault.StoreFault) × ((rule : Rule) → result ≢ Fault.Inconsistent rule) }
 {
     for row in rows {

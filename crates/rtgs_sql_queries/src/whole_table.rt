@@ -28,15 +28,15 @@ pub fn table_rows<T: TableRow, S: Alter>(
 ) -> Result<Vec<Row>, Error>
     ensures rows { HasCleanDisk (state S.Store conn.new) → (accounts : List AccountSpec) (book : Book)
         → HasRecords accounts book (state S.Store conn.old)
-        → IfOk result (λ rows. rows.items ≡ map T.shown (T.records accounts book)) }
+        → IfOk result (λ rows. rows.items ≡ map T.records.shown (T.records.of_book accounts book)) }
     ensures read { HasCleanDisk (state S.Store conn.new) → (accounts : List AccountSpec) (book : Book)
         → HasRecords accounts book (state S.Store conn.old)
-        → IfOk result (λ rows. map (as_read T.counted) rows.items ≡ map T.shown (T.records accounts book)) }
+        → IfOk result (λ rows. map (as_read T.records.counted) rows.items ≡ map T.records.shown (T.records.of_book accounts book)) }
     ensures fit { HasCleanDisk (state S.Store conn.new) → (accounts : List AccountSpec) (book : Book)
-        → HasRecords accounts book (state S.Store conn.old) → AllByRecursion T.fits (T.records accounts book) }
-    ensures own { (it : T) → as_read T.counted (T.shown it) ≡ T.shown it }
+        → HasRecords accounts book (state S.Store conn.old) → AllByRecursion T.records.fits (T.records.of_book accounts book) }
+    ensures own { (it : T) → as_read T.records.counted (T.records.shown it) ≡ T.records.shown it }
     ensures raw { HasCleanDisk (state S.Store conn.new) → (trees : Trees) → IsDeskFile trees (state S.Store conn.old)
-        → IfOk result (λ rows. IsPermutation (map (picked (places T.table)) (trees T.table.tree)) rows.items) }
+        → IfOk result (λ rows. IsPermutation (map (picked (places T.records.table)) (trees T.records.table.tree)) rows.items) }
     ensures kept { HasCleanDisk (state S.Store conn.new)
         → OnOk result (KeepsTables (state S.Store conn.old) (state S.Store conn.new)) }
     ensures refused { HasCleanDisk (state S.Store conn.new) → (state S.Store conn.old).now.schema ≡ desk_schema
@@ -44,10 +44,10 @@ pub fn table_rows<T: TableRow, S: Alter>(
     ensures intact { HasCleanDisk (state S.Store conn.new) → IsTrue (state S.Store conn.new).is_open
         → KeepsTables (state S.Store conn.old) (state S.Store conn.new) }
     ensures answered { HasCleanDisk (state S.Store conn.new) → IfOk result (λ rows.
-        Displays (state S.Store conn.old).now (query_text T.table) rows.items
+        Displays (state S.Store conn.old).now (query_text T.records.table) rows.items
         × ((state S.Store conn.new).now ≡ (state S.Store conn.old).now)) }
     ensures unanswered { HasCleanDisk (state S.Store conn.new) → IfErr result (λ error.
-        IsOfStore error ⊎ HasNoAnswer (state S.Store conn.old).now (query_text T.table)) }
+        IsOfStore error ⊎ HasNoAnswer (state S.Store conn.old).now (query_text T.records.table)) }
     ensures survives { Survives (state S.Store conn.old) (state S.Store conn.new) (λ _. ⊥) }
     ensures mode { conn.old.in_transaction ≡ false → conn.new.in_transaction ≡ false }
     ensures honest { HasCleanDisk (state S.Store conn.new) → HasCleanDisk (state S.Store conn.old) }

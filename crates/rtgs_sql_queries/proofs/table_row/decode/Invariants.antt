@@ -4,5 +4,5 @@ use Rattle.rtgs_sql_queries.proofs.Decoding.{SoFar}
 use Rattle.rtgs_sql_queries.proofs.table_row.decode.Given as goal
 
 abbrev pub invariant-loop-row : goal.invariant-loop-row
-invariant-loop-row g l = SoFar g.T.TableRow.fits (as_read g.T.TableRow.counted) g.T.TableRow.shown l.rows l.row-index
+invariant-loop-row g l = SoFar g.T.TableRow.records.fits (as_read g.T.TableRow.records.counted) g.T.TableRow.records.shown l.rows l.row-index
     (vec_capacity l.records) l.records.items

@@ -4,5 +4,5 @@ use Rattle.rtgs_sql_columns.specs.Numbers.{IsFormed}
 use Rattle.rtgs_sql_queries.proofs.table_row.without_room.Given as goal
 
 abbrev pub invariant-loop-row : goal.invariant-loop-row
-invariant-loop-row g l = AllByRecursion (IsFormed g.T.TableRow.fits g.T.TableRow.counted g.T.TableRow.shown)
+invariant-loop-row g l = AllByRecursion (IsFormed g.T.TableRow.records)
     (take l.row-index l.rows)

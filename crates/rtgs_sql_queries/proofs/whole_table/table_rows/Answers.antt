@@ -12,22 +12,20 @@ use Rattle.rtgs_sql_queries.proofs.whole_table.table_rows.Goals as goal
 
 pub all_rows-requires : goal.all_rows-requires
 all_rows-requires g c = subst (λ text. Returnless (first text)) (sym c.query.ensures.is)
-    (returnless (query_text g.T.TableRow.table) _ c.query.ensures.asks.query)
+    (returnless (query_text g.T.TableRow.records.table) _ c.query.ensures.asks.query)
 
 pub returns-clause-rows : goal.returns-clause-rows
 returns-clause-rows g c clean accounts book held =
     let old = state g.S.Store c.args.conn.now in
     let new = state g.S.Store c.all_rows.new.conn in
-    shows_own c.one_table_answers.ensures g.T.TableRow.table c.query.ensures.asks g.T.TableRow.fits g.T.TableRow.shown
-    g.T.TableRow.records
-    c.query.ensures.shows old new held.0 accounts book held.1 held.2 c.all_rows.result
+    shows_own c.one_table_answers.ensures g.T.TableRow.records c.query.ensures.asks c.query.ensures.shows old new held.0 accounts book held.1 held.2 c.all_rows.result
     (subst (λ text. IfOk c.all_rows.result (λ rows. Shown text [] old new rows.items)) c.query.ensures.is
     (c.all_rows.ensures.ok clean))
 
 pub returns-clause-read : goal.returns-clause-read
 returns-clause-read g c clean accounts book held =
-    let t = g.T.TableRow in
-    read_so t.counted t.shown c.query.ensures.own c.all_rows.result (t.records accounts book)
+    let t = g.T.TableRow.records in
+    read_so t.counted t.shown c.query.ensures.own c.all_rows.result (t.of_book accounts book)
     (returns-clause-rows g c clean accounts book held)
 
 pub returns-clause-fit : goal.returns-clause-fit
@@ -40,7 +38,7 @@ pub returns-clause-raw : goal.returns-clause-raw
 returns-clause-raw g c clean trees file =
     let old = state g.S.Store c.args.conn.now in
     let new = state g.S.Store c.all_rows.new.conn in
-    shows_all g.T.TableRow.table c.query.ensures.asks old new c.one_table_answers.ensures trees file c.all_rows.result
+    shows_all g.T.TableRow.records.table c.query.ensures.asks old new c.one_table_answers.ensures trees file c.all_rows.result
     (subst (λ text. IfOk c.all_rows.result (λ rows. Shown text [] old new rows.items)) c.query.ensures.is
     (c.all_rows.ensures.ok clean))
 
@@ -48,7 +46,7 @@ pub returns-clause-kept : goal.returns-clause-kept
 returns-clause-kept g c clean =
     let old = state g.S.Store c.args.conn.now in
     let new = state g.S.Store c.all_rows.new.conn in
-    kept_after g.T.TableRow.table c.query.ensures.asks old new c.all_rows.result
+    kept_after g.T.TableRow.records.table c.query.ensures.asks old new c.all_rows.result
     (subst (λ text. IfOk c.all_rows.result (λ rows. Shown text [] old new rows.items)) c.query.ensures.is
     (c.all_rows.ensures.ok clean))
 
@@ -56,14 +54,14 @@ pub returns-clause-refused : goal.returns-clause-refused
 returns-clause-refused g c clean schema =
     let old = state g.S.Store c.args.conn.now in
     let new = state g.S.Store c.all_rows.new.conn in
-    refused g.T.TableRow.table c.query.ensures.asks old new schema c.all_rows.result
+    refused g.T.TableRow.records.table c.query.ensures.asks old new schema c.all_rows.result
     (subst (λ text. IfErr c.all_rows.result (FailsAmid text old new)) c.query.ensures.is (c.all_rows.ensures.err clean))
 
 pub returns-clause-intact : goal.returns-clause-intact
 returns-clause-intact g c clean alive =
     let old = state g.S.Store c.args.conn.now in
     let new = state g.S.Store c.all_rows.new.conn in
-    intact_after g.T.TableRow.table c.query.ensures.asks old new c.all_rows.result
+    intact_after g.T.TableRow.records.table c.query.ensures.asks old new c.all_rows.result
     (subst (λ text. IfOk c.all_rows.result (λ rows. Shown text [] old new rows.items)) c.query.ensures.is
     (c.all_rows.ensures.ok clean))
     (subst (λ text. IfErr c.all_rows.result (FailsAmid text old new)) c.query.ensures.is (c.all_rows.ensures.err clean))
@@ -73,7 +71,7 @@ pub returns-clause-answered : goal.returns-clause-answered
 returns-clause-answered g c clean =
     let old = state g.S.Store c.args.conn.now in
     let new = state g.S.Store c.all_rows.new.conn in
-    displayed (query_text g.T.TableRow.table) c.query.ensures.asks.query c.query.ensures.asks.foreign old new
+    displayed (query_text g.T.TableRow.records.table) c.query.ensures.asks.query c.query.ensures.asks.foreign old new
     c.all_rows.result
     (subst (λ text. IfOk c.all_rows.result (λ rows. Shown text [] old new rows.items)) c.query.ensures.is
     (c.all_rows.ensures.ok clean))
@@ -82,6 +80,6 @@ pub returns-clause-unanswered : goal.returns-clause-unanswered
 returns-clause-unanswered g c clean =
     let old = state g.S.Store c.args.conn.now in
     let new = state g.S.Store c.all_rows.new.conn in
-    unanswered_amid (query_text g.T.TableRow.table) c.query.ensures.asks.query c.query.ensures.asks.foreign old new
+    unanswered_amid (query_text g.T.TableRow.records.table) c.query.ensures.asks.query c.query.ensures.asks.foreign old new
     c.all_rows.result
     (subst (λ text. IfErr c.all_rows.result (FailsAmid text old new)) c.query.ensures.is (c.all_rows.ensures.err clean))
