@@ -1,4 +1,4 @@
--- What the five queries show of a database, and why they show nothing, whatever its schema is.
+-- What the queries of the tables show of a database, and why they show nothing, whatever its schema is.
 use Rattle.std.proofs.Common.{◌≡◌, ◌⊎◌, inl, inr, ℕ, List, Ok, ◌≢◌, Err, Result, IfOk, IfErr, OnOk, sym, subst, ◌∙◌}
 use Rattle.std.specs.Result.{IsErrAnd}
 use Rattle.std.specs.List.{AllByRecursion}
@@ -17,7 +17,8 @@ use Rattle.rtgs_book.specs.Soundness.{IsSound}
 use Rattle.rtgs_sql_columns.specs.Tables.{query_text}
 use Rattle.rtgs_sql_queries.specs.Faults.{IsOfStore}
 use Rattle.rtgs_sql_queries.specs.Displaying.{Displays, HasNoAnswer}
-use Rattle.rtgs_sql_loading.specs.Accounts.{AreBalances, ExplainsRead}
+use Rattle.rtgs_rows.specs.Keeping.{AreBalances}
+use Rattle.rtgs_sql_loading.specs.Accounts.{ExplainsRead}
 use Rattle.rtgs_sql_loading.specs.Displaying.{IsUnread, IsIllegible, ExplainsDatabase, AreDisplayed, IsDisplayed}
 use Rattle.rtgs_sql_loading.proofs.AboveZero.{above_zero}
 use Rattle.rtgs_sql_loading.proofs.OwnRows.{IsOwn, read_plainly}

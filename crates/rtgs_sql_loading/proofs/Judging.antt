@@ -21,7 +21,8 @@ use Rattle.rtgs_book.specs.declared.Fault.{Fault}
 use Rattle.rtgs_book.specs.declared.Fault.TheVariants.{OutOfMemory, StoreFault, NotADeskFile, Inconsistent}
 use Rattle.rtgs_book.specs.declared.Rule.{Rule}
 use Rattle.rtgs_book.specs.declared.account.Account.{Account}
-use Rattle.rtgs_sql_loading.specs.Accounts.{AreBalances, AreReadOf, AreFormed, is_stored, ExplainsRead, ExplainsTrees}
+use Rattle.rtgs_rows.specs.Keeping.{AreBalances}
+use Rattle.rtgs_sql_loading.specs.Accounts.{AreReadOf, AreFormed, is_stored, ExplainsRead, ExplainsTrees}
 use Rattle.sqlite.specs.Tree.{Trees}
 
 -- a `?` answers the fault that it meets

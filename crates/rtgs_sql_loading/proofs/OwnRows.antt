@@ -10,9 +10,9 @@ use Rattle.rtgs_book.specs.declared.OrderState.{OrderState}
 use Rattle.rtgs_book.specs.declared.OrderState.TheVariants.{Queued, Settled, Withdrawn, Rejected}
 use Rattle.rtgs_book.specs.declared.Mark.{Mark}
 use Rattle.rtgs_rows.specs.Rows.{shown_posting, shown_order, shown_mark, mark_value}
-use Rattle.rtgs_sql_columns.specs.Numbers.{natural_of, at_least_zero, as_read, counted_of_posting, counted_of_order}
-use Rattle.rtgs_sql_columns.specs.Numbers.{counted_of_mark, IsFormed, IsNumberedPosting, IsNumberedState}
-use Rattle.rtgs_sql_columns.specs.Numbers.{IsNumberedOrder, IsNumberedMark}
+use Rattle.rtgs_rows.specs.TableRecords.{TableRecords, posting_records, order_records, mark_records}
+use Rattle.rtgs_sql_columns.specs.Numbers.{natural_of, at_least_zero, as_read, IsFormed, IsNumberedPosting}
+use Rattle.rtgs_sql_columns.specs.Numbers.{IsNumberedState, IsNumberedOrder, IsNumberedMark}
 
 -- what is read as a number is one
 pub number_in : (v : Value) (n : ℕ) → at_least_zero v ≡ Int (pos n) → (m : ℤ) × (v ≡ Int m) × (natural_of m ≡ n)
@@ -57,12 +57,12 @@ head_of v u r s e = cc
 tail_of : (v u : Value) (r s : Row) → ◌≡◌ {A = Row} (v ∷ r) (u ∷ s) → r ≡ s
 tail_of v u r s e = cc
 
-pub posting_own : (row : Row) (p : Posting) → IsNumberedPosting p → as_read counted_of_posting row ≡ shown_posting p
+pub posting_own : (row : Row) (p : Posting) → IsNumberedPosting p → as_read posting_records.counted row ≡ shown_posting p
     → row ≡ shown_posting p
 posting_own [] p low e = absurd cc
 posting_own (v ∷ row) p low e = ap₂ ◌∷◌ (above_in v p.number low (head_of _ _ _ _ e)) (tail_of _ _ _ _ e)
 
-pub order_own : (row : Row) (o : Order) → IsNumberedOrder o → as_read counted_of_order row ≡ shown_order o
+pub order_own : (row : Row) (o : Order) → IsNumberedOrder o → as_read order_records.counted row ≡ shown_order o
     → row ≡ shown_order o
 order_own [] o low e = absurd cc
 order_own (a ∷ []) o low e = absurd cc
@@ -77,7 +77,7 @@ order_own (a ∷ b ∷ c ∷ d ∷ f ∷ g ∷ h ∷ k ∷ rest) o low e =
     let mark = state_own o.state k low.1 (let is : at_least_zero k ≡ mark_value o.state = cc in is) in
     cc
 
-pub mark_own : (row : Row) (m : Mark) → IsNumberedMark m → as_read counted_of_mark row ≡ shown_mark m
+pub mark_own : (row : Row) (m : Mark) → IsNumberedMark m → as_read mark_records.counted row ≡ shown_mark m
     → row ≡ shown_mark m
 mark_own [] m low e = absurd cc
 mark_own (a ∷ []) m low e = absurd cc
@@ -93,12 +93,11 @@ abbrev pub IsOwn : List Bool → Row → Type 0
 IsOwn counted told = (row : Row) → as_read counted row ≡ told → row ≡ told
 
 -- the rows of records with numbers above zero are such
-pub owns : {A : Type 0} (counted : List Bool) (shown : A → Row) (numbered : A → Type 0)
-    → ((row : Row) (a : A) → numbered a → as_read counted row ≡ shown a → row ≡ shown a) → (all : List A)
-    → AllByRecursion numbered all → AllByRecursion (IsOwn counted) (map shown all)
-owns counted shown numbered own [] low = tt
-owns counted shown numbered own (a ∷ all) low =
-    (λ row e. own row a low.0 e, owns counted shown numbered own all low.1)
+pub owns : {A : Type 0} (records : TableRecords A) (numbered : A → Type 0)
+    → ((row : Row) (a : A) → numbered a → as_read records.counted row ≡ records.shown a → row ≡ records.shown a)
+    → (all : List A) → AllByRecursion numbered all → AllByRecursion (IsOwn records.counted) (map records.shown all)
+owns records numbered own [] low = tt
+owns records numbered own (a ∷ all) low = (λ row e. own row a low.0 e, owns records numbered own all low.1)
 
 -- so is each, where no number is read in another way
 pub all_own : (rows : List Row) → AllByRecursion (IsOwn []) rows
@@ -112,13 +111,13 @@ read_plainly counted [] own = refl
 read_plainly counted (row ∷ rows) own = ap₂ ◌∷◌ (sym (own.0 row refl)) (read_plainly counted rows own.1)
 
 -- the rows of records are in their forms
-pub are_formed : {A : Type 0} (fits : A → Type 0) (counted : List Bool) (shown : A → Row) (all : List A)
-    → AllByRecursion fits all → (rows : List Row) → map (as_read counted) rows ≡ map shown all
-    → AllByRecursion (IsFormed fits counted shown) rows
-are_formed fits counted shown [] fit [] is = tt
-are_formed fits counted shown [] fit (row ∷ rows) is = absurd cc
-are_formed fits counted shown (a ∷ all) fit [] is = absurd cc
-are_formed fits counted shown (a ∷ all) fit (row ∷ rows) is =
-    let first : as_read counted row ≡ shown a = cc in
-    let rest : map (as_read counted) rows ≡ map shown all = cc in
-    ((a, fit.0, first), are_formed fits counted shown all fit.1 rows rest)
+pub are_formed : {A : Type 0} (records : TableRecords A) (all : List A) → AllByRecursion records.fits all
+    → (rows : List Row) → map (as_read records.counted) rows ≡ map records.shown all
+    → AllByRecursion (IsFormed records) rows
+are_formed records [] fit [] is = tt
+are_formed records [] fit (row ∷ rows) is = absurd cc
+are_formed records (a ∷ all) fit [] is = absurd cc
+are_formed records (a ∷ all) fit (row ∷ rows) is =
+    let first : as_read records.counted row ≡ records.shown a = cc in
+    let rest : map (as_read records.counted) rows ≡ map records.shown all = cc in
+    ((a, fit.0, first), are_formed records all fit.1 rows rest)

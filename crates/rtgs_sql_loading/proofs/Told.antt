@@ -1,10 +1,9 @@
 -- Rows of a query and the records that are read of them.
-use Rattle.std.proofs.Common.{◌≡◌, ◌≢◌, ap, List, [], ◌∷◌, map, length, IsPermutation, Bool, sym, Ok, Err, ◌∙◌}
+use Rattle.std.proofs.Common.{◌≡◌, ◌≢◌, ap, List, [], ◌∷◌, map, length, IsPermutation, sym, Ok, Err, ◌∙◌}
 use Rattle.std.proofs.Common.{Result, IfOk, IfErr, Vec, Global, refl, subst, arith}
 use Rattle.std.specs.List.{AllByRecursion}
 use Rattle.std.proofs.lemmas.List.Sorted.{IsPermutation-map, length_permutation}
 use Rattle.sqlite.specs.State.{State}
-use Rattle.sqlite.specs.Table.{Table}
 use Rattle.sqlite.specs.Tree.{Trees}
 use Rattle.sqlite_value.specs.Order.{Row}
 use Rattle.sqlite_trees.proofs.ListLemmas.{all-permutation}
@@ -14,40 +13,43 @@ use Rattle.rtgs_book.specs.declared.Fault.{Fault}
 use Rattle.rtgs_book.specs.declared.account.Account.{Account}
 use Rattle.rtgs_rows.specs.Fitting.{FitsDate}
 use Rattle.rtgs_rows.specs.Rows.{shown_day}
-use Rattle.rtgs_rows.specs.Querying.{picked, IsDeskFile}
-use Rattle.rtgs_rows.specs.Tables.{desk_table, places}
+use Rattle.rtgs_rows.specs.Querying.{IsDeskFile}
+use Rattle.rtgs_rows.specs.TableRecords.{TableRecords}
+use Rattle.rtgs_rows.specs.Tables.{desk_table}
 use Rattle.rtgs_sql_columns.specs.Numbers.{as_read, IsFormed}
 use Rattle.rtgs_sql_columns.specs.Tables.{query_text}
 use Rattle.rtgs_sql_queries.specs.Displaying.{Displays}
 use Rattle.rtgs_sql_queries.specs.Records.{HasRecords}
-use Rattle.rtgs_sql_loading.specs.Accounts.{IsOneDay, InForm}
+use Rattle.rtgs_sql_loading.specs.Accounts.{IsOneDay, InForm, shown_rows}
 use Rattle.rtgs_sql_loading.specs.Loading.{ReadsRecords, ReadsOneDay}
 
 -- of the rows that a query shows, these records are read
-pub reads_of : {A : Type 0} (t : Table) (fits : A → Type 0) (counted : List Bool) (shown : A → Row)
-    (records : List Account → Book → List A) (s : State) (rows seen : List Row) (r : Result (Vec A Global) Fault)
-    → seen ≡ rows → Displays s.now (query_text t) rows
-    → ((trees : Trees) → IsDeskFile trees s → IsPermutation (map (picked (places t)) (trees t.tree)) rows)
+pub reads_of : {A : Type 0} (records : TableRecords A) (s : State) (rows seen : List Row)
+    (r : Result (Vec A Global) Fault) → seen ≡ rows → Displays s.now (query_text records.table) rows
+    → ((trees : Trees) → IsDeskFile trees s → IsPermutation (shown_rows records.table trees) rows)
     → ((accounts : List Account) (book : Book) → HasRecords accounts book s
-    → AllByRecursion fits (records accounts book) × (map (as_read counted) rows ≡ map shown (records accounts book)))
-    → ((found : List A) → AllByRecursion fits found → map (as_read counted) seen ≡ map shown found
-    → IfOk r (λ v. v.items ≡ found))
-    → IfOk r (λ v. AllByRecursion fits v.items × (map (as_read counted) seen ≡ map shown v.items))
-    → IfOk r (λ v. ReadsRecords t fits counted shown records s v.items)
-reads_of t fits counted shown records s rows seen (Ok v) same shows raw own given is =
-    let told : map (as_read counted) rows ≡ map shown v.items = ap (map (as_read counted)) (sym same) ∙ is.1 in
+    → AllByRecursion records.fits (records.of_book accounts book)
+    × (map (as_read records.counted) rows ≡ map records.shown (records.of_book accounts book)))
+    → ((found : List A) → AllByRecursion records.fits found
+    → map (as_read records.counted) seen ≡ map records.shown found → IfOk r (λ v. v.items ≡ found))
+    → IfOk r (λ v. AllByRecursion records.fits v.items
+    × (map (as_read records.counted) seen ≡ map records.shown v.items))
+    → IfOk r (λ v. ReadsRecords records s v.items)
+reads_of records s rows seen (Ok v) same shows raw own given is =
+    let counted = records.counted in
+    let told : map (as_read counted) rows ≡ map records.shown v.items = ap (map (as_read counted)) (sym same) ∙ is.1 in
     record {
       given = λ accounts book held.
           let its = own accounts book held in
-          given (records accounts book) its.0 (ap (map (as_read counted)) same ∙ its.1);
+          given (records.of_book accounts book) its.0 (ap (map (as_read counted)) same ∙ its.1);
       fit = is.0;
       told = (
-        λ trees file. subst (IsPermutation (map (as_read counted) (map (picked (places t)) (trees t.tree)))) told
+        λ trees file. subst (IsPermutation (map (as_read counted) (shown_rows records.table trees))) told
             (IsPermutation-map (as_read counted) _ _ (raw trees file)),
         (rows, shows, told),
       );
     }
-reads_of t fits counted shown records s rows seen (Err e) same shows raw own given is = tt
+reads_of records s rows seen (Err e) same shows raw own given is = tt
 
 -- where no number is read in another way
 pub as_they_are : (rows : List Row) → map (as_read []) rows ≡ rows
@@ -58,12 +60,11 @@ as_they_are (row ∷ rows) = ap (λ rs. row ∷ rs) (as_they_are rows)
 pub day_reads : (s : State) (rows seen : List Row) (r : Result Day Fault) → seen ≡ rows
     → Displays s.now (query_text desk_table) rows
     → ((trees : Trees) → IsDeskFile trees s
-    → IsPermutation (map (picked (places desk_table)) (trees desk_table.tree)) rows)
+    → IsPermutation (shown_rows desk_table trees) rows)
     → ((accounts : List Account) (book : Book) → HasRecords accounts book s → r ≡ Ok book.day)
     → IfOk r (λ (day : Day). FitsDate day.date × (seen ≡ shown_day day ∷ [])) → IfOk r (ReadsOneDay s)
 day_reads s rows seen (Ok day) same shows raw given is =
     let told : map (as_read []) rows ≡ shown_day day ∷ [] = as_they_are rows ∙ sym same ∙ is.1 in
-    let stored = λ (trees : Trees). map (picked (places desk_table)) (trees desk_table.tree) in
     record {
       given = λ accounts book held.
           let found : ◌≡◌ {A = Result Day Fault} (Ok day) (Ok book.day) = given accounts book held in
@@ -71,7 +72,7 @@ day_reads s rows seen (Ok day) same shows raw given is =
           ap (λ (d : Day). d ∷ []) it;
       fit = (is.0, tt);
       told = (
-        λ trees file. subst (IsPermutation (map (as_read []) (stored trees))) told
+        λ trees file. subst (IsPermutation (map (as_read []) (shown_rows desk_table trees))) told
             (IsPermutation-map (as_read []) _ _ (raw trees file)),
         (rows, shows, told),
       );
@@ -79,10 +80,9 @@ day_reads s rows seen (Ok day) same shows raw given is =
 day_reads s rows seen (Err e) same shows raw given is = tt
 
 -- a row that the query shows is in no form, so one that the table has
-pub misread : {A : Type 0} (fits : A → Type 0) (counted : List Bool) (shown : A → Row) (stored rows : List Row)
-    → IsPermutation stored rows → ¬ InForm fits counted shown rows → ¬ InForm fits counted shown stored
-misread fits counted shown stored rows same wrong all =
-    wrong (all-permutation (IsFormed fits counted shown) _ _ same all)
+pub misread : {A : Type 0} (records : TableRecords A) (stored rows : List Row) → IsPermutation stored rows
+    → ¬ InForm records rows → ¬ InForm records stored
+misread records stored rows same wrong all = wrong (all-permutation (IsFormed records) _ _ same all)
 
 -- one row alone is the only row
 only_row : (rows : List Row) (day : Day) → IsPermutation (shown_day day ∷ []) rows → rows ≡ shown_day day ∷ []

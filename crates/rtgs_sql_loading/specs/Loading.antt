@@ -12,10 +12,9 @@ use Rattle.rtgs_book.specs.declared.Day.{Day}
 use Rattle.rtgs_book.specs.declared.Fault.{Fault}
 use Rattle.rtgs_book.specs.declared.Fault.TheVariants.{StoreFault, NotADeskFile}
 use Rattle.sqlite.specs.Effect.{Database}
-use Rattle.rtgs_rows.specs.Fitting.{FitsDate}
 use Rattle.rtgs_rows.specs.Querying.{IsDeskFile}
-use Rattle.rtgs_rows.specs.Rows.{shown_day}
-use Rattle.rtgs_rows.specs.Tables.{desk_table, places}
+use Rattle.rtgs_rows.specs.TableRecords.{TableRecords, day_records}
+use Rattle.rtgs_rows.specs.Tables.{places}
 use Rattle.rtgs_sql_columns.specs.Tables.{query_text}
 use Rattle.rtgs_sql_queries.specs.Answering.{KeepsTables}
 use Rattle.rtgs_sql_queries.specs.Records.{HasRecords}
@@ -35,29 +34,28 @@ IsToldBy s table counted told = ((trees : Trees) → IsDeskFile trees s
     → AreTold (places table) counted (trees table.tree) told) × DisplaysAs s.now (query_text table) counted told
 
 -- These records are read of a table: they are those that it has, where the tables have any, and each is in its form.
-pub record ReadsRecords {A : Type 0} (table : Table) (fits : A → Type 0) (counted : List Bool) (shown : A → Row)
-    (records : List Account → Book → List A) (s : State) (all : List A) : Type 0 where
-  pub given : (accounts : List Account) (book : Book) → HasRecords accounts book s → all ≡ records accounts book
-  pub fit : AllByRecursion fits all
-  pub told : IsToldBy s table counted (map shown all)
+pub record ReadsRecords {A : Type 0} (records : TableRecords A) (s : State) (all : List A) : Type 0 where
+  pub given : (accounts : List Account) (book : Book) → HasRecords accounts book s
+      → all ≡ records.of_book accounts book
+  pub fit : AllByRecursion records.fits all
+  pub told : IsToldBy s records.table records.counted (map records.shown all)
 
 -- it was there before what was read first
-pub read_after : {A : Type 0} {t : Table} {fits : A → Type 0} {counted : List Bool} {shown : A → Row}
-    {records : List Account → Book → List A} {first old : State} {all : List A} → ReadsOn first old → HasCleanDisk old
-    → ReadsRecords t fits counted shown records old all → ReadsRecords t fits counted shown records first all
-read_after {t = t} {counted = counted} {shown = shown} {all = all} on clean reads = record {
+pub read_after : {A : Type 0} {records : TableRecords A} {first old : State} {all : List A} → ReadsOn first old
+    → HasCleanDisk old → ReadsRecords records old all → ReadsRecords records first all
+read_after {records = records} {all = all} on clean reads = record {
   given = λ accounts book held. reads.given accounts book (held.0, (on.keeps clean).rests held.0 held.1, held.2);
   fit = reads.fit;
   told = (
     λ trees file. reads.told.0 trees ((on.keeps clean).file trees file),
-    subst (λ now. DisplaysAs now (query_text t) counted (map shown all)) (on.same clean) reads.told.1,
+    subst (λ now. DisplaysAs now (query_text records.table) records.counted (map records.shown all)) (on.same clean)
+        reads.told.1,
   );
 }
 
 -- so the day
 abbrev pub ReadsOneDay : State → Day → Type 0
-ReadsOneDay s day = ReadsRecords desk_table (λ (d : Day). FitsDate d.date) [] shown_day (λ _ book. book.day ∷ []) s
-    (day ∷ [])
+ReadsOneDay s day = ReadsRecords day_records s (day ∷ [])
 
 -- What is read, in three ways: these are the records, where the tables have any; the rows tell them, where the schema
 -- is a desk's; and the queries show them, whatever the schema is.

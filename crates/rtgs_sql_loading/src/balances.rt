@@ -3,7 +3,8 @@ ghost use Rattle.std.specs.Prelude.{◌≡◌, ◌↔◌, map, IfOk, IsTrue};
 ghost use Rattle.std.specs.List.{list_all};
 ghost use Rattle.rtgs_book.specs.Soundness.{IsSound};
 ghost use Rattle.rtgs_book.specs.declared.account.Account.{Account as AccountSpec};
-ghost use Rattle.rtgs_sql_loading.specs.Accounts.{AreBalances, is_stored as is_stored_in};
+ghost use Rattle.rtgs_rows.specs.Keeping.{AreBalances};
+ghost use Rattle.rtgs_sql_loading.specs.Accounts.{is_stored as is_stored_in};
 
 use rtgs_book::{Account, Book};
 use rtgs_money::Code;

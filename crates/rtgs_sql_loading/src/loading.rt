@@ -5,7 +5,7 @@ ghost use Rattle.rtgs_book.specs.declared.Rule.{Rule};
 ghost use Rattle.rtgs_book.specs.declared.account.Account.{Account as AccountSpec};
 ghost use Rattle.rtgs_sql_queries.specs.Answering.{KeepsTables};
 ghost use Rattle.rtgs_sql_queries.specs.Records.{HasRecords};
-ghost use Rattle.rtgs_sql_loading.specs.Accounts.{AreBalances, AreFormed, ExplainsRead};
+ghost use Rattle.rtgs_sql_loading.specs.Accounts.{AreFormed, ExplainsRead};
 ghost use Rattle.rtgs_sql_loading.specs.Accounts.{ExplainsTrees, IsShown};
 ghost use Rattle.rtgs_sql_columns.specs.Blank.{IsBlank};
 ghost use Rattle.rtgs_sql_loading.specs.Displaying.{IsDisplayed, IsIllegible, ExplainsDatabase};
@@ -13,7 +13,7 @@ ghost use Rattle.rtgs_sql_loading.specs.Loading.{TellsRecords, Stops};
 ghost use Rattle.rtgs_book.specs.Ranges.{Fits};
 ghost use Rattle.rtgs_book.specs.Soundness.{IsSound};
 ghost use Rattle.rtgs_rows.specs.Content.{Content, Holds};
-ghost use Rattle.rtgs_rows.specs.Keeping.{IsBookOf};
+ghost use Rattle.rtgs_rows.specs.Keeping.{AreBalances, IsBookOf};
 ghost use Rattle.rtgs_rows.specs.Querying.{IsDeskFile, AreWhole};
 ghost use Rattle.sqlite.specs.State.{HasCleanDisk, Survives};
 ghost use Rattle.sqlite.specs.Held.{state};
@@ -28,7 +28,7 @@ use sqlite::{Alter, Connection};
 use std::alloc::{AllocError, Global};
 
 /// What the five tables hold, in the order in which they are read.
-type AllTables = (Day, (Vec<Account>, (Vec<Posting>, (Vec<Order>, Vec<Mark>))));
+type AllTables = (Day, (Vec<Account>, (Vec<Posting>, (Vec<Order>, (Vec<Mark>, ())))));
 
 /// A book as it stands in the tables, with the stored balances.
 #[derive(Drop)]
@@ -50,7 +50,7 @@ fn read_tables<S: Alter>(alloc: Global, conn: &mut Connection<S>) -> Result<Stor
     ensures honest { HasCleanDisk (state S.Store conn.new) → HasCleanDisk (state S.Store conn.old) }
 {
     let all = AllTables::read(alloc, conn)?;
-    let (day, (accounts, (postings, (orders, marks)))) = all;
+    let (day, (accounts, (postings, (orders, (marks, ()))))) = all;
     let participants = participants_of(alloc, accounts.as_slice())?;
     let book = Book {
         participants: Rows::from_vec(participants),

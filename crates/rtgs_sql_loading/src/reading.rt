@@ -1,15 +1,14 @@
 //! The records of a table.
-ghost use Rattle.std.specs.Prelude.{◌≡◌, ◌≢◌, ◌⊎◌, false, Ok, Err, [], ◌∷◌, map, IsTrue, IfOk, IfErr, OnOk};
+ghost use Rattle.std.specs.Prelude.{◌≡◌, ◌≢◌, ◌⊎◌, false, Ok, Err, [], ◌∷◌, map, IsTrue, IfOk, IfErr, OnOk, ⊤};
 ghost use Rattle.rtgs_book.specs.declared.Rule.{Rule};
 ghost use Rattle.rtgs_book.specs.declared.Day.{Day as DaySpec};
 ghost use Rattle.rtgs_rows.specs.Fitting.{FitsDate};
-ghost use Rattle.rtgs_rows.specs.Querying.{picked};
 ghost use Rattle.rtgs_rows.specs.Rows.{shown_day};
-ghost use Rattle.rtgs_rows.specs.Tables.{desk_table, places};
+ghost use Rattle.rtgs_rows.specs.Tables.{desk_table};
 ghost use Rattle.rtgs_sql_columns.specs.Tables.{query_text};
 ghost use Rattle.rtgs_sql_queries.specs.Answering.{KeepsTables};
 ghost use Rattle.rtgs_sql_queries.specs.Faults.{IsOfStore, LookFailed};
-ghost use Rattle.rtgs_sql_loading.specs.Accounts.{InForm, IsOneDay};
+ghost use Rattle.rtgs_sql_loading.specs.Accounts.{InForm, IsOneDay, shown_rows};
 ghost use Rattle.rtgs_sql_loading.specs.Displaying.{IsUnread};
 ghost use Rattle.rtgs_sql_loading.specs.Loading.{ReadsRecords, ReadsOneDay, ReadsOn, Stops, read_after};
 ghost use Rattle.sqlite.specs.Effect.{Database};
@@ -101,7 +100,7 @@ impl FromTables for Day {
 
     ghost after = { λ first old on clean day. read_after on clean };
 
-    ghost formed = { λ trees. IsOneDay (map (picked (places desk_table)) (trees desk_table.tree)) };
+    ghost formed = { λ trees. IsOneDay (shown_rows desk_table trees) };
 
     ghost illegible = { λ db. IsUnread db (query_text desk_table) IsOneDay };
 
@@ -115,13 +114,13 @@ impl FromTables for Day {
 
 // The records of a table, in the order of its query.
 impl<T: TableRow + Drop> FromTables for Vec<T> {
-    ghost tells = { λ s v. ReadsRecords T.table T.fits T.counted T.shown T.records s v.items };
+    ghost tells = { λ s v. ReadsRecords T.records s v.items };
 
     ghost after = { λ first old on clean v. read_after on clean };
 
-    ghost formed = { λ trees. InForm T.fits T.counted T.shown (map (picked (places T.table)) (trees T.table.tree)) };
+    ghost formed = { λ trees. InForm T.records (shown_rows T.records.table trees) };
 
-    ghost illegible = { λ db. IsUnread db (query_text T.table) (InForm T.fits T.counted T.shown) };
+    ghost illegible = { λ db. IsUnread db (query_text T.records.table) (InForm T.records) };
 
     fn read<S: Alter>(alloc: Global, conn: &mut Connection<S>) -> Result<Vec<T>, Fault> {
         match table_rows::<T, S>(alloc, conn) {
@@ -146,5 +145,20 @@ impl<A: FromTables + Drop, B: FromTables> FromTables for (A, B) {
         let one = A::read(alloc, conn)?;
         let other = B::read(alloc, conn)?;
         Ok((one, other))
+    }
+}
+
+// Nothing more.
+impl FromTables for () {
+    ghost tells = { λ s none. ⊤ };
+
+    ghost after = { λ first old on clean none told. told };
+
+    ghost formed = { λ trees. ⊤ };
+
+    ghost illegible = { λ db. ⊥ };
+
+    fn read<S: Alter>(alloc: Global, conn: &mut Connection<S>) -> Result<(), Fault> {
+        Ok(())
     }
 }

@@ -1,5 +1,5 @@
 use Rattle.std.proofs.Common.{◌≡◌, Bool, true, ◌↔◌, sym, subst}
-use Rattle.rtgs_sql_loading.specs.Accounts.{AreBalances}
+use Rattle.rtgs_rows.specs.Keeping.{AreBalances}
 use Rattle.rtgs_sql_loading.proofs.Judging.{stored_agree}
 use Rattle.rtgs_sql_loading.proofs.balances.balances_agree.Goals as goal
 

@@ -35,5 +35,8 @@ returns-clause-told g c clean =
     let read = c.in_ok-all.ensures.told clean in
     let participants = c.from_vec.ensures ∙ c.in_ok-participants.ensures
     ∙ ap (map (λ (a : Account). a.participant)) c.as_slice.ensures.value in
-    tells (state g.S.Store c.args.conn.now) _ _ participants read.0 read.1.0 (renamed c.from_vec-2.ensures read.1.1.0)
-    (renamed c.from_vec-3.ensures read.1.1.1.0) (renamed c.from_vec-4.ensures read.1.1.1.1)
+    let lists = read.1.1 in
+    let postings = renamed c.from_vec-2.ensures lists.0 in
+    let orders = renamed c.from_vec-3.ensures lists.1.0 in
+    let marks = renamed c.from_vec-4.ensures lists.1.1.0 in
+    tells (state g.S.Store c.args.conn.now) _ _ participants (read.0, (read.1.0, (postings, (orders, (marks, tt)))))

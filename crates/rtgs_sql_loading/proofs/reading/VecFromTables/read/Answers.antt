@@ -1,10 +1,8 @@
 use Rattle.std.proofs.Common.{map, ap, IsPermutation, sym, subst, ◌∙◌}
 use Rattle.sqlite.specs.Held.{state}
-use Rattle.rtgs_rows.specs.Querying.{picked}
-use Rattle.rtgs_rows.specs.Tables.{places}
 use Rattle.rtgs_sql_columns.specs.Tables.{query_text}
 use Rattle.rtgs_sql_columns.specs.Numbers.{as_read}
-use Rattle.rtgs_sql_loading.specs.Accounts.{InForm}
+use Rattle.rtgs_sql_loading.specs.Accounts.{InForm, shown_rows}
 use Rattle.rtgs_sql_loading.proofs.OwnRows.{are_formed}
 use Rattle.rtgs_sql_loading.proofs.Told.{reads_of, misread}
 use Rattle.rtgs_sql_loading.proofs.Keeps.{not_foreign, keeps_after, schema_of, schema_at, survives_on}
@@ -13,9 +11,7 @@ use Rattle.rtgs_sql_loading.proofs.reading.VecFromTables.read.Goals as goal
 
 pub returns-in-Ok-clause-told : goal.returns-in-Ok-clause-told
 returns-in-Ok-clause-told g c clean =
-    let t = g.T.TableRow in
-    reads_of t.table t.fits t.counted t.shown t.records (state g.S.Store c.args.conn.now) _ _ c.decode.result
-    c.as_slice.ensures.value (c.in-Ok.ensures.answered clean).0 (c.in-Ok.ensures.raw clean)
+    reads_of g.T.TableRow.records (state g.S.Store c.args.conn.now) _ _ c.decode.result c.as_slice.ensures.value (c.in-Ok.ensures.answered clean).0 (c.in-Ok.ensures.raw clean)
     (λ accounts book held. (
       c.table_rows.ensures.fit clean accounts book held,
       c.in-Ok.ensures.read clean accounts book held,
@@ -29,19 +25,18 @@ returns-in-Ok-clause-on g c = reads_on (state g.S.Store c.args.conn.now) (state 
 pub returns-in-Ok-clause-stops : goal.returns-in-Ok-clause-stops
 returns-in-Ok-clause-stops g c = record {
   right = λ clean accounts book held e.
-      let t = g.T.TableRow in
-      c.decode.ensures.wrong e (are_formed t.fits t.counted t.shown (t.records accounts book)
+      let t = g.T.TableRow.records in
+      c.decode.ensures.wrong e (are_formed t (t.of_book accounts book)
       (c.table_rows.ensures.fit clean accounts book held) _ (ap (map (as_read t.counted)) c.as_slice.ensures.value
       ∙ c.in-Ok.ensures.read clean accounts book held));
   wrong = λ clean trees file e.
-      let t = g.T.TableRow in
-      let stored = map (picked (places t.table)) (trees t.table.tree) in
-      misread t.fits t.counted t.shown stored _ (subst (IsPermutation stored) (sym c.as_slice.ensures.value)
+      let stored = shown_rows g.T.TableRow.records.table trees in
+      misread g.T.TableRow.records stored _ (subst (IsPermutation stored) (sym c.as_slice.ensures.value)
       (c.in-Ok.ensures.raw clean trees file)) (c.decode.ensures.wrong e);
   unread = λ clean e.
-      let t = g.T.TableRow in
+      let t = g.T.TableRow.records in
       without_form (state g.S.Store c.args.conn.now).now (query_text t.table)
-      (InForm t.fits t.counted t.shown) _ _ c.as_slice.ensures.value
+      (InForm t) _ _ c.as_slice.ensures.value
       (c.in-Ok.ensures.answered clean).0 (c.decode.ensures.wrong e);
   same = λ clean _. c.in-Ok.ensures.kept clean;
   survives = c.table_rows.ensures.survives;
@@ -58,9 +53,9 @@ returns-in-Err-clause-stops g c = record {
       (c.fault_of.ensures.right (c.in-Err.ensures.refused (c.fault_of.ensures.honest clean)
       (schema_of trees (state g.S.Store c.args.conn.now) file))) e);
   unread = λ clean.
-      let t = g.T.TableRow in
+      let t = g.T.TableRow.records in
       without_answer (state g.S.Store c.args.conn.now).now (query_text t.table)
-      (InForm t.fits t.counted t.shown) c.fault_of.result _ c.fault_of.ensures.wrong
+      (InForm t) c.fault_of.result _ c.fault_of.ensures.wrong
       (c.in-Err.ensures.unanswered (c.fault_of.ensures.honest clean));
   same = λ clean.
       let was = c.fault_of.ensures.honest clean in
