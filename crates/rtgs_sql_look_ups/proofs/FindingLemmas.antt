@@ -41,7 +41,7 @@ use Rattle.rtgs_book.specs.declared.Order.{Order}
 use Rattle.rtgs_book.specs.declared.Mark.{Mark}
 use Rattle.rtgs_book.specs.Lookup.{is_order_named, is_posting_named, order_named, posting_named}
 use Rattle.rtgs_book.specs.Soundness.{is_same_name}
-use Rattle.rtgs_rows.specs.Content.{Tables, Content, Rests}
+use Rattle.rtgs_rows.specs.Content.{Content, Rests, rows_in}
 use Rattle.rtgs_rows.specs.Keeping.{IsBookOf, HoldsBook}
 use Rattle.rtgs_rows.specs.Rows.{posting_row, payment_row, mark_row, shown_posting, shown_order}
 use Rattle.rtgs_sql_columns.specs.OneTable.{simple, passes, shows, OneTableAnswers}
@@ -343,7 +343,7 @@ unfolding posting_named
 finds_posting answers reference book old content rests of r given same answer =
     let here : old.now.trees posting_table.tree ≡ map posting_row book.postings =
     ap (λ (d : Database). d.trees posting_table.tree) rests.clean
-    ∙ ap (λ (t : Tables). t.postings) rests.holds.rows ∙ ap (map posting_row) of.records.postings in
+    ∙ ap (rows_in posting_table) rests.holds.rows ∙ ap (map posting_row) of.records.lists.postings in
     found_rows answers posting_row shown_posting (is_posting_named reference) (Text reference ∷ []) posting_table.tree
     posting_tests (columns_of posting_table) (posting_passes reference) (λ p. refl) old.now.trees book.postings here
     (one_named (λ (p : Posting). p.reference) bytes_eq reference book.postings (bytes_tied reference)
@@ -359,7 +359,7 @@ unfolding order_named
 finds_order answers sender reference book old content rests of r given same answer =
     let here : old.now.trees payment_table.tree ≡ map payment_row book.orders =
     ap (λ (d : Database). d.trees payment_table.tree) rests.clean
-    ∙ ap (λ (t : Tables). t.payments) rests.holds.rows ∙ ap (map payment_row) of.records.orders in
+    ∙ ap (rows_in payment_table) rests.holds.rows ∙ ap (map payment_row) of.records.lists.orders in
     found_rows answers payment_row shown_order (is_order_named sender reference) (Text sender ∷ Text reference ∷ [])
     payment_table.tree order_tests (columns_of payment_table) (order_passes sender reference) (λ o. refl)
     old.now.trees book.orders here

@@ -1,69 +1,71 @@
 -- The first row above a number, in each table.
-use Rattle.std.proofs.Common.{◌≡◌, ℕ, pos, nat_lt, [], ◌∷◌, map, refl, ap, subst, ◌∙◌}
+use Rattle.std.proofs.Common.{◌≡◌, ℕ, pos, nat_lt, List, [], ◌∷◌, map, refl, ap, subst, ◌∙◌}
 use Rattle.std.specs.Ordering.{int_cmp}
 use Rattle.std.specs.declared.cmp.Ordering.TheVariants.{Less}
 use Rattle.sqlite_value.proofs.OrderLemmas.{then-Equal, value_cmp-Int}
 use Rattle.sqlite.specs.declared.types.Value.TheVariants.{Int}
-use Rattle.sqlite.specs.Tree.{IsAscending}
+use Rattle.sqlite.specs.Order.{Row}
+use Rattle.sqlite.specs.Query.{output}
+use Rattle.sqlite.specs.Table.{Table}
+use Rattle.sqlite.specs.Tree.{Trees}
 use Rattle.sqlite.specs.Effect.{Database}
 use Rattle.sqlite.specs.State.{State}
+use Rattle.sqlite_sql.specs.Query.{output_cmp}
+use Rattle.sqlite_sql.specs.Program.{overlay}
 use Rattle.rtgs_book.specs.declared.Book.{Book}
-use Rattle.rtgs_book.specs.declared.Posting.{Posting}
-use Rattle.rtgs_book.specs.declared.Order.{Order}
-use Rattle.rtgs_book.specs.declared.Mark.{Mark}
 use Rattle.rtgs_rows.specs.RowLaws.{RecordsStandInOrder}
-use Rattle.rtgs_rows.specs.Rows.{posting_row, payment_row, mark_row, shown_posting, shown_order, shown_mark}
-use Rattle.rtgs_rows.specs.Content.{Tables, Content, Rests}
+use Rattle.rtgs_rows.specs.Rows.{posting_row, payment_row, mark_row}
+use Rattle.rtgs_rows.specs.Content.{Content, Rests, Rise, rows_in}
 use Rattle.rtgs_rows.specs.Keeping.{IsBookOf}
+use Rattle.rtgs_rows.specs.TableRecords.{TableRecords, posting_records, order_records, mark_records}
+use Rattle.rtgs_rows.specs.Tables.{posting_table, payment_table, mark_table}
+use Rattle.rtgs_sql_columns.specs.OneTable.{passes, OneTableAnswers}
+use Rattle.rtgs_sql_queries.specs.Laws.{RecordsAreRead}
+use Rattle.rtgs_sql_look_ups.specs.Finding.{first_row_query, after_tests, ShowsFirst}
 use Rattle.rtgs_sql_look_ups.specs.Seeking.{first_above}
 use Rattle.rtgs_sql_look_ups.proofs.FindingLemmas.{first_rows, posting_is_after, order_is_after, mark_is_after}
-use Rattle.rtgs_sql_columns.specs.OneTable.{OneTableAnswers}
-use Rattle.rtgs_sql_queries.specs.Laws.{RecordsAreRead}
-use Rattle.rtgs_sql_columns.specs.Numbers.{counted_of_posting, counted_of_order, counted_of_mark}
-use Rattle.rtgs_sql_look_ups.specs.Finding.{ShowsFirst}
-use Rattle.rtgs_rows.specs.Tables.{posting_table, payment_table, mark_table}
 
-pub posting_first : RecordsStandInOrder → OneTableAnswers → RecordsAreRead counted_of_posting shown_posting
-    → (number : ℕ) (book : Book) (s : State) (content : Content) → Rests content s
-    → IsBookOf book content → ShowsFirst posting_table counted_of_posting shown_posting s.now.trees number
-    (first_above (λ (p : Posting). p.number) number book.postings)
-posting_first in_order answers read number book s content rests of rows a =
-    let here : s.now.trees posting_table.tree ≡ map posting_row book.postings =
-    ap (λ (d : Database). d.trees posting_table.tree) rests.clean
-    ∙ ap (λ (t : Tables). t.postings) rests.holds.rows ∙ ap (map posting_row) of.records.postings in
-    let up = subst (IsAscending (λ (a b : Posting). int_cmp (pos a.number) (pos b.number) ≡ Less)) of.records.postings
-    (in_order book content of).postings in
-    read rows _ (first_rows answers posting_table posting_row shown_posting (λ (p : Posting). pos p.number)
-    (λ (p : Posting). nat_lt number p.number) (Int (pos number) ∷ []) (posting_is_after number)
-    (λ a b low. then-Equal _ ∙ value_cmp-Int (pos a.number) (pos b.number) ∙ low) (λ _. refl) s.now.trees
-    book.postings up here rows a)
+-- in a table of records under their numbers
+first_of : {A : Type 0} (records : TableRecords A) (row : A → Row) (number : A → ℕ) (low : ℕ) → OneTableAnswers
+    → RecordsAreRead records → ((a : A) → passes after_tests (Int (pos low) ∷ []) (row a) ≡ nat_lt low (number a))
+    → ((a b : A) → int_cmp (pos (number a)) (pos (number b)) ≡ Less → output_cmp (first_row_query records.table)
+    (output (first_row_query records.table) ((Int (pos low) ∷ []) ∷ row a ∷ []))
+    (output (first_row_query records.table) ((Int (pos low) ∷ []) ∷ row b ∷ [])) ≡ Less)
+    → ((a : A) → (output (first_row_query records.table) ((Int (pos low) ∷ []) ∷ row a ∷ [])).1 ≡ records.shown a)
+    → (trees : Trees) (all held : List A) → overlay trees [] records.table.tree ≡ map row held → held ≡ all
+    → Rise (λ a. pos (number a)) held → ShowsFirst records trees low (first_above number low all)
+first_of records row number low answers read tested by shows trees all held here same up rows a =
+    read rows _ (first_rows answers records.table row records.shown (λ it. pos (number it)) (λ it. nat_lt low (number it))
+    (Int (pos low) ∷ []) tested by shows trees all (subst (Rise (λ it. pos (number it))) same up)
+    (here ∙ ap (map row) same) rows a)
 
-pub order_first : RecordsStandInOrder → OneTableAnswers → RecordsAreRead counted_of_order shown_order
-    → (number : ℕ) (book : Book) (s : State) (content : Content) → Rests content s
-    → IsBookOf book content → ShowsFirst payment_table counted_of_order shown_order s.now.trees number
-    (first_above (λ (o : Order). o.number) number book.orders)
-order_first in_order answers read number book s content rests of rows a =
-    let here : s.now.trees payment_table.tree ≡ map payment_row book.orders =
-    ap (λ (d : Database). d.trees payment_table.tree) rests.clean
-    ∙ ap (λ (t : Tables). t.payments) rests.holds.rows ∙ ap (map payment_row) of.records.orders in
-    let up = subst (IsAscending (λ (a b : Order). int_cmp (pos a.number) (pos b.number) ≡ Less)) of.records.orders
-    (in_order book content of).orders in
-    read rows _ (first_rows answers payment_table payment_row shown_order (λ (o : Order). pos o.number)
-    (λ (o : Order). nat_lt number o.number) (Int (pos number) ∷ []) (order_is_after number)
-    (λ a b low. then-Equal _ ∙ value_cmp-Int (pos a.number) (pos b.number) ∙ low) (λ _. refl) s.now.trees
-    book.orders up here rows a)
+-- the rows of a table at rest
+held_in : (content : Content) (s : State) → Rests content s → (t : Table) → s.now.trees t.tree ≡ s.committed.trees t.tree
+held_in content s rests t = ap (λ (d : Database). d.trees t.tree) rests.clean
 
-pub mark_first : RecordsStandInOrder → OneTableAnswers → RecordsAreRead counted_of_mark shown_mark
-    → (number : ℕ) (book : Book) (s : State) (content : Content) → Rests content s
-    → IsBookOf book content → ShowsFirst mark_table counted_of_mark shown_mark s.now.trees number
-    (first_above (λ (m : Mark). m.number) number book.marks)
-mark_first in_order answers read number book s content rests of rows a =
-    let here : s.now.trees mark_table.tree ≡ map mark_row book.marks =
-    ap (λ (d : Database). d.trees mark_table.tree) rests.clean
-    ∙ ap (λ (t : Tables). t.marks) rests.holds.rows ∙ ap (map mark_row) of.records.marks in
-    let up = subst (IsAscending (λ (a b : Mark). int_cmp (pos a.number) (pos b.number) ≡ Less)) of.records.marks
-    (in_order book content of).marks in
-    read rows _ (first_rows answers mark_table mark_row shown_mark (λ (m : Mark). pos m.number)
-    (λ (m : Mark). nat_lt number m.number) (Int (pos number) ∷ []) (mark_is_after number)
+pub posting_first : RecordsStandInOrder → OneTableAnswers → RecordsAreRead posting_records → (number : ℕ) (book : Book)
+    (s : State) (content : Content) → Rests content s → IsBookOf book content
+    → ShowsFirst posting_records s.now.trees number (first_above (λ p. p.number) number book.postings)
+posting_first in_order answers read number book s content rests of =
+    first_of posting_records posting_row (λ p. p.number) number answers read (posting_is_after number)
     (λ a b low. then-Equal _ ∙ value_cmp-Int (pos a.number) (pos b.number) ∙ low) (λ _. refl) s.now.trees
-    book.marks up here rows a)
+    book.postings content.postings (held_in content s rests posting_table ∙ ap (rows_in posting_table) rests.holds.rows)
+    of.records.lists.postings (in_order book content of).postings
+
+pub order_first : RecordsStandInOrder → OneTableAnswers → RecordsAreRead order_records → (number : ℕ) (book : Book)
+    (s : State) (content : Content) → Rests content s → IsBookOf book content
+    → ShowsFirst order_records s.now.trees number (first_above (λ o. o.number) number book.orders)
+order_first in_order answers read number book s content rests of =
+    first_of order_records payment_row (λ o. o.number) number answers read (order_is_after number)
+    (λ a b low. then-Equal _ ∙ value_cmp-Int (pos a.number) (pos b.number) ∙ low) (λ _. refl) s.now.trees
+    book.orders content.orders (held_in content s rests payment_table ∙ ap (rows_in payment_table) rests.holds.rows)
+    of.records.lists.orders (in_order book content of).orders
+
+pub mark_first : RecordsStandInOrder → OneTableAnswers → RecordsAreRead mark_records → (number : ℕ) (book : Book)
+    (s : State) (content : Content) → Rests content s → IsBookOf book content
+    → ShowsFirst mark_records s.now.trees number (first_above (λ m. m.number) number book.marks)
+mark_first in_order answers read number book s content rests of =
+    first_of mark_records mark_row (λ m. m.number) number answers read (mark_is_after number)
+    (λ a b low. then-Equal _ ∙ value_cmp-Int (pos a.number) (pos b.number) ∙ low) (λ _. refl) s.now.trees
+    book.marks content.marks (held_in content s rests mark_table ∙ ap (rows_in mark_table) rests.holds.rows)
+    of.records.lists.marks (in_order book content of).marks

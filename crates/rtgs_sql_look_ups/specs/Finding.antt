@@ -1,5 +1,5 @@
 -- Looks at the tables, which write nothing.
-use Rattle.std.specs.Prelude.{◌≡◌, ◌≢◌, ◌⊎◌, ℕ, pos, false, List, [], ◌∷◌, map, Bool, Option, Some, None, Err, Result}
+use Rattle.std.specs.Prelude.{◌≡◌, ◌≢◌, ◌⊎◌, ℕ, pos, false, List, [], ◌∷◌, map, Option, Some, None, Err, Result}
 use Rattle.std.specs.Prelude.{IfErr}
 use Rattle.sqlite.specs.Collation.TheVariants.{Binary}
 use Rattle.sqlite.specs.declared.types.Value.TheVariants.{Int}
@@ -18,6 +18,7 @@ use Rattle.sqlite_schema.specs.Names.{place_of}
 use Rattle.sqlite_trees.specs.declared.store.Store.{Ghosts}
 use Rattle.rtgs_book.specs.declared.Fault.{Fault}
 use Rattle.rtgs_book.specs.declared.Fault.TheVariants.{OutOfMemory, StoreFault}
+use Rattle.rtgs_rows.specs.TableRecords.{TableRecords}
 use Rattle.rtgs_sql_columns.specs.Numbers.{as_read}
 use Rattle.rtgs_sql_columns.specs.OneTable.{simple}
 use Rattle.rtgs_sql_columns.specs.Tables.{column_names}
@@ -54,7 +55,7 @@ pub record IsFirstQuery (t : Table) (text : List ℕ) : Type 0 where
   pub reads : Returnless (first text)
 
 -- what it answers over these trees tells this record, or none
-abbrev pub ShowsFirst : {A : Type 0} → Table → List Bool → (A → Row) → Trees → ℕ → Option A → Type 0
-ShowsFirst t counted shown trees number found = (rows : List Row)
-    → IsAnswer (first_row_query t) (overlay trees []) (Int (pos number) ∷ []) rows
-    → map (as_read counted) rows ≡ map shown (one_of found)
+abbrev pub ShowsFirst : {A : Type 0} → TableRecords A → Trees → ℕ → Option A → Type 0
+ShowsFirst records trees number found = (rows : List Row)
+    → IsAnswer (first_row_query records.table) (overlay trees []) (Int (pos number) ∷ []) rows
+    → map (as_read records.counted) rows ≡ map records.shown (one_of found)

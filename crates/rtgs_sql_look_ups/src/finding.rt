@@ -81,8 +81,8 @@ pub(crate) fn fault_of<S: Alter>(conn: &mut Connection<S>, error: &Error) -> Fau
 /// The record of the only row, and none where there is no row. A row in no form, or one row more, is a fault of the
 /// store.
 pub(crate) fn only_record<T: TableRow + Drop>(rows: &[Row]) -> Result<Option<T>, Fault>
-    ensures found { (found : Option T) → AllByRecursion T.fits (one_of found)
-        → map (as_read T.counted) rows.now ≡ map T.shown (one_of found) → result ≡ Ok found }
+    ensures found { (found : Option T) → AllByRecursion T.records.fits (one_of found)
+        → map (as_read T.records.counted) rows.now ≡ map T.records.shown (one_of found) → result ≡ Ok found }
     ensures none { result ≡ Ok None → rows.now ≡ [] }
     ensures kinds { IfErr result (λ fault. fault ≡ Fault.StoreFault) }
 {

@@ -28,10 +28,10 @@ fn rows_after<T: TableRow, S: Alter>(
     text: &str,
     number: u64,
 ) -> Result<Vec<Row>, Error>
-    requires { (number < 2 ^ 63) × IsFirstQuery T.table text.now }
+    requires { (number < 2 ^ 63) × IsFirstQuery T.records.table text.now }
     ensures asks { IsQuery S.Store conn.old conn.new result }
     ensures rows { HasCleanDisk (state S.Store conn.new) → (content : Content) → Rests content (state S.Store conn.old)
-        → IfOk result (λ rows. IsAnswer (first_row_query T.table) (overlay (state S.Store conn.old).now.trees [])
+        → IfOk result (λ rows. IsAnswer (first_row_query T.records.table) (overlay (state S.Store conn.old).now.trees [])
         (Int (pos number) ∷ []) rows.items) }
 {
     asked_rows(conn, text, &[number_value(number)])
@@ -43,11 +43,11 @@ fn first_record<T: TableRow + Drop, S: Alter>(
     text: &str,
     number: u64,
 ) -> Result<Option<T>, Fault>
-    requires { (number < 2 ^ 63) × IsFirstQuery T.table text.now }
+    requires { (number < 2 ^ 63) × IsFirstQuery T.records.table text.now }
     ensures looks { IsLook S.Store conn.old conn.new result }
     ensures found { HasCleanDisk (state S.Store conn.new) → (content : Content) → Rests content (state S.Store conn.old)
-        → (found : Option T) → AllByRecursion T.fits (one_of found)
-        → ShowsFirst T.table T.counted T.shown (state S.Store conn.old).now.trees number found
+        → (found : Option T) → AllByRecursion T.records.fits (one_of found)
+        → ShowsFirst T.records (state S.Store conn.old).now.trees number found
         → IfOk result (λ it. it ≡ found) }
 {
     match rows_after::<T, S>(conn, text, number) {

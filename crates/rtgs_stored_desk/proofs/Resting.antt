@@ -64,7 +64,10 @@ tables_are book trees at same tables = subst (AreTablesOf book) (sym same) table
 
 is_new : IsSound new_book → IsBookOf new_book first_content
 is_new sound = record {
-  records = record { day = refl; participants = IsPermutation-refl []; postings = refl; orders = refl; marks = refl };
+  records = record {
+    participants = IsPermutation-refl [];
+    lists = record { day = refl; postings = refl; orders = refl; marks = refl };
+  };
   balances = tt;
   ids = tt;
   sound = sound;

@@ -8,7 +8,7 @@ use Rattle.std.specs.declared.cmp.Ordering.TheVariants.{Less}
 use Rattle.std.specs.Cmp.Lexicographic.{slice_cmp}
 use Rattle.sqlite.specs.State.{State}
 use Rattle.sqlite.specs.Tree.{IsAscending}
-use Rattle.rtgs_sql_queries.specs.Records.{stored_account, AreRead, HasRecords}
+use Rattle.rtgs_sql_queries.specs.Records.{AreRead, HasRecords}
 use Rattle.sqlite_keyed.proofs.ListLemmas.{ascending-map, ascending_from_map, map_back}
 use Rattle.rtgs_book.specs.declared.Book.{Book}
 use Rattle.rtgs_book.specs.Balance.{balance}
@@ -19,7 +19,6 @@ use Rattle.rtgs_rows.specs.Content.{Holding, Content, Rests}
 use Rattle.rtgs_book.specs.declared.account.Account.{Account}
 use Rattle.rtgs_rows.specs.Keeping.{IsBookOf}
 use Rattle.rtgs_rows.specs.RowLaws.{RecordsStandInOrder}
-use Rattle.rtgs_sql_loading.specs.Accounts.{AreBalances}
 
 abbrev account_of : Book → Participant → Account
 account_of book p = record { participant = p; balance = balance book p.code }
@@ -58,10 +57,7 @@ are_own in_order content book of =
       rising = ascending-map (λ (a b : Account). slice_cmp nat_cmp a.participant.code b.participant.code ≡ Less)
           (account_of book) book.participants (in_order_of_codes book of.sound.codes_rise);
       participants = sym (map_back (account_of book) (λ (a : Account). a.participant) (λ p. refl) book.participants);
-      day = of.records.day;
-      postings = of.records.postings;
-      orders = of.records.orders;
-      marks = of.records.marks;
+      lists = of.records.lists;
       fits = of.fits;
     }
 

@@ -13,7 +13,8 @@ use Rattle.rtgs_book.specs.declared.Rule.TheVariants.{OrderReferences, PostingRe
 use Rattle.rtgs_book.specs.declared.Rule.TheVariants.{Floors, Total, StoredBalances}
 use Rattle.rtgs_book.specs.Judgement.{Keeps}
 use Rattle.rtgs_book.specs.Soundness.{IsSound}
-use Rattle.rtgs_sql_loading.specs.Accounts.{AreBalances, ExplainsRead, ExplainsTrees}
+use Rattle.rtgs_rows.specs.Keeping.{AreBalances}
+use Rattle.rtgs_sql_loading.specs.Accounts.{ExplainsRead, ExplainsTrees}
 use Rattle.rtgs_sql_loading.specs.Displaying.{ExplainsDatabase}
 
 -- a sound book keeps each rule of a book

@@ -17,7 +17,7 @@ returns-in-Err-clause-looks g c =
 
 pub returns-in-Ok-clause-found : goal.returns-in-Ok-clause-found
 returns-in-Ok-clause-found g c clean content rests found fits shows =
-    let t = g.T.TableRow in
+    let t = g.T.TableRow.records in
     is_found c.only_record.result found (c.only_record.ensures.found found fits
     (subst (λ rows. map (as_read t.counted) rows ≡ map t.shown (one_of found)) (sym c.as_slice.ensures.value)
     (shows _ (c.in-Ok.ensures.rows clean content rests))))
