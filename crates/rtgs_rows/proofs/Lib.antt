@@ -10,4 +10,5 @@ pub mod Blank
 pub mod Numbered
 pub mod Participants
 pub mod Querying
+pub mod NewBook
 pub mod Money

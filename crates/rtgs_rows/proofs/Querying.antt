@@ -19,7 +19,7 @@ use Rattle.rtgs_rows.specs.Rows.{shown_mark}
 use Rattle.rtgs_rows.specs.Content.{tables_of, tables_for, rows_in, Holding, holding_row, stored_account}
 use Rattle.rtgs_rows.specs.Content.{Content, Holds, IsInOrder}
 use Rattle.rtgs_rows.specs.Fitting.{HasFormedValues}
-use Rattle.rtgs_rows.specs.Keeping.{IsBookOf, AreBalances}
+use Rattle.rtgs_rows.specs.Keeping.{SameLists, IsBookOf, AreBalances, content_of}
 use Rattle.rtgs_rows.specs.Querying.{AreNumberedRows, AreWhole, ShowsEach, ShowsBook}
 use Rattle.rtgs_rows.proofs.Ordered.{order_of}
 use Rattle.rtgs_rows.proofs.Numbered.{IsTold, AreRowsOf, rows_are, are_numbered, numbered_rows}
@@ -68,15 +68,9 @@ good trees sound full = all_both (λ t. AreNumberedRows (width t) (trees t.tree)
     (λ t. AllByRecursion (λ r. passes Datatype desk_schema trees t r ≡ true) (trees t.tree)) (AreRowsOf trees)
     (λ t whole typed. (whole, typed)) desk_tables full (sound.obeys.rules Datatype)
 
--- the records of the book, and the participants with their balances as they are stored
-abbrev content_of : Book → List Holding → Content
-content_of book holdings = record {
-  day = book.day;
-  holdings = holdings;
-  postings = book.postings;
-  orders = book.orders;
-  marks = book.marks;
-}
+-- the records of a book have its lists
+pub same_lists : (book : Book) (holdings : List Holding) → SameLists book (content_of book holdings)
+same_lists book holdings = record { day = refl; postings = refl; orders = refl; marks = refl }
 
 participants_of : (trees : Trees) (book : Book) (accounts : List Account) → AreGood trees
     → ShowsEach trees accounts book → Stores (trees participant_table.tree) accounts
@@ -105,7 +99,7 @@ held trees book accounts sound full is fits shown stored =
       records = record {
         participants = subst₂ IsPermutation (map-map (λ (a : Account). a.participant) stored_account people.holdings)
             (sym shown.named) (IsPermutation-map (λ (a : Account). a.participant) _ _ people.same);
-        lists = record { day = refl; postings = refl; orders = refl; marks = refl };
+        lists = same_lists book people.holdings;
       };
       balances = all_unmap (λ (a : Account). a.balance ≡ balance book a.participant.code) stored_account people.holdings
           (all-permutation _ _ _ (IsPermutation-sym _ _ people.same) stored);

@@ -1,5 +1,5 @@
 -- The book that the tables hold.
-use Rattle.std.specs.Prelude.{◌≡◌, List, map, IsPermutation}
+use Rattle.std.specs.Prelude.{◌≡◌, List, [], map, IsPermutation}
 use Rattle.std.specs.List.{AllByRecursion}
 use Rattle.sqlite_trees.specs.declared.store.Store.{Ghosts}
 use Rattle.sqlite.specs.Tree.{Trees}
@@ -8,6 +8,7 @@ use Rattle.rtgs_book.specs.declared.account.Account.{Account}
 use Rattle.rtgs_book.specs.declared.Book.{Book}
 use Rattle.rtgs_book.specs.declared.Posting.{Posting}
 use Rattle.rtgs_book.specs.Balance.{balance}
+use Rattle.rtgs_book.specs.Books.{new_book}
 use Rattle.rtgs_book.specs.IntSum.{int_sum_by}
 use Rattle.rtgs_book.specs.Soundness.{IsSound}
 use Rattle.rtgs_rows.specs.Content.{Holding, Content, Holds, Rests, Rise}
@@ -25,6 +26,20 @@ pub record SameLists (book : Book) (content : Content) : Type 0 where
 pub record AreOf (book : Book) (content : Content) : Type 0 where
   pub participants : IsPermutation (map (λ (h : Holding). h.participant) content.holdings) book.participants
   pub lists : SameLists book content
+
+-- the records of the book, whose participants are stored so
+abbrev pub content_of : Book → List Holding → Content
+content_of book holdings = record {
+  day = book.day;
+  holdings = holdings;
+  postings = book.postings;
+  orders = book.orders;
+  marks = book.marks;
+}
+
+-- those of a new desk
+abbrev pub first_content : Content
+first_content = content_of new_book []
 
 -- The records are those of the sound book, with each stored balance the sum from scratch.
 pub record IsBookOf (book : Book) (content : Content) : Type 0 where

@@ -39,9 +39,13 @@ HasTables g h = IsDeskFile (state g h).committed.trees (state g h) × AreWhole (
 abbrev pub picked : List ℕ → Row → Row
 picked places row = map (column row) places
 
--- these are the rows of the table, in whatever order, without the row number where no column is it
+-- the rows of the table, without the row number where no column is it
+abbrev pub as_shown : Table → Trees → List Row
+as_shown table trees = map (picked (places table)) (trees table.tree)
+
+-- these are they, in whatever order
 abbrev pub ShowsTable : Table → Trees → List Row → Type 0
-ShowsTable table trees = IsPermutation (map (picked (places table)) (trees table.tree))
+ShowsTable table trees = IsPermutation (as_shown table trees)
 
 -- so with the records that a book has of each table
 abbrev pub ShowsEach : Trees → List Account → Book → Type 0

@@ -8,7 +8,8 @@ ghost use Rattle.sqlite.specs.Held.{state};
 ghost use Rattle.sqlite_catalog.specs.Listing.{IsSound};
 ghost use Rattle.rtgs_rows.specs.Content.{Content, HasNoTables, Holds, AreInOrder, with_changes, tables_for};
 ghost use Rattle.rtgs_book.specs.Changes.{IsChange};
-ghost use Rattle.rtgs_rows.specs.Keeping.{IsBookOf, IsWhole, AreBalances, AddsUp};
+ghost use Rattle.rtgs_book.specs.Books.{new_book};
+ghost use Rattle.rtgs_rows.specs.Keeping.{IsBookOf, IsWhole, AreBalances, AddsUp, first_content};
 ghost use Rattle.rtgs_rows.specs.RowLaws.{RecordsStandInOrder, ChangesStandInOrder, ChangedRowsAreTheBook};
 ghost use Rattle.rtgs_rows.specs.RowLaws.{NextRowIsAbove};
 ghost use Rattle.rtgs_rows.specs.RowLaws.{RowsTellTheBook, NoTablesAreReadAsNone, DesksAreReadAsSuch};
@@ -19,7 +20,7 @@ ghost use Rattle.rtgs_rows.specs.Fitting.{HasFormedValues, FitsRow};
 ghost use Rattle.rtgs_book.specs.declared.account.Account.{Account};
 ghost use Rattle.rtgs_book.specs.Soundness.{IsSound as IsSoundBook};
 
-use rtgs_book::laws::total_is_issued;
+use rtgs_book::laws::{new_book_is_sound, total_is_issued};
 use rtgs_money::laws::dates_have_distinct_texts;
 use sqlite::{Alter, Connection};
 
@@ -65,6 +66,13 @@ pub fn tables_of_a_desk_are_read_as_such()
 pub fn no_tables_hold_no_book()
     ensures { NoTablesHoldNoBook }
 {}
+
+/// The rows of a new desk are those of a new book.
+pub fn first_rows_are_the_new_book()
+    ensures { IsBookOf new_book first_content }
+{
+    new_book_is_sound();
+}
 
 /// Where the queries show the records of a sound book, with its balances stored, the tables hold that book.
 pub fn shown_records_are_held()

@@ -12,9 +12,9 @@ use Rattle.rtgs_rows.specs.Content.{Content, Holds}
 use Rattle.rtgs_rows.specs.Keeping.{AreBalances, IsBookOf}
 use Rattle.rtgs_sql_loading.proofs.AboveZero.{above_zero}
 use Rattle.rtgs_rows.specs.Fitting.{HasFormedValues}
-use Rattle.rtgs_rows.specs.Querying.{AreWhole, ShowsTable, ShowsBook}
+use Rattle.rtgs_rows.specs.Querying.{as_shown, AreWhole, ShowsTable, ShowsBook}
 use Rattle.rtgs_book.specs.declared.account.Account.{Account}
-use Rattle.rtgs_sql_loading.specs.Accounts.{AreTheRecords, AreReadOf, IsShown, shown_rows}
+use Rattle.rtgs_sql_loading.specs.Accounts.{AreTheRecords, AreReadOf, IsShown}
 use Rattle.rtgs_sql_columns.specs.Numbers.{IsNumberedBook}
 use Rattle.rtgs_sql_loading.proofs.AllTables.{both, own_records}
 use Rattle.rtgs_sql_loading.proofs.OwnRows.{IsOwn, read_plainly}
@@ -25,7 +25,7 @@ pub shows_of : (trees : Trees) (accounts : List Account) (book : Book) → AreRe
 shows_of trees accounts book read numbered =
     let plain : AreTheRecords (λ table _. ShowsTable table trees) accounts book = both (own_records read numbered) read
     (λ table counted told own same. subst (λ seen. IsPermutation seen told) (read_plainly counted
-    (shown_rows table trees) (all-permutation (IsOwn counted) _ _ (IsPermutation-sym _ _ same) own)) same) in
+    (as_shown table trees) (all-permutation (IsOwn counted) _ _ (IsPermutation-sym _ _ same) own)) same) in
     record { named = read.named; shows = plain.tells }
 
 -- what was read, and judged to be sound with its balances stored, is what the tables show

@@ -13,20 +13,20 @@ use Rattle.rtgs_book.specs.declared.Fault.{Fault}
 use Rattle.rtgs_book.specs.declared.account.Account.{Account}
 use Rattle.rtgs_rows.specs.Fitting.{FitsDate}
 use Rattle.rtgs_rows.specs.Rows.{shown_day}
-use Rattle.rtgs_rows.specs.Querying.{IsDeskFile}
+use Rattle.rtgs_rows.specs.Querying.{as_shown, IsDeskFile}
 use Rattle.rtgs_rows.specs.TableRecords.{TableRecords}
 use Rattle.rtgs_rows.specs.Tables.{desk_table}
 use Rattle.rtgs_sql_columns.specs.Numbers.{as_read, IsFormed}
 use Rattle.rtgs_sql_columns.specs.Tables.{query_text}
 use Rattle.rtgs_sql_queries.specs.Displaying.{Displays}
 use Rattle.rtgs_sql_queries.specs.Records.{HasRecords}
-use Rattle.rtgs_sql_loading.specs.Accounts.{IsOneDay, InForm, shown_rows}
+use Rattle.rtgs_sql_loading.specs.Accounts.{IsOneDay, InForm}
 use Rattle.rtgs_sql_loading.specs.Loading.{ReadsRecords, ReadsOneDay}
 
 -- of the rows that a query shows, these records are read
 pub reads_of : {A : Type 0} (records : TableRecords A) (s : State) (rows seen : List Row)
     (r : Result (Vec A Global) Fault) → seen ≡ rows → Displays s.now (query_text records.table) rows
-    → ((trees : Trees) → IsDeskFile trees s → IsPermutation (shown_rows records.table trees) rows)
+    → ((trees : Trees) → IsDeskFile trees s → IsPermutation (as_shown records.table trees) rows)
     → ((accounts : List Account) (book : Book) → HasRecords accounts book s
     → AllByRecursion records.fits (records.of_book accounts book)
     × (map (as_read records.counted) rows ≡ map records.shown (records.of_book accounts book)))
@@ -44,7 +44,7 @@ reads_of records s rows seen (Ok v) same shows raw own given is =
           given (records.of_book accounts book) its.0 (ap (map (as_read counted)) same ∙ its.1);
       fit = is.0;
       told = (
-        λ trees file. subst (IsPermutation (map (as_read counted) (shown_rows records.table trees))) told
+        λ trees file. subst (IsPermutation (map (as_read counted) (as_shown records.table trees))) told
             (IsPermutation-map (as_read counted) _ _ (raw trees file)),
         (rows, shows, told),
       );
@@ -60,7 +60,7 @@ as_they_are (row ∷ rows) = ap (λ rs. row ∷ rs) (as_they_are rows)
 pub day_reads : (s : State) (rows seen : List Row) (r : Result Day Fault) → seen ≡ rows
     → Displays s.now (query_text desk_table) rows
     → ((trees : Trees) → IsDeskFile trees s
-    → IsPermutation (shown_rows desk_table trees) rows)
+    → IsPermutation (as_shown desk_table trees) rows)
     → ((accounts : List Account) (book : Book) → HasRecords accounts book s → r ≡ Ok book.day)
     → IfOk r (λ (day : Day). FitsDate day.date × (seen ≡ shown_day day ∷ [])) → IfOk r (ReadsOneDay s)
 day_reads s rows seen (Ok day) same shows raw given is =
@@ -72,7 +72,7 @@ day_reads s rows seen (Ok day) same shows raw given is =
           ap (λ (d : Day). d ∷ []) it;
       fit = (is.0, tt);
       told = (
-        λ trees file. subst (IsPermutation (map (as_read []) (shown_rows desk_table trees))) told
+        λ trees file. subst (IsPermutation (map (as_read []) (as_shown desk_table trees))) told
             (IsPermutation-map (as_read []) _ _ (raw trees file)),
         (rows, shows, told),
       );

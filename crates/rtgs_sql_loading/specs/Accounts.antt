@@ -17,15 +17,15 @@ use Rattle.rtgs_book.specs.declared.Day.{Day}
 use Rattle.rtgs_rows.specs.Fitting.{HasFormedValues, FitsDate}
 use Rattle.rtgs_rows.specs.Keeping.{AreBalances}
 use Rattle.rtgs_rows.specs.Rows.{shown_day}
-use Rattle.rtgs_rows.specs.Querying.{picked, ShowsBook}
+use Rattle.rtgs_rows.specs.Querying.{as_shown, ShowsBook}
 use Rattle.rtgs_rows.specs.TableRecords.{TableRecords, Each, listed_records, all_records}
-use Rattle.rtgs_rows.specs.Tables.{desk_table, places}
+use Rattle.rtgs_rows.specs.Tables.{desk_table}
 use Rattle.rtgs_sql_columns.specs.Numbers.{as_read, IsFormed}
 use Rattle.rtgs_book.specs.declared.account.Account.{Account}
 
 -- the rows of a table as its query shows them and as they are read, in some order
-abbrev pub AreTold : List ℕ → List Bool → List Row → List Row → Type 0
-AreTold places counted stored = IsPermutation (map (as_read counted) (map (picked places) stored))
+abbrev pub AreTold : Trees → Table → List Bool → List Row → Type 0
+AreTold trees table counted = IsPermutation (map (as_read counted) (as_shown table trees))
 
 -- ---- of all tables
 
@@ -48,7 +48,7 @@ pub record AreTheRecords (Tells : Telling) (accounts : List Account) (book : Boo
 -- What is read of trees, sound or not: each row of the tables is told by one record. A number below zero is read as 0,
 -- which breaks the same rule of a sound book.
 abbrev pub AreReadOf : Trees → List Account → Book → Type 0
-AreReadOf trees = AreTheRecords (λ table counted. AreTold (places table) counted (trees table.tree))
+AreReadOf trees = AreTheRecords (AreTold trees)
 
 -- one row alone, which is a business day
 abbrev pub IsOneDay : List Row → Type 0
@@ -58,14 +58,10 @@ IsOneDay rows = (day : Day) × FitsDate day.date × (rows ≡ shown_day day ∷ 
 abbrev pub InForm : {A : Type 0} → TableRecords A → List Row → Type 0
 InForm records = AllByRecursion (IsFormed records)
 
--- the rows of a table as its query shows them
-abbrev pub shown_rows : Table → Trees → List Row
-shown_rows table trees = map (picked (places table)) (trees table.tree)
-
 -- Each row of the tables is in the form of a record, and the first table has one row.
 abbrev pub AreFormed : Trees → Type 0
-AreFormed trees = IsOneDay (shown_rows desk_table trees)
-    × Each (λ A records. InForm records (shown_rows records.table trees)) listed_records
+AreFormed trees = IsOneDay (as_shown desk_table trees)
+    × Each (λ A records. InForm records (as_shown records.table trees)) listed_records
 
 -- ---- why no book is given
 

@@ -14,7 +14,6 @@ use Rattle.rtgs_book.specs.declared.Fault.TheVariants.{StoreFault, NotADeskFile}
 use Rattle.sqlite.specs.Effect.{Database}
 use Rattle.rtgs_rows.specs.Querying.{IsDeskFile}
 use Rattle.rtgs_rows.specs.TableRecords.{TableRecords, day_records}
-use Rattle.rtgs_rows.specs.Tables.{places}
 use Rattle.rtgs_sql_columns.specs.Tables.{query_text}
 use Rattle.rtgs_sql_queries.specs.Answering.{KeepsTables}
 use Rattle.rtgs_sql_queries.specs.Records.{HasRecords}
@@ -31,7 +30,7 @@ pub record ReadsOn (old new : State) : Type 0 where
 -- rows of a table are told: by its rows, where the schema is a desk's, and by what its query shows
 abbrev pub IsToldBy : State → Telling
 IsToldBy s table counted told = ((trees : Trees) → IsDeskFile trees s
-    → AreTold (places table) counted (trees table.tree) told) × DisplaysAs s.now (query_text table) counted told
+    → AreTold trees table counted told) × DisplaysAs s.now (query_text table) counted told
 
 -- These records are read of a table: they are those that it has, where the tables have any, and each is in its form.
 pub record ReadsRecords {A : Type 0} (records : TableRecords A) (s : State) (all : List A) : Type 0 where

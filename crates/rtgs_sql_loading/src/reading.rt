@@ -4,11 +4,12 @@ ghost use Rattle.rtgs_book.specs.declared.Rule.{Rule};
 ghost use Rattle.rtgs_book.specs.declared.Day.{Day as DaySpec};
 ghost use Rattle.rtgs_rows.specs.Fitting.{FitsDate};
 ghost use Rattle.rtgs_rows.specs.Rows.{shown_day};
+ghost use Rattle.rtgs_rows.specs.Querying.{as_shown};
 ghost use Rattle.rtgs_rows.specs.Tables.{desk_table};
 ghost use Rattle.rtgs_sql_columns.specs.Tables.{query_text};
 ghost use Rattle.rtgs_sql_queries.specs.Answering.{KeepsTables};
 ghost use Rattle.rtgs_sql_queries.specs.Faults.{IsOfStore, LookFailed};
-ghost use Rattle.rtgs_sql_loading.specs.Accounts.{InForm, IsOneDay, shown_rows};
+ghost use Rattle.rtgs_sql_loading.specs.Accounts.{InForm, IsOneDay};
 ghost use Rattle.rtgs_sql_loading.specs.Displaying.{IsUnread};
 ghost use Rattle.rtgs_sql_loading.specs.Loading.{ReadsRecords, ReadsOneDay, ReadsOn, Stops, read_after};
 ghost use Rattle.sqlite.specs.Effect.{Database};
@@ -100,7 +101,7 @@ impl FromTables for Day {
 
     ghost after = { λ first old on clean day. read_after on clean };
 
-    ghost formed = { λ trees. IsOneDay (shown_rows desk_table trees) };
+    ghost formed = { λ trees. IsOneDay (as_shown desk_table trees) };
 
     ghost illegible = { λ db. IsUnread db (query_text desk_table) IsOneDay };
 
@@ -118,7 +119,7 @@ impl<T: TableRow + Drop> FromTables for Vec<T> {
 
     ghost after = { λ first old on clean v. read_after on clean };
 
-    ghost formed = { λ trees. InForm T.records (shown_rows T.records.table trees) };
+    ghost formed = { λ trees. InForm T.records (as_shown T.records.table trees) };
 
     ghost illegible = { λ db. IsUnread db (query_text T.records.table) (InForm T.records) };
 

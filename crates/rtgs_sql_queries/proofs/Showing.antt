@@ -31,7 +31,7 @@ use Rattle.rtgs_rows.specs.Tables.{desk_schema, places}
 use Rattle.rtgs_rows.specs.TableRecords.{TableRecords}
 use Rattle.rtgs_sql_columns.specs.Tables.{column_names, query_text}
 use Rattle.rtgs_rows.specs.Content.{Content, Rests, tables_of}
-use Rattle.rtgs_rows.specs.Querying.{IsDeskFile, picked}
+use Rattle.rtgs_rows.specs.Querying.{IsDeskFile, picked, ShowsTable}
 use Rattle.rtgs_sql_queries.specs.Records.{AreRead}
 use Rattle.rtgs_sql_queries.specs.Answering.{FailsAmid, KeepsTables}
 use Rattle.rtgs_sql_queries.specs.Faults.{IsOfStore}
@@ -127,7 +127,7 @@ module _ (t : Table) (is : IsTableQuery t) (old new : State) where
   -- it shows the columns that it names, of each row of the table
   pub shows_all : OneTableAnswers → (trees : Trees) → IsDeskFile trees old → (r : Result (Vec Row Global) Error)
       → IfOk r (λ rows. Shown (query_text t) [] old new rows.items)
-      → IfOk r (λ rows. IsPermutation (map (picked (places t)) (trees t.tree)) rows.items)
+      → IfOk r (λ rows. ShowsTable t trees rows.items)
   shows_all answers trees file (Err e) h = tt
   shows_all answers trees file (Ok rows) h =
       let here : old.now.trees t.tree ≡ trees t.tree = ap (λ (d : Database). d.trees t.tree) file.clean

@@ -1,10 +1,10 @@
 //! All rows of a table.
-ghost use Rattle.std.specs.Prelude.{◌≡◌, ◌⊎◌, false, map, List, IsTrue, IfOk, IfErr, OnOk, IsPermutation};
+ghost use Rattle.std.specs.Prelude.{◌≡◌, ◌⊎◌, false, map, List, IsTrue, IfOk, IfErr, OnOk};
 ghost use Rattle.std.specs.List.{AllByRecursion};
 ghost use Rattle.rtgs_book.specs.declared.Book.{Book};
 ghost use Rattle.rtgs_book.specs.declared.account.Account.{Account as AccountSpec};
-ghost use Rattle.rtgs_rows.specs.Querying.{picked, IsDeskFile};
-ghost use Rattle.rtgs_rows.specs.Tables.{desk_schema, places};
+ghost use Rattle.rtgs_rows.specs.Querying.{ShowsTable, IsDeskFile};
+ghost use Rattle.rtgs_rows.specs.Tables.{desk_schema};
 ghost use Rattle.rtgs_sql_columns.specs.Numbers.{as_read};
 ghost use Rattle.rtgs_sql_columns.specs.Tables.{query_text};
 ghost use Rattle.rtgs_sql_queries.specs.Answering.{KeepsTables};
@@ -36,7 +36,7 @@ pub fn table_rows<T: TableRow, S: Alter>(
         → HasRecords accounts book (state S.Store conn.old) → AllByRecursion T.records.fits (T.records.of_book accounts book) }
     ensures own { (it : T) → as_read T.records.counted (T.records.shown it) ≡ T.records.shown it }
     ensures raw { HasCleanDisk (state S.Store conn.new) → (trees : Trees) → IsDeskFile trees (state S.Store conn.old)
-        → IfOk result (λ rows. IsPermutation (map (picked (places T.records.table)) (trees T.records.table.tree)) rows.items) }
+        → IfOk result (λ rows. ShowsTable T.records.table trees rows.items) }
     ensures kept { HasCleanDisk (state S.Store conn.new)
         → OnOk result (KeepsTables (state S.Store conn.old) (state S.Store conn.new)) }
     ensures refused { HasCleanDisk (state S.Store conn.new) → (state S.Store conn.old).now.schema ≡ desk_schema

@@ -1,7 +1,6 @@
 -- Tables of a store that is at rest.
-use Rattle.std.proofs.Common.{◌≡◌, ◌⊎◌, Result, Ok, Err, [], refl, sym, subst, inl, inr}
+use Rattle.std.proofs.Common.{◌≡◌, ◌⊎◌, Result, Ok, Err, refl, sym, subst, inl, inr}
 use Rattle.std.specs.Result.{IfErr}
-use Rattle.std.proofs.lemmas.List.Sorted.{IsPermutation-refl}
 use Rattle.sqlite_catalog.specs.Listing.{IsSound as IsReadBy}
 use Rattle.sqlite_trees.specs.declared.store.Store.{Ghosts}
 use Rattle.sqlite.specs.Held.{Held, state}
@@ -62,21 +61,9 @@ committed_tables g h book holds = (holds.0, holds.1.holds, holds.2)
 pub tables_are : (book : Book) (trees at : Trees) → trees ≡ at → AreTablesOf book at → AreTablesOf book trees
 tables_are book trees at same tables = subst (AreTablesOf book) (sym same) tables
 
-is_new : IsSound new_book → IsBookOf new_book first_content
-is_new sound = record {
-  records = record {
-    participants = IsPermutation-refl [];
-    lists = record { day = refl; postings = refl; orders = refl; marks = refl };
-  };
-  balances = tt;
-  ids = tt;
-  sound = sound;
-  fits = record { participants = tt; postings = tt; orders = tt; marks = tt; day = tt };
-}
-
-pub none_or_new : IsSound new_book → (trees : Trees) → IsNoneOrNew trees
+pub none_or_new : IsBookOf new_book first_content → (trees : Trees) → IsNoneOrNew trees
     → HasNoTables trees ⊎ AreTablesOf new_book trees
-none_or_new sound trees left = elim left [ inl none ↦ inl none | inr made ↦ inr (first_content, made, is_new sound) ]
+none_or_new is trees left = elim left [ inl none ↦ inl none | inr made ↦ inr (first_content, made, is) ]
 
 pub making_cause : (fault : CommitFault) → IsMemoryOrStore (fault_of_making fault)
 making_cause commit.OutOfMemory = inl refl

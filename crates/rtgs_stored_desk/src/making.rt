@@ -9,8 +9,8 @@ ghost use Rattle.rtgs_tables.specs.Building.{IsBlank};
 ghost use Rattle.rtgs_stored_desk.specs.Stored.{IsMade, IsUnmade, StaysBlank, fault_of_making};
 
 use rtgs_book::Fault;
-use rtgs_book::laws::new_book_is_sound;
 use rtgs_keeper::CommitFault;
+use rtgs_rows::laws::first_rows_are_the_new_book;
 use rtgs_tables::SqlKeeper;
 use sqlite::{Alter, Connection};
 
@@ -34,7 +34,7 @@ pub fn make<S: Alter + Drop>(conn: Connection<S>) -> Result<Connection<S>, (Faul
     if !has_no_tables(&conn) {
         return Err((Fault::NotADeskFile, conn));
     }
-    new_book_is_sound();
+    first_rows_are_the_new_book();
     match SqlKeeper::create(conn) {
         Ok(keeper) => Ok(keeper.into_connection()),
         Err((fault, conn)) => Err((fault_of(fault), conn)),

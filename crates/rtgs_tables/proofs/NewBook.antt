@@ -1,34 +1,20 @@
 -- The book of a new desk.
-use Rattle.std.proofs.Common.{◌≡◌, inl, inr, [], refl, sym, ap, ◌∙◌}
-use Rattle.std.proofs.lemmas.List.Sorted.{IsPermutation-refl}
+use Rattle.std.proofs.Common.{◌≡◌, inl, inr, sym, ap, ◌∙◌}
 use Rattle.sqlite_trees.specs.declared.store.Store.{Ghosts}
 use Rattle.sqlite.specs.Effect.{Database}
 use Rattle.sqlite.specs.Tree.{Trees}
 use Rattle.sqlite.specs.Held.{Held, state}
 use Rattle.sqlite.specs.State.{State, Opens, IsLive, HasCleanDisk, Survives, IsUnchanged}
 use Rattle.rtgs_book.specs.declared.Book.{Book}
-use Rattle.rtgs_book.specs.Soundness.{IsSound}
 use Rattle.rtgs_rows.specs.Content.{HasNoTables, Holds, Rests}
 use Rattle.rtgs_rows.specs.Keeping.{IsBookOf, HoldsBook, MayLeave}
 use Rattle.rtgs_rows.specs.RowLaws.{RowsTellTheBook, NoTablesAreReadAsNone, NoTablesHoldNoBook}
 use Rattle.rtgs_book.specs.Books.{new_book}
 use Rattle.rtgs_tables.specs.Building.{IsBlank, IsNoneOrNew, first_content}
 
-is_new : IsSound new_book → IsBookOf new_book first_content
-is_new sound = record {
-  records = record {
-    participants = IsPermutation-refl [];
-    lists = record { day = refl; postings = refl; orders = refl; marks = refl };
-  };
-  balances = tt;
-  ids = tt;
-  sound = sound;
-  fits = record { participants = tt; postings = tt; orders = tt; marks = tt; day = tt };
-}
-
-pub holds_new : {S : Type 0} (g : Ghosts S) (h : Held S) → IsSound new_book → Rests first_content (state g h)
-    → HoldsBook g h new_book
-holds_new g h sound rests = (first_content, rests, is_new sound)
+pub holds_new : {S : Type 0} (g : Ghosts S) (h : Held S) → IsBookOf new_book first_content
+    → Rests first_content (state g h) → HoldsBook g h new_book
+holds_new g h is rests = (first_content, rests, is)
 
 -- a stop leaves what it could leave before, which is no tables, or those of the new book
 pub leaves_new : {S : Type 0} (g : Ghosts S) (old new : Held S)
@@ -40,12 +26,12 @@ leaves_new g old new s clean blank none trees left = elim (s.crash clean trees l
     [ inl was ↦ inl (none trees was) | inr made ↦ inr (made blank) ]
 
 -- and so the new book, if any
-pub only_new : RowsTellTheBook → NoTablesHoldNoBook → {S : Type 0} (g : Ghosts S) (h : Held S) → IsSound new_book
+pub only_new : RowsTellTheBook → NoTablesHoldNoBook → {S : Type 0} (g : Ghosts S) (h : Held S) → IsBookOf new_book first_content
     → ((trees : Trees) → (state g h).may_leave trees → IsNoneOrNew trees) → (other : Book) → MayLeave g h other
     → other ≡ new_book
-only_new tells holds_none g h sound all other left = elim (all left.0 left.1) [
+only_new tells holds_none g h is all other left = elim (all left.0 left.1) [
   | inl none ↦ absurd (holds_none left.0 left.2.0 none left.2.1)
-  | inr made ↦ tells new_book other first_content left.2.0 (is_new sound) left.2.2 (sym made.rows ∙ left.2.1.rows)
+  | inr made ↦ tells new_book other first_content left.2.0 is left.2.2 (sym made.rows ∙ left.2.1.rows)
 ]
 
 pub still_blank : (old new : State) → IsBlank old → IsUnchanged old new → IsBlank new

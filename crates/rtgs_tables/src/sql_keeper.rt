@@ -18,7 +18,6 @@ ghost use Rattle.rtgs_tables.specs.Loading.{ExplainsLoad, ShowsBalanced, MayLeav
 ghost use Rattle.rtgs_sql_writes.specs.Stops.{IsBefore};
 ghost use Rattle.rtgs_rows.specs.RowLaws.{RowsTellTheBook, TablesOfABookAreWhole, TablesOfABookAreWhole-prop};
 
-use rtgs_book::laws::new_book_is_sound;
 use rtgs_book::{Book, Change, Fault, Mark, Order, Posting};
 use rtgs_cores::Core;
 use rtgs_cores::laws::records_are_listed;
@@ -69,7 +68,7 @@ impl<S: Alter + Drop> SqlKeeper<S> {
     {
         let mut conn = conn;
         leaves_no_tables(&conn);
-        new_book_is_sound();
+        laws::first_rows_are_the_new_book();
         laws::rows_tell_the_book();
         laws::no_tables_hold_no_book();
         match create_tables(&mut conn) {

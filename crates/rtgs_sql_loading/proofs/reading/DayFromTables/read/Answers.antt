@@ -2,8 +2,9 @@ use Rattle.std.proofs.Common.{IsPermutation, sym, subst, ◌∙◌}
 use Rattle.rtgs_sql_loading.proofs.Told.{day_reads, no_day, not_read}
 use Rattle.sqlite.specs.Held.{state}
 use Rattle.rtgs_sql_loading.proofs.Keeps.{not_foreign, keeps_after, schema_of, schema_at, survives_on}
-use Rattle.rtgs_sql_loading.specs.Accounts.{IsOneDay, shown_rows}
+use Rattle.rtgs_sql_loading.specs.Accounts.{IsOneDay}
 use Rattle.rtgs_rows.specs.Tables.{desk_table}
+use Rattle.rtgs_rows.specs.Querying.{as_shown}
 use Rattle.rtgs_sql_columns.specs.Tables.{query_text}
 use Rattle.rtgs_sql_loading.proofs.Displaying.{without_form, without_answer, reads_on}
 use Rattle.rtgs_sql_loading.proofs.reading.DayFromTables.read.Goals as goal
@@ -27,7 +28,7 @@ returns-in-Ok-clause-stops g c = record {
       (c.as_slice.ensures.value ∙ c.in-Ok.ensures.rows clean accounts book held) in
       absurd (let clash = sym is ∙ e in cc);
   wrong = λ clean trees file e.
-      let stored = shown_rows desk_table trees in
+      let stored = as_shown desk_table trees in
       no_day stored _ (subst (IsPermutation stored) (sym c.as_slice.ensures.value)
       (c.in-Ok.ensures.raw clean trees file)) (not_read c.one_day.result _ _ c.one_day.ensures.wrong e);
   unread = λ clean e.

@@ -1,8 +1,9 @@
 use Rattle.std.proofs.Common.{map, ap, IsPermutation, sym, subst, ◌∙◌}
 use Rattle.sqlite.specs.Held.{state}
+use Rattle.rtgs_rows.specs.Querying.{as_shown}
 use Rattle.rtgs_sql_columns.specs.Tables.{query_text}
 use Rattle.rtgs_sql_columns.specs.Numbers.{as_read}
-use Rattle.rtgs_sql_loading.specs.Accounts.{InForm, shown_rows}
+use Rattle.rtgs_sql_loading.specs.Accounts.{InForm}
 use Rattle.rtgs_sql_loading.proofs.OwnRows.{are_formed}
 use Rattle.rtgs_sql_loading.proofs.Told.{reads_of, misread}
 use Rattle.rtgs_sql_loading.proofs.Keeps.{not_foreign, keeps_after, schema_of, schema_at, survives_on}
@@ -30,7 +31,7 @@ returns-in-Ok-clause-stops g c = record {
       (c.table_rows.ensures.fit clean accounts book held) _ (ap (map (as_read t.counted)) c.as_slice.ensures.value
       ∙ c.in-Ok.ensures.read clean accounts book held));
   wrong = λ clean trees file e.
-      let stored = shown_rows g.T.TableRow.records.table trees in
+      let stored = as_shown g.T.TableRow.records.table trees in
       misread g.T.TableRow.records stored _ (subst (IsPermutation stored) (sym c.as_slice.ensures.value)
       (c.in-Ok.ensures.raw clean trees file)) (c.decode.ensures.wrong e);
   unread = λ clean e.

@@ -12,7 +12,7 @@ pub returns-in-Ok-clause-made : goal.returns-in-Ok-clause-made
 returns-in-Ok-clause-made g c =
     subst (λ h. HasCleanDisk (state g.S.Store h) → IsBlank (state g.S.Store c.args.conn)
     → HoldsBook g.S.Store h new_book) (sym c.open.ensures.is.0)
-    (λ clean blank. holds_new g.S.Store c.create_tables.new.conn c.new_book_is_sound.ensures
+    (λ clean blank. holds_new g.S.Store c.create_tables.new.conn c.first_rows_are_the_new_book.ensures
     (c.in-Ok.ensures.done clean blank))
 
 pub returns-in-Ok-clause-stops : goal.returns-in-Ok-clause-stops
@@ -20,7 +20,7 @@ returns-in-Ok-clause-stops g c =
     subst (λ h. HasCleanDisk (state g.S.Store h) → IsBlank (state g.S.Store c.args.conn) → (other : Book)
     → MayLeave g.S.Store h other → other ≡ new_book) (sym c.open.ensures.is.0)
     (λ clean blank. only_new c.rows_tell_the_book.ensures c.no_tables_hold_no_book.ensures g.S.Store
-    c.create_tables.new.conn c.new_book_is_sound.ensures
+    c.create_tables.new.conn c.first_rows_are_the_new_book.ensures
     (leaves_new g.S.Store c.args.conn c.create_tables.new.conn c.create_tables.ensures.crash clean blank
     (c.leaves_no_tables.ensures blank)))
 
@@ -35,7 +35,7 @@ returns-in-Err-clause-tables g c clean blank trees left = elim
 pub returns-in-Err-clause-left : goal.returns-in-Err-clause-left
 returns-in-Err-clause-left g c clean blank other left =
     only_new c.rows_tell_the_book.ensures c.no_tables_hold_no_book.ensures g.S.Store c.fault_of-fault.new.conn
-    c.new_book_is_sound.ensures (λ trees at. returns-in-Err-clause-tables g c clean blank trees at) other left
+    c.first_rows_are_the_new_book.ensures (λ trees at. returns-in-Err-clause-tables g c clean blank trees at) other left
 
 pub returns-in-Err-clause-memory : goal.returns-in-Err-clause-memory
 returns-in-Err-clause-memory g c want clean blank =
