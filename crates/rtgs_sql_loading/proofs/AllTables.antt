@@ -53,15 +53,12 @@ weaker are on = both are are (λ table counted told tells _. on table counted to
 pub own_records : {P : Telling} {accounts : List Account} {book : Book} → AreTheRecords P accounts book
     → IsNumberedBook book → AreTheRecords (λ _ counted. AllByRecursion (IsOwn counted)) accounts book
 own_records {accounts = accounts} {book = book} are low =
+    let day = all_own (shown_day book.day ∷ []) in
+    let stored = all_own (map shown_account accounts) in
     let postings = owns posting_records IsNumberedPosting posting_own book.postings low.postings in
     let orders = owns order_records IsNumberedOrder order_own book.orders low.orders in
     let marks = owns mark_records IsNumberedMark mark_own book.marks low.marks in
-    record {
-      fits = are.fits;
-      named = are.named;
-      tells = (all_own (shown_day book.day ∷ []), (all_own (map shown_account accounts),
-          (postings, (orders, (marks, tt)))));
-    }
+    record { fits = are.fits; named = are.named; tells = (day, (stored, (postings, (orders, (marks, tt))))) }
 
 -- ---- what is read of each
 

@@ -28,7 +28,10 @@ use sqlite::{Alter, Connection};
 use std::alloc::{AllocError, Global};
 
 /// What the five tables hold, in the order in which they are read.
-type AllTables = (Day, (Vec<Account>, (Vec<Posting>, (Vec<Order>, (Vec<Mark>, ())))));
+type AllTables = (
+    Day,
+    (Vec<Account>, (Vec<Posting>, (Vec<Order>, (Vec<Mark>, ())))),
+);
 
 /// A book as it stands in the tables, with the stored balances.
 #[derive(Drop)]

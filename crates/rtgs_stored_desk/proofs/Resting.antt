@@ -12,7 +12,6 @@ use Rattle.rtgs_book.specs.declared.Book.{Book}
 use Rattle.rtgs_book.specs.declared.Fault.{Fault}
 use Rattle.rtgs_book.specs.declared.Fault.TheVariants.{OutOfMemory}
 use Rattle.rtgs_book.specs.Books.{new_book}
-use Rattle.rtgs_book.specs.Soundness.{IsSound}
 use Rattle.rtgs_keeper.specs.declared.commit_fault.CommitFault.{CommitFault}
 use Rattle.rtgs_keeper.specs.declared.commit_fault.CommitFault.TheVariants as commit
 use Rattle.rtgs_rows.specs.Content.{HasNoTables}
