@@ -205,6 +205,8 @@ same_participants one other ps r s p q =
 pub once : DatesTell → (one other : Book) (c d : Content) → IsBookOf one c → IsBookOf other d
     → tables_for c ≡ tables_for d → other ≡ one
 once dates one other c d h k e =
+    let ours = h.records.lists in
+    let theirs = k.records.lists in
     let holdings : d.holdings ≡ c.holdings = rows_once holding_row (λ _. Unit {0}) (λ a b _ _. holding_once a b)
     d.holdings c.holdings (all_of _ (λ _. tt) _) (all_of _ (λ _. tt) _)
     (sym (ap (rows_in participant_table) e)) in
@@ -213,16 +215,16 @@ once dates one other c d h k e =
     (subst (λ hs. IsPermutation (map (λ (h : Holding). h.participant) hs) other.participants) holdings
     k.records.participants) in
     let days = same_records {row = day_row} {P = λ (day : Day). FitsDate day.date} (day_once dates)
-    (ap (λ day. day ∷ []) k.records.lists.day) (ap (λ day. day ∷ []) h.records.lists.day) (k.fits.day, tt) (h.fits.day, tt)
+    (ap (λ day. day ∷ []) theirs.day) (ap (λ day. day ∷ []) ours.day) (k.fits.day, tt) (h.fits.day, tt)
     (ap (rows_in desk_table) e) in
     let day : other.day ≡ one.day = cc in
     λ i. record {
       participants = participants i;
-      postings = same_records (posting_once dates) k.records.lists.postings h.records.lists.postings k.fits.postings h.fits.postings
+      postings = same_records (posting_once dates) theirs.postings ours.postings k.fits.postings h.fits.postings
           (ap (rows_in posting_table) e) i;
-      orders = same_records (order_once dates) k.records.lists.orders h.records.lists.orders k.fits.orders h.fits.orders
+      orders = same_records (order_once dates) theirs.orders ours.orders k.fits.orders h.fits.orders
           (ap (rows_in payment_table) e) i;
-      marks = same_records (mark_once dates) k.records.lists.marks h.records.lists.marks k.fits.marks h.fits.marks
+      marks = same_records (mark_once dates) theirs.marks ours.marks k.fits.marks h.fits.marks
           (ap (rows_in mark_table) e) i;
       day = day i;
     }

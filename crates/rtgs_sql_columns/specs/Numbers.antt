@@ -1,5 +1,5 @@
 -- Numbers of records, as they are read.
-use Rattle.std.specs.Prelude.{◌≡◌, ℕ, ℤ, pos, negsuc, Bool, true, false, List, [], ◌∷◌, ◌<◌, ⊤}
+use Rattle.std.specs.Prelude.{◌≡◌, ℕ, ℤ, pos, negsuc, Bool, true, false, List, [], ◌∷◌, map, ◌<◌, ⊤}
 use Rattle.std.specs.List.{AllByRecursion}
 use Rattle.sqlite.specs.Order.{Row}
 use Rattle.sqlite.specs.declared.types.Value.{Value}
@@ -31,6 +31,10 @@ as_read [] row = row
 as_read (place ∷ places) [] = []
 as_read (true ∷ places) (value ∷ row) = at_least_zero value ∷ as_read places row
 as_read (false ∷ places) (value ∷ row) = value ∷ as_read places row
+
+-- the rows are read as those of these records
+abbrev pub AreReadAs : {A : Type 0} → TableRecords A → List Row → List A → Type 0
+AreReadAs records rows all = map (as_read records.counted) rows ≡ map records.shown all
 
 -- the row is in the form of a record of the table
 abbrev pub IsFormed : {A : Type 0} → TableRecords A → Row → Type 0

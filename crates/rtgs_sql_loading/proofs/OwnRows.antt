@@ -57,8 +57,8 @@ head_of v u r s e = cc
 tail_of : (v u : Value) (r s : Row) → ◌≡◌ {A = Row} (v ∷ r) (u ∷ s) → r ≡ s
 tail_of v u r s e = cc
 
-pub posting_own : (row : Row) (p : Posting) → IsNumberedPosting p → as_read posting_records.counted row ≡ shown_posting p
-    → row ≡ shown_posting p
+pub posting_own : (row : Row) (p : Posting) → IsNumberedPosting p
+    → as_read posting_records.counted row ≡ shown_posting p → row ≡ shown_posting p
 posting_own [] p low e = absurd cc
 posting_own (v ∷ row) p low e = ap₂ ◌∷◌ (above_in v p.number low (head_of _ _ _ _ e)) (tail_of _ _ _ _ e)
 

@@ -35,12 +35,13 @@ first_of : {A : Type 0} (records : TableRecords A) (row : A → Row) (number : A
     → (trees : Trees) (all held : List A) → overlay trees [] records.table.tree ≡ map row held → held ≡ all
     → Rise (λ a. pos (number a)) held → ShowsFirst records trees low (first_above number low all)
 first_of records row number low answers read tested by shows trees all held here same up rows a =
-    read rows _ (first_rows answers records.table row records.shown (λ it. pos (number it)) (λ it. nat_lt low (number it))
-    (Int (pos low) ∷ []) tested by shows trees all (subst (Rise (λ it. pos (number it))) same up)
+    read rows _ (first_rows answers records.table row records.shown (λ it. pos (number it))
+    (λ it. nat_lt low (number it)) (Int (pos low) ∷ []) tested by shows trees all (subst (Rise (λ it. pos (number it))) same up)
     (here ∙ ap (map row) same) rows a)
 
 -- the rows of a table at rest
-held_in : (content : Content) (s : State) → Rests content s → (t : Table) → s.now.trees t.tree ≡ s.committed.trees t.tree
+held_in : (content : Content) (s : State) → Rests content s → (t : Table)
+    → s.now.trees t.tree ≡ s.committed.trees t.tree
 held_in content s rests t = ap (λ (d : Database). d.trees t.tree) rests.clean
 
 pub posting_first : RecordsStandInOrder → OneTableAnswers → RecordsAreRead posting_records → (number : ℕ) (book : Book)

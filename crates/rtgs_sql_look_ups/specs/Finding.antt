@@ -19,7 +19,7 @@ use Rattle.sqlite_trees.specs.declared.store.Store.{Ghosts}
 use Rattle.rtgs_book.specs.declared.Fault.{Fault}
 use Rattle.rtgs_book.specs.declared.Fault.TheVariants.{OutOfMemory, StoreFault}
 use Rattle.rtgs_rows.specs.TableRecords.{TableRecords}
-use Rattle.rtgs_sql_columns.specs.Numbers.{as_read}
+use Rattle.rtgs_sql_columns.specs.Numbers.{AreReadAs}
 use Rattle.rtgs_sql_columns.specs.OneTable.{simple}
 use Rattle.rtgs_sql_columns.specs.Tables.{column_names}
 use Rattle.rtgs_sql_queries.specs.Answering.{KeepsTables, Returnless}
@@ -58,4 +58,4 @@ pub record IsFirstQuery (t : Table) (text : List ℕ) : Type 0 where
 abbrev pub ShowsFirst : {A : Type 0} → TableRecords A → Trees → ℕ → Option A → Type 0
 ShowsFirst records trees number found = (rows : List Row)
     → IsAnswer (first_row_query records.table) (overlay trees []) (Int (pos number) ∷ []) rows
-    → map (as_read records.counted) rows ≡ map records.shown (one_of found)
+    → AreReadAs records rows (one_of found)

@@ -8,7 +8,7 @@ ghost use Rattle.rtgs_rows.specs.Rows.{shown_posting, shown_order};
 ghost use Rattle.rtgs_sql_queries.specs.Answering.{IsQuery, KeepsTables};
 ghost use Rattle.rtgs_sql_queries.specs.Faults.{LookFailed};
 ghost use Rattle.rtgs_sql_look_ups.specs.Finding.{one_of, IsLook};
-ghost use Rattle.rtgs_sql_columns.specs.Numbers.{as_read};
+ghost use Rattle.rtgs_sql_columns.specs.Numbers.{AreReadAs};
 ghost use Rattle.sqlite.specs.State.{HasCleanDisk, IsUnchanged, Survives};
 ghost use Rattle.sqlite.specs.Held.{state};
 
@@ -82,7 +82,7 @@ pub(crate) fn fault_of<S: Alter>(conn: &mut Connection<S>, error: &Error) -> Fau
 /// store.
 pub(crate) fn only_record<T: TableRow + Drop>(rows: &[Row]) -> Result<Option<T>, Fault>
     ensures found { (found : Option T) → AllByRecursion T.records.fits (one_of found)
-        → map (as_read T.records.counted) rows.now ≡ map T.records.shown (one_of found) → result ≡ Ok found }
+        → AreReadAs T.records rows.now (one_of found) → result ≡ Ok found }
     ensures none { result ≡ Ok None → rows.now ≡ [] }
     ensures kinds { IfErr result (λ fault. fault ≡ Fault.StoreFault) }
 {

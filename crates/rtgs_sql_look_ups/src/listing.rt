@@ -31,8 +31,8 @@ fn rows_after<T: TableRow, S: Alter>(
     requires { (number < 2 ^ 63) × IsFirstQuery T.records.table text.now }
     ensures asks { IsQuery S.Store conn.old conn.new result }
     ensures rows { HasCleanDisk (state S.Store conn.new) → (content : Content) → Rests content (state S.Store conn.old)
-        → IfOk result (λ rows. IsAnswer (first_row_query T.records.table) (overlay (state S.Store conn.old).now.trees [])
-        (Int (pos number) ∷ []) rows.items) }
+        → IfOk result (λ rows. IsAnswer (first_row_query T.records.table)
+        (overlay (state S.Store conn.old).now.trees []) (Int (pos number) ∷ []) rows.items) }
 {
     asked_rows(conn, text, &[number_value(number)])
 }

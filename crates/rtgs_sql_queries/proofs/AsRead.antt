@@ -79,7 +79,8 @@ posting_columns (v ∷ row) p e =
       date = ap (λ (r : Row). column r 3) rest;
     }
 
-pub posting_read : (row : Row) (p : Posting) → PostingColumns row p → as_read posting_records.counted row ≡ shown_posting p
+pub posting_read : (row : Row) (p : Posting) → PostingColumns row p
+    → as_read posting_records.counted row ≡ shown_posting p
 posting_read [] p at = absurd (let wide = at.wide in omega (arith, wide))
 posting_read (v ∷ row) p at = ap₂ ◌∷◌ at.number (of_four row (let wide = at.wide in omega (arith, wide)) at.code
     at.reference at.cents at.date)

@@ -71,7 +71,7 @@ columns_of t = shown_columns (places t)
 abbrev pub rising_by : ℕ → List (Term × Key)
 rising_by place = (col 1 place, record { collation = Binary; descending = false }) ∷ []
 
--- the columns that are named, of all rows of the table, sorted by one of them
+-- the columns that are named, of all rows of the table, sorted by the first of them
 abbrev pub whole_table : Table → Query
 whole_table t = simple t.tree [] (columns_of t) (rising_by (place_of t 0))
 

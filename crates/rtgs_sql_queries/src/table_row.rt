@@ -1,9 +1,9 @@
 //! What a table's row says.
-ghost use Rattle.std.specs.Prelude.{◌≡◌, ◌≢◌, List, map, Some, Err, IfOk, IfSome};
+ghost use Rattle.std.specs.Prelude.{◌≡◌, ◌≢◌, List, Some, Err, IfOk, IfSome};
 ghost use Rattle.std.specs.List.{AllByRecursion};
 ghost use Rattle.rtgs_book.specs.declared.Rule.{Rule};
 ghost use Rattle.rtgs_rows.specs.TableRecords.{TableRecords};
-ghost use Rattle.rtgs_sql_columns.specs.Numbers.{as_read, IsFormed};
+ghost use Rattle.rtgs_sql_columns.specs.Numbers.{as_read, AreReadAs, IsFormed};
 ghost use Rattle.rtgs_sql_columns.specs.Tables.{query_text};
 ghost use Rattle.rtgs_sql_queries.specs.TableQueries.{IsTableQuery, ShowsOwn};
 
@@ -34,9 +34,9 @@ pub trait TableRow: Sized {
 /// The records of the rows, in their order. A row that is in no form is `NotADeskFile`, also where memory is wanting.
 pub fn decode<T: TableRow + Drop>(alloc: Global, rows: &[Row]) -> Result<Vec<T>, Fault>
     ensures given { (records : List T) → AllByRecursion T.records.fits records
-        → map (as_read T.records.counted) rows.now ≡ map T.records.shown records → IfOk result (λ v. v.items ≡ records) }
+        → AreReadAs T.records rows.now records → IfOk result (λ v. v.items ≡ records) }
     ensures is { IfOk result (λ v. AllByRecursion T.records.fits v.items
-        × (map (as_read T.records.counted) rows.now ≡ map T.records.shown v.items)) }
+        × AreReadAs T.records rows.now v.items) }
     ensures wrong { result ≡ Err Fault.NotADeskFile
         → ¬ AllByRecursion (IsFormed T.records) rows.now }
     ensures memory { result ≡ Err Fault.OutOfMemory

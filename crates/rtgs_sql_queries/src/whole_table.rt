@@ -5,7 +5,7 @@ ghost use Rattle.rtgs_book.specs.declared.Book.{Book};
 ghost use Rattle.rtgs_book.specs.declared.account.Account.{Account as AccountSpec};
 ghost use Rattle.rtgs_rows.specs.Querying.{ShowsTable, IsDeskFile};
 ghost use Rattle.rtgs_rows.specs.Tables.{desk_schema};
-ghost use Rattle.rtgs_sql_columns.specs.Numbers.{as_read};
+ghost use Rattle.rtgs_sql_columns.specs.Numbers.{as_read, AreReadAs};
 ghost use Rattle.rtgs_sql_columns.specs.Tables.{query_text};
 ghost use Rattle.rtgs_sql_queries.specs.Answering.{KeepsTables};
 ghost use Rattle.rtgs_sql_queries.specs.Records.{HasRecords};
@@ -31,9 +31,10 @@ pub fn table_rows<T: TableRow, S: Alter>(
         → IfOk result (λ rows. rows.items ≡ map T.records.shown (T.records.of_book accounts book)) }
     ensures read { HasCleanDisk (state S.Store conn.new) → (accounts : List AccountSpec) (book : Book)
         → HasRecords accounts book (state S.Store conn.old)
-        → IfOk result (λ rows. map (as_read T.records.counted) rows.items ≡ map T.records.shown (T.records.of_book accounts book)) }
+        → IfOk result (λ rows. AreReadAs T.records rows.items (T.records.of_book accounts book)) }
     ensures fit { HasCleanDisk (state S.Store conn.new) → (accounts : List AccountSpec) (book : Book)
-        → HasRecords accounts book (state S.Store conn.old) → AllByRecursion T.records.fits (T.records.of_book accounts book) }
+        → HasRecords accounts book (state S.Store conn.old)
+        → AllByRecursion T.records.fits (T.records.of_book accounts book) }
     ensures own { (it : T) → as_read T.records.counted (T.records.shown it) ≡ T.records.shown it }
     ensures raw { HasCleanDisk (state S.Store conn.new) → (trees : Trees) → IsDeskFile trees (state S.Store conn.old)
         → IfOk result (λ rows. ShowsTable T.records.table trees rows.items) }

@@ -5,13 +5,14 @@ use Rattle.rtgs_sql_queries.proofs.Decoding.{begun, one_more, all_at, map_length
 use Rattle.rtgs_sql_queries.proofs.table_row.decode.Goals as goal
 
 pub loop-row-init : goal.loop-row-init
-loop-row-init g c = begun g.T.TableRow.records.fits (as_read g.T.TableRow.records.counted) g.T.TableRow.records.shown c.args.rows.now _ _
-    (search rules) (search rules)
+loop-row-init g c =
+    let t = g.T.TableRow.records in
+    begun t.fits (as_read t.counted) t.shown c.args.rows.now _ _ (search rules) (search rules)
 
 pub loop-row-preserved : goal.loop-row-preserved
 loop-row-preserved g c =
-    one_more g.T.TableRow.records.fits (as_read g.T.TableRow.records.counted) g.T.TableRow.records.shown c.args.rows.now c.loop-row.row-index _
-    _ c.loop-row.invariant c.row-item.result c.in-Some.record c.loop-row-test.true c.row-item.is
+    let t = g.T.TableRow.records in
+    one_more t.fits (as_read t.counted) t.shown c.args.rows.now c.loop-row.row-index _ _ c.loop-row.invariant c.row-item.result c.in-Some.record c.loop-row-test.true c.row-item.is
     c.in-Some.ensures.is.0 c.in-Some.ensures.is.1 c.in-Some.ensures.found _ _ c.push_reserved.ensures.items
     c.push_reserved.ensures.capacity
 

@@ -4,5 +4,6 @@ use Rattle.rtgs_sql_queries.proofs.Decoding.{SoFar}
 use Rattle.rtgs_sql_queries.proofs.table_row.decode.Given as goal
 
 abbrev pub invariant-loop-row : goal.invariant-loop-row
-invariant-loop-row g l = SoFar g.T.TableRow.records.fits (as_read g.T.TableRow.records.counted) g.T.TableRow.records.shown l.rows l.row-index
-    (vec_capacity l.records) l.records.items
+invariant-loop-row g l =
+    let t = g.T.TableRow.records in
+    SoFar t.fits (as_read t.counted) t.shown l.rows l.row-index (vec_capacity l.records) l.records.items

@@ -18,7 +18,8 @@ pub returns-clause-rows : goal.returns-clause-rows
 returns-clause-rows g c clean accounts book held =
     let old = state g.S.Store c.args.conn.now in
     let new = state g.S.Store c.all_rows.new.conn in
-    shows_own c.one_table_answers.ensures g.T.TableRow.records c.query.ensures.asks c.query.ensures.shows old new held.0 accounts book held.1 held.2 c.all_rows.result
+    shows_own c.one_table_answers.ensures g.T.TableRow.records c.query.ensures.asks c.query.ensures.shows old new
+    held.0 accounts book held.1 held.2 c.all_rows.result
     (subst (λ text. IfOk c.all_rows.result (λ rows. Shown text [] old new rows.items)) c.query.ensures.is
     (c.all_rows.ensures.ok clean))
 
@@ -38,7 +39,8 @@ pub returns-clause-raw : goal.returns-clause-raw
 returns-clause-raw g c clean trees file =
     let old = state g.S.Store c.args.conn.now in
     let new = state g.S.Store c.all_rows.new.conn in
-    shows_all g.T.TableRow.records.table c.query.ensures.asks old new c.one_table_answers.ensures trees file c.all_rows.result
+    shows_all g.T.TableRow.records.table c.query.ensures.asks old new c.one_table_answers.ensures trees file
+    c.all_rows.result
     (subst (λ text. IfOk c.all_rows.result (λ rows. Shown text [] old new rows.items)) c.query.ensures.is
     (c.all_rows.ensures.ok clean))
 
@@ -80,6 +82,6 @@ pub returns-clause-unanswered : goal.returns-clause-unanswered
 returns-clause-unanswered g c clean =
     let old = state g.S.Store c.args.conn.now in
     let new = state g.S.Store c.all_rows.new.conn in
-    unanswered_amid (query_text g.T.TableRow.records.table) c.query.ensures.asks.query c.query.ensures.asks.foreign old new
-    c.all_rows.result
+    unanswered_amid (query_text g.T.TableRow.records.table) c.query.ensures.asks.query c.query.ensures.asks.foreign old
+    new c.all_rows.result
     (subst (λ text. IfErr c.all_rows.result (FailsAmid text old new)) c.query.ensures.is (c.all_rows.ensures.err clean))

@@ -22,7 +22,8 @@ returns-in-Ok-clause-stops g c =
 pub returns-in-Err-clause-refused : goal.returns-in-Err-clause-refused
 returns-in-Err-clause-refused g c clean blank = record {
   cause = subst IsMemoryOrStore (sym c.fault_of.ensures) (making_cause c.in-Err.fault);
-  leaves = λ trees left. none_or_new c.first_rows_are_the_new_book.ensures trees (c.in-Err.ensures.tables clean blank trees left);
+  leaves = λ trees left. none_or_new c.first_rows_are_the_new_book.ensures trees
+      (c.in-Err.ensures.tables clean blank trees left);
 }
 
 pub returns-in-Err-clause-memory : goal.returns-in-Err-clause-memory

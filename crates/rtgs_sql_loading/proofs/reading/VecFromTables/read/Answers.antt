@@ -12,7 +12,8 @@ use Rattle.rtgs_sql_loading.proofs.reading.VecFromTables.read.Goals as goal
 
 pub returns-in-Ok-clause-told : goal.returns-in-Ok-clause-told
 returns-in-Ok-clause-told g c clean =
-    reads_of g.T.TableRow.records (state g.S.Store c.args.conn.now) _ _ c.decode.result c.as_slice.ensures.value (c.in-Ok.ensures.answered clean).0 (c.in-Ok.ensures.raw clean)
+    reads_of g.T.TableRow.records (state g.S.Store c.args.conn.now) _ _ c.decode.result c.as_slice.ensures.value
+    (c.in-Ok.ensures.answered clean).0 (c.in-Ok.ensures.raw clean)
     (λ accounts book held. (
       c.table_rows.ensures.fit clean accounts book held,
       c.in-Ok.ensures.read clean accounts book held,
