@@ -1,6 +1,6 @@
 -- What CREATE TABLE does.
-use Rattle.std.proofs.Common.{◌≡◌, ◌⊎◌, inl, inr, ℕ, pos, List, [], ◌∷◌, ◌++◌, true, false, Option, None, Ok, Err}
-use Rattle.std.proofs.Common.{Result, OnOk, refl, sym, ap, subst, ◌∙◌, arith}
+use Rattle.std.proofs.Common.{◌≡◌, ◌⊎◌, inl, inr, ℕ, pos, List, [], ◌∷◌, ◌++◌, map, true, false, Option, None, Ok}
+use Rattle.std.proofs.Common.{Err, Result, OnOk, refl, sym, ap, subst, ◌∙◌, arith}
 use Rattle.std.specs.List.{AllByRecursion}
 use Rattle.sqlite.specs.Order.{Row}
 use Rattle.sqlite.specs.declared.error.Error.{Error}
@@ -19,7 +19,7 @@ use Rattle.sqlite.specs.Listing.{understood}
 use Rattle.sqlite.specs.Effect.{Database, value_rows}
 use Rattle.sqlite.specs.State.{State, mode_of, HasCleanDisk, Survives, Writes, ExecutesInside}
 use Rattle.sqlite.proofs.Callers.{statement_of, runs_as}
-use Rattle.rtgs_rows.specs.Tables.{no_schema, desk_schema, desk_table}
+use Rattle.rtgs_rows.specs.Tables.{no_schema, desk_schema, desk_table, desk_tables}
 use Rattle.rtgs_rows.specs.Content.{tables_of, tables_for, IsUnderWay}
 use Rattle.rtgs_rows.specs.Rows.{day_row}
 use Rattle.rtgs_sql_columns.specs.Blank.{IsBlank}
@@ -32,7 +32,7 @@ use Rattle.sqlite_trees.specs.declared.store.Store.{Ghosts}
 use Rattle.sqlite.specs.Held.{Held, state}
 use Rattle.rtgs_sql_writes.proofs.Casts.{cast_null, cast_int}
 use Rattle.rtgs_sql_writes.proofs.Steps.{IsPlainTable, inserts}
-use Rattle.rtgs_sql_writes.proofs.StateLemmas.{desk_over, frame_but, framed}
+use Rattle.rtgs_sql_writes.proofs.StateLemmas.{desk_over, frame_but, framed, with_rows}
 use Rattle.rtgs_sql_writes.specs.declared.create.TheConstants.{FIRST_DAY}
 use Rattle.rtgs_sql_writes.proofs.CreateTexts.{first_day_is, first_day_plain}
 
@@ -120,17 +120,17 @@ first_edit : (trees : Trees) → trees desk_table.tree ≡ [] → edited trees (
     (value_rows (stamped desk_table []) 5 1 first_terms)) ≡ (day_row first_content.day ∷ [])
 first_edit trees none = rw (cast_int (pos 1), cast_null, cast_int (pos 0), none)
 
+all_empty : (trees : Trees) (tables : List Table) → AllByRecursion (λ t. trees t.tree ≡ []) tables
+    → map (λ (t : Table). trees t.tree) tables ≡ map (λ _. []) tables
+all_empty trees [] none = refl
+all_empty trees (t ∷ tables) none = λ i. none.0 i ∷ all_empty trees tables none.1 i
+
 first_frame : (old new : Trees) → AllByRecursion (λ t. old t.tree ≡ []) desk_schema.tables
     → frame_but desk_table.tree old new → new desk_table.tree ≡ (day_row first_content.day ∷ [])
     → tables_of new ≡ tables_for first_content
 unfolding desk_schema
-first_frame old new none others here = framed desk_table.tree old new _ others here ∙ (λ i. record {
-  desk = day_row first_content.day ∷ [];
-  participants = none.1.0 i;
-  postings = none.1.1.0 i;
-  payments = none.1.1.1.0 i;
-  marks = none.1.1.1.1.0 i;
-})
+first_frame old new none others here = framed desk_table.tree old new _ here others
+    ∙ ap (with_rows desk_table (day_row first_content.day ∷ [])) (all_empty old desk_tables none)
 
 desk_empty : (trees : Trees) → AllByRecursion (λ t. trees t.tree ≡ []) desk_schema.tables → trees desk_table.tree ≡ []
 unfolding desk_schema
