@@ -1,5 +1,5 @@
 -- What CREATE TABLE does.
-use Rattle.std.proofs.Common.{◌≡◌, ◌⊎◌, inl, inr, ℕ, pos, List, [], ◌∷◌, ◌++◌, map, true, false, Option, None, Ok}
+use Rattle.std.proofs.Common.{◌≡◌, ◌⊎◌, inl, inr, ℕ, ◌+◌, pos, List, [], ◌∷◌, ◌++◌, map, true, false, Option, None, Ok}
 use Rattle.std.proofs.Common.{Err, Result, OnOk, refl, sym, ap, subst, ◌∙◌, arith}
 use Rattle.std.specs.List.{AllByRecursion}
 use Rattle.sqlite.specs.Order.{Row}
@@ -19,11 +19,11 @@ use Rattle.sqlite.specs.Listing.{understood}
 use Rattle.sqlite.specs.Effect.{Database, value_rows}
 use Rattle.sqlite.specs.State.{State, mode_of, HasCleanDisk, Survives, Writes, ExecutesInside}
 use Rattle.sqlite.proofs.Callers.{statement_of, runs_as}
-use Rattle.rtgs_rows.specs.Tables.{no_schema, desk_schema, desk_table, desk_tables}
+use Rattle.rtgs_rows.specs.Tables.{no_schema, desk_schema, with_tables, desk_table, desk_tables}
 use Rattle.rtgs_rows.specs.Content.{tables_of, tables_for, IsUnderWay}
 use Rattle.rtgs_rows.specs.Rows.{day_row}
 use Rattle.rtgs_sql_columns.specs.Blank.{IsBlank}
-use Rattle.rtgs_sql_writes.specs.Building.{IsBuilt, MakesTable, first_content}
+use Rattle.rtgs_sql_writes.specs.Building.{IsBuilt, MakesTable, unplaced, first_content}
 use Rattle.sqlite.specs.Rows.{stamped}
 use Rattle.sqlite.specs.Edit.{edit_of, edited}
 use Rattle.sqlite.specs.Rowids.TheVariants.{Chosen}
@@ -81,33 +81,32 @@ one_more : (tables : List Table) (table : Table) (new : Trees) → AllByRecursio
 one_more [] table new all one = (one, tt)
 one_more (t ∷ more) table new all one = (all.0, one_more more table new all.1 one)
 
-built : (was : Database) (schema next : Schema) (table : Table) (old new : State) (text : List ℕ) (count : ℕ)
-    → IsBuilt was schema old → MakesTable text schema table next → ExecutesInside 0 text [] old new (Ok count)
-    → IsBuilt was next new
-built was schema next table old new text count is it h =
+built : (was : Database) (at : ℕ) (old new : State) (text : List ℕ) (count : ℕ) → IsBuilt was (with_tables at) old
+    → MakesTable at text → ExecutesInside 0 text [] old new (Ok count) → IsBuilt was (with_tables (at + 1)) new
+built was at old new text count is it h =
+    let schema = with_tables at in
     let w = subst (λ t. Writes old new None CreateTable t [] count) it.whole
     (runs_as text [] old new schema is.schema_is CreateTable it.command it.plain count h.0) in
     let db : Database = record { schema = schema; trees = old.now.trees } in
     let done = subst (λ s. Does old.step_limit (mode_of old) [] (record old.now { schema = s }) text None CreateTable
     (Ok (w.tally, new.now))) is.schema_is w.changed in
-    let made = makes old.step_limit (mode_of old) [] db text table w.tally new.now it.defined
+    let made = makes old.step_limit (mode_of old) [] db text (unplaced at) w.tally new.now it.defined
     (ap lacks_sequence it.is ∙ it.uncounted) done in
     record {
       is_open = h.1.is_open;
       inside = h.1.mode;
       schema_is = made.schema ∙ it.is;
       empty = subst (λ (s : Schema). AllByRecursion (λ t. new.now.trees t.tree ≡ []) s.tables) it.is
-          (one_more schema.tables (record table { tree = next_tree schema }) new.now.trees
+          (one_more schema.tables (record (unplaced at) { tree = next_tree schema }) new.now.trees
           (still_empty schema.tables old.now.trees new.now.trees made.others is.empty) made.empty);
       committed = h.1.committed_is ∙ is.committed;
     }
 
-pub builds : (was : Database) (schema next : Schema) (table : Table) (old new : State) (text : List ℕ)
-    (r : Result ℕ Error) → IsBuilt was schema old → MakesTable text schema table next → ExecutesInside 0 text [] old new
-    r
-    → OnOk r (IsBuilt was next new)
-builds was schema next table old new text (Ok count) is it h = built was schema next table old new text count is it h
-builds was schema next table old new text (Err e) is it h = tt
+pub builds : (was : Database) (at : ℕ) (old new : State) (text : List ℕ) (r : Result ℕ Error)
+    → IsBuilt was (with_tables at) old → MakesTable at text → ExecutesInside 0 text [] old new r
+    → OnOk r (IsBuilt was (with_tables (at + 1)) new)
+builds was at old new text (Ok count) is it h = built was at old new text count is it h
+builds was at old new text (Err e) is it h = tt
 
 desk_is_plain : (trees : Trees) (mode : Mode) → IsPlainTable (desk_over trees) mode 0 desk_table
 unfolding desk_schema
