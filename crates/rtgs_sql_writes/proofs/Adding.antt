@@ -46,4 +46,4 @@ module _ {A : Type 0} (text : List ℕ) (at : ℕ) (table : Table) (terms : List
       let rows : new.now.trees table.tree ≡ map row (all ++ it ∷ []) = made.rows ∙ edit old.now.trees
       ∙ ap (put_row (row it)) here ∙ put_last row id is_id it all low in
       stands_on was old new content after stands h.1 made.schema made.sound
-      (framed table.tree old.now.trees new.now.trees _ made.frame rows ∙ next)
+      (framed table.tree old.now.trees new.now.trees _ rows made.frame ∙ next)

@@ -1,6 +1,6 @@
 -- What CREATE TABLE does.
-use Rattle.std.proofs.Common.{◌≡◌, ◌⊎◌, inl, inr, ℕ, pos, List, [], ◌∷◌, ◌++◌, true, false, Option, None, Ok, Err}
-use Rattle.std.proofs.Common.{Result, OnOk, refl, sym, ap, subst, ◌∙◌, arith}
+use Rattle.std.proofs.Common.{◌≡◌, ◌⊎◌, inl, inr, ℕ, ◌+◌, pos, List, [], ◌∷◌, ◌++◌, map, true, false, Option, None, Ok}
+use Rattle.std.proofs.Common.{Err, Result, OnOk, refl, sym, ap, subst, ◌∙◌, arith}
 use Rattle.std.specs.List.{AllByRecursion}
 use Rattle.sqlite.specs.Order.{Row}
 use Rattle.sqlite.specs.declared.error.Error.{Error}
@@ -19,11 +19,11 @@ use Rattle.sqlite.specs.Listing.{understood}
 use Rattle.sqlite.specs.Effect.{Database, value_rows}
 use Rattle.sqlite.specs.State.{State, mode_of, HasCleanDisk, Survives, Writes, ExecutesInside}
 use Rattle.sqlite.proofs.Callers.{statement_of, runs_as}
-use Rattle.rtgs_rows.specs.Tables.{no_schema, desk_schema, desk_table}
+use Rattle.rtgs_rows.specs.Tables.{no_schema, desk_schema, with_tables, desk_table, desk_tables}
 use Rattle.rtgs_rows.specs.Content.{tables_of, tables_for, IsUnderWay}
 use Rattle.rtgs_rows.specs.Rows.{day_row}
 use Rattle.rtgs_sql_columns.specs.Blank.{IsBlank}
-use Rattle.rtgs_sql_writes.specs.Building.{IsBuilt, MakesTable, first_content}
+use Rattle.rtgs_sql_writes.specs.Building.{IsBuilt, MakesTable, unplaced, first_content}
 use Rattle.sqlite.specs.Rows.{stamped}
 use Rattle.sqlite.specs.Edit.{edit_of, edited}
 use Rattle.sqlite.specs.Rowids.TheVariants.{Chosen}
@@ -32,7 +32,7 @@ use Rattle.sqlite_trees.specs.declared.store.Store.{Ghosts}
 use Rattle.sqlite.specs.Held.{Held, state}
 use Rattle.rtgs_sql_writes.proofs.Casts.{cast_null, cast_int}
 use Rattle.rtgs_sql_writes.proofs.Steps.{IsPlainTable, inserts}
-use Rattle.rtgs_sql_writes.proofs.StateLemmas.{desk_over, frame_but, framed}
+use Rattle.rtgs_sql_writes.proofs.StateLemmas.{desk_over, frame_but, framed, with_rows}
 use Rattle.rtgs_sql_writes.specs.declared.create.TheConstants.{FIRST_DAY}
 use Rattle.rtgs_sql_writes.proofs.CreateTexts.{first_day_is, first_day_plain}
 
@@ -81,33 +81,32 @@ one_more : (tables : List Table) (table : Table) (new : Trees) → AllByRecursio
 one_more [] table new all one = (one, tt)
 one_more (t ∷ more) table new all one = (all.0, one_more more table new all.1 one)
 
-built : (was : Database) (schema next : Schema) (table : Table) (old new : State) (text : List ℕ) (count : ℕ)
-    → IsBuilt was schema old → MakesTable text schema table next → ExecutesInside 0 text [] old new (Ok count)
-    → IsBuilt was next new
-built was schema next table old new text count is it h =
+built : (was : Database) (at : ℕ) (old new : State) (text : List ℕ) (count : ℕ) → IsBuilt was (with_tables at) old
+    → MakesTable at text → ExecutesInside 0 text [] old new (Ok count) → IsBuilt was (with_tables (at + 1)) new
+built was at old new text count is it h =
+    let schema = with_tables at in
     let w = subst (λ t. Writes old new None CreateTable t [] count) it.whole
     (runs_as text [] old new schema is.schema_is CreateTable it.command it.plain count h.0) in
     let db : Database = record { schema = schema; trees = old.now.trees } in
     let done = subst (λ s. Does old.step_limit (mode_of old) [] (record old.now { schema = s }) text None CreateTable
     (Ok (w.tally, new.now))) is.schema_is w.changed in
-    let made = makes old.step_limit (mode_of old) [] db text table w.tally new.now it.defined
+    let made = makes old.step_limit (mode_of old) [] db text (unplaced at) w.tally new.now it.defined
     (ap lacks_sequence it.is ∙ it.uncounted) done in
     record {
       is_open = h.1.is_open;
       inside = h.1.mode;
       schema_is = made.schema ∙ it.is;
       empty = subst (λ (s : Schema). AllByRecursion (λ t. new.now.trees t.tree ≡ []) s.tables) it.is
-          (one_more schema.tables (record table { tree = next_tree schema }) new.now.trees
+          (one_more schema.tables (record (unplaced at) { tree = next_tree schema }) new.now.trees
           (still_empty schema.tables old.now.trees new.now.trees made.others is.empty) made.empty);
       committed = h.1.committed_is ∙ is.committed;
     }
 
-pub builds : (was : Database) (schema next : Schema) (table : Table) (old new : State) (text : List ℕ)
-    (r : Result ℕ Error) → IsBuilt was schema old → MakesTable text schema table next → ExecutesInside 0 text [] old new
-    r
-    → OnOk r (IsBuilt was next new)
-builds was schema next table old new text (Ok count) is it h = built was schema next table old new text count is it h
-builds was schema next table old new text (Err e) is it h = tt
+pub builds : (was : Database) (at : ℕ) (old new : State) (text : List ℕ) (r : Result ℕ Error)
+    → IsBuilt was (with_tables at) old → MakesTable at text → ExecutesInside 0 text [] old new r
+    → OnOk r (IsBuilt was (with_tables (at + 1)) new)
+builds was at old new text (Ok count) is it h = built was at old new text count is it h
+builds was at old new text (Err e) is it h = tt
 
 desk_is_plain : (trees : Trees) (mode : Mode) → IsPlainTable (desk_over trees) mode 0 desk_table
 unfolding desk_schema
@@ -120,17 +119,17 @@ first_edit : (trees : Trees) → trees desk_table.tree ≡ [] → edited trees (
     (value_rows (stamped desk_table []) 5 1 first_terms)) ≡ (day_row first_content.day ∷ [])
 first_edit trees none = rw (cast_int (pos 1), cast_null, cast_int (pos 0), none)
 
+all_empty : (trees : Trees) (tables : List Table) → AllByRecursion (λ t. trees t.tree ≡ []) tables
+    → map (λ (t : Table). trees t.tree) tables ≡ map (λ _. []) tables
+all_empty trees [] none = refl
+all_empty trees (t ∷ tables) none = λ i. none.0 i ∷ all_empty trees tables none.1 i
+
 first_frame : (old new : Trees) → AllByRecursion (λ t. old t.tree ≡ []) desk_schema.tables
     → frame_but desk_table.tree old new → new desk_table.tree ≡ (day_row first_content.day ∷ [])
     → tables_of new ≡ tables_for first_content
 unfolding desk_schema
-first_frame old new none others here = framed desk_table.tree old new _ others here ∙ (λ i. record {
-  desk = day_row first_content.day ∷ [];
-  participants = none.1.0 i;
-  postings = none.1.1.0 i;
-  payments = none.1.1.1.0 i;
-  marks = none.1.1.1.1.0 i;
-})
+first_frame old new none others here = framed desk_table.tree old new _ here others
+    ∙ ap (with_rows desk_table (day_row first_content.day ∷ [])) (all_empty old desk_tables none)
 
 desk_empty : (trees : Trees) → AllByRecursion (λ t. trees t.tree ≡ []) desk_schema.tables → trees desk_table.tree ≡ []
 unfolding desk_schema

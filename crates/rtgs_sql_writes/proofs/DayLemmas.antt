@@ -26,13 +26,13 @@ use Rattle.sqlite_value.proofs.OrderLemmas.{value_cmp-Int}
 use Rattle.rtgs_sql_writes.proofs.Casts.{cast_null, cast_int, cast_date, bound_date}
 use Rattle.rtgs_sql_writes.proofs.Steps.{IsPlainTable}
 use Rattle.rtgs_sql_columns.specs.OneTable.{simple, passes, shows, OneTableAnswers}
-use Rattle.rtgs_sql_writes.proofs.StateLemmas.{desk_over, framed, stands_on}
+use Rattle.rtgs_sql_writes.proofs.StateLemmas.{desk_over, with_rows, framed, stands_on}
 use Rattle.rtgs_sql_writes.proofs.Writing.{updated}
 use Rattle.rtgs_sql_writes.proofs.Passing.{truth_of, same_number}
 use Rattle.rtgs_book.specs.declared.Day.{Day}
 use Rattle.rtgs_book.specs.declared.RowChange.TheVariants.{SetDay}
 use Rattle.rtgs_rows.specs.Rows.{date_value, phase_number, day_row}
-use Rattle.rtgs_rows.specs.Content.{Tables, Content, IsUnderWay, with_change}
+use Rattle.rtgs_rows.specs.Content.{rows_in, Content, IsUnderWay, with_change}
 use Rattle.rtgs_rows.specs.Tables.{desk_schema, desk_table as table}
 
 abbrev pub set_day_text : List ℕ
@@ -92,12 +92,12 @@ sets_day answers was content old new day (Ok count) values same stands given =
     (phase_number day.phase)) ∷ []) (bound_date day.date)) given in
     let made = updated set_day_text 0 table plain desk_is_plain old new (params day) count stands.schema h.0 answers
     table.tree tests project is in
-    let here : old.now.trees table.tree ≡ day_row content.day ∷ [] = ap (λ (t : Tables). t.desk) stands.holds.rows in
+    let here : old.now.trees table.tree ≡ day_row content.day ∷ [] = ap (rows_in table) stands.holds.rows in
     let passed : filter (passes tests (params day)) (old.now.trees table.tree)
     ≡ day_row content.day ∷ [] = rw (here, passes_one day content.day) in
     let rows : new.now.trees table.tree ≡ day_row day ∷ [] = made.2.rows
     ∙ edit old.now.trees content.day day made.0 here (subst
     (λ f. IsPermutation (map (shows project (params day)) f) made.0) passed made.1) in
     stands_on was old new content (with_change content (SetDay day)) stands h.1 made.2.schema made.2.sound
-    (framed table.tree old.now.trees new.now.trees _ made.2.frame rows
-    ∙ ap (λ (t : Tables). record t { desk = day_row day ∷ [] }) stands.holds.rows)
+    (framed table.tree old.now.trees new.now.trees _ rows made.2.frame
+    ∙ ap (with_rows table (day_row day ∷ [])) stands.holds.rows)

@@ -34,13 +34,13 @@ use Rattle.rtgs_rows.specs.RowLaws.{NextRowIsAbove}
 use Rattle.rtgs_sql_writes.proofs.Steps.{IsPlainTable}
 use Rattle.rtgs_sql_columns.specs.OneTable.{simple, passes, shows, OneTableAnswers}
 use Rattle.rtgs_sql_writes.proofs.Replacing.{Replaces, replaces}
-use Rattle.rtgs_sql_writes.proofs.StateLemmas.{desk_over, framed, stands_on}
+use Rattle.rtgs_sql_writes.proofs.StateLemmas.{desk_over, with_rows, framed, stands_on}
 use Rattle.rtgs_sql_writes.proofs.Writing.{inserted, updated}
 use Rattle.rtgs_sql_writes.proofs.Passing.{none_moved, truth_of, same_text, filter_map}
 use Rattle.rtgs_book.specs.declared.Participant.{Participant}
 use Rattle.rtgs_book.specs.declared.RowChange.TheVariants.{AddParticipant, SetCredit, SetBalance}
 use Rattle.rtgs_rows.specs.Rows.{participant_row}
-use Rattle.rtgs_rows.specs.Content.{Tables, Holding, Content, holding_row, IsUnderWay, IsInOrder, with_change}
+use Rattle.rtgs_rows.specs.Content.{rows_in, Holding, Content, holding_row, IsUnderWay, IsInOrder, with_change}
 use Rattle.rtgs_rows.specs.Content.{with_credit_in, with_balance_in, newcomer}
 use Rattle.rtgs_rows.specs.Tables.{desk_schema, participant_table as table}
 
@@ -80,14 +80,14 @@ adds_participant above was content old new p (Ok count) values same stands order
     let made = inserted participant_text 1 table plain participant_is_plain old new (participant_given p)
     count stands.schema h.0 terms 6 is in
     let here : old.now.trees table.tree ≡ map holding_row content.holdings =
-    ap (λ (t : Tables). t.participants) stands.holds.rows in
+    ap (rows_in table) stands.holds.rows in
     let fresh = newcomer content p in
     let rows : new.now.trees table.tree ≡ map holding_row (content.holdings ++ fresh ∷ []) =
     made.rows ∙ edit old.now.trees p ∙ ap (λ rows. put_row (participant_row (next_rowid rows) p (pos 0)) rows) here
     ∙ put_last holding_row (λ q. q.id) (λ _. refl) fresh content.holdings (above content.holdings order.ids) in
     stands_on was old new content (with_change content (AddParticipant p)) stands h.1 made.schema made.sound
-    (framed table.tree old.now.trees new.now.trees _ made.frame rows
-    ∙ ap (λ (t : Tables). record t { participants = map holding_row (content.holdings ++ fresh ∷ []) })
+    (framed table.tree old.now.trees new.now.trees _ rows made.frame
+    ∙ ap (with_rows table (map holding_row (content.holdings ++ fresh ∷ [])))
     stands.holds.rows)
 
 -- ---- what a code names
@@ -173,7 +173,7 @@ module _ (code : List ℕ) (balance : ℤ) where
       let made = updated balance_text 1 table balance_plain participant_is_plain old new balance_given
       count stands.schema h.0 answers table.tree tests balance_project balance_is in
       let here : old.now.trees table.tree ≡ map holding_row all =
-      ap (λ (t : Tables). t.participants) stands.holds.rows in
+      ap (rows_in table) stands.holds.rows in
       let passed : filter (passes tests balance_given) (old.now.trees table.tree)
       ≡ map holding_row (filter (has code) all) = rw here
       (filter_map holding_row _ (has code) (passes_one code (Int balance)) all) in
@@ -184,8 +184,8 @@ module _ (code : List ℕ) (balance : ℤ) where
       (subst (λ f. IsPermutation (map (shows balance_project balance_given) f) made.0) passed made.1) in
       stands_on was old new content (with_change content (SetBalance code balance)) stands h.1 made.2.schema
       made.2.sound
-      (framed table.tree old.now.trees new.now.trees _ made.2.frame rows
-      ∙ ap (λ (t : Tables). record t { participants = map holding_row (map (with_balance_in code balance) all) })
+      (framed table.tree old.now.trees new.now.trees _ rows made.2.frame
+      ∙ ap (with_rows table (map holding_row (map (with_balance_in code balance) all)))
       stands.holds.rows)
 
 -- ---- the credit limit
@@ -238,7 +238,7 @@ module _ (code : List ℕ) (credit : ℕ) where
       let made = updated credit_text 1 table credit_plain participant_is_plain old new credit_given count
       stands.schema h.0 answers table.tree tests credit_project credit_is in
       let here : old.now.trees table.tree ≡ map holding_row all =
-      ap (λ (t : Tables). t.participants) stands.holds.rows in
+      ap (rows_in table) stands.holds.rows in
       let passed : filter (passes tests credit_given) (old.now.trees table.tree)
       ≡ map holding_row (filter (has code) all) = rw here
       (filter_map holding_row _ (has code) (passes_one code (Int (pos credit))) all) in
@@ -248,6 +248,6 @@ module _ (code : List ℕ) (credit : ℕ) where
       made.2.rows ∙ credit_edit old.now.trees all made.0 here found
       (subst (λ f. IsPermutation (map (shows credit_project credit_given) f) made.0) passed made.1) in
       stands_on was old new content (with_change content (SetCredit code credit)) stands h.1 made.2.schema made.2.sound
-      (framed table.tree old.now.trees new.now.trees _ made.2.frame rows
-      ∙ ap (λ (t : Tables). record t { participants = map holding_row (map (with_credit_in code credit) all) })
+      (framed table.tree old.now.trees new.now.trees _ rows made.2.frame
+      ∙ ap (with_rows table (map holding_row (map (with_credit_in code credit) all)))
       stands.holds.rows)

@@ -18,13 +18,13 @@ use Rattle.sqlite.proofs.Callers.{IsPlain, command_of}
 use Rattle.sqlite_tied.specs.Compute.{everything}
 use Rattle.rtgs_sql_writes.proofs.Casts.{cast_null, cast_int}
 use Rattle.rtgs_sql_writes.proofs.Steps.{IsPlainTable}
-use Rattle.rtgs_sql_writes.proofs.StateLemmas.{desk_over}
+use Rattle.rtgs_sql_writes.proofs.StateLemmas.{desk_over, with_rows}
 use Rattle.rtgs_sql_writes.proofs.Adding.{adds}
 use Rattle.rtgs_book.specs.declared.Mark.{Mark}
 use Rattle.rtgs_book.specs.declared.RowChange.TheVariants.{AddMark}
 use Rattle.rtgs_money.specs.Date.{date_text}
 use Rattle.rtgs_rows.specs.Rows.{mark_row}
-use Rattle.rtgs_rows.specs.Content.{Tables, Content, IsUnderWay, IsInOrder, with_change}
+use Rattle.rtgs_rows.specs.Content.{rows_in, Content, IsUnderWay, IsInOrder, with_change}
 use Rattle.rtgs_rows.specs.Tables.{desk_schema, mark_table as table}
 
 abbrev pub mark_text : List ℕ
@@ -58,6 +58,6 @@ pub adds_mark : (was : Database) (content : Content) (old new : State) (m : Mark
 adds_mark was content old new m r values same stands order h =
     adds mark_text 4 table terms 5 mark_row (λ q. pos q.number) (λ _. refl) is plain mark_is_plain (mark_given m) m
     (λ trees. edit trees m) was content (with_change content (AddMark m)) content.marks old new r stands
-    (ap (λ (t : Tables). t.marks) stands.holds.rows) order.marks
-    (ap (λ (t : Tables). record t { marks = map mark_row (content.marks ++ m ∷ []) }) stands.holds.rows)
+    (ap (rows_in table) stands.holds.rows) order.marks
+    (ap (with_rows table (map mark_row (content.marks ++ m ∷ []))) stands.holds.rows)
     (subst (λ all. ExecutesInside 0 mark_text all old new r) same h)

@@ -35,7 +35,7 @@ use Rattle.rtgs_sql_writes.proofs.Casts.{cast_null, cast_int, cast_mark, bound_m
 use Rattle.rtgs_sql_writes.proofs.Steps.{IsPlainTable}
 use Rattle.rtgs_sql_columns.specs.OneTable.{simple, passes, shows, OneTableAnswers}
 use Rattle.rtgs_sql_writes.proofs.Replacing.{Replaces, replaces}
-use Rattle.rtgs_sql_writes.proofs.StateLemmas.{desk_over, framed, stands_on}
+use Rattle.rtgs_sql_writes.proofs.StateLemmas.{desk_over, with_rows, framed, stands_on}
 use Rattle.rtgs_sql_writes.proofs.Adding.{adds}
 use Rattle.rtgs_sql_writes.proofs.Writing.{updated}
 use Rattle.rtgs_sql_writes.proofs.Passing.{none_moved, truth_of, same_number, filter_map}
@@ -46,7 +46,7 @@ use Rattle.rtgs_book.specs.Settle.{restated}
 use Rattle.rtgs_book.specs.Commands.{has_number}
 use Rattle.rtgs_money.specs.Date.{date_text}
 use Rattle.rtgs_rows.specs.Rows.{mark_value, state_number, payment_row}
-use Rattle.rtgs_rows.specs.Content.{Tables, Content, IsUnderWay, IsInOrder, with_change}
+use Rattle.rtgs_rows.specs.Content.{rows_in, Content, IsUnderWay, IsInOrder, with_change}
 use Rattle.rtgs_rows.specs.Tables.{desk_schema, payment_table as table}
 
 abbrev pub order_text : List ℕ
@@ -96,8 +96,8 @@ pub adds_order : (was : Database) (content : Content) (old new : State) (o : Ord
 adds_order was content old new o r values same stands order h =
     adds order_text 3 table terms 9 payment_row (λ q. pos q.number) (λ _. refl) is plain payment_is_plain (params o) o
     (λ trees. edit trees o) was content (with_change content (AddOrder o)) content.orders old new r stands
-    (ap (λ (t : Tables). t.payments) stands.holds.rows) order.orders
-    (ap (λ (t : Tables). record t { payments = map payment_row (content.orders ++ o ∷ []) }) stands.holds.rows)
+    (ap (rows_in table) stands.holds.rows) order.orders
+    (ap (with_rows table (map payment_row (content.orders ++ o ∷ []))) stands.holds.rows)
     (subst (λ all. ExecutesInside 0 order_text all old new r) (same ∙ given_is o) h)
 
 -- ---- the state of one order
@@ -194,7 +194,7 @@ module _ (number : ℕ) (state : OrderState) where
       let all = content.orders in
       let made = updated set_state_text 3 table set_state_plain payment_is_plain old new state_params count
       stands.schema h.0 answers table.tree tests project set_state_is in
-      let here : old.now.trees table.tree ≡ map payment_row all = ap (λ (t : Tables). t.payments) stands.holds.rows in
+      let here : old.now.trees table.tree ≡ map payment_row all = ap (rows_in table) stands.holds.rows in
       let passed : filter (passes tests state_params) (old.now.trees table.tree)
       ≡ map payment_row (filter (has_number number) all) =
       rw here (filter_map payment_row _ (has_number number) (passes_one number (Int (pos (state_number state)))
@@ -205,6 +205,6 @@ module _ (number : ℕ) (state : OrderState) where
       made.2.rows ∙ state_edit old.now.trees all made.0 here found
       (subst (λ f. IsPermutation (map (shows project state_params) f) made.0) passed made.1) in
       stands_on was old new content (with_change content (SetState number state)) stands h.1 made.2.schema made.2.sound
-      (framed table.tree old.now.trees new.now.trees _ made.2.frame rows
-      ∙ ap (λ (t : Tables). record t { payments = map payment_row (map (restated (has_number number) state) all) })
+      (framed table.tree old.now.trees new.now.trees _ rows made.2.frame
+      ∙ ap (with_rows table (map payment_row (map (restated (has_number number) state) all)))
       stands.holds.rows)

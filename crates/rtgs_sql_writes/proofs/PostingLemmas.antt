@@ -21,10 +21,10 @@ use Rattle.rtgs_book.specs.declared.Posting.{Posting}
 use Rattle.rtgs_book.specs.declared.RowChange.TheVariants.{AddPosting}
 use Rattle.rtgs_rows.specs.Tables.{desk_schema, posting_table as table}
 use Rattle.rtgs_rows.specs.Rows.{date_value, posting_row}
-use Rattle.rtgs_rows.specs.Content.{Tables, Content, IsUnderWay, IsInOrder, with_change}
+use Rattle.rtgs_rows.specs.Content.{rows_in, Content, IsUnderWay, IsInOrder, with_change}
 use Rattle.rtgs_sql_writes.proofs.Casts.{cast_null, cast_int, cast_date, bound_date}
 use Rattle.rtgs_sql_writes.proofs.Steps.{IsPlainTable}
-use Rattle.rtgs_sql_writes.proofs.StateLemmas.{desk_over}
+use Rattle.rtgs_sql_writes.proofs.StateLemmas.{desk_over, with_rows}
 use Rattle.rtgs_sql_writes.proofs.Adding.{adds}
 
 abbrev pub posting_text : List ℕ
@@ -67,6 +67,6 @@ pub adds_posting : (was : Database) (content : Content) (old new : State) (p : P
 adds_posting was content old new p r values same stands order h =
     adds posting_text 2 table terms 6 posting_row (λ q. pos q.number) (λ _. refl) is plain posting_is_plain (params p) p
     (λ trees. edit trees p) was content (with_change content (AddPosting p)) content.postings old new r stands
-    (ap (λ (t : Tables). t.postings) stands.holds.rows) order.postings
-    (ap (λ (t : Tables). record t { postings = map posting_row (content.postings ++ p ∷ []) }) stands.holds.rows)
+    (ap (rows_in table) stands.holds.rows) order.postings
+    (ap (with_rows table (map posting_row (content.postings ++ p ∷ []))) stands.holds.rows)
     (subst (λ all. ExecutesInside 0 posting_text all old new r) (same ∙ given_is p) h)

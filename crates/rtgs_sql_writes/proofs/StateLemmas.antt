@@ -1,5 +1,5 @@
 -- From one state of a transaction to the next.
-use Rattle.std.proofs.Common.{◌≡◌, ◌≢◌, inl, inr, ℕ, ◌==◌, List, true, false, if◌then◌else◌, eqb-true, eq-eqb}
+use Rattle.std.proofs.Common.{◌≡◌, ◌≢◌, inl, inr, ℕ, ◌==◌, List, [], ◌∷◌, map, true, false, if◌then◌else◌, eqb-true, eq-eqb}
 use Rattle.std.proofs.Common.{true≢false, refl, sym, ap, subst, ◌∙◌}
 use Rattle.std.proofs.lemmas.Bool.{cases_Bool}
 use Rattle.sqlite.specs.Order.{Row}
@@ -7,13 +7,14 @@ use Rattle.std.specs.List.{AllByRecursion}
 use Rattle.sqlite.specs.Effect.{Database, IsDatabase}
 use Rattle.sqlite_catalog.specs.Listing.{IsSound}
 use Rattle.sqlite.specs.State.{State, HasCleanDisk, Survives, Shows}
-use Rattle.rtgs_rows.specs.Tables.{desk_schema, desk_table, participant_table, posting_table, payment_table, mark_table}
+use Rattle.sqlite.specs.Table.{Table}
+use Rattle.rtgs_rows.specs.Tables.{desk_schema, desk_tables}
 use Rattle.sqlite_trees.specs.declared.store.Store.{Ghosts}
 use Rattle.sqlite.specs.Tree.{Trees}
 use Rattle.sqlite.specs.Held.{Held, state}
 use Rattle.sqlite.proofs.StateLemmas.{survives_then}
 use Rattle.sqlite.proofs.Callers.{survives_begin}
-use Rattle.rtgs_rows.specs.Content.{tables_of, tables_for, Content, Holds, IsUnderWay, Rests}
+use Rattle.rtgs_rows.specs.Content.{Tables, tables_of, tables_for, Content, Holds, IsUnderWay, Rests}
 
 -- the database, with its schema written out
 abbrev pub desk_over : Trees → Database
@@ -27,23 +28,31 @@ frame_but tree old new = AllByRecursion (λ t. t.tree ≢ tree → new t.tree �
 abbrev pub with_tree : ℕ → List Row → Trees → Trees
 with_tree tree rows trees t = if t == tree then rows else trees t
 
+abbrev with_rows_at : ℕ → List Row → List Table → Tables → Tables
+with_rows_at tree rows (table ∷ tables) (old ∷ more) =
+    (if table.tree == tree then rows else old) ∷ with_rows_at tree rows tables more
+with_rows_at tree rows tables all = []
+
+-- these rows in place of those of one table
+abbrev pub with_rows : Table → List Row → Tables → Tables
+with_rows table rows = with_rows_at table.tree rows desk_tables
+
 -- so the tables are as they were, with the rows of that tree
-pub framed : (tree : ℕ) (old new : Trees) (rows : List Row) → frame_but tree old new → new tree ≡ rows
-    → tables_of new ≡ tables_of (with_tree tree rows old)
-unfolding desk_schema
-framed tree old new rows others here =
-    let at : (t : ℕ) → (t ≢ tree → new t ≡ old t) → new t ≡ with_tree tree rows old t =
-    λ t other. elim (cases_Bool (t == tree)) [
-      | inl same ↦ rw same (ap new (eqb-true t tree same) ∙ here)
-      | inr apart ↦ rw apart (other (λ same. absurd (true≢false (sym (eq-eqb t tree same) ∙ apart))))
-    ] in
-    λ i. record {
-      desk = at desk_table.tree others.0 i;
-      participants = at participant_table.tree others.1.0 i;
-      postings = at posting_table.tree others.1.1.0 i;
-      payments = at payment_table.tree others.1.1.1.0 i;
-      marks = at mark_table.tree others.1.1.1.1.0 i;
-    }
+module _ (tree : ℕ) (old new : Trees) (rows : List Row) (here : new tree ≡ rows) where
+  same_at : (t : ℕ) → (t ≢ tree → new t ≡ old t) → new t ≡ with_tree tree rows old t
+  same_at t other = elim (cases_Bool (t == tree)) [
+    | inl same ↦ rw same (ap new (eqb-true t tree same) ∙ here)
+    | inr apart ↦ rw apart (other (λ same. absurd (true≢false (sym (eq-eqb t tree same) ∙ apart))))
+  ]
+
+  all_same : (tables : List Table) → AllByRecursion (λ t. t.tree ≢ tree → new t.tree ≡ old t.tree) tables
+      → map (λ (t : Table). new t.tree) tables ≡ map (λ (t : Table). with_tree tree rows old t.tree) tables
+  all_same [] others = refl
+  all_same (t ∷ tables) others = λ i. same_at t.tree others.0 i ∷ all_same tables others.1 i
+
+  pub framed : frame_but tree old new → tables_of new ≡ tables_of (with_tree tree rows old)
+  unfolding desk_schema
+  framed others = all_same desk_tables others
 
 pub stands_on : (was : Database) (old new : State) (content after : Content) → IsUnderWay was content old
     → Shows old new new.now old.committed true → new.now.schema ≡ desk_schema → IsDatabase new.now

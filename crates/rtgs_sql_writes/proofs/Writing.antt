@@ -1,4 +1,4 @@
--- What an INSERT or an UPDATE does to the five tables.
+-- What an INSERT or an UPDATE does to the tables.
 use Rattle.std.proofs.Common.{◌≡◌, ℕ, ◌/◌, List, [], length, map, filter, None, Ok, subst}
 use Rattle.std.specs.List.Sorted.{IsPermutation}
 use Rattle.sqlite.specs.declared.types.Value.TheVariants.{Null}

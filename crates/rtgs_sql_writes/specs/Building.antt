@@ -1,5 +1,5 @@
 -- The tables as they are made.
-use Rattle.std.specs.Prelude.{◌≡◌, ℕ, true, false, List, [], None, Ok, IsTrue}
+use Rattle.std.specs.Prelude.{◌≡◌, ℕ, ◌+◌, true, false, List, [], get_or, None, Ok, IsTrue}
 use Rattle.std.specs.List.{AllByRecursion}
 use Rattle.sqlite.specs.Table.{Table}
 use Rattle.sqlite.specs.Schema.{Schema}
@@ -12,6 +12,7 @@ use Rattle.sqlite.specs.Does.{lacks_sequence}
 use Rattle.sqlite.specs.Listing.{understood}
 use Rattle.sqlite.specs.Given.{IsPlain}
 use Rattle.sqlite.proofs.Callers.{command_of, statement_of}
+use Rattle.rtgs_rows.specs.Tables.{desk_table, desk_tables, with_tables}
 use Rattle.rtgs_rows.specs.Content.{Content}
 use Rattle.rtgs_book.specs.declared.Phase.TheVariants.{Closed}
 
@@ -23,14 +24,18 @@ pub record IsBuilt (was : Database) (schema : Schema) (s : State) : Type 0 where
   pub empty : AllByRecursion (λ t. s.now.trees t.tree ≡ []) schema.tables
   pub committed : s.committed ≡ was
 
--- the text makes the table in that schema, which is then the next
-pub record MakesTable (text : List ℕ) (schema : Schema) (table : Table) (next : Schema) : Type 0 where
-  pub command : command_of (understood schema text) ≡ CreateTable
-  pub whole : statement_of text (understood schema text) ≡ text
-  pub plain : IsPlain (understood schema text)
-  pub defined : table_defined_by text ≡ Ok table
-  pub is : created schema table ≡ next
-  pub uncounted : lacks_sequence next ≡ false
+-- the table at that place, as a text defines it: in no tree yet
+abbrev pub unplaced : ℕ → Table
+unplaced at = record (get_or desk_tables at desk_table) { tree = 0 }
+
+-- the text makes that table, over those before it
+pub record MakesTable (at : ℕ) (text : List ℕ) : Type 0 where
+  pub command : command_of (understood (with_tables at) text) ≡ CreateTable
+  pub whole : statement_of text (understood (with_tables at) text) ≡ text
+  pub plain : IsPlain (understood (with_tables at) text)
+  pub defined : table_defined_by text ≡ Ok (unplaced at)
+  pub is : created (with_tables at) (unplaced at) ≡ with_tables (at + 1)
+  pub uncounted : lacks_sequence (with_tables (at + 1)) ≡ false
 
 -- a new desk: no date, closed, and nothing recorded
 abbrev pub first_content : Content

@@ -1,9 +1,7 @@
 //! The tables of a new book.
-ghost use Rattle.std.specs.Prelude.{◌≡◌, false, IsTrue, OnOk, IfErr};
+ghost use Rattle.std.specs.Prelude.{◌≡◌, ℕ, ◌+◌, false, IsTrue, OnOk, IfErr};
 ghost use Rattle.sqlite.specs.Effect.{Database};
-ghost use Rattle.sqlite.specs.Schema.{Schema};
-ghost use Rattle.sqlite.specs.Table.{Table};
-ghost use Rattle.rtgs_rows.specs.Tables.{no_schema, desk_schema};
+ghost use Rattle.rtgs_rows.specs.Tables.{no_schema, desk_schema, with_tables};
 ghost use Rattle.rtgs_rows.specs.Content.{Holds, IsUnderWay, Rests};
 ghost use Rattle.rtgs_sql_writes.specs.Stops.{IsBefore};
 ghost use Rattle.rtgs_sql_columns.specs.Blank.{IsBlank};
@@ -40,16 +38,18 @@ const MARK: &str =
     "CREATE TABLE mark (number INTEGER PRIMARY KEY, date TEXT NOT NULL, many INTEGER NOT NULL, \
      value INTEGER NOT NULL) STRICT";
 
+/// The texts that make the tables, in their order.
+const TABLES: [&str; 5] = [DESK, PARTICIPANT, POSTING, PAYMENT, MARK];
+
 /// The one row of a new desk.
 const FIRST_DAY: &str = "INSERT INTO desk (id, version, phase) VALUES (1, 1, 0)";
 
 /// Makes one more table.
 fn create_table<S: Alter>(tx: &mut Transaction<'_, S>, sql: &str) -> Result<usize, Error>
     ensures same_reference { tx.new.conn.ghost_name ≡ tx.old.conn.ghost_name }
-    ensures made { HasCleanDisk (state S.Store tx.new.conn.now)
-        → (was : Database) (schema next : Schema) (table : Table) → IsBuilt was schema (state S.Store tx.old.conn.now)
-        → MakesTable sql.now schema table next
-        → OnOk result (IsBuilt was next (state S.Store tx.new.conn.now)) }
+    ensures made { HasCleanDisk (state S.Store tx.new.conn.now) → (was : Database) (at : ℕ)
+        → IsBuilt was (with_tables at) (state S.Store tx.old.conn.now) → MakesTable at sql.now
+        → OnOk result (IsBuilt was (with_tables (at + 1)) (state S.Store tx.new.conn.now)) }
     ensures kept { HasCleanDisk (state S.Store tx.new.conn.now)
         → KeepsCommit (state S.Store tx.old.conn.now) (state S.Store tx.new.conn.now) }
     ensures survives { Survives (state S.Store tx.old.conn.now) (state S.Store tx.new.conn.now) (λ _. ⊥) }
@@ -70,7 +70,7 @@ fn first_day<S: Alter>(tx: &mut Transaction<'_, S>) -> Result<usize, Error>
     tx.execute(FIRST_DAY, &[])
 }
 
-/// Makes the five tables inside the transaction.
+/// Makes the tables inside the transaction.
 fn build<S: Alter>(tx: &mut Transaction<'_, S>) -> Result<(), Error>
     ensures same_reference { tx.new.conn.ghost_name ≡ tx.old.conn.ghost_name }
     ensures made { HasCleanDisk (state S.Store tx.new.conn.now) → (was : Database)
@@ -80,16 +80,14 @@ fn build<S: Alter>(tx: &mut Transaction<'_, S>) -> Result<(), Error>
         → KeepsCommit (state S.Store tx.old.conn.now) (state S.Store tx.new.conn.now) }
     ensures survives { Survives (state S.Store tx.old.conn.now) (state S.Store tx.new.conn.now) (λ _. ⊥) }
 {
-    create_table(tx, DESK)?;
-    create_table(tx, PARTICIPANT)?;
-    create_table(tx, POSTING)?;
-    create_table(tx, PAYMENT)?;
-    create_table(tx, MARK)?;
+    for sql in TABLES {
+        create_table(tx, sql)?;
+    }
     first_day(tx)?;
     Ok(())
 }
 
-/// Makes the five tables in a transaction of their own.
+/// Makes the tables in a transaction of their own.
 pub fn create_tables<S: Alter>(conn: &mut Connection<S>) -> Result<(), Stopped>
     requires { conn.old.in_transaction ≡ false }
     ensures mode { conn.new.in_transaction ≡ false }

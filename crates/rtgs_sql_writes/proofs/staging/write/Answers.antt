@@ -1,7 +1,7 @@
 use Rattle.std.proofs.Common.{◌≡◌, arith, rules, subst}
 use Rattle.sqlite.specs.State.{HasCleanDisk, Survives}
 use Rattle.sqlite.specs.Held.{state}
-use Rattle.rtgs_rows.specs.Content.{Content, Rests, AreInOrder, with_changes}
+use Rattle.rtgs_rows.specs.Content.{Rests, with_changes}
 use Rattle.rtgs_sql_writes.specs.Staging.{HoldsChange}
 use Rattle.rtgs_sql_writes.proofs.StateLemmas.{stands_begun, rests_committed, survives_commit}
 use Rattle.rtgs_sql_writes.proofs.staging.write.Goals as goal
