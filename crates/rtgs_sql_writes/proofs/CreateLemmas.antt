@@ -21,9 +21,10 @@ use Rattle.sqlite.specs.State.{State, mode_of, HasCleanDisk, Survives, Writes, E
 use Rattle.sqlite.proofs.Callers.{statement_of, runs_as}
 use Rattle.rtgs_rows.specs.Tables.{no_schema, desk_schema, with_tables, desk_table, desk_tables}
 use Rattle.rtgs_rows.specs.Content.{tables_of, tables_for, IsUnderWay}
+use Rattle.rtgs_rows.specs.Keeping.{first_content}
 use Rattle.rtgs_rows.specs.Rows.{day_row}
 use Rattle.rtgs_sql_columns.specs.Blank.{IsBlank}
-use Rattle.rtgs_sql_writes.specs.Building.{IsBuilt, MakesTable, unplaced, first_content}
+use Rattle.rtgs_sql_writes.specs.Building.{IsBuilt, MakesTable, unplaced}
 use Rattle.sqlite.specs.Rows.{stamped}
 use Rattle.sqlite.specs.Edit.{edit_of, edited}
 use Rattle.sqlite.specs.Rowids.TheVariants.{Chosen}

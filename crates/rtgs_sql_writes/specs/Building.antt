@@ -1,5 +1,5 @@
 -- The tables as they are made.
-use Rattle.std.specs.Prelude.{◌≡◌, ℕ, ◌+◌, true, false, List, [], get_or, None, Ok, IsTrue}
+use Rattle.std.specs.Prelude.{◌≡◌, ℕ, ◌+◌, true, false, List, [], get_or, Ok, IsTrue}
 use Rattle.std.specs.List.{AllByRecursion}
 use Rattle.sqlite.specs.Table.{Table}
 use Rattle.sqlite.specs.Schema.{Schema}
@@ -13,8 +13,6 @@ use Rattle.sqlite.specs.Listing.{understood}
 use Rattle.sqlite.specs.Given.{IsPlain}
 use Rattle.sqlite.proofs.Callers.{command_of, statement_of}
 use Rattle.rtgs_rows.specs.Tables.{desk_table, desk_tables, with_tables}
-use Rattle.rtgs_rows.specs.Content.{Content}
-use Rattle.rtgs_book.specs.declared.Phase.TheVariants.{Closed}
 
 -- inside a transaction, with these tables, all of them empty
 pub record IsBuilt (was : Database) (schema : Schema) (s : State) : Type 0 where
@@ -36,13 +34,3 @@ pub record MakesTable (at : ℕ) (text : List ℕ) : Type 0 where
   pub defined : table_defined_by text ≡ Ok (unplaced at)
   pub is : created (with_tables at) (unplaced at) ≡ with_tables (at + 1)
   pub uncounted : lacks_sequence (with_tables (at + 1)) ≡ false
-
--- a new desk: no date, closed, and nothing recorded
-abbrev pub first_content : Content
-first_content = record {
-  day = record { date = None; phase = Closed };
-  holdings = [];
-  postings = [];
-  orders = [];
-  marks = [];
-}

@@ -3,9 +3,10 @@ ghost use Rattle.std.specs.Prelude.{◌≡◌, ℕ, ◌+◌, false, IsTrue, OnOk
 ghost use Rattle.sqlite.specs.Effect.{Database};
 ghost use Rattle.rtgs_rows.specs.Tables.{no_schema, desk_schema, with_tables};
 ghost use Rattle.rtgs_rows.specs.Content.{Holds, IsUnderWay, Rests};
+ghost use Rattle.rtgs_rows.specs.Keeping.{first_content};
 ghost use Rattle.rtgs_sql_writes.specs.Stops.{IsBefore};
 ghost use Rattle.rtgs_sql_columns.specs.Blank.{IsBlank};
-ghost use Rattle.rtgs_sql_writes.specs.Building.{IsBuilt, MakesTable, first_content};
+ghost use Rattle.rtgs_sql_writes.specs.Building.{IsBuilt, MakesTable};
 ghost use Rattle.sqlite.specs.State.{HasCleanDisk, KeepsCommit, Survives};
 ghost use Rattle.sqlite.specs.Held.{state};
 

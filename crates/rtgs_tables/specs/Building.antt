@@ -3,7 +3,7 @@ use Rattle.std.specs.Prelude.{◌⊎◌}
 use Rattle.sqlite.specs.Tree.{Trees}
 use Rattle.rtgs_rows.specs.Content.{HasNoTables, Holds}
 pub use Rattle.rtgs_sql_columns.specs.Blank.{IsBlank}
-pub use Rattle.rtgs_sql_writes.specs.Building.{first_content}
+pub use Rattle.rtgs_rows.specs.Keeping.{first_content}
 
 -- no tables at all, or those of a new desk
 abbrev pub IsNoneOrNew : Trees → Type 0

@@ -4,7 +4,7 @@ use Rattle.sqlite.specs.Tree.{Trees}
 use Rattle.sqlite.specs.Held.{state}
 use Rattle.rtgs_rows.specs.Content.{Holds, Rests}
 use Rattle.rtgs_sql_columns.specs.Blank.{IsBlank}
-use Rattle.rtgs_sql_writes.specs.Building.{first_content}
+use Rattle.rtgs_rows.specs.Keeping.{first_content}
 use Rattle.rtgs_sql_writes.proofs.StateLemmas.{rests_committed, survives_commit}
 use Rattle.rtgs_sql_writes.proofs.CreateLemmas.{built_begun}
 use Rattle.rtgs_sql_writes.proofs.create.create_tables.Goals as goal
