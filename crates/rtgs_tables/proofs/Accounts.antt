@@ -15,9 +15,9 @@ use Rattle.rtgs_book.specs.Balance.{balance}
 use Rattle.rtgs_book.specs.declared.Participant.{Participant}
 use Rattle.rtgs_book.specs.Lookup.{accounts}
 use Rattle.rtgs_book.specs.Soundness.{CodesRise}
-use Rattle.rtgs_rows.specs.Content.{Holding, Content, Rests}
+use Rattle.rtgs_rows.specs.Content.{Holding, Content, Rests, stored_account}
 use Rattle.rtgs_book.specs.declared.account.Account.{Account}
-use Rattle.rtgs_rows.specs.Keeping.{IsBookOf}
+use Rattle.rtgs_rows.specs.Keeping.{IsBookOf, AreBalances}
 use Rattle.rtgs_rows.specs.RowLaws.{RecordsStandInOrder}
 
 abbrev account_of : Book → Participant → Account
