@@ -1,5 +1,5 @@
 -- The five queries.
-use Rattle.std.proofs.Common.{◌≡◌, ℕ, pos, true, false, List, [], ◌∷◌, map, Err, refl, sym, ap, subst, ◌∙◌}
+use Rattle.std.proofs.Common.{◌≡◌, ℕ, pos, List, [], ◌∷◌, map, refl, sym, ap, subst, ◌∙◌}
 use Rattle.std.specs.List.{AllByRecursion}
 use Rattle.std.specs.Ordering.{int_cmp}
 use Rattle.std.specs.List.Sorted.{IsPermutation}
@@ -11,15 +11,11 @@ use Rattle.sqlite.specs.Tree.{Trees}
 use Rattle.sqlite.specs.Query.{output, Output}
 use Rattle.sqlite_sql.specs.Query.{output_cmp}
 use Rattle.sqlite_tied.specs.Compute.{everything}
-use Rattle.sqlite.specs.Listing.{understood, reads_listing, listing_schema}
-use Rattle.sqlite.specs.Table.{Table}
-use Rattle.sqlite_typing.specs.Types.{accepts_program}
-use Rattle.sqlite_resolve.specs.Compile.{first, compiled}
-use Rattle.sqlite_resolve.specs.declared.error.CompileError.TheVariants.{NoSuchTable}
+use Rattle.sqlite.specs.Listing.{understood, listing_schema}
 use Rattle.sqlite_keyed.proofs.ListLemmas.{ascending-map, ascending_weaker, map-map, map_same}
 use Rattle.rtgs_book.specs.declared.Book.{Book}
 use Rattle.rtgs_book.specs.declared.Day.{Day}
-use Rattle.rtgs_rows.specs.Tables.{desk_schema, desk_table, participant_table, posting_table, payment_table, mark_table}
+use Rattle.rtgs_rows.specs.Tables.{desk_schema, desk_tables, desk_table, participant_table, posting_table, payment_table, mark_table}
 use Rattle.rtgs_rows.specs.Fitting.{FitsParticipant}
 use Rattle.rtgs_rows.specs.Rows.{day_row, posting_row, payment_row, mark_row, shown_account}
 use Rattle.rtgs_rows.specs.TableRecords.{TableRecords, day_records, account_records, posting_records, order_records}
@@ -27,46 +23,16 @@ use Rattle.rtgs_rows.specs.TableRecords.{mark_records}
 use Rattle.rtgs_rows.specs.Content.{Holding, Content, holding_row, stored_account, tables_of, tables_for, rows_in, Rise}
 use Rattle.rtgs_book.specs.declared.account.Account.{Account}
 use Rattle.rtgs_sql_queries.specs.Records.{AreRead}
-use Rattle.rtgs_sql_columns.specs.Tables.{column_names, query_text}
-use Rattle.rtgs_sql_queries.specs.TableQueries.{IsTableQuery, IsOneQuery, IsQueryText, ShowsOwn, whole_table}
+use Rattle.rtgs_sql_queries.specs.TableQueries.{IsTableQuery, ShowsOwn, whole_table}
 use Rattle.rtgs_sql_queries.proofs.AsRead.{posting_same, order_same, mark_same}
 use Rattle.rtgs_sql_queries.proofs.Showing.{numbered, shown_are}
 
 -- ---- what they are to the engine
 
--- each fact by itself, so that each is computed at once
-asks_by : (t : Table) → accepts_program desk_schema [] (whole_table t) [] ≡ true
-    → reads_listing desk_schema (query_text t) ≡ false → IsQueryText (query_text t) (first (query_text t))
-    → compiled listing_schema (query_text t) ≡ Err NoSuchTable
-    → IsOneQuery desk_schema (query_text t) 0 (record { lets = []; body = whole_table t }) (column_names t)
-    → IsTableQuery t
-asks_by t typed unlisted query foreign asks =
-    record { asks = asks; typed = typed; unlisted = unlisted; query = query; foreign = foreign }
-
-pub desk_asks : IsTableQuery desk_table
+-- over the tables of a desk
+pub all_asks : AllByRecursion IsTableQuery desk_tables
 unfolding understood listing_schema everything desk_schema
-desk_asks = asks_by desk_table refl refl (refl, refl, refl, refl) refl
-    (record { command = refl; plain = (refl, refl); whole = refl; given = refl })
-
-pub participants_asks : IsTableQuery participant_table
-unfolding understood listing_schema everything desk_schema
-participants_asks = asks_by participant_table refl refl (refl, refl, refl, refl) refl
-    (record { command = refl; plain = (refl, refl); whole = refl; given = refl })
-
-pub postings_asks : IsTableQuery posting_table
-unfolding understood listing_schema everything desk_schema
-postings_asks = asks_by posting_table refl refl (refl, refl, refl, refl) refl
-    (record { command = refl; plain = (refl, refl); whole = refl; given = refl })
-
-pub payments_asks : IsTableQuery payment_table
-unfolding understood listing_schema everything desk_schema
-payments_asks = asks_by payment_table refl refl (refl, refl, refl, refl) refl
-    (record { command = refl; plain = (refl, refl); whole = refl; given = refl })
-
-pub marks_asks : IsTableQuery mark_table
-unfolding understood listing_schema everything desk_schema
-marks_asks = asks_by mark_table refl refl (refl, refl, refl, refl) refl
-    (record { command = refl; plain = (refl, refl); whole = refl; given = refl })
+all_asks = assumption refl
 
 -- ---- what they show of a book
 
@@ -151,17 +117,13 @@ participants_own = record {
 -- ---- what each query is and shows
 
 pub ruleset queries = (
-  desk_asks,
+  all_asks,
   desk_own,
-  participants_asks,
   participants_own,
-  postings_asks,
   postings_own,
   posting_same,
-  payments_asks,
   payments_own,
   order_same,
-  marks_asks,
   marks_own,
   mark_same,
 )

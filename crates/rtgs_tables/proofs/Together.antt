@@ -1,5 +1,5 @@
 -- The book that was loaded, and the connection after it.
-use Rattle.std.proofs.Common.{◌≡◌, ◌≢◌, Ok, Err, Result, IfOk, sym, subst}
+use Rattle.std.proofs.Common.{◌≢◌, Ok, Err, Result, IfOk, sym, subst}
 use Rattle.sqlite.specs.Effect.{Database}
 use Rattle.sqlite.specs.State.{State}
 use Rattle.sqlite.specs.Tree.{Trees}
