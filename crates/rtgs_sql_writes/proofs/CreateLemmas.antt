@@ -4,21 +4,17 @@ use Rattle.std.proofs.Common.{Err, Result, OnOk, refl, sym, ap, subst, ◌∙◌
 use Rattle.std.specs.List.{AllByRecursion}
 use Rattle.sqlite.specs.Order.{Row}
 use Rattle.sqlite.specs.declared.error.Error.{Error}
-use Rattle.sqlite.specs.declared.types.Value.TheVariants.{Null, Int}
-use Rattle.sqlite.specs.Term.{Term, lit}
 use Rattle.sqlite.specs.Table.{Table}
 use Rattle.sqlite.specs.Schema.{Schema}
-use Rattle.sqlite.specs.Source.TheVariants.{Values}
-use Rattle.sqlite.specs.Command.TheVariants.{CreateTable, Insert}
+use Rattle.sqlite.specs.Command.TheVariants.{CreateTable}
 use Rattle.sqlite.specs.Compile.{table_defined_by}
 use Rattle.sqlite.specs.Change.{created, next_tree, KeepsRows}
 use Rattle.sqlite.specs.declared.run.Mode.{Mode}
 use Rattle.sqlite.specs.Does.{Tally, Does, lacks_sequence}
 use Rattle.sqlite.specs.Tree.{Trees}
-use Rattle.sqlite.specs.Listing.{understood}
 use Rattle.sqlite.specs.Effect.{Database, value_rows}
 use Rattle.sqlite.specs.State.{State, mode_of, HasCleanDisk, Survives, Writes, ExecutesInside}
-use Rattle.sqlite.proofs.Callers.{statement_of, runs_as}
+use Rattle.sqlite.proofs.Callers.{runs_as}
 use Rattle.rtgs_rows.specs.Tables.{no_schema, desk_schema, with_tables, desk_table, desk_tables}
 use Rattle.rtgs_rows.specs.Content.{tables_of, tables_for, IsUnderWay}
 use Rattle.rtgs_rows.specs.Keeping.{first_content}
@@ -32,10 +28,10 @@ use Rattle.sqlite_catalog.specs.Listing.{IsSound}
 use Rattle.sqlite_trees.specs.declared.store.Store.{Ghosts}
 use Rattle.sqlite.specs.Held.{Held, state}
 use Rattle.rtgs_sql_writes.proofs.Casts.{cast_null, cast_int}
-use Rattle.rtgs_sql_writes.proofs.Steps.{IsPlainTable, inserts}
-use Rattle.rtgs_sql_writes.proofs.StateLemmas.{desk_over, frame_but, framed, with_rows}
+use Rattle.rtgs_sql_writes.proofs.StateLemmas.{frame_but, framed, with_rows}
 use Rattle.rtgs_sql_writes.specs.declared.create.TheConstants.{FIRST_DAY}
-use Rattle.rtgs_sql_writes.proofs.CreateTexts.{first_day_is, first_day_plain}
+use Rattle.rtgs_sql_writes.proofs.CreateTexts.{first_terms, first_day_means}
+use Rattle.rtgs_sql_writes.proofs.Writing.{inserted}
 
 -- a part that gave a value did not stop on the way
 went : {B E R : Type 0} {b : B} {Stops : E → Type 0} → ((stop : E) × Stops stop × (Ok b ≡ Err stop)) ⊎ R → R
@@ -109,13 +105,6 @@ pub builds : (was : Database) (at : ℕ) (old new : State) (text : List ℕ) (r 
 builds was at old new text (Ok count) is it h = built was at old new text count is it h
 builds was at old new text (Err e) is it h = tt
 
-desk_is_plain : (trees : Trees) (mode : Mode) → IsPlainTable (desk_over trees) mode 0 desk_table
-unfolding desk_schema
-desk_is_plain trees mode = record { place = refl; uncounted = refl; still = λ _ _. refl }
-
-abbrev first_terms : List Term
-first_terms = lit (Int (pos 1)) ∷ lit Null ∷ lit (Int (pos 1)) ∷ lit Null ∷ lit (Int (pos 0)) ∷ []
-
 first_edit : (trees : Trees) → trees desk_table.tree ≡ [] → edited trees (edit_of trees desk_table [] Chosen 0
     (value_rows (stamped desk_table []) 5 1 first_terms)) ≡ (day_row first_content.day ∷ [])
 first_edit trees none = rw (cast_int (pos 1), cast_null, cast_int (pos 0), none)
@@ -139,22 +128,16 @@ desk_empty trees none = none.0
 begun : (was : Database) (old new : State) (count : ℕ) → IsBuilt was desk_schema old
     → ExecutesInside 0 FIRST_DAY.now [] old new (Ok count) → IsUnderWay was first_content new
 begun was old new count is h =
-    let w = runs_as FIRST_DAY.now [] old new desk_schema is.schema_is (Insert 0 (Values first_terms 5)) first_day_is
-    first_day_plain count h.0 in
-    let text = statement_of FIRST_DAY.now (understood desk_schema FIRST_DAY.now) in
-    let done = subst (λ s. Does old.step_limit (mode_of old) [] (record old.now { schema = s }) text None
-    (Insert 0 (Values first_terms 5)) (Ok (w.tally, new.now))) is.schema_is w.changed in
-    let step = inserts old.step_limit (mode_of old) [] (desk_over old.now.trees) text 0 desk_table w.tally new.now
-    (desk_is_plain old.now.trees (mode_of old)) first_terms 5 done in
-    let rows : new.now.trees desk_table.tree ≡ (day_row first_content.day ∷ []) = step.applies.rows
+    let made = inserted FIRST_DAY.now 0 (omega arith) old new [] count is.schema_is h.0 first_terms 5 first_day_means in
+    let rows : new.now.trees desk_table.tree ≡ (day_row first_content.day ∷ []) = made.rows
     ∙ first_edit old.now.trees (desk_empty old.now.trees is.empty) in
     record {
       is_open = h.1.is_open;
       inside = h.1.mode;
-      schema = step.schema;
+      schema = made.schema;
       holds = record {
-        sound = subst (λ s. IsSound s new.now.trees) step.schema w.sound;
-        rows = first_frame old.now.trees new.now.trees is.empty step.applies.tables rows;
+        sound = subst (λ s. IsSound s new.now.trees) made.schema made.sound;
+        rows = first_frame old.now.trees new.now.trees is.empty made.frame rows;
       };
       committed = h.1.committed_is ∙ is.committed;
     }

@@ -1,6 +1,6 @@
 -- What the UPDATE of the business day does.
 use Rattle.std.proofs.Common.{◌≡◌, ℕ, pos, List, [], ◌∷◌, map, filter, codes, true, Ok, Err, Result, OnOk, refl, ap}
-use Rattle.std.proofs.Common.{subst, ◌∙◌}
+use Rattle.std.proofs.Common.{subst, ◌∙◌, arith}
 use Rattle.std.specs.List.Sorted.{IsPermutation}
 use Rattle.sqlite.specs.declared.types.Value.TheVariants.{Null, Int}
 use Rattle.sqlite.specs.declared.error.Error.{Error}
@@ -14,20 +14,18 @@ use Rattle.sqlite.specs.Command.TheVariants.{Update}
 use Rattle.sqlite.specs.Edit.{edit_of, edited}
 use Rattle.sqlite_rules.specs.Calls.{ids_of}
 use Rattle.sqlite.specs.Rowids.TheVariants.{Given}
-use Rattle.sqlite.specs.declared.run.Mode.{Mode}
 use Rattle.sqlite.specs.Tree.{Trees}
 use Rattle.sqlite.specs.Listing.{understood}
 use Rattle.sqlite.specs.Effect.{Database}
 use Rattle.sqlite.specs.State.{State, ExecutesInside}
 use Rattle.sqlite.specs.Values.{bound_value}
-use Rattle.sqlite.proofs.Callers.{IsPlain, command_of, one_permutation}
+use Rattle.sqlite.proofs.Callers.{one_permutation}
 use Rattle.sqlite_tied.specs.Compute.{everything}
 use Rattle.sqlite_value.proofs.OrderLemmas.{value_cmp-Int}
 use Rattle.rtgs_sql_writes.proofs.Casts.{cast_null, cast_int, cast_date, bound_date}
-use Rattle.rtgs_sql_writes.proofs.Steps.{IsPlainTable}
 use Rattle.rtgs_sql_columns.specs.OneTable.{simple, passes, shows, OneTableAnswers}
-use Rattle.rtgs_sql_writes.proofs.StateLemmas.{desk_over, with_rows, framed, stands_on}
-use Rattle.rtgs_sql_writes.proofs.Writing.{updated}
+use Rattle.rtgs_sql_writes.proofs.StateLemmas.{with_rows, framed, stands_on}
+use Rattle.rtgs_sql_writes.proofs.Writing.{Means, updated}
 use Rattle.rtgs_sql_writes.proofs.Passing.{truth_of, same_number}
 use Rattle.rtgs_book.specs.declared.Day.{Day}
 use Rattle.rtgs_book.specs.declared.RowChange.TheVariants.{SetDay}
@@ -44,18 +42,10 @@ tests = op2 (Compare Eq Binary) (col 1 0) (lit (Int (pos 1))) ∷ []
 abbrev project : List Term
 project = col 1 0 ∷ col 1 0 ∷ lit Null ∷ col 1 2 ∷ col 0 0 ∷ col 0 1 ∷ []
 
-is : command_of (understood desk_schema set_day_text) ≡ Update 0
-    (record { lets = []; body = simple table.tree tests project [] })
+set_day_means : Means set_day_text (Update 0
+    (record { lets = []; body = simple table.tree tests project [] }))
 unfolding understood everything desk_schema
-is = refl
-
-plain : IsPlain (understood desk_schema set_day_text)
-unfolding understood everything desk_schema
-plain = (refl, refl)
-
-desk_is_plain : (trees : Trees) (mode : Mode) → IsPlainTable (desk_over trees) mode 0 table
-unfolding desk_schema
-desk_is_plain trees mode = record { place = refl; uncounted = refl; still = λ _ _. refl }
+set_day_means = record { is = refl; plain = (refl, refl) }
 
 abbrev params : Day → Row
 params day = date_value day.date ∷ Int (pos (phase_number day.phase)) ∷ []
@@ -90,8 +80,8 @@ sets_day answers was content old new day (Err e) values same stands h = tt
 sets_day answers was content old new day (Ok count) values same stands given =
     let h = subst (λ all. ExecutesInside 0 set_day_text all old new (Ok count)) (same ∙ ap (λ date. date ∷ Int (pos
     (phase_number day.phase)) ∷ []) (bound_date day.date)) given in
-    let made = updated set_day_text 0 table plain desk_is_plain old new (params day) count stands.schema h.0 answers
-    table.tree tests project is in
+    let made = updated set_day_text 0 (omega arith) old new (params day) count stands.schema h.0 answers table.tree
+    tests project set_day_means in
     let here : old.now.trees table.tree ≡ day_row content.day ∷ [] = ap (rows_in table) stands.holds.rows in
     let passed : filter (passes tests (params day)) (old.now.trees table.tree)
     ≡ day_row content.day ∷ [] = rw (here, passes_one day content.day) in

@@ -1,6 +1,6 @@
 -- What the statements on participants do.
 use Rattle.std.proofs.Common.{◌≡◌, ◌≢◌, ◌⊎◌, inl, inr, ℕ, ℤ, pos, List, [], ◌∷◌, ◌++◌, map, filter, codes, Bool, true}
-use Rattle.std.proofs.Common.{false, Ok, Err, Result, OnOk, refl, sym, ap, subst, ◌∙◌}
+use Rattle.std.proofs.Common.{false, Ok, Err, Result, OnOk, refl, sym, ap, subst, ◌∙◌, arith}
 use Rattle.std.specs.List.{AllByRecursion}
 use Rattle.std.specs.List.Sorted.{IsPermutation}
 use Rattle.sqlite.specs.declared.types.Value.{Value}
@@ -17,13 +17,12 @@ use Rattle.sqlite.specs.Command.TheVariants.{Insert, Update}
 use Rattle.sqlite.specs.Edit.{edit_of, edited, next_rowid}
 use Rattle.sqlite_rules.specs.Calls.{ids_of}
 use Rattle.sqlite.specs.Rowids.TheVariants.{Chosen, Given}
-use Rattle.sqlite.specs.declared.run.Mode.{Mode}
 use Rattle.sqlite.specs.Rows.{stamped}
 use Rattle.sqlite.specs.Tree.{Trees, put_row, IsAscending}
 use Rattle.sqlite.specs.Listing.{understood}
 use Rattle.sqlite.specs.Effect.{Database, value_rows}
 use Rattle.sqlite.specs.State.{State, ExecutesInside}
-use Rattle.sqlite.proofs.Callers.{IsPlain, command_of, one_permutation}
+use Rattle.sqlite.proofs.Callers.{one_permutation}
 use Rattle.sqlite_tied.specs.Compute.{everything}
 use Rattle.std.proofs.lemmas.Bool.{cases_Bool}
 use Rattle.std.specs.Str.{bytes_eq}
@@ -31,11 +30,10 @@ use Rattle.std.proofs.lemmas.Slice.Eq.{bytes_eq-Decides}
 use Rattle.rtgs_sql_writes.proofs.Casts.{cast_null, cast_int}
 use Rattle.rtgs_sql_writes.proofs.Lists.{put_last}
 use Rattle.rtgs_rows.specs.RowLaws.{NextRowIsAbove}
-use Rattle.rtgs_sql_writes.proofs.Steps.{IsPlainTable}
 use Rattle.rtgs_sql_columns.specs.OneTable.{simple, passes, shows, OneTableAnswers}
 use Rattle.rtgs_sql_writes.proofs.Replacing.{Replaces, replaces}
-use Rattle.rtgs_sql_writes.proofs.StateLemmas.{desk_over, with_rows, framed, stands_on}
-use Rattle.rtgs_sql_writes.proofs.Writing.{inserted, updated}
+use Rattle.rtgs_sql_writes.proofs.StateLemmas.{with_rows, framed, stands_on}
+use Rattle.rtgs_sql_writes.proofs.Writing.{Means, inserted, updated}
 use Rattle.rtgs_sql_writes.proofs.Passing.{none_moved, truth_of, same_text, filter_map}
 use Rattle.rtgs_book.specs.declared.Participant.{Participant}
 use Rattle.rtgs_book.specs.declared.RowChange.TheVariants.{AddParticipant, SetCredit, SetBalance}
@@ -50,17 +48,9 @@ participant_text = codes "INSERT INTO participant (code, name, key, credit, bala
 abbrev terms : List Term
 terms = lit Null ∷ col 0 0 ∷ col 0 1 ∷ col 0 2 ∷ col 0 3 ∷ lit (Int (pos 0)) ∷ []
 
-is : command_of (understood desk_schema participant_text) ≡ Insert 1 (Values terms 6)
+participant_means : Means participant_text (Insert 1 (Values terms 6))
 unfolding understood everything desk_schema
-is = refl
-
-plain : IsPlain (understood desk_schema participant_text)
-unfolding understood everything desk_schema
-plain = (refl, refl)
-
-participant_is_plain : (trees : Trees) (mode : Mode) → IsPlainTable (desk_over trees) mode 1 table
-unfolding desk_schema
-participant_is_plain trees mode = record { place = refl; uncounted = refl; still = λ _ _. refl }
+participant_means = record { is = refl; plain = (refl, refl) }
 
 abbrev pub participant_given : Participant → Row
 participant_given p = Text p.code ∷ Text p.name ∷ Blob p.key ∷ Int (pos p.credit) ∷ []
@@ -77,8 +67,8 @@ pub adds_participant : NextRowIsAbove → (was : Database) (content : Content) (
 adds_participant above was content old new p (Err e) values same stands order h = tt
 adds_participant above was content old new p (Ok count) values same stands order given =
     let h = subst (λ all. ExecutesInside 0 participant_text all old new (Ok count)) same given in
-    let made = inserted participant_text 1 table plain participant_is_plain old new (participant_given p)
-    count stands.schema h.0 terms 6 is in
+    let made = inserted participant_text 1 (omega arith) old new (participant_given p) count stands.schema h.0 terms 6
+    participant_means in
     let here : old.now.trees table.tree ≡ map holding_row content.holdings =
     ap (rows_in table) stands.holds.rows in
     let fresh = newcomer content p in
@@ -130,14 +120,9 @@ balance_text = codes "UPDATE participant SET balance = ?2 WHERE code = ?1"
 abbrev balance_project : List Term
 balance_project = col 1 0 ∷ col 1 0 ∷ col 1 1 ∷ col 1 2 ∷ col 1 3 ∷ col 1 4 ∷ col 0 1 ∷ []
 
-balance_is : command_of (understood desk_schema balance_text)
-    ≡ Update 1 (record { lets = []; body = simple table.tree tests balance_project [] })
+balance_means : Means balance_text (Update 1 (record { lets = []; body = simple table.tree tests balance_project [] }))
 unfolding understood everything desk_schema
-balance_is = refl
-
-balance_plain : IsPlain (understood desk_schema balance_text)
-unfolding understood everything desk_schema
-balance_plain = (refl, refl)
+balance_means = record { is = refl; plain = (refl, refl) }
 
 abbrev balance_set : ℤ → Holding → Holding
 balance_set balance h = record h { balance = balance }
@@ -170,8 +155,8 @@ module _ (code : List ℕ) (balance : ℤ) where
   sets_balance answers was content old new (Ok count) values same stands order given =
       let h = subst (λ all. ExecutesInside 0 balance_text all old new (Ok count)) same given in
       let all = content.holdings in
-      let made = updated balance_text 1 table balance_plain participant_is_plain old new balance_given
-      count stands.schema h.0 answers table.tree tests balance_project balance_is in
+      let made = updated balance_text 1 (omega arith) old new balance_given count stands.schema h.0 answers table.tree
+      tests balance_project balance_means in
       let here : old.now.trees table.tree ≡ map holding_row all =
       ap (rows_in table) stands.holds.rows in
       let passed : filter (passes tests balance_given) (old.now.trees table.tree)
@@ -196,14 +181,10 @@ credit_text = codes "UPDATE participant SET credit = ?2 WHERE code = ?1"
 abbrev credit_project : List Term
 credit_project = col 1 0 ∷ col 1 0 ∷ col 1 1 ∷ col 1 2 ∷ col 1 3 ∷ col 0 1 ∷ col 1 5 ∷ []
 
-credit_is : command_of (understood desk_schema credit_text) ≡ Update 1
-    (record { lets = []; body = simple table.tree tests credit_project [] })
+credit_means : Means credit_text (Update 1
+    (record { lets = []; body = simple table.tree tests credit_project [] }))
 unfolding understood everything desk_schema
-credit_is = refl
-
-credit_plain : IsPlain (understood desk_schema credit_text)
-unfolding understood everything desk_schema
-credit_plain = (refl, refl)
+credit_means = record { is = refl; plain = (refl, refl) }
 
 abbrev credit_set : ℕ → Holding → Holding
 credit_set credit h = record h { participant = record h.participant { credit = credit } }
@@ -235,8 +216,8 @@ module _ (code : List ℕ) (credit : ℕ) where
   sets_credit answers was content old new (Ok count) values same stands order given =
       let h = subst (λ all. ExecutesInside 0 credit_text all old new (Ok count)) same given in
       let all = content.holdings in
-      let made = updated credit_text 1 table credit_plain participant_is_plain old new credit_given count
-      stands.schema h.0 answers table.tree tests credit_project credit_is in
+      let made = updated credit_text 1 (omega arith) old new credit_given count stands.schema h.0 answers table.tree
+      tests credit_project credit_means in
       let here : old.now.trees table.tree ≡ map holding_row all =
       ap (rows_in table) stands.holds.rows in
       let passed : filter (passes tests credit_given) (old.now.trees table.tree)

@@ -1,5 +1,5 @@
--- Rows in the order of their row numbers.
-use Rattle.std.proofs.Common.{◌≡◌, ℤ, List, [], ◌∷◌, ◌++◌, map, refl, ap}
+-- Lists, and rows in the order of their row numbers.
+use Rattle.std.proofs.Common.{◌≡◌, ℕ, zero, suc, ◌<◌, ℤ, List, [], ◌∷◌, ◌++◌, map, get_or, length, refl, ap, arith}
 use Rattle.std.specs.List.{AllByRecursion}
 use Rattle.std.specs.Ordering.{int_cmp}
 use Rattle.std.specs.declared.cmp.Ordering.TheVariants.{Less}
@@ -24,3 +24,14 @@ pub before_last : {A : Type 0} (R : A → A → Type 0) (xs : List A) (x : A) �
     → AllByRecursion (λ a. R a x) xs
 before_last R [] x h = tt
 before_last R (y ∷ ys) x h = (all_last (R y) ys x h.0, before_last R ys x h.1)
+
+-- each element has the property at its place
+abbrev pub EachAt : {A : Type 0} → (ℕ → A → Type 0) → List A → Type 0
+EachAt P [] = Unit {0}
+EachAt P (x ∷ xs) = P 0 x × EachAt (λ at. P (suc at)) xs
+
+pub each_at : {A : Type 0} (P : ℕ → A → Type 0) (xs : List A) → EachAt P xs → (at : ℕ) (d : A) → at < length xs
+    → P at (get_or xs at d)
+each_at P [] each at d low = absurd (omega arith)
+each_at P (x ∷ xs) each zero d low = each.0
+each_at P (x ∷ xs) each (suc at) d low = each_at (λ n. P (suc n)) xs each.1 at d (omega arith)

@@ -1,5 +1,5 @@
 -- What an INSERT of a mark does.
-use Rattle.std.proofs.Common.{◌≡◌, ℕ, pos, List, [], ◌∷◌, ◌++◌, map, codes, Result, OnOk, refl, ap, subst}
+use Rattle.std.proofs.Common.{◌≡◌, ℕ, pos, List, [], ◌∷◌, ◌++◌, map, codes, Result, OnOk, refl, ap, subst, arith}
 use Rattle.sqlite.specs.declared.types.Value.TheVariants.{Null, Int, Text}
 use Rattle.sqlite.specs.declared.error.Error.{Error}
 use Rattle.sqlite.specs.Order.{Row}
@@ -8,17 +8,15 @@ use Rattle.sqlite.specs.Source.TheVariants.{Values}
 use Rattle.sqlite.specs.Command.TheVariants.{Insert}
 use Rattle.sqlite.specs.Edit.{edit_of, edited}
 use Rattle.sqlite.specs.Rowids.TheVariants.{Chosen}
-use Rattle.sqlite.specs.declared.run.Mode.{Mode}
 use Rattle.sqlite.specs.Rows.{stamped}
 use Rattle.sqlite.specs.Tree.{Trees, put_row}
 use Rattle.sqlite.specs.Listing.{understood}
 use Rattle.sqlite.specs.Effect.{Database, value_rows}
 use Rattle.sqlite.specs.State.{State, ExecutesInside}
-use Rattle.sqlite.proofs.Callers.{IsPlain, command_of}
 use Rattle.sqlite_tied.specs.Compute.{everything}
 use Rattle.rtgs_sql_writes.proofs.Casts.{cast_null, cast_int}
-use Rattle.rtgs_sql_writes.proofs.Steps.{IsPlainTable}
-use Rattle.rtgs_sql_writes.proofs.StateLemmas.{desk_over, with_rows}
+use Rattle.rtgs_sql_writes.proofs.StateLemmas.{with_rows}
+use Rattle.rtgs_sql_writes.proofs.Writing.{Means}
 use Rattle.rtgs_sql_writes.proofs.Adding.{adds}
 use Rattle.rtgs_book.specs.declared.Mark.{Mark}
 use Rattle.rtgs_book.specs.declared.RowChange.TheVariants.{AddMark}
@@ -33,17 +31,9 @@ mark_text = codes "INSERT INTO mark (number, date, many, value) VALUES (?1, ?2, 
 abbrev terms : List Term
 terms = col 0 0 ∷ lit Null ∷ col 0 1 ∷ col 0 2 ∷ col 0 3 ∷ []
 
-is : command_of (understood desk_schema mark_text) ≡ Insert 4 (Values terms 5)
+mark_means : Means mark_text (Insert 4 (Values terms 5))
 unfolding understood everything desk_schema
-is = refl
-
-plain : IsPlain (understood desk_schema mark_text)
-unfolding understood everything desk_schema
-plain = (refl, refl)
-
-mark_is_plain : (trees : Trees) (mode : Mode) → IsPlainTable (desk_over trees) mode 4 table
-unfolding desk_schema
-mark_is_plain trees mode = record { place = refl; uncounted = refl; still = λ _ _. refl }
+mark_means = record { is = refl; plain = (refl, refl) }
 
 abbrev pub mark_given : Mark → Row
 mark_given m = Int (pos m.number) ∷ Text (date_text m.date) ∷ Int (pos m.count) ∷ Int m.value ∷ []
@@ -56,7 +46,7 @@ pub adds_mark : (was : Database) (content : Content) (old new : State) (m : Mark
     → values ≡ mark_given m → IsUnderWay was content old → IsInOrder (with_change content (AddMark m))
     → ExecutesInside 0 mark_text values old new r → OnOk r (IsUnderWay was (with_change content (AddMark m)) new)
 adds_mark was content old new m r values same stands order h =
-    adds mark_text 4 table terms 5 mark_row (λ q. pos q.number) (λ _. refl) is plain mark_is_plain (mark_given m) m
+    adds mark_text 4 (omega arith) terms 5 mark_row (λ q. pos q.number) (λ _. refl) mark_means (mark_given m) m
     (λ trees. edit trees m) was content (with_change content (AddMark m)) content.marks old new r stands
     (ap (rows_in table) stands.holds.rows) order.marks
     (ap (with_rows table (map mark_row (content.marks ++ m ∷ []))) stands.holds.rows)

@@ -1,6 +1,6 @@
 -- What the statements on orders do.
 use Rattle.std.proofs.Common.{◌≡◌, ◌⊎◌, inl, inr, ℕ, pos, ◌==◌, List, [], ◌∷◌, ◌++◌, map, filter, codes, true, false}
-use Rattle.std.proofs.Common.{Ok, Err, Result, OnOk, eqb-true, refl, sym, ap, subst, ◌∙◌}
+use Rattle.std.proofs.Common.{Ok, Err, Result, OnOk, eqb-true, refl, sym, ap, subst, ◌∙◌, arith}
 use Rattle.std.specs.List.{AllByRecursion}
 use Rattle.std.specs.List.Sorted.{IsPermutation}
 use Rattle.std.specs.Ordering.{int_cmp}
@@ -20,24 +20,22 @@ use Rattle.sqlite.specs.Command.TheVariants.{Insert, Update}
 use Rattle.sqlite.specs.Edit.{edit_of, edited}
 use Rattle.sqlite_rules.specs.Calls.{ids_of}
 use Rattle.sqlite.specs.Rowids.TheVariants.{Chosen, Given}
-use Rattle.sqlite.specs.declared.run.Mode.{Mode}
 use Rattle.sqlite.specs.Rows.{stamped}
 use Rattle.sqlite.specs.Tree.{Trees, put_row, IsAscending}
 use Rattle.sqlite.specs.Listing.{understood}
 use Rattle.sqlite.specs.Effect.{Database, value_rows}
 use Rattle.sqlite.specs.State.{State, ExecutesInside}
 use Rattle.sqlite.specs.Values.{bound_value}
-use Rattle.sqlite.proofs.Callers.{IsPlain, command_of, one_permutation}
+use Rattle.sqlite.proofs.Callers.{one_permutation}
 use Rattle.sqlite_tied.specs.Compute.{everything}
 use Rattle.std.proofs.lemmas.Cmp.{int_cmp_total, tied_itself}
 use Rattle.std.proofs.lemmas.Bool.{cases_Bool}
 use Rattle.rtgs_sql_writes.proofs.Casts.{cast_null, cast_int, cast_mark, bound_mark}
-use Rattle.rtgs_sql_writes.proofs.Steps.{IsPlainTable}
 use Rattle.rtgs_sql_columns.specs.OneTable.{simple, passes, shows, OneTableAnswers}
 use Rattle.rtgs_sql_writes.proofs.Replacing.{Replaces, replaces}
-use Rattle.rtgs_sql_writes.proofs.StateLemmas.{desk_over, with_rows, framed, stands_on}
+use Rattle.rtgs_sql_writes.proofs.StateLemmas.{with_rows, framed, stands_on}
 use Rattle.rtgs_sql_writes.proofs.Adding.{adds}
-use Rattle.rtgs_sql_writes.proofs.Writing.{updated}
+use Rattle.rtgs_sql_writes.proofs.Writing.{Means, updated}
 use Rattle.rtgs_sql_writes.proofs.Passing.{none_moved, truth_of, same_number, filter_map}
 use Rattle.rtgs_book.specs.declared.Order.{Order}
 use Rattle.rtgs_book.specs.declared.OrderState.{OrderState}
@@ -56,17 +54,9 @@ order_text = codes "INSERT INTO payment (number, sender, reference, receiver, am
 abbrev terms : List Term
 terms = col 0 0 ∷ lit Null ∷ col 0 1 ∷ col 0 2 ∷ col 0 3 ∷ col 0 4 ∷ col 0 7 ∷ col 0 5 ∷ col 0 6 ∷ []
 
-is : command_of (understood desk_schema order_text) ≡ Insert 3 (Values terms 9)
+order_means : Means order_text (Insert 3 (Values terms 9))
 unfolding understood everything desk_schema
-is = refl
-
-plain : IsPlain (understood desk_schema order_text)
-unfolding understood everything desk_schema
-plain = (refl, refl)
-
-payment_is_plain : (trees : Trees) (mode : Mode) → IsPlainTable (desk_over trees) mode 3 table
-unfolding desk_schema
-payment_is_plain trees mode = record { place = refl; uncounted = refl; still = λ _ _. refl }
+order_means = record { is = refl; plain = (refl, refl) }
 
 abbrev params : Order → Row
 params o = Int (pos o.number) ∷ Text o.sender ∷ Text o.reference ∷ Text o.receiver ∷ Int (pos o.amount)
@@ -94,7 +84,7 @@ pub adds_order : (was : Database) (content : Content) (old new : State) (o : Ord
     → values ≡ order_given o → IsUnderWay was content old → IsInOrder (with_change content (AddOrder o))
     → ExecutesInside 0 order_text values old new r → OnOk r (IsUnderWay was (with_change content (AddOrder o)) new)
 adds_order was content old new o r values same stands order h =
-    adds order_text 3 table terms 9 payment_row (λ q. pos q.number) (λ _. refl) is plain payment_is_plain (params o) o
+    adds order_text 3 (omega arith) terms 9 payment_row (λ q. pos q.number) (λ _. refl) order_means (params o) o
     (λ trees. edit trees o) was content (with_change content (AddOrder o)) content.orders old new r stands
     (ap (rows_in table) stands.holds.rows) order.orders
     (ap (with_rows table (map payment_row (content.orders ++ o ∷ []))) stands.holds.rows)
@@ -111,14 +101,9 @@ tests = op2 (Compare Eq Binary) (col 1 0) (col 0 0) ∷ []
 abbrev project : List Term
 project = col 1 0 ∷ col 1 0 ∷ lit Null ∷ col 1 2 ∷ col 1 3 ∷ col 1 4 ∷ col 1 5 ∷ col 1 6 ∷ col 0 1 ∷ col 0 2 ∷ []
 
-set_state_is : command_of (understood desk_schema set_state_text)
-    ≡ Update 3 (record { lets = []; body = simple table.tree tests project [] })
+set_state_means : Means set_state_text (Update 3 (record { lets = []; body = simple table.tree tests project [] }))
 unfolding understood everything desk_schema
-set_state_is = refl
-
-set_state_plain : IsPlain (understood desk_schema set_state_text)
-unfolding understood everything desk_schema
-set_state_plain = (refl, refl)
+set_state_means = record { is = refl; plain = (refl, refl) }
 
 passes_one : (number : ℕ) (state mark : Value) (o : Order) → passes tests (Int (pos number) ∷ state ∷ mark ∷ [])
     (payment_row o) ≡ has_number number o
@@ -192,8 +177,8 @@ module _ (number : ℕ) (state : OrderState) where
       let h = subst (λ all. ExecutesInside 0 set_state_text all old new (Ok count)) (same ∙ ap (λ mark. Int (pos
       number) ∷ Int (pos (state_number state)) ∷ mark ∷ []) (bound_mark state)) given in
       let all = content.orders in
-      let made = updated set_state_text 3 table set_state_plain payment_is_plain old new state_params count
-      stands.schema h.0 answers table.tree tests project set_state_is in
+      let made = updated set_state_text 3 (omega arith) old new state_params count stands.schema h.0 answers table.tree
+      tests project set_state_means in
       let here : old.now.trees table.tree ≡ map payment_row all = ap (rows_in table) stands.holds.rows in
       let passed : filter (passes tests state_params) (old.now.trees table.tree)
       ≡ map payment_row (filter (has_number number) all) =

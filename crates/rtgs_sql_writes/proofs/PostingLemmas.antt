@@ -1,5 +1,5 @@
 -- What an INSERT of a posting does.
-use Rattle.std.proofs.Common.{◌≡◌, ℕ, pos, List, [], ◌∷◌, ◌++◌, map, codes, Result, OnOk, refl, ap, subst, ◌∙◌}
+use Rattle.std.proofs.Common.{◌≡◌, ℕ, pos, List, [], ◌∷◌, ◌++◌, map, codes, Result, OnOk, refl, ap, subst, ◌∙◌, arith}
 use Rattle.sqlite.specs.declared.types.Value.TheVariants.{Null, Int, Text}
 use Rattle.sqlite.specs.declared.error.Error.{Error}
 use Rattle.sqlite.specs.Order.{Row}
@@ -8,14 +8,12 @@ use Rattle.sqlite.specs.Source.TheVariants.{Values}
 use Rattle.sqlite.specs.Command.TheVariants.{Insert}
 use Rattle.sqlite.specs.Edit.{edit_of, edited}
 use Rattle.sqlite.specs.Rowids.TheVariants.{Chosen}
-use Rattle.sqlite.specs.declared.run.Mode.{Mode}
 use Rattle.sqlite.specs.Rows.{stamped}
 use Rattle.sqlite.specs.Tree.{Trees, put_row}
 use Rattle.sqlite.specs.Listing.{understood}
 use Rattle.sqlite.specs.Effect.{Database, value_rows}
 use Rattle.sqlite.specs.State.{State, ExecutesInside}
 use Rattle.sqlite.specs.Values.{bound_value}
-use Rattle.sqlite.proofs.Callers.{IsPlain, command_of}
 use Rattle.sqlite_tied.specs.Compute.{everything}
 use Rattle.rtgs_book.specs.declared.Posting.{Posting}
 use Rattle.rtgs_book.specs.declared.RowChange.TheVariants.{AddPosting}
@@ -23,8 +21,8 @@ use Rattle.rtgs_rows.specs.Tables.{desk_schema, posting_table as table}
 use Rattle.rtgs_rows.specs.Rows.{date_value, posting_row}
 use Rattle.rtgs_rows.specs.Content.{rows_in, Content, IsUnderWay, IsInOrder, with_change}
 use Rattle.rtgs_sql_writes.proofs.Casts.{cast_null, cast_int, cast_date, bound_date}
-use Rattle.rtgs_sql_writes.proofs.Steps.{IsPlainTable}
-use Rattle.rtgs_sql_writes.proofs.StateLemmas.{desk_over, with_rows}
+use Rattle.rtgs_sql_writes.proofs.StateLemmas.{with_rows}
+use Rattle.rtgs_sql_writes.proofs.Writing.{Means}
 use Rattle.rtgs_sql_writes.proofs.Adding.{adds}
 
 abbrev pub posting_text : List ℕ
@@ -33,17 +31,9 @@ posting_text = codes "INSERT INTO posting (number, code, reference, cents, date)
 abbrev terms : List Term
 terms = col 0 0 ∷ lit Null ∷ col 0 1 ∷ col 0 2 ∷ col 0 3 ∷ col 0 4 ∷ []
 
-is : command_of (understood desk_schema posting_text) ≡ Insert 2 (Values terms 6)
+posting_means : Means posting_text (Insert 2 (Values terms 6))
 unfolding understood everything desk_schema
-is = refl
-
-plain : IsPlain (understood desk_schema posting_text)
-unfolding understood everything desk_schema
-plain = (refl, refl)
-
-pub posting_is_plain : (trees : Trees) (mode : Mode) → IsPlainTable (desk_over trees) mode 2 table
-unfolding desk_schema
-posting_is_plain trees mode = record { place = refl; uncounted = refl; still = λ _ _. refl }
+posting_means = record { is = refl; plain = (refl, refl) }
 
 abbrev params : Posting → Row
 params p = Int (pos p.number) ∷ Text p.code ∷ Text p.reference ∷ Int p.cents ∷ date_value p.date ∷ []
@@ -65,7 +55,7 @@ pub adds_posting : (was : Database) (content : Content) (old new : State) (p : P
     p))
     → ExecutesInside 0 posting_text values old new r → OnOk r (IsUnderWay was (with_change content (AddPosting p)) new)
 adds_posting was content old new p r values same stands order h =
-    adds posting_text 2 table terms 6 posting_row (λ q. pos q.number) (λ _. refl) is plain posting_is_plain (params p) p
+    adds posting_text 2 (omega arith) terms 6 posting_row (λ q. pos q.number) (λ _. refl) posting_means (params p) p
     (λ trees. edit trees p) was content (with_change content (AddPosting p)) content.postings old new r stands
     (ap (rows_in table) stands.holds.rows) order.postings
     (ap (with_rows table (map posting_row (content.postings ++ p ∷ []))) stands.holds.rows)

@@ -1,6 +1,6 @@
 -- From one state of a transaction to the next.
-use Rattle.std.proofs.Common.{◌≡◌, ◌≢◌, inl, inr, ℕ, ◌==◌, List, [], ◌∷◌, map, true, false, if◌then◌else◌, eqb-true, eq-eqb}
-use Rattle.std.proofs.Common.{true≢false, refl, sym, ap, subst, ◌∙◌}
+use Rattle.std.proofs.Common.{◌≡◌, ◌≢◌, inl, inr, ℕ, ◌==◌, List, [], ◌∷◌, map, true, false, if◌then◌else◌}
+use Rattle.std.proofs.Common.{eqb-true, eq-eqb, true≢false, refl, sym, ap, subst, ◌∙◌}
 use Rattle.std.proofs.lemmas.Bool.{cases_Bool}
 use Rattle.sqlite.specs.Order.{Row}
 use Rattle.std.specs.List.{AllByRecursion}

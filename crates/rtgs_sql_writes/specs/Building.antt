@@ -22,9 +22,13 @@ pub record IsBuilt (was : Database) (schema : Schema) (s : State) : Type 0 where
   pub empty : AllByRecursion (λ t. s.now.trees t.tree ≡ []) schema.tables
   pub committed : s.committed ≡ was
 
--- the table at that place, as a text defines it: in no tree yet
+-- the table at that place
+abbrev pub table_at : ℕ → Table
+table_at at = get_or desk_tables at desk_table
+
+-- as a text defines it: in no tree yet
 abbrev pub unplaced : ℕ → Table
-unplaced at = record (get_or desk_tables at desk_table) { tree = 0 }
+unplaced at = record (table_at at) { tree = 0 }
 
 -- the text makes that table, over those before it
 pub record MakesTable (at : ℕ) (text : List ℕ) : Type 0 where
