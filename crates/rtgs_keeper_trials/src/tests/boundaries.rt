@@ -13,12 +13,12 @@ use std::test::Fail;
 
 // Commands, and the replies to them once a desk was given them.
 #[derive(Drop)]
-struct Listed {
+struct GivenList {
     commands: Vec<Command>,
     replies: Vec<Reply>,
 }
 
-impl Job for Listed {
+impl Job for GivenList {
     fn done<K: Booked>(&mut self, alloc: Global, keeper: K) -> Result<(K, bool), Fail> {
         let mut desk = desk_over(alloc, keeper)?;
         self.replies = desk.run(self.commands.as_slice())?;
@@ -30,7 +30,7 @@ impl Job for Listed {
 fn refuse_the_last_in<S: Store>(
     alloc: Global,
     store: &mut S,
-    listed: &mut Listed,
+    listed: &mut GivenList,
     refusal: &Refusal,
 ) -> Result<(), Fail> {
     make(alloc, store)?;
@@ -54,21 +54,24 @@ fn refuse_the_last_in<S: Store>(
     }
 }
 
-// Fails unless new desks in memory and on disks answer the commands alike, accept all but the last, and end with one
-// book.
-fn refuse_the_last(alloc: Global, commands: Vec<Command>, refusal: Refusal) -> Result<(), Fail> {
-    let (mut memory, mut disks) = (InMemory::blank(alloc), OnDisks::blank(alloc));
-    let mut listed = Listed {
+// Fails unless new desks in both stores answer the commands alike, accept all but the last, and end with one book.
+fn refuse_the_last<M: Store, S: Store>(
+    alloc: Global,
+    commands: Vec<Command>,
+    refusal: Refusal,
+) -> Result<(), Fail> {
+    let (mut memory, mut store) = (M::blank(alloc), S::blank(alloc));
+    let mut listed = GivenList {
         commands,
         replies: Vec::new(alloc),
     };
     refuse_the_last_in(alloc, &mut memory, &mut listed, &refusal)?;
     let replies = mem::replace(&mut listed.replies, Vec::new(alloc));
-    refuse_the_last_in(alloc, &mut disks, &mut listed, &refusal)?;
+    refuse_the_last_in(alloc, &mut store, &mut listed, &refusal)?;
     if replies.as_slice() != listed.replies.as_slice() {
         return Err(Fail::new("two answers"));
     }
-    end_in_one_book(alloc, &mut memory, &mut disks)
+    end_in_one_book(alloc, &mut memory, &mut store)
 }
 
 const LOWEST_KEY: &str = "00000000000000000000000000000000";
@@ -106,7 +109,7 @@ fn texts_and_numbers_reach_their_bounds(rt: HostRuntime) -> Result<(), Fail> {
     .read()?;
     let mut all = vec![in rt.alloc(); shortest, longest]?;
     all.extend_from_slice(commands(rt.alloc(), NUMBERS_AT_THEIR_BOUNDS)?.as_slice())?;
-    refuse_the_last(rt.alloc(), all, Refusal::TotalTooLarge)
+    refuse_the_last::<InMemory, OnDisks>(rt.alloc(), all, Refusal::TotalTooLarge)
 }
 
 const DAYS_AT_THEIR_BOUNDS: &str = "\
@@ -127,7 +130,7 @@ open 2999-12-31";
 #[test]
 fn days_reach_their_bounds(rt: HostRuntime) -> Result<(), Fail> {
     let days = commands(rt.alloc(), DAYS_AT_THEIR_BOUNDS)?;
-    refuse_the_last(rt.alloc(), days, Refusal::WrongDate)
+    refuse_the_last::<InMemory, OnDisks>(rt.alloc(), days, Refusal::WrongDate)
 }
 
 #[test]
@@ -137,7 +140,7 @@ fn there_are_a_hundred_participants(rt: HostRuntime) -> Result<(), Fail> {
         let line = format!(in rt.alloc(); "add BANK{number} {number:032}")?;
         all.push(command(line.as_str())?)?;
     }
-    refuse_the_last(rt.alloc(), all, Refusal::TooManyParticipants)
+    refuse_the_last::<InMemory, OnDisks>(rt.alloc(), all, Refusal::TooManyParticipants)
 }
 
 const TWO_BANKS: &str = "\
@@ -153,5 +156,5 @@ fn five_hundred_orders_of_one_sender_wait(rt: HostRuntime) -> Result<(), Fail> {
         let line = format!(in rt.alloc(); "order BANK1 A-{number} BANK2 5")?;
         all.push(command(line.as_str())?)?;
     }
-    refuse_the_last(rt.alloc(), all, Refusal::QueueFull)
+    refuse_the_last::<InMemory, OnDisks>(rt.alloc(), all, Refusal::QueueFull)
 }

@@ -11,11 +11,11 @@ use std::test::Fail;
 // Makes a desk in a store that fails in this way after so many calls, for as many calls as are met: how many that are,
 // and in how many of these runs a book was there after a crash, which is the empty one. There were no tables else, and
 // then the desk was not made.
-fn makings<S: Store>(alloc: Global, store: &mut S, disk: Failing) -> Result<(usize, usize), Fail> {
-    let empty = found_in(alloc, &mut InMemory::blank(alloc), &NOTHING, 0, 0)?;
+fn makings<M: Store, S: Store>(alloc: Global, disk: Failing) -> Result<(usize, usize), Fail> {
+    let empty = found_in(alloc, &mut M::blank(alloc), &NOTHING, 0, 0)?;
     let mut books = 0usize;
     for calls in 0..1000 {
-        *store = S::blank(alloc);
+        let mut store = S::blank(alloc);
         store.fail(alloc, disk, calls)?;
         let ended = store.session(alloc, true, &mut Work::new(&NOTHING, Part::Rest, true))?;
         store.crash();
@@ -39,10 +39,9 @@ fn makings<S: Store>(alloc: Global, store: &mut S, disk: Failing) -> Result<(usi
 
 #[test]
 fn a_desk_is_made_whole_or_not_at_all(rt: HostRuntime) -> Result<(), Fail> {
-    let mut store = OnDisks::blank(rt.alloc());
-    let log = makings(rt.alloc(), &mut store, Failing::Log)?;
+    let log = makings::<InMemory, OnDisks>(rt.alloc(), Failing::Log)?;
     assert_eq!(rt; log, (51, 28));
-    let db = makings(rt.alloc(), &mut store, Failing::Database)?;
+    let db = makings::<InMemory, OnDisks>(rt.alloc(), Failing::Database)?;
     assert_eq!(rt; db, (26, 12));
     Ok(())
 }

@@ -2,8 +2,8 @@
 //! before the call is passed on or after. Just the books are found that may be.
 use super::disks::OnDisks;
 use super::memory::InMemory;
-use super::runs::{books, failures_of_two};
-use super::store::{Failing, Store};
+use super::runs::failures_of_two;
+use super::store::Failing;
 use super::trial::Trial;
 use rtgs_tests_desks::Trouble;
 use std::alloc::Global;
@@ -11,13 +11,11 @@ use std::test::Fail;
 
 /// Tries the commands with each failure of the keeper, before a call is passed on and after.
 fn each_of_the_keeper(alloc: Global, trial: &Trial) -> Result<usize, Fail> {
-    let books = books(alloc, trial)?;
-    let two = (
+    let (lost, kept) = (
         Failing::Keeper(Trouble::Lost),
         Failing::Keeper(Trouble::Kept),
     );
-    let mut store = InMemory::blank(alloc);
-    let (lost, kept) = failures_of_two(alloc, &mut store, trial, books.as_slice(), two)?;
+    let (lost, kept) = failures_of_two::<InMemory, InMemory>(alloc, trial, lost, kept)?;
     if lost == kept {
         Ok(lost)
     } else {
@@ -29,10 +27,12 @@ fn each_of_the_keeper(alloc: Global, trial: &Trial) -> Result<usize, Fail> {
 /// keeper.
 fn all_met(alloc: Global, trial: &Trial) -> Result<[usize; 3], Fail> {
     let keeper = each_of_the_keeper(alloc, trial)?;
-    let books = books(alloc, trial)?;
-    let two = (Failing::Log, Failing::Database);
-    let mut store = OnDisks::blank(alloc);
-    let (log, db) = failures_of_two(alloc, &mut store, trial, books.as_slice(), two)?;
+    let (log, db) = failures_of_two::<InMemory, OnDisks>(
+        alloc,
+        trial,
+        Failing::Log,
+        Failing::Database,
+    )?;
     Ok([log, db, keeper])
 }
 

@@ -1,5 +1,4 @@
 //! Trials in a store that fails at each of its calls in turn, and what is found then.
-use super::memory::InMemory;
 use super::store::{Ended, Failing, Store};
 use super::trial::{Part, Progress, Trial, Work};
 use rtgs_book::Fault;
@@ -52,18 +51,17 @@ pub fn found_in<S: Store>(
     Ok(work.found.ok_or("nothing was found")?)
 }
 
-/// What a desk has before the first of the commands, and after each, where they come one by one. The banks then stand
-/// as it is told.
-pub fn books(alloc: Global, trial: &Trial) -> Result<Vec<String>, Fail> {
+// What a desk in this store has before the first of the commands, and after each, where they come one by one. The banks
+// then stand as it is told.
+fn books<S: Store>(alloc: Global, store: &mut S, trial: &Trial) -> Result<Vec<String>, Fail> {
     let trial = Trial {
         is_batch: false,
         ..*trial
     };
-    let mut store = InMemory::blank(alloc);
     let mut books = Vec::new(alloc);
     for count in 0..=trial.rows.lines().count() {
-        begin(alloc, &mut store, &trial)?;
-        let found = found_in(alloc, &mut store, &trial, 0, count)?;
+        begin(alloc, store, &trial)?;
+        let found = found_in(alloc, store, &trial, 0, count)?;
         if found.as_str().lines().next() != trial.standings.lines().nth(count) {
             return Err(Fail::from(found));
         }
@@ -128,15 +126,13 @@ fn failures<S: Store>(
     Err(Fail::new("each run failed"))
 }
 
-/// Tries the commands with each of two failures, and tells how many calls go well where first no run meets them. Just
-/// the answered commands are found after a stop behind each of them, where nothing is closed.
-pub fn failures_of_two<S: Store>(
+// Fails unless just the answered commands are found after a stop behind each of them, where nothing is closed.
+fn stops_leave_what_was_answered<S: Store>(
     alloc: Global,
     store: &mut S,
     trial: &Trial,
     books: &[String],
-    two: (Failing, Failing),
-) -> Result<(usize, usize), Fail> {
+) -> Result<(), Fail> {
     for count in 0..=trial.rows.lines().count() {
         begin(alloc, store, trial)?;
         let progress = progress_in(alloc, store, trial, count, false)?;
@@ -146,7 +142,21 @@ pub fn failures_of_two<S: Store>(
             return Err(Fail::new("another book after a stop"));
         }
     }
-    let one = failures(alloc, store, trial, books, two.0)?;
-    let other = failures(alloc, store, trial, books, two.1)?;
+    Ok(())
+}
+
+/// Tries the commands in a store of the second kind, with a stop behind each of them and with each of two failures, and
+/// tells how many calls go well where first no run meets them. The books that may be found are those of the first kind.
+pub fn failures_of_two<M: Store, S: Store>(
+    alloc: Global,
+    trial: &Trial,
+    one: Failing,
+    other: Failing,
+) -> Result<(usize, usize), Fail> {
+    let books = books(alloc, &mut M::blank(alloc), trial)?;
+    let mut store = S::blank(alloc);
+    stops_leave_what_was_answered(alloc, &mut store, trial, books.as_slice())?;
+    let one = failures(alloc, &mut store, trial, books.as_slice(), one)?;
+    let other = failures(alloc, &mut store, trial, books.as_slice(), other)?;
     Ok((one, other))
 }

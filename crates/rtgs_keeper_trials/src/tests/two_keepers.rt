@@ -118,19 +118,19 @@ fn answer_alike<M: Store, S: Store>(
 }
 
 // Five thousand commands of this seed, that end in one book.
-fn five_thousand(alloc: Global, seed: u64) -> Result<(), Fail> {
-    let (mut memory, mut disks) = (InMemory::blank(alloc), OnDisks::blank(alloc));
-    make(alloc, &mut disks)?;
-    answer_alike(alloc, &mut memory, &mut disks, seed)?;
-    end_in_one_book(alloc, &mut memory, &mut disks)
+fn five_thousand<M: Store, S: Store>(alloc: Global, seed: u64) -> Result<(), Fail> {
+    let (mut memory, mut store) = (M::blank(alloc), S::blank(alloc));
+    make(alloc, &mut store)?;
+    answer_alike(alloc, &mut memory, &mut store, seed)?;
+    end_in_one_book(alloc, &mut memory, &mut store)
 }
 
 #[test]
 fn the_first_five_thousand_commands_end_in_one_book(rt: HostRuntime) -> Result<(), Fail> {
-    five_thousand(rt.alloc(), 2024)
+    five_thousand::<InMemory, OnDisks>(rt.alloc(), 2024)
 }
 
 #[test]
 fn another_five_thousand_commands_end_in_one_book(rt: HostRuntime) -> Result<(), Fail> {
-    five_thousand(rt.alloc(), 2025)
+    five_thousand::<InMemory, OnDisks>(rt.alloc(), 2025)
 }
