@@ -6,8 +6,9 @@ use super::store::{Booked, Ended, Job, Store};
 use super::two_keepers::{end_in_one_book, make};
 use rtgs_book::{Answer, Command, Refusal};
 use rtgs_desk_requests::CommandWords;
-use rtgs_tests_desks::{Reply, command, commands, desk_over};
+use rtgs_tests_desks::{Reply, command, desk_over};
 use std::alloc::Global;
+use std::fmt::Write;
 use std::mem;
 use std::test::Fail;
 
@@ -54,12 +55,25 @@ fn refuse_the_last_in<S: Store>(
     }
 }
 
-// Fails unless new desks in both stores answer the commands alike, accept all but the last, and end with one book.
+// These commands, and behind them those of the script.
+fn all_of(alloc: Global, first: &[Command], script: &str) -> Result<Vec<Command>, Fail> {
+    let mut all = Vec::new(alloc);
+    all.extend_from_slice(first)?;
+    for line in script.lines() {
+        all.push(command(line)?)?;
+    }
+    Ok(all)
+}
+
+// Fails unless new desks in both stores answer these commands and those of the script alike, accept all but the last,
+// and end with one book.
 fn refuse_the_last<M: Store, S: Store>(
     alloc: Global,
-    commands: Vec<Command>,
+    first: &[Command],
+    script: &str,
     refusal: Refusal,
 ) -> Result<(), Fail> {
+    let commands = all_of(alloc, first, script)?;
     let (mut memory, mut store) = (M::blank(alloc), S::blank(alloc));
     let mut listed = GivenList {
         commands,
@@ -107,9 +121,12 @@ fn texts_and_numbers_reach_their_bounds(rt: HostRuntime) -> Result<(), Fail> {
         key: HIGHEST_KEY,
     }
     .read()?;
-    let mut all = vec![in rt.alloc(); shortest, longest]?;
-    all.extend_from_slice(commands(rt.alloc(), NUMBERS_AT_THEIR_BOUNDS)?.as_slice())?;
-    refuse_the_last::<InMemory, OnDisks>(rt.alloc(), all, Refusal::TotalTooLarge)
+    refuse_the_last::<InMemory, OnDisks>(
+        rt.alloc(),
+        &[shortest, longest],
+        NUMBERS_AT_THEIR_BOUNDS,
+        Refusal::TotalTooLarge,
+    )
 }
 
 const DAYS_AT_THEIR_BOUNDS: &str = "\
@@ -129,32 +146,35 @@ open 2999-12-31";
 
 #[test]
 fn days_reach_their_bounds(rt: HostRuntime) -> Result<(), Fail> {
-    let days = commands(rt.alloc(), DAYS_AT_THEIR_BOUNDS)?;
-    refuse_the_last::<InMemory, OnDisks>(rt.alloc(), days, Refusal::WrongDate)
+    refuse_the_last::<InMemory, OnDisks>(rt.alloc(), &[], DAYS_AT_THEIR_BOUNDS, Refusal::WrongDate)
 }
 
 #[test]
 fn there_are_a_hundred_participants(rt: HostRuntime) -> Result<(), Fail> {
-    let mut all = Vec::new(rt.alloc());
+    let mut script = String::new(rt.alloc());
     for number in 0..=100u64 {
-        let line = format!(in rt.alloc(); "add BANK{number} {number:032}")?;
-        all.push(command(line.as_str())?)?;
+        write!(script, "add BANK{number} {number:032}\n")?;
     }
-    refuse_the_last::<InMemory, OnDisks>(rt.alloc(), all, Refusal::TooManyParticipants)
+    refuse_the_last::<InMemory, OnDisks>(
+        rt.alloc(),
+        &[],
+        script.as_str(),
+        Refusal::TooManyParticipants,
+    )
 }
 
 const TWO_BANKS: &str = "\
 add BANK1 00000000000000000000000000000001
 add BANK2 00000000000000000000000000000002
-open 2024-03-04";
+open 2024-03-04
+";
 
 #[test]
 fn five_hundred_orders_of_one_sender_wait(rt: HostRuntime) -> Result<(), Fail> {
-    let mut all = commands(rt.alloc(), TWO_BANKS)?;
+    let mut script = String::from_str(rt.alloc(), TWO_BANKS)?;
     for number in 1..=501u64 {
         // nothing covers it
-        let line = format!(in rt.alloc(); "order BANK1 A-{number} BANK2 5")?;
-        all.push(command(line.as_str())?)?;
+        write!(script, "order BANK1 A-{number} BANK2 5\n")?;
     }
-    refuse_the_last::<InMemory, OnDisks>(rt.alloc(), all, Refusal::QueueFull)
+    refuse_the_last::<InMemory, OnDisks>(rt.alloc(), &[], script.as_str(), Refusal::QueueFull)
 }

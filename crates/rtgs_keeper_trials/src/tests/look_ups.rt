@@ -1,6 +1,6 @@
 //! Commands whose look-up meets trouble, and what is found then.
 use super::memory::{InMemory, failing};
-use super::runs::{begin, found_in, progress_in};
+use super::runs::{begin, found_after, found_in, progress_in};
 use super::store::{Failing, Store};
 use super::trial::{Progress, Trial, begun};
 use rtgs_book::Refusal;
@@ -47,12 +47,12 @@ fn acts_after_a_restart<S: Store>(
         is_closed: true,
     };
     begin(alloc, &mut store, &trial)?;
-    let before = found_in(alloc, &mut store, &trial, 0, 0)?;
+    let before = found_in(alloc, &mut store)?;
     store.fail(alloc, failing, BEFORE)?;
     let progress = progress_in(alloc, &mut store, &trial, 1, true)?;
     store.crash();
-    let is_kept = found_in(alloc, &mut store, &trial, 0, 0)?.as_str() == before.as_str();
-    found_in(alloc, &mut store, &trial, 0, 1)?;
+    let is_kept = found_in(alloc, &mut store)?.as_str() == before.as_str();
+    found_after(alloc, &mut store, line, false, 0, 1)?;
     if matches!(progress, Progress::Failed(0)) && is_kept {
         Ok(())
     } else {

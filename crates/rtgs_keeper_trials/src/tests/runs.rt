@@ -8,7 +8,7 @@ use std::test::Fail;
 /// Makes the store new, with a desk of three banks, after the commands before.
 pub fn begin<S: Store>(alloc: Global, store: &mut S, trial: &Trial) -> Result<(), Fail> {
     *store = S::blank(alloc);
-    let mut work = Work::new(trial, Part::Begin, trial.is_closed);
+    let mut work = Work::new(trial.before, false, Part::Begin, trial.is_closed);
     match store.session(alloc, true, &mut work)? {
         Ended::Closed if trial.is_closed => Ok(()),
         Ended::Stopped if !trial.is_closed => {
@@ -27,7 +27,7 @@ pub fn progress_in<S: Store>(
     most: usize,
     closes: bool,
 ) -> Result<Progress, Fail> {
-    let mut work = Work::new(trial, Part::Give(most), closes);
+    let mut work = Work::new(trial.rows, trial.is_batch, Part::Give(most), closes);
     let ended = store.session(alloc, false, &mut work)?;
     match work.fault {
         Some(Fault::StoreFault) => Ok(Progress::Unopened),
@@ -37,16 +37,21 @@ pub fn progress_in<S: Store>(
     }
 }
 
-/// What is found in a store of which no call fails, once the rest of so many commands were given. They are answered as
-/// what comes again where they are among the known.
-pub fn found_in<S: Store>(
+/// What is found in a store of which no call fails.
+pub fn found_in<S: Store>(alloc: Global, store: &mut S) -> Result<String, Fail> {
+    found_after(alloc, store, "", false, 0, 0)
+}
+
+/// The same once so many commands were given, of which so many are known and come again. They may come in one batch.
+pub fn found_after<S: Store>(
     alloc: Global,
     store: &mut S,
-    trial: &Trial,
+    script: &'static str,
+    is_batch: bool,
     known: usize,
     most: usize,
 ) -> Result<String, Fail> {
-    let mut work = Work::new(trial, Part::Look { known, most }, false);
+    let mut work = Work::new(script, is_batch, Part::Look { known, most }, false);
     store.session(alloc, false, &mut work)?;
     Ok(work.found.ok_or("nothing was found")?)
 }
@@ -54,14 +59,10 @@ pub fn found_in<S: Store>(
 // What a desk in this store has before the first of the commands, and after each, where they come one by one. The banks
 // then stand as it is told.
 fn books<S: Store>(alloc: Global, store: &mut S, trial: &Trial) -> Result<Vec<String>, Fail> {
-    let trial = Trial {
-        is_batch: false,
-        ..*trial
-    };
     let mut books = Vec::new(alloc);
     for count in 0..=trial.rows.lines().count() {
-        begin(alloc, store, &trial)?;
-        let found = found_in(alloc, store, &trial, 0, count)?;
+        begin(alloc, store, trial)?;
+        let found = found_after(alloc, store, trial.rows, false, 0, count)?;
         if found.as_str().lines().next() != trial.standings.lines().nth(count) {
             return Err(Fail::from(found));
         }
@@ -111,11 +112,11 @@ fn failures<S: Store>(
         store.fail(alloc, failing, calls)?;
         let progress = progress_in(alloc, store, trial, all, true)?;
         store.crash();
-        let found = found_in(alloc, store, trial, 0, 0)?;
+        let found = found_in(alloc, store)?;
         let Some(place) = place_of(books, all, progress, found.as_str()) else {
             return Err(Fail::new("another book"));
         };
-        let found = found_in(alloc, store, trial, place, all)?;
+        let found = found_after(alloc, store, trial.rows, trial.is_batch, place, all)?;
         if !is_at(books, all, found.as_str()) {
             return Err(Fail::new("another end"));
         }
@@ -137,7 +138,7 @@ fn stops_leave_what_was_answered<S: Store>(
         begin(alloc, store, trial)?;
         let progress = progress_in(alloc, store, trial, count, false)?;
         store.crash();
-        let found = found_in(alloc, store, trial, 0, 0)?;
+        let found = found_in(alloc, store)?;
         if !matches!(progress, Progress::Whole) || !is_at(books, count, found.as_str()) {
             return Err(Fail::new("another book after a stop"));
         }

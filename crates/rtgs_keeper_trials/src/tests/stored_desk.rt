@@ -231,8 +231,8 @@ enum Attempt<'a> {
     Opening { is_made: bool },
 }
 
-// Why no desk is opened where this is attempted in memory. Only here and in `lived_twice_in_memory` stands the type of a
-// database in memory.
+// Why no desk is opened where this is attempted in memory. Only here and in `lived_twice_in_memory` stands the type of
+// a database in memory.
 fn fault_in_memory(alloc: Global, attempt: Attempt<'_>) -> Result<Option<Fault>, Fail> {
     match attempt {
         Attempt::Life(commands, more) => {

@@ -54,8 +54,8 @@ struct Written {
 }
 
 /// Writes the text by a desk over this keeper of a new book, which is given the commands, and then meets this trouble
-/// after so many calls. Once the store has failed, the desk then answers nothing else, and after lack of memory it writes
-/// once more.
+/// after so many calls. Once the store has failed, the desk then answers nothing else, and after lack of memory it
+/// writes once more.
 fn written_by<K: Keeper + Drop>(
     alloc: Global,
     keeper: FailingKeeper<K>,

@@ -7,7 +7,7 @@ use super::runs::found_in;
 use super::seen::{KINDS, kind_of};
 use super::store::{Booked, Ended, Job, Store};
 use super::told::Told;
-use super::trial::{NOTHING, Part, Work};
+use super::trial::{Part, Work};
 use rtgs_book::Refusal;
 use rtgs_tests_desks::desk_over;
 use std::alloc::Global;
@@ -69,7 +69,7 @@ impl Job for Run {
 
 /// Makes a desk of a new book in this store, and closes it.
 pub fn make<S: Store>(alloc: Global, store: &mut S) -> Result<(), Fail> {
-    let mut work = Work::new(&NOTHING, Part::Rest, true);
+    let mut work = Work::new("", false, Part::Rest, true);
     if matches!(store.session(alloc, true, &mut work)?, Ended::Closed) {
         Ok(())
     } else {
@@ -83,8 +83,8 @@ pub fn end_in_one_book<M: Store, S: Store>(
     memory: &mut M,
     store: &mut S,
 ) -> Result<(), Fail> {
-    let in_memory = found_in(alloc, memory, &NOTHING, 0, 0)?;
-    if found_in(alloc, store, &NOTHING, 0, 0)?.as_str() == in_memory.as_str() {
+    let in_memory = found_in(alloc, memory)?;
+    if found_in(alloc, store)?.as_str() == in_memory.as_str() {
         Ok(())
     } else {
         Err(Fail::new("two books"))
