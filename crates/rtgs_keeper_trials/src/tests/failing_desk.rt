@@ -98,37 +98,41 @@ fn a_command_that_lacked_memory_is_sent_again(rt: HostRuntime) -> Result<(), Fai
     Ok(())
 }
 
-// Why no desk is opened over a keeper of a desk whose commands were answered as the script tells.
-fn fault_after<K: Keeper + Drop>(
+// Fails unless no desk is opened over this keeper, for this fault.
+fn opens_none<K: Keeper + Drop>(alloc: Global, keeper: K, told: Fault) -> Result<(), Fail> {
+    let met = match Desk::open(alloc, keeper) {
+        Ok(_) => None,
+        Err((fault, _)) => Some(fault),
+    };
+    if met == Some(told) {
+        Ok(())
+    } else {
+        Err(Fail::new("another fault, or a desk"))
+    }
+}
+
+// The same once the commands of a script were answered over it as the script tells.
+fn opens_none_after<K: Keeper + Drop>(
     alloc: Global,
     keeper: K,
     script: &str,
-) -> Result<Option<Fault>, Fail> {
-    Ok(fault_of(alloc, after(alloc, keeper, script)?))
-}
-
-// Why no desk is opened over this keeper.
-fn fault_of<K: Keeper + Drop>(alloc: Global, keeper: K) -> Option<Fault> {
-    match Desk::open(alloc, keeper) {
-        Ok(_) => None,
-        Err((fault, _)) => Some(fault),
-    }
+    told: Fault,
+) -> Result<(), Fail> {
+    opens_none(alloc, after(alloc, keeper, script)?, told)
 }
 
 #[test]
 fn a_failed_keeper_opens_no_desk(rt: HostRuntime) -> Result<(), Fail> {
     let keeper = failing(rt.alloc(), COMMIT, Trouble::Lost);
-    let fault = fault_after(rt.alloc(), keeper, FAILS)?;
-    assert_eq!(rt; fault, Some(Fault::StoreFault));
-    Ok(())
+    opens_none_after(rt.alloc(), keeper, FAILS, Fault::StoreFault)
 }
 
 #[test]
-fn a_keeper_that_fails_at_the_opening_opens_no_desk(rt: HostRuntime) {
-    let lost = fault_of(rt.alloc(), failing(rt.alloc(), 0, Trouble::Lost));
-    assert_eq!(rt; lost, Some(Fault::StoreFault));
-    let kept = fault_of(rt.alloc(), failing(rt.alloc(), 0, Trouble::Kept));
-    assert_eq!(rt; kept, Some(Fault::StoreFault));
-    let refused = fault_of(rt.alloc(), failing(rt.alloc(), 0, Trouble::OutOfMemory));
-    assert_eq!(rt; refused, Some(Fault::OutOfMemory));
+fn a_keeper_that_fails_at_the_opening_opens_no_desk(rt: HostRuntime) -> Result<(), Fail> {
+    let lost = failing(rt.alloc(), 0, Trouble::Lost);
+    opens_none(rt.alloc(), lost, Fault::StoreFault)?;
+    let kept = failing(rt.alloc(), 0, Trouble::Kept);
+    opens_none(rt.alloc(), kept, Fault::StoreFault)?;
+    let refused = failing(rt.alloc(), 0, Trouble::OutOfMemory);
+    opens_none(rt.alloc(), refused, Fault::OutOfMemory)
 }
