@@ -6,19 +6,20 @@ use super::store::{Booked, Ended, Job, Store};
 use super::two_keepers::{end_in_one_book, make};
 use rtgs_book::{Answer, Command, Refusal};
 use rtgs_desk_requests::CommandWords;
-use rtgs_tests_desks::{Reply, command, commands, desk_over};
+use rtgs_tests_desks::{Reply, command, desk_over};
 use std::alloc::Global;
+use std::fmt::Write;
 use std::mem;
 use std::test::Fail;
 
 // Commands, and the replies to them once a desk was given them.
 #[derive(Drop)]
-struct Listed {
+struct GivenList {
     commands: Vec<Command>,
     replies: Vec<Reply>,
 }
 
-impl Job for Listed {
+impl Job for GivenList {
     fn done<K: Booked>(&mut self, alloc: Global, keeper: K) -> Result<(K, bool), Fail> {
         let mut desk = desk_over(alloc, keeper)?;
         self.replies = desk.run(self.commands.as_slice())?;
@@ -30,7 +31,7 @@ impl Job for Listed {
 fn refuse_the_last_in<S: Store>(
     alloc: Global,
     store: &mut S,
-    listed: &mut Listed,
+    listed: &mut GivenList,
     refusal: &Refusal,
 ) -> Result<(), Fail> {
     make(alloc, store)?;
@@ -54,21 +55,37 @@ fn refuse_the_last_in<S: Store>(
     }
 }
 
-// Fails unless new desks in memory and on disks answer the commands alike, accept all but the last, and end with one
-// book.
-fn refuse_the_last(alloc: Global, commands: Vec<Command>, refusal: Refusal) -> Result<(), Fail> {
-    let (mut memory, mut disks) = (InMemory::blank(alloc), OnDisks::blank(alloc));
-    let mut listed = Listed {
+// These commands, and behind them those of the script.
+fn all_of(alloc: Global, first: &[Command], script: &str) -> Result<Vec<Command>, Fail> {
+    let mut all = Vec::new(alloc);
+    all.extend_from_slice(first)?;
+    for line in script.lines() {
+        all.push(command(line)?)?;
+    }
+    Ok(all)
+}
+
+// Fails unless new desks in both stores answer these commands and those of the script alike, accept all but the last,
+// and end with one book.
+fn refuse_the_last<M: Store, S: Store>(
+    alloc: Global,
+    first: &[Command],
+    script: &str,
+    refusal: Refusal,
+) -> Result<(), Fail> {
+    let commands = all_of(alloc, first, script)?;
+    let (mut memory, mut store) = (M::blank(alloc), S::blank(alloc));
+    let mut listed = GivenList {
         commands,
         replies: Vec::new(alloc),
     };
     refuse_the_last_in(alloc, &mut memory, &mut listed, &refusal)?;
     let replies = mem::replace(&mut listed.replies, Vec::new(alloc));
-    refuse_the_last_in(alloc, &mut disks, &mut listed, &refusal)?;
+    refuse_the_last_in(alloc, &mut store, &mut listed, &refusal)?;
     if replies.as_slice() != listed.replies.as_slice() {
         return Err(Fail::new("two answers"));
     }
-    end_in_one_book(alloc, &mut memory, &mut disks)
+    end_in_one_book(alloc, &mut memory, &mut store)
 }
 
 const LOWEST_KEY: &str = "00000000000000000000000000000000";
@@ -104,9 +121,12 @@ fn texts_and_numbers_reach_their_bounds(rt: HostRuntime) -> Result<(), Fail> {
         key: HIGHEST_KEY,
     }
     .read()?;
-    let mut all = vec![in rt.alloc(); shortest, longest]?;
-    all.extend_from_slice(commands(rt.alloc(), NUMBERS_AT_THEIR_BOUNDS)?.as_slice())?;
-    refuse_the_last(rt.alloc(), all, Refusal::TotalTooLarge)
+    refuse_the_last::<InMemory, OnDisks>(
+        rt.alloc(),
+        &[shortest, longest],
+        NUMBERS_AT_THEIR_BOUNDS,
+        Refusal::TotalTooLarge,
+    )
 }
 
 const DAYS_AT_THEIR_BOUNDS: &str = "\
@@ -126,32 +146,35 @@ open 2999-12-31";
 
 #[test]
 fn days_reach_their_bounds(rt: HostRuntime) -> Result<(), Fail> {
-    let days = commands(rt.alloc(), DAYS_AT_THEIR_BOUNDS)?;
-    refuse_the_last(rt.alloc(), days, Refusal::WrongDate)
+    refuse_the_last::<InMemory, OnDisks>(rt.alloc(), &[], DAYS_AT_THEIR_BOUNDS, Refusal::WrongDate)
 }
 
 #[test]
 fn there_are_a_hundred_participants(rt: HostRuntime) -> Result<(), Fail> {
-    let mut all = Vec::new(rt.alloc());
+    let mut script = String::new(rt.alloc());
     for number in 0..=100u64 {
-        let line = format!(in rt.alloc(); "add BANK{number} {number:032}")?;
-        all.push(command(line.as_str())?)?;
+        write!(script, "add BANK{number} {number:032}\n")?;
     }
-    refuse_the_last(rt.alloc(), all, Refusal::TooManyParticipants)
+    refuse_the_last::<InMemory, OnDisks>(
+        rt.alloc(),
+        &[],
+        script.as_str(),
+        Refusal::TooManyParticipants,
+    )
 }
 
 const TWO_BANKS: &str = "\
 add BANK1 00000000000000000000000000000001
 add BANK2 00000000000000000000000000000002
-open 2024-03-04";
+open 2024-03-04
+";
 
 #[test]
 fn five_hundred_orders_of_one_sender_wait(rt: HostRuntime) -> Result<(), Fail> {
-    let mut all = commands(rt.alloc(), TWO_BANKS)?;
+    let mut script = String::from_str(rt.alloc(), TWO_BANKS)?;
     for number in 1..=501u64 {
         // nothing covers it
-        let line = format!(in rt.alloc(); "order BANK1 A-{number} BANK2 5")?;
-        all.push(command(line.as_str())?)?;
+        write!(script, "order BANK1 A-{number} BANK2 5\n")?;
     }
-    refuse_the_last(rt.alloc(), all, Refusal::QueueFull)
+    refuse_the_last::<InMemory, OnDisks>(rt.alloc(), &[], script.as_str(), Refusal::QueueFull)
 }

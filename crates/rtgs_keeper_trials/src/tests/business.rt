@@ -77,21 +77,22 @@ impl Business {
             return Ok(format!(in self.alloc; "withdraw BANK{} R-{}", self.sender, self.number)?);
         }
         let code = self.below(CODES);
-        Ok(match kind {
-            0 => format!(in self.alloc; "add BANK{code} {:032}", self.below(11))?,
-            1 => format!(in self.alloc; "credit BANK{code} {}", self.below(400))?,
+        let words = match kind {
+            0 => format!(in self.alloc; "add BANK{code} {:032}", self.below(11)),
+            1 => format!(in self.alloc; "credit BANK{code} {}", self.below(400)),
             2 | 3 | 4 => {
                 let (number, size) = (self.below(POSTINGS), self.below(1_500) + 1);
                 let word = if self.below(4) == 0 { "debit" } else { "post" };
-                format!(in self.alloc; "{word} BANK{code} P-{number} {size}")?
+                format!(in self.alloc; "{word} BANK{code} P-{number} {size}")
             }
             _ => {
                 self.sender = code;
                 self.number = self.below(ORDERS);
                 let (receiver, cents) = (self.below(CODES), self.below(900) + 1);
-                format!(in self.alloc; "order BANK{code} R-{} BANK{receiver} {cents}", self.number)?
+                format!(in self.alloc; "order BANK{code} R-{} BANK{receiver} {cents}", self.number)
             }
-        })
+        };
+        Ok(words?)
     }
 
     /// Takes notice of a day that was opened.

@@ -3,7 +3,7 @@ use super::disks::OnDisks;
 use super::memory::InMemory;
 use super::runs::found_in;
 use super::store::{Ended, Failing, Store};
-use super::trial::{NOTHING, Part, Work};
+use super::trial::{Part, Work};
 use rtgs_book::Fault;
 use std::alloc::Global;
 use std::test::Fail;
@@ -11,15 +11,15 @@ use std::test::Fail;
 // Makes a desk in a store that fails in this way after so many calls, for as many calls as are met: how many that are,
 // and in how many of these runs a book was there after a crash, which is the empty one. There were no tables else, and
 // then the desk was not made.
-fn makings<S: Store>(alloc: Global, store: &mut S, disk: Failing) -> Result<(usize, usize), Fail> {
-    let empty = found_in(alloc, &mut InMemory::blank(alloc), &NOTHING, 0, 0)?;
+fn makings<M: Store, S: Store>(alloc: Global, disk: Failing) -> Result<(usize, usize), Fail> {
+    let empty = found_in(alloc, &mut M::blank(alloc))?;
     let mut books = 0usize;
     for calls in 0..1000 {
-        *store = S::blank(alloc);
+        let mut store = S::blank(alloc);
         store.fail(alloc, disk, calls)?;
-        let ended = store.session(alloc, true, &mut Work::new(&NOTHING, Part::Rest, true))?;
+        let ended = store.session(alloc, true, &mut Work::new("", false, Part::Rest, true))?;
         store.crash();
-        let mut look = Work::new(&NOTHING, Part::Look { known: 0, most: 0 }, false);
+        let mut look = Work::new("", false, Part::Look { known: 0, most: 0 }, false);
         store.session(alloc, false, &mut look)?;
         let is_none = look.fault == Some(Fault::NotADeskFile) && matches!(ended, Ended::Unopened);
         let is_there = match &look.found {
@@ -39,10 +39,11 @@ fn makings<S: Store>(alloc: Global, store: &mut S, disk: Failing) -> Result<(usi
 
 #[test]
 fn a_desk_is_made_whole_or_not_at_all(rt: HostRuntime) -> Result<(), Fail> {
-    let mut store = OnDisks::blank(rt.alloc());
-    let log = makings(rt.alloc(), &mut store, Failing::Log)?;
-    assert_eq!(rt; log, (51, 28));
-    let db = makings(rt.alloc(), &mut store, Failing::Database)?;
-    assert_eq!(rt; db, (26, 12));
-    Ok(())
+    let log = makings::<InMemory, OnDisks>(rt.alloc(), Failing::Log)?;
+    let db = makings::<InMemory, OnDisks>(rt.alloc(), Failing::Database)?;
+    if log == (51, 28) && db == (26, 12) {
+        Ok(())
+    } else {
+        Err(Fail::from(format!(in rt.alloc(); "{log:?} of the log, {db:?} of the file")?))
+    }
 }

@@ -12,12 +12,10 @@ use std::alloc::Global;
 use std::mem;
 use std::test::Fail;
 
-type Disks = Files<Fuse<Memory>>;
-
 /// The two disks, while no database is open over them.
 #[derive(Drop)]
 pub struct OnDisks {
-    disks: Disks,
+    disks: Files<Fuse<Memory>>,
 }
 
 // A new disk with the same bytes, which are synced. It passes so many calls on.
@@ -63,7 +61,11 @@ fn worked<S: Alter + Drop, J: Job>(
 }
 
 // The disks, where one of them failed, and for no other reason.
-fn left_by(error: Error, disks: Disks, ended: Ended) -> Result<(Disks, Ended), Fail> {
+fn left_by<D: Disk + Drop>(
+    error: Error,
+    disks: Files<D>,
+    ended: Ended,
+) -> Result<(Files<D>, Ended), Fail> {
     if error == Error::SqliteFailure(ErrorCode::SystemIoFailure) {
         Ok((disks, ended))
     } else {
@@ -71,13 +73,13 @@ fn left_by(error: Error, disks: Disks, ended: Ended) -> Result<(Disks, Ended), F
     }
 }
 
-// Does the job with a database over the disks. Only here stands the type of that database.
-fn used<J: Job>(
+// Does the job with a database over the disks, of whatever kind they are.
+fn used<D: Disk + Drop, J: Job>(
     alloc: Global,
-    disks: Disks,
+    disks: Files<D>,
     is_new: bool,
     job: &mut J,
-) -> Result<(Disks, Ended), Fail> {
+) -> Result<(Files<D>, Ended), Fail> {
     if !disks.log.may_be_used() || !disks.db.may_be_used() {
         return Err(Fail::new("a disk that may not be used"));
     }

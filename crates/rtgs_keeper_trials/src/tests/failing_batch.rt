@@ -6,7 +6,7 @@ use rtgs_desk::Desk;
 use rtgs_keeper::Keeper;
 use rtgs_money::Code;
 use rtgs_order_files::write_results;
-use rtgs_tests_desks::{Trouble, desk_over};
+use rtgs_tests_desks::{FailingKeeper, Trouble, desk_over};
 use std::alloc::Global;
 use std::test::Fail;
 
@@ -57,14 +57,24 @@ fn sent_to<K: Keeper + Drop>(alloc: Global, desk: Desk<K>, told: &[&str]) -> Res
     Ok(desk.into_keeper())
 }
 
+// Fails unless these result files come of the rows over this keeper of a new book, and these others after a restart.
+fn stop_once<K: Keeper + Drop>(
+    alloc: Global,
+    keeper: FailingKeeper<K>,
+    told: &[&str],
+    again: &[&str],
+) -> Result<(), Fail> {
+    let kept = sent_to(alloc, begun(alloc, keeper, BEFORE)?, told)?;
+    let keeper = kept.restarted(usize::MAX, Trouble::Lost);
+    sent_to(alloc, desk_over(alloc, keeper)?, again)?;
+    Ok(())
+}
+
 // Fails unless these result files come of the rows, where the store fails at each of these calls. It may be asked for
 // one more result file, after a restart.
 fn stop(alloc: Global, calls: [usize; 2], told: &[&str], again: &[&str]) -> Result<(), Fail> {
     for calls in calls {
-        let keeper = failing(alloc, calls, Trouble::Lost);
-        let kept = sent_to(alloc, begun(alloc, keeper, BEFORE)?, told)?;
-        let keeper = kept.restarted(usize::MAX, Trouble::Lost);
-        sent_to(alloc, desk_over(alloc, keeper)?, again)?;
+        stop_once(alloc, failing(alloc, calls, Trouble::Lost), told, again)?;
     }
     Ok(())
 }

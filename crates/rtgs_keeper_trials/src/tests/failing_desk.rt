@@ -3,7 +3,7 @@ use super::memory::failing;
 use rtgs_book::Fault;
 use rtgs_desk::Desk;
 use rtgs_keeper::Keeper;
-use rtgs_tests_desks::{Reply, Trouble, commands, desk_over, follows, is_told};
+use rtgs_tests_desks::{FailingKeeper, Reply, Trouble, commands, desk_over, follows, is_told};
 use std::alloc::Global;
 use std::test::Fail;
 
@@ -51,11 +51,21 @@ fn after<K: Keeper + Drop>(alloc: Global, keeper: K, script: &str) -> Result<K, 
     Ok(desk.into_keeper())
 }
 
+// A desk over this keeper answers as the first script tells, and one over what it kept as the other tells.
+fn answers_again<K: Keeper + Drop>(
+    alloc: Global,
+    keeper: FailingKeeper<K>,
+    script: &str,
+    again: &str,
+) -> Result<(), Fail> {
+    let kept = after(alloc, keeper, script)?;
+    after(alloc, kept.restarted(usize::MAX, Trouble::Lost), again)?;
+    Ok(())
+}
+
 // The desk meets this trouble at a posting, and the same posting comes again over what its keeper kept.
 fn posts_again(alloc: Global, calls: usize, trouble: Trouble, again: &str) -> Result<(), Fail> {
-    let failed = after(alloc, failing(alloc, calls, trouble), FAILS)?;
-    after(alloc, failed.restarted(usize::MAX, trouble), again)?;
-    Ok(())
+    answers_again(alloc, failing(alloc, calls, trouble), FAILS, again)
 }
 
 const POSTED: &str = "post ALFA P-1 100 => Ok(Posted { number: 1 })";
@@ -83,33 +93,46 @@ post ALFA P-1 100 => Ok(Posted { number: 1 })";
 fn a_command_that_lacked_memory_is_sent_again(rt: HostRuntime) -> Result<(), Fail> {
     for calls in [LOOK_UP, COMMIT] {
         let keeper = failing(rt.alloc(), calls, Trouble::OutOfMemory);
-        after(rt.alloc(), keeper, LACKS_MEMORY)?;
+        answers_again(rt.alloc(), keeper, LACKS_MEMORY, REPEATED)?;
     }
     Ok(())
 }
 
-// Why no desk is opened over this keeper.
-fn fault_of<K: Keeper + Drop>(alloc: Global, keeper: K) -> Option<Fault> {
-    match Desk::open(alloc, keeper) {
+// Fails unless no desk is opened over this keeper, for this fault.
+fn opens_none<K: Keeper + Drop>(alloc: Global, keeper: K, told: Fault) -> Result<(), Fail> {
+    let met = match Desk::open(alloc, keeper) {
         Ok(_) => None,
         Err((fault, _)) => Some(fault),
+    };
+    if met == Some(told) {
+        Ok(())
+    } else {
+        Err(Fail::new("another fault, or a desk"))
     }
+}
+
+// The same once the commands of a script were answered over it as the script tells.
+fn opens_none_after<K: Keeper + Drop>(
+    alloc: Global,
+    keeper: K,
+    script: &str,
+    told: Fault,
+) -> Result<(), Fail> {
+    opens_none(alloc, after(alloc, keeper, script)?, told)
 }
 
 #[test]
 fn a_failed_keeper_opens_no_desk(rt: HostRuntime) -> Result<(), Fail> {
     let keeper = failing(rt.alloc(), COMMIT, Trouble::Lost);
-    let failed = after(rt.alloc(), keeper, FAILS)?;
-    assert_eq!(rt; fault_of(rt.alloc(), failed), Some(Fault::StoreFault));
-    Ok(())
+    opens_none_after(rt.alloc(), keeper, FAILS, Fault::StoreFault)
 }
 
 #[test]
-fn a_keeper_that_fails_at_the_opening_opens_no_desk(rt: HostRuntime) {
-    let lost = fault_of(rt.alloc(), failing(rt.alloc(), 0, Trouble::Lost));
-    assert_eq!(rt; lost, Some(Fault::StoreFault));
-    let kept = fault_of(rt.alloc(), failing(rt.alloc(), 0, Trouble::Kept));
-    assert_eq!(rt; kept, Some(Fault::StoreFault));
-    let refused = fault_of(rt.alloc(), failing(rt.alloc(), 0, Trouble::OutOfMemory));
-    assert_eq!(rt; refused, Some(Fault::OutOfMemory));
+fn a_keeper_that_fails_at_the_opening_opens_no_desk(rt: HostRuntime) -> Result<(), Fail> {
+    let lost = failing(rt.alloc(), 0, Trouble::Lost);
+    opens_none(rt.alloc(), lost, Fault::StoreFault)?;
+    let kept = failing(rt.alloc(), 0, Trouble::Kept);
+    opens_none(rt.alloc(), kept, Fault::StoreFault)?;
+    let refused = failing(rt.alloc(), 0, Trouble::OutOfMemory);
+    opens_none(rt.alloc(), refused, Fault::OutOfMemory)
 }

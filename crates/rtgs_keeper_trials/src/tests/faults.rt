@@ -2,22 +2,21 @@
 //! before the call is passed on or after. Just the books are found that may be.
 use super::disks::OnDisks;
 use super::memory::InMemory;
-use super::runs::{books, failures_of_two};
-use super::store::{Failing, Store};
+use super::runs::failures_of_two;
+use super::store::Failing;
 use super::trial::Trial;
 use rtgs_tests_desks::Trouble;
 use std::alloc::Global;
 use std::test::Fail;
 
-/// Tries the commands with each failure of the keeper, before a call is passed on and after.
+// Tries the commands with each failure of the keeper, before a call is passed on and after, and tells in how many runs
+// they met it.
 fn each_of_the_keeper(alloc: Global, trial: &Trial) -> Result<usize, Fail> {
-    let books = books(alloc, trial)?;
-    let two = (
+    let (lost, kept) = (
         Failing::Keeper(Trouble::Lost),
         Failing::Keeper(Trouble::Kept),
     );
-    let mut store = InMemory::blank(alloc);
-    let (lost, kept) = failures_of_two(alloc, &mut store, trial, books.as_slice(), two)?;
+    let (lost, kept) = failures_of_two::<InMemory, InMemory>(alloc, trial, lost, kept)?;
     if lost == kept {
         Ok(lost)
     } else {
@@ -25,15 +24,23 @@ fn each_of_the_keeper(alloc: Global, trial: &Trial) -> Result<usize, Fail> {
     }
 }
 
-/// Tries the commands with each failure: in how many runs they met one of the log, of the database file, and of the
-/// keeper.
-fn all_met(alloc: Global, trial: &Trial) -> Result<[usize; 3], Fail> {
+// Tries the commands with each failure. It fails unless they met one of the log in so many runs, one of the database
+// file in so many, and one of the keeper in so many.
+fn meets(alloc: Global, trial: &Trial, told: [usize; 3]) -> Result<(), Fail> {
     let keeper = each_of_the_keeper(alloc, trial)?;
-    let books = books(alloc, trial)?;
-    let two = (Failing::Log, Failing::Database);
-    let mut store = OnDisks::blank(alloc);
-    let (log, db) = failures_of_two(alloc, &mut store, trial, books.as_slice(), two)?;
-    Ok([log, db, keeper])
+    let (log, db) = failures_of_two::<InMemory, OnDisks>(
+        alloc,
+        trial,
+        Failing::Log,
+        Failing::Database,
+    )?;
+    if [log, db, keeper] == told {
+        Ok(())
+    } else {
+        Err(Fail::from(format!(in alloc;
+            "{log} of the log, {db} of the file, {keeper} of the keeper"
+        )?))
+    }
 }
 
 /// Orders of which two can settle together: ALFA has 10, and each of the three waits.
@@ -58,8 +65,7 @@ const RESOLUTION: Trial = Trial {
 
 #[test]
 fn a_resolution_is_found_whole_or_not_at_all(rt: HostRuntime) -> Result<(), Fail> {
-    assert_eq!(rt; all_met(rt.alloc(), &RESOLUTION)?, [48, 45, 2]);
-    Ok(())
+    meets(rt.alloc(), &RESOLUTION, [48, 45, 2])
 }
 
 const BATCH: Trial = Trial {
@@ -81,8 +87,7 @@ order ALFA A-3 BETA 25 => Ok(Queued { number: 3, place: 1 }) => Ok(Repeated(Orde
 
 #[test]
 fn a_batch_is_found_up_to_a_row(rt: HostRuntime) -> Result<(), Fail> {
-    assert_eq!(rt; all_met(rt.alloc(), &BATCH)?, [61, 46, 7]);
-    Ok(())
+    meets(rt.alloc(), &BATCH, [61, 46, 7])
 }
 
 const CLOSE: Trial = Trial {
@@ -101,8 +106,7 @@ cutoff 2024-03-04 => Ok(CutOffDone)",
 
 #[test]
 fn a_close_rejects_all_or_nothing(rt: HostRuntime) -> Result<(), Fail> {
-    assert_eq!(rt; all_met(rt.alloc(), &CLOSE)?, [46, 44, 2]);
-    Ok(())
+    meets(rt.alloc(), &CLOSE, [46, 44, 2])
 }
 
 const NEW_ORDER: Trial = Trial {
@@ -120,8 +124,7 @@ order ALFA A-1 BETA 100 => Ok(Settled { number: 1, mark: 1 }) => Ok(Repeated(Ord
 
 #[test]
 fn a_new_order_is_found_or_not(rt: HostRuntime) -> Result<(), Fail> {
-    assert_eq!(rt; all_met(rt.alloc(), &NEW_ORDER)?, [50, 46, 3]);
-    Ok(())
+    meets(rt.alloc(), &NEW_ORDER, [50, 46, 3])
 }
 
 const ORDER_THAT_WAITS: Trial = Trial {
@@ -139,8 +142,11 @@ order ALFA A-1 BETA 101 => Ok(Queued { number: 1, place: 1 }) => Ok(Repeated(Ord
 
 #[test]
 fn an_order_that_waits_is_found_or_not(rt: HostRuntime) -> Result<(), Fail> {
-    assert_eq!(rt; each_of_the_keeper(rt.alloc(), &ORDER_THAT_WAITS)?, 3);
-    Ok(())
+    if each_of_the_keeper(rt.alloc(), &ORDER_THAT_WAITS)? == 3 {
+        Ok(())
+    } else {
+        Err(Fail::new("other runs"))
+    }
 }
 
 const REPEATED_ORDER: Trial = Trial {
@@ -160,8 +166,7 @@ Ok(Repeated(Order { number: 1, state: Settled(1) }))",
 
 #[test]
 fn an_order_that_comes_again_changes_nothing(rt: HostRuntime) -> Result<(), Fail> {
-    assert_eq!(rt; all_met(rt.alloc(), &REPEATED_ORDER)?, [29, 40, 2]);
-    Ok(())
+    meets(rt.alloc(), &REPEATED_ORDER, [29, 40, 2])
 }
 
 const OPENING: Trial = Trial {
@@ -182,7 +187,6 @@ const OPENING_AFTER_A_CRASH: Trial = Trial {
 
 #[test]
 fn an_opening_leaves_the_book(rt: HostRuntime) -> Result<(), Fail> {
-    assert_eq!(rt; all_met(rt.alloc(), &OPENING)?, [29, 40, 1]);
-    assert_eq!(rt; all_met(rt.alloc(), &OPENING_AFTER_A_CRASH)?, [207, 20, 1]);
-    Ok(())
+    meets(rt.alloc(), &OPENING, [29, 40, 1])?;
+    meets(rt.alloc(), &OPENING_AFTER_A_CRASH, [207, 20, 1])
 }

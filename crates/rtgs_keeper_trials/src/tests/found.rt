@@ -10,17 +10,20 @@ use std::test::Fail;
 /// The balances of ALFA, BETA and GAMA in cents, and how many orders each of them has in its queue.
 pub type Standings = [(i64, usize); 3];
 
-/// How the three stand. A bank that is not there has nothing.
-pub fn standings<K: Keeper>(desk: &Desk<K>) -> Result<Standings, Fail> {
-    let mut standings = [(0, 0); 3];
-    for (code, standing) in [b"ALFA", b"BETA", b"GAMA"].iter().zip(&mut standings) {
-        match desk.account(&Code::read(*code)?) {
-            Ok(account) => *standing = (account.balance.cents(), account.queued),
-            Err(Refusal::UnknownParticipant) => (),
-            Err(refusal) => return Err(Fail::from(refusal)),
-        }
+// How this bank stands. One that is not there has nothing.
+fn standing<K: Keeper>(desk: &Desk<K>, code: &[u8]) -> Result<(i64, usize), Fail> {
+    match desk.account(&Code::read(code)?) {
+        Ok(account) => Ok((account.balance.cents(), account.queued)),
+        Err(Refusal::UnknownParticipant) => Ok((0, 0)),
+        Err(refusal) => Err(Fail::from(refusal)),
     }
-    Ok(standings)
+}
+
+/// How the three stand.
+pub fn standings<K: Keeper>(desk: &Desk<K>) -> Result<Standings, Fail> {
+    let alfa = standing(desk, b"ALFA")?;
+    let beta = standing(desk, b"BETA")?;
+    Ok([alfa, beta, standing(desk, b"GAMA")?])
 }
 
 /// A line of how the three stand, and then the whole book, as both display themselves. The desk ends so.

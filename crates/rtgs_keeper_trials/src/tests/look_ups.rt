@@ -1,11 +1,11 @@
 //! Commands whose look-up meets trouble, and what is found then.
-use super::memory::{InMemory, failing_after};
-use super::runs::{begin, found_in, progress_in};
+use super::memory::{InMemory, failing};
+use super::runs::{begin, found_after, found_in, progress_in};
 use super::store::{Failing, Store};
-use super::trial::{Progress, Trial};
+use super::trial::{Progress, Trial, begun};
 use rtgs_book::Refusal;
 use rtgs_keeper::Keeper;
-use rtgs_tests_desks::{Trouble, command, desk_over, follows};
+use rtgs_tests_desks::{FailingKeeper, Trouble, command, desk_over, follows};
 use std::alloc::Global;
 use std::test::Fail;
 
@@ -35,10 +35,10 @@ withdraw ALFA A-3 => Err(UnknownOrder)";
 /// the desk is opened again. Until then the desk answers nothing.
 fn acts_after_a_restart<S: Store>(
     alloc: Global,
-    store: &mut S,
     line: &'static str,
     failing: Failing,
 ) -> Result<(), Fail> {
+    let mut store = S::blank(alloc);
     let trial = Trial {
         before: COMMANDS,
         rows: line,
@@ -46,13 +46,13 @@ fn acts_after_a_restart<S: Store>(
         standings: "",
         is_closed: true,
     };
-    begin(alloc, store, &trial)?;
-    let before = found_in(alloc, store, &trial, 0, 0)?;
+    begin(alloc, &mut store, &trial)?;
+    let before = found_in(alloc, &mut store)?;
     store.fail(alloc, failing, BEFORE)?;
-    let progress = progress_in(alloc, store, &trial, 1, true)?;
+    let progress = progress_in(alloc, &mut store, &trial, 1, true)?;
     store.crash();
-    let is_kept = found_in(alloc, store, &trial, 0, 0)?.as_str() == before.as_str();
-    found_in(alloc, store, &trial, 0, 1)?;
+    let is_kept = found_in(alloc, &mut store)?.as_str() == before.as_str();
+    found_after(alloc, &mut store, line, false, 0, 1)?;
     if matches!(progress, Progress::Failed(0)) && is_kept {
         Ok(())
     } else {
@@ -62,23 +62,23 @@ fn acts_after_a_restart<S: Store>(
 
 #[test]
 fn a_look_up_that_fails_leaves_the_book(rt: HostRuntime) -> Result<(), Fail> {
-    let mut store = InMemory::blank(rt.alloc());
     for line in ROWS.lines() {
         for trouble in [Trouble::Lost, Trouble::Kept] {
-            acts_after_a_restart(rt.alloc(), &mut store, line, Failing::Keeper(trouble))?;
+            acts_after_a_restart::<InMemory>(rt.alloc(), line, Failing::Keeper(trouble))?;
         }
     }
     Ok(())
 }
 
-// Fails unless a look-up over this keeper lacks memory and leaves the desk as it was, so that the command acts when it
-// comes again.
+// Fails unless a look-up over this keeper of a new book lacks memory and leaves the desk as it was, so that the command
+// acts when it comes again.
 fn acts_when_sent_again<K: Keeper + Drop>(
     alloc: Global,
-    keeper: K,
+    keeper: FailingKeeper<K>,
     line: &str,
 ) -> Result<(), Fail> {
-    let mut desk = desk_over(alloc, keeper)?;
+    let keeper = begun(alloc, keeper, COMMANDS)?.into_keeper();
+    let mut desk = desk_over(alloc, keeper.restarted(BEFORE, Trouble::OutOfMemory))?;
     if desk.submit(command(line)?) != Err(Refusal::OutOfMemory) || desk.failed() {
         return Err(Fail::new("memory was not refused"));
     }
@@ -88,7 +88,7 @@ fn acts_when_sent_again<K: Keeper + Drop>(
 #[test]
 fn a_look_up_without_memory_is_made_again(rt: HostRuntime) -> Result<(), Fail> {
     for line in ROWS.lines() {
-        let keeper = failing_after(rt.alloc(), COMMANDS, BEFORE, Trouble::OutOfMemory)?;
+        let keeper = failing(rt.alloc(), usize::MAX, Trouble::OutOfMemory);
         acts_when_sent_again(rt.alloc(), keeper, line)?;
     }
     Ok(())

@@ -1,6 +1,5 @@
 //! A keeper in memory as a store, which may meet trouble at one of its calls.
 use super::store::{Booked, Ended, Failing, Job, Store};
-use super::trial::begun;
 use rtgs_book::{Book, Fault};
 use rtgs_memory_keeper::MemoryKeeper;
 use rtgs_tests_desks::{FailingKeeper, Trouble};
@@ -11,18 +10,6 @@ use std::test::Fail;
 /// A keeper of a new book, which meets this trouble after so many calls.
 pub fn failing(alloc: Global, calls: usize, trouble: Trouble) -> FailingKeeper<MemoryKeeper> {
     FailingKeeper::new(MemoryKeeper::new(alloc), calls, trouble)
-}
-
-/// A keeper that meets this trouble after so many calls. It has the book of a desk with three banks after these
-/// commands.
-pub fn failing_after(
-    alloc: Global,
-    before: &str,
-    calls: usize,
-    trouble: Trouble,
-) -> Result<FailingKeeper<MemoryKeeper>, Fail> {
-    let desk = begun(alloc, failing(alloc, usize::MAX, trouble), before)?;
-    Ok(desk.into_keeper().restarted(calls, trouble))
 }
 
 /// A keeper while no desk is open over it, and the trouble that it meets after so many calls.

@@ -1,5 +1,4 @@
 //! Trials in a store that fails at each of its calls in turn, and what is found then.
-use super::memory::InMemory;
 use super::store::{Ended, Failing, Store};
 use super::trial::{Part, Progress, Trial, Work};
 use rtgs_book::Fault;
@@ -9,7 +8,7 @@ use std::test::Fail;
 /// Makes the store new, with a desk of three banks, after the commands before.
 pub fn begin<S: Store>(alloc: Global, store: &mut S, trial: &Trial) -> Result<(), Fail> {
     *store = S::blank(alloc);
-    let mut work = Work::new(trial, Part::Begin, trial.is_closed);
+    let mut work = Work::new(trial.before, false, Part::Begin, trial.is_closed);
     match store.session(alloc, true, &mut work)? {
         Ended::Closed if trial.is_closed => Ok(()),
         Ended::Stopped if !trial.is_closed => {
@@ -28,7 +27,7 @@ pub fn progress_in<S: Store>(
     most: usize,
     closes: bool,
 ) -> Result<Progress, Fail> {
-    let mut work = Work::new(trial, Part::Give(most), closes);
+    let mut work = Work::new(trial.rows, trial.is_batch, Part::Give(most), closes);
     let ended = store.session(alloc, false, &mut work)?;
     match work.fault {
         Some(Fault::StoreFault) => Ok(Progress::Unopened),
@@ -38,32 +37,32 @@ pub fn progress_in<S: Store>(
     }
 }
 
-/// What is found in a store of which no call fails, once the rest of so many commands were given. They are answered as
-/// what comes again where they are among the known.
-pub fn found_in<S: Store>(
+/// What is found in a store of which no call fails.
+pub fn found_in<S: Store>(alloc: Global, store: &mut S) -> Result<String, Fail> {
+    found_after(alloc, store, "", false, 0, 0)
+}
+
+/// The same once so many commands were given, of which so many are known and come again. They may come in one batch.
+pub fn found_after<S: Store>(
     alloc: Global,
     store: &mut S,
-    trial: &Trial,
+    script: &'static str,
+    is_batch: bool,
     known: usize,
     most: usize,
 ) -> Result<String, Fail> {
-    let mut work = Work::new(trial, Part::Look { known, most }, false);
+    let mut work = Work::new(script, is_batch, Part::Look { known, most }, false);
     store.session(alloc, false, &mut work)?;
     Ok(work.found.ok_or("nothing was found")?)
 }
 
-/// What a desk has before the first of the commands, and after each, where they come one by one. The banks then stand
-/// as it is told.
-pub fn books(alloc: Global, trial: &Trial) -> Result<Vec<String>, Fail> {
-    let trial = Trial {
-        is_batch: false,
-        ..*trial
-    };
-    let mut store = InMemory::blank(alloc);
+// What a desk in this store has before the first of the commands, and after each, where they come one by one. The banks
+// then stand as it is told.
+fn books<S: Store>(alloc: Global, store: &mut S, trial: &Trial) -> Result<Vec<String>, Fail> {
     let mut books = Vec::new(alloc);
     for count in 0..=trial.rows.lines().count() {
-        begin(alloc, &mut store, &trial)?;
-        let found = found_in(alloc, &mut store, &trial, 0, count)?;
+        begin(alloc, store, trial)?;
+        let found = found_after(alloc, store, trial.rows, false, 0, count)?;
         if found.as_str().lines().next() != trial.standings.lines().nth(count) {
             return Err(Fail::from(found));
         }
@@ -113,11 +112,11 @@ fn failures<S: Store>(
         store.fail(alloc, failing, calls)?;
         let progress = progress_in(alloc, store, trial, all, true)?;
         store.crash();
-        let found = found_in(alloc, store, trial, 0, 0)?;
+        let found = found_in(alloc, store)?;
         let Some(place) = place_of(books, all, progress, found.as_str()) else {
             return Err(Fail::new("another book"));
         };
-        let found = found_in(alloc, store, trial, place, all)?;
+        let found = found_after(alloc, store, trial.rows, trial.is_batch, place, all)?;
         if !is_at(books, all, found.as_str()) {
             return Err(Fail::new("another end"));
         }
@@ -128,25 +127,37 @@ fn failures<S: Store>(
     Err(Fail::new("each run failed"))
 }
 
-/// Tries the commands with each of two failures, and tells how many calls go well where first no run meets them. Just
-/// the answered commands are found after a stop behind each of them, where nothing is closed.
-pub fn failures_of_two<S: Store>(
+// Fails unless just the answered commands are found after a stop behind each of them, where nothing is closed.
+fn stops_leave_what_was_answered<S: Store>(
     alloc: Global,
     store: &mut S,
     trial: &Trial,
     books: &[String],
-    two: (Failing, Failing),
-) -> Result<(usize, usize), Fail> {
+) -> Result<(), Fail> {
     for count in 0..=trial.rows.lines().count() {
         begin(alloc, store, trial)?;
         let progress = progress_in(alloc, store, trial, count, false)?;
         store.crash();
-        let found = found_in(alloc, store, trial, 0, 0)?;
+        let found = found_in(alloc, store)?;
         if !matches!(progress, Progress::Whole) || !is_at(books, count, found.as_str()) {
             return Err(Fail::new("another book after a stop"));
         }
     }
-    let one = failures(alloc, store, trial, books, two.0)?;
-    let other = failures(alloc, store, trial, books, two.1)?;
+    Ok(())
+}
+
+/// Tries the commands in a store of the second kind, with a stop behind each of them and with each of two failures, and
+/// tells how many calls go well where first no run meets them. The books that may be found are those of the first kind.
+pub fn failures_of_two<M: Store, S: Store>(
+    alloc: Global,
+    trial: &Trial,
+    one: Failing,
+    other: Failing,
+) -> Result<(usize, usize), Fail> {
+    let books = books(alloc, &mut M::blank(alloc), trial)?;
+    let mut store = S::blank(alloc);
+    stops_leave_what_was_answered(alloc, &mut store, trial, books.as_slice())?;
+    let one = failures(alloc, &mut store, trial, books.as_slice(), one)?;
+    let other = failures(alloc, &mut store, trial, books.as_slice(), other)?;
     Ok((one, other))
 }

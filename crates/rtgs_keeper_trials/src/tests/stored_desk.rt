@@ -178,9 +178,12 @@ fn lived_twice_in_memory(
     lived_twice(alloc, Connection::open_in_memory(alloc)?, commands, more)
 }
 
-// Fails unless the replies to four commands and then to a posting to BETA, and the desk, are as they should be.
-fn ends_so<K: Keeper + Drop>(lived: (Vec<Reply>, Vec<Reply>, Desk<K>)) -> Result<(), Fail> {
-    let (replies, others, desk) = lived;
+// Fails unless there was a life, and the replies to four commands and then to a posting to BETA, and the desk, are as
+// they should be.
+fn ends_so<K: Keeper + Drop>(
+    lived: Result<(Vec<Reply>, Vec<Reply>, Desk<K>), Fail>,
+) -> Result<(), Fail> {
+    let (replies, others, desk) = lived?;
     let are_posted = matches!(others.as_slice(), [Ok(Answer::Posted { number: 2 })]);
     let are_standing = standings(&desk)? == [(1000, 0), (5, 0), (0, 0)];
     if replies.len() == 4 && are_posted && are_standing {
@@ -190,7 +193,8 @@ fn ends_so<K: Keeper + Drop>(lived: (Vec<Reply>, Vec<Reply>, Desk<K>)) -> Result
     }
 }
 
-// Why no desk is opened over this database, where none is that has not failed.
+// Why no desk is opened over this database. A desk that is opened and has failed counts as a fault of the store, and
+// where one is opened that works there is no fault.
 fn fault_of_opening<S: Alter + Drop>(alloc: Global, conn: Connection<S>) -> Option<Fault>
     requires { conn.in_transaction ≡ false }
 {
@@ -219,23 +223,23 @@ fn fault_over_made_tables<S: Alter + Drop>(
     }
 }
 
-// What is tried over a new database.
-enum Tried<'a> {
+// What is attempted over a new database.
+enum Attempt<'a> {
     // two sessions of these commands, which have to end as they should
     Life(&'a [Command], &'a [Command]),
     // a desk is opened over tables that are made, or over none
     Opening { is_made: bool },
 }
 
-// Why no desk is opened where this is tried in memory. Only here and in `lived_twice_in_memory` stands the type of a
-// database in memory.
-fn fault_in_memory(alloc: Global, tried: Tried<'_>) -> Result<Option<Fault>, Fail> {
-    match tried {
-        Tried::Life(commands, more) => {
-            ends_so(lived_twice_in_memory(alloc, commands, more)?)?;
+// Why no desk is opened where this is attempted in memory. Only here and in `lived_twice_in_memory` stands the type of
+// a database in memory.
+fn fault_in_memory(alloc: Global, attempt: Attempt<'_>) -> Result<Option<Fault>, Fail> {
+    match attempt {
+        Attempt::Life(commands, more) => {
+            ends_so(lived_twice_in_memory(alloc, commands, more))?;
             Ok(None)
         }
-        Tried::Opening { is_made } => {
+        Attempt::Opening { is_made } => {
             let conn = Connection::open_in_memory(alloc)?;
             if is_made {
                 fault_over_made_tables(alloc, conn)
@@ -246,27 +250,33 @@ fn fault_in_memory(alloc: Global, tried: Tried<'_>) -> Result<Option<Fault>, Fai
     }
 }
 
+// Fails unless this is the fault that is told, or none is met and none is told.
+fn is_as_told(met: Option<Fault>, told: Option<Fault>) -> Result<(), Fail> {
+    if met == told {
+        Ok(())
+    } else {
+        Err(Fail::new("another fault, or none"))
+    }
+}
+
 // The banks and a posting, and then another one.
 #[test]
 fn a_desk_is_found_again_and_again(rt: HostRuntime) -> Result<(), Fail> {
     let mut first = commands(rt.alloc(), BANKS)?;
     first.push(command("post ALFA P-1 1000")?)?;
     let more = commands(rt.alloc(), "post BETA P-2 5")?;
-    let life = Tried::Life(first.as_slice(), more.as_slice());
-    assert_eq!(rt; fault_in_memory(rt.alloc(), life)?, None);
-    Ok(())
+    let life = Attempt::Life(first.as_slice(), more.as_slice());
+    is_as_told(fault_in_memory(rt.alloc(), life)?, None)
 }
 
 #[test]
 fn a_desk_is_opened_over_tables_that_were_made(rt: HostRuntime) -> Result<(), Fail> {
-    let fault = fault_in_memory(rt.alloc(), Tried::Opening { is_made: true })?;
-    assert_eq!(rt; fault, None);
-    Ok(())
+    let fault = fault_in_memory(rt.alloc(), Attempt::Opening { is_made: true })?;
+    is_as_told(fault, None)
 }
 
 #[test]
 fn an_empty_database_is_no_desk(rt: HostRuntime) -> Result<(), Fail> {
-    let fault = fault_in_memory(rt.alloc(), Tried::Opening { is_made: false })?;
-    assert_eq!(rt; fault, Some(Fault::NotADeskFile));
-    Ok(())
+    let fault = fault_in_memory(rt.alloc(), Attempt::Opening { is_made: false })?;
+    is_as_told(fault, Some(Fault::NotADeskFile))
 }

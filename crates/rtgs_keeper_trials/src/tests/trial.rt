@@ -33,15 +33,6 @@ pub struct Trial {
     pub is_closed: bool,
 }
 
-/// A desk that is given nothing.
-pub const NOTHING: Trial = Trial {
-    before: "",
-    rows: "",
-    is_batch: false,
-    standings: "",
-    is_closed: true,
-};
-
 /// A desk with three banks over a keeper of a new book, after these commands.
 pub fn begun<K: Keeper + Drop>(alloc: Global, keeper: K, before: &str) -> Result<Desk<K>, Fail> {
     let mut desk = desk_over(alloc, keeper)?;
@@ -68,18 +59,19 @@ pub enum Progress {
 pub enum Part {
     /// Nothing is given to a desk.
     Rest,
-    /// The banks are added to a new book, and the commands before are given.
+    /// The banks are added to a new book, and the commands are given.
     Begin,
-    /// So many of the rows are given.
+    /// So many of the commands are given.
     Give(usize),
-    /// All rows behind so many are given, of which so many come again, and it is looked at what is found then.
+    /// So many of the commands are given, of which so many come again, and it is looked at what is found then.
     Look { known: usize, most: usize },
 }
 
 /// A session of a trial, and what came of it.
 #[derive(Drop)]
 pub struct Work {
-    trial: Trial,
+    script: &'static str,
+    is_batch: bool,
     part: Part,
     closes: bool,
     /// How far it came.
@@ -91,10 +83,12 @@ pub struct Work {
 }
 
 impl Work {
-    /// This part of the trial. The store is closed then, or not.
-    pub fn new(trial: &Trial, part: Part, closes: bool) -> Work {
+    /// This part of a trial, with these commands. They may be orders of ALFA, which come in one batch. The store is
+    /// closed then, or not.
+    pub fn new(script: &'static str, is_batch: bool, part: Part, closes: bool) -> Work {
         Work {
-            trial: *trial,
+            script,
+            is_batch,
             part,
             closes,
             progress: Progress::Unopened,
@@ -112,10 +106,10 @@ impl Work {
         known: usize,
         most: usize,
     ) -> Result<(), Fail> {
-        let count = if self.trial.is_batch {
-            sent(alloc, desk, self.trial.rows, known, most)?
+        let count = if self.is_batch {
+            sent(alloc, desk, self.script, known, most)?
         } else {
-            answered(alloc, desk, self.trial.rows, known, most)?
+            answered(alloc, desk, self.script, known, most)?
         };
         if count == most {
             self.progress = Progress::Whole;
@@ -131,7 +125,7 @@ impl Job for Work {
         let (known, most) = match self.part {
             Part::Rest => return Ok((keeper, self.closes)),
             Part::Begin => {
-                let desk = begun(alloc, keeper, self.trial.before)?;
+                let desk = begun(alloc, keeper, self.script)?;
                 return Ok((desk.into_keeper(), self.closes));
             }
             Part::Give(most) => (0, most),
@@ -178,7 +172,7 @@ pub fn orders(alloc: Global, script: &str, most: usize) -> Result<Vec<OrderRow>,
 }
 
 // Sends the first of ALFA's orders in one batch, of which so many come again, and counts those that are replied to
-// before a fault of the store, and nothing else, stops them. Each is replied to as its order is answered.
+// before a fault of the store, and nothing else, stops them.
 fn sent<K: Keeper>(
     alloc: Global,
     desk: &mut Desk<K>,
@@ -186,13 +180,19 @@ fn sent<K: Keeper>(
     known: usize,
     most: usize,
 ) -> Result<usize, Fail> {
+    let sender = Code::read(b"ALFA")?;
     let orders = orders(alloc, script, most)?;
-    let batch = submit_batch(alloc, desk, Code::read(b"ALFA")?, orders.as_slice())?;
+    let batch = submit_batch(alloc, desk, sender, orders.as_slice())?;
     if !matches!(batch.stopped, None | Some(Refusal::StoreFault)) {
         return Err(Fail::new("another stop"));
     }
+    replied(alloc, batch.replies.as_slice(), script, known)
+}
+
+// Counts the replies, of which so many are to orders that come again. Each is as the script tells of its order.
+fn replied(alloc: Global, replies: &[RowReply], script: &str, known: usize) -> Result<usize, Fail> {
     let mut count = 0usize;
-    for (line, reply) in script.lines().zip(batch.replies.as_slice()) {
+    for (line, reply) in script.lines().zip(replies) {
         let answer: Reply = match *reply {
             RowReply::Settled { number, mark } => Ok(Answer::Settled { number, mark }),
             RowReply::Queued { number, place } => Ok(Answer::Queued { number, place }),
@@ -219,14 +219,14 @@ pub fn is_silent<K: Keeper>(desk: &mut Desk<K>) -> Result<(), Fail> {
     let date = BusinessDate::read(b"2024-03-04")?;
     let key = Key::read(b"0000000000000000000000000000000a")?.digest();
     let is_silent = desk.failed()
-        && is_failed(desk.submit(Command::Resolve))
-        && is_failed(desk.account(&alfa))
-        && is_failed(desk.queue_of(&alfa))
-        && is_failed(desk.order_of(&alfa, &name))
-        && is_failed(desk.code_of(&key))
-        && is_failed(desk.next_posting(date, 0))
-        && is_failed(desk.next_order(date, 0))
-        && is_failed(desk.next_mark(date, 0));
+        & is_failed(desk.submit(Command::Resolve))
+        & is_failed(desk.account(&alfa))
+        & is_failed(desk.queue_of(&alfa))
+        & is_failed(desk.order_of(&alfa, &name))
+        & is_failed(desk.code_of(&key))
+        & is_failed(desk.next_posting(date, 0))
+        & is_failed(desk.next_order(date, 0))
+        & is_failed(desk.next_mark(date, 0));
     if is_silent {
         Ok(())
     } else {

@@ -7,7 +7,7 @@ use super::runs::found_in;
 use super::seen::{KINDS, kind_of};
 use super::store::{Booked, Ended, Job, Store};
 use super::told::Told;
-use super::trial::{NOTHING, Part, Work};
+use super::trial::{Part, Work};
 use rtgs_book::Refusal;
 use rtgs_tests_desks::desk_over;
 use std::alloc::Global;
@@ -69,7 +69,7 @@ impl Job for Run {
 
 /// Makes a desk of a new book in this store, and closes it.
 pub fn make<S: Store>(alloc: Global, store: &mut S) -> Result<(), Fail> {
-    let mut work = Work::new(&NOTHING, Part::Rest, true);
+    let mut work = Work::new("", false, Part::Rest, true);
     if matches!(store.session(alloc, true, &mut work)?, Ended::Closed) {
         Ok(())
     } else {
@@ -83,8 +83,8 @@ pub fn end_in_one_book<M: Store, S: Store>(
     memory: &mut M,
     store: &mut S,
 ) -> Result<(), Fail> {
-    let in_memory = found_in(alloc, memory, &NOTHING, 0, 0)?;
-    if found_in(alloc, store, &NOTHING, 0, 0)?.as_str() == in_memory.as_str() {
+    let in_memory = found_in(alloc, memory)?;
+    if found_in(alloc, store)?.as_str() == in_memory.as_str() {
         Ok(())
     } else {
         Err(Fail::new("two books"))
@@ -118,19 +118,19 @@ fn answer_alike<M: Store, S: Store>(
 }
 
 // Five thousand commands of this seed, that end in one book.
-fn five_thousand(alloc: Global, seed: u64) -> Result<(), Fail> {
-    let (mut memory, mut disks) = (InMemory::blank(alloc), OnDisks::blank(alloc));
-    make(alloc, &mut disks)?;
-    answer_alike(alloc, &mut memory, &mut disks, seed)?;
-    end_in_one_book(alloc, &mut memory, &mut disks)
+fn five_thousand<M: Store, S: Store>(alloc: Global, seed: u64) -> Result<(), Fail> {
+    let (mut memory, mut store) = (M::blank(alloc), S::blank(alloc));
+    make(alloc, &mut store)?;
+    answer_alike(alloc, &mut memory, &mut store, seed)?;
+    end_in_one_book(alloc, &mut memory, &mut store)
 }
 
 #[test]
 fn the_first_five_thousand_commands_end_in_one_book(rt: HostRuntime) -> Result<(), Fail> {
-    five_thousand(rt.alloc(), 2024)
+    five_thousand::<InMemory, OnDisks>(rt.alloc(), 2024)
 }
 
 #[test]
 fn another_five_thousand_commands_end_in_one_book(rt: HostRuntime) -> Result<(), Fail> {
-    five_thousand(rt.alloc(), 2025)
+    five_thousand::<InMemory, OnDisks>(rt.alloc(), 2025)
 }
