@@ -20,23 +20,12 @@ use Rattle.rtgs_book.specs.declared.limits.TheConstants.{MOST_PARTICIPANTS}
 use Rattle.rtgs_accounts.specs.Accounts.{code_of, key_of, has_key, is_of, CodesRiseStrictly, AreOfABook, with_account}
 use Rattle.rtgs_accounts.specs.Accounts.{IsAt, IsGapFor}
 use Rattle.rtgs_lists.proofs.Bools.{or_left_false, or_right_false}
-use Rattle.rtgs_lists.proofs.Codes.{bytes_eq_comm, not_before, sorted_put_in}
+use Rattle.rtgs_lists.proofs.Codes.{bytes_eq_comm, not_before, sorted_put_in, later_differs}
 use Rattle.rtgs_lists.proofs.Filters.{map-filter}
 use Rattle.rtgs_lists.proofs.Finds.{find_nothing}
 use Rattle.rtgs_lists.proofs.Lists.{map_same}
 
 -- a code that comes before another is another
-pub apart_from_less : (a b : List ℕ) → slice_cmp nat_cmp a b ≡ Less → bytes_eq a b ≡ false
-apart_from_less a b less = by (bytes_eq a b) refl
-  where
-    by : (t : Bool) → bytes_eq a b ≡ t → t ≡ false
-    by false e = refl
-    by true e =
-        let same : a ≡ b = (bytes_decides a b).0 e in
-        let here : slice_cmp nat_cmp a a ≡ Less = subst (λ c. slice_cmp nat_cmp a c ≡ Less) (sym same) less in
-        let there : slice_cmp nat_cmp a a ≡ Greater = nat_list_cmp_total.antisymm a a ∙ ap ordering_reverse here in
-        cc
-
 apart_from_more : (a b : List ℕ) → slice_cmp nat_cmp a b ≡ Greater → bytes_eq a b ≡ false
 apart_from_more a b more = by (bytes_eq a b) refl
   where
@@ -76,7 +65,7 @@ find_at code (x ∷ xs) rise (suc i) at d =
     let rest : IsAt code xs i = record { in_range = within; has_code = λ d. at.has_code d } in
     let less : slice_cmp nat_cmp (code_of x) code ≡ Less = subst (λ c. slice_cmp nat_cmp (code_of x) c ≡ Less)
     (at.has_code d) (at_index (λ c. slice_cmp nat_cmp (code_of x) c ≡ Less) xs rise.0 i d within) in
-    rw (apart_from_less (code_of x) code less) (find_at code xs rise.1 i rest d)
+    rw (later_differs (code_of x) code less) (find_at code xs rise.1 i rest d)
 
 -- a code that has a gap is not there
 pub find_in_gap : (code : List ℕ) (xs : List Account) (i : ℕ) → IsGapFor code xs i → find (is_of code) xs ≡ None
@@ -115,7 +104,7 @@ searched xs rise code (Err at) in_range parted =
         → slice_cmp nat_cmp (code_of (get_or xs k d)) code ≡ Less)
         → (at ≤ k → slice_cmp nat_cmp (code_of (get_or xs k d)) code ≡ Greater) → is_of code (get_or xs k d) ≡ false
     apart_at k d lt less more = elim (cases_lt k at) [
-      | inl below ↦ apart_from_less (code_of (get_or xs k d)) code
+      | inl below ↦ later_differs (code_of (get_or xs k d)) code
           (less below)
       | inr above ↦ apart_from_more (code_of (get_or xs k d)) code (more above)
     ]
@@ -184,7 +173,7 @@ module _ (f : Account → Account) (keeps : (a : Account) → code_of (f a) ≡ 
   later_apart c e [] h = tt
   later_apart c e (x ∷ xs) h = (
     bytes_eq_comm (code_of x) code
-        ∙ subst (λ d. bytes_eq d (code_of x) ≡ false) e (apart_from_less c (code_of x) h.0),
+        ∙ subst (λ d. bytes_eq d (code_of x) ≡ false) e (later_differs c (code_of x) h.0),
     later_apart c e xs h.1,
   )
 
@@ -203,7 +192,7 @@ module _ (f : Account → Account) (keeps : (a : Account) → code_of (f a) ≡ 
       let less : slice_cmp nat_cmp (code_of x) code ≡ Less =
       subst (λ c. slice_cmp nat_cmp (code_of x) c ≡ Less) (at.has_code d)
       (at_index (λ c. slice_cmp nat_cmp (code_of x) c ≡ Less) xs rise.0 i d within) in
-      rw (apart_from_less (code_of x) code less) (ap (λ ys. x ∷ ys) (altered_at xs rise.1 i rest d))
+      rw (later_differs (code_of x) code less) (ap (λ ys. x ∷ ys) (altered_at xs rise.1 i rest d))
 
   same_code : (a : Account) → code_of (altered f code a) ≡ code_of a
   same_code a = by (is_of code a)

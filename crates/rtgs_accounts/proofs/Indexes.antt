@@ -7,8 +7,8 @@ use Rattle.std.specs.Str.{bytes_eq}
 use Rattle.std.specs.Cmp.Lexicographic.{slice_cmp}
 use Rattle.rtgs_book.specs.declared.account.Account.{Account}
 use Rattle.rtgs_accounts.specs.Accounts.{code_of, is_of, CodesRiseStrictly, IsAt}
-use Rattle.rtgs_accounts.proofs.AccountLemmas.{apart_from_less, at_index, equal_codes}
-use Rattle.rtgs_lists.proofs.Codes.{bytes_eq_comm}
+use Rattle.rtgs_accounts.proofs.AccountLemmas.{at_index, equal_codes}
+use Rattle.rtgs_lists.proofs.Codes.{bytes_eq_comm, later_differs}
 
 pub position_at : (code : List ℕ) (xs : List Account) → CodesRiseStrictly xs → (i : ℕ) → IsAt code xs i
     → position_or_len (bytes_eq code) (map code_of xs) ≡ i
@@ -21,7 +21,7 @@ position_at code (x ∷ xs) rise (suc i) at =
     let less : slice_cmp nat_cmp (code_of x) code ≡ Less = subst (λ c. slice_cmp nat_cmp (code_of x) c ≡ Less)
     (at.has_code x) (at_index (λ c. slice_cmp nat_cmp (code_of x) c ≡ Less) xs rise.0 i x within) in
     let there : position_or_len (bytes_eq code) (map code_of xs) ≡ i = position_at code xs rise.1 i rest in
-    rw (bytes_eq_comm code (code_of x) ∙ apart_from_less (code_of x) code less) (omega arith)
+    rw (bytes_eq_comm code (code_of x) ∙ later_differs (code_of x) code less) (omega arith)
 
 pub position_nowhere : (code : List ℕ) (xs : List Account) → AllByRecursion (λ a. is_of code a ≡ false) xs
     → position_or_len (bytes_eq code) (map code_of xs) ≡ length xs

@@ -14,14 +14,9 @@ use Rattle.rtgs_book.specs.Balance.{balance, total, issued, gain, postings_of}
 use Rattle.rtgs_book.specs.Soundness.{CodesRise, PartiesAreKnown, has_parties}
 use Rattle.rtgs_lists.proofs.Bools.{and_left, and_right}
 use Rattle.rtgs_lists.proofs.Lists.{all_filter, all_weaker}
-use Rattle.rtgs_lists.proofs.Sums.{at_code, int_sum_by-both, sum_at_code}
+use Rattle.rtgs_lists.proofs.Sums.{at_code, int_sum_by-both, sum_at_code, int_sum_by-less}
 
 -- ---- a settled order moves money and makes none
-
-int_sum_by-less : {X : Type 0} (f g : X → ℤ) (xs : List X) → int_sum_by (λ x. f x -ℤ g x) xs
-    ≡ int_sum_by f xs -ℤ int_sum_by g xs
-int_sum_by-less f g [] = refl
-int_sum_by-less f g (x ∷ xs) = let h = int_sum_by-less f g xs in omega (arith, ints)
 
 gains_none : (codes : List (List ℕ)) (o : Order) → IsStrictlySortedBy (slice_cmp nat_cmp) codes
     → list_any (bytes_eq o.sender) codes ≡ true → list_any (bytes_eq o.receiver) codes ≡ true

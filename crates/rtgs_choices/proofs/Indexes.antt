@@ -9,6 +9,7 @@ use Rattle.std.specs.List.Sorted.{IsStrictlySortedBy}
 use Rattle.std.specs.Ordering.{ordering_reverse}
 use Rattle.std.specs.Str.{bytes_eq}
 use Rattle.std.specs.Cmp.Lexicographic.{slice_cmp, bytes_decides, nat_list_cmp_total}
+use Rattle.rtgs_lists.proofs.Codes.{bytes_eq_self}
 
 abbrev pub Rise : List (List ℕ) → Type 0
 Rise codes = IsStrictlySortedBy (slice_cmp nat_cmp) codes
@@ -47,15 +48,12 @@ less_apart a b less = by (bytes_eq b a) refl
         cc)
     by false e = refl
 
-same_text : (a : List ℕ) → bytes_eq a a ≡ true
-same_text a = (bytes_decides a a).1 refl
-
 -- the code at an index has that index
 pub index_of_code_at : (codes : List (List ℕ)) (p : ℕ) → Rise codes → p < length codes
     → index_in codes (get_or codes p []) ≡ p
 unfolding IsStrictlySortedBy
 index_of_code_at [] p rise less = absurd (omega arith)
-index_of_code_at (c ∷ codes) zero rise less = rw (same_text c) refl
+index_of_code_at (c ∷ codes) zero rise less = rw (bytes_eq_self c) refl
 index_of_code_at (c ∷ codes) (suc p) rise less =
     let apart : bytes_eq (get_or codes p []) c ≡ false = less_apart c (get_or codes p [])
     (All-from_recursion (λ (later : List ℕ). slice_cmp nat_cmp c later ≡ Less) codes rise.0 p [] (omega arith)) in

@@ -1,5 +1,5 @@
 -- The numbers that are taken queue by queue are those of the chosen orders, or of all that are queued.
-use Rattle.std.proofs.Common.{◌≡◌, ℕ, zero, suc, ◌<◌, ◌≤◌, ◌+◌, ◌==◌, nat_lt, pos, ◌-ℤ◌, Bool, true, false, cond, ◌&&◌}
+use Rattle.std.proofs.Common.{◌≡◌, ℕ, zero, suc, ◌<◌, ◌≤◌, ◌+◌, ◌==◌, nat_lt, pos, ◌-ℤ◌, Bool, true, false, cond}
 use Rattle.std.proofs.Common.{◌||◌, List, [], ◌∷◌, ◌++◌, map, filter, length, get_or, take, sum_by, refl, sym, ap, ◌∙◌}
 use Rattle.std.proofs.Common.{subst, arith}
 use Rattle.std.proofs.lemmas.Bool.Decides.{nat_tests}
@@ -24,6 +24,7 @@ use Rattle.rtgs_choices.proofs.Told.{HasIndexes, parties_have_indexes}
 use Rattle.rtgs_choices.proofs.Chosen.{ChosenAreBeginnings, gets, gives, gains_are, sum_by-senders, sum_by-chosen}
 use Rattle.rtgs_lists.proofs.Lists.{all_both, all_filter, all_weaker}
 use Rattle.rtgs_lists.proofs.Numbers.{eq_self, not_below}
+use Rattle.rtgs_lists.proofs.Filters.{filter_twice}
 
 -- ---- sums
 
@@ -208,16 +209,6 @@ module _ (law : ChosenAreBeginnings) (book : Book) (choice : Choice) (sound : Is
 
 -- ---- the queued orders
 
-filter-filter : {X : Type 0} (p q : X → Bool) (xs : List X) → filter q (filter p xs) ≡ filter (λ x. p x && q x) xs
-filter-filter p q [] = refl
-filter-filter p q (x ∷ xs) = by (p x) (filter-filter p q xs)
-  where
-    by : (b : Bool) → filter q (filter p xs) ≡ filter (λ x. p x && q x) xs
-        → filter q (cond b (x ∷ filter p xs) (filter p xs)) ≡ cond (b && q x) (x ∷ filter (λ x. p x && q x) xs)
-        (filter (λ x. p x && q x) xs)
-    by true rest = ap (λ (ys : List _). cond (q x) (x ∷ ys) ys) rest
-    by false rest = rest
-
 module _ (book : Book) (sound : IsSound book) where
   sum_by-queued : (f : Order → ℕ) → sum_below (length (accounts book)) (λ i. sum_by f (queue book (code_at book i)))
       ≡ sum_by f (filter is_queued book.orders)
@@ -225,7 +216,7 @@ module _ (book : Book) (sound : IsSound book) where
   sum_by-queued =
       sum_by-senders book (filter is_queued book.orders) (queue book) sound
       (all_filter (HasIndexes book) is_queued book.orders (parties_have_indexes book sound))
-      (λ code. filter-filter is_queued (λ (o : Order). bytes_eq o.sender code) book.orders)
+      (λ code. filter_twice is_queued (λ (o : Order). bytes_eq o.sender code) book.orders)
 
   pub queued_by_number : AllByRecursion (λ o. is_queued o ≡ is_numbered
       (flat_map (queued_numbers book.orders) (accounts book)) o) book.orders

@@ -1,18 +1,12 @@
 -- What is said of one request is said of another that is the same.
-use Rattle.std.proofs.Common.{◌≡◌, ℕ, List, Option, Result, Ok, Err, sym, subst}
-use Rattle.std.specs.Result.{IfOk, IfErr, OnErr}
+use Rattle.std.proofs.Common.{◌≡◌, ℕ, List, Option, Result, sym, subst}
+use Rattle.std.specs.Result.{IfOk, IfErr}
 use Rattle.rtgs_desk_requests.specs.declared.request.Request.{Request}
 use Rattle.rtgs_desk_lines.specs.declared.failure.Failure.{Failure}
 use Rattle.rtgs_desk_lines.specs.declared.printed.Printed.{Printed}
 use Rattle.rtgs_book_file.specs.OverFile.{OverFile}
 use Rattle.rtgs_desk_files.specs.Touching.{IsOf}
 use Rattle.rtgs_desk_cli.specs.Runs.{file_of, Denies, PrintsFor, Traces}
-
--- what is so of a refusal, and what is so wherever there is one, are so together
-pub refused_and : {T E : Type 0} (result : Result T E) (P : E → Type 0) (S : Type 0) → IfErr result P → OnErr result S
-    → IfErr result (λ why. P why × S)
-refused_and (Ok done) P S one two = tt
-refused_and (Err why) P S one two = (one, two)
 
 module _ {A K U C : Type 0} (file : OverFile K U C) (touched : Traces A U C) {asked other : Request}
     (same : asked ≡ other) where

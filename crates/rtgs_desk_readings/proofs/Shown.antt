@@ -2,7 +2,7 @@
 -- of what the run did once it was closed.
 use Rattle.std.proofs.Common.{◌≡◌, ◌⊎◌, ℕ, List, Option, Result, Ok, Err, refl, sym, subst}
 use Rattle.std.specs.Bool.{⊤}
-use Rattle.std.specs.Result.{IfOk, IfErr, OnErr}
+use Rattle.std.specs.Result.{IfOk, IfErr}
 use Rattle.std.proofs.lemmas.Result.{IfOk-at_ok}
 use Rattle.rtgs_book.specs.declared.Book.{Book}
 use Rattle.rtgs_book.specs.declared.reading.Reading.{Reading}
@@ -27,12 +27,6 @@ pub if_refused : {T E : Type 0} (result : Result T E) (P : E → Type 0) → ((w
     → IfErr result P
 if_refused (Ok done) P so = tt
 if_refused (Err why) P so = so why refl
-
--- what is so of a refusal, and what is so wherever there is one, are so together
-pub refused_and : {T E : Type 0} (result : Result T E) (P : E → Type 0) (S : Type 0) → IfErr result P → OnErr result S
-    → IfErr result (λ why. P why × S)
-refused_and (Ok done) P S one two = tt
-refused_and (Err why) P S one two = (one, two)
 
 -- the book of which something was read
 pub read_with : {K B U C E V : Type 0} (file : OverFile K U C) (desk_of : B → Seen K) (text_of : V → List ℕ)

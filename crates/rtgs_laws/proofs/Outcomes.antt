@@ -1,6 +1,5 @@
 -- What tests in order come to.
-use Rattle.std.proofs.Common.{◌≡◌, Bool, true, false, cond, not, ◌⊎◌, List, [], ◌∷◌, refl, sym, subst, inl, inr, ⊎_elim}
-use Rattle.std.proofs.Common.{true≢false}
+use Rattle.std.proofs.Common.{◌≡◌, Bool, true, false, cond, ◌⊎◌, List, [], ◌∷◌, refl, sym, subst, inl, inr, ⊎_elim}
 use Rattle.std.specs.List.{AllByRecursion}
 use Rattle.rtgs_book.specs.declared.book.Book.{Book}
 use Rattle.rtgs_book.specs.Outcome.{Reply, Outcome, first_of}
@@ -33,7 +32,3 @@ sound_first_of book rows outcome h keeps =
     (λ same. subst IsSound (sym same) h)
     (λ passed. subst (λ (o : Outcome). IsSound o.book) (sym passed.1) (keeps passed.0))
     (first_of_cases book rows outcome)
-
-pub not_false : (b : Bool) → not b ≡ false → b ≡ true
-not_false true e = refl
-not_false false e = absurd (true≢false e)

@@ -1,9 +1,8 @@
 -- Each command keeps a book sound.
-use Rattle.std.proofs.Common.{◌≡◌, ℕ, ◌<◌, ◌+◌, pos, ◌+ℤ◌, ◌-ℤ◌, ◌≤ℤ◌, nat_le, ◌==◌, Bool, true, false, cond, not, ◌&&◌}
+use Rattle.std.proofs.Common.{◌≡◌, ℕ, ◌<◌, ◌+◌, pos, ◌+ℤ◌, ◌-ℤ◌, ◌≤ℤ◌, nat_le, Bool, true, false, cond, not, ◌&&◌}
 use Rattle.std.proofs.Common.{List, [], ◌∷◌, ◌++◌, map, filter, length, is_some, refl, sym, ◌∙◌, subst, true≢false}
 use Rattle.std.proofs.Common.{arith}
 use Rattle.std.proofs.lemmas.Int.{ints}
-use Rattle.std.proofs.lemmas.Bool.Decides.{nat_tests}
 use Rattle.std.proofs.lemmas.List.Elements.{filter-append}
 use Rattle.std.specs.List.{AllByRecursion, range_with_len}
 use Rattle.std.specs.Str.{bytes_eq}
@@ -21,15 +20,15 @@ use Rattle.rtgs_book.specs.Outcome.{Outcome}
 use Rattle.rtgs_book.specs.Commands.{resolve, settles_at_once, new_order, with_order, has_number, takes, order}
 use Rattle.rtgs_book.specs.Soundness.{IsSound, has_parties}
 use Rattle.rtgs_laws.proofs.BookLaws.{BookLaws}
-use Rattle.rtgs_laws.proofs.Outcomes.{sound_first_of, not_false}
+use Rattle.rtgs_laws.proofs.Outcomes.{sound_first_of}
 use Rattle.rtgs_laws.proofs.SoundDays.{open_not_closed}
 use Rattle.rtgs_laws.proofs.SoundOrders.{sound_with_order, balance-with_order}
 use Rattle.rtgs_laws.proofs.SoundPost.{lt_from_test}
 use Rattle.rtgs_laws.proofs.SoundSettle.{sound_settle}
-use Rattle.rtgs_lists.proofs.Bools.{and_left, and_right}
+use Rattle.rtgs_lists.proofs.Bools.{and_left, and_right, from_not}
 use Rattle.rtgs_lists.proofs.Filters.{filter_nothing}
 use Rattle.rtgs_lists.proofs.Lists.{all_of, all_push, all_weaker}
-use Rattle.rtgs_lists.proofs.Numbers.{eq_self, le_from_test}
+use Rattle.rtgs_lists.proofs.Numbers.{eq_self, le_from_test, other_number}
 
 -- ---- Resolve
 
@@ -69,9 +68,6 @@ number_below first (o ∷ os) e =
           (λ (k : Order). k.number < first + length (o ∷ os)) (λ k less. omega arith) os
           (number_below (first + 1) os rest),
     )
-
-other_number : (a n : ℕ) → a < 1 + n → (a == (n + 1)) ≡ false
-other_number a n less = grind (arith, nat_tests)
 
 no_orders : {X : Type 0} (xs : List X) → is_empty xs ≡ true → length xs < LONGEST_QUEUE
 no_orders [] e = omega arith
@@ -174,5 +170,5 @@ unfolding order
 sound_order laws book sender reference receiver amount h = sound_first_of book _ _ h
     (λ (sender_known, (_, (unused, (day_open, (receiver_known, (apart, (numbers_left, (short, _)))))))).
     takes_sound book sender reference receiver amount h laws (lt_from_test _ _ numbers_left) unused
-    (all_three _ _ _ (not_false _ sender_known) (not_false _ receiver_known) apart) apart
-    (open_not_closed book.day.phase (not_false _ day_open)) short)
+    (all_three _ _ _ (from_not _ sender_known) (from_not _ receiver_known) apart) apart
+    (open_not_closed book.day.phase (from_not _ day_open)) short)

@@ -15,9 +15,10 @@ use Rattle.rtgs_book.specs.Balance.{balance, floor, total}
 use Rattle.rtgs_book.specs.Queue.{queue}
 use Rattle.rtgs_book.specs.Commands.{with_credit, set_credit}
 use Rattle.rtgs_book.specs.Soundness.{IsSound}
-use Rattle.rtgs_laws.proofs.Outcomes.{sound_first_of, not_false}
+use Rattle.rtgs_laws.proofs.Outcomes.{sound_first_of}
 use Rattle.rtgs_lists.proofs.Codes.{bytes_eq_comm}
 use Rattle.rtgs_lists.proofs.Lists.{all_weaker, map_same}
+use Rattle.rtgs_lists.proofs.Bools.{from_not}
 
 right_true : (a b : Bool) → a ≡ false → (a || b) ≡ true → b ≡ true
 right_true true b e h = absurd (true≢false e)
@@ -158,4 +159,4 @@ pub sound_set_credit : (book : Book) (code : List ℕ) (credit : ℕ) → IsSoun
     → IsSound (set_credit book code credit).book
 unfolding set_credit
 sound_set_credit book code credit h = sound_first_of book _ _ h
-    (λ passed. credit_sound book code credit h (not_false _ passed.0) passed.1.0)
+    (λ passed. credit_sound book code credit h (from_not _ passed.0) passed.1.0)

@@ -15,8 +15,9 @@ use Rattle.rtgs_book.specs.Queue.{queue}
 use Rattle.rtgs_book.specs.Settle.{today}
 use Rattle.rtgs_book.specs.Commands.{with_day, is_later, open_day, cut_off}
 use Rattle.rtgs_book.specs.Soundness.{QueuesFit, DatesFit, FloorsHold, NeverFall, IsSound}
-use Rattle.rtgs_laws.proofs.Outcomes.{sound_first_of, not_false}
+use Rattle.rtgs_laws.proofs.Outcomes.{sound_first_of}
 use Rattle.rtgs_lists.proofs.Lists.{all_weaker}
+use Rattle.rtgs_lists.proofs.Bools.{from_not}
 
 -- what the day does not touch stays
 pub sound_with_day : (book : Book) (day : Day) → IsSound book → QueuesFit (with_day book day)
@@ -66,7 +67,7 @@ cut_off_sound book h e = sound_with_day book (record book.day { phase = CutOff }
 pub sound_cut_off : (book : Book) (date : ℕ) → IsSound book → IsSound (cut_off book date).book
 unfolding cut_off
 sound_cut_off book date h = sound_first_of book _ _ h (λ passed. cut_off_sound book h
-    (open_not_closed book.day.phase (not_false _ passed.1.0)))
+    (open_not_closed book.day.phase (from_not _ passed.1.0)))
 
 later_le : (date : ℕ) (last : Option ℕ) → is_later date last ≡ true → unwrap_or last 0 ≤ date
 later_le date None e = omega arith
@@ -100,4 +101,4 @@ open_day_sound book date h e le weekday = sound_with_day book (record { date = S
 pub sound_open_day : (book : Book) (date : ℕ) → IsSound book → IsSound (open_day book date).book
 unfolding open_day
 sound_open_day book date h = sound_first_of book _ _ h (λ (_, (closed, (later, (weekday, _)))).
-    open_day_sound book date h (not_false _ closed) (later_le date book.day.date (not_false _ later)) weekday)
+    open_day_sound book date h (from_not _ closed) (later_le date book.day.date (from_not _ later)) weekday)

@@ -18,9 +18,10 @@ use Rattle.rtgs_book.specs.Commands.{post}
 use Rattle.rtgs_book.specs.Soundness.{CountsItsOrders, IsSound}
 use Rattle.rtgs_laws.proofs.BookLaws.{BookLaws}
 use Rattle.rtgs_laws.proofs.Lists.{distinct_push, numbered_after, find_none, never_fall_push}
-use Rattle.rtgs_laws.proofs.Outcomes.{sound_first_of, not_false}
+use Rattle.rtgs_laws.proofs.Outcomes.{sound_first_of}
 use Rattle.rtgs_lists.proofs.Lists.{all_map, all_push, all_weaker}
 use Rattle.rtgs_lists.proofs.Sums.{at_code, int_sum_by-both, sum_at_code}
+use Rattle.rtgs_lists.proofs.Bools.{from_not}
 
 abbrev with_posting : Book → Posting → Book
 with_posting book posting = record book { postings = book.postings ++ posting ∷ [] }
@@ -129,4 +130,4 @@ pub sound_post : BookLaws → (book : Book) (code reference : List ℕ) (cents :
 unfolding post
 sound_post laws book code reference cents h = sound_first_of book _ _ h
     (λ (known, (_, (unused, (numbers_left, (total_fits, (covered, _)))))).
-    post_sound laws book code reference cents h (not_false _ known) unused numbers_left total_fits covered)
+    post_sound laws book code reference cents h (from_not _ known) unused numbers_left total_fits covered)

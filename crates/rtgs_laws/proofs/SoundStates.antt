@@ -23,11 +23,11 @@ use Rattle.rtgs_book.specs.Soundness.{HasMark, is_state_under, has_parties, Coun
 use Rattle.std.proofs.lemmas.List.{length-map}
 use Rattle.rtgs_book.specs.declared.limits.TheConstants.{LONGEST_QUEUE, LARGEST_TOTAL}
 use Rattle.rtgs_laws.proofs.BookLaws.{BookLaws}
-use Rattle.rtgs_laws.proofs.Outcomes.{sound_first_of, not_false}
+use Rattle.rtgs_laws.proofs.Outcomes.{sound_first_of}
 use Rattle.rtgs_laws.proofs.SoundDays.{sound_with_day}
 use Rattle.rtgs_laws.proofs.States.{restated_same, all_filter_restated, length-filter_restated, no_length}
 use Rattle.rtgs_laws.proofs.States.{marks_restated, queued_not_under, found_by_number}
-use Rattle.rtgs_lists.proofs.Bools.{and_left_false}
+use Rattle.rtgs_lists.proofs.Bools.{and_left_false, from_not}
 use Rattle.rtgs_lists.proofs.Filters.{filter_changed}
 use Rattle.rtgs_lists.proofs.Lists.{all_map, all_of, all_weaker, map_same}
 
@@ -122,7 +122,7 @@ pub sound_withdraw : BookLaws → (book : Book) (sender reference : List ℕ) �
     → IsSound (withdraw book sender reference).book
 unfolding withdraw order_named
 sound_withdraw laws book sender reference h = sound_first_of book _ _ h
-    (λ (_, (_, (_, (queued, _)))). by (order_named book sender reference) refl (not_false _ queued))
+    (λ (_, (_, (_, (queued, _)))). by (order_named book sender reference) refl (from_not _ queued))
   where
     found_queued : (o : Order) → order_named book sender reference ≡ Some o → is_queued o ≡ true
         → AllByRecursion (λ other. has_number o.number other ≡ true → is_queued other ≡ true) book.orders

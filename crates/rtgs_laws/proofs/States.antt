@@ -12,6 +12,7 @@ use Rattle.rtgs_book.specs.Settle.{restated}
 use Rattle.rtgs_book.specs.Commands.{has_number}
 use Rattle.rtgs_book.specs.Soundness.{HasMark, is_state_under}
 use Rattle.rtgs_lists.proofs.Numbers.{not_below}
+use Rattle.rtgs_lists.proofs.Finds.{all_found}
 
 -- what a new state does not touch
 pub restated_same : {Y : Type 0} (g : Order → Y) → ((o : Order) (s : OrderState) → g (record o { state = s }) ≡ g o)
@@ -74,15 +75,6 @@ queued_not_under mark Withdrawn e = refl
 queued_not_under mark Rejected e = refl
 
 -- ---- orders by their numbers
-
-all_found : {X : Type 0} (P : X → Type 0) (p : X → Bool) (xs : List X) (x : X) → AllByRecursion P xs
-    → find p xs ≡ Some x → P x
-all_found P p [] x h e = absurd (cc)
-all_found {X} P p (y ∷ ys) x h e = by (p y) e (all_found P p ys x h.1)
-  where
-    by : (b : Bool) → cond b (Some y) (find p ys) ≡ Some x → (find p ys ≡ Some x → P x) → P x
-    by true e rest = let same : y ≡ x = cc in subst P same h.0
-    by false e rest = rest e
 
 -- what holds of the order that is found holds of each with its number
 pub found_by_number : (P : Order → Type 0) (p : Order → Bool) (first : ℕ) (os : List Order) (x : Order)

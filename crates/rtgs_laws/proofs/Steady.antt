@@ -34,7 +34,7 @@ use Rattle.rtgs_book.specs.Laws.{posted, KeepsWhatIsFinal, CommandFits}
 use Rattle.rtgs_book.specs.Ranges.{Fits}
 use Rattle.rtgs_laws.proofs.Batches.{marks_le}
 use Rattle.rtgs_laws.proofs.BookLaws.{TotalIsIssued}
-use Rattle.rtgs_laws.proofs.Outcomes.{NoneHolds, first_of_cases, not_false}
+use Rattle.rtgs_laws.proofs.Outcomes.{NoneHolds, first_of_cases}
 use Rattle.rtgs_laws.proofs.Settling.{settled_either}
 use Rattle.rtgs_laws.proofs.Sound.{KeepsSoundness}
 use Rattle.rtgs_laws.proofs.SoundCommands.{chosen_queued, old_numbers}
@@ -43,6 +43,7 @@ use Rattle.rtgs_laws.proofs.SoundStates.{all_queued}
 use Rattle.rtgs_laws.proofs.States.{found_by_number}
 use Rattle.rtgs_lists.proofs.Lists.{all_append, all_filter, all_map, all_of, all_push, all_weaker}
 use Rattle.rtgs_lists.proofs.Sums.{int_sum_by-append}
+use Rattle.rtgs_lists.proofs.Bools.{from_not}
 
 -- what holds where a test is answered, and after what the command is for, holds of the outcome
 pub holds_first_of : (P : Outcome → Type 0) (book : Book) (rows : List (Bool × Reply)) (outcome : Outcome)
@@ -245,7 +246,7 @@ module _ (book : Book) (sender reference receiver : List ℕ) (amount : ℕ) (h 
   withdraw_stands : KeepsWhatIsFinal book (withdraw book sender reference).book
   unfolding withdraw with_state order_named
   withdraw_stands = sound_first (KeepsWhatIsFinal book) book _ _ (stands_same book book refl refl)
-      (λ (_, (_, (_, (queued, _)))). by (order_named book sender reference) refl (not_false _ queued))
+      (λ (_, (_, (_, (queued, _)))). by (order_named book sender reference) refl (from_not _ queued))
     where
       by : (found : Option Order) → order_named book sender reference ≡ found → is_queued_order found ≡ true
           → KeepsWhatIsFinal book (with_state book (has_number (number_of found)) Withdrawn)

@@ -23,6 +23,7 @@ use Rattle.rtgs_accounts.specs.Accounts.{code_of, is_of, rebalanced, with_balanc
 use Rattle.rtgs_lists.proofs.Codes.{bytes_eq_comm}
 use Rattle.rtgs_lists.proofs.Lists.{all_weaker}
 use Rattle.rtgs_lists.proofs.Sums.{int_sum_by-append}
+use Rattle.rtgs_lists.proofs.Bools.{first_of_three}
 
 -- ---- numbers
 
@@ -120,10 +121,6 @@ no_gains code (o ∷ os) h = by (is_settled o) (no_gains code os h.1)
     by true rest = rw (h.0.0, h.0.1) (omega (arith, ints))
     by false rest = rest
 
-first_true : (a b c : Bool) → (a && b && c) ≡ true → a ≡ true
-first_true true b c e = refl
-first_true false b c e = e
-
 second_true : (a b c : Bool) → (a && b && c) ≡ true → b ≡ true
 second_true true true c e = refl
 second_true true false c e = e
@@ -140,7 +137,7 @@ balance_unknown book code parties none =
     let orders = no_gains code book.orders (all_weaker (λ o. has_parties book o ≡ true)
     (λ (o : Order). (bytes_eq o.sender code ≡ false) × (bytes_eq o.receiver code ≡ false))
     (λ o e. (
-      apart_from o.sender code (accounts book) none (first_true _ _ _ e),
+      apart_from o.sender code (accounts book) none (first_of_three _ _ _ e),
       apart_from o.receiver code
           (accounts book) none (second_true _ _ _ e),
     )) book.orders parties.0) in

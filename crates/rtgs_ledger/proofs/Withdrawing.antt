@@ -1,6 +1,6 @@
 -- What withdrawing an order comes to, test by test, and its change.
-use Rattle.std.proofs.Common.{◌≡◌, ℕ, Bool, true, false, cond, if◌then◌else◌, List, [], ◌∷◌, find, Ok, Err, Some}
-use Rattle.std.proofs.Common.{None, ◌⊎◌, inl, inr, refl, sym, ap, subst, ◌∙◌, arith}
+use Rattle.std.proofs.Common.{◌≡◌, ℕ, Bool, true, false, if◌then◌else◌, List, [], ◌∷◌, find, Ok, Err, Some}
+use Rattle.std.proofs.Common.{None, ◌⊎◌, inl, inr, refl, sym, ap, ◌∙◌, arith}
 use Rattle.std.proofs.lemmas.Bool.Decides.{nat_tests}
 use Rattle.std.specs.List.{AllByRecursion}
 use Rattle.std.specs.Ordering.{int_eq}
@@ -26,6 +26,7 @@ use Rattle.rtgs_ledger.proofs.Kept.{prepared_done}
 use Rattle.rtgs_queues.specs.Laws.{NumbersLeadToOrders}
 use Rattle.rtgs_ledger.proofs.Whole.{Held, IsKept, IsPrepared}
 use Rattle.rtgs_lists.proofs.Lists.{all_of, all_weaker}
+use Rattle.rtgs_lists.proofs.Finds.{all_found}
 
 module _ (book : Book) (sender reference : List ℕ) where
   pub unknown : is_participant book sender ≡ false → Step book (command.Withdraw sender reference)
@@ -63,22 +64,13 @@ is_done state (inr rejected) = rw rejected (refl, refl)
 
 -- ---- the order with a number
 
-found_has : {X : Type 0} (P : X → Type 0) (p : X → Bool) (xs : List X) (x : X) → AllByRecursion P xs
-    → find p xs ≡ Some x → P x
-found_has P p [] x h e = absurd (cc)
-found_has {X} P p (y ∷ ys) x h e = by (p y) e (found_has P p ys x h.1)
-  where
-    by : (b : Bool) → cond b (Some y) (find p ys) ≡ Some x → (find p ys ≡ Some x → P x) → P x
-    by true e rest = let same : y ≡ x = cc in subst P same h.0
-    by false e rest = rest e
-
 -- it is the one that was found
 pub alone_in_number : NumbersLeadToOrders → (book : Book) → OrdersAreNumbered book → (p : Order → Bool) (o : Order)
     → find p book.orders ≡ Some o → AllByRecursion (λ x. has_number o.number x ≡ true → x ≡ o) book.orders
 alone_in_number law book numbered p o found =
     let all = law book numbered in
     let its : find (has_number o.number) book.orders ≡ Some o =
-    found_has (λ x. find (has_number x.number) book.orders ≡ Some x) p book.orders o all found in
+    all_found (λ x. find (has_number x.number) book.orders ≡ Some x) p book.orders o all found in
     all_weaker (λ x. find (has_number x.number) book.orders ≡ Some x) (λ x. has_number o.number x ≡ true → x ≡ o)
     (λ x h e. same x its h e) book.orders all
   where

@@ -1,5 +1,5 @@
 -- Truth values.
-use Rattle.std.proofs.Common.{◌≡◌, Bool, true, false, ◌&&◌, ◌||◌, refl, sym, true≢false}
+use Rattle.std.proofs.Common.{◌≡◌, Bool, true, false, not, ◌&&◌, ◌||◌, refl, sym, true≢false}
 
 pub and_left : (a b : Bool) → (a && b) ≡ true → a ≡ true
 and_left true b e = refl
@@ -26,3 +26,11 @@ or_right_false false b e = e
 
 pub and_true : (a b : Bool) → a ≡ true → b ≡ true → (a && b) ≡ true
 and_true a b e f = rw (e, f) refl
+
+pub first_of_three : (a b c : Bool) → (a && b && c) ≡ true → a ≡ true
+first_of_three true b c e = refl
+first_of_three false b c e = e
+
+pub from_not : (b : Bool) → not b ≡ false → b ≡ true
+from_not true e = refl
+from_not false e = absurd (true≢false e)

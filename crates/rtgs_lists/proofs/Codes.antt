@@ -15,6 +15,9 @@ pub bytes_eq_comm : (a b : List ℕ) → bytes_eq a b ≡ bytes_eq b a
 bytes_eq_comm a b = same_from_decides _ _ (bytes_decides a b)
     (Decides-like _ (λ e. sym e) (λ e. sym e) (bytes_decides b a))
 
+pub bytes_eq_self : (a : List ℕ) → bytes_eq a a ≡ true
+bytes_eq_self a = (bytes_decides a a).1 refl
+
 cmp_self : (n : ℕ) → nat_cmp n n ≡ Equal
 cmp_self n = grind (arith, nat_tests)
 

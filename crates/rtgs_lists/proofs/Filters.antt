@@ -1,5 +1,5 @@
 -- Filters, and an element that is put in between those that pass and those that don't.
-use Rattle.std.proofs.Common.{◌≡◌, Bool, true, false, cond, not, List, [], ◌∷◌, ◌++◌, map, filter, refl, ap}
+use Rattle.std.proofs.Common.{◌≡◌, Bool, true, false, cond, not, ◌&&◌, List, [], ◌∷◌, ◌++◌, map, filter, refl, ap}
 use Rattle.std.specs.List.{AllByRecursion}
 use Rattle.rtgs_lists.proofs.Lists.{all_append, all_filter}
 
@@ -21,6 +21,33 @@ map-filter g q (x ∷ xs) = by (q (g x)) (map-filter g q xs)
         ≡ cond b (g x ∷ filter q (map g xs)) (filter q (map g xs))
     by true e = ap (λ ys. g x ∷ ys) e
     by false e = e
+
+pub filter_agrees : {X : Type 0} (p q : X → Bool) (xs : List X) → AllByRecursion (λ x. p x ≡ q x) xs
+    → filter p xs ≡ filter q xs
+filter_agrees p q [] h = refl
+filter_agrees p q (x ∷ xs) h = rw (h.0, filter_agrees p q xs h.1) refl
+
+pub filter_twice : {X : Type 0} (p q : X → Bool) (xs : List X) → filter q (filter p xs) ≡ filter (λ x. p x && q x) xs
+filter_twice p q [] = refl
+filter_twice p q (x ∷ xs) = by (p x) (filter_twice p q xs)
+  where
+    by : (b : Bool) → filter q (filter p xs) ≡ filter (λ x. p x && q x) xs
+        → filter q (cond b (x ∷ filter p xs) (filter p xs)) ≡ cond (b && q x) (x ∷ filter (λ x. p x && q x) xs)
+        (filter (λ x. p x && q x) xs)
+    by true rest = ap (λ (ys : List _). cond (q x) (x ∷ ys) ys) rest
+    by false rest = rest
+
+-- elements are tested by what they are made of
+pub filter_of : {X Y : Type 0} (g : X → Y) (q : Y → Bool) (p : X → Bool) → ((x : X) → q (g x) ≡ p x) → (xs : List X)
+    → filter q (map g xs) ≡ map g (filter p xs)
+filter_of g q p same [] = refl
+filter_of g q p same (x ∷ xs) = by (p x) (same x) (filter_of g q p same xs)
+  where
+    by : (b : Bool) → q (g x) ≡ b → filter q (map g xs) ≡ map g (filter p xs)
+        → cond (q (g x)) (g x ∷ filter q (map g xs)) (filter q (map g xs))
+        ≡ map g (cond b (x ∷ filter p xs) (filter p xs))
+    by true is rest = rw is (ap (λ ys. g x ∷ ys) rest)
+    by false is rest = rw is rest
 
 abbrev pub put_in : {X : Type 0} → (X → Bool) → X → List X → List X
 put_in p x xs = filter p xs ++ x ∷ filter (λ y. not (p y)) xs

@@ -4,4 +4,5 @@ pub mod Filters
 pub mod Finds
 pub mod Lists
 pub mod Numbers
+pub mod Results
 pub mod Sums

@@ -1,13 +1,26 @@
 -- Numbers, and lists of them from 1 on.
-use Rattle.std.proofs.Common.{◌≡◌, ◌==◌, ℕ, zero, suc, ◌+◌, ◌≤◌, ℤ, ◌≤ℤ◌, int_le, true, List, [], ◌∷◌, ◌++◌, map}
-use Rattle.std.proofs.Common.{length, length-append, sym, ap, ◌∙◌, arith}
+use Rattle.std.proofs.Common.{◌≡◌, ◌==◌, ℕ, zero, suc, ◌+◌, ◌<◌, ◌≤◌, ℤ, ◌≤ℤ◌, int_le, true, false, List, [], ◌∷◌, ◌++◌, map}
+use Rattle.std.proofs.Common.{length, length-append, nat_lt, sym, ap, ◌∙◌, arith}
 use Rattle.std.proofs.lemmas.Bool.Decides.{nat_tests}
 use Rattle.std.proofs.lemmas.Int.{ints}
+use Rattle.std.specs.Ordering.{int_eq}
 use Rattle.std.specs.List.{AllByRecursion, range_with_len}
 use Rattle.rtgs_lists.proofs.Lists.{all_weaker}
 
 pub eq_self : (n : ℕ) → (n == n) ≡ true
 eq_self n = grind (arith, nat_tests)
+
+pub lt_zero : (n : ℕ) → nat_lt n 0 ≡ false
+lt_zero n = grind (arith, nat_tests)
+
+pub other_number : (a n : ℕ) → a < 1 + n → (a == (n + 1)) ≡ false
+other_number a n less = grind (arith, nat_tests)
+
+pub int_eq_self : (z : ℤ) → int_eq z z ≡ true
+int_eq_self z = grind (arith, ints)
+
+pub same_from_int_eq : (a b : ℤ) → int_eq a b ≡ true → a ≡ b
+same_from_int_eq a b e = grind (arith, ints)
 
 pub le_from_test : (a b : ℤ) → int_le a b ≡ true → a ≤ℤ b
 le_from_test a b e = grind (arith, ints)

@@ -1,5 +1,5 @@
 -- Sums of signed numbers, and over codes.
-use Rattle.std.proofs.Common.{◌≡◌, ℕ, ℤ, pos, ◌+ℤ◌, Bool, true, false, cond, ◌||◌, List, [], ◌∷◌, ◌++◌, nat_cmp, Less}
+use Rattle.std.proofs.Common.{◌≡◌, ℕ, ℤ, pos, ◌+ℤ◌, ◌-ℤ◌, Bool, true, false, cond, ◌||◌, List, [], ◌∷◌, ◌++◌, nat_cmp, Less}
 use Rattle.std.proofs.Common.{refl, sym, subst, true≢false, arith}
 use Rattle.std.proofs.lemmas.Int.{ints}
 use Rattle.std.specs.List.{AllByRecursion, list_any}
@@ -18,6 +18,11 @@ pub int_sum_by-both : {X : Type 0} (f g : X → ℤ) (xs : List X)
     → int_sum_by (λ x. f x +ℤ g x) xs ≡ int_sum_by f xs +ℤ int_sum_by g xs
 int_sum_by-both f g [] = refl
 int_sum_by-both f g (x ∷ xs) = let h = int_sum_by-both f g xs in omega (arith, ints)
+
+pub int_sum_by-less : {X : Type 0} (f g : X → ℤ) (xs : List X)
+    → int_sum_by (λ x. f x -ℤ g x) xs ≡ int_sum_by f xs -ℤ int_sum_by g xs
+int_sum_by-less f g [] = refl
+int_sum_by-less f g (x ∷ xs) = let h = int_sum_by-less f g xs in omega (arith, ints)
 
 pub int_sum_by-same : {X : Type 0} (f g : X → ℤ) → ((x : X) → f x ≡ g x) → (xs : List X)
     → int_sum_by f xs ≡ int_sum_by g xs

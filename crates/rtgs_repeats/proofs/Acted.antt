@@ -1,8 +1,7 @@
 -- A command that acted is known, and where it is known it acts no more.
 use Rattle.std.proofs.Common.{◌≡◌, ℕ, ◌+◌, ◌==◌, Bool, true, false, cond, ◌||◌, List, [], ◌∷◌, ◌++◌, map, length}
-use Rattle.std.proofs.Common.{Option, Some, None, Ok, find, is_some, is_none, refl, sym, ap, ◌∙◌, true≢false, ℤ, arith}
+use Rattle.std.proofs.Common.{Option, Some, None, Ok, find, is_some, is_none, refl, sym, ap, ◌∙◌, true≢false, ℤ}
 use Rattle.std.proofs.lemmas.Bool.{not-false, and_from, not_from_true}
-use Rattle.std.proofs.lemmas.Int.{ints}
 use Rattle.std.specs.List.{list_any}
 use Rattle.std.specs.Ordering.{int_eq}
 use Rattle.std.specs.Str.{bytes_eq}
@@ -34,11 +33,8 @@ use Rattle.rtgs_repeats.proofs.Finds.{find_right}
 use Rattle.rtgs_repeats.proofs.Kept.{found_restated, find_added}
 use Rattle.rtgs_repeats.proofs.KeptSteps.{kept_joined}
 use Rattle.rtgs_repeats.proofs.Passing.{passed_step, choose, first_holds, second_holds, third_holds}
-use Rattle.rtgs_lists.proofs.Codes.{bytes_eq_comm}
-use Rattle.rtgs_lists.proofs.Numbers.{eq_self}
-
-same_bytes : (a : List ℕ) → bytes_eq a a ≡ true
-same_bytes a = (bytes_decides a a).1 refl
+use Rattle.rtgs_lists.proofs.Codes.{bytes_eq_comm, bytes_eq_self}
+use Rattle.rtgs_lists.proofs.Numbers.{eq_self, int_eq_self}
 
 -- a code is a participant's where one is found under it
 pub known_participant : (book : Book) (code : List ℕ) → is_participant book code ≡ is_some (participant_of book code)
@@ -92,9 +88,6 @@ added_known old new reply code name key accepted s =
 
 -- ---- a posting
 
-int_same : (z : ℤ) → int_eq z z ≡ true
-int_same z = grind (arith, ints)
-
 not_accepted_posting : (found : Option Posting) → is_accepted (known_posting found) ≡ false
 not_accepted_posting None = refl
 not_accepted_posting (Some p) = refl
@@ -102,7 +95,7 @@ not_accepted_posting (Some p) = refl
 pub posting_same : (p : Posting) (code : List ℕ) (cents : ℤ) → p.code ≡ code → p.cents ≡ cents
     → is_same_posting (Some p) code cents ≡ true
 posting_same p code cents c z = and_from _ _ ((bytes_decides p.code code).1 c)
-    (ap (int_eq p.cents) (sym z) ∙ int_same p.cents)
+    (ap (int_eq p.cents) (sym z) ∙ int_eq_self p.cents)
 
 post_known : (book : Book) (code reference : List ℕ) (cents : ℤ) (p : Posting) → is_participant book code ≡ true
     → posting_named book reference ≡ Some p → p.code ≡ code → p.cents ≡ cents
@@ -132,7 +125,7 @@ posted_known old new reply code reference cents accepted s =
       posting,
       ap (λ (b : Book). find (is_posting_named reference) b.postings) book
           ∙ find_right (is_posting_named reference) old.postings (posting ∷ []) p.0.1.1.0
-          ∙ rw (same_bytes reference) refl,
+          ∙ rw (bytes_eq_self reference) refl,
       refl,
       refl,
       sym number,
@@ -183,7 +176,7 @@ ordered_known old new reply sender reference receiver amount h accepted s =
     let joined : find (is_order_named sender reference) (old.orders ++ new_order old sender reference receiver amount
     ∷ []) ≡ Some (new_order old sender reference receiver amount) =
     find_right (is_order_named sender reference) old.orders (new_order old sender reference receiver amount ∷ [])
-    p.0.1.1.0 ∙ rw (same_bytes sender, same_bytes reference) refl in
+    p.0.1.1.0 ∙ rw (bytes_eq_self sender, bytes_eq_self reference) refl in
     let later = (kept_joined old sender reference receiver amount h.orders_numbered).orders sender reference
     (new_order old sender reference receiver amount) joined in (
       later.0,

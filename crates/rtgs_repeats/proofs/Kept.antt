@@ -1,7 +1,6 @@
 -- What each change to a book keeps of its records.
-use Rattle.std.proofs.Common.{◌≡◌, ℕ, ◌<◌, ◌+◌, ◌==◌, Bool, true, false, cond, not, List, [], ◌∷◌, ◌++◌, map, filter}
-use Rattle.std.proofs.Common.{length, Some, find, is_some, refl, sym, ap, ◌∙◌, true≢false, arith}
-use Rattle.std.proofs.lemmas.Bool.Decides.{nat_tests}
+use Rattle.std.proofs.Common.{◌≡◌, ℕ, ◌<◌, ◌+◌, Bool, true, false, cond, not, List, [], ◌∷◌, ◌++◌, map, filter}
+use Rattle.std.proofs.Common.{length, Some, find, is_some, refl, sym, ap, ◌∙◌, true≢false}
 use Rattle.std.proofs.lemmas.List.{length-map}
 use Rattle.std.specs.List.{AllByRecursion, range_with_len}
 use Rattle.std.specs.Option.{option_map}
@@ -23,6 +22,7 @@ use Rattle.rtgs_repeats.specs.Kept.{IsKeptParticipant, IsKeptOrder, AreKept}
 use Rattle.rtgs_repeats.proofs.Finds.{find_left, find_right, find_mapped, find_kept, find_dropped}
 use Rattle.rtgs_repeats.proofs.Finds.{find_none_in, found, all_below}
 use Rattle.rtgs_lists.proofs.Lists.{all_weaker}
+use Rattle.rtgs_lists.proofs.Numbers.{other_number}
 
 -- ---- orders
 
@@ -101,13 +101,10 @@ orders_through old mid new h k sender reference o e =
     )
 
 -- no order has the next number
-new_number : (a n : ℕ) → a < 1 + n → (a == (n + 1)) ≡ false
-new_number a n less = grind (arith, nat_tests)
-
 pub none_numbered : (book : Book) → OrdersAreNumbered book → AllByRecursion
     (λ o. has_number (length book.orders + 1) o ≡ false) book.orders
 none_numbered book h = all_weaker (λ (o : Order). o.number < 1 + length book.orders)
-    (λ o. has_number (length book.orders + 1) o ≡ false) (λ o less. new_number o.number (length book.orders) less)
+    (λ o. has_number (length book.orders + 1) o ≡ false) (λ o less. other_number o.number (length book.orders) less)
     book.orders
     (all_below 1 book.orders (h.0 ∙ ap (range_with_len 1) (length-map book.orders (λ (o : Order). o.number))))
 

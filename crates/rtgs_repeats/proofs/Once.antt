@@ -1,9 +1,8 @@
 -- Orders and postings that stand but once in a list leave the book that the whole list leaves.
-use Rattle.std.proofs.Common.{◌≡◌, ℕ, ◌==◌, Bool, true, false, cond, ◌&&◌, ◌||◌, ℤ, List, [], ◌∷◌, Option, Some, None}
+use Rattle.std.proofs.Common.{◌≡◌, ℕ, ◌==◌, Bool, true, false, cond, ◌&&◌, ◌||◌, List, [], ◌∷◌, Option, Some, None}
 use Rattle.std.proofs.Common.{refl, sym, ap, ◌∙◌, subst, ⊎_elim, true≢false, arith}
 use Rattle.std.proofs.lemmas.Bool.{or_cases}
 use Rattle.std.proofs.lemmas.Bool.Decides.{nat_tests}
-use Rattle.std.proofs.lemmas.Int.{ints}
 use Rattle.std.specs.List.{AllByRecursion, list_any}
 use Rattle.std.specs.Str.{bytes_eq}
 use Rattle.std.specs.Ordering.{int_eq}
@@ -26,6 +25,7 @@ use Rattle.rtgs_repeats.proofs.KeptSteps.{StepKeepsSoundness, step_kept}
 use Rattle.rtgs_repeats.proofs.Kept.{kept_through}
 use Rattle.rtgs_repeats.proofs.Passing.{some_holds}
 use Rattle.rtgs_lists.proofs.Lists.{all_weaker}
+use Rattle.rtgs_lists.proofs.Numbers.{same_from_int_eq}
 
 pub or_second : (a b c : Bool) → b ≡ true → (a || (b || c)) ≡ true
 or_second true b c e = refl
@@ -76,9 +76,6 @@ covers_kept old new one kept covers other e = recorded_kept old new other kept (
 number_is : (a b : ℕ) → (a == b) ≡ true → a ≡ b
 number_is a b e = grind (arith, nat_tests)
 
-cents_are : (a b : ℤ) → int_eq a b ≡ true → a ≡ b
-cents_are a b e = grind (arith, ints)
-
 abbrev is_entry : Command → Bool
 is_entry (PlaceOrder sender reference receiver amount) = true
 is_entry (Post code reference cents) = true
@@ -110,7 +107,7 @@ same_entry (Post code r cents) (Post code' r' cents') e =
     let p = all_three (bytes_eq code code') (bytes_eq r r') (int_eq cents cents') e in
     let account = (bytes_decides code code').0 p.0 in
     let reference = (bytes_decides r r').0 p.1 in
-    let value = cents_are cents cents' p.2 in
+    let value = same_from_int_eq cents cents' p.2 in
     ((λ i. Post (account i) (reference i) (value i)), refl)
 same_entry other one e = absurd (true≢false (sym e))
 

@@ -1,8 +1,7 @@
 -- After a resolution there is nothing more to settle.
 use Rattle.std.proofs.Common.{◌≡◌, ℕ, ◌+◌, ℤ, ◌+ℤ◌, ◌≤ℤ◌, nat_lt, Bool, true, false, cond, ◌&&◌, List, [], ◌∷◌, map}
-use Rattle.std.proofs.Common.{filter, length, take, drop, Ok, refl, sym, ap, ◌∙◌, subst, true≢false, arith}
+use Rattle.std.proofs.Common.{filter, length, take, drop, Ok, refl, sym, ap, ◌∙◌, subst, arith}
 use Rattle.std.proofs.lemmas.Int.{ints}
-use Rattle.std.proofs.lemmas.Bool.Decides.{nat_tests}
 use Rattle.std.proofs.lemmas.List.{length-drop}
 use Rattle.std.proofs.Math.Seq.{take-add}
 use Rattle.std.specs.List.{AllByRecursion, list_any}
@@ -31,6 +30,8 @@ use Rattle.rtgs_repeats.proofs.Sums.{sent_by, by_senders}
 use Rattle.rtgs_repeats.proofs.Passing.{passed_step}
 use Rattle.rtgs_lists.proofs.Lists.{all_filter, all_weaker}
 use Rattle.rtgs_lists.proofs.Sums.{int_sum_by-append, int_sum_by-both, int_sum_by-same}
+use Rattle.rtgs_lists.proofs.Bools.{first_of_three}
+use Rattle.rtgs_lists.proofs.Numbers.{lt_zero}
 
 abbrev pub ChosenAreBeginnings : Type 0
 ChosenAreBeginnings = (book : Book) (choice : Choice) (code : List ℕ) → OrdersAreNumbered book
@@ -44,10 +45,6 @@ abbrev pub SettledBalances : Type 0
 SettledBalances = (book : Book) (choice : Choice) (code : List ℕ)
     → balance (settle book (is_chosen book choice)) code ≡ balance_after book choice code
 
-first_true : (a b c : Bool) → (a && b && c) ≡ true → a ≡ true
-first_true true b c e = refl
-first_true false b c e = absurd (true≢false (sym e))
-
 -- a sum over what is chosen is the sum over the beginnings of all queues
 by_queues : ChosenAreBeginnings → (book : Book) (choice : Choice) (f : Order → ℤ) → IsSound book
     → int_sum_by f (chosen book choice) ≡ int_sum_by (λ code. int_sum_by f (take (choice code) (queue book code)))
@@ -56,7 +53,7 @@ unfolding chosen is_participant
 by_queues law book choice f h =
     sym (by_senders (accounts book) h.codes_rise.0 f (chosen book choice)
     (all_filter _ (is_chosen book choice) book.orders (all_weaker (λ o. has_parties book o ≡ true)
-    (λ (o : Order). list_any (bytes_eq o.sender) (accounts book) ≡ true) (λ o e. first_true _ _ _ e) book.orders
+    (λ (o : Order). list_any (bytes_eq o.sender) (accounts book) ≡ true) (λ o e. first_of_three _ _ _ e) book.orders
     h.parties.0)))
     ∙ int_sum_by-same _ _ (λ code. ap (int_sum_by f) (law book choice code h.orders_numbered)) (accounts book)
 
@@ -146,9 +143,6 @@ module _ (beginnings : ChosenAreBeginnings) (rest : RestStaysQueued) (balances :
     none_left h k code = let le = h.largest together (feasible h.feasible k) code in omega arith
 
 -- ---- the resolution that comes next
-
-lt_zero : (n : ℕ) → nat_lt n 0 ≡ false
-lt_zero n = grind (arith, nat_tests)
 
 none_in : {X : Type 0} (p : X → Bool) → ((x : X) → p x ≡ false) → (xs : List X) → is_empty (filter p xs) ≡ true
 none_in p none [] = refl

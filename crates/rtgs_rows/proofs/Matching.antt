@@ -1,5 +1,5 @@
 -- Changes of a book and of its records go together.
-use Rattle.std.proofs.Common.{◌≡◌, inl, inr, ℕ, ℤ, List, [], ◌∷◌, ◌++◌, map, filter, Bool, not, cond, refl, ap}
+use Rattle.std.proofs.Common.{◌≡◌, inl, inr, ℕ, ℤ, List, [], ◌∷◌, ◌++◌, map, filter, Bool, not, cond, refl}
 use Rattle.std.specs.List.Sorted.{IsPermutation}
 use Rattle.std.proofs.lemmas.List.Sorted.{IsPermutation-map, IsPermutation-trans, IsPermutation-to_front}
 use Rattle.std.proofs.lemmas.List.Sorted.{IsPermutation-sym, IsPermutation-cons, IsPermutation-filter_both}
@@ -17,13 +17,10 @@ use Rattle.rtgs_rows.specs.Content.{Holding, Content, newcomer, with_credit_in, 
 use Rattle.rtgs_rows.specs.Content.{with_changes}
 use Rattle.rtgs_rows.specs.Keeping.{AreOf}
 use Rattle.rtgs_rows.proofs.Steps.{posting_step, order_step, mark_step}
+use Rattle.rtgs_lists.proofs.Lists.{map_push}
 
 abbrev who : Holding → Participant
 who h = h.participant
-
-map_snoc : {A B : Type 0} (f : A → B) (xs : List A) (x : A) → map f (xs ++ x ∷ []) ≡ map f xs ++ f x ∷ []
-map_snoc f [] x = refl
-map_snoc f (y ∷ ys) x = ap (λ more. f y ∷ more) (map_snoc f ys x)
 
 -- put in at its place
 placed : {X : Type 0} (p : X → Bool) (x : X) (xs : List X) → IsPermutation (x ∷ xs)
@@ -60,7 +57,7 @@ HasParticipants b c = IsPermutation (map who c.holdings) b.participants
 participants_on : (b : Book) (c : Content) (row : RowChange) → HasParticipants b c
     → HasParticipants (with_row b row) (with_change c row)
 unfolding with_participant with_credit with_state
-participants_on b c (AddParticipant p) same = rw (map_snoc who c.holdings (newcomer c p))
+participants_on b c (AddParticipant p) same = rw (map_push who c.holdings (newcomer c p))
     (IsPermutation-trans _ _ _ (IsPermutation-to_front (map who c.holdings) p)
     (IsPermutation-trans _ _ _ (IsPermutation-cons p _ _ same)
     (placed (λ q. is_before q.code p.code) p b.participants)))

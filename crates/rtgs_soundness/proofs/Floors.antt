@@ -10,12 +10,7 @@ use Rattle.rtgs_book.specs.Lookup.{has_code, participant_of, credit_of, accounts
 use Rattle.rtgs_book.specs.Balance.{balance, floor, floor_at}
 use Rattle.rtgs_book.specs.Soundness.{CodesRise, FloorsHold}
 use Rattle.rtgs_lists.proofs.Codes.{later_differs}
-use Rattle.rtgs_lists.proofs.Lists.{all_both, all_map}
-
-pub all_unmap : {X Y : Type 0} (P : Y → Type 0) (f : X → Y) (xs : List X) → AllByRecursion P (map f xs)
-    → AllByRecursion (λ x. P (f x)) xs
-all_unmap P f [] h = tt
-all_unmap P f (x ∷ xs) h = (h.0, all_unmap P f xs h.1)
+use Rattle.rtgs_lists.proofs.Lists.{all_both, all_map, all_unmap}
 
 -- the credit of the first participant with this code
 abbrev limit : List ℕ → List Participant → ℕ

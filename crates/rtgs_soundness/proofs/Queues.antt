@@ -13,9 +13,8 @@ use Rattle.rtgs_book.specs.Lookup.{accounts}
 use Rattle.rtgs_book.specs.Queue.{queue}
 use Rattle.rtgs_book.specs.Settle.{today}
 use Rattle.rtgs_book.specs.Soundness.{QueuesFit}
-use Rattle.rtgs_soundness.proofs.Floors.{all_unmap}
-use Rattle.rtgs_lists.proofs.Bools.{and_left, and_right}
-use Rattle.rtgs_lists.proofs.Lists.{all_map, all_weaker}
+use Rattle.rtgs_lists.proofs.Bools.{and_left, and_right, from_not}
+use Rattle.rtgs_lists.proofs.Lists.{all_map, all_weaker, all_unmap}
 
 -- the test of one order
 abbrev pub is_queued_on : Bool → ℕ → Order → Bool
@@ -58,10 +57,6 @@ on_all is_open date (o ∷ os) none dated = by (is_queued o) none dated (on_all 
         rw (rest (λ closed. absurd (true≢false (sym opened ∙ closed))) dated.1, opened, eq-eqb o.date date dated.0) refl
     by false none dated rest = rest none dated
 
-not_closed : (b : Bool) → not b ≡ false → b ≡ true
-not_closed true e = refl
-not_closed false e = absurd (true≢false e)
-
 short_length : (n : ℕ) → pos n ≤ℤ pos LONGEST_QUEUE → n ≤ LONGEST_QUEUE
 short_length n h = omega (arith, ints)
 
@@ -82,7 +77,7 @@ queues_of book b short is = (
             book.participants short);
         of_the_day = on.1;
       },
-  λ fit. is ∙ on_all (not (is_closed book.day.phase)) (today book) book.orders (λ e. fit.closed (not_closed _ e))
+  λ fit. is ∙ on_all (not (is_closed book.day.phase)) (today book) book.orders (λ e. fit.closed (from_not _ e))
       fit.of_the_day,
 )
 

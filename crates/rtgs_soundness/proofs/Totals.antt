@@ -224,15 +224,6 @@ order_counted codes f m n o queued h adds = rw queued
     (texts_added codes f m n o.sender (pos 1) (pos 1) refl h adds)
 
 -- one element of those of which the fact holds
-pub all_get : {X : Type 0} (P : X → Type 0) (xs : List X) (i : ℕ) (x : X) → i < length xs → x ≡ get_or xs i x
-    → AllByRecursion P xs → P x
-all_get P xs i x less is h = subst P (sym is) (at xs i less h)
-  where
-    at : (ys : List _) (k : ℕ) → k < length ys → AllByRecursion P ys → P (get_or ys k x)
-    at [] k less h = absurd (omega arith)
-    at (y ∷ ys) zero less h = h.0
-    at (y ∷ ys) (suc k) less h = at ys k (omega arith) h.1
-
 pub int_sum_more : {X : Type 0} (g : X → ℤ) (xs : List X) (i : ℕ) (x : X) → i < length xs → x ≡ get_or xs i x
     → int_sum_by g (take (i + 1) xs) ≡ int_sum_by g (take i xs) +ℤ g x
 int_sum_more g xs i x less is =

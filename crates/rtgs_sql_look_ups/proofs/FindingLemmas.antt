@@ -47,10 +47,12 @@ use Rattle.rtgs_rows.specs.Rows.{posting_row, payment_row, mark_row, shown_posti
 use Rattle.rtgs_sql_columns.specs.OneTable.{simple, passes, shows, OneTableAnswers}
 use Rattle.rtgs_sql_queries.specs.Answering.{IsQuery, KeepsTables}
 use Rattle.rtgs_sql_look_ups.specs.Finding.{one_of, IsLook, first_row_query, after_tests}
-use Rattle.rtgs_sql_look_ups.proofs.Passing.{none_moved, truth_of, same_text, filter_map}
+use Rattle.rtgs_sql_look_ups.proofs.Passing.{truth_of, same_text}
 use Rattle.rtgs_sql_look_ups.proofs.FindingTexts.{order_tests, posting_tests, order_query, posting_query}
 use Rattle.rtgs_sql_queries.specs.TableQueries.{columns_of}
 use Rattle.rtgs_rows.specs.Tables.{posting_table, payment_table}
+use Rattle.rtgs_lists.proofs.Results.{none_moved}
+use Rattle.rtgs_lists.proofs.Filters.{filter_of}
 
 -- ---- what is made of the rows
 
@@ -189,7 +191,7 @@ found_rows answers {A = A} row shown hit params tree tests project tested shows_
     let q : Query = simple tree tests project [] in
     let s = answers.sorted tree tests project [] (overlay trees []) params rows.items h in
     let passed : filter (passes tests params) (overlay trees [] tree) ≡ map row (one_of (find hit all)) =
-    ap (filter (passes tests params)) here ∙ filter_map row (passes tests params) hit tested all ∙ ap (map row) one in
+    ap (filter (passes tests params)) here ∙ filter_of row (passes tests params) hit tested all ∙ ap (map row) one in
     let told : map (shows project params) (filter (passes tests params) (overlay trees [] tree))
     ≡ map shown (one_of (find hit all)) = ap (map (shows project params)) passed
     ∙ map-map (shows project params) row (one_of (find hit all))
@@ -234,7 +236,7 @@ first_rows answers {A = A} t row shown id hit params tested by shows_it trees al
       shown = refl;
     }) in
     let passed : filter (passes after_tests params) (overlay trees [] t.tree) ≡ map row (filter hit all) =
-    ap (filter (passes after_tests params)) here ∙ filter_map row (passes after_tests params) hit tested all in
+    ap (filter (passes after_tests params)) here ∙ filter_of row (passes after_tests params) hit tested all in
     let goals : map (λ r. output q (params ∷ r ∷ [])) (filter (passes after_tests params) (overlay trees [] t.tree))
     ≡ map out (filter hit all) = ap (map (λ r. output q (params ∷ r ∷ []))) passed
     ∙ map-map (λ (r : Row). output q (params ∷ r ∷ [])) row (filter hit all) in

@@ -4,6 +4,7 @@ use Rattle.std.proofs.Common.{Option, Some, refl, sym, ap, ap₂, subst, arith, 
 use Rattle.std.specs.List.{AllByRecursion}
 use Rattle.std.proofs.lemmas.List.{take_more}
 use Rattle.std.proofs.lemmas.Grind.{common_steps}
+use Rattle.rtgs_lists.proofs.Lists.{map_push, all_push}
 
 pub record IsAt {A R : Type 0} (shown : A → R) (P : A → Type 0) (found : List A) (i : ℕ) (item : R) : Type 0 where
   pub it : A
@@ -36,22 +37,6 @@ mapped_at f (y ∷ xs) (suc i) x low is = mapped_at f xs i x (omega arith) is
 pub map_length : {A B : Type 0} (f : A → B) (xs : List A) → length (map f xs) ≡ length xs
 map_length f [] = refl
 map_length f (x ∷ xs) = ap suc (map_length f xs)
-
-map_push : {A B : Type 0} (f : A → B) (xs : List A) (x : A) → map f (xs ++ x ∷ []) ≡ map f xs ++ f x ∷ []
-map_push f [] x = refl
-map_push f (y ∷ xs) x = ap (λ l. f y ∷ l) (map_push f xs x)
-
-all_push : {A : Type 0} (P : A → Type 0) (xs : List A) (x : A) → AllByRecursion P xs → P x
-    → AllByRecursion P (xs ++ x ∷ [])
-all_push P [] x all is = (is, tt)
-all_push P (y ∷ xs) x all is = (all.0, all_push P xs x all.1 is)
-
--- what holds of all rows holds of the one at a place
-pub all_at : {A : Type 0} (P : A → Type 0) (xs : List A) (i : ℕ) (x : A) → i < length xs → x ≡ get_or xs i x
-    → AllByRecursion P xs → P x
-all_at P [] i x low is all = absurd (omega arith)
-all_at P (y ∷ xs) zero x low is all = subst P (sym is) all.0
-all_at P (y ∷ xs) (suc i) x low is all = all_at P xs i x (omega arith) is all.1
 
 -- the records of the first rows
 pub record SoFar {A R : Type 0} (fits : A → Type 0) (read : R → R) (shown : A → R) (rows : List R) (at room : ℕ)

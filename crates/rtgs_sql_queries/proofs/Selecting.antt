@@ -26,6 +26,7 @@ use Rattle.rtgs_sql_queries.specs.Records.{AreRead}
 use Rattle.rtgs_sql_queries.specs.TableQueries.{IsTableQuery, ShowsOwn, whole_table}
 use Rattle.rtgs_sql_queries.proofs.AsRead.{posting_same, order_same, mark_same}
 use Rattle.rtgs_sql_queries.proofs.Showing.{numbered, shown_are}
+use Rattle.rtgs_lists.proofs.Lists.{all_unmap}
 
 -- ---- what they are to the engine
 
@@ -79,14 +80,9 @@ marks_own = own_numbered mark_records mark_row (λ m. m.number) (λ c. c.marks)
 
 -- ---- the participants, in the order of their codes
 
-all_from_map : {A B : Type 0} (P : B → Type 0) (f : A → B) (xs : List A) → AllByRecursion P (map f xs)
-    → AllByRecursion (λ x. P (f x)) xs
-all_from_map P f [] all = tt
-all_from_map P f (x ∷ xs) all = (all.0, all_from_map P f xs all.1)
-
 pub accounts_fit : (content : Content) (accounts : List Account) (book : Book) → AreRead content accounts book
     → AllByRecursion (λ (a : Account). FitsParticipant a.participant) accounts
-accounts_fit content accounts book are = all_from_map FitsParticipant (λ (a : Account). a.participant) accounts
+accounts_fit content accounts book are = all_unmap FitsParticipant (λ (a : Account). a.participant) accounts
     (subst (AllByRecursion FitsParticipant) are.participants are.fits.participants)
 
 abbrev out : Account → Output

@@ -34,13 +34,15 @@ use Rattle.rtgs_sql_columns.specs.OneTable.{simple, passes, shows, OneTableAnswe
 use Rattle.rtgs_sql_writes.proofs.Replacing.{Replaces, replaces}
 use Rattle.rtgs_sql_writes.proofs.StateLemmas.{with_rows, framed, stands_on}
 use Rattle.rtgs_sql_writes.proofs.Writing.{Means, inserted, updated}
-use Rattle.rtgs_sql_writes.proofs.Passing.{none_moved, truth_of, same_text, filter_map}
+use Rattle.rtgs_sql_writes.proofs.Passing.{truth_of, same_text}
 use Rattle.rtgs_book.specs.declared.Participant.{Participant}
 use Rattle.rtgs_book.specs.declared.RowChange.TheVariants.{AddParticipant, SetCredit, SetBalance}
 use Rattle.rtgs_rows.specs.Rows.{participant_row}
 use Rattle.rtgs_rows.specs.Content.{rows_in, Holding, Content, holding_row, IsUnderWay, IsInOrder, with_change}
 use Rattle.rtgs_rows.specs.Content.{with_credit_in, with_balance_in, newcomer}
 use Rattle.rtgs_rows.specs.Tables.{desk_schema, participant_table as table}
+use Rattle.rtgs_lists.proofs.Results.{none_moved}
+use Rattle.rtgs_lists.proofs.Filters.{filter_of}
 
 abbrev pub participant_text : List ℕ
 participant_text = codes "INSERT INTO participant (code, name, key, credit, balance) VALUES (?1, ?2, ?3, ?4, 0)"
@@ -161,7 +163,7 @@ module _ (code : List ℕ) (balance : ℤ) where
       ap (rows_in table) stands.holds.rows in
       let passed : filter (passes tests balance_given) (old.now.trees table.tree)
       ≡ map holding_row (filter (has code) all) = rw here
-      (filter_map holding_row _ (has code) (passes_one code (Int balance)) all) in
+      (filter_of holding_row _ (has code) (passes_one code (Int balance)) all) in
       let found = replaces holding_row (λ h. h.id) (λ _. refl) (has code) (balance_set balance) (λ _. refl) all
       order.ids (differ code all order.codes) in
       let rows : new.now.trees table.tree ≡ map holding_row (map (with_balance_in code balance) all) =
@@ -222,7 +224,7 @@ module _ (code : List ℕ) (credit : ℕ) where
       ap (rows_in table) stands.holds.rows in
       let passed : filter (passes tests credit_given) (old.now.trees table.tree)
       ≡ map holding_row (filter (has code) all) = rw here
-      (filter_map holding_row _ (has code) (passes_one code (Int (pos credit))) all) in
+      (filter_of holding_row _ (has code) (passes_one code (Int (pos credit))) all) in
       let found = replaces holding_row (λ h. h.id) (λ _. refl) (has code) (credit_set credit) (λ _. refl) all order.ids
       (differ code all order.codes) in
       let rows : new.now.trees table.tree ≡ map holding_row (map (with_credit_in code credit) all) =

@@ -36,7 +36,7 @@ use Rattle.rtgs_sql_writes.proofs.Replacing.{Replaces, replaces}
 use Rattle.rtgs_sql_writes.proofs.StateLemmas.{with_rows, framed, stands_on}
 use Rattle.rtgs_sql_writes.proofs.Adding.{adds}
 use Rattle.rtgs_sql_writes.proofs.Writing.{Means, updated}
-use Rattle.rtgs_sql_writes.proofs.Passing.{none_moved, truth_of, same_number, filter_map}
+use Rattle.rtgs_sql_writes.proofs.Passing.{truth_of, same_number}
 use Rattle.rtgs_book.specs.declared.Order.{Order}
 use Rattle.rtgs_book.specs.declared.OrderState.{OrderState}
 use Rattle.rtgs_book.specs.declared.RowChange.TheVariants.{AddOrder, SetState}
@@ -46,6 +46,8 @@ use Rattle.rtgs_money.specs.Date.{date_text}
 use Rattle.rtgs_rows.specs.Rows.{mark_value, state_number, payment_row}
 use Rattle.rtgs_rows.specs.Content.{rows_in, Content, IsUnderWay, IsInOrder, with_change}
 use Rattle.rtgs_rows.specs.Tables.{desk_schema, payment_table as table}
+use Rattle.rtgs_lists.proofs.Results.{none_moved}
+use Rattle.rtgs_lists.proofs.Filters.{filter_of}
 
 abbrev pub order_text : List ℕ
 order_text = codes "INSERT INTO payment (number, sender, reference, receiver, amount, date, state, mark) "
@@ -182,7 +184,7 @@ module _ (number : ℕ) (state : OrderState) where
       let here : old.now.trees table.tree ≡ map payment_row all = ap (rows_in table) stands.holds.rows in
       let passed : filter (passes tests state_params) (old.now.trees table.tree)
       ≡ map payment_row (filter (has_number number) all) =
-      rw here (filter_map payment_row _ (has_number number) (passes_one number (Int (pos (state_number state)))
+      rw here (filter_of payment_row _ (has_number number) (passes_one number (Int (pos (state_number state)))
       (mark_value state)) all) in
       let found = replaces payment_row (λ o. pos o.number) (λ _. refl) (has_number number) (set_to state) (λ _. refl)
       all order.orders (differ number all order.orders) in

@@ -1,11 +1,11 @@
 -- What the sums of all participants come to, and which records they leave out.
 use Rattle.std.proofs.Common.{◌≡◌, ℕ, ℤ, pos, ◌+ℤ◌, ◌-ℤ◌, Bool, true, false, cond, ◌||◌, ◌&&◌, List, [], ◌∷◌, filter}
-use Rattle.std.proofs.Common.{nat_cmp, Less, IsTrue, refl, sym, ap, ◌∙◌, subst, true≢false, arith}
+use Rattle.std.proofs.Common.{nat_cmp, IsTrue, refl, sym, ap, ◌∙◌, arith}
 use Rattle.std.proofs.lemmas.Int.{ints}
 use Rattle.std.specs.List.{AllByRecursion, list_any}
 use Rattle.std.specs.List.Sorted.{IsStrictlySortedBy}
 use Rattle.std.specs.Str.{bytes_eq}
-use Rattle.std.specs.Cmp.Lexicographic.{slice_cmp, bytes_decides}
+use Rattle.std.specs.Cmp.Lexicographic.{slice_cmp}
 use Rattle.rtgs_book.specs.declared.book.Book.{Book}
 use Rattle.rtgs_book.specs.declared.order.Order.{Order}
 use Rattle.rtgs_book.specs.declared.posting.Posting.{Posting}
@@ -20,30 +20,13 @@ use Rattle.rtgs_statements.specs.Records.{postings_on_statement, orders_on_state
 use Rattle.rtgs_statements.specs.Sums.{cents_of, amount_of, party_code, posted, sent, received, settled_for, sums_of}
 use Rattle.rtgs_statements.specs.Sums.{net}
 use Rattle.rtgs_statements.proofs.Terms.{sum-cons}
-use Rattle.rtgs_lists.proofs.Sums.{at_code, int_sum_by-both, int_sum_by-same, sum_later}
+use Rattle.rtgs_lists.proofs.Sums.{int_sum_by-both, int_sum_by-same, int_sum_by-less, sum_at_code}
 
 -- ---- a sum over all codes
 
 nothing : {X : Type 0} (xs : List X) → int_sum_by (λ x. pos 0) xs ≡ pos 0
 nothing [] = refl
 nothing (x ∷ xs) = let h = nothing xs in omega (arith, ints)
-
--- over codes that rise, the term comes once
-once : (code : List ℕ) (by : ℤ) (codes : List (List ℕ)) → IsStrictlySortedBy (slice_cmp nat_cmp) codes
-    → list_any (bytes_eq code) codes ≡ true → int_sum_by (at_code code by) codes ≡ by
-unfolding IsStrictlySortedBy
-once code by [] rise has = absurd (true≢false (sym has))
-once code by (c ∷ codes) rise has = at (bytes_eq code c) refl has (once code by codes rise.1)
-  where
-    at : (b : Bool) → bytes_eq code c ≡ b → (b || list_any (bytes_eq code) codes) ≡ true
-        → (list_any (bytes_eq code) codes ≡ true → int_sum_by (at_code code by) codes ≡ by)
-        → cond b by (pos 0) +ℤ int_sum_by (at_code code by) codes ≡ by
-    at true e h rest =
-        let same : code ≡ c = (bytes_decides code c).0 e in
-        let none = sum_later code by codes (subst (λ x. AllByRecursion (λ later. slice_cmp nat_cmp x later ≡ Less)
-        codes) (sym same) rise.0) in
-        omega (arith, ints)
-    at false e h rest = let r = rest h in omega (arith, ints)
 
 module _ {X : Type 0} (f : X → ℤ) (p : X → Bool) (code_in : X → List ℕ) (codes : List (List ℕ))
     (rise : IsStrictlySortedBy (slice_cmp nat_cmp) codes) where
@@ -52,7 +35,7 @@ module _ {X : Type 0} (f : X → ℤ) (p : X → Bool) (code_in : X → List ℕ
 
   one_term : (b : Bool) (x : X) → list_any (bytes_eq (code_in x)) codes ≡ true
       → int_sum_by (λ code. cond (b && bytes_eq (code_in x) code) (f x) (pos 0)) codes ≡ cond b (f x) (pos 0)
-  one_term true x has = once (code_in x) (f x) codes rise has
+  one_term true x has = sum_at_code (code_in x) (f x) codes rise has
   one_term false x has = nothing codes
 
   -- what is summed under each code is together what is summed
@@ -123,10 +106,6 @@ posted_of_all book date rise known =
     (postings_on date book.postings) (all_left _ _ (is_posted_on date) (λ posting h. h) book.postings known.1)
     ∙ ap (int_sum_by cents_of) (kept (postings_on date book.postings))
 
-less : {X : Type 0} (f g : X → ℤ) (xs : List X) → int_sum_by (λ x. f x -ℤ g x) xs ≡ int_sum_by f xs -ℤ int_sum_by g xs
-less f g [] = refl
-less f g (x ∷ xs) = let h = less f g xs in omega (arith, ints)
-
 pub net_as_posted : (book : Book) (date : ℕ) → CodesRise book → PartiesAreKnown book
     → int_sum_by (λ code. net (sums_of code (postings_on date book.postings) (orders_on date book.orders)))
     (accounts book) ≡ int_sum_by cents_of (postings_on date book.postings)
@@ -134,7 +113,7 @@ net_as_posted book date rise known =
     let one = int_sum_by-both (λ code. posted code (postings_on date book.postings) -ℤ sent code (orders_on date
     book.orders))
     (λ code. received code (orders_on date book.orders)) (accounts book) in
-    let two = less (λ code. posted code (postings_on date book.postings))
+    let two = int_sum_by-less (λ code. posted code (postings_on date book.postings))
     (λ code. sent code (orders_on date book.orders)) (accounts book) in
     let same = sent_as_received book date rise known in
     let all = posted_of_all book date rise known in

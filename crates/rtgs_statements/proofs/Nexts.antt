@@ -1,10 +1,11 @@
 -- What is left of a list of records above a number, as records are read one after another.
-use Rattle.std.proofs.Common.{◌≡◌, ℕ, ◌+◌, ◌<◌, ◌≤◌, Bool, true, false, cond, ◌&&◌, List, [], ◌∷◌, map, filter, length}
+use Rattle.std.proofs.Common.{◌≡◌, ℕ, ◌+◌, ◌<◌, ◌≤◌, Bool, true, false, ◌&&◌, List, [], ◌∷◌, map, filter, length}
 use Rattle.std.proofs.Common.{Some, None, refl, sym, ap, subst, ◌∙◌, arith, inl, inr}
 use Rattle.std.specs.Prelude.{nat_lt}
 use Rattle.std.specs.List.{AllByRecursion, find, range_with_len}
 use Rattle.std.proofs.lemmas.Bool.{cases_Bool, and_parts, ltb-true, lt-ltb}
 use Rattle.rtgs_cores.specs.Nexts.{AreListed}
+use Rattle.rtgs_lists.proofs.Filters.{filter_agrees}
 
 not_less : (a b : ℕ) → b ≤ a → nat_lt a b ≡ false
 not_less a b most = elim (cases_Bool (nat_lt a b)) [
@@ -21,23 +22,6 @@ and_true true = refl
 and_true false = refl
 
 -- tests that agree on all elements leave the same of them
-pub same_left : {A : Type 0} (p q : A → Bool) (xs : List A) → AllByRecursion (λ x. p x ≡ q x) xs
-    → filter p xs ≡ filter q xs
-same_left p q [] all = refl
-same_left p q (x ∷ xs) all = λ i. cond (all.0 i) (x ∷ same_left p q xs all.1 i) (same_left p q xs all.1 i)
-
--- a test after another
-pub filter_twice : {A : Type 0} (p q : A → Bool) (xs : List A) → filter q (filter p xs)
-    ≡ filter (λ x. p x && q x) xs
-filter_twice p q [] = refl
-filter_twice p q (x ∷ xs) = by (p x) (filter_twice p q xs)
-  where
-    by : (b : Bool) → filter q (filter p xs) ≡ filter (λ x. p x && q x) xs
-        → filter q (cond b (x ∷ filter p xs) (filter p xs))
-        ≡ cond (b && q x) (x ∷ filter (λ x. p x && q x) xs) (filter (λ x. p x && q x) xs)
-    by true e = λ i. cond (q x) (x ∷ e i) (e i)
-    by false e = e
-
 found_in : {A : Type 0} (P : A → Type 0) (hit : A → Bool) (a : A) (xs : List A) → AllByRecursion P xs
     → find hit xs ≡ Some a → P a
 found_in P hit a [] all is = absurd cc
@@ -70,7 +54,7 @@ module _ {A : Type 0} (number date : A → ℕ) (on : A → Bool) where
         let less = ltb-true n (number x) (and_parts (on x) _ here).1 in
         let out : above (number x) x ≡ false =
         ap (λ b. on x && b) (not_less (number x) (number x) (omega arith)) ∙ and_false (on x) in
-        let rest = same_left (above n) (above (number x)) xs (agree_above n (number x) xs less listed.1) in
+        let rest = filter_agrees (above n) (above (number x)) xs (agree_above n (number x) xs less listed.1) in
         subst (λ z. filter (above n) (x ∷ xs) ≡ z ∷ filter (above (number z)) (x ∷ xs)) same
         (rw (here, out) (ap (λ ys. x ∷ ys) rest))
     | inr other ↦
@@ -111,4 +95,4 @@ module _ {A : Type 0} (number date : A → ℕ) (on : A → Bool) where
 
   -- above nothing all are left, since numbers begin with 1
   pub all_left : (xs : List A) → map number xs ≡ range_with_len 1 (length xs) → filter (above 0) xs ≡ filter on xs
-  all_left xs is = same_left (above 0) on xs (positive 1 xs is (omega arith))
+  all_left xs is = filter_agrees (above 0) on xs (positive 1 xs is (omega arith))

@@ -22,7 +22,8 @@ use Rattle.rtgs_statements.specs.declared.party.Party.{Party}
 use Rattle.rtgs_statements.specs.Sums.{cents_of, amount_of, party_code, posted, settled_for}
 use Rattle.rtgs_statements.specs.Texts.{text_of}
 use Rattle.rtgs_statements.proofs.Terms.{sum-cons}
-use Rattle.rtgs_statements.proofs.Nexts.{next_splits, next_ends, next_above, all_left, filter_twice}
+use Rattle.rtgs_statements.proofs.Nexts.{next_splits, next_ends, next_above, all_left}
+use Rattle.rtgs_lists.proofs.Filters.{filter_twice}
 
 numbers_from_one : {A : Type 0} (number : A → ℕ) (xs : List A) → AreNumbered (map number xs)
     → map number xs ≡ range_with_len 1 (length xs)

@@ -1,8 +1,8 @@
 use Rattle.std.proofs.Common.{inl, inr}
 use Rattle.std.proofs.lemmas.Result.{IfOk-weaker, IfErr-weaker}
-use Rattle.rtgs_desk_readings.proofs.Shown.{refused_and}
 use Rattle.rtgs_desk_readings.proofs.ForReading.{denied_for, gathered, shown_for}
 use Rattle.rtgs_desk_readings.proofs.texts.show.Goals as goal
+use Rattle.rtgs_lists.proofs.Results.{err_and}
 
 pub returns-in-Statement-clause-printed : goal.returns-in-Statement-clause-printed
 returns-in-Statement-clause-printed g c = shown_for _ _ c.in-Statement.is c.show_statement.result.0 _ _
@@ -19,4 +19,4 @@ returns-in_default-clause-printed g c = IfOk-weaker c.show_text.result.0 _ _
 pub returns-in_default-clause-refused : goal.returns-in_default-clause-refused
 returns-in_default-clause-refused g c = IfErr-weaker c.show_text.result.0 _ _
     (λ why it. inl (inr (gathered c.args.reading c.in_default.not-Statement, it.0), it.1))
-    (refused_and c.show_text.result.0 _ _ c.show_text.ensures.refused c.show_text.ensures.unchanged)
+    (err_and c.show_text.result.0 _ _ c.show_text.ensures.refused c.show_text.ensures.unchanged)

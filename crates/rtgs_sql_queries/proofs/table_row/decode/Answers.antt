@@ -1,8 +1,9 @@
 use Rattle.std.proofs.Common.{◌≡◌, ◌∙◌, Some, None, Option, arith, rules, length, map, take, sym, ap, subst}
 use Rattle.std.proofs.Math.Seq.{take-length}
 use Rattle.rtgs_sql_columns.specs.Numbers.{as_read, IsFormed}
-use Rattle.rtgs_sql_queries.proofs.Decoding.{begun, one_more, all_at, map_length}
+use Rattle.rtgs_sql_queries.proofs.Decoding.{begun, one_more, map_length}
 use Rattle.rtgs_sql_queries.proofs.table_row.decode.Goals as goal
+use Rattle.rtgs_lists.proofs.Lists.{all_get}
 
 pub loop-row-init : goal.loop-row-init
 loop-row-init g c =
@@ -18,7 +19,7 @@ loop-row-preserved g c =
 
 pub returns-in-None-clause-wrong : goal.returns-in-None-clause-wrong
 returns-in-None-clause-wrong g c e formed =
-    let at = all_at (IsFormed g.T.TableRow.records) c.args.rows.now
+    let at = all_get (IsFormed g.T.TableRow.records) c.args.rows.now
     c.loop-row.row-index c.row-item.result c.loop-row-test.true c.row-item.is formed in
     let clash : ◌≡◌ {A = Option g.row.T.Denot} None (Some at.0) = c.in-None.ensures.found at.0 at.1 at.2 in
     absurd cc

@@ -2,8 +2,9 @@ use Rattle.std.proofs.Common.{◌≤ℤ◌, true≢false, refl, sym, ◌∙◌}
 use Rattle.rtgs_money.specs.Amounts.{IsCredit}
 use Rattle.rtgs_book.specs.declared.participant.Participant.{Participant}
 use Rattle.rtgs_book.specs.Balance.{floor_at}
-use Rattle.rtgs_soundness.proofs.Totals.{all_more, all_get, all_of_take, codes_have, total_of}
+use Rattle.rtgs_soundness.proofs.Totals.{all_more, all_of_take, codes_have, total_of}
 use Rattle.rtgs_soundness.proofs.rules.balances.are_covered.Goals as goal
+use Rattle.rtgs_lists.proofs.Lists.{all_get}
 
 pub loop-participant-preserved : goal.loop-participant-preserved
 loop-participant-preserved c = record {

@@ -2,8 +2,9 @@ use Rattle.std.proofs.Common.{true≢false, sym, ◌∙◌, subst}
 use Rattle.rtgs_book.specs.declared.mark.Mark.{Mark}
 use Rattle.rtgs_soundness.specs.Tallies.{IsCounted, tally_of_mark}
 use Rattle.rtgs_soundness.proofs.Marks.{tally_here}
-use Rattle.rtgs_soundness.proofs.Totals.{all_more, all_get}
+use Rattle.rtgs_soundness.proofs.Totals.{all_more}
 use Rattle.rtgs_soundness.proofs.rules.marks.are_counted.Goals as goal
+use Rattle.rtgs_lists.proofs.Lists.{all_get}
 
 pub loop-place-preserved : goal.loop-place-preserved
 loop-place-preserved c = λ orders are.

@@ -1,8 +1,9 @@
 use Rattle.std.proofs.Common.{true≢false, refl, sym, ◌∙◌}
 use Rattle.rtgs_book.specs.declared.order.Order.{Order}
 use Rattle.rtgs_book.specs.Soundness.{HasMark}
-use Rattle.rtgs_soundness.proofs.Totals.{all_more, all_get, all_of_take}
+use Rattle.rtgs_soundness.proofs.Totals.{all_more, all_of_take}
 use Rattle.rtgs_soundness.proofs.rules.marks.have_marks.Goals as goal
+use Rattle.rtgs_lists.proofs.Lists.{all_get}
 
 pub loop-order-preserved : goal.loop-order-preserved
 loop-order-preserved c = all_more (λ (o : Order). HasMark c.args.marks.now o.date o.state) c.args.orders.now
