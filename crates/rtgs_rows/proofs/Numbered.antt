@@ -116,13 +116,13 @@ places_begin table is =
     ∙ ap (λ k. cond (is_key k 0) 0 1 ∷ map (place_of table) (range_with_len 1 (length is.2))) is.0
 
 -- the rows of the table are whole, and each value has its column's type
-abbrev pub AreRowsOf : Trees → Table → Type 0
-AreRowsOf trees table = AreNumberedRows (width table) (trees table.tree)
+abbrev pub AreWholeAndTyped : Trees → Table → Type 0
+AreWholeAndTyped trees table = AreNumberedRows (width table) (trees table.tree)
     × AllByRecursion (λ r. passes Datatype desk_schema trees table r ≡ true) (trees table.tree)
 
 -- where the table shows records, its rows are theirs
 pub rows_are : {A : Type 0} {table : Table} {row shown : A → Row} {number : A → ℕ} → IsTold table row shown number
-    → (trees : Trees) (all : List A) → AreRowsOf trees table → Rise (λ a. pos (number a)) all
+    → (trees : Trees) (all : List A) → AreWholeAndTyped trees table → Rise (λ a. pos (number a)) all
     → ShowsTable table trees (map shown all) → trees table.tree ≡ map row all
 rows_are {table = table} {row = row} {shown = shown} {number = number} is trees all are rise same =
     let begin = places_begin table is.numbered in

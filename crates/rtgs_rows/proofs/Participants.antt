@@ -37,14 +37,14 @@ account_in row = record {
   balance = int_in (column row 4);
 }
 
-abbrev shown_of : Row → Row
-shown_of = picked (places participant_table)
+abbrev shown_columns_of : Row → Row
+shown_columns_of = picked (places participant_table)
 
 abbrev pub holding_in : Row → Holding
 holding_in row = record {
   id = int_in (column row 0);
-  participant = (account_in (shown_of row)).participant;
-  balance = (account_in (shown_of row)).balance;
+  participant = (account_in (shown_columns_of row)).participant;
+  balance = (account_in (shown_columns_of row)).balance;
 }
 
 account_back : (a : Account) → account_in (shown_account a) ≡ a
@@ -58,12 +58,12 @@ is_whole_number (Text t) h = absurd cc
 is_whole_number (Blob b) h = absurd cc
 
 participant_is : (row : Row) → IsTrue (is_int (rowid row)) → length row ≡ width participant_table + 1
-    → shown_account (account_in (shown_of row)) ≡ shown_of row → row ≡ holding_row (holding_in row)
+    → shown_account (account_in (shown_columns_of row)) ≡ shown_columns_of row → row ≡ holding_row (holding_in row)
 participant_is row int is e = let id = is_whole_number (column row 0) int in let all = by_width row _ is in cc
 
 holdings_are : (rows : List Row)
     → AllByRecursion (λ row. IsTrue (is_int (rowid row)) × (length row ≡ width participant_table + 1)) rows
-    → AllByRecursion (λ row. shown_account (account_in (shown_of row)) ≡ shown_of row) rows
+    → AllByRecursion (λ row. shown_account (account_in (shown_columns_of row)) ≡ shown_columns_of row) rows
     → rows ≡ map holding_row (map holding_in rows)
 holdings_are [] whole shown = refl
 holdings_are (row ∷ rows) whole shown = ap₂ ◌∷◌ (participant_is row whole.0.0 whole.0.1 shown.0)
@@ -78,9 +78,9 @@ pub record Stores (rows : List Row) (accounts : List Account) : Type 0 where
 
 pub stored_participants : (rows : List Row) (accounts : List Account)
     → AreNumberedRows (width participant_table) rows
-    → IsPermutation (map shown_of rows) (map shown_account accounts) → Stores rows accounts
+    → IsPermutation (map shown_columns_of rows) (map shown_account accounts) → Stores rows accounts
 stored_participants rows accounts numbered same =
-    let shown = all_unmap (λ row. shown_account (account_in row) ≡ row) shown_of rows
+    let shown = all_unmap (λ row. shown_account (account_in row) ≡ row) shown_columns_of rows
     (all-permutation (λ row. shown_account (account_in row) ≡ row) _ _ (IsPermutation-sym _ _ same)
     (all-map (λ row. shown_account (account_in row) ≡ row) shown_account (λ a. refl) accounts)) in
     let hs = map holding_in rows in
@@ -91,7 +91,7 @@ stored_participants rows accounts numbered same =
     record {
       holdings = hs;
       rows_are = are;
-      same = subst₂ IsPermutation (map-map account_in shown_of rows
+      same = subst₂ IsPermutation (map-map account_in shown_columns_of rows
           ∙ sym (map-map stored_account holding_in rows))
           (map_back shown_account account_in account_back accounts) (IsPermutation-map account_in _ _ same);
       ids = ascending_weaker (λ (a b : Holding). value_cmp (Int a.id) (Int b.id) ≡ Less)

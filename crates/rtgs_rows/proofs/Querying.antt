@@ -2,6 +2,7 @@
 use Rattle.std.proofs.Common.{◌≡◌, true, List, [], ◌∷◌, IsPermutation, refl, sym, ap, subst₂}
 use Rattle.std.specs.List.{AllByRecursion}
 use Rattle.std.proofs.lemmas.List.Sorted.{IsPermutation-map, IsPermutation-sym}
+use Rattle.sqlite.specs.Table.{Table}
 use Rattle.sqlite.specs.Tree.{Trees}
 use Rattle.sqlite_trees.proofs.ListLemmas.{all-permutation}
 use Rattle.sqlite_schema.specs.Rules.{passes}
@@ -14,6 +15,7 @@ use Rattle.rtgs_book.specs.Balance.{balance}
 use Rattle.rtgs_book.specs.Soundness.{IsSound as IsSoundBook}
 use Rattle.rtgs_rows.specs.Tables.{desk_schema, desk_tables, desk_table, participant_table, posting_table}
 use Rattle.rtgs_rows.specs.Tables.{payment_table, mark_table, width}
+use Rattle.rtgs_rows.specs.TableRecords.{TableRecords, records_of_tables}
 use Rattle.rtgs_rows.specs.Rows.{day_row, posting_row, payment_row, mark_row, shown_day, shown_posting, shown_order}
 use Rattle.rtgs_rows.specs.Rows.{shown_mark}
 use Rattle.rtgs_rows.specs.Content.{tables_of, tables_for, rows_in, Holding, holding_row, stored_account}
@@ -22,7 +24,7 @@ use Rattle.rtgs_rows.specs.Fitting.{HasFormedValues}
 use Rattle.rtgs_rows.specs.Keeping.{SameLists, IsBookOf, AreBalances, content_of}
 use Rattle.rtgs_rows.specs.Querying.{AreNumberedRows, AreWhole, ShowsEach, ShowsBook}
 use Rattle.rtgs_rows.proofs.Ordered.{order_of}
-use Rattle.rtgs_rows.proofs.Numbered.{IsTold, AreRowsOf, rows_are, are_numbered, numbered_rows}
+use Rattle.rtgs_rows.proofs.Numbered.{IsTold, AreWholeAndTyped, rows_are, are_numbered, numbered_rows}
 use Rattle.rtgs_rows.proofs.Participants.{Stores, stored_participants}
 
 -- ---- the tables of numbered records
@@ -38,6 +40,16 @@ order_told = record { numbered = (refl, _, _, refl); stands = λ o. (refl, refl,
 
 mark_told : IsTold mark_table mark_row shown_mark (λ m. m.number)
 mark_told = record { numbered = (refl, _, _, refl); stands = λ m. (refl, refl, refl); told = λ r m all null e. cc }
+
+-- ---- the tables whose records are described
+
+abbrev tables_of_records : List ((A : Type 0) × TableRecords A) → List Table
+tables_of_records [] = []
+tables_of_records (records ∷ more) = records.1.table ∷ tables_of_records more
+
+-- they are the tables of a desk, in their order
+in_the_order_of_the_tables : tables_of_records records_of_tables ≡ desk_tables
+in_the_order_of_the_tables = refl
 
 -- ---- the tables of a book are whole
 
@@ -59,28 +71,28 @@ book_is_whole content trees book holds of =
 -- ---- tables that show a book hold it
 
 -- the rows of each table are whole and typed
-abbrev AreGood : Trees → Type 0
-AreGood trees = AllByRecursion (AreRowsOf trees) desk_tables
+abbrev AreAllWholeAndTyped : Trees → Type 0
+AreAllWholeAndTyped trees = AllByRecursion (AreWholeAndTyped trees) desk_tables
 
-good : (trees : Trees) → IsSound desk_schema trees → AreWhole trees → AreGood trees
+all_whole_and_typed : (trees : Trees) → IsSound desk_schema trees → AreWhole trees → AreAllWholeAndTyped trees
 unfolding desk_schema
-good trees sound full = all_both (λ t. AreNumberedRows (width t) (trees t.tree))
-    (λ t. AllByRecursion (λ r. passes Datatype desk_schema trees t r ≡ true) (trees t.tree)) (AreRowsOf trees)
+all_whole_and_typed trees sound full = all_both (λ t. AreNumberedRows (width t) (trees t.tree))
+    (λ t. AllByRecursion (λ r. passes Datatype desk_schema trees t r ≡ true) (trees t.tree)) (AreWholeAndTyped trees)
     (λ t whole typed. (whole, typed)) desk_tables full (sound.obeys.rules Datatype)
 
 -- the records of a book have its lists
 pub same_lists : (book : Book) (holdings : List Holding) → SameLists book (content_of book holdings)
 same_lists book holdings = record { day = refl; postings = refl; orders = refl; marks = refl }
 
-participants_of : (trees : Trees) (book : Book) (accounts : List Account) → AreGood trees
+shown_participants : (trees : Trees) (book : Book) (accounts : List Account) → AreAllWholeAndTyped trees
     → ShowsEach trees accounts book → Stores (trees participant_table.tree) accounts
-participants_of trees book accounts (day, (named, others)) (shows_day, (shows_named, more)) =
+shown_participants trees book accounts (day, (named, others)) (shows_day, (shows_named, more)) =
     stored_participants (trees participant_table.tree) accounts named.0 shows_named
 
-tables_are : (trees : Trees) (book : Book) (accounts : List Account) (people : Stores (trees participant_table.tree)
-    accounts) → AreGood trees → ShowsEach trees accounts book → IsInOrder (content_of book people.holdings)
+shown_tables_are : (trees : Trees) (book : Book) (accounts : List Account)
+    (people : Stores (trees participant_table.tree) accounts) → AreAllWholeAndTyped trees → ShowsEach trees accounts book → IsInOrder (content_of book people.holdings)
     → tables_of trees ≡ tables_for (content_of book people.holdings)
-tables_are trees book accounts people (day, (named, (postings, (orders, (marks, others)))))
+shown_tables_are trees book accounts people (day, (named, (postings, (orders, (marks, others)))))
     (shows_day, (shows_named, (shows_postings, (shows_orders, (shows_marks, more))))) order =
     let desk = rows_are day_told trees (book.day ∷ []) day (tt, tt) shows_day in
     let posted = rows_are posting_told trees book.postings postings order.postings shows_postings in
@@ -92,8 +104,8 @@ pub held : (trees : Trees) (book : Book) (accounts : List Account) → IsSound d
     → IsSoundBook book → HasFormedValues book → ShowsBook trees accounts book → AreBalances book accounts
     → (content : Content) × Holds content trees × IsBookOf book content
 held trees book accounts sound full is fits shown stored =
-    let all = good trees sound full in
-    let people = participants_of trees book accounts all shown.shows in
+    let all = all_whole_and_typed trees sound full in
+    let people = shown_participants trees book accounts all shown.shows in
     let content = content_of book people.holdings in
     let of : IsBookOf book content = record {
       records = record {
@@ -107,5 +119,5 @@ held trees book accounts sound full is fits shown stored =
       sound = is;
       fits = fits;
     } in
-    let rows = tables_are trees book accounts people all shown.shows (book_in_order book content of) in
+    let rows = shown_tables_are trees book accounts people all shown.shows (book_in_order book content of) in
     (content, record { sound = sound; rows = rows }, of)

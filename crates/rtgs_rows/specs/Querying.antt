@@ -12,7 +12,7 @@ use Rattle.sqlite_trees.specs.View.{is_int}
 use Rattle.rtgs_book.specs.declared.Book.{Book}
 use Rattle.rtgs_book.specs.declared.account.Account.{Account}
 use Rattle.rtgs_rows.specs.Tables.{desk_schema, desk_tables, width, places}
-use Rattle.rtgs_rows.specs.TableRecords.{Each, all_records}
+use Rattle.rtgs_rows.specs.TableRecords.{Each, records_of_tables}
 
 -- outside a transaction, with the tables of a desk, and these trees committed
 pub record IsDeskFile (trees : Trees) (s : State) : Type 0 where
@@ -50,7 +50,7 @@ ShowsTable table trees = IsPermutation (as_shown table trees)
 -- so with the records that a book has of each table
 abbrev pub ShowsEach : Trees → List Account → Book → Type 0
 ShowsEach trees accounts book = Each (λ A records. ShowsTable records.table trees
-    (map records.shown (records.of_book accounts book))) all_records
+    (map records.shown (records.of_book accounts book))) records_of_tables
 
 -- what the queries show are the records of the book, and these accounts with their stored balances
 pub record ShowsBook (trees : Trees) (accounts : List Account) (book : Book) : Type 0 where

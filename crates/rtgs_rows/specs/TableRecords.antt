@@ -1,5 +1,5 @@
 -- The records of each table: how a row shows one, and which of them a book has.
-use Rattle.std.specs.Prelude.{Bool, true, false, List, [], ◌∷◌, ⊤}
+use Rattle.std.specs.Prelude.{◌⊎◌, Bool, true, false, List, [], ◌∷◌, ⊤}
 use Rattle.sqlite.specs.Order.{Row}
 use Rattle.sqlite.specs.Table.{Table}
 use Rattle.rtgs_book.specs.declared.account.Account.{Account}
@@ -70,15 +70,20 @@ mark_records = record {
 }
 
 -- those of the tables that have a row for each record of a list
-abbrev pub listed_records : List ((A : Type 0) × TableRecords A)
-listed_records = (Account, account_records) ∷ (Posting, posting_records) ∷ (Order, order_records) ∷ (Mark, mark_records)
-    ∷ []
+abbrev pub records_besides_day : List ((A : Type 0) × TableRecords A)
+records_besides_day = (Account, account_records) ∷ (Posting, posting_records) ∷ (Order, order_records)
+    ∷ (Mark, mark_records) ∷ []
 
 -- those of all tables, in the order of the tables
-abbrev pub all_records : List ((A : Type 0) × TableRecords A)
-all_records = (Day, day_records) ∷ listed_records
+abbrev pub records_of_tables : List ((A : Type 0) × TableRecords A)
+records_of_tables = (Day, day_records) ∷ records_besides_day
 
--- so it is with each of these
+-- so it is with each of these records
 abbrev pub Each : ((A : Type 0) → TableRecords A → Type 0) → List ((A : Type 0) × TableRecords A) → Type 0
 Each Fact [] = ⊤
 Each Fact (one ∷ more) = Fact one.0 one.1 × Each Fact more
+
+-- and so with one of these
+abbrev pub OneOf : ((A : Type 0) → TableRecords A → Type 0) → List ((A : Type 0) × TableRecords A) → Type 0
+OneOf Fact [] = ⊥
+OneOf Fact (one ∷ more) = Fact one.0 one.1 ⊎ OneOf Fact more

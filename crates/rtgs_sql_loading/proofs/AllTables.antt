@@ -10,7 +10,8 @@ use Rattle.rtgs_book.specs.declared.Day.{Day}
 use Rattle.rtgs_book.specs.declared.account.Account.{Account}
 use Rattle.rtgs_rows.specs.Fitting.{FitsParticipant, HasFormedValues}
 use Rattle.rtgs_rows.specs.Rows.{shown_day, shown_account}
-use Rattle.rtgs_rows.specs.TableRecords.{TableRecords, Each, all_records, posting_records, order_records, mark_records}
+use Rattle.rtgs_rows.specs.TableRecords.{TableRecords, Each, records_of_tables, posting_records, order_records}
+use Rattle.rtgs_rows.specs.TableRecords.{mark_records}
 use Rattle.rtgs_sql_columns.specs.Numbers.{IsNumberedPosting, IsNumberedOrder, IsNumberedMark, IsNumberedBook}
 use Rattle.rtgs_sql_queries.specs.Records.{HasRecords}
 use Rattle.rtgs_sql_loading.specs.Accounts.{Telling, TellsOf, AreTheRecords}
@@ -41,7 +42,7 @@ both {P = P} {Q = Q} {R = R} {accounts = accounts} {book = book} one other on = 
   fits = one.fits;
   named = one.named;
   tells = each_both {P = TellsOf P accounts book} {Q = TellsOf Q accounts book} {R = TellsOf R accounts book}
-      (λ A records. on records.table records.counted _) all_records one.tells other.tells;
+      (λ A records. on records.table records.counted _) records_of_tables one.tells other.tells;
 }
 
 weaker : {P Q : Telling} {accounts : List Account} {book : Book} → AreTheRecords P accounts book
@@ -69,7 +70,7 @@ renamed {records = records} {s = s} same = subst (ReadsRecords records s) (sym s
 
 -- the records of a book are read of each table
 abbrev pub ReadsEach : State → List Account → Book → Type 0
-ReadsEach s accounts book = Each (λ A records. ReadsRecords records s (records.of_book accounts book)) all_records
+ReadsEach s accounts book = Each (λ A records. ReadsRecords records s (records.of_book accounts book)) records_of_tables
 
 -- they are in their forms
 all_fit : (s : State) (accounts : List Account) (book : Book)
@@ -112,7 +113,7 @@ tells s accounts book named reads =
       fits = all_fit s accounts book named reads;
       named = named;
       tells = each {P = λ A records. ReadsRecords records s (records.of_book accounts book)}
-          {Q = TellsOf (IsToldBy s) accounts book} (λ A records read. read.told) all_records reads;
+          {Q = TellsOf (IsToldBy s) accounts book} (λ A records read. read.told) records_of_tables reads;
     } in
     record {
       records = are_the_tables s accounts book named reads;

@@ -18,7 +18,7 @@ use Rattle.rtgs_rows.specs.Fitting.{HasFormedValues, FitsDate}
 use Rattle.rtgs_rows.specs.Keeping.{AreBalances}
 use Rattle.rtgs_rows.specs.Rows.{shown_day}
 use Rattle.rtgs_rows.specs.Querying.{as_shown, ShowsBook}
-use Rattle.rtgs_rows.specs.TableRecords.{TableRecords, Each, listed_records, all_records}
+use Rattle.rtgs_rows.specs.TableRecords.{TableRecords, Each, records_besides_day, records_of_tables}
 use Rattle.rtgs_rows.specs.Tables.{desk_table}
 use Rattle.rtgs_sql_columns.specs.Numbers.{as_read, IsFormed}
 use Rattle.rtgs_book.specs.declared.account.Account.{Account}
@@ -43,7 +43,7 @@ TellsOf Tells accounts book A records =
 pub record AreTheRecords (Tells : Telling) (accounts : List Account) (book : Book) : Type 0 where
   pub fits : HasFormedValues book
   pub named : book.participants ≡ map (λ (a : Account). a.participant) accounts
-  pub tells : Each (TellsOf Tells accounts book) all_records
+  pub tells : Each (TellsOf Tells accounts book) records_of_tables
 
 -- What is read of trees, sound or not: each row of the tables is told by one record. A number below zero is read as 0,
 -- which breaks the same rule of a sound book.
@@ -61,7 +61,7 @@ InForm records = AllByRecursion (IsFormed records)
 -- Each row of the tables is in the form of a record, and the first table has one row.
 abbrev pub AreFormed : Trees → Type 0
 AreFormed trees = IsOneDay (as_shown desk_table trees)
-    × Each (λ A records. InForm records (as_shown records.table trees)) listed_records
+    × Each (λ A records. InForm records (as_shown records.table trees)) records_besides_day
 
 -- ---- why no book is given
 

@@ -1,5 +1,5 @@
 -- What the queries of the tables show of a database, and why they show nothing, whatever its schema is.
-use Rattle.std.specs.Prelude.{◌≡◌, ◌⊎◌, ℕ, Bool, List, [], ◌∷◌, map, ⊤}
+use Rattle.std.specs.Prelude.{◌≡◌, ◌⊎◌, ℕ, Bool, List, map, ⊤}
 use Rattle.sqlite.specs.Order.{Row}
 use Rattle.sqlite.specs.Effect.{Database}
 use Rattle.rtgs_book.specs.declared.Book.{Book}
@@ -7,7 +7,7 @@ use Rattle.rtgs_book.specs.declared.account.Account.{Account}
 use Rattle.rtgs_book.specs.declared.Fault.{Fault}
 use Rattle.rtgs_book.specs.declared.Fault.TheVariants.{OutOfMemory, StoreFault, NotADeskFile, Inconsistent}
 use Rattle.rtgs_rows.specs.Keeping.{AreBalances}
-use Rattle.rtgs_rows.specs.TableRecords.{TableRecords, listed_records}
+use Rattle.rtgs_rows.specs.TableRecords.{OneOf, records_besides_day}
 use Rattle.rtgs_rows.specs.Tables.{desk_table}
 use Rattle.rtgs_sql_columns.specs.Numbers.{as_read}
 use Rattle.rtgs_sql_columns.specs.Tables.{query_text}
@@ -37,15 +37,10 @@ abbrev pub IsUnread : Database → List ℕ → (List Row → Type 0) → Type 0
 IsUnread db text AreFormed = HasNoAnswer db text
     ⊎ ((rows : List Row) × Displays db text rows × ¬ AreFormed rows)
 
--- so it is with one of these
-abbrev OneOf : ((A : Type 0) → TableRecords A → Type 0) → List ((A : Type 0) × TableRecords A) → Type 0
-OneOf Fact [] = ⊥
-OneOf Fact (one ∷ more) = Fact one.0 one.1 ⊎ OneOf Fact more
-
 -- One of the queries has no answer, or shows a row that is in the form of no record; or the first shows not one row.
 abbrev pub IsIllegible : Database → Type 0
 IsIllegible db = IsUnread db (query_text desk_table) IsOneDay
-    ⊎ OneOf (λ A records. IsUnread db (query_text records.table) (InForm records)) listed_records
+    ⊎ OneOf (λ A records. IsUnread db (query_text records.table) (InForm records)) records_besides_day
 
 -- Why a database gives no book, whatever its schema is: it cannot be read; or this is the first rule that the records
 -- break which it shows; or else the store failed or memory was refused.

@@ -1,5 +1,5 @@
 //! The records of a table.
-ghost use Rattle.std.specs.Prelude.{◌≡◌, ◌≢◌, ◌⊎◌, false, Ok, Err, [], ◌∷◌, map, IsTrue, IfOk, IfErr, OnOk, ⊤};
+ghost use Rattle.std.specs.Prelude.{◌≡◌, ◌≢◌, ◌⊎◌, false, Ok, Err, [], ◌∷◌, IsTrue, IfOk, IfErr, OnOk, ⊤};
 ghost use Rattle.rtgs_book.specs.declared.Rule.{Rule};
 ghost use Rattle.rtgs_book.specs.declared.Day.{Day as DaySpec};
 ghost use Rattle.rtgs_rows.specs.Fitting.{FitsDate};

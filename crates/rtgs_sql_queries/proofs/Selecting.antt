@@ -15,7 +15,8 @@ use Rattle.sqlite.specs.Listing.{understood, listing_schema}
 use Rattle.sqlite_keyed.proofs.ListLemmas.{ascending-map, ascending_weaker, map-map, map_same}
 use Rattle.rtgs_book.specs.declared.Book.{Book}
 use Rattle.rtgs_book.specs.declared.Day.{Day}
-use Rattle.rtgs_rows.specs.Tables.{desk_schema, desk_tables, desk_table, participant_table, posting_table, payment_table, mark_table}
+use Rattle.rtgs_rows.specs.Tables.{desk_schema, desk_tables, desk_table, participant_table, posting_table}
+use Rattle.rtgs_rows.specs.Tables.{payment_table, mark_table}
 use Rattle.rtgs_rows.specs.Fitting.{FitsParticipant}
 use Rattle.rtgs_rows.specs.Rows.{day_row, posting_row, payment_row, mark_row, shown_account}
 use Rattle.rtgs_rows.specs.TableRecords.{TableRecords, day_records, account_records, posting_records, order_records}

@@ -1,4 +1,4 @@
-//! A law of the records of tables: its contract is the law, and its body does nothing that is used.
+//! A law of the records of a table. Its contract is the law; its body calls `query` for its promise alone.
 ghost use Rattle.rtgs_sql_queries.specs.Laws.{RecordsAreRead};
 
 use crate::table_row::TableRow;

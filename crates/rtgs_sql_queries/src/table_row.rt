@@ -13,7 +13,7 @@ use std::alloc::Global;
 
 /// A record that is read from a row of one table.
 pub trait TableRow: Sized {
-    // How its rows show it, and which of them a book has.
+    // The records of its table: how a row shows one, and which of them a book has.
     ghost records: { TableRecords Self };
 
     /// The text of the query of all rows.
@@ -33,8 +33,8 @@ pub trait TableRow: Sized {
 
 /// The records of the rows, in their order. A row that is in no form is `NotADeskFile`, also where memory is wanting.
 pub fn decode<T: TableRow + Drop>(alloc: Global, rows: &[Row]) -> Result<Vec<T>, Fault>
-    ensures given { (records : List T) → AllByRecursion T.records.fits records
-        → AreReadAs T.records rows.now records → IfOk result (λ v. v.items ≡ records) }
+    ensures given { (all : List T) → AllByRecursion T.records.fits all
+        → AreReadAs T.records rows.now all → IfOk result (λ v. v.items ≡ all) }
     ensures is { IfOk result (λ v. AllByRecursion T.records.fits v.items
         × AreReadAs T.records rows.now v.items) }
     ensures wrong { result ≡ Err Fault.NotADeskFile

@@ -19,12 +19,12 @@ use Rattle.rtgs_sql_writes.specs.Building.{table_at}
 use Rattle.rtgs_rows.specs.Content.{Content, IsUnderWay, tables_of, tables_for}
 use Rattle.rtgs_sql_writes.proofs.Lists.{put_last, before_last}
 use Rattle.rtgs_sql_writes.proofs.StateLemmas.{with_tree, framed, stands_on}
-use Rattle.rtgs_sql_writes.proofs.Writing.{Means, inserted}
+use Rattle.rtgs_sql_writes.proofs.Writing.{IsUnderstoodAs, inserted}
 
 -- the text inserts one row of these terms into the table at that place
 module _ {A : Type 0} (text : List ℕ) (at : ℕ) (low : at < length desk_tables) (terms : List Term) (width : ℕ)
     (row : A → Row) (id : A → ℤ) (is_id : (a : A) → rowid (row a) ≡ Int (id a))
-    (means : Means text (Insert at (Values terms width))) where
+    (means : IsUnderstoodAs text (Insert at (Values terms width))) where
   -- and with these parameters the row of this record
   pub adds : (params : Row) (it : A) → ((trees : Trees) → edited trees (edit_of trees (table_at at) [] Chosen 0
       (value_rows (stamped (table_at at) params) width (length terms / width) terms))

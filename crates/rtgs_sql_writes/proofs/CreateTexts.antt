@@ -10,7 +10,7 @@ use Rattle.rtgs_rows.specs.Tables.{with_tables, desk_schema}
 use Rattle.rtgs_sql_writes.specs.declared.create.TheConstants.{TABLES, FIRST_DAY}
 use Rattle.rtgs_sql_writes.specs.Building.{MakesTable}
 use Rattle.rtgs_sql_writes.proofs.Lists.{EachAt, each_at}
-use Rattle.rtgs_sql_writes.proofs.Writing.{Means}
+use Rattle.rtgs_sql_writes.proofs.Writing.{IsUnderstoodAs}
 
 -- of texts that each make the table at their place, one does so
 pub made_at : (texts : List (Bor (List ℕ))) → EachAt (λ at sql. MakesTable at sql.now) texts → (at : ℕ)
@@ -25,6 +25,6 @@ all_made = assumption refl
 abbrev pub first_terms : List Term
 first_terms = lit (Int (pos 1)) ∷ lit Null ∷ lit (Int (pos 1)) ∷ lit Null ∷ lit (Int (pos 0)) ∷ []
 
-pub first_day_means : Means FIRST_DAY.now (Insert 0 (Values first_terms 5))
+pub first_day_means : IsUnderstoodAs FIRST_DAY.now (Insert 0 (Values first_terms 5))
 unfolding understood everything desk_schema
 first_day_means = record { is = refl; plain = (refl, refl) }

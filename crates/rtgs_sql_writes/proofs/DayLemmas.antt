@@ -25,7 +25,7 @@ use Rattle.sqlite_value.proofs.OrderLemmas.{value_cmp-Int}
 use Rattle.rtgs_sql_writes.proofs.Casts.{cast_null, cast_int, cast_date, bound_date}
 use Rattle.rtgs_sql_columns.specs.OneTable.{simple, passes, shows, OneTableAnswers}
 use Rattle.rtgs_sql_writes.proofs.StateLemmas.{with_rows, framed, stands_on}
-use Rattle.rtgs_sql_writes.proofs.Writing.{Means, updated}
+use Rattle.rtgs_sql_writes.proofs.Writing.{IsUnderstoodAs, updated}
 use Rattle.rtgs_sql_writes.proofs.Passing.{truth_of, same_number}
 use Rattle.rtgs_book.specs.declared.Day.{Day}
 use Rattle.rtgs_book.specs.declared.RowChange.TheVariants.{SetDay}
@@ -42,7 +42,7 @@ tests = op2 (Compare Eq Binary) (col 1 0) (lit (Int (pos 1))) ∷ []
 abbrev project : List Term
 project = col 1 0 ∷ col 1 0 ∷ lit Null ∷ col 1 2 ∷ col 0 0 ∷ col 0 1 ∷ []
 
-set_day_means : Means set_day_text (Update 0
+set_day_means : IsUnderstoodAs set_day_text (Update 0
     (record { lets = []; body = simple table.tree tests project [] }))
 unfolding understood everything desk_schema
 set_day_means = record { is = refl; plain = (refl, refl) }

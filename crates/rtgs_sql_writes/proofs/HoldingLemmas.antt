@@ -33,7 +33,7 @@ use Rattle.rtgs_rows.specs.RowLaws.{NextRowIsAbove}
 use Rattle.rtgs_sql_columns.specs.OneTable.{simple, passes, shows, OneTableAnswers}
 use Rattle.rtgs_sql_writes.proofs.Replacing.{Replaces, replaces}
 use Rattle.rtgs_sql_writes.proofs.StateLemmas.{with_rows, framed, stands_on}
-use Rattle.rtgs_sql_writes.proofs.Writing.{Means, inserted, updated}
+use Rattle.rtgs_sql_writes.proofs.Writing.{IsUnderstoodAs, inserted, updated}
 use Rattle.rtgs_sql_writes.proofs.Passing.{truth_of, same_text}
 use Rattle.rtgs_book.specs.declared.Participant.{Participant}
 use Rattle.rtgs_book.specs.declared.RowChange.TheVariants.{AddParticipant, SetCredit, SetBalance}
@@ -50,7 +50,7 @@ participant_text = codes "INSERT INTO participant (code, name, key, credit, bala
 abbrev terms : List Term
 terms = lit Null ∷ col 0 0 ∷ col 0 1 ∷ col 0 2 ∷ col 0 3 ∷ lit (Int (pos 0)) ∷ []
 
-participant_means : Means participant_text (Insert 1 (Values terms 6))
+participant_means : IsUnderstoodAs participant_text (Insert 1 (Values terms 6))
 unfolding understood everything desk_schema
 participant_means = record { is = refl; plain = (refl, refl) }
 
@@ -122,7 +122,8 @@ balance_text = codes "UPDATE participant SET balance = ?2 WHERE code = ?1"
 abbrev balance_project : List Term
 balance_project = col 1 0 ∷ col 1 0 ∷ col 1 1 ∷ col 1 2 ∷ col 1 3 ∷ col 1 4 ∷ col 0 1 ∷ []
 
-balance_means : Means balance_text (Update 1 (record { lets = []; body = simple table.tree tests balance_project [] }))
+balance_means : IsUnderstoodAs balance_text
+    (Update 1 (record { lets = []; body = simple table.tree tests balance_project [] }))
 unfolding understood everything desk_schema
 balance_means = record { is = refl; plain = (refl, refl) }
 
@@ -183,7 +184,7 @@ credit_text = codes "UPDATE participant SET credit = ?2 WHERE code = ?1"
 abbrev credit_project : List Term
 credit_project = col 1 0 ∷ col 1 0 ∷ col 1 1 ∷ col 1 2 ∷ col 1 3 ∷ col 0 1 ∷ col 1 5 ∷ []
 
-credit_means : Means credit_text (Update 1
+credit_means : IsUnderstoodAs credit_text (Update 1
     (record { lets = []; body = simple table.tree tests credit_project [] }))
 unfolding understood everything desk_schema
 credit_means = record { is = refl; plain = (refl, refl) }

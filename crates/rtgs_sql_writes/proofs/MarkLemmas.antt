@@ -16,7 +16,7 @@ use Rattle.sqlite.specs.State.{State, ExecutesInside}
 use Rattle.sqlite_tied.specs.Compute.{everything}
 use Rattle.rtgs_sql_writes.proofs.Casts.{cast_null, cast_int}
 use Rattle.rtgs_sql_writes.proofs.StateLemmas.{with_rows}
-use Rattle.rtgs_sql_writes.proofs.Writing.{Means}
+use Rattle.rtgs_sql_writes.proofs.Writing.{IsUnderstoodAs}
 use Rattle.rtgs_sql_writes.proofs.Adding.{adds}
 use Rattle.rtgs_book.specs.declared.Mark.{Mark}
 use Rattle.rtgs_book.specs.declared.RowChange.TheVariants.{AddMark}
@@ -31,7 +31,7 @@ mark_text = codes "INSERT INTO mark (number, date, many, value) VALUES (?1, ?2, 
 abbrev terms : List Term
 terms = col 0 0 ∷ lit Null ∷ col 0 1 ∷ col 0 2 ∷ col 0 3 ∷ []
 
-mark_means : Means mark_text (Insert 4 (Values terms 5))
+mark_means : IsUnderstoodAs mark_text (Insert 4 (Values terms 5))
 unfolding understood everything desk_schema
 mark_means = record { is = refl; plain = (refl, refl) }
 

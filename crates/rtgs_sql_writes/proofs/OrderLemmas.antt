@@ -35,7 +35,7 @@ use Rattle.rtgs_sql_columns.specs.OneTable.{simple, passes, shows, OneTableAnswe
 use Rattle.rtgs_sql_writes.proofs.Replacing.{Replaces, replaces}
 use Rattle.rtgs_sql_writes.proofs.StateLemmas.{with_rows, framed, stands_on}
 use Rattle.rtgs_sql_writes.proofs.Adding.{adds}
-use Rattle.rtgs_sql_writes.proofs.Writing.{Means, updated}
+use Rattle.rtgs_sql_writes.proofs.Writing.{IsUnderstoodAs, updated}
 use Rattle.rtgs_sql_writes.proofs.Passing.{truth_of, same_number}
 use Rattle.rtgs_book.specs.declared.Order.{Order}
 use Rattle.rtgs_book.specs.declared.OrderState.{OrderState}
@@ -56,7 +56,7 @@ order_text = codes "INSERT INTO payment (number, sender, reference, receiver, am
 abbrev terms : List Term
 terms = col 0 0 ∷ lit Null ∷ col 0 1 ∷ col 0 2 ∷ col 0 3 ∷ col 0 4 ∷ col 0 7 ∷ col 0 5 ∷ col 0 6 ∷ []
 
-order_means : Means order_text (Insert 3 (Values terms 9))
+order_means : IsUnderstoodAs order_text (Insert 3 (Values terms 9))
 unfolding understood everything desk_schema
 order_means = record { is = refl; plain = (refl, refl) }
 
@@ -103,7 +103,8 @@ tests = op2 (Compare Eq Binary) (col 1 0) (col 0 0) ∷ []
 abbrev project : List Term
 project = col 1 0 ∷ col 1 0 ∷ lit Null ∷ col 1 2 ∷ col 1 3 ∷ col 1 4 ∷ col 1 5 ∷ col 1 6 ∷ col 0 1 ∷ col 0 2 ∷ []
 
-set_state_means : Means set_state_text (Update 3 (record { lets = []; body = simple table.tree tests project [] }))
+set_state_means : IsUnderstoodAs set_state_text
+    (Update 3 (record { lets = []; body = simple table.tree tests project [] }))
 unfolding understood everything desk_schema
 set_state_means = record { is = refl; plain = (refl, refl) }
 

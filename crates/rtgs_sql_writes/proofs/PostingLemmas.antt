@@ -22,7 +22,7 @@ use Rattle.rtgs_rows.specs.Rows.{date_value, posting_row}
 use Rattle.rtgs_rows.specs.Content.{rows_in, Content, IsUnderWay, IsInOrder, with_change}
 use Rattle.rtgs_sql_writes.proofs.Casts.{cast_null, cast_int, cast_date, bound_date}
 use Rattle.rtgs_sql_writes.proofs.StateLemmas.{with_rows}
-use Rattle.rtgs_sql_writes.proofs.Writing.{Means}
+use Rattle.rtgs_sql_writes.proofs.Writing.{IsUnderstoodAs}
 use Rattle.rtgs_sql_writes.proofs.Adding.{adds}
 
 abbrev pub posting_text : List ℕ
@@ -31,7 +31,7 @@ posting_text = codes "INSERT INTO posting (number, code, reference, cents, date)
 abbrev terms : List Term
 terms = col 0 0 ∷ lit Null ∷ col 0 1 ∷ col 0 2 ∷ col 0 3 ∷ col 0 4 ∷ []
 
-posting_means : Means posting_text (Insert 2 (Values terms 6))
+posting_means : IsUnderstoodAs posting_text (Insert 2 (Values terms 6))
 unfolding understood everything desk_schema
 posting_means = record { is = refl; plain = (refl, refl) }
 

@@ -36,7 +36,7 @@ pub record Edits (table : Table) (edit : Trees → Edit) (old new : State) : Typ
   pub sound : IsDatabase new.now
 
 -- the text is this command on the tables
-pub record Means (text : List ℕ) (command : Command) : Type 0 where
+pub record IsUnderstoodAs (text : List ℕ) (command : Command) : Type 0 where
   pub is : command_of (understood desk_schema text) ≡ command
   pub plain : IsPlain (understood desk_schema text)
 
@@ -52,7 +52,7 @@ module _ (text : List ℕ) (at : ℕ) (low : at < length desk_tables) (old new :
   is_plain = each_at (IsPlainTable (desk_over old.now.trees) (mode_of old)) desk_tables
       (all_plain old.now.trees (mode_of old)) at desk_table low
 
-  pub inserted : (terms : List Term) (width : ℕ) → Means text (Insert at (Values terms width))
+  pub inserted : (terms : List Term) (width : ℕ) → IsUnderstoodAs text (Insert at (Values terms width))
       → Edits (table_at at) (λ trees. edit_of trees (table_at at) [] Chosen 0
       (value_rows (stamped (table_at at) params) width (length terms / width) terms)) old new
   inserted terms width it =
@@ -66,7 +66,7 @@ module _ (text : List ℕ) (at : ℕ) (low : at < length desk_tables) (old new :
 
   -- what the query of the update gives, and what is done with it
   pub updated : OneTableAnswers → (tree : ℕ) (tests project : List Term)
-      → Means text (Update at (record { lets = []; body = simple tree tests project [] }))
+      → IsUnderstoodAs text (Update at (record { lets = []; body = simple tree tests project [] }))
       → (rows : List Row) × IsPermutation (map (shows project params)
       (filter (passes tests params) (overlay old.now.trees [] tree))) rows
       × Edits (table_at at) (λ trees. edit_of trees (table_at at) (ids_of rows) Given 1 rows) old new

@@ -26,7 +26,7 @@ pub record IsBuilt (was : Database) (schema : Schema) (s : State) : Type 0 where
 abbrev pub table_at : ℕ → Table
 table_at at = get_or desk_tables at desk_table
 
--- as a text defines it: in no tree yet
+-- as a text defines it, before it is given a tree
 abbrev pub unplaced : ℕ → Table
 unplaced at = record (table_at at) { tree = 0 }
 

@@ -27,7 +27,8 @@ leaves_new g old new s clean blank none trees left = elim (s.crash clean trees l
 
 -- and so the new book, if any
 pub only_new : RowsTellTheBook → NoTablesHoldNoBook → {S : Type 0} (g : Ghosts S) (h : Held S)
-    → IsBookOf new_book first_content → ((trees : Trees) → (state g h).may_leave trees → IsNoneOrNew trees) → (other : Book) → MayLeave g h other
+    → IsBookOf new_book first_content
+    → ((trees : Trees) → (state g h).may_leave trees → IsNoneOrNew trees) → (other : Book) → MayLeave g h other
     → other ≡ new_book
 only_new tells holds_none g h is all other left = elim (all left.0 left.1) [
   | inl none ↦ absurd (holds_none left.0 left.2.0 none left.2.1)

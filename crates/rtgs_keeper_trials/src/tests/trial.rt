@@ -63,7 +63,7 @@ pub enum Part {
     Begin,
     /// So many of the commands are given.
     Give(usize),
-    /// So many of the commands are given, of which so many come again, and it is looked at what is found then.
+    /// So many of the commands are given, of which so many come again, and then what is found is looked at.
     Look { known: usize, most: usize },
 }
 

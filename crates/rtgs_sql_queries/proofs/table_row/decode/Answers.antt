@@ -13,7 +13,8 @@ loop-row-init g c =
 pub loop-row-preserved : goal.loop-row-preserved
 loop-row-preserved g c =
     let t = g.T.TableRow.records in
-    one_more t.fits (as_read t.counted) t.shown c.args.rows.now c.loop-row.row-index _ _ c.loop-row.invariant c.row-item.result c.in-Some.record c.loop-row-test.true c.row-item.is
+    one_more t.fits (as_read t.counted) t.shown c.args.rows.now c.loop-row.row-index _ _ c.loop-row.invariant
+    c.row-item.result c.in-Some.record c.loop-row-test.true c.row-item.is
     c.in-Some.ensures.is.0 c.in-Some.ensures.is.1 c.in-Some.ensures.found _ _ c.push_reserved.ensures.items
     c.push_reserved.ensures.capacity
 
