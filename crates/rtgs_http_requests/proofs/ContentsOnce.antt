@@ -60,7 +60,7 @@ same_three {A} {B} {C} one other p q r =
     let third : C → A × B × C = λ c. (other.0, other.1, c) in
     ap first p ∙ ap second q ∙ ap third r
 
-same_two : {A B : Type 0} (one other : A × B) → one.0 ≡ other.0 → one.1 ≡ other.1 → one ≡ other
+pub same_two : {A B : Type 0} (one other : A × B) → one.0 ≡ other.0 → one.1 ≡ other.1 → one ≡ other
 same_two {A} {B} one other p q =
     let first : A → A × B = λ a. (a, one.1) in
     let second : B → A × B = λ b. (other.0, b) in

@@ -19,18 +19,13 @@ use Rattle.rtgs_http_requests.proofs.Agreement.{Agree, IsDetermined, Tells, told
 use Rattle.rtgs_http_requests.proofs.Lower.{LowerLaws}
 use Rattle.rtgs_http_requests.proofs.MeaningOnce.{meant_once}
 use Rattle.rtgs_http_requests.proofs.Stages.{after_size, after_caller, after_route, after_head, after_region}
-
-same_pair : {A B : Type 0} (one other : A × B) → one.0 ≡ other.0 → one.1 ≡ other.1 → one ≡ other
-same_pair {A} {B} one other p q =
-    let first : A → A × B = λ a. (a, one.1) in
-    let second : B → A × B = λ b. (other.0, b) in
-    ap first p ∙ ap second q
+use Rattle.rtgs_http_requests.proofs.ContentsOnce.{same_two}
 
 region_once : LowerLaws → (input : List ℕ) → IsDetermined (HasRegion input)
 region_once laws input (Ok one) (Ok other) x y =
     let region : one.0 ≡ other.0 = laws.regions input one.0 other.0 one.1 other.1 x y in
     let behind : one.0 ++ one.1 ≡ one.0 ++ other.1 = sym x.0 ∙ y.0 ∙ ap (λ r. r ++ other.1) (sym region) in
-    inr (inr (ap (λ p. Ok p) (same_pair one other region (append_cancel_left one.0 one.1 other.1 behind))))
+    inr (inr (ap (λ p. Ok p) (same_two one other region (append_cancel_left one.0 one.1 other.1 behind))))
 region_once laws input (Ok one) (Err fault.HeadTooLong) x y = absurd (laws.not_long input one.0 one.1 x y)
 region_once laws input (Ok one) (Err fault.Truncated) x y = absurd (laws.not_open input one.0 one.1 x y)
 region_once laws input (Err fault.HeadTooLong) (Ok other) x y = absurd (laws.not_long input other.0 other.1 y x)
@@ -58,7 +53,7 @@ tells_head region (Err _) x = absurd x
 head_once : LowerLaws → (region : List ℕ) → IsDetermined (HasHead region)
 head_once laws region one other x y =
     told_once (IsHeadOf region) fault.BadHead
-    (λ a b p q. same_pair a b (laws.heads region a.0 b.0 a.1 b.1 p q) (laws.lengths region a.0 b.0 a.1 b.1 p q))
+    (λ a b p q. same_two a b (laws.heads region a.0 b.0 a.1 b.1 p q) (laws.lengths region a.0 b.0 a.1 b.1 p q))
     one other (tells_head region one x) (tells_head region other y)
 
 abbrev IsRouteOf : RequestHead → Route × List ℕ → Type 0

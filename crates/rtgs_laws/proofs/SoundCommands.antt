@@ -1,10 +1,10 @@
 -- Each command keeps a book sound.
 use Rattle.std.proofs.Common.{◌≡◌, ℕ, ◌<◌, ◌+◌, pos, ◌+ℤ◌, ◌-ℤ◌, ◌≤ℤ◌, nat_le, Bool, true, false, cond, not, ◌&&◌}
-use Rattle.std.proofs.Common.{List, [], ◌∷◌, ◌++◌, map, filter, length, is_some, refl, sym, ◌∙◌, subst, true≢false}
+use Rattle.std.proofs.Common.{List, [], ◌∷◌, ◌++◌, filter, length, is_some, refl, sym, ◌∙◌, subst, true≢false}
 use Rattle.std.proofs.Common.{arith}
 use Rattle.std.proofs.lemmas.Int.{ints}
 use Rattle.std.proofs.lemmas.List.Elements.{filter-append}
-use Rattle.std.specs.List.{AllByRecursion, range_with_len}
+use Rattle.std.specs.List.{AllByRecursion}
 use Rattle.std.specs.Str.{bytes_eq}
 use Rattle.std.specs.Cmp.Lexicographic.{bytes_decides}
 use Rattle.rtgs_book.specs.declared.limits.TheConstants.{LONGEST_QUEUE, LARGEST_NUMBER}
@@ -28,7 +28,7 @@ use Rattle.rtgs_laws.proofs.SoundSettle.{sound_settle}
 use Rattle.rtgs_lists.proofs.Bools.{and_left, and_right, from_not}
 use Rattle.rtgs_lists.proofs.Filters.{filter_nothing}
 use Rattle.rtgs_lists.proofs.Lists.{all_of, all_push, all_weaker}
-use Rattle.rtgs_lists.proofs.Numbers.{eq_self, le_from_test, other_number}
+use Rattle.rtgs_lists.proofs.Numbers.{eq_self, le_from_test, other_number, below_next}
 
 -- ---- Resolve
 
@@ -54,20 +54,6 @@ sound_resolve laws book choice h feasible = sound_first_of book _ _ h
     (λ passed. either (is_empty (chosen book choice)) _ _ h (sound_settle_chosen laws book choice h passed.0 feasible))
 
 -- ---- Order
-
-number_below : (first : ℕ) (os : List Order) → map (λ (o : Order). o.number) os
-    ≡ range_with_len first (length (map (λ (o : Order). o.number) os))
-    → AllByRecursion (λ (o : Order). o.number < first + length os) os
-number_below first [] e = tt
-number_below first (o ∷ os) e =
-    let head : o.number ≡ first = cc in
-    let rest : map (λ (o : Order). o.number) os ≡ range_with_len (first + 1)
-    (length (map (λ (o : Order). o.number) os)) = cc in (
-      omega arith,
-      all_weaker (λ (k : Order). k.number < first + 1 + length os)
-          (λ (k : Order). k.number < first + length (o ∷ os)) (λ k less. omega arith) os
-          (number_below (first + 1) os rest),
-    )
 
 no_orders : {X : Type 0} (xs : List X) → is_empty xs ≡ true → length xs < LONGEST_QUEUE
 no_orders [] e = omega arith
@@ -106,7 +92,7 @@ module _ (book : Book) (sender reference receiver : List ℕ) (amount : ℕ) (h 
   pub old_numbers : AllByRecursion (λ o. has_number (length book.orders + 1) o ≡ false) book.orders
   old_numbers = all_weaker (λ (o : Order). o.number < 1 + length book.orders)
       (λ o. has_number (length book.orders + 1) o ≡ false) (λ o less. other_number o.number (length book.orders) less)
-      book.orders (number_below 1 book.orders h.orders_numbered.0)
+      book.orders (below_next (λ (o : Order). o.number) 1 book.orders h.orders_numbered.0)
 
   batch_is : filter (has_number (length book.orders + 1)) (book.orders
       ++ new_order book sender reference receiver amount ∷ []) ≡ new_order book sender reference receiver amount ∷ []

@@ -3,7 +3,7 @@ use Rattle.std.proofs.Common.{◌≡◌, ℕ, ◌≤◌, ◌<◌, ◌+◌, ◌==
 use Rattle.std.proofs.Common.{filter, length, refl, sym, ap, ◌∙◌, true≢false, arith}
 use Rattle.std.proofs.lemmas.Bool.Decides.{nat_tests}
 use Rattle.std.proofs.lemmas.List.{length-map, map-append}
-use Rattle.std.specs.List.{AllByRecursion, range_with_len}
+use Rattle.std.specs.List.{AllByRecursion}
 use Rattle.std.specs.Str.{bytes_eq}
 use Rattle.rtgs_money.specs.Date.{is_weekend}
 use Rattle.rtgs_book.specs.declared.limits.TheConstants.{LONGEST_QUEUE}
@@ -28,21 +28,7 @@ use Rattle.rtgs_laws.proofs.SoundStates.{name}
 use Rattle.rtgs_laws.proofs.States.{restated_same, all_filter_restated, length-filter_restated, queued_not_under}
 use Rattle.rtgs_lists.proofs.Filters.{filter_changed}
 use Rattle.rtgs_lists.proofs.Lists.{all_both, all_map, all_push, all_weaker, map_same}
-
--- numbers that count up from 1 are at most as many
-below_next : (first : ℕ) (ms : List Mark) → map (λ (m : Mark). m.number) ms
-    ≡ range_with_len first (length (map (λ (m : Mark). m.number) ms))
-    → AllByRecursion (λ (m : Mark). m.number < first + length ms) ms
-below_next first [] e = tt
-below_next first (m ∷ ms) e =
-    let head : m.number ≡ first = cc in
-    let rest : map (λ (m : Mark). m.number) ms ≡ range_with_len (first + 1) (length (map (λ (m : Mark). m.number) ms)) =
-    cc in (
-      omega arith,
-      all_weaker (λ (k : Mark). k.number < first + 1 + length ms)
-          (λ (k : Mark). k.number < first + length (m ∷ ms)) (λ k less. omega arith) ms
-          (below_next (first + 1) ms rest),
-    )
+use Rattle.rtgs_lists.proofs.Numbers.{below_next}
 
 kept : {Y : Type 0} (g : Order → Y) → ((o : Order) (s : OrderState) → g (record o { state = s }) ≡ g o)
     → (is_in : Order → Bool) (s : OrderState) (os : List Order) → map g (map (restated is_in s) os) ≡ map g os
@@ -74,7 +60,7 @@ module _ (laws : BookLaws) (book : Book) (is_in : Order → Bool) (queued : AreQ
     (not_closed : is_closed book.day.phase ≡ false) where
   below : AllByRecursion (λ (m : Mark). m.number < next_mark book) book.marks
   below = all_weaker (λ (m : Mark). m.number < 1 + length book.marks) (λ (m : Mark). m.number < next_mark book)
-      (λ m less. omega arith) book.marks (below_next 1 book.marks h.marks_numbered.0)
+      (λ m less. omega arith) book.marks (below_next (λ (m : Mark). m.number) 1 book.marks h.marks_numbered.0)
 
   -- an old mark has its orders still
   counts_old : (m : Mark) → m.number < next_mark book → CountsItsOrders book m

@@ -20,12 +20,13 @@ use Rattle.rtgs_book.specs.Balance.{balance}
 use Rattle.rtgs_book.specs.Changes.{Leads, balance_set}
 use Rattle.rtgs_book.specs.Lookup.{accounts}
 use Rattle.rtgs_accounts.specs.Accounts.{code_of, is_of, has_key, with_account}
-use Rattle.rtgs_ledger.proofs.Balances.{same_int, all_same, balance_unknown}
+use Rattle.rtgs_ledger.proofs.Balances.{all_same, balance_unknown}
 use Rattle.rtgs_ledger.proofs.Kept.{participant_none, is_unknown, any-participants, length-participants, prepared_done}
 use Rattle.rtgs_cores.specs.Following.{AreBalanced}
 use Rattle.rtgs_ledger.proofs.Whole.{IsKept, IsPrepared, Whole, book_of, held_of}
 use Rattle.rtgs_lists.proofs.Filters.{all_put_in}
 use Rattle.rtgs_lists.proofs.Lists.{all_of}
+use Rattle.rtgs_lists.proofs.Numbers.{int_eq_self}
 
 module _ (book : Book) (code name key : List ℕ) where
   pub repeats : (p : Participant) → lookup.participant_of book code ≡ Some p
@@ -70,7 +71,7 @@ module _ (r : Whole) (kept : IsKept (held_of r)) (code name key : List ℕ)
     book = refl;
     balances = all_of (λ c. balance_set c (AddParticipant p ∷ [])
         ≡ (if int_eq (balance (book_of r) c) (balance (with_participant (book_of r) p) c) then None else Some
-        (balance (with_participant (book_of r) p) c))) (λ c. rw (balance_same c, same_int (balance (book_of r) c)) refl)
+        (balance (with_participant (book_of r) p) c))) (λ c. rw (balance_same c, int_eq_self (balance (book_of r) c)) refl)
         (accounts (with_participant (book_of r) p));
   }
 

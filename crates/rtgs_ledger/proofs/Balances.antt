@@ -1,13 +1,11 @@
 -- How balances move, and the rows that set them.
 use Rattle.std.proofs.Common.{◌≡◌, ℕ, ℤ, pos, ◌+ℤ◌, Bool, true, false, cond, ◌&&◌, if◌then◌else◌, List, [], ◌∷◌, ◌++◌}
-use Rattle.std.proofs.Common.{filter, refl, sym, ap, ◌∙◌, true≢false, rules, arith}
+use Rattle.std.proofs.Common.{filter, refl, sym, ap, ◌∙◌, true≢false, arith}
 use Rattle.std.proofs.lemmas.Int.{ints}
-use Rattle.std.proofs.lemmas.Bool.Decides.{Decides-int_eq}
 use Rattle.std.proofs.lemmas.List.Elements.{filter-append}
 use Rattle.std.specs.List.{list_any, AllByRecursion}
 use Rattle.std.specs.Str.{bytes_eq}
 use Rattle.std.specs.Ordering.{int_eq}
-use Rattle.std.specs.Cmp.{int_eq_equiv}
 use Rattle.std.specs.Cmp.Lexicographic.{bytes_decides}
 use Rattle.rtgs_book.specs.declared.book.Book.{Book}
 use Rattle.rtgs_book.specs.declared.posting.Posting.{Posting}
@@ -24,21 +22,16 @@ use Rattle.rtgs_lists.proofs.Codes.{bytes_eq_comm}
 use Rattle.rtgs_lists.proofs.Lists.{all_weaker}
 use Rattle.rtgs_lists.proofs.Sums.{int_sum_by-append}
 use Rattle.rtgs_lists.proofs.Bools.{first_of_three}
+use Rattle.rtgs_lists.proofs.Numbers.{same_from_int_eq}
 
 -- ---- numbers
-
-pub same_int : (z : ℤ) → int_eq z z ≡ true
-same_int z = int_eq_equiv.refl z
-
-pub int_eq-same : (x y : ℤ) → int_eq x y ≡ true → x ≡ y
-int_eq-same x y e = search (rules, Decides-int_eq)
 
 pub other_int : (x y : ℤ) → (x ≡ y → ⊥) → int_eq x y ≡ false
 other_int x y apart = by (int_eq x y) refl
   where
     by : (b : Bool) → int_eq x y ≡ b → b ≡ false
     by false e = refl
-    by true e = absurd (apart (int_eq-same x y e))
+    by true e = absurd (apart (same_from_int_eq x y e))
 
 -- ---- running balances
 

@@ -19,10 +19,11 @@ use Rattle.rtgs_book.specs.Outcome.{first_of}
 use Rattle.rtgs_book.specs.Step.{Step}
 use Rattle.rtgs_book.specs.declared.account.Account.{Account}
 use Rattle.rtgs_accounts.specs.Accounts.{code_of, is_of, with_limit}
-use Rattle.rtgs_ledger.proofs.Balances.{same_int, all_same}
+use Rattle.rtgs_ledger.proofs.Balances.{all_same}
 use Rattle.rtgs_ledger.proofs.Kept.{prepared_done}
 use Rattle.rtgs_ledger.proofs.Whole.{Held, IsKept, IsPrepared}
 use Rattle.rtgs_lists.proofs.Lists.{all_of}
+use Rattle.rtgs_lists.proofs.Numbers.{int_eq_self}
 
 module _ (book : Book) (code : List ℕ) (credit : ℕ) where
   pub unknown : is_participant book code ≡ false → Step book (command.SetCredit code credit) (Err UnknownParticipant)
@@ -64,7 +65,7 @@ module _ (held : Held) (kept : IsKept held) (code : List ℕ) (credit : ℕ) whe
     balances = all_of (λ c. balance_set c (SetCredit code credit ∷ [])
         ≡ (if int_eq (balance held.content c) (balance (with_credit held.content code credit) c) then None else Some
         (balance (with_credit held.content code credit) c)))
-        (λ c. rw (← balance_same c, same_int (balance held.content c)) refl)
+        (λ c. rw (← balance_same c, int_eq_self (balance held.content c)) refl)
         (accounts (with_credit held.content code credit));
   }
 

@@ -17,10 +17,11 @@ use Rattle.rtgs_book.specs.Commands.{cut_off, with_day, is_date}
 use Rattle.rtgs_book.specs.Lookup.{accounts}
 use Rattle.rtgs_book.specs.Outcome.{first_of}
 use Rattle.rtgs_book.specs.Step.{Step}
-use Rattle.rtgs_ledger.proofs.Balances.{same_int, all_same}
+use Rattle.rtgs_ledger.proofs.Balances.{all_same}
 use Rattle.rtgs_ledger.proofs.Kept.{prepared_done}
 use Rattle.rtgs_ledger.proofs.Whole.{Held, IsKept, IsPrepared}
 use Rattle.rtgs_lists.proofs.Lists.{all_of}
+use Rattle.rtgs_lists.proofs.Numbers.{int_eq_self}
 
 -- a date and the day's date
 pub other_date : (day date : ℕ) → not (day == date) ≡ true → is_date (Some day) date ≡ false
@@ -71,7 +72,7 @@ module _ (held : Held) (kept : IsKept held) (date : ℕ) where
     book = refl;
     balances = all_of (λ c. balance_set c (SetDay day ∷ []) ≡ (if int_eq (balance held.content c)
         (balance (with_day held.content day) c) then None else Some (balance (with_day held.content day) c)))
-        (λ c. rw (← balance_same c, same_int (balance held.content c)) refl) (accounts (with_day held.content day));
+        (λ c. rw (← balance_same c, int_eq_self (balance held.content c)) refl) (accounts (with_day held.content day));
   }
 
   pub prepared_cut_off : (is_cut_off held.content.day.phase && is_date held.content.day.date date) ≡ false

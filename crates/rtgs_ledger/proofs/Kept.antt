@@ -22,7 +22,6 @@ use Rattle.rtgs_book.specs.IntSum.{int_sum_by}
 use Rattle.rtgs_book.specs.Lookup as lookup
 use Rattle.rtgs_book.specs.Lookup.{has_code, accounts, is_participant, credit_of}
 use Rattle.rtgs_book.specs.Step.{Step}
-use Rattle.rtgs_ledger.proofs.Balances.{same_int}
 use Rattle.rtgs_book.specs.declared.account.Account.{Account}
 use Rattle.rtgs_book.specs.declared.limits.TheConstants.{LARGEST_BALANCE}
 use Rattle.rtgs_accounts.specs.Accounts.{code_of, participant_of, balance_of, is_of, has_key}
@@ -30,6 +29,7 @@ use Rattle.rtgs_cores.specs.Following.{AreBalanced}
 use Rattle.rtgs_ledger.proofs.Whole.{Held, IsKept, IsPrepared, Whole, after, book_of, held_of}
 use Rattle.rtgs_lists.proofs.Codes.{bytes_eq_comm}
 use Rattle.rtgs_lists.proofs.Lists.{all_of}
+use Rattle.rtgs_lists.proofs.Numbers.{int_eq_self}
 
 -- ---- the accounts and the participants
 
@@ -124,7 +124,7 @@ sum_of_balances book (x ∷ xs) h = λ i. h.0 i +ℤ sum_of_balances book xs h.1
 -- a change of no row, to the same book
 pub no_balance_set : (book : Book) → SetsBalances book [] book
 no_balance_set book = all_of (λ code. balance_set code [] ≡ (if int_eq (balance book code) (balance book code) then None
-    else Some (balance book code))) (λ code. rw (same_int (balance book code)) refl) (accounts book)
+    else Some (balance book code))) (λ code. rw (int_eq_self (balance book code)) refl) (accounts book)
 
 pub prepared_repeat : (held : Held) (c : Command) (k : Known) → IsKept held
     → Step held.content c (Ok (Repeated k)) held.content → IsPrepared held c (Repeated k) []

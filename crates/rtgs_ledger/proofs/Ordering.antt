@@ -39,14 +39,14 @@ use Rattle.rtgs_book.specs.declared.account.Account.{Account}
 use Rattle.rtgs_book.specs.declared.limits.TheConstants.{LONGEST_QUEUE, LARGEST_NUMBER}
 use Rattle.rtgs_accounts.specs.Accounts.{code_of, is_of, with_balance}
 use Rattle.rtgs_ledger.specs.Ordering.{IsTaken}
-use Rattle.rtgs_ledger.proofs.Balances.{same_int, other_int, moved, all_moved, all_same, balance-with_order}
+use Rattle.rtgs_ledger.proofs.Balances.{other_int, moved, all_moved, all_same, balance-with_order}
 use Rattle.rtgs_ledger.proofs.Kept.{found_balance, found_is, is_known, balance_at, floor_at as floor_is, prepared_done}
 use Rattle.rtgs_cores.specs.declared.Core.{Core}
 use Rattle.rtgs_records.specs.declared.records.Records.{Records}
 use Rattle.rtgs_ledger.proofs.Whole.{Held, IsKept, IsOf, IsPrepared, Whole, book_of, held_of, whole}
 use Rattle.rtgs_lists.proofs.Filters.{filter_nothing}
 use Rattle.rtgs_lists.proofs.Lists.{all_of}
-use Rattle.rtgs_lists.proofs.Numbers.{eq_self}
+use Rattle.rtgs_lists.proofs.Numbers.{eq_self, int_eq_self}
 
 module _ (book : Book) (sender reference receiver : List ℕ) (amount : ℕ) where
   pub unknown : is_participant book sender ≡ false → Step book (command.Order sender reference receiver amount)
@@ -308,7 +308,7 @@ module _ (held : Held) (kept : IsKept held) (o : Order) (taken : IsTaken held.co
         book = refl;
         balances = all_of (λ c. balance_set c (AddOrder o ∷ [])
             ≡ (if int_eq (balance held.content c) (balance (with_order held.content o) c) then None else Some
-            (balance (with_order held.content o) c))) (λ c. rw (← same_balance c, same_int (balance held.content c))
+            (balance (with_order held.content o) c))) (λ c. rw (← same_balance c, int_eq_self (balance held.content c))
             refl) (accounts (with_order held.content o));
       } in
       prepared_done held (command.Order o.sender o.reference o.receiver o.amount)
@@ -390,7 +390,7 @@ module _ (held : Held) (kept : IsKept held) (o : Order) (taken : IsTaken held.co
         by false true e f = rw (differs (balance held.content c) (balance (with_settled held.content o) c)
             (pos 0 -ℤ pos o.amount) (moves_at c false true e f) (λ z. omega (arith, ints)))
             (ap Some (balance_of_sender c e f))
-        by false false e f = rw (← balance_of_other c e f, same_int (balance held.content c)) refl
+        by false false e f = rw (← balance_of_other c e f, int_eq_self (balance held.content c)) refl
 
     pub prepared_settled : settles_at_once held.content o.sender o.amount ≡ true
         → IsPrepared held (command.Order o.sender o.reference o.receiver o.amount)

@@ -24,10 +24,11 @@ use Rattle.rtgs_book.specs.Changes.{Leads, balance_set}
 use Rattle.rtgs_book.specs.declared.account.Account.{Account}
 use Rattle.rtgs_book.specs.declared.limits.TheConstants.{LARGEST_NUMBER, LARGEST_TOTAL}
 use Rattle.rtgs_accounts.specs.Accounts.{is_of, with_balance}
-use Rattle.rtgs_ledger.proofs.Balances.{same_int, other_int, moved, all_moved, all_same, balance-with_posting}
+use Rattle.rtgs_ledger.proofs.Balances.{other_int, moved, all_moved, all_same, balance-with_posting}
 use Rattle.rtgs_ledger.proofs.Kept.{is_known, balance_at, prepared_done}
 use Rattle.rtgs_ledger.proofs.Whole.{IsKept, IsPrepared, Whole, book_of, held_of}
 use Rattle.rtgs_lists.proofs.Lists.{all_of}
+use Rattle.rtgs_lists.proofs.Numbers.{int_eq_self}
 
 -- the posting that is added
 abbrev pub next_posting : Book → List ℕ → List ℕ → ℤ → Posting
@@ -118,7 +119,7 @@ module _ (r : Whole) (kept : IsKept (held_of r)) (code reference : List ℕ) (ce
           (balance (with_posting (book_of r) q) c))
       by true e = rw (balance_new c true e, moved_int (balance (book_of r) c) cents apart)
           (ap Some (balance_of_it c e ∙ balance_new c true e))
-      by false e = rw (balance_of_other c e, same_int (balance (book_of r) c)) refl
+      by false e = rw (balance_of_other c e, int_eq_self (balance (book_of r) c)) refl
 
   is_moved : (c : List ℕ) → moved code b (balance (book_of r)) c ≡ balance (with_posting (book_of r) q) c
   is_moved c = by (bytes_eq code c) refl

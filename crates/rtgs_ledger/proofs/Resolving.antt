@@ -35,11 +35,12 @@ use Rattle.rtgs_choices.specs.Settling.{settling_rows}
 use Rattle.rtgs_book.specs.declared.account.Account.{Account}
 use Rattle.rtgs_accounts.specs.Accounts.{code_of, participant_of, is_of, with_balance}
 use Rattle.rtgs_ledger.specs.Resolving.{AreGreatest, after_orders, moved_rows}
-use Rattle.rtgs_ledger.proofs.Balances.{moved, all_moved, int_eq-same}
+use Rattle.rtgs_ledger.proofs.Balances.{moved, all_moved}
 use Rattle.rtgs_ledger.proofs.Kept.{codes-participants, no_balance_set}
 use Rattle.rtgs_cores.specs.Following.{AreBalanced}
 use Rattle.rtgs_ledger.proofs.Whole.{Held, IsKept, IsPrepared, Whole, after, after_row, held_of}
 use Rattle.rtgs_lists.proofs.Lists.{all_weaker}
+use Rattle.rtgs_lists.proofs.Numbers.{same_from_int_eq}
 
 -- ---- the balances that rows leave
 
@@ -100,7 +101,7 @@ set_is_new : (old new : ℤ) → unwrap_or (if int_eq old new then None else Som
 set_is_new old new = by (int_eq old new) refl
   where
     by : (b : Bool) → int_eq old new ≡ b → unwrap_or (if b then None else Some new) old ≡ new
-    by true e = int_eq-same old new e
+    by true e = same_from_int_eq old new e
     by false e = refl
 
 all_new : (old new : Book) (rows : List RowChange) (xs : List Account)

@@ -21,12 +21,13 @@ use Rattle.rtgs_book.specs.Lookup.{accounts, is_participant, order_named, is_ord
 use Rattle.rtgs_book.specs.Outcome.{first_of}
 use Rattle.rtgs_book.specs.Soundness.{OrdersAreNumbered}
 use Rattle.rtgs_book.specs.Step.{Step}
-use Rattle.rtgs_ledger.proofs.Balances.{same_int, all_same}
+use Rattle.rtgs_ledger.proofs.Balances.{all_same}
 use Rattle.rtgs_ledger.proofs.Kept.{prepared_done}
 use Rattle.rtgs_queues.specs.Laws.{NumbersLeadToOrders}
 use Rattle.rtgs_ledger.proofs.Whole.{Held, IsKept, IsPrepared}
 use Rattle.rtgs_lists.proofs.Lists.{all_of, all_weaker}
 use Rattle.rtgs_lists.proofs.Finds.{all_found}
+use Rattle.rtgs_lists.proofs.Numbers.{int_eq_self}
 
 module _ (book : Book) (sender reference : List ℕ) where
   pub unknown : is_participant book sender ≡ false → Step book (command.Withdraw sender reference)
@@ -109,7 +110,7 @@ module _ (held : Held) (kept : IsKept held) (law : BalanceAfterRestating) (numbe
     book = refl;
     balances = all_of (λ c. balance_set c (SetState o.number Withdrawn ∷ [])
         ≡ (if int_eq (balance held.content c) (balance new c) then None else Some (balance new c)))
-        (λ c. rw (← balance_same c, same_int (balance held.content c)) refl) (accounts new);
+        (λ c. rw (← balance_same c, int_eq_self (balance held.content c)) refl) (accounts new);
   }
 
   pub prepared_withdraw : is_participant held.content sender ≡ true

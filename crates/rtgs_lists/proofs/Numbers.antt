@@ -54,3 +54,16 @@ not_below number first (x ∷ xs) e =
       all_weaker (λ y. first + 1 ≤ number y) (λ y. first ≤ number y) (λ y le. omega arith) xs
           (not_below number (first + 1) xs rest),
     )
+
+-- and each number is below the next
+pub below_next : {X : Type 0} (number : X → ℕ) (first : ℕ) (xs : List X)
+    → map number xs ≡ range_with_len first (length (map number xs))
+    → AllByRecursion (λ x. number x < first + length xs) xs
+below_next number first [] e = tt
+below_next number first (x ∷ xs) e =
+    let head : number x ≡ first = cc in
+    let rest : map number xs ≡ range_with_len (first + 1) (length (map number xs)) = cc in (
+      omega arith,
+      all_weaker (λ y. number y < first + 1 + length xs) (λ y. number y < first + length (x ∷ xs))
+          (λ y less. omega arith) xs (below_next number (first + 1) xs rest),
+    )

@@ -1,5 +1,5 @@
 -- What CREATE TABLE does.
-use Rattle.std.proofs.Common.{◌≡◌, ◌⊎◌, inl, inr, ℕ, ◌+◌, pos, List, [], ◌∷◌, ◌++◌, map, true, false, Option, None, Ok}
+use Rattle.std.proofs.Common.{◌≡◌, ℕ, ◌+◌, pos, List, [], ◌∷◌, ◌++◌, map, true, false, Option, None, Ok}
 use Rattle.std.proofs.Common.{Err, Result, OnOk, refl, sym, ap, subst, ◌∙◌, arith}
 use Rattle.std.specs.List.{AllByRecursion}
 use Rattle.sqlite.specs.Order.{Row}
@@ -32,14 +32,7 @@ use Rattle.rtgs_sql_writes.proofs.StateLemmas.{frame_but, framed, with_rows}
 use Rattle.rtgs_sql_writes.specs.declared.create.TheConstants.{FIRST_DAY}
 use Rattle.rtgs_sql_writes.proofs.CreateTexts.{first_terms, first_day_means}
 use Rattle.rtgs_sql_writes.proofs.Writing.{inserted}
-
--- a part that gave a value did not stop on the way
-went : {B E R : Type 0} {b : B} {Stops : E → Type 0} → ((stop : E) × Stops stop × (Ok b ≡ Err stop)) ⊎ R → R
-went (inl stopped) = absurd (let e = stopped.2 in cc)
-went (inr on) = on
-
-same_value : {B E : Type 0} {a b : B} → ◌≡◌ {A = Result B E} (Ok a) (Ok b) → a ≡ b
-same_value e = cc
+use Rattle.rtgs_sql_writes.proofs.Steps.{went, same_value}
 
 -- what was done on a clean disk began on one
 pub was_clean : (old new : State) → Survives old new (λ _. ⊥) → HasCleanDisk new → HasCleanDisk old
