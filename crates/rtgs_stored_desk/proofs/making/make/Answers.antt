@@ -1,9 +1,16 @@
 use Rattle.std.proofs.Common.{◌∙◌, rules, sym, subst}
 use Rattle.sqlite.specs.Held.{state}
+use Rattle.sqlite.specs.State.{HasCleanDisk}
 use Rattle.rtgs_book.specs.Books.{new_book}
+use Rattle.rtgs_rows.specs.Keeping.{HoldsBook}
 use Rattle.rtgs_stored_desk.specs.Stored.{IsMade, IsMemoryOrStore}
 use Rattle.rtgs_stored_desk.proofs.Resting.{committed_tables, tables_are, none_or_new, making_cause, making_memory}
 use Rattle.rtgs_stored_desk.proofs.making.make.Goals as goal
+
+pub returns-in-Ok-clause-made : goal.returns-in-Ok-clause-made
+returns-in-Ok-clause-made g c clean blank =
+    subst (λ h. HoldsBook g.S.Store h new_book) (sym c.into_connection.ensures)
+    (c.in-Ok.ensures.made (subst (λ h. HasCleanDisk (state g.S.Store h)) c.into_connection.ensures clean) blank)
 
 pub returns-in-Ok-clause-stops : goal.returns-in-Ok-clause-stops
 returns-in-Ok-clause-stops g c =
