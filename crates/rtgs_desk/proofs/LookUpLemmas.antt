@@ -10,6 +10,7 @@ use Rattle.rtgs_book.specs.declared.Refusal.TheVariants.{OutOfMemory, StoreFault
 use Rattle.rtgs_book.specs.declared.Rule.{Rule}
 use Rattle.rtgs_cores.specs.declared.Core.{Core}
 use Rattle.rtgs_cores.specs.Cores.{IsCoreOf}
+use Rattle.rtgs_keeper.specs.Calls.{ReadsOnly}
 use Rattle.rtgs_keeper.specs.declared.keeper.Keeper.{Ghosts}
 use Rattle.rtgs_statements.specs.Reads.{LeavesRead}
 use Rattle.rtgs_desk.specs.Holding.{Holds, IsLeft, KeepsAsBefore}
@@ -25,14 +26,8 @@ pub record KeeperLaws {K : Type 0} (g : Ghosts K) : Type 0 where
 
 -- what a keeper ensures of a look-up with this result
 pub record Looks {K : Type 0} (g : Ghosts K) (X : Type 0) (old new : K) (result : Result X Fault) : Type 0 where
-  pub honest : g.is_honest new → g.is_honest old
-  pub same : g.is_honest new → (book : Book) → g.content old book → result ≢ Err faults.StoreFault → g.content new book
-  pub stops : g.is_honest new → (other : Book) → g.leaves new other → g.leaves old other
-  pub untouched : g.is_honest new → g.leaves_no_more old new
-  pub whole : g.is_honest new → g.is_whole old → g.is_whole new
+  pub reads : ReadsOnly g.content g.leaves g.is_honest g.is_whole g.leaves_no_more g.has_failed old new result
   pub kinds : (result ≢ Err faults.NotADeskFile) × ((rule : Rule) → result ≢ Err (faults.Inconsistent rule))
-  pub fault : result ≡ Err faults.StoreFault → g.has_failed new ≡ true
-  pub only_fault : result ≢ Err faults.StoreFault → g.has_failed new ≡ g.has_failed old
 
 untouched : {K : Type 0} (g : Ghosts K) → KeeperLaws g → (keeper : K) → KeepsAsBefore g keeper keeper
 untouched g laws keeper = record {
@@ -90,22 +85,22 @@ looked : {K : Type 0} (g : Ghosts K) → KeeperLaws g → (X : Type 0) (old new 
     → LooksUp g old new ended
 looked g laws X old new result ended looks core works quiet ends = record {
   core = core;
-  honest = looks.honest;
-  kept = λ honest book held no. holding g new book (looks.only_fault quiet ∙ works)
-      (looks.same honest book (keeps_held g old book held) quiet)
+  honest = looks.reads.honest;
+  kept = λ honest book held no. holding g new book (looks.reads.only_fault quiet ∙ works)
+      (looks.reads.same honest book (keeps_held g old book held) quiet)
       (subst (IsCoreOf book) (sym core) (in_memory g old book held));
   left = λ honest book held. record {
     after_a_crash = λ found left. laws.settled old.keeper book found (keeps_held g old book held)
-        (looks.stops honest found left);
-    whole_after_a_crash = looks.whole honest (laws.whole old.keeper book (keeps_held g old book held));
+        (looks.reads.stops honest found left);
+    whole_after_a_crash = looks.reads.whole honest (laws.whole old.keeper book (keeps_held g old book held));
   };
   keeper = λ honest no. record {
-    kept = λ book kept. looks.same honest book kept quiet;
-    stops = λ book left. looks.stops honest book left;
-    untouched = looks.untouched honest;
+    kept = λ book kept. looks.reads.same honest book kept quiet;
+    stops = λ book left. looks.reads.stops honest book left;
+    untouched = looks.reads.untouched honest;
   };
   fault = λ e. absurd (⊎_elim (λ f. let no : ⊥ = cc in no) (λ f. let no : ⊥ = cc in no) ends);
-  only_fault = λ no. looks.only_fault quiet;
+  only_fault = λ no. looks.reads.only_fault quiet;
   failed = λ e. absurd (cc);
   kinds = λ e. ⊎_elim (λ f. subst (λ o. IfSome o (λ refusal. (refusal ≡ OutOfMemory) ⊎ (refusal ≡ StoreFault))) (sym
       f) tt)
@@ -133,15 +128,15 @@ module _ {K : Type 0} (g : Ghosts K) (laws : KeeperLaws g) {X : Type 0} (keeper 
   failing : result ≡ Err faults.StoreFault → LooksUp g before after (Some StoreFault)
   failing e = record {
     core = refl;
-    honest = looks.honest;
+    honest = looks.reads.honest;
     kept = λ honest book held no. absurd (no refl);
     left = λ honest book held. record {
       after_a_crash = λ found left. laws.settled keeper book found (keeps_held g before book held)
-          (looks.stops honest found left);
-      whole_after_a_crash = looks.whole honest (laws.whole keeper book (keeps_held g before book held));
+          (looks.reads.stops honest found left);
+      whole_after_a_crash = looks.reads.whole honest (laws.whole keeper book (keeps_held g before book held));
     };
     keeper = λ honest no. absurd (no refl);
-    fault = λ f. (sym says ∙ working, looks.fault e);
+    fault = λ f. (sym says ∙ working, looks.reads.fault e);
     only_fault = λ no. absurd (no refl);
     failed = λ f. absurd (true≢false (sym f ∙ sym says ∙ working));
     kinds = λ f. inr refl;

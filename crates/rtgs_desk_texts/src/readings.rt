@@ -4,7 +4,7 @@ ghost use Rattle.std.specs.Prelude.{◌≡◌, ◌≢◌, ◌⊎◌, ◌++◌, �
 ghost use Rattle.rtgs_book.specs.declared.Book.{Book};
 ghost use Rattle.rtgs_book.specs.declared.Refusal.{Refusal};
 ghost use Rattle.rtgs_book.specs.Lookup.{participant_of};
-ghost use Rattle.rtgs_desk.specs.Holding.{Holds};
+ghost use Rattle.rtgs_desk.specs.Holding.{Holds, TellsFaults};
 ghost use Rattle.rtgs_desk.specs.Readings.{Tells, account_told, order_told, queue_told};
 ghost use Rattle.rtgs_http_bodies.specs.Readings.{order_data, queue_data};
 ghost use Rattle.rtgs_desk_texts.specs.Accounts.{account_data};
@@ -33,21 +33,10 @@ pub fn text_of<K: Keeper>(
     ensures told { K.is_honest desk.new.keeper → (book : Book) → Holds K.Keeper desk.old book
         → Tells (λ text. text.items) (text_wanted book reading.now) result
         ⊎ ReadingFails K.Keeper book reading.now desk.new result }
-    ensures failed { K.has_failed desk.old.keeper ≡ true → (result ≡ Err Refusal.Failed) × (desk.new ≡ desk.old) }
-    ensures only_failed { result ≡ Err Refusal.Failed → K.has_failed desk.old.keeper ≡ true }
-    ensures fault { result ≡ Err Refusal.StoreFault
-        → (K.has_failed desk.old.keeper ≡ false) × (K.has_failed desk.new.keeper ≡ true) }
-    ensures only_fault { result ≢ Err Refusal.StoreFault
-        → K.has_failed desk.new.keeper ≡ K.has_failed desk.old.keeper }
+    ensures faults { TellsFaults K.Keeper desk.old desk.new result }
     // A reading does nothing to the book: the desk holds it unless the store failed, and a crash leaves it and no
     // other, whole.
-    ensures kept { K.is_honest desk.new.keeper → (book : Book) → Holds K.Keeper desk.old book
-        → K.has_failed desk.new.keeper ≡ false → Holds K.Keeper desk.new book }
-    ensures after_a_crash { K.is_honest desk.new.keeper → (book found : Book) → Holds K.Keeper desk.old book
-        → K.leaves desk.new.keeper found → found ≡ book }
-    ensures whole_after_a_crash { K.is_honest desk.new.keeper → (book : Book) → Holds K.Keeper desk.old book
-        → K.is_whole desk.new.keeper }
-    ensures honest { K.is_honest desk.new.keeper → K.is_honest desk.old.keeper }
+    ensures leaves { LeavesBook K.Keeper desk.old desk.new }
 {
     desk.holds_a_sound_book();
     match *reading {
@@ -70,19 +59,8 @@ fn order_line<K: Keeper>(
         → Tells (λ text. text.items) (json_line order_data (order_told book sender.now reference.now)) result
         ⊎ ((participant_of book sender.now ≢ None)
         × ((result ≡ Err Refusal.OutOfMemory) ⊎ IsLost K.Keeper desk.new result)) }
-    ensures failed { K.has_failed desk.old.keeper ≡ true → (result ≡ Err Refusal.Failed) × (desk.new ≡ desk.old) }
-    ensures only_failed { result ≡ Err Refusal.Failed → K.has_failed desk.old.keeper ≡ true }
-    ensures fault { result ≡ Err Refusal.StoreFault
-        → (K.has_failed desk.old.keeper ≡ false) × (K.has_failed desk.new.keeper ≡ true) }
-    ensures only_fault { result ≢ Err Refusal.StoreFault
-        → K.has_failed desk.new.keeper ≡ K.has_failed desk.old.keeper }
-    ensures kept { K.is_honest desk.new.keeper → (book : Book) → Holds K.Keeper desk.old book
-        → K.has_failed desk.new.keeper ≡ false → Holds K.Keeper desk.new book }
-    ensures after_a_crash { K.is_honest desk.new.keeper → (book found : Book) → Holds K.Keeper desk.old book
-        → K.leaves desk.new.keeper found → found ≡ book }
-    ensures whole_after_a_crash { K.is_honest desk.new.keeper → (book : Book) → Holds K.Keeper desk.old book
-        → K.is_whole desk.new.keeper }
-    ensures honest { K.is_honest desk.new.keeper → K.is_honest desk.old.keeper }
+    ensures faults { TellsFaults K.Keeper desk.old desk.new result }
+    ensures leaves { LeavesBook K.Keeper desk.old desk.new }
 {
     let order = match desk.order_of(sender, reference) {
         Ok(order) => order,
@@ -136,12 +114,7 @@ pub fn statement_text<K: Keeper>(
     ensures told { K.is_honest desk.new.keeper → (book : Book) → Holds K.Keeper desk.old book
         → Tells (λ text. text.items) (statement_wanted book code.now date) result
         ⊎ ((participant_of book code.now ≢ None) × IsLost K.Keeper desk.new result) }
-    ensures failed { K.has_failed desk.old.keeper ≡ true → (result ≡ Err Refusal.Failed) × (desk.new ≡ desk.old) }
-    ensures only_failed { result ≡ Err Refusal.Failed → K.has_failed desk.old.keeper ≡ true }
-    ensures fault { result ≡ Err Refusal.StoreFault
-        → (K.has_failed desk.old.keeper ≡ false) × (K.has_failed desk.new.keeper ≡ true) }
-    ensures only_fault { result ≢ Err Refusal.StoreFault
-        → K.has_failed desk.new.keeper ≡ K.has_failed desk.old.keeper }
+    ensures faults { TellsFaults K.Keeper desk.old desk.new result }
     ensures leaves { LeavesBook K.Keeper desk.old desk.new }
 {
     let mut text = Vec::new(alloc);
@@ -159,12 +132,7 @@ pub fn report_text<K: Keeper>(
 ) -> Result<Vec<u8>, Refusal>
     ensures told { K.is_honest desk.new.keeper → (book : Book) → Holds K.Keeper desk.old book
         → Tells (λ text. text.items) (report_wanted book date) result ⊎ IsLost K.Keeper desk.new result }
-    ensures failed { K.has_failed desk.old.keeper ≡ true → (result ≡ Err Refusal.Failed) × (desk.new ≡ desk.old) }
-    ensures only_failed { result ≡ Err Refusal.Failed → K.has_failed desk.old.keeper ≡ true }
-    ensures fault { result ≡ Err Refusal.StoreFault
-        → (K.has_failed desk.old.keeper ≡ false) × (K.has_failed desk.new.keeper ≡ true) }
-    ensures only_fault { result ≢ Err Refusal.StoreFault
-        → K.has_failed desk.new.keeper ≡ K.has_failed desk.old.keeper }
+    ensures faults { TellsFaults K.Keeper desk.old desk.new result }
     ensures leaves { LeavesBook K.Keeper desk.old desk.new }
 {
     let mut text = Vec::new(alloc);

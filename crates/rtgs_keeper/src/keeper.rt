@@ -1,5 +1,5 @@
 //! What keeps a book.
-ghost use Rattle.std.specs.Prelude.{◌≡◌, ◌≢◌, ◌⊎◌, Bool, true, false, Err, IfOk, IfErr, OnOk};
+ghost use Rattle.std.specs.Prelude.{◌≡◌, ◌≢◌, ◌⊎◌, Bool, Err, IfOk, IfErr, OnOk};
 ghost use Rattle.rtgs_book.specs.Lookup.{order_named, posting_named};
 ghost use Rattle.rtgs_cores.specs.Cores.{IsCoreOf};
 ghost use Rattle.rtgs_cores.specs.Nexts.{posting_after, order_after, mark_after};
@@ -7,6 +7,7 @@ ghost use Rattle.rtgs_book.specs.declared.Book.{Book};
 ghost use Rattle.rtgs_book.specs.declared.Fault.{Fault};
 ghost use Rattle.rtgs_book.specs.declared.Rule.{Rule};
 ghost use Rattle.rtgs_book.specs.Changes.{IsChange};
+ghost use Rattle.rtgs_keeper.specs.Calls.{ReadsOnly, TellsCommitFaults};
 
 use crate::commit_fault::CommitFault;
 use rtgs_book::{Change, Fault, Mark, Order, Posting};
@@ -50,7 +51,7 @@ pub trait Keeper {
     /// Gives what the desk needs of the book that is kept, which is judged as a whole. On a keeper that has failed it
     /// is `StoreFault`, and nothing is done.
     fn core(&mut self, alloc: Global) -> Result<Core, Fault>
-        ensures honest { is_honest self.new → is_honest self.old }
+        ensures reads { ReadsOnly content leaves is_honest is_whole leaves_no_more has_failed self.old self.new result }
         ensures given { is_honest self.new → (book : Book) → content self.old book → IfOk result (IsCoreOf book) }
         ensures accepted { is_honest self.new → (book : Book) → content self.old book
             → IfErr result (λ fault. (fault ≡ Fault.OutOfMemory) ⊎ (fault ≡ Fault.StoreFault)) }
@@ -61,91 +62,43 @@ pub trait Keeper {
             × (is_honest self.new → shows self.old book)
             × (is_honest self.new → has_tables self.old → content self.new book)) }
         ensures empty { is_honest self.new → is_empty self.old
-            → IfOk result (λ _. ⊥) × ((rule : Rule) → result ≢ Err (Fault.Inconsistent rule)) }
-        ensures same { is_honest self.new → (book : Book) → content self.old book → result ≢ Err Fault.StoreFault
-            → content self.new book }
-        ensures stops { is_honest self.new → (other : Book) → leaves self.new other → leaves self.old other }
-        ensures untouched { is_honest self.new → leaves_no_more self.old self.new }
-        ensures whole { is_honest self.new → is_whole self.old → is_whole self.new }
-        ensures fault { result ≡ Err Fault.StoreFault → has_failed self.new ≡ true }
-        ensures only_fault { result ≢ Err Fault.StoreFault → has_failed self.new ≡ has_failed self.old }
-        ensures failed { has_failed self.old ≡ true → (result ≡ Err Fault.StoreFault) × (self.new ≡ self.old) };
+            → IfOk result (λ _. ⊥) × ((rule : Rule) → result ≢ Err (Fault.Inconsistent rule)) };
 
     /// The order that the sender gave this reference, where the book has one. On a keeper that has failed it is
     /// `StoreFault`, and nothing is done; so with each look-up and each next.
     fn find_order(&mut self, sender: &Code, reference: &Reference) -> Result<Option<Order>, Fault>
-        ensures honest { is_honest self.new → is_honest self.old }
+        ensures reads { ReadsOnly content leaves is_honest is_whole leaves_no_more has_failed self.old self.new result }
         ensures found { is_honest self.new → (book : Book) → content self.old book
             → IfOk result (λ found. found ≡ order_named book sender.now reference.now) }
-        ensures same { is_honest self.new → (book : Book) → content self.old book → result ≢ Err Fault.StoreFault
-            → content self.new book }
-        ensures stops { is_honest self.new → (other : Book) → leaves self.new other → leaves self.old other }
-        ensures untouched { is_honest self.new → leaves_no_more self.old self.new }
-        ensures whole { is_honest self.new → is_whole self.old → is_whole self.new }
-        ensures kinds { (result ≢ Err Fault.NotADeskFile) × ((rule : Rule) → result ≢ Err (Fault.Inconsistent rule)) }
-        ensures fault { result ≡ Err Fault.StoreFault → has_failed self.new ≡ true }
-        ensures only_fault { result ≢ Err Fault.StoreFault → has_failed self.new ≡ has_failed self.old }
-        ensures failed { has_failed self.old ≡ true → (result ≡ Err Fault.StoreFault) × (self.new ≡ self.old) };
+        ensures kinds { (result ≢ Err Fault.NotADeskFile) × ((rule : Rule) → result ≢ Err (Fault.Inconsistent rule)) };
 
     /// The posting with this reference, where the book has one.
     fn find_posting(&mut self, reference: &Reference) -> Result<Option<Posting>, Fault>
-        ensures honest { is_honest self.new → is_honest self.old }
+        ensures reads { ReadsOnly content leaves is_honest is_whole leaves_no_more has_failed self.old self.new result }
         ensures found { is_honest self.new → (book : Book) → content self.old book
             → IfOk result (λ found. found ≡ posting_named book reference.now) }
-        ensures same { is_honest self.new → (book : Book) → content self.old book → result ≢ Err Fault.StoreFault
-            → content self.new book }
-        ensures stops { is_honest self.new → (other : Book) → leaves self.new other → leaves self.old other }
-        ensures untouched { is_honest self.new → leaves_no_more self.old self.new }
-        ensures whole { is_honest self.new → is_whole self.old → is_whole self.new }
-        ensures kinds { (result ≢ Err Fault.NotADeskFile) × ((rule : Rule) → result ≢ Err (Fault.Inconsistent rule)) }
-        ensures fault { result ≡ Err Fault.StoreFault → has_failed self.new ≡ true }
-        ensures only_fault { result ≢ Err Fault.StoreFault → has_failed self.new ≡ has_failed self.old }
-        ensures failed { has_failed self.old ≡ true → (result ≡ Err Fault.StoreFault) × (self.new ≡ self.old) };
+        ensures kinds { (result ≢ Err Fault.NotADeskFile) × ((rule : Rule) → result ≢ Err (Fault.Inconsistent rule)) };
 
     /// The posting of this date with the least number above the given one.
     fn next_posting(&mut self, date: BusinessDate, number: u64) -> Result<Option<Posting>, Fault>
-        ensures honest { is_honest self.new → is_honest self.old }
+        ensures reads { ReadsOnly content leaves is_honest is_whole leaves_no_more has_failed self.old self.new result }
         ensures found { is_honest self.new → (book : Book) → content self.old book
             → IfOk result (λ found. found ≡ posting_after book date number) }
-        ensures same { is_honest self.new → (book : Book) → content self.old book → result ≢ Err Fault.StoreFault
-            → content self.new book }
-        ensures stops { is_honest self.new → (other : Book) → leaves self.new other → leaves self.old other }
-        ensures untouched { is_honest self.new → leaves_no_more self.old self.new }
-        ensures whole { is_honest self.new → is_whole self.old → is_whole self.new }
-        ensures kinds { (result ≢ Err Fault.NotADeskFile) × ((rule : Rule) → result ≢ Err (Fault.Inconsistent rule)) }
-        ensures fault { result ≡ Err Fault.StoreFault → has_failed self.new ≡ true }
-        ensures only_fault { result ≢ Err Fault.StoreFault → has_failed self.new ≡ has_failed self.old }
-        ensures failed { has_failed self.old ≡ true → (result ≡ Err Fault.StoreFault) × (self.new ≡ self.old) };
+        ensures kinds { (result ≢ Err Fault.NotADeskFile) × ((rule : Rule) → result ≢ Err (Fault.Inconsistent rule)) };
 
     /// The order of this date with the least number above the given one.
     fn next_order(&mut self, date: BusinessDate, number: u64) -> Result<Option<Order>, Fault>
-        ensures honest { is_honest self.new → is_honest self.old }
+        ensures reads { ReadsOnly content leaves is_honest is_whole leaves_no_more has_failed self.old self.new result }
         ensures found { is_honest self.new → (book : Book) → content self.old book
             → IfOk result (λ found. found ≡ order_after book date number) }
-        ensures same { is_honest self.new → (book : Book) → content self.old book → result ≢ Err Fault.StoreFault
-            → content self.new book }
-        ensures stops { is_honest self.new → (other : Book) → leaves self.new other → leaves self.old other }
-        ensures untouched { is_honest self.new → leaves_no_more self.old self.new }
-        ensures whole { is_honest self.new → is_whole self.old → is_whole self.new }
-        ensures kinds { (result ≢ Err Fault.NotADeskFile) × ((rule : Rule) → result ≢ Err (Fault.Inconsistent rule)) }
-        ensures fault { result ≡ Err Fault.StoreFault → has_failed self.new ≡ true }
-        ensures only_fault { result ≢ Err Fault.StoreFault → has_failed self.new ≡ has_failed self.old }
-        ensures failed { has_failed self.old ≡ true → (result ≡ Err Fault.StoreFault) × (self.new ≡ self.old) };
+        ensures kinds { (result ≢ Err Fault.NotADeskFile) × ((rule : Rule) → result ≢ Err (Fault.Inconsistent rule)) };
 
     /// The mark of this date with the least number above the given one.
     fn next_mark(&mut self, date: BusinessDate, number: u64) -> Result<Option<Mark>, Fault>
-        ensures honest { is_honest self.new → is_honest self.old }
+        ensures reads { ReadsOnly content leaves is_honest is_whole leaves_no_more has_failed self.old self.new result }
         ensures found { is_honest self.new → (book : Book) → content self.old book
             → IfOk result (λ found. found ≡ mark_after book date number) }
-        ensures same { is_honest self.new → (book : Book) → content self.old book → result ≢ Err Fault.StoreFault
-            → content self.new book }
-        ensures stops { is_honest self.new → (other : Book) → leaves self.new other → leaves self.old other }
-        ensures untouched { is_honest self.new → leaves_no_more self.old self.new }
-        ensures whole { is_honest self.new → is_whole self.old → is_whole self.new }
-        ensures kinds { (result ≢ Err Fault.NotADeskFile) × ((rule : Rule) → result ≢ Err (Fault.Inconsistent rule)) }
-        ensures fault { result ≡ Err Fault.StoreFault → has_failed self.new ≡ true }
-        ensures only_fault { result ≢ Err Fault.StoreFault → has_failed self.new ≡ has_failed self.old }
-        ensures failed { has_failed self.old ≡ true → (result ≡ Err Fault.StoreFault) × (self.new ≡ self.old) };
+        ensures kinds { (result ≢ Err Fault.NotADeskFile) × ((rule : Rule) → result ≢ Err (Fault.Inconsistent rule)) };
 
     /// Keeps the book after the change, whole or not at all.
     fn commit(&mut self, change: &Change) -> Result<(), CommitFault>
@@ -160,10 +113,7 @@ pub trait Keeper {
             → content self.old book → content self.new book }
         ensures memory_stops { result ≡ Err CommitFault.OutOfMemory → is_honest self.new → (other : Book)
             → leaves self.new other → leaves self.old other }
-        ensures fault { result ≡ Err CommitFault.Store → has_failed self.new ≡ true }
-        ensures only_fault { result ≢ Err CommitFault.Store → has_failed self.new ≡ has_failed self.old }
-        ensures failed { has_failed self.old ≡ true → (result ≡ Err CommitFault.Failed) × (self.new ≡ self.old) }
-        ensures not_failed { result ≡ Err CommitFault.Failed → has_failed self.old ≡ true };
+        ensures faults { TellsCommitFaults has_failed self.old self.new result };
 
     // A stop now leaves the content, and no other book.
     ghost settled: { (k : Self) (book other : Book) → content k book → leaves k other → other ≡ book };

@@ -42,7 +42,7 @@ returns-in-Err-clause-sent g c honest book held =
     })
     book so.last c.args.sender c.args.rows.now c.loop-row.row-index c.row-item.result c.loop-row.replies.items
     c.in-Err.refusal c.submit_row.new.desk
-    (c.holds_a_sound_book.ensures.sound book held) c.loop-row-test.true c.row-item.is i.told i.judged e.unjudged so.run
+    (c.holds_a_sound_book.ensures.sound book held).sound c.loop-row-test.true c.row-item.is i.told i.judged e.unjudged so.run
     (e.acts honest so.last so.held)
 
 pub returns-in-Err-clause-only_fault : goal.returns-in-Err-clause-only_fault
@@ -60,7 +60,7 @@ returns-clause-sent g c honest book held =
       stopped = c.stopped_batches_end_alike.ensures;
     })
     book so.last c.args.sender c.args.rows.now c.loop-row.replies.items c.loop-row.desk
-    (c.holds_a_sound_book.ensures.sound book held) all i.judged
+    (c.holds_a_sound_book.ensures.sound book held).sound all i.judged
     (subst (λ n. Run book (orders_of c.args.sender (take n c.args.rows.now)) (replies_of c.loop-row.replies.items)
     so.last) (sym i.told) so.run)
     so.held

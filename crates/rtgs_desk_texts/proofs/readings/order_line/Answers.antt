@@ -8,4 +8,4 @@ pub returns-in-Err-clause-told : goal.returns-in-Err-clause-told
 returns-in-Err-clause-told g c honest book held =
     refused_order (λ text. text.items) order_data (participant_of book c.args.sender.now)
     (order_named book c.args.sender.now c.args.reference.now) c.in-Err.refusal (c.in-Err.ensures.told honest book held)
-    (λ is. (c.in-Err.ensures.fault (ap Err is)).1)
+    (λ is. (c.in-Err.ensures.faults.fault (ap Err is)).1)

@@ -7,7 +7,7 @@ returns-clause-submits g c honest book held = record {
   told = c.tell.ensures.told;
   refused = c.tell.ensures.refused;
   not_failed = λ e.
-      let failed = c.submit-reply.ensures.only_failed e in
+      let failed = c.submit-reply.ensures.faults.only_failed e in
       let works = c.holds_a_sound_book.ensures.works book held in
       let no : ⊥ = cc in no;
 }

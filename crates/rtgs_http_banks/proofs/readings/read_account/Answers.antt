@@ -11,8 +11,8 @@ returns-in-Err g c book held =
 pub returns-in-Ok-account_reply : goal.returns-in-Ok-account_reply
 returns-in-Ok-account_reply g c book held =
     let told = c.in-Ok.ensures.told book held in
-    let sound = c.holds_a_sound_book.ensures.sound book held in
-    let ranges = c.holds_a_sound_book.ensures.fits book held in
+    let sound = (c.holds_a_sound_book.ensures.sound book held).sound in
+    let ranges = (c.holds_a_sound_book.ensures.sound book held).in_range in
     let is = is_told (λ account. account) (account_told book c.args.code.now) c.in-Ok.account told in
     let fits = c.queued_values_fit.ensures book c.args.code.now c.in-Ok.account sound ranges is in
     value_said (λ account. account) (account_told book c.args.code.now) c.in-Ok.account account_message

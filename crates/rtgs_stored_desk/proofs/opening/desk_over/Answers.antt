@@ -9,22 +9,22 @@ pub returns-in-Ok-clause-opened : goal.returns-in-Ok-clause-opened
 returns-in-Ok-clause-opened g c honest rest =
     let was = c.args.keeper.conn in
     let now = c.in-Ok.desk.keeper.conn in
-    let it = c.in-Ok.ensures in
+    let it = c.in-Ok.ensures.opened honest in
     let same : (trees : Trees) → (state g.S.Store now).may_leave trees
     → trees ≡ (state g.S.Store was).committed.trees = λ trees left. g.met.S.Store.settled was.store trees
-    rest.is_open (it.untouched honest trees left) in
+    rest.is_open (it.left.untouched trees left) in
     record {
-      held = λ book tables. it.held honest book (held_at_rest g.S.Store was c.tables_of_a_desk_are_read_as_such.ensures
+      held = λ book tables. it.held book (held_at_rest g.S.Store was c.tables_of_a_desk_are_read_as_such.ensures
           rest book tables);
       kept = λ schema whole.
-          let found = it.kept honest (file_at_rest (state g.S.Store was) rest schema, whole) in
+          let found = it.kept (file_at_rest (state g.S.Store was) rest schema, whole) in
           let left = (c.holds_a_sound_book.ensures.after_a_crash found.0 found.0 found.1).1 refl in (
             found.0,
             tables_are found.0 (state g.S.Store was).committed.trees left.0 (sym (same left.0 left.1)) left.2,
             found.1,
           );
-      shown = let seen = it.shown honest in (seen.0, seen.1, seen.2.1);
-      some = λ none. it.empty honest (blank_at_rest (state g.S.Store was) c.no_tables_are_read_as_none.ensures rest
+      shown = let seen = it.shown in (seen.0, seen.1, seen.2.1);
+      some = λ none. it.not_empty (blank_at_rest (state g.S.Store was) c.no_tables_are_read_as_none.ensures rest
           none);
       leaves = same;
     }
@@ -32,17 +32,23 @@ returns-in-Ok-clause-opened g c honest rest =
 pub returns-in-Err-clause-refused : goal.returns-in-Err-clause-refused
 returns-in-Err-clause-refused g c honest rest =
     let was = c.args.keeper.conn in
-    let it = c.in-Err.ensures in
+    let it = c.in-Err.ensures.refused honest in
     record {
-      cause = λ book tables. it.accepted honest book (held_at_rest g.S.Store was
+      cause = λ book tables. it.accepted book (held_at_rest g.S.Store was
           c.tables_of_a_desk_are_read_as_such.ensures rest book tables);
       explained = λ schema. ⊎_elim (λ memory. memory_explains (state g.S.Store was).committed.trees c.in-Err.fault
           memory)
           (λ told. told.1.0 (state g.S.Store was).committed.trees (file_at_rest (state g.S.Store was) rest schema))
-          (it.explained honest);
+          it.explained;
       told = ⊎_elim (λ memory. memory_tells (state g.S.Store was).now c.in-Err.fault memory) (λ told. told.1.1)
-          (it.explained honest);
-      no_rule = λ none rule. it.no_rule honest (blank_at_rest (state g.S.Store was) c.no_tables_are_read_as_none.ensures
+          it.explained;
+      no_rule = λ none rule. it.no_rule (blank_at_rest (state g.S.Store was) c.no_tables_are_read_as_none.ensures
           rest none) rule;
-      leaves = λ trees left. g.met.S.Store.settled was.store trees rest.is_open (it.back_untouched honest trees left);
+      leaves = λ trees left. g.met.S.Store.settled was.store trees rest.is_open (it.left.untouched trees left);
     }
+
+pub returns-in-Ok-clause-honest : goal.returns-in-Ok-clause-honest
+returns-in-Ok-clause-honest g c honest = (c.in-Ok.ensures.opened honest).left.honest
+
+pub returns-in-Err-clause-back : goal.returns-in-Err-clause-back
+returns-in-Err-clause-back g c honest = (c.in-Err.ensures.refused honest).left.honest

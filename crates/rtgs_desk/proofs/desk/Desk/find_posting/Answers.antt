@@ -25,16 +25,7 @@ returns-in-Ok-clause-looked g c = looked_up g.K.Keeper
     c.self.inside.keeper c.find_posting.new.self c.self.inside.ledger.core c.args.self.now c.self.inside.failed
     c.find_posting.result
     c.self.view_is c.self.invariant c.if-self.false
-    (record {
-      honest = c.find_posting.ensures.honest;
-      same = c.find_posting.ensures.same;
-      stops = c.find_posting.ensures.stops;
-      untouched = c.find_posting.ensures.untouched;
-      whole = c.find_posting.ensures.whole;
-      kinds = c.find_posting.ensures.kinds;
-      fault = c.find_posting.ensures.fault;
-      only_fault = c.find_posting.ensures.only_fault;
-    })
+    (record { reads = c.find_posting.ensures.reads; kinds = c.find_posting.ensures.kinds })
     c.in-Ok.found c.in-Ok.is
 
 pub returns-in-Ok-clause-found : goal.returns-in-Ok-clause-found
@@ -54,14 +45,5 @@ returns-in-Err-clause-looked g c = subst
     c.self.inside.keeper c.find_posting.new.self c.self.inside.ledger.core c.args.self.now c.self.inside.failed
     c.find_posting.result
     c.self.view_is c.self.invariant c.if-self.false
-    (record {
-      honest = c.find_posting.ensures.honest;
-      same = c.find_posting.ensures.same;
-      stops = c.find_posting.ensures.stops;
-      untouched = c.find_posting.ensures.untouched;
-      whole = c.find_posting.ensures.whole;
-      kinds = c.find_posting.ensures.kinds;
-      fault = c.find_posting.ensures.fault;
-      only_fault = c.find_posting.ensures.only_fault;
-    })
+    (record { reads = c.find_posting.ensures.reads; kinds = c.find_posting.ensures.kinds })
     c.in-Err.fault c.in-Err.is)

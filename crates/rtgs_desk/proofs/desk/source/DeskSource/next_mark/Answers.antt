@@ -26,16 +26,7 @@ returns-in-Ok-clause-read g c = reads g.K.Keeper _ _ _ (looked_up g.K.Keeper
     c.self.inside.keeper c.next_mark.new.self c.self.inside.ledger.core c.args.self.now c.self.inside.failed
     c.next_mark.result
     c.self.view_is c.self.invariant c.if-self.false
-    (record {
-      honest = c.next_mark.ensures.honest;
-      same = c.next_mark.ensures.same;
-      stops = c.next_mark.ensures.stops;
-      untouched = c.next_mark.ensures.untouched;
-      whole = c.next_mark.ensures.whole;
-      kinds = c.next_mark.ensures.kinds;
-      fault = c.next_mark.ensures.fault;
-      only_fault = c.next_mark.ensures.only_fault;
-    })
+    (record { reads = c.next_mark.ensures.reads; kinds = c.next_mark.ensures.kinds })
     c.in-Ok.next c.in-Ok.is)
 
 pub returns-in-Ok-clause-told : goal.returns-in-Ok-clause-told
@@ -55,14 +46,5 @@ returns-in-Err-clause-read g c = reads g.K.Keeper _ _ _ (subst
     c.self.inside.keeper c.next_mark.new.self c.self.inside.ledger.core c.args.self.now c.self.inside.failed
     c.next_mark.result
     c.self.view_is c.self.invariant c.if-self.false
-    (record {
-      honest = c.next_mark.ensures.honest;
-      same = c.next_mark.ensures.same;
-      stops = c.next_mark.ensures.stops;
-      untouched = c.next_mark.ensures.untouched;
-      whole = c.next_mark.ensures.whole;
-      kinds = c.next_mark.ensures.kinds;
-      fault = c.next_mark.ensures.fault;
-      only_fault = c.next_mark.ensures.only_fault;
-    })
+    (record { reads = c.next_mark.ensures.reads; kinds = c.next_mark.ensures.kinds })
     c.in-Err.fault c.in-Err.is))

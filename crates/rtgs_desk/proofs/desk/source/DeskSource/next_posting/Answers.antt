@@ -26,16 +26,7 @@ returns-in-Ok-clause-read g c = reads g.K.Keeper _ _ _ (looked_up g.K.Keeper
     c.self.inside.keeper c.next_posting.new.self c.self.inside.ledger.core c.args.self.now c.self.inside.failed
     c.next_posting.result
     c.self.view_is c.self.invariant c.if-self.false
-    (record {
-      honest = c.next_posting.ensures.honest;
-      same = c.next_posting.ensures.same;
-      stops = c.next_posting.ensures.stops;
-      untouched = c.next_posting.ensures.untouched;
-      whole = c.next_posting.ensures.whole;
-      kinds = c.next_posting.ensures.kinds;
-      fault = c.next_posting.ensures.fault;
-      only_fault = c.next_posting.ensures.only_fault;
-    })
+    (record { reads = c.next_posting.ensures.reads; kinds = c.next_posting.ensures.kinds })
     c.in-Ok.next c.in-Ok.is)
 
 pub returns-in-Ok-clause-told : goal.returns-in-Ok-clause-told
@@ -55,14 +46,5 @@ returns-in-Err-clause-read g c = reads g.K.Keeper _ _ _ (subst
     c.self.inside.keeper c.next_posting.new.self c.self.inside.ledger.core c.args.self.now c.self.inside.failed
     c.next_posting.result
     c.self.view_is c.self.invariant c.if-self.false
-    (record {
-      honest = c.next_posting.ensures.honest;
-      same = c.next_posting.ensures.same;
-      stops = c.next_posting.ensures.stops;
-      untouched = c.next_posting.ensures.untouched;
-      whole = c.next_posting.ensures.whole;
-      kinds = c.next_posting.ensures.kinds;
-      fault = c.next_posting.ensures.fault;
-      only_fault = c.next_posting.ensures.only_fault;
-    })
+    (record { reads = c.next_posting.ensures.reads; kinds = c.next_posting.ensures.kinds })
     c.in-Err.fault c.in-Err.is))
