@@ -1,6 +1,6 @@
 -- What a choice of queue beginnings is, when it is feasible, and when it is the greatest.
-use Rattle.std.specs.Prelude.{ℕ, zero, suc, ◌+◌, ◌<◌, ◌≤◌, ◌==◌, List, [], length, take, if◌then◌else◌, ℤ, pos, ◌+ℤ◌}
-use Rattle.std.specs.Prelude.{◌-ℤ◌, ◌≤ℤ◌, slice_index_or, sum_by, All}
+use Rattle.std.specs.Prelude.{◌≡◌, ℕ, zero, suc, ◌+◌, ◌<◌, ◌≤◌, ◌==◌, List, [], length, take, if◌then◌else◌, ℤ, pos}
+use Rattle.std.specs.Prelude.{◌+ℤ◌, ◌-ℤ◌, ◌≤ℤ◌, slice_index_or, sum_by, All}
 use Rattle.rtgs_gridlock.specs.declared.queues.Payment.{Payment}
 use Rattle.rtgs_gridlock.specs.declared.positions.Position.{Position}
 
@@ -64,3 +64,9 @@ AreFloored positions = All (λ position. position.floor ≤ℤ position.balance)
 -- each payment's receiver is a participant
 abbrev pub AreInRange : List (List Payment) → Type 0
 AreInRange queues = All (λ queue. All (λ payment. payment.receiver < length queues) queue) queues
+
+-- each participant has a position and a queue, no balance is below its floor, and each receiver is a participant
+pub record AreResolvable (positions : List Position) (queues : List (List Payment)) : Type 0 where
+  pub as_many : length positions ≡ length queues
+  pub floored : AreFloored positions
+  pub receivers : AreInRange queues

@@ -4,7 +4,7 @@ use Rattle.std.specs.Prelude.{vec_len, if◌then◌else◌}
 use Rattle.rtgs_gridlock.specs.declared.positions.Position.{Position}
 use Rattle.rtgs_gridlock.specs.declared.queues.Payment.{Payment}
 use Rattle.rtgs_gridlock.specs.declared.workspace.Workspace.{Workspace}
-use Rattle.rtgs_gridlock.specs.Choices.{sum_below, queue_of, amount_to}
+use Rattle.rtgs_gridlock.specs.Choices.{sum_below, queue_of, payment_count, amount_to}
 use Rattle.rtgs_gridlock.specs.Standings.{funds_of, owed_of, everything, AreStandings}
 use Rattle.rtgs_gridlock.specs.Listed.{IsOn, on_count}
 
@@ -59,6 +59,11 @@ pub record CanTakeBack (queues : List (List Payment)) (index : ℕ) (workspace :
   pub funds : (newest queues (choice_of workspace) index).amount
       ≤ funds_of workspace.standings (newest queues (choice_of workspace) index).receiver
 
+-- there is room for the participants and payments of the queues
+pub record HasRoomFor (workspace : Workspace) (queues : List (List Payment)) : Type 0 where
+  pub participants : length queues ≤ reserved_participants workspace
+  pub payments : payment_count queues ≤ reserved_payments workspace
+
 -- what was reserved stays
 pub record KeepsRoom (old new : Workspace) : Type 0 where
   pub participants : reserved_participants new ≡ reserved_participants old
@@ -79,6 +84,12 @@ pub record SameButWaiting (old new : Workspace) : Type 0 where
   pub standings : new.standings ≡ old.standings
   pub steps : steps_of new ≡ steps_of old
   pub payments : reserved_payments new ≡ reserved_payments old
+
+-- both parties of a payment are still to be tested, and so is whoever was before
+pub record ListsParties (sender receiver : ℕ) (old new : Workspace) : Type 0 where
+  pub sender_waits : IsWaiting new sender
+  pub receiver_waits : IsWaiting new receiver
+  pub others_wait : (p : ℕ) → IsWaiting old p → IsWaiting new p
 
 -- a test counts, and changes nothing else
 pub record IsTested (old new : Workspace) : Type 0 where

@@ -1,8 +1,8 @@
 ghost use Rattle.std.specs.Prelude.{◌≡◌, ◌+◌, ◌*◌, ◌^◌, ◌<◌, ◌≤◌, IsTrue, IsFalse, List, length, slice_index};
 ghost use Rattle.rtgs_gridlock.specs.declared.positions.Position.{Position};
-ghost use Rattle.rtgs_gridlock.specs.Choices.{payment_count, AreFloored, AreInRange, IsGreatest};
-ghost use Rattle.rtgs_gridlock.specs.Workspaces.{reserved_participants, reserved_payments, lengths_of, steps_of};
-ghost use Rattle.rtgs_gridlock.specs.Workspaces.{steps_left, waiting_count, KeepsRoom};
+ghost use Rattle.rtgs_gridlock.specs.Choices.{payment_count, AreInRange, AreResolvable, IsGreatest};
+ghost use Rattle.rtgs_gridlock.specs.Workspaces.{lengths_of, steps_of, steps_left, waiting_count};
+ghost use Rattle.rtgs_gridlock.specs.Workspaces.{HasRoomFor, KeepsRoom};
 ghost use Rattle.rtgs_gridlock.specs.Resolving.{IsResolving};
 
 use crate::positions::Positions;
@@ -17,11 +17,8 @@ use crate::workspace::Workspace;
 /// All payments are chosen at first, and the newest chosen payment of a participant without cover
 /// is taken back until all have cover, as in Bech and Soramäki 2001.
 pub fn greatest(positions: &Positions, queues: &Queues, workspace: &mut Workspace)
-    requires positions { length positions.now ≡ length queues.now }
-    requires floored { AreFloored positions.now }
-    requires receivers { AreInRange queues.now }
-    requires participants { length queues.now ≤ reserved_participants workspace.old }
-    requires payments { payment_count queues.now ≤ reserved_payments workspace.old }
+    requires resolvable { AreResolvable positions.now queues.now }
+    requires room { HasRoomFor workspace.old queues.now }
     ensures length { length (lengths_of workspace.new) ≡ length queues.now }
     ensures greatest { IsGreatest positions.now queues.now (slice_index (lengths_of workspace.new)) }
     ensures steps { steps_of workspace.new ≤ length queues.now + 3 * payment_count queues.now }

@@ -1,6 +1,6 @@
 ghost use Rattle.std.specs.Prelude.{◌≡◌, [], ℕ, ◌+◌, ◌^◌, ◌<◌, ◌≤◌, ◌↔◌, IsTrue, IfOk, MatchOption, false, length};
 ghost use Rattle.std.specs.Prelude.{slice_set, slice_index, vec_len};
-ghost use Rattle.rtgs_gridlock.specs.Choices.{payment_count, AreFloored, AreInRange};
+ghost use Rattle.rtgs_gridlock.specs.Choices.{payment_count, AreResolvable};
 ghost use Rattle.rtgs_gridlock.specs.Standings.{everything, HasEnough};
 
 use crate::out_of_memory::OutOfMemory;
@@ -29,7 +29,8 @@ pub struct Workspace {
 impl Workspace {
     ghost use Rattle.rtgs_gridlock.specs.Workspaces.{reserved_participants, reserved_payments, participants_of};
     ghost use Rattle.rtgs_gridlock.specs.Workspaces.{lengths_of, choice_of, steps_of, waiting_count, newest, IsWaiting};
-    ghost use Rattle.rtgs_gridlock.specs.Workspaces.{IsFilled, IsTested, CanTakeBack, IsTakenBack, SameButWaiting};
+    ghost use Rattle.rtgs_gridlock.specs.Workspaces.{HasRoomFor, IsFilled, IsTested, CanTakeBack, IsTakenBack};
+    ghost use Rattle.rtgs_gridlock.specs.Workspaces.{SameButWaiting, ListsParties};
 
     /// Room for so many participants. A resolution may then have so many queued payments, which
     /// need no room of their own.
@@ -71,11 +72,8 @@ impl Workspace {
 
     /// Chooses all payments, and fills in each participant's standing by them.
     pub(crate) fn fill(&mut self, positions: &Positions, queues: &Queues)
-        requires positions { length positions.now ≡ length queues.now }
-        requires floored { AreFloored positions.now }
-        requires receivers { AreInRange queues.now }
-        requires participants { length queues.now ≤ reserved_participants self.old }
-        requires payments { payment_count queues.now ≤ reserved_payments self.old }
+        requires resolvable { AreResolvable positions.now queues.now }
+        requires room { HasRoomFor self.old queues.now }
         ensures filled { IsFilled positions.now queues.now self.old self.new }
         ensures few { payment_count queues.now < 2 ^ 64 }
     {
@@ -143,9 +141,7 @@ impl Workspace {
         requires receiver { receiver < participants_of self.old }
         requires inside { (p : ℕ) → IsWaiting self.old p → p < participants_of self.old }
         ensures same { SameButWaiting self.old self.new }
-        ensures sender { IsWaiting self.new sender }
-        ensures receiver { IsWaiting self.new receiver }
-        ensures others { (p : ℕ) → IsWaiting self.old p → IsWaiting self.new p }
+        ensures listed { ListsParties sender receiver self.old self.new }
         ensures inside { (p : ℕ) → IsWaiting self.new p → p < participants_of self.old }
         ensures steps { steps_of self.new + waiting_count self.new ≤ steps_of self.old + waiting_count self.old + 2 }
     {

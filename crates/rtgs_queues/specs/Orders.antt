@@ -16,6 +16,11 @@ pub record OrderList : Type 0 where
   pub room : ℕ
   pub awaited : Option (List ℕ)
 
+-- if the order is queued, there is room for one more, and its sender's queue is the one that has room
+pub record AwaitsOrder (list : OrderList) (order : Order) : Type 0 where
+  pub room : is_queued order ≡ true → 1 ≤ list.room
+  pub awaited : is_queued order ≡ true → list.awaited ≡ Some order.sender
+
 -- numbers rise
 abbrev pub AreRising : List Order → Type 0
 AreRising [] = ⊤

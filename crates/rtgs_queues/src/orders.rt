@@ -8,7 +8,7 @@ ghost use Rattle.rtgs_book.specs.declared.limits.TheConstants.{LARGEST_NUMBER};
 ghost use Rattle.rtgs_book.specs.Books.{is_queued, is_queued_state};
 ghost use Rattle.rtgs_book.specs.Commands.{has_number};
 ghost use Rattle.rtgs_book.specs.Queue.{queued_among, queued_numbers};
-ghost use Rattle.rtgs_queues.specs.Orders.{AreRising, AreQueued, HasNumberAt};
+ghost use Rattle.rtgs_queues.specs.Orders.{AreRising, AreQueued, AwaitsOrder, HasNumberAt};
 ghost use Rattle.rtgs_queues.specs.Queues.{numbers_queued_by};
 
 use crate::queues::Queues;
@@ -126,8 +126,7 @@ impl Orders {
     pub fn add(&mut self, order: Order)
         requires number { order.number ≡ self.old.next }
         requires few { self.old.next ≤ LARGEST_NUMBER }
-        requires room { is_queued order ≡ true → 1 ≤ self.old.room }
-        requires awaited { is_queued order ≡ true → self.old.awaited ≡ Some order.sender }
+        requires awaited { AwaitsOrder self.old order }
         ensures orders { self.new.orders
             ≡ (if is_queued order then self.old.orders ++ order ∷ [] else self.old.orders) }
         ensures tidy { self.new.tidy ≡ self.old.tidy }

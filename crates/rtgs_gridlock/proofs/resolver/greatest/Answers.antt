@@ -8,7 +8,8 @@ loop-init c =
     let listed = c.list_all.ensures in
     record {
       resolving = IsResolving-filled c.args.positions.now c.args.queues.now c.args.workspace.now c.fill.new.self
-          c.list_all.new.self (λ p b. c.requires.floored p (record { balance = pos 0; floor = pos 0 }) (omega arith))
+          c.list_all.new.self
+          (λ p b. c.requires.resolvable.floored p (record { balance = pos 0; floor = pos 0 }) (omega arith))
           filled listed.same listed.all listed.inside;
       steps = steps_filled c.args.positions.now c.args.queues.now c.args.workspace.now c.fill.new.self
           c.list_all.new.self filled listed.same listed.few;

@@ -24,12 +24,13 @@ returns-then-not-covered-clause-resolving c = λ positions is.
     let testing = IsTesting-tested positions c.args.queues.now c.in-Some.index c.args.workspace.now
     c.next_waiting.new.self c.covered.new.self is c.in-Some.ensures.same c.in-Some.ensures.taken
     c.covered.ensures.tested in
+    let listed = c.list_parties.ensures.listed in
     let receiver = subst (λ (x : Payment). IsWaiting c.list_parties.new.self x.receiver)
-    c.take_back-payment.ensures.payment c.list_parties.ensures.receiver in
+    c.take_back-payment.ensures.payment listed.receiver_waits in
     let turned : IsResolving positions c.args.queues.now c.list_parties.new.self =
     IsResolving-taken positions c.args.queues.now c.in-Some.index c.covered.new.self c.take_back-payment.new.self
     c.list_parties.new.self testing short c.take_back-payment.ensures.taken_back c.list_parties.ensures.same
-    c.list_parties.ensures.sender receiver c.list_parties.ensures.others c.list_parties.ensures.inside in
+    listed.sender_waits receiver listed.others_wait c.list_parties.ensures.inside in
     search rules
 
 pub returns-then-not-covered-clause-steps : goal.returns-then-not-covered-clause-steps
