@@ -1,7 +1,7 @@
 -- What the keeper says of a look.
 use Rattle.std.proofs.Common.{◌≡◌, ◌≢◌, ◌⊎◌, inl, inr, ℕ, ◌<◌, ◌==◌, Bool, true, false, List, [], ◌∷◌, Option, Some}
 use Rattle.std.proofs.Common.{None, unwrap_or, Ok, Err, Result, IfErr, refl, sym, ap, subst, ◌∙◌, arith, eqb-true}
-use Rattle.std.proofs.Common.{eq-eqb, ◌&&◌, nat_lt}
+use Rattle.std.proofs.Common.{eq-eqb, ◌&&◌, nat_lt, true≢false}
 use Rattle.std.specs.List.{find}
 use Rattle.std.proofs.lemmas.Bool.{cases_Bool}
 use Rattle.sqlite.specs.State.{HasCleanDisk}
@@ -15,21 +15,36 @@ use Rattle.rtgs_book.specs.declared.Fault.TheVariants.{OutOfMemory, StoreFault, 
 use Rattle.rtgs_book.specs.declared.Rule.{Rule}
 use Rattle.rtgs_book.specs.Commands.{is_date}
 use Rattle.rtgs_cores.specs.Nexts.{posting_after, is_posting_after, date_of_posting}
-use Rattle.rtgs_rows.specs.Keeping.{HoldsBook, IsWhole}
+use Rattle.rtgs_keeper.specs.Calls.{ReadsOnly}
+use Rattle.rtgs_rows.specs.Keeping.{HoldsBook, MayLeave, IsWhole}
 use Rattle.rtgs_sql_look_ups.specs.Finding.{IsLook}
 use Rattle.rtgs_sql_look_ups.specs.Seeking.{first_of_date}
-use Rattle.rtgs_tables.proofs.Settling.{leaves_on}
-
-pub whole_on : {S A : Type 0} (g : Ghosts S) (old new : Held S) (r : Result A Fault) → IsLook g old new r
-    → HasCleanDisk (state g new) → IsWhole g old → IsWhole g new
-whole_on g old new r look clean whole trees left =
-    whole trees (leaves_on (state g old) (state g new) look.survives clean trees left)
+use Rattle.rtgs_tables.specs.Loading.{MayLeaveNoMore}
+use Rattle.rtgs_tables.proofs.Settling.{leaves_less, leaves_on}
 
 -- the tables hold the book still
-pub holds_on : {S A : Type 0} (g : Ghosts S) (old new : Held S) (r : Result A Fault) (book : Book) → IsLook g old new r
+holds_on : {S A : Type 0} (g : Ghosts S) (old new : Held S) (r : Result A Fault) (book : Book) → IsLook g old new r
     → HasCleanDisk (state g new) → ◌≢◌ r (Err StoreFault) → HoldsBook g old book → HoldsBook g new book
 holds_on g old new r book look clean other held =
     (held.0, (look.same clean other).rests held.0 held.1, held.2)
+
+-- What a look leaves of a keeper over a connection, which had not failed and has failed where the store did.
+pub reads_on : {S A K : Type 0} (g : Ghosts S) (conn : K → Held S) (failed : K → Bool) (old new : K) (r : Result A Fault)
+    → IsLook g (conn old) (conn new) r → failed old ≡ false → (r ≡ Err StoreFault → failed new ≡ true)
+    → (r ≢ Err StoreFault → failed new ≡ false)
+    → ReadsOnly (λ k. HoldsBook g (conn k)) (λ k. MayLeave g (conn k)) (λ k. HasCleanDisk (state g (conn k)))
+    (λ k. IsWhole g (conn k)) (λ k l. MayLeaveNoMore (state g (conn k)) (state g (conn l))) failed old new r
+reads_on g conn failed old new r look works fails stays = record {
+  honest = λ clean. let low = look.survives.clean in omega (arith, low, clean);
+  same = λ clean book held other. holds_on g (conn old) (conn new) r book look clean other held;
+  stops = λ clean other left. leaves_less g (conn old) (conn new) look.survives clean other left;
+  untouched = λ clean trees left. leaves_on (state g (conn old)) (state g (conn new)) look.survives clean trees left;
+  whole = λ clean whole trees left. whole trees (leaves_on (state g (conn old)) (state g (conn new)) look.survives clean
+      trees left);
+  fault = fails;
+  only_fault = λ other. stays other ∙ sym works;
+  failed = λ gone. absurd (true≢false (sym gone ∙ works));
+}
 
 no_desk : (fault : Fault) → (fault ≡ OutOfMemory) ⊎ (fault ≡ StoreFault) → fault ≢ NotADeskFile
 no_desk fault (inl is) e = let clash : OutOfMemory ≡ NotADeskFile = sym is ∙ e in cc

@@ -2,10 +2,10 @@
 use super::memory::{InMemory, failing};
 use super::runs::{begin, found_after, found_in, progress_in};
 use super::store::{Failing, Store};
-use super::trial::{Progress, Trial, begun};
+use super::trial::{Progress, Trial};
 use rtgs_book::Refusal;
 use rtgs_keeper::Keeper;
-use rtgs_tests_desks::{FailingKeeper, Trouble, command, desk_over, follows};
+use rtgs_tests_desks::{FailingKeeper, Trouble, begun, command, desk_over, follows};
 use std::alloc::Global;
 use std::test::Fail;
 

@@ -14,7 +14,6 @@ ghost use Rattle.rtgs_keeper_trials.specs.Lives.{AreTwoSessions};
 ghost use Rattle.rtgs_stored_desk.specs.Stored.{AreTablesOf};
 
 use super::found::standings;
-use super::trial::BANKS;
 use rtgs_book::laws::new_book_is_sound;
 use rtgs_book::{Answer, Command, Fault};
 use rtgs_desk::Desk;
@@ -22,7 +21,7 @@ use rtgs_keeper::Keeper;
 use rtgs_repeats::laws::life_is_a_run;
 use rtgs_stored_desk::{create, make, open, run};
 use rtgs_tables::SqlKeeper;
-use rtgs_tests_desks::{Reply, command, commands};
+use rtgs_tests_desks::{BANKS, Reply, command, commands};
 use sqlite::{Alter, Connection, MemStore};
 use sqlite_trees::store::Reopen;
 use std::alloc::Global;

@@ -2,21 +2,14 @@
 use super::found::found_of;
 use super::store::{Booked, Job};
 use rtgs_batches::submit_batch;
-use rtgs_book::{Answer, Command, Fault, Known, Refusal};
+use rtgs_book::{Answer, Fault, Known, Refusal};
 use rtgs_desk::Desk;
 use rtgs_keeper::Keeper;
-use rtgs_money::{BusinessDate, Code, Key, Reference};
-use rtgs_order_files::{OrderRow, RowReply};
-use rtgs_statements::Source;
-use rtgs_tests_desks::{Reply, answered, command, desk_over, follows, is_told};
+use rtgs_money::Code;
+use rtgs_order_files::RowReply;
+use rtgs_tests_desks::{Reply, answered, begun, is_silent, is_told, orders};
 use std::alloc::Global;
 use std::test::Fail;
-
-/// What adds ALFA, BETA and GAMA.
-pub const BANKS: &str = "\
-add ALFA 0000000000000000000000000000000a => Ok(Added)
-add BETA 0000000000000000000000000000000b => Ok(Added)
-add GAMA 0000000000000000000000000000000c => Ok(Added)";
 
 /// What a desk with three banks is given, in words.
 #[derive(Clone, Copy)]
@@ -31,14 +24,6 @@ pub struct Trial {
     pub standings: &'static str,
     /// The store was closed after the commands before, or else it crashed.
     pub is_closed: bool,
-}
-
-/// A desk with three banks over a keeper of a new book, after these commands.
-pub fn begun<K: Keeper + Drop>(alloc: Global, keeper: K, before: &str) -> Result<Desk<K>, Fail> {
-    let mut desk = desk_over(alloc, keeper)?;
-    follows(alloc, &mut desk, BANKS)?;
-    follows(alloc, &mut desk, before)?;
-    Ok(desk)
 }
 
 /// How far a trial came.
@@ -149,28 +134,6 @@ impl Job for Work {
     }
 }
 
-/// The orders of the first of these lines.
-pub fn orders(alloc: Global, script: &str, most: usize) -> Result<Vec<OrderRow>, Fail> {
-    let mut orders = Vec::new(alloc);
-    for line in script.lines().take(most) {
-        let Command::Order {
-            reference,
-            receiver,
-            amount,
-            ..
-        } = command(line)?
-        else {
-            return Err(Fail::new("no order"));
-        };
-        orders.push(OrderRow {
-            reference,
-            receiver,
-            amount,
-        })?;
-    }
-    Ok(orders)
-}
-
 // Sends the first of ALFA's orders in one batch, of which so many come again, and counts those that are replied to
 // before a fault of the store, and nothing else, stops them.
 fn sent<K: Keeper>(
@@ -207,29 +170,4 @@ fn replied(alloc: Global, replies: &[RowReply], script: &str, known: usize) -> R
         count = count.saturating_add(1);
     }
     Ok(count)
-}
-
-fn is_failed<T: Drop>(reply: Result<T, Refusal>) -> bool {
-    matches!(reply, Err(Refusal::Failed))
-}
-
-/// Fails unless the desk answers nothing but that it has failed.
-pub fn is_silent<K: Keeper>(desk: &mut Desk<K>) -> Result<(), Fail> {
-    let (alfa, name) = (Code::read(b"ALFA")?, Reference::read(b"A-1")?);
-    let date = BusinessDate::read(b"2024-03-04")?;
-    let key = Key::read(b"0000000000000000000000000000000a")?.digest();
-    let is_silent = desk.failed()
-        & is_failed(desk.submit(Command::Resolve))
-        & is_failed(desk.account(&alfa))
-        & is_failed(desk.queue_of(&alfa))
-        & is_failed(desk.order_of(&alfa, &name))
-        & is_failed(desk.code_of(&key))
-        & is_failed(desk.next_posting(date, 0))
-        & is_failed(desk.next_order(date, 0))
-        & is_failed(desk.next_mark(date, 0));
-    if is_silent {
-        Ok(())
-    } else {
-        Err(Fail::new("a failed desk spoke"))
-    }
 }

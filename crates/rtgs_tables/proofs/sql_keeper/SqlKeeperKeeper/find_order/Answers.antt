@@ -1,7 +1,8 @@
-use Rattle.sqlite.specs.Held.{state}
-use Rattle.rtgs_tables.proofs.Settling.{leaves_on}
+use Rattle.rtgs_tables.specs.declared.sql_keeper.SqlKeeper.{SqlKeeper}
+use Rattle.rtgs_tables.proofs.KeepingLooks.{reads_on}
 use Rattle.rtgs_tables.proofs.sql_keeper.SqlKeeperKeeper.find_order.Goals as goal
 
-pub returns-clause-untouched : goal.returns-clause-untouched
-returns-clause-untouched g c clean trees left = leaves_on (state g.S.Store c.args.self.now.conn)
-    (state g.S.Store c.find_order-found.new.conn) c.find_order-found.ensures.looks.survives clean trees left
+pub returns-clause-reads : goal.returns-clause-reads
+returns-clause-reads g c = reads_on g.S.Store (λ (k : SqlKeeper g.row.S.Denot). k.conn) (λ k. k.failed) _ _
+    c.find_order-found.result c.find_order-found.ensures.looks c.if-self.false
+    c.is_store_fault.ensures.yes c.is_store_fault.ensures.no

@@ -1,5 +1,5 @@
 //! A desk over a keeper that fails, and opened again over what it kept.
-use super::memory::failing;
+use super::setting::failing;
 use rtgs_book::Fault;
 use rtgs_desk::Desk;
 use rtgs_keeper::Keeper;

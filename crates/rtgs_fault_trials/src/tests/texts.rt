@@ -1,12 +1,11 @@
 //! A statement and a day report whose reads meet trouble, each in turn: what was written is a beginning of the text.
-use super::memory::failing;
-use super::trial::{begun, is_silent};
+use super::setting::failing;
 use rtgs_book::Refusal;
 use rtgs_desk::Desk;
 use rtgs_keeper::Keeper;
 use rtgs_money::{BusinessDate, Code};
 use rtgs_statements::{BookTextFault, write_report, write_statement};
-use rtgs_tests_desks::{FailingKeeper, Trouble, desk_over};
+use rtgs_tests_desks::{FailingKeeper, Trouble, begun, desk_over, is_silent};
 use std::alloc::Global;
 use std::test::Fail;
 
