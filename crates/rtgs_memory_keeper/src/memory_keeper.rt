@@ -69,7 +69,6 @@ impl MemoryKeeper {
         ensures explained { IfErr result (Explains (book_of self.old)) }
         ensures shown { IfOk result (λ book. book ≡ book_of self.old) }
         ensures kept { IfOk result (KeepsBook self.new) }
-        ensures sound { IfOk result IsSound }
         ensures fits { IfOk result Fits }
         ensures same { self.new ≡ self.old }
         ensures fault { result ≢ Err Fault.StoreFault }
