@@ -1,8 +1,12 @@
 -- The records of tables at rest.
-use Rattle.std.specs.Prelude.{◌≡◌, List, map, IsPermutation}
+use Rattle.std.specs.Prelude.{◌≡◌, List, map, IsPermutation, Result, Vec, IfOk}
+use Rattle.std.specs.Global.{Global}
+use Rattle.std.specs.List.{AllByRecursion}
 use Rattle.std.specs.Ordering.{nat_cmp}
 use Rattle.std.specs.declared.cmp.Ordering.TheVariants.{Less}
 use Rattle.std.specs.Cmp.Lexicographic.{slice_cmp}
+use Rattle.sqlite.specs.declared.error.Error.{Error}
+use Rattle.sqlite.specs.Order.{Row}
 use Rattle.sqlite.specs.Tree.{IsAscending}
 use Rattle.sqlite.specs.State.{State}
 use Rattle.rtgs_book.specs.declared.Book.{Book}
@@ -10,6 +14,8 @@ use Rattle.rtgs_book.specs.declared.account.Account.{Account}
 use Rattle.rtgs_rows.specs.Content.{Content, IsInOrder, Rests, stored_account}
 use Rattle.rtgs_rows.specs.Fitting.{HasFormedValues}
 use Rattle.rtgs_rows.specs.Keeping.{SameLists}
+use Rattle.rtgs_rows.specs.TableRecords.{TableRecords}
+use Rattle.rtgs_sql_columns.specs.Numbers.{AreReadAs}
 
 -- What is read of such tables, sound or not: the accounts in the order of their codes, all else as it stands. Each
 -- value is in its form and range.
@@ -24,3 +30,10 @@ pub record AreRead (content : Content) (accounts : List Account) (book : Book) :
 -- the tables at rest have these records
 abbrev pub HasRecords : List Account → Book → State → Type 0
 HasRecords accounts book s = (content : Content) × Rests content s × AreRead content accounts book
+
+-- what the query of a whole table gives that has these records: their rows, which are read as them, each in its form
+pub record GivesRecords {A : Type 0} (records : TableRecords A) (all : List A) (result : Result (Vec Row Global) Error)
+    : Type 0 where
+  pub rows : IfOk result (λ rows. rows.items ≡ map records.shown all)
+  pub read : IfOk result (λ rows. AreReadAs records rows.items all)
+  pub fit : AllByRecursion records.fits all

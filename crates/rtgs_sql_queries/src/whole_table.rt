@@ -1,17 +1,16 @@
 //! All rows of a table.
-ghost use Rattle.std.specs.Prelude.{◌≡◌, ◌⊎◌, false, map, List, IsTrue, IfOk, IfErr, OnOk};
-ghost use Rattle.std.specs.List.{AllByRecursion};
+ghost use Rattle.std.specs.Prelude.{◌≡◌, ◌⊎◌, List, IfOk, IfErr};
 ghost use Rattle.rtgs_book.specs.declared.Book.{Book};
 ghost use Rattle.rtgs_book.specs.declared.account.Account.{Account as AccountSpec};
 ghost use Rattle.rtgs_rows.specs.Querying.{ShowsTable, IsDeskFile};
 ghost use Rattle.rtgs_rows.specs.Tables.{desk_schema};
-ghost use Rattle.rtgs_sql_columns.specs.Numbers.{as_read, AreReadAs};
+ghost use Rattle.rtgs_sql_columns.specs.Numbers.{as_read};
 ghost use Rattle.rtgs_sql_columns.specs.Tables.{query_text};
-ghost use Rattle.rtgs_sql_queries.specs.Answering.{KeepsTables};
-ghost use Rattle.rtgs_sql_queries.specs.Records.{HasRecords};
+ghost use Rattle.rtgs_sql_queries.specs.Answering.{IsQuery};
+ghost use Rattle.rtgs_sql_queries.specs.Records.{HasRecords, GivesRecords};
 ghost use Rattle.rtgs_sql_queries.specs.Displaying.{Displays, HasNoAnswer};
 ghost use Rattle.rtgs_sql_queries.specs.Faults.{IsOfStore};
-ghost use Rattle.sqlite.specs.State.{HasCleanDisk, Survives};
+ghost use Rattle.sqlite.specs.State.{HasCleanDisk};
 ghost use Rattle.sqlite.specs.Held.{state};
 ghost use Rattle.sqlite.specs.Tree.{Trees};
 
@@ -26,31 +25,20 @@ pub fn table_rows<T: TableRow, S: Alter>(
     alloc: Global,
     conn: &mut Connection<S>,
 ) -> Result<Vec<Row>, Error>
-    ensures rows { HasCleanDisk (state S.Store conn.new) → (accounts : List AccountSpec) (book : Book)
+    ensures given { HasCleanDisk (state S.Store conn.new) → (accounts : List AccountSpec) (book : Book)
         → HasRecords accounts book (state S.Store conn.old)
-        → IfOk result (λ rows. rows.items ≡ map T.records.shown (T.records.of_book accounts book)) }
-    ensures read { HasCleanDisk (state S.Store conn.new) → (accounts : List AccountSpec) (book : Book)
-        → HasRecords accounts book (state S.Store conn.old)
-        → IfOk result (λ rows. AreReadAs T.records rows.items (T.records.of_book accounts book)) }
-    ensures fit { HasCleanDisk (state S.Store conn.new) → (accounts : List AccountSpec) (book : Book)
-        → HasRecords accounts book (state S.Store conn.old)
-        → AllByRecursion T.records.fits (T.records.of_book accounts book) }
+        → GivesRecords T.records (T.records.of_book accounts book) result }
     ensures own { (it : T) → as_read T.records.counted (T.records.shown it) ≡ T.records.shown it }
     ensures raw { HasCleanDisk (state S.Store conn.new) → (trees : Trees) → IsDeskFile trees (state S.Store conn.old)
         → IfOk result (λ rows. ShowsTable T.records.table trees rows.items) }
-    ensures kept { HasCleanDisk (state S.Store conn.new)
-        → OnOk result (KeepsTables (state S.Store conn.old) (state S.Store conn.new)) }
     ensures refused { HasCleanDisk (state S.Store conn.new) → (state S.Store conn.old).now.schema ≡ desk_schema
         → IfErr result IsOfStore }
-    ensures intact { HasCleanDisk (state S.Store conn.new) → IsTrue (state S.Store conn.new).is_open
-        → KeepsTables (state S.Store conn.old) (state S.Store conn.new) }
     ensures answered { HasCleanDisk (state S.Store conn.new) → IfOk result (λ rows.
         Displays (state S.Store conn.old).now (query_text T.records.table) rows.items
         × ((state S.Store conn.new).now ≡ (state S.Store conn.old).now)) }
     ensures unanswered { HasCleanDisk (state S.Store conn.new) → IfErr result (λ error.
         IsOfStore error ⊎ HasNoAnswer (state S.Store conn.old).now (query_text T.records.table)) }
-    ensures survives { Survives (state S.Store conn.old) (state S.Store conn.new) (λ _. ⊥) }
-    ensures mode { conn.old.in_transaction ≡ false → conn.new.in_transaction ≡ false }
+    ensures asks { IsQuery S.Store conn.old conn.new result }
     ensures honest { HasCleanDisk (state S.Store conn.new) → HasCleanDisk (state S.Store conn.old) }
 {
     one_table_answers();

@@ -1,6 +1,6 @@
 use Rattle.std.proofs.Common.{[], IfOk, IfErr, sym, subst}
 use Rattle.sqlite.specs.Held.{state}
-use Rattle.sqlite.specs.State.{Shown}
+use Rattle.sqlite.specs.State.{HasCleanDisk, Shown}
 use Rattle.sqlite_resolve.specs.Compile.{first}
 use Rattle.rtgs_sql_columns.specs.Tables.{query_text}
 use Rattle.rtgs_sql_queries.specs.Answering.{Returnless, FailsAmid}
@@ -14,23 +14,20 @@ pub all_rows-requires : goal.all_rows-requires
 all_rows-requires g c = subst (λ text. Returnless (first text)) (sym c.query.ensures.is)
     (returnless (query_text g.T.TableRow.records.table) _ c.query.ensures.asks.query)
 
-pub returns-clause-rows : goal.returns-clause-rows
-returns-clause-rows g c clean accounts book held =
+pub returns-clause-given : goal.returns-clause-given
+returns-clause-given g c clean accounts book held =
+    let t = g.T.TableRow.records in
     let old = state g.S.Store c.args.conn.now in
     let new = state g.S.Store c.all_rows.new.conn in
-    shows_own c.one_table_answers.ensures g.T.TableRow.records c.query.ensures.asks c.query.ensures.shows old new
-    held.0 accounts book held.1 held.2 c.all_rows.result
+    let rows = shows_own c.one_table_answers.ensures t c.query.ensures.asks c.query.ensures.shows old new held.0
+    accounts book held.1 held.2 c.all_rows.result
     (subst (λ text. IfOk c.all_rows.result (λ rows. Shown text [] old new rows.items)) c.query.ensures.is
-    (c.all_rows.ensures.ok clean))
-
-pub returns-clause-read : goal.returns-clause-read
-returns-clause-read g c clean accounts book held =
-    let t = g.T.TableRow.records in
-    read_so t.counted t.shown c.query.ensures.own c.all_rows.result (t.of_book accounts book)
-    (returns-clause-rows g c clean accounts book held)
-
-pub returns-clause-fit : goal.returns-clause-fit
-returns-clause-fit g c clean accounts book held = c.query.ensures.shows.fit held.0 accounts book held.2
+    (c.all_rows.ensures.ok clean)) in
+    record {
+      rows = rows;
+      read = read_so t.counted t.shown c.query.ensures.own c.all_rows.result (t.of_book accounts book) rows;
+      fit = c.query.ensures.shows.fit held.0 accounts book held.2;
+    }
 
 pub returns-clause-own : goal.returns-clause-own
 returns-clause-own g c = c.query.ensures.own
@@ -44,14 +41,6 @@ returns-clause-raw g c clean trees file =
     (subst (λ text. IfOk c.all_rows.result (λ rows. Shown text [] old new rows.items)) c.query.ensures.is
     (c.all_rows.ensures.ok clean))
 
-pub returns-clause-kept : goal.returns-clause-kept
-returns-clause-kept g c clean =
-    let old = state g.S.Store c.args.conn.now in
-    let new = state g.S.Store c.all_rows.new.conn in
-    kept_after g.T.TableRow.records.table c.query.ensures.asks old new c.all_rows.result
-    (subst (λ text. IfOk c.all_rows.result (λ rows. Shown text [] old new rows.items)) c.query.ensures.is
-    (c.all_rows.ensures.ok clean))
-
 pub returns-clause-refused : goal.returns-clause-refused
 returns-clause-refused g c clean schema =
     let old = state g.S.Store c.args.conn.now in
@@ -59,15 +48,21 @@ returns-clause-refused g c clean schema =
     refused g.T.TableRow.records.table c.query.ensures.asks old new schema c.all_rows.result
     (subst (λ text. IfErr c.all_rows.result (FailsAmid text old new)) c.query.ensures.is (c.all_rows.ensures.err clean))
 
-pub returns-clause-intact : goal.returns-clause-intact
-returns-clause-intact g c clean alive =
+pub returns-clause-asks : goal.returns-clause-asks
+returns-clause-asks g c =
+    let t = g.T.TableRow.records.table in
     let old = state g.S.Store c.args.conn.now in
     let new = state g.S.Store c.all_rows.new.conn in
-    intact_after g.T.TableRow.records.table c.query.ensures.asks old new c.all_rows.result
-    (subst (λ text. IfOk c.all_rows.result (λ rows. Shown text [] old new rows.items)) c.query.ensures.is
-    (c.all_rows.ensures.ok clean))
-    (subst (λ text. IfErr c.all_rows.result (FailsAmid text old new)) c.query.ensures.is (c.all_rows.ensures.err clean))
-    alive
+    let shown = λ (clean : HasCleanDisk new). subst (λ text. IfOk c.all_rows.result (λ rows. Shown text [] old new
+    rows.items)) c.query.ensures.is (c.all_rows.ensures.ok clean) in
+    record {
+      survives = c.all_rows.ensures.survives;
+      mode = c.all_rows.ensures.mode;
+      kept = λ clean. kept_after t c.query.ensures.asks old new c.all_rows.result (shown clean);
+      intact = λ clean alive. intact_after t c.query.ensures.asks old new c.all_rows.result (shown clean)
+          (subst (λ text. IfErr c.all_rows.result (FailsAmid text old new)) c.query.ensures.is
+          (c.all_rows.ensures.err clean)) alive;
+    }
 
 pub returns-clause-answered : goal.returns-clause-answered
 returns-clause-answered g c clean =
