@@ -1,22 +1,28 @@
 -- What a reading says of the state that it began in.
-use Rattle.std.specs.Prelude.{◌≡◌, ◌≢◌, List, [], ◌∷◌, map, Err, Result}
+use Rattle.std.specs.Prelude.{◌≡◌, ◌≢◌, ◌⊎◌, List, [], ◌∷◌, map, Err, Result, IfOk, IfErr}
 use Rattle.std.specs.List.{AllByRecursion}
 use Rattle.std.proofs.Common.{subst}
 use Rattle.sqlite.specs.State.{State, HasCleanDisk, Survives}
 use Rattle.sqlite.specs.Tree.{Trees}
+use Rattle.sqlite.specs.declared.error.Error.{Error}
+use Rattle.sqlite.specs.declared.error.Error.TheVariants.{SqliteFailure}
+use Rattle.sqlite.specs.declared.error.ErrorCode.TheVariants as code
 use Rattle.rtgs_book.specs.declared.account.Account.{Account}
 use Rattle.rtgs_book.specs.declared.Book.{Book}
 use Rattle.rtgs_book.specs.declared.Day.{Day}
 use Rattle.rtgs_book.specs.declared.Fault.{Fault}
-use Rattle.rtgs_book.specs.declared.Fault.TheVariants.{StoreFault, NotADeskFile}
+use Rattle.rtgs_book.specs.declared.Fault.TheVariants.{OutOfMemory, StoreFault, NotADeskFile}
 use Rattle.sqlite.specs.Effect.{Database}
-use Rattle.rtgs_rows.specs.Querying.{IsDeskFile}
+use Rattle.rtgs_rows.specs.Content.{Content, Holds}
+use Rattle.rtgs_rows.specs.Keeping.{AreBalances, IsBookOf}
+use Rattle.rtgs_rows.specs.Querying.{IsDeskFile, AreWhole}
 use Rattle.rtgs_rows.specs.TableRecords.{TableRecords, day_records}
 use Rattle.rtgs_sql_columns.specs.Tables.{query_text}
 use Rattle.rtgs_sql_queries.specs.Answering.{KeepsTables}
+use Rattle.rtgs_sql_queries.specs.Faults.{IsOfStore}
 use Rattle.rtgs_sql_queries.specs.Records.{HasRecords}
-use Rattle.rtgs_sql_loading.specs.Accounts.{Telling, AreTold, AreReadOf}
-use Rattle.rtgs_sql_loading.specs.Displaying.{DisplaysAs, AreDisplayed}
+use Rattle.rtgs_sql_loading.specs.Accounts.{Telling, AreTold, AreReadOf, ExplainsRead, ExplainsTrees, IsShown}
+use Rattle.rtgs_sql_loading.specs.Displaying.{DisplaysAs, AreDisplayed, IsDisplayed, ExplainsDatabase}
 
 -- nothing is written: a clean disk was clean before, and the tables and what the database shows stay
 pub record ReadsOn (old new : State) : Type 0 where
@@ -72,3 +78,25 @@ pub record Stops {A : Type 0} (old new : State) (result : Result A Fault) (AreBa
   pub unread : HasCleanDisk new → result ≡ Err NotADeskFile → IsUnread old.now
   pub same : HasCleanDisk new → result ≢ Err StoreFault → KeepsTables old new
   pub survives : Survives old new (λ _. ⊥)
+
+-- How the error of a query is told: as lack of memory only if it was that, and as no desk's tables exactly if it is no
+-- error of the store.
+pub record TellsError (error : Error) (fault : Fault) : Type 0 where
+  pub cause : fault ≡ OutOfMemory → error ≡ SqliteFailure code.OutOfMemory
+  pub right : IsOfStore error → (fault ≡ OutOfMemory) ⊎ (fault ≡ StoreFault)
+  pub wrong : fault ≡ NotADeskFile → ¬ IsOfStore error
+  pub foreign : ¬ IsOfStore error → fault ≡ NotADeskFile
+
+-- What a loading answers, a book or why there is none: by the records, where the tables have any; by the rows, where
+-- the schema is a desk's; and by what the queries show, whatever the schema is.
+pub record LoadsFrom (s : State) (result : Result Book Fault) : Type 0 where
+  pub read : (accounts : List Account) (book : Book) → HasRecords accounts book s
+      → IfOk result (λ loaded. (loaded ≡ book) × AreBalances book accounts)
+  pub explained : (accounts : List Account) (book : Book) → HasRecords accounts book s
+      → IfErr result (ExplainsRead accounts book)
+  pub held : (trees : Trees) → IsDeskFile trees s → AreWhole trees
+      → IfOk result (λ book. (content : Content) × Holds content trees × IsBookOf book content)
+  pub shown : (trees : Trees) → IsDeskFile trees s → IfOk result (IsShown trees)
+  pub caused : (trees : Trees) → IsDeskFile trees s → IfErr result (ExplainsTrees trees)
+  pub displayed : IfOk result (IsDisplayed s.now)
+  pub told : IfErr result (ExplainsDatabase s.now)

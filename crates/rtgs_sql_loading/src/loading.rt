@@ -4,20 +4,15 @@ ghost use Rattle.rtgs_book.specs.declared.Book.{Book};
 ghost use Rattle.rtgs_book.specs.declared.Rule.{Rule};
 ghost use Rattle.rtgs_book.specs.declared.account.Account.{Account as AccountSpec};
 ghost use Rattle.rtgs_sql_queries.specs.Answering.{KeepsTables};
-ghost use Rattle.rtgs_sql_queries.specs.Records.{HasRecords};
 ghost use Rattle.rtgs_sql_loading.specs.Accounts.{AreFormed, ExplainsRead};
-ghost use Rattle.rtgs_sql_loading.specs.Accounts.{ExplainsTrees, IsShown};
 ghost use Rattle.rtgs_sql_columns.specs.Blank.{IsBlank};
-ghost use Rattle.rtgs_sql_loading.specs.Displaying.{IsDisplayed, IsIllegible, ExplainsDatabase};
-ghost use Rattle.rtgs_sql_loading.specs.Loading.{TellsRecords, Stops};
+ghost use Rattle.rtgs_sql_loading.specs.Displaying.{IsIllegible};
+ghost use Rattle.rtgs_sql_loading.specs.Loading.{TellsRecords, Stops, LoadsFrom};
 ghost use Rattle.rtgs_book.specs.Ranges.{Fits};
 ghost use Rattle.rtgs_book.specs.Soundness.{IsSound};
-ghost use Rattle.rtgs_rows.specs.Content.{Content, Holds};
-ghost use Rattle.rtgs_rows.specs.Keeping.{AreBalances, IsBookOf};
-ghost use Rattle.rtgs_rows.specs.Querying.{IsDeskFile, AreWhole};
+ghost use Rattle.rtgs_rows.specs.Keeping.{AreBalances};
 ghost use Rattle.sqlite.specs.State.{HasCleanDisk, Survives};
 ghost use Rattle.sqlite.specs.Held.{state};
-ghost use Rattle.sqlite.specs.Tree.{Trees};
 
 use crate::balances::balances_agree;
 use crate::reading::FromTables;
@@ -99,21 +94,7 @@ fn judged(stored: Stored) -> Result<Book, Fault>
 /// Loads the book, and judges it. Records that break a rule are answered by the first one that they break, and what is
 /// no desk's tables by `NotADeskFile`. A book is given only where the tables hold it.
 pub fn load_book<S: Alter>(alloc: Global, conn: &mut Connection<S>) -> Result<Book, Fault>
-    ensures read { HasCleanDisk (state S.Store conn.new) → (accounts : List AccountSpec) (book : Book)
-        → HasRecords accounts book (state S.Store conn.old)
-        → IfOk result (λ loaded. (loaded ≡ book) × AreBalances book accounts) }
-    ensures held { HasCleanDisk (state S.Store conn.new) → (trees : Trees) → IsDeskFile trees (state S.Store conn.old)
-        → AreWhole trees → IfOk result (λ book. (content : Content) × Holds content trees × IsBookOf book content) }
-    ensures shown { HasCleanDisk (state S.Store conn.new) → (trees : Trees) → IsDeskFile trees (state S.Store conn.old)
-        → IfOk result (IsShown trees) }
-    ensures explained { HasCleanDisk (state S.Store conn.new) → (accounts : List AccountSpec) (book : Book)
-        → HasRecords accounts book (state S.Store conn.old) → IfErr result (ExplainsRead accounts book) }
-    ensures caused { HasCleanDisk (state S.Store conn.new) → (trees : Trees) → IsDeskFile trees (state S.Store conn.old)
-        → IfErr result (ExplainsTrees trees) }
-    ensures displayed { HasCleanDisk (state S.Store conn.new)
-        → IfOk result (IsDisplayed (state S.Store conn.old).now) }
-    ensures told { HasCleanDisk (state S.Store conn.new)
-        → IfErr result (ExplainsDatabase (state S.Store conn.old).now) }
+    ensures tells { HasCleanDisk (state S.Store conn.new) → LoadsFrom (state S.Store conn.old) result }
     ensures blank { HasCleanDisk (state S.Store conn.new) → IsBlank (state S.Store conn.old)
         → IfOk result (λ _. ⊥) × ((rule : Rule) → result ≢ Err (Fault.Inconsistent rule)) }
     ensures same { HasCleanDisk (state S.Store conn.new) → result ≢ Err Fault.StoreFault

@@ -8,10 +8,10 @@ ghost use Rattle.rtgs_rows.specs.Querying.{as_shown};
 ghost use Rattle.rtgs_rows.specs.Tables.{desk_table};
 ghost use Rattle.rtgs_sql_columns.specs.Tables.{query_text};
 ghost use Rattle.rtgs_sql_queries.specs.Answering.{KeepsTables};
-ghost use Rattle.rtgs_sql_queries.specs.Faults.{IsOfStore, LookFailed};
+ghost use Rattle.rtgs_sql_queries.specs.Faults.{LookFailed};
 ghost use Rattle.rtgs_sql_loading.specs.Accounts.{InForm, IsOneDay};
 ghost use Rattle.rtgs_sql_loading.specs.Displaying.{IsUnread};
-ghost use Rattle.rtgs_sql_loading.specs.Loading.{ReadsRecords, ReadsOneDay, ReadsOn, Stops, read_after};
+ghost use Rattle.rtgs_sql_loading.specs.Loading.{ReadsRecords, ReadsOneDay, ReadsOn, Stops, TellsError, read_after};
 ghost use Rattle.sqlite.specs.Effect.{Database};
 ghost use Rattle.sqlite.specs.State.{State, HasCleanDisk, IsUnchanged, Survives};
 ghost use Rattle.sqlite.specs.Held.{state};
@@ -31,12 +31,9 @@ fn fault_of<S: Alter>(conn: &mut Connection<S>, error: &Error) -> Fault
     ensures mode { conn.old.in_transaction ≡ false → conn.new.in_transaction ≡ false }
     ensures honest { HasCleanDisk (state S.Store conn.new) → HasCleanDisk (state S.Store conn.old) }
     ensures kinds { (rule : Rule) → result ≢ Fault.Inconsistent rule }
-    ensures cause { result ≡ Fault.OutOfMemory → error.now ≡ Error.SqliteFailure ErrorCode.OutOfMemory }
+    ensures tells { TellsError error.now result }
     ensures must { HasCleanDisk (state S.Store conn.new) → error.now ≡ Error.SqliteFailure ErrorCode.OutOfMemory
         → (result ≡ Fault.OutOfMemory) ⊎ LookFailed (state S.Store conn.old) (state S.Store conn.new) }
-    ensures right { IsOfStore error.now → (result ≡ Fault.OutOfMemory) ⊎ (result ≡ Fault.StoreFault) }
-    ensures wrong { result ≡ Fault.NotADeskFile → ¬ IsOfStore error.now }
-    ensures foreign { ¬ IsOfStore error.now → result ≡ Fault.NotADeskFile }
     ensures same { result ≡ Fault.OutOfMemory → HasCleanDisk (state S.Store conn.new)
         → IsUnchanged (state S.Store conn.old) (state S.Store conn.new) }
     ensures kept { result ≡ Fault.OutOfMemory → HasCleanDisk (state S.Store conn.new)

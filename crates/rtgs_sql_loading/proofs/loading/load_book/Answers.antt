@@ -1,4 +1,4 @@
-use Rattle.std.proofs.Common.{IfErr, subst, subst₂}
+use Rattle.std.proofs.Common.{IfErr, rules, subst, subst₂}
 use Rattle.sqlite_catalog.specs.Listing.{IsSound}
 use Rattle.sqlite.specs.Held.{state}
 use Rattle.rtgs_book.specs.declared.Fault.TheVariants.{StoreFault}
@@ -9,30 +9,47 @@ use Rattle.rtgs_sql_loading.proofs.Together.{held_book, shown_book}
 use Rattle.rtgs_sql_loading.proofs.Displaying.{displayed_book, told_of_book, told_of_none}
 use Rattle.rtgs_sql_loading.proofs.loading.load_book.Goals as goal
 
-pub returns-in_err-stored-clause-explained : goal.returns-in_err-stored-clause-explained
-returns-in_err-stored-clause-explained g c clean accounts book held =
-    unread accounts book c.read_tables.result _ c.from_residual.result
-    (c.read_tables.ensures.stops.right clean accounts book held) c.read_tables.ensures.kinds c.in_err-stored.was
-    c.from_residual.ensures.1
+pub returns-in_err-stored-clause-tells : goal.returns-in_err-stored-clause-tells
+returns-in_err-stored-clause-tells g c clean =
+    let stops = c.read_tables.ensures.stops in
+    let kinds = c.read_tables.ensures.kinds in
+    let was = c.in_err-stored.was in
+    let told = c.from_residual.ensures.1 in
+    record {
+      read = λ accounts book held. search rules;
+      explained = λ accounts book held. unread accounts book c.read_tables.result _ c.from_residual.result
+          (stops.right clean accounts book held) kinds was told;
+      held = λ trees file whole. search rules;
+      shown = λ trees file. search rules;
+      caused = λ trees file. unread_of trees c.read_tables.result _ c.from_residual.result
+          (stops.wrong clean trees file) kinds was told;
+      displayed = search rules;
+      told = told_of_none (state g.S.Store c.args.conn.now).now c.read_tables.result _ c.from_residual.result
+          (stops.unread clean) kinds was told;
+    }
 
-pub returns-clause-read : goal.returns-clause-read
-returns-clause-read g c clean accounts book held =
-    let read = (c.in_ok-stored.ensures.told clean).records accounts book held in
-    judged_book _ accounts _ book c.judged.result read.0 read.1 c.judged.ensures.given c.judged.ensures.balances
-
-pub returns-clause-explained : goal.returns-clause-explained
-returns-clause-explained g c clean accounts book held =
-    let read = (c.in_ok-stored.ensures.told clean).records accounts book held in
-    subst₂ (λ b a. IfErr c.judged.result (ExplainsRead a b)) read.0 read.1 c.judged.ensures.explained
-
-pub returns-clause-held : goal.returns-clause-held
-returns-clause-held g c clean trees file whole =
-    let was = (state g.S.Store c.args.conn.now).committed in
-    let sound = subst (IsSound desk_schema) file.trees_are (subst (λ schema. IsSound schema was.trees) file.schema
-    (c.schema.ensures.live file.is_open).1) in
-    held_book c.shown_records_are_held.ensures trees _ _ c.judged.result sound whole
-    ((c.in_ok-stored.ensures.told clean).rows trees file) c.judged.ensures.given c.judged.ensures.sound
-    c.judged.ensures.balances
+pub returns-clause-tells : goal.returns-clause-tells
+returns-clause-tells g c clean =
+    let s = state g.S.Store c.args.conn.now in
+    let tells = c.in_ok-stored.ensures.told clean in
+    let it = c.judged.ensures in
+    record {
+      read = λ accounts book held.
+          let read = tells.records accounts book held in
+          judged_book _ accounts _ book c.judged.result read.0 read.1 it.given it.balances;
+      explained = λ accounts book held.
+          let read = tells.records accounts book held in
+          subst₂ (λ b a. IfErr c.judged.result (ExplainsRead a b)) read.0 read.1 it.explained;
+      held = λ trees file whole.
+          let sound = subst (IsSound desk_schema) file.trees_are (subst (λ schema. IsSound schema s.committed.trees)
+          file.schema (c.schema.ensures.live file.is_open).1) in
+          held_book c.shown_records_are_held.ensures trees _ _ c.judged.result sound whole (tells.rows trees file)
+          it.given it.sound it.balances;
+      shown = λ trees file. shown_book trees _ _ c.judged.result (tells.rows trees file) it.given it.sound it.balances;
+      caused = λ trees file. judged_of trees _ _ c.judged.result (tells.rows trees file) it.explained;
+      displayed = displayed_book s.now _ _ c.judged.result tells.displayed it.given it.sound it.balances;
+      told = told_of_book s.now _ _ c.judged.result tells.displayed it.explained;
+    }
 
 pub returns-in_err-stored-clause-same : goal.returns-in_err-stored-clause-same
 returns-in_err-stored-clause-same g c clean other =
@@ -42,31 +59,3 @@ returns-in_err-stored-clause-same g c clean other =
 pub returns-clause-same : goal.returns-clause-same
 returns-clause-same g c clean other = c.read_tables.ensures.stops.same clean
     (λ e. let is = c.in_ok-stored.was in cc)
-
-pub returns-in_err-stored-clause-caused : goal.returns-in_err-stored-clause-caused
-returns-in_err-stored-clause-caused g c clean trees file =
-    unread_of trees c.read_tables.result _ c.from_residual.result (c.read_tables.ensures.stops.wrong clean trees file)
-    c.read_tables.ensures.kinds c.in_err-stored.was c.from_residual.ensures.1
-
-pub returns-clause-caused : goal.returns-clause-caused
-returns-clause-caused g c clean trees file = judged_of trees _ _ c.judged.result
-    ((c.in_ok-stored.ensures.told clean).rows trees file) c.judged.ensures.explained
-
-pub returns-clause-shown : goal.returns-clause-shown
-returns-clause-shown g c clean trees file = shown_book trees _ _ c.judged.result
-    ((c.in_ok-stored.ensures.told clean).rows trees file) c.judged.ensures.given c.judged.ensures.sound
-    c.judged.ensures.balances
-
-pub returns-in_err-stored-clause-told : goal.returns-in_err-stored-clause-told
-returns-in_err-stored-clause-told g c clean =
-    told_of_none (state g.S.Store c.args.conn.now).now c.read_tables.result _ c.from_residual.result
-    (c.read_tables.ensures.stops.unread clean) c.read_tables.ensures.kinds c.in_err-stored.was c.from_residual.ensures.1
-
-pub returns-clause-told : goal.returns-clause-told
-returns-clause-told g c clean = told_of_book (state g.S.Store c.args.conn.now).now _ _ c.judged.result
-    (c.in_ok-stored.ensures.told clean).displayed c.judged.ensures.explained
-
-pub returns-clause-displayed : goal.returns-clause-displayed
-returns-clause-displayed g c clean = displayed_book (state g.S.Store c.args.conn.now).now _ _ c.judged.result
-    (c.in_ok-stored.ensures.told clean).displayed c.judged.ensures.given c.judged.ensures.sound
-    c.judged.ensures.balances

@@ -14,18 +14,18 @@ returns-in-Ok-clause-told g c clean =
     day_reads (state g.S.Store c.args.conn.now) _ _ c.one_day.result c.as_slice.ensures.value
     (c.in-Ok.ensures.answered clean).0 (c.in-Ok.ensures.raw clean)
     (λ accounts book held. c.one_day.ensures.given book.day held.2.fits.day
-    (c.as_slice.ensures.value ∙ c.in-Ok.ensures.rows clean accounts book held)) c.one_day.ensures.is
+    (c.as_slice.ensures.value ∙ (c.in-Ok.ensures.given clean accounts book held).rows)) c.one_day.ensures.is
 
 pub returns-in-Ok-clause-on : goal.returns-in-Ok-clause-on
 returns-in-Ok-clause-on g c = reads_on (state g.S.Store c.args.conn.now) (state g.S.Store c.table_rows.new.conn)
-    c.one_day.result c.table_rows.ensures.honest c.in-Ok.ensures.kept (λ clean. (c.in-Ok.ensures.answered clean).1)
-    c.table_rows.ensures.survives
+    c.one_day.result c.table_rows.ensures.honest c.in-Ok.ensures.asks.kept (λ clean. (c.in-Ok.ensures.answered clean).1)
+    c.table_rows.ensures.asks.survives
 
 pub returns-in-Ok-clause-stops : goal.returns-in-Ok-clause-stops
 returns-in-Ok-clause-stops g c = record {
   right = λ clean accounts book held e.
       let is = c.one_day.ensures.given book.day held.2.fits.day
-      (c.as_slice.ensures.value ∙ c.in-Ok.ensures.rows clean accounts book held) in
+      (c.as_slice.ensures.value ∙ (c.in-Ok.ensures.given clean accounts book held).rows) in
       absurd (let clash = sym is ∙ e in cc);
   wrong = λ clean trees file e.
       let stored = as_shown desk_table trees in
@@ -35,28 +35,28 @@ returns-in-Ok-clause-stops g c = record {
       let none = not_read c.one_day.result _ _ c.one_day.ensures.wrong e in
       without_form (state g.S.Store c.args.conn.now).now (query_text desk_table) IsOneDay _ _ c.as_slice.ensures.value
       (c.in-Ok.ensures.answered clean).0 (λ found. none found.0 found.1 found.2);
-  same = λ clean _. c.in-Ok.ensures.kept clean;
-  survives = c.table_rows.ensures.survives;
+  same = λ clean _. c.in-Ok.ensures.asks.kept clean;
+  survives = c.table_rows.ensures.asks.survives;
 }
 
 pub returns-in-Err-clause-stops : goal.returns-in-Err-clause-stops
 returns-in-Err-clause-stops g c = record {
   right = λ clean accounts book held.
       not_foreign c.fault_of.result
-      (c.fault_of.ensures.right (c.in-Err.ensures.refused (c.fault_of.ensures.honest clean)
+      (c.fault_of.ensures.tells.right (c.in-Err.ensures.refused (c.fault_of.ensures.honest clean)
       (schema_at held.0 (state g.S.Store c.args.conn.now) held.1)));
   wrong = λ clean trees file e.
       absurd (not_foreign c.fault_of.result
-      (c.fault_of.ensures.right (c.in-Err.ensures.refused (c.fault_of.ensures.honest clean)
+      (c.fault_of.ensures.tells.right (c.in-Err.ensures.refused (c.fault_of.ensures.honest clean)
       (schema_of trees (state g.S.Store c.args.conn.now) file))) e);
   unread = λ clean.
       without_answer (state g.S.Store c.args.conn.now).now (query_text desk_table) IsOneDay c.fault_of.result _
-      c.fault_of.ensures.wrong (c.in-Err.ensures.unanswered (c.fault_of.ensures.honest clean));
+      c.fault_of.ensures.tells.wrong (c.in-Err.ensures.unanswered (c.fault_of.ensures.honest clean));
   same = λ clean.
       let was = c.fault_of.ensures.honest clean in
       keeps_after (state g.S.Store c.args.conn.now) (state g.S.Store c.table_rows.new.conn)
       (state g.S.Store c.fault_of.new.conn) c.fault_of.result
-      (λ schema. c.fault_of.ensures.right (c.in-Err.ensures.refused was schema)) (c.in-Err.ensures.intact was)
-      (λ memory. c.fault_of.ensures.kept memory clean);
-  survives = survives_on _ _ _ c.table_rows.ensures.survives c.fault_of.ensures.survives;
+      (λ schema. c.fault_of.ensures.tells.right (c.in-Err.ensures.refused was schema))
+      (c.in-Err.ensures.asks.intact was) (λ memory. c.fault_of.ensures.kept memory clean);
+  survives = survives_on _ _ _ c.table_rows.ensures.asks.survives c.fault_of.ensures.survives;
 }

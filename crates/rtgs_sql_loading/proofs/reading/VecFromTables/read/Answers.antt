@@ -14,23 +14,22 @@ pub returns-in-Ok-clause-told : goal.returns-in-Ok-clause-told
 returns-in-Ok-clause-told g c clean =
     reads_of g.T.TableRow.records (state g.S.Store c.args.conn.now) _ _ c.decode.result c.as_slice.ensures.value
     (c.in-Ok.ensures.answered clean).0 (c.in-Ok.ensures.raw clean)
-    (λ accounts book held. (
-      c.table_rows.ensures.fit clean accounts book held,
-      c.in-Ok.ensures.read clean accounts book held,
-    )) c.decode.ensures.given c.decode.ensures.is
+    (λ accounts book held.
+    let it = c.in-Ok.ensures.given clean accounts book held in
+    (it.fit, it.read)) c.decode.ensures.given c.decode.ensures.is
 
 pub returns-in-Ok-clause-on : goal.returns-in-Ok-clause-on
 returns-in-Ok-clause-on g c = reads_on (state g.S.Store c.args.conn.now) (state g.S.Store c.table_rows.new.conn)
-    c.decode.result c.table_rows.ensures.honest c.in-Ok.ensures.kept (λ clean. (c.in-Ok.ensures.answered clean).1)
-    c.table_rows.ensures.survives
+    c.decode.result c.table_rows.ensures.honest c.in-Ok.ensures.asks.kept (λ clean. (c.in-Ok.ensures.answered clean).1)
+    c.table_rows.ensures.asks.survives
 
 pub returns-in-Ok-clause-stops : goal.returns-in-Ok-clause-stops
 returns-in-Ok-clause-stops g c = record {
   right = λ clean accounts book held e.
       let t = g.T.TableRow.records in
-      c.decode.ensures.wrong e (are_formed t (t.of_book accounts book)
-      (c.table_rows.ensures.fit clean accounts book held) _ (ap (map (as_read t.counted)) c.as_slice.ensures.value
-      ∙ c.in-Ok.ensures.read clean accounts book held));
+      let it = c.in-Ok.ensures.given clean accounts book held in
+      c.decode.ensures.wrong e (are_formed t (t.of_book accounts book) it.fit _
+      (ap (map (as_read t.counted)) c.as_slice.ensures.value ∙ it.read));
   wrong = λ clean trees file e.
       let stored = as_shown g.T.TableRow.records.table trees in
       misread g.T.TableRow.records stored _ (subst (IsPermutation stored) (sym c.as_slice.ensures.value)
@@ -40,30 +39,30 @@ returns-in-Ok-clause-stops g c = record {
       without_form (state g.S.Store c.args.conn.now).now (query_text t.table)
       (InForm t) _ _ c.as_slice.ensures.value
       (c.in-Ok.ensures.answered clean).0 (c.decode.ensures.wrong e);
-  same = λ clean _. c.in-Ok.ensures.kept clean;
-  survives = c.table_rows.ensures.survives;
+  same = λ clean _. c.in-Ok.ensures.asks.kept clean;
+  survives = c.table_rows.ensures.asks.survives;
 }
 
 pub returns-in-Err-clause-stops : goal.returns-in-Err-clause-stops
 returns-in-Err-clause-stops g c = record {
   right = λ clean accounts book held.
       not_foreign c.fault_of.result
-      (c.fault_of.ensures.right (c.in-Err.ensures.refused (c.fault_of.ensures.honest clean)
+      (c.fault_of.ensures.tells.right (c.in-Err.ensures.refused (c.fault_of.ensures.honest clean)
       (schema_at held.0 (state g.S.Store c.args.conn.now) held.1)));
   wrong = λ clean trees file e.
       absurd (not_foreign c.fault_of.result
-      (c.fault_of.ensures.right (c.in-Err.ensures.refused (c.fault_of.ensures.honest clean)
+      (c.fault_of.ensures.tells.right (c.in-Err.ensures.refused (c.fault_of.ensures.honest clean)
       (schema_of trees (state g.S.Store c.args.conn.now) file))) e);
   unread = λ clean.
       let t = g.T.TableRow.records in
       without_answer (state g.S.Store c.args.conn.now).now (query_text t.table)
-      (InForm t) c.fault_of.result _ c.fault_of.ensures.wrong
+      (InForm t) c.fault_of.result _ c.fault_of.ensures.tells.wrong
       (c.in-Err.ensures.unanswered (c.fault_of.ensures.honest clean));
   same = λ clean.
       let was = c.fault_of.ensures.honest clean in
       keeps_after (state g.S.Store c.args.conn.now) (state g.S.Store c.table_rows.new.conn)
       (state g.S.Store c.fault_of.new.conn) c.fault_of.result
-      (λ schema. c.fault_of.ensures.right (c.in-Err.ensures.refused was schema)) (c.in-Err.ensures.intact was)
-      (λ memory. c.fault_of.ensures.kept memory clean);
-  survives = survives_on _ _ _ c.table_rows.ensures.survives c.fault_of.ensures.survives;
+      (λ schema. c.fault_of.ensures.tells.right (c.in-Err.ensures.refused was schema))
+      (c.in-Err.ensures.asks.intact was) (λ memory. c.fault_of.ensures.kept memory clean);
+  survives = survives_on _ _ _ c.table_rows.ensures.asks.survives c.fault_of.ensures.survives;
 }
