@@ -1,8 +1,7 @@
 -- Why a sound book is refused, and what a fault explains.
 use Rattle.std.proofs.Common.{◌≡◌, ◌⊎◌, inl, inr, List, Ok, Err, Result, IfOk, IfErr, refl, sym, subst}
 use Rattle.std.specs.Result.{IsErrAnd}
-use Rattle.sqlite.specs.Tree.{Trees}
-use Rattle.sqlite.specs.Effect.{Database}
+use Rattle.sqlite.specs.State.{State}
 use Rattle.rtgs_book.specs.declared.Book.{Book}
 use Rattle.rtgs_book.specs.declared.account.Account.{Account}
 use Rattle.rtgs_book.specs.declared.Fault.{Fault}
@@ -14,8 +13,9 @@ use Rattle.rtgs_book.specs.declared.Rule.TheVariants.{Floors, Total, StoredBalan
 use Rattle.rtgs_book.specs.Judgement.{Keeps}
 use Rattle.rtgs_book.specs.Soundness.{IsSound}
 use Rattle.rtgs_rows.specs.Keeping.{AreBalances}
-use Rattle.rtgs_sql_loading.specs.Accounts.{ExplainsRead, ExplainsTrees}
-use Rattle.rtgs_sql_loading.specs.Displaying.{ExplainsDatabase}
+use Rattle.rtgs_sql_loading.specs.Accounts.{ExplainsRead}
+use Rattle.rtgs_sql_loading.specs.Loading.{LoadsFrom}
+use Rattle.rtgs_tables.specs.Loading.{ExplainsLoad}
 
 -- a sound book keeps each rule of a book
 keeps_all : (book : Book) → IsSound book → (rule : Rule) → Keeps book rule
@@ -50,15 +50,9 @@ passed_on {A = A} P met fault (Err told_fault) was told holds =
     subst P (sym told) (subst (λ (r : Result A Fault). IfErr r P) was holds)
 
 -- the same fault explains whatever records there are
-pub explained : (Are : List Account → Book → Type 0) (File : Trees → Type 0) (db : Database)
-    (answer : Result Book Fault)
-    → ((accounts : List Account) (book : Book) → Are accounts book → IfErr answer (ExplainsRead accounts book))
-    → ((trees : Trees) → File trees → IfErr answer (ExplainsTrees trees)) → IfErr answer (ExplainsDatabase db)
-    → IfErr answer (λ fault. ((accounts : List Account) (book : Book) → Are accounts book
-    → ExplainsRead accounts book fault) × (((trees : Trees) → File trees → ExplainsTrees trees fault)
-    × ExplainsDatabase db fault))
-explained Are File db (Ok it) why all told = tt
-explained Are File db (Err fault) why all told = (why, (all, told))
+pub explained : (s : State) (answer : Result Book Fault) → LoadsFrom s answer → IfErr answer (ExplainsLoad s)
+explained s (Ok it) loads = tt
+explained s (Err fault) loads = (loads.explained, (loads.caused, loads.told))
 
 pub accepted : (accounts : List Account) (book : Book) (answer : Result Book Fault) → IsSound book
     → AreBalances book accounts → IfErr answer (ExplainsRead accounts book)

@@ -1,10 +1,9 @@
 -- The book of a new desk.
-use Rattle.std.proofs.Common.{◌≡◌, inl, inr, sym, ap, ◌∙◌}
+use Rattle.std.proofs.Common.{◌≡◌, inl, inr, sym, ◌∙◌}
 use Rattle.sqlite_trees.specs.declared.store.Store.{Ghosts}
-use Rattle.sqlite.specs.Effect.{Database}
 use Rattle.sqlite.specs.Tree.{Trees}
 use Rattle.sqlite.specs.Held.{Held, state}
-use Rattle.sqlite.specs.State.{State, Opens, IsLive, HasCleanDisk, Survives, IsUnchanged}
+use Rattle.sqlite.specs.State.{State, Opens, IsLive, HasCleanDisk, Survives}
 use Rattle.rtgs_book.specs.declared.Book.{Book}
 use Rattle.rtgs_rows.specs.Content.{HasNoTables, Holds, Rests}
 use Rattle.rtgs_rows.specs.Keeping.{IsBookOf, HoldsBook, MayLeave}
@@ -34,13 +33,6 @@ only_new tells holds_none g h is all other left = elim (all left.0 left.1) [
   | inl none ↦ absurd (holds_none left.0 left.2.0 none left.2.1)
   | inr made ↦ tells new_book other first_content left.2.0 is left.2.2 (sym made.rows ∙ left.2.1.rows)
 ]
-
-pub still_blank : (old new : State) → IsBlank old → IsUnchanged old new → IsBlank new
-still_blank old new blank same = record {
-  is_open = same.0.is_open;
-  schema = ap (λ (d : Database). d.schema) same.0.committed_is ∙ blank.schema;
-  clean = same.0.now_is ∙ blank.clean ∙ sym same.0.committed_is;
-}
 
 -- a database is opened that has no tables
 pub opened_blank : NoTablesAreReadAsNone → (s : State) → Opens s → IsLive s → HasNoTables s.committed.trees → IsBlank s

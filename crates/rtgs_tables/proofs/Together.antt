@@ -1,16 +1,23 @@
 -- The book that was loaded, and the connection after it.
 use Rattle.std.proofs.Common.{◌≢◌, Ok, Err, Result, IfOk, sym, subst}
-use Rattle.sqlite.specs.Effect.{Database}
+use Rattle.sqlite.specs.Held.{Held, state}
 use Rattle.sqlite.specs.State.{State}
 use Rattle.sqlite.specs.Tree.{Trees}
+use Rattle.sqlite_trees.specs.declared.store.Store.{Ghosts}
 use Rattle.rtgs_book.specs.declared.Book.{Book}
 use Rattle.rtgs_book.specs.declared.Fault.{Fault}
-use Rattle.rtgs_book.specs.declared.Fault.TheVariants.{StoreFault}
+use Rattle.rtgs_book.specs.declared.Fault.TheVariants.{StoreFault, Inconsistent}
+use Rattle.rtgs_book.specs.declared.Rule.{Rule}
 use Rattle.rtgs_rows.specs.Content.{Content, Holds, Rests}
 use Rattle.rtgs_rows.specs.Keeping.{IsBookOf}
 use Rattle.rtgs_rows.specs.Querying.{IsDeskFile}
-use Rattle.rtgs_sql_loading.specs.Accounts.{IsShown}
-use Rattle.rtgs_sql_loading.specs.Displaying.{IsDisplayed}
+use Rattle.rtgs_rows.specs.RowLaws.{RecordsStandInOrder}
+use Rattle.rtgs_sql_columns.specs.Blank.{IsBlank}
+use Rattle.rtgs_sql_queries.specs.Answering.{KeepsTables}
+use Rattle.rtgs_sql_loading.specs.Loading.{LoadsFrom}
+use Rattle.rtgs_tables.specs.Loading.{AnswersBook, ShowsBalanced}
+use Rattle.rtgs_tables.proofs.Accounts.{accounts_of, has_own, own_balances}
+use Rattle.rtgs_tables.proofs.Judging.{accepted, explained, the_book}
 
 -- the tables of a connection, with the records that they hold
 rests_of : (content : Content) (s : State) (trees : Trees) → IsDeskFile trees s → Holds content trees → Rests content s
@@ -19,15 +26,33 @@ rests_of content s trees file holds =
     record { is_open = file.is_open; schema = file.schema; holds = here; clean = file.clean }
 
 -- and the connection goes on to hold it
-pub kept_book : (s : State) (trees : Trees) (answer : Result Book Fault)
+kept_book : (s : State) (trees : Trees) (answer : Result Book Fault)
     → IfOk answer (λ it. (content : Content) × Holds content trees × IsBookOf it content)
     → (answer ≢ Err StoreFault → IsDeskFile trees s)
     → IfOk answer (λ it. (content : Content) × Rests content s × IsBookOf it content)
 kept_book s trees (Ok it) held file = (held.0, rests_of held.0 s trees (file (λ e. cc)) held.1, held.2)
 kept_book s trees (Err fault) held file = tt
 
-pub shown_always : (File : Trees → Type 0) (db : Database) (answer : Result Book Fault)
-    → ((trees : Trees) → File trees → IfOk answer (IsShown trees)) → IfOk answer (IsDisplayed db)
-    → IfOk answer (λ it. ((trees : Trees) → File trees → IsShown trees it) × IsDisplayed db it)
-shown_always File db (Ok it) shown displays = (shown, displays)
-shown_always File db (Err fault) shown displays = tt
+shown_always : (s : State) (answer : Result Book Fault) → LoadsFrom s answer → IfOk answer (ShowsBalanced s)
+shown_always s (Ok it) loads = (loads.shown, loads.displayed)
+shown_always s (Err fault) loads = tt
+
+-- what a loading answers of the tables is what the connection holds
+pub answers_book : RecordsStandInOrder → {S : Type 0} (g : Ghosts S) (old new : Held S) (answer : Result Book Fault)
+    → LoadsFrom (state g old) answer → (answer ≢ Err StoreFault → KeepsTables (state g old) (state g new))
+    → (IsBlank (state g old) → IfOk answer (λ _. ⊥) × ((rule : Rule) → answer ≢ Err (Inconsistent rule)))
+    → AnswersBook g old new answer
+answers_book in_order g old new answer loads same empty =
+    let s = state g old in
+    let trees = s.committed.trees in
+    record {
+      given = λ book holds. the_book (accounts_of book) book answer (loads.read (accounts_of book) book
+          (has_own in_order s holds.0 book holds.1 holds.2));
+      accepted = λ book holds. accepted (accounts_of book) book answer holds.2.sound (own_balances book)
+          (loads.explained (accounts_of book) book (has_own in_order s holds.0 book holds.1 holds.2));
+      explained = explained s answer loads;
+      shown = shown_always s answer loads;
+      kept = λ tables. kept_book (state g new) trees answer (loads.held trees tables.0 tables.1)
+          (λ other. (same other).file trees tables.0);
+      empty = empty;
+    }

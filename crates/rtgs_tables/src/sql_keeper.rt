@@ -8,13 +8,13 @@ ghost use Rattle.rtgs_rows.specs.Querying.{HasTables};
 ghost use Rattle.rtgs_book.specs.Books.{new_book};
 ghost use Rattle.rtgs_book.specs.Ranges.{Fits};
 ghost use Rattle.rtgs_book.specs.Soundness.{IsSound};
-ghost use Rattle.rtgs_tables.specs.Building.{IsBlank, IsNoneOrNew};
+ghost use Rattle.rtgs_tables.specs.Building.{IsBlank, LeavesNew, StaysBlank};
 ghost use Rattle.sqlite.specs.State.{HasCleanDisk, IsLive, IsUnchanged, Opens, Survives};
 ghost use Rattle.sqlite.specs.Held.{state};
 ghost use Rattle.sqlite.specs.Tree.{Trees};
 ghost use Rattle.rtgs_rows.specs.Content.{Content, Holds, HasNoTables};
 ghost use Rattle.rtgs_sql_queries.specs.Faults.{LookFailed};
-ghost use Rattle.rtgs_tables.specs.Loading.{ExplainsLoad, ShowsBalanced, MayLeaveNoMore};
+ghost use Rattle.rtgs_tables.specs.Loading.{AnswersBook, LeavesBook};
 ghost use Rattle.rtgs_sql_writes.specs.Stops.{IsBefore};
 ghost use Rattle.rtgs_rows.specs.RowLaws.{RowsTellTheBook, TablesOfABookAreWhole, TablesOfABookAreWhole-prop};
 
@@ -53,14 +53,9 @@ impl<S: Alter + Drop> SqlKeeper<S> {
         ensures stops { IfOk result (λ k. HasCleanDisk (state S.Store k.conn) → IsBlank (state S.Store conn)
             → (other : Book) → MayLeave S.Store k.conn other → other ≡ new_book) }
         ensures left { IfErr result (λ e. HasCleanDisk (state S.Store e.1) → IsBlank (state S.Store conn)
-            → (other : Book) → MayLeave S.Store e.1 other → other ≡ new_book) }
+            → LeavesNew S.Store e.1) }
         ensures memory { IfErr result (λ e. e.0 ≡ CommitFault.OutOfMemory → HasCleanDisk (state S.Store e.1)
-            → IsBlank (state S.Store conn) → IsBlank (state S.Store e.1)) }
-        ensures memory_stops { IfErr result (λ e. e.0 ≡ CommitFault.OutOfMemory → HasCleanDisk (state S.Store e.1)
-            → IsBlank (state S.Store conn) → (trees : Trees) → (state S.Store e.1).may_leave trees
-            → HasNoTables trees) }
-        ensures tables { IfErr result (λ e. HasCleanDisk (state S.Store e.1) → IsBlank (state S.Store conn)
-            → (trees : Trees) → (state S.Store e.1).may_leave trees → IsNoneOrNew trees) }
+            → IsBlank (state S.Store conn) → StaysBlank (state S.Store e.1)) }
         ensures honest { IfOk result (λ k. HasCleanDisk (state S.Store k.conn) → HasCleanDisk (state S.Store conn))
             × IfErr result (λ e. HasCleanDisk (state S.Store e.1) → HasCleanDisk (state S.Store conn)) }
         ensures fresh { IfOk result (λ k. k.failed ≡ false) }
@@ -106,30 +101,12 @@ impl<S: Alter + Drop> SqlKeeper<S> {
     /// the sums from scratch. On a keeper that has failed it is `StoreFault`, and nothing is done.
     pub fn load(&mut self, alloc: Global) -> Result<Book, Fault>
         ensures honest { HasCleanDisk (state S.Store self.new.conn) → HasCleanDisk (state S.Store self.old.conn) }
-        ensures given { HasCleanDisk (state S.Store self.new.conn) → (book : Book)
-            → HoldsBook S.Store self.old.conn book → IfOk result (λ loaded. loaded ≡ book) }
-        ensures accepted { HasCleanDisk (state S.Store self.new.conn) → (book : Book)
-            → HoldsBook S.Store self.old.conn book
-            → IfErr result (λ fault. (fault ≡ Fault.OutOfMemory) ⊎ (fault ≡ Fault.StoreFault)) }
-        ensures explained { HasCleanDisk (state S.Store self.new.conn)
-            → IfErr result (ExplainsLoad (state S.Store self.old.conn)) }
-        ensures shown { HasCleanDisk (state S.Store self.new.conn)
-            → IfOk result (ShowsBalanced (state S.Store self.old.conn)) }
-        ensures kept { HasCleanDisk (state S.Store self.new.conn) → HasTables S.Store self.old.conn
-            → IfOk result (HoldsBook S.Store self.new.conn) }
-        ensures empty { HasCleanDisk (state S.Store self.new.conn) → IsBlank (state S.Store self.old.conn)
-            → IfOk result (λ _. ⊥) × ((rule : Rule) → result ≢ Err (Fault.Inconsistent rule)) }
+        ensures answers { HasCleanDisk (state S.Store self.new.conn)
+            → AnswersBook S.Store self.old.conn self.new.conn result }
+        ensures leaves { HasCleanDisk (state S.Store self.new.conn)
+            → LeavesBook S.Store self.old.conn self.new.conn result }
         ensures sound { IfOk result IsSound }
         ensures fits { IfOk result Fits }
-        ensures same { HasCleanDisk (state S.Store self.new.conn) → (book : Book)
-            → HoldsBook S.Store self.old.conn book → result ≢ Err Fault.StoreFault
-            → HoldsBook S.Store self.new.conn book }
-        ensures stops { HasCleanDisk (state S.Store self.new.conn) → (other : Book)
-            → MayLeave S.Store self.new.conn other → MayLeave S.Store self.old.conn other }
-        ensures untouched { HasCleanDisk (state S.Store self.new.conn)
-            → MayLeaveNoMore (state S.Store self.old.conn) (state S.Store self.new.conn) }
-        ensures whole { HasCleanDisk (state S.Store self.new.conn) → IsWhole S.Store self.old.conn
-            → IsWhole S.Store self.new.conn }
         ensures fault { result ≡ Err Fault.StoreFault → self.new.failed ≡ true }
         ensures only_fault { result ≢ Err Fault.StoreFault → self.new.failed ≡ self.old.failed }
         ensures failed { self.old.failed ≡ true → (result ≡ Err Fault.StoreFault) × (self.new ≡ self.old) }
