@@ -14,7 +14,7 @@ ghost use Rattle.sqlite.specs.Held.{state};
 ghost use Rattle.sqlite.specs.Tree.{Trees};
 ghost use Rattle.rtgs_rows.specs.Content.{Content, Holds, HasNoTables};
 ghost use Rattle.rtgs_sql_queries.specs.Faults.{LookFailed};
-ghost use Rattle.rtgs_tables.specs.Loading.{AnswersBook, LeavesBook};
+ghost use Rattle.rtgs_tables.specs.Loading.{AnswersBook, LeavesConnection};
 ghost use Rattle.rtgs_sql_writes.specs.Stops.{IsBefore};
 ghost use Rattle.rtgs_rows.specs.RowLaws.{RowsTellTheBook, TablesOfABookAreWhole, TablesOfABookAreWhole-prop};
 
@@ -104,7 +104,7 @@ impl<S: Alter + Drop> SqlKeeper<S> {
         ensures answers { HasCleanDisk (state S.Store self.new.conn)
             → AnswersBook S.Store self.old.conn self.new.conn result }
         ensures leaves { HasCleanDisk (state S.Store self.new.conn)
-            → LeavesBook S.Store self.old.conn self.new.conn result }
+            → LeavesConnection S.Store self.old.conn self.new.conn result }
         ensures sound { IfOk result IsSound }
         ensures fits { IfOk result Fits }
         ensures fault { result ≡ Err Fault.StoreFault → self.new.failed ≡ true }

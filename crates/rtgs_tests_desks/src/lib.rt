@@ -2,16 +2,16 @@
 //! what it answers. Only crates of trials stand on this crate.
 #![tactic(auto)]
 
+mod batch_orders;
 mod counting_keeper;
 mod failing_keeper;
 mod opened;
-mod orders;
 mod scripts;
 mod silence;
 
+pub use crate::batch_orders::orders;
 pub use crate::counting_keeper::CountingKeeper;
 pub use crate::failing_keeper::{FailingKeeper, Trouble};
 pub use crate::opened::{BANKS, begun, desk_over};
-pub use crate::orders::orders;
 pub use crate::scripts::{Reply, answered, command, commands, follows, is_told};
 pub use crate::silence::is_silent;
