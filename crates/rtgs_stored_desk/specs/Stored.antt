@@ -54,10 +54,6 @@ pub record IsMade (old new : State) : Type 0 where
   pub honest : HasCleanDisk new → HasCleanDisk old
   pub leaves : HasCleanDisk new → IsBlank old → (trees : Trees) → new.may_leave trees → AreTablesOf new_book trees
 
--- nothing is in the database, and a stop leaves no tables
-abbrev pub StaysBlank : State → Type 0
-StaysBlank s = IsBlank s × ((trees : Trees) → s.may_leave trees → HasNoTables trees)
-
 -- No new book was made, or none was opened. A stop leaves no tables, or those of the new book.
 pub record IsUnmade (fault : Fault) (new : State) : Type 0 where
   pub cause : IsMemoryOrStore fault

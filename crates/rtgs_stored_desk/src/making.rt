@@ -5,8 +5,8 @@ ghost use Rattle.sqlite.specs.State.{HasCleanDisk};
 ghost use Rattle.rtgs_book.specs.Books.{new_book};
 ghost use Rattle.rtgs_rows.specs.Keeping.{HoldsBook};
 ghost use Rattle.rtgs_rows.specs.Tables.{no_schema};
-ghost use Rattle.rtgs_tables.specs.Building.{IsBlank};
-ghost use Rattle.rtgs_stored_desk.specs.Stored.{IsMade, IsUnmade, StaysBlank, fault_of_making};
+ghost use Rattle.rtgs_tables.specs.Building.{IsBlank, StaysBlank};
+ghost use Rattle.rtgs_stored_desk.specs.Stored.{IsMade, IsUnmade, fault_of_making};
 
 use rtgs_book::Fault;
 use rtgs_keeper::CommitFault;
@@ -28,8 +28,8 @@ pub fn make<S: Alter + Drop>(conn: Connection<S>) -> Result<Connection<S>, (Faul
         → IsBlank (state S.Store conn) → StaysBlank (state S.Store left)) }
     ensures taken { (state S.Store conn).now.schema ≢ no_schema → result ≡ Err (Fault.NotADeskFile, conn) }
     ensures honest { IfErr result (λ (_, left). HasCleanDisk (state S.Store left) → HasCleanDisk (state S.Store conn)) }
-    ensures idle { IfOk result (λ made. made.in_transaction ≡ false) }
-    ensures idle_still { IfErr result (λ (_, left). left.in_transaction ≡ false) }
+    ensures idle { IfOk result (λ made. made.in_transaction ≡ false)
+        × IfErr result (λ (_, left). left.in_transaction ≡ false) }
 {
     if !has_no_tables(&conn) {
         return Err((Fault::NotADeskFile, conn));

@@ -30,10 +30,9 @@ pub returns-in-Err-clause-refused : goal.returns-in-Err-clause-refused
 returns-in-Err-clause-refused g c clean blank = record {
   cause = subst IsMemoryOrStore (sym c.fault_of.ensures) (making_cause c.in-Err.fault);
   leaves = λ trees left. none_or_new c.first_rows_are_the_new_book.ensures trees
-      (c.in-Err.ensures.tables clean blank trees left);
+      ((c.in-Err.ensures.left clean blank).tables trees left);
 }
 
 pub returns-in-Err-clause-memory : goal.returns-in-Err-clause-memory
-returns-in-Err-clause-memory g c told clean blank =
-    let memory = making_memory c.in-Err.fault (sym c.fault_of.ensures ∙ told) in
-    (c.in-Err.ensures.memory memory clean blank, c.in-Err.ensures.memory_stops memory clean blank)
+returns-in-Err-clause-memory g c told =
+    c.in-Err.ensures.memory (making_memory c.in-Err.fault (sym c.fault_of.ensures ∙ told))
