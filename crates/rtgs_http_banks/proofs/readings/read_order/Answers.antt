@@ -9,11 +9,11 @@ pub returns-in-Err-clause-reads : goal.returns-in-Err-clause-reads
 returns-in-Err-clause-reads g c honest book held =
     let told = order_told book c.args.code.now c.args.reference.now in (
       stood_still g.K.Keeper book c.order_of.new.self (Err c.in-Err.refusal) (c.in-Err.ensures.kept honest book held)
-          (λ found left. c.in-Err.ensures.after_a_crash honest book found held left)
-          (c.in-Err.ensures.whole_after_a_crash honest book held) (λ e. (c.in-Err.ensures.fault e).1),
+          (c.in-Err.ensures.left honest book held).after_a_crash
+          (c.in-Err.ensures.left honest book held).whole_after_a_crash (λ e. (c.in-Err.ensures.faults.fault e).1),
       refused_read g.K.Keeper c.args.desk.now c.order_of.new.self c.refused.result
           (c.holds_a_sound_book.ensures.works book held) (told_message order_message told) c.in-Err.refusal
-          c.in-Err.ensures.fault c.in-Err.ensures.only_fault
+          c.in-Err.ensures.faults.fault c.in-Err.ensures.faults.only_fault
           (refused_found told c.in-Err.refusal c.refused.result (c.in-Err.ensures.told honest book held)
           c.refused.ensures) c.refused.ensures,
     )
@@ -22,22 +22,22 @@ pub returns-in-Err-order_reply-clause-reads : goal.returns-in-Err-order_reply-cl
 returns-in-Err-order_reply-clause-reads g c honest book held =
     let told = order_told book c.args.code.now c.args.reference.now in (
       stood_still g.K.Keeper book c.order_of.new.self (Ok c.in-Ok.order) (c.in-Ok.ensures.kept honest book held)
-          (λ found left. c.in-Ok.ensures.after_a_crash honest book found held left)
-          (c.in-Ok.ensures.whole_after_a_crash honest book held) (λ e. (c.in-Ok.ensures.fault e).1),
+          (c.in-Ok.ensures.left honest book held).after_a_crash
+          (c.in-Ok.ensures.left honest book held).whole_after_a_crash (λ e. (c.in-Ok.ensures.faults.fault e).1),
       told_read g.K.Keeper c.args.desk.now c.order_of.new.self c.out_of_memory.result
           (c.holds_a_sound_book.ensures.works book held) (told_message order_message told) c.in-Ok.order
-          c.in-Ok.ensures.only_fault (inr c.out_of_memory.ensures),
+          c.in-Ok.ensures.faults.only_fault (inr c.out_of_memory.ensures),
     )
 
 pub returns-in-Ok-order_reply-clause-reads : goal.returns-in-Ok-order_reply-clause-reads
 returns-in-Ok-order_reply-clause-reads g c honest book held =
     let told = order_told book c.args.code.now c.args.reference.now in (
       stood_still g.K.Keeper book c.order_of.new.self (Ok c.in-Ok.order) (c.in-Ok.ensures.kept honest book held)
-          (λ found left. c.in-Ok.ensures.after_a_crash honest book found held left)
-          (c.in-Ok.ensures.whole_after_a_crash honest book held) (λ e. (c.in-Ok.ensures.fault e).1),
+          (c.in-Ok.ensures.left honest book held).after_a_crash
+          (c.in-Ok.ensures.left honest book held).whole_after_a_crash (λ e. (c.in-Ok.ensures.faults.fault e).1),
       told_read g.K.Keeper c.args.desk.now c.order_of.new.self c.in-Ok-order_reply.reply
           (c.holds_a_sound_book.ensures.works book held) (told_message order_message told) c.in-Ok.order
-          c.in-Ok.ensures.only_fault
+          c.in-Ok.ensures.faults.only_fault
           (found_said told c.in-Ok.order c.in-Ok-order_reply.reply (c.in-Ok.ensures.told honest book held)
           c.in-Ok-order_reply.ensures),
     )

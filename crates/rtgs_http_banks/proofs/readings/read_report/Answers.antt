@@ -10,7 +10,7 @@ returns-in-Err-clause-reads g c honest book held =
       stands_after g.K.Keeper _ _ book c.in-Err.ensures.leaves honest held,
       refused_read g.K.Keeper c.args.desk.now c.report_text.new.desk c.refused.result
           (c.holds_a_sound_book.ensures.works book held) (told_message text_message wanted) c.in-Err.refusal
-          c.in-Err.ensures.fault c.in-Err.ensures.only_fault
+          c.in-Err.ensures.faults.fault c.in-Err.ensures.faults.only_fault
           (refused_text {Y = List ℕ} (λ text. text) wanted text_message c.refused.result _ c.in-Err.refusal
           (λ lost. let is = lost.1 in cc) (c.in-Err.ensures.told honest book held) c.refused.ensures)
           c.refused.ensures,
@@ -22,7 +22,7 @@ returns-in-Ok-text_reply-clause-reads g c honest book held =
       stands_after g.K.Keeper _ _ book c.in-Ok.ensures.leaves honest held,
       told_read g.K.Keeper c.args.desk.now c.report_text.new.desk c.in-Ok-text_reply.reply
           (c.holds_a_sound_book.ensures.works book held) (told_message text_message wanted) c.in-Ok.text
-          c.in-Ok.ensures.only_fault
+          c.in-Ok.ensures.faults.only_fault
           (text_said (λ text. text.items) wanted text_message c.in-Ok-text_reply.reply _ c.in-Ok.text
           (λ lost. let is = lost.1 in cc) (c.in-Ok.ensures.told honest book held)
           (c.in-Ok-text_reply.ensures ∙ ap text_message c.deref.ensures.value)),
