@@ -19,6 +19,6 @@ returns-clause-found g c clean book held =
     (c.next_of-found.ensures.found clean book held (c.records_are_listed.ensures.marks book held.2.sound))
 
 pub returns-clause-reads : goal.returns-clause-reads
-returns-clause-reads g c = reads_on g.S.Store (λ (k : SqlKeeper g.row.S.Denot). k.conn) (λ k. k.failed) _ _
+returns-clause-reads g c = reads_on g.S.Store (λ (k : SqlKeeper g.row.S.Denot g.S.Store). k.conn) (λ k. k.failed) _ _
     c.next_of-found.result c.next_of-found.ensures.looks c.if-self.false
-    c.is_store_fault.ensures.yes c.is_store_fault.ensures.no
+    c.is_store_fault-self.ensures.yes c.is_store_fault-self.ensures.no
