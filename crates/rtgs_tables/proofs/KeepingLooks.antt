@@ -29,9 +29,9 @@ holds_on g old new r book look clean other held =
     (held.0, (look.same clean other).rests held.0 held.1, held.2)
 
 -- What a look leaves of a keeper over a connection, which had not failed and has failed where the store did.
-pub reads_on : {S A K : Type 0} (g : Ghosts S) (conn : K → Held S) (failed : K → Bool) (old new : K) (r : Result A Fault)
-    → IsLook g (conn old) (conn new) r → failed old ≡ false → (r ≡ Err StoreFault → failed new ≡ true)
-    → (r ≢ Err StoreFault → failed new ≡ false)
+pub reads_on : {S A K : Type 0} (g : Ghosts S) (conn : K → Held S) (failed : K → Bool) (old new : K)
+    (r : Result A Fault) → IsLook g (conn old) (conn new) r → failed old ≡ false
+    → (r ≡ Err StoreFault → failed new ≡ true) → (r ≢ Err StoreFault → failed new ≡ false)
     → ReadsOnly (λ k. HoldsBook g (conn k)) (λ k. MayLeave g (conn k)) (λ k. HasCleanDisk (state g (conn k)))
     (λ k. IsWhole g (conn k)) (λ k l. MayLeaveNoMore (state g (conn k)) (state g (conn l))) failed old new r
 reads_on g conn failed old new r look works fails stays = record {

@@ -42,7 +42,7 @@ pub record AnswersBook {S : Type 0} (g : Ghosts S) (old new : Held S) (result : 
   pub kept : HasTables g old → IfOk result (HoldsBook g new)
   pub empty : IsBlank (state g old) → IfOk result (λ _. ⊥) × ((rule : Rule) → result ≢ Err (Inconsistent rule))
 
--- what a reading leaves of a connection: a stop leaves what it could leave before, and the book is held still
+-- what a reading leaves of a connection: the book, unless the store failed; a stop leaves what it could leave before
 pub record LeavesConnection {S A : Type 0} (g : Ghosts S) (old new : Held S) (result : Result A Fault) : Type 0 where
   pub same : (book : Book) → HoldsBook g old book → result ≢ Err StoreFault → HoldsBook g new book
   pub stops : (other : Book) → MayLeave g new other → MayLeave g old other

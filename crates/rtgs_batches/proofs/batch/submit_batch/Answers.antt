@@ -42,8 +42,8 @@ returns-in-Err-clause-sent g c honest book held =
     })
     book so.last c.args.sender c.args.rows.now c.loop-row.row-index c.row-item.result c.loop-row.replies.items
     c.in-Err.refusal c.submit_row.new.desk
-    (c.holds_a_sound_book.ensures.sound book held).sound c.loop-row-test.true c.row-item.is i.told i.judged e.unjudged so.run
-    (e.acts honest so.last so.held)
+    (c.holds_a_sound_book.ensures.sound book held).sound c.loop-row-test.true c.row-item.is i.told i.judged e.unjudged
+    so.run (e.acts honest so.last so.held)
 
 pub returns-in-Err-clause-only_fault : goal.returns-in-Err-clause-only_fault
 returns-in-Err-clause-only_fault g c other = c.in-Err.ensures.only_fault (λ q. other cc) ∙ c.loop-row.invariant.works
