@@ -10,7 +10,7 @@ use Rattle.rtgs_book.specs.declared.Refusal.TheVariants.{OutOfMemory, StoreFault
 use Rattle.rtgs_book.specs.declared.Rule.{Rule}
 use Rattle.rtgs_cores.specs.declared.Core.{Core}
 use Rattle.rtgs_cores.specs.Cores.{IsCoreOf}
-use Rattle.rtgs_keeper.specs.Calls.{ReadsOnly}
+use Rattle.rtgs_keeper.specs.Calls.{OnlyReads}
 use Rattle.rtgs_keeper.specs.declared.keeper.Keeper.{Ghosts}
 use Rattle.rtgs_statements.specs.Reads.{LeavesRead}
 use Rattle.rtgs_desk.specs.Holding.{Holds, IsLeft, KeepsAsBefore}
@@ -26,7 +26,7 @@ pub record KeeperLaws {K : Type 0} (g : Ghosts K) : Type 0 where
 
 -- what a keeper ensures of a look-up with this result
 pub record Looks {K : Type 0} (g : Ghosts K) (X : Type 0) (old new : K) (result : Result X Fault) : Type 0 where
-  pub reads : ReadsOnly g.content g.leaves g.is_honest g.is_whole g.leaves_no_more g.has_failed old new result
+  pub reads : OnlyReads g.content g.leaves g.is_honest g.is_whole g.leaves_no_more g.has_failed old new result
   pub kinds : (result ≢ Err faults.NotADeskFile) × ((rule : Rule) → result ≢ Err (faults.Inconsistent rule))
 
 untouched : {K : Type 0} (g : Ghosts K) → KeeperLaws g → (keeper : K) → KeepsAsBefore g keeper keeper

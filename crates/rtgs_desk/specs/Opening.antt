@@ -18,8 +18,8 @@ pub record LeavesKept {K : Type 0} (g : Ghosts K) (old new : K) : Type 0 where
   pub whole_after_a_crash : (book : Book) → g.content old book → g.is_whole new
 
 -- the desk that was opened over a keeper
-pub record IsOpened {K : Type 0} (g : Ghosts K) (keeper : K) (desk : Seen K) : Type 0 where
-  -- it holds the book that was kept, and one where the tables are a keeper's
+pub record IsOpenedOver {K : Type 0} (g : Ghosts K) (keeper : K) (desk : Seen K) : Type 0 where
+  -- it holds the book that was kept, and one where the tables are a desk's
   pub held : (book : Book) → g.content keeper book → Holds g desk book
   pub kept : g.has_tables keeper → (book : Book) × Holds g desk book
   -- it has a book in memory that the store showed

@@ -1,6 +1,6 @@
 //! The whole text of what a desk tells of its book, made in memory. (A statement that is printed is written row by row
 //! instead, by `write_statement`.)
-ghost use Rattle.std.specs.Prelude.{◌≡◌, ◌≢◌, ◌⊎◌, ◌++◌, ◌∷◌, [], true, false, Ok, Err, None, IfOk};
+ghost use Rattle.std.specs.Prelude.{◌≡◌, ◌≢◌, ◌⊎◌, ◌++◌, ◌∷◌, [], true, Ok, Err, None, IfOk};
 ghost use Rattle.rtgs_book.specs.declared.Book.{Book};
 ghost use Rattle.rtgs_book.specs.declared.Refusal.{Refusal};
 ghost use Rattle.rtgs_book.specs.Lookup.{participant_of};

@@ -1,5 +1,4 @@
 //! Desks over keepers that meet trouble at one of their calls.
 mod failing_batch;
 mod failing_desk;
-mod setting;
 mod texts;

@@ -7,7 +7,7 @@ use Rattle.rtgs_keeper.specs.declared.commit_fault.CommitFault.{CommitFault}
 use Rattle.rtgs_keeper.specs.declared.commit_fault.CommitFault.TheVariants.{Store, Failed}
 
 -- what a call that only reads leaves, and when it tells that the store failed
-pub record ReadsOnly {K X : Type 0} (content leaves : K → Book → Type 0) (is_honest is_whole : K → Type 0)
+pub record OnlyReads {K X : Type 0} (content leaves : K → Book → Type 0) (is_honest is_whole : K → Type 0)
     (leaves_no_more : K → K → Type 0) (has_failed : K → Bool) (old new : K) (result : Result X Fault) : Type 0 where
   pub honest : is_honest new → is_honest old
   -- unless the store failed, the book is kept as before
@@ -28,4 +28,4 @@ pub record TellsCommitFaults {K X : Type 0} (has_failed : K → Bool) (old new :
   pub fault : result ≡ Err Store → has_failed new ≡ true
   pub only_fault : result ≢ Err Store → has_failed new ≡ has_failed old
   pub failed : has_failed old ≡ true → (result ≡ Err Failed) × (new ≡ old)
-  pub not_failed : result ≡ Err Failed → has_failed old ≡ true
+  pub only_failed : result ≡ Err Failed → has_failed old ≡ true

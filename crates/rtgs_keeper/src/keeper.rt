@@ -7,7 +7,7 @@ ghost use Rattle.rtgs_book.specs.declared.Book.{Book};
 ghost use Rattle.rtgs_book.specs.declared.Fault.{Fault};
 ghost use Rattle.rtgs_book.specs.declared.Rule.{Rule};
 ghost use Rattle.rtgs_book.specs.Changes.{IsChange};
-ghost use Rattle.rtgs_keeper.specs.Calls.{ReadsOnly, TellsCommitFaults};
+ghost use Rattle.rtgs_keeper.specs.Calls.{OnlyReads, TellsCommitFaults};
 
 use crate::commit_fault::CommitFault;
 use rtgs_book::{Change, Fault, Mark, Order, Posting};
@@ -51,7 +51,7 @@ pub trait Keeper {
     /// Gives what the desk needs of the book that is kept, which is judged as a whole. On a keeper that has failed it
     /// is `StoreFault`, and nothing is done.
     fn core(&mut self, alloc: Global) -> Result<Core, Fault>
-        ensures reads { ReadsOnly content leaves is_honest is_whole leaves_no_more has_failed self.old self.new result }
+        ensures reads { OnlyReads content leaves is_honest is_whole leaves_no_more has_failed self.old self.new result }
         ensures given { is_honest self.new → (book : Book) → content self.old book → IfOk result (IsCoreOf book) }
         ensures accepted { is_honest self.new → (book : Book) → content self.old book
             → IfErr result (λ fault. (fault ≡ Fault.OutOfMemory) ⊎ (fault ≡ Fault.StoreFault)) }
@@ -67,35 +67,35 @@ pub trait Keeper {
     /// The order that the sender gave this reference, where the book has one. On a keeper that has failed it is
     /// `StoreFault`, and nothing is done; so with each look-up and each next.
     fn find_order(&mut self, sender: &Code, reference: &Reference) -> Result<Option<Order>, Fault>
-        ensures reads { ReadsOnly content leaves is_honest is_whole leaves_no_more has_failed self.old self.new result }
+        ensures reads { OnlyReads content leaves is_honest is_whole leaves_no_more has_failed self.old self.new result }
         ensures found { is_honest self.new → (book : Book) → content self.old book
             → IfOk result (λ found. found ≡ order_named book sender.now reference.now) }
         ensures kinds { (result ≢ Err Fault.NotADeskFile) × ((rule : Rule) → result ≢ Err (Fault.Inconsistent rule)) };
 
     /// The posting with this reference, where the book has one.
     fn find_posting(&mut self, reference: &Reference) -> Result<Option<Posting>, Fault>
-        ensures reads { ReadsOnly content leaves is_honest is_whole leaves_no_more has_failed self.old self.new result }
+        ensures reads { OnlyReads content leaves is_honest is_whole leaves_no_more has_failed self.old self.new result }
         ensures found { is_honest self.new → (book : Book) → content self.old book
             → IfOk result (λ found. found ≡ posting_named book reference.now) }
         ensures kinds { (result ≢ Err Fault.NotADeskFile) × ((rule : Rule) → result ≢ Err (Fault.Inconsistent rule)) };
 
     /// The posting of this date with the least number above the given one.
     fn next_posting(&mut self, date: BusinessDate, number: u64) -> Result<Option<Posting>, Fault>
-        ensures reads { ReadsOnly content leaves is_honest is_whole leaves_no_more has_failed self.old self.new result }
+        ensures reads { OnlyReads content leaves is_honest is_whole leaves_no_more has_failed self.old self.new result }
         ensures found { is_honest self.new → (book : Book) → content self.old book
             → IfOk result (λ found. found ≡ posting_after book date number) }
         ensures kinds { (result ≢ Err Fault.NotADeskFile) × ((rule : Rule) → result ≢ Err (Fault.Inconsistent rule)) };
 
     /// The order of this date with the least number above the given one.
     fn next_order(&mut self, date: BusinessDate, number: u64) -> Result<Option<Order>, Fault>
-        ensures reads { ReadsOnly content leaves is_honest is_whole leaves_no_more has_failed self.old self.new result }
+        ensures reads { OnlyReads content leaves is_honest is_whole leaves_no_more has_failed self.old self.new result }
         ensures found { is_honest self.new → (book : Book) → content self.old book
             → IfOk result (λ found. found ≡ order_after book date number) }
         ensures kinds { (result ≢ Err Fault.NotADeskFile) × ((rule : Rule) → result ≢ Err (Fault.Inconsistent rule)) };
 
     /// The mark of this date with the least number above the given one.
     fn next_mark(&mut self, date: BusinessDate, number: u64) -> Result<Option<Mark>, Fault>
-        ensures reads { ReadsOnly content leaves is_honest is_whole leaves_no_more has_failed self.old self.new result }
+        ensures reads { OnlyReads content leaves is_honest is_whole leaves_no_more has_failed self.old self.new result }
         ensures found { is_honest self.new → (book : Book) → content self.old book
             → IfOk result (λ found. found ≡ mark_after book date number) }
         ensures kinds { (result ≢ Err Fault.NotADeskFile) × ((rule : Rule) → result ≢ Err (Fault.Inconsistent rule)) };

@@ -1,5 +1,5 @@
 //! The book that the tables hold.
-ghost use Rattle.std.specs.Prelude.{◌≡◌, ◌≢◌, false, map, List, Err, IfOk, IfErr, OnOk};
+ghost use Rattle.std.specs.Prelude.{◌≡◌, ◌≢◌, false, map, Err, IfOk, IfErr, OnOk};
 ghost use Rattle.rtgs_book.specs.declared.Book.{Book};
 ghost use Rattle.rtgs_book.specs.declared.Rule.{Rule};
 ghost use Rattle.rtgs_book.specs.declared.account.Account.{Account as AccountSpec};

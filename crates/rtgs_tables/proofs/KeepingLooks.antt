@@ -15,7 +15,7 @@ use Rattle.rtgs_book.specs.declared.Fault.TheVariants.{OutOfMemory, StoreFault, 
 use Rattle.rtgs_book.specs.declared.Rule.{Rule}
 use Rattle.rtgs_book.specs.Commands.{is_date}
 use Rattle.rtgs_cores.specs.Nexts.{posting_after, is_posting_after, date_of_posting}
-use Rattle.rtgs_keeper.specs.Calls.{ReadsOnly}
+use Rattle.rtgs_keeper.specs.Calls.{OnlyReads}
 use Rattle.rtgs_rows.specs.Keeping.{HoldsBook, MayLeave, IsWhole}
 use Rattle.rtgs_sql_look_ups.specs.Finding.{IsLook}
 use Rattle.rtgs_sql_look_ups.specs.Seeking.{first_of_date}
@@ -32,7 +32,7 @@ holds_on g old new r book look clean other held =
 pub reads_on : {S A K : Type 0} (g : Ghosts S) (conn : K → Held S) (failed : K → Bool) (old new : K)
     (r : Result A Fault) → IsLook g (conn old) (conn new) r → failed old ≡ false
     → (r ≡ Err StoreFault → failed new ≡ true) → (r ≢ Err StoreFault → failed new ≡ false)
-    → ReadsOnly (λ k. HoldsBook g (conn k)) (λ k. MayLeave g (conn k)) (λ k. HasCleanDisk (state g (conn k)))
+    → OnlyReads (λ k. HoldsBook g (conn k)) (λ k. MayLeave g (conn k)) (λ k. HasCleanDisk (state g (conn k)))
     (λ k. IsWhole g (conn k)) (λ k l. MayLeaveNoMore (state g (conn k)) (state g (conn l))) failed old new r
 reads_on g conn failed old new r look works fails stays = record {
   honest = λ clean. let low = look.survives.clean in omega (arith, low, clean);

@@ -4,6 +4,7 @@ ghost use Rattle.std.specs.Prelude.{◌≡◌, ◌⊎◌};
 use rtgs_book::{Change, Fault, Mark, Order, Posting};
 use rtgs_cores::Core;
 use rtgs_keeper::{CommitFault, Keeper};
+use rtgs_memory_keeper::MemoryKeeper;
 use rtgs_money::{BusinessDate, Code, Reference};
 use std::alloc::Global;
 
@@ -205,4 +206,9 @@ impl<K: Keeper> Keeper for FailingKeeper<K> {
             _ => kept,
         }
     }
+}
+
+/// A keeper in memory of a new book, which meets this trouble after so many calls.
+pub fn failing(alloc: Global, calls: usize, trouble: Trouble) -> FailingKeeper<MemoryKeeper> {
+    FailingKeeper::new(MemoryKeeper::new(alloc), calls, trouble)
 }

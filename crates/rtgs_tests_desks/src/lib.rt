@@ -11,7 +11,7 @@ mod silence;
 
 pub use crate::batch_orders::orders;
 pub use crate::counting_keeper::CountingKeeper;
-pub use crate::failing_keeper::{FailingKeeper, Trouble};
+pub use crate::failing_keeper::{FailingKeeper, Trouble, failing};
 pub use crate::opened::{BANKS, begun, desk_over};
 pub use crate::scripts::{Reply, answered, command, commands, follows, is_told};
 pub use crate::silence::is_silent;

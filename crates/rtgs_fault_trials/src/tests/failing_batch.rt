@@ -1,11 +1,10 @@
 //! A batch whose store fails, and its result files before and after the desk is opened again.
-use super::setting::failing;
 use rtgs_batches::submit_batch;
 use rtgs_desk::Desk;
 use rtgs_keeper::Keeper;
 use rtgs_money::Code;
 use rtgs_order_files::write_results;
-use rtgs_tests_desks::{FailingKeeper, Trouble, begun, desk_over, orders};
+use rtgs_tests_desks::{FailingKeeper, Trouble, begun, desk_over, failing, orders};
 use std::alloc::Global;
 use std::test::Fail;
 

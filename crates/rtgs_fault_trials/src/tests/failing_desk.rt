@@ -1,9 +1,10 @@
 //! A desk over a keeper that fails, and opened again over what it kept.
-use super::setting::failing;
 use rtgs_book::Fault;
 use rtgs_desk::Desk;
 use rtgs_keeper::Keeper;
-use rtgs_tests_desks::{FailingKeeper, Reply, Trouble, commands, desk_over, follows, is_told};
+use rtgs_tests_desks::{
+    FailingKeeper, Reply, Trouble, commands, desk_over, failing, follows, is_told,
+};
 use std::alloc::Global;
 use std::test::Fail;
 

@@ -1,11 +1,10 @@
 //! A statement and a day report whose reads meet trouble, each in turn: what was written is a beginning of the text.
-use super::setting::failing;
 use rtgs_book::Refusal;
 use rtgs_desk::Desk;
 use rtgs_keeper::Keeper;
 use rtgs_money::{BusinessDate, Code};
 use rtgs_statements::{BookTextFault, write_report, write_statement};
-use rtgs_tests_desks::{FailingKeeper, Trouble, begun, desk_over, is_silent};
+use rtgs_tests_desks::{FailingKeeper, Trouble, begun, desk_over, failing, is_silent};
 use std::alloc::Global;
 use std::test::Fail;
 

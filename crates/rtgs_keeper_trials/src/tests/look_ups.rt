@@ -1,11 +1,11 @@
 //! Commands whose look-up meets trouble, and what is found then.
-use super::memory::{InMemory, failing};
+use super::memory::InMemory;
 use super::runs::{begin, found_after, found_in, progress_in};
 use super::store::{Failing, Store};
 use super::trial::{Progress, Trial};
 use rtgs_book::Refusal;
 use rtgs_keeper::Keeper;
-use rtgs_tests_desks::{FailingKeeper, Trouble, begun, command, desk_over, follows};
+use rtgs_tests_desks::{FailingKeeper, Trouble, begun, command, desk_over, failing, follows};
 use std::alloc::Global;
 use std::test::Fail;
 

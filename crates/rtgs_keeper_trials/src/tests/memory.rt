@@ -7,11 +7,6 @@ use std::alloc::Global;
 use std::mem;
 use std::test::Fail;
 
-/// A keeper of a new book, which meets this trouble after so many calls.
-pub fn failing(alloc: Global, calls: usize, trouble: Trouble) -> FailingKeeper<MemoryKeeper> {
-    FailingKeeper::new(MemoryKeeper::new(alloc), calls, trouble)
-}
-
 /// A keeper while no desk is open over it, and the trouble that it meets after so many calls.
 #[derive(Drop)]
 pub struct InMemory {
