@@ -9,7 +9,7 @@ mod opened;
 mod scripts;
 mod silence;
 
-pub use crate::batch_orders::orders;
+pub use crate::batch_orders::{orders, sent};
 pub use crate::counting_keeper::CountingKeeper;
 pub use crate::failing_keeper::{FailingKeeper, Trouble, failing};
 pub use crate::opened::{BANKS, begun, desk_over};

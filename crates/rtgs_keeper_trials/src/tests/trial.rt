@@ -1,13 +1,10 @@
 //! What is given to a desk while its store fails, and what is found then.
 use super::found::found_of;
 use super::store::{Booked, Job};
-use rtgs_batches::submit_batch;
-use rtgs_book::{Answer, Fault, Known, Refusal};
+use rtgs_book::Fault;
 use rtgs_desk::Desk;
 use rtgs_keeper::Keeper;
-use rtgs_money::Code;
-use rtgs_order_files::RowReply;
-use rtgs_tests_desks::{Reply, answered, begun, is_silent, is_told, orders};
+use rtgs_tests_desks::{answered, begun, is_silent, sent};
 use std::alloc::Global;
 use std::test::Fail;
 
@@ -132,42 +129,4 @@ impl Job for Work {
         self.found = Some(found);
         Ok((keeper, closes))
     }
-}
-
-// Sends the first of ALFA's orders in one batch, of which so many come again, and counts those that are replied to
-// before a fault of the store, and nothing else, stops them.
-fn sent<K: Keeper>(
-    alloc: Global,
-    desk: &mut Desk<K>,
-    script: &str,
-    known: usize,
-    most: usize,
-) -> Result<usize, Fail> {
-    let sender = Code::read(b"ALFA")?;
-    let orders = orders(alloc, script, most)?;
-    let batch = submit_batch(alloc, desk, sender, orders.as_slice())?;
-    if !matches!(batch.stopped, None | Some(Refusal::StoreFault)) {
-        return Err(Fail::new("another stop"));
-    }
-    replied(alloc, batch.replies.as_slice(), script, known)
-}
-
-// Counts the replies, of which so many are to orders that come again. Each is as the script tells of its order.
-fn replied(alloc: Global, replies: &[RowReply], script: &str, known: usize) -> Result<usize, Fail> {
-    let mut count = 0usize;
-    for (line, reply) in script.lines().zip(replies) {
-        let answer: Reply = match *reply {
-            RowReply::Settled { number, mark } => Ok(Answer::Settled { number, mark }),
-            RowReply::Queued { number, place } => Ok(Answer::Queued { number, place }),
-            RowReply::Repeated { number, state } => {
-                Ok(Answer::Repeated(Known::Order { number, state }))
-            }
-            RowReply::Refused(refusal) => Err(refusal),
-        };
-        if !is_told(alloc, &answer, line, count < known)? {
-            return Err(Fail::new("another row reply"));
-        }
-        count = count.saturating_add(1);
-    }
-    Ok(count)
 }
