@@ -3,6 +3,7 @@ pub mod BookLaws
 pub mod Insertions
 pub mod Lists
 pub mod Outcomes
+pub mod Runs
 pub mod Settling
 pub mod Sound
 pub mod SoundAdd

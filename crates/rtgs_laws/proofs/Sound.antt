@@ -1,11 +1,10 @@
--- Steps and runs keep a book sound.
-use Rattle.std.proofs.Common.{◌≡◌, List, [], ◌∷◌, sym, ap, subst}
+-- Steps keep a book sound.
+use Rattle.std.proofs.Common.{◌≡◌, sym, ap, subst}
 use Rattle.rtgs_book.specs.declared.command.Command.TheVariants.{Add, SetCredit, Post, OpenDay, Order as PlaceOrder}
 use Rattle.rtgs_book.specs.declared.command.Command.TheVariants.{Withdraw, Resolve, CutOff, CloseDay}
 use Rattle.rtgs_book.specs.declared.book.Book.{Book}
 use Rattle.rtgs_book.specs.declared.command.Command.{Command}
 use Rattle.rtgs_book.specs.Outcome.{Reply, Outcome}
-use Rattle.rtgs_book.specs.Run.{Run}
 use Rattle.rtgs_book.specs.Step.{Step}
 use Rattle.rtgs_book.specs.Soundness.{IsSound}
 use Rattle.rtgs_laws.proofs.BookLaws.{BookLaws}
@@ -39,11 +38,3 @@ step_sound laws old new (CloseDay date) reply h e = ends _ reply new e.2 (sound_
 abbrev pub KeepsSoundness : Type 0
 KeepsSoundness = (old new : Book) (command : Command) (reply : Reply) → IsSound old → Step old command reply new
     → IsSound new
-
-pub run_sound : KeepsSoundness → (old new : Book) (commands : List Command) (replies : List Reply) → IsSound old
-    → Run old commands replies new → IsSound new
-run_sound keeps old new [] [] h r = subst IsSound (sym r) h
-run_sound keeps old new [] (reply ∷ replies) h r = absurd r
-run_sound keeps old new (command ∷ commands) [] h r = absurd r
-run_sound keeps old new (command ∷ commands) (reply ∷ replies) h r =
-    run_sound keeps r.0 new commands replies (keeps old r.0 command reply h r.1) r.2

@@ -28,7 +28,6 @@ use Rattle.rtgs_book.specs.Commands.{new_order, with_order, has_number, takes, s
 use Rattle.rtgs_book.specs.Commands.{number_of, with_state, withdraw, open_day, cut_off, resolve, close_day}
 use Rattle.rtgs_book.specs.Procedure.{Has}
 use Rattle.rtgs_book.specs.Soundness.{IsSound}
-use Rattle.rtgs_book.specs.Run.{Run}
 use Rattle.rtgs_book.specs.Step.{Step}
 use Rattle.rtgs_book.specs.Laws.{posted, KeepsWhatIsFinal, CommandFits}
 use Rattle.rtgs_book.specs.Ranges.{Fits}
@@ -287,27 +286,18 @@ step_stands old new (CloseDay date) reply h e = stays old new reply _ e.2
     (book_first_of (KeepsWhatIsFinal old) old _ _ (stands_same old old refl refl)
     (stands_restated old _ is_queued Rejected (all_queued old.orders) [] (sym (append-nil old.marks)) refl))
 
--- each command leaves marks and settled orders as they are
-abbrev pub StandsFinal : Type 0
-StandsFinal = (old new : Book) (command : Command) (reply : Reply) → IsSound old → Step old command reply new
-    → KeepsWhatIsFinal old new
+pub stands_itself : (book : Book) → KeepsWhatIsFinal book book
+stands_itself book = stands_same book book refl refl
 
-pub run_stands : KeepsSoundness → StandsFinal → (old new : Book) (commands : List Command) (replies : List Reply)
-    → IsSound old → Run old commands replies new → KeepsWhatIsFinal old new
-run_stands keeps stands old new [] [] h r = subst (KeepsWhatIsFinal old) (sym r) (stands_same old old refl refl)
-run_stands keeps stands old new [] (reply ∷ replies) h r = absurd r
-run_stands keeps stands old new (command ∷ commands) [] h r = absurd r
-run_stands keeps stands old new (command ∷ commands) (reply ∷ replies) h r =
-    let one = stands old r.0 command reply h r.1 in
-    let rest = run_stands keeps stands r.0 new commands replies (keeps old r.0 command reply h r.1) r.2 in
-    record {
-      marks = (
-        one.marks.0 ++ rest.marks.0,
-        rest.marks.1 ∙ ap (λ ms. ms ++ rest.marks.0) one.marks.1
-            ∙ append_assoc old.marks one.marks.0 rest.marks.0,
-      );
-      orders = λ o has settled. rest.orders o (one.orders o has settled) settled;
-    }
+pub stands_through : (old mid new : Book) → KeepsWhatIsFinal old mid → KeepsWhatIsFinal mid new
+    → KeepsWhatIsFinal old new
+stands_through old mid new one rest = record {
+  marks = (
+    one.marks.0 ++ rest.marks.0,
+    rest.marks.1 ∙ ap (λ ms. ms ++ rest.marks.0) one.marks.1 ∙ append_assoc old.marks one.marks.0 rest.marks.0,
+  );
+  orders = λ o has settled. rest.orders o (one.orders o has settled) settled;
+}
 
 -- ---- amounts keep their ranges
 

@@ -13,7 +13,8 @@ ghost use Rattle.rtgs_book.specs.Settle.{settle};
 ghost use Rattle.rtgs_book.specs.Ranges.{Fits};
 ghost use Rattle.rtgs_book.specs.Run.{Run};
 ghost use Rattle.rtgs_book.specs.Step.{Step};
-ghost use Rattle.rtgs_book.specs.Soundness.{FloorsHold, IsSound};
+ghost use Rattle.rtgs_book.specs.Soundness.{IsSound};
+ghost use Rattle.rtgs_laws.specs.Through.{GoesThrough};
 
 use rtgs_book::laws::{
     balance_after_posting, balance_after_restating, balance_after_settling,
@@ -28,9 +29,9 @@ pub fn step_is_determined()
     greatest_is_unique();
 }
 
-/// A command has a reply, where no balance is below its floor.
+/// In a sound book a command has a reply.
 pub fn step_exists()
-    ensures { (book : Book) (command : Command) → FloorsHold book
+    ensures { (book : Book) (command : Command) → IsSound book
         → (reply : Reply) × (new : Book) × Step book command reply new }
 {
     greatest_exists();
@@ -80,13 +81,19 @@ pub fn step_keeps_what_is_final()
         → KeepsWhatIsFinal old new }
 {}
 
-/// So they do over each list of commands.
+/// What stands up to a book in between, and from there on, stands from the first book to the last.
+pub fn what_is_final_goes_through()
+    ensures { GoesThrough KeepsWhatIsFinal }
+{}
+
+/// So marks and settled orders stand over each list of commands.
 pub fn run_keeps_what_is_final()
     ensures { (old new : Book) (commands : List Command) (replies : List Reply) → IsSound old
         → Run old commands replies new → KeepsWhatIsFinal old new }
 {
     step_keeps_soundness();
     step_keeps_what_is_final();
+    what_is_final_goes_through();
 }
 
 /// Amounts stay in their ranges.

@@ -1,4 +1,4 @@
-use Rattle.rtgs_laws.proofs.Sound.{run_sound}
+use Rattle.rtgs_laws.proofs.Runs.{run_sound}
 use Rattle.rtgs_laws.proofs.laws.run_keeps_soundness.Goals as goal
 
 pub returns : goal.returns

@@ -2,4 +2,4 @@ use Rattle.rtgs_laws.proofs.Steps.{step_there}
 use Rattle.rtgs_laws.proofs.laws.step_exists.Goals as goal
 
 pub returns : goal.returns
-returns c = step_there c.greatest_exists.ensures
+returns c = λ book command sound. step_there c.greatest_exists.ensures book command sound.floors
