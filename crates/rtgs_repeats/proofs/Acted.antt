@@ -52,6 +52,11 @@ known_participant book code = by book.participants
         at true rest = refl
         at false rest = rest
 
+pub same_participant : (old new : Book) (code : List ℕ) → new.participants ≡ old.participants
+    → is_participant new code ≡ is_participant old code
+unfolding is_participant accounts
+same_participant old new code same = λ i. list_any (bytes_eq code) (map (λ p. p.code) (same i))
+
 pub there : {X : Type 0} (o : Option X) → is_some o ≡ true → (x : X) × (o ≡ Some x)
 there None e = absurd (true≢false (sym e))
 there (Some x) e = (x, refl)

@@ -5,7 +5,7 @@ use Rattle.std.proofs.lemmas.Bool.{and_parts}
 use Rattle.std.proofs.lemmas.Bool.Decides.{nat_tests}
 use Rattle.std.proofs.lemmas.List.{length-map, map-append}
 use Rattle.std.proofs.lemmas.List.Elements.{filter-append}
-use Rattle.std.specs.List.{AllByRecursion, list_any}
+use Rattle.std.specs.List.{AllByRecursion}
 use Rattle.std.specs.Str.{bytes_eq}
 use Rattle.rtgs_book.specs.declared.book.Book.{Book}
 use Rattle.rtgs_book.specs.declared.order.Order.{Order}
@@ -17,7 +17,7 @@ use Rattle.rtgs_book.specs.declared.command.Command.TheVariants.{Order as PlaceO
 use Rattle.rtgs_book.specs.declared.limits.TheConstants.{LONGEST_QUEUE, LARGEST_NUMBER}
 use Rattle.rtgs_book.specs.Books.{is_open, is_empty, is_queued}
 use Rattle.rtgs_book.specs.Commands.{is_same_order, settles_at_once, new_order, with_order, has_number, takes, order}
-use Rattle.rtgs_book.specs.Lookup.{accounts, is_participant, order_named}
+use Rattle.rtgs_book.specs.Lookup.{is_participant, order_named}
 use Rattle.rtgs_book.specs.Queue.{queue}
 use Rattle.rtgs_book.specs.Outcome.{Reply, Outcome}
 use Rattle.rtgs_book.specs.Run.{Run, is_accepted}
@@ -26,9 +26,10 @@ use Rattle.rtgs_book.specs.Soundness.{OrdersAreNumbered, IsSound}
 use Rattle.rtgs_book.specs.Step.{Step}
 use Rattle.rtgs_repeats.specs.Kept.{AreKept}
 use Rattle.rtgs_repeats.specs.Batch.{IsOrder}
-use Rattle.rtgs_repeats.proofs.Acted.{ordered_known, order_same, there}
+use Rattle.rtgs_repeats.proofs.Acted.{ordered_known, order_same, same_participant, there}
 use Rattle.rtgs_repeats.proofs.Kept.{none_numbered, by_settling, kept_through}
-use Rattle.rtgs_repeats.proofs.KeptSteps.{StepKeepsSoundness, step_kept, kept_itself}
+use Rattle.rtgs_repeats.proofs.KeptSteps.{step_kept, kept_itself}
+use Rattle.rtgs_repeats.proofs.Runs.{StepKeepsSoundness}
 use Rattle.rtgs_repeats.proofs.Once.{or_second, book_as, recorded_kept}
 use Rattle.rtgs_repeats.proofs.Passing.{some_holds, none_holds, choose, choose_book}
 
@@ -92,11 +93,6 @@ waits : (book : Book) (sender : List ℕ) (amount : ℕ) → nat_le LONGEST_QUEU
     → settles_at_once book sender amount ≡ false
 unfolding settles_at_once
 waits book sender amount e = rw (some_queued (queue book sender) e) refl
-
-same_participant : (old new : Book) (code : List ℕ) → new.participants ≡ old.participants
-    → is_participant new code ≡ is_participant old code
-unfolding is_participant accounts
-same_participant old new code same = λ i. list_any (bytes_eq code) (map (λ p. p.code) (same i))
 
 stopped_later : (old new : Book) (sender reference receiver : List ℕ) (amount : ℕ) → Follows old new
     → is_stopped old sender reference receiver amount ≡ true → is_stopped new sender reference receiver amount ≡ true

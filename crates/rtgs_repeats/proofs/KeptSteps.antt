@@ -17,10 +17,10 @@ use Rattle.rtgs_book.specs.Commands.{has_number, takes, settles_at_once, order, 
 use Rattle.rtgs_book.specs.Commands.{withdraw, open_day, cut_off, resolve, close_day}
 use Rattle.rtgs_book.specs.Lookup.{participant_of, is_order_named, order_named, is_posting_named}
 use Rattle.rtgs_book.specs.Outcome.{Reply, Outcome}
-use Rattle.rtgs_book.specs.Run.{Run}
 use Rattle.rtgs_book.specs.Settle.{settle, next_mark}
 use Rattle.rtgs_book.specs.Soundness.{OrdersAreNumbered, IsSound}
 use Rattle.rtgs_book.specs.Step.{Step}
+use Rattle.rtgs_laws.specs.Through.{GoesThrough}
 use Rattle.rtgs_repeats.specs.Kept.{AreKept}
 use Rattle.rtgs_repeats.proofs.Finds.{find_left, only_one}
 use Rattle.rtgs_repeats.proofs.Kept.{QueuedAlone, orders_same, orders_grown, orders_restated, none_numbered}
@@ -135,15 +135,5 @@ step_kept old new (CloseDay date) reply h e = kept_as old new reply _ e.2
     (orders_restated is_queued Rejected old.orders (all_of (λ o. is_queued o ≡ true → is_queued o ≡ true) (λ o t. t)
     old.orders))))
 
-abbrev pub StepKeepsSoundness : Type 0
-StepKeepsSoundness = (old new : Book) (command : Command) (reply : Reply) → IsSound old → Step old command reply new
-    → IsSound new
-
-pub run_kept : StepKeepsSoundness → (old new : Book) (commands : List Command) (replies : List Reply) → IsSound old
-    → Run old commands replies new → AreKept old new
-run_kept law old new [] [] h r = subst (AreKept old) (sym r) (kept_itself old)
-run_kept law old new [] (reply ∷ replies) h r = absurd r
-run_kept law old new (command ∷ commands) [] h r = absurd r
-run_kept law old new (command ∷ commands) (reply ∷ replies) h r =
-    kept_through old r.0 new (step_kept old r.0 command reply h r.1)
-    (run_kept law r.0 new commands replies (law old r.0 command reply h r.1) r.2)
+pub kept_goes_through : GoesThrough AreKept
+kept_goes_through = record { itself = kept_itself; through = kept_through }

@@ -21,7 +21,8 @@ use Rattle.rtgs_book.specs.Step.{Step}
 use Rattle.rtgs_repeats.specs.Kept.{AreKept}
 use Rattle.rtgs_repeats.specs.Once.{once_replies_after}
 use Rattle.rtgs_repeats.proofs.Acted.{posted_known, ordered_known, order_same, posting_same}
-use Rattle.rtgs_repeats.proofs.KeptSteps.{StepKeepsSoundness, step_kept}
+use Rattle.rtgs_repeats.proofs.KeptSteps.{step_kept}
+use Rattle.rtgs_repeats.proofs.Runs.{StepKeepsSoundness}
 use Rattle.rtgs_repeats.proofs.Kept.{kept_through}
 use Rattle.rtgs_repeats.proofs.Passing.{some_holds}
 use Rattle.rtgs_lists.proofs.Lists.{all_weaker}

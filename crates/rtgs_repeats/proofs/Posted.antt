@@ -10,7 +10,7 @@ use Rattle.rtgs_book.specs.Run.{Run}
 use Rattle.rtgs_book.specs.Soundness.{IsSound}
 use Rattle.rtgs_book.specs.Step.{Step}
 use Rattle.rtgs_repeats.specs.Lasting.{posted_by}
-use Rattle.rtgs_repeats.proofs.KeptSteps.{StepKeepsSoundness}
+use Rattle.rtgs_repeats.proofs.Runs.{StepKeepsSoundness}
 
 abbrev pub TotalMovesByPostings : Type 0
 TotalMovesByPostings = (old new : Book) (command : Command) (reply : Reply) → IsSound old → Step old command reply new

@@ -25,7 +25,7 @@ use Rattle.rtgs_book.specs.Soundness.{OrdersAreNumbered, has_parties, IsSound}
 use Rattle.rtgs_book.specs.Step.{Step}
 use Rattle.rtgs_repeats.proofs.Days.{SomeGreatest}
 use Rattle.rtgs_repeats.proofs.Kept.{by_settling}
-use Rattle.rtgs_repeats.proofs.KeptSteps.{StepKeepsSoundness}
+use Rattle.rtgs_repeats.proofs.Runs.{StepKeepsSoundness}
 use Rattle.rtgs_repeats.proofs.Sums.{sent_by, by_senders}
 use Rattle.rtgs_repeats.proofs.Passing.{passed_step}
 use Rattle.rtgs_lists.proofs.Lists.{all_filter, all_weaker}

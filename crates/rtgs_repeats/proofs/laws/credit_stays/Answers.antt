@@ -1,5 +1,7 @@
-use Rattle.rtgs_repeats.proofs.Days.{set_again}
+use Rattle.rtgs_book.specs.declared.command.Command.TheVariants.{SetCredit}
+use Rattle.rtgs_repeats.proofs.Credit.{set_again}
 use Rattle.rtgs_repeats.proofs.laws.credit_stays.Goals as goal
 
 pub returns : goal.returns
-returns c = λ old new code credit reply accepted s. set_again old new reply code credit accepted s
+returns c = λ old new code credit reply sound accepted s. set_again old new reply code credit
+    (c.step_keeps_soundness.ensures old new (SetCredit code credit) reply sound s) accepted s
