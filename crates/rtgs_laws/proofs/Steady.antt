@@ -214,11 +214,24 @@ stands_settle old is_in queued =
     (λ _. stands_restated old _ is_in (Settled (next_mark old)) queued (mark_of old (filter is_in old.orders) ∷ [])
     refl refl)
 
-stands_after : (old mid new : Book) → mid.marks ≡ old.marks → (later : List Order) → mid.orders ≡ old.orders ++ later
-    → KeepsWhatIsFinal mid new → KeepsWhatIsFinal old new
-stands_after old mid new m later o h = record {
-  marks = (h.marks.0, h.marks.1 ∙ ap (λ ms. ms ++ h.marks.0) m);
-  orders = λ x has settled. h.orders x (subst (λ os. Has os x) (sym o) (has_left old.orders later x has)) settled;
+stands_grown : (old new : Book) → new.marks ≡ old.marks → (later : List Order) → new.orders ≡ old.orders ++ later
+    → KeepsWhatIsFinal old new
+stands_grown old new m later o = record {
+  marks = ([], m ∙ sym (append-nil old.marks));
+  orders = λ x has settled. subst (λ os. Has os x) (sym o) (has_left old.orders later x has);
+}
+
+pub stands_itself : (book : Book) → KeepsWhatIsFinal book book
+stands_itself book = stands_same book book refl refl
+
+pub stands_through : (old mid new : Book) → KeepsWhatIsFinal old mid → KeepsWhatIsFinal mid new
+    → KeepsWhatIsFinal old new
+stands_through old mid new one rest = record {
+  marks = (
+    one.marks.0 ++ rest.marks.0,
+    rest.marks.1 ∙ ap (λ ms. ms ++ rest.marks.0) one.marks.1 ∙ append_assoc old.marks one.marks.0 rest.marks.0,
+  );
+  orders = λ o has settled. rest.orders o (one.orders o has settled) settled;
 }
 
 -- the order that joins its queue is the only one with its number
@@ -236,11 +249,10 @@ module _ (book : Book) (sender reference receiver : List ℕ) (amount : ℕ) (h 
   unfolding takes
   takes_stands =
       let new = new_order book sender reference receiver amount in
+      let joined = stands_grown book (with_order book new) refl (new ∷ []) refl in
       choose_book (KeepsWhatIsFinal book) (settles_at_once book sender amount) _ _
-      (stands_after book (with_order book new) (settle (with_order book new) (has_number (length book.orders + 1))) refl
-      (new ∷ []) refl (stands_settle (with_order book new) (has_number (length book.orders + 1)) one_new))
-      (stands_after book (with_order book new) (with_order book new) refl (new ∷ []) refl
-      (stands_same (with_order book new) (with_order book new) refl refl))
+      (stands_through book (with_order book new) (settle (with_order book new) (has_number (length book.orders + 1)))
+      joined (stands_settle (with_order book new) (has_number (length book.orders + 1)) one_new)) joined
 
   withdraw_stands : KeepsWhatIsFinal book (withdraw book sender reference).book
   unfolding withdraw with_state order_named
@@ -285,19 +297,6 @@ step_stands old new (CutOff date) reply h e = stays old new reply _ e
 step_stands old new (CloseDay date) reply h e = stays old new reply _ e.2
     (book_first_of (KeepsWhatIsFinal old) old _ _ (stands_same old old refl refl)
     (stands_restated old _ is_queued Rejected (all_queued old.orders) [] (sym (append-nil old.marks)) refl))
-
-pub stands_itself : (book : Book) → KeepsWhatIsFinal book book
-stands_itself book = stands_same book book refl refl
-
-pub stands_through : (old mid new : Book) → KeepsWhatIsFinal old mid → KeepsWhatIsFinal mid new
-    → KeepsWhatIsFinal old new
-stands_through old mid new one rest = record {
-  marks = (
-    one.marks.0 ++ rest.marks.0,
-    rest.marks.1 ∙ ap (λ ms. ms ++ rest.marks.0) one.marks.1 ∙ append_assoc old.marks one.marks.0 rest.marks.0,
-  );
-  orders = λ o has settled. rest.orders o (one.orders o has settled) settled;
-}
 
 -- ---- amounts keep their ranges
 
