@@ -1,19 +1,19 @@
 -- Batches in which the store failed.
 use Rattle.std.proofs.Common.{ℕ, true, false, Bool, cond, List, [], ◌∷◌, length, drop, Option, Some, None, Err, inl}
-use Rattle.std.proofs.Common.{arith}
+use Rattle.std.proofs.Common.{refl, arith}
 use Rattle.std.specs.List.{AllByRecursion}
 use Rattle.rtgs_book.specs.declared.Book.{Book}
 use Rattle.rtgs_book.specs.declared.Refusal.{Refusal}
 use Rattle.rtgs_book.specs.Session.{is_store_fault, open_command, MayFind}
-use Rattle.rtgs_repeats.specs.Batch.{IsOrder}
+use Rattle.rtgs_repeats.specs.Batch.{IsOrderOf}
 use Rattle.rtgs_order_files.specs.declared.batch_result.RowReply.{RowReply}
 use Rattle.rtgs_order_files.specs.declared.order_row.OrderRow.{OrderRow}
 use Rattle.rtgs_batches.specs.Batches.{order_of, orders_of, open_order, reply_of, StopsAfter}
 use Rattle.rtgs_batches.proofs.Rows.{AreJudged, quiet}
 
-pub all_orders : (sender : List ℕ) (rows : List OrderRow) → AllByRecursion IsOrder (orders_of sender rows)
+pub all_orders : (sender : List ℕ) (rows : List OrderRow) → AllByRecursion (IsOrderOf sender) (orders_of sender rows)
 all_orders sender [] = tt
-all_orders sender (row ∷ rows) = (tt, all_orders sender rows)
+all_orders sender (row ∷ rows) = (refl, all_orders sender rows)
 
 -- The order that may have acted is the next one.
 pub next_open : (sender : List ℕ) (rows : List OrderRow) (replies : List RowReply) (stopped : Option Refusal)

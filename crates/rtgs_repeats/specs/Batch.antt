@@ -1,8 +1,9 @@
--- A batch: orders alone.
+-- A batch: orders alone, and all of one sender.
+use Rattle.std.specs.Prelude.{◌≡◌, ℕ, List}
 use Rattle.rtgs_book.specs.declared.command.Command.{Command}
 use Rattle.rtgs_book.specs.declared.command.Command.TheVariants.{Order}
 
--- the command is an order
-abbrev pub IsOrder : Command → Type 0
-IsOrder (Order sender reference receiver amount) = Unit {0}
-IsOrder command = ⊥
+-- the command is an order of this sender
+abbrev pub IsOrderOf : List ℕ → Command → Type 0
+IsOrderOf sender (Order other reference receiver amount) = other ≡ sender
+IsOrderOf sender command = ⊥

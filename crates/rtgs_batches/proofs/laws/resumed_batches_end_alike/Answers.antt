@@ -2,7 +2,7 @@ use Rattle.std.proofs.Common.{◌≡◌, ◌++◌, take, drop, sym, ap, ◌∙�
 use Rattle.std.proofs.lemmas.List.{map-append, take-append-drop}
 use Rattle.std.specs.List.{AllByRecursion}
 use Rattle.rtgs_book.specs.Run.{Run}
-use Rattle.rtgs_repeats.specs.Batch.{IsOrder}
+use Rattle.rtgs_repeats.specs.Batch.{IsOrderOf}
 use Rattle.rtgs_batches.specs.Batches.{order_of, orders_of}
 use Rattle.rtgs_batches.proofs.Stopped.{all_orders}
 use Rattle.rtgs_batches.proofs.laws.resumed_batches_end_alike.Goals as goal
@@ -12,9 +12,9 @@ returns c old mid last end sender rows n first again once sound begun resumed wh
     let both : orders_of sender (take n rows) ++ orders_of sender (drop n rows)
     ≡ orders_of sender rows = sym (map-append (order_of sender) (take n rows) (drop n rows))
     ∙ ap (orders_of sender) (take-append-drop n rows) in
-    c.resumed_batch_ends_alike.ensures old mid last end (orders_of sender (take n rows))
+    c.resumed_batch_ends_alike.ensures old mid last end sender (orders_of sender (take n rows))
     (orders_of sender (drop n rows)) first again once sound
-    (subst (AllByRecursion IsOrder) (sym both) (all_orders sender rows))
+    (subst (AllByRecursion (IsOrderOf sender)) (sym both) (all_orders sender rows))
     begun
     (subst (λ cs. Run mid cs again last) (sym both) resumed)
     (subst (λ cs. Run old cs once end) (sym both) whole)
