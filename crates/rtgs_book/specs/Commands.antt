@@ -23,7 +23,7 @@ use Rattle.rtgs_book.specs.Lookup.{has_code, accounts, participant_of, is_partic
 use Rattle.rtgs_book.specs.Balance.{balance, floor, total}
 use Rattle.rtgs_book.specs.Queue.{queue}
 use Rattle.rtgs_book.specs.Choice.{Choice, is_chosen, chosen}
-use Rattle.rtgs_book.specs.Settle.{restated, settle, mark_of, today, next_mark}
+use Rattle.rtgs_book.specs.Settle.{altered, in_state, settle, mark_of, today, next_mark}
 use Rattle.rtgs_book.specs.Outcome.{Outcome, Reply, accepts, first_of}
 
 abbrev pub repeated : Reply
@@ -170,9 +170,13 @@ abbrev pub number_of : Option Order → ℕ
 number_of None = 0
 number_of (Some order) = order.number
 
+-- the orders that pass the test are changed so
+abbrev pub with_altered : Book → (Order → Bool) → (Order → Order) → Book
+with_altered book is_in change = record book { orders = map (altered is_in change) book.orders }
+
 -- the orders that pass the test get this state
 unfoldable pub with_state : Book → (Order → Bool) → OrderState → Book
-with_state book is_in state = record book { orders = map (restated is_in state) book.orders }
+with_state book is_in state = with_altered book is_in (in_state state)
 
 unfoldable pub withdraw : Book → List ℕ → List ℕ → Outcome
 withdraw book sender reference =

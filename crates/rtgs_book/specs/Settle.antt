@@ -21,9 +21,17 @@ mark_of book batch =
           (sum_by (λ (o : Order). o.amount) batch);
     }
 
+-- the order changed so, where it passes the test
+abbrev pub altered : (Order → Bool) → (Order → Order) → Order → Order
+altered is_in change order = if is_in order then change order else order
+
+-- the order in this state
+abbrev pub in_state : OrderState → Order → Order
+in_state state order = record order { state = state }
+
 -- the order in this state, where it passes the test
 abbrev pub restated : (Order → Bool) → OrderState → Order → Order
-restated is_in state order = if is_in order then record order { state = state } else order
+restated is_in state = altered is_in (in_state state)
 
 -- the orders that pass the test are settled under the next mark; where there is none, nothing changes
 unfoldable pub settle : Book → (Order → Bool) → Book

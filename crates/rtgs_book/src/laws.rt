@@ -103,10 +103,10 @@ pub fn balance_after_settling()
         → balance (settle book is_in) code ≡ balance book code +ℤ int_sum_by (gain code) (filter is_in book.orders) }
 {}
 
-/// Queued orders that get another state, but are not settled, move no balance.
+/// Orders that get another state, and are settled neither before nor after, move no balance.
 pub fn balance_after_restating()
     ensures { (book : Book) (is_in : Order → Bool) (state : OrderState) (code : List ℕ)
-        → AllByRecursion (λ order. is_in order ≡ true → is_queued order ≡ true) book.orders
+        → AllByRecursion (λ order. is_in order ≡ true → is_settled order ≡ false) book.orders
         → is_settled_state state ≡ false → balance (with_state book is_in state) code ≡ balance book code }
 {}
 

@@ -1,5 +1,5 @@
 -- The closing of a day, and its change.
-use Rattle.std.proofs.Common.{◌≡◌, ℕ, Bool, true, false, List, [], ◌∷◌, ◌++◌, filter, length, Ok, None, Some, cond}
+use Rattle.std.proofs.Common.{◌≡◌, ℕ, Bool, true, false, List, [], ◌∷◌, filter, length, Ok, None, Some, cond}
 use Rattle.std.proofs.Common.{refl, sym, ◌∙◌, ap}
 use Rattle.std.specs.List.{AllByRecursion, flat_map}
 use Rattle.std.specs.Ordering.{int_eq}
@@ -11,22 +11,24 @@ use Rattle.rtgs_book.specs.declared.change.RowChange.TheVariants.{SetDay}
 use Rattle.rtgs_book.specs.declared.command.Command.TheVariants.{CloseDay}
 use Rattle.rtgs_book.specs.declared.order.Order.{Order}
 use Rattle.rtgs_book.specs.declared.order_state.OrderState.{OrderState}
-use Rattle.rtgs_book.specs.declared.order_state.OrderState.TheVariants.{Rejected}
+use Rattle.rtgs_book.specs.declared.order_state.OrderState.TheVariants.{Queued, Settled, Withdrawn, Rejected}
 use Rattle.rtgs_book.specs.declared.phase.Phase.{Phase}
 use Rattle.rtgs_book.specs.declared.phase.Phase.TheVariants.{Closed, Open, CutOff}
-use Rattle.rtgs_book.specs.Books.{is_closed, is_cut_off, is_empty, is_queued, is_settled_state}
+use Rattle.rtgs_book.specs.Books.{is_closed, is_cut_off, is_empty, is_queued, is_queued_state, is_settled}
+use Rattle.rtgs_book.specs.Books.{is_settled_state}
 use Rattle.rtgs_book.specs.Lookup.{accounts}
 use Rattle.rtgs_book.specs.Balance.{balance}
 use Rattle.rtgs_book.specs.Queue.{queued_numbers}
 use Rattle.rtgs_book.specs.Choice.{Choice, chosen, IsGreatest}
 use Rattle.rtgs_book.specs.Commands.{close_day, is_on, overdrawn, with_day, with_state}
+use Rattle.rtgs_book.specs.Settle.{in_state}
 use Rattle.rtgs_book.specs.Outcome.{first_of}
 use Rattle.rtgs_book.specs.Changes.{changed, balance_set, SetsBalances, StartsEmpty}
 use Rattle.rtgs_book.specs.Step.{Step}
 use Rattle.rtgs_choices.specs.Settling.{is_numbered, state_rows}
 use Rattle.rtgs_choices.specs.Closing.{closed_book, closing_rows}
-use Rattle.rtgs_choices.proofs.Rows.{changed-append, restated_agrees, balance_set-states}
-use Rattle.rtgs_lists.proofs.Lists.{all_of}
+use Rattle.rtgs_choices.proofs.Rows.{changed-append, balance_set-states, added-states}
+use Rattle.rtgs_lists.proofs.Lists.{all_of, changed_agrees}
 
 not_closed : (p : Phase) → is_cut_off p ≡ true → is_closed p ≡ false
 not_closed Closed e = absurd (cc)
@@ -54,11 +56,11 @@ abbrev QueuedAreNumbered : Book → Type 0
 QueuedAreNumbered book = AllByRecursion (λ order. is_queued order
     ≡ is_numbered (flat_map (queued_numbers book.orders) (accounts book)) order) book.orders
 
--- queued orders that get another state, but are not settled, move no balance
+-- orders that get another state, and are settled neither before nor after, move no balance
 abbrev BalanceAfterRestating : Type 0
 BalanceAfterRestating = (book : Book) (is_in : Order → Bool) (state : OrderState) (code : List ℕ)
-    → AllByRecursion (λ order. is_in order ≡ true → is_queued order ≡ true) book.orders → is_settled_state state ≡ false
-    → balance (with_state book is_in state) code ≡ balance book code
+    → AllByRecursion (λ order. is_in order ≡ true → is_settled order ≡ false) book.orders
+    → is_settled_state state ≡ false → balance (with_state book is_in state) code ≡ balance book code
 
 abbrev numbers : Book → List ℕ
 numbers book = flat_map (queued_numbers book.orders) (accounts book)
@@ -70,13 +72,19 @@ rejected book states queued =
     changed-append book (state_rows Rejected (numbers book)) (SetDay (record book.day { phase = Closed }) ∷ [])
     ∙ ap (λ (b : Book). with_day b (record book.day { phase = Closed })) (states book Rejected (numbers book))
     ∙ ap (λ (os : List Order). with_day (record book { orders = os }) (record book.day { phase = Closed }))
-    (restated_agrees is_queued (is_numbered (numbers book)) Rejected book.orders queued)
+    (sym (changed_agrees is_queued (is_numbered (numbers book)) (in_state Rejected) book.orders queued))
 
-same_balance : (book : Book) → BalanceAfterRestating → (code : List ℕ)
-    → balance book code ≡ balance (closed_book book) code
+not_settled : (state : OrderState) → is_queued_state state ≡ true → is_settled_state state ≡ false
+not_settled Queued e = refl
+not_settled (Settled mark) e = absurd (cc)
+not_settled Withdrawn e = refl
+not_settled Rejected e = refl
+
+pub same_balance : (book : Book) → BalanceAfterRestating → (code : List ℕ)
+    → balance (closed_book book) code ≡ balance book code
 unfolding balance
-same_balance book law code = sym (law book is_queued Rejected code
-    (all_of (λ o. is_queued o ≡ true → is_queued o ≡ true) (λ o e. e) book.orders) refl)
+same_balance book law code = law book is_queued Rejected code
+    (all_of (λ o. is_queued o ≡ true → is_settled o ≡ false) (λ o e. not_settled o.state e) book.orders) refl
 
 pub moves_nothing : (book : Book) → BalanceAfterRestating → SetsBalances book (closing_rows book) (closed_book book)
 moves_nothing book law = all_of (λ code. balance_set code (closing_rows book)
@@ -89,13 +97,9 @@ moves_nothing book law = all_of (λ code. balance_set code (closing_rows book)
     at code =
         balance_set-states code Rejected (flat_map (queued_numbers book.orders) (accounts book))
         (SetDay (record book.day { phase = Closed }) ∷ [])
-        ∙ rw (← same_balance book law code, int_eq_equiv.refl (balance book code)) refl
+        ∙ rw (same_balance book law code, int_eq_equiv.refl (balance book code)) refl
 
 pub adds_nobody : (new : Book) (all : List RowChange) (book : Book)
     → AllByRecursion (StartsEmpty new all) (closing_rows book)
-adds_nobody new all book = each (flat_map (queued_numbers book.orders) (accounts book))
-  where
-    each : (numbers : List ℕ) → AllByRecursion (StartsEmpty new all)
-        (state_rows Rejected numbers ++ SetDay (record book.day { phase = Closed }) ∷ [])
-    each [] = (tt, tt)
-    each (n ∷ ns) = (tt, each ns)
+adds_nobody new all book = added-states new all Rejected (flat_map (queued_numbers book.orders) (accounts book))
+    (SetDay (record book.day { phase = Closed }) ∷ []) (tt, tt)

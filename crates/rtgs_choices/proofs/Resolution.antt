@@ -1,5 +1,5 @@
 -- A resolution that settles orders, and its change.
-use Rattle.std.proofs.Common.{◌≡◌, ℕ, Bool, true, false, cond, ◌&&◌, List, [], ◌∷◌, ◌++◌, filter, Ok, refl, sym, ◌∙◌}
+use Rattle.std.proofs.Common.{◌≡◌, ℕ, Bool, true, false, cond, ◌&&◌, List, [], ◌∷◌, filter, Ok, refl, sym, ◌∙◌}
 use Rattle.std.proofs.Common.{true≢false}
 use Rattle.std.specs.List.{AllByRecursion}
 use Rattle.rtgs_book.specs.declared.answer.Answer.TheVariants.{Resolved}
@@ -10,7 +10,7 @@ use Rattle.rtgs_book.specs.declared.change.RowChange.TheVariants.{SetCredit, Set
 use Rattle.rtgs_book.specs.declared.command.Command.TheVariants.{Resolve}
 use Rattle.rtgs_book.specs.declared.mark.Mark.{Mark}
 use Rattle.rtgs_book.specs.declared.order.Order.{Order}
-use Rattle.rtgs_book.specs.declared.order_state.OrderState.{OrderState}
+use Rattle.rtgs_book.specs.declared.order_state.OrderState.TheVariants.{Settled}
 use Rattle.rtgs_book.specs.Books.{is_closed, is_empty, is_queued}
 use Rattle.rtgs_book.specs.Changes.{StartsEmpty}
 use Rattle.rtgs_book.specs.Choice.{Choice, is_chosen, chosen, IsGreatest}
@@ -19,8 +19,8 @@ use Rattle.rtgs_book.specs.Outcome.{first_of}
 use Rattle.rtgs_book.specs.Settle.{settle, mark_of, next_mark}
 use Rattle.rtgs_book.specs.Soundness.{IsSound}
 use Rattle.rtgs_book.specs.Step.{Step}
-use Rattle.rtgs_choices.specs.Settling.{state_rows, IsOfBalance, balance_rows, settling_rows}
-use Rattle.rtgs_choices.proofs.Rows.{of_balances}
+use Rattle.rtgs_choices.specs.Settling.{IsOfBalance, balance_rows, settling_rows}
+use Rattle.rtgs_choices.proofs.Rows.{added-states, of_balances}
 
 none_of_fewer : (p q : Order → Bool) (os : List Order) → filter p os ≡ []
     → is_empty (filter (λ o. p o && q o) os) ≡ true
@@ -77,14 +77,7 @@ start_empty new all (SetDay day ∷ rows) h = absurd h.0
 
 pub added : (new book : Book) (choice : Choice) (numbers : List ℕ) (mark : Mark)
     → AllByRecursion (StartsEmpty new (settling_rows book choice numbers mark)) (settling_rows book choice numbers mark)
-added new book choice numbers mark = states _ numbers
-  where
-    states : (state : OrderState) (ns : List ℕ) → AllByRecursion
-        (StartsEmpty new (settling_rows book choice numbers mark))
-        (state_rows state ns ++ AddMark mark ∷ balance_rows book choice)
-    states state [] = (
-      tt,
-      start_empty new (settling_rows book choice numbers mark) (balance_rows book choice)
-          (of_balances book choice),
-    )
-    states state (n ∷ ns) = (tt, states state ns)
+added new book choice numbers mark =
+    let all = settling_rows book choice numbers mark in
+    added-states new all (Settled mark.number) numbers (AddMark mark ∷ balance_rows book choice)
+    (tt, start_empty new all (balance_rows book choice) (of_balances book choice))

@@ -19,38 +19,65 @@ use Rattle.rtgs_book.specs.Books.{is_empty}
 use Rattle.rtgs_book.specs.Lookup.{accounts}
 use Rattle.rtgs_book.specs.Balance.{balance}
 use Rattle.rtgs_book.specs.Choice.{Choice, is_chosen, chosen, balance_after}
-use Rattle.rtgs_book.specs.Commands.{with_state, has_number}
-use Rattle.rtgs_book.specs.Settle.{restated, settle, mark_of, next_mark}
-use Rattle.rtgs_book.specs.Changes.{with_row, changed, or_else, balance_set, SetsBalances}
+use Rattle.rtgs_book.specs.Commands.{with_altered, with_state, has_number}
+use Rattle.rtgs_book.specs.Settle.{in_state, restated, settle, mark_of, next_mark}
+use Rattle.rtgs_book.specs.Changes.{with_row, changed, or_else, balance_set, SetsBalances, StartsEmpty}
+use Rattle.rtgs_choices.specs.OneByOne.{ChangesOrders, passes_one}
 use Rattle.rtgs_choices.specs.Settling.{is_numbered, state_rows, IsOfBalance, moves, balance_rows, settling_rows}
 use Rattle.rtgs_choices.proofs.Told.{in_codes}
-use Rattle.rtgs_lists.proofs.Lists.{all_weaker}
+use Rattle.rtgs_lists.proofs.Lists.{all_weaker, changed_agrees, changed_twice}
 
--- ---- states
+-- ---- rows that change orders, one by one
 
--- one number more
-restated_more : (number : ℕ) (numbers : List ℕ) (state : OrderState) (os : List Order)
-    → map (restated (is_numbered numbers) state) (map (restated (has_number number) state) os)
-    ≡ map (restated (is_numbered (number ∷ numbers)) state) os
-restated_more number numbers state [] = refl
-restated_more number numbers state (o ∷ os) = λ i. by (has_number number o) i ∷ restated_more number numbers state os i
-  where
-    again : (c : Bool) → cond c (record o { state = state }) (record o { state = state }) ≡ record o { state = state }
-    again true = refl
-    again false = refl
+module _ (row : ℕ → RowChange) (passes : ℕ → Order → Bool) (change : Order → Order)
+    (kind : ChangesOrders row passes change) where
+  pub changed-one_by_one : (book : Book) (numbers : List ℕ)
+      → changed book (map row numbers) ≡ with_altered book (passes_one passes numbers) change
+  changed-one_by_one book [] = ap (λ (os : List Order). record book { orders = os }) (sym (map-id book.orders))
+  changed-one_by_one book (number ∷ numbers) =
+      ap (λ (b : Book). changed b (map row numbers)) (kind.book book number)
+      ∙ changed-one_by_one (with_altered book (passes number) change) numbers
+      ∙ ap (λ (os : List Order). record book { orders = os })
+      (changed_twice (passes number) (passes_one passes numbers) change kind.once book.orders)
 
-    by : (b : Bool) → restated (is_numbered numbers) state (cond b (record o { state = state }) o)
-        ≡ cond (b || is_numbered numbers o) (record o { state = state }) o
-    by true = again (is_numbered numbers o)
-    by false = refl
+  pub balance_set-one_by_one : (code : List ℕ) (numbers : List ℕ) (rows : List RowChange)
+      → balance_set code (map row numbers ++ rows) ≡ balance_set code rows
+  balance_set-one_by_one code [] rows = refl
+  balance_set-one_by_one code (number ∷ numbers) rows =
+      kind.balances code number (map row numbers ++ rows) ∙ balance_set-one_by_one code numbers rows
+
+  pub added-one_by_one : (new : Book) (all : List RowChange) (numbers : List ℕ) (rows : List RowChange)
+      → AllByRecursion (StartsEmpty new all) rows → AllByRecursion (StartsEmpty new all) (map row numbers ++ rows)
+  added-one_by_one new all [] rows h = h
+  added-one_by_one new all (number ∷ numbers) rows h = (
+    kind.added new all number,
+    added-one_by_one new all numbers rows h,
+  )
+
+pub sets_state : (state : OrderState) → ChangesOrders (λ number. SetState number state) has_number (in_state state)
+unfolding with_state
+sets_state state = record {
+  book = λ book number. refl;
+  once = λ order. refl;
+  balances = λ code number rows. refl;
+  added = λ new rows number. tt;
+}
 
 pub changed-states : (book : Book) (state : OrderState) (numbers : List ℕ)
     → changed book (state_rows state numbers) ≡ with_state book (is_numbered numbers) state
 unfolding with_state
-changed-states book state [] = ap (λ (os : List Order). record book { orders = os }) (sym (map-id book.orders))
-changed-states book state (number ∷ numbers) =
-    changed-states (with_state book (has_number number) state) state numbers
-    ∙ ap (λ (os : List Order). record book { orders = os }) (restated_more number numbers state book.orders)
+changed-states book state numbers = changed-one_by_one _ has_number (in_state state) (sets_state state) book numbers
+
+pub balance_set-states : (code : List ℕ) (state : OrderState) (numbers : List ℕ) (rows : List RowChange)
+    → balance_set code (state_rows state numbers ++ rows) ≡ balance_set code rows
+balance_set-states code state numbers rows =
+    balance_set-one_by_one _ has_number (in_state state) (sets_state state) code numbers rows
+
+pub added-states : (new : Book) (all : List RowChange) (state : OrderState) (numbers : List ℕ) (rows : List RowChange)
+    → AllByRecursion (StartsEmpty new all) rows
+    → AllByRecursion (StartsEmpty new all) (state_rows state numbers ++ rows)
+added-states new all state numbers rows h =
+    added-one_by_one _ has_number (in_state state) (sets_state state) new all numbers rows h
 
 -- ---- the book
 
@@ -69,12 +96,6 @@ changed-balances book (AddMark mark ∷ rows) h = absurd h.0
 changed-balances book (SetCredit code credit ∷ rows) h = absurd h.0
 changed-balances book (SetState number state ∷ rows) h = absurd h.0
 changed-balances book (SetDay day ∷ rows) h = absurd h.0
-
-pub restated_agrees : (p q : Order → Bool) (state : OrderState) (os : List Order) → AllByRecursion (λ o. p o ≡ q o) os
-    → map (restated q state) os ≡ map (restated p state) os
-restated_agrees p q state [] h = refl
-restated_agrees p q state (o ∷ os) h = λ i. cond (sym h.0 i) (record o { state = state }) o
-    ∷ restated_agrees p q state os h.1 i
 
 module _ (book : Book) (choice : Choice) (numbers : List ℕ) (by_number : AllByRecursion
     (λ o. is_chosen book choice o ≡ is_numbered numbers o) book.orders) (some : is_empty (chosen book choice) ≡ false)
@@ -100,8 +121,8 @@ module _ (book : Book) (choice : Choice) (numbers : List ℕ) (by_number : AllBy
           orders = orders;
           marks = book.marks ++ mark_of book (o ∷ os) ∷ [];
         })
-            (restated_agrees (is_chosen book choice) (is_numbered numbers) (Settled (next_mark book)) book.orders
-            by_number)
+            (sym (changed_agrees (is_chosen book choice) (is_numbered numbers) (in_state (Settled (next_mark book)))
+            book.orders by_number))
 
     pub changed-settled : (balances : List RowChange) → AllByRecursion IsOfBalance balances
         → changed book (state_rows (Settled (next_mark book)) numbers ++ AddMark (mark_of book (chosen book choice))
@@ -125,11 +146,6 @@ of_balances book choice = each (filter (moves book choice) (accounts book))
         (map (λ code. SetBalance code (balance_after book choice code)) codes)
     each [] = tt
     each (code ∷ codes) = (tt, each codes)
-
-pub balance_set-states : (code : List ℕ) (state : OrderState) (numbers : List ℕ) (rows : List RowChange)
-    → balance_set code (state_rows state numbers ++ rows) ≡ balance_set code rows
-balance_set-states code state [] rows = refl
-balance_set-states code state (number ∷ numbers) rows = balance_set-states code state numbers rows
 
 -- a row for each code that passes sets its balance, and no other
 balance_set-rows : (passes : List ℕ → Bool) (new : List ℕ → ℤ) (code : List ℕ) (codes : List (List ℕ))

@@ -1,3 +1,4 @@
 pub mod ByIndex
 pub mod Closing
+pub mod OneByOne
 pub mod Settling

@@ -1,6 +1,6 @@
 -- The orders that a choice settles, by their numbers, and the rows that settle them.
 use Rattle.std.specs.Prelude.{ℕ, Bool, not, List, ◌∷◌, ◌++◌, map, filter, take, ⊤}
-use Rattle.std.specs.List.{flat_map, list_any}
+use Rattle.std.specs.List.{flat_map}
 use Rattle.std.specs.Ordering.{int_eq}
 use Rattle.rtgs_book.specs.declared.book.Book.{Book}
 use Rattle.rtgs_book.specs.declared.change.RowChange.{RowChange}
@@ -14,6 +14,7 @@ use Rattle.rtgs_book.specs.Balance.{balance}
 use Rattle.rtgs_book.specs.Queue.{queue, queued_numbers}
 use Rattle.rtgs_book.specs.Choice.{Choice, balance_after}
 use Rattle.rtgs_book.specs.Commands.{has_number}
+use Rattle.rtgs_choices.specs.OneByOne.{passes_one}
 
 -- account by account the first orders of the queue, as many as the choice says
 unfoldable pub orders_taken : Book → Choice → List Order
@@ -25,7 +26,7 @@ numbers_taken book choice = flat_map (λ code. take (choice code) (queued_number
 
 -- the order has one of the numbers
 abbrev pub is_numbered : List ℕ → Order → Bool
-is_numbered numbers order = list_any (λ number. has_number number order) numbers
+is_numbered = passes_one has_number
 
 -- the orders with these numbers get this state
 abbrev pub state_rows : OrderState → List ℕ → List RowChange

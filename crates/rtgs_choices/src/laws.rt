@@ -1,6 +1,6 @@
 //! Laws of choices by index, and of the rows that settle a choice. Each function does nothing: its
 //! contract is the law.
-ghost use Rattle.std.specs.Prelude.{◌≡◌, ℕ, ◌<◌, ◌≤◌, true, false, Ok, List, [], ◌∷◌, ◌++◌, map, filter, length};
+ghost use Rattle.std.specs.Prelude.{◌≡◌, ℕ, ◌<◌, ◌≤◌, Bool, true, false, Ok, List, [], ◌∷◌, ◌++◌, map, filter, length};
 ghost use Rattle.std.specs.Prelude.{sum_by};
 ghost use Rattle.std.specs.List.{AllByRecursion, flat_map};
 ghost use Rattle.rtgs_gridlock.specs.Choices.{AreFloored, AreInRange, IsWithin, payment_count, after};
@@ -20,16 +20,17 @@ ghost use Rattle.rtgs_book.specs.declared.answer.Answer.TheVariants as answer;
 ghost use Rattle.rtgs_book.specs.Books.{is_cut_off, is_empty, is_queued};
 ghost use Rattle.rtgs_book.specs.Lookup.{accounts};
 ghost use Rattle.rtgs_book.specs.IntSum.{int_sum_by};
-ghost use Rattle.rtgs_book.specs.Balance.{gain};
+ghost use Rattle.rtgs_book.specs.Balance.{balance, gain};
 ghost use Rattle.rtgs_book.specs.Queue.{queued_numbers};
 ghost use Rattle.rtgs_book.specs.Choice.{Choice, is_chosen, chosen, balance_after, IsGreatest};
-ghost use Rattle.rtgs_book.specs.Commands.{is_on, overdrawn, with_state};
+ghost use Rattle.rtgs_book.specs.Commands.{is_on, overdrawn, with_altered, with_state};
 ghost use Rattle.rtgs_book.specs.Settle.{settle, mark_of, next_mark};
-ghost use Rattle.rtgs_book.specs.Changes.{changed, SetsBalances, Leads, StartsEmpty};
+ghost use Rattle.rtgs_book.specs.Changes.{balance_set, changed, SetsBalances, Leads, StartsEmpty};
 ghost use Rattle.rtgs_book.specs.Soundness.{IsSound};
 ghost use Rattle.rtgs_book.specs.Step.{Step};
 ghost use Rattle.rtgs_choices.specs.ByIndex.{code_at, index_of, positions_of, queues_of, by_code};
 ghost use Rattle.rtgs_choices.specs.Closing.{closed_book, closing_rows};
+ghost use Rattle.rtgs_choices.specs.OneByOne.{ChangesOrders, passes_one};
 ghost use Rattle.rtgs_choices.specs.Settling.{orders_taken, numbers_taken, is_numbered, state_rows, IsOfBalance};
 ghost use Rattle.rtgs_choices.specs.Settling.{settling_rows};
 
@@ -106,6 +107,20 @@ pub fn queued_are_numbered()
         ≡ length (flat_map (queued_numbers book.orders) (accounts book)) }
 {}
 
+/// Rows that change orders, one after another, change all orders that pass the test of one of the numbers. They set no
+/// balance, and add no participant.
+pub fn changes_one_by_one()
+    ensures book { (row : ℕ → RowChange) (passes : ℕ → Order → Bool) (change : Order → Order) (book : Book)
+        (numbers : List ℕ) → ChangesOrders row passes change
+        → changed book (map row numbers) ≡ with_altered book (passes_one passes numbers) change }
+    ensures balances { (row : ℕ → RowChange) (passes : ℕ → Order → Bool) (change : Order → Order) (code numbers : List ℕ)
+        (rows : List RowChange) → ChangesOrders row passes change
+        → balance_set code (map row numbers ++ rows) ≡ balance_set code rows }
+    ensures added { (row : ℕ → RowChange) (passes : ℕ → Order → Bool) (change : Order → Order) (new : Book)
+        (numbers : List ℕ) (all rows : List RowChange) → ChangesOrders row passes change
+        → AllByRecursion (StartsEmpty new all) rows → AllByRecursion (StartsEmpty new all) (map row numbers ++ rows) }
+{}
+
 /// To set the state of one order after another is to set that of all of them. With the mark and
 /// the balances after them, the choice is settled.
 pub fn states_one_by_one()
@@ -146,12 +161,14 @@ pub fn rows_settle()
 }
 
 /// Where the greatest choice has no order and nobody is below zero, the day that was cut off can be
-/// closed, and the rows that reject what is queued and close the day lead to that book and add no participant.
+/// closed, and the rows that reject what is queued and close the day lead to that book and add no participant. No
+/// balance moves.
 pub fn rows_close()
     ensures step { (book : Book) (choice : Choice) (date : ℕ) → is_cut_off book.day.phase ≡ true
         → is_on book date ≡ true → IsGreatest book choice → is_empty (chosen book choice) ≡ true → overdrawn book ≡ [] →
         Step book (CloseDay date) (Ok (answer.Closed (length (filter is_queued book.orders)))) (closed_book book) }
     ensures leads { (book : Book) → IsSound book → Leads book (closing_rows book) (closed_book book) }
+    ensures balances { (book : Book) (code : List ℕ) → balance (closed_book book) code ≡ balance book code }
     ensures added { (book new : Book) → AllByRecursion (StartsEmpty new (closing_rows book)) (closing_rows book) }
 {
     balance_after_restating();

@@ -10,7 +10,7 @@ use Rattle.rtgs_book.specs.declared.order.Order.{Order}
 use Rattle.rtgs_book.specs.declared.order_state.OrderState.{OrderState}
 use Rattle.rtgs_book.specs.declared.order_state.OrderState.TheVariants.{Queued, Settled, Withdrawn, Rejected}
 use Rattle.rtgs_book.specs.Books.{is_queued}
-use Rattle.rtgs_book.specs.Settle.{restated}
+use Rattle.rtgs_book.specs.Settle.{in_state, restated}
 use Rattle.rtgs_book.specs.Soundness.{AreNumbered, HasMark, is_state_under, CountsItsOrders}
 use Rattle.rtgs_laws.proofs.States.{queued_not_under}
 use Rattle.rtgs_lists.proofs.Numbers.{eq_self}
@@ -62,26 +62,26 @@ none_under_next ms next (o ∷ os) below h = (
 pub under_new : (next : ℕ) (is_in : Order → Bool) (os : List Order)
     → AllByRecursion (λ (o : Order). is_state_under next o.state ≡ false) os
     → filter (λ (o : Order). is_state_under next o.state) (map (restated is_in (Settled next)) os)
-    ≡ map (λ (o : Order). record o { state = Settled next }) (filter is_in os)
+    ≡ map (in_state (Settled next)) (filter is_in os)
 under_new next is_in [] h = refl
 under_new next is_in (o ∷ os) h = by (is_in o) (under_new next is_in os h.1)
   where
     by : (b : Bool) → filter (λ (o : Order). is_state_under next o.state) (map (restated is_in (Settled next)) os)
-        ≡ map (λ (o : Order). record o { state = Settled next }) (filter is_in os)
-        → cond (is_state_under next (cond b (record o { state = Settled next }) o).state)
-        (cond b (record o { state = Settled next }) o ∷ filter (λ (o : Order). is_state_under next o.state)
+        ≡ map (in_state (Settled next)) (filter is_in os)
+        → cond (is_state_under next (cond b (in_state (Settled next) o) o).state)
+        (cond b (in_state (Settled next) o) o ∷ filter (λ (o : Order). is_state_under next o.state)
         (map (restated is_in (Settled next)) os)) (filter (λ (o : Order). is_state_under next o.state)
         (map (restated is_in (Settled next)) os))
-        ≡ map (λ (o : Order). record o { state = Settled next }) (cond b (o ∷ filter is_in os) (filter is_in os))
+        ≡ map (in_state (Settled next)) (cond b (o ∷ filter is_in os) (filter is_in os))
     by true rest = rw (eq_self next, rest) refl
     by false rest = rw (h.0, rest) refl
 
 pub amounts_restated : (next : ℕ) (os : List Order) → sum_by (λ (o : Order). o.amount)
-    (map (λ (o : Order). record o { state = Settled next }) os) ≡ sum_by (λ (o : Order). o.amount) os
+    (map (in_state (Settled next)) os) ≡ sum_by (λ (o : Order). o.amount) os
 amounts_restated next [] = refl
 amounts_restated next (o ∷ os) =
-    sum_by-cons (λ (o : Order). o.amount) (record o { state = Settled next })
-    (map (λ (o : Order). record o { state = Settled next }) os)
+    sum_by-cons (λ (o : Order). o.amount) (in_state (Settled next) o)
+    (map (in_state (Settled next)) os)
     ∙ ap (λ n. o.amount + n) (amounts_restated next os)
     ∙ sym (sum_by-cons (λ (o : Order). o.amount) o os)
 
@@ -120,8 +120,8 @@ pub marks_settled : (ms : List Mark) (m : Mark) (is_in : Order → Bool) (os : L
 marks_settled ms m is_in [] h d = tt
 marks_settled ms m is_in (o ∷ os) h d = (by (is_in o) refl, marks_settled ms m is_in os h.1 d.1)
   where
-    by : (b : Bool) → is_in o ≡ b → HasMark (ms ++ m ∷ []) (cond b (record o { state = Settled m.number }) o).date
-        (cond b (record o { state = Settled m.number }) o).state
+    by : (b : Bool) → is_in o ≡ b → HasMark (ms ++ m ∷ []) (cond b (in_state (Settled m.number) o) o).date
+        (cond b (in_state (Settled m.number) o) o).state
     by true e = list_any_last (λ (k : Mark). (k.number == m.number) && (k.date == o.date)) ms m
         (new_mark_found m o.date (d.0 e))
     by false e = mark_stays ms m o.date o.state h.0

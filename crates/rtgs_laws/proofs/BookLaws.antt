@@ -6,7 +6,7 @@ use Rattle.rtgs_book.specs.declared.book.Book.{Book}
 use Rattle.rtgs_book.specs.declared.order.Order.{Order}
 use Rattle.rtgs_book.specs.declared.order_state.OrderState.{OrderState}
 use Rattle.rtgs_book.specs.declared.posting.Posting.{Posting}
-use Rattle.rtgs_book.specs.Books.{is_queued, is_settled_state}
+use Rattle.rtgs_book.specs.Books.{is_queued, is_settled, is_settled_state}
 use Rattle.rtgs_book.specs.Lookup.{is_participant}
 use Rattle.rtgs_book.specs.IntSum.{int_sum_by}
 use Rattle.rtgs_book.specs.Balance.{balance, total, issued, gain}
@@ -18,6 +18,10 @@ use Rattle.rtgs_book.specs.Soundness.{CodesRise, PartiesAreKnown, IsSound}
 abbrev pub AreQueued : Book → (Order → Bool) → Type 0
 AreQueued book is_in = AllByRecursion (λ o. is_in o ≡ true → is_queued o ≡ true) book.orders
 
+-- the orders that pass the test are not settled
+abbrev pub AreUnsettled : Book → (Order → Bool) → Type 0
+AreUnsettled book is_in = AllByRecursion (λ o. is_in o ≡ true → is_settled o ≡ false) book.orders
+
 abbrev pub TotalIsIssued : Type 0
 TotalIsIssued = (book : Book) → CodesRise book → PartiesAreKnown book → total book ≡ issued book
 
@@ -26,8 +30,9 @@ pub record BookLaws : Type 0 where
   pub posting : (book : Book) (posting : Posting) (code : List ℕ)
       → balance (record book { postings = book.postings ++ posting ∷ [] }) code
       ≡ balance book code +ℤ cond (bytes_eq posting.code code) posting.cents (pos 0)
-  pub restating : (book : Book) (is_in : Order → Bool) (state : OrderState) (code : List ℕ) → AreQueued book is_in
-      → is_settled_state state ≡ false → balance (with_state book is_in state) code ≡ balance book code
+  pub restating : (book : Book) (is_in : Order → Bool) (state : OrderState) (code : List ℕ)
+      → AreUnsettled book is_in → is_settled_state state ≡ false
+      → balance (with_state book is_in state) code ≡ balance book code
   pub settling : (book : Book) (is_in : Order → Bool) (code : List ℕ) → AreQueued book is_in
       → balance (settle book is_in) code ≡ balance book code +ℤ int_sum_by (gain code) (filter is_in book.orders)
   pub unknown : (book : Book) (code : List ℕ) → IsSound book → is_participant book code ≡ false

@@ -17,7 +17,7 @@ use Rattle.rtgs_book.specs.Lookup.{accounts, is_participant, participant_of, cre
 use Rattle.rtgs_book.specs.IntSum.{int_sum_by}
 use Rattle.rtgs_book.specs.Balance.{balance, floor, total, issued, gain}
 use Rattle.rtgs_book.specs.Queue.{queue}
-use Rattle.rtgs_book.specs.Settle.{restated, settle, mark_of, next_mark, today}
+use Rattle.rtgs_book.specs.Settle.{in_state, restated, settle, mark_of, next_mark, today}
 use Rattle.rtgs_book.specs.Soundness.{PartiesAreKnown, has_parties, is_state_under, CountsItsOrders, IsSound}
 use Rattle.rtgs_laws.proofs.BookLaws.{AreQueued, BookLaws, TotalIsIssued}
 use Rattle.rtgs_laws.proofs.Batches.{all_from_filter, none_under_next, under_new, amounts_restated, marks_settled}
@@ -25,14 +25,14 @@ use Rattle.rtgs_laws.proofs.Batches.{marks_le}
 use Rattle.rtgs_laws.proofs.Lists.{numbered_after, never_fall_push}
 use Rattle.rtgs_laws.proofs.Settling.{with_batch, settled_either}
 use Rattle.rtgs_laws.proofs.SoundStates.{name}
-use Rattle.rtgs_laws.proofs.States.{restated_same, all_filter_restated, length-filter_restated, queued_not_under}
-use Rattle.rtgs_lists.proofs.Filters.{filter_changed}
-use Rattle.rtgs_lists.proofs.Lists.{all_both, all_map, all_push, all_weaker, map_same}
+use Rattle.rtgs_laws.proofs.States.{queued_not_under}
+use Rattle.rtgs_lists.proofs.Filters.{filter_changed, all_filter_changed, length-filter_changed}
+use Rattle.rtgs_lists.proofs.Lists.{all_both, all_of, all_push, all_weaker, map_same, changed_same, all_changed}
 use Rattle.rtgs_lists.proofs.Numbers.{below_next}
 
-kept : {Y : Type 0} (g : Order → Y) → ((o : Order) (s : OrderState) → g (record o { state = s }) ≡ g o)
-    → (is_in : Order → Bool) (s : OrderState) (os : List Order) → map g (map (restated is_in s) os) ≡ map g os
-kept g same is_in s os = map_same g (restated is_in s) (restated_same g same is_in s) os
+kept : {Y : Type 0} (g : Order → Y) (s : OrderState) → ((o : Order) → g (in_state s o) ≡ g o) → (is_in : Order → Bool)
+    (os : List Order) → map g (map (restated is_in s) os) ≡ map g os
+kept g s same is_in os = map_same g (restated is_in s) (changed_same g (in_state s) same is_in) os
 
 not_equal : (a b : ℕ) → a < b → (b == a) ≡ false
 not_equal a b less = grind (arith, nat_tests)
@@ -42,10 +42,9 @@ parties_settled : (book : Book) (is_in : Order → Bool) → PartiesAreKnown boo
     → PartiesAreKnown (with_batch book is_in)
 unfolding is_participant accounts
 parties_settled book is_in h = (
-  all_map (λ o. has_parties book o ≡ true) (restated is_in (Settled (next_mark book))) book.orders
-      (all_weaker (λ o. has_parties book o ≡ true)
-      (λ o. has_parties book (restated is_in (Settled (next_mark book)) o) ≡ true)
-      (λ o x. restated_same (has_parties book) (λ o s. refl) is_in (Settled (next_mark book)) o ∙ x) book.orders h.0),
+  all_changed (λ o. has_parties book o ≡ true) is_in (in_state (Settled (next_mark book))) book.orders
+      (all_of (λ o. is_in o ≡ true → has_parties book o ≡ true
+      → has_parties book (in_state (Settled (next_mark book)) o) ≡ true) (λ o e x. x) book.orders) h.0,
   h.1,
 )
 
@@ -70,7 +69,7 @@ module _ (laws : BookLaws) (book : Book) (is_in : Order → Bool) (queued : AreQ
       (map (restated is_in (Settled (next_mark book))) book.orders)
       ≡ filter (λ (o : Order). is_state_under m.number o.state) book.orders =
       filter_changed (λ (o : Order). is_state_under m.number o.state) is_in
-      (λ o. record o { state = Settled (next_mark book) })
+      (in_state (Settled (next_mark book)))
       (λ o. not_equal m.number (next_mark book) less) book.orders
       (all_weaker (λ o. is_in o ≡ true → is_queued o ≡ true)
       (λ o. is_in o ≡ true → is_state_under m.number o.state ≡ false)
@@ -87,7 +86,7 @@ module _ (laws : BookLaws) (book : Book) (is_in : Order → Bool) (queued : AreQ
       record {
         some = some;
         count = rw same (sym (length-map (filter is_in book.orders)
-            (λ (o : Order). record o { state = Settled (next_mark book) })));
+            (in_state (Settled (next_mark book)))));
         value = rw same (ap pos (sym (amounts_restated (next_mark book) (filter is_in book.orders))));
       }
 
@@ -107,14 +106,14 @@ module _ (laws : BookLaws) (book : Book) (is_in : Order → Bool) (queued : AreQ
       let many = marks_le book is_in h.marks_numbered h.marks.1 queued in
       let enough = h.orders_numbered.1 in
       let long = length-map book.orders (λ (o : Order). o.number) in
-      let date_same = kept (λ (o : Order). o.date) (λ o s. refl) is_in s book.orders in
+      let date_same = kept (λ (o : Order). o.date) s (λ o. refl) is_in book.orders in
       record {
-        orders_numbered = rw (kept (λ (o : Order). o.number) (λ o s. refl) is_in s book.orders) h.orders_numbered;
+        orders_numbered = rw (kept (λ (o : Order). o.number) s (λ o. refl) is_in book.orders) h.orders_numbered;
         postings_numbered = h.postings_numbered;
         marks_numbered = numbered_after (λ (m : Mark). m.number) book.marks mark h.marks_numbered refl (omega arith);
         codes_rise = h.codes_rise;
         keys_distinct = h.keys_distinct;
-        order_references = rw (kept name (λ o s. refl) is_in s book.orders) h.order_references;
+        order_references = rw (kept name s (λ o. refl) is_in book.orders) h.order_references;
         posting_references = h.posting_references;
         parties = parties_settled book is_in h.parties;
         marks = (
@@ -127,10 +126,10 @@ module _ (laws : BookLaws) (book : Book) (is_in : Order → Bool) (queued : AreQ
           closed = λ e. absurd (true≢false (sym e ∙ not_closed));
           short = all_weaker (λ code. length (queue book code) ≤ LONGEST_QUEUE)
               (λ code. length (queue (with_batch book is_in) code) ≤ LONGEST_QUEUE)
-              (λ code x. let le = length-filter_restated (λ o. is_queued o && bytes_eq o.sender code) is_in s
-              (λ o. refl) book.orders in omega arith) (accounts book) h.queues.short;
-          of_the_day = all_filter_restated is_queued is_in s (λ o. refl) (λ o. o.date ≡ today book) book.orders
-              h.queues.of_the_day;
+              (λ code x. let le = length-filter_changed (λ o. is_queued o && bytes_eq o.sender code) is_in
+              (in_state s) (λ o. refl) book.orders in omega arith) (accounts book) h.queues.short;
+          of_the_day = all_filter_changed is_queued is_in (in_state s) (λ o. refl) (λ o. o.date ≡ today book)
+              book.orders h.queues.of_the_day;
         };
         dates = record {
           dated = h.dates.dated;

@@ -10,79 +10,68 @@ use Rattle.rtgs_book.specs.declared.order.Order.{Order}
 use Rattle.rtgs_book.specs.declared.order_state.OrderState.{OrderState}
 use Rattle.rtgs_book.specs.declared.order_state.OrderState.TheVariants.{Withdrawn, Rejected}
 use Rattle.rtgs_book.specs.declared.phase.Phase.TheVariants.{Closed}
-use Rattle.rtgs_book.specs.Books.{is_queued, is_queued_state, is_settled_state, is_empty}
+use Rattle.rtgs_book.specs.Books.{is_queued, is_queued_state, is_settled, is_settled_state, is_empty}
 use Rattle.rtgs_book.specs.Lookup.{accounts, is_participant, participant_of, credit_of, is_order_named, order_named}
 use Rattle.rtgs_book.specs.IntSum.{int_sum_by}
 use Rattle.rtgs_book.specs.Balance.{balance, floor, total}
 use Rattle.rtgs_book.specs.Queue.{queue}
-use Rattle.rtgs_book.specs.Settle.{restated, today}
+use Rattle.rtgs_book.specs.Settle.{in_state, restated, today}
 use Rattle.rtgs_book.specs.Choice.{Choice}
 use Rattle.rtgs_book.specs.Commands.{with_state, with_day, has_number, number_of, is_queued_order, withdraw, overdrawn}
 use Rattle.rtgs_book.specs.Commands.{close_day}
 use Rattle.rtgs_book.specs.Soundness.{HasMark, is_state_under, has_parties, CountsItsOrders, IsSound}
 use Rattle.std.proofs.lemmas.List.{length-map}
 use Rattle.rtgs_book.specs.declared.limits.TheConstants.{LONGEST_QUEUE, LARGEST_TOTAL}
-use Rattle.rtgs_laws.proofs.BookLaws.{BookLaws}
+use Rattle.rtgs_laws.proofs.BookLaws.{AreUnsettled, BookLaws}
 use Rattle.rtgs_laws.proofs.Outcomes.{sound_first_of}
 use Rattle.rtgs_laws.proofs.SoundDays.{sound_with_day}
-use Rattle.rtgs_laws.proofs.States.{restated_same, all_filter_restated, length-filter_restated, no_length}
-use Rattle.rtgs_laws.proofs.States.{marks_restated, queued_not_under, found_by_number}
+use Rattle.rtgs_laws.proofs.States.{no_length, queued_not_settled, unsettled_not_under, found_by_number}
 use Rattle.rtgs_lists.proofs.Bools.{and_left_false, from_not}
-use Rattle.rtgs_lists.proofs.Filters.{filter_changed}
-use Rattle.rtgs_lists.proofs.Lists.{all_map, all_of, all_weaker, map_same}
+use Rattle.rtgs_lists.proofs.Filters.{filter_changed, all_filter_changed, length-filter_changed}
+use Rattle.rtgs_lists.proofs.Lists.{all_of, all_weaker, map_same, changed_same, all_changed}
 
 abbrev pub name : Order → List ℕ × List ℕ
 name o = (o.sender, o.reference)
 
--- queued orders of a batch get a state in which they are neither queued nor settled
+-- orders that are not settled get a state in which they are neither queued nor settled
 module _ (laws : BookLaws) (book : Book) (is_in : Order → Bool) (s : OrderState)
     (not_queued : is_queued_state s ≡ false) (not_settled : is_settled_state s ≡ false)
-    (not_under : (mark : ℕ) → is_state_under mark s ≡ false) (no_mark : (ms : List Mark) (date : ℕ) → HasMark ms date s)
-    (queued : AllByRecursion (λ o. is_in o ≡ true → is_queued o ≡ true) book.orders) where
+    (no_mark : (ms : List Mark) (date : ℕ) → HasMark ms date s) (fresh : AreUnsettled book is_in) where
   pub balance-with_state : (code : List ℕ) → balance (with_state book is_in s) code ≡ balance book code
-  balance-with_state code = laws.restating book is_in s code queued not_settled
+  balance-with_state code = laws.restating book is_in s code fresh not_settled
 
   under_same : (mark : ℕ) → filter (λ (o : Order). is_state_under mark o.state) (map (restated is_in s) book.orders)
       ≡ filter (λ (o : Order). is_state_under mark o.state) book.orders
-  under_same mark = filter_changed (λ (o : Order). is_state_under mark o.state) is_in (λ o. record o { state = s })
-      (λ o. not_under mark)
-      book.orders (all_weaker (λ o. is_in o ≡ true → is_queued o ≡ true)
-      (λ o. is_in o ≡ true → is_state_under mark o.state ≡ false) (λ o f e. queued_not_under mark o.state (f e))
-      book.orders queued)
+  under_same mark = filter_changed (λ (o : Order). is_state_under mark o.state) is_in (in_state s)
+      (λ o. unsettled_not_under mark s not_settled) book.orders
+      (all_weaker (λ o. is_in o ≡ true → is_settled o ≡ false)
+      (λ o. is_in o ≡ true → is_state_under mark o.state ≡ false) (λ o f e. unsettled_not_under mark o.state (f e))
+      book.orders fresh)
 
-  parties_same : (o : Order) → has_parties book (restated is_in s o) ≡ has_parties book o
-  parties_same o = restated_same (has_parties book) (λ o s. refl) is_in s o
-
-  number_same : map (λ (o : Order). o.number) (map (restated is_in s) book.orders)
-      ≡ map (λ (o : Order). o.number) book.orders
-  number_same = map_same (λ (o : Order). o.number) (restated is_in s)
-      (restated_same (λ (o : Order). o.number) (λ o s. refl) is_in s) book.orders
-
-  name_same : map name (map (restated is_in s) book.orders) ≡ map name book.orders
-  name_same = map_same name (restated is_in s) (restated_same name (λ o s. refl) is_in s) book.orders
-
-  date_same : map (λ (o : Order). o.date) (map (restated is_in s) book.orders) ≡ map (λ (o : Order). o.date) book.orders
-  date_same = map_same (λ (o : Order). o.date) (restated is_in s)
-      (restated_same (λ (o : Order). o.date) (λ o s. refl) is_in s) book.orders
+  kept : {Y : Type 0} (g : Order → Y) → ((o : Order) → g (in_state s o) ≡ g o)
+      → map g (map (restated is_in s) book.orders) ≡ map g book.orders
+  kept g same = map_same g (restated is_in s) (changed_same g (in_state s) same is_in) book.orders
 
   pub sound_with_state : IsSound book → IsSound (with_state book is_in s)
   unfolding with_state accounts is_participant queue total floor credit_of participant_of
   sound_with_state h = record {
-    orders_numbered = rw number_same h.orders_numbered;
+    orders_numbered = rw (kept (λ (o : Order). o.number) (λ o. refl)) h.orders_numbered;
     postings_numbered = h.postings_numbered;
     marks_numbered = h.marks_numbered;
     codes_rise = h.codes_rise;
     keys_distinct = h.keys_distinct;
-    order_references = rw name_same h.order_references;
+    order_references = rw (kept name (λ o. refl)) h.order_references;
     posting_references = h.posting_references;
     parties = (
-      all_map (λ o. has_parties book o ≡ true) (restated is_in s) book.orders
-          (all_weaker (λ o. has_parties book o ≡ true) (λ o. has_parties book (restated is_in s o) ≡ true)
-          (λ o x. parties_same o ∙ x) book.orders h.parties.0),
+      all_changed (λ o. has_parties book o ≡ true) is_in (in_state s) book.orders
+          (all_of (λ o. is_in o ≡ true → has_parties book o ≡ true → has_parties book (in_state s o) ≡ true)
+          (λ o e x. x) book.orders) h.parties.0,
       h.parties.1,
     );
     marks = (
-      marks_restated book.marks is_in s (no_mark book.marks) book.orders h.marks.0,
+      all_changed (λ (o : Order). HasMark book.marks o.date o.state) is_in (in_state s) book.orders
+          (all_of (λ (o : Order). is_in o ≡ true → HasMark book.marks o.date o.state → HasMark book.marks o.date s)
+          (λ o e x. no_mark book.marks o.date) book.orders) h.marks.0,
       all_weaker (CountsItsOrders book) (CountsItsOrders (with_state book is_in s))
           (λ (m : Mark) c. record {
             some = c.some;
@@ -92,22 +81,22 @@ module _ (laws : BookLaws) (book : Book) (is_in : Order → Bool) (s : OrderStat
     );
     queues = record {
       closed = λ e.
-          let le = length-filter_restated is_queued is_in s (λ o. not_queued) book.orders in
+          let le = length-filter_changed is_queued is_in (in_state s) (λ o. not_queued) book.orders in
           let none = ap length (h.queues.closed e) in
           no_length _ (omega arith);
       short = all_weaker (λ code. length (queue book code) ≤ LONGEST_QUEUE)
           (λ code. length (queue (with_state book is_in s) code) ≤ LONGEST_QUEUE)
-          (λ code x. let le = length-filter_restated (λ o. is_queued o && bytes_eq o.sender code) is_in s
+          (λ code x. let le = length-filter_changed (λ o. is_queued o && bytes_eq o.sender code) is_in (in_state s)
           (λ o. and_left_false _ _ not_queued) book.orders in omega arith) (accounts book) h.queues.short;
-      of_the_day = all_filter_restated is_queued is_in s (λ o. not_queued) (λ o. o.date ≡ today book) book.orders
-          h.queues.of_the_day;
+      of_the_day = all_filter_changed is_queued is_in (in_state s) (λ o. not_queued) (λ o. o.date ≡ today book)
+          book.orders h.queues.of_the_day;
     };
     dates = record {
       dated = h.dates.dated;
       weekday = h.dates.weekday;
-      order_weekdays = rw date_same h.dates.order_weekdays;
+      order_weekdays = rw (kept (λ (o : Order). o.date) (λ o. refl)) h.dates.order_weekdays;
       mark_weekdays = h.dates.mark_weekdays;
-      orders = rw date_same h.dates.orders;
+      orders = rw (kept (λ (o : Order). o.date) (λ o. refl)) h.dates.orders;
       marks = h.dates.marks;
       postings = h.dates.postings;
     };
@@ -124,17 +113,17 @@ unfolding withdraw order_named
 sound_withdraw laws book sender reference h = sound_first_of book _ _ h
     (λ (_, (_, (_, (queued, _)))). by (order_named book sender reference) refl (from_not _ queued))
   where
-    found_queued : (o : Order) → order_named book sender reference ≡ Some o → is_queued o ≡ true
-        → AllByRecursion (λ other. has_number o.number other ≡ true → is_queued other ≡ true) book.orders
-    found_queued o e q = found_by_number (λ other. is_queued other ≡ true) (is_order_named sender reference) 1
+    found_unsettled : (o : Order) → order_named book sender reference ≡ Some o → is_queued o ≡ true
+        → AreUnsettled book (has_number o.number)
+    found_unsettled o e q = found_by_number (λ other. is_settled other ≡ false) (is_order_named sender reference) 1
         book.orders o (h.orders_numbered.0 ∙ ap (range_with_len 1) (length-map book.orders (λ (o : Order). o.number))) e
-        q
+        (queued_not_settled o.state q)
 
     by : (found : Option Order) → order_named book sender reference ≡ found → is_queued_order found ≡ true
         → IsSound (with_state book (has_number (number_of found)) Withdrawn)
     by None e q = absurd (true≢false (sym q))
-    by (Some o) e q = sound_with_state laws book (has_number o.number) Withdrawn refl refl (λ _. refl) (λ _ _. tt)
-        (found_queued o e q) h
+    by (Some o) e q = sound_with_state laws book (has_number o.number) Withdrawn refl refl (λ _ _. tt)
+        (found_unsettled o e q) h
 
 none_pass : {X : Type 0} (p : X → Bool) (xs : List X) → not (is_empty (filter p xs)) ≡ false
     → AllByRecursion (λ x. p x ≡ false) xs
@@ -152,14 +141,15 @@ none_queued [] = refl
 none_queued (o ∷ os) = by (is_queued o) refl (none_queued os)
   where
     by : (b : Bool) → is_queued o ≡ b → filter is_queued (map (restated is_queued Rejected) os) ≡ []
-        → cond (is_queued (cond b (record o { state = Rejected }) o))
-        (cond b (record o { state = Rejected }) o ∷ filter is_queued (map (restated is_queued Rejected) os))
+        → cond (is_queued (cond b (in_state Rejected o) o))
+        (cond b (in_state Rejected o) o ∷ filter is_queued (map (restated is_queued Rejected) os))
         (filter is_queued (map (restated is_queued Rejected) os)) ≡ []
     by true e rest = rest
     by false e rest = rw e rest
 
-pub all_queued : (os : List Order) → AllByRecursion (λ o. is_queued o ≡ true → is_queued o ≡ true) os
-all_queued os = all_of (λ o. is_queued o ≡ true → is_queued o ≡ true) (λ o e. e) os
+pub queued_unsettled : (book : Book) → AreUnsettled book is_queued
+queued_unsettled book = all_of (λ o. is_queued o ≡ true → is_settled o ≡ false)
+    (λ o e. queued_not_settled o.state e) book.orders
 
 not_negative : (a : ℤ) → int_lt a (pos 0) ≡ false → pos 0 ≤ℤ a
 not_negative a e = grind (arith, ints)
@@ -170,8 +160,8 @@ close_sound : BookLaws → (book : Book) → IsSound book
 unfolding with_state accounts queue floor balance
 close_sound laws book h positive =
     let rejected = with_state book is_queued Rejected in
-    let sound = sound_with_state laws book is_queued Rejected refl refl (λ _. refl) (λ _ _. tt)
-    (all_queued book.orders) h in
+    let sound = sound_with_state laws book is_queued Rejected refl refl (λ _ _. tt)
+    (queued_unsettled book) h in
     sound_with_day rejected (record book.day { phase = Closed }) sound
     (record {
       closed = λ _. none_queued book.orders;
@@ -190,8 +180,8 @@ close_sound laws book h positive =
     (all_weaker (λ code. int_lt (balance book code) (pos 0) ≡ false)
     (λ code. floor (with_day rejected (record book.day { phase = Closed })) code ≤ℤ balance
     (with_day rejected (record book.day { phase = Closed })) code)
-    (λ code e. rw (balance-with_state laws book is_queued Rejected refl refl (λ _. refl) (λ _ _. tt)
-    (all_queued book.orders) code) (not_negative _ e)) (accounts book) positive)
+    (λ code e. rw (balance-with_state laws book is_queued Rejected refl refl (λ _ _. tt)
+    (queued_unsettled book) code) (not_negative _ e)) (accounts book) positive)
 
 pub sound_close_day : BookLaws → (book : Book) (choice : Choice) (date : ℕ) → IsSound book
     → IsSound (close_day book choice date).book

@@ -15,13 +15,13 @@ use Rattle.rtgs_book.specs.declared.order.Order.{Order}
 use Rattle.rtgs_book.specs.declared.order_state.OrderState.{OrderState}
 use Rattle.rtgs_book.specs.declared.participant.Participant.{Participant}
 use Rattle.rtgs_book.specs.declared.posting.Posting.{Posting}
-use Rattle.rtgs_book.specs.declared.order_state.OrderState.TheVariants.{Queued, Settled, Withdrawn, Rejected}
-use Rattle.rtgs_book.specs.Books.{is_queued, is_queued_state, is_settled, is_settled_state, is_empty}
+use Rattle.rtgs_book.specs.declared.order_state.OrderState.TheVariants.{Settled, Withdrawn, Rejected}
+use Rattle.rtgs_book.specs.Books.{is_queued, is_settled, is_empty}
 use Rattle.rtgs_book.specs.Lookup.{has_code, is_order_named, order_named, posting_named}
 use Rattle.rtgs_book.specs.IntSum.{int_sum_by}
 use Rattle.rtgs_book.specs.Balance.{total, issued}
 use Rattle.rtgs_book.specs.Choice.{is_chosen, chosen}
-use Rattle.rtgs_book.specs.Settle.{restated, settle, mark_of, next_mark}
+use Rattle.rtgs_book.specs.Settle.{altered, in_state, restated, settle, mark_of, next_mark}
 use Rattle.rtgs_book.specs.Outcome.{Reply, Outcome, first_of}
 use Rattle.rtgs_book.specs.Commands.{is_before, add, with_participant, set_credit, with_credit, known_posting, post}
 use Rattle.rtgs_book.specs.Commands.{new_order, with_order, has_number, takes, settles_at_once, order, is_queued_order}
@@ -32,15 +32,15 @@ use Rattle.rtgs_book.specs.Step.{Step}
 use Rattle.rtgs_book.specs.Laws.{posted, KeepsWhatIsFinal, CommandFits}
 use Rattle.rtgs_book.specs.Ranges.{Fits}
 use Rattle.rtgs_laws.proofs.Batches.{marks_le}
-use Rattle.rtgs_laws.proofs.BookLaws.{TotalIsIssued}
+use Rattle.rtgs_laws.proofs.BookLaws.{AreQueued, AreUnsettled, TotalIsIssued}
 use Rattle.rtgs_laws.proofs.Outcomes.{NoneHolds, first_of_cases}
 use Rattle.rtgs_laws.proofs.Settling.{settled_either}
 use Rattle.rtgs_laws.proofs.Sound.{KeepsSoundness}
 use Rattle.rtgs_laws.proofs.SoundCommands.{chosen_queued, old_numbers}
 use Rattle.rtgs_laws.proofs.SoundSettle.{total-with_batch}
-use Rattle.rtgs_laws.proofs.SoundStates.{all_queued}
-use Rattle.rtgs_laws.proofs.States.{found_by_number}
-use Rattle.rtgs_lists.proofs.Lists.{all_append, all_filter, all_map, all_of, all_push, all_weaker}
+use Rattle.rtgs_laws.proofs.SoundStates.{queued_unsettled}
+use Rattle.rtgs_laws.proofs.States.{found_by_number, queued_not_settled}
+use Rattle.rtgs_lists.proofs.Lists.{all_append, all_changed, all_filter, all_map, all_of, all_push, all_weaker}
 use Rattle.rtgs_lists.proofs.Sums.{int_sum_by-append}
 use Rattle.rtgs_lists.proofs.Bools.{from_not}
 
@@ -177,20 +177,14 @@ has_all : (P : Order → Type 0) (os : List Order) (o : Order) → AllByRecursio
 has_all P [] o h k = absurd k
 has_all P (x ∷ os) o h k = ⊎_elim (λ e. subst P e h.0) (λ m. has_all P os o h.1 m) k
 
--- a settled order keeps its state where queued ones alone get another
-settled_stays : (is_in : Order → Bool) (s : OrderState) (o : Order) → (is_in o ≡ true → is_queued o ≡ true)
-    → is_settled o ≡ true → restated is_in s o ≡ o
-settled_stays is_in s o queued settled = by (is_in o) queued
+-- a settled order stays as it is where only orders are changed that are not settled
+settled_stays : (is_in : Order → Bool) (change : Order → Order) (o : Order) → (is_in o ≡ true → is_settled o ≡ false)
+    → is_settled o ≡ true → altered is_in change o ≡ o
+settled_stays is_in change o fresh settled = by (is_in o) fresh
   where
-    clash : (state : OrderState) → is_queued_state state ≡ true → is_settled_state state ≡ true → ⊥
-    clash Queued e f = true≢false (sym f)
-    clash (Settled mark) e f = true≢false (sym e)
-    clash Withdrawn e f = true≢false (sym e)
-    clash Rejected e f = true≢false (sym e)
-
-    by : (b : Bool) → (b ≡ true → is_queued o ≡ true) → cond b (record o { state = s }) o ≡ o
-    by true q = absurd (clash o.state (q refl) settled)
-    by false q = refl
+    by : (b : Bool) → (b ≡ true → is_settled o ≡ false) → cond b (change o) o ≡ o
+    by true f = absurd (true≢false (sym settled ∙ f refl))
+    by false f = refl
 
 stands_same : (old new : Book) → new.marks ≡ old.marks → new.orders ≡ old.orders → KeepsWhatIsFinal old new
 stands_same old new m o = record {
@@ -198,21 +192,23 @@ stands_same old new m o = record {
   orders = λ x h settled. subst (λ os. Has os x) (sym o) h;
 }
 
-stands_restated : (old new : Book) (is_in : Order → Bool) (s : OrderState)
-    → AllByRecursion (λ o. is_in o ≡ true → is_queued o ≡ true) old.orders → (later : List Mark)
-    → new.marks ≡ old.marks ++ later → new.orders ≡ map (restated is_in s) old.orders → KeepsWhatIsFinal old new
-stands_restated old new is_in s queued later m o = record {
+stands_altered : (old new : Book) (is_in : Order → Bool) (change : Order → Order) → AreUnsettled old is_in
+    → (later : List Mark) → new.marks ≡ old.marks ++ later → new.orders ≡ map (altered is_in change) old.orders
+    → KeepsWhatIsFinal old new
+stands_altered old new is_in change fresh later m o = record {
   marks = (later, m);
-  orders = λ x h settled. subst (λ os. Has os x) (sym o) (has_map (restated is_in s) old.orders x
-      (settled_stays is_in s x (has_all (λ o. is_in o ≡ true → is_queued o ≡ true) old.orders x queued h) settled) h);
+  orders = λ x h settled. subst (λ os. Has os x) (sym o) (has_map (altered is_in change) old.orders x
+      (settled_stays is_in change x (has_all (λ o. is_in o ≡ true → is_settled o ≡ false) old.orders x fresh h) settled)
+      h);
 }
 
-stands_settle : (old : Book) (is_in : Order → Bool) → AllByRecursion (λ o. is_in o ≡ true → is_queued o ≡ true)
-    old.orders → KeepsWhatIsFinal old (settle old is_in)
+stands_settle : (old : Book) (is_in : Order → Bool) → AreQueued old is_in → KeepsWhatIsFinal old (settle old is_in)
 stands_settle old is_in queued =
+    let fresh = all_weaker (λ o. is_in o ≡ true → is_queued o ≡ true) (λ o. is_in o ≡ true → is_settled o ≡ false)
+    (λ o f e. queued_not_settled o.state (f e)) old.orders queued in
     settled_either (KeepsWhatIsFinal old) old is_in (stands_same old old refl refl)
-    (λ _. stands_restated old _ is_in (Settled (next_mark old)) queued (mark_of old (filter is_in old.orders) ∷ [])
-    refl refl)
+    (λ _. stands_altered old _ is_in (in_state (Settled (next_mark old))) fresh
+    (mark_of old (filter is_in old.orders) ∷ []) refl refl)
 
 stands_grown : (old new : Book) → new.marks ≡ old.marks → (later : List Order) → new.orders ≡ old.orders ++ later
     → KeepsWhatIsFinal old new
@@ -262,10 +258,10 @@ module _ (book : Book) (sender reference receiver : List ℕ) (amount : ℕ) (h 
       by : (found : Option Order) → order_named book sender reference ≡ found → is_queued_order found ≡ true
           → KeepsWhatIsFinal book (with_state book (has_number (number_of found)) Withdrawn)
       by None e q = absurd (true≢false (sym q))
-      by (Some o) e q = stands_restated book _ (has_number o.number) Withdrawn
-          (found_by_number (λ other. is_queued other ≡ true) (is_order_named sender reference) 1 book.orders o
-          (h.orders_numbered.0 ∙ ap (range_with_len 1) (length-map book.orders (λ (o : Order). o.number))) e q) []
-          (sym (append-nil book.marks)) refl
+      by (Some o) e q = stands_altered book _ (has_number o.number) (in_state Withdrawn)
+          (found_by_number (λ other. is_settled other ≡ false) (is_order_named sender reference) 1 book.orders o
+          (h.orders_numbered.0 ∙ ap (range_with_len 1) (length-map book.orders (λ (o : Order). o.number))) e
+          (queued_not_settled o.state q)) [] (sym (append-nil book.marks)) refl
 
 stays : (old new : Book) (reply : Reply) (outcome : Outcome) → record { reply = reply; book = new } ≡ outcome
     → KeepsWhatIsFinal old outcome.book → KeepsWhatIsFinal old new
@@ -296,20 +292,15 @@ step_stands old new (CutOff date) reply h e = stays old new reply _ e
     (book_first_of (KeepsWhatIsFinal old) old _ _ (stands_same old old refl refl) (stands_same old _ refl refl))
 step_stands old new (CloseDay date) reply h e = stays old new reply _ e.2
     (book_first_of (KeepsWhatIsFinal old) old _ _ (stands_same old old refl refl)
-    (stands_restated old _ is_queued Rejected (all_queued old.orders) [] (sym (append-nil old.marks)) refl))
+    (stands_altered old _ is_queued (in_state Rejected) (queued_unsettled old) [] (sym (append-nil old.marks)) refl))
 
 -- ---- amounts keep their ranges
 
 fits_orders : (old : Book) (is_in : Order → Bool) (s : OrderState)
     → AllByRecursion (λ (o : Order). IsAmount o.amount) old.orders
     → AllByRecursion (λ (o : Order). IsAmount o.amount) (map (restated is_in s) old.orders)
-fits_orders old is_in s h = all_map (λ (o : Order). IsAmount o.amount) (restated is_in s) old.orders
-    (all_weaker (λ (o : Order). IsAmount o.amount) (λ o. IsAmount (restated is_in s o).amount) (λ o k. by o (is_in o) k)
-    old.orders h)
-  where
-    by : (o : Order) (b : Bool) → IsAmount o.amount → IsAmount (cond b (record o { state = s }) o).amount
-    by o true k = k
-    by o false k = k
+fits_orders old is_in s h = all_changed (λ (o : Order). IsAmount o.amount) is_in (in_state s) old.orders
+    (all_of (λ o. is_in o ≡ true → IsAmount o.amount → IsAmount (in_state s o).amount) (λ o e k. k) old.orders) h
 
 fits_as : (old new : Book) → new.participants ≡ old.participants → new.postings ≡ old.postings
     → AllByRecursion (λ (o : Order). IsAmount o.amount) new.orders → Fits old → Fits new

@@ -32,13 +32,11 @@ use Rattle.rtgs_accounts.specs.Accounts.{code_of, participant_of}
 use Rattle.rtgs_ledger.proofs.Balances.{all_same}
 use Rattle.rtgs_ledger.proofs.Ordering.{is_shut, is_opened, is_day}
 use Rattle.rtgs_ledger.proofs.Rooms.{after-append, accounts_after-states}
-use Rattle.rtgs_ledger.proofs.Withdrawing.{BalanceAfterRestating}
 use Rattle.rtgs_ledger.specs.Closing.{IsClosable}
 use Rattle.rtgs_queues.specs.Laws.{QueuesAreOfTheQueued}
 use Rattle.rtgs_ledger.proofs.Reading.{numbers_are}
 use Rattle.rtgs_cores.specs.Following.{AreBalanced}
 use Rattle.rtgs_ledger.proofs.Whole.{Held, IsKept, IsPrepared, Whole, after, book_of, held_of}
-use Rattle.rtgs_lists.proofs.Lists.{all_of}
 
 not_closed : (p : Phase) → is_cut_off p ≡ true → is_closed p ≡ false
 not_closed Closed e = absurd (cc)
@@ -177,12 +175,11 @@ numbers_queued law orders queued (x ∷ xs) e = λ i. numbers_are law orders que
 
 -- ---- the closing
 
-module _ (held : Held) (kept : IsKept held) (law : BalanceAfterRestating) where
-  balance_same : (c : List ℕ) → balance held.content c ≡ balance (closed_book held.content) c
-  unfolding balance
-  balance_same c = sym (law held.content is_queued Rejected c
-      (all_of (λ o. is_queued o ≡ true → is_queued o ≡ true) (λ o e. e) held.content.orders) refl)
+-- to close a day moves no balance
+abbrev ClosingMovesNothing : Type 0
+ClosingMovesNothing = (book : Book) (code : List ℕ) → balance (closed_book book) code ≡ balance book code
 
+module _ (held : Held) (kept : IsKept held) (law : ClosingMovesNothing) where
   accounts_stay : (after held (closing_rows held.content)).accounts ≡ held.accounts
   accounts_stay =
       ap (λ (h : Held). h.accounts) (after-append held (state_rows Rejected
@@ -203,8 +200,8 @@ module _ (held : Held) (kept : IsKept held) (law : BalanceAfterRestating) where
     added = added;
     in_range = λ _. tt;
     balanced = subst (AreBalanced (closed_book held.content)) (sym accounts_stay)
-        (all_same (balance held.content) (balance (closed_book held.content)) balance_same held.accounts
-        kept.balanced);
+        (all_same (balance held.content) (balance (closed_book held.content)) (λ c. sym (law held.content c))
+        held.accounts kept.balanced);
     repeated = λ k e. absurd (cc);
     nothing = λ e. absurd (cc);
   }

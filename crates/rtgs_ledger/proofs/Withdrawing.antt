@@ -14,7 +14,7 @@ use Rattle.rtgs_book.specs.declared.order.Order.{Order}
 use Rattle.rtgs_book.specs.declared.order_state.OrderState.{OrderState}
 use Rattle.rtgs_book.specs.declared.order_state.OrderState.TheVariants.{Settled, Withdrawn, Rejected}
 use Rattle.rtgs_book.specs.Balance.{balance}
-use Rattle.rtgs_book.specs.Books.{is_queued, is_queued_state, is_settled_state, is_withdrawn_state}
+use Rattle.rtgs_book.specs.Books.{is_queued_state, is_settled, is_settled_state, is_withdrawn_state}
 use Rattle.rtgs_book.specs.Changes.{Leads, balance_set}
 use Rattle.rtgs_book.specs.Commands.{withdraw, with_state, has_number}
 use Rattle.rtgs_book.specs.Lookup.{accounts, is_participant, order_named, is_order_named}
@@ -82,28 +82,28 @@ alone_in_number law book numbered p o found =
         let both : Some x ≡ Some o = sym h ∙ ap (λ n. find (has_number n) book.orders) number ∙ its in
         cc
 
--- queued orders that get another state, but are not settled, move no balance
-abbrev pub BalanceAfterRestating : Type 0
+-- orders that get another state, and are settled neither before nor after, move no balance
+abbrev BalanceAfterRestating : Type 0
 BalanceAfterRestating = (book : Book) (is_in : Order → Bool) (state : OrderState) (code : List ℕ)
-    → AllByRecursion (λ order. is_in order ≡ true → is_queued order ≡ true) book.orders → is_settled_state state ≡ false
-    → balance (with_state book is_in state) code ≡ balance book code
+    → AllByRecursion (λ order. is_in order ≡ true → is_settled order ≡ false) book.orders
+    → is_settled_state state ≡ false → balance (with_state book is_in state) code ≡ balance book code
 
 module _ (held : Held) (kept : IsKept held) (law : BalanceAfterRestating) (numbers : NumbersLeadToOrders)
     (sender reference : List ℕ) (o : Order)
-    (found : order_named held.content sender reference ≡ Some o) (waits : is_queued_state o.state ≡ true) where
+    (found : order_named held.content sender reference ≡ Some o) (waits : is_queued_state o.state ≡ true)
+    (fresh : is_settled_state o.state ≡ false) where
   abbrev new : Book
   new = with_state held.content (has_number o.number) Withdrawn
 
-  all_wait : AllByRecursion (λ x. has_number o.number x ≡ true → is_queued x ≡ true) held.content.orders
+  unsettled : AllByRecursion (λ x. has_number o.number x ≡ true → is_settled x ≡ false) held.content.orders
   unfolding order_named
-  all_wait = all_weaker (λ x. has_number o.number x ≡ true → x ≡ o) (λ x. has_number o.number x ≡ true → is_queued x ≡
-      true)
-      (λ x h e. ap is_queued (h e) ∙ waits) held.content.orders
-      (alone_in_number numbers held.content (let s = kept.sound in s.orders_numbered) (is_order_named sender
-      reference) o found)
+  unsettled = all_weaker (λ x. has_number o.number x ≡ true → x ≡ o)
+      (λ x. has_number o.number x ≡ true → is_settled x ≡ false) (λ x h e. ap is_settled (h e) ∙ fresh)
+      held.content.orders (alone_in_number numbers held.content (let s = kept.sound in s.orders_numbered)
+      (is_order_named sender reference) o found)
 
   balance_same : (c : List ℕ) → balance held.content c ≡ balance new c
-  balance_same c = sym (law held.content (has_number o.number) Withdrawn c all_wait refl)
+  balance_same c = sym (law held.content (has_number o.number) Withdrawn c unsettled refl)
 
   leads_to_it : Leads held.content (SetState o.number Withdrawn ∷ []) new
   leads_to_it = record {

@@ -1,5 +1,7 @@
 -- Filters, and an element that is put in between those that pass and those that don't.
-use Rattle.std.proofs.Common.{◌≡◌, Bool, true, false, cond, not, ◌&&◌, List, [], ◌∷◌, ◌++◌, map, filter, refl, ap}
+use Rattle.std.proofs.Common.{◌≡◌, ◌≤◌, Bool, true, false, cond, not, ◌&&◌, List, [], ◌∷◌, ◌++◌, map, filter, length}
+use Rattle.std.proofs.Common.{refl, sym, ap, ◌∙◌, true≢false, arith}
+use Rattle.std.proofs.lemmas.List.{length-map}
 use Rattle.std.specs.List.{AllByRecursion}
 use Rattle.rtgs_lists.proofs.Lists.{all_append, all_filter}
 
@@ -49,6 +51,19 @@ filter_of g q p same (x ∷ xs) = by (p x) (same x) (filter_of g q p same xs)
     by true is rest = rw is (ap (λ ys. g x ∷ ys) rest)
     by false is rest = rw is rest
 
+-- what passes the narrower test is no more
+pub filter_shorter : {X : Type 0} (p q : X → Bool) → ((x : X) → p x ≡ true → q x ≡ true) → (xs : List X)
+    → length (filter p xs) ≤ length (filter q xs)
+filter_shorter p q wider [] = omega arith
+filter_shorter p q wider (x ∷ xs) = by (p x) refl (q x) refl (filter_shorter p q wider xs)
+  where
+    by : (a : Bool) → p x ≡ a → (b : Bool) → q x ≡ b → length (filter p xs) ≤ length (filter q xs)
+        → length (cond a (x ∷ filter p xs) (filter p xs)) ≤ length (cond b (x ∷ filter q xs) (filter q xs))
+    by true e true f rest = omega arith
+    by true e false f rest = absurd (true≢false (sym (wider x e) ∙ f))
+    by false e true f rest = omega arith
+    by false e false f rest = rest
+
 abbrev pub put_in : {X : Type 0} → (X → Bool) → X → List X → List X
 put_in p x xs = filter p xs ++ x ∷ filter (λ y. not (p y)) xs
 
@@ -69,3 +84,36 @@ filter_changed p is_in f never (x ∷ xs) h = by (is_in x) refl (filter_changed 
         (filter p (map (λ x. cond (is_in x) (f x) x) xs)) ≡ cond (p x) (x ∷ filter p xs) (filter p xs)
     by true e rest = rw (never x, h.0 e, rest) refl
     by false e rest = rw rest refl
+
+-- a filter that does not pass what is changed keeps no more than before
+module _ {X : Type 0} (p is_in : X → Bool) (f : X → X) (never : (x : X) → p (f x) ≡ false) where
+  pub all_filter_changed : (P : X → Type 0) (xs : List X) → AllByRecursion P (filter p xs)
+      → AllByRecursion P (filter p (map (λ x. cond (is_in x) (f x) x) xs))
+  all_filter_changed P [] h = tt
+  all_filter_changed P (x ∷ xs) h = by (is_in x) (p x) refl h (all_filter_changed P xs)
+    where
+      by : (b d : Bool) → p x ≡ d → AllByRecursion P (cond d (x ∷ filter p xs) (filter p xs))
+          → (AllByRecursion P (filter p xs) → AllByRecursion P (filter p (map (λ x. cond (is_in x) (f x) x) xs)))
+          → AllByRecursion P (cond (p (cond b (f x) x))
+          (cond b (f x) x ∷ filter p (map (λ x. cond (is_in x) (f x) x) xs))
+          (filter p (map (λ x. cond (is_in x) (f x) x) xs)))
+      by true true e k rest = rw (never x) (rest k.1)
+      by true false e k rest = rw (never x) (rest k)
+      by false true e k rest = rw e (k.0, rest k.1)
+      by false false e k rest = rw e (rest k)
+
+  passed_before : (x : X) → p (cond (is_in x) (f x) x) ≡ true → p x ≡ true
+  passed_before x = by (is_in x)
+    where
+      by : (b : Bool) → p (cond b (f x) x) ≡ true → p x ≡ true
+      by true e = absurd (true≢false (sym e ∙ never x))
+      by false e = e
+
+  pub length-filter_changed : (xs : List X)
+      → length (filter p (map (λ x. cond (is_in x) (f x) x) xs)) ≤ length (filter p xs)
+  length-filter_changed xs =
+      let shorter = filter_shorter (λ x. p (cond (is_in x) (f x) x)) p passed_before xs in
+      rw (
+        filter_of (λ x. cond (is_in x) (f x) x) p (λ x. p (cond (is_in x) (f x) x)) (λ x. refl) xs,
+        length-map (filter (λ x. p (cond (is_in x) (f x) x)) xs) (λ x. cond (is_in x) (f x) x),
+      ) shorter

@@ -74,7 +74,6 @@ impl Ledger {
                 count: self.records.accounts.overdrawn() as u64,
             });
         }
-        laws::balance_after_restating();
         queued_are_numbered();
         queues_are_of_the_queued();
         rows_close();

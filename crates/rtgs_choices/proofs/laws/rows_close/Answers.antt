@@ -1,5 +1,5 @@
 use Rattle.rtgs_choices.specs.Closing.{closing_rows}
-use Rattle.rtgs_choices.proofs.Closing.{closing, rejected, moves_nothing, adds_nobody}
+use Rattle.rtgs_choices.proofs.Closing.{closing, rejected, same_balance, moves_nothing, adds_nobody}
 use Rattle.rtgs_choices.proofs.laws.rows_close.Goals as goal
 
 pub returns : goal.returns
@@ -9,5 +9,6 @@ returns c = record {
     book = rejected book c.states_one_by_one.ensures.states (c.queued_are_numbered.ensures.numbers book sound);
     balances = moves_nothing book c.balance_after_restating.ensures;
   };
+  balances = λ book code. same_balance book c.balance_after_restating.ensures code;
   added = λ book new. adds_nobody new (closing_rows book) book;
 }

@@ -52,6 +52,6 @@ returns-clause-prepared c book is can =
     ∙ sym (c.queued_are_numbered.ensures.count here of.kept.sound) in
     rw (c.from_vec.ensures, c.in_ok-rows.ensures, c.as_slice.ensures.value, numbers, count)
     (to_prepared book c.self.inside.records c.args.self.now.core of _ _ _
-    (prepared_closing (held_of r) of.kept c.balance_after_restating.ensures c.args.date
+    (prepared_closing (held_of r) of.kept c.rows_close.ensures.balances c.args.date
     (c.rows_close.ensures.step here at.choice c.args.date at.cut at.same at.greatest at.none covered)
     (c.rows_close.ensures.leads here of.kept.sound) (c.rows_close.ensures.added here (closed_book here))))
