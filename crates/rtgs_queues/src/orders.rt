@@ -117,7 +117,7 @@ impl Orders {
     {
         self.awaited = None;
         self.orders.reserve(1)?;
-        self.queues.reserve(sender)?;
+        self.queues.reserve(sender, 1)?;
         self.awaited = Some(sender);
         Ok(())
     }
@@ -206,7 +206,7 @@ fn queues_of(alloc: Global, orders: &[Order]) -> Result<Queues, AllocError>
     let mut queues = Queues::new(alloc);
     for order in orders {
         if is_queued(order) {
-            queues.reserve(order.sender)?;
+            queues.reserve(order.sender, 1)?;
             queues.push(&order.sender, order.number);
         }
     }

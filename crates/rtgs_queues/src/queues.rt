@@ -1,5 +1,5 @@
 //! The queue of each sender.
-ghost use Rattle.std.specs.Prelude.{◌≡◌, ◌≤◌, ◌++◌, ◌∷◌, [], ℕ, List, not, ◌==◌, if◌then◌else◌, filter, OnOk};
+ghost use Rattle.std.specs.Prelude.{◌≡◌, ◌≤◌, ◌+◌, ◌++◌, ◌∷◌, [], ℕ, List, not, ◌==◌, if◌then◌else◌, filter, OnOk};
 ghost use Rattle.std.specs.Str.{bytes_eq};
 ghost use Rattle.rtgs_queues.specs.Queues.{numbers_queued_by, room_of};
 
@@ -33,28 +33,31 @@ impl Queues {
         }
     }
 
-    /// Makes room for a number in the sender's queue.
-    pub fn reserve(&mut self, sender: Code) -> Result<(), AllocError>
+    /// Makes room for so many numbers more in the sender's queue. No queue loses room.
+    pub fn reserve(&mut self, sender: Code, many: usize) -> Result<(), AllocError>
         ensures same { (other : List ℕ) → numbers_queued_by self.new other ≡ numbers_queued_by self.old other }
-        ensures room { OnOk result (1 ≤ room_of self.new sender) }
+        ensures room { OnOk result (many ≤ room_of self.new sender) }
+        ensures more { (other : List ℕ) → room_of self.old other ≤ room_of self.new other }
     {
         let queue = self.numbers.entry(sender)?.or_default();
-        queue.reserve(1)
+        queue.reserve(many)
     }
 
-    /// Puts a number at the end of the sender's queue, in the room that was made for it.
+    /// Puts a number at the end of the sender's queue, in the room that was made for it, and takes no other room.
     pub fn push(&mut self, sender: &Code, number: u64)
         requires { 1 ≤ room_of self.old sender.now }
-        ensures { (other : List ℕ) → numbers_queued_by self.new other
+        ensures queues { (other : List ℕ) → numbers_queued_by self.new other
             ≡ (if bytes_eq sender.now other then numbers_queued_by self.old other ++ number ∷ [] else numbers_queued_by
             self.old other) }
+        ensures room { (other : List ℕ) → room_of self.old other
+            ≡ room_of self.new other + (if bytes_eq sender.now other then 1 else 0) }
     {
         if let Some(queue) = self.numbers.get_mut(sender) {
             queue.push_reserved(number);
         }
     }
 
-    /// Takes a number out of the sender's queue.
+    /// Takes a number out of the sender's queue. No queue loses room.
     pub fn remove(&mut self, sender: &Code, number: u64)
         ensures queues { (other : List ℕ) → numbers_queued_by self.new other
             ≡ (if bytes_eq sender.now other then filter (λ n. not (n == number))
