@@ -6,9 +6,9 @@ use Rattle.std.proofs.lemmas.Bool.{cases_Bool}
 use Rattle.std.proofs.lemmas.List.{length-map}
 use Rattle.rtgs_book.specs.declared.limits.TheConstants.{LARGEST_NUMBER}
 use Rattle.rtgs_book.specs.Soundness.{AreNumbered, NeverFall}
-use Rattle.rtgs_cores.specs.Nexts.{AreListed}
+use Rattle.rtgs_cores.specs.Nexts.{AreNumberedInOrder, AreDatedInOrder, AreListed}
 
-module _ {A : Type 0} (number date : A → ℕ) where
+module _ {A : Type 0} (number : A → ℕ) where
   above_all : (k m : ℕ) (xs : List A) → map number xs ≡ range_with_len k (length xs) → m < k
       → AllByRecursion (λ y. m < number y) xs
   above_all k m [] is low = tt
@@ -17,29 +17,39 @@ module _ {A : Type 0} (number date : A → ℕ) where
       let rest : map number xs ≡ range_with_len (k + 1) (length xs) = cc in
       (omega arith, above_all (k + 1) m xs rest (omega arith))
 
+  in_order_from : (k : ℕ) (xs : List A) → map number xs ≡ range_with_len k (length xs)
+      → k + length xs ≤ LARGEST_NUMBER + 1 → AreNumberedInOrder number xs
+  in_order_from k [] is small = tt
+  in_order_from k (x ∷ xs) is small =
+      let first : number x ≡ k = cc in
+      let rest : map number xs ≡ range_with_len (k + 1) (length xs) = cc in (
+        omega arith,
+        above_all (k + 1) (number x) xs rest (omega arith),
+        in_order_from (k + 1) xs rest (omega arith),
+      )
+
+  pub are_in_order : (xs : List A) → AreNumbered (map number xs) → AreNumberedInOrder number xs
+  are_in_order xs numbered =
+      let long = length-map xs number in
+      in_order_from 1 xs (subst (λ n. map number xs ≡ range_with_len 1 n) long numbered.0)
+      (let small = numbered.1 in omega arith)
+
+module _ {A : Type 0} (date : A → ℕ) where
   late_all : (d : ℕ) (xs : List A) → AllByRecursion (λ later. d ≤ later) (map date xs)
       → AllByRecursion (λ y. d ≤ date y) xs
   late_all d [] late = tt
   late_all d (x ∷ xs) late = (late.0, late_all d xs late.1)
 
-  listed : (k last : ℕ) (xs : List A) → map number xs ≡ range_with_len k (length xs)
-      → k + length xs ≤ LARGEST_NUMBER + 1 → NeverFall last (map date xs) → AreListed number date xs
-  listed k last [] is small dates = tt
-  listed k last (x ∷ xs) is small dates =
-      let first : number x ≡ k = cc in
-      let rest : map number xs ≡ range_with_len (k + 1) (length xs) = cc in (
-        omega arith,
-        above_all (k + 1) (number x) xs rest (omega arith),
-        late_all (date x) xs dates.0,
-        listed (k + 1) last xs rest (omega arith) dates.2,
-      )
+  dated : (last : ℕ) (xs : List A) → NeverFall last (map date xs) → AreDatedInOrder date xs
+  dated last [] dates = tt
+  dated last (x ∷ xs) dates = (late_all (date x) xs dates.0, dated last xs dates.2)
 
-  pub are_listed : (last : ℕ) (xs : List A) → AreNumbered (map number xs) → NeverFall last (map date xs)
-      → AreListed number date xs
-  are_listed last xs numbered dates =
-      let long = length-map xs number in
-      listed 1 last xs (subst (λ n. map number xs ≡ range_with_len 1 n) long numbered.0)
-      (let small = numbered.1 in omega arith) dates
+pub are_listed : {A : Type 0} (number date : A → ℕ) (last : ℕ) (xs : List A) → AreNumbered (map number xs)
+    → NeverFall last (map date xs) → AreListed number date xs
+are_listed number date last xs numbered dates = record {
+  numbers = are_in_order number xs numbered;
+  dates = dated date last xs dates;
+}
 
 -- ---- the first that passes a test has the least number of those that pass
 
@@ -56,16 +66,17 @@ above_least : {A : Type 0} (number : A → ℕ) (hit : A → Bool) (a : A) (xs :
 above_least number hit a [] low = tt
 above_least number hit a (y ∷ ys) low = ((λ _. let l = low.0 in omega arith), above_least number hit a ys low.1)
 
-pub found_least : {A : Type 0} (number date : A → ℕ) (hit : A → Bool) (a : A) (xs : List A)
-    → AreListed number date xs → find hit xs ≡ Some a → AllByRecursion (λ y. hit y ≡ true → number a ≤ number y) xs
-found_least number date hit a [] listed is = tt
-found_least number date hit a (x ∷ xs) listed is = elim (cases_Bool (hit x)) [
+pub found_least : {A : Type 0} (number : A → ℕ) (hit : A → Bool) (a : A) (xs : List A)
+    → AreNumberedInOrder number xs → find hit xs ≡ Some a
+    → AllByRecursion (λ y. hit y ≡ true → number a ≤ number y) xs
+found_least number hit a [] listed is = tt
+found_least number hit a (x ∷ xs) listed is = elim (cases_Bool (hit x)) [
   | inl here ↦
       let same : x ≡ a = (let e = rw here at is in cc) in
       subst (λ b. AllByRecursion (λ y. hit y ≡ true → number b ≤ number y) (x ∷ xs)) same
       ((λ _. omega arith), above_least number hit x xs listed.1)
   | inr other ↦ (
     (λ on. absurd (let clash : ◌≡◌ {A = Bool} true false = sym on ∙ other in cc)),
-    found_least number date hit a xs listed.3 (rw other at is),
+    found_least number hit a xs listed.2 (rw other at is),
   )
 ]

@@ -36,8 +36,18 @@ mark_after book date number = find (is_mark_after date number) book.marks
 abbrev pub date_of_posting : Posting → ℕ
 date_of_posting p = unwrap_or p.date 0
 
--- The numbers rise, none is above the greatest, and the dates never fall.
-abbrev pub AreListed : {A : Type 0} → (A → ℕ) → (A → ℕ) → List A → Type 0
-AreListed number date [] = ⊤
-AreListed number date (x ∷ xs) = (number x ≤ LARGEST_NUMBER) × AllByRecursion (λ y. number x < number y) xs
-    × AllByRecursion (λ y. date x ≤ date y) xs × AreListed number date xs
+-- The numbers rise, and none is above the greatest. Whoever reads the orders of a date rests on this alone.
+abbrev pub AreNumberedInOrder : {A : Type 0} → (A → ℕ) → List A → Type 0
+AreNumberedInOrder number [] = ⊤
+AreNumberedInOrder number (x ∷ xs) = (number x ≤ LARGEST_NUMBER) × AllByRecursion (λ y. number x < number y) xs
+    × AreNumberedInOrder number xs
+
+-- The dates never fall.
+abbrev pub AreDatedInOrder : {A : Type 0} → (A → ℕ) → List A → Type 0
+AreDatedInOrder date [] = ⊤
+AreDatedInOrder date (x ∷ xs) = AllByRecursion (λ y. date x ≤ date y) xs × AreDatedInOrder date xs
+
+-- So it is with the numbers, and with the dates.
+pub record AreListed {A : Type 0} (number date : A → ℕ) (xs : List A) : Type 0 where
+  pub numbers : AreNumberedInOrder number xs
+  pub dates : AreDatedInOrder date xs

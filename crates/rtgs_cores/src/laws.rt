@@ -14,13 +14,15 @@ ghost use Rattle.rtgs_cores.specs.declared.cores.Core.{Core};
 ghost use Rattle.rtgs_cores.specs.Cores.{IsCoreOf};
 ghost use Rattle.rtgs_cores.specs.Following.{core_after, AreBalanced, QueuesNoneAgain};
 ghost use Rattle.rtgs_cores.specs.Nexts.{posting_after, order_after, mark_after, date_of_posting, AreListed};
+ghost use Rattle.rtgs_cores.specs.Nexts.{AreNumberedInOrder};
 
-/// In a sound book the numbers of the postings rise, and their dates never fall; so it is with orders and marks.
+/// In a sound book the numbers of the postings rise, and their dates never fall; so it is with marks. Of the orders it
+/// says only that their numbers rise, and whoever reads the orders of a date rests on that alone.
 pub fn records_are_listed()
     ensures postings { (book : Book) → IsSound book
         → AreListed (λ (p : Posting). p.number) date_of_posting book.postings }
     ensures orders { (book : Book) → IsSound book
-        → AreListed (λ (o : Order). o.number) (λ (o : Order). o.date) book.orders }
+        → AreNumberedInOrder (λ (o : Order). o.number) book.orders }
     ensures marks { (book : Book) → IsSound book
         → AreListed (λ (m : Mark). m.number) (λ (m : Mark). m.date) book.marks }
 {}

@@ -33,6 +33,7 @@ use Rattle.sqlite.specs.Held.{Held, state}
 use Rattle.sqlite.proofs.Callers.{one_permutation}
 use Rattle.sqlite.proofs.StateLemmas.{survives_then}
 use Rattle.sqlite_trees.specs.declared.store.Store.{Ghosts}
+use Rattle.rtgs_money.specs.Date.{date_text}
 use Rattle.rtgs_book.specs.declared.Book.{Book}
 use Rattle.rtgs_book.specs.declared.Fault.{Fault}
 use Rattle.rtgs_book.specs.declared.Fault.TheVariants.{OutOfMemory, StoreFault}
@@ -46,13 +47,13 @@ use Rattle.rtgs_rows.specs.Keeping.{IsBookOf, HoldsBook}
 use Rattle.rtgs_rows.specs.Rows.{posting_row, payment_row, mark_row, shown_posting, shown_order}
 use Rattle.rtgs_sql_columns.specs.OneTable.{simple, passes, shows, OneTableAnswers}
 use Rattle.rtgs_sql_queries.specs.Answering.{IsQuery, KeepsTables}
-use Rattle.rtgs_sql_look_ups.specs.Finding.{one_of, IsLook, first_row_query, after_tests}
+use Rattle.rtgs_sql_look_ups.specs.Finding.{one_of, IsLook, first_query, after_tests, order_after_tests}
 use Rattle.rtgs_sql_look_ups.proofs.Passing.{truth_of, same_text}
 use Rattle.rtgs_sql_look_ups.proofs.FindingTexts.{order_tests, posting_tests, order_query, posting_query}
 use Rattle.rtgs_sql_queries.specs.TableQueries.{columns_of}
 use Rattle.rtgs_rows.specs.Tables.{posting_table, payment_table}
 use Rattle.rtgs_lists.proofs.Results.{none_moved}
-use Rattle.rtgs_lists.proofs.Filters.{filter_of}
+use Rattle.rtgs_lists.proofs.Filters.{filter_of, filter_agrees, map-filter}
 
 -- ---- what is made of the rows
 
@@ -212,19 +213,19 @@ take_found shown hit (a ∷ all) = elim (cases_Bool (hit a)) [
   | inr other ↦ rw other (take_found shown hit all)
 ]
 
-pub first_rows : OneTableAnswers → {A : Type 0} (t : Table) (row shown : A → Row) (id : A → ℤ) (hit : A
-    → Bool) (params : Row)
-    → ((a : A) → passes after_tests params (row a) ≡ hit a)
-    → ((a b : A) → int_cmp (id a) (id b) ≡ Less → output_cmp (first_row_query t)
-    (output (first_row_query t) (params ∷ row a ∷ [])) (output (first_row_query t) (params ∷ row b ∷ [])) ≡ Less)
-    → ((a : A) → (output (first_row_query t) (params ∷ row a ∷ [])).1 ≡ shown a)
-    → (trees : Trees) (all : List A) → IsAscending (λ a b. int_cmp (id a) (id b) ≡ Less) all
+pub first_rows : OneTableAnswers → {A : Type 0} (t : Table) (tests : List Term) (row shown : A → Row) (id : A → ℤ)
+    (hit : A → Bool) (params : Row)
+    → ((a b : A) → int_cmp (id a) (id b) ≡ Less → output_cmp (first_query t tests)
+    (output (first_query t tests) (params ∷ row a ∷ [])) (output (first_query t tests) (params ∷ row b ∷ [])) ≡ Less)
+    → ((a : A) → (output (first_query t tests) (params ∷ row a ∷ [])).1 ≡ shown a)
+    → (trees : Trees) (all : List A) → AllByRecursion (λ a. passes tests params (row a) ≡ hit a) all
+    → IsAscending (λ a b. int_cmp (id a) (id b) ≡ Less) all
     → overlay trees [] t.tree ≡ map row all → (rows : List Row)
-    → IsAnswer (first_row_query t) (overlay trees []) params rows → rows ≡ map shown (one_of (find hit all))
-first_rows answers {A = A} t row shown id hit params tested by shows_it trees all up here rows a =
-    let q : Query = first_row_query t in
+    → IsAnswer (first_query t tests) (overlay trees []) params rows → rows ≡ map shown (one_of (find hit all))
+first_rows answers {A = A} t tests row shown id hit params by shows_it trees all tested up here rows a =
+    let q : Query = first_query t tests in
     let out = λ (a : A). output q (params ∷ row a ∷ []) in
-    let s = answers.sorted t.tree after_tests (columns_of t) q.order (overlay trees []) params (map (λ
+    let s = answers.sorted t.tree tests (columns_of t) q.order (overlay trees []) params (map (λ
     (o : Output). o.1) a.ordered) (record {
       staged = a.staged;
       grouped = a.grouped;
@@ -235,9 +236,10 @@ first_rows answers {A = A} t row shown id hit params tested by shows_it trees al
       sorted = a.sorted;
       shown = refl;
     }) in
-    let passed : filter (passes after_tests params) (overlay trees [] t.tree) ≡ map row (filter hit all) =
-    ap (filter (passes after_tests params)) here ∙ filter_of row (passes after_tests params) hit tested all in
-    let goals : map (λ r. output q (params ∷ r ∷ [])) (filter (passes after_tests params) (overlay trees [] t.tree))
+    let passed : filter (passes tests params) (overlay trees [] t.tree) ≡ map row (filter hit all) =
+    ap (filter (passes tests params)) here ∙ sym (map-filter row (passes tests params) all)
+    ∙ ap (map row) (filter_agrees (λ (x : A). passes tests params (row x)) hit all tested) in
+    let goals : map (λ r. output q (params ∷ r ∷ [])) (filter (passes tests params) (overlay trees [] t.tree))
     ≡ map out (filter hit all) = ap (map (λ r. output q (params ∷ r ∷ []))) passed
     ∙ map-map (λ (r : Row). output q (params ∷ r ∷ [])) row (filter hit all) in
     let rising : IsAscending (λ (a b : Output). output_cmp q a b ≡ Less) (map out (filter hit all)) =
@@ -293,10 +295,16 @@ pub posting_is_after : (number : ℕ) (p : Posting)
 unfolding binary
 posting_is_after number p = truth_of _ ∙ is_above p.number number
 
-pub order_is_after : (number : ℕ) (o : Order)
-    → passes after_tests (Int (pos number) ∷ []) (payment_row o) ≡ nat_lt number o.number
+pub order_is_after : (date number : ℕ) (o : Order)
+    → passes order_after_tests (Text (date_text date) ∷ Int (pos number) ∷ []) (payment_row o)
+    ≡ (bytes_eq (date_text o.date) (date_text date) && nat_lt number o.number)
 unfolding binary
-order_is_after number o = truth_of _ ∙ is_above o.number number
+order_is_after date number o =
+    two_truths (is_eq (value_cmp (Text (date_text o.date)) (Text (date_text date))))
+    (is_gt (value_cmp (Int (pos o.number)) (Int (pos number))))
+    ∙ ap (λ b. b && is_gt (value_cmp (Int (pos o.number)) (Int (pos number)))) (same_text (date_text o.date)
+    (date_text date))
+    ∙ ap (λ b. bytes_eq (date_text o.date) (date_text date) && b) (is_above o.number number)
 
 pub mark_is_after : (number : ℕ) (m : Mark)
     → passes after_tests (Int (pos number) ∷ []) (mark_row m) ≡ nat_lt number m.number

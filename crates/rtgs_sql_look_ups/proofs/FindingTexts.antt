@@ -13,7 +13,7 @@ use Rattle.sqlite.specs.Query.{Query}
 use Rattle.rtgs_sql_columns.specs.OneTable.{simple}
 use Rattle.rtgs_sql_queries.specs.Answering.{Returnless}
 use Rattle.rtgs_sql_queries.specs.TableQueries.{Seeks, columns_of}
-use Rattle.rtgs_sql_look_ups.specs.Finding.{IsFirstQuery}
+use Rattle.rtgs_sql_look_ups.specs.Finding.{IsFirstQuery, after_tests, order_after_tests}
 
 -- ---- by name
 
@@ -64,7 +64,7 @@ abbrev pub posting_after_text : List ℕ
 posting_after_text = codes
     "SELECT number, code, reference, cents, date FROM posting WHERE number > ?1 ORDER BY number LIMIT 1"
 
-pub posting_after_asks : IsFirstQuery posting_table posting_after_text
+pub posting_after_asks : IsFirstQuery posting_table after_tests posting_after_text 1
 unfolding understood everything desk_schema
 posting_after_asks = record {
   seeks = record {
@@ -76,9 +76,9 @@ posting_after_asks = record {
 
 abbrev pub order_after_text : List ℕ
 order_after_text = codes "SELECT number, sender, reference, receiver, amount, date, state, mark FROM payment "
-    ++ codes "WHERE number > ?1 ORDER BY number LIMIT 1"
+    ++ codes "WHERE date = ?1 AND number > ?2 ORDER BY number LIMIT 1"
 
-pub order_after_asks : IsFirstQuery payment_table order_after_text
+pub order_after_asks : IsFirstQuery payment_table order_after_tests order_after_text 2
 unfolding understood everything desk_schema
 order_after_asks = record {
   seeks = record {
@@ -91,7 +91,7 @@ order_after_asks = record {
 abbrev pub mark_after_text : List ℕ
 mark_after_text = codes "SELECT number, date, many, value FROM mark WHERE number > ?1 ORDER BY number LIMIT 1"
 
-pub mark_after_asks : IsFirstQuery mark_table mark_after_text
+pub mark_after_asks : IsFirstQuery mark_table after_tests mark_after_text 1
 unfolding understood everything desk_schema
 mark_after_asks = record {
   seeks = record {

@@ -1,42 +1,58 @@
 -- The first row above a number, in each table.
-use Rattle.std.proofs.Common.{◌≡◌, ℕ, pos, nat_lt, List, [], ◌∷◌, map, refl, ap, subst, ◌∙◌}
+use Rattle.std.proofs.Common.{◌≡◌, ℕ, pos, nat_lt, ◌==◌, ◌&&◌, Bool, List, [], ◌∷◌, map, refl, sym, ap, subst, ◌∙◌}
+use Rattle.std.proofs.Common.{inl, inr, true≢false, eqb-true, eq-eqb}
+use Rattle.std.specs.List.{AllByRecursion, find}
+use Rattle.std.specs.Str.{bytes_eq}
 use Rattle.std.specs.Ordering.{int_cmp}
 use Rattle.std.specs.declared.cmp.Ordering.TheVariants.{Less}
+use Rattle.std.proofs.lemmas.Bool.{cases_Bool}
+use Rattle.std.proofs.lemmas.Slice.Eq.{bytes_eq-Decides}
 use Rattle.sqlite_value.proofs.OrderLemmas.{then-Equal, value_cmp-Int}
-use Rattle.sqlite.specs.declared.types.Value.TheVariants.{Int}
+use Rattle.sqlite.specs.declared.types.Value.TheVariants.{Int, Text}
 use Rattle.sqlite.specs.Order.{Row}
 use Rattle.sqlite.specs.Query.{output}
 use Rattle.sqlite.specs.Table.{Table}
+use Rattle.sqlite.specs.Term.{Term}
 use Rattle.sqlite.specs.Tree.{Trees}
 use Rattle.sqlite.specs.Effect.{Database}
 use Rattle.sqlite.specs.State.{State}
 use Rattle.sqlite_sql.specs.Query.{output_cmp}
 use Rattle.sqlite_sql.specs.Program.{overlay}
+use Rattle.rtgs_money.specs.Date.{IsBusinessDate, date_text}
 use Rattle.rtgs_book.specs.declared.Book.{Book}
+use Rattle.rtgs_book.specs.declared.Order.{Order}
+use Rattle.rtgs_cores.specs.Nexts.{order_after, is_order_after}
 use Rattle.rtgs_rows.specs.RowLaws.{RecordsStandInOrder}
 use Rattle.rtgs_rows.specs.Rows.{posting_row, payment_row, mark_row}
 use Rattle.rtgs_rows.specs.Content.{Content, Rests, Rise, rows_in}
+use Rattle.rtgs_rows.specs.Fitting.{FitsOrder}
 use Rattle.rtgs_rows.specs.Keeping.{IsBookOf}
 use Rattle.rtgs_rows.specs.TableRecords.{TableRecords, posting_records, order_records, mark_records}
 use Rattle.rtgs_rows.specs.Tables.{posting_table, payment_table, mark_table}
 use Rattle.rtgs_sql_columns.specs.OneTable.{passes, OneTableAnswers}
 use Rattle.rtgs_sql_queries.specs.Laws.{RecordsAreRead}
-use Rattle.rtgs_sql_look_ups.specs.Finding.{first_row_query, after_tests, ShowsFirst}
+use Rattle.rtgs_sql_look_ups.specs.Finding.{first_query, after_tests, order_after_tests, ShowsFirst}
 use Rattle.rtgs_sql_look_ups.specs.Seeking.{first_above}
 use Rattle.rtgs_sql_look_ups.proofs.FindingLemmas.{first_rows, posting_is_after, order_is_after, mark_is_after}
+use Rattle.rtgs_lists.proofs.Lists.{all_of, all_weaker}
+
+-- no two dates of the calendar have one text
+abbrev DatesTell : Type 0
+DatesTell = (one other : ℕ) → IsBusinessDate one → IsBusinessDate other → date_text one ≡ date_text other → one ≡ other
 
 -- in a table of records under their numbers
-first_in_table : {A : Type 0} (records : TableRecords A) (row : A → Row) (number : A → ℕ) (low : ℕ) → OneTableAnswers
-    → RecordsAreRead records → ((a : A) → passes after_tests (Int (pos low) ∷ []) (row a) ≡ nat_lt low (number a))
-    → ((a b : A) → int_cmp (pos (number a)) (pos (number b)) ≡ Less → output_cmp (first_row_query records.table)
-    (output (first_row_query records.table) ((Int (pos low) ∷ []) ∷ row a ∷ []))
-    (output (first_row_query records.table) ((Int (pos low) ∷ []) ∷ row b ∷ [])) ≡ Less)
-    → ((a : A) → (output (first_row_query records.table) ((Int (pos low) ∷ []) ∷ row a ∷ [])).1 ≡ records.shown a)
-    → (trees : Trees) (all held : List A) → overlay trees [] records.table.tree ≡ map row held → held ≡ all
-    → Rise (λ a. pos (number a)) held → ShowsFirst records trees low (first_above number low all)
-first_in_table records row number low answers read tested by shows trees all held here same up rows a =
-    read rows _ (first_rows answers records.table row records.shown (λ it. pos (number it))
-    (λ it. nat_lt low (number it)) (Int (pos low) ∷ []) tested by shows trees all
+first_in_table : {A : Type 0} (records : TableRecords A) (tests : List Term) (row : A → Row) (number : A → ℕ)
+    (hit : A → Bool) (params : Row) → OneTableAnswers → RecordsAreRead records
+    → ((a b : A) → int_cmp (pos (number a)) (pos (number b)) ≡ Less → output_cmp (first_query records.table tests)
+    (output (first_query records.table tests) (params ∷ row a ∷ []))
+    (output (first_query records.table tests) (params ∷ row b ∷ [])) ≡ Less)
+    → ((a : A) → (output (first_query records.table tests) (params ∷ row a ∷ [])).1 ≡ records.shown a)
+    → (trees : Trees) (all held : List A) → AllByRecursion (λ a. passes tests params (row a) ≡ hit a) all
+    → overlay trees [] records.table.tree ≡ map row held → held ≡ all
+    → Rise (λ a. pos (number a)) held → ShowsFirst records tests trees params (find hit all)
+first_in_table records tests row number hit params answers read by shows trees all held tested here same up rows a =
+    read rows _ (first_rows answers records.table tests row records.shown (λ it. pos (number it)) hit params by shows
+    trees all tested
     (subst (Rise (λ it. pos (number it))) same up)
     (here ∙ ap (map row) same) rows a)
 
@@ -47,27 +63,52 @@ held_in content s rests t = ap (λ (d : Database). d.trees t.tree) rests.clean
 
 pub posting_first : RecordsStandInOrder → OneTableAnswers → RecordsAreRead posting_records → (number : ℕ) (book : Book)
     (s : State) (content : Content) → Rests content s → IsBookOf book content
-    → ShowsFirst posting_records s.now.trees number (first_above (λ p. p.number) number book.postings)
+    → ShowsFirst posting_records after_tests s.now.trees (Int (pos number) ∷ [])
+    (first_above (λ p. p.number) number book.postings)
 posting_first in_order answers read number book s content rests of =
-    first_in_table posting_records posting_row (λ p. p.number) number answers read (posting_is_after number)
+    first_in_table posting_records after_tests posting_row (λ p. p.number) (λ p. nat_lt number p.number)
+    (Int (pos number) ∷ []) answers read
     (λ a b low. then-Equal _ ∙ value_cmp-Int (pos a.number) (pos b.number) ∙ low) (λ _. refl) s.now.trees
-    book.postings content.postings (held_in content s rests posting_table ∙ ap (rows_in posting_table) rests.holds.rows)
+    book.postings content.postings (all_of _ (posting_is_after number) book.postings)
+    (held_in content s rests posting_table ∙ ap (rows_in posting_table) rests.holds.rows)
     of.records.lists.postings (in_order book content of).postings
 
-pub order_first : RecordsStandInOrder → OneTableAnswers → RecordsAreRead order_records → (number : ℕ) (book : Book)
-    (s : State) (content : Content) → Rests content s → IsBookOf book content
-    → ShowsFirst order_records s.now.trees number (first_above (λ o. o.number) number book.orders)
-order_first in_order answers read number book s content rests of =
-    first_in_table order_records payment_row (λ o. o.number) number answers read (order_is_after number)
+-- so dates are compared by their texts
+same_date : DatesTell → (date : ℕ) → IsBusinessDate date → (o : Order) → FitsOrder o
+    → bytes_eq (date_text o.date) (date_text date) ≡ (o.date == date)
+same_date tell date is o fits = elim (cases_Bool (o.date == date)) [
+  | inl same ↦ (bytes_eq-Decides _ _).1 (ap date_text (eqb-true o.date date same)) ∙ sym same
+  | inr other ↦ elim (cases_Bool (bytes_eq (date_text o.date) (date_text date))) [
+    | inl same ↦ absurd (true≢false (sym (eq-eqb o.date date
+        (tell o.date date fits.date is ((bytes_eq-Decides _ _).0 same))) ∙ other))
+    | inr apart ↦ apart ∙ sym other
+  ]
+]
+
+pub order_first : RecordsStandInOrder → OneTableAnswers → RecordsAreRead order_records → DatesTell
+    → (date number : ℕ) → IsBusinessDate date → (book : Book) (s : State) (content : Content) → Rests content s
+    → IsBookOf book content
+    → ShowsFirst order_records order_after_tests s.now.trees (Text (date_text date) ∷ Int (pos number) ∷ [])
+    (order_after book date number)
+unfolding order_after
+order_first in_order answers read tell date number is book s content rests of =
+    first_in_table order_records order_after_tests payment_row (λ o. o.number) (is_order_after date number)
+    (Text (date_text date) ∷ Int (pos number) ∷ []) answers read
     (λ a b low. then-Equal _ ∙ value_cmp-Int (pos a.number) (pos b.number) ∙ low) (λ _. refl) s.now.trees
-    book.orders content.orders (held_in content s rests payment_table ∙ ap (rows_in payment_table) rests.holds.rows)
+    book.orders content.orders
+    (all_weaker FitsOrder _ (λ o fits. order_is_after date number o
+    ∙ ap (λ b. b && nat_lt number o.number) (same_date tell date is o fits)) book.orders of.fits.orders)
+    (held_in content s rests payment_table ∙ ap (rows_in payment_table) rests.holds.rows)
     of.records.lists.orders (in_order book content of).orders
 
 pub mark_first : RecordsStandInOrder → OneTableAnswers → RecordsAreRead mark_records → (number : ℕ) (book : Book)
     (s : State) (content : Content) → Rests content s → IsBookOf book content
-    → ShowsFirst mark_records s.now.trees number (first_above (λ m. m.number) number book.marks)
+    → ShowsFirst mark_records after_tests s.now.trees (Int (pos number) ∷ [])
+    (first_above (λ m. m.number) number book.marks)
 mark_first in_order answers read number book s content rests of =
-    first_in_table mark_records mark_row (λ m. m.number) number answers read (mark_is_after number)
+    first_in_table mark_records after_tests mark_row (λ m. m.number) (λ m. nat_lt number m.number)
+    (Int (pos number) ∷ []) answers read
     (λ a b low. then-Equal _ ∙ value_cmp-Int (pos a.number) (pos b.number) ∙ low) (λ _. refl) s.now.trees
-    book.marks content.marks (held_in content s rests mark_table ∙ ap (rows_in mark_table) rests.holds.rows)
+    book.marks content.marks (all_of _ (mark_is_after number) book.marks)
+    (held_in content s rests mark_table ∙ ap (rows_in mark_table) rests.holds.rows)
     of.records.lists.marks (in_order book content of).marks

@@ -12,7 +12,7 @@ use Rattle.sqlite.specs.State.{HasCleanDisk, Survives}
 use Rattle.sqlite.specs.Held.{Held, state}
 use Rattle.sqlite_sql.specs.Program.{overlay}
 use Rattle.sqlite_sql.specs.declared.ops.BinaryOp.TheVariants.{Compare}
-use Rattle.sqlite_sql.specs.declared.ops.CompareOp.TheVariants.{Gt}
+use Rattle.sqlite_sql.specs.declared.ops.CompareOp.TheVariants.{Eq, Gt}
 use Rattle.sqlite_resolve.specs.Compile.{first}
 use Rattle.sqlite_schema.specs.Names.{place_of}
 use Rattle.sqlite_trees.specs.declared.store.Store.{Ghosts}
@@ -38,24 +38,29 @@ pub record IsLook {S A : Type 0} (g : Ghosts S) (old new : Held S) (result : Res
   pub same : HasCleanDisk (state g new) → result ≢ Err StoreFault → KeepsTables (state g old) (state g new)
   pub kinds : IfErr result (λ fault. (fault ≡ OutOfMemory) ⊎ (fault ≡ StoreFault))
 
--- ---- the first row above a number
+-- ---- the first row that passes tests
 
-abbrev pub after_tests : List Term
-after_tests = op2 (Compare Gt Binary) (col 1 0) (col 0 0) ∷ []
-
--- the first row of the table whose number is above the parameter
-abbrev pub first_row_query : Table → Query
-first_row_query t = record (simple t.tree after_tests (columns_of t) (rising_by (place_of t 0))) {
+-- the first row of the table, in the order of the numbers, that passes the tests
+abbrev pub first_query : Table → List Term → Query
+first_query t tests = record (simple t.tree tests (columns_of t) (rising_by (place_of t 0))) {
   limit = lit (Int (pos 1));
 }
 
--- the text is that query, which writes nothing
-pub record IsFirstQuery (t : Table) (text : List ℕ) : Type 0 where
-  pub seeks : Seeks text 1 (first_row_query t) (column_names t)
+-- the text is that query, with so many parameters, and writes nothing
+pub record IsFirstQuery (t : Table) (tests : List Term) (text : List ℕ) (count : ℕ) : Type 0 where
+  pub seeks : Seeks text count (first_query t tests) (column_names t)
   pub reads : Returnless (first text)
 
 -- what it answers over these trees tells this record, or none
-abbrev pub ShowsFirst : {A : Type 0} → TableRecords A → Trees → ℕ → Option A → Type 0
-ShowsFirst records trees number found = (rows : List Row)
-    → IsAnswer (first_row_query records.table) (overlay trees []) (Int (pos number) ∷ []) rows
+abbrev pub ShowsFirst : {A : Type 0} → TableRecords A → List Term → Trees → Row → Option A → Type 0
+ShowsFirst records tests trees params found = (rows : List Row)
+    → IsAnswer (first_query records.table tests) (overlay trees []) params rows
     → AreReadAs records rows (one_of found)
+
+-- the row's number is above the parameter
+abbrev pub after_tests : List Term
+after_tests = op2 (Compare Gt Binary) (col 1 0) (col 0 0) ∷ []
+
+-- an order's date is the first parameter, and its number is above the second
+abbrev pub order_after_tests : List Term
+order_after_tests = op2 (Compare Eq Binary) (col 1 6) (col 0 0) ∷ op2 (Compare Gt Binary) (col 1 0) (col 0 1) ∷ []

@@ -1,4 +1,4 @@
--- Searching a list of records by date, where numbers rise and dates never fall.
+-- Searching a list of records by date, where numbers rise and dates never fall along them.
 use Rattle.std.specs.Prelude.{ℕ, ◌<◌, ◌≤◌, ◌==◌, Bool, false, ◌&&◌, nat_lt, List, Option, Some, None, if◌then◌else◌}
 use Rattle.std.specs.List.{AllByRecursion, find}
 
@@ -27,3 +27,7 @@ IsEarly number date d n = AllByRecursion (λ x. number x ≤ n → date x < d)
 -- past this number none is
 abbrev pub IsLate : {A : Type 0} → (A → ℕ) → (A → ℕ) → ℕ → ℕ → List A → Type 0
 IsLate number date d n = AllByRecursion (λ x. n < number x → d ≤ date x)
+
+-- up to the lower number each is of an earlier date, and past the higher one none is
+abbrev pub TurnsBetween : {A : Type 0} → (A → ℕ) → (A → ℕ) → ℕ → ℕ → ℕ → List A → Type 0
+TurnsBetween number date d low high xs = IsEarly number date d low xs × IsLate number date d high xs

@@ -6,4 +6,5 @@ mod listing;
 mod seeking;
 
 pub use crate::finding::{find_order, find_posting};
+pub use crate::listing::next_order;
 pub use crate::seeking::{Listed, next_of};

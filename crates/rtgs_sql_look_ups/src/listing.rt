@@ -1,56 +1,46 @@
-//! The first record above a number, in each table whose rows are numbered.
-ghost use Rattle.std.specs.Prelude.{◌≡◌, ◌<◌, ◌^◌, pos, [], ◌∷◌, Option, IfOk};
+//! The first record above a number: of all postings or marks, and of the orders of a date.
+ghost use Rattle.std.specs.Prelude.{◌≡◌, ◌<◌, ◌^◌, List, Option, IfOk, length};
 ghost use Rattle.std.specs.List.{AllByRecursion};
-ghost use Rattle.rtgs_cores.specs.Nexts.{date_of_posting};
+ghost use Rattle.rtgs_book.specs.declared.Book.{Book};
+ghost use Rattle.rtgs_cores.specs.Nexts.{date_of_posting, order_after};
 ghost use Rattle.rtgs_rows.specs.Content.{Content, Rests};
-ghost use Rattle.rtgs_sql_look_ups.specs.Finding.{one_of, IsLook, IsFirstQuery, ShowsFirst, first_row_query};
-ghost use Rattle.rtgs_sql_queries.specs.Answering.{IsQuery};
-ghost use Rattle.sqlite.specs.declared.types.Value.TheVariants.{Int};
-ghost use Rattle.sqlite.specs.Query.{IsAnswer};
-ghost use Rattle.sqlite_sql.specs.Program.{overlay};
+ghost use Rattle.rtgs_rows.specs.Keeping.{HoldsBook};
+ghost use Rattle.rtgs_sql_look_ups.specs.Finding.{one_of, IsLook, IsFirstQuery, ShowsFirst};
 ghost use Rattle.sqlite.specs.State.{HasCleanDisk};
 ghost use Rattle.sqlite.specs.Held.{state};
+ghost use Rattle.sqlite.specs.Term.{Term};
+ghost use Rattle.sqlite.specs.Values.{bound};
 
 use crate::finding::{fault_of, only_record};
 use crate::seeking::Listed;
-use rtgs_book::{Fault, Mark, Order, Posting};
+use rtgs_book::{Fault, LARGEST_NUMBER, Mark, Order, Posting};
+use rtgs_cores::laws::records_are_listed;
+use rtgs_money::BusinessDate;
+use rtgs_money::laws::dates_have_distinct_texts;
 use rtgs_rows::laws::records_stand_in_order;
-use rtgs_sql_columns::columns::number_value;
+use rtgs_sql_columns::columns::{number_value, text_of, text_or_null};
 use rtgs_sql_columns::laws::one_table_answers;
 use rtgs_sql_queries::asked::asked_rows;
 use rtgs_sql_queries::laws::records_are_read;
 use rtgs_sql_queries::table_row::TableRow;
-use sqlite::{Alter, Connection, Error, Row};
+use sqlite::types::ValueRef;
+use sqlite::{Alter, Connection};
 
-/// The row that the query of the first row above a number shows.
-fn rows_after<T: TableRow, S: Alter>(
-    conn: &mut Connection<S>,
-    text: &str,
-    number: u64,
-) -> Result<Vec<Row>, Error>
-    requires { (number < 2 ^ 63) × IsFirstQuery T.records.table text.now }
-    ensures asks { IsQuery S.Store conn.old conn.new result }
-    ensures rows { HasCleanDisk (state S.Store conn.new) → (content : Content) → Rests content (state S.Store conn.old)
-        → IfOk result (λ rows. IsAnswer (first_row_query T.records.table)
-        (overlay (state S.Store conn.old).now.trees []) (Int (pos number) ∷ []) rows.items) }
-{
-    asked_rows(conn, text, &[number_value(number)])
-}
-
-/// The record of that row, and none where there is no such row.
+/// The record that the text's query finds first with these parameters, and none where there is no such row.
 fn first_record<T: TableRow + Drop, S: Alter>(
     conn: &mut Connection<S>,
     text: &str,
-    number: u64,
+    params: &[ValueRef<'_>],
 ) -> Result<Option<T>, Fault>
-    requires { (number < 2 ^ 63) × IsFirstQuery T.records.table text.now }
-    ensures looks { IsLook S.Store conn.old conn.new result }
+    ensures looks { (tests : List Term) → IsFirstQuery T.records.table tests text.now (length (bound params.now))
+        → IsLook S.Store conn.old conn.new result }
     ensures found { HasCleanDisk (state S.Store conn.new) → (content : Content) → Rests content (state S.Store conn.old)
+        → (tests : List Term) → IsFirstQuery T.records.table tests text.now (length (bound params.now))
         → (found : Option T) → AllByRecursion T.records.fits (one_of found)
-        → ShowsFirst T.records (state S.Store conn.old).now.trees number found
+        → ShowsFirst T.records tests (state S.Store conn.old).now.trees (bound params.now) found
         → IfOk result (λ it. it ≡ found) }
 {
-    match rows_after::<T, S>(conn, text, number) {
+    match asked_rows(conn, text, params) {
         Ok(rows) => only_record(rows.as_slice()),
         Err(error) => Err(fault_of(conn, &error)),
     }
@@ -76,7 +66,7 @@ impl Listed for Posting {
         first_record::<Posting, S>(
             conn,
             "SELECT number, code, reference, cents, date FROM posting WHERE number > ?1 ORDER BY number LIMIT 1",
-            number,
+            &[number_value(number)],
         )
     }
 
@@ -85,35 +75,6 @@ impl Listed for Posting {
             Some(date) => date.number(),
             None => 0,
         }
-    }
-}
-
-impl Listed for Order {
-    ghost use Rattle.rtgs_book.specs.declared.Book.{Book};
-
-    ghost listed = { λ (book : Book). book.orders };
-
-    ghost number_of = { λ o. o.number };
-
-    ghost date_of = { λ o. o.date };
-
-    fn first_after<S: Alter>(
-        conn: &mut Connection<S>,
-        number: u64,
-    ) -> Result<Option<Order>, Fault> {
-        records_stand_in_order();
-        one_table_answers();
-        records_are_read::<Order>();
-        first_record::<Order, S>(
-            conn,
-            "SELECT number, sender, reference, receiver, amount, date, state, mark FROM payment \
-             WHERE number > ?1 ORDER BY number LIMIT 1",
-            number,
-        )
-    }
-
-    fn date_number(&self) -> u32 {
-        self.date.number()
     }
 }
 
@@ -133,11 +94,39 @@ impl Listed for Mark {
         first_record::<Mark, S>(
             conn,
             "SELECT number, date, many, value FROM mark WHERE number > ?1 ORDER BY number LIMIT 1",
-            number,
+            &[number_value(number)],
         )
     }
 
     fn date_number(&self) -> u32 {
         self.date.number()
     }
+}
+
+/// The order of the date with the least number above this one. The query names the date, so nothing is asked of the
+/// dates of other orders.
+pub fn next_order<S: Alter>(
+    conn: &mut Connection<S>,
+    date: BusinessDate,
+    number: u64,
+) -> Result<Option<Order>, Fault>
+    ensures looks { IsLook S.Store conn.old conn.new result }
+    ensures found { HasCleanDisk (state S.Store conn.new) → (book : Book) → HoldsBook S.Store conn.old book
+        → IfOk result (λ found. found ≡ order_after book date number) }
+{
+    records_are_listed();
+    if number >= LARGEST_NUMBER as u64 {
+        return Ok(None);
+    }
+    records_stand_in_order();
+    one_table_answers();
+    records_are_read::<Order>();
+    dates_have_distinct_texts();
+    let day = text_of(Some(date));
+    first_record::<Order, S>(
+        conn,
+        "SELECT number, sender, reference, receiver, amount, date, state, mark FROM payment \
+         WHERE date = ?1 AND number > ?2 ORDER BY number LIMIT 1",
+        &[text_or_null(&day), number_value(number)],
+    )
 }

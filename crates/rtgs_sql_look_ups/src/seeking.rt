@@ -6,14 +6,17 @@ ghost use Rattle.rtgs_cores.specs.Nexts.{AreListed};
 ghost use Rattle.rtgs_rows.specs.Keeping.{HoldsBook};
 ghost use Rattle.rtgs_sql_look_ups.specs.Finding.{IsLook};
 ghost use Rattle.rtgs_sql_look_ups.specs.Seeking.{first_above, first_of_date, is_early_found, kept_of_date, IsEarly};
-ghost use Rattle.rtgs_sql_look_ups.specs.Seeking.{IsLate};
+ghost use Rattle.rtgs_sql_look_ups.specs.Seeking.{TurnsBetween};
 ghost use Rattle.sqlite.specs.State.{HasCleanDisk};
 ghost use Rattle.sqlite.specs.Held.{state};
 
 use rtgs_book::{Fault, LARGEST_NUMBER};
 use sqlite::{Alter, Connection};
 
-/// A record of a table whose rows are numbered.
+/// So many halvings leave one of all numbers.
+const MOST_HALVINGS: u32 = 30;
+
+/// A record of a table whose rows are numbered, and whose dates never fall along the numbers.
 pub trait Listed: Sized {
     // The records of a book.
     ghost listed: { Book → List Self };
@@ -79,32 +82,57 @@ fn is_early_after<T: Listed + Drop, S: Alter>(
     }
 }
 
-/// The number up to which the records are of earlier dates, between these two: up to the lower one they are, and past
-/// the higher one none is.
-fn seek<T: Listed + Drop, S: Alter>(
+/// The half of these numbers between which the records' dates turn: up to the lower one they are earlier, and past the
+/// higher one none is. One number is left as it is.
+fn halve<T: Listed + Drop, S: Alter>(
     conn: &mut Connection<S>,
     date: u32,
     low: u64,
     high: u64,
-) -> Result<u64, Fault>
+) -> Result<(u64, u64), Fault>
     requires { (low ≤ high) × (high ≤ LARGEST_NUMBER) }
     ensures looks { IsLook S.Store conn.old conn.new result }
-    ensures bounds { IfOk result (λ at. (low ≤ at) × (at ≤ high)) }
+    ensures bounds { IfOk result (λ (least, most). (low ≤ least) × (least ≤ most) × (most ≤ high)) }
+    ensures half { IfOk result (λ (least, most). most + most + low ≤ high + least + least) }
     ensures found { HasCleanDisk (state S.Store conn.new) → (book : Book) → HoldsBook S.Store conn.old book
-        → AreListed T.number_of T.date_of (T.listed book) → IsEarly T.number_of T.date_of date low (T.listed book)
-        → IsLate T.number_of T.date_of date high (T.listed book)
-        → IfOk result (λ at. IsEarly T.number_of T.date_of date at (T.listed book)
-        × IsLate T.number_of T.date_of date at (T.listed book)) }
+        → AreListed T.number_of T.date_of (T.listed book)
+        → TurnsBetween T.number_of T.date_of date low high (T.listed book)
+        → IfOk result (λ (least, most). TurnsBetween T.number_of T.date_of date least most (T.listed book)) }
 {
     if low == high {
-        return Ok(low);
+        return Ok((low, high));
     }
     let middle = low + (high - low) / 2;
     match is_early_after::<T, S>(conn, date, middle) {
-        Ok(true) => seek::<T, S>(conn, date, middle + 1, high),
-        Ok(false) => seek::<T, S>(conn, date, low, middle),
+        Ok(true) => Ok((middle + 1, high)),
+        Ok(false) => Ok((low, middle)),
         Err(fault) => Err(fault),
     }
+}
+
+/// The number at which the records' dates turn, where up to this one they are earlier: past it none is. It takes
+/// `MOST_HALVINGS` looks at most.
+fn seek<T: Listed + Drop, S: Alter>(
+    conn: &mut Connection<S>,
+    date: u32,
+    low: u64,
+) -> Result<u64, Fault>
+    requires { low ≤ LARGEST_NUMBER }
+    ensures looks { IsLook S.Store conn.old conn.new result }
+    ensures bounds { IfOk result (λ at. (low ≤ at) × (at ≤ LARGEST_NUMBER)) }
+    ensures found { HasCleanDisk (state S.Store conn.new) → (book : Book) → HoldsBook S.Store conn.old book
+        → AreListed T.number_of T.date_of (T.listed book) → IsEarly T.number_of T.date_of date low (T.listed book)
+        → IfOk result (λ at. TurnsBetween T.number_of T.date_of date at at (T.listed book)) }
+{
+    let mut least = low;
+    let mut most = LARGEST_NUMBER as u64;
+    for _round in 0..MOST_HALVINGS {
+        match halve::<T, S>(conn, date, least, most) {
+            Ok(half) => (least, most) = half,
+            Err(fault) => return Err(fault),
+        }
+    }
+    Ok(least)
 }
 
 /// The first record of the date above a number up to which the records are of earlier dates.
@@ -119,7 +147,7 @@ fn later_of<T: Listed + Drop, S: Alter>(
         → AreListed T.number_of T.date_of (T.listed book) → IsEarly T.number_of T.date_of date low (T.listed book)
         → IfOk result (λ found. found ≡ first_of_date T.number_of T.date_of date low (T.listed book)) }
 {
-    match seek::<T, S>(conn, date, low, LARGEST_NUMBER as u64) {
+    match seek::<T, S>(conn, date, low) {
         Ok(at) => kept_after(conn, date, at),
         Err(fault) => Err(fault),
     }

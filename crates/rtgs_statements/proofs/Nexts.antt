@@ -4,7 +4,7 @@ use Rattle.std.proofs.Common.{Some, None, refl, sym, ap, subst, ◌∙◌, arith
 use Rattle.std.specs.Prelude.{nat_lt}
 use Rattle.std.specs.List.{AllByRecursion, find, range_with_len}
 use Rattle.std.proofs.lemmas.Bool.{cases_Bool, and_parts, ltb-true, lt-ltb}
-use Rattle.rtgs_cores.specs.Nexts.{AreListed}
+use Rattle.rtgs_cores.specs.Nexts.{AreNumberedInOrder}
 use Rattle.rtgs_lists.proofs.Filters.{filter_agrees}
 
 not_less : (a b : ℕ) → b ≤ a → nat_lt a b ≡ false
@@ -30,7 +30,7 @@ found_in P hit a (x ∷ xs) all is = elim (cases_Bool (hit x)) [
   | inr other ↦ found_in P hit a xs all.1 (rw other at is)
 ]
 
-module _ {A : Type 0} (number date : A → ℕ) (on : A → Bool) where
+module _ {A : Type 0} (number : A → ℕ) (on : A → Bool) where
   -- passes, with a number above this one
   abbrev pub above : ℕ → A → Bool
   above n x = on x && nat_lt n (number x)
@@ -45,24 +45,24 @@ module _ {A : Type 0} (number date : A → ℕ) (on : A → Bool) where
       )
 
   -- what is found is the first of what is left, and the rest is left above its number
-  pub next_splits : (n : ℕ) (a : A) (xs : List A) → AreListed number date xs → find (above n) xs ≡ Some a
+  pub next_splits : (n : ℕ) (a : A) (xs : List A) → AreNumberedInOrder number xs → find (above n) xs ≡ Some a
       → filter (above n) xs ≡ a ∷ filter (above (number a)) xs
-  next_splits n a [] listed is = absurd cc
-  next_splits n a (x ∷ xs) listed is = elim (cases_Bool (above n x)) [
+  next_splits n a [] numbers is = absurd cc
+  next_splits n a (x ∷ xs) numbers is = elim (cases_Bool (above n x)) [
     | inl here ↦
         let same : x ≡ a = (let e = rw here at is in cc) in
         let less = ltb-true n (number x) (and_parts (on x) _ here).1 in
         let out : above (number x) x ≡ false =
         ap (λ b. on x && b) (not_less (number x) (number x) (omega arith)) ∙ and_false (on x) in
-        let rest = filter_agrees (above n) (above (number x)) xs (agree_above n (number x) xs less listed.1) in
+        let rest = filter_agrees (above n) (above (number x)) xs (agree_above n (number x) xs less numbers.1) in
         subst (λ z. filter (above n) (x ∷ xs) ≡ z ∷ filter (above (number z)) (x ∷ xs)) same
         (rw (here, out) (ap (λ ys. x ∷ ys) rest))
     | inr other ↦
         let found : find (above n) xs ≡ Some a = rw other at is in
-        let low = found_in (λ y. number x < number y) (above n) a xs listed.1 found in
+        let low = found_in (λ y. number x < number y) (above n) a xs numbers.1 found in
         let out : above (number a) x ≡ false =
         ap (λ b. on x && b) (not_less (number a) (number x) (omega arith)) ∙ and_false (on x) in
-        rw (other, out) (next_splits n a xs listed.3 found)
+        rw (other, out) (next_splits n a xs numbers.2 found)
   ]
 
   -- where nothing is found, nothing is left

@@ -11,7 +11,7 @@ use Rattle.rtgs_book.specs.declared.Posting.{Posting}
 use Rattle.rtgs_book.specs.declared.Order.{Order}
 use Rattle.rtgs_book.specs.declared.Mark.{Mark}
 use Rattle.rtgs_book.specs.Soundness.{IsSound, AreNumbered}
-use Rattle.rtgs_cores.specs.Nexts.{AreListed, date_of_posting, posting_after, order_after, is_posting_after}
+use Rattle.rtgs_cores.specs.Nexts.{AreNumberedInOrder, posting_after, order_after, is_posting_after}
 use Rattle.rtgs_cores.specs.Nexts.{is_order_after, mark_after, is_mark_after}
 use Rattle.rtgs_statements.specs.Lines.{row_of_posting, row_of_order, row_text}
 use Rattle.rtgs_statements.specs.declared.line.Line.TheVariants.{Record}
@@ -38,24 +38,24 @@ postings_left date number book = filter (is_posting_after date number) book.post
 
 pub postings_begin : (date : ℕ) (book : Book) → IsSound book → postings_left date 0 book
     ≡ postings_on date book.postings
-postings_begin date book sound = all_left (λ (p : Posting). p.number) date_of_posting (is_posted_on date) book.postings
+postings_begin date book sound = all_left (λ (p : Posting). p.number) (is_posted_on date) book.postings
     (numbers_from_one (λ (p : Posting). p.number) book.postings sound.postings_numbered)
 
 module _ (date number : ℕ) (book : Book) where
-  pub posting_splits : (next : Posting) → AreListed (λ (p : Posting). p.number) date_of_posting book.postings
+  pub posting_splits : (next : Posting) → AreNumberedInOrder (λ (p : Posting). p.number) book.postings
       → posting_after book date number ≡ Some next
       → postings_left date number book ≡ next ∷ postings_left date next.number book
   unfolding posting_after
-  posting_splits next listed is = next_splits (λ (p : Posting). p.number) date_of_posting (is_posted_on date)
-      number next book.postings listed is
+  posting_splits next numbers is = next_splits (λ (p : Posting). p.number) (is_posted_on date)
+      number next book.postings numbers is
 
   pub postings_end : posting_after book date number ≡ None → postings_left date number book ≡ []
   unfolding posting_after
-  postings_end is = next_ends (λ (p : Posting). p.number) date_of_posting (is_posted_on date) number book.postings is
+  postings_end is = next_ends (λ (p : Posting). p.number) (is_posted_on date) number book.postings is
 
   pub posting_is_above : (next : Posting) → posting_after book date number ≡ Some next → number < next.number
   unfolding posting_after
-  posting_is_above next is = next_above (λ (p : Posting). p.number) date_of_posting (is_posted_on date) number next
+  posting_is_above next is = next_above (λ (p : Posting). p.number) (is_posted_on date) number next
       book.postings is
 
 pub posting_rows_cons : (code : List ℕ) (p : Posting) (ps : List Posting) → posting_rows code (p ∷ ps)
@@ -69,18 +69,18 @@ posting_rows_cons code p ps = by (is_to code p)
     by false = refl
 
 -- what was written and the rows that are left, with the next posting's row apart; and so the sum
-module _ (code : List ℕ) (date number : ℕ) (book : Book) (next : Posting) (listed : AreListed
-    (λ (p : Posting). p.number) date_of_posting book.postings) (is : posting_after book date number ≡ Some next) where
+module _ (code : List ℕ) (date number : ℕ) (book : Book) (next : Posting) (numbers : AreNumberedInOrder
+    (λ (p : Posting). p.number) book.postings) (is : posting_after book date number ≡ Some next) where
   pub posting_rows_split : (written whole : List ℕ)
       → written ++ posting_rows code (postings_left date number book) ≡ whole
       → written ++ (posting_row code next ++ posting_rows code (postings_left date next.number book)) ≡ whole
   posting_rows_split written whole joined =
       ap (λ t. written ++ t) (sym (posting_rows_cons code next (postings_left date next.number book))
-      ∙ ap (posting_rows code) (sym (posting_splits date number book next listed is))) ∙ joined
+      ∙ ap (posting_rows code) (sym (posting_splits date number book next numbers is))) ∙ joined
 
   pub posted_split : posted code (postings_left date number book)
       ≡ cond (is_to code next) next.cents (pos 0) +ℤ posted code (postings_left date next.number book)
-  posted_split = ap (posted code) (posting_splits date number book next listed is)
+  posted_split = ap (posted code) (posting_splits date number book next numbers is)
       ∙ sum-cons cents_of (is_to code) next (postings_left date next.number book)
 
 pub postings_of_are : (code : List ℕ) (date : ℕ) (ps : List Posting) → filter (is_to code) (postings_on date ps)
@@ -93,25 +93,25 @@ abbrev pub orders_left : ℕ → ℕ → Book → List Order
 orders_left date number book = filter (is_order_after date number) book.orders
 
 pub orders_begin : (date : ℕ) (book : Book) → IsSound book → orders_left date 0 book ≡ orders_on date book.orders
-orders_begin date book sound = all_left (λ (o : Order). o.number) (λ (o : Order). o.date) (is_ordered_on date)
+orders_begin date book sound = all_left (λ (o : Order). o.number) (is_ordered_on date)
     book.orders (numbers_from_one (λ (o : Order). o.number) book.orders sound.orders_numbered)
 
 module _ (date number : ℕ) (book : Book) where
-  pub order_splits : (next : Order) → AreListed (λ (o : Order). o.number) (λ (o : Order). o.date) book.orders
+  pub order_splits : (next : Order) → AreNumberedInOrder (λ (o : Order). o.number) book.orders
       → order_after book date number ≡ Some next
       → orders_left date number book ≡ next ∷ orders_left date next.number book
   unfolding order_after
-  order_splits next listed is = next_splits (λ (o : Order). o.number) (λ (o : Order). o.date) (is_ordered_on date)
-      number next book.orders listed is
+  order_splits next numbers is = next_splits (λ (o : Order). o.number) (is_ordered_on date)
+      number next book.orders numbers is
 
   pub orders_end : order_after book date number ≡ None → orders_left date number book ≡ []
   unfolding order_after
-  orders_end is = next_ends (λ (o : Order). o.number) (λ (o : Order). o.date) (is_ordered_on date) number book.orders
+  orders_end is = next_ends (λ (o : Order). o.number) (is_ordered_on date) number book.orders
       is
 
   pub order_is_above : (next : Order) → order_after book date number ≡ Some next → number < next.number
   unfolding order_after
-  order_is_above next is = next_above (λ (o : Order). o.number) (λ (o : Order). o.date) (is_ordered_on date) number
+  order_is_above next is = next_above (λ (o : Order). o.number) (is_ordered_on date) number
       next book.orders is
 
 pub order_rows_cons : (code : List ℕ) (o : Order) (os : List Order) → order_rows code (o ∷ os)
@@ -125,18 +125,18 @@ order_rows_cons code o os = by (is_told_to code o)
     by false = refl
 
 -- what was written and the rows that are left, with the next order's row apart; and so the sums
-module _ (code : List ℕ) (date number : ℕ) (book : Book) (next : Order) (listed : AreListed
-    (λ (o : Order). o.number) (λ (o : Order). o.date) book.orders) (is : order_after book date number ≡ Some next) where
+module _ (code : List ℕ) (date number : ℕ) (book : Book) (next : Order) (numbers : AreNumberedInOrder
+    (λ (o : Order). o.number) book.orders) (is : order_after book date number ≡ Some next) where
   pub order_rows_split : (written whole : List ℕ)
       → written ++ order_rows code (orders_left date number book) ≡ whole
       → written ++ (order_row code next ++ order_rows code (orders_left date next.number book)) ≡ whole
   order_rows_split written whole joined =
       ap (λ t. written ++ t) (sym (order_rows_cons code next (orders_left date next.number book))
-      ∙ ap (order_rows code) (sym (order_splits date number book next listed is))) ∙ joined
+      ∙ ap (order_rows code) (sym (order_splits date number book next numbers is))) ∙ joined
 
   pub settled_split : (party : Party) → settled_for party code (orders_left date number book)
       ≡ settled_by party code next +ℤ settled_for party code (orders_left date next.number book)
-  settled_split party = ap (settled_for party code) (order_splits date number book next listed is)
+  settled_split party = ap (settled_for party code) (order_splits date number book next numbers is)
       ∙ sum-cons amount_of (λ order. is_settled order && bytes_eq (party_code party order) code) next
       (orders_left date next.number book)
 
@@ -150,24 +150,24 @@ abbrev pub marks_left : ℕ → ℕ → Book → List Mark
 marks_left date number book = filter (is_mark_after date number) book.marks
 
 pub marks_begin : (date : ℕ) (book : Book) → IsSound book → marks_left date 0 book ≡ marks_on date book.marks
-marks_begin date book sound = all_left (λ (m : Mark). m.number) (λ (m : Mark). m.date) (is_marked_on date)
+marks_begin date book sound = all_left (λ (m : Mark). m.number) (is_marked_on date)
     book.marks (numbers_from_one (λ (m : Mark). m.number) book.marks sound.marks_numbered)
 
 module _ (date number : ℕ) (book : Book) where
-  pub mark_splits : (next : Mark) → AreListed (λ (m : Mark). m.number) (λ (m : Mark). m.date) book.marks
+  pub mark_splits : (next : Mark) → AreNumberedInOrder (λ (m : Mark). m.number) book.marks
       → mark_after book date number ≡ Some next
       → marks_left date number book ≡ next ∷ marks_left date next.number book
   unfolding mark_after
-  mark_splits next listed is = next_splits (λ (m : Mark). m.number) (λ (m : Mark). m.date) (is_marked_on date)
-      number next book.marks listed is
+  mark_splits next numbers is = next_splits (λ (m : Mark). m.number) (is_marked_on date)
+      number next book.marks numbers is
 
   pub marks_end : mark_after book date number ≡ None → marks_left date number book ≡ []
   unfolding mark_after
-  marks_end is = next_ends (λ (m : Mark). m.number) (λ (m : Mark). m.date) (is_marked_on date) number book.marks is
+  marks_end is = next_ends (λ (m : Mark). m.number) (is_marked_on date) number book.marks is
 
   pub mark_is_above : (next : Mark) → mark_after book date number ≡ Some next → number < next.number
   unfolding mark_after
-  mark_is_above next is = next_above (λ (m : Mark). m.number) (λ (m : Mark). m.date) (is_marked_on date) number
+  mark_is_above next is = next_above (λ (m : Mark). m.number) (is_marked_on date) number
       next book.marks is
 
 -- ---- codes

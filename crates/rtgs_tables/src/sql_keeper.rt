@@ -25,7 +25,7 @@ use rtgs_money::{BusinessDate, Code, Reference};
 use rtgs_rows::laws;
 use rtgs_soundness::core_of;
 use rtgs_sql_loading::load_book;
-use rtgs_sql_look_ups::{find_order, find_posting, next_of};
+use rtgs_sql_look_ups::{find_order, find_posting, next_of, next_order};
 use rtgs_sql_queries::alive::is_alive;
 use rtgs_sql_writes::{Stopped, create_tables, write};
 use sqlite::{Alter, Connection, Error, ErrorCode};
@@ -236,8 +236,7 @@ impl<S: Alter + Drop> Keeper for SqlKeeper<S> {
         if self.failed {
             return Err(Fault::StoreFault);
         }
-        records_are_listed();
-        let found = next_of(&mut self.conn, date.number(), number);
+        let found = next_order(&mut self.conn, date, number);
         self.failed = is_store_fault(&found);
         found
     }

@@ -5,7 +5,7 @@ use Rattle.rtgs_book.specs.declared.Order.{Order}
 use Rattle.rtgs_book.specs.declared.Mark.{Mark}
 use Rattle.rtgs_book.specs.Commands.{is_date}
 use Rattle.rtgs_cores.specs.Nexts.{posting_after, order_after, mark_after, is_posting_after, is_order_after}
-use Rattle.rtgs_cores.specs.Nexts.{is_mark_after, date_of_posting}
+use Rattle.rtgs_cores.specs.Nexts.{is_mark_after}
 use Rattle.rtgs_cores.proofs.Lists.{found_passes, found_least}
 use Rattle.rtgs_lists.proofs.Bools.{and_true}
 use Rattle.rtgs_lists.proofs.Lists.{all_weaker}
@@ -17,9 +17,8 @@ returns-clause-posting c book date number next sound is =
     let hit = and_parts (is_date next.date date) _ (found_passes
     (is_posting_after date number) next book.postings is) in
     let listed = c.records_are_listed.ensures.postings book sound in
-    let least = found_least (λ (p : Posting). p.number) date_of_posting
-    (is_posting_after date number) next book.postings
-    listed is in (
+    let least = found_least (λ (p : Posting). p.number) (is_posting_after date number) next book.postings
+    listed.numbers is in (
       hit.0,
       ltb-true number next.number hit.1,
       all_weaker (λ (p : Posting). is_posting_after date number p ≡ true → next.number ≤ p.number)
@@ -31,10 +30,8 @@ pub returns-clause-order : goal.returns-clause-order
 unfolding order_after
 returns-clause-order c book date number next sound is =
     let hit = and_parts (next.date == date) _ (found_passes (is_order_after date number) next book.orders is) in
-    let listed = c.records_are_listed.ensures.orders book sound in
-    let least = found_least (λ (o : Order). o.number) (λ (o : Order). o.date)
-    (is_order_after date number) next book.orders
-    listed is in (
+    let numbered = c.records_are_listed.ensures.orders book sound in
+    let least = found_least (λ (o : Order). o.number) (is_order_after date number) next book.orders numbered is in (
       eqb-true next.date date hit.0,
       ltb-true number next.number hit.1,
       all_weaker (λ (o : Order). is_order_after date number o ≡ true → next.number ≤ o.number)
@@ -47,8 +44,7 @@ unfolding mark_after
 returns-clause-mark c book date number next sound is =
     let hit = and_parts (next.date == date) _ (found_passes (is_mark_after date number) next book.marks is) in
     let listed = c.records_are_listed.ensures.marks book sound in
-    let least = found_least (λ (m : Mark). m.number) (λ (m : Mark). m.date) (is_mark_after date number) next book.marks
-    listed is in (
+    let least = found_least (λ (m : Mark). m.number) (is_mark_after date number) next book.marks listed.numbers is in (
       eqb-true next.date date hit.0,
       ltb-true number next.number hit.1,
       all_weaker (λ (m : Mark). is_mark_after date number m ≡ true → next.number ≤ m.number)

@@ -3,7 +3,7 @@ use Rattle.rtgs_book.specs.declared.Order.{Order}
 use Rattle.rtgs_book.specs.declared.Mark.{Mark}
 use Rattle.rtgs_book.specs.Settle.{today}
 use Rattle.rtgs_cores.specs.Nexts.{date_of_posting}
-use Rattle.rtgs_cores.proofs.Lists.{are_listed}
+use Rattle.rtgs_cores.proofs.Lists.{are_listed, are_in_order}
 use Rattle.rtgs_cores.proofs.laws.records_are_listed.Goals as goal
 
 pub returns-clause-postings : goal.returns-clause-postings
@@ -11,9 +11,7 @@ returns-clause-postings c book sound = are_listed (λ (p : Posting). p.number) d
     sound.postings_numbered sound.dates.postings
 
 pub returns-clause-orders : goal.returns-clause-orders
-returns-clause-orders c book sound = are_listed (λ (o : Order). o.number) (λ (o : Order). o.date)
-    (today book) book.orders
-    sound.orders_numbered sound.dates.orders
+returns-clause-orders c book sound = are_in_order (λ (o : Order). o.number) book.orders sound.orders_numbered
 
 pub returns-clause-marks : goal.returns-clause-marks
 returns-clause-marks c book sound = are_listed (λ (m : Mark). m.number) (λ (m : Mark). m.date) (today book) book.marks

@@ -34,10 +34,10 @@ loop-next-preserved g c =
       count = λ honest book held.
           let back = c.later_mark.ensures.read.honest honest in
           let now = inv.read.held back book held no_fault in
-          let listed = c.records_are_listed.ensures.marks book (c.reads_a_sound_book.ensures book held) in
+          let numbers = (c.records_are_listed.ensures.marks book (c.reads_a_sound_book.ensures book held)).numbers in
           let is : mark_after book c.args.date c.loop-next.last ≡ Some next =
           sym (c.in-Ok.ensures.told honest book now) ∙ c.in-Some.is in
-          let split = ap length (mark_splits c.args.date c.loop-next.last book next listed is) in
+          let split = ap length (mark_splits c.args.date c.loop-next.last book next numbers is) in
           let before = inv.count back book held in
           omega arith;
     }

@@ -40,12 +40,12 @@ loop-next-preserved g c =
       sums = λ honest book held.
           let back = c.later_order.ensures.read.honest honest in
           let now = inv.read.held back book held no_fault in
-          let listed = c.records_are_listed.ensures.orders book (c.reads_a_sound_book.ensures book held) in
+          let numbers = c.records_are_listed.ensures.orders book (c.reads_a_sound_book.ensures book held) in
           let is : order_after book c.args.date c.loop-next.last ≡ Some next =
           sym (c.in-Ok.ensures.told honest book now) ∙ c.in-Some.is in
           more_with_left c.loop-next.ordered c.add.new.self next c.in_ok-add.ensures
           (orders_left c.args.date c.loop-next.last book) (orders_left c.args.date next.number book)
-          (orders_on c.args.date book.orders) (order_splits c.args.date c.loop-next.last book next listed is)
+          (orders_on c.args.date book.orders) (order_splits c.args.date c.loop-next.last book next numbers is)
           (inv.sums back book held);
     }
 

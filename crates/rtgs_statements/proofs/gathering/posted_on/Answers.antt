@@ -47,11 +47,11 @@ loop-next-preserved g c =
       sums = λ honest book held code.
           let back = c.later_posting.ensures.read.honest honest in
           let now = inv.read.held back book held no_fault in
-          let listed = c.records_are_listed.ensures.postings book (c.reads_a_sound_book.ensures book held) in
+          let numbers = (c.records_are_listed.ensures.postings book (c.reads_a_sound_book.ensures book held)).numbers in
           let is : posting_after book c.args.date c.loop-next.last ≡ Some next =
           sym (c.in-Ok.ensures.told honest book now) ∙ c.in-Some.is in
           step-sum _ _ _ _ _ _ next.cents (is_to code next) (omega (arith, ints)) (c.in_ok-add.ensures code)
-          (posted_split code c.args.date c.loop-next.last book next listed is) (inv.sums back book held code);
+          (posted_split code c.args.date c.loop-next.last book next numbers is) (inv.sums back book held code);
     }
 
 pub returns-in_default-clause-sums : goal.returns-in_default-clause-sums

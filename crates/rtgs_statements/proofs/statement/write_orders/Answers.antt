@@ -79,25 +79,25 @@ loop-next-preserved g c =
       sent = λ honest book held.
           let early = c.later_order.ensures.read.honest honest in
           let now = inv.read.held early book held no_fault in
-          let listed = c.records_are_listed.ensures.orders book (c.reads_a_sound_book.ensures book held) in
+          let numbers = c.records_are_listed.ensures.orders book (c.reads_a_sound_book.ensures book held) in
           let is : order_after book c.args.date c.loop-next.last ≡ Some next =
           sym (c.in-Ok.ensures.told honest book now) ∙ c.in-Some.is in
-          let split = settled_split c.args.code.now c.args.date c.loop-next.last book next listed is Sender in
+          let split = settled_split c.args.code.now c.args.date c.loop-next.last book next numbers is Sender in
           let before = inv.sent early book held in
           omega (arith, ints);
       received = λ honest book held.
           let early = c.later_order.ensures.read.honest honest in
           let now = inv.read.held early book held no_fault in
-          let listed = c.records_are_listed.ensures.orders book (c.reads_a_sound_book.ensures book held) in
+          let numbers = c.records_are_listed.ensures.orders book (c.reads_a_sound_book.ensures book held) in
           let is : order_after book c.args.date c.loop-next.last ≡ Some next =
           sym (c.in-Ok.ensures.told honest book now) ∙ c.in-Some.is in
-          let split = settled_split c.args.code.now c.args.date c.loop-next.last book next listed is Receiver in
+          let split = settled_split c.args.code.now c.args.date c.loop-next.last book next numbers is Receiver in
           let before = inv.received early book held in
           omega (arith, ints);
       rows = λ honest book held.
           let early = c.later_order.ensures.read.honest honest in
           let now = inv.read.held early book held no_fault in
-          let listed = c.records_are_listed.ensures.orders book (c.reads_a_sound_book.ensures book held) in
+          let numbers = c.records_are_listed.ensures.orders book (c.reads_a_sound_book.ensures book held) in
           let is : order_after book c.args.date c.loop-next.last ≡ Some next =
           sym (c.in-Ok.ensures.told honest book now) ∙ c.in-Some.is in
           let rows = inv.rows early book held in (
@@ -105,7 +105,7 @@ loop-next-preserved g c =
             appends-both _ _ _ rows.0 (order_row c.args.code.now next) rows.1 written,
             append_assoc rows.0 (order_row c.args.code.now next)
                 (order_rows c.args.code.now (orders_left c.args.date next.number book))
-                ∙ order_rows_split c.args.code.now c.args.date c.loop-next.last book next listed is rows.0
+                ∙ order_rows_split c.args.code.now c.args.date c.loop-next.last book next numbers is rows.0
                 (order_rows c.args.code.now (orders_on c.args.date book.orders)) rows.2,
           );
     }
@@ -116,14 +116,14 @@ returns-in-Err-write_order-clause-begun g c honest book held =
     let next = c.in-Some.order in
     let early = c.later_order.ensures.read.honest honest in
     let now = inv.read.held early book held no_fault in
-    let listed = c.records_are_listed.ensures.orders book (c.reads_a_sound_book.ensures book held) in
+    let numbers = c.records_are_listed.ensures.orders book (c.reads_a_sound_book.ensures book held) in
     let is : order_after book c.args.date c.loop-next.last ≡ Some next =
     sym (c.in-Ok.ensures.told honest book now) ∙ c.in-Some.is in
     let rows = inv.rows early book held in
     begins-within _ _ _ rows.0 (order_row c.args.code.now next)
     (order_rows c.args.code.now (orders_left c.args.date next.number book)) _ rows.1
     c.in-Err-write_order.ensures.begun
-    (order_rows_split c.args.code.now c.args.date c.loop-next.last book next listed is rows.0 _ rows.2)
+    (order_rows_split c.args.code.now c.args.date c.loop-next.last book next numbers is rows.0 _ rows.2)
 
 pub returns-in_default-clause-written : goal.returns-in_default-clause-written
 returns-in_default-clause-written g c honest book held =

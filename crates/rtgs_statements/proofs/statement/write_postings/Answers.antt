@@ -64,16 +64,16 @@ loop-next-preserved g c =
       sum = λ honest book held.
           let back = c.later_posting.ensures.read.honest honest in
           let now = inv.read.held back book held no_fault in
-          let listed = c.records_are_listed.ensures.postings book (c.reads_a_sound_book.ensures book held) in
+          let numbers = (c.records_are_listed.ensures.postings book (c.reads_a_sound_book.ensures book held)).numbers in
           let is : posting_after book c.args.date c.loop-next.last ≡ Some next =
           sym (c.in-Ok.ensures.told honest book now) ∙ c.in-Some.is in
-          let split = posted_split c.args.code.now c.args.date c.loop-next.last book next listed is in
+          let split = posted_split c.args.code.now c.args.date c.loop-next.last book next numbers is in
           let before = inv.sum back book held in
           omega (arith, ints);
       rows = λ honest book held.
           let back = c.later_posting.ensures.read.honest honest in
           let now = inv.read.held back book held no_fault in
-          let listed = c.records_are_listed.ensures.postings book (c.reads_a_sound_book.ensures book held) in
+          let numbers = (c.records_are_listed.ensures.postings book (c.reads_a_sound_book.ensures book held)).numbers in
           let is : posting_after book c.args.date c.loop-next.last ≡ Some next =
           sym (c.in-Ok.ensures.told honest book now) ∙ c.in-Some.is in
           let rows = inv.rows back book held in (
@@ -81,7 +81,7 @@ loop-next-preserved g c =
             appends-both _ _ _ rows.0 (posting_row c.args.code.now next) rows.1 written,
             append_assoc rows.0 (posting_row c.args.code.now next)
                 (posting_rows c.args.code.now (postings_left c.args.date next.number book))
-                ∙ posting_rows_split c.args.code.now c.args.date c.loop-next.last book next listed is rows.0
+                ∙ posting_rows_split c.args.code.now c.args.date c.loop-next.last book next numbers is rows.0
                 (posting_rows c.args.code.now (postings_on c.args.date book.postings)) rows.2,
           );
     }
@@ -92,14 +92,14 @@ returns-in-Err-write_posting-clause-begun g c honest book held =
     let next = c.in-Some.posting in
     let back = c.later_posting.ensures.read.honest honest in
     let now = inv.read.held back book held no_fault in
-    let listed = c.records_are_listed.ensures.postings book (c.reads_a_sound_book.ensures book held) in
+    let numbers = (c.records_are_listed.ensures.postings book (c.reads_a_sound_book.ensures book held)).numbers in
     let is : posting_after book c.args.date c.loop-next.last ≡ Some next =
     sym (c.in-Ok.ensures.told honest book now) ∙ c.in-Some.is in
     let rows = inv.rows back book held in
     begins-within _ _ _ rows.0 (posting_row c.args.code.now next)
     (posting_rows c.args.code.now (postings_left c.args.date next.number book)) _ rows.1
     c.in-Err-write_posting.ensures.begun
-    (posting_rows_split c.args.code.now c.args.date c.loop-next.last book next listed is rows.0 _ rows.2)
+    (posting_rows_split c.args.code.now c.args.date c.loop-next.last book next numbers is rows.0 _ rows.2)
 
 pub returns-in_default-clause-written : goal.returns-in_default-clause-written
 returns-in_default-clause-written g c honest book held =

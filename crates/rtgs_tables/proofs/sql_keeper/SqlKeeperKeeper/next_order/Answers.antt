@@ -1,24 +1,8 @@
-use Rattle.std.proofs.Common.{◌≡◌, ap, ◌∙◌}
-use Rattle.std.proofs.lemmas.Result.{IfOk-weaker}
-use Rattle.rtgs_book.specs.declared.Order.{Order}
-use Rattle.rtgs_cores.specs.Nexts.{order_after}
-use Rattle.rtgs_sql_look_ups.specs.Seeking.{first_of_date}
 use Rattle.rtgs_tables.specs.declared.sql_keeper.SqlKeeper.{SqlKeeper}
 use Rattle.rtgs_tables.proofs.KeepingLooks.{reads_on}
 use Rattle.rtgs_tables.proofs.sql_keeper.SqlKeeperKeeper.next_order.Goals as goal
 
-pub returns-clause-found : goal.returns-clause-found
-unfolding order_after
-returns-clause-found g c clean book held =
-    let told = ap (λ d. first_of_date (λ (o : Order). o.number) (λ (o : Order). o.date) d c.args.number
-    book.orders) c.number.ensures.value in
-    IfOk-weaker c.next_of-found.result (λ found. found ≡ first_of_date (λ (o : Order). o.number)
-    (λ (o : Order). o.date) c.number.result c.args.number book.orders)
-    (λ found. found ≡ order_after book c.args.date c.args.number)
-    (λ found is. is ∙ told)
-    (c.next_of-found.ensures.found clean book held (c.records_are_listed.ensures.orders book held.2.sound))
-
 pub returns-clause-reads : goal.returns-clause-reads
 returns-clause-reads g c = reads_on g.S.Store (λ (k : SqlKeeper g.row.S.Denot g.S.Store). k.conn) (λ k. k.failed) _ _
-    c.next_of-found.result c.next_of-found.ensures.looks c.if-self.false
+    c.next_order-found.result c.next_order-found.ensures.looks c.if-self.false
     c.is_store_fault-self.ensures.yes c.is_store_fault-self.ensures.no
