@@ -18,6 +18,7 @@ use Rattle.rtgs_rows.specs.Tables.{payment_table, mark_table, width}
 use Rattle.rtgs_rows.specs.TableRecords.{TableRecords, records_of_tables}
 use Rattle.rtgs_rows.specs.Rows.{day_row, posting_row, payment_row, mark_row, shown_day, shown_posting, shown_order}
 use Rattle.rtgs_rows.specs.Rows.{shown_mark}
+use Rattle.rtgs_rows.specs.declared.numbers.TheConstants.{VERSION}
 use Rattle.rtgs_rows.specs.Content.{tables_of, tables_for, rows_in, Holding, holding_row, stored_account}
 use Rattle.rtgs_rows.specs.Content.{Content, Holds, IsInOrder}
 use Rattle.rtgs_rows.specs.Fitting.{HasFormedValues}
@@ -29,7 +30,7 @@ use Rattle.rtgs_rows.proofs.Participants.{Stores, stored_participants}
 
 -- ---- the tables of numbered records
 
-day_told : IsTold desk_table day_row shown_day (λ _. 1)
+day_told : IsTold desk_table (day_row VERSION) (shown_day VERSION) (λ _. 1)
 day_told = record { numbered = (refl, _, _, refl); stands = λ d. (refl, refl, refl); told = λ r d all null e. cc }
 
 posting_told : IsTold posting_table posting_row shown_posting (λ p. p.number)

@@ -30,6 +30,7 @@ use Rattle.rtgs_book.specs.declared.OrderState.{OrderState}
 use Rattle.rtgs_book.specs.declared.OrderState.TheVariants.{Queued, Settled, Withdrawn, Rejected}
 use Rattle.rtgs_book.specs.Lookup.{accounts}
 use Rattle.rtgs_book.specs.Soundness.{CodesRise}
+use Rattle.rtgs_rows.specs.declared.numbers.TheConstants.{VERSION}
 use Rattle.rtgs_rows.specs.Rows.{date_value, phase_number, state_number, mark_value, day_row, posting_row, payment_row}
 use Rattle.rtgs_rows.specs.Rows.{mark_row}
 use Rattle.rtgs_rows.specs.Tables.{desk_table, participant_table, posting_table, payment_table, mark_table}
@@ -81,8 +82,9 @@ state_once Rejected (Settled n) e f = absurd (omega arith)
 state_once Rejected Withdrawn e f = absurd (omega arith)
 state_once Rejected Rejected e f = refl
 
-pub day_once : DatesTell → (a b : Day) → FitsDate a.date → FitsDate b.date → day_row a ≡ day_row b → a ≡ b
-day_once d a b p q e =
+pub day_once : DatesTell → (version : ℕ) (a b : Day) → FitsDate a.date → FitsDate b.date
+    → day_row version a ≡ day_row version b → a ≡ b
+day_once d version a b p q e =
     let dates : date_value a.date ≡ date_value b.date = cc in
     let phases : phase_number a.phase ≡ phase_number b.phase = cc in
     let date = date_value_once d a.date b.date p q dates in
@@ -214,7 +216,7 @@ once dates one other c d h k e =
     k.sound.codes_rise h.records.participants
     (subst (λ hs. IsPermutation (map (λ (h : Holding). h.participant) hs) other.participants) holdings
     k.records.participants) in
-    let days = same_records {row = day_row} {P = λ (day : Day). FitsDate day.date} (day_once dates)
+    let days = same_records {row = day_row VERSION} {P = λ (day : Day). FitsDate day.date} (day_once dates VERSION)
     (ap (λ day. day ∷ []) theirs.day) (ap (λ day. day ∷ []) ours.day) (k.fits.day, tt) (h.fits.day, tt)
     (ap (rows_in desk_table) e) in
     let day : other.day ≡ one.day = cc in

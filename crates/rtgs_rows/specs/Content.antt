@@ -22,6 +22,7 @@ use Rattle.rtgs_book.specs.declared.RowChange.TheVariants.{SetBalance, SetState,
 use Rattle.rtgs_book.specs.Settle.{restated}
 use Rattle.rtgs_book.specs.Commands.{has_number}
 use Rattle.rtgs_rows.specs.Tables.{no_schema, desk_schema, desk_tables}
+use Rattle.rtgs_rows.specs.declared.numbers.TheConstants.{VERSION}
 use Rattle.rtgs_rows.specs.Rows.{day_row, participant_row, posting_row, payment_row, mark_row}
 
 -- the rows of each table of a desk, in the order of the tables
@@ -64,8 +65,8 @@ pub record Content : Type 0 where
 
 -- those that these records have
 abbrev pub tables_for : Content → Tables
-tables_for c = (day_row c.day ∷ []) ∷ map holding_row c.holdings ∷ map posting_row c.postings ∷ map payment_row c.orders
-    ∷ map mark_row c.marks ∷ []
+tables_for c = (day_row VERSION c.day ∷ []) ∷ map holding_row c.holdings ∷ map posting_row c.postings
+    ∷ map payment_row c.orders ∷ map mark_row c.marks ∷ []
 
 -- the trees are a database that has no tables
 abbrev pub HasNoTables : Trees → Type 0

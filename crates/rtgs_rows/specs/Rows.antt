@@ -50,9 +50,10 @@ FitsColumn Rejected = ⊤
 abbrev pub date_value : Option ℕ → Value
 date_value = or_null (λ date. Text (date_text date))
 
--- id 1, version 1, date, phase
-abbrev pub day_row : Day → Row
-day_row day = Int (pos 1) ∷ Null ∷ Int (pos 1) ∷ date_value day.date ∷ Int (pos (phase_number day.phase)) ∷ []
+-- id 1, version, date, phase
+abbrev pub day_row : ℕ → Day → Row
+day_row version day = Int (pos 1) ∷ Null ∷ Int (pos version) ∷ date_value day.date
+    ∷ Int (pos (phase_number day.phase)) ∷ []
 
 -- code, name, key, credit, balance; the row numbers tell in which order the participants came
 abbrev pub participant_row : ℤ → Participant → ℤ → Row
@@ -73,8 +74,8 @@ mark_row m = Int (pos m.number) ∷ Null ∷ Text (date_text m.date) ∷ Int (po
 
 -- ---- as the queries show them
 
-abbrev pub shown_day : Day → Row
-shown_day day = Int (pos 1) ∷ Int (pos 1) ∷ date_value day.date ∷ Int (pos (phase_number day.phase)) ∷ []
+abbrev pub shown_day : ℕ → Day → Row
+shown_day version day = Int (pos 1) ∷ Int (pos version) ∷ date_value day.date ∷ Int (pos (phase_number day.phase)) ∷ []
 
 abbrev pub shown_account : Account → Row
 shown_account a = Text a.participant.code ∷ Text a.participant.name ∷ Blob a.participant.key

@@ -9,6 +9,8 @@ use Rattle.rtgs_book.specs.declared.Posting.{Posting}
 use Rattle.rtgs_book.specs.declared.Order.{Order}
 use Rattle.rtgs_book.specs.declared.Mark.{Mark}
 use Rattle.rtgs_rows.specs.Fitting.{FitsDate, FitsParticipant, FitsPosting, FitsOrder, FitsMark}
+use Rattle.rtgs_rows.specs.declared.desk_row.DeskRow.{DeskRow}
+use Rattle.rtgs_rows.specs.declared.numbers.TheConstants.{VERSION}
 use Rattle.rtgs_rows.specs.Rows.{shown_day, shown_account, shown_posting, shown_order, shown_mark}
 use Rattle.rtgs_rows.specs.Tables.{desk_table, participant_table, posting_table, payment_table, mark_table}
 
@@ -24,13 +26,17 @@ pub record TableRecords (A : Type 0) : Type 1 where
   -- those that a book has, whose accounts are its participants with their stored balances
   pub of_book : List Account → Book → List A
 
-abbrev pub day_records : TableRecords Day
+-- the day, in tables of this version
+abbrev pub desk_row_of : Day → DeskRow
+desk_row_of day = record { version = VERSION; day = day }
+
+abbrev pub day_records : TableRecords DeskRow
 day_records = record {
   table = desk_table;
-  shown = shown_day;
-  fits = λ day. FitsDate day.date;
+  shown = λ desk. shown_day desk.version desk.day;
+  fits = λ desk. FitsDate desk.day.date;
   counted = [];
-  of_book = λ accounts book. book.day ∷ [];
+  of_book = λ accounts book. desk_row_of book.day ∷ [];
 }
 
 abbrev pub account_records : TableRecords Account
@@ -76,7 +82,7 @@ records_besides_day = (Account, account_records) ∷ (Posting, posting_records) 
 
 -- those of all tables, in the order of the tables
 abbrev pub records_of_tables : List ((A : Type 0) × TableRecords A)
-records_of_tables = (Day, day_records) ∷ records_besides_day
+records_of_tables = (DeskRow, day_records) ∷ records_besides_day
 
 -- so it is with each of these records
 abbrev pub Each : ((A : Type 0) → TableRecords A → Type 0) → List ((A : Type 0) × TableRecords A) → Type 0

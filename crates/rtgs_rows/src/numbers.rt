@@ -1,4 +1,8 @@
-//! The numbers that stand in columns for a phase of the day, and for where an order stands.
+//! The numbers that stand in columns: the version of the tables, and what stands for a phase of the day and for where
+//! an order stands.
+
+/// The version of the tables.
+pub const VERSION: u64 = 1;
 
 /// No day is open.
 pub const PHASE_CLOSED: u64 = 0;

@@ -9,9 +9,11 @@ use Rattle.rtgs_book.specs.declared.Book.{Book}
 use Rattle.rtgs_book.specs.declared.Day.{Day}
 use Rattle.rtgs_book.specs.declared.account.Account.{Account}
 use Rattle.rtgs_rows.specs.Fitting.{FitsParticipant, HasFormedValues}
+use Rattle.rtgs_rows.specs.declared.desk_row.DeskRow.{DeskRow}
+use Rattle.rtgs_rows.specs.declared.numbers.TheConstants.{VERSION}
 use Rattle.rtgs_rows.specs.Rows.{shown_day, shown_account}
 use Rattle.rtgs_rows.specs.TableRecords.{TableRecords, Each, records_of_tables, posting_records, order_records}
-use Rattle.rtgs_rows.specs.TableRecords.{mark_records}
+use Rattle.rtgs_rows.specs.TableRecords.{mark_records, desk_row_of}
 use Rattle.rtgs_sql_columns.specs.Numbers.{IsNumberedPosting, IsNumberedOrder, IsNumberedMark, IsNumberedBook}
 use Rattle.rtgs_sql_queries.specs.Records.{HasRecords}
 use Rattle.rtgs_sql_loading.specs.Accounts.{Telling, TellsOf, AreTheRecords}
@@ -54,7 +56,7 @@ weaker are on = both are are (λ table counted told tells _. on table counted to
 pub own_records : {P : Telling} {accounts : List Account} {book : Book} → AreTheRecords P accounts book
     → IsNumberedBook book → AreTheRecords (λ _ counted. AllByRecursion (IsOwn counted)) accounts book
 own_records {accounts = accounts} {book = book} are low =
-    let day = all_own (shown_day book.day ∷ []) in
+    let day = all_own (shown_day VERSION book.day ∷ []) in
     let stored = all_own (map shown_account accounts) in
     let postings = owns posting_records IsNumberedPosting posting_own book.postings low.postings in
     let orders = owns order_records IsNumberedOrder order_own book.orders low.orders in
@@ -85,6 +87,11 @@ all_fit s accounts book named (day, (stored, (postings, (orders, (marks, others)
   day = day.fit.0;
 }
 
+same_day : (a b : Day) → ◌≡◌ {A = List DeskRow} (desk_row_of a ∷ []) (desk_row_of b ∷ []) → a ≡ b
+same_day a b e =
+    let rows : desk_row_of a ≡ desk_row_of b = cc in
+    ap (λ (desk : DeskRow). desk.day) rows
+
 -- and they are those of the tables
 are_the_tables : (s : State) (accounts : List Account) (book : Book)
     → book.participants ≡ map (λ (a : Account). a.participant) accounts → ReadsEach s accounts book
@@ -92,8 +99,7 @@ are_the_tables : (s : State) (accounts : List Account) (book : Book)
 are_the_tables s accounts book named (day, (stored, (postings, (orders, (marks, none))))) others other held =
     let same = stored.given others other held in
     let participants = named ∙ ap (map (λ (a : Account). a.participant)) same ∙ sym held.2.participants in
-    let days : ◌≡◌ {A = List Day} (book.day ∷ []) (other.day ∷ []) = day.given others other held in
-    let today : book.day ≡ other.day = cc in (
+    let today = same_day book.day other.day (day.given others other held) in (
       λ i. record {
         participants = participants i;
         postings = postings.given others other held i;

@@ -12,9 +12,10 @@ use Rattle.rtgs_book.specs.declared.Day.{Day}
 use Rattle.rtgs_book.specs.declared.Fault.{Fault}
 use Rattle.rtgs_book.specs.declared.account.Account.{Account}
 use Rattle.rtgs_rows.specs.Fitting.{FitsDate}
+use Rattle.rtgs_rows.specs.declared.numbers.TheConstants.{VERSION}
 use Rattle.rtgs_rows.specs.Rows.{shown_day}
 use Rattle.rtgs_rows.specs.Querying.{as_shown, IsDeskFile}
-use Rattle.rtgs_rows.specs.TableRecords.{TableRecords}
+use Rattle.rtgs_rows.specs.TableRecords.{TableRecords, desk_row_of}
 use Rattle.rtgs_rows.specs.Tables.{desk_table}
 use Rattle.rtgs_sql_columns.specs.Numbers.{as_read, IsFormed}
 use Rattle.rtgs_sql_columns.specs.Tables.{query_text}
@@ -62,14 +63,14 @@ pub day_reads : (s : State) (rows seen : List Row) (r : Result Day Fault) → se
     → ((trees : Trees) → IsDeskFile trees s
     → IsPermutation (as_shown desk_table trees) rows)
     → ((accounts : List Account) (book : Book) → HasRecords accounts book s → r ≡ Ok book.day)
-    → IfOk r (λ (day : Day). FitsDate day.date × (seen ≡ shown_day day ∷ [])) → IfOk r (ReadsOneDay s)
+    → IfOk r (λ (day : Day). FitsDate day.date × (seen ≡ shown_day VERSION day ∷ [])) → IfOk r (ReadsOneDay s)
 day_reads s rows seen (Ok day) same shows raw given is =
-    let told : map (as_read []) rows ≡ shown_day day ∷ [] = as_they_are rows ∙ sym same ∙ is.1 in
+    let told : map (as_read []) rows ≡ shown_day VERSION day ∷ [] = as_they_are rows ∙ sym same ∙ is.1 in
     record {
       given = λ accounts book held.
           let found : ◌≡◌ {A = Result Day Fault} (Ok day) (Ok book.day) = given accounts book held in
           let it : day ≡ book.day = cc in
-          ap (λ (d : Day). d ∷ []) it;
+          ap (λ (d : Day). desk_row_of d ∷ []) it;
       fit = (is.0, tt);
       told = (
         λ trees file. subst (IsPermutation (map (as_read []) (as_shown desk_table trees))) told
@@ -85,8 +86,8 @@ pub misread : {A : Type 0} (records : TableRecords A) (stored rows : List Row) �
 misread records stored rows same wrong all = wrong (all-permutation (IsFormed records) _ _ same all)
 
 -- one row alone is the only row
-only_row : (rows : List Row) (day : Day) → IsPermutation (shown_day day ∷ []) rows → rows ≡ shown_day day ∷ []
-only_row rows day same = all_one rows (shown_day day) (all-permutation (λ r. r ≡ shown_day day) _ _ same (refl, tt))
+only_row : (rows : List Row) (row : Row) → IsPermutation (row ∷ []) rows → rows ≡ row ∷ []
+only_row rows row same = all_one rows row (all-permutation (λ r. r ≡ row) _ _ same (refl, tt))
     (sym (length_permutation _ _ same))
   where
     all_one : (rs : List Row) (r : Row) → AllByRecursion (λ x. x ≡ r) rs → length (r ∷ []) ≡ length rs → rs ≡ r ∷ []
@@ -95,9 +96,9 @@ only_row rows day same = all_one rows (shown_day day) (all-permutation (λ r. r 
     all_one (x ∷ y ∷ rs) r each many = absurd (omega (arith, many))
 
 pub no_day : (stored rows : List Row) → IsPermutation stored rows
-    → ((day : Day) → FitsDate day.date → rows ≢ shown_day day ∷ []) → ¬ IsOneDay stored
+    → ((day : Day) → FitsDate day.date → rows ≢ shown_day VERSION day ∷ []) → ¬ IsOneDay stored
 no_day stored rows same none found =
-    none found.0 found.1 (only_row rows found.0 (subst (λ all. IsPermutation all rows) found.2 same))
+    none found.0 found.1 (only_row rows _ (subst (λ all. IsPermutation all rows) found.2 same))
 
 pub not_read : (r : Result Day Fault) (fault : Fault) (None : Type 0) → IfErr r (λ it. (it ≡ fault) × None)
     → r ≡ Err fault → None

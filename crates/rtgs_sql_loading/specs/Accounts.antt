@@ -16,6 +16,7 @@ use Rattle.rtgs_book.specs.Judgement.{Keeps, KeepsBefore}
 use Rattle.rtgs_book.specs.declared.Day.{Day}
 use Rattle.rtgs_rows.specs.Fitting.{HasFormedValues, FitsDate}
 use Rattle.rtgs_rows.specs.Keeping.{AreBalances}
+use Rattle.rtgs_rows.specs.declared.numbers.TheConstants.{VERSION}
 use Rattle.rtgs_rows.specs.Rows.{shown_day}
 use Rattle.rtgs_rows.specs.Querying.{as_shown, ShowsBook}
 use Rattle.rtgs_rows.specs.TableRecords.{TableRecords, Each, records_besides_day, records_of_tables}
@@ -50,9 +51,9 @@ pub record AreTheRecords (Tells : Telling) (accounts : List Account) (book : Boo
 abbrev pub AreReadOf : Trees → List Account → Book → Type 0
 AreReadOf trees = AreTheRecords (AreTold trees)
 
--- one row alone, which is a business day
+-- one row alone, which is a business day in tables of this version
 abbrev pub IsOneDay : List Row → Type 0
-IsOneDay rows = (day : Day) × FitsDate day.date × (rows ≡ shown_day day ∷ [])
+IsOneDay rows = (day : Day) × FitsDate day.date × (rows ≡ shown_day VERSION day ∷ [])
 
 -- each row is in the form of a record
 abbrev pub InForm : {A : Type 0} → TableRecords A → List Row → Type 0

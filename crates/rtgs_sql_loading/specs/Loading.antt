@@ -16,7 +16,7 @@ use Rattle.sqlite.specs.Effect.{Database}
 use Rattle.rtgs_rows.specs.Content.{Content, Holds}
 use Rattle.rtgs_rows.specs.Keeping.{AreBalances, IsBookOf}
 use Rattle.rtgs_rows.specs.Querying.{IsDeskFile, AreWhole}
-use Rattle.rtgs_rows.specs.TableRecords.{TableRecords, day_records}
+use Rattle.rtgs_rows.specs.TableRecords.{TableRecords, day_records, desk_row_of}
 use Rattle.rtgs_sql_columns.specs.Tables.{query_text}
 use Rattle.rtgs_sql_queries.specs.Answering.{KeepsTables}
 use Rattle.rtgs_sql_queries.specs.Faults.{IsOfStore}
@@ -58,7 +58,7 @@ read_after {records = records} {all = all} on clean reads = record {
 
 -- so the day
 abbrev pub ReadsOneDay : State → Day → Type 0
-ReadsOneDay s day = ReadsRecords day_records s (day ∷ [])
+ReadsOneDay s day = ReadsRecords day_records s (desk_row_of day ∷ [])
 
 -- What is read, in three ways: these are the records, where the tables have any; the rows tell them, where the schema
 -- is a desk's; and the queries show them, whatever the schema is.

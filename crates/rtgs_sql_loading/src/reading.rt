@@ -1,9 +1,10 @@
 //! The records of a table.
-ghost use Rattle.std.specs.Prelude.{◌≡◌, ◌≢◌, ◌⊎◌, false, Ok, Err, [], ◌∷◌, IsTrue, IfOk, IfErr, OnOk, ⊤};
+ghost use Rattle.std.specs.Prelude.{◌≡◌, ◌≢◌, ◌⊎◌, false, Some, Ok, Err, [], ◌∷◌, IsTrue, IfSome, IfOk, IfErr, OnOk, ⊤};
 ghost use Rattle.rtgs_book.specs.declared.Rule.{Rule};
 ghost use Rattle.rtgs_book.specs.declared.Day.{Day as DaySpec};
 ghost use Rattle.rtgs_rows.specs.Fitting.{FitsDate};
 ghost use Rattle.rtgs_rows.specs.Rows.{shown_day};
+ghost use Rattle.rtgs_rows.specs.declared.numbers.TheConstants.{VERSION};
 ghost use Rattle.rtgs_rows.specs.Querying.{as_shown};
 ghost use Rattle.rtgs_rows.specs.Tables.{desk_table};
 ghost use Rattle.rtgs_sql_columns.specs.Tables.{query_text};
@@ -18,6 +19,8 @@ ghost use Rattle.sqlite.specs.Held.{state};
 ghost use Rattle.sqlite.specs.Tree.{Trees};
 
 use rtgs_book::{Day, Fault};
+use rtgs_rows::DeskRow;
+use rtgs_rows::numbers::VERSION;
 use rtgs_sql_queries::alive::is_alive;
 use rtgs_sql_queries::table_row::{TableRow, decode};
 use rtgs_sql_queries::whole_table::table_rows;
@@ -50,17 +53,29 @@ fn fault_of<S: Alter>(conn: &mut Connection<S>, error: &Error) -> Fault
     }
 }
 
-/// The business day of the only row. Anything else is `NotADeskFile`.
+/// The business day of the row, where the tables are of this version.
+fn day_of(row: &Row) -> Option<Day>
+    ensures found { (day : DaySpec) → FitsDate day.date → row.now ≡ shown_day VERSION day → result ≡ Some day }
+    ensures is { IfSome result (λ day. FitsDate day.date × (row.now ≡ shown_day VERSION day)) }
+{
+    let desk = DeskRow::from_row(row)?;
+    if desk.version != VERSION {
+        return None;
+    }
+    Some(desk.day)
+}
+
+/// The business day of the only row, in tables of this version. Anything else is `NotADeskFile`.
 fn one_day(rows: &[Row]) -> Result<Day, Fault>
-    ensures given { (day : DaySpec) → FitsDate day.date → rows.now ≡ shown_day day ∷ [] → result ≡ Ok day }
-    ensures is { IfOk result (λ day. FitsDate day.date × (rows.now ≡ shown_day day ∷ [])) }
+    ensures given { (day : DaySpec) → FitsDate day.date → rows.now ≡ shown_day VERSION day ∷ [] → result ≡ Ok day }
+    ensures is { IfOk result (λ day. FitsDate day.date × (rows.now ≡ shown_day VERSION day ∷ [])) }
     ensures wrong { IfErr result (λ fault. (fault ≡ Fault.NotADeskFile)
-        × ((day : DaySpec) → FitsDate day.date → rows.now ≢ shown_day day ∷ [])) }
+        × ((day : DaySpec) → FitsDate day.date → rows.now ≢ shown_day VERSION day ∷ [])) }
 {
     let [row] = rows else {
         return Err(Fault::NotADeskFile);
     };
-    match Day::from_row(row) {
+    match day_of(row) {
         Some(day) => Ok(day),
         None => Err(Fault::NotADeskFile),
     }
@@ -103,7 +118,7 @@ impl FromTables for Day {
     ghost illegible = { λ db. IsUnread db (query_text desk_table) IsOneDay };
 
     fn read<S: Alter>(alloc: Global, conn: &mut Connection<S>) -> Result<Day, Fault> {
-        match table_rows::<Day, S>(alloc, conn) {
+        match table_rows::<DeskRow, S>(alloc, conn) {
             Ok(rows) => one_day(rows.as_slice()),
             Err(error) => Err(fault_of(conn, &error)),
         }

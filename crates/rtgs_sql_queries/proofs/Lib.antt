@@ -1,6 +1,7 @@
 pub mod Refusals
 pub mod Looking
 pub mod Resting
+pub mod Versions
 pub mod Showing
 pub mod ReadingAlone
 pub mod Displaying

@@ -1,6 +1,6 @@
 -- The five queries.
-use Rattle.std.proofs.Common.{◌≡◌, ℕ, pos, List, [], ◌∷◌, map, refl, sym, ap, subst, ◌∙◌}
-use Rattle.std.specs.List.{AllByRecursion}
+use Rattle.std.proofs.Common.{◌≡◌, ℕ, pos, List, [], ◌∷◌, map, refl, sym, ap, subst, ◌∙◌, arith}
+use Rattle.std.specs.List.{AllByRecursion, Contains}
 use Rattle.std.specs.Ordering.{int_cmp}
 use Rattle.std.specs.List.Sorted.{IsPermutation}
 use Rattle.std.proofs.lemmas.List.Sorted.{IsPermutation-map, IsPermutation-sym}
@@ -15,12 +15,13 @@ use Rattle.sqlite.specs.Listing.{understood, listing_schema}
 use Rattle.sqlite_keyed.proofs.ListLemmas.{ascending-map, ascending_weaker, map-map, map_same}
 use Rattle.rtgs_book.specs.declared.Book.{Book}
 use Rattle.rtgs_book.specs.declared.Day.{Day}
-use Rattle.rtgs_rows.specs.Tables.{desk_schema, desk_tables, desk_table, participant_table, posting_table}
+use Rattle.rtgs_rows.specs.declared.numbers.TheConstants.{VERSION}
+use Rattle.rtgs_rows.specs.Tables.{schema_in, desk_tables, desk_table, participant_table, posting_table}
 use Rattle.rtgs_rows.specs.Tables.{payment_table, mark_table}
 use Rattle.rtgs_rows.specs.Fitting.{FitsParticipant}
 use Rattle.rtgs_rows.specs.Rows.{day_row, posting_row, payment_row, mark_row, shown_account}
 use Rattle.rtgs_rows.specs.TableRecords.{TableRecords, day_records, account_records, posting_records, order_records}
-use Rattle.rtgs_rows.specs.TableRecords.{mark_records}
+use Rattle.rtgs_rows.specs.TableRecords.{mark_records, desk_row_of}
 use Rattle.rtgs_rows.specs.Content.{Holding, Content, holding_row, stored_account, tables_of, tables_for, rows_in, Rise}
 use Rattle.rtgs_book.specs.declared.account.Account.{Account}
 use Rattle.rtgs_sql_queries.specs.Records.{AreRead}
@@ -31,10 +32,14 @@ use Rattle.rtgs_lists.proofs.Lists.{all_unmap}
 
 -- ---- what they are to the engine
 
--- over the tables of a desk
+-- the only version
+one_version : Contains (VERSION ∷ []) VERSION
+one_version = (0, omega arith, refl)
+
+-- over the tables of each version
 pub all_asks : AllByRecursion IsTableQuery desk_tables
-unfolding understood listing_schema everything desk_schema
-all_asks = assumption refl
+unfolding understood listing_schema everything schema_in
+all_asks = assumption (refl, one_version)
 
 -- ---- what they show of a book
 
@@ -56,9 +61,9 @@ own_numbered records row number all by shows read held = record {
 }
 
 pub desk_own : ShowsOwn day_records
-desk_own = own_numbered day_records day_row (λ _. 1) (λ c. c.day ∷ [])
+desk_own = own_numbered day_records (λ desk. day_row desk.version desk.day) (λ _. 1) (λ c. desk_row_of c.day ∷ [])
     (λ a b low. then-Equal _ ∙ value_cmp-Int (pos 1) (pos 1) ∙ low) (λ a. refl)
-    (λ c accounts book are. ((are.fits.day, tt), (tt, tt), ap (λ (day : Day). day ∷ []) are.lists.day))
+    (λ c accounts book are. ((are.fits.day, tt), (tt, tt), ap (λ (day : Day). desk_row_of day ∷ []) are.lists.day))
     (λ c trees held. ap (rows_in desk_table) held)
 
 pub postings_own : ShowsOwn posting_records

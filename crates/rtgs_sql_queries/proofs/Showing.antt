@@ -17,6 +17,7 @@ use Rattle.sqlite_sql.proofs.QueryLemmas.{output_cmp_total}
 use Rattle.sqlite_keyed.proofs.SortLemmas.{sorted_unique}
 use Rattle.sqlite_keyed.proofs.ListLemmas.{ascending-map, ascending_weaker, map-map, map_same, IsPermutation-same}
 use Rattle.std.specs.Ordering.{int_cmp}
+use Rattle.sqlite.specs.Schema.{Schema}
 use Rattle.sqlite.specs.Table.{Table}
 use Rattle.sqlite.specs.Tree.{Trees, IsAscending}
 use Rattle.sqlite_schema.specs.Names.{place_of}
@@ -27,7 +28,7 @@ use Rattle.sqlite.specs.Listing.{reads_listing}
 use Rattle.sqlite_typing.specs.Types.{accepts_program}
 use Rattle.rtgs_book.specs.declared.Book.{Book}
 use Rattle.rtgs_book.specs.declared.account.Account.{Account}
-use Rattle.rtgs_rows.specs.Tables.{desk_schema, places}
+use Rattle.rtgs_rows.specs.Tables.{places}
 use Rattle.rtgs_rows.specs.TableRecords.{TableRecords}
 use Rattle.rtgs_sql_columns.specs.Tables.{column_names, query_text}
 use Rattle.rtgs_rows.specs.Content.{Content, Rests, tables_of}
@@ -35,8 +36,9 @@ use Rattle.rtgs_rows.specs.Querying.{IsDeskFile, picked, ShowsTable}
 use Rattle.rtgs_sql_queries.specs.Records.{AreRead}
 use Rattle.rtgs_sql_queries.specs.Answering.{FailsAmid, KeepsTables}
 use Rattle.rtgs_sql_queries.specs.Faults.{IsOfStore}
-use Rattle.rtgs_sql_queries.specs.TableQueries.{IsTableQuery, IsOneQuery, ShowsOwn, whole_table, shown_columns}
-use Rattle.rtgs_sql_queries.specs.TableQueries.{rising_by}
+use Rattle.rtgs_sql_queries.proofs.Versions.{asks_desk}
+use Rattle.rtgs_sql_queries.specs.TableQueries.{IsTableQuery, AsksTable, IsOneQuery, ShowsOwn, whole_table}
+use Rattle.rtgs_sql_queries.specs.TableQueries.{rising_by, shown_columns}
 use Rattle.rtgs_sql_queries.proofs.Refusals.{of_store, intact}
 use Rattle.rtgs_sql_queries.proofs.Resting.{keeps, schema_of}
 use Rattle.rtgs_sql_columns.specs.OneTable.{simple, passes, shows, Sorts, OneTableAnswers}
@@ -76,7 +78,7 @@ none_given : (trees : Trees) (tree : ℕ) → overlay trees [] tree ≡ trees tr
 none_given trees tree = elim (nat_le (2 ^ 31) tree) as (λ b. unwrap_or (cond {A = Option (List Row)} b None None)
     (trees tree) ≡ trees tree) [ true ↦ refl | false ↦ refl ]
 
-module _ (t : Table) (is : IsTableQuery t) (old new : State) (schema_is : old.now.schema ≡ desk_schema) where
+module _ (t : Table) {own : Schema} (is : AsksTable t own) (old new : State) (schema_is : old.now.schema ≡ own) where
   asked : IsOneQuery old.now.schema (query_text t) 0 (record { lets = []; body = whole_table t }) (column_names t)
   asked = subst (λ k. IsOneQuery k (query_text t) 0 (record { lets = []; body = whole_table t }) (column_names t))
       (sym schema_is) is.asks
@@ -106,8 +108,7 @@ module _ (t : Table) (is : IsTableQuery t) (old new : State) (schema_is : old.no
   sorted : OneTableAnswers → (rows : List Row) → Shown (query_text t) [] old new rows
       → Sorts (whole_table t) [] (old.now.trees t.tree) rows
   sorted answers rows h =
-      let read = reads_as (query_text t) [] old new desk_schema schema_is _ is.asks.command is.asks.plain is.unlisted
-      rows h in
+      let read = reads_as (query_text t) [] old new own schema_is _ is.asks.command is.asks.plain is.unlisted rows h in
       subst (λ passed. Sorts (whole_table t) [] passed rows) (all_pass _ ∙ none_given old.now.trees t.tree)
       (answers.sorted t.tree [] (shown_columns (places t)) (rising_by (place_of t 0)) _ [] rows (read.answer Null))
 
@@ -115,12 +116,12 @@ module _ (t : Table) (is : IsTableQuery t) (old new : State) where
   pub intact_after : (r : Result (Vec Row Global) Error) → IfOk r (λ rows. Shown (query_text t) [] old new rows.items)
       → IfErr r (FailsAmid (query_text t) old new) → IsTrue new.is_open → KeepsTables old new
   intact_after r shown failed alive = keeps old new (λ trees file. file_on trees old new file
-      (left t is old new (schema_of trees old file) r shown failed) alive)
+      (left t (asks_desk t is) old new (schema_of trees old file) r shown failed) alive)
 
   pub kept_after : (r : Result (Vec Row Global) Error) → IfOk r (λ rows. Shown (query_text t) [] old new rows.items)
       → OnOk r (KeepsTables old new)
   kept_after (Ok rows) shown = keeps old new (λ trees file.
-      let same = unchanged t is old new (schema_of trees old file) rows.items shown in
+      let same = unchanged t (asks_desk t is) old new (schema_of trees old file) rows.items shown in
       file_on trees old new file (inl same) same.0.is_open)
   kept_after (Err e) shown = tt
 
@@ -136,7 +137,7 @@ module _ (t : Table) (is : IsTableQuery t) (old new : State) where
       (map_same (shows (shown_columns (places t)) []) (picked (places t)) (shows_places (places t)) _
       ∙ ap (map (picked (places t))) here)
       (answers.shown (whole_table t) [] _ rows.items
-      (sorted t is old new (schema_of trees old file) answers rows.items h))
+      (sorted t (asks_desk t is) old new (schema_of trees old file) answers rows.items h))
 
 -- over tables with records, it shows those that a book has of the table
 pub shows_own : OneTableAnswers → {A : Type 0} (records : TableRecords A) → IsTableQuery records.table
@@ -148,7 +149,8 @@ shows_own answers records is own old new content accounts book rests are (Err e)
 shows_own answers records is own old new content accounts book rests are (Ok rows) h =
     own.rows content accounts book are old.now.trees
     (ap (λ (d : Database). tables_of d.trees) rests.clean ∙ rests.holds.rows) rows.items
-    (sorted records.table is old new (ap (λ (d : Database). d.schema) rests.clean ∙ rests.schema) answers rows.items h)
+    (sorted records.table (asks_desk records.table is) old new
+    (ap (λ (d : Database). d.schema) rests.clean ∙ rests.schema) answers rows.items h)
 
 -- of the rows of the table the query shows these, which rise by what it sorts by
 pub shown_are : (q : Query) (stored rows : List Row) (goals : List Output)

@@ -1,7 +1,7 @@
 -- What the query of a whole table is to the engine, and what it shows of a book. With the table's description this is
 -- all that the reading of a table needs to know of it, apart from how a row is read.
 use Rattle.std.specs.Prelude.{◌≡◌, ℕ, Bool, true, false, List, [], ◌∷◌, map, length, Ok, Err, Result}
-use Rattle.std.specs.List.{AllByRecursion}
+use Rattle.std.specs.List.{AllByRecursion, Contains}
 use Rattle.sqlite_value.specs.declared.keys.Key.{Key}
 use Rattle.sqlite.specs.Collation.TheVariants.{Binary}
 use Rattle.sqlite.specs.Command.TheVariants.{Select}
@@ -27,7 +27,8 @@ use Rattle.sqlite_resolve.specs.Lowering.{Checked}
 use Rattle.sqlite_resolve.specs.Compile.{first, compiled}
 use Rattle.rtgs_book.specs.declared.Book.{Book}
 use Rattle.rtgs_book.specs.declared.account.Account.{Account}
-use Rattle.rtgs_rows.specs.Tables.{desk_schema, places}
+use Rattle.rtgs_rows.specs.declared.numbers.TheConstants.{VERSION}
+use Rattle.rtgs_rows.specs.Tables.{desk_schema, places, schema_in, versions_of}
 use Rattle.rtgs_rows.specs.TableRecords.{TableRecords}
 use Rattle.rtgs_rows.specs.Content.{Content, tables_of, tables_for}
 use Rattle.rtgs_sql_queries.specs.Records.{AreRead}
@@ -75,11 +76,17 @@ rising_by place = (col 1 place, record { collation = Binary; descending = false 
 abbrev pub whole_table : Table → Query
 whole_table t = simple t.tree [] (columns_of t) (rising_by (place_of t 0))
 
--- the text is that query: over the tables of a desk it is this one, and over any schema it is some query
+-- over this schema the text is that query
+pub record AsksTable (t : Table) (schema : Schema) : Type 0 where
+  pub asks : IsOneQuery schema (query_text t) 0 (record { lets = []; body = whole_table t }) (column_names t)
+  pub typed : accepts_program schema [] (whole_table t) [] ≡ true
+  pub unlisted : reads_listing schema (query_text t) ≡ false
+
+-- the text is that query: it is so over each version of the tables that has this one, among them the version in which
+-- new tables are made; and over any schema it is some query
 pub record IsTableQuery (t : Table) : Type 0 where
-  pub asks : IsOneQuery desk_schema (query_text t) 0 (record { lets = []; body = whole_table t }) (column_names t)
-  pub typed : accepts_program desk_schema [] (whole_table t) [] ≡ true
-  pub unlisted : reads_listing desk_schema (query_text t) ≡ false
+  pub asks : AllByRecursion (λ version. AsksTable t (schema_in version)) (versions_of t)
+  pub newest : Contains (versions_of t) VERSION
   pub query : IsQueryText (query_text t) (first (query_text t))
   pub foreign : compiled listing_schema (query_text t) ≡ Err NoSuchTable
 

@@ -12,6 +12,7 @@ ghost use Rattle.rtgs_sql_columns.specs.Numbers.{at_least_zero};
 use crate::table_row::TableRow;
 use rtgs_book::{Account, Day, Mark, Order, OrderState, Participant, Phase, Posting};
 use rtgs_money::{Amount, Credit, KeyDigest, PostingAmount};
+use rtgs_rows::DeskRow;
 use rtgs_rows::numbers::{
     PHASE_CLOSED, PHASE_CUT_OFF, PHASE_OPEN, STATE_QUEUED, STATE_REJECTED, STATE_SETTLED,
     STATE_WITHDRAWN,
@@ -24,10 +25,7 @@ use sqlite::Row;
 /// The number of the row of the table `desk`.
 const DESK_ID: i64 = 1;
 
-/// The version of the tables.
-const VERSION: i64 = 1;
-
-impl TableRow for Day {
+impl TableRow for DeskRow {
     ghost records = { day_records };
 
     #[tactic(auto, using(crate::proofs::Selecting::queries))]
@@ -35,14 +33,17 @@ impl TableRow for Day {
         "SELECT id, version, date, phase FROM desk ORDER BY id"
     }
 
-    fn from_row(row: &Row) -> Option<Day> {
+    fn from_row(row: &Row) -> Option<DeskRow> {
         width(row, 4)?;
-        if int(row, 0)? != DESK_ID || int(row, 1)? != VERSION {
+        if int(row, 0)? != DESK_ID {
             return None;
         }
-        Some(Day {
-            date: date_or_null(row, 2)?,
-            phase: phase_of(unsigned(row, 3)?)?,
+        Some(DeskRow {
+            version: unsigned(row, 1)?,
+            day: Day {
+                date: date_or_null(row, 2)?,
+                phase: phase_of(unsigned(row, 3)?)?,
+            },
         })
     }
 }

@@ -19,6 +19,8 @@ use Rattle.rtgs_rows.specs.Tables.{no_schema, desk_schema, with_tables, desk_tab
 use Rattle.rtgs_rows.specs.Content.{tables_of, tables_for, IsUnderWay}
 use Rattle.rtgs_rows.specs.Keeping.{first_content}
 use Rattle.rtgs_rows.specs.Rows.{day_row}
+use Rattle.rtgs_rows.specs.declared.numbers.TheConstants.{VERSION}
+use Rattle.sqlite.specs.declared.types.Value.TheVariants.{Int}
 use Rattle.rtgs_sql_columns.specs.Blank.{IsBlank}
 use Rattle.rtgs_sql_writes.specs.Building.{IsBuilt, MakesTable, unplaced}
 use Rattle.sqlite.specs.Rows.{stamped}
@@ -98,8 +100,11 @@ pub builds : (was : Database) (at : ℕ) (old new : State) (text : List ℕ) (r 
 builds was at old new text (Ok count) is it h = built was at old new text count is it h
 builds was at old new text (Err e) is it h = tt
 
+abbrev pub first_given : Row
+first_given = Int (pos VERSION) ∷ []
+
 first_edit : (trees : Trees) → trees desk_table.tree ≡ [] → edited trees (edit_of trees desk_table [] Chosen 0
-    (value_rows (stamped desk_table []) 5 1 first_terms)) ≡ (day_row first_content.day ∷ [])
+    (value_rows (stamped desk_table first_given) 5 1 first_terms)) ≡ (day_row VERSION first_content.day ∷ [])
 first_edit trees none = rw (cast_int (pos 1), cast_null, cast_int (pos 0), none)
 
 all_empty : (trees : Trees) (tables : List Table) → AllByRecursion (λ t. trees t.tree ≡ []) tables
@@ -108,21 +113,22 @@ all_empty trees [] none = refl
 all_empty trees (t ∷ tables) none = λ i. none.0 i ∷ all_empty trees tables none.1 i
 
 first_frame : (old new : Trees) → AllByRecursion (λ t. old t.tree ≡ []) desk_schema.tables
-    → frame_but desk_table.tree old new → new desk_table.tree ≡ (day_row first_content.day ∷ [])
+    → frame_but desk_table.tree old new → new desk_table.tree ≡ (day_row VERSION first_content.day ∷ [])
     → tables_of new ≡ tables_for first_content
 unfolding desk_schema
 first_frame old new none others here = framed desk_table.tree old new _ here others
-    ∙ ap (with_rows desk_table (day_row first_content.day ∷ [])) (all_empty old desk_tables none)
+    ∙ ap (with_rows desk_table (day_row VERSION first_content.day ∷ [])) (all_empty old desk_tables none)
 
 desk_empty : (trees : Trees) → AllByRecursion (λ t. trees t.tree ≡ []) desk_schema.tables → trees desk_table.tree ≡ []
 unfolding desk_schema
 desk_empty trees none = none.0
 
 begun : (was : Database) (old new : State) (count : ℕ) → IsBuilt was desk_schema old
-    → ExecutesInside 0 FIRST_DAY.now [] old new (Ok count) → IsUnderWay was first_content new
+    → ExecutesInside 0 FIRST_DAY.now first_given old new (Ok count) → IsUnderWay was first_content new
 begun was old new count is h =
-    let made = inserted FIRST_DAY.now 0 (omega arith) old new [] count is.schema_is h.0 first_terms 5 first_day_means in
-    let rows : new.now.trees desk_table.tree ≡ (day_row first_content.day ∷ []) = made.rows
+    let made = inserted FIRST_DAY.now 0 (omega arith) old new first_given count is.schema_is h.0 first_terms 5
+    first_day_means in
+    let rows : new.now.trees desk_table.tree ≡ (day_row VERSION first_content.day ∷ []) = made.rows
     ∙ first_edit old.now.trees (desk_empty old.now.trees is.empty) in
     record {
       is_open = h.1.is_open;
@@ -135,10 +141,12 @@ begun was old new count is h =
       committed = h.1.committed_is ∙ is.committed;
     }
 
-pub begins : (was : Database) (old new : State) (r : Result ℕ Error) → IsBuilt was desk_schema old
-    → ExecutesInside 0 FIRST_DAY.now [] old new r → OnOk r (IsUnderWay was first_content new)
-begins was old new (Ok count) is h = begun was old new count is h
-begins was old new (Err e) is h = tt
+pub begins : (was : Database) (old new : State) (r : Result ℕ Error) (values : Row) → values ≡ first_given
+    → IsBuilt was desk_schema old → ExecutesInside 0 FIRST_DAY.now values old new r
+    → OnOk r (IsUnderWay was first_content new)
+begins was old new (Ok count) values same is h = begun was old new count is
+    (subst (λ all. ExecutesInside 0 FIRST_DAY.now all old new (Ok count)) same h)
+begins was old new (Err e) values same is h = tt
 
 pub built_begun : {S : Type 0} (g : Ghosts S) (h : Held S) → IsBlank (state g h)
     → IsBuilt (state g h).committed no_schema (state g (record h { in_transaction = true }))

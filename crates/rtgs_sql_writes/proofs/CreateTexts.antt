@@ -1,7 +1,7 @@
 -- What each text of a new file means under the schema that it meets.
 use Rattle.std.proofs.Common.{ℕ, ◌<◌, Bor, List, [], ◌∷◌, get_or, length, refl, pos}
 use Rattle.sqlite.specs.declared.types.Value.TheVariants.{Null, Int}
-use Rattle.sqlite.specs.Term.{Term, lit}
+use Rattle.sqlite.specs.Term.{Term, lit, col}
 use Rattle.sqlite.specs.Source.TheVariants.{Values}
 use Rattle.sqlite.specs.Command.TheVariants.{Insert}
 use Rattle.sqlite_tied.specs.Compute.{everything}
@@ -23,7 +23,7 @@ unfolding understood everything with_tables
 all_made = assumption refl
 
 abbrev pub first_terms : List Term
-first_terms = lit (Int (pos 1)) ∷ lit Null ∷ lit (Int (pos 1)) ∷ lit Null ∷ lit (Int (pos 0)) ∷ []
+first_terms = lit (Int (pos 1)) ∷ lit Null ∷ col 0 0 ∷ lit Null ∷ lit (Int (pos 0)) ∷ []
 
 pub first_day_means : IsUnderstoodAs FIRST_DAY.now (Insert 0 (Values first_terms 5))
 unfolding understood everything desk_schema

@@ -29,6 +29,7 @@ use Rattle.rtgs_sql_writes.proofs.Writing.{IsUnderstoodAs, updated}
 use Rattle.rtgs_sql_writes.proofs.Passing.{truth_of, same_number}
 use Rattle.rtgs_book.specs.declared.Day.{Day}
 use Rattle.rtgs_book.specs.declared.RowChange.TheVariants.{SetDay}
+use Rattle.rtgs_rows.specs.declared.numbers.TheConstants.{VERSION}
 use Rattle.rtgs_rows.specs.Rows.{date_value, phase_number, day_row}
 use Rattle.rtgs_rows.specs.Content.{rows_in, Content, IsUnderWay, with_change}
 use Rattle.rtgs_rows.specs.Tables.{desk_schema, desk_table as table}
@@ -50,15 +51,15 @@ set_day_means = record { is = refl; plain = (refl, refl) }
 abbrev params : Day → Row
 params day = date_value day.date ∷ Int (pos (phase_number day.phase)) ∷ []
 
-passes_one : (day old : Day) → passes tests (params day) (day_row old) ≡ true
+passes_one : (day old : Day) → passes tests (params day) (day_row VERSION old) ≡ true
 unfolding binary
 passes_one day old = truth_of _ ∙ same_number 1 1
 
-edit : (trees : Trees) (old day : Day) (rows : List Row) → trees table.tree ≡ day_row old ∷ []
-    → IsPermutation (map (shows project (params day)) (day_row old ∷ [])) rows
-    → edited trees (edit_of trees table (ids_of rows) Given 1 rows) ≡ day_row day ∷ []
+edit : (trees : Trees) (old day : Day) (rows : List Row) → trees table.tree ≡ day_row VERSION old ∷ []
+    → IsPermutation (map (shows project (params day)) (day_row VERSION old ∷ [])) rows
+    → edited trees (edit_of trees table (ids_of rows) Given 1 rows) ≡ day_row VERSION day ∷ []
 edit trees old day rows are same =
-    let one : rows ≡ shows project (params day) (day_row old) ∷ [] = one_permutation _ rows same in
+    let one : rows ≡ shows project (params day) (day_row VERSION old) ∷ [] = one_permutation _ rows same in
     rw (
       one,
       cast_int (pos 1),
@@ -82,12 +83,12 @@ sets_day answers was content old new day (Ok count) values same stands given =
     (phase_number day.phase)) ∷ []) (bound_date day.date)) given in
     let made = updated set_day_text 0 (omega arith) old new (params day) count stands.schema h.0 answers table.tree
     tests project set_day_means in
-    let here : old.now.trees table.tree ≡ day_row content.day ∷ [] = ap (rows_in table) stands.holds.rows in
+    let here : old.now.trees table.tree ≡ day_row VERSION content.day ∷ [] = ap (rows_in table) stands.holds.rows in
     let passed : filter (passes tests (params day)) (old.now.trees table.tree)
-    ≡ day_row content.day ∷ [] = rw (here, passes_one day content.day) in
-    let rows : new.now.trees table.tree ≡ day_row day ∷ [] = made.2.rows
+    ≡ day_row VERSION content.day ∷ [] = rw (here, passes_one day content.day) in
+    let rows : new.now.trees table.tree ≡ day_row VERSION day ∷ [] = made.2.rows
     ∙ edit old.now.trees content.day day made.0 here (subst
     (λ f. IsPermutation (map (shows project (params day)) f) made.0) passed made.1) in
     stands_on was old new content (with_change content (SetDay day)) stands h.1 made.2.schema made.2.sound
     (framed table.tree old.now.trees new.now.trees _ rows made.2.frame
-    ∙ ap (with_rows table (day_row day ∷ [])) stands.holds.rows)
+    ∙ ap (with_rows table (day_row VERSION day ∷ [])) stands.holds.rows)

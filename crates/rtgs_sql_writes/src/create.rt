@@ -11,6 +11,8 @@ ghost use Rattle.sqlite.specs.State.{HasCleanDisk, KeepsCommit, Survives};
 ghost use Rattle.sqlite.specs.Held.{state};
 
 use crate::staging::Stopped;
+use rtgs_rows::numbers::VERSION;
+use rtgs_sql_columns::columns::number_value;
 use sqlite::{Alter, Connection, Error, Transaction};
 
 /// The day.
@@ -43,7 +45,7 @@ const MARK: &str =
 const TABLES: [&str; 5] = [DESK, PARTICIPANT, POSTING, PAYMENT, MARK];
 
 /// The one row of a new desk.
-const FIRST_DAY: &str = "INSERT INTO desk (id, version, phase) VALUES (1, 1, 0)";
+const FIRST_DAY: &str = "INSERT INTO desk (id, version, phase) VALUES (1, ?1, 0)";
 
 /// Makes one more table.
 fn create_table<S: Alter>(tx: &mut Transaction<'_, S>, sql: &str) -> Result<usize, Error>
@@ -68,7 +70,7 @@ fn first_day<S: Alter>(tx: &mut Transaction<'_, S>) -> Result<usize, Error>
         → KeepsCommit (state S.Store tx.old.conn.now) (state S.Store tx.new.conn.now) }
     ensures survives { Survives (state S.Store tx.old.conn.now) (state S.Store tx.new.conn.now) (λ _. ⊥) }
 {
-    tx.execute(FIRST_DAY, &[])
+    tx.execute(FIRST_DAY, &[number_value(VERSION)])
 }
 
 /// Makes the tables inside the transaction.

@@ -5,6 +5,7 @@ use Rattle.sqlite_resolve.specs.Compile.{first}
 use Rattle.rtgs_sql_columns.specs.Tables.{query_text}
 use Rattle.rtgs_sql_queries.specs.Answering.{Returnless, FailsAmid}
 use Rattle.rtgs_sql_queries.proofs.Showing.{shows_all, shows_own, refused, intact_after, kept_after}
+use Rattle.rtgs_sql_queries.proofs.Versions.{asks_desk}
 use Rattle.rtgs_sql_queries.proofs.AsRead.{read_so}
 use Rattle.rtgs_sql_queries.proofs.Answering.{unanswered_amid}
 use Rattle.rtgs_sql_queries.proofs.Displaying.{displayed, returnless}
@@ -45,7 +46,8 @@ pub returns-clause-refused : goal.returns-clause-refused
 returns-clause-refused g c clean schema =
     let old = state g.S.Store c.args.conn.now in
     let new = state g.S.Store c.all_rows.new.conn in
-    refused g.T.TableRow.records.table c.query.ensures.asks old new schema c.all_rows.result
+    refused g.T.TableRow.records.table (asks_desk g.T.TableRow.records.table c.query.ensures.asks) old new schema
+    c.all_rows.result
     (subst (λ text. IfErr c.all_rows.result (FailsAmid text old new)) c.query.ensures.is (c.all_rows.ensures.err clean))
 
 pub returns-clause-asks : goal.returns-clause-asks
