@@ -13,5 +13,6 @@ pub mod MarkLemmas
 pub mod DayLemmas
 pub mod HoldingLemmas
 pub mod Changing
+pub mod Leading
 pub mod CreateTexts
 pub mod CreateLemmas

@@ -1,11 +1,17 @@
--- What a stop leaves where a change was written.
+-- The parts of a change, and what a stop leaves where it was written.
 use Rattle.std.specs.Prelude.{List}
 use Rattle.std.specs.List.{AllByRecursion}
 use Rattle.sqlite.specs.Tree.{Trees}
-use Rattle.sqlite.specs.State.{State}
+use Rattle.sqlite.specs.Effect.{Database}
+use Rattle.sqlite.specs.State.{State, HasCleanDisk}
 use Rattle.rtgs_book.specs.declared.RowChange.{RowChange}
-use Rattle.rtgs_rows.specs.Content.{Content, Holds, Rests, AreInOrder, with_changes}
+use Rattle.rtgs_rows.specs.Content.{Content, Holds, IsUnderWay, Rests, AreInOrder, with_changes}
 use Rattle.rtgs_rows.specs.Fitting.{FitsRow}
+
+-- One part of a change, between these two states of a transaction: tables with the one records become tables with the
+-- other. A part may be one statement, or the parts that come one after another, each from where the one before it ends.
+abbrev pub Leads : State → State → Content → Content → Type 0
+Leads old new before after = HasCleanDisk new → (was : Database) → IsUnderWay was before old → IsUnderWay was after new
 
 -- Each value of the rows is in its form and range, and whatever records the tables held before, they hold these after
 -- the rows.

@@ -1,14 +1,13 @@
 //! A change in a transaction of its own.
 ghost use Rattle.std.specs.Prelude.{◌≡◌, false, IsTrue, OnOk, IfErr};
-ghost use Rattle.sqlite.specs.Effect.{Database};
-ghost use Rattle.rtgs_rows.specs.Content.{Content, IsUnderWay, Rests, IsInOrder, AreInOrder, with_change};
+ghost use Rattle.rtgs_rows.specs.Content.{Content, Rests, IsInOrder, AreInOrder, with_change};
 ghost use Rattle.rtgs_rows.specs.Content.{with_changes};
 ghost use Rattle.sqlite.specs.State.{HasCleanDisk, KeepsCommit, Survives};
 ghost use Rattle.sqlite.specs.Held.{state};
 ghost use Rattle.std.specs.List.{AllByRecursion};
 ghost use Rattle.rtgs_rows.specs.Fitting.{FitsRow};
 ghost use Rattle.rtgs_sql_writes.specs.Stops.{IsBefore};
-ghost use Rattle.rtgs_sql_writes.specs.Staging.{HoldsChange};
+ghost use Rattle.rtgs_sql_writes.specs.Staging.{Leads, HoldsChange};
 
 use crate::statements::{
     add_mark, add_order, add_participant, add_posting, set_balance, set_credit, set_day, set_state,
@@ -25,36 +24,36 @@ pub enum Stopped {
     AtCommit(Error),
 }
 
-/// Makes the change of one row inside the transaction.
-fn stage_row<S: Alter>(tx: &mut Transaction<'_, S>, row: &RowChange) -> Result<usize, Error>
+/// Makes the change of one row inside the transaction, by one part of it after another.
+fn stage_row<S: Alter>(tx: &mut Transaction<'_, S>, row: &RowChange) -> Result<(), Error>
     ensures same_reference { tx.new.conn.ghost_name ≡ tx.old.conn.ghost_name }
-    ensures made { HasCleanDisk (state S.Store tx.new.conn.now) → (was : Database) (content : Content)
-        → IsUnderWay was content (state S.Store tx.old.conn.now) → IsInOrder content
-        → IsInOrder (with_change content row.now)
-        → OnOk result (IsUnderWay was (with_change content row.now) (state S.Store tx.new.conn.now)) }
+    ensures made { (content : Content) → IsInOrder content → IsInOrder (with_change content row.now)
+        → OnOk result (Leads (state S.Store tx.old.conn.now) (state S.Store tx.new.conn.now) content
+        (with_change content row.now)) }
     ensures formed { OnOk result (FitsRow row.now) }
     ensures kept { HasCleanDisk (state S.Store tx.new.conn.now)
         → KeepsCommit (state S.Store tx.old.conn.now) (state S.Store tx.new.conn.now) }
     ensures survives { Survives (state S.Store tx.old.conn.now) (state S.Store tx.new.conn.now) (λ _. ⊥) }
 {
     match row {
-        RowChange::AddParticipant(participant) => add_participant(tx, participant),
-        RowChange::AddPosting(posting) => add_posting(tx, posting),
-        RowChange::AddOrder(order) => add_order(tx, order),
-        RowChange::AddMark(mark) => add_mark(tx, mark),
-        RowChange::SetCredit { code, credit } => set_credit(tx, code, *credit),
-        RowChange::SetBalance { code, balance } => set_balance(tx, code, *balance),
-        RowChange::SetState { number, state } => set_state(tx, *number, *state),
-        RowChange::SetDay(day) => set_day(tx, *day),
-    }
+        RowChange::AddParticipant(participant) => add_participant(tx, participant)?,
+        RowChange::AddPosting(posting) => add_posting(tx, posting)?,
+        RowChange::AddOrder(order) => add_order(tx, order)?,
+        RowChange::AddMark(mark) => add_mark(tx, mark)?,
+        RowChange::SetCredit { code, credit } => set_credit(tx, code, *credit)?,
+        RowChange::SetBalance { code, balance } => set_balance(tx, code, *balance)?,
+        RowChange::SetState { number, state } => set_state(tx, *number, *state)?,
+        RowChange::SetDay(day) => set_day(tx, *day)?,
+    };
+    Ok(())
 }
 
 /// Makes the changes inside the transaction, one after another.
 fn stage<S: Alter>(tx: &mut Transaction<'_, S>, rows: &[RowChange]) -> Result<(), Error>
     ensures same_reference { tx.new.conn.ghost_name ≡ tx.old.conn.ghost_name }
-    ensures made { HasCleanDisk (state S.Store tx.new.conn.now) → (was : Database) (content : Content)
-        → IsUnderWay was content (state S.Store tx.old.conn.now) → AreInOrder content rows.now
-        → OnOk result (IsUnderWay was (with_changes content rows.now) (state S.Store tx.new.conn.now)) }
+    ensures made { (content : Content) → AreInOrder content rows.now
+        → OnOk result (Leads (state S.Store tx.old.conn.now) (state S.Store tx.new.conn.now) content
+        (with_changes content rows.now)) }
     ensures formed { OnOk result (AllByRecursion FitsRow rows.now) }
     ensures kept { HasCleanDisk (state S.Store tx.new.conn.now)
         → KeepsCommit (state S.Store tx.old.conn.now) (state S.Store tx.new.conn.now) }

@@ -1,9 +1,9 @@
 //! Rows that are added.
 ghost use Rattle.std.specs.Prelude.{◌≡◌, OnOk};
-ghost use Rattle.sqlite.specs.Effect.{Database};
 ghost use Rattle.rtgs_book.specs.declared.RowChange.TheVariants as change;
-ghost use Rattle.rtgs_rows.specs.Content.{Content, IsUnderWay, IsInOrder, with_change};
+ghost use Rattle.rtgs_rows.specs.Content.{Content, IsInOrder, with_change};
 ghost use Rattle.rtgs_rows.specs.Fitting.{FitsParticipant, FitsPosting, FitsOrder, FitsMark};
+ghost use Rattle.rtgs_sql_writes.specs.Staging.{Leads};
 ghost use Rattle.sqlite.specs.State.{HasCleanDisk, KeepsCommit, Survives};
 ghost use Rattle.sqlite.specs.Held.{state};
 
@@ -21,10 +21,9 @@ pub(crate) fn add_participant<S: Alter>(
     participant: &Participant,
 ) -> Result<usize, Error>
     ensures same_reference { tx.new.conn.ghost_name ≡ tx.old.conn.ghost_name }
-    ensures made { HasCleanDisk (state S.Store tx.new.conn.now) → (was : Database) (content : Content)
-        → IsUnderWay was content (state S.Store tx.old.conn.now) → IsInOrder content
-        → OnOk result (IsUnderWay was (with_change content (change.AddParticipant participant.now))
-        (state S.Store tx.new.conn.now)) }
+    ensures made { (content : Content) → IsInOrder content
+        → OnOk result (Leads (state S.Store tx.old.conn.now) (state S.Store tx.new.conn.now) content
+        (with_change content (change.AddParticipant participant.now))) }
     ensures formed { OnOk result (FitsParticipant participant.now) }
     ensures kept { HasCleanDisk (state S.Store tx.new.conn.now)
         → KeepsCommit (state S.Store tx.old.conn.now) (state S.Store tx.new.conn.now) }
@@ -48,11 +47,9 @@ pub(crate) fn add_posting<S: Alter>(
     posting: &Posting,
 ) -> Result<usize, Error>
     ensures same_reference { tx.new.conn.ghost_name ≡ tx.old.conn.ghost_name }
-    ensures made { HasCleanDisk (state S.Store tx.new.conn.now) → (was : Database) (content : Content)
-        → IsUnderWay was content (state S.Store tx.old.conn.now)
-        → IsInOrder (with_change content (change.AddPosting posting.now))
-        → OnOk result (IsUnderWay was (with_change content (change.AddPosting posting.now))
-        (state S.Store tx.new.conn.now)) }
+    ensures made { (content : Content) → IsInOrder (with_change content (change.AddPosting posting.now))
+        → OnOk result (Leads (state S.Store tx.old.conn.now) (state S.Store tx.new.conn.now) content
+        (with_change content (change.AddPosting posting.now))) }
     ensures formed { OnOk result (FitsPosting posting.now) }
     ensures kept { HasCleanDisk (state S.Store tx.new.conn.now)
         → KeepsCommit (state S.Store tx.old.conn.now) (state S.Store tx.new.conn.now) }
@@ -78,11 +75,9 @@ pub(crate) fn add_order<S: Alter>(
     order: &Order,
 ) -> Result<usize, Error>
     ensures same_reference { tx.new.conn.ghost_name ≡ tx.old.conn.ghost_name }
-    ensures made { HasCleanDisk (state S.Store tx.new.conn.now) → (was : Database) (content : Content)
-        → IsUnderWay was content (state S.Store tx.old.conn.now)
-        → IsInOrder (with_change content (change.AddOrder order.now))
-        → OnOk result (IsUnderWay was (with_change content (change.AddOrder order.now))
-        (state S.Store tx.new.conn.now)) }
+    ensures made { (content : Content) → IsInOrder (with_change content (change.AddOrder order.now))
+        → OnOk result (Leads (state S.Store tx.old.conn.now) (state S.Store tx.new.conn.now) content
+        (with_change content (change.AddOrder order.now))) }
     ensures formed { OnOk result (FitsOrder order.now) }
     ensures kept { HasCleanDisk (state S.Store tx.new.conn.now)
         → KeepsCommit (state S.Store tx.old.conn.now) (state S.Store tx.new.conn.now) }
@@ -110,10 +105,9 @@ pub(crate) fn add_order<S: Alter>(
 /// Adds the row of a mark.
 pub(crate) fn add_mark<S: Alter>(tx: &mut Transaction<'_, S>, mark: &Mark) -> Result<usize, Error>
     ensures same_reference { tx.new.conn.ghost_name ≡ tx.old.conn.ghost_name }
-    ensures made { HasCleanDisk (state S.Store tx.new.conn.now) → (was : Database) (content : Content)
-        → IsUnderWay was content (state S.Store tx.old.conn.now)
-        → IsInOrder (with_change content (change.AddMark mark.now))
-        → OnOk result (IsUnderWay was (with_change content (change.AddMark mark.now)) (state S.Store tx.new.conn.now)) }
+    ensures made { (content : Content) → IsInOrder (with_change content (change.AddMark mark.now))
+        → OnOk result (Leads (state S.Store tx.old.conn.now) (state S.Store tx.new.conn.now) content
+        (with_change content (change.AddMark mark.now))) }
     ensures formed { OnOk result (FitsMark mark.now) }
     ensures kept { HasCleanDisk (state S.Store tx.new.conn.now)
         → KeepsCommit (state S.Store tx.old.conn.now) (state S.Store tx.new.conn.now) }

@@ -1,10 +1,10 @@
 //! Columns that are set.
 ghost use Rattle.std.specs.Prelude.{◌≡◌, OnOk};
-ghost use Rattle.sqlite.specs.Effect.{Database};
 ghost use Rattle.rtgs_book.specs.declared.RowChange.TheVariants as change;
-ghost use Rattle.rtgs_rows.specs.Content.{Content, IsUnderWay, IsInOrder, with_change};
+ghost use Rattle.rtgs_rows.specs.Content.{Content, IsInOrder, with_change};
 ghost use Rattle.rtgs_money.specs.Amounts.{IsCredit};
 ghost use Rattle.rtgs_rows.specs.Fitting.{FitsDate};
+ghost use Rattle.rtgs_sql_writes.specs.Staging.{Leads};
 ghost use Rattle.sqlite.specs.State.{HasCleanDisk, KeepsCommit, Survives};
 ghost use Rattle.sqlite.specs.Held.{state};
 
@@ -24,10 +24,9 @@ pub(crate) fn set_credit<S: Alter>(
     credit: Credit,
 ) -> Result<usize, Error>
     ensures same_reference { tx.new.conn.ghost_name ≡ tx.old.conn.ghost_name }
-    ensures made { HasCleanDisk (state S.Store tx.new.conn.now) → (was : Database) (content : Content)
-        → IsUnderWay was content (state S.Store tx.old.conn.now) → IsInOrder content
-        → OnOk result (IsUnderWay was (with_change content (change.SetCredit code.now credit))
-        (state S.Store tx.new.conn.now)) }
+    ensures made { (content : Content) → IsInOrder content
+        → OnOk result (Leads (state S.Store tx.old.conn.now) (state S.Store tx.new.conn.now) content
+        (with_change content (change.SetCredit code.now credit))) }
     ensures formed { OnOk result (IsCredit credit) }
     ensures kept { HasCleanDisk (state S.Store tx.new.conn.now)
         → KeepsCommit (state S.Store tx.old.conn.now) (state S.Store tx.new.conn.now) }
@@ -47,10 +46,9 @@ pub(crate) fn set_balance<S: Alter>(
     balance: Cents,
 ) -> Result<usize, Error>
     ensures same_reference { tx.new.conn.ghost_name ≡ tx.old.conn.ghost_name }
-    ensures made { HasCleanDisk (state S.Store tx.new.conn.now) → (was : Database) (content : Content)
-        → IsUnderWay was content (state S.Store tx.old.conn.now) → IsInOrder content
-        → OnOk result (IsUnderWay was (with_change content (change.SetBalance code.now balance))
-        (state S.Store tx.new.conn.now)) }
+    ensures made { (content : Content) → IsInOrder content
+        → OnOk result (Leads (state S.Store tx.old.conn.now) (state S.Store tx.new.conn.now) content
+        (with_change content (change.SetBalance code.now balance))) }
     ensures kept { HasCleanDisk (state S.Store tx.new.conn.now)
         → KeepsCommit (state S.Store tx.old.conn.now) (state S.Store tx.new.conn.now) }
     ensures survives { Survives (state S.Store tx.old.conn.now) (state S.Store tx.new.conn.now) (λ _. ⊥) }
@@ -69,10 +67,9 @@ pub(crate) fn set_state<S: Alter>(
     stage: OrderState,
 ) -> Result<usize, Error>
     ensures same_reference { tx.new.conn.ghost_name ≡ tx.old.conn.ghost_name }
-    ensures made { HasCleanDisk (state S.Store tx.new.conn.now) → (was : Database) (content : Content)
-        → IsUnderWay was content (state S.Store tx.old.conn.now) → IsInOrder content
-        → OnOk result (IsUnderWay was (with_change content (change.SetState number stage))
-        (state S.Store tx.new.conn.now)) }
+    ensures made { (content : Content) → IsInOrder content
+        → OnOk result (Leads (state S.Store tx.old.conn.now) (state S.Store tx.new.conn.now) content
+        (with_change content (change.SetState number stage))) }
     ensures kept { HasCleanDisk (state S.Store tx.new.conn.now)
         → KeepsCommit (state S.Store tx.old.conn.now) (state S.Store tx.new.conn.now) }
     ensures survives { Survives (state S.Store tx.old.conn.now) (state S.Store tx.new.conn.now) (λ _. ⊥) }
@@ -89,9 +86,9 @@ pub(crate) fn set_state<S: Alter>(
 /// Sets the business day.
 pub(crate) fn set_day<S: Alter>(tx: &mut Transaction<'_, S>, day: Day) -> Result<usize, Error>
     ensures same_reference { tx.new.conn.ghost_name ≡ tx.old.conn.ghost_name }
-    ensures made { HasCleanDisk (state S.Store tx.new.conn.now) → (was : Database) (content : Content)
-        → IsUnderWay was content (state S.Store tx.old.conn.now) → IsInOrder content
-        → OnOk result (IsUnderWay was (with_change content (change.SetDay day)) (state S.Store tx.new.conn.now)) }
+    ensures made { (content : Content) → IsInOrder content
+        → OnOk result (Leads (state S.Store tx.old.conn.now) (state S.Store tx.new.conn.now) content
+        (with_change content (change.SetDay day))) }
     ensures formed { OnOk result (FitsDate day.date) }
     ensures kept { HasCleanDisk (state S.Store tx.new.conn.now)
         → KeepsCommit (state S.Store tx.old.conn.now) (state S.Store tx.new.conn.now) }

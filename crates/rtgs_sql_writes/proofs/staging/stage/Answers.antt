@@ -1,8 +1,9 @@
 use Rattle.std.proofs.Common.{◌∙◌, arith, subst, take, take_all}
 use Rattle.std.specs.List.{AllByRecursion}
-use Rattle.sqlite.specs.Effect.{Database}
 use Rattle.rtgs_rows.specs.Fitting.{FitsRow}
-use Rattle.rtgs_rows.specs.Content.{Content, IsUnderWay, AreInOrder, with_changes}
+use Rattle.rtgs_rows.specs.Content.{Content, AreInOrder}
+use Rattle.rtgs_sql_writes.specs.Staging.{Leads}
+use Rattle.rtgs_sql_writes.proofs.Leading.{leads_on}
 use Rattle.rtgs_sql_writes.proofs.Changing.{more_changes, formed_more, order_at, order_after}
 use Rattle.sqlite.specs.State.{HasCleanDisk}
 use Rattle.sqlite.specs.Held.{state}
@@ -23,16 +24,14 @@ loop-row-preserved g c =
           (step.kept clean);
       formed = formed_more c.args.rows.now c.loop-row.row-index c.row-item.result (omega arith) c.row-item.is inv.formed
           step.formed;
-      made = λ (clean : HasCleanDisk now) (was : Database) (content : Content) (stands : IsUnderWay was content old)
-          (order : AreInOrder content c.args.rows.now).
-          let before = inv.made (omega (arith, step.survives.clean)) was content stands order in
+      made = λ (content : Content) (order : AreInOrder content c.args.rows.now).
           let at = order_at c.args.rows.now c.loop-row.row-index c.row-item.result content (omega arith) c.row-item.is
           order in
           let after = order_after c.args.rows.now c.loop-row.row-index c.row-item.result content (omega arith)
           c.row-item.is order in
-          subst (λ t. IsUnderWay was t now) (more_changes c.args.rows.now c.loop-row.row-index c.row-item.result content
+          subst (Leads old now content) (more_changes c.args.rows.now c.loop-row.row-index c.row-item.result content
           (omega arith) c.row-item.is)
-          (step.made clean was (with_changes content (take c.loop-row.row-index c.args.rows.now)) before at after);
+          (leads_on old mid now content _ _ step.survives (inv.made content order) (step.made _ at after));
     }
 
 pub returns-in_err-stage_row-clause-same_reference : goal.returns-in_err-stage_row-clause-same_reference
@@ -52,9 +51,8 @@ returns-in_err-stage_row-clause-survives g c =
     (state g.S.Store c.stage_row.new.tx.conn.now) c.loop-row.invariant.survives c.in_err-stage_row.ensures.survives
 
 pub returns-clause-made : goal.returns-clause-made
-returns-clause-made g c clean was content stands order =
-    rw (take_all c.loop-row.row-index c.args.rows.now (omega arith)) at
-    (c.loop-row.invariant.made clean was content stands order)
+returns-clause-made g c content order =
+    rw (take_all c.loop-row.row-index c.args.rows.now (omega arith)) at (c.loop-row.invariant.made content order)
 
 pub returns-clause-formed : goal.returns-clause-formed
 returns-clause-formed g c = subst (AllByRecursion FitsRow) (take_all c.loop-row.row-index c.args.rows.now (omega arith))

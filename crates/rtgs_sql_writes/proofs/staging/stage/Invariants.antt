@@ -1,10 +1,10 @@
 use Rattle.std.proofs.Common.{◌≡◌, take}
 use Rattle.std.specs.List.{AllByRecursion}
-use Rattle.sqlite.specs.Effect.{Database}
 use Rattle.sqlite.specs.State.{HasCleanDisk, KeepsCommit, Survives}
 use Rattle.sqlite.specs.Held.{state}
 use Rattle.rtgs_rows.specs.Fitting.{FitsRow}
-use Rattle.rtgs_rows.specs.Content.{Content, IsUnderWay, AreInOrder, with_changes}
+use Rattle.rtgs_rows.specs.Content.{Content, AreInOrder, with_changes}
+use Rattle.rtgs_sql_writes.specs.Staging.{Leads}
 use Rattle.rtgs_sql_writes.proofs.staging.stage.Given as goal
 
 abbrev pub invariant-loop-row : goal.invariant-loop-row
@@ -16,6 +16,6 @@ invariant-loop-row g l =
       survives : Survives old now (λ _. ⊥);
       kept : HasCleanDisk now → KeepsCommit old now;
       formed : AllByRecursion FitsRow (take l.row-index l.rows);
-      made : HasCleanDisk now → (was : Database) (content : Content) → IsUnderWay was content old
-          → AreInOrder content l.rows → IsUnderWay was (with_changes content (take l.row-index l.rows)) now;
+      made : (content : Content) → AreInOrder content l.rows
+          → Leads old now content (with_changes content (take l.row-index l.rows));
     }

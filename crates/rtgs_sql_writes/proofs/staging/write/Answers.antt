@@ -14,8 +14,8 @@ returns-in-Ok-commit-clause-done g c clean content rests order =
     let same : end ≡ c.conn-2-1.given.0 = search rules in
     let late : HasCleanDisk (state g.S.Store end) = search rules in
     let begun = stands_begun g.S.Store old content rests in
-    let staged = c.in-Ok.ensures.made (omega (arith, c.commit.ensures.survives.clean)) (state g.S.Store old).committed
-    content (rw c.transaction-tx.ensures.begun begun) order in
+    let staged = c.in-Ok.ensures.made content order (omega (arith, c.commit.ensures.survives.clean))
+    (state g.S.Store old).committed (rw c.transaction-tx.ensures.begun begun) in
     subst (λ h. Rests (with_changes content c.args.rows.now) (state g.S.Store h)) same
     (rests_committed _ (state g.S.Store mid) (state g.S.Store end) _ staged (c.in-Ok-commit.ensures.ok late).1)
 
@@ -30,8 +30,8 @@ returns-in-Ok-commit-clause-crash g c =
       formed = c.in-Ok.ensures.formed;
       holds = λ content rests order.
           let begun = stands_begun g.S.Store old content rests in
-          (c.in-Ok.ensures.made (omega (arith, c.commit.ensures.survives.clean)) (state g.S.Store old).committed content
-          (rw c.transaction-tx.ensures.begun begun) order).holds;
+          (c.in-Ok.ensures.made content order (omega (arith, c.commit.ensures.survives.clean))
+          (state g.S.Store old).committed (rw c.transaction-tx.ensures.begun begun)).holds;
     } in
     subst (λ h. Survives (state g.S.Store old) (state g.S.Store h) P) same
     (survives_commit g.S.Store old (state g.S.Store mid) (state g.S.Store end) P made
@@ -48,8 +48,8 @@ returns-in-Err-commit-clause-crash g c =
       formed = c.in-Ok.ensures.formed;
       holds = λ content rests order.
           let begun = stands_begun g.S.Store old content rests in
-          (c.in-Ok.ensures.made (omega (arith, c.commit.ensures.survives.clean)) (state g.S.Store old).committed content
-          (rw c.transaction-tx.ensures.begun begun) order).holds;
+          (c.in-Ok.ensures.made content order (omega (arith, c.commit.ensures.survives.clean))
+          (state g.S.Store old).committed (rw c.transaction-tx.ensures.begun begun)).holds;
     } in
     subst (λ h. Survives (state g.S.Store old) (state g.S.Store h) P) same
     (survives_commit g.S.Store old (state g.S.Store mid) (state g.S.Store end) P made

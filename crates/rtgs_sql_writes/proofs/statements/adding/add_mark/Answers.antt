@@ -5,6 +5,7 @@ use Rattle.sqlite.specs.Held.{state}
 use Rattle.rtgs_sql_writes.proofs.MarkLemmas.{adds_mark}
 use Rattle.rtgs_sql_writes.proofs.Casts.{date_bound}
 use Rattle.rtgs_sql_writes.proofs.Keeps.{kept}
+use Rattle.rtgs_sql_writes.proofs.Leading.{leads}
 use Rattle.rtgs_sql_writes.proofs.statements.adding.add_mark.Goals as goal
 
 pub returns-clause-kept : goal.returns-clause-kept
@@ -13,13 +14,15 @@ returns-clause-kept g c clean =
     (c.execute.ensures.runs clean)
 
 pub returns-clause-made : goal.returns-clause-made
-returns-clause-made g c clean was content stands order =
+returns-clause-made g c content order =
     let number = ap bound_value c.number_value.ensures in
     let date = ap bound_value (c.text_or_null.ensures ∙ ap (or_null Text) c.text_of-date.ensures.text
     ∙ date_bound (Some c.args.mark.now.date)) in
     let count = ap bound_value c.number_value-2.ensures in
     let value = ap bound_value c.cents_value.ensures in
-    adds_mark was content (state g.S.Store c.args.tx.now.conn.now) (state g.S.Store c.execute.new.self.conn.now)
-    c.args.mark.now c.execute.result _
-    (λ i. number i ∷ date i ∷ count i ∷ value i ∷ []) stands order
-    (c.execute.ensures.runs clean (rw stands.inside))
+    let old = state g.S.Store c.args.tx.now.conn.now in
+    let new = state g.S.Store c.execute.new.self.conn.now in
+    leads _ _ old new content _ c.execute.result
+    (λ was stands runs. adds_mark was content old new c.args.mark.now c.execute.result _
+    (λ i. number i ∷ date i ∷ count i ∷ value i ∷ []) stands order runs)
+    c.execute.ensures.runs

@@ -4,6 +4,7 @@ use Rattle.sqlite.specs.Values.{bound_value}
 use Rattle.sqlite.specs.Held.{state}
 use Rattle.rtgs_sql_writes.proofs.HoldingLemmas.{adds_participant}
 use Rattle.rtgs_sql_writes.proofs.Keeps.{kept}
+use Rattle.rtgs_sql_writes.proofs.Leading.{leads}
 use Rattle.rtgs_sql_writes.proofs.statements.adding.add_participant.Goals as goal
 
 pub returns-clause-kept : goal.returns-clause-kept
@@ -12,12 +13,15 @@ returns-clause-kept g c clean =
     (c.execute.ensures.runs clean)
 
 pub returns-clause-made : goal.returns-clause-made
-returns-clause-made g c clean was content stands order =
+returns-clause-made g c content order =
     let code = ap bound_value (c.text.ensures ∙ ap Text c.as_bytes.ensures.value) in
     let name = ap bound_value (c.text-2.ensures ∙ ap Text c.as_bytes-2.ensures.value) in
     let key = ap bound_value (c.blob.ensures ∙ ap Blob c.as_bytes-3.ensures.value) in
     let credit = ap bound_value c.credit_value.ensures.value in
-    adds_participant c.next_row_is_above.ensures was content (state g.S.Store c.args.tx.now.conn.now)
-    (state g.S.Store c.execute.new.self.conn.now) c.args.participant.now c.execute.result _
-    (λ i. code i ∷ name i ∷ key i ∷ credit i ∷ []) stands order
-    (c.execute.ensures.runs clean (rw stands.inside))
+    let old = state g.S.Store c.args.tx.now.conn.now in
+    let new = state g.S.Store c.execute.new.self.conn.now in
+    leads _ _ old new content _ c.execute.result
+    (λ was stands runs. adds_participant c.next_row_is_above.ensures was content old new c.args.participant.now
+    c.execute.result _
+    (λ i. code i ∷ name i ∷ key i ∷ credit i ∷ []) stands order runs)
+    c.execute.ensures.runs

@@ -5,6 +5,7 @@ use Rattle.sqlite.specs.Held.{state}
 use Rattle.rtgs_sql_writes.proofs.PostingLemmas.{adds_posting}
 use Rattle.rtgs_sql_writes.proofs.Casts.{date_bound}
 use Rattle.rtgs_sql_writes.proofs.Keeps.{kept}
+use Rattle.rtgs_sql_writes.proofs.Leading.{leads}
 use Rattle.rtgs_sql_writes.proofs.statements.adding.add_posting.Goals as goal
 
 pub returns-clause-kept : goal.returns-clause-kept
@@ -13,13 +14,15 @@ returns-clause-kept g c clean =
     (c.execute.ensures.runs clean)
 
 pub returns-clause-made : goal.returns-clause-made
-returns-clause-made g c clean was content stands order =
+returns-clause-made g c content order =
     let number = ap bound_value c.number_value.ensures in
     let code = ap bound_value (c.text.ensures ∙ ap Text c.as_bytes.ensures.value) in
     let reference = ap bound_value (c.text-2.ensures ∙ ap Text c.as_bytes-2.ensures.value) in
     let cents = ap bound_value c.posting_value.ensures.value in
     let date = ap bound_value (c.text_or_null.ensures ∙ ap (or_null Text) c.text_of-date.ensures.text ∙ date_bound _) in
-    adds_posting was content (state g.S.Store c.args.tx.now.conn.now) (state g.S.Store c.execute.new.self.conn.now)
-    c.args.posting.now c.execute.result _
-    (λ i. number i ∷ code i ∷ reference i ∷ cents i ∷ date i ∷ []) stands order
-    (c.execute.ensures.runs clean (rw stands.inside))
+    let old = state g.S.Store c.args.tx.now.conn.now in
+    let new = state g.S.Store c.execute.new.self.conn.now in
+    leads _ _ old new content _ c.execute.result
+    (λ was stands runs. adds_posting was content old new c.args.posting.now c.execute.result _
+    (λ i. number i ∷ code i ∷ reference i ∷ cents i ∷ date i ∷ []) stands order runs)
+    c.execute.ensures.runs

@@ -5,6 +5,7 @@ use Rattle.sqlite.specs.Held.{state}
 use Rattle.rtgs_sql_writes.proofs.DayLemmas.{sets_day}
 use Rattle.rtgs_sql_writes.proofs.Casts.{date_bound}
 use Rattle.rtgs_sql_writes.proofs.Keeps.{kept}
+use Rattle.rtgs_sql_writes.proofs.Leading.{leads}
 use Rattle.rtgs_sql_writes.proofs.statements.setting.set_day.Goals as goal
 
 pub returns-clause-kept : goal.returns-clause-kept
@@ -13,11 +14,13 @@ returns-clause-kept g c clean =
     (c.execute.ensures.runs clean)
 
 pub returns-clause-made : goal.returns-clause-made
-returns-clause-made g c clean was content stands order =
+returns-clause-made g c content order =
     let date = ap bound_value (c.text_or_null.ensures ∙ ap (or_null Text) c.text_of-date.ensures.text ∙ date_bound _) in
     let phase = ap bound_value c.phase_value.ensures in
-    sets_day c.one_table_answers.ensures was content (state g.S.Store c.args.tx.now.conn.now) (state g.S.Store
-    c.execute.new.self.conn.now)
-    c.args.day c.execute.result _
-    (λ i. date i ∷ phase i ∷ []) stands
-    (c.execute.ensures.runs clean (rw stands.inside))
+    let old = state g.S.Store c.args.tx.now.conn.now in
+    let new = state g.S.Store c.execute.new.self.conn.now in
+    leads _ _ old new content _ c.execute.result
+    (λ was stands runs. sets_day c.one_table_answers.ensures was content old new c.args.day
+    c.execute.result _
+    (λ i. date i ∷ phase i ∷ []) stands runs)
+    c.execute.ensures.runs
