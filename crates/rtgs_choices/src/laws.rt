@@ -113,8 +113,8 @@ pub fn changes_one_by_one()
     ensures book { (row : ℕ → RowChange) (passes : ℕ → Order → Bool) (change : Order → Order) (book : Book)
         (numbers : List ℕ) → ChangesOrders row passes change
         → changed book (map row numbers) ≡ with_altered book (passes_one passes numbers) change }
-    ensures balances { (row : ℕ → RowChange) (passes : ℕ → Order → Bool) (change : Order → Order) (code numbers : List ℕ)
-        (rows : List RowChange) → ChangesOrders row passes change
+    ensures balances { (row : ℕ → RowChange) (passes : ℕ → Order → Bool) (change : Order → Order) (code : List ℕ)
+        (numbers : List ℕ) (rows : List RowChange) → ChangesOrders row passes change
         → balance_set code (map row numbers ++ rows) ≡ balance_set code rows }
     ensures added { (row : ℕ → RowChange) (passes : ℕ → Order → Bool) (change : Order → Order) (new : Book)
         (numbers : List ℕ) (all rows : List RowChange) → ChangesOrders row passes change

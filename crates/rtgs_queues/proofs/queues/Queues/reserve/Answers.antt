@@ -34,7 +34,8 @@ returns-clause-room c = search (rules, c.in_ok-self.ensures.update.0 c.reserve.n
 
 room_in : (o : Option (Vec ℕ Global)) (queue : Vec ℕ Global)
     → UnwrapsOrElse o (λ queue. (queue.items ≡ []) × (vec_len queue ≡ 0)) queue
-    → option_map_or (λ (queue : Vec ℕ Global). vec_capacity queue - vec_len queue) o 0 ≤ vec_capacity queue - vec_len queue
+    → option_map_or (λ (queue : Vec ℕ Global). vec_capacity queue - vec_len queue) o 0
+    ≤ vec_capacity queue - vec_len queue
 room_in None queue h = omega arith
 room_in (Some found) queue h = rw h (omega arith)
 
