@@ -1,4 +1,4 @@
-use Rattle.std.proofs.Common.{◌∙◌, arith, subst, take, take_all}
+use Rattle.std.proofs.Common.{◌∙◌, arith, subst, take_all}
 use Rattle.std.specs.List.{AllByRecursion}
 use Rattle.rtgs_rows.specs.Fitting.{FitsRow}
 use Rattle.rtgs_rows.specs.Content.{Content, AreInOrder}
