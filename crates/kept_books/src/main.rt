@@ -1,4 +1,4 @@
-//! Asks the desk of the books in `data/`, which programs of earlier releases made. Each line of the input has the words
+//! Asks the desk of the books in `data/`, whose tables are of version 1. Each line of the input has the words
 //! of one run; it is printed, and then what the desk prints of it.
 #![tactic(auto)]
 

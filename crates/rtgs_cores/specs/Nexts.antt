@@ -36,7 +36,7 @@ mark_after book date number = find (is_mark_after date number) book.marks
 abbrev pub date_of_posting : Posting → ℕ
 date_of_posting p = unwrap_or p.date 0
 
--- The numbers rise, and none is above the greatest. Whoever reads the orders of a date rests on this alone.
+-- The numbers rise, and none is above the greatest.
 abbrev pub AreNumberedInOrder : {A : Type 0} → (A → ℕ) → List A → Type 0
 AreNumberedInOrder number [] = ⊤
 AreNumberedInOrder number (x ∷ xs) = (number x ≤ LARGEST_NUMBER) × AllByRecursion (λ y. number x < number y) xs

@@ -110,7 +110,7 @@ fn halve<T: Listed + Drop, S: Alter>(
     }
 }
 
-/// The number at which the records' dates turn, where up to this one they are earlier: past it none is. It takes
+/// The number up to which the records are of earlier dates and past which none is, where up to `low` they are. It takes
 /// `MOST_HALVINGS` looks at most.
 fn seek<T: Listed + Drop, S: Alter>(
     conn: &mut Connection<S>,
