@@ -10,8 +10,9 @@ use Rattle.rtgs_rows.specs.Fitting.{FitsRow}
 
 -- One part of a change, between these two states of a transaction: tables with the one records become tables with the
 -- other. A part may be one statement, or the parts that come one after another, each from where the one before it ends.
-abbrev pub Leads : State → State → Content → Content → Type 0
-Leads old new before after = HasCleanDisk new → (was : Database) → IsUnderWay was before old → IsUnderWay was after new
+abbrev pub ChangesTables : State → State → Content → Content → Type 0
+ChangesTables old new before after =
+    HasCleanDisk new → (was : Database) → IsUnderWay was before old → IsUnderWay was after new
 
 -- Each value of the rows is in its form and range, and whatever records the tables held before, they hold these after
 -- the rows.

@@ -7,7 +7,7 @@ ghost use Rattle.sqlite.specs.Held.{state};
 ghost use Rattle.std.specs.List.{AllByRecursion};
 ghost use Rattle.rtgs_rows.specs.Fitting.{FitsRow};
 ghost use Rattle.rtgs_sql_writes.specs.Stops.{IsBefore};
-ghost use Rattle.rtgs_sql_writes.specs.Staging.{Leads, HoldsChange};
+ghost use Rattle.rtgs_sql_writes.specs.Staging.{ChangesTables, HoldsChange};
 
 use crate::statements::{
     add_mark, add_order, add_participant, add_posting, set_balance, set_credit, set_day, set_state,
@@ -24,11 +24,11 @@ pub enum Stopped {
     AtCommit(Error),
 }
 
-/// Makes the change of one row inside the transaction, by one part of it after another.
+/// Makes the change of one row inside the transaction.
 fn stage_row<S: Alter>(tx: &mut Transaction<'_, S>, row: &RowChange) -> Result<(), Error>
     ensures same_reference { tx.new.conn.ghost_name ≡ tx.old.conn.ghost_name }
     ensures made { (content : Content) → IsInOrder content → IsInOrder (with_change content row.now)
-        → OnOk result (Leads (state S.Store tx.old.conn.now) (state S.Store tx.new.conn.now) content
+        → OnOk result (ChangesTables (state S.Store tx.old.conn.now) (state S.Store tx.new.conn.now) content
         (with_change content row.now)) }
     ensures formed { OnOk result (FitsRow row.now) }
     ensures kept { HasCleanDisk (state S.Store tx.new.conn.now)
@@ -52,7 +52,7 @@ fn stage_row<S: Alter>(tx: &mut Transaction<'_, S>, row: &RowChange) -> Result<(
 fn stage<S: Alter>(tx: &mut Transaction<'_, S>, rows: &[RowChange]) -> Result<(), Error>
     ensures same_reference { tx.new.conn.ghost_name ≡ tx.old.conn.ghost_name }
     ensures made { (content : Content) → AreInOrder content rows.now
-        → OnOk result (Leads (state S.Store tx.old.conn.now) (state S.Store tx.new.conn.now) content
+        → OnOk result (ChangesTables (state S.Store tx.old.conn.now) (state S.Store tx.new.conn.now) content
         (with_changes content rows.now)) }
     ensures formed { OnOk result (AllByRecursion FitsRow rows.now) }
     ensures kept { HasCleanDisk (state S.Store tx.new.conn.now)

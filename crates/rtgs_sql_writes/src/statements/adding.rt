@@ -3,7 +3,7 @@ ghost use Rattle.std.specs.Prelude.{◌≡◌, OnOk};
 ghost use Rattle.rtgs_book.specs.declared.RowChange.TheVariants as change;
 ghost use Rattle.rtgs_rows.specs.Content.{Content, IsInOrder, with_change};
 ghost use Rattle.rtgs_rows.specs.Fitting.{FitsParticipant, FitsPosting, FitsOrder, FitsMark};
-ghost use Rattle.rtgs_sql_writes.specs.Staging.{Leads};
+ghost use Rattle.rtgs_sql_writes.specs.Staging.{ChangesTables};
 ghost use Rattle.sqlite.specs.State.{HasCleanDisk, KeepsCommit, Survives};
 ghost use Rattle.sqlite.specs.Held.{state};
 
@@ -22,7 +22,7 @@ pub(crate) fn add_participant<S: Alter>(
 ) -> Result<usize, Error>
     ensures same_reference { tx.new.conn.ghost_name ≡ tx.old.conn.ghost_name }
     ensures made { (content : Content) → IsInOrder content
-        → OnOk result (Leads (state S.Store tx.old.conn.now) (state S.Store tx.new.conn.now) content
+        → OnOk result (ChangesTables (state S.Store tx.old.conn.now) (state S.Store tx.new.conn.now) content
         (with_change content (change.AddParticipant participant.now))) }
     ensures formed { OnOk result (FitsParticipant participant.now) }
     ensures kept { HasCleanDisk (state S.Store tx.new.conn.now)
@@ -48,7 +48,7 @@ pub(crate) fn add_posting<S: Alter>(
 ) -> Result<usize, Error>
     ensures same_reference { tx.new.conn.ghost_name ≡ tx.old.conn.ghost_name }
     ensures made { (content : Content) → IsInOrder (with_change content (change.AddPosting posting.now))
-        → OnOk result (Leads (state S.Store tx.old.conn.now) (state S.Store tx.new.conn.now) content
+        → OnOk result (ChangesTables (state S.Store tx.old.conn.now) (state S.Store tx.new.conn.now) content
         (with_change content (change.AddPosting posting.now))) }
     ensures formed { OnOk result (FitsPosting posting.now) }
     ensures kept { HasCleanDisk (state S.Store tx.new.conn.now)
@@ -76,7 +76,7 @@ pub(crate) fn add_order<S: Alter>(
 ) -> Result<usize, Error>
     ensures same_reference { tx.new.conn.ghost_name ≡ tx.old.conn.ghost_name }
     ensures made { (content : Content) → IsInOrder (with_change content (change.AddOrder order.now))
-        → OnOk result (Leads (state S.Store tx.old.conn.now) (state S.Store tx.new.conn.now) content
+        → OnOk result (ChangesTables (state S.Store tx.old.conn.now) (state S.Store tx.new.conn.now) content
         (with_change content (change.AddOrder order.now))) }
     ensures formed { OnOk result (FitsOrder order.now) }
     ensures kept { HasCleanDisk (state S.Store tx.new.conn.now)
@@ -106,7 +106,7 @@ pub(crate) fn add_order<S: Alter>(
 pub(crate) fn add_mark<S: Alter>(tx: &mut Transaction<'_, S>, mark: &Mark) -> Result<usize, Error>
     ensures same_reference { tx.new.conn.ghost_name ≡ tx.old.conn.ghost_name }
     ensures made { (content : Content) → IsInOrder (with_change content (change.AddMark mark.now))
-        → OnOk result (Leads (state S.Store tx.old.conn.now) (state S.Store tx.new.conn.now) content
+        → OnOk result (ChangesTables (state S.Store tx.old.conn.now) (state S.Store tx.new.conn.now) content
         (with_change content (change.AddMark mark.now))) }
     ensures formed { OnOk result (FitsMark mark.now) }
     ensures kept { HasCleanDisk (state S.Store tx.new.conn.now)

@@ -4,7 +4,7 @@ ghost use Rattle.rtgs_book.specs.declared.RowChange.TheVariants as change;
 ghost use Rattle.rtgs_rows.specs.Content.{Content, IsInOrder, with_change};
 ghost use Rattle.rtgs_money.specs.Amounts.{IsCredit};
 ghost use Rattle.rtgs_rows.specs.Fitting.{FitsDate};
-ghost use Rattle.rtgs_sql_writes.specs.Staging.{Leads};
+ghost use Rattle.rtgs_sql_writes.specs.Staging.{ChangesTables};
 ghost use Rattle.sqlite.specs.State.{HasCleanDisk, KeepsCommit, Survives};
 ghost use Rattle.sqlite.specs.Held.{state};
 
@@ -25,7 +25,7 @@ pub(crate) fn set_credit<S: Alter>(
 ) -> Result<usize, Error>
     ensures same_reference { tx.new.conn.ghost_name ≡ tx.old.conn.ghost_name }
     ensures made { (content : Content) → IsInOrder content
-        → OnOk result (Leads (state S.Store tx.old.conn.now) (state S.Store tx.new.conn.now) content
+        → OnOk result (ChangesTables (state S.Store tx.old.conn.now) (state S.Store tx.new.conn.now) content
         (with_change content (change.SetCredit code.now credit))) }
     ensures formed { OnOk result (IsCredit credit) }
     ensures kept { HasCleanDisk (state S.Store tx.new.conn.now)
@@ -47,7 +47,7 @@ pub(crate) fn set_balance<S: Alter>(
 ) -> Result<usize, Error>
     ensures same_reference { tx.new.conn.ghost_name ≡ tx.old.conn.ghost_name }
     ensures made { (content : Content) → IsInOrder content
-        → OnOk result (Leads (state S.Store tx.old.conn.now) (state S.Store tx.new.conn.now) content
+        → OnOk result (ChangesTables (state S.Store tx.old.conn.now) (state S.Store tx.new.conn.now) content
         (with_change content (change.SetBalance code.now balance))) }
     ensures kept { HasCleanDisk (state S.Store tx.new.conn.now)
         → KeepsCommit (state S.Store tx.old.conn.now) (state S.Store tx.new.conn.now) }
@@ -68,7 +68,7 @@ pub(crate) fn set_state<S: Alter>(
 ) -> Result<usize, Error>
     ensures same_reference { tx.new.conn.ghost_name ≡ tx.old.conn.ghost_name }
     ensures made { (content : Content) → IsInOrder content
-        → OnOk result (Leads (state S.Store tx.old.conn.now) (state S.Store tx.new.conn.now) content
+        → OnOk result (ChangesTables (state S.Store tx.old.conn.now) (state S.Store tx.new.conn.now) content
         (with_change content (change.SetState number stage))) }
     ensures kept { HasCleanDisk (state S.Store tx.new.conn.now)
         → KeepsCommit (state S.Store tx.old.conn.now) (state S.Store tx.new.conn.now) }
@@ -87,7 +87,7 @@ pub(crate) fn set_state<S: Alter>(
 pub(crate) fn set_day<S: Alter>(tx: &mut Transaction<'_, S>, day: Day) -> Result<usize, Error>
     ensures same_reference { tx.new.conn.ghost_name ≡ tx.old.conn.ghost_name }
     ensures made { (content : Content) → IsInOrder content
-        → OnOk result (Leads (state S.Store tx.old.conn.now) (state S.Store tx.new.conn.now) content
+        → OnOk result (ChangesTables (state S.Store tx.old.conn.now) (state S.Store tx.new.conn.now) content
         (with_change content (change.SetDay day))) }
     ensures formed { OnOk result (FitsDate day.date) }
     ensures kept { HasCleanDisk (state S.Store tx.new.conn.now)

@@ -2,7 +2,7 @@ use Rattle.std.proofs.Common.{◌∙◌, arith, subst, take_all}
 use Rattle.std.specs.List.{AllByRecursion}
 use Rattle.rtgs_rows.specs.Fitting.{FitsRow}
 use Rattle.rtgs_rows.specs.Content.{Content, AreInOrder}
-use Rattle.rtgs_sql_writes.specs.Staging.{Leads}
+use Rattle.rtgs_sql_writes.specs.Staging.{ChangesTables}
 use Rattle.rtgs_sql_writes.proofs.Leading.{leads_on}
 use Rattle.rtgs_sql_writes.proofs.Changing.{more_changes, formed_more, order_at, order_after}
 use Rattle.sqlite.specs.State.{HasCleanDisk}
@@ -29,7 +29,7 @@ loop-row-preserved g c =
           order in
           let after = order_after c.args.rows.now c.loop-row.row-index c.row-item.result content (omega arith)
           c.row-item.is order in
-          subst (Leads old now content) (more_changes c.args.rows.now c.loop-row.row-index c.row-item.result content
+          subst (ChangesTables old now content) (more_changes c.args.rows.now c.loop-row.row-index c.row-item.result content
           (omega arith) c.row-item.is)
           (leads_on old mid now content _ _ step.survives (inv.made content order) (step.made _ at after));
     }

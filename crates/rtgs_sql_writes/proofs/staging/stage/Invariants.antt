@@ -4,7 +4,7 @@ use Rattle.sqlite.specs.State.{HasCleanDisk, KeepsCommit, Survives}
 use Rattle.sqlite.specs.Held.{state}
 use Rattle.rtgs_rows.specs.Fitting.{FitsRow}
 use Rattle.rtgs_rows.specs.Content.{Content, AreInOrder, with_changes}
-use Rattle.rtgs_sql_writes.specs.Staging.{Leads}
+use Rattle.rtgs_sql_writes.specs.Staging.{ChangesTables}
 use Rattle.rtgs_sql_writes.proofs.staging.stage.Given as goal
 
 abbrev pub invariant-loop-row : goal.invariant-loop-row
@@ -17,5 +17,5 @@ invariant-loop-row g l =
       kept : HasCleanDisk now → KeepsCommit old now;
       formed : AllByRecursion FitsRow (take l.row-index l.rows);
       made : (content : Content) → AreInOrder content l.rows
-          → Leads old now content (with_changes content (take l.row-index l.rows));
+          → ChangesTables old now content (with_changes content (take l.row-index l.rows));
     }
