@@ -23,7 +23,7 @@ use Rattle.sqlite_schema.specs.declared.schema.Column.{Column}
 use Rattle.sqlite_schema.specs.declared.schema.Constraint.TheVariants.{Datatype}
 use Rattle.sqlite_keyed.proofs.SortLemmas.{sorted_unique}
 use Rattle.sqlite_keyed.proofs.ListLemmas.{all-map, all_both, ascending-map, ascending_weaker}
-use Rattle.rtgs_rows.specs.Tables.{desk_schema, width, places}
+use Rattle.rtgs_rows.specs.Tables.{width, places}
 use Rattle.rtgs_rows.specs.Content.{Rise}
 use Rattle.rtgs_rows.specs.Querying.{AreNumberedRows, picked, ShowsTable}
 use Rattle.rtgs_rows.proofs.Unique.{sorted_from}
@@ -116,24 +116,24 @@ places_begin table is =
     ∙ ap (λ k. cond (is_key k 0) 0 1 ∷ map (place_of table) (range_with_len 1 (length is.2))) is.0
 
 -- the rows of the table are whole, and each value has its column's type
-abbrev pub AreWholeAndTyped : Trees → Table → Type 0
-AreWholeAndTyped trees table = AreNumberedRows (width table) (trees table.tree)
-    × AllByRecursion (λ r. passes Datatype desk_schema trees table r ≡ true) (trees table.tree)
+abbrev pub AreWholeAndTyped : Schema → Trees → Table → Type 0
+AreWholeAndTyped schema trees table = AreNumberedRows (width table) (trees table.tree)
+    × AllByRecursion (λ r. passes Datatype schema trees table r ≡ true) (trees table.tree)
 
 -- where the table shows records, its rows are theirs
 pub rows_are : {A : Type 0} {table : Table} {row shown : A → Row} {number : A → ℕ} → IsTold table row shown number
-    → (trees : Trees) (all : List A) → AreWholeAndTyped trees table → Rise (λ a. pos (number a)) all
+    → (schema : Schema) (trees : Trees) (all : List A) → AreWholeAndTyped schema trees table → Rise (λ a. pos (number a)) all
     → ShowsTable table trees (map shown all) → trees table.tree ≡ map row all
-rows_are {table = table} {row = row} {shown = shown} {number = number} is trees all are rise same =
+rows_are {table = table} {row = row} {shown = shown} {number = number} is schema trees all are rise same =
     let begin = places_begin table is.numbered in
-    let Typed = λ (r : Row). passes Datatype desk_schema trees table r ≡ true in
+    let Typed = λ (r : Row). passes Datatype schema trees table r ≡ true in
     let Good = λ (r : Row). (length r ≡ width table + 1) × (column r 1 ≡ Null) in
     stored_are row shown number (map (place_of table) (range_with_len 1 (length is.numbered.2))) Good
     (λ r a good e. is.told r a (by_width r _ good.0) good.1 (ap (λ ps. picked ps r) begin ∙ e)) (λ a. (is.stands a).2)
     (trees table.tree) all are.0.0
     (all_both (λ r. IsTrue (is_int (rowid r)) × (length r ≡ width table + 1)) Typed Good (λ r is_whole passed. (
       is_whole.1,
-      null_in_place desk_schema trees table is.numbered.1 is.numbered.2 r is.numbered.0 is.numbered.3
+      null_in_place schema trees table is.numbered.1 is.numbered.2 r is.numbered.0 is.numbered.3
           (is_whole.1 ∙ ap (λ cs. length cs + 1) is.numbered.3) passed,
     )) (trees table.tree) are.0.1 are.1) rise
     (subst (λ ps. IsPermutation (map (picked ps) (trees table.tree)) (map shown all)) begin same)

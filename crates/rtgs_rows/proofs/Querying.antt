@@ -1,5 +1,5 @@
 -- The records that the queries show are those that the tables hold.
-use Rattle.std.proofs.Common.{◌≡◌, true, List, [], ◌∷◌, IsPermutation, refl, sym, ap, subst₂}
+use Rattle.std.proofs.Common.{◌≡◌, true, ℕ, List, [], ◌∷◌, IsPermutation, refl, sym, ap, subst₂}
 use Rattle.std.specs.List.{AllByRecursion}
 use Rattle.std.proofs.lemmas.List.Sorted.{IsPermutation-map, IsPermutation-sym}
 use Rattle.sqlite.specs.Table.{Table}
@@ -12,26 +12,26 @@ use Rattle.sqlite_catalog.specs.Listing.{IsSound}
 use Rattle.rtgs_book.specs.declared.Book.{Book}
 use Rattle.rtgs_book.specs.declared.account.Account.{Account}
 use Rattle.rtgs_book.specs.Balance.{balance}
-use Rattle.rtgs_book.specs.Soundness.{IsSound as IsSoundBook}
-use Rattle.rtgs_rows.specs.Tables.{desk_schema, desk_tables, desk_table, participant_table, posting_table}
-use Rattle.rtgs_rows.specs.Tables.{payment_table, mark_table, width}
+use Rattle.rtgs_rows.specs.Tables.{IsVersion, versions, schema_in, desk_tables, desk_table, participant_table}
+use Rattle.rtgs_rows.specs.Tables.{posting_table, payment_table, mark_table, width}
 use Rattle.rtgs_rows.specs.TableRecords.{TableRecords, records_of_tables}
 use Rattle.rtgs_rows.specs.Rows.{day_row, posting_row, payment_row, mark_row, shown_day, shown_posting, shown_order}
 use Rattle.rtgs_rows.specs.Rows.{shown_mark}
 use Rattle.rtgs_rows.specs.declared.numbers.TheConstants.{VERSION}
-use Rattle.rtgs_rows.specs.Content.{tables_of, tables_for, rows_in, Holding, holding_row, stored_account}
+use Rattle.rtgs_rows.specs.Content.{tables_of, tables_under, rows_in, Holding, holding_row, stored_account}
 use Rattle.rtgs_rows.specs.Content.{Content, Holds, IsInOrder}
-use Rattle.rtgs_rows.specs.Fitting.{HasFormedValues}
-use Rattle.rtgs_rows.specs.Keeping.{SameLists, IsBookOf, AreBalances, content_of}
-use Rattle.rtgs_rows.specs.Querying.{AreNumberedRows, AreWhole, ShowsEach, ShowsBook}
+use Rattle.rtgs_rows.specs.Keeping.{SameLists, IsBookOf, content_of}
+use Rattle.rtgs_rows.specs.Querying.{AreNumberedRows, AreWhole, ShowsEach}
 use Rattle.rtgs_rows.proofs.Ordered.{order_of}
 use Rattle.rtgs_rows.proofs.Numbered.{IsTold, AreWholeAndTyped, rows_are, are_numbered, numbered_rows}
 use Rattle.rtgs_rows.proofs.Participants.{Stores, stored_participants}
+use Rattle.rtgs_rows.specs.RowLaws.{ShownRecordsAreHeld}
+use Rattle.rtgs_lists.proofs.Lists.{all_get}
 
 -- ---- the tables of numbered records
 
-day_told : IsTold desk_table (day_row VERSION) (shown_day VERSION) (λ _. 1)
-day_told = record { numbered = (refl, _, _, refl); stands = λ d. (refl, refl, refl); told = λ r d all null e. cc }
+day_told : (version : ℕ) → IsTold desk_table (day_row version) (shown_day version) (λ _. 1)
+day_told version = record { numbered = (refl, _, _, refl); stands = λ d. (refl, refl, refl); told = λ r d all null e. cc }
 
 posting_told : IsTold posting_table posting_row shown_posting (λ p. p.number)
 posting_told = record { numbered = (refl, _, _, refl); stands = λ p. (refl, refl, refl); told = λ r p all null e. cc }
@@ -66,47 +66,59 @@ book_is_whole content trees book holds of =
     let postings = numbered_rows posting_told content.postings (ap (rows_in posting_table) holds.rows) order.postings in
     let orders = numbered_rows order_told content.orders (ap (rows_in payment_table) holds.rows) order.orders in
     let marks = numbered_rows mark_told content.marks (ap (rows_in mark_table) holds.rows) order.marks in
-    let day = numbered_rows day_told (content.day ∷ []) (ap (rows_in desk_table) holds.rows) (tt, tt) in
+    let day = numbered_rows (day_told VERSION) (content.day ∷ []) (ap (rows_in desk_table) holds.rows) (tt, tt) in
     (day, (people, (postings, (orders, (marks, tt)))))
 
 -- ---- tables that show a book hold it
 
--- the rows of each table are whole and typed
-abbrev AreAllWholeAndTyped : Trees → Type 0
-AreAllWholeAndTyped trees = AllByRecursion (AreWholeAndTyped trees) desk_tables
+-- what is so of each version that stands in the list is so of a known one
+each_version : (P : ℕ → Type 0) → AllByRecursion P versions → (version : ℕ) → IsVersion version → P version
+each_version P each version known = all_get P versions known.0 version known.1 (sym known.2) each
 
-all_whole_and_typed : (trees : Trees) → IsSound desk_schema trees → AreWhole trees → AreAllWholeAndTyped trees
-unfolding desk_schema
-all_whole_and_typed trees sound full = all_both (λ t. AreNumberedRows (width t) (trees t.tree))
-    (λ t. AllByRecursion (λ r. passes Datatype desk_schema trees t r ≡ true) (trees t.tree)) (AreWholeAndTyped trees)
-    (λ t whole typed. (whole, typed)) desk_tables full (sound.obeys.rules Datatype)
+-- the rows of each table are whole and typed
+abbrev AreAllWholeAndTyped : ℕ → Trees → Type 0
+AreAllWholeAndTyped version trees = AllByRecursion (AreWholeAndTyped (schema_in version) trees) desk_tables
+
+newest_whole_and_typed : (trees : Trees) → IsSound (schema_in VERSION) trees → AreWhole trees
+    → AreAllWholeAndTyped VERSION trees
+unfolding schema_in
+newest_whole_and_typed trees sound full = all_both (λ t. AreNumberedRows (width t) (trees t.tree))
+    (λ t. AllByRecursion (λ r. passes Datatype (schema_in VERSION) trees t r ≡ true) (trees t.tree))
+    (AreWholeAndTyped (schema_in VERSION) trees) (λ t whole typed. (whole, typed)) desk_tables full
+    (sound.obeys.rules Datatype)
+
+-- each version that is known has all tables
+all_whole_and_typed : (version : ℕ) → IsVersion version → (trees : Trees) → IsSound (schema_in version) trees
+    → AreWhole trees → AreAllWholeAndTyped version trees
+all_whole_and_typed version known trees = each_version (λ v. IsSound (schema_in v) trees → AreWhole trees
+    → AreAllWholeAndTyped v trees) (newest_whole_and_typed trees, tt) version known
 
 -- the records of a book have its lists
 pub same_lists : (book : Book) (holdings : List Holding) → SameLists book (content_of book holdings)
 same_lists book holdings = record { day = refl; postings = refl; orders = refl; marks = refl }
 
-shown_participants : (trees : Trees) (book : Book) (accounts : List Account) → AreAllWholeAndTyped trees
-    → ShowsEach trees accounts book → Stores (trees participant_table.tree) accounts
-shown_participants trees book accounts (day, (named, others)) (shows_day, (shows_named, more)) =
+shown_participants : (version : ℕ) (trees : Trees) (book : Book) (accounts : List Account)
+    → AreAllWholeAndTyped version trees → ShowsEach version trees accounts book
+    → Stores (trees participant_table.tree) accounts
+shown_participants version trees book accounts (day, (named, others)) (shows_day, (shows_named, more)) =
     stored_participants (trees participant_table.tree) accounts named.0 shows_named
 
-shown_tables_are : (trees : Trees) (book : Book) (accounts : List Account)
-    (people : Stores (trees participant_table.tree) accounts) → AreAllWholeAndTyped trees → ShowsEach trees accounts book → IsInOrder (content_of book people.holdings)
-    → tables_of trees ≡ tables_for (content_of book people.holdings)
-shown_tables_are trees book accounts people (day, (named, (postings, (orders, (marks, others)))))
+shown_tables_are : (version : ℕ) (trees : Trees) (book : Book) (accounts : List Account)
+    (people : Stores (trees participant_table.tree) accounts) → AreAllWholeAndTyped version trees
+    → ShowsEach version trees accounts book → IsInOrder (content_of book people.holdings)
+    → tables_of trees ≡ tables_under version (content_of book people.holdings)
+shown_tables_are version trees book accounts people (day, (named, (postings, (orders, (marks, others)))))
     (shows_day, (shows_named, (shows_postings, (shows_orders, (shows_marks, more))))) order =
-    let desk = rows_are day_told trees (book.day ∷ []) day (tt, tt) shows_day in
-    let posted = rows_are posting_told trees book.postings postings order.postings shows_postings in
-    let ordered = rows_are order_told trees book.orders orders order.orders shows_orders in
-    let marked = rows_are mark_told trees book.marks marks order.marks shows_marks in
+    let desk = rows_are (day_told version) (schema_in version) trees (book.day ∷ []) day (tt, tt) shows_day in
+    let posted = rows_are posting_told (schema_in version) trees book.postings postings order.postings shows_postings in
+    let ordered = rows_are order_told (schema_in version) trees book.orders orders order.orders shows_orders in
+    let marked = rows_are mark_told (schema_in version) trees book.marks marks order.marks shows_marks in
     λ i. desk i ∷ people.rows_are i ∷ posted i ∷ ordered i ∷ marked i ∷ []
 
-pub held : (trees : Trees) (book : Book) (accounts : List Account) → IsSound desk_schema trees → AreWhole trees
-    → IsSoundBook book → HasFormedValues book → ShowsBook trees accounts book → AreBalances book accounts
-    → (content : Content) × Holds content trees × IsBookOf book content
-held trees book accounts sound full is fits shown stored =
-    let all = all_whole_and_typed trees sound full in
-    let people = shown_participants trees book accounts all shown.shows in
+pub held : ShownRecordsAreHeld
+held version known trees book accounts sound full is fits shown stored =
+    let all = all_whole_and_typed version known trees sound full in
+    let people = shown_participants version trees book accounts all shown.shows in
     let content = content_of book people.holdings in
     let of : IsBookOf book content = record {
       records = record {
@@ -120,5 +132,5 @@ held trees book accounts sound full is fits shown stored =
       sound = is;
       fits = fits;
     } in
-    let rows = shown_tables_are trees book accounts people all shown.shows (book_in_order book content of) in
+    let rows = shown_tables_are version trees book accounts people all shown.shows (book_in_order book content of) in
     (content, record { sound = sound; rows = rows }, of)

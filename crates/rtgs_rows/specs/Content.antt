@@ -21,7 +21,7 @@ use Rattle.rtgs_book.specs.declared.RowChange.TheVariants.{AddParticipant, AddPo
 use Rattle.rtgs_book.specs.declared.RowChange.TheVariants.{SetBalance, SetState, SetDay}
 use Rattle.rtgs_book.specs.Settle.{restated}
 use Rattle.rtgs_book.specs.Commands.{has_number}
-use Rattle.rtgs_rows.specs.Tables.{no_schema, desk_schema, desk_tables}
+use Rattle.rtgs_rows.specs.Tables.{no_schema, desk_schema, schema_in, desk_tables, IsVersion}
 use Rattle.rtgs_rows.specs.declared.numbers.TheConstants.{VERSION}
 use Rattle.rtgs_rows.specs.Rows.{day_row, participant_row, posting_row, payment_row, mark_row}
 
@@ -63,19 +63,27 @@ pub record Content : Type 0 where
   pub orders : List Order
   pub marks : List Mark
 
--- those that these records have
-abbrev pub tables_for : Content → Tables
-tables_for c = (day_row VERSION c.day ∷ []) ∷ map holding_row c.holdings ∷ map posting_row c.postings
+-- those that these records have, in tables of this version
+abbrev pub tables_under : ℕ → Content → Tables
+tables_under version c = (day_row version c.day ∷ []) ∷ map holding_row c.holdings ∷ map posting_row c.postings
     ∷ map payment_row c.orders ∷ map mark_row c.marks ∷ []
+
+-- and in tables of the version in which new ones are made
+abbrev pub tables_for : Content → Tables
+tables_for = tables_under VERSION
 
 -- the trees are a database that has no tables
 abbrev pub HasNoTables : Trees → Type 0
 HasNoTables = IsSound no_schema
 
--- the trees are a database of the five tables, with these records
-pub record Holds (content : Content) (trees : Trees) : Type 0 where
-  pub sound : IsSound desk_schema trees
-  pub rows : tables_of trees ≡ tables_for content
+-- the trees are a database of the tables of this version, with these records
+pub record HoldsIn (version : ℕ) (content : Content) (trees : Trees) : Type 0 where
+  pub sound : IsSound (schema_in version) trees
+  pub rows : tables_of trees ≡ tables_under version content
+
+-- so it is of the version in which new tables are made
+abbrev pub Holds : Content → Trees → Type 0
+Holds = HoldsIn VERSION
 
 -- inside a transaction over the last commit, with these records
 pub record IsUnderWay (was : Database) (content : Content) (s : State) : Type 0 where
@@ -85,12 +93,17 @@ pub record IsUnderWay (was : Database) (content : Content) (s : State) : Type 0 
   pub holds : Holds content s.now.trees
   pub committed : s.committed ≡ was
 
--- outside a transaction, with these records committed
-pub record Rests (content : Content) (s : State) : Type 0 where
+-- outside a transaction, with these records committed, in tables of this version, which is known
+pub record RestsIn (version : ℕ) (content : Content) (s : State) : Type 0 where
+  pub known : IsVersion version
   pub is_open : IsTrue s.is_open
-  pub schema : s.committed.schema ≡ desk_schema
-  pub holds : Holds content s.committed.trees
+  pub schema : s.committed.schema ≡ schema_in version
+  pub holds : HoldsIn version content s.committed.trees
   pub clean : s.now ≡ s.committed
+
+-- so it is of the version in which new tables are made
+abbrev pub Rests : Content → State → Type 0
+Rests = RestsIn VERSION
 
 -- ---- changes
 

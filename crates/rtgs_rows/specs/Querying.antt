@@ -11,15 +11,21 @@ use Rattle.sqlite_trees.specs.Tree.{rowid, IsTable}
 use Rattle.sqlite_trees.specs.View.{is_int}
 use Rattle.rtgs_book.specs.declared.Book.{Book}
 use Rattle.rtgs_book.specs.declared.account.Account.{Account}
-use Rattle.rtgs_rows.specs.Tables.{desk_schema, desk_tables, width, places}
+use Rattle.rtgs_rows.specs.declared.numbers.TheConstants.{VERSION}
+use Rattle.rtgs_rows.specs.Tables.{IsVersion, schema_in, desk_tables, width, places}
 use Rattle.rtgs_rows.specs.TableRecords.{Each, records_of_tables}
 
--- outside a transaction, with the tables of a desk, and these trees committed
-pub record IsDeskFile (trees : Trees) (s : State) : Type 0 where
+-- outside a transaction, with the tables of a version that is known, and these trees committed
+pub record IsFileIn (version : ℕ) (trees : Trees) (s : State) : Type 0 where
+  pub known : IsVersion version
   pub is_open : IsTrue s.is_open
-  pub schema : s.committed.schema ≡ desk_schema
+  pub schema : s.committed.schema ≡ schema_in version
   pub trees_are : s.committed.trees ≡ trees
   pub clean : s.now ≡ s.committed
+
+-- so with the tables of the version in which new ones are made
+abbrev pub IsDeskFile : Trees → State → Type 0
+IsDeskFile = IsFileIn VERSION
 
 -- rows of so many values, under row numbers that are whole and rise
 abbrev pub AreNumberedRows : ℕ → List Row → Type 0
@@ -47,12 +53,12 @@ as_shown table trees = map (picked (places table)) (trees table.tree)
 abbrev pub ShowsTable : Table → Trees → List Row → Type 0
 ShowsTable table trees = IsPermutation (as_shown table trees)
 
--- so with the records that a book has of each table
-abbrev pub ShowsEach : Trees → List Account → Book → Type 0
-ShowsEach trees accounts book = Each (λ A records. ShowsTable records.table trees
-    (map records.shown (records.of_book accounts book))) records_of_tables
+-- so with the records that a book has of each table of this version
+abbrev pub ShowsEach : ℕ → Trees → List Account → Book → Type 0
+ShowsEach version trees accounts book = Each (λ A records. ShowsTable records.table trees
+    (map records.shown (records.of_book version accounts book))) records_of_tables
 
 -- what the queries show are the records of the book, and these accounts with their stored balances
-pub record ShowsBook (trees : Trees) (accounts : List Account) (book : Book) : Type 0 where
+pub record ShowsBook (version : ℕ) (trees : Trees) (accounts : List Account) (book : Book) : Type 0 where
   pub named : book.participants ≡ map (λ (a : Account). a.participant) accounts
-  pub shows : ShowsEach trees accounts book
+  pub shows : ShowsEach version trees accounts book

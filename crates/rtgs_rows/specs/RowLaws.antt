@@ -12,15 +12,17 @@ use Rattle.sqlite.specs.Edit.{next_rowid}
 use Rattle.sqlite.specs.Schema.{Schema}
 use Rattle.sqlite.specs.Tree.{Trees}
 use Rattle.sqlite_catalog.specs.Listing.{IsSound}
+use Rattle.rtgs_book.specs.declared.account.Account.{Account}
 use Rattle.rtgs_book.specs.declared.Book.{Book}
 use Rattle.rtgs_book.specs.declared.RowChange.{RowChange}
 use Rattle.rtgs_book.specs.Changes.{IsChange}
-use Rattle.rtgs_rows.specs.Content.{Holding, Content, HasNoTables, Holds, IsInOrder, AreInOrder, holding_row}
+use Rattle.rtgs_book.specs.Soundness.{IsSound as IsSoundBook}
+use Rattle.rtgs_rows.specs.Content.{Holding, Content, HasNoTables, HoldsIn, Holds, IsInOrder, AreInOrder, holding_row}
 use Rattle.rtgs_rows.specs.Content.{tables_for, with_changes, Rise}
-use Rattle.rtgs_rows.specs.Fitting.{FitsRow}
-use Rattle.rtgs_rows.specs.Keeping.{IsBookOf}
-use Rattle.rtgs_rows.specs.Tables.{no_schema, desk_schema, desk_tables, width}
-use Rattle.rtgs_rows.specs.Querying.{AreWhole, AreNumberedRows}
+use Rattle.rtgs_rows.specs.Fitting.{FitsRow, HasFormedValues}
+use Rattle.rtgs_rows.specs.Keeping.{IsBookOf, AreBalances}
+use Rattle.rtgs_rows.specs.Tables.{no_schema, schema_in, desk_tables, width, IsVersion}
+use Rattle.rtgs_rows.specs.Querying.{AreWhole, AreNumberedRows, ShowsBook}
 
 -- no key comes twice in the rows of a book, and each list stands in the order of its row numbers
 abbrev pub RecordsStandInOrder : Type 0
@@ -51,10 +53,18 @@ abbrev pub NoTablesAreReadAsNone : Type 0
 NoTablesAreReadAsNone = (schema : Schema) (trees : Trees) → HasNoTables trees → IsSound schema trees
     → schema ≡ no_schema
 
--- a database of the five tables is read with their schema
+-- a database of the tables of a version is read with their schema
 abbrev pub DesksAreReadAsSuch : Type 0
-DesksAreReadAsSuch = (schema : Schema) (trees : Trees) → IsSound desk_schema trees → IsSound schema trees
-    → schema ≡ desk_schema
+DesksAreReadAsSuch = (version : ℕ) (schema : Schema) (trees : Trees) → IsSound (schema_in version) trees
+    → IsSound schema trees → schema ≡ schema_in version
+
+-- where the queries show the records of a sound book, with its balances stored, tables of a version that is known hold
+-- that book
+abbrev pub ShownRecordsAreHeld : Type 0
+ShownRecordsAreHeld = (version : ℕ) → IsVersion version → (trees : Trees) (book : Book) (accounts : List Account)
+    → IsSound (schema_in version) trees → AreWhole trees → IsSoundBook book → HasFormedValues book
+    → ShowsBook version trees accounts book → AreBalances book accounts
+    → (content : Content) × HoldsIn version content trees × IsBookOf book content
 
 -- a database that has no tables holds no book
 abbrev pub NoTablesHoldNoBook : Type 0

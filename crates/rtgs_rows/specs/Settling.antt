@@ -1,12 +1,14 @@
 -- What a keeper over a connection holds, and what a stop may leave of it: the laws of such a keeper.
 use Rattle.std.specs.Prelude.{◌≡◌, IsTrue, refl}
-use Rattle.std.proofs.Common.{sym, ap, subst, ◌∙◌}
+use Rattle.std.proofs.Common.{sym, ap, subst, ◌∙◌, arith}
 use Rattle.sqlite_trees.specs.declared.store.Store.{Ghosts}
 use Rattle.sqlite.specs.Tree.{Trees}
 use Rattle.sqlite.specs.Held.{Held, state}
 use Rattle.rtgs_book.specs.declared.Book.{Book}
 use Rattle.rtgs_rows.specs.Content.{tables_of, Holds}
 use Rattle.rtgs_rows.specs.Keeping.{HoldsBook, MayLeave, IsWhole}
+use Rattle.rtgs_rows.specs.Tables.{IsVersion}
+use Rattle.rtgs_rows.specs.declared.numbers.TheConstants.{VERSION}
 use Rattle.rtgs_rows.specs.Querying.{HasTables}
 use Rattle.rtgs_rows.specs.RowLaws.{RowsTellTheBook, TablesOfABookAreWhole}
 
@@ -24,11 +26,21 @@ pub stays : {S : Type 0} (g : Ghosts S) (h : Held S) →
     → HoldsBook g h book → MayLeave g h book
 stays g h there book holds = ((state g h).committed.trees, there holds.1.is_open, (holds.0, holds.1.holds, holds.2))
 
+-- the version in which new tables are made is known
+pub newest_is_known : IsVersion VERSION
+newest_is_known = (0, omega arith, refl)
+
 -- what holds a book has the tables of a desk
 pub tabled : {S : Type 0} (g : Ghosts S) (h : Held S) → TablesOfABookAreWhole → (book : Book) → HoldsBook g h book
     → HasTables g h
 tabled g h are book holds = (
-  record { is_open = holds.1.is_open; schema = holds.1.schema; trees_are = refl; clean = holds.1.clean },
+  record {
+    known = newest_is_known;
+    is_open = holds.1.is_open;
+    schema = holds.1.schema;
+    trees_are = refl;
+    clean = holds.1.clean;
+  },
   are (state g h).committed.trees book holds.0 holds.1.holds holds.2,
 )
 

@@ -1,5 +1,5 @@
 -- The records of each table: how a row shows one, and which of them a book has.
-use Rattle.std.specs.Prelude.{◌⊎◌, Bool, true, false, List, [], ◌∷◌, ⊤}
+use Rattle.std.specs.Prelude.{◌⊎◌, Bool, true, false, ℕ, List, [], ◌∷◌, ⊤}
 use Rattle.sqlite.specs.Order.{Row}
 use Rattle.sqlite.specs.Table.{Table}
 use Rattle.rtgs_book.specs.declared.account.Account.{Account}
@@ -10,7 +10,6 @@ use Rattle.rtgs_book.specs.declared.Order.{Order}
 use Rattle.rtgs_book.specs.declared.Mark.{Mark}
 use Rattle.rtgs_rows.specs.Fitting.{FitsDate, FitsParticipant, FitsPosting, FitsOrder, FitsMark}
 use Rattle.rtgs_rows.specs.declared.desk_row.DeskRow.{DeskRow}
-use Rattle.rtgs_rows.specs.declared.numbers.TheConstants.{VERSION}
 use Rattle.rtgs_rows.specs.Rows.{shown_day, shown_account, shown_posting, shown_order, shown_mark}
 use Rattle.rtgs_rows.specs.Tables.{desk_table, participant_table, posting_table, payment_table, mark_table}
 
@@ -23,12 +22,12 @@ pub record TableRecords (A : Type 0) : Type 1 where
   pub fits : A → Type 0
   -- the places in that row of the numbers that are read as 0 where they are below zero
   pub counted : List Bool
-  -- those that a book has, whose accounts are its participants with their stored balances
-  pub of_book : List Account → Book → List A
+  -- those that a book has in tables of a version, whose accounts are its participants with their stored balances
+  pub of_book : ℕ → List Account → Book → List A
 
 -- the day, in tables of this version
-abbrev pub desk_row_of : Day → DeskRow
-desk_row_of day = record { version = VERSION; day = day }
+abbrev pub desk_row_of : ℕ → Day → DeskRow
+desk_row_of version day = record { version = version; day = day }
 
 abbrev pub day_records : TableRecords DeskRow
 day_records = record {
@@ -36,7 +35,7 @@ day_records = record {
   shown = λ desk. shown_day desk.version desk.day;
   fits = λ desk. FitsDate desk.day.date;
   counted = [];
-  of_book = λ accounts book. desk_row_of book.day ∷ [];
+  of_book = λ version accounts book. desk_row_of version book.day ∷ [];
 }
 
 abbrev pub account_records : TableRecords Account
@@ -45,7 +44,7 @@ account_records = record {
   shown = shown_account;
   fits = λ account. FitsParticipant account.participant;
   counted = [];
-  of_book = λ accounts book. accounts;
+  of_book = λ version accounts book. accounts;
 }
 
 abbrev pub posting_records : TableRecords Posting
@@ -54,7 +53,7 @@ posting_records = record {
   shown = shown_posting;
   fits = FitsPosting;
   counted = true ∷ [];
-  of_book = λ accounts book. book.postings;
+  of_book = λ version accounts book. book.postings;
 }
 
 abbrev pub order_records : TableRecords Order
@@ -63,7 +62,7 @@ order_records = record {
   shown = shown_order;
   fits = FitsOrder;
   counted = true ∷ false ∷ false ∷ false ∷ false ∷ false ∷ false ∷ true ∷ [];
-  of_book = λ accounts book. book.orders;
+  of_book = λ version accounts book. book.orders;
 }
 
 abbrev pub mark_records : TableRecords Mark
@@ -72,7 +71,7 @@ mark_records = record {
   shown = shown_mark;
   fits = FitsMark;
   counted = true ∷ false ∷ true ∷ [];
-  of_book = λ accounts book. book.marks;
+  of_book = λ version accounts book. book.marks;
 }
 
 -- those of the tables that have a row for each record of a list

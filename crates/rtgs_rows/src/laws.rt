@@ -13,12 +13,7 @@ ghost use Rattle.rtgs_rows.specs.Keeping.{IsBookOf, IsWhole, AreBalances, AddsUp
 ghost use Rattle.rtgs_rows.specs.RowLaws.{RecordsStandInOrder, ChangesStandInOrder, ChangedRowsAreTheBook};
 ghost use Rattle.rtgs_rows.specs.RowLaws.{NextRowIsAbove};
 ghost use Rattle.rtgs_rows.specs.RowLaws.{RowsTellTheBook, NoTablesAreReadAsNone, DesksAreReadAsSuch};
-ghost use Rattle.rtgs_rows.specs.RowLaws.{NoTablesHoldNoBook, TablesOfABookAreWhole};
-ghost use Rattle.rtgs_rows.specs.Tables.{desk_schema};
-ghost use Rattle.rtgs_rows.specs.Querying.{AreWhole, ShowsBook};
-ghost use Rattle.rtgs_rows.specs.Fitting.{HasFormedValues, FitsRow};
-ghost use Rattle.rtgs_book.specs.declared.account.Account.{Account};
-ghost use Rattle.rtgs_book.specs.Soundness.{IsSound as IsSoundBook};
+ghost use Rattle.rtgs_rows.specs.RowLaws.{NoTablesHoldNoBook, TablesOfABookAreWhole, ShownRecordsAreHeld};
 
 use rtgs_book::laws::{new_book_is_sound, total_is_issued};
 use rtgs_money::laws::dates_have_distinct_texts;
@@ -57,7 +52,7 @@ pub fn no_tables_are_read_as_none()
     ensures { NoTablesAreReadAsNone }
 {}
 
-/// A database of the five tables is read with their schema, whenever it is opened.
+/// A database of the tables of a desk is read with their schema, whenever it is opened.
 pub fn tables_of_a_desk_are_read_as_such()
     ensures { DesksAreReadAsSuch }
 {}
@@ -74,11 +69,10 @@ pub fn first_rows_are_the_new_book()
     new_book_is_sound();
 }
 
-/// Where the queries show the records of a sound book, with its balances stored, the tables hold that book.
+/// Where the queries show the records of a sound book, with its balances stored, the tables hold that book, whichever
+/// version of the tables it is.
 pub fn shown_records_are_held()
-    ensures { (trees : Trees) (book : Book) (accounts : List Account) → IsSound desk_schema trees → AreWhole trees
-        → IsSoundBook book → HasFormedValues book → ShowsBook trees accounts book → AreBalances book accounts
-        → (content : Content) × Holds content trees × IsBookOf book content }
+    ensures { ShownRecordsAreHeld }
 {}
 
 /// Tables that hold a book are whole: each row has a value in each column, and the rows stand in the order of their

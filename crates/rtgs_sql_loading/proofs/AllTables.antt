@@ -1,5 +1,5 @@
 -- What is said of all tables together.
-use Rattle.std.proofs.Common.{◌≡◌, Bool, List, [], ◌∷◌, map, sym, ap, subst, ◌∙◌}
+use Rattle.std.proofs.Common.{◌≡◌, ℕ, Bool, List, [], ◌∷◌, map, sym, ap, subst, ◌∙◌}
 use Rattle.std.specs.List.{AllByRecursion}
 use Rattle.sqlite.specs.Order.{Row}
 use Rattle.sqlite.specs.State.{State}
@@ -10,7 +10,6 @@ use Rattle.rtgs_book.specs.declared.Day.{Day}
 use Rattle.rtgs_book.specs.declared.account.Account.{Account}
 use Rattle.rtgs_rows.specs.Fitting.{FitsParticipant, HasFormedValues}
 use Rattle.rtgs_rows.specs.declared.desk_row.DeskRow.{DeskRow}
-use Rattle.rtgs_rows.specs.declared.numbers.TheConstants.{VERSION}
 use Rattle.rtgs_rows.specs.Rows.{shown_day, shown_account}
 use Rattle.rtgs_rows.specs.TableRecords.{TableRecords, Each, records_of_tables, posting_records, order_records}
 use Rattle.rtgs_rows.specs.TableRecords.{mark_records, desk_row_of}
@@ -36,27 +35,29 @@ each on [] one = tt
 each on (records ∷ more) one = (on records.0 records.1 one.0, each on more one.1)
 
 -- so with what is said of the records of the tables
-pub both : {P Q R : Telling} {accounts : List Account} {book : Book} → AreTheRecords P accounts book
-    → AreTheRecords Q accounts book
+pub both : {version : ℕ} {P Q R : Telling} {accounts : List Account} {book : Book}
+    → AreTheRecords version P accounts book → AreTheRecords version Q accounts book
     → ((table : Table) (counted : List Bool) (told : List Row) → P table counted told → Q table counted told
-    → R table counted told) → AreTheRecords R accounts book
-both {P = P} {Q = Q} {R = R} {accounts = accounts} {book = book} one other on = record {
+    → R table counted told) → AreTheRecords version R accounts book
+both {version = version} {P = P} {Q = Q} {R = R} {accounts = accounts} {book = book} one other on = record {
   fits = one.fits;
   named = one.named;
-  tells = each_both {P = TellsOf P accounts book} {Q = TellsOf Q accounts book} {R = TellsOf R accounts book}
+  tells = each_both {P = TellsOf version P accounts book} {Q = TellsOf version Q accounts book}
+      {R = TellsOf version R accounts book}
       (λ A records. on records.table records.counted _) records_of_tables one.tells other.tells;
 }
 
-weaker : {P Q : Telling} {accounts : List Account} {book : Book} → AreTheRecords P accounts book
+weaker : {version : ℕ} {P Q : Telling} {accounts : List Account} {book : Book} → AreTheRecords version P accounts book
     → ((table : Table) (counted : List Bool) (told : List Row) → P table counted told → Q table counted told)
-    → AreTheRecords Q accounts book
+    → AreTheRecords version Q accounts book
 weaker are on = both are are (λ table counted told tells _. on table counted told tells)
 
 -- where the numbers are above zero, what is read as a record's row is its row
-pub own_records : {P : Telling} {accounts : List Account} {book : Book} → AreTheRecords P accounts book
-    → IsNumberedBook book → AreTheRecords (λ _ counted. AllByRecursion (IsOwn counted)) accounts book
-own_records {accounts = accounts} {book = book} are low =
-    let day = all_own (shown_day VERSION book.day ∷ []) in
+pub own_records : {version : ℕ} {P : Telling} {accounts : List Account} {book : Book}
+    → AreTheRecords version P accounts book → IsNumberedBook book
+    → AreTheRecords version (λ _ counted. AllByRecursion (IsOwn counted)) accounts book
+own_records {version = version} {accounts = accounts} {book = book} are low =
+    let day = all_own (shown_day version book.day ∷ []) in
     let stored = all_own (map shown_account accounts) in
     let postings = owns posting_records IsNumberedPosting posting_own book.postings low.postings in
     let orders = owns order_records IsNumberedOrder order_own book.orders low.orders in
@@ -66,19 +67,20 @@ own_records {accounts = accounts} {book = book} are low =
 -- ---- what is read of each
 
 -- the same list under another name
-pub renamed : {A : Type 0} {records : TableRecords A} {s : State} {all found : List A} → all ≡ found
-    → ReadsRecords records s found → ReadsRecords records s all
-renamed {records = records} {s = s} same = subst (ReadsRecords records s) (sym same)
+pub renamed : {A : Type 0} {version : ℕ} {records : TableRecords A} {s : State} {all found : List A} → all ≡ found
+    → ReadsRecords version records s found → ReadsRecords version records s all
+renamed {version = version} {records = records} {s = s} same = subst (ReadsRecords version records s) (sym same)
 
 -- the records of a book are read of each table
-abbrev pub ReadsEach : State → List Account → Book → Type 0
-ReadsEach s accounts book = Each (λ A records. ReadsRecords records s (records.of_book accounts book)) records_of_tables
+abbrev pub ReadsEach : ℕ → State → List Account → Book → Type 0
+ReadsEach version s accounts book = Each (λ A records. ReadsRecords version records s
+    (records.of_book version accounts book)) records_of_tables
 
 -- they are in their forms
-all_fit : (s : State) (accounts : List Account) (book : Book)
-    → book.participants ≡ map (λ (a : Account). a.participant) accounts → ReadsEach s accounts book
+all_fit : (version : ℕ) (s : State) (accounts : List Account) (book : Book)
+    → book.participants ≡ map (λ (a : Account). a.participant) accounts → ReadsEach version s accounts book
     → HasFormedValues book
-all_fit s accounts book named (day, (stored, (postings, (orders, (marks, others))))) = record {
+all_fit version s accounts book named (day, (stored, (postings, (orders, (marks, others))))) = record {
   participants = subst (AllByRecursion FitsParticipant) (sym named)
       (all_map FitsParticipant (λ (a : Account). a.participant) accounts stored.fit);
   postings = postings.fit;
@@ -87,19 +89,20 @@ all_fit s accounts book named (day, (stored, (postings, (orders, (marks, others)
   day = day.fit.0;
 }
 
-same_day : (a b : Day) → ◌≡◌ {A = List DeskRow} (desk_row_of a ∷ []) (desk_row_of b ∷ []) → a ≡ b
-same_day a b e =
-    let rows : desk_row_of a ≡ desk_row_of b = cc in
+same_day : (version : ℕ) (a b : Day)
+    → ◌≡◌ {A = List DeskRow} (desk_row_of version a ∷ []) (desk_row_of version b ∷ []) → a ≡ b
+same_day version a b e =
+    let rows : desk_row_of version a ≡ desk_row_of version b = cc in
     ap (λ (desk : DeskRow). desk.day) rows
 
 -- and they are those of the tables
-are_the_tables : (s : State) (accounts : List Account) (book : Book)
-    → book.participants ≡ map (λ (a : Account). a.participant) accounts → ReadsEach s accounts book
-    → (others : List Account) (other : Book) → HasRecords others other s → (book ≡ other) × (accounts ≡ others)
-are_the_tables s accounts book named (day, (stored, (postings, (orders, (marks, none))))) others other held =
+are_the_tables : (version : ℕ) (s : State) (accounts : List Account) (book : Book)
+    → book.participants ≡ map (λ (a : Account). a.participant) accounts → ReadsEach version s accounts book
+    → (others : List Account) (other : Book) → HasRecords version others other s → (book ≡ other) × (accounts ≡ others)
+are_the_tables version s accounts book named (day, (stored, (postings, (orders, (marks, none))))) others other held =
     let same = stored.given others other held in
     let participants = named ∙ ap (map (λ (a : Account). a.participant)) same ∙ sym held.2.participants in
-    let today = same_day book.day other.day (day.given others other held) in (
+    let today = same_day version book.day other.day (day.given others other held) in (
       λ i. record {
         participants = participants i;
         postings = postings.given others other held i;
@@ -111,18 +114,19 @@ are_the_tables s accounts book named (day, (stored, (postings, (orders, (marks, 
     )
 
 -- the book of what is read of each
-pub tells : (s : State) (accounts : List Account) (book : Book)
-    → book.participants ≡ map (λ (a : Account). a.participant) accounts → ReadsEach s accounts book
-    → TellsRecords s accounts book
-tells s accounts book named reads =
-    let told : AreTheRecords (IsToldBy s) accounts book = record {
-      fits = all_fit s accounts book named reads;
+pub tells : (version : ℕ) (s : State) (accounts : List Account) (book : Book)
+    → book.participants ≡ map (λ (a : Account). a.participant) accounts → ReadsEach version s accounts book
+    → TellsRecords version s accounts book
+tells version s accounts book named reads =
+    let told : AreTheRecords version (IsToldBy version s) accounts book = record {
+      fits = all_fit version s accounts book named reads;
       named = named;
-      tells = each {P = λ A records. ReadsRecords records s (records.of_book accounts book)}
-          {Q = TellsOf (IsToldBy s) accounts book} (λ A records read. read.told) records_of_tables reads;
+      tells = each {P = λ A records. ReadsRecords version records s (records.of_book version accounts book)}
+          {Q = TellsOf version (IsToldBy version s) accounts book} (λ A records read. read.told)
+          records_of_tables reads;
     } in
     record {
-      records = are_the_tables s accounts book named reads;
+      records = are_the_tables version s accounts book named reads;
       rows = λ trees file. weaker told (λ table counted rows is. is.0 trees file);
       displayed = weaker told (λ table counted rows is. is.1);
     }

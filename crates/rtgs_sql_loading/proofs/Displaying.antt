@@ -28,7 +28,7 @@ use Rattle.rtgs_sql_loading.proofs.AllTables.{both, own_records}
 
 -- an answer of a query, which writes nothing
 pub reads_on : {A : Type 0} (old new : State) (r : Result A Fault) → (HasCleanDisk new → HasCleanDisk old)
-    → (HasCleanDisk new → KeepsTables old new)
+    → (HasCleanDisk new → (version : ℕ) → KeepsTables version old new)
     → (HasCleanDisk new → new.now ≡ old.now) → Survives old new (λ _. ⊥) → OnOk r (ReadsOn old new)
 reads_on old new (Ok it) clean keeps same survives =
     record { clean = clean; keeps = keeps; same = same; survives = survives }
@@ -50,35 +50,40 @@ without_form db text AreFormed rows seen same shows not = inr (seen, subst (Disp
 -- ---- what was read
 
 -- what was read, and judged to be sound with its balances stored, is what the database shows
-pub displayed_book : (db : Database) (accounts : List Account) (book : Book) (answer : Result Book Fault)
-    → AreDisplayed db accounts book → IfOk answer (λ it. it ≡ book) → IfOk answer IsSound
-    → OnOk answer (AreBalances book accounts) → IfOk answer (IsDisplayed db)
-displayed_book db accounts book (Ok it) read is sound agree =
+pub displayed_book : (version : ℕ) (db : Database) (accounts : List Account) (book : Book) (answer : Result Book Fault)
+    → AreDisplayed version db accounts book → IfOk answer (λ it. it ≡ book) → IfOk answer IsSound
+    → OnOk answer (AreBalances book accounts) → IfOk answer (IsDisplayed version db)
+displayed_book version db accounts book (Ok it) read is sound agree =
     let low = above_zero book (subst IsSound is sound) in
-    subst (IsDisplayed db) (sym is) (
+    subst (IsDisplayed version db) (sym is) (
       accounts,
       agree,
       both (own_records read low) read (λ table counted told own shows.
           let plain = read_plainly counted shows.0 (subst (AllByRecursion (IsOwn counted)) (sym shows.2) own) in
           subst (Displays db (query_text table)) (sym plain ∙ shows.2) shows.1),
     )
-displayed_book db accounts book (Err fault) read is sound agree = tt
+displayed_book version db accounts book (Err fault) read is sound agree = tt
 
 -- what was read was judged
-pub told_of_book : (db : Database) (accounts : List Account) (book : Book) (answer : Result Book Fault)
-    → AreDisplayed db accounts book → IfErr answer (ExplainsRead accounts book) → IfErr answer (ExplainsDatabase db)
-told_of_book db accounts book (Ok it) read why = tt
-told_of_book db accounts book (Err OutOfMemory) read why = tt
-told_of_book db accounts book (Err StoreFault) read why = tt
-told_of_book db accounts book (Err NotADeskFile) read why = absurd why
-told_of_book db accounts book (Err (Inconsistent rule)) read why = (accounts, book, read, why)
+pub told_of_book : (version : ℕ) (db : Database) (accounts : List Account) (book : Book) (answer : Result Book Fault)
+    → AreDisplayed version db accounts book → IfErr answer (ExplainsRead accounts book)
+    → IfErr answer (ExplainsDatabase version db)
+told_of_book version db accounts book (Ok it) read why = tt
+told_of_book version db accounts book (Err OutOfMemory) read why = tt
+told_of_book version db accounts book (Err StoreFault) read why = tt
+told_of_book version db accounts book (Err NotADeskFile) read why = absurd why
+told_of_book version db accounts book (Err (Inconsistent rule)) read why = (accounts, book, read, why)
 
 -- nothing was read
-pub told_of_none : {A : Type 0} (db : Database) (read : Result A Fault) (fault : Fault) (answer : Result Book Fault)
-    → (read ≡ Err NotADeskFile → IsIllegible db) → ((rule : Rule) → read ≢ Err (Inconsistent rule))
-    → read ≡ Err fault → IsErrAnd answer (λ told. told ≡ fault) → IfErr answer (ExplainsDatabase db)
-told_of_none db read fault (Ok it) wrong rules was told = tt
-told_of_none db read OutOfMemory (Err it) wrong rules was told = subst (ExplainsDatabase db) (sym told) tt
-told_of_none db read StoreFault (Err it) wrong rules was told = subst (ExplainsDatabase db) (sym told) tt
-told_of_none db read NotADeskFile (Err it) wrong rules was told = subst (ExplainsDatabase db) (sym told) (wrong was)
-told_of_none db read (Inconsistent rule) (Err it) wrong rules was told = absurd (rules rule was)
+pub told_of_none : {A : Type 0} (version : ℕ) (db : Database) (read : Result A Fault) (fault : Fault)
+    (answer : Result Book Fault)
+    → (read ≡ Err NotADeskFile → IsIllegible version db) → ((rule : Rule) → read ≢ Err (Inconsistent rule))
+    → read ≡ Err fault → IsErrAnd answer (λ told. told ≡ fault) → IfErr answer (ExplainsDatabase version db)
+told_of_none version db read fault (Ok it) wrong rules was told = tt
+told_of_none version db read OutOfMemory (Err it) wrong rules was told =
+    subst (ExplainsDatabase version db) (sym told) tt
+told_of_none version db read StoreFault (Err it) wrong rules was told =
+    subst (ExplainsDatabase version db) (sym told) tt
+told_of_none version db read NotADeskFile (Err it) wrong rules was told =
+    subst (ExplainsDatabase version db) (sym told) (wrong was)
+told_of_none version db read (Inconsistent rule) (Err it) wrong rules was told = absurd (rules rule was)

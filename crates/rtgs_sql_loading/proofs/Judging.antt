@@ -60,23 +60,28 @@ unread accounts book read NotADeskFile (Err it) form rules was told = absurd (fo
 unread accounts book read (Inconsistent rule) (Err it) form rules was told = absurd (rules rule was)
 
 -- nothing was read of tables: a row is in no form, or the store failed or memory was refused
-pub unread_of : {A : Type 0} (trees : Trees) (read : Result A Fault) (fault : Fault) (answer : Result Book Fault)
-    → (read ≡ Err NotADeskFile → ¬ AreFormed trees) → ((rule : Rule) → read ≢ Err (Inconsistent rule))
-    → read ≡ Err fault → IsErrAnd answer (λ told. told ≡ fault) → IfErr answer (ExplainsTrees trees)
-unread_of trees read fault (Ok it) wrong rules was told = tt
-unread_of trees read OutOfMemory (Err it) wrong rules was told = subst (ExplainsTrees trees) (sym told) tt
-unread_of trees read StoreFault (Err it) wrong rules was told = subst (ExplainsTrees trees) (sym told) tt
-unread_of trees read NotADeskFile (Err it) wrong rules was told = subst (ExplainsTrees trees) (sym told) (wrong was)
-unread_of trees read (Inconsistent rule) (Err it) wrong rules was told = absurd (rules rule was)
+pub unread_of : {A : Type 0} (version : ℕ) (trees : Trees) (read : Result A Fault) (fault : Fault)
+    (answer : Result Book Fault)
+    → (read ≡ Err NotADeskFile → ¬ AreFormed version trees) → ((rule : Rule) → read ≢ Err (Inconsistent rule))
+    → read ≡ Err fault → IsErrAnd answer (λ told. told ≡ fault) → IfErr answer (ExplainsTrees version trees)
+unread_of version trees read fault (Ok it) wrong rules was told = tt
+unread_of version trees read OutOfMemory (Err it) wrong rules was told =
+    subst (ExplainsTrees version trees) (sym told) tt
+unread_of version trees read StoreFault (Err it) wrong rules was told =
+    subst (ExplainsTrees version trees) (sym told) tt
+unread_of version trees read NotADeskFile (Err it) wrong rules was told =
+    subst (ExplainsTrees version trees) (sym told) (wrong was)
+unread_of version trees read (Inconsistent rule) (Err it) wrong rules was told = absurd (rules rule was)
 
 -- what was read of tables was judged
-pub judged_of : (trees : Trees) (accounts : List Account) (book : Book) (answer : Result Book Fault)
-    → AreReadOf trees accounts book → IfErr answer (ExplainsRead accounts book) → IfErr answer (ExplainsTrees trees)
-judged_of trees accounts book (Ok it) read why = tt
-judged_of trees accounts book (Err OutOfMemory) read why = tt
-judged_of trees accounts book (Err StoreFault) read why = tt
-judged_of trees accounts book (Err NotADeskFile) read why = absurd why
-judged_of trees accounts book (Err (Inconsistent rule)) read why = (accounts, book, read, why)
+pub judged_of : (version : ℕ) (trees : Trees) (accounts : List Account) (book : Book) (answer : Result Book Fault)
+    → AreReadOf version trees accounts book → IfErr answer (ExplainsRead accounts book)
+    → IfErr answer (ExplainsTrees version trees)
+judged_of version trees accounts book (Ok it) read why = tt
+judged_of version trees accounts book (Err OutOfMemory) read why = tt
+judged_of version trees accounts book (Err StoreFault) read why = tt
+judged_of version trees accounts book (Err NotADeskFile) read why = absurd why
+judged_of version trees accounts book (Err (Inconsistent rule)) read why = (accounts, book, read, why)
 
 -- ---- the stored balances against a map of sums
 

@@ -1,14 +1,14 @@
 -- What is left by a query that failed.
-use Rattle.std.proofs.Common.{◌≡◌, ◌≢◌, ◌⊎◌, inl, inr, Err, Result, IsTrue, ap, ◌∙◌, arith}
+use Rattle.std.proofs.Common.{◌≡◌, ◌≢◌, ◌⊎◌, inl, inr, ℕ, Err, Result, IsTrue, ap, ◌∙◌, arith}
 use Rattle.sqlite.specs.Effect.{Database}
 use Rattle.sqlite.proofs.StateLemmas.{survives_then}
 use Rattle.sqlite.specs.State.{State, HasCleanDisk, Survives}
 use Rattle.sqlite.specs.Tree.{Trees}
 use Rattle.rtgs_book.specs.declared.Fault.{Fault}
 use Rattle.rtgs_book.specs.declared.Fault.TheVariants.{OutOfMemory, StoreFault, NotADeskFile, Inconsistent}
-use Rattle.rtgs_rows.specs.Content.{Content, Rests}
-use Rattle.rtgs_rows.specs.Querying.{IsDeskFile}
-use Rattle.rtgs_rows.specs.Tables.{desk_schema}
+use Rattle.rtgs_rows.specs.Content.{Content, RestsIn}
+use Rattle.rtgs_rows.specs.Querying.{IsFileIn}
+use Rattle.rtgs_rows.specs.Tables.{schema_in, IsVersion}
 use Rattle.rtgs_sql_queries.specs.Answering.{KeepsTables}
 
 pub survives_on : (a b c : State) → Survives a b (λ _. ⊥) → Survives b c (λ _. ⊥) → Survives a c (λ _. ⊥)
@@ -27,29 +27,31 @@ not_foreign NotADeskFile (inr m) e = absurd cc
 not_foreign (Inconsistent rule) (inl m) e = absurd cc
 not_foreign (Inconsistent rule) (inr m) e = absurd cc
 
-pub keeps_then : (old mid new : State) → KeepsTables old mid → KeepsTables mid new → KeepsTables old new
+pub keeps_then : {version : ℕ} (old mid new : State) → KeepsTables version old mid → KeepsTables version mid new
+    → KeepsTables version old new
 keeps_then old mid new one two = record {
   file = λ trees file. two.file trees (one.file trees file);
   rests = λ content rests. two.rests content (one.rests content rests);
 }
 
-pub schema_of : (trees : Trees) (s : State) → IsDeskFile trees s → s.now.schema ≡ desk_schema
-schema_of trees s file = ap (λ (d : Database). d.schema) file.clean ∙ file.schema
+pub schema_of : (version : ℕ) (trees : Trees) (s : State) → IsFileIn version trees s → s.now.schema ≡ schema_in version
+schema_of version trees s file = ap (λ (d : Database). d.schema) file.clean ∙ file.schema
 
-pub schema_at : (content : Content) (s : State) → Rests content s → s.now.schema ≡ desk_schema
-schema_at content s rests = ap (λ (d : Database). d.schema) rests.clean ∙ rests.schema
+pub schema_at : (version : ℕ) (content : Content) (s : State) → RestsIn version content s
+    → s.now.schema ≡ schema_in version
+schema_at version content s rests = ap (λ (d : Database). d.schema) rests.clean ∙ rests.schema
 
--- memory was refused, and the connection is seen to be open still: the tables of a desk stay
-pub keeps_after : {A : Type 0} (old mid new : State) (fault : Fault)
-    → (old.now.schema ≡ desk_schema → (fault ≡ OutOfMemory) ⊎ (fault ≡ StoreFault))
-    → (IsTrue mid.is_open → KeepsTables old mid)
-    → (fault ≡ OutOfMemory → IsTrue mid.is_open × KeepsTables mid new)
-    → ◌≢◌ {A = Result A Fault} (Err fault) (Err StoreFault) → KeepsTables old new
-keeps_after {A = A} old mid new fault kinds first second other = record {
-  file = λ trees file. (stay (kinds (schema_of trees old file))).file trees file;
-  rests = λ content rests. (stay (kinds (schema_at content old rests))).rests content rests;
+-- memory was refused, and the connection is seen to be open still: the tables of a version stay
+pub keeps_after : {A : Type 0} (version : ℕ) (old mid new : State) (fault : Fault)
+    → (IsVersion version → old.now.schema ≡ schema_in version → (fault ≡ OutOfMemory) ⊎ (fault ≡ StoreFault))
+    → (IsTrue mid.is_open → KeepsTables version old mid)
+    → (fault ≡ OutOfMemory → IsTrue mid.is_open × ((known : ℕ) → KeepsTables known mid new))
+    → ◌≢◌ {A = Result A Fault} (Err fault) (Err StoreFault) → KeepsTables version old new
+keeps_after {A = A} version old mid new fault kinds first second other = record {
+  file = λ trees file. (stay (kinds file.known (schema_of version trees old file))).file trees file;
+  rests = λ content rests. (stay (kinds rests.known (schema_at version content old rests))).rests content rests;
 }
   where
-    stay : (fault ≡ OutOfMemory) ⊎ (fault ≡ StoreFault) → KeepsTables old new
-    stay (inl memory) = let on = second memory in keeps_then old mid new (first on.0) on.1
+    stay : (fault ≡ OutOfMemory) ⊎ (fault ≡ StoreFault) → KeepsTables version old new
+    stay (inl memory) = let on = second memory in keeps_then old mid new (first on.0) (on.1 version)
     stay (inr failed) = absurd (other (ap Err failed))

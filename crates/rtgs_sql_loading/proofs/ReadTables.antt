@@ -1,5 +1,5 @@
 -- One table is read after another.
-use Rattle.std.proofs.Common.{◌≡◌, ◌≢◌, inl, List, Err, Ok, Result, refl, sym, subst, ◌∙◌, arith}
+use Rattle.std.proofs.Common.{◌≡◌, ◌≢◌, inl, ℕ, List, Err, Ok, Result, refl, sym, subst, ◌∙◌, arith}
 use Rattle.std.specs.Result.{IsErrAnd}
 use Rattle.sqlite.specs.Effect.{Database}
 use Rattle.sqlite.specs.State.{State}
@@ -17,7 +17,7 @@ use Rattle.rtgs_sql_loading.proofs.Judging.{same_fault, answered}
 pub at_once : (s : State) → ReadsOn s s
 at_once s = record {
   clean = λ clean. clean;
-  keeps = λ clean. record { file = λ trees file. file; rests = λ content rests. rests };
+  keeps = λ clean version. record { file = λ trees file. file; rests = λ content rests. rests };
   same = λ clean. refl;
   survives = record {
     clean = omega arith;
@@ -32,43 +32,44 @@ at_once s = record {
 pub followed : {a b c : State} → ReadsOn a b → ReadsOn b c → ReadsOn a c
 followed one two = record {
   clean = λ clean. one.clean (two.clean clean);
-  keeps = λ clean. keeps_then _ _ _ (one.keeps (two.clean clean)) (two.keeps clean);
+  keeps = λ clean version. keeps_then _ _ _ (one.keeps (two.clean clean) version) (two.keeps clean version);
   same = λ clean. two.same clean ∙ one.same (two.clean clean);
   survives = survives_on _ _ _ one.survives two.survives;
 }
 
 -- the tables keep their records
-kept_on : (accounts : List Account) (book : Book) (old new : State) → KeepsTables old new → HasRecords accounts book old
-    → HasRecords accounts book new
+kept_on : {version : ℕ} (accounts : List Account) (book : Book) (old new : State) → KeepsTables version old new
+    → HasRecords version accounts book old → HasRecords version accounts book new
 kept_on accounts book old new keeps held = (held.0, keeps.rests held.0 held.1, held.2)
 
 -- one that stops: its fault is answered
-pub stops_after : {A B : Type 0} {a b c : State} {Bad Wrong : Trees → Type 0} {Unread Illegible : Database → Type 0}
-    (met : Result A Fault) (fault : Fault) (answer : Result B Fault) → ReadsOn a b → met ≡ Err fault
-    → IsErrAnd answer (λ told. told ≡ fault) → ((trees : Trees) → Bad trees → Wrong trees)
-    → ((db : Database) → Unread db → Illegible db) → Stops b c met Bad Unread → Stops a c answer Wrong Illegible
-stops_after {b = b} {c = c} {Unread = Unread} met fault answer on was told wrong illegible stops =
+pub stops_after : {A B : Type 0} {version : ℕ} {a b c : State} {Bad Wrong : Trees → Type 0}
+    {Unread Illegible : Database → Type 0} (met : Result A Fault) (fault : Fault) (answer : Result B Fault)
+    → ReadsOn a b → met ≡ Err fault → IsErrAnd answer (λ told. told ≡ fault)
+    → ((trees : Trees) → Bad trees → Wrong trees) → ((db : Database) → Unread db → Illegible db)
+    → Stops version b c met Bad Unread → Stops version a c answer Wrong Illegible
+stops_after {version = version} {b = b} {c = c} {Unread = Unread} met fault answer on was told wrong illegible stops =
     let honest = was_clean b c stops.survives in
     record {
       right = λ clean accounts book held e. stops.right clean accounts book (kept_on accounts book _ _
-          (on.keeps (honest clean)) held) (same_fault met fault NotADeskFile answer was told e);
-      wrong = λ clean trees file e. wrong trees (stops.wrong clean trees ((on.keeps (honest clean)).file trees file)
-          (same_fault met fault NotADeskFile answer was told e));
+          (on.keeps (honest clean) version) held) (same_fault met fault NotADeskFile answer was told e);
+      wrong = λ clean trees file e. wrong trees (stops.wrong clean trees
+          ((on.keeps (honest clean) version).file trees file) (same_fault met fault NotADeskFile answer was told e));
       unread = λ clean e. illegible _ (subst Unread (on.same (honest clean)) (stops.unread clean
           (same_fault met fault NotADeskFile answer was told e)));
-      same = λ clean other. keeps_then _ _ _ (on.keeps (honest clean)) (stops.same clean
+      same = λ clean other. keeps_then _ _ _ (on.keeps (honest clean) version) (stops.same clean
           (λ e. other (answered met fault StoreFault answer was told e)));
       survives = survives_on _ _ _ on.survives stops.survives;
     }
 
 -- all are read
-pub stops_never : {A : Type 0} {a b : State} {Wrong : Trees → Type 0} {Illegible : Database → Type 0}
-    (answer : Result A Fault) → ReadsOn a b → answer ≢ Err NotADeskFile → Stops a b answer Wrong Illegible
-stops_never answer on not = record {
+pub stops_never : {A : Type 0} {version : ℕ} {a b : State} {Wrong : Trees → Type 0} {Illegible : Database → Type 0}
+    (answer : Result A Fault) → ReadsOn a b → answer ≢ Err NotADeskFile → Stops version a b answer Wrong Illegible
+stops_never {version = version} answer on not = record {
   right = λ clean accounts book held. not;
   wrong = λ clean trees file e. absurd (not e);
   unread = λ clean e. absurd (not e);
-  same = λ clean other. on.keeps clean;
+  same = λ clean other. on.keeps clean version;
   survives = on.survives;
 }
 

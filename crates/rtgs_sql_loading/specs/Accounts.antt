@@ -16,7 +16,6 @@ use Rattle.rtgs_book.specs.Judgement.{Keeps, KeepsBefore}
 use Rattle.rtgs_book.specs.declared.Day.{Day}
 use Rattle.rtgs_rows.specs.Fitting.{HasFormedValues, FitsDate}
 use Rattle.rtgs_rows.specs.Keeping.{AreBalances}
-use Rattle.rtgs_rows.specs.declared.numbers.TheConstants.{VERSION}
 use Rattle.rtgs_rows.specs.Rows.{shown_day}
 use Rattle.rtgs_rows.specs.Querying.{as_shown, ShowsBook}
 use Rattle.rtgs_rows.specs.TableRecords.{TableRecords, Each, records_besides_day, records_of_tables}
@@ -34,34 +33,34 @@ AreTold trees table counted = IsPermutation (map (as_read counted) (as_shown tab
 abbrev pub Telling : Type 1
 Telling = Table → List Bool → List Row → Type 0
 
--- so it is said of the rows of those records that a book has of a table
-abbrev pub TellsOf : Telling → List Account → Book → (A : Type 0) → TableRecords A → Type 0
-TellsOf Tells accounts book A records =
-    Tells records.table records.counted (map records.shown (records.of_book accounts book))
+-- so it is said of the rows of those records that a book has of a table of this version
+abbrev pub TellsOf : ℕ → Telling → List Account → Book → (A : Type 0) → TableRecords A → Type 0
+TellsOf version Tells accounts book A records =
+    Tells records.table records.counted (map records.shown (records.of_book version accounts book))
 
--- These are the records of the tables: each value is in its form and range, and `Tells` holds of each table and of the
--- rows of its records.
-pub record AreTheRecords (Tells : Telling) (accounts : List Account) (book : Book) : Type 0 where
+-- These are the records of the tables of this version: each value is in its form and range, and `Tells` holds of each
+-- table and of the rows of its records.
+pub record AreTheRecords (version : ℕ) (Tells : Telling) (accounts : List Account) (book : Book) : Type 0 where
   pub fits : HasFormedValues book
   pub named : book.participants ≡ map (λ (a : Account). a.participant) accounts
-  pub tells : Each (TellsOf Tells accounts book) records_of_tables
+  pub tells : Each (TellsOf version Tells accounts book) records_of_tables
 
--- What is read of trees, sound or not: each row of the tables is told by one record. A number below zero is read as 0,
--- which breaks the same rule of a sound book.
-abbrev pub AreReadOf : Trees → List Account → Book → Type 0
-AreReadOf trees = AreTheRecords (AreTold trees)
+-- What is read of trees of this version, sound or not: each row of the tables is told by one record. A number below
+-- zero is read as 0, which breaks the same rule of a sound book.
+abbrev pub AreReadOf : ℕ → Trees → List Account → Book → Type 0
+AreReadOf version trees = AreTheRecords version (AreTold trees)
 
 -- one row alone, which is a business day in tables of this version
-abbrev pub IsOneDay : List Row → Type 0
-IsOneDay rows = (day : Day) × FitsDate day.date × (rows ≡ shown_day VERSION day ∷ [])
+abbrev pub IsOneDay : ℕ → List Row → Type 0
+IsOneDay version rows = (day : Day) × FitsDate day.date × (rows ≡ shown_day version day ∷ [])
 
 -- each row is in the form of a record
 abbrev pub InForm : {A : Type 0} → TableRecords A → List Row → Type 0
 InForm records = AllByRecursion (IsFormed records)
 
--- Each row of the tables is in the form of a record, and the first table has one row.
-abbrev pub AreFormed : Trees → Type 0
-AreFormed trees = IsOneDay (as_shown desk_table trees)
+-- Each row of the tables is in the form of a record, and the first table has one row, which says this version.
+abbrev pub AreFormed : ℕ → Trees → Type 0
+AreFormed version trees = IsOneDay version (as_shown desk_table trees)
     × Each (λ A records. InForm records (as_shown records.table trees)) records_besides_day
 
 -- ---- why no book is given
@@ -88,15 +87,16 @@ ExplainsRead accounts book StoreFault = ⊤
 ExplainsRead accounts book NotADeskFile = ⊥
 ExplainsRead accounts book (Inconsistent rule) = StoredBreaksFirst accounts book rule
 
--- Why tables with the schema of a desk give no book, whatever their rows are: a row is in no form; or all are, and this
--- is the first rule that the records break; or else the store failed or memory was refused.
-abbrev pub ExplainsTrees : Trees → Fault → Type 0
-ExplainsTrees trees OutOfMemory = ⊤
-ExplainsTrees trees StoreFault = ⊤
-ExplainsTrees trees NotADeskFile = ¬ AreFormed trees
-ExplainsTrees trees (Inconsistent rule) = (accounts : List Account) × (book : Book) × AreReadOf trees accounts book
-    × StoredBreaksFirst accounts book rule
+-- Why tables with the schema of this version give no book, whatever their rows are: a row is in no form; or all are,
+-- and this is the first rule that the records break; or else the store failed or memory was refused.
+abbrev pub ExplainsTrees : ℕ → Trees → Fault → Type 0
+ExplainsTrees version trees OutOfMemory = ⊤
+ExplainsTrees version trees StoreFault = ⊤
+ExplainsTrees version trees NotADeskFile = ¬ AreFormed version trees
+ExplainsTrees version trees (Inconsistent rule) = (accounts : List Account) × (book : Book)
+    × AreReadOf version trees accounts book × StoredBreaksFirst accounts book rule
 
 -- The queries show the records of the book, with stored balances that are the sums from scratch.
-abbrev pub IsShown : Trees → Book → Type 0
-IsShown trees book = (accounts : List Account) × ShowsBook trees accounts book × AreBalances book accounts
+abbrev pub IsShown : ℕ → Trees → Book → Type 0
+IsShown version trees book = (accounts : List Account) × ShowsBook version trees accounts book
+    × AreBalances book accounts

@@ -21,14 +21,14 @@ use Rattle.rtgs_sql_loading.specs.Accounts.{AreTheRecords, StoredBreaksFirst, Is
 abbrev pub DisplaysAs : Database → List ℕ → List Bool → List Row → Type 0
 DisplaysAs db text counted told = (rows : List Row) × Displays db text rows × (map (as_read counted) rows ≡ told)
 
--- What is read: each row that is shown is told by one record, in its place.
-abbrev pub AreDisplayed : Database → List Account → Book → Type 0
-AreDisplayed db = AreTheRecords (λ table. DisplaysAs db (query_text table))
+-- What is read as tables of this version: each row that is shown is told by one record, in its place.
+abbrev pub AreDisplayed : ℕ → Database → List Account → Book → Type 0
+AreDisplayed version db = AreTheRecords version (λ table. DisplaysAs db (query_text table))
 
 -- The queries show the records of the book, with stored balances that are the sums from scratch.
-abbrev pub IsDisplayed : Database → Book → Type 0
-IsDisplayed db book = (accounts : List Account) × AreBalances book accounts
-    × AreTheRecords (λ table _. Displays db (query_text table)) accounts book
+abbrev pub IsDisplayed : ℕ → Database → Book → Type 0
+IsDisplayed version db book = (accounts : List Account) × AreBalances book accounts
+    × AreTheRecords version (λ table _. Displays db (query_text table)) accounts book
 
 -- ---- why they show nothing
 
@@ -37,16 +37,17 @@ abbrev pub IsUnread : Database → List ℕ → (List Row → Type 0) → Type 0
 IsUnread db text AreFormed = HasNoAnswer db text
     ⊎ ((rows : List Row) × Displays db text rows × ¬ AreFormed rows)
 
--- One of the queries has no answer, or shows a row that is in the form of no record; or the first shows not one row.
-abbrev pub IsIllegible : Database → Type 0
-IsIllegible db = IsUnread db (query_text desk_table) IsOneDay
+-- One of the queries has no answer, or shows a row that is in the form of no record; or the first shows not one row, or
+-- one that does not say this version.
+abbrev pub IsIllegible : ℕ → Database → Type 0
+IsIllegible version db = IsUnread db (query_text desk_table) (IsOneDay version)
     ⊎ OneOf (λ A records. IsUnread db (query_text records.table) (InForm records)) records_besides_day
 
--- Why a database gives no book, whatever its schema is: it cannot be read; or this is the first rule that the records
--- break which it shows; or else the store failed or memory was refused.
-abbrev pub ExplainsDatabase : Database → Fault → Type 0
-ExplainsDatabase db OutOfMemory = ⊤
-ExplainsDatabase db StoreFault = ⊤
-ExplainsDatabase db NotADeskFile = IsIllegible db
-ExplainsDatabase db (Inconsistent rule) = (accounts : List Account) × (book : Book) × AreDisplayed db accounts book
-    × StoredBreaksFirst accounts book rule
+-- Why a database gives no book of tables of this version, whatever its schema is: it cannot be read; or this is the
+-- first rule that the records break which it shows; or else the store failed or memory was refused.
+abbrev pub ExplainsDatabase : ℕ → Database → Fault → Type 0
+ExplainsDatabase version db OutOfMemory = ⊤
+ExplainsDatabase version db StoreFault = ⊤
+ExplainsDatabase version db NotADeskFile = IsIllegible version db
+ExplainsDatabase version db (Inconsistent rule) = (accounts : List Account) × (book : Book)
+    × AreDisplayed version db accounts book × StoredBreaksFirst accounts book rule

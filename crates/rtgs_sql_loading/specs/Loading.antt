@@ -1,5 +1,5 @@
 -- What a reading says of the state that it began in.
-use Rattle.std.specs.Prelude.{◌≡◌, ◌≢◌, ◌⊎◌, List, [], ◌∷◌, map, Err, Result, IfOk, IfErr}
+use Rattle.std.specs.Prelude.{◌≡◌, ◌≢◌, ◌⊎◌, ℕ, List, [], ◌∷◌, map, Err, Result, IfOk, IfErr}
 use Rattle.std.specs.List.{AllByRecursion}
 use Rattle.std.proofs.Common.{subst}
 use Rattle.sqlite.specs.State.{State, HasCleanDisk, Survives}
@@ -13,9 +13,9 @@ use Rattle.rtgs_book.specs.declared.Day.{Day}
 use Rattle.rtgs_book.specs.declared.Fault.{Fault}
 use Rattle.rtgs_book.specs.declared.Fault.TheVariants.{OutOfMemory, StoreFault, NotADeskFile}
 use Rattle.sqlite.specs.Effect.{Database}
-use Rattle.rtgs_rows.specs.Content.{Content, Holds}
+use Rattle.rtgs_rows.specs.Content.{Content, HoldsIn}
 use Rattle.rtgs_rows.specs.Keeping.{AreBalances, IsBookOf}
-use Rattle.rtgs_rows.specs.Querying.{IsDeskFile, AreWhole}
+use Rattle.rtgs_rows.specs.Querying.{IsFileIn, AreWhole}
 use Rattle.rtgs_rows.specs.TableRecords.{TableRecords, day_records, desk_row_of}
 use Rattle.rtgs_sql_columns.specs.Tables.{query_text}
 use Rattle.rtgs_sql_queries.specs.Answering.{KeepsTables}
@@ -24,59 +24,64 @@ use Rattle.rtgs_sql_queries.specs.Records.{HasRecords}
 use Rattle.rtgs_sql_loading.specs.Accounts.{Telling, AreTold, AreReadOf, ExplainsRead, ExplainsTrees, IsShown}
 use Rattle.rtgs_sql_loading.specs.Displaying.{DisplaysAs, AreDisplayed, IsDisplayed, ExplainsDatabase}
 
--- nothing is written: a clean disk was clean before, and the tables and what the database shows stay
+-- nothing is written: a clean disk was clean before, and the tables of each version and what the database shows stay
 pub record ReadsOn (old new : State) : Type 0 where
   pub clean : HasCleanDisk new → HasCleanDisk old
-  pub keeps : HasCleanDisk new → KeepsTables old new
+  pub keeps : HasCleanDisk new → (version : ℕ) → KeepsTables version old new
   pub same : HasCleanDisk new → new.now ≡ old.now
   pub survives : Survives old new (λ _. ⊥)
 
--- rows of a table are told: by its rows, where the schema is a desk's, and by what its query shows
-abbrev pub IsToldBy : State → Telling
-IsToldBy s table counted told = ((trees : Trees) → IsDeskFile trees s
+-- rows of a table are told: by its rows, where the schema is that of this version, and by what its query shows
+abbrev pub IsToldBy : ℕ → State → Telling
+IsToldBy version s table counted told = ((trees : Trees) → IsFileIn version trees s
     → AreTold trees table counted told) × DisplaysAs s.now (query_text table) counted told
 
--- These records are read of a table: they are those that it has, where the tables have any, and each is in its form.
-pub record ReadsRecords {A : Type 0} (records : TableRecords A) (s : State) (all : List A) : Type 0 where
-  pub given : (accounts : List Account) (book : Book) → HasRecords accounts book s
-      → all ≡ records.of_book accounts book
+-- These records are read of a table of this version: they are those that it has, where the tables have any, and each is
+-- in its form.
+pub record ReadsRecords {A : Type 0} (version : ℕ) (records : TableRecords A) (s : State) (all : List A) : Type 0 where
+  pub given : (accounts : List Account) (book : Book) → HasRecords version accounts book s
+      → all ≡ records.of_book version accounts book
   pub fit : AllByRecursion records.fits all
-  pub told : IsToldBy s records.table records.counted (map records.shown all)
+  pub told : IsToldBy version s records.table records.counted (map records.shown all)
 
 -- it was there before what was read first
-pub read_after : {A : Type 0} {records : TableRecords A} {first old : State} {all : List A} → ReadsOn first old
-    → HasCleanDisk old → ReadsRecords records old all → ReadsRecords records first all
-read_after {records = records} {all = all} on clean reads = record {
-  given = λ accounts book held. reads.given accounts book (held.0, (on.keeps clean).rests held.0 held.1, held.2);
+pub read_after : {A : Type 0} {version : ℕ} {records : TableRecords A} {first old : State} {all : List A}
+    → ReadsOn first old → HasCleanDisk old → ReadsRecords version records old all
+    → ReadsRecords version records first all
+read_after {version = version} {records = records} {all = all} on clean reads = record {
+  given = λ accounts book held.
+      reads.given accounts book (held.0, (on.keeps clean version).rests held.0 held.1, held.2);
   fit = reads.fit;
   told = (
-    λ trees file. reads.told.0 trees ((on.keeps clean).file trees file),
+    λ trees file. reads.told.0 trees ((on.keeps clean version).file trees file),
     subst (λ now. DisplaysAs now (query_text records.table) records.counted (map records.shown all)) (on.same clean)
         reads.told.1,
   );
 }
 
 -- so the day
-abbrev pub ReadsOneDay : State → Day → Type 0
-ReadsOneDay s day = ReadsRecords day_records s (desk_row_of day ∷ [])
+abbrev pub ReadsOneDay : ℕ → State → Day → Type 0
+ReadsOneDay version s day = ReadsRecords version day_records s (desk_row_of version day ∷ [])
 
--- What is read, in three ways: these are the records, where the tables have any; the rows tell them, where the schema
--- is a desk's; and the queries show them, whatever the schema is.
-pub record TellsRecords (s : State) (accounts : List Account) (book : Book) : Type 0 where
-  pub records : (others : List Account) (other : Book) → HasRecords others other s
+-- What is read of this version, in three ways: these are the records, where the tables have any; the rows tell them,
+-- where the schema is that of the version; and the queries show them, whatever the schema is.
+pub record TellsRecords (version : ℕ) (s : State) (accounts : List Account) (book : Book) : Type 0 where
+  pub records : (others : List Account) (other : Book) → HasRecords version others other s
       → (book ≡ other) × (accounts ≡ others)
-  pub rows : (trees : Trees) → IsDeskFile trees s → AreReadOf trees accounts book
-  pub displayed : AreDisplayed s.now accounts book
+  pub rows : (trees : Trees) → IsFileIn version trees s → AreReadOf version trees accounts book
+  pub displayed : AreDisplayed version s.now accounts book
 
--- Where a reading answers `NotADeskFile`, the tables have no records; the trees are bad, where the schema is a desk's;
--- and the database cannot be read, whatever the schema is. The tables stay unless the store failed.
-pub record Stops {A : Type 0} (old new : State) (result : Result A Fault) (AreBad : Trees → Type 0)
+-- Where a reading answers `NotADeskFile`, the tables of this version have no records; the trees are bad, where the
+-- schema is that of the version; and the database cannot be read, whatever the schema is. The tables stay unless the
+-- store failed.
+pub record Stops {A : Type 0} (version : ℕ) (old new : State) (result : Result A Fault) (AreBad : Trees → Type 0)
     (IsUnread : Database → Type 0) : Type 0 where
-  pub right : HasCleanDisk new → (accounts : List Account) (book : Book) → HasRecords accounts book old
+  pub right : HasCleanDisk new → (accounts : List Account) (book : Book) → HasRecords version accounts book old
       → result ≢ Err NotADeskFile
-  pub wrong : HasCleanDisk new → (trees : Trees) → IsDeskFile trees old → result ≡ Err NotADeskFile → AreBad trees
+  pub wrong : HasCleanDisk new → (trees : Trees) → IsFileIn version trees old → result ≡ Err NotADeskFile
+      → AreBad trees
   pub unread : HasCleanDisk new → result ≡ Err NotADeskFile → IsUnread old.now
-  pub same : HasCleanDisk new → result ≢ Err StoreFault → KeepsTables old new
+  pub same : HasCleanDisk new → result ≢ Err StoreFault → KeepsTables version old new
   pub survives : Survives old new (λ _. ⊥)
 
 -- How the error of a query is told: as lack of memory only if it was that, and as no desk's tables exactly if it is no
@@ -87,16 +92,16 @@ pub record TellsError (error : Error) (fault : Fault) : Type 0 where
   pub wrong : fault ≡ NotADeskFile → ¬ IsOfStore error
   pub foreign : ¬ IsOfStore error → fault ≡ NotADeskFile
 
--- What a loading answers, a book or why there is none: by the records, where the tables have any; by the rows, where
--- the schema is a desk's; and by what the queries show, whatever the schema is.
-pub record LoadsFrom (s : State) (result : Result Book Fault) : Type 0 where
-  pub read : (accounts : List Account) (book : Book) → HasRecords accounts book s
+-- What a loading of this version answers, a book or why there is none: by the records, where the tables have any; by
+-- the rows, where the schema is that of the version; and by what the queries show, whatever the schema is.
+pub record LoadsFrom (version : ℕ) (s : State) (result : Result Book Fault) : Type 0 where
+  pub read : (accounts : List Account) (book : Book) → HasRecords version accounts book s
       → IfOk result (λ loaded. (loaded ≡ book) × AreBalances book accounts)
-  pub explained : (accounts : List Account) (book : Book) → HasRecords accounts book s
+  pub explained : (accounts : List Account) (book : Book) → HasRecords version accounts book s
       → IfErr result (ExplainsRead accounts book)
-  pub held : (trees : Trees) → IsDeskFile trees s → AreWhole trees
-      → IfOk result (λ book. (content : Content) × Holds content trees × IsBookOf book content)
-  pub shown : (trees : Trees) → IsDeskFile trees s → IfOk result (IsShown trees)
-  pub caused : (trees : Trees) → IsDeskFile trees s → IfErr result (ExplainsTrees trees)
-  pub displayed : IfOk result (IsDisplayed s.now)
-  pub told : IfErr result (ExplainsDatabase s.now)
+  pub held : (trees : Trees) → IsFileIn version trees s → AreWhole trees
+      → IfOk result (λ book. (content : Content) × HoldsIn version content trees × IsBookOf book content)
+  pub shown : (trees : Trees) → IsFileIn version trees s → IfOk result (IsShown version trees)
+  pub caused : (trees : Trees) → IsFileIn version trees s → IfErr result (ExplainsTrees version trees)
+  pub displayed : IfOk result (IsDisplayed version s.now)
+  pub told : IfErr result (ExplainsDatabase version s.now)

@@ -36,18 +36,22 @@ struct Stored {
     ghost participants: { book.participants ≡ map (λ (a : AccountSpec). a.participant) accounts.items },
 }
 
-/// Reads the five tables.
-fn read_tables<S: Alter>(alloc: Global, conn: &mut Connection<S>) -> Result<Stored, Fault>
+/// Reads the five tables, as those of this version.
+fn read_tables<S: Alter>(
+    alloc: Global,
+    conn: &mut Connection<S>,
+    version: u64,
+) -> Result<Stored, Fault>
     ensures told { HasCleanDisk (state S.Store conn.new) → IfOk result (λ stored.
-        TellsRecords (state S.Store conn.old) stored.accounts.items stored.book) }
-    ensures stops { Stops (state S.Store conn.old) (state S.Store conn.new) result (λ trees. ¬ AreFormed trees)
-        IsIllegible }
+        TellsRecords version (state S.Store conn.old) stored.accounts.items stored.book) }
+    ensures stops { Stops version (state S.Store conn.old) (state S.Store conn.new) result
+        (λ trees. ¬ AreFormed version trees) (IsIllegible version) }
     ensures kinds { (rule : Rule) → result ≢ Err (Fault.Inconsistent rule) }
     ensures blank { HasCleanDisk (state S.Store conn.new) → IsBlank (state S.Store conn.old) → IfOk result (λ _. ⊥) }
     ensures mode { conn.old.in_transaction ≡ false → conn.new.in_transaction ≡ false }
     ensures honest { HasCleanDisk (state S.Store conn.new) → HasCleanDisk (state S.Store conn.old) }
 {
-    let all = AllTables::read(alloc, conn)?;
+    let all = AllTables::read(alloc, conn, version)?;
     let (day, (accounts, (postings, (orders, (marks, ()))))) = all;
     let participants = participants_of(alloc, accounts.as_slice())?;
     let book = Book {
@@ -91,14 +95,19 @@ fn judged(stored: Stored) -> Result<Book, Fault>
     }
 }
 
-/// Loads the book, and judges it. Records that break a rule are answered by the first one that they break, and what is
-/// no desk's tables by `NotADeskFile`. A book is given only where the tables hold it.
-pub fn load_book<S: Alter>(alloc: Global, conn: &mut Connection<S>) -> Result<Book, Fault>
-    ensures tells { HasCleanDisk (state S.Store conn.new) → LoadsFrom (state S.Store conn.old) result }
+/// Loads the book of tables of this version, and judges it. Records that break a rule are answered by the first one
+/// that they break, and what is no desk's tables of the version by `NotADeskFile`. A book is given only where the
+/// tables hold it.
+pub fn load_book<S: Alter>(
+    alloc: Global,
+    conn: &mut Connection<S>,
+    version: u64,
+) -> Result<Book, Fault>
+    ensures tells { HasCleanDisk (state S.Store conn.new) → LoadsFrom version (state S.Store conn.old) result }
     ensures blank { HasCleanDisk (state S.Store conn.new) → IsBlank (state S.Store conn.old)
         → IfOk result (λ _. ⊥) × ((rule : Rule) → result ≢ Err (Fault.Inconsistent rule)) }
     ensures same { HasCleanDisk (state S.Store conn.new) → result ≢ Err Fault.StoreFault
-        → KeepsTables (state S.Store conn.old) (state S.Store conn.new) }
+        → KeepsTables version (state S.Store conn.old) (state S.Store conn.new) }
     ensures survives { Survives (state S.Store conn.old) (state S.Store conn.new) (λ _. ⊥) }
     ensures sound { IfOk result IsSound }
     ensures fits { IfOk result Fits }
@@ -108,6 +117,6 @@ pub fn load_book<S: Alter>(alloc: Global, conn: &mut Connection<S>) -> Result<Bo
     // The engine keeps the rows as the schema says, so what the queries show of a sound book is what the tables hold.
     conn.schema();
     shown_records_are_held();
-    let stored = read_tables(alloc, conn)?;
+    let stored = read_tables(alloc, conn, version)?;
     judged(stored)
 }

@@ -1,10 +1,10 @@
 //! The records of a table.
-ghost use Rattle.std.specs.Prelude.{◌≡◌, ◌≢◌, ◌⊎◌, false, Some, Ok, Err, [], ◌∷◌, IsTrue, IfSome, IfOk, IfErr, OnOk, ⊤};
+ghost use Rattle.std.specs.Prelude.{◌≡◌, ◌≢◌, ◌⊎◌, ℕ, false, Some, Ok, Err, [], ◌∷◌, IsTrue, IfSome, IfOk, IfErr};
+ghost use Rattle.std.specs.Prelude.{OnOk, ⊤};
 ghost use Rattle.rtgs_book.specs.declared.Rule.{Rule};
 ghost use Rattle.rtgs_book.specs.declared.Day.{Day as DaySpec};
 ghost use Rattle.rtgs_rows.specs.Fitting.{FitsDate};
 ghost use Rattle.rtgs_rows.specs.Rows.{shown_day};
-ghost use Rattle.rtgs_rows.specs.declared.numbers.TheConstants.{VERSION};
 ghost use Rattle.rtgs_rows.specs.Querying.{as_shown};
 ghost use Rattle.rtgs_rows.specs.Tables.{desk_table};
 ghost use Rattle.rtgs_sql_columns.specs.Tables.{query_text};
@@ -20,7 +20,6 @@ ghost use Rattle.sqlite.specs.Tree.{Trees};
 
 use rtgs_book::{Day, Fault};
 use rtgs_rows::DeskRow;
-use rtgs_rows::numbers::VERSION;
 use rtgs_sql_queries::alive::is_alive;
 use rtgs_sql_queries::table_row::{TableRow, decode};
 use rtgs_sql_queries::whole_table::table_rows;
@@ -40,7 +39,8 @@ fn fault_of<S: Alter>(conn: &mut Connection<S>, error: &Error) -> Fault
     ensures same { result ≡ Fault.OutOfMemory → HasCleanDisk (state S.Store conn.new)
         → IsUnchanged (state S.Store conn.old) (state S.Store conn.new) }
     ensures kept { result ≡ Fault.OutOfMemory → HasCleanDisk (state S.Store conn.new)
-        → IsTrue (state S.Store conn.old).is_open × KeepsTables (state S.Store conn.old) (state S.Store conn.new) }
+        → IsTrue (state S.Store conn.old).is_open
+        × ((version : ℕ) → KeepsTables version (state S.Store conn.old) (state S.Store conn.new)) }
     ensures survives { Survives (state S.Store conn.old) (state S.Store conn.new) (λ _. ⊥) }
 {
     match error {
@@ -54,53 +54,53 @@ fn fault_of<S: Alter>(conn: &mut Connection<S>, error: &Error) -> Fault
 }
 
 /// The business day of the row, where the tables are of this version.
-fn day_of(row: &Row) -> Option<Day>
-    ensures found { (day : DaySpec) → FitsDate day.date → row.now ≡ shown_day VERSION day → result ≡ Some day }
-    ensures is { IfSome result (λ day. FitsDate day.date × (row.now ≡ shown_day VERSION day)) }
+fn day_of(row: &Row, version: u64) -> Option<Day>
+    ensures found { (day : DaySpec) → FitsDate day.date → row.now ≡ shown_day version day → result ≡ Some day }
+    ensures is { IfSome result (λ day. FitsDate day.date × (row.now ≡ shown_day version day)) }
 {
     let desk = DeskRow::from_row(row)?;
-    if desk.version != VERSION {
+    if desk.version != version {
         return None;
     }
     Some(desk.day)
 }
 
 /// The business day of the only row, in tables of this version. Anything else is `NotADeskFile`.
-fn one_day(rows: &[Row]) -> Result<Day, Fault>
-    ensures given { (day : DaySpec) → FitsDate day.date → rows.now ≡ shown_day VERSION day ∷ [] → result ≡ Ok day }
-    ensures is { IfOk result (λ day. FitsDate day.date × (rows.now ≡ shown_day VERSION day ∷ [])) }
+fn one_day(rows: &[Row], version: u64) -> Result<Day, Fault>
+    ensures given { (day : DaySpec) → FitsDate day.date → rows.now ≡ shown_day version day ∷ [] → result ≡ Ok day }
+    ensures is { IfOk result (λ day. FitsDate day.date × (rows.now ≡ shown_day version day ∷ [])) }
     ensures wrong { IfErr result (λ fault. (fault ≡ Fault.NotADeskFile)
-        × ((day : DaySpec) → FitsDate day.date → rows.now ≢ shown_day VERSION day ∷ [])) }
+        × ((day : DaySpec) → FitsDate day.date → rows.now ≢ shown_day version day ∷ [])) }
 {
     let [row] = rows else {
         return Err(Fault::NotADeskFile);
     };
-    match day_of(row) {
+    match day_of(row, version) {
         Some(day) => Ok(day),
         None => Err(Fault::NotADeskFile),
     }
 }
 
-/// What is read of tables.
+/// What is read of tables of a version.
 pub(crate) trait FromTables: Sized {
-    // It is what the tables have, where they have records, and what their rows and their queries tell.
-    ghost tells: { State → Self → Type 0 };
+    // It is what the tables of the version have, where they have records, and what their rows and their queries tell.
+    ghost tells: { ℕ → State → Self → Type 0 };
 
     // It was so before what was read first.
-    ghost after: { (first old : State) → ReadsOn first old → HasCleanDisk old → (it : Self) → tells old it
-        → tells first it };
+    ghost after: { (version : ℕ) (first old : State) → ReadsOn first old → HasCleanDisk old → (it : Self)
+        → tells version old it → tells version first it };
 
     // The rows of the tables are in form.
-    ghost formed: { Trees → Type 0 };
+    ghost formed: { ℕ → Trees → Type 0 };
 
     // A query has no answer, or shows rows that are not in form.
-    ghost illegible: { Database → Type 0 };
+    ghost illegible: { ℕ → Database → Type 0 };
 
-    /// Reads the tables, one after another.
-    fn read<S: Alter>(alloc: Global, conn: &mut Connection<S>) -> Result<Self, Fault>
-        ensures told { HasCleanDisk (state S.Store conn.new) → IfOk result (tells (state S.Store conn.old)) }
-        ensures stops { Stops (state S.Store conn.old) (state S.Store conn.new) result (λ trees. ¬ formed trees)
-            illegible }
+    /// Reads the tables of this version, one after another.
+    fn read<S: Alter>(alloc: Global, conn: &mut Connection<S>, version: u64) -> Result<Self, Fault>
+        ensures told { HasCleanDisk (state S.Store conn.new) → IfOk result (tells version (state S.Store conn.old)) }
+        ensures stops { Stops version (state S.Store conn.old) (state S.Store conn.new) result
+            (λ trees. ¬ formed version trees) (illegible version) }
         ensures on { OnOk result (ReadsOn (state S.Store conn.old) (state S.Store conn.new)) }
         ensures kinds { (rule : Rule) → result ≢ Err (Fault.Inconsistent rule) }
         ensures mode { conn.old.in_transaction ≡ false → conn.new.in_transaction ≡ false }
@@ -111,15 +111,15 @@ pub(crate) trait FromTables: Sized {
 impl FromTables for Day {
     ghost tells = { ReadsOneDay };
 
-    ghost after = { λ first old on clean day. read_after on clean };
+    ghost after = { λ version first old on clean day. read_after on clean };
 
-    ghost formed = { λ trees. IsOneDay (as_shown desk_table trees) };
+    ghost formed = { λ version trees. IsOneDay version (as_shown desk_table trees) };
 
-    ghost illegible = { λ db. IsUnread db (query_text desk_table) IsOneDay };
+    ghost illegible = { λ version db. IsUnread db (query_text desk_table) (IsOneDay version) };
 
-    fn read<S: Alter>(alloc: Global, conn: &mut Connection<S>) -> Result<Day, Fault> {
+    fn read<S: Alter>(alloc: Global, conn: &mut Connection<S>, version: u64) -> Result<Day, Fault> {
         match table_rows::<DeskRow, S>(alloc, conn) {
-            Ok(rows) => one_day(rows.as_slice()),
+            Ok(rows) => one_day(rows.as_slice(), version),
             Err(error) => Err(fault_of(conn, &error)),
         }
     }
@@ -127,15 +127,19 @@ impl FromTables for Day {
 
 // The records of a table, in the order of its query.
 impl<T: TableRow + Drop> FromTables for Vec<T> {
-    ghost tells = { λ s v. ReadsRecords T.records s v.items };
+    ghost tells = { λ version s v. ReadsRecords version T.records s v.items };
 
-    ghost after = { λ first old on clean v. read_after on clean };
+    ghost after = { λ version first old on clean v. read_after on clean };
 
-    ghost formed = { λ trees. InForm T.records (as_shown T.records.table trees) };
+    ghost formed = { λ version trees. InForm T.records (as_shown T.records.table trees) };
 
-    ghost illegible = { λ db. IsUnread db (query_text T.records.table) (InForm T.records) };
+    ghost illegible = { λ version db. IsUnread db (query_text T.records.table) (InForm T.records) };
 
-    fn read<S: Alter>(alloc: Global, conn: &mut Connection<S>) -> Result<Vec<T>, Fault> {
+    fn read<S: Alter>(
+        alloc: Global,
+        conn: &mut Connection<S>,
+        version: u64,
+    ) -> Result<Vec<T>, Fault> {
         match table_rows::<T, S>(alloc, conn) {
             Ok(rows) => decode(alloc, rows.as_slice()),
             Err(error) => Err(fault_of(conn, &error)),
@@ -145,33 +149,39 @@ impl<T: TableRow + Drop> FromTables for Vec<T> {
 
 // One after the other.
 impl<A: FromTables + Drop, B: FromTables> FromTables for (A, B) {
-    ghost tells = { λ s both. A.tells s both.0 × B.tells s both.1 };
+    ghost tells = { λ version s both. A.tells version s both.0 × B.tells version s both.1 };
 
-    ghost after = { λ first old on clean both told.
-        (A.after first old on clean both.0 told.0, B.after first old on clean both.1 told.1) };
+    ghost after = { λ version first old on clean both told. (
+      A.after version first old on clean both.0 told.0,
+      B.after version first old on clean both.1 told.1,
+    ) };
 
-    ghost formed = { λ trees. A.formed trees × B.formed trees };
+    ghost formed = { λ version trees. A.formed version trees × B.formed version trees };
 
-    ghost illegible = { λ db. A.illegible db ⊎ B.illegible db };
+    ghost illegible = { λ version db. A.illegible version db ⊎ B.illegible version db };
 
-    fn read<S: Alter>(alloc: Global, conn: &mut Connection<S>) -> Result<(A, B), Fault> {
-        let one = A::read(alloc, conn)?;
-        let other = B::read(alloc, conn)?;
+    fn read<S: Alter>(
+        alloc: Global,
+        conn: &mut Connection<S>,
+        version: u64,
+    ) -> Result<(A, B), Fault> {
+        let one = A::read(alloc, conn, version)?;
+        let other = B::read(alloc, conn, version)?;
         Ok((one, other))
     }
 }
 
 // Nothing more.
 impl FromTables for () {
-    ghost tells = { λ s none. ⊤ };
+    ghost tells = { λ version s none. ⊤ };
 
-    ghost after = { λ first old on clean none told. told };
+    ghost after = { λ version first old on clean none told. told };
 
-    ghost formed = { λ trees. ⊤ };
+    ghost formed = { λ version trees. ⊤ };
 
-    ghost illegible = { λ db. ⊥ };
+    ghost illegible = { λ version db. ⊥ };
 
-    fn read<S: Alter>(alloc: Global, conn: &mut Connection<S>) -> Result<(), Fault> {
+    fn read<S: Alter>(alloc: Global, conn: &mut Connection<S>, version: u64) -> Result<(), Fault> {
         Ok(())
     }
 }

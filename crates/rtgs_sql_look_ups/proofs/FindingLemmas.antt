@@ -52,6 +52,7 @@ use Rattle.rtgs_sql_look_ups.proofs.Passing.{truth_of, same_text}
 use Rattle.rtgs_sql_look_ups.proofs.FindingTexts.{order_tests, posting_tests, order_query, posting_query}
 use Rattle.rtgs_sql_queries.specs.TableQueries.{columns_of}
 use Rattle.rtgs_rows.specs.Tables.{posting_table, payment_table}
+use Rattle.rtgs_rows.specs.declared.numbers.TheConstants.{VERSION}
 use Rattle.rtgs_lists.proofs.Results.{none_moved}
 use Rattle.rtgs_lists.proofs.Filters.{filter_of, filter_agrees, map-filter}
 
@@ -60,7 +61,8 @@ use Rattle.rtgs_lists.proofs.Filters.{filter_of, filter_agrees, map-filter}
 survives_on : (a b c : State) → Survives a b (λ _. ⊥) → Survives b c (λ _. ⊥) → Survives a c (λ _. ⊥)
 survives_on a b c = survives_then a b c (λ _. ⊥) (λ _. ⊥) (λ _. ⊥) (λ _ db none. none) (λ _ db none. none)
 
-keeps_then : (old mid new : State) → KeepsTables old mid → KeepsTables mid new → KeepsTables old new
+keeps_then : (old mid new : State) → KeepsTables VERSION old mid → KeepsTables VERSION mid new
+    → KeepsTables VERSION old new
 keeps_then old mid new one two = record {
   file = λ trees file. two.file trees (one.file trees file);
   rests = λ content rests. two.rests content (one.rests content rests);
@@ -72,7 +74,7 @@ only_store (Ok a) h = tt
 only_store (Err e) h = inr h
 
 pub looks_ok : {S A : Type 0} (g : Ghosts S) (old new : Held S) (rows : Vec Row Global) (r : Result A Fault)
-    → IsQuery g old new (Ok rows) → IfErr r (λ fault. fault ≡ StoreFault) → IsLook g old new r
+    → IsQuery g VERSION old new (Ok rows) → IfErr r (λ fault. fault ≡ StoreFault) → IsLook g old new r
 looks_ok g old new rows r q faults = record {
   survives = q.survives;
   mode = q.mode;
@@ -81,9 +83,9 @@ looks_ok g old new rows r q faults = record {
 }
 
 pub looks_err : {S A : Type 0} (g : Ghosts S) (old mid new : Held S) (e : Error) (fault : Fault)
-    → IsQuery g old mid (Err e) → (fault ≡ OutOfMemory) ⊎ (fault ≡ StoreFault)
+    → IsQuery g VERSION old mid (Err e) → (fault ≡ OutOfMemory) ⊎ (fault ≡ StoreFault)
     → (fault ≡ OutOfMemory → HasCleanDisk (state g new) → IsTrue (state g mid).is_open
-    × KeepsTables (state g mid) (state g new))
+    × ((version : ℕ) → KeepsTables version (state g mid) (state g new)))
     → (mid.in_transaction ≡ false → new.in_transaction ≡ false)
     → Survives (state g mid) (state g new) (λ _. ⊥) → IsLook {A = A} g old new (Err fault)
 looks_err {A = A} g old mid new e fault q kinds kept mode survives = record {
@@ -92,7 +94,7 @@ looks_err {A = A} g old mid new e fault q kinds kept mode survives = record {
   same = λ clean other.
       let low = survives.clean in
       let on = kept (of_memory fault kinds other) clean in
-      keeps_then (state g old) (state g mid) (state g new) (q.intact (omega (arith, low)) on.0) on.1;
+      keeps_then (state g old) (state g mid) (state g new) (q.intact (omega (arith, low)) on.0) (on.1 VERSION);
   kinds = kinds;
 }
   where

@@ -7,7 +7,7 @@ use Rattle.sqlite.specs.Term.{Term, col, op2}
 use Rattle.sqlite_tied.specs.Compute.{everything}
 use Rattle.sqlite_resolve.specs.Compile.{first}
 use Rattle.sqlite.specs.Listing.{understood}
-use Rattle.rtgs_rows.specs.Tables.{desk_schema, posting_table, payment_table, mark_table}
+use Rattle.rtgs_rows.specs.Tables.{schema_in, posting_table, payment_table, mark_table}
 use Rattle.rtgs_sql_columns.specs.Tables.{column_names}
 use Rattle.sqlite.specs.Query.{Query}
 use Rattle.rtgs_sql_columns.specs.OneTable.{simple}
@@ -28,7 +28,7 @@ abbrev pub order_query : Query
 order_query = simple payment_table.tree order_tests (columns_of payment_table) []
 
 pub order_seeks : Seeks order_text 2 order_query (column_names payment_table)
-unfolding understood everything desk_schema
+unfolding understood everything schema_in
 order_seeks = record {
   asks = record { command = refl; plain = (refl, refl); whole = refl; given = refl };
   unlisted = refl;
@@ -48,7 +48,7 @@ abbrev pub posting_query : Query
 posting_query = simple posting_table.tree posting_tests (columns_of posting_table) []
 
 pub posting_seeks : Seeks posting_text 1 posting_query (column_names posting_table)
-unfolding understood everything desk_schema
+unfolding understood everything schema_in
 posting_seeks = record {
   asks = record { command = refl; plain = (refl, refl); whole = refl; given = refl };
   unlisted = refl;
@@ -65,7 +65,7 @@ posting_after_text = codes
     "SELECT number, code, reference, cents, date FROM posting WHERE number > ?1 ORDER BY number LIMIT 1"
 
 pub posting_after_asks : IsFirstQuery posting_table after_tests posting_after_text 1
-unfolding understood everything desk_schema
+unfolding understood everything schema_in
 posting_after_asks = record {
   seeks = record {
     asks = record { command = refl; plain = (refl, refl); whole = refl; given = refl };
@@ -79,7 +79,7 @@ order_after_text = codes "SELECT number, sender, reference, receiver, amount, da
     ++ codes "WHERE date = ?1 AND number > ?2 ORDER BY number LIMIT 1"
 
 pub order_after_asks : IsFirstQuery payment_table order_after_tests order_after_text 2
-unfolding understood everything desk_schema
+unfolding understood everything schema_in
 order_after_asks = record {
   seeks = record {
     asks = record { command = refl; plain = (refl, refl); whole = refl; given = refl };
@@ -92,7 +92,7 @@ abbrev pub mark_after_text : List ℕ
 mark_after_text = codes "SELECT number, date, many, value FROM mark WHERE number > ?1 ORDER BY number LIMIT 1"
 
 pub mark_after_asks : IsFirstQuery mark_table after_tests mark_after_text 1
-unfolding understood everything desk_schema
+unfolding understood everything schema_in
 mark_after_asks = record {
   seeks = record {
     asks = record { command = refl; plain = (refl, refl); whole = refl; given = refl };

@@ -15,6 +15,7 @@ use Rattle.sqlite.proofs.StateLemmas.{survives_weaker}
 use Rattle.sqlite_resolve.specs.Compile.{first}
 use Rattle.sqlite_trees.specs.declared.store.Store.{Ghosts}
 use Rattle.rtgs_rows.specs.Tables.{desk_schema}
+use Rattle.rtgs_rows.specs.declared.numbers.TheConstants.{VERSION}
 use Rattle.rtgs_sql_queries.specs.Answering.{IsQuery, KeepsTables, Returnless}
 use Rattle.rtgs_sql_queries.specs.TableQueries.{IsOneQuery, Seeks}
 use Rattle.rtgs_sql_queries.proofs.Refusals.{intact}
@@ -56,14 +57,14 @@ module _ (text : List ℕ) (params : Row) (query : Query) (names : List (List �
 module _ (text : List ℕ) (params : Row) (query : Query) (names : List (List ℕ))
     (is : Seeks text (length params) query names) (old new : State) where
   kept_after : (r : Result (Vec Row Global) Error) → IfOk r (λ rows. Shown text params old new rows.items)
-      → OnOk r (KeepsTables old new)
+      → OnOk r (KeepsTables VERSION old new)
   kept_after (Ok rows) shown = keeps old new (λ trees file.
       let same = unchanged text params query names is old new (schema_of trees old file) rows.items shown in
       file_on trees old new file (inl same) same.0.is_open)
   kept_after (Err e) shown = tt
 
   intact_after : (r : Result (Vec Row Global) Error) → IfOk r (λ rows. Shown text params old new rows.items)
-      → IfErr r (FailsToQuery text params old new) → IsTrue new.is_open → KeepsTables old new
+      → IfErr r (FailsToQuery text params old new) → IsTrue new.is_open → KeepsTables VERSION old new
   intact_after r shown failed alive = keeps old new (λ trees file. file_on trees old new file
       (left text params query names is old new (schema_of trees old file) r shown failed) alive)
 
@@ -74,7 +75,7 @@ pub is_query : {S : Type 0} (g : Ghosts S) (text : List ℕ) (params : Row) (que
     → (HasCleanDisk (state g new) → IfErr r (FailsToQuery text params (state g old) (state g new)))
     → (old.in_transaction ≡ false → new.in_transaction ≡ false)
     → Survives (state g old) (state g new) (CommitsShowing text params (state g old))
-    → IsQuery g old new r
+    → IsQuery g VERSION old new r
 is_query g text params query names is reads old new r ok err mode survives = record {
   survives = survives_weaker (state g old) (state g new) _ _
       (λ _ db commits. commits_nothing text params (state g old) db reads commits) survives;

@@ -1,6 +1,6 @@
 -- The five queries.
 use Rattle.std.proofs.Common.{◌≡◌, ℕ, pos, List, [], ◌∷◌, map, refl, sym, ap, subst, ◌∙◌, arith}
-use Rattle.std.specs.List.{AllByRecursion, Contains}
+use Rattle.std.specs.List.{AllByRecursion}
 use Rattle.std.specs.Ordering.{int_cmp}
 use Rattle.std.specs.List.Sorted.{IsPermutation}
 use Rattle.std.proofs.lemmas.List.Sorted.{IsPermutation-map, IsPermutation-sym}
@@ -15,14 +15,13 @@ use Rattle.sqlite.specs.Listing.{understood, listing_schema}
 use Rattle.sqlite_keyed.proofs.ListLemmas.{ascending-map, ascending_weaker, map-map, map_same}
 use Rattle.rtgs_book.specs.declared.Book.{Book}
 use Rattle.rtgs_book.specs.declared.Day.{Day}
-use Rattle.rtgs_rows.specs.declared.numbers.TheConstants.{VERSION}
-use Rattle.rtgs_rows.specs.Tables.{schema_in, desk_tables, desk_table, participant_table, posting_table}
+use Rattle.rtgs_rows.specs.Tables.{IsVersion, schema_in, desk_tables, desk_table, participant_table, posting_table}
 use Rattle.rtgs_rows.specs.Tables.{payment_table, mark_table}
 use Rattle.rtgs_rows.specs.Fitting.{FitsParticipant}
 use Rattle.rtgs_rows.specs.Rows.{day_row, posting_row, payment_row, mark_row, shown_account}
 use Rattle.rtgs_rows.specs.TableRecords.{TableRecords, day_records, account_records, posting_records, order_records}
 use Rattle.rtgs_rows.specs.TableRecords.{mark_records, desk_row_of}
-use Rattle.rtgs_rows.specs.Content.{Holding, Content, holding_row, stored_account, tables_of, tables_for, rows_in, Rise}
+use Rattle.rtgs_rows.specs.Content.{Holding, Content, holding_row, stored_account, tables_of, tables_under, rows_in, Rise}
 use Rattle.rtgs_book.specs.declared.account.Account.{Account}
 use Rattle.rtgs_sql_queries.specs.Records.{AreRead}
 use Rattle.rtgs_sql_queries.specs.TableQueries.{IsTableQuery, ShowsOwn, whole_table}
@@ -32,57 +31,60 @@ use Rattle.rtgs_lists.proofs.Lists.{all_unmap}
 
 -- ---- what they are to the engine
 
--- the only version
-one_version : Contains (VERSION ∷ []) VERSION
-one_version = (0, omega arith, refl)
+-- each version that is known has the table
+in_each : (version : ℕ) → IsVersion version → IsVersion version
+in_each version known = known
 
 -- over the tables of each version
 pub all_asks : AllByRecursion IsTableQuery desk_tables
 unfolding understood listing_schema everything schema_in
-all_asks = assumption (refl, one_version)
+all_asks = assumption (refl, in_each)
 
 -- ---- what they show of a book
 
 -- a table in the order of its row numbers
-own_numbered : {A : Type 0} (records : TableRecords A) (row : A → Row) (number : A → ℕ) (all : Content → List A)
+own_numbered : {A : Type 0} (records : TableRecords A) (row : A → Row) (number : A → ℕ) (all : ℕ → Content → List A)
     → ((a b : A) → int_cmp (pos (number a)) (pos (number b)) ≡ Less → output_cmp (whole_table records.table)
     (output (whole_table records.table) ([] ∷ row a ∷ [])) (output (whole_table records.table) ([] ∷ row b ∷ []))
     ≡ Less) → ((a : A) → (output (whole_table records.table) ([] ∷ row a ∷ [])).1 ≡ records.shown a)
-    → ((content : Content) (accounts : List Account) (book : Book) → AreRead content accounts book
-    → AllByRecursion records.fits (records.of_book accounts book) × Rise (λ a. pos (number a)) (all content)
-    × (all content ≡ records.of_book accounts book))
-    → ((content : Content) (trees : Trees) → tables_of trees ≡ tables_for content
-    → trees records.table.tree ≡ map row (all content)) → ShowsOwn records
+    → ((version : ℕ) (content : Content) (accounts : List Account) (book : Book) → AreRead content accounts book
+    → AllByRecursion records.fits (records.of_book version accounts book) × Rise (λ a. pos (number a)) (all version content)
+    × (all version content ≡ records.of_book version accounts book))
+    → ((version : ℕ) (content : Content) (trees : Trees) → tables_of trees ≡ tables_under version content
+    → trees records.table.tree ≡ map row (all version content)) → ShowsOwn records
 own_numbered records row number all by shows read held = record {
-  fit = λ content accounts book are. (read content accounts book are).0;
-  rows = λ content accounts book are trees has rows. numbered records.table row records.shown (λ a. pos (number a)) by
-      shows (all content) (records.of_book accounts book) (read content accounts book are).1
-      (read content accounts book are).2 (trees records.table.tree) rows (held content trees has);
+  fit = λ version content accounts book are. (read version content accounts book are).0;
+  rows = λ version content accounts book are trees has rows.
+      let its = read version content accounts book are in
+      numbered records.table row records.shown (λ a. pos (number a)) by shows (all version content)
+      (records.of_book version accounts book) its.1 its.2 (trees records.table.tree) rows (held version content trees has);
 }
 
 pub desk_own : ShowsOwn day_records
-desk_own = own_numbered day_records (λ desk. day_row desk.version desk.day) (λ _. 1) (λ c. desk_row_of c.day ∷ [])
+desk_own = own_numbered day_records (λ desk. day_row desk.version desk.day) (λ _. 1)
+    (λ version c. desk_row_of version c.day ∷ [])
     (λ a b low. then-Equal _ ∙ value_cmp-Int (pos 1) (pos 1) ∙ low) (λ a. refl)
-    (λ c accounts book are. ((are.fits.day, tt), (tt, tt), ap (λ (day : Day). desk_row_of day ∷ []) are.lists.day))
-    (λ c trees held. ap (rows_in desk_table) held)
+    (λ version c accounts book are.
+    ((are.fits.day, tt), (tt, tt), ap (λ (day : Day). desk_row_of version day ∷ []) are.lists.day))
+    (λ version c trees held. ap (rows_in desk_table) held)
 
 pub postings_own : ShowsOwn posting_records
-postings_own = own_numbered posting_records posting_row (λ p. p.number) (λ c. c.postings)
+postings_own = own_numbered posting_records posting_row (λ p. p.number) (λ version c. c.postings)
     (λ a b low. then-Equal _ ∙ value_cmp-Int (pos a.number) (pos b.number) ∙ low) (λ a. refl)
-    (λ c accounts book are. (are.fits.postings, are.order.postings, are.lists.postings))
-    (λ c trees held. ap (rows_in posting_table) held)
+    (λ version c accounts book are. (are.fits.postings, are.order.postings, are.lists.postings))
+    (λ version c trees held. ap (rows_in posting_table) held)
 
 pub payments_own : ShowsOwn order_records
-payments_own = own_numbered order_records payment_row (λ o. o.number) (λ c. c.orders)
+payments_own = own_numbered order_records payment_row (λ o. o.number) (λ version c. c.orders)
     (λ a b low. then-Equal _ ∙ value_cmp-Int (pos a.number) (pos b.number) ∙ low) (λ a. refl)
-    (λ c accounts book are. (are.fits.orders, are.order.orders, are.lists.orders))
-    (λ c trees held. ap (rows_in payment_table) held)
+    (λ version c accounts book are. (are.fits.orders, are.order.orders, are.lists.orders))
+    (λ version c trees held. ap (rows_in payment_table) held)
 
 pub marks_own : ShowsOwn mark_records
-marks_own = own_numbered mark_records mark_row (λ m. m.number) (λ c. c.marks)
+marks_own = own_numbered mark_records mark_row (λ m. m.number) (λ version c. c.marks)
     (λ a b low. then-Equal _ ∙ value_cmp-Int (pos a.number) (pos b.number) ∙ low) (λ a. refl)
-    (λ c accounts book are. (are.fits.marks, are.order.marks, are.lists.marks))
-    (λ c trees held. ap (rows_in mark_table) held)
+    (λ version c accounts book are. (are.fits.marks, are.order.marks, are.lists.marks))
+    (λ version c trees held. ap (rows_in mark_table) held)
 
 -- ---- the participants, in the order of their codes
 
@@ -101,8 +103,8 @@ stored_outputs (h ∷ hs) = ap (λ l. out (stored_account h) ∷ l) (stored_outp
 
 pub participants_own : ShowsOwn account_records
 participants_own = record {
-  fit = accounts_fit;
-  rows = λ content accounts book are trees held rows s.
+  fit = λ version. accounts_fit;
+  rows = λ version content accounts book are trees held rows s.
       let q = whole_table participant_table in
       let up = ascending-map (λ (a b : Output). output_cmp q a b ≡ Less) out accounts
       (ascending_weaker _ _ (λ a b low. then-Equal _ ∙ value_cmp-Text a.participant.code b.participant.code ∙ low)

@@ -5,8 +5,8 @@ use Rattle.sqlite.specs.Order.{Row}
 use Rattle.sqlite.specs.Tree.{Trees}
 use Rattle.sqlite.specs.Held.{Held, state}
 use Rattle.sqlite_trees.specs.declared.store.Store.{Ghosts}
-use Rattle.rtgs_rows.specs.Content.{Content, Rests}
-use Rattle.rtgs_rows.specs.Querying.{IsDeskFile}
+use Rattle.rtgs_rows.specs.Content.{Content, RestsIn}
+use Rattle.rtgs_rows.specs.Querying.{IsFileIn}
 use Rattle.sqlite.specs.Schema.{Schema}
 use Rattle.sqlite.specs.State.{State, HasCleanDisk, IsUnchanged, FailsToQuery, Survives}
 use Rattle.sqlite.specs.declared.error.Error.{Error}
@@ -25,16 +25,16 @@ Returnless (Err e) = Unit {0}
 abbrev pub FailsAmid : List ℕ → State → State → Error → Type 0
 FailsAmid text old new e = FailsToQuery text [] old new e ⊎ ((e ≡ SqliteFailure OutOfMemory) × IsUnchanged old new)
 
--- the tables of a desk stay, whatever their rows are, and so do the records that they hold
-pub record KeepsTables (old new : State) : Type 0 where
-  pub file : (trees : Trees) → IsDeskFile trees old → IsDeskFile trees new
-  pub rests : (content : Content) → Rests content old → Rests content new
+-- the tables of this version stay, whatever their rows are, and so do the records that they hold
+pub record KeepsTables (version : ℕ) (old new : State) : Type 0 where
+  pub file : (trees : Trees) → IsFileIn version trees old → IsFileIn version trees new
+  pub rests : (content : Content) → RestsIn version content old → RestsIn version content new
 
--- what a query leaves: nothing is written, and the tables stay where the connection stays open
-pub record IsQuery {S : Type 0} (g : Ghosts S) (old new : Held S) (result : Result (Vec Row Global) Error) : Type 0
-  where
-    pub survives : Survives (state g old) (state g new) (λ _. ⊥)
-    pub mode : old.in_transaction ≡ false → new.in_transaction ≡ false
-    pub kept : HasCleanDisk (state g new) → OnOk result (KeepsTables (state g old) (state g new))
-    pub intact : HasCleanDisk (state g new) → IsTrue (state g new).is_open
-        → KeepsTables (state g old) (state g new)
+-- what a query leaves: nothing is written, and the tables of this version stay where the connection stays open
+pub record IsQuery {S : Type 0} (g : Ghosts S) (version : ℕ) (old new : Held S)
+    (result : Result (Vec Row Global) Error) : Type 0 where
+  pub survives : Survives (state g old) (state g new) (λ _. ⊥)
+  pub mode : old.in_transaction ≡ false → new.in_transaction ≡ false
+  pub kept : HasCleanDisk (state g new) → OnOk result (KeepsTables version (state g old) (state g new))
+  pub intact : HasCleanDisk (state g new) → IsTrue (state g new).is_open
+      → KeepsTables version (state g old) (state g new)

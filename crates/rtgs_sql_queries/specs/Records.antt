@@ -1,5 +1,5 @@
 -- The records of tables at rest.
-use Rattle.std.specs.Prelude.{◌≡◌, List, map, IsPermutation, Result, Vec, IfOk}
+use Rattle.std.specs.Prelude.{◌≡◌, ℕ, List, map, IsPermutation, Result, Vec, IfOk}
 use Rattle.std.specs.Global.{Global}
 use Rattle.std.specs.List.{AllByRecursion}
 use Rattle.std.specs.Ordering.{nat_cmp}
@@ -11,7 +11,7 @@ use Rattle.sqlite.specs.Tree.{IsAscending}
 use Rattle.sqlite.specs.State.{State}
 use Rattle.rtgs_book.specs.declared.Book.{Book}
 use Rattle.rtgs_book.specs.declared.account.Account.{Account}
-use Rattle.rtgs_rows.specs.Content.{Content, IsInOrder, Rests, stored_account}
+use Rattle.rtgs_rows.specs.Content.{Content, IsInOrder, RestsIn, stored_account}
 use Rattle.rtgs_rows.specs.Fitting.{HasFormedValues}
 use Rattle.rtgs_rows.specs.Keeping.{SameLists}
 use Rattle.rtgs_rows.specs.TableRecords.{TableRecords}
@@ -27,9 +27,9 @@ pub record AreRead (content : Content) (accounts : List Account) (book : Book) :
   pub lists : SameLists book content
   pub fits : HasFormedValues book
 
--- the tables at rest have these records
-abbrev pub HasRecords : List Account → Book → State → Type 0
-HasRecords accounts book s = (content : Content) × Rests content s × AreRead content accounts book
+-- the tables of this version, at rest, have these records
+abbrev pub HasRecords : ℕ → List Account → Book → State → Type 0
+HasRecords version accounts book s = (content : Content) × RestsIn version content s × AreRead content accounts book
 
 -- what the query of a whole table gives that has these records: their rows, which are read as them, each in its form
 pub record GivesRecords {A : Type 0} (records : TableRecords A) (all : List A) (result : Result (Vec Row Global) Error)

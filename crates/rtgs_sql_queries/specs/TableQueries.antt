@@ -27,10 +27,9 @@ use Rattle.sqlite_resolve.specs.Lowering.{Checked}
 use Rattle.sqlite_resolve.specs.Compile.{first, compiled}
 use Rattle.rtgs_book.specs.declared.Book.{Book}
 use Rattle.rtgs_book.specs.declared.account.Account.{Account}
-use Rattle.rtgs_rows.specs.declared.numbers.TheConstants.{VERSION}
-use Rattle.rtgs_rows.specs.Tables.{desk_schema, places, schema_in, versions_of}
+use Rattle.rtgs_rows.specs.Tables.{desk_schema, places, schema_in, versions_of, IsVersion}
 use Rattle.rtgs_rows.specs.TableRecords.{TableRecords}
-use Rattle.rtgs_rows.specs.Content.{Content, tables_of, tables_for}
+use Rattle.rtgs_rows.specs.Content.{Content, tables_of, tables_under}
 use Rattle.rtgs_sql_queries.specs.Records.{AreRead}
 use Rattle.rtgs_sql_columns.specs.OneTable.{simple, Sorts}
 use Rattle.rtgs_sql_columns.specs.Tables.{column_names, query_text}
@@ -82,11 +81,11 @@ pub record AsksTable (t : Table) (schema : Schema) : Type 0 where
   pub typed : accepts_program schema [] (whole_table t) [] ≡ true
   pub unlisted : reads_listing schema (query_text t) ≡ false
 
--- the text is that query: it is so over each version of the tables that has this one, among them the version in which
--- new tables are made; and over any schema it is some query
+-- the text is that query: it is so over each version of the tables that has this one, and each version that is known
+-- has it; and over any schema it is some query
 pub record IsTableQuery (t : Table) : Type 0 where
   pub asks : AllByRecursion (λ version. AsksTable t (schema_in version)) (versions_of t)
-  pub newest : Contains (versions_of t) VERSION
+  pub every : (version : ℕ) → IsVersion version → Contains (versions_of t) version
   pub query : IsQueryText (query_text t) (first (query_text t))
   pub foreign : compiled listing_schema (query_text t) ≡ Err NoSuchTable
 
@@ -99,12 +98,12 @@ pub record Seeks (text : List ℕ) (count : ℕ) (query : Query) (names : List (
 
 -- ---- what it shows of a book
 
--- Where the tables have records, each of those that a book has of the table is in its form and range, and the rows that
--- the query shows are theirs, in their order.
+-- Where the tables of a version have records, each of those that a book has of the table is in its form and range, and
+-- the rows that the query shows are theirs, in their order.
 pub record ShowsOwn {A : Type 0} (records : TableRecords A) : Type 0 where
-  pub fit : (content : Content) (accounts : List Account) (book : Book) → AreRead content accounts book
-      → AllByRecursion records.fits (records.of_book accounts book)
-  pub rows : (content : Content) (accounts : List Account) (book : Book) → AreRead content accounts book
-      → (trees : Trees) → tables_of trees ≡ tables_for content → (rows : List Row)
-      → Sorts (whole_table records.table) [] (trees records.table.tree) rows
-      → rows ≡ map records.shown (records.of_book accounts book)
+  pub fit : (version : ℕ) (content : Content) (accounts : List Account) (book : Book) → AreRead content accounts book
+      → AllByRecursion records.fits (records.of_book version accounts book)
+  pub rows : (version : ℕ) (content : Content) (accounts : List Account) (book : Book)
+      → AreRead content accounts book → (trees : Trees) → tables_of trees ≡ tables_under version content
+      → (rows : List Row) → Sorts (whole_table records.table) [] (trees records.table.tree) rows
+      → rows ≡ map records.shown (records.of_book version accounts book)

@@ -6,7 +6,7 @@ use Rattle.sqlite.specs.Source.TheVariants.{Values}
 use Rattle.sqlite.specs.Command.TheVariants.{Insert}
 use Rattle.sqlite_tied.specs.Compute.{everything}
 use Rattle.sqlite.specs.Listing.{understood}
-use Rattle.rtgs_rows.specs.Tables.{with_tables, desk_schema}
+use Rattle.rtgs_rows.specs.Tables.{with_tables, schema_in}
 use Rattle.rtgs_sql_writes.specs.declared.create.TheConstants.{TABLES, FIRST_DAY}
 use Rattle.rtgs_sql_writes.specs.Building.{MakesTable}
 use Rattle.rtgs_sql_writes.proofs.Lists.{EachAt, each_at}
@@ -26,5 +26,5 @@ abbrev pub first_terms : List Term
 first_terms = lit (Int (pos 1)) ∷ lit Null ∷ col 0 0 ∷ lit Null ∷ lit (Int (pos 0)) ∷ []
 
 pub first_day_means : IsUnderstoodAs FIRST_DAY.now (Insert 0 (Values first_terms 5))
-unfolding understood everything desk_schema
+unfolding understood everything schema_in
 first_day_means = record { is = refl; plain = (refl, refl) }

@@ -32,7 +32,7 @@ use Rattle.rtgs_book.specs.declared.RowChange.TheVariants.{SetDay}
 use Rattle.rtgs_rows.specs.declared.numbers.TheConstants.{VERSION}
 use Rattle.rtgs_rows.specs.Rows.{date_value, phase_number, day_row}
 use Rattle.rtgs_rows.specs.Content.{rows_in, Content, IsUnderWay, with_change}
-use Rattle.rtgs_rows.specs.Tables.{desk_schema, desk_table as table}
+use Rattle.rtgs_rows.specs.Tables.{schema_in, desk_table as table}
 
 abbrev pub set_day_text : List ℕ
 set_day_text = codes "UPDATE desk SET date = ?1, phase = ?2 WHERE id = 1"
@@ -45,7 +45,7 @@ project = col 1 0 ∷ col 1 0 ∷ lit Null ∷ col 1 2 ∷ col 0 0 ∷ col 0 1 �
 
 set_day_means : IsUnderstoodAs set_day_text (Update 0
     (record { lets = []; body = simple table.tree tests project [] }))
-unfolding understood everything desk_schema
+unfolding understood everything schema_in
 set_day_means = record { is = refl; plain = (refl, refl) }
 
 abbrev params : Day → Row

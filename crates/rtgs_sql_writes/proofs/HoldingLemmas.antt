@@ -40,7 +40,7 @@ use Rattle.rtgs_book.specs.declared.RowChange.TheVariants.{AddParticipant, SetCr
 use Rattle.rtgs_rows.specs.Rows.{participant_row}
 use Rattle.rtgs_rows.specs.Content.{rows_in, Holding, Content, holding_row, IsUnderWay, IsInOrder, with_change}
 use Rattle.rtgs_rows.specs.Content.{with_credit_in, with_balance_in, newcomer}
-use Rattle.rtgs_rows.specs.Tables.{desk_schema, participant_table as table}
+use Rattle.rtgs_rows.specs.Tables.{schema_in, participant_table as table}
 use Rattle.rtgs_lists.proofs.Results.{none_moved}
 use Rattle.rtgs_lists.proofs.Filters.{filter_of}
 
@@ -51,7 +51,7 @@ abbrev terms : List Term
 terms = lit Null ∷ col 0 0 ∷ col 0 1 ∷ col 0 2 ∷ col 0 3 ∷ lit (Int (pos 0)) ∷ []
 
 participant_means : IsUnderstoodAs participant_text (Insert 1 (Values terms 6))
-unfolding understood everything desk_schema
+unfolding understood everything schema_in
 participant_means = record { is = refl; plain = (refl, refl) }
 
 abbrev pub participant_given : Participant → Row
@@ -124,7 +124,7 @@ balance_project = col 1 0 ∷ col 1 0 ∷ col 1 1 ∷ col 1 2 ∷ col 1 3 ∷ co
 
 balance_means : IsUnderstoodAs balance_text
     (Update 1 (record { lets = []; body = simple table.tree tests balance_project [] }))
-unfolding understood everything desk_schema
+unfolding understood everything schema_in
 balance_means = record { is = refl; plain = (refl, refl) }
 
 abbrev balance_set : ℤ → Holding → Holding
@@ -186,7 +186,7 @@ credit_project = col 1 0 ∷ col 1 0 ∷ col 1 1 ∷ col 1 2 ∷ col 1 3 ∷ col
 
 credit_means : IsUnderstoodAs credit_text (Update 1
     (record { lets = []; body = simple table.tree tests credit_project [] }))
-unfolding understood everything desk_schema
+unfolding understood everything schema_in
 credit_means = record { is = refl; plain = (refl, refl) }
 
 abbrev credit_set : ℕ → Holding → Holding

@@ -23,7 +23,7 @@ use Rattle.rtgs_book.specs.declared.RowChange.TheVariants.{AddMark}
 use Rattle.rtgs_money.specs.Date.{date_text}
 use Rattle.rtgs_rows.specs.Rows.{mark_row}
 use Rattle.rtgs_rows.specs.Content.{rows_in, Content, IsUnderWay, IsInOrder, with_change}
-use Rattle.rtgs_rows.specs.Tables.{desk_schema, mark_table as table}
+use Rattle.rtgs_rows.specs.Tables.{schema_in, mark_table as table}
 
 abbrev pub mark_text : List ℕ
 mark_text = codes "INSERT INTO mark (number, date, many, value) VALUES (?1, ?2, ?3, ?4)"
@@ -32,7 +32,7 @@ abbrev terms : List Term
 terms = col 0 0 ∷ lit Null ∷ col 0 1 ∷ col 0 2 ∷ col 0 3 ∷ []
 
 mark_means : IsUnderstoodAs mark_text (Insert 4 (Values terms 5))
-unfolding understood everything desk_schema
+unfolding understood everything schema_in
 mark_means = record { is = refl; plain = (refl, refl) }
 
 abbrev pub mark_given : Mark → Row

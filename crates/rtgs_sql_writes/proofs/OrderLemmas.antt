@@ -45,7 +45,7 @@ use Rattle.rtgs_book.specs.Commands.{has_number}
 use Rattle.rtgs_money.specs.Date.{date_text}
 use Rattle.rtgs_rows.specs.Rows.{mark_value, state_number, payment_row}
 use Rattle.rtgs_rows.specs.Content.{rows_in, Content, IsUnderWay, IsInOrder, with_change}
-use Rattle.rtgs_rows.specs.Tables.{desk_schema, payment_table as table}
+use Rattle.rtgs_rows.specs.Tables.{schema_in, payment_table as table}
 use Rattle.rtgs_lists.proofs.Results.{none_moved}
 use Rattle.rtgs_lists.proofs.Filters.{filter_of}
 
@@ -57,7 +57,7 @@ abbrev terms : List Term
 terms = col 0 0 ∷ lit Null ∷ col 0 1 ∷ col 0 2 ∷ col 0 3 ∷ col 0 4 ∷ col 0 7 ∷ col 0 5 ∷ col 0 6 ∷ []
 
 order_means : IsUnderstoodAs order_text (Insert 3 (Values terms 9))
-unfolding understood everything desk_schema
+unfolding understood everything schema_in
 order_means = record { is = refl; plain = (refl, refl) }
 
 abbrev params : Order → Row
@@ -105,7 +105,7 @@ project = col 1 0 ∷ col 1 0 ∷ lit Null ∷ col 1 2 ∷ col 1 3 ∷ col 1 4 �
 
 set_state_means : IsUnderstoodAs set_state_text
     (Update 3 (record { lets = []; body = simple table.tree tests project [] }))
-unfolding understood everything desk_schema
+unfolding understood everything schema_in
 set_state_means = record { is = refl; plain = (refl, refl) }
 
 passes_one : (number : ℕ) (state mark : Value) (o : Order) → passes tests (Int (pos number) ∷ state ∷ mark ∷ [])

@@ -17,7 +17,7 @@ use Rattle.sqlite.specs.Values.{bound_value}
 use Rattle.sqlite_tied.specs.Compute.{everything}
 use Rattle.rtgs_book.specs.declared.Posting.{Posting}
 use Rattle.rtgs_book.specs.declared.RowChange.TheVariants.{AddPosting}
-use Rattle.rtgs_rows.specs.Tables.{desk_schema, posting_table as table}
+use Rattle.rtgs_rows.specs.Tables.{schema_in, posting_table as table}
 use Rattle.rtgs_rows.specs.Rows.{date_value, posting_row}
 use Rattle.rtgs_rows.specs.Content.{rows_in, Content, IsUnderWay, IsInOrder, with_change}
 use Rattle.rtgs_sql_writes.proofs.Casts.{cast_null, cast_int, cast_date, bound_date}
@@ -32,7 +32,7 @@ abbrev terms : List Term
 terms = col 0 0 ∷ lit Null ∷ col 0 1 ∷ col 0 2 ∷ col 0 3 ∷ col 0 4 ∷ []
 
 posting_means : IsUnderstoodAs posting_text (Insert 2 (Values terms 6))
-unfolding understood everything desk_schema
+unfolding understood everything schema_in
 posting_means = record { is = refl; plain = (refl, refl) }
 
 abbrev params : Posting → Row

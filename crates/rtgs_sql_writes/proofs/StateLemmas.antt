@@ -8,7 +8,8 @@ use Rattle.sqlite.specs.Effect.{Database, IsDatabase}
 use Rattle.sqlite_catalog.specs.Listing.{IsSound}
 use Rattle.sqlite.specs.State.{State, HasCleanDisk, Survives, Shows}
 use Rattle.sqlite.specs.Table.{Table}
-use Rattle.rtgs_rows.specs.Tables.{desk_schema, desk_tables}
+use Rattle.rtgs_rows.specs.Settling.{newest_is_known}
+use Rattle.rtgs_rows.specs.Tables.{desk_schema, desk_tables, schema_in}
 use Rattle.sqlite_trees.specs.declared.store.Store.{Ghosts}
 use Rattle.sqlite.specs.Tree.{Trees}
 use Rattle.sqlite.specs.Held.{Held, state}
@@ -51,7 +52,7 @@ module _ (tree : ℕ) (old new : Trees) (rows : List Row) (here : new tree ≡ r
   all_same (t ∷ tables) others = λ i. same_at t.tree others.0 i ∷ all_same tables others.1 i
 
   pub framed : frame_but tree old new → tables_of new ≡ tables_of (with_tree tree rows old)
-  unfolding desk_schema
+  unfolding schema_in
   framed others = all_same desk_tables others
 
 pub stands_on : (was : Database) (old new : State) (content after : Content) → IsUnderWay was content old
@@ -79,6 +80,7 @@ stands_begun g h content rests = record {
 pub rests_committed : (was : Database) (mid new : State) (content : Content) → IsUnderWay was content mid
     → Shows mid new mid.now mid.now false → Rests content new
 rests_committed was mid new content stands shown = record {
+  known = newest_is_known;
   is_open = shown.is_open;
   schema = ap (λ (d : Database). d.schema) shown.committed_is ∙ stands.schema;
   holds = subst (λ (d : Database). Holds content d.trees) (sym shown.committed_is) stands.holds;

@@ -21,7 +21,7 @@ use Rattle.sqlite.specs.Listing.{understood}
 use Rattle.sqlite.specs.Effect.{IsDatabase, value_rows}
 use Rattle.sqlite.specs.State.{State, mode_of, Executes}
 use Rattle.sqlite.proofs.Callers.{IsPlain, command_of, statement_of, runs_as}
-use Rattle.rtgs_rows.specs.Tables.{desk_table, desk_tables, desk_schema}
+use Rattle.rtgs_rows.specs.Tables.{desk_table, desk_tables, desk_schema, schema_in}
 use Rattle.rtgs_sql_writes.specs.Building.{table_at}
 use Rattle.rtgs_sql_writes.proofs.Lists.{EachAt, each_at}
 use Rattle.rtgs_sql_writes.proofs.StateLemmas.{desk_over, frame_but}
@@ -42,7 +42,7 @@ pub record IsUnderstoodAs (text : List ℕ) (command : Command) : Type 0 where
 
 -- no foreign key acts on the rows of a table
 all_plain : (trees : Trees) (mode : Mode) → EachAt (IsPlainTable (desk_over trees) mode) desk_tables
-unfolding desk_schema
+unfolding schema_in
 all_plain trees mode = assumption refl
 
 -- the table stands at that place of the schema

@@ -17,6 +17,8 @@ use Rattle.rtgs_keeper.specs.declared.commit_fault.CommitFault.TheVariants as co
 use Rattle.rtgs_rows.specs.Content.{HasNoTables}
 use Rattle.rtgs_rows.specs.Keeping.{IsBookOf, HoldsBook}
 use Rattle.rtgs_rows.specs.Querying.{IsDeskFile}
+use Rattle.rtgs_rows.specs.Settling.{newest_is_known}
+use Rattle.rtgs_rows.specs.declared.numbers.TheConstants.{VERSION}
 use Rattle.rtgs_rows.specs.Tables.{no_schema, desk_schema}
 use Rattle.rtgs_tables.specs.Loading.{ExplainsTrees, ExplainsDatabase}
 use Rattle.rtgs_tables.specs.Building.{IsBlank, IsNoneOrNew, first_content}
@@ -32,6 +34,7 @@ held_at_rest g h as_such rest book tables =
     let s = state g h in (
       tables.0,
       record {
+        known = newest_is_known;
         is_open = rest.is_open;
         schema = as_such s.committed.schema s.committed.trees tables.1.sound
             rest.sound;
@@ -49,7 +52,13 @@ blank_at_rest s as_none rest none = record {
 }
 
 pub file_at_rest : (s : State) → IsAtRest s → s.committed.schema ≡ desk_schema → IsDeskFile s.committed.trees s
-file_at_rest s rest schema = record { is_open = rest.is_open; schema = schema; trees_are = refl; clean = rest.clean }
+file_at_rest s rest schema = record {
+  known = newest_is_known;
+  is_open = rest.is_open;
+  schema = schema;
+  trees_are = refl;
+  clean = rest.clean;
+}
 
 -- what is held is in the tables that are committed
 pub committed_tables : {S : Type 0} (g : Ghosts S) (h : Held S) (book : Book) → HoldsBook g h book
@@ -69,8 +78,9 @@ making_cause commit.OutOfMemory = inl refl
 making_cause commit.Store = inr refl
 making_cause commit.Failed = inr refl
 
-pub memory_explains : (trees : Trees) (fault : Fault) → fault ≡ OutOfMemory → ExplainsTrees trees fault
-memory_explains trees fault memory = subst (ExplainsTrees trees) (sym memory) tt
+pub memory_explains : (trees : Trees) (fault : Fault) → fault ≡ OutOfMemory
+    → ExplainsTrees VERSION trees fault
+memory_explains trees fault memory = subst (ExplainsTrees VERSION trees) (sym memory) tt
 
 -- what two clauses say of an error together
 pub from_both : {T E : Type 0} (r : Result T E) (P Q R : E → Type 0) → ((e : E) → P e → Q e → R e) → IfErr r P
@@ -78,8 +88,9 @@ pub from_both : {T E : Type 0} (r : Result T E) (P Q R : E → Type 0) → ((e :
 from_both (Ok x) P Q R f p q = tt
 from_both (Err e) P Q R f p q = f e p q
 
-pub memory_tells : (db : Database) (fault : Fault) → fault ≡ OutOfMemory → ExplainsDatabase db fault
-memory_tells db fault memory = subst (ExplainsDatabase db) (sym memory) tt
+pub memory_tells : (db : Database) (fault : Fault) → fault ≡ OutOfMemory
+    → ExplainsDatabase VERSION db fault
+memory_tells db fault memory = subst (ExplainsDatabase VERSION db) (sym memory) tt
 
 pub making_memory : (fault : CommitFault) → fault_of_making fault ≡ OutOfMemory → fault ≡ commit.OutOfMemory
 making_memory commit.OutOfMemory told = refl

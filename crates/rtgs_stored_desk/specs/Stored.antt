@@ -20,6 +20,7 @@ use Rattle.rtgs_rows.specs.Content as rows
 use Rattle.rtgs_rows.specs.Keeping.{IsBookOf, AddsUp}
 use Rattle.rtgs_rows.specs.Querying.{AreWhole}
 use Rattle.rtgs_rows.specs.Tables.{desk_schema, no_schema}
+use Rattle.rtgs_rows.specs.declared.numbers.TheConstants.{VERSION}
 use Rattle.rtgs_tables.specs.Building.{IsBlank}
 use Rattle.rtgs_tables.specs.Loading.{ExplainsTrees, IsDisplayed, ExplainsDatabase}
 use Rattle.rtgs_desk.specs.Holding.{HasInMemory, Holds}
@@ -68,7 +69,7 @@ pub record IsOver {K : Type 0} (k : Ghosts K) (old : State) (desk : Seen K) (new
       → (book : Book) × AreTablesOf book old.committed.trees × Holds k desk book
   -- whatever tables there were, the desk has in memory the book that the queries show of them, with each stored balance
   -- the sum from scratch
-  pub shown : (book : Book) × HasInMemory desk book × IsDisplayed old.now book
+  pub shown : (book : Book) × HasInMemory desk book × IsDisplayed VERSION old.now book
   -- and over a database that has no tables there is none
   pub some : HasNoTables old.committed.trees → ⊥
   -- a stop leaves what was found
@@ -79,10 +80,10 @@ pub record IsRefused (old : State) (fault : Fault) (new : State) : Type 0 where
   -- tables that hold a book are refused for lack of memory or a fault of the store alone
   pub cause : (book : Book) → AreTablesOf book old.committed.trees → IsMemoryOrStore fault
   -- over the schema of a desk the rows explain the fault: one is in no form, or this is the first rule that they break
-  pub explained : old.committed.schema ≡ desk_schema → ExplainsTrees old.committed.trees fault
+  pub explained : old.committed.schema ≡ desk_schema → ExplainsTrees VERSION old.committed.trees fault
   -- whatever tables there were, a query has no answer over them, or shows a row in no form; or this is the first rule
   -- that the records break which the queries show; or memory was refused or the store failed
-  pub told : ExplainsDatabase old.now fault
+  pub told : ExplainsDatabase VERSION old.now fault
   -- a database that has no tables breaks no rule
   pub no_rule : HasNoTables old.committed.trees → (rule : Rule) → fault ≢ Inconsistent rule
   -- a stop leaves what was found

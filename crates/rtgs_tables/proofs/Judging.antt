@@ -13,6 +13,7 @@ use Rattle.rtgs_book.specs.declared.Rule.TheVariants.{Floors, Total, StoredBalan
 use Rattle.rtgs_book.specs.Judgement.{Keeps}
 use Rattle.rtgs_book.specs.Soundness.{IsSound}
 use Rattle.rtgs_rows.specs.Keeping.{AreBalances}
+use Rattle.rtgs_rows.specs.declared.numbers.TheConstants.{VERSION}
 use Rattle.rtgs_sql_loading.specs.Accounts.{ExplainsRead}
 use Rattle.rtgs_sql_loading.specs.Loading.{LoadsFrom}
 use Rattle.rtgs_tables.specs.Loading.{ExplainsLoad}
@@ -50,7 +51,7 @@ passed_on {A = A} P met fault (Err told_fault) was told holds =
     subst P (sym told) (subst (λ (r : Result A Fault). IfErr r P) was holds)
 
 -- the same fault explains whatever records there are
-pub explained : (s : State) (answer : Result Book Fault) → LoadsFrom s answer → IfErr answer (ExplainsLoad s)
+pub explained : (s : State) (answer : Result Book Fault) → LoadsFrom VERSION s answer → IfErr answer (ExplainsLoad s)
 explained s (Ok it) loads = tt
 explained s (Err fault) loads = (loads.explained, (loads.caused, loads.told))
 

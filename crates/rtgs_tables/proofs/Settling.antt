@@ -13,6 +13,8 @@ use Rattle.rtgs_rows.specs.Content.{Content, Holds, Rests, AreInOrder, with_chan
 use Rattle.rtgs_rows.specs.Fitting.{FitsRow}
 use Rattle.rtgs_sql_writes.specs.Staging.{HoldsChange}
 use Rattle.rtgs_rows.specs.Keeping.{IsBookOf, HoldsBook, MayLeave, IsWhole}
+use Rattle.rtgs_rows.specs.Settling.{newest_is_known}
+use Rattle.rtgs_rows.specs.declared.numbers.TheConstants.{VERSION}
 use Rattle.rtgs_rows.specs.RowLaws.{RowsTellTheBook, ChangesStandInOrder, ChangedRowsAreTheBook, DesksAreReadAsSuch}
 
 -- the laws of rows that a change rests on
@@ -70,6 +72,7 @@ done laws g old new rows made before after holds change forms = (
 
 pub rests_same : (content : Content) (old new : State) → Rests content old → IsUnchanged old new → Rests content new
 rests_same content old new rests same = record {
+  known = rests.known;
   is_open = same.0.is_open;
   schema = ap (λ (d : Database). d.schema) same.0.committed_is ∙ rests.schema;
   holds = subst (λ (d : Database). Holds content d.trees) (sym same.0.committed_is) rests.holds;
@@ -127,8 +130,9 @@ pub opened : DesksAreReadAsSuch → {S : Type 0} (g : Ghosts S) (h : Held S) (bo
 opened read g h book content opens live holds is =
     let s = state g h in
     let rests : Rests content s = record {
+      known = newest_is_known;
       is_open = opens.is_open;
-      schema = read s.committed.schema s.committed.trees holds.sound (live opens.is_open).1;
+      schema = read VERSION s.committed.schema s.committed.trees holds.sound (live opens.is_open).1;
       holds = holds;
       clean = opens.clean;
     } in

@@ -12,6 +12,7 @@ use Rattle.rtgs_rows.specs.Content.{Content, Holds, Rests}
 use Rattle.rtgs_rows.specs.Keeping.{IsBookOf}
 use Rattle.rtgs_rows.specs.Querying.{IsDeskFile}
 use Rattle.rtgs_rows.specs.RowLaws.{RecordsStandInOrder}
+use Rattle.rtgs_rows.specs.declared.numbers.TheConstants.{VERSION}
 use Rattle.rtgs_sql_columns.specs.Blank.{IsBlank}
 use Rattle.rtgs_sql_queries.specs.Answering.{KeepsTables}
 use Rattle.rtgs_sql_loading.specs.Loading.{LoadsFrom}
@@ -23,7 +24,13 @@ use Rattle.rtgs_tables.proofs.Judging.{accepted, explained, the_book}
 rests_of : (content : Content) (s : State) (trees : Trees) → IsDeskFile trees s → Holds content trees → Rests content s
 rests_of content s trees file holds =
     let here = subst (Holds content) (sym file.trees_are) holds in
-    record { is_open = file.is_open; schema = file.schema; holds = here; clean = file.clean }
+    record {
+      known = file.known;
+      is_open = file.is_open;
+      schema = file.schema;
+      holds = here;
+      clean = file.clean;
+    }
 
 -- and the connection goes on to hold it
 kept_book : (s : State) (trees : Trees) (answer : Result Book Fault)
@@ -33,13 +40,14 @@ kept_book : (s : State) (trees : Trees) (answer : Result Book Fault)
 kept_book s trees (Ok it) held file = (held.0, rests_of held.0 s trees (file (λ e. cc)) held.1, held.2)
 kept_book s trees (Err fault) held file = tt
 
-shown_always : (s : State) (answer : Result Book Fault) → LoadsFrom s answer → IfOk answer (ShowsBalanced s)
+shown_always : (s : State) (answer : Result Book Fault) → LoadsFrom VERSION s answer → IfOk answer (ShowsBalanced s)
 shown_always s (Ok it) loads = (loads.shown, loads.displayed)
 shown_always s (Err fault) loads = tt
 
 -- what a loading answers of the tables is what the connection holds
 pub answers_book : RecordsStandInOrder → {S : Type 0} (g : Ghosts S) (old new : Held S) (answer : Result Book Fault)
-    → LoadsFrom (state g old) answer → (answer ≢ Err StoreFault → KeepsTables (state g old) (state g new))
+    → LoadsFrom VERSION (state g old) answer
+    → (answer ≢ Err StoreFault → KeepsTables VERSION (state g old) (state g new))
     → (IsBlank (state g old) → IfOk answer (λ _. ⊥) × ((rule : Rule) → answer ≢ Err (Inconsistent rule)))
     → AnswersBook g old new answer
 answers_book in_order g old new answer loads same empty =

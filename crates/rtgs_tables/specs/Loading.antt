@@ -11,6 +11,7 @@ use Rattle.rtgs_book.specs.declared.Fault.TheVariants.{OutOfMemory, StoreFault, 
 use Rattle.rtgs_book.specs.declared.Rule.{Rule}
 use Rattle.rtgs_rows.specs.Keeping.{HoldsBook, MayLeave, IsWhole}
 use Rattle.rtgs_rows.specs.Querying.{IsDeskFile, HasTables}
+use Rattle.rtgs_rows.specs.declared.numbers.TheConstants.{VERSION}
 use Rattle.rtgs_sql_columns.specs.Blank.{IsBlank}
 use Rattle.rtgs_sql_queries.specs.Records.{HasRecords}
 use Rattle.rtgs_sql_loading.specs.Accounts.{ExplainsRead}
@@ -20,13 +21,14 @@ pub use Rattle.rtgs_sql_loading.specs.Displaying.{IsDisplayed, ExplainsDatabase}
 -- Why no book is given, in three ways: by the records, where the tables have any; by the rows, where the schema is a
 -- desk's; and by what the queries show, whatever the schema is.
 abbrev pub ExplainsLoad : State → Fault → Type 0
-ExplainsLoad s fault = ((accounts : List Account) (book : Book) → HasRecords accounts book s
+ExplainsLoad s fault = ((accounts : List Account) (book : Book) → HasRecords VERSION accounts book s
     → ExplainsRead accounts book fault)
-    × (((trees : Trees) → IsDeskFile trees s → ExplainsTrees trees fault) × ExplainsDatabase s.now fault)
+    × (((trees : Trees) → IsDeskFile trees s → ExplainsTrees VERSION trees fault)
+    × ExplainsDatabase VERSION s.now fault)
 
 -- The queries show the records of the book, with stored balances that are the sums from scratch.
 abbrev pub ShowsBalanced : State → Book → Type 0
-ShowsBalanced s book = ((trees : Trees) → IsDeskFile trees s → IsShown trees book) × IsDisplayed s.now book
+ShowsBalanced s book = ((trees : Trees) → IsDeskFile trees s → IsShown VERSION trees book) × IsDisplayed VERSION s.now book
 
 -- whatever a stop leaves in the second state, it could leave in the first
 abbrev pub MayLeaveNoMore : State → State → Type 0

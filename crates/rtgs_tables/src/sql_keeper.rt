@@ -23,6 +23,7 @@ use rtgs_cores::laws::records_are_listed;
 use rtgs_keeper::{CommitFault, Keeper};
 use rtgs_money::{BusinessDate, Code, Reference};
 use rtgs_rows::laws;
+use rtgs_rows::numbers::VERSION;
 use rtgs_soundness::core_of;
 use rtgs_sql_loading::load_book;
 use rtgs_sql_look_ups::{find_order, find_posting, next_of, next_order};
@@ -114,7 +115,7 @@ impl<S: Alter + Drop> SqlKeeper<S> {
             return Err(Fault::StoreFault);
         }
         laws::records_stand_in_order();
-        let loaded = load_book(alloc, &mut self.conn);
+        let loaded = load_book(alloc, &mut self.conn, VERSION);
         if let Err(Fault::StoreFault) = loaded {
             self.failed = true;
         }

@@ -2,7 +2,7 @@ use Rattle.std.proofs.Common.{IfErr, rules, subst, subst₂}
 use Rattle.sqlite_catalog.specs.Listing.{IsSound}
 use Rattle.sqlite.specs.Held.{state}
 use Rattle.rtgs_book.specs.declared.Fault.TheVariants.{StoreFault}
-use Rattle.rtgs_rows.specs.Tables.{desk_schema}
+use Rattle.rtgs_rows.specs.Tables.{schema_in}
 use Rattle.rtgs_sql_loading.specs.Accounts.{ExplainsRead}
 use Rattle.rtgs_sql_loading.proofs.Judging.{judged_book, judged_of, unread, unread_of, answered}
 use Rattle.rtgs_sql_loading.proofs.Together.{held_book, shown_book}
@@ -21,15 +21,16 @@ returns-in_err-stored-clause-tells g c clean =
           (stops.right clean accounts book held) kinds was told;
       held = λ trees file whole. search rules;
       shown = λ trees file. search rules;
-      caused = λ trees file. unread_of trees c.read_tables.result _ c.from_residual.result
+      caused = λ trees file. unread_of c.args.version trees c.read_tables.result _ c.from_residual.result
           (stops.wrong clean trees file) kinds was told;
       displayed = search rules;
-      told = told_of_none (state g.S.Store c.args.conn.now).now c.read_tables.result _ c.from_residual.result
-          (stops.unread clean) kinds was told;
+      told = told_of_none c.args.version (state g.S.Store c.args.conn.now).now c.read_tables.result _
+          c.from_residual.result (stops.unread clean) kinds was told;
     }
 
 pub returns-clause-tells : goal.returns-clause-tells
 returns-clause-tells g c clean =
+    let version = c.args.version in
     let s = state g.S.Store c.args.conn.now in
     let tells = c.in_ok-stored.ensures.told clean in
     let it = c.judged.ensures in
@@ -41,14 +42,15 @@ returns-clause-tells g c clean =
           let read = tells.records accounts book held in
           subst₂ (λ b a. IfErr c.judged.result (ExplainsRead a b)) read.0 read.1 it.explained;
       held = λ trees file whole.
-          let sound = subst (IsSound desk_schema) file.trees_are (subst (λ schema. IsSound schema s.committed.trees)
-          file.schema (c.schema.ensures.live file.is_open).1) in
-          held_book c.shown_records_are_held.ensures trees _ _ c.judged.result sound whole (tells.rows trees file)
-          it.given it.sound it.balances;
-      shown = λ trees file. shown_book trees _ _ c.judged.result (tells.rows trees file) it.given it.sound it.balances;
-      caused = λ trees file. judged_of trees _ _ c.judged.result (tells.rows trees file) it.explained;
-      displayed = displayed_book s.now _ _ c.judged.result tells.displayed it.given it.sound it.balances;
-      told = told_of_book s.now _ _ c.judged.result tells.displayed it.explained;
+          let sound = subst (IsSound (schema_in version)) file.trees_are
+          (subst (λ schema. IsSound schema s.committed.trees) file.schema (c.schema.ensures.live file.is_open).1) in
+          held_book c.shown_records_are_held.ensures version file.known trees _ _ c.judged.result sound whole
+          (tells.rows trees file) it.given it.sound it.balances;
+      shown = λ trees file.
+          shown_book version trees _ _ c.judged.result (tells.rows trees file) it.given it.sound it.balances;
+      caused = λ trees file. judged_of version trees _ _ c.judged.result (tells.rows trees file) it.explained;
+      displayed = displayed_book version s.now _ _ c.judged.result tells.displayed it.given it.sound it.balances;
+      told = told_of_book version s.now _ _ c.judged.result tells.displayed it.explained;
     }
 
 pub returns-in_err-stored-clause-same : goal.returns-in_err-stored-clause-same

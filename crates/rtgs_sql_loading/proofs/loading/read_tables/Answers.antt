@@ -39,4 +39,5 @@ returns-clause-told g c clean =
     let postings = renamed c.from_vec-2.ensures lists.0 in
     let orders = renamed c.from_vec-3.ensures lists.1.0 in
     let marks = renamed c.from_vec-4.ensures lists.1.1.0 in
-    tells (state g.S.Store c.args.conn.now) _ _ participants (read.0, (read.1.0, (postings, (orders, (marks, tt)))))
+    tells c.args.version (state g.S.Store c.args.conn.now) _ _ participants
+    (read.0, (read.1.0, (postings, (orders, (marks, tt)))))

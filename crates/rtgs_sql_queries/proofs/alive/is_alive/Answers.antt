@@ -23,8 +23,9 @@ returns-clause-kept g c clean alive =
     let was = state g.S.Store c.args.conn.now in
     let same = returns-clause-alive g c clean alive in (
       same.0.was_open,
-      keeps was (state g.S.Store c.prepare.new.self)
-          (λ trees file. file_on trees was (state g.S.Store c.prepare.new.self) file (inl same) same.0.is_open),
+      λ version. keeps {version = version} was (state g.S.Store c.prepare.new.self)
+          (λ trees file. file_on {version = version} trees was (state g.S.Store c.prepare.new.self) file (inl same)
+          same.0.is_open),
     )
 
 pub returns-clause-dead : goal.returns-clause-dead

@@ -2,7 +2,7 @@ use Rattle.std.proofs.Common.{◌≡◌, ◌∙◌, ◌<◌, length, arith, subs
 use Rattle.sqlite.specs.State.{HasCleanDisk}
 use Rattle.sqlite.specs.Effect.{Database}
 use Rattle.sqlite.specs.Held.{state}
-use Rattle.rtgs_rows.specs.Tables.{with_tables, desk_tables, desk_schema}
+use Rattle.rtgs_rows.specs.Tables.{with_tables, desk_tables, schema_in}
 use Rattle.rtgs_sql_writes.specs.Building.{IsBuilt}
 use Rattle.rtgs_sql_writes.proofs.CreateLemmas.{was_clean}
 use Rattle.rtgs_sql_writes.proofs.CreateTexts.{made_at, all_made}
@@ -28,7 +28,7 @@ loop-sql-preserved g c =
     }
 
 pub returns-clause-made : goal.returns-clause-made
-unfolding with_tables desk_schema
+unfolding with_tables schema_in
 returns-clause-made g c clean was is =
     let mid = state g.S.Store c.loop-sql.tx.conn.now in
     let all : c.loop-sql.sql-index ≡ length desk_tables = omega arith in

@@ -4,6 +4,7 @@ use Rattle.sqlite.specs.Tree.{Trees}
 use Rattle.rtgs_stored_desk.proofs.Resting.{held_at_rest, blank_at_rest, file_at_rest, tables_are, memory_explains}
 use Rattle.rtgs_stored_desk.proofs.Resting.{memory_tells}
 use Rattle.rtgs_stored_desk.proofs.opening.desk_over.Goals as goal
+use Rattle.rtgs_rows.specs.declared.numbers.TheConstants.{VERSION}
 
 pub returns-in-Ok-clause-opened : goal.returns-in-Ok-clause-opened
 returns-in-Ok-clause-opened g c honest rest =
@@ -14,7 +15,7 @@ returns-in-Ok-clause-opened g c honest rest =
     → trees ≡ (state g.S.Store was).committed.trees = λ trees left. g.met.S.Store.settled was.store trees
     rest.is_open (it.left.untouched trees left) in
     record {
-      held = λ book tables. it.held book (held_at_rest g.S.Store was c.tables_of_a_desk_are_read_as_such.ensures
+      held = λ book tables. it.held book (held_at_rest g.S.Store was (c.tables_of_a_desk_are_read_as_such.ensures VERSION)
           rest book tables);
       kept = λ schema whole.
           let found = it.kept (file_at_rest (state g.S.Store was) rest schema, whole) in
@@ -35,7 +36,7 @@ returns-in-Err-clause-refused g c honest rest =
     let it = c.in-Err.ensures.refused honest in
     record {
       cause = λ book tables. it.accepted book (held_at_rest g.S.Store was
-          c.tables_of_a_desk_are_read_as_such.ensures rest book tables);
+          (c.tables_of_a_desk_are_read_as_such.ensures VERSION) rest book tables);
       explained = λ schema. ⊎_elim (λ memory. memory_explains (state g.S.Store was).committed.trees c.in-Err.fault
           memory)
           (λ told. told.1.0 (state g.S.Store was).committed.trees (file_at_rest (state g.S.Store was) rest schema))

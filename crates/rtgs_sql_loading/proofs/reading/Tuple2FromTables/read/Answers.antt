@@ -24,5 +24,5 @@ pub returns-clause-told : goal.returns-clause-told
 returns-clause-told g c clean =
     let mid = c.in_ok-other.ensures.on.clean clean in (
       c.in_ok-one.ensures.told mid,
-      g.B.FromTables.after _ _ c.in_ok-one.ensures.on mid _ (c.in_ok-other.ensures.told clean),
+      g.B.FromTables.after _ _ _ c.in_ok-one.ensures.on mid _ (c.in_ok-other.ensures.told clean),
     )
