@@ -16,7 +16,7 @@ use Rattle.rtgs_book.specs.Changes.{with_row, changed}
 use Rattle.rtgs_rows.specs.Content.{Holding, Content, newcomer, with_credit_in, with_balance_in, with_change}
 use Rattle.rtgs_rows.specs.Content.{with_changes}
 use Rattle.rtgs_rows.specs.Keeping.{AreOf}
-use Rattle.rtgs_rows.proofs.Steps.{posting_step, order_step, mark_step}
+use Rattle.rtgs_rows.proofs.Steps.{posting_step, order_step, mark_step, forward_step}
 use Rattle.rtgs_lists.proofs.Lists.{map_push}
 
 abbrev who : Holding → Participant
@@ -73,6 +73,7 @@ step b c row are = record {
     postings = (posting_step b c row).same are.lists.postings;
     orders = (order_step b c row).same are.lists.orders;
     marks = (mark_step b c row).same are.lists.marks;
+    forwards = (forward_step b c row).same are.lists.forwards;
   };
 }
 

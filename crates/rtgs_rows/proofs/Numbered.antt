@@ -122,8 +122,8 @@ AreWholeAndTyped schema trees table = AreNumberedRows (width table) (trees table
 
 -- where the table shows records, its rows are theirs
 pub rows_are : {A : Type 0} {table : Table} {row shown : A → Row} {number : A → ℕ} → IsTold table row shown number
-    → (schema : Schema) (trees : Trees) (all : List A) → AreWholeAndTyped schema trees table → Rise (λ a. pos (number a)) all
-    → ShowsTable table trees (map shown all) → trees table.tree ≡ map row all
+    → (schema : Schema) (trees : Trees) (all : List A) → AreWholeAndTyped schema trees table
+    → Rise (λ a. pos (number a)) all → ShowsTable table trees (map shown all) → trees table.tree ≡ map row all
 rows_are {table = table} {row = row} {shown = shown} {number = number} is schema trees all are rise same =
     let begin = places_begin table is.numbered in
     let Typed = λ (r : Row). passes Datatype schema trees table r ≡ true in

@@ -29,7 +29,8 @@ use Rattle.rtgs_rows.specs.Content.{Holding, Content, newcomer, with_credit_in, 
 use Rattle.rtgs_rows.specs.Content.{with_changes, Rise, IsInOrder, AreInOrder}
 use Rattle.rtgs_rows.specs.Keeping.{AreOf}
 use Rattle.rtgs_rows.proofs.NextRow.{all_below}
-use Rattle.rtgs_rows.proofs.Steps.{all_front, front, posting_step, order_step, mark_step}
+use Rattle.rtgs_rows.proofs.Steps.{all_front, front, posting_step, order_step, mark_step, forward_step}
+use Rattle.rtgs_rows.specs.declared.forward.Forward.{Forward}
 
 snoc : {A : Type 0} (R : A → A → Type 0) (xs : List A) (x : A) → IsAscending R xs → AllByRecursion (λ a. R a x) xs
     → IsAscending R (xs ++ x ∷ [])
@@ -83,6 +84,7 @@ back b c row ids order = record {
   postings = (posting_step b c row).rose order.postings;
   orders = (order_step b c row).rose order.orders;
   marks = (mark_step b c row).rose order.marks;
+  forwards = (forward_step b c row).rose order.forwards;
 }
 
 ids_on : (c : Content) (row : RowChange) → Ids c → Ids (with_change c row)
@@ -179,6 +181,7 @@ order_of b c are ids sound = record {
   postings = list_rises _ are.lists.postings sound.postings_numbered;
   orders = list_rises _ are.lists.orders sound.orders_numbered;
   marks = list_rises _ are.lists.marks sound.marks_numbered;
+  forwards = subst (Rise (λ (f : Forward). pos f.number)) (sym are.lists.forwards) tt;
 }
 
 -- what holds of the codes after changes held before

@@ -1,7 +1,10 @@
 -- The records that the queries show are those that the tables hold.
-use Rattle.std.proofs.Common.{◌≡◌, true, ℕ, List, [], ◌∷◌, IsPermutation, refl, sym, ap, subst₂}
+use Rattle.std.proofs.Common.{◌≡◌, true, ℕ, ◌<◌, zero, suc, List, [], ◌∷◌, map, take, IsPermutation, refl, sym, ap₂}
+use Rattle.std.proofs.Common.{subst, subst₂, arith}
+use Rattle.sqlite.specs.Order.{Row}
 use Rattle.std.specs.List.{AllByRecursion}
 use Rattle.std.proofs.lemmas.List.Sorted.{IsPermutation-map, IsPermutation-sym}
+use Rattle.sqlite.specs.Schema.{Schema}
 use Rattle.sqlite.specs.Table.{Table}
 use Rattle.sqlite.specs.Tree.{Trees}
 use Rattle.sqlite_trees.proofs.ListLemmas.{all-permutation}
@@ -12,26 +15,26 @@ use Rattle.sqlite_catalog.specs.Listing.{IsSound}
 use Rattle.rtgs_book.specs.declared.Book.{Book}
 use Rattle.rtgs_book.specs.declared.account.Account.{Account}
 use Rattle.rtgs_book.specs.Balance.{balance}
-use Rattle.rtgs_rows.specs.Tables.{IsVersion, versions, schema_in, desk_tables, desk_table, participant_table}
-use Rattle.rtgs_rows.specs.Tables.{posting_table, payment_table, mark_table, width}
-use Rattle.rtgs_rows.specs.TableRecords.{TableRecords, records_of_tables}
+use Rattle.rtgs_rows.specs.Dues.{forwards_of}
+use Rattle.rtgs_rows.specs.Tables.{schema_in, known_tables, table_count, tables_in, desk_table, participant_table}
+use Rattle.rtgs_rows.specs.Tables.{posting_table, payment_table, mark_table, forward_table, width}
+use Rattle.rtgs_rows.specs.TableRecords.{TableRecords, Each, records_of_tables}
 use Rattle.rtgs_rows.specs.Rows.{day_row, posting_row, payment_row, mark_row, shown_day, shown_posting, shown_order}
-use Rattle.rtgs_rows.specs.Rows.{shown_mark}
-use Rattle.rtgs_rows.specs.declared.numbers.TheConstants.{VERSION}
-use Rattle.rtgs_rows.specs.Content.{tables_of, tables_under, rows_in, Holding, holding_row, stored_account}
-use Rattle.rtgs_rows.specs.Content.{Content, Holds, IsInOrder}
+use Rattle.rtgs_rows.specs.Rows.{shown_mark, forward_row, shown_forward}
+use Rattle.rtgs_rows.specs.Content.{Tables, tables_of_in, all_tables, tables_for_in, Holding, holding_row}
+use Rattle.rtgs_rows.specs.Content.{stored_account, Content, HoldsIn, IsInOrder}
 use Rattle.rtgs_rows.specs.Keeping.{SameLists, IsBookOf, content_of}
-use Rattle.rtgs_rows.specs.Querying.{AreNumberedRows, AreWhole, ShowsEach}
+use Rattle.rtgs_rows.specs.Querying.{AreNumberedRows, AreWholeIn, ShowsTable, ShowsEach}
 use Rattle.rtgs_rows.proofs.Ordered.{order_of}
 use Rattle.rtgs_rows.proofs.Numbered.{IsTold, AreWholeAndTyped, rows_are, are_numbered, numbered_rows}
 use Rattle.rtgs_rows.proofs.Participants.{Stores, stored_participants}
 use Rattle.rtgs_rows.specs.RowLaws.{ShownRecordsAreHeld}
-use Rattle.rtgs_lists.proofs.Lists.{all_get}
 
 -- ---- the tables of numbered records
 
 day_told : (version : ℕ) → IsTold desk_table (day_row version) (shown_day version) (λ _. 1)
-day_told version = record { numbered = (refl, _, _, refl); stands = λ d. (refl, refl, refl); told = λ r d all null e. cc }
+day_told version =
+    record { numbered = (refl, _, _, refl); stands = λ d. (refl, refl, refl); told = λ r d all null e. cc }
 
 posting_told : IsTold posting_table posting_row shown_posting (λ p. p.number)
 posting_told = record { numbered = (refl, _, _, refl); stands = λ p. (refl, refl, refl); told = λ r p all null e. cc }
@@ -42,6 +45,9 @@ order_told = record { numbered = (refl, _, _, refl); stands = λ o. (refl, refl,
 mark_told : IsTold mark_table mark_row shown_mark (λ m. m.number)
 mark_told = record { numbered = (refl, _, _, refl); stands = λ m. (refl, refl, refl); told = λ r m all null e. cc }
 
+forward_told : IsTold forward_table forward_row shown_forward (λ f. f.number)
+forward_told = record { numbered = (refl, _, _, refl); stands = λ f. (refl, refl, refl); told = λ r f all null e. cc }
+
 -- ---- the tables whose records are described
 
 abbrev tables_of_records : List ((A : Type 0) × TableRecords A) → List Table
@@ -49,7 +55,7 @@ tables_of_records [] = []
 tables_of_records (records ∷ more) = records.1.table ∷ tables_of_records more
 
 -- they are the tables of a desk, in their order
-in_the_order_of_the_tables : tables_of_records records_of_tables ≡ desk_tables
+in_the_order_of_the_tables : tables_of_records records_of_tables ≡ known_tables
 in_the_order_of_the_tables = refl
 
 -- ---- the tables of a book are whole
@@ -57,68 +63,125 @@ in_the_order_of_the_tables = refl
 pub book_in_order : (book : Book) (content : Content) → IsBookOf book content → IsInOrder content
 book_in_order book content of = order_of book content of.records of.ids of.sound
 
-pub book_is_whole : (content : Content) (trees : Trees) (book : Book) → Holds content trees → IsBookOf book content
-    → AreWhole trees
-book_is_whole content trees book holds of =
+-- so it is of each table and the rows in its place
+abbrev Pairs : (Table → List Row → Type 0) → List Table → Tables → Type 0
+Pairs P [] rows = Unit {0}
+Pairs P (table ∷ tables) [] = ⊥
+Pairs P (table ∷ tables) (rows ∷ more) = P table rows × Pairs P tables more
+
+-- so it is of the first tables, where their rows are those
+first_pairs : (P : Table → List Row → Type 0) (trees : Trees) (count : ℕ) (tables : List Table) (rows : Tables)
+    → Pairs P tables rows → map (λ (t : Table). trees t.tree) (take count tables) ≡ take count rows
+    → AllByRecursion (λ t. P t (trees t.tree)) (take count tables)
+first_pairs P trees zero tables rows pairs e = tt
+first_pairs P trees (suc count) [] rows pairs e = tt
+first_pairs P trees (suc count) (table ∷ tables) [] pairs e = absurd pairs
+first_pairs P trees (suc count) (table ∷ tables) (first ∷ more) pairs e =
+    let here : trees table.tree ≡ first = cc in
+    let rest : map (λ (t : Table). trees t.tree) (take count tables) ≡ take count more = cc in
+    (subst (P table) (sym here) pairs.0, first_pairs P trees count tables more pairs.1 rest)
+
+pub book_is_whole : (version : ℕ) (content : Content) (trees : Trees) (book : Book) → HoldsIn version content trees
+    → IsBookOf book content → AreWholeIn version trees
+book_is_whole version content trees book holds of =
     let order = book_in_order book content of in
+    let day = numbered_rows (day_told version) (content.day ∷ []) refl (tt, tt) in
     let people = are_numbered (width participant_table) holding_row (λ (h : Holding). h.id) (λ h. (refl, refl))
-    content.holdings (ap (rows_in participant_table) holds.rows) order.ids in
-    let postings = numbered_rows posting_told content.postings (ap (rows_in posting_table) holds.rows) order.postings in
-    let orders = numbered_rows order_told content.orders (ap (rows_in payment_table) holds.rows) order.orders in
-    let marks = numbered_rows mark_told content.marks (ap (rows_in mark_table) holds.rows) order.marks in
-    let day = numbered_rows (day_told VERSION) (content.day ∷ []) (ap (rows_in desk_table) holds.rows) (tt, tt) in
-    (day, (people, (postings, (orders, (marks, tt)))))
+    content.holdings refl order.ids in
+    let postings = numbered_rows posting_told content.postings refl order.postings in
+    let orders = numbered_rows order_told content.orders refl order.orders in
+    let marks = numbered_rows mark_told content.marks refl order.marks in
+    let forwards = numbered_rows forward_told content.forwards refl order.forwards in
+    first_pairs (λ t rows. AreNumberedRows (width t) rows) trees (table_count version) known_tables _
+    (day, (people, (postings, (orders, (marks, (forwards, tt)))))) holds.rows
 
 -- ---- tables that show a book hold it
 
--- what is so of each version that stands in the list is so of a known one
-each_version : (P : ℕ → Type 0) → AllByRecursion P versions → (version : ℕ) → IsVersion version → P version
-each_version P each version known = all_get P versions known.0 version known.1 (sym known.2) each
-
 -- the rows of each table are whole and typed
 abbrev AreAllWholeAndTyped : ℕ → Trees → Type 0
-AreAllWholeAndTyped version trees = AllByRecursion (AreWholeAndTyped (schema_in version) trees) desk_tables
+AreAllWholeAndTyped version trees = AllByRecursion (AreWholeAndTyped (schema_in version) trees)
+    (tables_in version)
 
-newest_whole_and_typed : (trees : Trees) → IsSound (schema_in VERSION) trees → AreWhole trees
-    → AreAllWholeAndTyped VERSION trees
+all_whole_and_typed : (version : ℕ) (trees : Trees) → IsSound (schema_in version) trees → AreWholeIn version trees
+    → AreAllWholeAndTyped version trees
 unfolding schema_in
-newest_whole_and_typed trees sound full = all_both (λ t. AreNumberedRows (width t) (trees t.tree))
-    (λ t. AllByRecursion (λ r. passes Datatype (schema_in VERSION) trees t r ≡ true) (trees t.tree))
-    (AreWholeAndTyped (schema_in VERSION) trees) (λ t whole typed. (whole, typed)) desk_tables full
+all_whole_and_typed version trees sound full = all_both (λ t. AreNumberedRows (width t) (trees t.tree))
+    (λ t. AllByRecursion (λ r. passes Datatype (schema_in version) trees t r ≡ true) (trees t.tree))
+    (AreWholeAndTyped (schema_in version) trees) (λ t whole typed. (whole, typed)) (tables_in version) full
     (sound.obeys.rules Datatype)
-
--- each version that is known has all tables
-all_whole_and_typed : (version : ℕ) → IsVersion version → (trees : Trees) → IsSound (schema_in version) trees
-    → AreWhole trees → AreAllWholeAndTyped version trees
-all_whole_and_typed version known trees = each_version (λ v. IsSound (schema_in v) trees → AreWhole trees
-    → AreAllWholeAndTyped v trees) (newest_whole_and_typed trees, tt) version known
 
 -- the records of a book have its lists
 pub same_lists : (book : Book) (holdings : List Holding) → SameLists book (content_of book holdings)
-same_lists book holdings = record { day = refl; postings = refl; orders = refl; marks = refl }
+same_lists book holdings =
+    record { day = refl; postings = refl; orders = refl; marks = refl; forwards = refl }
 
-shown_participants : (version : ℕ) (trees : Trees) (book : Book) (accounts : List Account)
-    → AreAllWholeAndTyped version trees → ShowsEach version trees accounts book
-    → Stores (trees participant_table.tree) accounts
-shown_participants version trees book accounts (day, (named, others)) (shows_day, (shows_named, more)) =
-    stored_participants (trees participant_table.tree) accounts named.0 shows_named
+-- each version has the table of the participants, which is the second
+shown_participants : (count : ℕ) → 1 < count → (schema : Schema) (version : ℕ) (trees : Trees) (book : Book)
+    (accounts : List Account) → AllByRecursion (AreWholeAndTyped schema trees) (take count known_tables)
+    → Each (λ A records. ShowsTable records.table trees (map records.shown (records.of_book version accounts book)))
+    (take count records_of_tables) → Stores (trees participant_table.tree) accounts
+shown_participants zero low schema version trees book accounts whole shows = absurd (omega (arith, low))
+shown_participants (suc zero) low schema version trees book accounts whole shows = absurd (omega (arith, low))
+shown_participants (suc (suc count)) low schema version trees book accounts whole shows =
+    stored_participants (trees participant_table.tree) accounts whole.1.0.0 shows.1.0
+
+-- where a table is whole and shows these records, it has these rows
+abbrev RowsFollow : Schema → ℕ → Trees → List Account → Book → List ((A : Type 0) × TableRecords A) → Tables → Type 0
+RowsFollow schema version trees accounts book [] [] = Unit {0}
+RowsFollow schema version trees accounts book [] (rows ∷ more) = ⊥
+RowsFollow schema version trees accounts book (records ∷ more) [] = ⊥
+RowsFollow schema version trees accounts book (records ∷ more) (rows ∷ others) =
+    (AreWholeAndTyped schema trees records.1.table → ShowsTable records.1.table trees
+    (map records.1.shown (records.1.of_book version accounts book)) → trees records.1.table.tree ≡ rows)
+    × RowsFollow schema version trees accounts book more others
+
+-- so it is with the first tables
+first_rows : (count : ℕ) (schema : Schema) (version : ℕ) (trees : Trees) (accounts : List Account) (book : Book)
+    (all : List ((A : Type 0) × TableRecords A)) (rows : Tables)
+    → RowsFollow schema version trees accounts book all rows
+    → AllByRecursion (AreWholeAndTyped schema trees) (take count (tables_of_records all))
+    → Each (λ A records. ShowsTable records.table trees (map records.shown (records.of_book version accounts book)))
+    (take count all)
+    → map (λ (t : Table). trees t.tree) (take count (tables_of_records all)) ≡ take count rows
+first_rows zero schema version trees accounts book all rows follow whole shows = refl
+first_rows (suc count) schema version trees accounts book [] [] follow whole shows = refl
+first_rows (suc count) schema version trees accounts book [] (rows ∷ more) follow whole shows = absurd follow
+first_rows (suc count) schema version trees accounts book (records ∷ all) [] follow whole shows = absurd follow
+first_rows (suc count) schema version trees accounts book (records ∷ all) (rows ∷ more) follow whole shows =
+    ap₂ ◌∷◌ (follow.0 whole.0 shows.0)
+    (first_rows count schema version trees accounts book all more follow.1 whole.1 shows.1)
 
 shown_tables_are : (version : ℕ) (trees : Trees) (book : Book) (accounts : List Account)
     (people : Stores (trees participant_table.tree) accounts) → AreAllWholeAndTyped version trees
     → ShowsEach version trees accounts book → IsInOrder (content_of book people.holdings)
-    → tables_of trees ≡ tables_under version (content_of book people.holdings)
-shown_tables_are version trees book accounts people (day, (named, (postings, (orders, (marks, others)))))
-    (shows_day, (shows_named, (shows_postings, (shows_orders, (shows_marks, more))))) order =
-    let desk = rows_are (day_told version) (schema_in version) trees (book.day ∷ []) day (tt, tt) shows_day in
-    let posted = rows_are posting_told (schema_in version) trees book.postings postings order.postings shows_postings in
-    let ordered = rows_are order_told (schema_in version) trees book.orders orders order.orders shows_orders in
-    let marked = rows_are mark_told (schema_in version) trees book.marks marks order.marks shows_marks in
-    λ i. desk i ∷ people.rows_are i ∷ posted i ∷ ordered i ∷ marked i ∷ []
+    → tables_of_in version trees ≡ tables_for_in version (content_of book people.holdings)
+shown_tables_are version trees book accounts people whole shows order =
+    let schema = schema_in version in
+    let follow : RowsFollow schema version trees accounts book records_of_tables (all_tables version
+    (content_of book people.holdings)) = (
+      λ table same. rows_are (day_told version) schema trees (book.day ∷ []) table
+          (tt, tt) same,
+      (
+        λ table same. people.rows_are,
+        (
+          λ table same. rows_are posting_told schema trees book.postings table order.postings same,
+          (
+            λ table same. rows_are order_told schema trees book.orders table order.orders same,
+            (
+              λ table same. rows_are mark_told schema trees book.marks table order.marks same,
+              (λ table same. rows_are forward_told schema trees (forwards_of book.orders) table order.forwards same, tt),
+            ),
+          ),
+        ),
+      ),
+    ) in
+    first_rows (table_count version) schema version trees accounts book records_of_tables _ follow whole shows
 
 pub held : ShownRecordsAreHeld
-held version known trees book accounts sound full is fits shown stored =
-    let all = all_whole_and_typed version known trees sound full in
-    let people = shown_participants version trees book accounts all shown.shows in
+held version trees book accounts sound full is fits shown stored =
+    let all = all_whole_and_typed version trees sound full in
+    let people = shown_participants (table_count version) (omega arith) (schema_in version) version trees book accounts
+    all shown.shows in
     let content = content_of book people.holdings in
     let of : IsBookOf book content = record {
       records = record {

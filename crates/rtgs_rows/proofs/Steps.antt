@@ -16,7 +16,8 @@ use Rattle.rtgs_book.specs.Changes.{with_row}
 use Rattle.rtgs_book.specs.Commands.{with_participant, with_credit, with_state, has_number}
 use Rattle.rtgs_book.specs.Settle.{restated}
 use Rattle.rtgs_rows.specs.Content.{Content, Rise, with_change}
-use Rattle.rtgs_rows.specs.Fitting.{FitsPosting, FitsOrder, FitsMark, FitsRow}
+use Rattle.rtgs_rows.specs.Dues.{forwards_of}
+use Rattle.rtgs_rows.specs.Fitting.{FitsPosting, FitsOrder, FitsMark, FitsForward, FitsRow}
 
 -- One list of a book and one of its content, before and after. If the two were the same, they are so after. If the
 -- values were in their forms, and those that the change brings are, they are so after. What stands in the order of its
@@ -109,3 +110,8 @@ pub mark_step : StepOf FitsMark (λ m. m.number) (λ b. b.marks) (λ c. c.marks)
 unfolding with_participant with_credit with_state
 mark_step b c (AddMark m) = added m (λ fits. fits)
 mark_step b c row = kept
+
+pub forward_step : StepOf FitsForward (λ f. f.number) (λ b. forwards_of b.orders) (λ c. c.forwards)
+unfolding with_participant with_credit with_state
+forward_step b c (AddOrder o) = kept
+forward_step b c row = kept

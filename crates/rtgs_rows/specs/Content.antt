@@ -1,5 +1,6 @@
 -- What the tables hold, record by record.
-use Rattle.std.specs.Prelude.{◌≡◌, ◌≢◌, ℕ, ◌==◌, ℤ, pos, true, List, [], ◌∷◌, ◌++◌, map, if◌then◌else◌, IsTrue}
+use Rattle.std.specs.Prelude.{◌≡◌, ◌≢◌, ℕ, ◌==◌, ℤ, pos, true, List, [], ◌∷◌, ◌++◌, map, take, if◌then◌else◌}
+use Rattle.std.specs.Prelude.{IsTrue}
 use Rattle.std.specs.Ordering.{int_cmp}
 use Rattle.std.specs.Str.{bytes_eq}
 use Rattle.std.specs.declared.cmp.Ordering.TheVariants.{Less}
@@ -21,17 +22,23 @@ use Rattle.rtgs_book.specs.declared.RowChange.TheVariants.{AddParticipant, AddPo
 use Rattle.rtgs_book.specs.declared.RowChange.TheVariants.{SetBalance, SetState, SetDay}
 use Rattle.rtgs_book.specs.Settle.{restated}
 use Rattle.rtgs_book.specs.Commands.{has_number}
-use Rattle.rtgs_rows.specs.Tables.{no_schema, desk_schema, schema_in, desk_tables, IsVersion}
+use Rattle.rtgs_rows.specs.Tables.{no_schema, desk_schema, schema_in, known_tables, tables_in, table_count}
+use Rattle.rtgs_rows.specs.Tables.{IsVersion}
 use Rattle.rtgs_rows.specs.declared.numbers.TheConstants.{VERSION}
-use Rattle.rtgs_rows.specs.Rows.{day_row, participant_row, posting_row, payment_row, mark_row}
+use Rattle.rtgs_rows.specs.Rows.{day_row, participant_row, posting_row, payment_row, mark_row, forward_row}
+use Rattle.rtgs_rows.specs.declared.forward.Forward.{Forward}
 
 -- the rows of each table of a desk, in the order of the tables
 abbrev pub Tables : Type 0
 Tables = List (List Row)
 
--- those that a database has
+-- those that a database of a version has
+abbrev pub tables_of_in : ℕ → Trees → Tables
+tables_of_in version trees = map (λ (table : Table). trees table.tree) (tables_in version)
+
+-- and of the version in which new ones are made
 abbrev pub tables_of : Trees → Tables
-tables_of trees = map (λ (table : Table). trees table.tree) desk_tables
+tables_of = tables_of_in VERSION
 
 abbrev rows_at : ℕ → List Table → Tables → List Row
 rows_at tree (table ∷ tables) (rows ∷ more) = if table.tree == tree then rows else rows_at tree tables more
@@ -39,7 +46,7 @@ rows_at tree tables all = []
 
 -- those of this table
 abbrev pub rows_in : Table → Tables → List Row
-rows_in table = rows_at table.tree desk_tables
+rows_in table = rows_at table.tree known_tables
 
 -- a participant with its stored balance, under its row number
 pub record Holding : Type 0 where
@@ -55,22 +62,27 @@ holding_row h = participant_row h.id h.participant h.balance
 abbrev pub stored_account : Holding → Account
 stored_account h = record { participant = h.participant; balance = h.balance }
 
--- The records of the five tables. The participants stand in the order in which they came.
+-- The records of the tables. The participants stand in the order in which they came.
 pub record Content : Type 0 where
   pub day : Day
   pub holdings : List Holding
   pub postings : List Posting
   pub orders : List Order
   pub marks : List Mark
+  pub forwards : List Forward
 
--- those that these records have, in tables of this version
-abbrev pub tables_under : ℕ → Content → Tables
-tables_under version c = (day_row version c.day ∷ []) ∷ map holding_row c.holdings ∷ map posting_row c.postings
-    ∷ map payment_row c.orders ∷ map mark_row c.marks ∷ []
+-- those that these records have in all tables, with this version in that of the day
+abbrev pub all_tables : ℕ → Content → Tables
+all_tables version c = (day_row version c.day ∷ []) ∷ map holding_row c.holdings ∷ map posting_row c.postings
+    ∷ map payment_row c.orders ∷ map mark_row c.marks ∷ map forward_row c.forwards ∷ []
 
--- and in tables of the version in which new ones are made
+-- and in the tables of this version
+abbrev pub tables_for_in : ℕ → Content → Tables
+tables_for_in version c = take (table_count version) (all_tables version c)
+
+-- and in those of the version in which new ones are made
 abbrev pub tables_for : Content → Tables
-tables_for = tables_under VERSION
+tables_for = tables_for_in VERSION
 
 -- the trees are a database that has no tables
 abbrev pub HasNoTables : Trees → Type 0
@@ -79,7 +91,7 @@ HasNoTables = IsSound no_schema
 -- the trees are a database of the tables of this version, with these records
 pub record HoldsIn (version : ℕ) (content : Content) (trees : Trees) : Type 0 where
   pub sound : IsSound (schema_in version) trees
-  pub rows : tables_of trees ≡ tables_under version content
+  pub rows : tables_of_in version trees ≡ tables_for_in version content
 
 -- so it is of the version in which new tables are made
 abbrev pub Holds : Content → Trees → Type 0
@@ -147,6 +159,7 @@ pub record IsInOrder (c : Content) : Type 0 where
   pub postings : Rise (λ (p : Posting). pos p.number) c.postings
   pub orders : Rise (λ (o : Order). pos o.number) c.orders
   pub marks : Rise (λ (m : Mark). pos m.number) c.marks
+  pub forwards : Rise (λ (f : Forward). pos f.number) c.forwards
 
 -- so before each change and after the last
 abbrev pub AreInOrder : Content → List RowChange → Type 0

@@ -10,6 +10,7 @@ use Rattle.rtgs_book.specs.declared.Posting.{Posting}
 use Rattle.rtgs_book.specs.declared.Order.{Order}
 use Rattle.rtgs_book.specs.declared.Mark.{Mark}
 use Rattle.rtgs_book.specs.declared.Book.{Book}
+use Rattle.rtgs_rows.specs.declared.forward.Forward.{Forward}
 use Rattle.rtgs_book.specs.declared.RowChange.{RowChange}
 use Rattle.rtgs_book.specs.declared.RowChange.TheVariants.{AddParticipant, AddPosting, AddOrder, AddMark, SetCredit}
 use Rattle.rtgs_book.specs.declared.RowChange.TheVariants.{SetDay}
@@ -44,6 +45,10 @@ pub record FitsOrder (o : Order) : Type 0 where
 -- so those of a mark
 pub record FitsMark (m : Mark) : Type 0 where
   pub date : IsBusinessDate m.date
+
+-- so those of a due date
+pub record FitsForward (f : Forward) : Type 0 where
+  pub due : IsBusinessDate f.due
 
 -- each value of the book is in its form and range
 pub record HasFormedValues (book : Book) : Type 0 where

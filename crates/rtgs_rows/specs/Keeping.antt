@@ -12,6 +12,7 @@ use Rattle.rtgs_book.specs.Books.{new_book}
 use Rattle.rtgs_book.specs.IntSum.{int_sum_by}
 use Rattle.rtgs_book.specs.Soundness.{IsSound}
 use Rattle.rtgs_rows.specs.Content.{Holding, Content, Holds, Rests, Rise}
+use Rattle.rtgs_rows.specs.Dues.{forwards_of}
 use Rattle.rtgs_rows.specs.Fitting.{HasFormedValues}
 
 -- the day and the lists of records are those of the book, whoever the participants are
@@ -20,6 +21,7 @@ pub record SameLists (book : Book) (content : Content) : Type 0 where
   pub postings : content.postings ≡ book.postings
   pub orders : content.orders ≡ book.orders
   pub marks : content.marks ≡ book.marks
+  pub forwards : content.forwards ≡ forwards_of book.orders
 
 -- The records are those of the book. A book has the participants in the order of their codes, and the tables have them
 -- in the order in which they came.
@@ -35,6 +37,7 @@ content_of book holdings = record {
   postings = book.postings;
   orders = book.orders;
   marks = book.marks;
+  forwards = forwards_of book.orders;
 }
 
 -- those of a new desk

@@ -12,10 +12,10 @@ use Rattle.sqlite_trees.specs.View.{is_int}
 use Rattle.rtgs_book.specs.declared.Book.{Book}
 use Rattle.rtgs_book.specs.declared.account.Account.{Account}
 use Rattle.rtgs_rows.specs.declared.numbers.TheConstants.{VERSION}
-use Rattle.rtgs_rows.specs.Tables.{IsVersion, schema_in, desk_tables, width, places}
-use Rattle.rtgs_rows.specs.TableRecords.{Each, records_of_tables}
+use Rattle.rtgs_rows.specs.Tables.{IsVersion, schema_in, tables_in, width, places}
+use Rattle.rtgs_rows.specs.TableRecords.{Each, records_in}
 
--- outside a transaction, with the tables of a version that is known, and these trees committed
+-- outside a transaction, with the tables of this version, which is known, and these trees committed
 pub record IsFileIn (version : ℕ) (trees : Trees) (s : State) : Type 0 where
   pub known : IsVersion version
   pub is_open : IsTrue s.is_open
@@ -32,10 +32,15 @@ abbrev pub AreNumberedRows : ℕ → List Row → Type 0
 AreNumberedRows width rows = IsTable rows × AllByRecursion
     (λ row. IsTrue (is_int (rowid row)) × (length row ≡ width + 1)) rows
 
--- Each row of each table has a value in each column, and the rows stand in the order of their numbers. (A row from
--- before a column was added lacks it, and the queries show null there.)
+-- Each row of each table of a version has a value in each column, and the rows stand in the order of their numbers.
+-- (A row from before a column was added lacks it, and the queries show null there.)
+abbrev pub AreWholeIn : ℕ → Trees → Type 0
+AreWholeIn version trees =
+    AllByRecursion (λ table. AreNumberedRows (width table) (trees table.tree)) (tables_in version)
+
+-- so those of the version in which new tables are made
 abbrev pub AreWhole : Trees → Type 0
-AreWhole trees = AllByRecursion (λ table. AreNumberedRows (width table) (trees table.tree)) desk_tables
+AreWhole = AreWholeIn VERSION
 
 -- the connection has the tables of a desk, and each row of them has all its columns, whatever its values are
 abbrev pub HasTables : {S : Type 0} → Ghosts S → Held S → Type 0
@@ -56,7 +61,7 @@ ShowsTable table trees = IsPermutation (as_shown table trees)
 -- so with the records that a book has of each table of this version
 abbrev pub ShowsEach : ℕ → Trees → List Account → Book → Type 0
 ShowsEach version trees accounts book = Each (λ A records. ShowsTable records.table trees
-    (map records.shown (records.of_book version accounts book))) records_of_tables
+    (map records.shown (records.of_book version accounts book))) (records_in version)
 
 -- what the queries show are the records of the book, and these accounts with their stored balances
 pub record ShowsBook (version : ℕ) (trees : Trees) (accounts : List Account) (book : Book) : Type 0 where

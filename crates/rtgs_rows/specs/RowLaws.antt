@@ -21,8 +21,9 @@ use Rattle.rtgs_rows.specs.Content.{Holding, Content, HasNoTables, HoldsIn, Hold
 use Rattle.rtgs_rows.specs.Content.{tables_for, with_changes, Rise}
 use Rattle.rtgs_rows.specs.Fitting.{FitsRow, HasFormedValues}
 use Rattle.rtgs_rows.specs.Keeping.{IsBookOf, AreBalances}
-use Rattle.rtgs_rows.specs.Tables.{no_schema, schema_in, desk_tables, width, IsVersion}
-use Rattle.rtgs_rows.specs.Querying.{AreWhole, AreNumberedRows, ShowsBook}
+use Rattle.rtgs_rows.specs.Tables.{no_schema, schema_in, tables_in, width}
+use Rattle.rtgs_rows.specs.declared.numbers.TheConstants.{VERSION}
+use Rattle.rtgs_rows.specs.Querying.{AreWhole, AreWholeIn, AreNumberedRows, ShowsBook}
 
 -- no key comes twice in the rows of a book, and each list stands in the order of its row numbers
 abbrev pub RecordsStandInOrder : Type 0
@@ -58,11 +59,10 @@ abbrev pub DesksAreReadAsSuch : Type 0
 DesksAreReadAsSuch = (version : ℕ) (schema : Schema) (trees : Trees) → IsSound (schema_in version) trees
     → IsSound schema trees → schema ≡ schema_in version
 
--- where the queries show the records of a sound book, with its balances stored, tables of a version that is known hold
--- that book
+-- where the queries show the records of a sound book, with its balances stored, the tables of a version hold that book
 abbrev pub ShownRecordsAreHeld : Type 0
-ShownRecordsAreHeld = (version : ℕ) → IsVersion version → (trees : Trees) (book : Book) (accounts : List Account)
-    → IsSound (schema_in version) trees → AreWhole trees → IsSoundBook book → HasFormedValues book
+ShownRecordsAreHeld = (version : ℕ) (trees : Trees) (book : Book) (accounts : List Account)
+    → IsSound (schema_in version) trees → AreWholeIn version trees → IsSoundBook book → HasFormedValues book
     → ShowsBook version trees accounts book → AreBalances book accounts
     → (content : Content) × HoldsIn version content trees × IsBookOf book content
 
@@ -82,7 +82,8 @@ AreNumberedRows-prop width rows = ×_prop (IsAscending-prop _ (λ a b. Ordering-
     (AllByRecursion-prop _ (λ row. ×_prop (Bool-set _ _) (ℕ_set _ _)) rows)
 
 AreWhole-prop : (trees : Trees) → IsProp (AreWhole trees)
-AreWhole-prop trees = AllByRecursion-prop _ (λ table. AreNumberedRows-prop (width table) (trees table.tree)) desk_tables
+AreWhole-prop trees = AllByRecursion-prop _ (λ table. AreNumberedRows-prop (width table) (trees table.tree))
+    (tables_in VERSION)
 
 pub TablesOfABookAreWhole-prop : IsProp TablesOfABookAreWhole
 TablesOfABookAreWhole-prop = Π_prop (λ trees. Π_prop (λ book. Π_prop

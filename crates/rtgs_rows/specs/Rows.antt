@@ -16,6 +16,7 @@ use Rattle.rtgs_book.specs.declared.Order.{Order}
 use Rattle.rtgs_book.specs.declared.Mark.{Mark}
 use Rattle.rtgs_book.specs.declared.OrderState.{OrderState}
 use Rattle.rtgs_book.specs.declared.OrderState.TheVariants.{Queued, Settled, Withdrawn, Rejected}
+use Rattle.rtgs_rows.specs.declared.forward.Forward.{Forward}
 use Rattle.rtgs_rows.specs.declared.numbers.TheConstants.{PHASE_CLOSED, PHASE_OPEN, PHASE_CUT_OFF, STATE_QUEUED}
 use Rattle.rtgs_rows.specs.declared.numbers.TheConstants.{STATE_SETTLED, STATE_WITHDRAWN, STATE_REJECTED}
 
@@ -72,6 +73,10 @@ payment_row o = Int (pos o.number) ∷ Null ∷ Text o.sender ∷ Text o.referen
 abbrev pub mark_row : Mark → Row
 mark_row m = Int (pos m.number) ∷ Null ∷ Text (date_text m.date) ∷ Int (pos m.count) ∷ Int m.value ∷ []
 
+-- number, due
+abbrev pub forward_row : Forward → Row
+forward_row f = Int (pos f.number) ∷ Null ∷ Text (date_text f.due) ∷ []
+
 -- ---- as the queries show them
 
 abbrev pub shown_day : ℕ → Day → Row
@@ -90,3 +95,6 @@ shown_order o = Int (pos o.number) ∷ Text o.sender ∷ Text o.reference ∷ Te
 
 abbrev pub shown_mark : Mark → Row
 shown_mark m = Int (pos m.number) ∷ Text (date_text m.date) ∷ Int (pos m.count) ∷ Int m.value ∷ []
+
+abbrev pub shown_forward : Forward → Row
+shown_forward f = Int (pos f.number) ∷ Text (date_text f.due) ∷ []

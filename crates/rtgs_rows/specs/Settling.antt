@@ -27,15 +27,15 @@ pub stays : {S : Type 0} (g : Ghosts S) (h : Held S) →
 stays g h there book holds = ((state g h).committed.trees, there holds.1.is_open, (holds.0, holds.1.holds, holds.2))
 
 -- the version in which new tables are made is known
-pub newest_is_known : IsVersion VERSION
-newest_is_known = (0, omega arith, refl)
+pub current_is_known : IsVersion VERSION
+current_is_known = (0, omega arith, refl)
 
 -- what holds a book has the tables of a desk
 pub tabled : {S : Type 0} (g : Ghosts S) (h : Held S) → TablesOfABookAreWhole → (book : Book) → HoldsBook g h book
     → HasTables g h
 tabled g h are book holds = (
   record {
-    known = newest_is_known;
+    known = current_is_known;
     is_open = holds.1.is_open;
     schema = holds.1.schema;
     trees_are = refl;

@@ -1,5 +1,5 @@
 -- The records of each table: how a row shows one, and which of them a book has.
-use Rattle.std.specs.Prelude.{◌⊎◌, Bool, true, false, ℕ, List, [], ◌∷◌, ⊤}
+use Rattle.std.specs.Prelude.{◌⊎◌, Bool, true, false, ℕ, List, [], ◌∷◌, take, ⊤}
 use Rattle.sqlite.specs.Order.{Row}
 use Rattle.sqlite.specs.Table.{Table}
 use Rattle.rtgs_book.specs.declared.account.Account.{Account}
@@ -8,10 +8,13 @@ use Rattle.rtgs_book.specs.declared.Day.{Day}
 use Rattle.rtgs_book.specs.declared.Posting.{Posting}
 use Rattle.rtgs_book.specs.declared.Order.{Order}
 use Rattle.rtgs_book.specs.declared.Mark.{Mark}
-use Rattle.rtgs_rows.specs.Fitting.{FitsDate, FitsParticipant, FitsPosting, FitsOrder, FitsMark}
+use Rattle.rtgs_rows.specs.Dues.{forwards_of}
+use Rattle.rtgs_rows.specs.Fitting.{FitsDate, FitsParticipant, FitsPosting, FitsOrder, FitsMark, FitsForward}
+use Rattle.rtgs_rows.specs.declared.forward.Forward.{Forward}
 use Rattle.rtgs_rows.specs.declared.desk_row.DeskRow.{DeskRow}
-use Rattle.rtgs_rows.specs.Rows.{shown_day, shown_account, shown_posting, shown_order, shown_mark}
+use Rattle.rtgs_rows.specs.Rows.{shown_day, shown_account, shown_posting, shown_order, shown_mark, shown_forward}
 use Rattle.rtgs_rows.specs.Tables.{desk_table, participant_table, posting_table, payment_table, mark_table}
+use Rattle.rtgs_rows.specs.Tables.{forward_table, table_count}
 
 -- the records of a table
 pub record TableRecords (A : Type 0) : Type 1 where
@@ -74,14 +77,27 @@ mark_records = record {
   of_book = λ version accounts book. book.marks;
 }
 
+abbrev pub forward_records : TableRecords Forward
+forward_records = record {
+  table = forward_table;
+  shown = shown_forward;
+  fits = FitsForward;
+  counted = true ∷ [];
+  of_book = λ version accounts book. forwards_of book.orders;
+}
+
 -- those of the tables that have a row for each record of a list
 abbrev pub records_besides_day : List ((A : Type 0) × TableRecords A)
 records_besides_day = (Account, account_records) ∷ (Posting, posting_records) ∷ (Order, order_records)
-    ∷ (Mark, mark_records) ∷ []
+    ∷ (Mark, mark_records) ∷ (Forward, forward_records) ∷ []
 
 -- those of all tables, in the order of the tables
 abbrev pub records_of_tables : List ((A : Type 0) × TableRecords A)
 records_of_tables = (DeskRow, day_records) ∷ records_besides_day
+
+-- those of the tables that a version has
+abbrev pub records_in : ℕ → List ((A : Type 0) × TableRecords A)
+records_in version = take (table_count version) records_of_tables
 
 -- so it is with each of these records
 abbrev pub Each : ((A : Type 0) → TableRecords A → Type 0) → List ((A : Type 0) × TableRecords A) → Type 0

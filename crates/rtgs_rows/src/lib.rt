@@ -1,8 +1,10 @@
-//! The rows of a book: what the five tables of the desk hold, and how a change of the book changes them.
+//! The rows of a book: what the tables of the desk hold, and how a change of the book changes them.
 #![tactic(auto)]
 
 mod desk_row;
+mod forward;
 pub mod laws;
 pub mod numbers;
 
 pub use crate::desk_row::DeskRow;
+pub use crate::forward::Forward;

@@ -1,7 +1,7 @@
 //! The numbers that stand in columns: the version of the tables, and what stands for a phase of the day and for where
 //! an order stands.
 
-/// The version of the tables.
+/// The version in which new tables are made.
 pub const VERSION: u64 = 1;
 
 /// No day is open.

@@ -1,5 +1,5 @@
 -- What is said of all tables together.
-use Rattle.std.proofs.Common.{◌≡◌, ℕ, Bool, List, [], ◌∷◌, map, sym, ap, subst, ◌∙◌}
+use Rattle.std.proofs.Common.{◌≡◌, ◌⊎◌, inl, inr, ℕ, Bool, List, [], ◌∷◌, map, sym, ap, subst, ◌∙◌}
 use Rattle.std.specs.List.{AllByRecursion}
 use Rattle.sqlite.specs.Order.{Row}
 use Rattle.sqlite.specs.State.{State}
@@ -11,13 +11,20 @@ use Rattle.rtgs_book.specs.declared.account.Account.{Account}
 use Rattle.rtgs_rows.specs.Fitting.{FitsParticipant, HasFormedValues}
 use Rattle.rtgs_rows.specs.declared.desk_row.DeskRow.{DeskRow}
 use Rattle.rtgs_rows.specs.Rows.{shown_day, shown_account}
-use Rattle.rtgs_rows.specs.TableRecords.{TableRecords, Each, records_of_tables, posting_records, order_records}
-use Rattle.rtgs_rows.specs.TableRecords.{mark_records, desk_row_of}
+use Rattle.rtgs_rows.specs.TableRecords.{TableRecords, Each, OneOf, records_of_tables, records_besides_day}
+use Rattle.rtgs_rows.specs.TableRecords.{records_in, posting_records, order_records, mark_records, desk_row_of}
+use Rattle.rtgs_rows.specs.Tables.{HasTable, IsVersion, table_count, desk_table}
+use Rattle.rtgs_rows.specs.Querying.{as_shown}
+use Rattle.sqlite.specs.Effect.{Database}
+use Rattle.sqlite.specs.Tree.{Trees}
+use Rattle.rtgs_sql_columns.specs.Tables.{query_text}
 use Rattle.rtgs_sql_columns.specs.Numbers.{IsNumberedPosting, IsNumberedOrder, IsNumberedMark, IsNumberedBook}
 use Rattle.rtgs_sql_queries.specs.Records.{HasRecords}
-use Rattle.rtgs_sql_loading.specs.Accounts.{Telling, TellsOf, AreTheRecords}
+use Rattle.rtgs_sql_loading.specs.Accounts.{Telling, TellsOf, AreTheRecords, AreFormed, IsOneDay, InForm}
+use Rattle.rtgs_sql_loading.specs.Displaying.{IsUnread, IsIllegible}
 use Rattle.rtgs_sql_loading.specs.Loading.{IsToldBy, ReadsRecords, TellsRecords}
 use Rattle.rtgs_sql_loading.proofs.OwnRows.{IsOwn, owns, all_own, posting_own, order_own, mark_own}
+use Rattle.rtgs_sql_loading.proofs.Versions.{Has, has_counted, has_no_more, each_first, each_had, one_had}
 
 -- what two facts of each of these come to
 each_both : {P Q R : (A : Type 0) → TableRecords A → Type 0}
@@ -26,13 +33,6 @@ each_both : {P Q R : (A : Type 0) → TableRecords A → Type 0}
 each_both on [] one other = tt
 each_both on (records ∷ more) one other =
     (on records.0 records.1 one.0 other.0, each_both on more one.1 other.1)
-
--- and what one fact of each comes to
-each : {P Q : (A : Type 0) → TableRecords A → Type 0}
-    → ((A : Type 0) (records : TableRecords A) → P A records → Q A records)
-    → (all : List ((A : Type 0) × TableRecords A)) → Each P all → Each Q all
-each on [] one = tt
-each on (records ∷ more) one = (on records.0 records.1 one.0, each on more one.1)
 
 -- so with what is said of the records of the tables
 pub both : {version : ℕ} {P Q R : Telling} {accounts : List Account} {book : Book}
@@ -44,7 +44,7 @@ both {version = version} {P = P} {Q = Q} {R = R} {accounts = accounts} {book = b
   named = one.named;
   tells = each_both {P = TellsOf version P accounts book} {Q = TellsOf version Q accounts book}
       {R = TellsOf version R accounts book}
-      (λ A records. on records.table records.counted _) records_of_tables one.tells other.tells;
+      (λ A records. on records.table records.counted _) (records_in version) one.tells other.tells;
 }
 
 weaker : {version : ℕ} {P Q : Telling} {accounts : List Account} {book : Book} → AreTheRecords version P accounts book
@@ -62,7 +62,9 @@ own_records {version = version} {accounts = accounts} {book = book} are low =
     let postings = owns posting_records IsNumberedPosting posting_own book.postings low.postings in
     let orders = owns order_records IsNumberedOrder order_own book.orders low.orders in
     let marks = owns mark_records IsNumberedMark mark_own book.marks low.marks in
-    record { fits = are.fits; named = are.named; tells = (day, (stored, (postings, (orders, (marks, tt))))) }
+    let each = TellsOf version (λ _ counted. AllByRecursion (IsOwn counted)) accounts book in
+    let all : Each each records_of_tables = (day, (stored, (postings, (orders, (marks, (tt, tt)))))) in
+    record { fits = are.fits; named = are.named; tells = each_first each (table_count version) records_of_tables all }
 
 -- ---- what is read of each
 
@@ -114,19 +116,39 @@ are_the_tables version s accounts book named (day, (stored, (postings, (orders, 
     )
 
 -- the book of what is read of each
-pub tells : (version : ℕ) (s : State) (accounts : List Account) (book : Book)
+pub tells : (version : ℕ) → IsVersion version → (s : State) (accounts : List Account) (book : Book)
     → book.participants ≡ map (λ (a : Account). a.participant) accounts → ReadsEach version s accounts book
     → TellsRecords version s accounts book
-tells version s accounts book named reads =
+tells version known s accounts book named reads =
     let told : AreTheRecords version (IsToldBy version s) accounts book = record {
       fits = all_fit version s accounts book named reads;
       named = named;
-      tells = each {P = λ A records. ReadsRecords version records s (records.of_book version accounts book)}
-          {Q = TellsOf version (IsToldBy version s) accounts book} (λ A records read. read.told)
-          records_of_tables reads;
+      tells = each_both {P = Has version}
+          {Q = λ A records. ReadsRecords version records s (records.of_book version accounts book)}
+          {R = TellsOf version (IsToldBy version s) accounts book} (λ A records has read. read.told has)
+          (records_in version) (has_counted version known) (each_first _ (table_count version) records_of_tables reads);
     } in
     record {
       records = are_the_tables version s accounts book named reads;
       rows = λ trees file. weaker told (λ table counted rows is. is.0 trees file);
       displayed = weaker told (λ table counted rows is. is.1);
     }
+
+-- ---- why they are not read
+
+-- where the tables are formed, so is each that the version has
+pub each_formed : (version : ℕ) → IsVersion version → (trees : Trees) → AreFormed version trees
+    → Each (λ A records. HasTable version records.table → InForm records (as_shown records.table trees))
+    records_of_tables
+each_formed version known trees formed =
+    each_had (Has version) (λ A records. InForm records (as_shown records.table trees)) (table_count version)
+    records_of_tables (has_no_more version known) formed.rows
+
+-- a query that cannot be read is one of a table that the version has
+pub one_unread : (version : ℕ) → IsVersion version → (db : Database)
+    → IsUnread db (query_text desk_table) (IsOneDay version) ⊎ OneOf (λ A records. HasTable version records.table
+    × IsUnread db (query_text records.table) (InForm records)) records_besides_day → IsIllegible version db
+one_unread version known db (inl day) = inr (inl day)
+one_unread version known db (inr other) =
+    inr (inr (inl (one_had (Has version) (λ A records. IsUnread db (query_text records.table) (InForm records))
+    (table_count version) records_of_tables (has_no_more version known) (inr other))))

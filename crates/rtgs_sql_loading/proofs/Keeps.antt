@@ -34,6 +34,14 @@ keeps_then old mid new one two = record {
   rests = λ content rests. two.rests content (one.rests content rests);
 }
 
+-- of a version that is not known there are no tables to keep
+pub kept_known : {version : ℕ} (old new : State) → (IsVersion version → KeepsTables version old new)
+    → KeepsTables version old new
+kept_known old new keeps = record {
+  file = λ trees file. (keeps file.known).file trees file;
+  rests = λ content rests. (keeps rests.known).rests content rests;
+}
+
 pub schema_of : (version : ℕ) (trees : Trees) (s : State) → IsFileIn version trees s → s.now.schema ≡ schema_in version
 schema_of version trees s file = ap (λ (d : Database). d.schema) file.clean ∙ file.schema
 
@@ -44,14 +52,16 @@ schema_at version content s rests = ap (λ (d : Database). d.schema) rests.clean
 -- memory was refused, and the connection is seen to be open still: the tables of a version stay
 pub keeps_after : {A : Type 0} (version : ℕ) (old mid new : State) (fault : Fault)
     → (IsVersion version → old.now.schema ≡ schema_in version → (fault ≡ OutOfMemory) ⊎ (fault ≡ StoreFault))
-    → (IsTrue mid.is_open → KeepsTables version old mid)
+    → (IsVersion version → IsTrue mid.is_open → KeepsTables version old mid)
     → (fault ≡ OutOfMemory → IsTrue mid.is_open × ((known : ℕ) → KeepsTables known mid new))
     → ◌≢◌ {A = Result A Fault} (Err fault) (Err StoreFault) → KeepsTables version old new
 keeps_after {A = A} version old mid new fault kinds first second other = record {
-  file = λ trees file. (stay (kinds file.known (schema_of version trees old file))).file trees file;
-  rests = λ content rests. (stay (kinds rests.known (schema_at version content old rests))).rests content rests;
+  file = λ trees file.
+      (stay file.known (kinds file.known (schema_of version trees old file))).file trees file;
+  rests = λ content rests.
+      (stay rests.known (kinds rests.known (schema_at version content old rests))).rests content rests;
 }
   where
-    stay : (fault ≡ OutOfMemory) ⊎ (fault ≡ StoreFault) → KeepsTables version old new
-    stay (inl memory) = let on = second memory in keeps_then old mid new (first on.0) (on.1 version)
-    stay (inr failed) = absurd (other (ap Err failed))
+    stay : IsVersion version → (fault ≡ OutOfMemory) ⊎ (fault ≡ StoreFault) → KeepsTables version old new
+    stay known (inl memory) = let on = second memory in keeps_then old mid new (first known on.0) (on.1 version)
+    stay known (inr failed) = absurd (other (ap Err failed))

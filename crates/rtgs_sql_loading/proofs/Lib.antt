@@ -1,5 +1,6 @@
 pub mod Keeps
 pub mod OwnRows
+pub mod Versions
 pub mod AllTables
 pub mod AboveZero
 pub mod Told
@@ -7,4 +8,5 @@ pub mod Displaying
 pub mod Blank
 pub mod Judging
 pub mod ReadTables
+pub mod Dues
 pub mod Together

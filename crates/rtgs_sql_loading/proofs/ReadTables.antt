@@ -8,16 +8,17 @@ use Rattle.rtgs_book.specs.declared.Book.{Book}
 use Rattle.rtgs_book.specs.declared.account.Account.{Account}
 use Rattle.rtgs_book.specs.declared.Fault.{Fault}
 use Rattle.rtgs_book.specs.declared.Fault.TheVariants.{OutOfMemory, StoreFault, NotADeskFile}
+use Rattle.rtgs_rows.specs.Tables.{IsVersion}
 use Rattle.rtgs_sql_queries.specs.Answering.{KeepsTables}
 use Rattle.rtgs_sql_queries.specs.Records.{HasRecords}
 use Rattle.rtgs_sql_loading.specs.Loading.{ReadsOn, Stops}
 use Rattle.rtgs_sql_loading.proofs.Keeps.{keeps_then, survives_on, was_clean}
 use Rattle.rtgs_sql_loading.proofs.Judging.{same_fault, answered}
 
-pub at_once : (s : State) → ReadsOn s s
-at_once s = record {
+pub at_once : (version : ℕ) (s : State) → ReadsOn version s s
+at_once version s = record {
   clean = λ clean. clean;
-  keeps = λ clean version. record { file = λ trees file. file; rests = λ content rests. rests };
+  keeps = λ clean. record { file = λ trees file. file; rests = λ content rests. rests };
   same = λ clean. refl;
   survives = record {
     clean = omega arith;
@@ -29,10 +30,10 @@ at_once s = record {
   };
 }
 
-pub followed : {a b c : State} → ReadsOn a b → ReadsOn b c → ReadsOn a c
+pub followed : {version : ℕ} {a b c : State} → ReadsOn version a b → ReadsOn version b c → ReadsOn version a c
 followed one two = record {
   clean = λ clean. one.clean (two.clean clean);
-  keeps = λ clean version. keeps_then _ _ _ (one.keeps (two.clean clean) version) (two.keeps clean version);
+  keeps = λ clean. keeps_then _ _ _ (one.keeps (two.clean clean)) (two.keeps clean);
   same = λ clean. two.same clean ∙ one.same (two.clean clean);
   survives = survives_on _ _ _ one.survives two.survives;
 }
@@ -45,31 +46,33 @@ kept_on accounts book old new keeps held = (held.0, keeps.rests held.0 held.1, h
 -- one that stops: its fault is answered
 pub stops_after : {A B : Type 0} {version : ℕ} {a b c : State} {Bad Wrong : Trees → Type 0}
     {Unread Illegible : Database → Type 0} (met : Result A Fault) (fault : Fault) (answer : Result B Fault)
-    → ReadsOn a b → met ≡ Err fault → IsErrAnd answer (λ told. told ≡ fault)
-    → ((trees : Trees) → Bad trees → Wrong trees) → ((db : Database) → Unread db → Illegible db)
+    → ReadsOn version a b → met ≡ Err fault → IsErrAnd answer (λ told. told ≡ fault)
+    → (IsVersion version → (trees : Trees) → Bad trees → Wrong trees)
+    → (IsVersion version → (db : Database) → Unread db → Illegible db)
     → Stops version b c met Bad Unread → Stops version a c answer Wrong Illegible
 stops_after {version = version} {b = b} {c = c} {Unread = Unread} met fault answer on was told wrong illegible stops =
     let honest = was_clean b c stops.survives in
     record {
       right = λ clean accounts book held e. stops.right clean accounts book (kept_on accounts book _ _
-          (on.keeps (honest clean) version) held) (same_fault met fault NotADeskFile answer was told e);
-      wrong = λ clean trees file e. wrong trees (stops.wrong clean trees
-          ((on.keeps (honest clean) version).file trees file) (same_fault met fault NotADeskFile answer was told e));
-      unread = λ clean e. illegible _ (subst Unread (on.same (honest clean)) (stops.unread clean
+          (on.keeps (honest clean)) held) (same_fault met fault NotADeskFile answer was told e);
+      wrong = λ clean trees file e. wrong file.known trees (stops.wrong clean trees
+          ((on.keeps (honest clean)).file trees file) (same_fault met fault NotADeskFile answer was told e));
+      unread = λ clean known e. illegible known _ (subst Unread (on.same (honest clean)) (stops.unread clean known
           (same_fault met fault NotADeskFile answer was told e)));
-      same = λ clean other. keeps_then _ _ _ (on.keeps (honest clean) version) (stops.same clean
+      same = λ clean other. keeps_then _ _ _ (on.keeps (honest clean)) (stops.same clean
           (λ e. other (answered met fault StoreFault answer was told e)));
       survives = survives_on _ _ _ on.survives stops.survives;
     }
 
 -- all are read
 pub stops_never : {A : Type 0} {version : ℕ} {a b : State} {Wrong : Trees → Type 0} {Illegible : Database → Type 0}
-    (answer : Result A Fault) → ReadsOn a b → answer ≢ Err NotADeskFile → Stops version a b answer Wrong Illegible
+    (answer : Result A Fault) → ReadsOn version a b → answer ≢ Err NotADeskFile
+    → Stops version a b answer Wrong Illegible
 stops_never {version = version} answer on not = record {
   right = λ clean accounts book held. not;
   wrong = λ clean trees file e. absurd (not e);
-  unread = λ clean e. absurd (not e);
-  same = λ clean other. on.keeps clean version;
+  unread = λ clean known e. absurd (not e);
+  same = λ clean other. on.keeps clean;
   survives = on.survives;
 }
 

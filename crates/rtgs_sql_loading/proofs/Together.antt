@@ -1,4 +1,4 @@
--- The five tables together, and the book that they hold.
+-- The tables together, and the book that they hold.
 use Rattle.std.proofs.Common.{◌≡◌, ℕ, List, IsPermutation, sym, subst, Ok, Err, Result, IfOk, OnOk}
 use Rattle.std.proofs.lemmas.List.Sorted.{IsPermutation-sym}
 use Rattle.sqlite.specs.Tree.{Trees}
@@ -7,12 +7,12 @@ use Rattle.sqlite_catalog.specs.Listing.{IsSound}
 use Rattle.rtgs_book.specs.declared.Book.{Book}
 use Rattle.rtgs_book.specs.declared.Fault.{Fault}
 use Rattle.rtgs_book.specs.Soundness.{IsSound as IsSoundBook}
-use Rattle.rtgs_rows.specs.Tables.{schema_in, IsVersion}
+use Rattle.rtgs_rows.specs.Tables.{schema_in}
 use Rattle.rtgs_rows.specs.Content.{Content, HoldsIn}
 use Rattle.rtgs_rows.specs.Keeping.{AreBalances, IsBookOf}
 use Rattle.rtgs_sql_loading.proofs.AboveZero.{above_zero}
 use Rattle.rtgs_rows.specs.RowLaws.{ShownRecordsAreHeld}
-use Rattle.rtgs_rows.specs.Querying.{as_shown, AreWhole, ShowsTable, ShowsBook}
+use Rattle.rtgs_rows.specs.Querying.{as_shown, AreWholeIn, ShowsTable, ShowsBook}
 use Rattle.rtgs_book.specs.declared.account.Account.{Account}
 use Rattle.rtgs_sql_loading.specs.Accounts.{AreTheRecords, AreReadOf, IsShown}
 use Rattle.rtgs_sql_columns.specs.Numbers.{IsNumberedBook}
@@ -45,14 +45,14 @@ shown_book version trees accounts book (Err fault) read is right agree = tt
 
 module _ (law : ShownRecordsAreHeld) where
   -- what was read, and judged to be sound with its balances stored, is what the tables hold
-  pub held_book : (version : ℕ) → IsVersion version → (trees : Trees) (accounts : List Account) (book : Book)
-      (answer : Result Book Fault) → IsSound (schema_in version) trees → AreWhole trees
+  pub held_book : (version : ℕ) (trees : Trees) (accounts : List Account) (book : Book)
+      (answer : Result Book Fault) → IsSound (schema_in version) trees → AreWholeIn version trees
       → AreReadOf version trees accounts book
       → IfOk answer (λ it. it ≡ book) → IfOk answer IsSoundBook → OnOk answer (AreBalances book accounts)
       → IfOk answer (λ it. (content : Content) × HoldsIn version content trees × IsBookOf it content)
-  held_book version known trees accounts book (Ok it) sound whole read is right agree =
+  held_book version trees accounts book (Ok it) sound whole read is right agree =
       let sound_book = subst IsSoundBook is right in
       subst (λ b. (content : Content) × HoldsIn version content trees × IsBookOf b content) (sym is)
-      (law version known trees book accounts sound whole sound_book read.fits
+      (law version trees book accounts sound whole sound_book read.fits
       (shows_of version trees accounts book read (above_zero book sound_book)) agree)
-  held_book version known trees accounts book (Err fault) sound whole read is right agree = tt
+  held_book version trees accounts book (Err fault) sound whole read is right agree = tt

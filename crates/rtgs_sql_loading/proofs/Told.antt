@@ -1,5 +1,5 @@
 -- Rows of a query and the records that are read of them.
-use Rattle.std.proofs.Common.{◌≡◌, ◌≢◌, ap, ℕ, List, [], ◌∷◌, map, length, IsPermutation, sym, Ok, Err, ◌∙◌}
+use Rattle.std.proofs.Common.{◌≡◌, ◌≢◌, inl, inr, ap, ℕ, List, [], ◌∷◌, map, length, IsPermutation, sym, Ok, Err, ◌∙◌}
 use Rattle.std.proofs.Common.{Result, IfOk, IfErr, Vec, Global, refl, subst, arith}
 use Rattle.std.specs.List.{AllByRecursion}
 use Rattle.std.proofs.lemmas.List.Sorted.{IsPermutation-map, length_permutation}
@@ -15,18 +15,21 @@ use Rattle.rtgs_rows.specs.Fitting.{FitsDate}
 use Rattle.rtgs_rows.specs.Rows.{shown_day}
 use Rattle.rtgs_rows.specs.Querying.{as_shown, IsFileIn}
 use Rattle.rtgs_rows.specs.TableRecords.{TableRecords, desk_row_of}
-use Rattle.rtgs_rows.specs.Tables.{desk_table}
+use Rattle.rtgs_rows.specs.Tables.{HasTable, IsVersion, desk_table}
 use Rattle.rtgs_sql_columns.specs.Numbers.{as_read, IsFormed}
 use Rattle.rtgs_sql_columns.specs.Tables.{query_text}
 use Rattle.rtgs_sql_queries.specs.Displaying.{Displays}
 use Rattle.rtgs_sql_queries.specs.Records.{HasRecords}
 use Rattle.rtgs_sql_loading.specs.Accounts.{IsOneDay, InForm}
 use Rattle.rtgs_sql_loading.specs.Loading.{ReadsRecords, ReadsOneDay}
+use Rattle.rtgs_sql_loading.proofs.Versions.{known_of}
 
 -- of the rows that a query shows, these records are read
 pub reads_of : {A : Type 0} (version : ℕ) (records : TableRecords A) (s : State) (rows seen : List Row)
     (r : Result (Vec A Global) Fault) → seen ≡ rows → Displays s.now (query_text records.table) rows
-    → ((trees : Trees) → IsFileIn version trees s → IsPermutation (as_shown records.table trees) rows)
+    → (HasTable version records.table → (trees : Trees) → IsFileIn version trees s
+    → IsPermutation (as_shown records.table trees) rows)
+    → (IsVersion version → HasTable version records.table)
     → ((accounts : List Account) (book : Book) → HasRecords version accounts book s
     → AllByRecursion records.fits (records.of_book version accounts book)
     × (map (as_read records.counted) rows ≡ map records.shown (records.of_book version accounts book)))
@@ -35,7 +38,7 @@ pub reads_of : {A : Type 0} (version : ℕ) (records : TableRecords A) (s : Stat
     → IfOk r (λ v. AllByRecursion records.fits v.items
     × (map (as_read records.counted) seen ≡ map records.shown v.items))
     → IfOk r (λ v. ReadsRecords version records s v.items)
-reads_of version records s rows seen (Ok v) same shows raw own given is =
+reads_of version records s rows seen (Ok v) same shows raw has own given is =
     let counted = records.counted in
     let told : map (as_read counted) rows ≡ map records.shown v.items = ap (map (as_read counted)) (sym same) ∙ is.1 in
     record {
@@ -43,13 +46,26 @@ reads_of version records s rows seen (Ok v) same shows raw own given is =
           let its = own accounts book held in
           given (records.of_book version accounts book) its.0 (ap (map (as_read counted)) same ∙ its.1);
       fit = is.0;
-      told = (
+      told = λ its. (
         λ trees file. subst (IsPermutation (map (as_read counted) (as_shown records.table trees))) told
-            (IsPermutation-map (as_read counted) _ _ (raw trees file)),
+            (IsPermutation-map (as_read counted) _ _ (raw its trees file)),
         (rows, shows, told),
       );
+      had = λ known. inl (has known);
     }
-reads_of version records s rows seen (Err e) same shows raw own given is = tt
+reads_of version records s rows seen (Err e) same shows raw has own given is = tt
+
+-- of a table that the version has not, none is read
+pub reads_none : {A : Type 0} (version : ℕ) (records : TableRecords A) (s : State) (all : List A) → all ≡ []
+    → (IsVersion version → ¬ HasTable version records.table)
+    → (IsVersion version → (accounts : List Account) (book : Book) → records.of_book version accounts book ≡ [])
+    → ReadsRecords version records s all
+reads_none version records s all none lacks own = record {
+  given = λ accounts book held. none ∙ sym (own held.1.known accounts book);
+  fit = subst (AllByRecursion records.fits) (sym none) tt;
+  told = λ has. absurd (lacks (known_of version records.table has) has);
+  had = λ known. inr none;
+}
 
 -- where no number is read in another way
 pub as_they_are : (rows : List Row) → map (as_read []) rows ≡ rows
@@ -59,7 +75,7 @@ as_they_are (row ∷ rows) = ap (λ rs. row ∷ rs) (as_they_are rows)
 -- so the day
 pub day_reads : (version : ℕ) (s : State) (rows seen : List Row) (r : Result Day Fault) → seen ≡ rows
     → Displays s.now (query_text desk_table) rows
-    → ((trees : Trees) → IsFileIn version trees s
+    → (HasTable version desk_table → (trees : Trees) → IsFileIn version trees s
     → IsPermutation (as_shown desk_table trees) rows)
     → ((accounts : List Account) (book : Book) → HasRecords version accounts book s → r ≡ Ok book.day)
     → IfOk r (λ (day : Day). FitsDate day.date × (seen ≡ shown_day version day ∷ []))
@@ -72,11 +88,12 @@ day_reads version s rows seen (Ok day) same shows raw given is =
           let it : day ≡ book.day = cc in
           ap (λ (d : Day). desk_row_of version d ∷ []) it;
       fit = (is.0, tt);
-      told = (
+      told = λ has. (
         λ trees file. subst (IsPermutation (map (as_read []) (as_shown desk_table trees))) told
-            (IsPermutation-map (as_read []) _ _ (raw trees file)),
+            (IsPermutation-map (as_read []) _ _ (raw has trees file)),
         (rows, shows, told),
       );
+      had = λ known. inl known;
     }
 day_reads version s rows seen (Err e) same shows raw given is = tt
 

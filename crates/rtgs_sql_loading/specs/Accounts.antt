@@ -18,8 +18,8 @@ use Rattle.rtgs_rows.specs.Fitting.{HasFormedValues, FitsDate}
 use Rattle.rtgs_rows.specs.Keeping.{AreBalances}
 use Rattle.rtgs_rows.specs.Rows.{shown_day}
 use Rattle.rtgs_rows.specs.Querying.{as_shown, ShowsBook}
-use Rattle.rtgs_rows.specs.TableRecords.{TableRecords, Each, records_besides_day, records_of_tables}
-use Rattle.rtgs_rows.specs.Tables.{desk_table}
+use Rattle.rtgs_rows.specs.TableRecords.{TableRecords, Each, records_in}
+use Rattle.rtgs_rows.specs.Tables.{HasTable, desk_table, forward_table}
 use Rattle.rtgs_sql_columns.specs.Numbers.{as_read, IsFormed}
 use Rattle.rtgs_book.specs.declared.account.Account.{Account}
 
@@ -38,12 +38,12 @@ abbrev pub TellsOf : ℕ → Telling → List Account → Book → (A : Type 0) 
 TellsOf version Tells accounts book A records =
     Tells records.table records.counted (map records.shown (records.of_book version accounts book))
 
--- These are the records of the tables of this version: each value is in its form and range, and `Tells` holds of each
--- table and of the rows of its records.
+-- These are the records of the tables that this version has, all of them: each value is in its form and range, and
+-- `Tells` holds of each table and of the rows of its records.
 pub record AreTheRecords (version : ℕ) (Tells : Telling) (accounts : List Account) (book : Book) : Type 0 where
   pub fits : HasFormedValues book
   pub named : book.participants ≡ map (λ (a : Account). a.participant) accounts
-  pub tells : Each (TellsOf version Tells accounts book) records_of_tables
+  pub tells : Each (TellsOf version Tells accounts book) (records_in version)
 
 -- What is read of trees of this version, sound or not: each row of the tables is told by one record. A number below
 -- zero is read as 0, which breaks the same rule of a sound book.
@@ -58,10 +58,16 @@ IsOneDay version rows = (day : Day) × FitsDate day.date × (rows ≡ shown_day 
 abbrev pub InForm : {A : Type 0} → TableRecords A → List Row → Type 0
 InForm records = AllByRecursion (IsFormed records)
 
--- Each row of the tables is in the form of a record, and the first table has one row, which says this version.
-abbrev pub AreFormed : ℕ → Trees → Type 0
-AreFormed version trees = IsOneDay version (as_shown desk_table trees)
-    × Each (λ A records. InForm records (as_shown records.table trees)) records_besides_day
+-- the table of due dates, where the version has it, has no row, for no order has a due date
+abbrev pub HasNoDues : ℕ → Trees → Type 0
+HasNoDues version trees = HasTable version forward_table → as_shown forward_table trees ≡ []
+
+-- Each row of the tables that the version has is in the form of a record; the first table has one row, which says this
+-- version; and there is no due date.
+pub record AreFormed (version : ℕ) (trees : Trees) : Type 0 where
+  pub day : IsOneDay version (as_shown desk_table trees)
+  pub rows : Each (λ A records. InForm records (as_shown records.table trees)) (records_in version)
+  pub dues : HasNoDues version trees
 
 -- ---- why no book is given
 

@@ -1,5 +1,5 @@
 -- What the queries of the tables show of a database, and why they show nothing, whatever its schema is.
-use Rattle.std.specs.Prelude.{◌≡◌, ◌⊎◌, ℕ, Bool, List, map, ⊤}
+use Rattle.std.specs.Prelude.{◌≡◌, ◌≢◌, ◌⊎◌, ℕ, Bool, List, [], map, ⊤}
 use Rattle.sqlite.specs.Order.{Row}
 use Rattle.sqlite.specs.Effect.{Database}
 use Rattle.rtgs_book.specs.declared.Book.{Book}
@@ -7,8 +7,8 @@ use Rattle.rtgs_book.specs.declared.account.Account.{Account}
 use Rattle.rtgs_book.specs.declared.Fault.{Fault}
 use Rattle.rtgs_book.specs.declared.Fault.TheVariants.{OutOfMemory, StoreFault, NotADeskFile, Inconsistent}
 use Rattle.rtgs_rows.specs.Keeping.{AreBalances}
-use Rattle.rtgs_rows.specs.TableRecords.{OneOf, records_besides_day}
-use Rattle.rtgs_rows.specs.Tables.{desk_table}
+use Rattle.rtgs_rows.specs.TableRecords.{OneOf, records_in}
+use Rattle.rtgs_rows.specs.Tables.{HasTable, IsVersion, desk_table, forward_table}
 use Rattle.rtgs_sql_columns.specs.Numbers.{as_read}
 use Rattle.rtgs_sql_columns.specs.Tables.{query_text}
 use Rattle.rtgs_sql_queries.specs.Displaying.{Displays, HasNoAnswer}
@@ -37,11 +37,19 @@ abbrev pub IsUnread : Database → List ℕ → (List Row → Type 0) → Type 0
 IsUnread db text AreFormed = HasNoAnswer db text
     ⊎ ((rows : List Row) × Displays db text rows × ¬ AreFormed rows)
 
--- One of the queries has no answer, or shows a row that is in the form of no record; or the first shows not one row, or
--- one that does not say this version.
+-- the version has the table of due dates, and its query shows a row, which is of no order
+abbrev pub ShowsDues : ℕ → Database → Type 0
+ShowsDues version db = HasTable version forward_table
+    × ((rows : List Row) × Displays db (query_text forward_table) rows × (rows ≢ []))
+
+-- The version is not known; or the query of the first table has no answer, or shows not one row, or one that does not
+-- say this version; or that of one of the version's tables has no answer, or shows a row that is in the form of no
+-- record; or there is a due date.
 abbrev pub IsIllegible : ℕ → Database → Type 0
-IsIllegible version db = IsUnread db (query_text desk_table) (IsOneDay version)
-    ⊎ OneOf (λ A records. IsUnread db (query_text records.table) (InForm records)) records_besides_day
+IsIllegible version db = ¬ IsVersion version
+    ⊎ IsUnread db (query_text desk_table) (IsOneDay version)
+    ⊎ OneOf (λ A records. IsUnread db (query_text records.table) (InForm records)) (records_in version)
+    ⊎ ShowsDues version db
 
 -- Why a database gives no book of tables of this version, whatever its schema is: it cannot be read; or this is the
 -- first rule that the records break which it shows; or else the store failed or memory was refused.

@@ -15,7 +15,8 @@ use Rattle.rtgs_book.specs.declared.Fault.TheVariants.{OutOfMemory, StoreFault, 
 use Rattle.sqlite.specs.Effect.{Database}
 use Rattle.rtgs_rows.specs.Content.{Content, HoldsIn}
 use Rattle.rtgs_rows.specs.Keeping.{AreBalances, IsBookOf}
-use Rattle.rtgs_rows.specs.Querying.{IsFileIn, AreWhole}
+use Rattle.rtgs_rows.specs.Querying.{IsFileIn, AreWholeIn}
+use Rattle.rtgs_rows.specs.Tables.{HasTable, IsVersion}
 use Rattle.rtgs_rows.specs.TableRecords.{TableRecords, day_records, desk_row_of}
 use Rattle.rtgs_sql_columns.specs.Tables.{query_text}
 use Rattle.rtgs_sql_queries.specs.Answering.{KeepsTables}
@@ -24,10 +25,10 @@ use Rattle.rtgs_sql_queries.specs.Records.{HasRecords}
 use Rattle.rtgs_sql_loading.specs.Accounts.{Telling, AreTold, AreReadOf, ExplainsRead, ExplainsTrees, IsShown}
 use Rattle.rtgs_sql_loading.specs.Displaying.{DisplaysAs, AreDisplayed, IsDisplayed, ExplainsDatabase}
 
--- nothing is written: a clean disk was clean before, and the tables of each version and what the database shows stay
-pub record ReadsOn (old new : State) : Type 0 where
+-- nothing is written: a clean disk was clean before, and the tables of this version and what the database shows stay
+pub record ReadsOn (version : ℕ) (old new : State) : Type 0 where
   pub clean : HasCleanDisk new → HasCleanDisk old
-  pub keeps : HasCleanDisk new → (version : ℕ) → KeepsTables version old new
+  pub keeps : HasCleanDisk new → KeepsTables version old new
   pub same : HasCleanDisk new → new.now ≡ old.now
   pub survives : Survives old new (λ _. ⊥)
 
@@ -37,26 +38,28 @@ IsToldBy version s table counted told = ((trees : Trees) → IsFileIn version tr
     → AreTold trees table counted told) × DisplaysAs s.now (query_text table) counted told
 
 -- These records are read of a table of this version: they are those that it has, where the tables have any, and each is
--- in its form.
+-- in its form. Their rows are told where the version has the table, and where it has not there are none.
 pub record ReadsRecords {A : Type 0} (version : ℕ) (records : TableRecords A) (s : State) (all : List A) : Type 0 where
   pub given : (accounts : List Account) (book : Book) → HasRecords version accounts book s
       → all ≡ records.of_book version accounts book
   pub fit : AllByRecursion records.fits all
-  pub told : IsToldBy version s records.table records.counted (map records.shown all)
+  pub told : HasTable version records.table → IsToldBy version s records.table records.counted (map records.shown all)
+  pub had : IsVersion version → HasTable version records.table ⊎ (all ≡ [])
 
 -- it was there before what was read first
 pub read_after : {A : Type 0} {version : ℕ} {records : TableRecords A} {first old : State} {all : List A}
-    → ReadsOn first old → HasCleanDisk old → ReadsRecords version records old all
+    → ReadsOn version first old → HasCleanDisk old → ReadsRecords version records old all
     → ReadsRecords version records first all
 read_after {version = version} {records = records} {all = all} on clean reads = record {
   given = λ accounts book held.
-      reads.given accounts book (held.0, (on.keeps clean version).rests held.0 held.1, held.2);
+      reads.given accounts book (held.0, (on.keeps clean).rests held.0 held.1, held.2);
   fit = reads.fit;
-  told = (
-    λ trees file. reads.told.0 trees ((on.keeps clean version).file trees file),
+  told = λ has. (
+    λ trees file. (reads.told has).0 trees ((on.keeps clean).file trees file),
     subst (λ now. DisplaysAs now (query_text records.table) records.counted (map records.shown all)) (on.same clean)
-        reads.told.1,
+        (reads.told has).1,
   );
+  had = reads.had;
 }
 
 -- so the day
@@ -72,15 +75,15 @@ pub record TellsRecords (version : ℕ) (s : State) (accounts : List Account) (b
   pub displayed : AreDisplayed version s.now accounts book
 
 -- Where a reading answers `NotADeskFile`, the tables of this version have no records; the trees are bad, where the
--- schema is that of the version; and the database cannot be read, whatever the schema is. The tables stay unless the
--- store failed.
+-- schema is that of the version; and the database cannot be read, whatever the schema is, if the version is known. The
+-- tables stay unless the store failed.
 pub record Stops {A : Type 0} (version : ℕ) (old new : State) (result : Result A Fault) (AreBad : Trees → Type 0)
     (IsUnread : Database → Type 0) : Type 0 where
   pub right : HasCleanDisk new → (accounts : List Account) (book : Book) → HasRecords version accounts book old
       → result ≢ Err NotADeskFile
   pub wrong : HasCleanDisk new → (trees : Trees) → IsFileIn version trees old → result ≡ Err NotADeskFile
       → AreBad trees
-  pub unread : HasCleanDisk new → result ≡ Err NotADeskFile → IsUnread old.now
+  pub unread : HasCleanDisk new → IsVersion version → result ≡ Err NotADeskFile → IsUnread old.now
   pub same : HasCleanDisk new → result ≢ Err StoreFault → KeepsTables version old new
   pub survives : Survives old new (λ _. ⊥)
 
@@ -93,15 +96,17 @@ pub record TellsError (error : Error) (fault : Fault) : Type 0 where
   pub foreign : ¬ IsOfStore error → fault ≡ NotADeskFile
 
 -- What a loading of this version answers, a book or why there is none: by the records, where the tables have any; by
--- the rows, where the schema is that of the version; and by what the queries show, whatever the schema is.
+-- the rows, where the schema is that of the version; and by what the queries show, whatever the schema is. A version
+-- that is not known is answered as no desk's.
 pub record LoadsFrom (version : ℕ) (s : State) (result : Result Book Fault) : Type 0 where
   pub read : (accounts : List Account) (book : Book) → HasRecords version accounts book s
       → IfOk result (λ loaded. (loaded ≡ book) × AreBalances book accounts)
   pub explained : (accounts : List Account) (book : Book) → HasRecords version accounts book s
       → IfErr result (ExplainsRead accounts book)
-  pub held : (trees : Trees) → IsFileIn version trees s → AreWhole trees
+  pub held : (trees : Trees) → IsFileIn version trees s → AreWholeIn version trees
       → IfOk result (λ book. (content : Content) × HoldsIn version content trees × IsBookOf book content)
   pub shown : (trees : Trees) → IsFileIn version trees s → IfOk result (IsShown version trees)
   pub caused : (trees : Trees) → IsFileIn version trees s → IfErr result (ExplainsTrees version trees)
   pub displayed : IfOk result (IsDisplayed version s.now)
   pub told : IfErr result (ExplainsDatabase version s.now)
+  pub unknown : ¬ IsVersion version → result ≡ Err NotADeskFile

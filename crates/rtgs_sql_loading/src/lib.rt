@@ -1,4 +1,4 @@
-//! Reading the book of the five tables, and judging it.
+//! Reading the book of the tables of a version, and judging it.
 #![tactic(auto)]
 
 mod balances;

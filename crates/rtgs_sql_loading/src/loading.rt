@@ -1,5 +1,5 @@
 //! The book that the tables hold.
-ghost use Rattle.std.specs.Prelude.{◌≡◌, ◌≢◌, false, map, Err, IfOk, IfErr, OnOk};
+ghost use Rattle.std.specs.Prelude.{◌≡◌, ◌≢◌, ◌↔◌, false, map, Err, IfOk, IfErr, OnOk, IsTrue};
 ghost use Rattle.rtgs_book.specs.declared.Book.{Book};
 ghost use Rattle.rtgs_book.specs.declared.Rule.{Rule};
 ghost use Rattle.rtgs_book.specs.declared.account.Account.{Account as AccountSpec};
@@ -10,22 +10,28 @@ ghost use Rattle.rtgs_sql_loading.specs.Displaying.{IsIllegible};
 ghost use Rattle.rtgs_sql_loading.specs.Loading.{TellsRecords, Stops, LoadsFrom};
 ghost use Rattle.rtgs_book.specs.Ranges.{Fits};
 ghost use Rattle.rtgs_book.specs.Soundness.{IsSound};
+ghost use Rattle.rtgs_rows.specs.Dues.{forwards_of};
 ghost use Rattle.rtgs_rows.specs.Keeping.{AreBalances};
+ghost use Rattle.rtgs_rows.specs.Tables.{IsVersion};
 ghost use Rattle.sqlite.specs.State.{HasCleanDisk, Survives};
 ghost use Rattle.sqlite.specs.Held.{state};
 
 use crate::balances::balances_agree;
 use crate::reading::FromTables;
 use rtgs_book::{Account, Book, Day, Fault, Mark, Order, Participant, Posting, Rows, Rule};
+use rtgs_rows::Forward;
 use rtgs_rows::laws::shown_records_are_held;
 use rtgs_soundness::check;
 use sqlite::{Alter, Connection};
 use std::alloc::{AllocError, Global};
 
-/// What the five tables hold, in the order in which they are read.
+/// What the tables of all versions hold, in the order in which they are read.
 type AllTables = (
     Day,
-    (Vec<Account>, (Vec<Posting>, (Vec<Order>, (Vec<Mark>, ())))),
+    (
+        Vec<Account>,
+        (Vec<Posting>, (Vec<Order>, (Vec<Mark>, (Vec<Forward>, ())))),
+    ),
 );
 
 /// A book as it stands in the tables, with the stored balances.
@@ -36,23 +42,25 @@ struct Stored {
     ghost participants: { book.participants ≡ map (λ (a : AccountSpec). a.participant) accounts.items },
 }
 
-/// Reads the five tables, as those of this version.
+/// Reads the tables that this version has.
 fn read_tables<S: Alter>(
     alloc: Global,
     conn: &mut Connection<S>,
     version: u64,
 ) -> Result<Stored, Fault>
-    ensures told { HasCleanDisk (state S.Store conn.new) → IfOk result (λ stored.
+    ensures told { IsVersion version → HasCleanDisk (state S.Store conn.new) → IfOk result (λ stored.
         TellsRecords version (state S.Store conn.old) stored.accounts.items stored.book) }
     ensures stops { Stops version (state S.Store conn.old) (state S.Store conn.new) result
         (λ trees. ¬ AreFormed version trees) (IsIllegible version) }
     ensures kinds { (rule : Rule) → result ≢ Err (Fault.Inconsistent rule) }
-    ensures blank { HasCleanDisk (state S.Store conn.new) → IsBlank (state S.Store conn.old) → IfOk result (λ _. ⊥) }
+    ensures blank { IsVersion version → HasCleanDisk (state S.Store conn.new) → IsBlank (state S.Store conn.old)
+        → IfOk result (λ _. ⊥) }
     ensures mode { conn.old.in_transaction ≡ false → conn.new.in_transaction ≡ false }
     ensures honest { HasCleanDisk (state S.Store conn.new) → HasCleanDisk (state S.Store conn.old) }
 {
     let all = AllTables::read(alloc, conn, version)?;
-    let (day, (accounts, (postings, (orders, (marks, ()))))) = all;
+    let (day, (accounts, (postings, (orders, (marks, (forwards, ())))))) = all;
+    let orders = joined(orders, forwards.as_slice())?;
     let participants = participants_of(alloc, accounts.as_slice())?;
     let book = Book {
         participants: Rows::from_vec(participants),
@@ -62,6 +70,19 @@ fn read_tables<S: Alter>(
         day,
     };
     Ok(Stored { accounts, book })
+}
+
+/// The orders with their due dates, of which there are none: a row of a due date is of no order.
+fn joined(orders: Vec<Order>, forwards: &[Forward]) -> Result<Vec<Order>, Fault>
+    ensures joined { IfOk result (λ all. (all ≡ orders) × (forwards.now ≡ forwards_of all.items)) }
+    ensures wrong { IfErr result (λ fault. (fault ≡ Fault.NotADeskFile)
+        × (forwards.now ≢ forwards_of orders.items)) }
+{
+    if forwards.is_empty() {
+        Ok(orders)
+    } else {
+        Err(Fault::NotADeskFile)
+    }
 }
 
 /// The participants of the accounts.
@@ -95,9 +116,16 @@ fn judged(stored: Stored) -> Result<Book, Fault>
     }
 }
 
+/// Whether the version of the tables is known.
+fn is_version(version: u64) -> bool
+    ensures { IsTrue result ↔ IsVersion version }
+{
+    version == 1 || version == 2
+}
+
 /// Loads the book of tables of this version, and judges it. Records that break a rule are answered by the first one
-/// that they break, and what is no desk's tables of the version by `NotADeskFile`. A book is given only where the
-/// tables hold it.
+/// that they break, and what is no desk's tables of the version by `NotADeskFile`, as is a version that is not known. A
+/// book is given only where the tables hold it.
 pub fn load_book<S: Alter>(
     alloc: Global,
     conn: &mut Connection<S>,
@@ -114,6 +142,9 @@ pub fn load_book<S: Alter>(
     ensures mode { conn.old.in_transaction ≡ false → conn.new.in_transaction ≡ false }
     ensures honest { HasCleanDisk (state S.Store conn.new) → HasCleanDisk (state S.Store conn.old) }
 {
+    if !is_version(version) {
+        return Err(Fault::NotADeskFile);
+    }
     // The engine keeps the rows as the schema says, so what the queries show of a sound book is what the tables hold.
     conn.schema();
     shown_records_are_held();

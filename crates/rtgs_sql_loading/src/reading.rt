@@ -6,7 +6,7 @@ ghost use Rattle.rtgs_book.specs.declared.Day.{Day as DaySpec};
 ghost use Rattle.rtgs_rows.specs.Fitting.{FitsDate};
 ghost use Rattle.rtgs_rows.specs.Rows.{shown_day};
 ghost use Rattle.rtgs_rows.specs.Querying.{as_shown};
-ghost use Rattle.rtgs_rows.specs.Tables.{desk_table};
+ghost use Rattle.rtgs_rows.specs.Tables.{HasTable, desk_table};
 ghost use Rattle.rtgs_sql_columns.specs.Tables.{query_text};
 ghost use Rattle.rtgs_sql_queries.specs.Answering.{KeepsTables};
 ghost use Rattle.rtgs_sql_queries.specs.Faults.{LookFailed};
@@ -87,21 +87,21 @@ pub(crate) trait FromTables: Sized {
     ghost tells: { ℕ → State → Self → Type 0 };
 
     // It was so before what was read first.
-    ghost after: { (version : ℕ) (first old : State) → ReadsOn first old → HasCleanDisk old → (it : Self)
+    ghost after: { (version : ℕ) (first old : State) → ReadsOn version first old → HasCleanDisk old → (it : Self)
         → tells version old it → tells version first it };
 
-    // The rows of the tables are in form.
+    // The rows of the tables that the version has are in form.
     ghost formed: { ℕ → Trees → Type 0 };
 
-    // A query has no answer, or shows rows that are not in form.
+    // The query of one of the version's tables has no answer, or shows rows that are not in form.
     ghost illegible: { ℕ → Database → Type 0 };
 
-    /// Reads the tables of this version, one after another.
+    /// Reads the tables that this version has, one after another.
     fn read<S: Alter>(alloc: Global, conn: &mut Connection<S>, version: u64) -> Result<Self, Fault>
         ensures told { HasCleanDisk (state S.Store conn.new) → IfOk result (tells version (state S.Store conn.old)) }
         ensures stops { Stops version (state S.Store conn.old) (state S.Store conn.new) result
             (λ trees. ¬ formed version trees) (illegible version) }
-        ensures on { OnOk result (ReadsOn (state S.Store conn.old) (state S.Store conn.new)) }
+        ensures on { OnOk result (ReadsOn version (state S.Store conn.old) (state S.Store conn.new)) }
         ensures kinds { (rule : Rule) → result ≢ Err (Fault.Inconsistent rule) }
         ensures mode { conn.old.in_transaction ≡ false → conn.new.in_transaction ≡ false }
         ensures honest { HasCleanDisk (state S.Store conn.new) → HasCleanDisk (state S.Store conn.old) };
@@ -125,21 +125,26 @@ impl FromTables for Day {
     }
 }
 
-// The records of a table, in the order of its query.
+// The records of a table, in the order of its query. A version before the table has none, and nothing is asked.
 impl<T: TableRow + Drop> FromTables for Vec<T> {
     ghost tells = { λ version s v. ReadsRecords version T.records s v.items };
 
     ghost after = { λ version first old on clean v. read_after on clean };
 
-    ghost formed = { λ version trees. InForm T.records (as_shown T.records.table trees) };
+    ghost formed = { λ version trees. HasTable version T.records.table
+        → InForm T.records (as_shown T.records.table trees) };
 
-    ghost illegible = { λ version db. IsUnread db (query_text T.records.table) (InForm T.records) };
+    ghost illegible = { λ version db. HasTable version T.records.table
+        × IsUnread db (query_text T.records.table) (InForm T.records) };
 
     fn read<S: Alter>(
         alloc: Global,
         conn: &mut Connection<S>,
         version: u64,
     ) -> Result<Vec<T>, Fault> {
+        if version < T::first_version() {
+            return Ok(Vec::new(alloc));
+        }
         match table_rows::<T, S>(alloc, conn) {
             Ok(rows) => decode(alloc, rows.as_slice()),
             Err(error) => Err(fault_of(conn, &error)),

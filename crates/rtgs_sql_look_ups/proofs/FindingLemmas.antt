@@ -51,7 +51,7 @@ use Rattle.rtgs_sql_look_ups.specs.Finding.{one_of, IsLook, first_query, after_t
 use Rattle.rtgs_sql_look_ups.proofs.Passing.{truth_of, same_text}
 use Rattle.rtgs_sql_look_ups.proofs.FindingTexts.{order_tests, posting_tests, order_query, posting_query}
 use Rattle.rtgs_sql_queries.specs.TableQueries.{columns_of}
-use Rattle.rtgs_rows.specs.Tables.{posting_table, payment_table}
+use Rattle.rtgs_rows.specs.Tables.{IsCurrent, posting_table, payment_table}
 use Rattle.rtgs_rows.specs.declared.numbers.TheConstants.{VERSION}
 use Rattle.rtgs_lists.proofs.Results.{none_moved}
 use Rattle.rtgs_lists.proofs.Filters.{filter_of, filter_agrees, map-filter}
@@ -74,16 +74,16 @@ only_store (Ok a) h = tt
 only_store (Err e) h = inr h
 
 pub looks_ok : {S A : Type 0} (g : Ghosts S) (old new : Held S) (rows : Vec Row Global) (r : Result A Fault)
-    → IsQuery g VERSION old new (Ok rows) → IfErr r (λ fault. fault ≡ StoreFault) → IsLook g old new r
+    → IsQuery g IsCurrent old new (Ok rows) → IfErr r (λ fault. fault ≡ StoreFault) → IsLook g old new r
 looks_ok g old new rows r q faults = record {
   survives = q.survives;
   mode = q.mode;
-  same = λ clean other. q.kept clean;
+  same = λ clean other. q.kept VERSION refl clean;
   kinds = only_store r faults;
 }
 
 pub looks_err : {S A : Type 0} (g : Ghosts S) (old mid new : Held S) (e : Error) (fault : Fault)
-    → IsQuery g VERSION old mid (Err e) → (fault ≡ OutOfMemory) ⊎ (fault ≡ StoreFault)
+    → IsQuery g IsCurrent old mid (Err e) → (fault ≡ OutOfMemory) ⊎ (fault ≡ StoreFault)
     → (fault ≡ OutOfMemory → HasCleanDisk (state g new) → IsTrue (state g mid).is_open
     × ((version : ℕ) → KeepsTables version (state g mid) (state g new)))
     → (mid.in_transaction ≡ false → new.in_transaction ≡ false)
@@ -94,7 +94,8 @@ looks_err {A = A} g old mid new e fault q kinds kept mode survives = record {
   same = λ clean other.
       let low = survives.clean in
       let on = kept (of_memory fault kinds other) clean in
-      keeps_then (state g old) (state g mid) (state g new) (q.intact (omega (arith, low)) on.0) (on.1 VERSION);
+      keeps_then (state g old) (state g mid) (state g new) (q.intact VERSION refl (omega (arith, low)) on.0)
+      (on.1 VERSION);
   kinds = kinds;
 }
   where

@@ -14,9 +14,11 @@ use Rattle.rtgs_book.specs.declared.Mark.{Mark}
 use Rattle.sqlite_value.specs.Order.{column}
 use Rattle.rtgs_money.specs.Date.{date_text, IsBusinessDate}
 use Rattle.rtgs_rows.specs.Fitting.{FitsDate}
-use Rattle.rtgs_rows.specs.Rows.{shown_posting, shown_order, shown_mark, mark_value, date_value, state_number}
+use Rattle.rtgs_rows.specs.Rows.{shown_posting, shown_order, shown_mark, shown_forward, mark_value, date_value}
+use Rattle.rtgs_rows.specs.Rows.{state_number}
 use Rattle.rtgs_sql_queries.proofs.RowColumns.{of_four, of_eight}
-use Rattle.rtgs_rows.specs.TableRecords.{posting_records, order_records, mark_records}
+use Rattle.rtgs_rows.specs.TableRecords.{posting_records, order_records, mark_records, forward_records}
+use Rattle.rtgs_rows.specs.declared.forward.Forward.{Forward}
 use Rattle.rtgs_sql_columns.specs.Numbers.{at_least_zero, as_read}
 
 -- ---- a record's own row is read as it is
@@ -35,6 +37,9 @@ order_same o = let last = mark_same_value o.state in rw last refl
 
 pub mark_same : (m : Mark) → as_read mark_records.counted (shown_mark m) ≡ shown_mark m
 mark_same m = refl
+
+pub forward_same : (f : Forward) → as_read forward_records.counted (shown_forward f) ≡ shown_forward f
+forward_same f = refl
 
 -- so are the rows of records
 pub rows_same : {A : Type 0} (counted : List Bool) (shown : A → Row) → ((a : A) → as_read counted (shown a) ≡ shown a)
@@ -162,6 +167,30 @@ mark_read row m at = at_four row at.wide at
     at_four (a ∷ b ∷ []) wide at = absurd (omega (arith, wide))
     at_four (a ∷ b ∷ c ∷ rest) wide at = of_four (at_least_zero a ∷ b ∷ at_least_zero c ∷ rest) wide at.number at.date
         at.count at.value
+
+pub record ForwardColumns (row : Row) (f : Forward) : Type 0 where
+  pub wide : length row ≡ 2
+  pub number : at_least_zero (column row 0) ≡ Int (pos f.number)
+  pub due : column row 1 ≡ Text (date_text f.due)
+
+pub forward_columns : (row : Row) (f : Forward) → as_read forward_records.counted row ≡ shown_forward f
+    → ForwardColumns row f
+forward_columns [] f e = absurd cc
+forward_columns (a ∷ rest) f e = record {
+  wide = ap (λ (r : Row). length r) e;
+  number = ap (λ (r : Row). column r 0) e;
+  due = ap (λ (r : Row). column r 1) e;
+}
+
+pub forward_read : (row : Row) (f : Forward) → ForwardColumns row f
+    → as_read forward_records.counted row ≡ shown_forward f
+forward_read row f at = at_two row at.wide at
+  where
+    at_two : (r : Row) → length r ≡ 2 → ForwardColumns r f → as_read forward_records.counted r ≡ shown_forward f
+    at_two [] wide at = absurd (omega (arith, wide))
+    at_two (a ∷ []) wide at = absurd (omega (arith, wide))
+    at_two (a ∷ b ∷ []) wide at = ap₂ ◌∷◌ at.number (ap (λ v. v ∷ []) at.due)
+    at_two (a ∷ b ∷ c ∷ rest) wide at = absurd (omega (arith, wide))
 
 -- a date that is there or not
 pub date_found : (row : Row) (date : Option ℕ) (read : Option (Option ℕ)) → (column row 4 ≡ Null → read ≡ Some None)

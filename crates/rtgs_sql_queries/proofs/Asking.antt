@@ -14,7 +14,7 @@ use Rattle.sqlite.proofs.Callers.{reads_as, IsPlain}
 use Rattle.sqlite.proofs.StateLemmas.{survives_weaker}
 use Rattle.sqlite_resolve.specs.Compile.{first}
 use Rattle.sqlite_trees.specs.declared.store.Store.{Ghosts}
-use Rattle.rtgs_rows.specs.Tables.{desk_schema}
+use Rattle.rtgs_rows.specs.Tables.{IsCurrent, desk_schema}
 use Rattle.rtgs_rows.specs.declared.numbers.TheConstants.{VERSION}
 use Rattle.rtgs_sql_queries.specs.Answering.{IsQuery, KeepsTables, Returnless}
 use Rattle.rtgs_sql_queries.specs.TableQueries.{IsOneQuery, Seeks}
@@ -75,12 +75,13 @@ pub is_query : {S : Type 0} (g : Ghosts S) (text : List ℕ) (params : Row) (que
     → (HasCleanDisk (state g new) → IfErr r (FailsToQuery text params (state g old) (state g new)))
     → (old.in_transaction ≡ false → new.in_transaction ≡ false)
     → Survives (state g old) (state g new) (CommitsShowing text params (state g old))
-    → IsQuery g VERSION old new r
+    → IsQuery g IsCurrent old new r
 is_query g text params query names is reads old new r ok err mode survives = record {
   survives = survives_weaker (state g old) (state g new) _ _
       (λ _ db commits. commits_nothing text params (state g old) db reads commits) survives;
   mode = mode;
-  kept = λ clean. kept_after text params query names is (state g old) (state g new) r (ok clean);
-  intact = λ clean alive. intact_after text params query names is (state g old) (state g new) r (ok clean) (err clean)
-      alive;
+  kept = λ version current clean. subst (λ v. OnOk r (KeepsTables v (state g old) (state g new))) (sym current)
+      (kept_after text params query names is (state g old) (state g new) r (ok clean));
+  intact = λ version current clean alive. subst (λ v. KeepsTables v (state g old) (state g new)) (sym current)
+      (intact_after text params query names is (state g old) (state g new) r (ok clean) (err clean) alive);
 }

@@ -1,5 +1,5 @@
--- The five queries.
-use Rattle.std.proofs.Common.{◌≡◌, ℕ, pos, List, [], ◌∷◌, map, refl, sym, ap, subst, ◌∙◌, arith}
+-- The queries of whole tables.
+use Rattle.std.proofs.Common.{◌≡◌, ◌<◌, ◌≤◌, ℕ, pos, List, [], ◌∷◌, map, refl, sym, ap, subst, ◌∙◌, arith}
 use Rattle.std.specs.List.{AllByRecursion}
 use Rattle.std.specs.Ordering.{int_cmp}
 use Rattle.std.specs.List.Sorted.{IsPermutation}
@@ -15,32 +15,66 @@ use Rattle.sqlite.specs.Listing.{understood, listing_schema}
 use Rattle.sqlite_keyed.proofs.ListLemmas.{ascending-map, ascending_weaker, map-map, map_same}
 use Rattle.rtgs_book.specs.declared.Book.{Book}
 use Rattle.rtgs_book.specs.declared.Day.{Day}
-use Rattle.rtgs_rows.specs.Tables.{IsVersion, schema_in, desk_tables, desk_table, participant_table, posting_table}
-use Rattle.rtgs_rows.specs.Tables.{payment_table, mark_table}
+use Rattle.rtgs_rows.specs.Tables.{IsVersion, schema_in, known_tables, desk_table, participant_table, posting_table}
+use Rattle.rtgs_rows.specs.Tables.{payment_table, mark_table, forward_table, versions_of, HasTable}
+use Rattle.sqlite.specs.Table.{Table}
 use Rattle.rtgs_rows.specs.Fitting.{FitsParticipant}
-use Rattle.rtgs_rows.specs.Rows.{day_row, posting_row, payment_row, mark_row, shown_account}
+use Rattle.rtgs_rows.specs.Rows.{day_row, posting_row, payment_row, mark_row, forward_row, shown_account}
 use Rattle.rtgs_rows.specs.TableRecords.{TableRecords, day_records, account_records, posting_records, order_records}
-use Rattle.rtgs_rows.specs.TableRecords.{mark_records, desk_row_of}
-use Rattle.rtgs_rows.specs.Content.{Holding, Content, holding_row, stored_account, tables_of, tables_under, rows_in, Rise}
+use Rattle.rtgs_rows.specs.TableRecords.{mark_records, forward_records, desk_row_of}
+use Rattle.rtgs_rows.specs.Content.{Holding, Content, holding_row, stored_account, tables_of_in, tables_for_in}
+use Rattle.rtgs_rows.specs.Content.{rows_in, Rise}
 use Rattle.rtgs_book.specs.declared.account.Account.{Account}
 use Rattle.rtgs_sql_queries.specs.Records.{AreRead}
 use Rattle.rtgs_sql_queries.specs.TableQueries.{IsTableQuery, ShowsOwn, whole_table}
-use Rattle.rtgs_sql_queries.proofs.AsRead.{posting_same, order_same, mark_same}
+use Rattle.rtgs_sql_queries.proofs.AsRead.{posting_same, order_same, mark_same, forward_same}
+use Rattle.rtgs_sql_queries.proofs.Versions.{in_each, in_all}
 use Rattle.rtgs_sql_queries.proofs.Showing.{numbered, shown_are}
 use Rattle.rtgs_lists.proofs.Lists.{all_unmap}
 
 -- ---- what they are to the engine
 
--- each version that is known has the table
-in_each : (version : ℕ) → IsVersion version → IsVersion version
-in_each version known = known
-
 -- over the tables of each version
-pub all_asks : AllByRecursion IsTableQuery desk_tables
+pub all_asks : AllByRecursion IsTableQuery known_tables
 unfolding understood listing_schema everything schema_in
-all_asks = assumption (refl, in_each)
+all_asks = assumption refl
+
+-- ---- which versions have them
+
+-- the first is known, and what it has each that is known has
+pub first_is_known : IsVersion 1
+first_is_known = (0, omega arith, refl)
+
+pub has_always : (version : ℕ) → IsVersion version → 1 ≤ version → IsVersion version
+has_always version known low = known
+
+-- none that is known is before the first
+pub none_before : (version : ℕ) → IsVersion version → version < 1 → ⊥
+none_before = in_all (λ version. version < 1 → ⊥) (λ low. omega (arith, low), (λ low. omega (arith, low), tt))
+
+pub ruleset since_the_first = (first_is_known, has_always, none_before)
+
+-- due dates are in the second
+pub second_has_forwards : HasTable 2 forward_table
+second_has_forwards = (0, omega arith, refl)
+
+pub has_forwards : (version : ℕ) → IsVersion version → 2 ≤ version → HasTable version forward_table
+has_forwards = in_all (λ version. 2 ≤ version → HasTable version forward_table)
+    (λ low. absurd (omega (arith, low)), (λ low. second_has_forwards, tt))
+
+pub lacks_forwards : (version : ℕ) → IsVersion version → version < 2 → ¬ HasTable version forward_table
+lacks_forwards version known low has =
+    let only = in_each (λ v. 2 ≤ v) forward_table (omega arith, tt) version has in
+    omega (arith, low, only)
+
+pub ruleset since_the_second = (second_has_forwards, has_forwards, lacks_forwards)
 
 -- ---- what they show of a book
+
+-- tables of this version that have records have these rows in one
+abbrev HasRows : Table → (ℕ → Content → List Row) → ℕ → Type 0
+HasRows table rows version = (content : Content) (trees : Trees)
+    → tables_of_in version trees ≡ tables_for_in version content → trees table.tree ≡ rows version content
 
 -- a table in the order of its row numbers
 own_numbered : {A : Type 0} (records : TableRecords A) (row : A → Row) (number : A → ℕ) (all : ℕ → Content → List A)
@@ -48,16 +82,19 @@ own_numbered : {A : Type 0} (records : TableRecords A) (row : A → Row) (number
     (output (whole_table records.table) ([] ∷ row a ∷ [])) (output (whole_table records.table) ([] ∷ row b ∷ []))
     ≡ Less) → ((a : A) → (output (whole_table records.table) ([] ∷ row a ∷ [])).1 ≡ records.shown a)
     → ((version : ℕ) (content : Content) (accounts : List Account) (book : Book) → AreRead content accounts book
-    → AllByRecursion records.fits (records.of_book version accounts book) × Rise (λ a. pos (number a)) (all version content)
+    → AllByRecursion records.fits (records.of_book version accounts book)
+    × Rise (λ a. pos (number a)) (all version content)
     × (all version content ≡ records.of_book version accounts book))
-    → ((version : ℕ) (content : Content) (trees : Trees) → tables_of trees ≡ tables_under version content
-    → trees records.table.tree ≡ map row (all version content)) → ShowsOwn records
+    → AllByRecursion (HasRows records.table (λ version content. map row (all version content)))
+    (versions_of records.table) → ShowsOwn records
 own_numbered records row number all by shows read held = record {
   fit = λ version content accounts book are. (read version content accounts book are).0;
-  rows = λ version content accounts book are trees has rows.
+  rows = λ version has content accounts book are trees same rows.
       let its = read version content accounts book are in
+      let here = in_each (HasRows records.table (λ version content. map row (all version content))) records.table held
+      version has content trees same in
       numbered records.table row records.shown (λ a. pos (number a)) by shows (all version content)
-      (records.of_book version accounts book) its.1 its.2 (trees records.table.tree) rows (held version content trees has);
+      (records.of_book version accounts book) its.1 its.2 (trees records.table.tree) rows here;
 }
 
 pub desk_own : ShowsOwn day_records
@@ -66,25 +103,31 @@ desk_own = own_numbered day_records (λ desk. day_row desk.version desk.day) (λ
     (λ a b low. then-Equal _ ∙ value_cmp-Int (pos 1) (pos 1) ∙ low) (λ a. refl)
     (λ version c accounts book are.
     ((are.fits.day, tt), (tt, tt), ap (λ (day : Day). desk_row_of version day ∷ []) are.lists.day))
-    (λ version c trees held. ap (rows_in desk_table) held)
+    (λ c trees held. ap (rows_in desk_table) held, (λ c trees held. ap (rows_in desk_table) held, tt))
 
 pub postings_own : ShowsOwn posting_records
 postings_own = own_numbered posting_records posting_row (λ p. p.number) (λ version c. c.postings)
     (λ a b low. then-Equal _ ∙ value_cmp-Int (pos a.number) (pos b.number) ∙ low) (λ a. refl)
     (λ version c accounts book are. (are.fits.postings, are.order.postings, are.lists.postings))
-    (λ version c trees held. ap (rows_in posting_table) held)
+    (λ c trees held. ap (rows_in posting_table) held, (λ c trees held. ap (rows_in posting_table) held, tt))
 
 pub payments_own : ShowsOwn order_records
 payments_own = own_numbered order_records payment_row (λ o. o.number) (λ version c. c.orders)
     (λ a b low. then-Equal _ ∙ value_cmp-Int (pos a.number) (pos b.number) ∙ low) (λ a. refl)
     (λ version c accounts book are. (are.fits.orders, are.order.orders, are.lists.orders))
-    (λ version c trees held. ap (rows_in payment_table) held)
+    (λ c trees held. ap (rows_in payment_table) held, (λ c trees held. ap (rows_in payment_table) held, tt))
 
 pub marks_own : ShowsOwn mark_records
 marks_own = own_numbered mark_records mark_row (λ m. m.number) (λ version c. c.marks)
     (λ a b low. then-Equal _ ∙ value_cmp-Int (pos a.number) (pos b.number) ∙ low) (λ a. refl)
     (λ version c accounts book are. (are.fits.marks, are.order.marks, are.lists.marks))
-    (λ version c trees held. ap (rows_in mark_table) held)
+    (λ c trees held. ap (rows_in mark_table) held, (λ c trees held. ap (rows_in mark_table) held, tt))
+
+pub forwards_own : ShowsOwn forward_records
+forwards_own = own_numbered forward_records forward_row (λ f. f.number) (λ version c. c.forwards)
+    (λ a b low. then-Equal _ ∙ value_cmp-Int (pos a.number) (pos b.number) ∙ low) (λ a. refl)
+    (λ version c accounts book are. (tt, are.order.forwards, are.lists.forwards))
+    (λ c trees held. ap (rows_in forward_table) held, tt)
 
 -- ---- the participants, in the order of their codes
 
@@ -104,14 +147,17 @@ stored_outputs (h ∷ hs) = ap (λ l. out (stored_account h) ∷ l) (stored_outp
 pub participants_own : ShowsOwn account_records
 participants_own = record {
   fit = λ version. accounts_fit;
-  rows = λ version content accounts book are trees held rows s.
+  rows = λ version has content accounts book are trees held rows s.
+      let here = in_each (HasRows participant_table (λ _ c. map holding_row c.holdings)) participant_table
+      (λ c trees same. ap (rows_in participant_table) same, (λ c trees same. ap (rows_in participant_table) same, tt))
+      version has content trees held in
       let q = whole_table participant_table in
       let up = ascending-map (λ (a b : Output). output_cmp q a b ≡ Less) out accounts
       (ascending_weaker _ _ (λ a b low. then-Equal _ ∙ value_cmp-Text a.participant.code b.participant.code ∙ low)
       accounts are.rising) in
       let same : IsPermutation (map out accounts) (map (λ r. output q ([] ∷ r ∷ [])) (trees participant_table.tree)) =
-      subst (IsPermutation (map out accounts)) (sym (ap (λ t.
-      map (λ r. output q ([] ∷ r ∷ [])) (rows_in participant_table t)) held ∙ stored_outputs content.holdings))
+      subst (IsPermutation (map out accounts)) (sym (ap (map (λ (r : Row). output q ([] ∷ r ∷ []))) here
+      ∙ stored_outputs content.holdings))
       (IsPermutation-map out _ _ (IsPermutation-sym _ _ are.stored)) in
       shown_are q (trees participant_table.tree) rows (map out accounts) up same s
       ∙ map-map (λ (o : Output). o.1) out accounts
@@ -130,4 +176,6 @@ pub ruleset queries = (
   order_same,
   marks_own,
   mark_same,
+  forwards_own,
+  forward_same,
 )

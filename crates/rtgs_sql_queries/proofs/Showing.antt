@@ -28,10 +28,10 @@ use Rattle.sqlite.specs.Listing.{reads_listing}
 use Rattle.sqlite_typing.specs.Types.{accepts_program}
 use Rattle.rtgs_book.specs.declared.Book.{Book}
 use Rattle.rtgs_book.specs.declared.account.Account.{Account}
-use Rattle.rtgs_rows.specs.Tables.{places}
+use Rattle.rtgs_rows.specs.Tables.{places, HasTable}
 use Rattle.rtgs_rows.specs.TableRecords.{TableRecords}
 use Rattle.rtgs_sql_columns.specs.Tables.{column_names, query_text}
-use Rattle.rtgs_rows.specs.Content.{Content, RestsIn, tables_of}
+use Rattle.rtgs_rows.specs.Content.{Content, RestsIn, tables_of_in}
 use Rattle.rtgs_rows.specs.Querying.{IsFileIn, picked, ShowsTable}
 use Rattle.rtgs_sql_queries.specs.Records.{AreRead}
 use Rattle.rtgs_sql_queries.specs.Answering.{FailsAmid, KeepsTables}
@@ -114,16 +114,16 @@ module _ (t : Table) {own : Schema} (is : AsksTable t own) (old new : State) (sc
       subst (λ passed. Sorts (whole_table t) [] passed rows) (all_pass _ ∙ none_given old.now.trees t.tree)
       (answers.sorted t.tree [] (shown_columns (places t)) (rising_by (place_of t 0)) _ [] rows (read.answer Null))
 
-module _ (t : Table) (is : IsTableQuery t) (version : ℕ) (old new : State) where
+module _ (t : Table) (is : IsTableQuery t) (version : ℕ) (has : HasTable version t) (old new : State) where
   pub intact_after : (r : Result (Vec Row Global) Error) → IfOk r (λ rows. Shown (query_text t) [] old new rows.items)
       → IfErr r (FailsAmid (query_text t) old new) → IsTrue new.is_open → KeepsTables version old new
   intact_after r shown failed alive = keeps old new (λ trees file. file_on trees old new file
-      (left t (asks_in t is version file.known) old new (schema_of trees old file) r shown failed) alive)
+      (left t (asks_in t is version has) old new (schema_of trees old file) r shown failed) alive)
 
   pub kept_after : (r : Result (Vec Row Global) Error) → IfOk r (λ rows. Shown (query_text t) [] old new rows.items)
       → OnOk r (KeepsTables version old new)
   kept_after (Ok rows) shown = keeps old new (λ trees file.
-      let same = unchanged t (asks_in t is version file.known) old new (schema_of trees old file) rows.items shown in
+      let same = unchanged t (asks_in t is version has) old new (schema_of trees old file) rows.items shown in
       file_on trees old new file (inl same) same.0.is_open)
   kept_after (Err e) shown = tt
 
@@ -139,19 +139,19 @@ module _ (t : Table) (is : IsTableQuery t) (version : ℕ) (old new : State) whe
       (map_same (shows (shown_columns (places t)) []) (picked (places t)) (shows_places (places t)) _
       ∙ ap (map (picked (places t))) here)
       (answers.shown (whole_table t) [] _ rows.items
-      (sorted t (asks_in t is version file.known) old new (schema_of trees old file) answers rows.items h))
+      (sorted t (asks_in t is version has) old new (schema_of trees old file) answers rows.items h))
 
 -- over tables with records, it shows those that a book has of the table
 pub shows_own : OneTableAnswers → {A : Type 0} (records : TableRecords A) → IsTableQuery records.table
-    → ShowsOwn records → (version : ℕ) (old new : State) (content : Content) (accounts : List Account) (book : Book)
-    → RestsIn version content old → AreRead content accounts book → (r : Result (Vec Row Global) Error)
+    → ShowsOwn records → (version : ℕ) → HasTable version records.table → (old new : State)
+    (content : Content) (accounts : List Account) (book : Book) → RestsIn version content old → AreRead content accounts book → (r : Result (Vec Row Global) Error)
     → IfOk r (λ rows. Shown (query_text records.table) [] old new rows.items)
     → IfOk r (λ rows. rows.items ≡ map records.shown (records.of_book version accounts book))
-shows_own answers records is own version old new content accounts book rests are (Err e) h = tt
-shows_own answers records is own version old new content accounts book rests are (Ok rows) h =
-    own.rows version content accounts book are old.now.trees
-    (ap (λ (d : Database). tables_of d.trees) rests.clean ∙ rests.holds.rows) rows.items
-    (sorted records.table (asks_in records.table is version rests.known) old new
+shows_own answers records is own version has old new content accounts book rests are (Err e) h = tt
+shows_own answers records is own version has old new content accounts book rests are (Ok rows) h =
+    own.rows version has content accounts book are old.now.trees
+    (ap (λ (d : Database). tables_of_in version d.trees) rests.clean ∙ rests.holds.rows) rows.items
+    (sorted records.table (asks_in records.table is version has) old new
     (ap (λ (d : Database). d.schema) rests.clean ∙ rests.schema) answers rows.items h)
 
 -- of the rows of the table the query shows these, which rise by what it sorts by

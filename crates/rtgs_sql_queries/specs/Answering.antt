@@ -30,11 +30,12 @@ pub record KeepsTables (version : ℕ) (old new : State) : Type 0 where
   pub file : (trees : Trees) → IsFileIn version trees old → IsFileIn version trees new
   pub rests : (content : Content) → RestsIn version content old → RestsIn version content new
 
--- what a query leaves: nothing is written, and the tables of this version stay where the connection stays open
-pub record IsQuery {S : Type 0} (g : Ghosts S) (version : ℕ) (old new : Held S)
+-- what a query leaves: nothing is written, and the tables of these versions stay where the connection stays open
+pub record IsQuery {S : Type 0} (g : Ghosts S) (Over : ℕ → Type 0) (old new : Held S)
     (result : Result (Vec Row Global) Error) : Type 0 where
   pub survives : Survives (state g old) (state g new) (λ _. ⊥)
   pub mode : old.in_transaction ≡ false → new.in_transaction ≡ false
-  pub kept : HasCleanDisk (state g new) → OnOk result (KeepsTables version (state g old) (state g new))
-  pub intact : HasCleanDisk (state g new) → IsTrue (state g new).is_open
+  pub kept : (version : ℕ) → Over version → HasCleanDisk (state g new)
+      → OnOk result (KeepsTables version (state g old) (state g new))
+  pub intact : (version : ℕ) → Over version → HasCleanDisk (state g new) → IsTrue (state g new).is_open
       → KeepsTables version (state g old) (state g new)

@@ -1,7 +1,7 @@
 -- What the query of a whole table is to the engine, and what it shows of a book. With the table's description this is
 -- all that the reading of a table needs to know of it, apart from how a row is read.
 use Rattle.std.specs.Prelude.{◌≡◌, ℕ, Bool, true, false, List, [], ◌∷◌, map, length, Ok, Err, Result}
-use Rattle.std.specs.List.{AllByRecursion, Contains}
+use Rattle.std.specs.List.{AllByRecursion}
 use Rattle.sqlite_value.specs.declared.keys.Key.{Key}
 use Rattle.sqlite.specs.Collation.TheVariants.{Binary}
 use Rattle.sqlite.specs.Command.TheVariants.{Select}
@@ -27,9 +27,9 @@ use Rattle.sqlite_resolve.specs.Lowering.{Checked}
 use Rattle.sqlite_resolve.specs.Compile.{first, compiled}
 use Rattle.rtgs_book.specs.declared.Book.{Book}
 use Rattle.rtgs_book.specs.declared.account.Account.{Account}
-use Rattle.rtgs_rows.specs.Tables.{desk_schema, places, schema_in, versions_of, IsVersion}
+use Rattle.rtgs_rows.specs.Tables.{desk_schema, places, schema_in, versions_of, HasTable}
 use Rattle.rtgs_rows.specs.TableRecords.{TableRecords}
-use Rattle.rtgs_rows.specs.Content.{Content, tables_of, tables_under}
+use Rattle.rtgs_rows.specs.Content.{Content, tables_of_in, tables_for_in}
 use Rattle.rtgs_sql_queries.specs.Records.{AreRead}
 use Rattle.rtgs_sql_columns.specs.OneTable.{simple, Sorts}
 use Rattle.rtgs_sql_columns.specs.Tables.{column_names, query_text}
@@ -81,11 +81,10 @@ pub record AsksTable (t : Table) (schema : Schema) : Type 0 where
   pub typed : accepts_program schema [] (whole_table t) [] ≡ true
   pub unlisted : reads_listing schema (query_text t) ≡ false
 
--- the text is that query: it is so over each version of the tables that has this one, and each version that is known
--- has it; and over any schema it is some query
+-- the text is that query: it is so over each version of the tables that has this one; and over any schema it is some
+-- query
 pub record IsTableQuery (t : Table) : Type 0 where
   pub asks : AllByRecursion (λ version. AsksTable t (schema_in version)) (versions_of t)
-  pub every : (version : ℕ) → IsVersion version → Contains (versions_of t) version
   pub query : IsQueryText (query_text t) (first (query_text t))
   pub foreign : compiled listing_schema (query_text t) ≡ Err NoSuchTable
 
@@ -103,7 +102,7 @@ pub record Seeks (text : List ℕ) (count : ℕ) (query : Query) (names : List (
 pub record ShowsOwn {A : Type 0} (records : TableRecords A) : Type 0 where
   pub fit : (version : ℕ) (content : Content) (accounts : List Account) (book : Book) → AreRead content accounts book
       → AllByRecursion records.fits (records.of_book version accounts book)
-  pub rows : (version : ℕ) (content : Content) (accounts : List Account) (book : Book)
-      → AreRead content accounts book → (trees : Trees) → tables_of trees ≡ tables_under version content
-      → (rows : List Row) → Sorts (whole_table records.table) [] (trees records.table.tree) rows
-      → rows ≡ map records.shown (records.of_book version accounts book)
+  pub rows : (version : ℕ) → HasTable version records.table → (content : Content) (accounts : List Account)
+      (book : Book) → AreRead content accounts book → (trees : Trees)
+      → tables_of_in version trees ≡ tables_for_in version content → (rows : List Row)
+      → Sorts (whole_table records.table) [] (trees records.table.tree) rows → rows ≡ map records.shown (records.of_book version accounts book)

@@ -1,4 +1,4 @@
-//! The queries of the five tables: what each shows, and the record that each row tells.
+//! The queries of the tables of a desk: what each shows, and the record that each row tells.
 #![tactic(auto)]
 
 pub mod alive;

@@ -6,17 +6,17 @@ ghost use Rattle.rtgs_book.specs.declared.Phase.{Phase as PhaseSpec};
 ghost use Rattle.rtgs_book.specs.declared.OrderState.{OrderState as StateSpec};
 ghost use Rattle.rtgs_rows.specs.Rows.{phase_number, state_number, mark_value};
 ghost use Rattle.rtgs_rows.specs.TableRecords.{day_records, account_records, posting_records, order_records};
-ghost use Rattle.rtgs_rows.specs.TableRecords.{mark_records};
+ghost use Rattle.rtgs_rows.specs.TableRecords.{mark_records, forward_records};
 ghost use Rattle.rtgs_sql_columns.specs.Numbers.{at_least_zero};
 
 use crate::table_row::TableRow;
 use rtgs_book::{Account, Day, Mark, Order, OrderState, Participant, Phase, Posting};
 use rtgs_money::{Amount, Credit, KeyDigest, PostingAmount};
-use rtgs_rows::DeskRow;
 use rtgs_rows::numbers::{
     PHASE_CLOSED, PHASE_CUT_OFF, PHASE_OPEN, STATE_QUEUED, STATE_REJECTED, STATE_SETTLED,
     STATE_WITHDRAWN,
 };
+use rtgs_rows::{DeskRow, Forward};
 use rtgs_sql_columns::fields::{
     blob, cents, code, date, date_or_null, int, is_null, name, number, reference, unsigned, width,
 };
@@ -31,6 +31,11 @@ impl TableRow for DeskRow {
     #[tactic(auto, using(crate::proofs::Selecting::queries))]
     fn query() -> &'static str {
         "SELECT id, version, date, phase FROM desk ORDER BY id"
+    }
+
+    #[tactic(auto, using(crate::proofs::Selecting::since_the_first))]
+    fn first_version() -> u64 {
+        1
     }
 
     fn from_row(row: &Row) -> Option<DeskRow> {
@@ -56,6 +61,11 @@ impl TableRow for Account {
         "SELECT code, name, key, credit, balance FROM participant ORDER BY code"
     }
 
+    #[tactic(auto, using(crate::proofs::Selecting::since_the_first))]
+    fn first_version() -> u64 {
+        1
+    }
+
     fn from_row(row: &Row) -> Option<Account> {
         width(row, 5)?;
         let participant = Participant {
@@ -79,6 +89,11 @@ impl TableRow for Posting {
         "SELECT number, code, reference, cents, date FROM posting ORDER BY number"
     }
 
+    #[tactic(auto, using(crate::proofs::Selecting::since_the_first))]
+    fn first_version() -> u64 {
+        1
+    }
+
     fn from_row(row: &Row) -> Option<Posting> {
         width(row, 5)?;
         Some(Posting {
@@ -97,6 +112,11 @@ impl TableRow for Order {
     #[tactic(auto, using(crate::proofs::Selecting::queries))]
     fn query() -> &'static str {
         "SELECT number, sender, reference, receiver, amount, date, state, mark FROM payment ORDER BY number"
+    }
+
+    #[tactic(auto, using(crate::proofs::Selecting::since_the_first))]
+    fn first_version() -> u64 {
+        1
     }
 
     fn from_row(row: &Row) -> Option<Order> {
@@ -121,6 +141,11 @@ impl TableRow for Mark {
         "SELECT number, date, many, value FROM mark ORDER BY number"
     }
 
+    #[tactic(auto, using(crate::proofs::Selecting::since_the_first))]
+    fn first_version() -> u64 {
+        1
+    }
+
     fn from_row(row: &Row) -> Option<Mark> {
         width(row, 4)?;
         Some(Mark {
@@ -128,6 +153,28 @@ impl TableRow for Mark {
             date: date(row, 1)?,
             count: number(row, 2)?,
             value: cents(row, 3)?,
+        })
+    }
+}
+
+impl TableRow for Forward {
+    ghost records = { forward_records };
+
+    #[tactic(auto, using(crate::proofs::Selecting::queries))]
+    fn query() -> &'static str {
+        "SELECT number, due FROM forward ORDER BY number"
+    }
+
+    #[tactic(auto, using(crate::proofs::Selecting::since_the_second))]
+    fn first_version() -> u64 {
+        2
+    }
+
+    fn from_row(row: &Row) -> Option<Forward> {
+        width(row, 2)?;
+        Some(Forward {
+            number: number(row, 0)?,
+            due: date(row, 1)?,
         })
     }
 }

@@ -1,8 +1,11 @@
 //! What a table's row says.
-ghost use Rattle.std.specs.Prelude.{◌≡◌, ◌≢◌, List, Some, Err, IfOk, IfSome};
+ghost use Rattle.std.specs.Prelude.{◌≡◌, ◌≢◌, ◌≤◌, ◌<◌, ℕ, List, [], Some, Err, IfOk, IfSome};
 ghost use Rattle.std.specs.List.{AllByRecursion};
+ghost use Rattle.rtgs_book.specs.declared.Book.{Book};
 ghost use Rattle.rtgs_book.specs.declared.Rule.{Rule};
+ghost use Rattle.rtgs_book.specs.declared.account.Account.{Account as AccountSpec};
 ghost use Rattle.rtgs_rows.specs.TableRecords.{TableRecords};
+ghost use Rattle.rtgs_rows.specs.Tables.{HasTable, IsVersion};
 ghost use Rattle.rtgs_sql_columns.specs.Numbers.{as_read, AreReadAs, IsFormed};
 ghost use Rattle.rtgs_sql_columns.specs.Tables.{query_text};
 ghost use Rattle.rtgs_sql_queries.specs.TableQueries.{IsTableQuery, ShowsOwn};
@@ -22,6 +25,14 @@ pub trait TableRow: Sized {
         ensures asks { IsTableQuery records.table }
         ensures shows { ShowsOwn records }
         ensures own { (it : Self) → as_read records.counted (records.shown it) ≡ records.shown it };
+
+    /// The first version of the tables that has this one.
+    fn first_version() -> u64
+        ensures is { HasTable result records.table }
+        ensures has { (version : ℕ) → IsVersion version → result ≤ version → HasTable version records.table }
+        ensures lacks { (version : ℕ) → IsVersion version → version < result → ¬ HasTable version records.table }
+        ensures none { (version : ℕ) → IsVersion version → version < result → (accounts : List AccountSpec)
+            (book : Book) → records.of_book version accounts book ≡ [] };
 
     /// The record, where each value of the row is in its form and range, and there are no more values.
     fn from_row(row: &Row) -> Option<Self>

@@ -14,7 +14,7 @@ use Rattle.sqlite.specs.Rows.{stamped}
 use Rattle.sqlite.specs.Tree.{Trees, put_row, rowid, IsAscending}
 use Rattle.sqlite.specs.Effect.{Database, value_rows}
 use Rattle.sqlite.specs.State.{State, ExecutesInside}
-use Rattle.rtgs_rows.specs.Tables.{desk_tables}
+use Rattle.rtgs_rows.specs.Tables.{current_tables}
 use Rattle.rtgs_sql_writes.specs.Building.{table_at}
 use Rattle.rtgs_rows.specs.Content.{Content, IsUnderWay, tables_of, tables_for}
 use Rattle.rtgs_sql_writes.proofs.Lists.{put_last, before_last}
@@ -22,7 +22,7 @@ use Rattle.rtgs_sql_writes.proofs.StateLemmas.{with_tree, framed, stands_on}
 use Rattle.rtgs_sql_writes.proofs.Writing.{IsUnderstoodAs, inserted}
 
 -- the text inserts one row of these terms into the table at that place
-module _ {A : Type 0} (text : List ℕ) (at : ℕ) (low : at < length desk_tables) (terms : List Term) (width : ℕ)
+module _ {A : Type 0} (text : List ℕ) (at : ℕ) (low : at < length current_tables) (terms : List Term) (width : ℕ)
     (row : A → Row) (id : A → ℤ) (is_id : (a : A) → rowid (row a) ≡ Int (id a))
     (means : IsUnderstoodAs text (Insert at (Values terms width))) where
   -- and with these parameters the row of this record

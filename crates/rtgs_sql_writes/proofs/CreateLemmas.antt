@@ -15,7 +15,7 @@ use Rattle.sqlite.specs.Tree.{Trees}
 use Rattle.sqlite.specs.Effect.{Database, value_rows}
 use Rattle.sqlite.specs.State.{State, mode_of, HasCleanDisk, Survives, Writes, ExecutesInside}
 use Rattle.sqlite.proofs.Callers.{runs_as}
-use Rattle.rtgs_rows.specs.Tables.{no_schema, desk_schema, with_tables, desk_table, desk_tables, schema_in}
+use Rattle.rtgs_rows.specs.Tables.{no_schema, desk_schema, with_tables, desk_table, current_tables, schema_in}
 use Rattle.rtgs_rows.specs.Content.{tables_of, tables_for, IsUnderWay}
 use Rattle.rtgs_rows.specs.Keeping.{first_content}
 use Rattle.rtgs_rows.specs.Rows.{day_row}
@@ -117,7 +117,7 @@ first_frame : (old new : Trees) → AllByRecursion (λ t. old t.tree ≡ []) des
     → tables_of new ≡ tables_for first_content
 unfolding schema_in
 first_frame old new none others here = framed desk_table.tree old new _ here others
-    ∙ ap (with_rows desk_table (day_row VERSION first_content.day ∷ [])) (all_empty old desk_tables none)
+    ∙ ap (with_rows desk_table (day_row VERSION first_content.day ∷ [])) (all_empty old current_tables none)
 
 desk_empty : (trees : Trees) → AllByRecursion (λ t. trees t.tree ≡ []) desk_schema.tables → trees desk_table.tree ≡ []
 unfolding schema_in

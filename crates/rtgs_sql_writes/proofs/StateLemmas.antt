@@ -8,8 +8,8 @@ use Rattle.sqlite.specs.Effect.{Database, IsDatabase}
 use Rattle.sqlite_catalog.specs.Listing.{IsSound}
 use Rattle.sqlite.specs.State.{State, HasCleanDisk, Survives, Shows}
 use Rattle.sqlite.specs.Table.{Table}
-use Rattle.rtgs_rows.specs.Settling.{newest_is_known}
-use Rattle.rtgs_rows.specs.Tables.{desk_schema, desk_tables, schema_in}
+use Rattle.rtgs_rows.specs.Settling.{current_is_known}
+use Rattle.rtgs_rows.specs.Tables.{desk_schema, current_tables, schema_in}
 use Rattle.sqlite_trees.specs.declared.store.Store.{Ghosts}
 use Rattle.sqlite.specs.Tree.{Trees}
 use Rattle.sqlite.specs.Held.{Held, state}
@@ -36,7 +36,7 @@ with_rows_at tree rows tables all = []
 
 -- these rows in place of those of one table
 abbrev pub with_rows : Table → List Row → Tables → Tables
-with_rows table rows = with_rows_at table.tree rows desk_tables
+with_rows table rows = with_rows_at table.tree rows current_tables
 
 -- so the tables are as they were, with the rows of that tree
 module _ (tree : ℕ) (old new : Trees) (rows : List Row) (here : new tree ≡ rows) where
@@ -53,7 +53,7 @@ module _ (tree : ℕ) (old new : Trees) (rows : List Row) (here : new tree ≡ r
 
   pub framed : frame_but tree old new → tables_of new ≡ tables_of (with_tree tree rows old)
   unfolding schema_in
-  framed others = all_same desk_tables others
+  framed others = all_same current_tables others
 
 pub stands_on : (was : Database) (old new : State) (content after : Content) → IsUnderWay was content old
     → Shows old new new.now old.committed true → new.now.schema ≡ desk_schema → IsDatabase new.now
@@ -80,7 +80,7 @@ stands_begun g h content rests = record {
 pub rests_committed : (was : Database) (mid new : State) (content : Content) → IsUnderWay was content mid
     → Shows mid new mid.now mid.now false → Rests content new
 rests_committed was mid new content stands shown = record {
-  known = newest_is_known;
+  known = current_is_known;
   is_open = shown.is_open;
   schema = ap (λ (d : Database). d.schema) shown.committed_is ∙ stands.schema;
   holds = subst (λ (d : Database). Holds content d.trees) (sym shown.committed_is) stands.holds;

@@ -21,7 +21,7 @@ use Rattle.sqlite.specs.Listing.{understood}
 use Rattle.sqlite.specs.Effect.{IsDatabase, value_rows}
 use Rattle.sqlite.specs.State.{State, mode_of, Executes}
 use Rattle.sqlite.proofs.Callers.{IsPlain, command_of, statement_of, runs_as}
-use Rattle.rtgs_rows.specs.Tables.{desk_table, desk_tables, desk_schema, schema_in}
+use Rattle.rtgs_rows.specs.Tables.{desk_table, current_tables, desk_schema, schema_in}
 use Rattle.rtgs_sql_writes.specs.Building.{table_at}
 use Rattle.rtgs_sql_writes.proofs.Lists.{EachAt, each_at}
 use Rattle.rtgs_sql_writes.proofs.StateLemmas.{desk_over, frame_but}
@@ -41,15 +41,15 @@ pub record IsUnderstoodAs (text : List ℕ) (command : Command) : Type 0 where
   pub plain : IsPlain (understood desk_schema text)
 
 -- no foreign key acts on the rows of a table
-all_plain : (trees : Trees) (mode : Mode) → EachAt (IsPlainTable (desk_over trees) mode) desk_tables
+all_plain : (trees : Trees) (mode : Mode) → EachAt (IsPlainTable (desk_over trees) mode) current_tables
 unfolding schema_in
 all_plain trees mode = assumption refl
 
 -- the table stands at that place of the schema
-module _ (text : List ℕ) (at : ℕ) (low : at < length desk_tables) (old new : State) (params : Row) (count : ℕ)
+module _ (text : List ℕ) (at : ℕ) (low : at < length current_tables) (old new : State) (params : Row) (count : ℕ)
     (has : old.now.schema ≡ desk_schema) (h : Executes text params old new (Ok count)) where
   is_plain : IsPlainTable (desk_over old.now.trees) (mode_of old) at (table_at at)
-  is_plain = each_at (IsPlainTable (desk_over old.now.trees) (mode_of old)) desk_tables
+  is_plain = each_at (IsPlainTable (desk_over old.now.trees) (mode_of old)) current_tables
       (all_plain old.now.trees (mode_of old)) at desk_table low
 
   pub inserted : (terms : List Term) (width : ℕ) → IsUnderstoodAs text (Insert at (Values terms width))

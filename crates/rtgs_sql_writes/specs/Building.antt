@@ -12,7 +12,7 @@ use Rattle.sqlite.specs.Does.{lacks_sequence}
 use Rattle.sqlite.specs.Listing.{understood}
 use Rattle.sqlite.specs.Given.{IsPlain}
 use Rattle.sqlite.proofs.Callers.{command_of, statement_of}
-use Rattle.rtgs_rows.specs.Tables.{desk_table, desk_tables, with_tables}
+use Rattle.rtgs_rows.specs.Tables.{desk_table, current_tables, with_tables}
 
 -- inside a transaction, with these tables, all of them empty
 pub record IsBuilt (was : Database) (schema : Schema) (s : State) : Type 0 where
@@ -24,7 +24,7 @@ pub record IsBuilt (was : Database) (schema : Schema) (s : State) : Type 0 where
 
 -- the table at that place
 abbrev pub table_at : ℕ → Table
-table_at at = get_or desk_tables at desk_table
+table_at at = get_or current_tables at desk_table
 
 -- as a text defines it, before it is given a tree
 abbrev pub unplaced : ℕ → Table

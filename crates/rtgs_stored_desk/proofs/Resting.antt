@@ -17,7 +17,7 @@ use Rattle.rtgs_keeper.specs.declared.commit_fault.CommitFault.TheVariants as co
 use Rattle.rtgs_rows.specs.Content.{HasNoTables}
 use Rattle.rtgs_rows.specs.Keeping.{IsBookOf, HoldsBook}
 use Rattle.rtgs_rows.specs.Querying.{IsDeskFile}
-use Rattle.rtgs_rows.specs.Settling.{newest_is_known}
+use Rattle.rtgs_rows.specs.Settling.{current_is_known}
 use Rattle.rtgs_rows.specs.declared.numbers.TheConstants.{VERSION}
 use Rattle.rtgs_rows.specs.Tables.{no_schema, desk_schema}
 use Rattle.rtgs_tables.specs.Loading.{ExplainsTrees, ExplainsDatabase}
@@ -34,7 +34,7 @@ held_at_rest g h as_such rest book tables =
     let s = state g h in (
       tables.0,
       record {
-        known = newest_is_known;
+        known = current_is_known;
         is_open = rest.is_open;
         schema = as_such s.committed.schema s.committed.trees tables.1.sound
             rest.sound;
@@ -53,7 +53,7 @@ blank_at_rest s as_none rest none = record {
 
 pub file_at_rest : (s : State) → IsAtRest s → s.committed.schema ≡ desk_schema → IsDeskFile s.committed.trees s
 file_at_rest s rest schema = record {
-  known = newest_is_known;
+  known = current_is_known;
   is_open = rest.is_open;
   schema = schema;
   trees_are = refl;

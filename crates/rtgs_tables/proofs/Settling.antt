@@ -13,7 +13,7 @@ use Rattle.rtgs_rows.specs.Content.{Content, Holds, Rests, AreInOrder, with_chan
 use Rattle.rtgs_rows.specs.Fitting.{FitsRow}
 use Rattle.rtgs_sql_writes.specs.Staging.{HoldsChange}
 use Rattle.rtgs_rows.specs.Keeping.{IsBookOf, HoldsBook, MayLeave, IsWhole}
-use Rattle.rtgs_rows.specs.Settling.{newest_is_known}
+use Rattle.rtgs_rows.specs.Settling.{current_is_known}
 use Rattle.rtgs_rows.specs.declared.numbers.TheConstants.{VERSION}
 use Rattle.rtgs_rows.specs.RowLaws.{RowsTellTheBook, ChangesStandInOrder, ChangedRowsAreTheBook, DesksAreReadAsSuch}
 
@@ -130,7 +130,7 @@ pub opened : DesksAreReadAsSuch → {S : Type 0} (g : Ghosts S) (h : Held S) (bo
 opened read g h book content opens live holds is =
     let s = state g h in
     let rests : Rests content s = record {
-      known = newest_is_known;
+      known = current_is_known;
       is_open = opens.is_open;
       schema = read VERSION s.committed.schema s.committed.trees holds.sound (live opens.is_open).1;
       holds = holds;

@@ -28,7 +28,8 @@ ExplainsLoad s fault = ((accounts : List Account) (book : Book) → HasRecords V
 
 -- The queries show the records of the book, with stored balances that are the sums from scratch.
 abbrev pub ShowsBalanced : State → Book → Type 0
-ShowsBalanced s book = ((trees : Trees) → IsDeskFile trees s → IsShown VERSION trees book) × IsDisplayed VERSION s.now book
+ShowsBalanced s book = ((trees : Trees) → IsDeskFile trees s → IsShown VERSION trees book)
+    × IsDisplayed VERSION s.now book
 
 -- whatever a stop leaves in the second state, it could leave in the first
 abbrev pub MayLeaveNoMore : State → State → Type 0

@@ -2,7 +2,7 @@ use Rattle.std.proofs.Common.{IfErr, rules, subst, subst₂}
 use Rattle.sqlite_catalog.specs.Listing.{IsSound}
 use Rattle.sqlite.specs.Held.{state}
 use Rattle.rtgs_book.specs.declared.Fault.TheVariants.{StoreFault}
-use Rattle.rtgs_rows.specs.Tables.{schema_in}
+use Rattle.rtgs_rows.specs.Tables.{IsVersion, schema_in}
 use Rattle.rtgs_sql_loading.specs.Accounts.{ExplainsRead}
 use Rattle.rtgs_sql_loading.proofs.Judging.{judged_book, judged_of, unread, unread_of, answered}
 use Rattle.rtgs_sql_loading.proofs.Together.{held_book, shown_book}
@@ -11,6 +11,7 @@ use Rattle.rtgs_sql_loading.proofs.loading.load_book.Goals as goal
 
 pub returns-in_err-stored-clause-tells : goal.returns-in_err-stored-clause-tells
 returns-in_err-stored-clause-tells g c clean =
+    let known : IsVersion c.args.version = c.is_version.ensures.0 c.if-not-is_version.false in
     let stops = c.read_tables.ensures.stops in
     let kinds = c.read_tables.ensures.kinds in
     let was = c.in_err-stored.was in
@@ -25,14 +26,16 @@ returns-in_err-stored-clause-tells g c clean =
           (stops.wrong clean trees file) kinds was told;
       displayed = search rules;
       told = told_of_none c.args.version (state g.S.Store c.args.conn.now).now c.read_tables.result _
-          c.from_residual.result (stops.unread clean) kinds was told;
+          c.from_residual.result (stops.unread clean known) kinds was told;
+      unknown = λ not. absurd (not known);
     }
 
 pub returns-clause-tells : goal.returns-clause-tells
 returns-clause-tells g c clean =
     let version = c.args.version in
     let s = state g.S.Store c.args.conn.now in
-    let tells = c.in_ok-stored.ensures.told clean in
+    let known : IsVersion version = c.is_version.ensures.0 c.if-not-is_version.false in
+    let tells = c.in_ok-stored.ensures.told known clean in
     let it = c.judged.ensures in
     record {
       read = λ accounts book held.
@@ -44,13 +47,14 @@ returns-clause-tells g c clean =
       held = λ trees file whole.
           let sound = subst (IsSound (schema_in version)) file.trees_are
           (subst (λ schema. IsSound schema s.committed.trees) file.schema (c.schema.ensures.live file.is_open).1) in
-          held_book c.shown_records_are_held.ensures version file.known trees _ _ c.judged.result sound whole
+          held_book c.shown_records_are_held.ensures version trees _ _ c.judged.result sound whole
           (tells.rows trees file) it.given it.sound it.balances;
       shown = λ trees file.
           shown_book version trees _ _ c.judged.result (tells.rows trees file) it.given it.sound it.balances;
       caused = λ trees file. judged_of version trees _ _ c.judged.result (tells.rows trees file) it.explained;
       displayed = displayed_book version s.now _ _ c.judged.result tells.displayed it.given it.sound it.balances;
       told = told_of_book version s.now _ _ c.judged.result tells.displayed it.explained;
+      unknown = λ not. absurd (not known);
     }
 
 pub returns-in_err-stored-clause-same : goal.returns-in_err-stored-clause-same

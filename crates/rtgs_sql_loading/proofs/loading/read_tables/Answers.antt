@@ -1,15 +1,25 @@
-use Rattle.std.proofs.Common.{map, ap, ◌∙◌}
+use Rattle.std.proofs.Common.{map, Vec, Global, sym, ap, ◌∙◌}
+use Rattle.rtgs_book.specs.declared.Order.{Order}
 use Rattle.rtgs_book.specs.declared.account.Account.{Account}
 use Rattle.sqlite.specs.Held.{state}
 use Rattle.rtgs_sql_loading.proofs.Blank.{unshown}
-use Rattle.rtgs_sql_loading.proofs.AllTables.{renamed, tells}
+use Rattle.rtgs_sql_loading.proofs.AllTables.{renamed, tells, each_formed, one_unread}
+use Rattle.rtgs_sql_loading.proofs.Dues.{stops_at_dues}
 use Rattle.rtgs_sql_loading.proofs.ReadTables.{at_once, stops_after, stops_never, not_foreign}
 use Rattle.rtgs_sql_loading.proofs.loading.read_tables.Goals as goal
 
 pub returns-in_err-all-clause-stops : goal.returns-in_err-all-clause-stops
 returns-in_err-all-clause-stops g c =
-    stops_after c.read.result _ c.from_residual.result (at_once (state g.S.Store c.args.conn.now)) c.in_err-all.was
-    c.from_residual.ensures.1 (λ trees bad. bad) (λ db unread. unread) c.read.ensures.stops
+    let version = c.args.version in
+    stops_after c.read.result _ c.from_residual.result (at_once version (state g.S.Store c.args.conn.now))
+    c.in_err-all.was c.from_residual.ensures.1
+    (λ known trees bad formed. bad (formed.day, (each_formed version known trees formed).1))
+    (one_unread version) c.read.ensures.stops
+
+pub returns-in_err-orders-clause-stops : goal.returns-in_err-orders-clause-stops
+returns-in_err-orders-clause-stops g c =
+    stops_at_dues _ c.in_ok-all.ensures.on (λ clean. (c.in_ok-all.ensures.told clean).1.1.1.1.1.0)
+    (λ none. c.in_err-orders.ensures.wrong.1 (c.as_slice.ensures.value ∙ none))
 
 pub returns-in_err-participants-clause-stops : goal.returns-in_err-participants-clause-stops
 returns-in_err-participants-clause-stops g c = stops_never _ c.in_ok-all.ensures.on (not_foreign _
@@ -19,25 +29,27 @@ pub returns-clause-stops : goal.returns-clause-stops
 returns-clause-stops g c = stops_never _ c.in_ok-all.ensures.on (λ e. cc)
 
 pub returns-clause-blank : goal.returns-clause-blank
-returns-clause-blank g c clean blank =
+returns-clause-blank g c known clean blank =
     let s = state g.S.Store c.args.conn.now in
-    let shown = (c.in_ok-all.ensures.told clean).0.told.1 in
+    let shown = ((c.in_ok-all.ensures.told clean).0.told known).1 in
     absurd (unshown s blank shown.0 shown.1)
 
 pub invariant_of-result : goal.invariant_of-result
 invariant_of-result g c = record {
   participants = c.from_vec.ensures ∙ c.in_ok-participants.ensures
-      ∙ ap (map (λ (a : Account). a.participant)) c.as_slice.ensures.value;
+      ∙ ap (map (λ (a : Account). a.participant)) c.as_slice-2.ensures.value;
 }
 
 pub returns-clause-told : goal.returns-clause-told
-returns-clause-told g c clean =
+returns-clause-told g c known clean =
     let read = c.in_ok-all.ensures.told clean in
     let participants = c.from_vec.ensures ∙ c.in_ok-participants.ensures
-    ∙ ap (map (λ (a : Account). a.participant)) c.as_slice.ensures.value in
+    ∙ ap (map (λ (a : Account). a.participant)) c.as_slice-2.ensures.value in
     let lists = read.1.1 in
     let postings = renamed c.from_vec-2.ensures lists.0 in
-    let orders = renamed c.from_vec-3.ensures lists.1.0 in
+    let joined = c.in_ok-orders.ensures.joined in
+    let orders = renamed (c.from_vec-3.ensures ∙ ap (λ (v : Vec Order Global). v.items) joined.0) lists.1.0 in
     let marks = renamed c.from_vec-4.ensures lists.1.1.0 in
-    tells c.args.version (state g.S.Store c.args.conn.now) _ _ participants
-    (read.0, (read.1.0, (postings, (orders, (marks, tt)))))
+    let forwards = renamed (sym joined.1 ∙ c.as_slice.ensures.value) lists.1.1.1.0 in
+    tells c.args.version known (state g.S.Store c.args.conn.now) _ _ participants
+    (read.0, (read.1.0, (postings, (orders, (marks, (forwards, tt))))))

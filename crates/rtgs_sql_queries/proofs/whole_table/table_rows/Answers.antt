@@ -16,12 +16,12 @@ all_rows-requires g c = subst (λ text. Returnless (first text)) (sym c.query.en
     (returnless (query_text g.T.TableRow.records.table) _ c.query.ensures.asks.query)
 
 pub returns-clause-given : goal.returns-clause-given
-returns-clause-given g c clean version accounts book held =
+returns-clause-given g c clean version has accounts book held =
     let t = g.T.TableRow.records in
     let old = state g.S.Store c.args.conn.now in
     let new = state g.S.Store c.all_rows.new.conn in
-    let rows = shows_own c.one_table_answers.ensures t c.query.ensures.asks c.query.ensures.shows version old new held.0
-    accounts book held.1 held.2 c.all_rows.result
+    let rows = shows_own c.one_table_answers.ensures t c.query.ensures.asks c.query.ensures.shows version has old new
+    held.0 accounts book held.1 held.2 c.all_rows.result
     (subst (λ text. IfOk c.all_rows.result (λ rows. Shown text [] old new rows.items)) c.query.ensures.is
     (c.all_rows.ensures.ok clean)) in
     record {
@@ -34,24 +34,24 @@ pub returns-clause-own : goal.returns-clause-own
 returns-clause-own g c = c.query.ensures.own
 
 pub returns-clause-raw : goal.returns-clause-raw
-returns-clause-raw g c clean version trees file =
+returns-clause-raw g c clean version has trees file =
     let old = state g.S.Store c.args.conn.now in
     let new = state g.S.Store c.all_rows.new.conn in
-    shows_all g.T.TableRow.records.table c.query.ensures.asks version old new c.one_table_answers.ensures trees file
+    shows_all g.T.TableRow.records.table c.query.ensures.asks version has old new c.one_table_answers.ensures trees file
     c.all_rows.result
     (subst (λ text. IfOk c.all_rows.result (λ rows. Shown text [] old new rows.items)) c.query.ensures.is
     (c.all_rows.ensures.ok clean))
 
 pub returns-clause-refused : goal.returns-clause-refused
-returns-clause-refused g c clean version known schema =
+returns-clause-refused g c clean version has schema =
     let old = state g.S.Store c.args.conn.now in
     let new = state g.S.Store c.all_rows.new.conn in
-    refused g.T.TableRow.records.table (asks_in g.T.TableRow.records.table c.query.ensures.asks version known) old new schema
-    c.all_rows.result
+    refused g.T.TableRow.records.table (asks_in g.T.TableRow.records.table c.query.ensures.asks version has) old new
+    schema c.all_rows.result
     (subst (λ text. IfErr c.all_rows.result (FailsAmid text old new)) c.query.ensures.is (c.all_rows.ensures.err clean))
 
 pub returns-clause-asks : goal.returns-clause-asks
-returns-clause-asks g c version =
+returns-clause-asks g c =
     let t = g.T.TableRow.records.table in
     let old = state g.S.Store c.args.conn.now in
     let new = state g.S.Store c.all_rows.new.conn in
@@ -60,8 +60,9 @@ returns-clause-asks g c version =
     record {
       survives = c.all_rows.ensures.survives;
       mode = c.all_rows.ensures.mode;
-      kept = λ clean. kept_after t c.query.ensures.asks version old new c.all_rows.result (shown clean);
-      intact = λ clean alive. intact_after t c.query.ensures.asks version old new c.all_rows.result (shown clean)
+      kept = λ version has clean. kept_after t c.query.ensures.asks version has old new c.all_rows.result (shown clean);
+      intact = λ version has clean alive. intact_after t c.query.ensures.asks version has old new c.all_rows.result
+          (shown clean)
           (subst (λ text. IfErr c.all_rows.result (FailsAmid text old new)) c.query.ensures.is
           (c.all_rows.ensures.err clean)) alive;
     }

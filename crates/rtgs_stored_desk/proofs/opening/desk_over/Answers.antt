@@ -15,8 +15,8 @@ returns-in-Ok-clause-opened g c honest rest =
     → trees ≡ (state g.S.Store was).committed.trees = λ trees left. g.met.S.Store.settled was.store trees
     rest.is_open (it.left.untouched trees left) in
     record {
-      held = λ book tables. it.held book (held_at_rest g.S.Store was (c.tables_of_a_desk_are_read_as_such.ensures VERSION)
-          rest book tables);
+      held = λ book tables. it.held book (held_at_rest g.S.Store was
+          (c.tables_of_a_desk_are_read_as_such.ensures VERSION) rest book tables);
       kept = λ schema whole.
           let found = it.kept (file_at_rest (state g.S.Store was) rest schema, whole) in
           let left = (c.holds_a_sound_book.ensures.after_a_crash found.0 found.0 found.1).1 refl in (

@@ -5,13 +5,14 @@ use Rattle.rtgs_sql_loading.proofs.reading.Tuple2FromTables.read.Goals as goal
 
 pub returns-in_err-one-clause-stops : goal.returns-in_err-one-clause-stops
 returns-in_err-one-clause-stops g c =
-    stops_after c.read.result _ c.from_residual.result (at_once (state g.S.Store c.args.conn.now)) c.in_err-one.was
-    c.from_residual.ensures.1 (λ trees bad formed. bad formed.0) (λ db unread. inl unread) c.read.ensures.stops
+    stops_after c.read.result _ c.from_residual.result (at_once c.args.version (state g.S.Store c.args.conn.now))
+    c.in_err-one.was c.from_residual.ensures.1 (λ known trees bad formed. bad formed.0)
+    (λ known db unread. inl unread) c.read.ensures.stops
 
 pub returns-in_err-other-clause-stops : goal.returns-in_err-other-clause-stops
 returns-in_err-other-clause-stops g c =
     stops_after c.read-2.result _ c.from_residual-in_err-other.result c.in_ok-one.ensures.on c.in_err-other.was
-    c.from_residual-in_err-other.ensures.1 (λ trees bad formed. bad formed.1) (λ db unread. inr unread)
+    c.from_residual-in_err-other.ensures.1 (λ known trees bad formed. bad formed.1) (λ known db unread. inr unread)
     c.read-2.ensures.stops
 
 pub returns-clause-stops : goal.returns-clause-stops
