@@ -2,6 +2,7 @@
 mod memory_keeper;
 mod no_memory;
 mod stored_numbers;
+mod versions;
 
 use super::scripts::{Answers, follows};
 use super::setting::{change, code, meddled, new_keeper, opened, participant, posting};
