@@ -159,17 +159,16 @@ shown_tables_are version trees book accounts people whole shows order =
     let schema = schema_in version in
     let follow : RowsFollow schema version trees accounts book records_of_tables (all_tables version
     (content_of book people.holdings)) = (
-      λ table same. rows_are (day_told version) schema trees (book.day ∷ []) table
-          (tt, tt) same,
+      λ table. rows_are (day_told version) schema trees (book.day ∷ []) table (tt, tt),
       (
         λ table same. people.rows_are,
         (
-          λ table same. rows_are posting_told schema trees book.postings table order.postings same,
+          λ table. rows_are posting_told schema trees book.postings table order.postings,
           (
-            λ table same. rows_are order_told schema trees book.orders table order.orders same,
+            λ table. rows_are order_told schema trees book.orders table order.orders,
             (
-              λ table same. rows_are mark_told schema trees book.marks table order.marks same,
-              (λ table same. rows_are forward_told schema trees (forwards_of book.orders) table order.forwards same, tt),
+              λ table. rows_are mark_told schema trees book.marks table order.marks,
+              (λ table. rows_are forward_told schema trees (forwards_of book.orders) table order.forwards, tt),
             ),
           ),
         ),

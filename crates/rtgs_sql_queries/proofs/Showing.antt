@@ -144,7 +144,8 @@ module _ (t : Table) (is : IsTableQuery t) (version : ℕ) (has : HasTable versi
 -- over tables with records, it shows those that a book has of the table
 pub shows_own : OneTableAnswers → {A : Type 0} (records : TableRecords A) → IsTableQuery records.table
     → ShowsOwn records → (version : ℕ) → HasTable version records.table → (old new : State)
-    (content : Content) (accounts : List Account) (book : Book) → RestsIn version content old → AreRead content accounts book → (r : Result (Vec Row Global) Error)
+    (content : Content) (accounts : List Account) (book : Book) → RestsIn version content old
+    → AreRead content accounts book → (r : Result (Vec Row Global) Error)
     → IfOk r (λ rows. Shown (query_text records.table) [] old new rows.items)
     → IfOk r (λ rows. rows.items ≡ map records.shown (records.of_book version accounts book))
 shows_own answers records is own version has old new content accounts book rests are (Err e) h = tt

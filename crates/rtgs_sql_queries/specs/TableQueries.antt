@@ -105,4 +105,5 @@ pub record ShowsOwn {A : Type 0} (records : TableRecords A) : Type 0 where
   pub rows : (version : ℕ) → HasTable version records.table → (content : Content) (accounts : List Account)
       (book : Book) → AreRead content accounts book → (trees : Trees)
       → tables_of_in version trees ≡ tables_for_in version content → (rows : List Row)
-      → Sorts (whole_table records.table) [] (trees records.table.tree) rows → rows ≡ map records.shown (records.of_book version accounts book)
+      → Sorts (whole_table records.table) [] (trees records.table.tree) rows
+      → rows ≡ map records.shown (records.of_book version accounts book)
