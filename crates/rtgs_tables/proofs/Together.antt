@@ -1,7 +1,7 @@
 -- The book that was loaded, and the connection after it.
 use Rattle.std.proofs.Common.{◌≢◌, Ok, Err, Result, IfOk, sym, subst}
 use Rattle.sqlite.specs.Held.{Held, state}
-use Rattle.sqlite.specs.State.{State}
+use Rattle.sqlite.specs.State.{State, HasCleanDisk, Survives}
 use Rattle.sqlite.specs.Tree.{Trees}
 use Rattle.sqlite_trees.specs.declared.store.Store.{Ghosts}
 use Rattle.rtgs_book.specs.declared.Book.{Book}
@@ -16,7 +16,8 @@ use Rattle.rtgs_rows.specs.declared.numbers.TheConstants.{VERSION}
 use Rattle.rtgs_sql_columns.specs.Blank.{IsBlank}
 use Rattle.rtgs_sql_queries.specs.Answering.{KeepsTables}
 use Rattle.rtgs_sql_loading.specs.Loading.{LoadsFrom}
-use Rattle.rtgs_tables.specs.Loading.{AnswersBook, ShowsBalanced}
+use Rattle.rtgs_tables.specs.Loading.{AnswersBook, LeavesConnection, ShowsBalanced}
+use Rattle.rtgs_tables.proofs.Settling.{leaves_less, leaves_on}
 use Rattle.rtgs_tables.proofs.Accounts.{accounts_of, has_own, own_balances}
 use Rattle.rtgs_tables.proofs.Judging.{accepted, explained, the_book}
 
@@ -64,3 +65,14 @@ answers_book in_order g old new answer loads same empty =
           (λ other. (same other).file trees tables.0);
       empty = empty;
     }
+
+-- and what it leaves of the connection
+pub leaves_connection : {S : Type 0} (g : Ghosts S) (old new : Held S) (answer : Result Book Fault)
+    → HasCleanDisk (state g new) → (answer ≢ Err StoreFault → KeepsTables VERSION (state g old) (state g new))
+    → Survives (state g old) (state g new) (λ _. ⊥) → LeavesConnection g old new answer
+leaves_connection g old new answer clean keeps survives = record {
+  same = λ book held other. (held.0, (keeps other).rests held.0 held.1, held.2);
+  stops = λ other left. leaves_less g old new survives clean other left;
+  untouched = λ trees left. leaves_on (state g old) (state g new) survives clean trees left;
+  whole = λ whole trees left. whole trees (leaves_on (state g old) (state g new) survives clean trees left);
+}
