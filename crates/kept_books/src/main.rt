@@ -1,5 +1,5 @@
-//! Asks the desk of the books in `data/`, whose tables are of version 1. Each line of the input has the words
-//! of one run; it is printed, and then what the desk prints of it.
+//! Brings the tables of the books in `data/`, which are of version 1, to the newest version, and asks the desk of each
+//! book. Each line of the input has the words of one run; it is printed, and then what the desk prints of it.
 #![tactic(auto)]
 
 use rtgs_desk_cli::run_words;

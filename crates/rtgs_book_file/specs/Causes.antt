@@ -7,6 +7,7 @@ use Rattle.sqlite.specs.Recovery.{Image}
 use Rattle.sqlite.specs.declared.FileStore.{FileStore}
 use Rattle.rtgs_keeper.specs.declared.keeper.Keeper.{Ghosts}
 use Rattle.rtgs_book_file.specs.Refused.{IsNotLocked, IsNotVacant, ShowsFault, IsNoBook, WasRefused, WasUnmade}
+use Rattle.rtgs_book_file.specs.Refused.{WasUnmigrated}
 use Rattle.rtgs_book_file.specs.declared.cause.Cause.{Cause}
 use Rattle.rtgs_book_file.specs.declared.cause.Cause.TheVariants.{NotLocked, NotVacant, Unread, NotReached, GivenUp}
 use Rattle.rtgs_book_file.specs.declared.file_fault.FileFault.{FileFault}
@@ -24,6 +25,14 @@ fault_of_cause (GivenUp fault closed) = Book fault
 abbrev pub IsOfItsLock : {B : Type 0} → Cause B → Type 0
 IsOfItsLock (NotLocked refused) = IsNotLocked refused.fault
 IsOfItsLock _ = ⊥
+
+-- Why the tables of a file whose lock was taken were not brought to the newest version, and in what state the file is
+-- left that was opened. `g` has the members of a disk's trait.
+abbrev pub BarsMigration : {D B : Type 0} → disk.Ghosts D → Image → (B → Files D) → Cause B → Type 0
+BarsMigration g held files_of (Unread unread) = ShowsFault unread.fault
+BarsMigration g held files_of (NotReached unreached) = IsNoBook g held unreached.fault
+BarsMigration g held files_of (GivenUp fault closed) = WasUnmigrated g held fault (files_of closed)
+BarsMigration g held files_of _ = ⊥
 
 module _ {K D : Type 0} {g : disk.Ghosts D} (k : Ghosts K) (conn : K → Held (FileStore D g)) (held : Image)
     {B : Type 0} (files_of : B → Files D) where

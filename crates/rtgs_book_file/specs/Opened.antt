@@ -1,5 +1,6 @@
--- What was opened, and what was made, over what files held. `k` has the members of the keeper's trait, and `conn` gives
+-- What was opened, made and migrated over what files held. `k` has the members of the keeper's trait, and `conn` gives
 -- a keeper's connection.
+use Rattle.std.specs.Prelude.{Bool}
 use Rattle.sqlite_disk.specs.declared.Disk as disk
 use Rattle.sqlite.specs.Files.{file_state, IsOpened}
 use Rattle.sqlite.specs.Held.{Held}
@@ -11,6 +12,7 @@ use Rattle.sqlite.specs.declared.FileStore.{FileStore}
 use Rattle.rtgs_book.specs.Books.{new_book}
 use Rattle.rtgs_keeper.specs.declared.keeper.Keeper.{Ghosts}
 use Rattle.rtgs_desk.specs.Seen.{Seen}
+use Rattle.rtgs_stored_desk.specs.Migrated.{WasMigration}
 use Rattle.rtgs_stored_desk.specs.Stored.{AreTablesOf, HasNoSchema, IsOver}
 use Rattle.rtgs_book_file.specs.Closed.{LeavesClosed}
 use Rattle.rtgs_book_file.specs.declared.closed_files.ClosedFiles.{ClosedFiles}
@@ -42,3 +44,16 @@ pub record WasMade {K D : Type 0} {g : disk.Ghosts D} (k : Ghosts K) (conn : K �
       → AreTablesOf new_book trees
   -- and then it was closed
   pub closed : LeavesClosed now files
+
+-- the tables that the files held were brought to the newest version, or were of it already, and these are left of them
+pub record WasMigrated {D : Type 0} (g : disk.Ghosts D) (held : Image) (wrote : Bool) (files : ClosedFiles D) : Type 0
+  where
+    -- the connection, when it had been opened, and before it was closed
+    pub was : Held (FileStore D g)
+    pub now : Held (FileStore D g)
+    pub opened : HasCleanDisk (file_state now) → IsOpened was
+    pub found : HasCleanDisk (file_state now) → FindsIn held (file_state was)
+    -- what was done with the tables that it found, and what a stop leaves of them
+    pub did : HasCleanDisk (file_state now) → WasMigration wrote (file_state was) (file_state now)
+    -- and then it was closed
+    pub closed : LeavesClosed now files

@@ -1,5 +1,5 @@
 -- What crates that know no store say of the file of a book.
-use Rattle.std.specs.Prelude.{◌≡◌, ◌⊎◌, ℕ, List, string_bytes}
+use Rattle.std.specs.Prelude.{◌≡◌, ◌⊎◌, ℕ, Bool, List, string_bytes}
 use Rattle.sqlite_disk.specs.declared.Disk as disk
 use Rattle.sqlite_disk.specs.declared.Start as start
 use Rattle.sqlite_disk.specs.declared.modelled.Modelled.{Modelled}
@@ -16,9 +16,10 @@ use Rattle.rtgs_keeper.specs.declared.keeper.Keeper.{Ghosts}
 use Rattle.rtgs_desk.specs.Seen.{Seen}
 use Rattle.rtgs_stored_desk.specs.Stored.{StopLeaves}
 use Rattle.rtgs_book_file.specs.Causes.{fault_of_cause, IsOfItsLock, ShowsNoBook, BarsBook}
+use Rattle.rtgs_book_file.specs.Causes.{BarsMigration}
 use Rattle.rtgs_book_file.specs.Closed.{LeavesClosed}
 use Rattle.rtgs_book_file.specs.Files.{lock_name, IsOfLock}
-use Rattle.rtgs_book_file.specs.Opened.{WasOpened, WasMade}
+use Rattle.rtgs_book_file.specs.Opened.{WasOpened, WasMade, WasMigrated}
 use Rattle.rtgs_book_file.specs.declared.file_fault.FileFault.{FileFault}
 use Rattle.rtgs_book_file.specs.declared.let_go.LetGo.{LetGo}
 use Rattle.rtgs_book_file.specs.declared.unopened.Unopened.{Unopened}
@@ -38,7 +39,11 @@ pub record OverFile (K U C : Type 0) : Type 1 where
   pub was_made : C → Type 0
   -- no book was made in it, and what refused it
   pub was_unmade : U → Type 0
-  -- how it is told that no desk was opened over it, or no book made in it
+  -- its tables were brought to the newest version, or were of it already, and then the file was closed
+  pub was_migrated : Bool → C → Type 0
+  -- its tables were not brought to the newest version, and what refused it
+  pub was_unmigrated : U → Type 0
+  -- how it is told that no desk was opened over it, no book made in it, or its tables were not brought on
   pub fault_of : U → FileFault
   -- it is the file at this path, as its lock is named
   pub refused_at : List ℕ → U → Type 0
@@ -52,7 +57,7 @@ abbrev pub file_from : {K S : Type 0} → Ghosts K → (first : start.Ghosts S)
     → {g : disk.Ghosts (Modelled Host S host_calls.ghosts first)}
     → (K → Held (FileStore (Modelled Host S host_calls.ghosts first) g))
     → OverFile K (Unopened S first) (LetGo S first)
-file_from k first conn = record {
+file_from k first {g} conn = record {
   keeper = k;
   was_opened = λ desk. WasOpened k (image_at first) desk (conn desk.keeper);
   was_closed = λ desk closed. LeavesClosed (conn desk.keeper) closed.files.value;
@@ -63,6 +68,10 @@ file_from k first conn = record {
   was_unmade = λ unmade. (IsOfItsLock unmade.cause
       ⊎ BarsBook k conn (image_at first) (λ closed. closed.files.value) unmade.cause)
       × (unmade.fault ≡ fault_of_cause unmade.cause);
+  was_migrated = λ wrote migrated. WasMigrated g (image_at first) wrote migrated.files.value;
+  was_unmigrated = λ unmigrated. (IsOfItsLock unmigrated.cause
+      ⊎ BarsMigration g (image_at first) (λ closed. closed.files.value) unmigrated.cause)
+      × (unmigrated.fault ≡ fault_of_cause unmigrated.cause);
   fault_of = λ unopened. unopened.fault;
   refused_at = λ path unopened. IsOfLock (λ name. string_bytes name.value) path unopened.name unopened.fault;
   closed_at = λ path closed. string_bytes closed.name.value ≡ lock_name path;

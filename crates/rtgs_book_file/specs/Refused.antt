@@ -1,5 +1,6 @@
--- Why no desk was opened over the file of a book, and why no book was made in one. `held` is what the files held, `k`
--- has the members of the keeper's trait, and `conn` gives a keeper's connection.
+-- Why no desk was opened over the file of a book, why no book was made in one, and why its tables were not brought to
+-- the newest version. `held` is what the files held, `k` has the members of the keeper's trait, and `conn` gives a
+-- keeper's connection.
 use Rattle.std.specs.Prelude.{◌≡◌, ◌≢◌, ◌⊎◌, ◌<◌, ℕ, true, false, List, Result, Ok, Err, IsTrue}
 use Rattle.std.specs.declared.fs.Metadata.{Metadata}
 use Rattle.std.specs.declared.io.Error.{Error}
@@ -19,6 +20,7 @@ use Rattle.sqlite.specs.declared.error.ErrorCode.TheVariants as code
 use Rattle.rtgs_book.specs.declared.fault.Fault.{Fault}
 use Rattle.rtgs_book.specs.declared.fault.Fault.TheVariants.{OutOfMemory, StoreFault, NotADeskFile}
 use Rattle.rtgs_keeper.specs.declared.keeper.Keeper.{Ghosts}
+use Rattle.rtgs_stored_desk.specs.Migrated.{IsUnmigrated}
 use Rattle.rtgs_stored_desk.specs.Stored.{HasNoSchema, IsRefused, IsUnmade}
 use Rattle.rtgs_book_file.specs.Closed.{LeavesNoMore}
 use Rattle.rtgs_book_file.specs.Files.{vacancy_of, opening_of, fault_of_store}
@@ -78,6 +80,19 @@ pub record IsNoBook {D : Type 0} (g : disk.Ghosts D) (held : Image) (fault : Fau
   pub told : fault ≡ fault_of_store error
   pub named : IsTrue (is_open_error error)
   pub why : IsOutOfReach error ⊎ FailsOver g held error
+
+-- the store opened, its tables were not brought to the newest version, and these files are left
+pub record WasUnmigrated {D : Type 0} (g : disk.Ghosts D) (held : Image) (fault : Fault) (files : Files D) : Type 0
+  where
+    -- the connection, when it had been opened, and when it was given up
+    pub was : Held (FileStore D g)
+    pub left : Held (FileStore D g)
+    pub opened : HasCleanDisk (file_state left) → IsOpened was
+    pub found : HasCleanDisk (file_state left) → FindsIn held (file_state was)
+    -- so what the files held explains the fault, and a stop leaves it, or what a migration makes of it
+    pub refused : HasCleanDisk (file_state left) → IsUnmigrated (file_state was) fault (file_state left)
+    -- and a crash leaves no more of the files than the connection could
+    pub given_up : LeavesNoMore left files
 
 module _ {K D : Type 0} {g : disk.Ghosts D} (k : Ghosts K) (conn : K → Held (FileStore D g)) (held : Image) where
   -- the store opened, the desk did not, and these files are left

@@ -1,8 +1,8 @@
-//! Why a book's file was not opened, or no book was made in it.
+//! Why a book's file was not opened, no book was made in it, or its tables were not brought to the newest version.
 use rtgs_book::Fault;
 use std::alloc::AllocError;
 
-/// Why a book's file was not opened, or no book was made in it.
+/// Why a book's file was not opened, no book was made in it, or its tables were not brought to the newest version.
 #[derive(Clone, Copy, Debug, PartialEq, Eq)]
 pub enum FileFault {
     /// Another run holds the lock of the file, or the lock cannot be made.

@@ -5,10 +5,10 @@ use crate::held_lock::HeldLock;
 use sqlite::{Connection, FileFrom, FileStore, Files, Start};
 use std::snapshot::Snapshot;
 
-/// A book's file that was given up and let go with its lock, as its store was left: over it no desk was opened, and no
-/// book made in it. It has no bytes: it is there for contracts, which name by it what was left of the files. Only to
-/// give a connection up makes one, and only to copy its log makes what a book is closed to: so neither stands for the
-/// other.
+/// A book's file that was given up and let go with its lock, as its store was left: over it no desk was opened, no book
+/// made in it, and its tables not brought to the newest version. It has no bytes: it is there for contracts, which name
+/// by it what was left of the files. Only to give a connection up makes one, and only to copy its log makes what a book
+/// is closed to: so neither stands for the other.
 #[derive(Drop)]
 pub struct GivenUpBook<S: Start> {
     files: Snapshot<Files<FileFrom<S>>>,

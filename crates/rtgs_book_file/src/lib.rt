@@ -15,6 +15,7 @@ mod listed;
 mod locked;
 mod looked_at;
 mod looks;
+mod migration;
 mod not_locked;
 mod not_reached;
 mod not_vacant;

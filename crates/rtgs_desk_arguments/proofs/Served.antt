@@ -10,7 +10,7 @@ use Rattle.rtgs_desk_requests.specs.declared.reading_words.ReadingWords.{Reading
 use Rattle.rtgs_desk_requests.specs.declared.reading_words.ReadingWords.TheVariants.{Order, Account, Queue, Statement}
 use Rattle.rtgs_desk_requests.specs.declared.reading_words.ReadingWords.TheVariants.{Report}
 use Rattle.rtgs_desk_requests.specs.declared.words.Words.{Words}
-use Rattle.rtgs_desk_requests.specs.declared.words.Words.TheVariants.{Init, Submit, Import, Read, Serve}
+use Rattle.rtgs_desk_requests.specs.declared.words.Words.TheVariants.{Init, Migrate, Submit, Import, Read, Serve}
 use Rattle.rtgs_desk_arguments.specs.Asked.{AreWordsOfRun, IsCommand, IsNumber, AreWordsOfReading}
 
 -- two names differ where a look at their bytes says so
@@ -39,6 +39,7 @@ pub no_server : (given : List Row)
     → ((n : ℕ) → ¬ IsNumber 16 given (codes "port") n) ⊎ ((n : ℕ) → ¬ IsNumber 32 given (codes "count") n)
     → (words : Words) → ¬ AreWordsOfRun (codes "serve") given words
 no_server given missing (Init file) asked = differ _ (codes "init") refl asked.0
+no_server given missing (Migrate file) asked = differ _ (codes "migrate") refl asked.0
 no_server given missing (Submit file command) asked = no_command given command asked.1
 no_server given missing (Import file code orders) asked = differ _ (codes "import") refl asked.0
 no_server given missing (Read file reading) asked = no_reading given reading asked.1

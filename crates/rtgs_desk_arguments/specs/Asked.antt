@@ -10,7 +10,7 @@ use Rattle.rtgs_desk_requests.specs.declared.reading_words.ReadingWords.{Reading
 use Rattle.rtgs_desk_requests.specs.declared.reading_words.ReadingWords.TheVariants.{Order, Account, Queue, Statement}
 use Rattle.rtgs_desk_requests.specs.declared.reading_words.ReadingWords.TheVariants.{Report}
 use Rattle.rtgs_desk_requests.specs.declared.words.Words.{Words}
-use Rattle.rtgs_desk_requests.specs.declared.words.Words.TheVariants.{Init, Submit, Import, Read, Serve}
+use Rattle.rtgs_desk_requests.specs.declared.words.Words.TheVariants.{Init, Migrate, Submit, Import, Read, Serve}
 
 -- the word that was given for an argument, or no characters
 abbrev pub IsWord : List Row → Text → Bor Text → Type 0
@@ -57,6 +57,7 @@ AreWordsOfReading called given (Report date) = (called ≡ codes "report") × Is
 -- the words of a run, by the name of its subcommand
 abbrev pub AreWordsOfRun : Text → List Row → Words → Type 0
 AreWordsOfRun called given (Init file) = (called ≡ codes "init") × IsWord given (codes "file") file
+AreWordsOfRun called given (Migrate file) = (called ≡ codes "migrate") × IsWord given (codes "file") file
 AreWordsOfRun called given (Submit file command) = IsWord given (codes "file") file × IsCommand called given command
 AreWordsOfRun called given (Import file code orders) = (called ≡ codes "import") × IsWord given (codes "file") file
     × IsWord given (codes "code") code × IsWord given (codes "orders") orders

@@ -41,6 +41,9 @@ subcommand name arguments = record (new_shape name) { rules = file ∷ arguments
 abbrev pub init : Shape
 init = subcommand (codes "init") []
 
+abbrev pub migrate : Shape
+migrate = subcommand (codes "migrate") []
+
 abbrev pub add : Shape
 add = subcommand (codes "add") (word (codes "code") ∷ word (codes "name") ∷ word (codes "key") ∷ [])
 
@@ -89,7 +92,7 @@ serve = subcommand (codes "serve") (port ∷ count ∷ named (word (codes "opera
 
 -- the subcommands, in the order of the help
 abbrev pub of_participants : List Shape
-of_participants = init ∷ add ∷ credit ∷ post ∷ []
+of_participants = init ∷ migrate ∷ add ∷ credit ∷ post ∷ []
 
 abbrev pub of_days : List Shape
 of_days = open_day ∷ import_orders ∷ withdraw ∷ resolve ∷ cut_off ∷ close_day ∷ []

@@ -19,7 +19,7 @@ mod serving;
 
 /// What `--version` says behind the program's name: its version, that of the tables that it keeps a book in, and the
 /// kit that it is proved with, as `rt version` prints it.
-const VERSION: &str = "0.9.0, tables 1, rattle-kit-13b logic dac8208d650f15bf";
+const VERSION: &str = "0.10.0, tables 2, rattle-kit-13f logic dac8208d650f15bf";
 
 /// The book's file, which each subcommand takes first.
 fn file_argument<'a>(alloc: Global) -> Arg<'a>
@@ -85,6 +85,14 @@ fn init_command<'a>(alloc: Global) -> Result<Command<'a>, AllocError>
         .arg(file_argument(alloc))
 }
 
+fn migrate_command<'a>(alloc: Global) -> Result<Command<'a>, AllocError>
+    ensures { IfOk result (line.IsSubcommand line.migrate) }
+{
+    Command::new(alloc, "migrate")
+        .about("Brings the tables of a book to the newest version")
+        .arg(file_argument(alloc))
+}
+
 /// A command with one more subcommand.
 fn joined<'a>(
     command: Command<'a>,
@@ -113,6 +121,7 @@ fn with_participants<'a>(alloc: Global) -> Result<Command<'a>, AllocError>
 {
     let desk = bare_command(alloc)?;
     let desk = joined(desk, init_command(alloc))?;
+    let desk = joined(desk, migrate_command(alloc))?;
     let desk = joined(desk, accounts::add_command(alloc))?;
     let desk = joined(desk, accounts::credit_command(alloc))?;
     joined(desk, accounts::post_command(alloc))
@@ -204,6 +213,7 @@ fn words_of<'a>(matches: &ArgMatches<'a>) -> Option<Words<'a>>
     let file = file_word(given);
     match name {
         "init" => Some(Words::Init { file }),
+        "migrate" => Some(Words::Migrate { file }),
         "import" => Some(orders::import_words(given)),
         "serve" => serving::serve_words(given),
         _ => match reading_words(name, given) {

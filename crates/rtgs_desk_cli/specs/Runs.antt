@@ -10,7 +10,7 @@ use Rattle.rtgs_book.specs.declared.refusal.Refusal.TheVariants.{OutOfMemory}
 use Rattle.rtgs_desk_requests.specs.Requests.{ReadsRequest}
 use Rattle.rtgs_desk_requests.specs.declared.words.Words.{Words}
 use Rattle.rtgs_desk_requests.specs.declared.request.Request.{Request}
-use Rattle.rtgs_desk_requests.specs.declared.request.Request.TheVariants.{Make, Submit, Import, Read, Serve}
+use Rattle.rtgs_desk_requests.specs.declared.request.Request.TheVariants.{Make, Migrate, Submit, Import, Read, Serve}
 use Rattle.rtgs_desk_lines.specs.Failures.{failure_line as refusal_line}
 use Rattle.rtgs_desk_lines.specs.Told.{IsTold}
 use Rattle.rtgs_desk_lines.specs.declared.ended.Ended.{Ended}
@@ -21,10 +21,10 @@ use Rattle.rtgs_desk_lines.specs.declared.printed.Printed.{Printed}
 use Rattle.rtgs_http_server.specs.declared.port.Port.{Port}
 use Rattle.rtgs_book_file.specs.OverFile.{OverFile}
 use Rattle.rtgs_desk_files.specs.Printing.{ended_line, PrintsText}
-use Rattle.rtgs_desk_files.specs.Touching.{IsNoBookMade, IsOf, IsUntouched}
+use Rattle.rtgs_desk_files.specs.Touching.{IsNoBookMade, IsNotMigrated, IsOf, IsUntouched}
 use Rattle.rtgs_desk_files.specs.declared.met.Met.{Met}
 use Rattle.rtgs_desk_files.specs.declared.touched.Touched.{Touched}
-use Rattle.rtgs_desk_commands.specs.Commands.{HasMade, HasAnswered, IsNotAnswered}
+use Rattle.rtgs_desk_commands.specs.Commands.{HasMade, HasMigrated, HasAnswered, IsNotAnswered}
 use Rattle.rtgs_desk_imports.specs.Imports.{HasSent, IsNotImported}
 use Rattle.rtgs_desk_imports.specs.declared.order_file.OrderFile.{OrderFile}
 use Rattle.rtgs_desk_readings.specs.Readings as readings
@@ -54,6 +54,7 @@ IsExplained what contents told (ended.Misused sent) out out' err err' =
 -- the file that a request names
 abbrev pub file_of : Request → List ℕ
 file_of (Make file) = file.now
+file_of (Migrate file) = file.now
 file_of (Submit file command) = file.now
 file_of (Import file sender orders) = file.now
 file_of (Read file reading) = file.now
@@ -67,6 +68,7 @@ module _ {A K U C : Type 0} (book_file : OverFile K U C) where
   -- the run printed what it had to, as far as standard output took it
   abbrev pub PrintsFor : Request → Traces A U C → Printed → Option (List ℕ) → Option (List ℕ) → Type 0
   PrintsFor (Make file) touched printed old new = PrintsText (HasMade book_file touched) printed old new
+  PrintsFor (Migrate file) touched printed old new = PrintsText (HasMigrated book_file touched) printed old new
   PrintsFor (Submit file command) touched printed old new =
       PrintsText (HasAnswered book_file command touched) printed old new
   PrintsFor (Import file sender orders) touched printed old new =
@@ -79,6 +81,7 @@ module _ {A K U C : Type 0} (book_file : OverFile K U C) where
   -- statement that was refused after some of its rows.
   abbrev pub Denies : {O : Type 0} → (O → Option (List ℕ)) → Request → Traces A U C → Failure → O → O → Type 0
   Denies contents (Make file) touched why out out' = IsNoBookMade book_file touched why × (out' ≡ out)
+  Denies contents (Migrate file) touched why out out' = IsNotMigrated book_file touched why × (out' ≡ out)
   Denies contents (Submit file command) touched why out out' =
       IsNotAnswered book_file command touched why × (out' ≡ out)
   Denies contents (Import file sender orders) touched why out out' =

@@ -5,7 +5,7 @@ ghost use Rattle.rtgs_desk_files.specs.Touching.{IsOf};
 ghost use Rattle.rtgs_desk_cli.specs.Runs.{file_of, Denies, PrintsFor};
 
 use rtgs_book_file::{FileKeeper, Start};
-use rtgs_desk_commands::{answer, make_book};
+use rtgs_desk_commands::{answer, make_book, migrate_book};
 use rtgs_desk_files::{Acted, Met};
 use rtgs_desk_imports::{OrderFile, import};
 use rtgs_desk_readings::show;
@@ -37,6 +37,7 @@ pub fn act<S: Start, O: Write>(
 {
     match *request {
         Request::Make { file } => make_book(rt, file, start, out),
+        Request::Migrate { file } => migrate_book(rt, file, start, out),
         Request::Submit { file, command } => answer(rt, file, command, start, out),
         Request::Import {
             file,

@@ -9,6 +9,7 @@ mod gridlocks;
 mod helps;
 mod hostile;
 mod imports;
+mod migrations;
 mod openings;
 mod paper;
 mod readings;

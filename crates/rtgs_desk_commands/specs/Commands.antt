@@ -1,5 +1,6 @@
--- What a run that makes a book, or gives the desk a command, has to print, and why it is refused.
-use Rattle.std.specs.Prelude.{◌≡◌, ◌⊎◌, ◌∷◌, [], true, ℕ, List, Option, None, Ok, Err}
+-- What a run that makes a book, brings its tables to the newest version, or gives the desk a command, has to print, and
+-- why it is refused.
+use Rattle.std.specs.Prelude.{◌≡◌, ◌⊎◌, ◌∷◌, [], Bool, true, ℕ, List, Option, None, Ok, Err, if◌then◌else◌}
 use Rattle.rtgs_book.specs.declared.answer.Answer.{Answer}
 use Rattle.rtgs_book.specs.declared.command.Command.{Command}
 use Rattle.rtgs_book.specs.declared.refusal.Refusal.{Refusal}
@@ -8,7 +9,8 @@ use Rattle.rtgs_desk.specs.Holding.{Acts}
 use Rattle.rtgs_desk.specs.Replies.{answers_its_kind}
 use Rattle.rtgs_desk.specs.Seen.{Seen}
 use Rattle.rtgs_desk_lines.specs.Lines.{done_line}
-use Rattle.rtgs_desk_lines.specs.declared.done.Done.TheVariants.{Made, Answered}
+use Rattle.rtgs_desk_lines.specs.declared.done.Done.{Done}
+use Rattle.rtgs_desk_lines.specs.declared.done.Done.TheVariants.{Made, Migrated, Repeated, Answered}
 use Rattle.rtgs_desk_lines.specs.declared.failure.Failure.{Failure}
 use Rattle.rtgs_desk_lines.specs.declared.failure.Failure.TheVariants.{Refused}
 use Rattle.rtgs_book_file.specs.OverFile.{OverFile}
@@ -19,6 +21,10 @@ use Rattle.rtgs_desk_files.specs.declared.met.Met.{Met}
 use Rattle.rtgs_desk_files.specs.declared.met.Met.TheVariants as met
 use Rattle.rtgs_desk_files.specs.declared.touched.Touched.{Touched}
 use Rattle.rtgs_desk_files.specs.declared.touched.Touched.TheVariants as traces
+
+-- what a migration did that wrote, and one that had nothing to write
+abbrev pub done_by_migration : Bool → Done
+done_by_migration wrote = if wrote then Migrated else Repeated
 
 module _ {K U C : Type 0} (file : OverFile K U C) where
   -- the desk gave the command this reply, and a stop leaves the book before it or the one that it leads to
@@ -32,6 +38,13 @@ module _ {A K U C F P N : Type 0} (book_file : OverFile K U C) where
   HasMade touched text stopped =
       ((made : C) × (touched ≡ traces.Book made met.Nothing) × book_file.was_made made)
       × (text ≡ ended_line (done_line Made)) × (stopped ≡ None)
+
+  -- what a run that brings the tables of a book to the newest version has to print: whether it did, or they were of it
+  abbrev pub HasMigrated : Touched A U C (Met F P N) → List ℕ → Option Refusal → Type 0
+  HasMigrated touched text stopped =
+      (wrote : Bool) × ((migrated : C) × (touched ≡ traces.Book migrated met.Nothing)
+      × book_file.was_migrated wrote migrated) × (text ≡ ended_line (done_line (done_by_migration wrote)))
+      × (stopped ≡ None)
 
   -- what a run that gives a command has to print: the line of its answer
   abbrev pub HasAnswered : Command → Touched A U C (Met F P N) → List ℕ → Option Refusal → Type 0

@@ -1,17 +1,21 @@
-//! Runs that give the desk one command, and print the line of what was done; and the run that makes a book.
+//! Runs that give the desk one command, and print the line of what was done; and the runs that make a book, and that
+//! bring its tables to the newest version.
 ghost use Rattle.std.specs.Prelude.{◌≡◌, true, None, Ok, Err, IfOk, IfErr, OnErr, string_bytes};
 ghost use Rattle.rtgs_book_file.specs.Files.{lock_name};
 ghost use Rattle.rtgs_book_file.specs.OverFile.{file_from};
 ghost use Rattle.rtgs_desk.specs.Replies.{answers_its_kind};
-ghost use Rattle.rtgs_desk_commands.specs.Commands.{HasAnswered, HasMade, IsNotAnswered, IsSubmitted};
+ghost use Rattle.rtgs_desk_commands.specs.Commands.{HasAnswered, HasMade, HasMigrated, IsNotAnswered, IsSubmitted};
+ghost use Rattle.rtgs_desk_commands.specs.Commands.{done_by_migration};
 ghost use Rattle.rtgs_desk_files.specs.Printing.{ended_line, PrintsText};
-ghost use Rattle.rtgs_desk_files.specs.Touching.{IsNoBookMade, IsOf};
+ghost use Rattle.rtgs_desk_files.specs.Touching.{IsNoBookMade, IsNotMigrated, IsOf};
 ghost use Rattle.rtgs_desk_lines.specs.Lines.{done_line};
 ghost use Rattle.rtgs_desk_lines.specs.Texts.{Prints};
 
 use rtgs_book::{Answer, Command, Refusal};
 use rtgs_book_file::{FileKeeper, Start};
-use rtgs_desk_files::{Acted, Finished, Met, Touched, close_book, failure_of_unopened, make, open};
+use rtgs_desk_files::{
+    Acted, Finished, Met, Touched, close_book, failure_of_unopened, make, migrate, open,
+};
 use rtgs_desk_lines::{Done, Failure, Printed};
 use rtgs_keeper::Keeper;
 use std::io::Write;
@@ -34,6 +38,33 @@ pub fn make_book<S: Start, O: Write, F, P, N>(
     match make(rt, file, start) {
         Ok(made) => (Ok(say(Done::Made, out)), Touched::Book(made, Met::Nothing)),
         Err(unmade) => (Err(failure_of_unopened(&unmade)), Touched::Refused(unmade)),
+    }
+}
+
+/// Brings the tables of the book in a file to the newest version, and says whether anything was written.
+pub fn migrate_book<S: Start, O: Write, F, P, N>(
+    rt: &HostRuntime,
+    file: &str,
+    start: S,
+    out: &mut O,
+) -> Acted<S, Met<F, P, N>>
+    ensures printed { IfOk result.0 (λ printed. PrintsText
+        (HasMigrated (file_from ⟦<FileKeeper<S> as Keeper>⟧ S.Start (λ keeper. keeper.conn)) result.1) printed
+        (O.contents out.old) (O.contents out.new)) }
+    ensures refused { IfErr result.0
+        (IsNotMigrated (file_from ⟦<FileKeeper<S> as Keeper>⟧ S.Start (λ keeper. keeper.conn)) result.1) }
+    ensures unchanged { OnErr result.0 (out.new ≡ out.old) }
+    ensures at { IsOf (file_from ⟦<FileKeeper<S> as Keeper>⟧ S.Start (λ keeper. keeper.conn)) file.now result.1 }
+{
+    match migrate(rt, file, start) {
+        Ok((migrated, wrote)) => (
+            Ok(say(migration(wrote), out)),
+            Touched::Book(migrated, Met::Nothing),
+        ),
+        Err(unmigrated) => (
+            Err(failure_of_unopened(&unmigrated)),
+            Touched::Refused(unmigrated),
+        ),
     }
 }
 
@@ -95,6 +126,17 @@ fn told<O: Write>(reply: Result<Answer, Refusal>, out: &mut O) -> Result<Printed
     match reply {
         Ok(answer) => Ok(say(Done::Answered(answer), out)),
         Err(refusal) => Err(Failure::Refused(refusal)),
+    }
+}
+
+// What a migration did: it wrote, or there was nothing to write.
+fn migration(wrote: bool) -> Done
+    ensures { result ≡ done_by_migration wrote }
+{
+    if wrote {
+        Done::Migrated
+    } else {
+        Done::Repeated
     }
 }
 

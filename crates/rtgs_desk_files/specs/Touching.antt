@@ -29,15 +29,22 @@ met_of (traces.Book closed beside) = beside
 met_of _ = met.Nothing
 
 module _ {A K U C M : Type 0} (book_file : OverFile K U C) where
-  -- no desk was opened over the file, and what is told is what refused it
-  abbrev pub IsNotOpened : Touched A U C M → Failure → Type 0
-  IsNotOpened touched why = (unopened : U) × (touched ≡ traces.Refused unopened) × book_file.was_unopened unopened
-      × (why ≡ failure_of_file (book_file.fault_of unopened))
+  -- the file was refused in such a way, and what is told is what refused it
+  abbrev IsRefusedAs : (U → Type 0) → Touched A U C M → Failure → Type 0
+  IsRefusedAs Was touched why = (refused : U) × (touched ≡ traces.Refused refused) × Was refused
+      × (why ≡ failure_of_file (book_file.fault_of refused))
 
-  -- no book was made in the file, and what is told is what refused it
+  -- no desk was opened over it
+  abbrev pub IsNotOpened : Touched A U C M → Failure → Type 0
+  IsNotOpened = IsRefusedAs book_file.was_unopened
+
+  -- no book was made in it
   abbrev pub IsNoBookMade : Touched A U C M → Failure → Type 0
-  IsNoBookMade touched why = (unmade : U) × (touched ≡ traces.Refused unmade) × book_file.was_unmade unmade
-      × (why ≡ failure_of_file (book_file.fault_of unmade))
+  IsNoBookMade = IsRefusedAs book_file.was_unmade
+
+  -- its tables were not brought to the newest version
+  abbrev pub IsNotMigrated : Touched A U C M → Failure → Type 0
+  IsNotMigrated = IsRefusedAs book_file.was_unmigrated
 
   -- the desk was left so, and then the file was closed, which is this one; and beside it the run met this
   abbrev pub IsClosed : Seen K → M → Touched A U C M → Type 0

@@ -38,6 +38,26 @@ pub fn make<S: Start>(rt: &HostRuntime, file: &str, start: S) -> Result<LetGo<S>
     lock.make(rt)
 }
 
+/// Brings the tables of the book in a file to the newest version, and says whether anything was written. Refused where
+/// the file is in use, holds no sound book, or where it fails.
+pub fn migrate<S: Start>(
+    rt: &HostRuntime,
+    file: &str,
+    start: S,
+) -> Result<(LetGo<S>, bool), Unopened<S>>
+    ensures migrated { IfOk result (λ (migrated, wrote).
+        (file_from ⟦<FileKeeper<S> as Keeper>⟧ S.Start (λ keeper. keeper.conn)).was_migrated wrote migrated) }
+    ensures refused { IfErr result (λ unmigrated.
+        (file_from ⟦<FileKeeper<S> as Keeper>⟧ S.Start (λ keeper. keeper.conn)).was_unmigrated unmigrated) }
+    ensures at { IfOk result (λ (migrated, _).
+        (file_from ⟦<FileKeeper<S> as Keeper>⟧ S.Start (λ keeper. keeper.conn)).closed_at file.now migrated) }
+    ensures of { IfErr result (λ unmigrated.
+        (file_from ⟦<FileKeeper<S> as Keeper>⟧ S.Start (λ keeper. keeper.conn)).refused_at file.now unmigrated) }
+{
+    let lock = BookLock::take(rt, file, start)?;
+    lock.migrate(rt)
+}
+
 /// The book in a file. Refused where the file is in use, or holds no sound book.
 pub fn open<S: Start>(
     rt: &HostRuntime,
@@ -69,7 +89,8 @@ pub fn close_book<S: Start, T>(finished: Finished<S, T>) -> Closed<S, T>
     }
 }
 
-/// Why a run is refused over whose file no desk was opened, or in whose file no book was made.
+/// Why a run is refused over whose file no desk was opened, in whose file no book was made, or whose tables were not
+/// brought to the newest version.
 pub fn failure_of_unopened<S: Start>(unopened: &Unopened<S>) -> Failure
     ensures { result ≡ failure_of_file unopened.now.fault }
 {

@@ -1,4 +1,5 @@
-//! The book's file, as a run uses it: the run opens it or makes a book in it, closes it, and says what it touched.
+//! The book's file, as a run uses it: the run opens it, makes a book in it, or brings its tables to the newest version;
+//! closes it, and says what it touched.
 #![tactic(auto)]
 
 mod files;
@@ -6,7 +7,7 @@ mod met;
 mod touched;
 
 pub use crate::files::{
-    Acted, Closed, Finished, Traces, close_book, failure_of_unopened, make, open,
+    Acted, Closed, Finished, Traces, close_book, failure_of_unopened, make, migrate, open,
 };
 pub use crate::met::Met;
 pub use crate::touched::Touched;

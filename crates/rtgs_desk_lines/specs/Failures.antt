@@ -7,7 +7,7 @@ use Rattle.rtgs_money.specs.Lexical.{lexical_kind_of}
 use Rattle.rtgs_book.specs.Refusals.{refusal_kind_of, fault_kind_of}
 use Rattle.rtgs_book.specs.Judgement as rules
 use Rattle.rtgs_book.specs.declared.refusal.Refusal.{Refusal}
-use Rattle.rtgs_book.specs.declared.refusal.Refusal.TheVariants.{Overdrawn, OutOfMemory, StoreFault, Failed}
+use Rattle.rtgs_book.specs.declared.refusal.Refusal.TheVariants.{Overdrawn}
 use Rattle.rtgs_book.specs.declared.fault.Fault.{Fault}
 use Rattle.rtgs_book.specs.declared.fault.Fault.TheVariants as fault
 use Rattle.rtgs_desk_lines.specs.declared.failure.Failure.{Failure}

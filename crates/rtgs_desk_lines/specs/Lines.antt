@@ -8,7 +8,11 @@ use Rattle.rtgs_book.specs.declared.answer.Answer.TheVariants.{Repeated}
 use Rattle.rtgs_book.specs.declared.standing.Standing.TheVariants as standing
 use Rattle.rtgs_book.specs.Standings.{word_of}
 use Rattle.rtgs_desk_lines.specs.declared.done.Done.{Done}
-use Rattle.rtgs_desk_lines.specs.declared.done.Done.TheVariants.{Made, Answered, Listening, Served}
+use Rattle.rtgs_desk_lines.specs.declared.done.Done.TheVariants as done
+
+-- what was asked for had been done before
+abbrev pub repeated_line : List ℕ
+repeated_line = codes "repeated"
 
 abbrev pub answer_line : Answer → List ℕ
 answer_line Added = codes "added"
@@ -26,10 +30,12 @@ answer_line (Resolved mark count value) =
 answer_line Nothing = codes "nothing"
 answer_line CutOffDone = codes "cut off"
 answer_line (Closed rejected) = codes "closed rejected " ++ decimal rejected
-answer_line (Repeated known) = codes "repeated"
+answer_line (Repeated known) = repeated_line
 
 abbrev pub done_line : Done → List ℕ
-done_line Made = codes "initialised"
-done_line (Answered answer) = answer_line answer
-done_line (Listening port) = codes "listening " ++ decimal port
-done_line (Served count) = codes "served " ++ decimal count
+done_line done.Made = codes "initialised"
+done_line done.Migrated = codes "migrated"
+done_line done.Repeated = repeated_line
+done_line (done.Answered answer) = answer_line answer
+done_line (done.Listening port) = codes "listening " ++ decimal port
+done_line (done.Served count) = codes "served " ++ decimal count

@@ -10,11 +10,18 @@ use rtgs_output::WriterFailed;
 use std::fmt;
 use std::io::Write;
 
+/// What is printed where what was asked for had been done before.
+const REPEATED: &str = "repeated";
+
 /// What a run did. It prints as one line, without its end.
 #[derive(Clone, Copy, Debug, PartialEq, Eq)]
 pub enum Done {
     /// A new book was made.
     Made,
+    /// The tables of a book were brought to the newest version.
+    Migrated,
+    /// What was asked for had been done before.
+    Repeated,
     /// The desk answered.
     Answered(Answer),
     /// The server waits for connections on this port.
@@ -38,6 +45,8 @@ impl Done {
     {
         match self {
             Done::Made => Line::of("initialised"),
+            Done::Migrated => Line::of("migrated"),
+            Done::Repeated => Line::of(REPEATED),
             Done::Answered(answer) => answer_line(answer),
             Done::Listening { port } => Line::of("listening ").number(port),
             Done::Served { count } => Line::of("served ").number(count),
@@ -82,7 +91,7 @@ fn answer_line(answer: Answer) -> Line
         Answer::Nothing => Line::of("nothing"),
         Answer::CutOffDone => Line::of("cut off"),
         Answer::Closed { rejected } => Line::of("closed rejected ").number(rejected),
-        Answer::Repeated(_) => Line::of("repeated"),
+        Answer::Repeated(_) => Line::of(REPEATED),
     }
 }
 

@@ -15,7 +15,8 @@ use Rattle.rtgs_desk_requests.specs.declared.reading_words.ReadingWords.TheVaria
 use Rattle.rtgs_desk_requests.specs.declared.words.Words.{Words}
 use Rattle.rtgs_desk_requests.specs.declared.words.Words.TheVariants as words
 use Rattle.rtgs_desk_requests.specs.declared.request.Request.{Request}
-use Rattle.rtgs_desk_requests.specs.declared.request.Request.TheVariants.{Make, Submit, Import, Read, Serve}
+use Rattle.rtgs_desk_requests.specs.declared.request.Request.TheVariants.{Make, Migrate, Submit, Import, Read}
+use Rattle.rtgs_desk_requests.specs.declared.request.Request.TheVariants.{Serve}
 use Rattle.rtgs_desk_requests.specs.Words.{ReadsAdd, ReadsCode, ReadsCredit, ReadsPost, ReadsDate, ReadsDay}
 use Rattle.rtgs_desk_requests.specs.Words.{ReadsKey, ReadsOrderName, ReadsStatement}
 
@@ -49,6 +50,7 @@ ReadsReading (Report date) result = IsMadeOf (ReadsDate date.now) (λ day. readi
 -- what the words ask for, or the refusal of the first word that is not of its form, and nothing else
 abbrev pub ReadsRequest : Words → Result Request Lexical → Type 0
 ReadsRequest (words.Init file) result = result ≡ Ok (Make file)
+ReadsRequest (words.Migrate file) result = result ≡ Ok (Migrate file)
 ReadsRequest (words.Submit file spelt) result = IsMadeOf (ReadsCommand spelt) (λ c. Submit file c) result
 ReadsRequest (words.Import file code orders) result = IsMadeOf (ReadsCode code.now) (λ sender. Import file sender
     orders) result

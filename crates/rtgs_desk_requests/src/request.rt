@@ -13,6 +13,10 @@ pub enum Request<'a> {
     Make {
         file: &'a str,
     },
+    /// To bring its tables to the newest version.
+    Migrate {
+        file: &'a str,
+    },
     /// To give its desk a command.
     Submit {
         file: &'a str,
@@ -47,6 +51,7 @@ impl<'a> Request<'a> {
     {
         match *words {
             Words::Init { file } => Ok(Request::Make { file }),
+            Words::Migrate { file } => Ok(Request::Migrate { file }),
             Words::Submit { file, command } => {
                 let command = command.read()?;
                 Ok(Request::Submit { file, command })

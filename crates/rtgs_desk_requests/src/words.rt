@@ -8,6 +8,9 @@ pub enum Words<'a> {
     Init {
         file: &'a str,
     },
+    Migrate {
+        file: &'a str,
+    },
     Submit {
         file: &'a str,
         command: CommandWords<'a>,

@@ -8,6 +8,7 @@ mod faults;
 mod found;
 mod look_ups;
 mod memory;
+mod migration;
 mod runs;
 mod seen;
 mod store;

@@ -17,7 +17,9 @@ use Rattle.rtgs_book.specs.declared.account.Account.{Account}
 use Rattle.rtgs_book.specs.Balance.{balance}
 use Rattle.rtgs_rows.specs.Dues.{forwards_of}
 use Rattle.rtgs_rows.specs.Tables.{schema_in, known_tables, table_count, tables_in, desk_table, participant_table}
-use Rattle.rtgs_rows.specs.Tables.{posting_table, payment_table, mark_table, forward_table, width}
+use Rattle.rtgs_rows.specs.Tables.{posting_table, payment_table, mark_table, forward_table, width, versions, IsVersion}
+use Rattle.rtgs_rows.specs.Migrating.{HasNoMore}
+use Rattle.rtgs_lists.proofs.Lists.{all_get}
 use Rattle.rtgs_rows.specs.TableRecords.{TableRecords, Each, records_of_tables}
 use Rattle.rtgs_rows.specs.Rows.{day_row, posting_row, payment_row, mark_row, shown_day, shown_posting, shown_order}
 use Rattle.rtgs_rows.specs.Rows.{shown_mark, forward_row, shown_forward}
@@ -176,8 +178,14 @@ shown_tables_are version trees book accounts people whole shows order =
     ) in
     first_rows (table_count version) schema version trees accounts book records_of_tables _ follow whole shows
 
+-- a version lacks no table in which a book has records
+no_more : (book : Book) (holdings : List Holding) (version : ℕ) → IsVersion version
+    → HasNoMore version (content_of book holdings)
+no_more book holdings version known = all_get (λ v. HasNoMore v (content_of book holdings)) versions known.0 version
+    known.1 (sym known.2) (refl, (refl, tt))
+
 pub held : ShownRecordsAreHeld
-held version trees book accounts sound full is fits shown stored =
+held version known trees book accounts sound full is fits shown stored =
     let all = all_whole_and_typed version trees sound full in
     let people = shown_participants (table_count version) (omega arith) (schema_in version) version trees book accounts
     all shown.shows in
@@ -195,4 +203,9 @@ held version trees book accounts sound full is fits shown stored =
       fits = fits;
     } in
     let rows = shown_tables_are version trees book accounts people all shown.shows (book_in_order book content of) in
-    (content, record { sound = sound; rows = rows }, of)
+    record {
+      content = content;
+      holds = record { sound = sound; rows = rows };
+      no_more = no_more book people.holdings version known;
+      same = of;
+    }

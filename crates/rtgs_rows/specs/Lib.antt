@@ -6,5 +6,6 @@ pub mod Fitting
 pub mod Keeping
 pub mod TableRecords
 pub mod Querying
+pub mod Migrating
 pub mod RowLaws
 pub mod Settling

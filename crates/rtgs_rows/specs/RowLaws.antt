@@ -17,11 +17,12 @@ use Rattle.rtgs_book.specs.declared.Book.{Book}
 use Rattle.rtgs_book.specs.declared.RowChange.{RowChange}
 use Rattle.rtgs_book.specs.Changes.{IsChange}
 use Rattle.rtgs_book.specs.Soundness.{IsSound as IsSoundBook}
-use Rattle.rtgs_rows.specs.Content.{Holding, Content, HasNoTables, HoldsIn, Holds, IsInOrder, AreInOrder, holding_row}
+use Rattle.rtgs_rows.specs.Content.{Holding, Content, HasNoTables, Holds, IsInOrder, AreInOrder, holding_row}
 use Rattle.rtgs_rows.specs.Content.{tables_for, with_changes, Rise}
 use Rattle.rtgs_rows.specs.Fitting.{FitsRow, HasFormedValues}
 use Rattle.rtgs_rows.specs.Keeping.{IsBookOf, AreBalances}
-use Rattle.rtgs_rows.specs.Tables.{no_schema, schema_in, tables_in, width}
+use Rattle.rtgs_rows.specs.Migrating.{TellIn}
+use Rattle.rtgs_rows.specs.Tables.{IsVersion, no_schema, schema_in, tables_in, width}
 use Rattle.rtgs_rows.specs.declared.numbers.TheConstants.{VERSION}
 use Rattle.rtgs_rows.specs.Querying.{AreWhole, AreWholeIn, AreNumberedRows, ShowsBook}
 
@@ -59,12 +60,12 @@ abbrev pub DesksAreReadAsSuch : Type 0
 DesksAreReadAsSuch = (version : ℕ) (schema : Schema) (trees : Trees) → IsSound (schema_in version) trees
     → IsSound schema trees → schema ≡ schema_in version
 
--- where the queries show the records of a sound book, with its balances stored, the tables of a version hold that book
+-- where the queries show the records of a sound book, with its balances stored, the tables of a version hold that book,
+-- all of it
 abbrev pub ShownRecordsAreHeld : Type 0
-ShownRecordsAreHeld = (version : ℕ) (trees : Trees) (book : Book) (accounts : List Account)
+ShownRecordsAreHeld = (version : ℕ) → IsVersion version → (trees : Trees) (book : Book) (accounts : List Account)
     → IsSound (schema_in version) trees → AreWholeIn version trees → IsSoundBook book → HasFormedValues book
-    → ShowsBook version trees accounts book → AreBalances book accounts
-    → (content : Content) × HoldsIn version content trees × IsBookOf book content
+    → ShowsBook version trees accounts book → AreBalances book accounts → TellIn version book trees
 
 -- a database that has no tables holds no book
 abbrev pub NoTablesHoldNoBook : Type 0

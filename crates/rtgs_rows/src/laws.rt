@@ -69,8 +69,8 @@ pub fn first_rows_are_the_new_book()
     new_book_is_sound();
 }
 
-/// Where the queries show the records of a sound book, with its balances stored, the tables hold that book, whichever
-/// version of the tables it is.
+/// Where the queries show the records of a sound book, with its balances stored, the tables hold that book, all of it,
+/// whichever version of the tables it is.
 pub fn shown_records_are_held()
     ensures { ShownRecordsAreHeld }
 {}

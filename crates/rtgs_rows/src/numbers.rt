@@ -2,7 +2,7 @@
 //! an order stands.
 
 /// The version in which new tables are made.
-pub const VERSION: u64 = 1;
+pub const VERSION: u64 = 2;
 
 /// No day is open.
 pub const PHASE_CLOSED: u64 = 0;

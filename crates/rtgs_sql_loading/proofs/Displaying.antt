@@ -20,21 +20,19 @@ use Rattle.rtgs_sql_queries.specs.Displaying.{Displays, HasNoAnswer}
 use Rattle.rtgs_rows.specs.Keeping.{AreBalances}
 use Rattle.rtgs_sql_loading.specs.Accounts.{ExplainsRead}
 use Rattle.rtgs_sql_loading.specs.Displaying.{IsUnread, IsIllegible, ExplainsDatabase, AreDisplayed, IsDisplayed}
-use Rattle.rtgs_rows.specs.Tables.{IsVersion}
 use Rattle.rtgs_sql_loading.proofs.AboveZero.{above_zero}
-use Rattle.rtgs_sql_loading.proofs.Keeps.{kept_known}
 use Rattle.rtgs_sql_loading.proofs.OwnRows.{IsOwn, read_plainly}
 use Rattle.rtgs_sql_loading.proofs.AllTables.{both, own_records}
 
 -- ---- what a query shows
 
 -- an answer of a query, which writes nothing
-pub reads_on : {A : Type 0} (version : ℕ) (old new : State) (r : Result A Fault)
-    → (HasCleanDisk new → HasCleanDisk old) → (HasCleanDisk new → IsVersion version → KeepsTables version old new)
-    → (HasCleanDisk new → new.now ≡ old.now) → Survives old new (λ _. ⊥) → OnOk r (ReadsOn version old new)
-reads_on version old new (Ok it) clean keeps same survives =
-    record { clean = clean; keeps = λ is. kept_known old new (keeps is); same = same; survives = survives }
-reads_on version old new (Err e) clean keeps same survives = tt
+pub reads_on : {A : Type 0} (old new : State) (r : Result A Fault) → (HasCleanDisk new → HasCleanDisk old)
+    → (HasCleanDisk new → KeepsTables old new) → (HasCleanDisk new → new.now ≡ old.now) → Survives old new (λ _. ⊥)
+    → OnOk r (ReadsOn old new)
+reads_on old new (Ok it) clean keeps same survives =
+    record { clean = clean; keeps = keeps; same = same; survives = survives }
+reads_on old new (Err e) clean keeps same survives = tt
 
 -- The query has no answer, or one that is in no form.
 pub without_answer : {A : Type 0} (db : Database) (text : List ℕ) (AreFormed : List Row → Type 0) (fault : Fault)

@@ -25,7 +25,7 @@ none_shown (row ∷ rows) fs none same = absurd cc
 
 -- where due dates are read, the tables are in no form, and the query of due dates shows a row
 pub stops_at_dues : {A : Type 0} {version : ℕ} {old new : State} {forwards : List Forward} (answer : Result A Fault)
-    → ReadsOn version old new → (HasCleanDisk new → ReadsRecords version forward_records old forwards)
+    → ReadsOn old new → (HasCleanDisk new → ReadsRecords version forward_records old forwards)
     → forwards ≢ [] → Stops version old new answer (λ trees. ¬ AreFormed version trees) (IsIllegible version)
 stops_at_dues {version = version} {old = old} {new = new} {forwards = forwards} answer on reads some = record {
   right = λ clean accounts book held e. some ((reads clean).given accounts book held);

@@ -15,10 +15,10 @@ use Rattle.rtgs_sql_loading.specs.Loading.{ReadsOn, Stops}
 use Rattle.rtgs_sql_loading.proofs.Keeps.{keeps_then, survives_on, was_clean}
 use Rattle.rtgs_sql_loading.proofs.Judging.{same_fault, answered}
 
-pub at_once : (version : ℕ) (s : State) → ReadsOn version s s
-at_once version s = record {
+pub at_once : (s : State) → ReadsOn s s
+at_once s = record {
   clean = λ clean. clean;
-  keeps = λ clean. record { file = λ trees file. file; rests = λ content rests. rests };
+  keeps = λ clean. record { file = λ version trees file. file; rests = λ version content rests. rests };
   same = λ clean. refl;
   survives = record {
     clean = omega arith;
@@ -30,7 +30,7 @@ at_once version s = record {
   };
 }
 
-pub followed : {version : ℕ} {a b c : State} → ReadsOn version a b → ReadsOn version b c → ReadsOn version a c
+pub followed : {a b c : State} → ReadsOn a b → ReadsOn b c → ReadsOn a c
 followed one two = record {
   clean = λ clean. one.clean (two.clean clean);
   keeps = λ clean. keeps_then _ _ _ (one.keeps (two.clean clean)) (two.keeps clean);
@@ -39,14 +39,14 @@ followed one two = record {
 }
 
 -- the tables keep their records
-kept_on : {version : ℕ} (accounts : List Account) (book : Book) (old new : State) → KeepsTables version old new
+kept_on : {version : ℕ} (accounts : List Account) (book : Book) (old new : State) → KeepsTables old new
     → HasRecords version accounts book old → HasRecords version accounts book new
-kept_on accounts book old new keeps held = (held.0, keeps.rests held.0 held.1, held.2)
+kept_on {version = version} accounts book old new keeps held = (held.0, keeps.rests version held.0 held.1, held.2)
 
 -- one that stops: its fault is answered
 pub stops_after : {A B : Type 0} {version : ℕ} {a b c : State} {Bad Wrong : Trees → Type 0}
     {Unread Illegible : Database → Type 0} (met : Result A Fault) (fault : Fault) (answer : Result B Fault)
-    → ReadsOn version a b → met ≡ Err fault → IsErrAnd answer (λ told. told ≡ fault)
+    → ReadsOn a b → met ≡ Err fault → IsErrAnd answer (λ told. told ≡ fault)
     → (IsVersion version → (trees : Trees) → Bad trees → Wrong trees)
     → (IsVersion version → (db : Database) → Unread db → Illegible db)
     → Stops version b c met Bad Unread → Stops version a c answer Wrong Illegible
@@ -56,7 +56,7 @@ stops_after {version = version} {b = b} {c = c} {Unread = Unread} met fault answ
       right = λ clean accounts book held e. stops.right clean accounts book (kept_on accounts book _ _
           (on.keeps (honest clean)) held) (same_fault met fault NotADeskFile answer was told e);
       wrong = λ clean trees file e. wrong file.known trees (stops.wrong clean trees
-          ((on.keeps (honest clean)).file trees file) (same_fault met fault NotADeskFile answer was told e));
+          ((on.keeps (honest clean)).file version trees file) (same_fault met fault NotADeskFile answer was told e));
       unread = λ clean known e. illegible known _ (subst Unread (on.same (honest clean)) (stops.unread clean known
           (same_fault met fault NotADeskFile answer was told e)));
       same = λ clean other. keeps_then _ _ _ (on.keeps (honest clean)) (stops.same clean
@@ -66,7 +66,7 @@ stops_after {version = version} {b = b} {c = c} {Unread = Unread} met fault answ
 
 -- all are read
 pub stops_never : {A : Type 0} {version : ℕ} {a b : State} {Wrong : Trees → Type 0} {Illegible : Database → Type 0}
-    (answer : Result A Fault) → ReadsOn version a b → answer ≢ Err NotADeskFile
+    (answer : Result A Fault) → ReadsOn a b → answer ≢ Err NotADeskFile
     → Stops version a b answer Wrong Illegible
 stops_never {version = version} answer on not = record {
   right = λ clean accounts book held. not;

@@ -7,9 +7,9 @@ use Rattle.sqlite_catalog.specs.Listing.{IsSound}
 use Rattle.rtgs_book.specs.declared.Book.{Book}
 use Rattle.rtgs_book.specs.declared.Fault.{Fault}
 use Rattle.rtgs_book.specs.Soundness.{IsSound as IsSoundBook}
-use Rattle.rtgs_rows.specs.Tables.{schema_in}
-use Rattle.rtgs_rows.specs.Content.{Content, HoldsIn}
-use Rattle.rtgs_rows.specs.Keeping.{AreBalances, IsBookOf}
+use Rattle.rtgs_rows.specs.Tables.{schema_in, IsVersion}
+use Rattle.rtgs_rows.specs.Keeping.{AreBalances}
+use Rattle.rtgs_rows.specs.Migrating.{TellIn}
 use Rattle.rtgs_sql_loading.proofs.AboveZero.{above_zero}
 use Rattle.rtgs_rows.specs.RowLaws.{ShownRecordsAreHeld}
 use Rattle.rtgs_rows.specs.Querying.{as_shown, AreWholeIn, ShowsTable, ShowsBook}
@@ -45,14 +45,14 @@ shown_book version trees accounts book (Err fault) read is right agree = tt
 
 module _ (law : ShownRecordsAreHeld) where
   -- what was read, and judged to be sound with its balances stored, is what the tables hold
-  pub held_book : (version : ℕ) (trees : Trees) (accounts : List Account) (book : Book)
+  pub held_book : (version : ℕ) → IsVersion version → (trees : Trees) (accounts : List Account) (book : Book)
       (answer : Result Book Fault) → IsSound (schema_in version) trees → AreWholeIn version trees
       → AreReadOf version trees accounts book
       → IfOk answer (λ it. it ≡ book) → IfOk answer IsSoundBook → OnOk answer (AreBalances book accounts)
-      → IfOk answer (λ it. (content : Content) × HoldsIn version content trees × IsBookOf it content)
-  held_book version trees accounts book (Ok it) sound whole read is right agree =
+      → IfOk answer (λ it. TellIn version it trees)
+  held_book version known trees accounts book (Ok it) sound whole read is right agree =
       let sound_book = subst IsSoundBook is right in
-      subst (λ b. (content : Content) × HoldsIn version content trees × IsBookOf b content) (sym is)
-      (law version trees book accounts sound whole sound_book read.fits
+      subst (λ b. TellIn version b trees) (sym is)
+      (law version known trees book accounts sound whole sound_book read.fits
       (shows_of version trees accounts book read (above_zero book sound_book)) agree)
-  held_book version trees accounts book (Err fault) sound whole read is right agree = tt
+  held_book version known trees accounts book (Err fault) sound whole read is right agree = tt

@@ -2,26 +2,28 @@
 use Rattle.std.proofs.Common.{◌≡◌, ◌≢◌, inl, inr, ap, ℕ, List, [], ◌∷◌, map, length, IsPermutation, sym, Ok, Err, ◌∙◌}
 use Rattle.std.proofs.Common.{Result, IfOk, IfErr, Vec, Global, refl, subst, arith}
 use Rattle.std.specs.List.{AllByRecursion}
-use Rattle.std.proofs.lemmas.List.Sorted.{IsPermutation-map, length_permutation}
-use Rattle.sqlite.specs.State.{State}
+use Rattle.std.proofs.lemmas.List.Sorted.{IsPermutation-map, IsPermutation-refl, IsPermutation-sym, length_permutation}
+use Rattle.sqlite.specs.State.{State, HasCleanDisk}
 use Rattle.sqlite.specs.Tree.{Trees}
 use Rattle.sqlite_value.specs.Order.{Row}
 use Rattle.sqlite_trees.proofs.ListLemmas.{all-permutation}
 use Rattle.rtgs_book.specs.declared.Book.{Book}
-use Rattle.rtgs_book.specs.declared.Day.{Day}
 use Rattle.rtgs_book.specs.declared.Fault.{Fault}
 use Rattle.rtgs_book.specs.declared.account.Account.{Account}
 use Rattle.rtgs_rows.specs.Fitting.{FitsDate}
 use Rattle.rtgs_rows.specs.Rows.{shown_day}
 use Rattle.rtgs_rows.specs.Querying.{as_shown, IsFileIn}
 use Rattle.rtgs_rows.specs.TableRecords.{TableRecords, desk_row_of}
+use Rattle.rtgs_rows.specs.declared.desk_row.DeskRow.{DeskRow}
 use Rattle.rtgs_rows.specs.Tables.{HasTable, IsVersion, desk_table}
 use Rattle.rtgs_sql_columns.specs.Numbers.{as_read, IsFormed}
 use Rattle.rtgs_sql_columns.specs.Tables.{query_text}
 use Rattle.rtgs_sql_queries.specs.Displaying.{Displays}
 use Rattle.rtgs_sql_queries.specs.Records.{HasRecords}
-use Rattle.rtgs_sql_loading.specs.Accounts.{IsOneDay, InForm}
-use Rattle.rtgs_sql_loading.specs.Loading.{ReadsRecords, ReadsOneDay}
+use Rattle.rtgs_sql_loading.specs.Accounts.{IsOneDay, IsOneDesk, InForm}
+use Rattle.rtgs_sql_loading.specs.Displaying.{IsUnread, SaysNoVersion}
+use Rattle.rtgs_sql_loading.specs.Loading.{ReadsRecords, ReadsDesk, ReadsOneDay, ReadsOn, Stops}
+use Rattle.sqlite.specs.Effect.{Database}
 use Rattle.rtgs_sql_loading.proofs.Versions.{known_of}
 
 -- of the rows that a query shows, these records are read
@@ -72,36 +74,6 @@ pub as_they_are : (rows : List Row) → map (as_read []) rows ≡ rows
 as_they_are [] = refl
 as_they_are (row ∷ rows) = ap (λ rs. row ∷ rs) (as_they_are rows)
 
--- so the day
-pub day_reads : (version : ℕ) (s : State) (rows seen : List Row) (r : Result Day Fault) → seen ≡ rows
-    → Displays s.now (query_text desk_table) rows
-    → (HasTable version desk_table → (trees : Trees) → IsFileIn version trees s
-    → IsPermutation (as_shown desk_table trees) rows)
-    → ((accounts : List Account) (book : Book) → HasRecords version accounts book s → r ≡ Ok book.day)
-    → IfOk r (λ (day : Day). FitsDate day.date × (seen ≡ shown_day version day ∷ []))
-    → IfOk r (ReadsOneDay version s)
-day_reads version s rows seen (Ok day) same shows raw given is =
-    let told : map (as_read []) rows ≡ shown_day version day ∷ [] = as_they_are rows ∙ sym same ∙ is.1 in
-    record {
-      given = λ accounts book held.
-          let found : ◌≡◌ {A = Result Day Fault} (Ok day) (Ok book.day) = given accounts book held in
-          let it : day ≡ book.day = cc in
-          ap (λ (d : Day). desk_row_of version d ∷ []) it;
-      fit = (is.0, tt);
-      told = λ has. (
-        λ trees file. subst (IsPermutation (map (as_read []) (as_shown desk_table trees))) told
-            (IsPermutation-map (as_read []) _ _ (raw has trees file)),
-        (rows, shows, told),
-      );
-      had = λ known. inl known;
-    }
-day_reads version s rows seen (Err e) same shows raw given is = tt
-
--- a row that the query shows is in no form, so one that the table has
-pub misread : {A : Type 0} (records : TableRecords A) (stored rows : List Row) → IsPermutation stored rows
-    → ¬ InForm records rows → ¬ InForm records stored
-misread records stored rows same wrong all = wrong (all-permutation (IsFormed records) _ _ same all)
-
 -- one row alone is the only row
 only_row : (rows : List Row) (row : Row) → IsPermutation (row ∷ []) rows → rows ≡ row ∷ []
 only_row rows row same = all_one rows row (all-permutation (λ r. r ≡ row) _ _ same (refl, tt))
@@ -112,12 +84,84 @@ only_row rows row same = all_one rows row (all-permutation (λ r. r ≡ row) _ _
     all_one (x ∷ []) r each many = ap (λ y. y ∷ []) each.0
     all_one (x ∷ y ∷ rs) r each many = absurd (omega (arith, many))
 
-pub no_day : (version : ℕ) (stored rows : List Row) → IsPermutation stored rows
-    → ((day : Day) → FitsDate day.date → rows ≢ shown_day version day ∷ []) → ¬ IsOneDay version stored
-no_day version stored rows same none found =
-    none found.0 found.1 (only_row rows _ (subst (λ all. IsPermutation all rows) found.2 same))
+-- what the query shows of the first table is what its one row says
+pub desk_reads : (s : State) (rows seen : List Row) (r : Result DeskRow Fault) → seen ≡ rows
+    → Displays s.now (query_text desk_table) rows
+    → ((version : ℕ) (trees : Trees) → IsFileIn version trees s → IsPermutation (as_shown desk_table trees) rows)
+    → ((version : ℕ) (accounts : List Account) (book : Book) → HasRecords version accounts book s
+    → r ≡ Ok (desk_row_of version book.day))
+    → IfOk r (λ desk. FitsDate desk.day.date × (seen ≡ shown_day desk.version desk.day ∷ []))
+    → IfOk r (ReadsDesk s)
+desk_reads s rows seen (Ok desk) same shows raw given is =
+    let are : rows ≡ shown_day desk.version desk.day ∷ [] = sym same ∙ is.1 in
+    record {
+      given = λ version accounts book held.
+          let found : ◌≡◌ {A = Result DeskRow Fault} (Ok desk) (Ok (desk_row_of version book.day)) =
+          given version accounts book held in
+          cc;
+      rows = λ version trees file. only_row _ _ (IsPermutation-sym _ _
+          (subst (IsPermutation (as_shown desk_table trees)) are (raw version trees file)));
+      shown = subst (Displays s.now (query_text desk_table)) are shows;
+      fit = is.0;
+    }
+desk_reads s rows seen (Err e) same shows raw given is = tt
 
-pub not_read : (r : Result Day Fault) (fault : Fault) (None : Type 0) → IfErr r (λ it. (it ≡ fault) × None)
+-- so the day, where it says this version
+pub day_reads : (version : ℕ) (s : State) (desk : DeskRow) → desk.version ≡ version → ReadsDesk s desk
+    → ReadsOneDay version s desk.day
+day_reads version s desk is reads =
+    let day = λ (v : ℕ). shown_day v desk.day ∷ [] in
+    record {
+      given = λ accounts book held.
+          ap (λ (d : DeskRow). desk_row_of version d.day ∷ []) (reads.given version accounts book held);
+      fit = (reads.fit, tt);
+      told = λ has. (
+        λ trees file. subst (IsPermutation (map (as_read []) (as_shown desk_table trees)))
+            (as_they_are _ ∙ reads.rows version trees file ∙ ap day is) (IsPermutation-refl _),
+        (day desk.version, reads.shown, as_they_are _ ∙ ap day is),
+      );
+      had = λ known. inl known;
+    }
+
+-- where it says another version
+pub other_day : (version : ℕ) (desk : DeskRow) → desk.version ≢ version
+    → ¬ IsOneDay version (shown_day desk.version desk.day ∷ [])
+other_day version desk other one =
+    let is : shown_day desk.version desk.day ∷ [] ≡ shown_day version one.0 ∷ [] = one.2 in
+    other cc
+
+-- a row that the query shows is in no form, so one that the table has
+pub misread : {A : Type 0} (records : TableRecords A) (stored rows : List Row) → IsPermutation stored rows
+    → ¬ InForm records rows → ¬ InForm records stored
+misread records stored rows same wrong all = wrong (all-permutation (IsFormed records) _ _ same all)
+
+pub no_desk : (stored rows : List Row) → IsPermutation stored rows → ¬ IsOneDesk rows → ¬ IsOneDesk stored
+no_desk stored rows same none found =
+    let one = found.1 in
+    none (found.0, (one.0, one.1, only_row rows _ (subst (λ all. IsPermutation all rows) one.2 same)))
+
+-- no version that is said, so not this one
+pub unsaid : (version : ℕ) (db : Database) → SaysNoVersion db → IsUnread db (query_text desk_table) (IsOneDay version)
+unsaid version db (inl none) = inl none
+unsaid version db (inr shown) = inr (shown.0, shown.1, λ one. shown.2 (version, one))
+
+-- where another version is said, this one is not read
+pub stops_at_another : {A : Type 0} (version : ℕ) (old new : State) (desk : DeskRow) (answer : Result A Fault)
+    → ReadsOn old new → (HasCleanDisk new → ReadsDesk old desk) → desk.version ≢ version
+    → Stops version old new answer (λ trees. ¬ IsOneDay version (as_shown desk_table trees))
+    (λ db. IsUnread db (query_text desk_table) (IsOneDay version))
+stops_at_another version old new desk answer on reads other = record {
+  right = λ clean accounts book held e.
+      other (ap (λ (d : DeskRow). d.version) ((reads clean).given version accounts book held));
+  wrong = λ clean trees file e one.
+      other_day version desk other (subst (IsOneDay version) ((reads clean).rows version trees file) one);
+  unread = λ clean known e. inr (_, (reads clean).shown, other_day version desk other);
+  same = λ clean _. on.keeps clean;
+  survives = on.survives;
+}
+
+pub not_read : {A : Type 0} (r : Result A Fault) (fault : Fault) (None : Type 0) → IfErr r (λ it. (it ≡ fault) × None)
     → r ≡ Err fault → None
-not_read (Ok day) fault None why e = absurd (let clash : ◌≡◌ {A = Result Day Fault} (Ok day) (Err fault) = e in cc)
+not_read {A = A} (Ok it) fault None why e =
+    absurd (let clash : ◌≡◌ {A = Result A Fault} (Ok it) (Err fault) = e in cc)
 not_read (Err it) fault None why e = why.1

@@ -54,6 +54,10 @@ AreReadOf version trees = AreTheRecords version (AreTold trees)
 abbrev pub IsOneDay : ℕ → List Row → Type 0
 IsOneDay version rows = (day : Day) × FitsDate day.date × (rows ≡ shown_day version day ∷ [])
 
+-- one row alone, which is a business day in tables of some version
+abbrev pub IsOneDesk : List Row → Type 0
+IsOneDesk rows = (version : ℕ) × IsOneDay version rows
+
 -- each row is in the form of a record
 abbrev pub InForm : {A : Type 0} → TableRecords A → List Row → Type 0
 InForm records = AllByRecursion (IsFormed records)

@@ -12,7 +12,7 @@ use Rattle.rtgs_rows.specs.Tables.{HasTable, IsVersion, desk_table, forward_tabl
 use Rattle.rtgs_sql_columns.specs.Numbers.{as_read}
 use Rattle.rtgs_sql_columns.specs.Tables.{query_text}
 use Rattle.rtgs_sql_queries.specs.Displaying.{Displays, HasNoAnswer}
-use Rattle.rtgs_sql_loading.specs.Accounts.{AreTheRecords, StoredBreaksFirst, IsOneDay, InForm}
+use Rattle.rtgs_sql_loading.specs.Accounts.{AreTheRecords, StoredBreaksFirst, IsOneDay, IsOneDesk, InForm}
 
 -- ---- what they show
 
@@ -36,6 +36,14 @@ IsDisplayed version db book = (accounts : List Account) × AreBalances book acco
 abbrev pub IsUnread : Database → List ℕ → (List Row → Type 0) → Type 0
 IsUnread db text AreFormed = HasNoAnswer db text
     ⊎ ((rows : List Row) × Displays db text rows × ¬ AreFormed rows)
+
+-- the query of the first table shows one row, which says this version
+abbrev pub SaysVersion : ℕ → Database → Type 0
+SaysVersion version db = (rows : List Row) × Displays db (query_text desk_table) rows × IsOneDay version rows
+
+-- it has no answer, or shows not one row, or one that says no version
+abbrev pub SaysNoVersion : Database → Type 0
+SaysNoVersion db = IsUnread db (query_text desk_table) IsOneDesk
 
 -- the version has the table of due dates, and its query shows a row, which is of no order
 abbrev pub ShowsDues : ℕ → Database → Type 0

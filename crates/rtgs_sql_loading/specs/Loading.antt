@@ -13,22 +13,26 @@ use Rattle.rtgs_book.specs.declared.Day.{Day}
 use Rattle.rtgs_book.specs.declared.Fault.{Fault}
 use Rattle.rtgs_book.specs.declared.Fault.TheVariants.{OutOfMemory, StoreFault, NotADeskFile}
 use Rattle.sqlite.specs.Effect.{Database}
-use Rattle.rtgs_rows.specs.Content.{Content, HoldsIn}
-use Rattle.rtgs_rows.specs.Keeping.{AreBalances, IsBookOf}
-use Rattle.rtgs_rows.specs.Querying.{IsFileIn, AreWholeIn}
-use Rattle.rtgs_rows.specs.Tables.{HasTable, IsVersion}
+use Rattle.rtgs_rows.specs.Fitting.{FitsDate}
+use Rattle.rtgs_rows.specs.Keeping.{AreBalances}
+use Rattle.rtgs_rows.specs.Migrating.{TellIn}
+use Rattle.rtgs_rows.specs.Rows.{shown_day}
+use Rattle.rtgs_rows.specs.Querying.{as_shown, IsFileIn, AreWholeIn}
+use Rattle.rtgs_rows.specs.Tables.{HasTable, IsVersion, desk_table}
+use Rattle.rtgs_rows.specs.declared.desk_row.DeskRow.{DeskRow}
 use Rattle.rtgs_rows.specs.TableRecords.{TableRecords, day_records, desk_row_of}
 use Rattle.rtgs_sql_columns.specs.Tables.{query_text}
 use Rattle.rtgs_sql_queries.specs.Answering.{KeepsTables}
+use Rattle.rtgs_sql_queries.specs.Displaying.{Displays}
 use Rattle.rtgs_sql_queries.specs.Faults.{IsOfStore}
 use Rattle.rtgs_sql_queries.specs.Records.{HasRecords}
 use Rattle.rtgs_sql_loading.specs.Accounts.{Telling, AreTold, AreReadOf, ExplainsRead, ExplainsTrees, IsShown}
 use Rattle.rtgs_sql_loading.specs.Displaying.{DisplaysAs, AreDisplayed, IsDisplayed, ExplainsDatabase}
 
--- nothing is written: a clean disk was clean before, and the tables of this version and what the database shows stay
-pub record ReadsOn (version : ℕ) (old new : State) : Type 0 where
+-- nothing is written: a clean disk was clean before, and the tables and what the database shows stay
+pub record ReadsOn (old new : State) : Type 0 where
   pub clean : HasCleanDisk new → HasCleanDisk old
-  pub keeps : HasCleanDisk new → KeepsTables version old new
+  pub keeps : HasCleanDisk new → KeepsTables old new
   pub same : HasCleanDisk new → new.now ≡ old.now
   pub survives : Survives old new (λ _. ⊥)
 
@@ -48,19 +52,29 @@ pub record ReadsRecords {A : Type 0} (version : ℕ) (records : TableRecords A) 
 
 -- it was there before what was read first
 pub read_after : {A : Type 0} {version : ℕ} {records : TableRecords A} {first old : State} {all : List A}
-    → ReadsOn version first old → HasCleanDisk old → ReadsRecords version records old all
+    → ReadsOn first old → HasCleanDisk old → ReadsRecords version records old all
     → ReadsRecords version records first all
 read_after {version = version} {records = records} {all = all} on clean reads = record {
   given = λ accounts book held.
-      reads.given accounts book (held.0, (on.keeps clean).rests held.0 held.1, held.2);
+      reads.given accounts book (held.0, (on.keeps clean).rests version held.0 held.1, held.2);
   fit = reads.fit;
   told = λ has. (
-    λ trees file. (reads.told has).0 trees ((on.keeps clean).file trees file),
+    λ trees file. (reads.told has).0 trees ((on.keeps clean).file version trees file),
     subst (λ now. DisplaysAs now (query_text records.table) records.counted (map records.shown all)) (on.same clean)
         (reads.told has).1,
   );
   had = reads.had;
 }
+
+-- This is what the one row of the first table says: by the records, where the tables of a version have any; by its
+-- rows, where the schema is that of a version; and by what the query shows, whatever the schema is.
+pub record ReadsDesk (s : State) (desk : DeskRow) : Type 0 where
+  pub given : (version : ℕ) (accounts : List Account) (book : Book) → HasRecords version accounts book s
+      → desk ≡ desk_row_of version book.day
+  pub rows : (version : ℕ) (trees : Trees) → IsFileIn version trees s
+      → as_shown desk_table trees ≡ shown_day desk.version desk.day ∷ []
+  pub shown : Displays s.now (query_text desk_table) (shown_day desk.version desk.day ∷ [])
+  pub fit : FitsDate desk.day.date
 
 -- so the day
 abbrev pub ReadsOneDay : ℕ → State → Day → Type 0
@@ -84,7 +98,7 @@ pub record Stops {A : Type 0} (version : ℕ) (old new : State) (result : Result
   pub wrong : HasCleanDisk new → (trees : Trees) → IsFileIn version trees old → result ≡ Err NotADeskFile
       → AreBad trees
   pub unread : HasCleanDisk new → IsVersion version → result ≡ Err NotADeskFile → IsUnread old.now
-  pub same : HasCleanDisk new → result ≢ Err StoreFault → KeepsTables version old new
+  pub same : HasCleanDisk new → result ≢ Err StoreFault → KeepsTables old new
   pub survives : Survives old new (λ _. ⊥)
 
 -- How the error of a query is told: as lack of memory only if it was that, and as no desk's tables exactly if it is no
@@ -104,7 +118,7 @@ pub record LoadsFrom (version : ℕ) (s : State) (result : Result Book Fault) : 
   pub explained : (accounts : List Account) (book : Book) → HasRecords version accounts book s
       → IfErr result (ExplainsRead accounts book)
   pub held : (trees : Trees) → IsFileIn version trees s → AreWholeIn version trees
-      → IfOk result (λ book. (content : Content) × HoldsIn version content trees × IsBookOf book content)
+      → IfOk result (λ book. TellIn version book trees)
   pub shown : (trees : Trees) → IsFileIn version trees s → IfOk result (IsShown version trees)
   pub caused : (trees : Trees) → IsFileIn version trees s → IfErr result (ExplainsTrees version trees)
   pub displayed : IfOk result (IsDisplayed version s.now)

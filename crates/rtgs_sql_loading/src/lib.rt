@@ -1,8 +1,11 @@
-//! Reading the book of the tables of a version, and judging it.
+//! Which version tables are of, and reading the book of the tables of a version, and judging it.
 #![tactic(auto)]
 
 mod balances;
+mod desk;
+mod faults;
 mod loading;
 mod reading;
 
+pub use crate::desk::version_of;
 pub use crate::loading::load_book;

@@ -135,7 +135,7 @@ pub fn load_book<S: Alter>(
     ensures blank { HasCleanDisk (state S.Store conn.new) → IsBlank (state S.Store conn.old)
         → IfOk result (λ _. ⊥) × ((rule : Rule) → result ≢ Err (Fault.Inconsistent rule)) }
     ensures same { HasCleanDisk (state S.Store conn.new) → result ≢ Err Fault.StoreFault
-        → KeepsTables version (state S.Store conn.old) (state S.Store conn.new) }
+        → KeepsTables (state S.Store conn.old) (state S.Store conn.new) }
     ensures survives { Survives (state S.Store conn.old) (state S.Store conn.new) (λ _. ⊥) }
     ensures sound { IfOk result IsSound }
     ensures fits { IfOk result Fits }

@@ -51,7 +51,7 @@ use Rattle.rtgs_sql_look_ups.specs.Finding.{one_of, IsLook, first_query, after_t
 use Rattle.rtgs_sql_look_ups.proofs.Passing.{truth_of, same_text}
 use Rattle.rtgs_sql_look_ups.proofs.FindingTexts.{order_tests, posting_tests, order_query, posting_query}
 use Rattle.rtgs_sql_queries.specs.TableQueries.{columns_of}
-use Rattle.rtgs_rows.specs.Tables.{IsCurrent, posting_table, payment_table}
+use Rattle.rtgs_rows.specs.Tables.{posting_table, payment_table}
 use Rattle.rtgs_rows.specs.declared.numbers.TheConstants.{VERSION}
 use Rattle.rtgs_lists.proofs.Results.{none_moved}
 use Rattle.rtgs_lists.proofs.Filters.{filter_of, filter_agrees, map-filter}
@@ -61,11 +61,11 @@ use Rattle.rtgs_lists.proofs.Filters.{filter_of, filter_agrees, map-filter}
 survives_on : (a b c : State) → Survives a b (λ _. ⊥) → Survives b c (λ _. ⊥) → Survives a c (λ _. ⊥)
 survives_on a b c = survives_then a b c (λ _. ⊥) (λ _. ⊥) (λ _. ⊥) (λ _ db none. none) (λ _ db none. none)
 
-keeps_then : (old mid new : State) → KeepsTables VERSION old mid → KeepsTables VERSION mid new
-    → KeepsTables VERSION old new
+keeps_then : (old mid new : State) → KeepsTables old mid → KeepsTables mid new
+    → KeepsTables old new
 keeps_then old mid new one two = record {
-  file = λ trees file. two.file trees (one.file trees file);
-  rests = λ content rests. two.rests content (one.rests content rests);
+  file = λ version trees file. two.file version trees (one.file version trees file);
+  rests = λ version content rests. two.rests version content (one.rests version content rests);
 }
 
 only_store : {A : Type 0} (r : Result A Fault) → IfErr r (λ fault. fault ≡ StoreFault)
@@ -74,18 +74,18 @@ only_store (Ok a) h = tt
 only_store (Err e) h = inr h
 
 pub looks_ok : {S A : Type 0} (g : Ghosts S) (old new : Held S) (rows : Vec Row Global) (r : Result A Fault)
-    → IsQuery g IsCurrent old new (Ok rows) → IfErr r (λ fault. fault ≡ StoreFault) → IsLook g old new r
+    → IsQuery g old new (Ok rows) → IfErr r (λ fault. fault ≡ StoreFault) → IsLook g old new r
 looks_ok g old new rows r q faults = record {
   survives = q.survives;
   mode = q.mode;
-  same = λ clean other. q.kept VERSION refl clean;
+  same = λ clean other. q.kept clean;
   kinds = only_store r faults;
 }
 
 pub looks_err : {S A : Type 0} (g : Ghosts S) (old mid new : Held S) (e : Error) (fault : Fault)
-    → IsQuery g IsCurrent old mid (Err e) → (fault ≡ OutOfMemory) ⊎ (fault ≡ StoreFault)
+    → IsQuery g old mid (Err e) → (fault ≡ OutOfMemory) ⊎ (fault ≡ StoreFault)
     → (fault ≡ OutOfMemory → HasCleanDisk (state g new) → IsTrue (state g mid).is_open
-    × ((version : ℕ) → KeepsTables version (state g mid) (state g new)))
+    × KeepsTables (state g mid) (state g new))
     → (mid.in_transaction ≡ false → new.in_transaction ≡ false)
     → Survives (state g mid) (state g new) (λ _. ⊥) → IsLook {A = A} g old new (Err fault)
 looks_err {A = A} g old mid new e fault q kinds kept mode survives = record {
@@ -94,8 +94,8 @@ looks_err {A = A} g old mid new e fault q kinds kept mode survives = record {
   same = λ clean other.
       let low = survives.clean in
       let on = kept (of_memory fault kinds other) clean in
-      keeps_then (state g old) (state g mid) (state g new) (q.intact VERSION refl (omega (arith, low)) on.0)
-      (on.1 VERSION);
+      keeps_then (state g old) (state g mid) (state g new) (q.intact (omega (arith, low)) on.0)
+      on.1;
   kinds = kinds;
 }
   where
@@ -161,7 +161,7 @@ fits_found P hit (a ∷ all) fits = elim (cases_Bool (hit a)) [
 pub holds_on : {S A : Type 0} (g : Ghosts S) (old new : Held S) (r : Result A Fault) (book : Book) → IsLook g old new r
     → HasCleanDisk (state g new) → ◌≢◌ r (Err StoreFault) → HoldsBook g old book → HoldsBook g new book
 holds_on g old new r book look clean other held =
-    (held.0, (look.same clean other).rests held.0 held.1, held.2)
+    (held.0, (look.same clean other).rests VERSION held.0 held.1, held.2)
 
 pub was_clean : {S A : Type 0} (g : Ghosts S) (old new : Held S) (r : Result A Fault) → IsLook g old new r
     → HasCleanDisk (state g new) → HasCleanDisk (state g old)

@@ -19,7 +19,6 @@ use Rattle.sqlite_trees.specs.declared.store.Store.{Ghosts}
 use Rattle.rtgs_book.specs.declared.Fault.{Fault}
 use Rattle.rtgs_book.specs.declared.Fault.TheVariants.{OutOfMemory, StoreFault}
 use Rattle.rtgs_rows.specs.TableRecords.{TableRecords}
-use Rattle.rtgs_rows.specs.declared.numbers.TheConstants.{VERSION}
 use Rattle.rtgs_sql_columns.specs.Numbers.{AreReadAs}
 use Rattle.rtgs_sql_columns.specs.OneTable.{simple}
 use Rattle.rtgs_sql_columns.specs.Tables.{column_names}
@@ -36,7 +35,7 @@ one_of (Some a) = a ∷ []
 pub record IsLook {S A : Type 0} (g : Ghosts S) (old new : Held S) (result : Result A Fault) : Type 0 where
   pub survives : Survives (state g old) (state g new) (λ _. ⊥)
   pub mode : old.in_transaction ≡ false → new.in_transaction ≡ false
-  pub same : HasCleanDisk (state g new) → result ≢ Err StoreFault → KeepsTables VERSION (state g old) (state g new)
+  pub same : HasCleanDisk (state g new) → result ≢ Err StoreFault → KeepsTables (state g old) (state g new)
   pub kinds : IfErr result (λ fault. (fault ≡ OutOfMemory) ⊎ (fault ≡ StoreFault))
 
 -- ---- the first row that passes tests

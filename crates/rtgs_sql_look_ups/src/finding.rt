@@ -3,7 +3,6 @@ ghost use Rattle.std.specs.Prelude.{ℕ, ◌≡◌, ◌⊎◌, Option, None, [],
 ghost use Rattle.std.specs.List.{AllByRecursion};
 ghost use Rattle.rtgs_book.specs.declared.Book.{Book};
 ghost use Rattle.rtgs_book.specs.Lookup.{order_named, posting_named};
-ghost use Rattle.rtgs_rows.specs.Tables.{IsCurrent};
 ghost use Rattle.rtgs_rows.specs.Keeping.{HoldsBook};
 ghost use Rattle.rtgs_rows.specs.Rows.{shown_posting, shown_order};
 ghost use Rattle.rtgs_sql_queries.specs.Answering.{IsQuery, KeepsTables};
@@ -29,7 +28,7 @@ fn order_rows<S: Alter>(
     sender: &Code,
     reference: &Reference,
 ) -> Result<Vec<Row>, Error>
-    ensures asks { IsQuery S.Store IsCurrent conn.old conn.new result }
+    ensures asks { IsQuery S.Store conn.old conn.new result }
     ensures rows { HasCleanDisk (state S.Store conn.new) → (book : Book) → HoldsBook S.Store conn.old book
         → IfOk result (λ rows. rows.items ≡ map shown_order (one_of (order_named book sender.now reference.now))) }
 {
@@ -47,7 +46,7 @@ fn posting_rows<S: Alter>(
     conn: &mut Connection<S>,
     reference: &Reference,
 ) -> Result<Vec<Row>, Error>
-    ensures asks { IsQuery S.Store IsCurrent conn.old conn.new result }
+    ensures asks { IsQuery S.Store conn.old conn.new result }
     ensures rows { HasCleanDisk (state S.Store conn.new) → (book : Book) → HoldsBook S.Store conn.old book
         → IfOk result (λ rows. rows.items ≡ map shown_posting (one_of (posting_named book reference.now))) }
 {
@@ -70,7 +69,7 @@ pub(crate) fn fault_of<S: Alter>(conn: &mut Connection<S>, error: &Error) -> Fau
         → IsUnchanged (state S.Store conn.old) (state S.Store conn.new) }
     ensures kept { result ≡ Fault.OutOfMemory → HasCleanDisk (state S.Store conn.new)
         → IsTrue (state S.Store conn.old).is_open
-        × ((version : ℕ) → KeepsTables version (state S.Store conn.old) (state S.Store conn.new)) }
+        × KeepsTables (state S.Store conn.old) (state S.Store conn.new) }
     ensures mode { conn.old.in_transaction ≡ false → conn.new.in_transaction ≡ false }
     ensures survives { Survives (state S.Store conn.old) (state S.Store conn.new) (λ _. ⊥) }
 {

@@ -119,6 +119,13 @@ module _ (text : List ℕ) (old amid new : State) (e : Error) (same : IsUnchange
         subst (FailsToShow old new text h.0 params e) (sym none) back,
       )
 
+-- the query failed, or nothing was changed
+pub amid : (text : List ℕ) (old new : State) (r : Result (Vec Row Global) Error) → IfErr r (FailsAmid text old new)
+    → IfErr r (λ e. FailsToQuery text [] old new e ⊎ IsUnchanged old new)
+amid text old new (Ok rows) h = tt
+amid text old new (Err e) (inl early) = inl early
+amid text old new (Err e) (inr memory) = inr memory.1
+
 -- the store failed, or the text has no answer
 pub unanswered_amid : (text : List ℕ) (is : IsQueryText text (first text))
     (none : compiled listing_schema text ≡ Err NoSuchTable) (old new : State) (r : Result (Vec Row Global) Error)

@@ -1,10 +1,13 @@
--- A text that is a query commits nothing, whatever the schema is.
-use Rattle.std.proofs.Common.{◌≡◌, ℕ, List, Option, None, IsSome, Ok, Err, refl, sym, subst, ap, ◌∙◌, inl, inr}
+-- A text that is a query commits nothing and changes nothing, whatever the schema is.
+use Rattle.std.proofs.Common.{◌≡◌, ◌⊎◌, ℕ, List, Option, None, IsSome, Ok, Err, Result, IsTrue, IfOk, IfErr, OnOk}
+use Rattle.std.proofs.Common.{Vec, Global, refl, sym, subst, ap, ◌∙◌, inl, inr}
 use Rattle.std.proofs.lemmas.Bool.{cases_Bool}
 use Rattle.sqlite.specs.Order.{Row}
 use Rattle.sqlite.specs.Schema.{Schema}
 use Rattle.sqlite.specs.Tree.{Trees}
-use Rattle.sqlite.specs.State.{State, CommitsShowing}
+use Rattle.sqlite.specs.State.{State, CommitsShowing, Shown, ShowsRows, FailsToQuery, FailsToShow, IsNotRun}
+use Rattle.sqlite.specs.State.{IsUnchanged, IsRolledBack}
+use Rattle.sqlite.specs.declared.error.Error.{Error}
 use Rattle.sqlite.specs.Listing.{understood, reads_listing, if_select, is_select, listing_schema}
 use Rattle.sqlite_schema.specs.declared.command.Command.{Command}
 use Rattle.sqlite_schema.specs.declared.command.Returning.{Returning}
@@ -12,7 +15,10 @@ use Rattle.sqlite_syntax.specs.declared.statement.Parsed.{Parsed}
 use Rattle.sqlite_resolve.specs.declared.compiled.Compiled.{Compiled}
 use Rattle.sqlite_resolve.specs.Lowering.{Checked, and_then}
 use Rattle.sqlite_resolve.specs.Compile.{first, command, returning, timed, meaning, planned, with_command, compiled}
-use Rattle.rtgs_sql_queries.specs.Answering.{Returnless}
+use Rattle.rtgs_sql_queries.specs.Answering.{Returnless, KeepsTables}
+use Rattle.rtgs_sql_queries.specs.Faults.{IsOfStore}
+use Rattle.rtgs_sql_queries.proofs.Refusals.{told}
+use Rattle.rtgs_sql_queries.proofs.Resting.{keeps_open}
 
 -- what comes of a step that went well
 pub stepped : {A B : Type 0} (r : Checked A) (next : A → Checked B) (b : B) → and_then r next ≡ Ok b
@@ -66,3 +72,57 @@ unfolding CommitsShowing
 commits_nothing text params s db is h =
     let none = understood_none s.now.schema text h.0 is h.1.is in
     absurd (let clash = subst IsSome none h.2 in cc)
+
+-- ---- what it leaves
+
+module _ (text : List ℕ) (params : Row) (reads : Returnless (first text)) (old new : State) where
+  unchanged : (rows : List Row) → Shown text params old new rows → IsUnchanged old new
+  unfolding Shown
+  unchanged rows h =
+      let none = understood_none old.now.schema text h.0 reads h.1.is in
+      let it = subst (ShowsRows old new text h.0 _ rows) none h.2 in
+      it.3
+
+  failed : (e : Error) → FailsToQuery text params old new e → IsUnchanged old new ⊎ IsRolledBack old new
+  unfolding FailsToQuery IsNotRun
+  failed e (inl (inl h)) = inl h.1
+  failed e (inl (inr h)) = inr h.3
+  failed e (inr h) =
+      let none = understood_none old.now.schema text h.0 reads h.1.is in
+      let it = subst (FailsToShow old new text h.0 _ e) none h.2 in
+      inl it.3
+
+  -- the tables stay
+  pub kept_after : (r : Result (Vec Row Global) Error) → IfOk r (λ rows. Shown text params old new rows.items)
+      → OnOk r (KeepsTables old new)
+  kept_after (Ok rows) shown =
+      let same = unchanged rows.items shown in
+      keeps_open old new (inl same) same.0.is_open
+  kept_after (Err e) shown = tt
+
+  -- also after a failure, where the connection is open still
+  pub intact_after : (r : Result (Vec Row Global) Error) → IfOk r (λ rows. Shown text params old new rows.items)
+      → IfErr r (λ e. FailsToQuery text params old new e ⊎ IsUnchanged old new) → IsTrue new.is_open
+      → KeepsTables old new
+  intact_after (Ok rows) shown stopped = keeps_open old new (inl (unchanged rows.items shown))
+  intact_after (Err e) shown (inl early) = keeps_open old new (failed e early)
+  intact_after (Err e) shown (inr same) = keeps_open old new (inl same)
+
+  -- and after one that is not of the store
+  untouched : (e : Error) → ¬ IsOfStore e → FailsToQuery text params old new e → IsUnchanged old new
+  unfolding FailsToQuery IsNotRun
+  untouched e other (inl (inl h)) = h.1
+  untouched e other (inl (inr h)) = absurd (other (subst IsOfStore (sym h.1) (told h.0)))
+  untouched e other (inr h) =
+      let none = understood_none old.now.schema text h.0 reads h.1.is in
+      let it = subst (FailsToShow old new text h.0 _ e) none h.2 in
+      it.3
+
+  pub foreign_after : (r : Result (Vec Row Global) Error)
+      → IfErr r (λ e. FailsToQuery text params old new e ⊎ IsUnchanged old new)
+      → IfErr r (λ e. ¬ IsOfStore e → KeepsTables old new)
+  foreign_after (Ok rows) stopped = tt
+  foreign_after (Err e) (inl early) = λ other.
+      let same = untouched e other early in
+      keeps_open old new (inl same) same.0.is_open
+  foreign_after (Err e) (inr same) = λ other. keeps_open old new (inl same) same.0.is_open

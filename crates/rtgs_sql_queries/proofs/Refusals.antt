@@ -1,5 +1,5 @@
 -- Why a query that is understood fails.
-use Rattle.std.proofs.Common.{◌≡◌, ◌⊎◌, inl, inr, ℕ, List, length, Option, [], IfErr, Ok, Err, Result, sym, ap, subst}
+use Rattle.std.proofs.Common.{◌≡◌, inl, inr, ℕ, List, length, Option, [], IfErr, Ok, Err, Result, sym, ap, subst}
 use Rattle.std.proofs.Common.{◌∙◌, arith, true, false, subst₂, true≢false, append-nil}
 use Rattle.sqlite.specs.Order.{Row}
 use Rattle.sqlite_trees.specs.declared.error.StoreError.{StoreError}
@@ -15,8 +15,7 @@ use Rattle.sqlite_typing.specs.Types.{accepts_program}
 use Rattle.sqlite_schema.specs.Program.{lets_of}
 use Rattle.sqlite_sql.specs.Program.{ProgramOverflows}
 use Rattle.sqlite.specs.Effect.{Database, RefusesToRead}
-use Rattle.sqlite.specs.State.{State, Fails, IsUnchanged, IsRolledBack, IsNotRun, IsNoStatement, FailsToQuery}
-use Rattle.sqlite.specs.State.{FailsToShow, store_error}
+use Rattle.sqlite.specs.State.{State, Fails, IsUnchanged, IsNotRun, IsNoStatement, FailsToQuery, store_error}
 use Rattle.sqlite.proofs.Callers.{IsPlain, command_of}
 use Rattle.rtgs_sql_queries.specs.Faults.{IsOfStore}
 use Rattle.rtgs_sql_queries.specs.TableQueries.{tail_of, count_of, IsOneQuery}
@@ -67,15 +66,6 @@ module _ (sql : List ℕ) (params : Row) (old new : State) (q : Program) (names 
       let it = rw (bare.0, bare.1, append-nil params) at h.2 in
       refuses old.step_limit h.0.command it.0 (sym (ap command_of h.1.is) ∙ asks.command)
       (subst (λ b. IsSourceOf b old.now it.0) unlisted it.1) typed calm it.2
-
-  pub intact : FailsToQuery sql params old new e → IsUnchanged old new ⊎ IsRolledBack old new
-  unfolding FailsToQuery IsNotRun
-  intact (inl (inl h)) = inl h.1
-  intact (inl (inr h)) = inr h.3
-  intact (inr h) =
-      let none = (subst IsPlain h.1.is asks.plain).0 in
-      let it = subst (FailsToShow old new sql h.0 _ e) none h.2 in
-      inl it.3
 
 -- A text that was read and found to be no statement changed nothing: the store was open.
 pub unread_text : {A : Type 0} (old new : State) (sql : List ℕ) (answer : Result A Error) (fault : CompileError)

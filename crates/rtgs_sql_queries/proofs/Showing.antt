@@ -1,6 +1,6 @@
 -- What the query of one whole table shows, and what it leaves.
-use Rattle.std.proofs.Common.{◌≡◌, ◌⊎◌, inl, inr, ℕ, ℤ, List, [], ◌∷◌, map, filter, true, false, Ok, Err, Result}
-use Rattle.std.proofs.Common.{Option, None, cond, unwrap_or, nat_le, ◌^◌, IsTrue, IfOk, IfErr, OnOk, Vec, Global, refl}
+use Rattle.std.proofs.Common.{◌≡◌, inl, inr, ℕ, ℤ, List, [], ◌∷◌, map, filter, true, false, Ok, Err, Result}
+use Rattle.std.proofs.Common.{Option, None, cond, unwrap_or, nat_le, ◌^◌, IfOk, IfErr, Vec, Global, refl}
 use Rattle.std.proofs.Common.{sym, ap, subst, ◌∙◌}
 use Rattle.std.specs.List.Sorted.{IsPermutation}
 use Rattle.std.proofs.lemmas.List.Sorted.{IsPermutation-trans}
@@ -22,8 +22,8 @@ use Rattle.sqlite.specs.Table.{Table}
 use Rattle.sqlite.specs.Tree.{Trees, IsAscending}
 use Rattle.sqlite_schema.specs.Names.{place_of}
 use Rattle.sqlite.specs.Effect.{Database}
-use Rattle.sqlite.specs.State.{State, Shown, IsUnchanged, IsRolledBack}
-use Rattle.sqlite.proofs.Callers.{reads_as, IsPlain}
+use Rattle.sqlite.specs.State.{State, Shown}
+use Rattle.sqlite.proofs.Callers.{reads_as}
 use Rattle.sqlite.specs.Listing.{reads_listing}
 use Rattle.sqlite_typing.specs.Types.{accepts_program}
 use Rattle.rtgs_book.specs.declared.Book.{Book}
@@ -34,13 +34,13 @@ use Rattle.rtgs_sql_columns.specs.Tables.{column_names, query_text}
 use Rattle.rtgs_rows.specs.Content.{Content, RestsIn, tables_of_in}
 use Rattle.rtgs_rows.specs.Querying.{IsFileIn, picked, ShowsTable}
 use Rattle.rtgs_sql_queries.specs.Records.{AreRead}
-use Rattle.rtgs_sql_queries.specs.Answering.{FailsAmid, KeepsTables}
+use Rattle.rtgs_sql_queries.specs.Answering.{FailsAmid}
 use Rattle.rtgs_sql_queries.specs.Faults.{IsOfStore}
 use Rattle.rtgs_sql_queries.proofs.Versions.{asks_in}
 use Rattle.rtgs_sql_queries.specs.TableQueries.{IsTableQuery, AsksTable, IsOneQuery, ShowsOwn, whole_table}
 use Rattle.rtgs_sql_queries.specs.TableQueries.{rising_by, shown_columns}
-use Rattle.rtgs_sql_queries.proofs.Refusals.{of_store, intact}
-use Rattle.rtgs_sql_queries.proofs.Resting.{keeps, schema_of}
+use Rattle.rtgs_sql_queries.proofs.Refusals.{of_store}
+use Rattle.rtgs_sql_queries.proofs.Resting.{schema_of}
 use Rattle.rtgs_sql_columns.specs.OneTable.{simple, passes, shows, Sorts, OneTableAnswers}
 
 -- it sums nothing, so nothing in it is too large
@@ -48,24 +48,6 @@ overflows_never : (t : ℕ) (project : List Term) (order : List (Term × Key)) (
     → ¬ QueryOverflows (simple t [] project order) db params
 overflows_never t project order db params (inl none) = none
 overflows_never t project order db params (inr some) = some.4
-
--- the tables are kept, where the connection stays open
-pub file_on : {version : ℕ} (trees : Trees) (old new : State) → IsFileIn version trees old
-    → IsUnchanged old new ⊎ IsRolledBack old new → IsTrue new.is_open → IsFileIn version trees new
-file_on trees old new file (inl same) alive = record {
-  known = file.known;
-  is_open = alive;
-  schema = ap (λ (d : Database). d.schema) same.0.committed_is ∙ file.schema;
-  trees_are = ap (λ (d : Database). d.trees) same.0.committed_is ∙ file.trees_are;
-  clean = same.0.now_is ∙ file.clean ∙ sym same.0.committed_is;
-}
-file_on trees old new file (inr back) alive = record {
-  known = file.known;
-  is_open = alive;
-  schema = ap (λ (d : Database). d.schema) (back.undone alive).1 ∙ file.schema;
-  trees_are = ap (λ (d : Database). d.trees) (back.undone alive).1 ∙ file.trees_are;
-  clean = (back.undone alive).0 ∙ sym (back.undone alive).1;
-}
 
 all_pass : (rows : List Row) → filter (passes [] []) rows ≡ rows
 all_pass [] = refl
@@ -85,13 +67,6 @@ module _ (t : Table) {own : Schema} (is : AsksTable t own) (old new : State) (sc
   asked = subst (λ k. IsOneQuery k (query_text t) 0 (record { lets = []; body = whole_table t }) (column_names t))
       (sym schema_is) is.asks
 
-  unchanged : (rows : List Row) → Shown (query_text t) [] old new rows → IsUnchanged old new
-  unfolding Shown
-  unchanged rows h =
-      let bare = subst IsPlain h.1.is asked.plain in
-      let it = rw bare.0 at h.2 in
-      it.3
-
   pub refused : (r : Result (Vec Row Global) Error) → IfErr r (FailsAmid (query_text t) old new) → IfErr r IsOfStore
   refused (Ok rows) h = tt
   refused (Err e) (inl early) = of_store (query_text t) [] old new _ (column_names t) asked e
@@ -99,13 +74,6 @@ module _ (t : Table) {own : Schema} (is : AsksTable t own) (old new : State) (sc
       (subst (λ s. accepts_program s [] (whole_table t) [] ≡ true) (sym schema_is) is.typed)
       (overflows_never t.tree (shown_columns (places t)) (rising_by (place_of t 0)) (overlay old.now.trees []) []) early
   refused (Err e) (inr memory) = subst IsOfStore (sym memory.0) tt
-
-  -- nothing was changed, or all was rolled back
-  left : (r : Result (Vec Row Global) Error) → IfOk r (λ rows. Shown (query_text t) [] old new rows.items)
-      → IfErr r (FailsAmid (query_text t) old new) → IsUnchanged old new ⊎ IsRolledBack old new
-  left (Ok rows) shown failed = inl (unchanged rows.items shown)
-  left (Err e) shown (inl early) = intact (query_text t) [] old new _ (column_names t) asked e early
-  left (Err e) shown (inr memory) = inl memory.1
 
   sorted : OneTableAnswers → (rows : List Row) → Shown (query_text t) [] old new rows
       → Sorts (whole_table t) [] (old.now.trees t.tree) rows
@@ -115,18 +83,6 @@ module _ (t : Table) {own : Schema} (is : AsksTable t own) (old new : State) (sc
       (answers.sorted t.tree [] (shown_columns (places t)) (rising_by (place_of t 0)) _ [] rows (read.answer Null))
 
 module _ (t : Table) (is : IsTableQuery t) (version : ℕ) (has : HasTable version t) (old new : State) where
-  pub intact_after : (r : Result (Vec Row Global) Error) → IfOk r (λ rows. Shown (query_text t) [] old new rows.items)
-      → IfErr r (FailsAmid (query_text t) old new) → IsTrue new.is_open → KeepsTables version old new
-  intact_after r shown failed alive = keeps old new (λ trees file. file_on trees old new file
-      (left t (asks_in t is version has) old new (schema_of trees old file) r shown failed) alive)
-
-  pub kept_after : (r : Result (Vec Row Global) Error) → IfOk r (λ rows. Shown (query_text t) [] old new rows.items)
-      → OnOk r (KeepsTables version old new)
-  kept_after (Ok rows) shown = keeps old new (λ trees file.
-      let same = unchanged t (asks_in t is version has) old new (schema_of trees old file) rows.items shown in
-      file_on trees old new file (inl same) same.0.is_open)
-  kept_after (Err e) shown = tt
-
   -- it shows the columns that it names, of each row of the table
   pub shows_all : OneTableAnswers → (trees : Trees) → IsFileIn version trees old → (r : Result (Vec Row Global) Error)
       → IfOk r (λ rows. Shown (query_text t) [] old new rows.items)

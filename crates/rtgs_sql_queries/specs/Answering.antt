@@ -1,5 +1,5 @@
 -- What a query leaves, and why it fails.
-use Rattle.std.specs.Prelude.{◌≡◌, ◌⊎◌, ℕ, false, List, [], None, Ok, Err, Result, Vec, OnOk, IsTrue}
+use Rattle.std.specs.Prelude.{◌≡◌, ◌⊎◌, ℕ, false, List, [], None, Ok, Err, Result, Vec, IfErr, OnOk, IsTrue}
 use Rattle.std.specs.Global.{Global}
 use Rattle.sqlite.specs.Order.{Row}
 use Rattle.sqlite.specs.Tree.{Trees}
@@ -15,6 +15,7 @@ use Rattle.sqlite.specs.declared.error.ErrorCode.TheVariants.{OutOfMemory}
 use Rattle.sqlite_syntax.specs.declared.statement.Parsed.{Parsed}
 use Rattle.sqlite_resolve.specs.Lowering.{Checked}
 use Rattle.sqlite_resolve.specs.Compile.{returning}
+use Rattle.rtgs_sql_queries.specs.Faults.{IsOfStore}
 
 -- the statement gives back no rows of a write
 abbrev pub Returnless : Checked Parsed → Type 0
@@ -25,17 +26,18 @@ Returnless (Err e) = Unit {0}
 abbrev pub FailsAmid : List ℕ → State → State → Error → Type 0
 FailsAmid text old new e = FailsToQuery text [] old new e ⊎ ((e ≡ SqliteFailure OutOfMemory) × IsUnchanged old new)
 
--- the tables of this version stay, whatever their rows are, and so do the records that they hold
-pub record KeepsTables (version : ℕ) (old new : State) : Type 0 where
-  pub file : (trees : Trees) → IsFileIn version trees old → IsFileIn version trees new
-  pub rests : (content : Content) → RestsIn version content old → RestsIn version content new
+-- the tables stay, of whichever version they are and whatever their rows are, and so do the records that they hold
+pub record KeepsTables (old new : State) : Type 0 where
+  pub file : (version : ℕ) (trees : Trees) → IsFileIn version trees old → IsFileIn version trees new
+  pub rests : (version : ℕ) (content : Content) → RestsIn version content old → RestsIn version content new
 
--- what a query leaves: nothing is written, and the tables of these versions stay where the connection stays open
-pub record IsQuery {S : Type 0} (g : Ghosts S) (Over : ℕ → Type 0) (old new : Held S)
-    (result : Result (Vec Row Global) Error) : Type 0 where
+-- what a query leaves: nothing is written, and the tables stay where the connection stays open, and after an error that
+-- is not of the store
+pub record IsQuery {S : Type 0} (g : Ghosts S) (old new : Held S) (result : Result (Vec Row Global) Error)
+    : Type 0 where
   pub survives : Survives (state g old) (state g new) (λ _. ⊥)
   pub mode : old.in_transaction ≡ false → new.in_transaction ≡ false
-  pub kept : (version : ℕ) → Over version → HasCleanDisk (state g new)
-      → OnOk result (KeepsTables version (state g old) (state g new))
-  pub intact : (version : ℕ) → Over version → HasCleanDisk (state g new) → IsTrue (state g new).is_open
-      → KeepsTables version (state g old) (state g new)
+  pub kept : HasCleanDisk (state g new) → OnOk result (KeepsTables (state g old) (state g new))
+  pub intact : HasCleanDisk (state g new) → IsTrue (state g new).is_open → KeepsTables (state g old) (state g new)
+  pub foreign : HasCleanDisk (state g new)
+      → IfErr result (λ error. ¬ IsOfStore error → KeepsTables (state g old) (state g new))

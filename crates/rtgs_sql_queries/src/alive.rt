@@ -1,5 +1,5 @@
 //! Whether a connection has stayed open.
-ghost use Rattle.std.specs.Prelude.{◌≡◌, ℕ, false, IsTrue};
+ghost use Rattle.std.specs.Prelude.{◌≡◌, false, IsTrue};
 ghost use Rattle.rtgs_sql_queries.specs.Answering.{KeepsTables};
 ghost use Rattle.rtgs_sql_queries.specs.Faults.{LookFailed};
 ghost use Rattle.sqlite.specs.State.{HasCleanDisk, IsUnchanged, Survives};
@@ -18,7 +18,7 @@ pub fn is_alive<S: Alter>(conn: &mut Connection<S>) -> bool
     ensures alive { HasCleanDisk (state S.Store conn.new) → IsTrue result
         → IsUnchanged (state S.Store conn.old) (state S.Store conn.new) }
     ensures kept { HasCleanDisk (state S.Store conn.new) → IsTrue result → IsTrue (state S.Store conn.old).is_open
-        × ((version : ℕ) → KeepsTables version (state S.Store conn.old) (state S.Store conn.new)) }
+        × KeepsTables (state S.Store conn.old) (state S.Store conn.new) }
     ensures dead { HasCleanDisk (state S.Store conn.new) → result ≡ false
         → LookFailed (state S.Store conn.old) (state S.Store conn.new) }
     ensures survives { Survives (state S.Store conn.old) (state S.Store conn.new) (λ _. ⊥) }

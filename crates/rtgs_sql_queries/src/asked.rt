@@ -1,6 +1,6 @@
 //! The rows of a query with parameters.
 ghost use Rattle.std.specs.Prelude.{◌≡◌, ℕ, List, [], length, IfOk};
-ghost use Rattle.rtgs_rows.specs.Tables.{IsCurrent, desk_schema};
+ghost use Rattle.rtgs_rows.specs.Tables.{desk_schema};
 ghost use Rattle.rtgs_sql_queries.specs.Answering.{IsQuery, Returnless};
 ghost use Rattle.rtgs_sql_queries.specs.TableQueries.{Seeks};
 ghost use Rattle.sqlite.specs.Values.{bound};
@@ -19,8 +19,7 @@ pub fn asked_rows<S: Alter>(
     text: &str,
     params: &[ValueRef<'_>],
 ) -> Result<Vec<Row>, Error>
-    ensures asks { (query : Query) (names : List (List ℕ)) → Seeks text.now (length (bound params.now)) query names
-        → Returnless (first text.now) → IsQuery S.Store IsCurrent conn.old conn.new result }
+    ensures asks { Returnless (first text.now) → IsQuery S.Store conn.old conn.new result }
     ensures rows { HasCleanDisk (state S.Store conn.new) → (query : Query) (names : List (List ℕ))
         → Seeks text.now (length (bound params.now)) query names → (state S.Store conn.old).now.schema ≡ desk_schema
         → IfOk result (λ rows. IsAnswer query (overlay (state S.Store conn.old).now.trees []) (bound params.now)

@@ -39,7 +39,7 @@ pub fn table_rows<T: TableRow, S: Alter>(
         × ((state S.Store conn.new).now ≡ (state S.Store conn.old).now)) }
     ensures unanswered { HasCleanDisk (state S.Store conn.new) → IfErr result (λ error.
         IsOfStore error ⊎ HasNoAnswer (state S.Store conn.old).now (query_text T.records.table)) }
-    ensures asks { IsQuery S.Store (λ version. HasTable version T.records.table) conn.old conn.new result }
+    ensures asks { IsQuery S.Store conn.old conn.new result }
     ensures honest { HasCleanDisk (state S.Store conn.new) → HasCleanDisk (state S.Store conn.old) }
 {
     one_table_answers();

@@ -1,7 +1,8 @@
 -- What CREATE TABLE does.
-use Rattle.std.proofs.Common.{◌≡◌, ℕ, ◌+◌, pos, List, [], ◌∷◌, ◌++◌, map, true, false, Option, None, Ok}
-use Rattle.std.proofs.Common.{Err, Result, OnOk, refl, sym, ap, subst, ◌∙◌, arith}
-use Rattle.std.specs.List.{AllByRecursion}
+use Rattle.std.proofs.Common.{◌≡◌, ℕ, ◌+◌, ◌-◌, ◌≤◌, pos, List, [], ◌∷◌, ◌++◌, map, replicate, true, false, Option}
+use Rattle.std.proofs.Common.{None, Ok, Err, Result, OnOk, refl, sym, ap, ap₂, subst, ◌∙◌, arith}
+use Rattle.std.proofs.lemmas.Grind.{common_steps}
+use Rattle.rtgs_lists.proofs.Lists.{map_push}
 use Rattle.sqlite.specs.Order.{Row}
 use Rattle.sqlite.specs.declared.error.Error.{Error}
 use Rattle.sqlite.specs.Table.{Table}
@@ -15,8 +16,8 @@ use Rattle.sqlite.specs.Tree.{Trees}
 use Rattle.sqlite.specs.Effect.{Database, value_rows}
 use Rattle.sqlite.specs.State.{State, mode_of, HasCleanDisk, Survives, Writes, ExecutesInside}
 use Rattle.sqlite.proofs.Callers.{runs_as}
-use Rattle.rtgs_rows.specs.Tables.{no_schema, desk_schema, with_tables, desk_table, current_tables, schema_in}
-use Rattle.rtgs_rows.specs.Content.{tables_of, tables_for, IsUnderWay}
+use Rattle.rtgs_rows.specs.Tables.{desk_schema, with_tables, desk_table, table_count, schema_in}
+use Rattle.rtgs_rows.specs.Content.{Tables, IsUnderWay, rows_in}
 use Rattle.rtgs_rows.specs.Keeping.{first_content}
 use Rattle.rtgs_rows.specs.Rows.{day_row}
 use Rattle.rtgs_rows.specs.declared.numbers.TheConstants.{VERSION}
@@ -30,7 +31,7 @@ use Rattle.sqlite_catalog.specs.Listing.{IsSound}
 use Rattle.sqlite_trees.specs.declared.store.Store.{Ghosts}
 use Rattle.sqlite.specs.Held.{Held, state}
 use Rattle.rtgs_sql_writes.proofs.Casts.{cast_null, cast_int}
-use Rattle.rtgs_sql_writes.proofs.StateLemmas.{frame_but, framed, with_rows}
+use Rattle.rtgs_sql_writes.proofs.StateLemmas.{framed, with_rows}
 use Rattle.rtgs_sql_writes.specs.declared.create.TheConstants.{FIRST_DAY}
 use Rattle.rtgs_sql_writes.proofs.CreateTexts.{first_terms, first_day_means}
 use Rattle.rtgs_sql_writes.proofs.Writing.{inserted}
@@ -63,19 +64,16 @@ makes limit mode params db text table tally after defined plain h =
       others = subst (λ (d : Database). KeepsRows db.schema.tables db.trees d.trees) (sym now) made.others;
     }
 
-still_empty : (tables : List Table) (old new : Trees) → KeepsRows tables old new
-    → AllByRecursion (λ t. old t.tree ≡ []) tables → AllByRecursion (λ t. new t.tree ≡ []) tables
-still_empty [] old new kept empty = tt
-still_empty (t ∷ more) old new kept empty = (kept.0 ∙ empty.0, still_empty more old new kept.1 empty.1)
+kept_rows : (tables : List Table) (old new : Trees) → KeepsRows tables old new
+    → map (λ (t : Table). new t.tree) tables ≡ map (λ (t : Table). old t.tree) tables
+kept_rows [] old new kept = refl
+kept_rows (t ∷ tables) old new kept = ap₂ ◌∷◌ kept.0 (kept_rows tables old new kept.1)
 
-one_more : (tables : List Table) (table : Table) (new : Trees) → AllByRecursion (λ t. new t.tree ≡ []) tables
-    → new table.tree ≡ [] → AllByRecursion (λ t. new t.tree ≡ []) (tables ++ table ∷ [])
-one_more [] table new all one = (one, tt)
-one_more (t ∷ more) table new all one = (all.0, one_more more table new all.1 one)
-
-built : (was : Database) (at : ℕ) (old new : State) (text : List ℕ) (count : ℕ) → IsBuilt was (with_tables at) old
-    → MakesTable at text → ExecutesInside 0 text [] old new (Ok count) → IsBuilt was (with_tables (at + 1)) new
-built was at old new text count is it h =
+built : (was : Database) (at : ℕ) (rows : Tables) (old new : State) (text : List ℕ) (count : ℕ)
+    → IsBuilt was at rows old → MakesTable at text → ExecutesInside 0 text [] old new (Ok count)
+    → IsBuilt was (at + 1) (rows ++ [] ∷ []) new
+unfolding with_tables
+built was at rows old new text count is it h =
     let schema = with_tables at in
     let w = subst (λ t. Writes old new None CreateTable t [] count) it.whole
     (runs_as text [] old new schema is.schema_is CreateTable it.command it.plain count h.0) in
@@ -84,76 +82,84 @@ built was at old new text count is it h =
     (Ok (w.tally, new.now))) is.schema_is w.changed in
     let made = makes old.step_limit (mode_of old) [] db text (unplaced at) w.tally new.now it.defined
     (ap lacks_sequence it.is ∙ it.uncounted) done in
+    let table : Table = record (unplaced at) { tree = next_tree schema } in
+    let stored : map (λ (t : Table). new.now.trees t.tree) (schema.tables ++ table ∷ []) ≡ rows ++ [] ∷ [] =
+    map_push (λ (t : Table). new.now.trees t.tree) schema.tables table
+    ∙ ap₂ (λ (a b : Tables). a ++ b) (kept_rows schema.tables old.now.trees new.now.trees made.others ∙ is.rows_are)
+    (ap (λ (r : List Row). r ∷ []) made.empty) in
     record {
       is_open = h.1.is_open;
       inside = h.1.mode;
       schema_is = made.schema ∙ it.is;
-      empty = subst (λ (s : Schema). AllByRecursion (λ t. new.now.trees t.tree ≡ []) s.tables) it.is
-          (one_more schema.tables (record (unplaced at) { tree = next_tree schema }) new.now.trees
-          (still_empty schema.tables old.now.trees new.now.trees made.others is.empty) made.empty);
+      rows_are = subst (λ (s : Schema). map (λ (t : Table). new.now.trees t.tree) s.tables ≡ rows ++ [] ∷ [])
+          it.is stored;
       committed = h.1.committed_is ∙ is.committed;
     }
 
-pub builds : (was : Database) (at : ℕ) (old new : State) (text : List ℕ) (r : Result ℕ Error)
-    → IsBuilt was (with_tables at) old → MakesTable at text → ExecutesInside 0 text [] old new r
-    → OnOk r (IsBuilt was (with_tables (at + 1)) new)
-builds was at old new text (Ok count) is it h = built was at old new text count is it h
-builds was at old new text (Err e) is it h = tt
+pub builds : (was : Database) (at : ℕ) (rows : Tables) (old new : State) (text : List ℕ) (r : Result ℕ Error)
+    → IsBuilt was at rows old → MakesTable at text → ExecutesInside 0 text [] old new r
+    → OnOk r (IsBuilt was (at + 1) (rows ++ [] ∷ []) new)
+builds was at rows old new text (Ok count) is it h = built was at rows old new text count is it h
+builds was at rows old new text (Err e) is it h = tt
+
+-- with one more table than those from a place on
+pub built_on : (was : Database) (from at : ℕ) (rows : Tables) (s : State) → from ≤ at
+    → IsBuilt was (at + 1) ((rows ++ replicate (at - from) []) ++ [] ∷ []) s
+    → IsBuilt was (at + 1) (rows ++ replicate (at + 1 - from) []) s
+built_on was from at rows s low is =
+    let next : at + 1 - from ≡ (at - from) + 1 = omega (arith, low) in
+    let more : (rows ++ replicate (at - from) []) ++ [] ∷ [] ≡ rows ++ replicate ((at - from) + 1) [] =
+    grind (arith, common_steps) in
+    rw next (subst (λ r. IsBuilt was (at + 1) r s) more is)
+
+-- the tables of the newest version are all that are made
+pub newest : with_tables (table_count VERSION) ≡ desk_schema
+unfolding with_tables schema_in
+newest = refl
 
 abbrev pub first_given : Row
 first_given = Int (pos VERSION) ∷ []
 
 first_edit : (trees : Trees) → trees desk_table.tree ≡ [] → edited trees (edit_of trees desk_table [] Chosen 0
     (value_rows (stamped desk_table first_given) 5 1 first_terms)) ≡ (day_row VERSION first_content.day ∷ [])
-first_edit trees none = rw (cast_int (pos 1), cast_null, cast_int (pos 0), none)
+first_edit trees none = rw (cast_int (pos 1), cast_int (pos VERSION), cast_null, cast_int (pos 0), none)
 
-all_empty : (trees : Trees) (tables : List Table) → AllByRecursion (λ t. trees t.tree ≡ []) tables
-    → map (λ (t : Table). trees t.tree) tables ≡ map (λ _. []) tables
-all_empty trees [] none = refl
-all_empty trees (t ∷ tables) none = λ i. none.0 i ∷ all_empty trees tables none.1 i
-
-first_frame : (old new : Trees) → AllByRecursion (λ t. old t.tree ≡ []) desk_schema.tables
-    → frame_but desk_table.tree old new → new desk_table.tree ≡ (day_row VERSION first_content.day ∷ [])
-    → tables_of new ≡ tables_for first_content
-unfolding schema_in
-first_frame old new none others here = framed desk_table.tree old new _ here others
-    ∙ ap (with_rows desk_table (day_row VERSION first_content.day ∷ [])) (all_empty old current_tables none)
-
-desk_empty : (trees : Trees) → AllByRecursion (λ t. trees t.tree ≡ []) desk_schema.tables → trees desk_table.tree ≡ []
-unfolding schema_in
-desk_empty trees none = none.0
-
-begun : (was : Database) (old new : State) (count : ℕ) → IsBuilt was desk_schema old
+begun : (was : Database) (old new : State) (count : ℕ)
+    → IsBuilt was (table_count VERSION) (replicate (table_count VERSION) []) old
     → ExecutesInside 0 FIRST_DAY.now first_given old new (Ok count) → IsUnderWay was first_content new
 begun was old new count is h =
-    let made = inserted FIRST_DAY.now 0 (omega arith) old new first_given count is.schema_is h.0 first_terms 5
-    first_day_means in
+    let made = inserted FIRST_DAY.now 0 (omega arith) old new first_given count (is.schema_is ∙ newest) h.0
+    first_terms 5 first_day_means in
+    let none : old.now.trees desk_table.tree ≡ [] = ap (rows_in desk_table) is.rows_are in
     let rows : new.now.trees desk_table.tree ≡ (day_row VERSION first_content.day ∷ []) = made.rows
-    ∙ first_edit old.now.trees (desk_empty old.now.trees is.empty) in
+    ∙ first_edit old.now.trees none in
     record {
       is_open = h.1.is_open;
       inside = h.1.mode;
       schema = made.schema;
       holds = record {
         sound = subst (λ s. IsSound s new.now.trees) made.schema made.sound;
-        rows = first_frame old.now.trees new.now.trees is.empty made.frame rows;
+        rows = framed desk_table.tree old.now.trees new.now.trees _ rows made.frame
+            ∙ ap (with_rows desk_table (day_row VERSION first_content.day ∷ [])) is.rows_are;
       };
       committed = h.1.committed_is ∙ is.committed;
     }
 
 pub begins : (was : Database) (old new : State) (r : Result ℕ Error) (values : Row) → values ≡ first_given
-    → IsBuilt was desk_schema old → ExecutesInside 0 FIRST_DAY.now values old new r
+    → IsBuilt was (table_count VERSION) (replicate (table_count VERSION) []) old
+    → ExecutesInside 0 FIRST_DAY.now values old new r
     → OnOk r (IsUnderWay was first_content new)
 begins was old new (Ok count) values same is h = begun was old new count is
     (subst (λ all. ExecutesInside 0 FIRST_DAY.now all old new (Ok count)) same h)
 begins was old new (Err e) values same is h = tt
 
 pub built_begun : {S : Type 0} (g : Ghosts S) (h : Held S) → IsBlank (state g h)
-    → IsBuilt (state g h).committed no_schema (state g (record h { in_transaction = true }))
+    → IsBuilt (state g h).committed 0 [] (state g (record h { in_transaction = true }))
+unfolding with_tables
 built_begun g h blank = record {
   is_open = blank.is_open;
   inside = refl;
   schema_is = ap (λ (d : Database). d.schema) blank.clean ∙ blank.schema;
-  empty = tt;
+  rows_are = refl;
   committed = refl;
 }

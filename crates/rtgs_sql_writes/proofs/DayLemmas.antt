@@ -63,6 +63,7 @@ edit trees old day rows are same =
     rw (
       one,
       cast_int (pos 1),
+      cast_int (pos VERSION),
       cast_null,
       cast_date day.date,
       cast_int (pos (phase_number day.phase)),

@@ -14,5 +14,6 @@ pub mod DayLemmas
 pub mod HoldingLemmas
 pub mod Changing
 pub mod Leading
+pub mod UpgradeLemmas
 pub mod CreateTexts
 pub mod CreateLemmas

@@ -1,6 +1,7 @@
 -- Lists, and rows in the order of their row numbers.
-use Rattle.std.proofs.Common.{◌≡◌, ℕ, zero, suc, ◌<◌, ℤ, List, [], ◌∷◌, ◌++◌, map, get_or, length, refl, ap, arith}
-use Rattle.std.specs.List.{AllByRecursion}
+use Rattle.std.proofs.Common.{◌≡◌, ℕ, zero, suc, ◌<◌, ◌≤◌, ℤ, Bool, true, false, ◌||◌, List, [], ◌∷◌, ◌++◌, map, drop}
+use Rattle.std.proofs.Common.{get_or, length, refl, ap, arith}
+use Rattle.std.specs.List.{AllByRecursion, list_any}
 use Rattle.std.specs.Ordering.{int_cmp}
 use Rattle.std.specs.declared.cmp.Ordering.TheVariants.{Less}
 use Rattle.sqlite.specs.declared.types.Value.TheVariants.{Int}
@@ -35,3 +36,18 @@ pub each_at : {A : Type 0} (P : ℕ → A → Type 0) (xs : List A) → EachAt P
 each_at P [] each at d low = absurd (omega arith)
 each_at P (x ∷ xs) each zero d low = each.0
 each_at P (x ∷ xs) each (suc at) d low = each_at (λ n. P (suc n)) xs each.1 at d (omega arith)
+
+or_true : (b c : Bool) → c ≡ true → (b || c) ≡ true
+or_true true c is = refl
+or_true false c is = is
+
+-- where one from a place on passes, there is one that does
+pub some_from : {A : Type 0} (p : A → Bool) (xs : List A) (from at : ℕ) (d : A) → from ≤ at → at < length xs
+    → p (get_or xs at d) ≡ true → list_any p (drop from xs) ≡ true
+some_from p [] from at d low within is = absurd (omega (arith, within))
+some_from p (x ∷ xs) zero zero d low within is = rw is
+some_from p (x ∷ xs) zero (suc at) d low within is =
+    or_true (p x) _ (some_from p xs zero at d (omega arith) (omega (arith, within)) is)
+some_from p (x ∷ xs) (suc from) zero d low within is = absurd (omega (arith, low))
+some_from p (x ∷ xs) (suc from) (suc at) d low within is =
+    some_from p xs from at d (omega (arith, low)) (omega (arith, within)) is

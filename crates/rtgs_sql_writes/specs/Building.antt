@@ -1,6 +1,6 @@
 -- The tables as they are made.
-use Rattle.std.specs.Prelude.{◌≡◌, ℕ, ◌+◌, true, false, List, [], get_or, Ok, IsTrue}
-use Rattle.std.specs.List.{AllByRecursion}
+use Rattle.std.specs.Prelude.{◌≡◌, ℕ, ◌+◌, Bool, true, false, List, get_or, map, take, drop, Ok, IsTrue}
+use Rattle.std.specs.List.{list_any}
 use Rattle.sqlite.specs.Table.{Table}
 use Rattle.sqlite.specs.Schema.{Schema}
 use Rattle.sqlite.specs.Command.TheVariants.{CreateTable}
@@ -12,15 +12,21 @@ use Rattle.sqlite.specs.Does.{lacks_sequence}
 use Rattle.sqlite.specs.Listing.{understood}
 use Rattle.sqlite.specs.Given.{IsPlain}
 use Rattle.sqlite.proofs.Callers.{command_of, statement_of}
-use Rattle.rtgs_rows.specs.Tables.{desk_table, current_tables, with_tables}
+use Rattle.sqlite_catalog.specs.Change.{is_used}
+use Rattle.rtgs_rows.specs.Content.{Tables}
+use Rattle.rtgs_rows.specs.Tables.{desk_table, known_tables, current_tables, with_tables, table_count}
 
--- inside a transaction, with these tables, all of them empty
-pub record IsBuilt (was : Database) (schema : Schema) (s : State) : Type 0 where
+-- inside a transaction, with the first tables, so many, and these rows in them
+pub record IsBuilt (was : Database) (count : ℕ) (rows : Tables) (s : State) : Type 0 where
   pub is_open : IsTrue s.is_open
   pub inside : s.in_transaction ≡ true
-  pub schema_is : s.now.schema ≡ schema
-  pub empty : AllByRecursion (λ t. s.now.trees t.tree ≡ []) schema.tables
+  pub schema_is : s.now.schema ≡ with_tables count
+  pub rows_are : map (λ (t : Table). s.now.trees t.tree) (take count known_tables) ≡ rows
   pub committed : s.committed ≡ was
+
+-- whether something of the schema has the name of a table that the version lacks
+abbrev pub takes_a_name : ℕ → Schema → Bool
+takes_a_name version schema = list_any (λ (t : Table). is_used schema t.name) (drop (table_count version) known_tables)
 
 -- the table at that place
 abbrev pub table_at : ℕ → Table

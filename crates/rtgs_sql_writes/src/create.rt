@@ -1,8 +1,8 @@
 //! The tables of a new book.
-ghost use Rattle.std.specs.Prelude.{◌≡◌, ℕ, ◌+◌, false, IsTrue, OnOk, IfErr};
+ghost use Rattle.std.specs.Prelude.{◌≡◌, ◌≤◌, ℕ, ◌+◌, ◌-◌, [], ◌∷◌, ◌++◌, replicate, false, IsTrue, OnOk, IfErr};
 ghost use Rattle.sqlite.specs.Effect.{Database};
-ghost use Rattle.rtgs_rows.specs.Tables.{no_schema, desk_schema, with_tables};
-ghost use Rattle.rtgs_rows.specs.Content.{Holds, IsUnderWay, Rests};
+ghost use Rattle.rtgs_rows.specs.Tables.{table_count};
+ghost use Rattle.rtgs_rows.specs.Content.{Tables, Holds, IsUnderWay, Rests};
 ghost use Rattle.rtgs_rows.specs.Keeping.{first_content};
 ghost use Rattle.rtgs_sql_writes.specs.Stops.{IsBefore};
 ghost use Rattle.rtgs_sql_columns.specs.Blank.{IsBlank};
@@ -41,30 +41,61 @@ const MARK: &str =
     "CREATE TABLE mark (number INTEGER PRIMARY KEY, date TEXT NOT NULL, many INTEGER NOT NULL, \
      value INTEGER NOT NULL) STRICT";
 
-/// The texts that make the tables, in their order.
-const TABLES: [&str; 5] = [DESK, PARTICIPANT, POSTING, PAYMENT, MARK];
+/// The due dates of orders for a later date.
+const FORWARD: &str = "CREATE TABLE forward (number INTEGER PRIMARY KEY, due TEXT NOT NULL) STRICT";
+
+/// The names of the tables, in their order. Each version after the first adds one.
+pub(crate) const NAMES: [&str; 6] = [
+    "desk",
+    "participant",
+    "posting",
+    "payment",
+    "mark",
+    "forward",
+];
+
+/// The texts that make them, in the same order.
+const TABLES: [&str; 6] = [DESK, PARTICIPANT, POSTING, PAYMENT, MARK, FORWARD];
 
 /// The one row of a new desk.
 const FIRST_DAY: &str = "INSERT INTO desk (id, version, phase) VALUES (1, ?1, 0)";
 
 /// Makes one more table.
-fn create_table<S: Alter>(tx: &mut Transaction<'_, S>, sql: &str) -> Result<usize, Error>
+fn create_table<S: Alter>(tx: &mut Transaction<'_, S>, text: &str) -> Result<usize, Error>
     ensures same_reference { tx.new.conn.ghost_name ≡ tx.old.conn.ghost_name }
-    ensures made { HasCleanDisk (state S.Store tx.new.conn.now) → (was : Database) (at : ℕ)
-        → IsBuilt was (with_tables at) (state S.Store tx.old.conn.now) → MakesTable at sql.now
-        → OnOk result (IsBuilt was (with_tables (at + 1)) (state S.Store tx.new.conn.now)) }
+    ensures made { HasCleanDisk (state S.Store tx.new.conn.now) → (was : Database) (at : ℕ) (rows : Tables)
+        → IsBuilt was at rows (state S.Store tx.old.conn.now) → MakesTable at text.now
+        → OnOk result (IsBuilt was (at + 1) (rows ++ [] ∷ []) (state S.Store tx.new.conn.now)) }
     ensures kept { HasCleanDisk (state S.Store tx.new.conn.now)
         → KeepsCommit (state S.Store tx.old.conn.now) (state S.Store tx.new.conn.now) }
     ensures survives { Survives (state S.Store tx.old.conn.now) (state S.Store tx.new.conn.now) (λ _. ⊥) }
 {
-    tx.execute(sql, &[])
+    tx.execute(text, &[])
+}
+
+/// Makes the tables from this place on, which are empty.
+pub(crate) fn create_from<S: Alter>(tx: &mut Transaction<'_, S>, from: usize) -> Result<(), Error>
+    requires { from ≤ table_count VERSION }
+    ensures same_reference { tx.new.conn.ghost_name ≡ tx.old.conn.ghost_name }
+    ensures made { HasCleanDisk (state S.Store tx.new.conn.now) → (was : Database) (rows : Tables)
+        → IsBuilt was from rows (state S.Store tx.old.conn.now)
+        → OnOk result (IsBuilt was (table_count VERSION) (rows ++ replicate (table_count VERSION - from) [])
+        (state S.Store tx.new.conn.now)) }
+    ensures kept { HasCleanDisk (state S.Store tx.new.conn.now)
+        → KeepsCommit (state S.Store tx.old.conn.now) (state S.Store tx.new.conn.now) }
+    ensures survives { Survives (state S.Store tx.old.conn.now) (state S.Store tx.new.conn.now) (λ _. ⊥) }
+{
+    for at in from..TABLES.len() {
+        create_table(tx, TABLES[at])?;
+    }
+    Ok(())
 }
 
 /// The one row of the desk.
 fn first_day<S: Alter>(tx: &mut Transaction<'_, S>) -> Result<usize, Error>
     ensures same_reference { tx.new.conn.ghost_name ≡ tx.old.conn.ghost_name }
     ensures made { HasCleanDisk (state S.Store tx.new.conn.now) → (was : Database)
-        → IsBuilt was desk_schema (state S.Store tx.old.conn.now)
+        → IsBuilt was (table_count VERSION) (replicate (table_count VERSION) []) (state S.Store tx.old.conn.now)
         → OnOk result (IsUnderWay was first_content (state S.Store tx.new.conn.now)) }
     ensures kept { HasCleanDisk (state S.Store tx.new.conn.now)
         → KeepsCommit (state S.Store tx.old.conn.now) (state S.Store tx.new.conn.now) }
@@ -77,15 +108,13 @@ fn first_day<S: Alter>(tx: &mut Transaction<'_, S>) -> Result<usize, Error>
 fn build<S: Alter>(tx: &mut Transaction<'_, S>) -> Result<(), Error>
     ensures same_reference { tx.new.conn.ghost_name ≡ tx.old.conn.ghost_name }
     ensures made { HasCleanDisk (state S.Store tx.new.conn.now) → (was : Database)
-        → IsBuilt was no_schema (state S.Store tx.old.conn.now)
+        → IsBuilt was 0 [] (state S.Store tx.old.conn.now)
         → OnOk result (IsUnderWay was first_content (state S.Store tx.new.conn.now)) }
     ensures kept { HasCleanDisk (state S.Store tx.new.conn.now)
         → KeepsCommit (state S.Store tx.old.conn.now) (state S.Store tx.new.conn.now) }
     ensures survives { Survives (state S.Store tx.old.conn.now) (state S.Store tx.new.conn.now) (λ _. ⊥) }
 {
-    for sql in TABLES {
-        create_table(tx, sql)?;
-    }
+    create_from(tx, 0)?;
     first_day(tx)?;
     Ok(())
 }

@@ -4,6 +4,8 @@
 mod create;
 mod staging;
 mod statements;
+mod upgrade;
 
 pub use crate::create::create_tables;
 pub use crate::staging::{Stopped, write};
+pub use crate::upgrade::{is_name_taken, upgrade_tables};

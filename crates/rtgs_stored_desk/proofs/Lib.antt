@@ -1,1 +1,2 @@
+pub mod Migrations
 pub mod Resting

@@ -1,5 +1,5 @@
 -- Tables of a store that is at rest.
-use Rattle.std.proofs.Common.{◌≡◌, ◌⊎◌, Result, Ok, Err, refl, sym, subst, inl, inr}
+use Rattle.std.proofs.Common.{◌≡◌, ◌⊎◌, ℕ, Result, Ok, Err, refl, sym, subst, inl, inr}
 use Rattle.std.specs.Result.{IfErr}
 use Rattle.sqlite_catalog.specs.Listing.{IsSound as IsReadBy}
 use Rattle.sqlite_trees.specs.declared.store.Store.{Ghosts}
@@ -14,35 +14,51 @@ use Rattle.rtgs_book.specs.declared.Fault.TheVariants.{OutOfMemory}
 use Rattle.rtgs_book.specs.Books.{new_book}
 use Rattle.rtgs_keeper.specs.declared.commit_fault.CommitFault.{CommitFault}
 use Rattle.rtgs_keeper.specs.declared.commit_fault.CommitFault.TheVariants as commit
-use Rattle.rtgs_rows.specs.Content.{HasNoTables}
+use Rattle.rtgs_rows.specs.Content.{Content, HasNoTables, HoldsIn, RestsIn}
 use Rattle.rtgs_rows.specs.Keeping.{IsBookOf, HoldsBook}
-use Rattle.rtgs_rows.specs.Querying.{IsDeskFile}
+use Rattle.rtgs_rows.specs.Migrating.{IsOlder}
+use Rattle.rtgs_rows.specs.Querying.{IsFileIn}
 use Rattle.rtgs_rows.specs.Settling.{current_is_known}
 use Rattle.rtgs_rows.specs.declared.numbers.TheConstants.{VERSION}
-use Rattle.rtgs_rows.specs.Tables.{no_schema, desk_schema}
+use Rattle.rtgs_rows.specs.Tables.{IsVersion, no_schema, desk_schema, schema_in}
 use Rattle.rtgs_tables.specs.Loading.{ExplainsTrees, ExplainsDatabase}
 use Rattle.rtgs_tables.specs.Building.{IsBlank, IsNoneOrNew, first_content}
-use Rattle.rtgs_stored_desk.specs.Stored.{AreTablesOf, IsAtRest, IsMemoryOrStore, fault_of_making}
+use Rattle.rtgs_stored_desk.specs.Migrated.{AreOlderTablesOf}
+use Rattle.rtgs_stored_desk.specs.Stored.{AreTablesOf, IsAtRest, IsMemoryOrStore}
+use Rattle.rtgs_tables.specs.Faults.{fault_of_commit}
 
 -- trees that are a database of this schema are read with it
 abbrev pub IsReadAs : Schema → Type 0
 IsReadAs schema = (other : Schema) (trees : Trees) → IsReadBy schema trees → IsReadBy other trees → other ≡ schema
 
+-- the records of tables of a version rest there
+resting : (version : ℕ) (s : State) → IsReadAs (schema_in version) → IsAtRest s → IsVersion version
+    → (content : Content) → HoldsIn version content s.committed.trees → RestsIn version content s
+resting version s as_such rest known content holds = record {
+  known = known;
+  is_open = rest.is_open;
+  schema = as_such s.committed.schema s.committed.trees holds.sound rest.sound;
+  holds = holds;
+  clean = rest.clean;
+}
+
 pub held_at_rest : {S : Type 0} (g : Ghosts S) (h : Held S) → IsReadAs desk_schema → IsAtRest (state g h)
     → (book : Book) → AreTablesOf book (state g h).committed.trees → HoldsBook g h book
 held_at_rest g h as_such rest book tables =
-    let s = state g h in (
-      tables.0,
-      record {
-        known = current_is_known;
-        is_open = rest.is_open;
-        schema = as_such s.committed.schema s.committed.trees tables.1.sound
-            rest.sound;
-        holds = tables.1;
-        clean = rest.clean;
-      },
-      tables.2,
-    )
+    (tables.0, resting VERSION (state g h) as_such rest current_is_known tables.0 tables.1, tables.2)
+
+pub older_at_rest : {S : Type 0} (g : Ghosts S) (h : Held S) → ((version : ℕ) → IsReadAs (schema_in version))
+    → IsAtRest (state g h) → (book : Book) (older : AreOlderTablesOf book (state g h).committed.trees)
+    → IsOlder g older.version book h
+older_at_rest g h as_such rest book older =
+    let tells = older.tells in
+    record {
+      earlier = older.earlier;
+      content = tells.content;
+      rests = resting older.version (state g h) (as_such older.version) rest older.known tells.content tells.holds;
+      no_more = tells.no_more;
+      same = tells.same;
+    }
 
 pub blank_at_rest : (s : State) → IsReadAs no_schema → IsAtRest s → HasNoTables s.committed.trees → IsBlank s
 blank_at_rest s as_none rest none = record {
@@ -51,9 +67,10 @@ blank_at_rest s as_none rest none = record {
   clean = rest.clean;
 }
 
-pub file_at_rest : (s : State) → IsAtRest s → s.committed.schema ≡ desk_schema → IsDeskFile s.committed.trees s
-file_at_rest s rest schema = record {
-  known = current_is_known;
+pub file_at_rest : (version : ℕ) (s : State) → IsVersion version → IsAtRest s → s.committed.schema ≡ schema_in version
+    → IsFileIn version s.committed.trees s
+file_at_rest version s known rest schema = record {
+  known = known;
   is_open = rest.is_open;
   schema = schema;
   trees_are = refl;
@@ -73,7 +90,7 @@ pub none_or_new : IsBookOf new_book first_content → (trees : Trees) → IsNone
     → HasNoTables trees ⊎ AreTablesOf new_book trees
 none_or_new is trees left = elim left [ inl none ↦ inl none | inr made ↦ inr (first_content, made, is) ]
 
-pub making_cause : (fault : CommitFault) → IsMemoryOrStore (fault_of_making fault)
+pub making_cause : (fault : CommitFault) → IsMemoryOrStore (fault_of_commit fault)
 making_cause commit.OutOfMemory = inl refl
 making_cause commit.Store = inr refl
 making_cause commit.Failed = inr refl
@@ -92,7 +109,7 @@ pub memory_tells : (db : Database) (fault : Fault) → fault ≡ OutOfMemory
     → ExplainsDatabase VERSION db fault
 memory_tells db fault memory = subst (ExplainsDatabase VERSION db) (sym memory) tt
 
-pub making_memory : (fault : CommitFault) → fault_of_making fault ≡ OutOfMemory → fault ≡ commit.OutOfMemory
+pub making_memory : (fault : CommitFault) → fault_of_commit fault ≡ OutOfMemory → fault ≡ commit.OutOfMemory
 making_memory commit.OutOfMemory told = refl
 making_memory commit.Store told = absurd cc
 making_memory commit.Failed told = absurd cc

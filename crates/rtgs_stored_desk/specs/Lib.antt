@@ -1,1 +1,2 @@
+pub mod Migrated
 pub mod Stored

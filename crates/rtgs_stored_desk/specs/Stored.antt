@@ -12,8 +12,6 @@ use Rattle.rtgs_book.specs.declared.Rule.{Rule}
 use Rattle.rtgs_book.specs.Books.{new_book}
 use Rattle.rtgs_book.specs.Outcome.{Reply}
 use Rattle.rtgs_book.specs.Session.{IsSession}
-use Rattle.rtgs_keeper.specs.declared.commit_fault.CommitFault.{CommitFault}
-use Rattle.rtgs_keeper.specs.declared.commit_fault.CommitFault.TheVariants as commit
 use Rattle.rtgs_keeper.specs.declared.keeper.Keeper.{Ghosts}
 use Rattle.rtgs_rows.specs.Content.{Content, HasNoTables}
 use Rattle.rtgs_rows.specs.Content as rows
@@ -38,12 +36,6 @@ pub record IsAtRest (s : State) : Type 0 where
 
 abbrev pub IsMemoryOrStore : Fault → Type 0
 IsMemoryOrStore fault = (fault ≡ OutOfMemory) ⊎ (fault ≡ StoreFault)
-
--- why no tables were made
-abbrev pub fault_of_making : CommitFault → Fault
-fault_of_making commit.OutOfMemory = OutOfMemory
-fault_of_making commit.Store = StoreFault
-fault_of_making commit.Failed = StoreFault
 
 -- no table, index or view is in the database
 abbrev pub HasNoSchema : State → Type 0

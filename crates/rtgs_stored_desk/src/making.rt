@@ -6,12 +6,11 @@ ghost use Rattle.rtgs_book.specs.Books.{new_book};
 ghost use Rattle.rtgs_rows.specs.Keeping.{HoldsBook};
 ghost use Rattle.rtgs_rows.specs.Tables.{no_schema};
 ghost use Rattle.rtgs_tables.specs.Building.{IsBlank, StaysBlank};
-ghost use Rattle.rtgs_stored_desk.specs.Stored.{IsMade, IsUnmade, fault_of_making};
+ghost use Rattle.rtgs_stored_desk.specs.Stored.{IsMade, IsUnmade};
 
 use rtgs_book::Fault;
-use rtgs_keeper::CommitFault;
 use rtgs_rows::laws::first_rows_are_the_new_book;
-use rtgs_tables::SqlKeeper;
+use rtgs_tables::{SqlKeeper, fault_of_commit};
 use sqlite::{Alter, Connection};
 
 /// Makes the tables of a new book in an empty database, in one transaction. On a fault, which is lack of memory or the
@@ -37,7 +36,7 @@ pub fn make<S: Alter + Drop>(conn: Connection<S>) -> Result<Connection<S>, (Faul
     first_rows_are_the_new_book();
     match SqlKeeper::create(conn) {
         Ok(keeper) => Ok(keeper.into_connection()),
-        Err((fault, conn)) => Err((fault_of(fault), conn)),
+        Err((fault, conn)) => Err((fault_of_commit(fault), conn)),
     }
 }
 
@@ -47,14 +46,4 @@ fn has_no_tables<S: Alter>(conn: &Connection<S>) -> bool
 {
     let schema = conn.schema();
     schema.tables.is_empty() && schema.indexes.is_empty() && schema.views.is_empty()
-}
-
-// Why no tables were made. A store that had failed before makes none either.
-fn fault_of(fault: CommitFault) -> Fault
-    ensures { result ≡ fault_of_making fault }
-{
-    match fault {
-        CommitFault::OutOfMemory => Fault::OutOfMemory,
-        CommitFault::Store | CommitFault::Failed => Fault::StoreFault,
-    }
 }

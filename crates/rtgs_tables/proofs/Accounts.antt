@@ -15,11 +15,10 @@ use Rattle.rtgs_book.specs.Balance.{balance}
 use Rattle.rtgs_book.specs.declared.Participant.{Participant}
 use Rattle.rtgs_book.specs.Lookup.{accounts}
 use Rattle.rtgs_book.specs.Soundness.{CodesRise}
-use Rattle.rtgs_rows.specs.Content.{Holding, Content, Rests, stored_account}
+use Rattle.rtgs_rows.specs.Content.{Holding, Content, RestsIn, stored_account}
 use Rattle.rtgs_book.specs.declared.account.Account.{Account}
 use Rattle.rtgs_rows.specs.Keeping.{IsBookOf, AreBalances}
 use Rattle.rtgs_rows.specs.RowLaws.{RecordsStandInOrder}
-use Rattle.rtgs_rows.specs.declared.numbers.TheConstants.{VERSION}
 
 abbrev account_of : Book → Participant → Account
 account_of book p = record { participant = p; balance = balance book p.code }
@@ -62,9 +61,9 @@ are_own in_order content book of =
       fits = of.fits;
     }
 
-pub has_own : RecordsStandInOrder → (s : State) (content : Content) (book : Book) → Rests content s
-    → IsBookOf book content → HasRecords VERSION (accounts_of book) book s
-has_own in_order s content book rests of = (content, rests, are_own in_order content book of)
+pub has_own : RecordsStandInOrder → (version : ℕ) (s : State) (content : Content) (book : Book)
+    → RestsIn version content s → IsBookOf book content → HasRecords version (accounts_of book) book s
+has_own in_order version s content book rests of = (content, rests, are_own in_order content book of)
 
 balances_of : (book : Book) (ps : List Participant) → AreBalances book (map (account_of book) ps)
 balances_of book [] = tt

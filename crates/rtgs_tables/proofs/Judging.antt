@@ -1,5 +1,5 @@
 -- Why a sound book is refused, and what a fault explains.
-use Rattle.std.proofs.Common.{◌≡◌, ◌⊎◌, inl, inr, List, Ok, Err, Result, IfOk, IfErr, refl, sym, subst}
+use Rattle.std.proofs.Common.{◌≡◌, ◌⊎◌, inl, inr, List, Ok, Err, Result, IfOk, IfErr, refl, sym, ap, subst, ◌∙◌}
 use Rattle.std.specs.Result.{IsErrAnd}
 use Rattle.sqlite.specs.State.{State}
 use Rattle.rtgs_book.specs.declared.Book.{Book}
@@ -36,7 +36,7 @@ keeps_all book sound Total = sound.total_fits
 keeps_all book sound StoredBalances = tt
 
 -- where no rule is broken, the store failed or memory was refused
-of_sound : (accounts : List Account) (book : Book) → IsSound book → AreBalances book accounts → (fault : Fault)
+pub of_sound : (accounts : List Account) (book : Book) → IsSound book → AreBalances book accounts → (fault : Fault)
     → ExplainsRead accounts book fault → (fault ≡ OutOfMemory) ⊎ (fault ≡ StoreFault)
 of_sound accounts book sound agree OutOfMemory why = inl refl
 of_sound accounts book sound agree StoreFault why = inr refl
@@ -49,6 +49,15 @@ pub passed_on : {A B : Type 0} (P : Fault → Type 0) (met : Result A Fault) (fa
 passed_on P met fault (Ok b) was told holds = tt
 passed_on {A = A} P met fault (Err told_fault) was told holds =
     subst P (sym told) (subst (λ (r : Result A Fault). IfErr r P) was holds)
+
+-- an answer that tells the fault that was met is that fault
+pub told_so : {A B : Type 0} (met : Result A Fault) (fault kind : Fault) (answer : Result B Fault) → met ≡ Err fault
+    → IsErrAnd answer (λ told. told ≡ fault) → met ≡ Err kind → answer ≡ Err kind
+told_so met fault kind (Ok b) was told is = absurd told
+told_so {A = A} met fault kind (Err it) was told is =
+    let same : ◌≡◌ {A = Result A Fault} (Err fault) (Err kind) = sym was ∙ is in
+    let both : fault ≡ kind = cc in
+    ap Err (told ∙ both)
 
 -- the same fault explains whatever records there are
 pub explained : (s : State) (answer : Result Book Fault) → LoadsFrom VERSION s answer → IfErr answer (ExplainsLoad s)

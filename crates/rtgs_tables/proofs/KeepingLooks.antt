@@ -16,6 +16,7 @@ use Rattle.rtgs_book.specs.declared.Rule.{Rule}
 use Rattle.rtgs_book.specs.Commands.{is_date}
 use Rattle.rtgs_cores.specs.Nexts.{posting_after, is_posting_after, date_of_posting}
 use Rattle.rtgs_keeper.specs.Calls.{OnlyReads}
+use Rattle.rtgs_rows.specs.declared.numbers.TheConstants.{VERSION}
 use Rattle.rtgs_rows.specs.Keeping.{HoldsBook, MayLeave, IsWhole}
 use Rattle.rtgs_sql_look_ups.specs.Finding.{IsLook}
 use Rattle.rtgs_sql_look_ups.specs.Seeking.{first_of_date}
@@ -26,7 +27,7 @@ use Rattle.rtgs_tables.proofs.Settling.{leaves_less, leaves_on}
 holds_on : {S A : Type 0} (g : Ghosts S) (old new : Held S) (r : Result A Fault) (book : Book) → IsLook g old new r
     → HasCleanDisk (state g new) → ◌≢◌ r (Err StoreFault) → HoldsBook g old book → HoldsBook g new book
 holds_on g old new r book look clean other held =
-    (held.0, (look.same clean other).rests held.0 held.1, held.2)
+    (held.0, (look.same clean other).rests VERSION held.0 held.1, held.2)
 
 -- What a look leaves of a keeper over a connection, which had not failed and has failed where the store did.
 pub reads_on : {S A K : Type 0} (g : Ghosts S) (conn : K → Held S) (failed : K → Bool) (old new : K)

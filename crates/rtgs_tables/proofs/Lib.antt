@@ -4,3 +4,4 @@ pub mod KeepingLooks
 pub mod Accounts
 pub mod Together
 pub mod Judging
+pub mod Migrating

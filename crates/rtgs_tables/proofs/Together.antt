@@ -10,6 +10,7 @@ use Rattle.rtgs_book.specs.declared.Fault.TheVariants.{StoreFault, Inconsistent}
 use Rattle.rtgs_book.specs.declared.Rule.{Rule}
 use Rattle.rtgs_rows.specs.Content.{Content, Holds, Rests}
 use Rattle.rtgs_rows.specs.Keeping.{IsBookOf}
+use Rattle.rtgs_rows.specs.Migrating.{TellIn}
 use Rattle.rtgs_rows.specs.Querying.{IsDeskFile}
 use Rattle.rtgs_rows.specs.RowLaws.{RecordsStandInOrder}
 use Rattle.rtgs_rows.specs.declared.numbers.TheConstants.{VERSION}
@@ -35,11 +36,12 @@ rests_of content s trees file holds =
 
 -- and the connection goes on to hold it
 kept_book : (s : State) (trees : Trees) (answer : Result Book Fault)
-    → IfOk answer (λ it. (content : Content) × Holds content trees × IsBookOf it content)
+    → IfOk answer (λ it. TellIn VERSION it trees)
     → (answer ≢ Err StoreFault → IsDeskFile trees s)
     → IfOk answer (λ it. (content : Content) × Rests content s × IsBookOf it content)
-kept_book s trees (Ok it) held file = (held.0, rests_of held.0 s trees (file (λ e. cc)) held.1, held.2)
-kept_book s trees (Err fault) held file = tt
+kept_book s trees (Ok it) told file =
+    (told.content, rests_of told.content s trees (file (λ e. cc)) told.holds, told.same)
+kept_book s trees (Err fault) told file = tt
 
 shown_always : (s : State) (answer : Result Book Fault) → LoadsFrom VERSION s answer → IfOk answer (ShowsBalanced s)
 shown_always s (Ok it) loads = (loads.shown, loads.displayed)
@@ -48,7 +50,7 @@ shown_always s (Err fault) loads = tt
 -- what a loading answers of the tables is what the connection holds
 pub answers_book : RecordsStandInOrder → {S : Type 0} (g : Ghosts S) (old new : Held S) (answer : Result Book Fault)
     → LoadsFrom VERSION (state g old) answer
-    → (answer ≢ Err StoreFault → KeepsTables VERSION (state g old) (state g new))
+    → (answer ≢ Err StoreFault → KeepsTables (state g old) (state g new))
     → (IsBlank (state g old) → IfOk answer (λ _. ⊥) × ((rule : Rule) → answer ≢ Err (Inconsistent rule)))
     → AnswersBook g old new answer
 answers_book in_order g old new answer loads same empty =
@@ -56,22 +58,22 @@ answers_book in_order g old new answer loads same empty =
     let trees = s.committed.trees in
     record {
       given = λ book holds. the_book (accounts_of book) book answer (loads.read (accounts_of book) book
-          (has_own in_order s holds.0 book holds.1 holds.2));
+          (has_own in_order VERSION s holds.0 book holds.1 holds.2));
       accepted = λ book holds. accepted (accounts_of book) book answer holds.2.sound (own_balances book)
-          (loads.explained (accounts_of book) book (has_own in_order s holds.0 book holds.1 holds.2));
+          (loads.explained (accounts_of book) book (has_own in_order VERSION s holds.0 book holds.1 holds.2));
       explained = explained s answer loads;
       shown = shown_always s answer loads;
       kept = λ tables. kept_book (state g new) trees answer (loads.held trees tables.0 tables.1)
-          (λ other. (same other).file trees tables.0);
+          (λ other. (same other).file VERSION trees tables.0);
       empty = empty;
     }
 
 -- and what it leaves of the connection
 pub leaves_connection : {S : Type 0} (g : Ghosts S) (old new : Held S) (answer : Result Book Fault)
-    → HasCleanDisk (state g new) → (answer ≢ Err StoreFault → KeepsTables VERSION (state g old) (state g new))
+    → HasCleanDisk (state g new) → (answer ≢ Err StoreFault → KeepsTables (state g old) (state g new))
     → Survives (state g old) (state g new) (λ _. ⊥) → LeavesConnection g old new answer
 leaves_connection g old new answer clean keeps survives = record {
-  same = λ book held other. (held.0, (keeps other).rests held.0 held.1, held.2);
+  same = λ book held other. (held.0, (keeps other).rests VERSION held.0 held.1, held.2);
   stops = λ other left. leaves_less g old new survives clean other left;
   untouched = λ trees left. leaves_on (state g old) (state g new) survives clean trees left;
   whole = λ whole trees left. whole trees (leaves_on (state g old) (state g new) survives clean trees left);

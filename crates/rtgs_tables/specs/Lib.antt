@@ -1,2 +1,4 @@
 pub mod Building
+pub mod Faults
 pub mod Loading
+pub mod Migrating

@@ -12,11 +12,10 @@ ghost use Rattle.sqlite.specs.State.{HasCleanDisk, IsLive, IsUnchanged, Opens, S
 ghost use Rattle.sqlite.specs.Held.{state};
 ghost use Rattle.sqlite.specs.Tree.{Trees};
 ghost use Rattle.rtgs_rows.specs.Content.{Content, Holds, HasNoTables};
-ghost use Rattle.rtgs_sql_queries.specs.Faults.{LookFailed};
 ghost use Rattle.rtgs_tables.specs.Loading.{AnswersBook, LeavesConnection};
-ghost use Rattle.rtgs_sql_writes.specs.Stops.{IsBefore};
 ghost use Rattle.rtgs_rows.specs.RowLaws.{RowsTellTheBook, TablesOfABookAreWhole, TablesOfABookAreWhole-prop};
 
+use crate::stopping::fault_of;
 use rtgs_book::{Book, Change, Fault, Mark, Order, Posting};
 use rtgs_cores::Core;
 use rtgs_cores::laws::records_are_listed;
@@ -27,12 +26,11 @@ use rtgs_rows::numbers::VERSION;
 use rtgs_soundness::core_of;
 use rtgs_sql_loading::load_book;
 use rtgs_sql_look_ups::{find_order, find_posting, next_of, next_order};
-use rtgs_sql_queries::alive::is_alive;
-use rtgs_sql_writes::{Stopped, create_tables, write};
-use sqlite::{Alter, Connection, Error, ErrorCode};
+use rtgs_sql_writes::{create_tables, write};
+use sqlite::{Alter, Connection};
 use std::alloc::Global;
 
-/// Keeps a book in five tables, over a connection of any store. It has failed once the store has answered a fault, to a
+/// Keeps a book in six tables, over a connection of any store. It has failed once the store has answered a fault, to a
 /// change or to a reading.
 #[derive(Drop)]
 pub struct SqlKeeper<S: Alter + Drop> {
@@ -278,29 +276,6 @@ fn leaves_no_tables<S: Alter>(conn: &Connection<S>)
         → HasNoTables trees }
 {
     conn.schema();
-}
-
-/// What a stopped transaction comes to: lack of memory before the call that commits, where the connection is seen to
-/// be open still, and else a fault of the store.
-fn fault_of<S: Alter>(conn: &mut Connection<S>, stopped: &Stopped) -> CommitFault
-    ensures mode { conn.old.in_transaction ≡ false → conn.new.in_transaction ≡ false }
-    ensures kinds { result ≢ CommitFault.Failed }
-    ensures before { result ≡ CommitFault.OutOfMemory → IsBefore stopped.now }
-    ensures cause { result ≡ CommitFault.OutOfMemory → stopped.now
-        ≡ Stopped.Before (Error.SqliteFailure ErrorCode.OutOfMemory) }
-    ensures must { HasCleanDisk (state S.Store conn.new)
-        → stopped.now ≡ Stopped.Before (Error.SqliteFailure ErrorCode.OutOfMemory)
-        → (result ≡ CommitFault.OutOfMemory) ⊎ LookFailed (state S.Store conn.old) (state S.Store conn.new) }
-    ensures same { result ≡ CommitFault.OutOfMemory → HasCleanDisk (state S.Store conn.new)
-        → IsUnchanged (state S.Store conn.old) (state S.Store conn.new) }
-    ensures survives { Survives (state S.Store conn.old) (state S.Store conn.new) (λ _. ⊥) }
-{
-    match stopped {
-        Stopped::Before(Error::SqliteFailure(ErrorCode::OutOfMemory)) if is_alive(conn) => {
-            CommitFault::OutOfMemory
-        }
-        _ => CommitFault::Store,
-    }
 }
 
 /// Whether the store failed.

@@ -6,6 +6,7 @@ mod batch_orders;
 mod counting_keeper;
 mod failing_keeper;
 mod opened;
+mod readings;
 mod scripts;
 mod silence;
 
@@ -13,5 +14,6 @@ pub use crate::batch_orders::{orders, sent};
 pub use crate::counting_keeper::CountingKeeper;
 pub use crate::failing_keeper::{FailingKeeper, Trouble, failing};
 pub use crate::opened::{BANKS, begun, desk_over};
+pub use crate::readings::seen_of;
 pub use crate::scripts::{Reply, answered, command, commands, follows, is_told};
 pub use crate::silence::is_silent;

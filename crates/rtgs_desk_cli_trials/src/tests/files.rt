@@ -99,6 +99,9 @@ const IN_USE: &str = "
 $ desk init @
 ! refused 95 InUse
 status 3
+$ desk migrate @
+! refused 95 InUse
+status 3
 $ desk post @ ALFA P-1 1
 ! refused 95 InUse
 status 3

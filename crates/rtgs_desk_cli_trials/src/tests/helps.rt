@@ -5,6 +5,7 @@ use std::test::Fail;
 const HELPS: &str = "
 $ names --help
 > desk <COMMAND>
+> Brings the tables of a book to the newest version
 status 0 helped
 $ names add --help
 > 3 to 8 capitals and digits, a capital first
@@ -26,12 +27,12 @@ fn helps_name_the_commands_and_the_forms_of_their_words(rt: HostRuntime) -> Resu
 /// The version of the tables is that of a new book, or else what is inserted has no value, which is refused.
 const VERSIONS: &str = "
 $ names --version
-> desk 0.9.0, tables 1, rattle-kit-
+> desk 0.10.0, tables 2, rattle-kit-
 status 0 helped
 $ desk init @
 > initialised
 $ sql @ CREATE TABLE seen (is_so INTEGER NOT NULL)
-$ sql @ INSERT INTO seen SELECT CASE WHEN sum(version) = 1 THEN 1 END FROM desk
+$ sql @ INSERT INTO seen SELECT CASE WHEN sum(version) = 2 THEN 1 END FROM desk
 ";
 
 #[test]

@@ -2,7 +2,7 @@
 //! calls on and fails each later one.
 ghost use Rattle.std.specs.Prelude.{◌≡◌, false};
 
-use super::store::{Booked, Ended, Failing, Job, Store};
+use super::store::{Booked, Ended, Failing, Job, OverTables, Store, Task};
 use rtgs_book::{Book, Fault};
 use rtgs_stored_desk::create;
 use rtgs_tables::SqlKeeper;
@@ -32,31 +32,35 @@ impl<S: Alter + Drop> Booked for SqlKeeper<S> {
     }
 }
 
-// Does the job with the keeper over a database, in which the tables of a new desk are made where they are to be made.
-// The database comes back.
-fn worked<S: Alter + Drop, J: Job>(
-    alloc: Global,
-    conn: Connection<S>,
+/// A job with the keeper over a database, in which the tables of a new desk are made where they are to be made.
+#[derive(Drop)]
+struct Keeping<'a, J> {
     is_new: bool,
-    job: &mut J,
-) -> Result<(Connection<S>, Ended), Fail>
-    requires { conn.in_transaction ≡ false }
-{
-    let keeper = if is_new {
-        match create(alloc, conn) {
-            Ok(desk) => desk.into_keeper(),
-            Err((Fault::StoreFault, conn)) => return Ok((conn, Ended::Unopened)),
-            Err((fault, _)) => return Err(Fail::from(fault)),
+    job: &'a mut J,
+}
+
+impl<J: Job> Task for Keeping<'_, J> {
+    fn done<S: Alter + Drop>(
+        &mut self,
+        alloc: Global,
+        conn: Connection<S>,
+    ) -> Result<(Connection<S>, Ended), Fail> {
+        let keeper = if self.is_new {
+            match create(alloc, conn) {
+                Ok(desk) => desk.into_keeper(),
+                Err((Fault::StoreFault, conn)) => return Ok((conn, Ended::Unopened)),
+                Err((fault, _)) => return Err(Fail::from(fault)),
+            }
+        } else {
+            SqlKeeper::open(conn)
+        };
+        let (keeper, closes) = self.job.done(alloc, keeper)?;
+        let conn = keeper.into_connection();
+        if closes {
+            Ok((conn, Ended::Closed))
+        } else {
+            Ok((conn, Ended::Stopped))
         }
-    } else {
-        SqlKeeper::open(conn)
-    };
-    let (keeper, closes) = job.done(alloc, keeper)?;
-    let conn = keeper.into_connection();
-    if closes {
-        Ok((conn, Ended::Closed))
-    } else {
-        Ok((conn, Ended::Stopped))
     }
 }
 
@@ -73,12 +77,11 @@ fn left_by<D: Disk + Drop>(
     }
 }
 
-// Does the job with a database over the disks, of whatever kind they are.
-fn used<D: Disk + Drop, J: Job>(
+// Does the task with a database over the disks, of whatever kind they are.
+fn used<D: Disk + Drop, T: Task>(
     alloc: Global,
     disks: Files<D>,
-    is_new: bool,
-    job: &mut J,
+    task: &mut T,
 ) -> Result<(Files<D>, Ended), Fail> {
     if !disks.log.may_be_used() || !disks.db.may_be_used() {
         return Err(Fail::new("a disk that may not be used"));
@@ -87,7 +90,7 @@ fn used<D: Disk + Drop, J: Job>(
         Ok(conn) => conn,
         Err((error, left)) => return left_by(error, left.into_files(), Ended::Unopened),
     };
-    let (conn, ended) = worked(alloc, conn, is_new, job)?;
+    let (conn, ended) = task.done(alloc, conn)?;
     if !matches!(ended, Ended::Closed) {
         return Ok((conn.into_store().close(), ended));
     }
@@ -120,14 +123,20 @@ impl Store for OnDisks {
     }
 
     fn session<J: Job>(&mut self, alloc: Global, is_new: bool, job: &mut J) -> Result<Ended, Fail> {
-        let OnDisks { disks } = mem::replace(self, OnDisks::blank(alloc));
-        let (disks, ended) = used(alloc, disks, is_new, job)?;
-        self.disks = disks;
-        Ok(ended)
+        self.tables(alloc, &mut Keeping { is_new, job })
     }
 
     fn crash(&mut self) {
         self.disks.log.crash();
         self.disks.db.crash();
+    }
+}
+
+impl OverTables for OnDisks {
+    fn tables<T: Task>(&mut self, alloc: Global, task: &mut T) -> Result<Ended, Fail> {
+        let OnDisks { disks } = mem::replace(self, OnDisks::blank(alloc));
+        let (disks, ended) = used(alloc, disks, task)?;
+        self.disks = disks;
+        Ok(ended)
     }
 }

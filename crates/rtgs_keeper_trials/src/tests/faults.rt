@@ -65,7 +65,7 @@ const RESOLUTION: Trial = Trial {
 
 #[test]
 fn a_resolution_is_found_whole_or_not_at_all(rt: HostRuntime) -> Result<(), Fail> {
-    meets(rt.alloc(), &RESOLUTION, [48, 45, 2])
+    meets(rt.alloc(), &RESOLUTION, [48, 48, 2])
 }
 
 const BATCH: Trial = Trial {
@@ -87,7 +87,7 @@ order ALFA A-3 BETA 25 => Ok(Queued { number: 3, place: 1 }) => Ok(Repeated(Orde
 
 #[test]
 fn a_batch_is_found_up_to_a_row(rt: HostRuntime) -> Result<(), Fail> {
-    meets(rt.alloc(), &BATCH, [61, 46, 7])
+    meets(rt.alloc(), &BATCH, [61, 49, 7])
 }
 
 const CLOSE: Trial = Trial {
@@ -106,7 +106,7 @@ cutoff 2024-03-04 => Ok(CutOffDone)",
 
 #[test]
 fn a_close_rejects_all_or_nothing(rt: HostRuntime) -> Result<(), Fail> {
-    meets(rt.alloc(), &CLOSE, [46, 44, 2])
+    meets(rt.alloc(), &CLOSE, [46, 47, 2])
 }
 
 const NEW_ORDER: Trial = Trial {
@@ -124,7 +124,7 @@ order ALFA A-1 BETA 100 => Ok(Settled { number: 1, mark: 1 }) => Ok(Repeated(Ord
 
 #[test]
 fn a_new_order_is_found_or_not(rt: HostRuntime) -> Result<(), Fail> {
-    meets(rt.alloc(), &NEW_ORDER, [50, 46, 3])
+    meets(rt.alloc(), &NEW_ORDER, [50, 49, 3])
 }
 
 const ORDER_THAT_WAITS: Trial = Trial {
@@ -166,7 +166,7 @@ Ok(Repeated(Order { number: 1, state: Settled(1) }))",
 
 #[test]
 fn an_order_that_comes_again_changes_nothing(rt: HostRuntime) -> Result<(), Fail> {
-    meets(rt.alloc(), &REPEATED_ORDER, [29, 40, 2])
+    meets(rt.alloc(), &REPEATED_ORDER, [29, 43, 2])
 }
 
 const OPENING: Trial = Trial {
@@ -187,6 +187,6 @@ const OPENING_AFTER_A_CRASH: Trial = Trial {
 
 #[test]
 fn an_opening_leaves_the_book(rt: HostRuntime) -> Result<(), Fail> {
-    meets(rt.alloc(), &OPENING, [29, 40, 1])?;
-    meets(rt.alloc(), &OPENING_AFTER_A_CRASH, [207, 20, 1])
+    meets(rt.alloc(), &OPENING, [29, 43, 1])?;
+    meets(rt.alloc(), &OPENING_AFTER_A_CRASH, [215, 21, 1])
 }

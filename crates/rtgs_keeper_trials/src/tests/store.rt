@@ -1,7 +1,10 @@
 //! Stores of a book. A store is opened, a job is done with the keeper over it, and it is closed or left as it is.
+ghost use Rattle.std.specs.Prelude.{◌≡◌, false};
+
 use rtgs_book::{Book, Fault};
 use rtgs_keeper::Keeper;
 use rtgs_tests_desks::Trouble;
+use sqlite::{Alter, Connection};
 use std::alloc::Global;
 use std::test::Fail;
 
@@ -51,4 +54,21 @@ pub trait Store: Drop {
 
     /// Leaves of it what a crash leaves, after which nothing fails.
     fn crash(&mut self);
+}
+
+/// What is done with the database of a store while it is open.
+pub trait Task {
+    /// Does it, and gives the database back, and how the session ends: the store is closed then, or left as it is.
+    fn done<S: Alter + Drop>(
+        &mut self,
+        alloc: Global,
+        conn: Connection<S>,
+    ) -> Result<(Connection<S>, Ended), Fail>
+        requires { conn.in_transaction ≡ false };
+}
+
+/// A store that has its book in the tables of a database.
+pub trait OverTables: Store {
+    /// Opens it, and does the task.
+    fn tables<T: Task>(&mut self, alloc: Global, task: &mut T) -> Result<Ended, Fail>;
 }

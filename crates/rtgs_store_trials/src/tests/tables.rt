@@ -1,5 +1,6 @@
 //! Books kept in tables, found again, and refused where they are meddled with, over a store in memory.
 mod memory_keeper;
+mod migrations;
 mod no_memory;
 mod stored_numbers;
 mod versions;
@@ -175,7 +176,7 @@ DROP TABLE mark; CREATE VIEW mark AS SELECT number, date, cents AS value FROM po
 CREATE TABLE large (a INTEGER); INSERT INTO large VALUES (9223372036854775807), (1); DROP TABLE mark; \
     CREATE VIEW mark AS SELECT sum(a) AS number, '' AS date, 1 AS many, 1 AS value FROM large => NotADeskFile
 DELETE FROM desk => NotADeskFile
-UPDATE desk SET version = 2 => NotADeskFile
+UPDATE desk SET version = 3 => NotADeskFile
 UPDATE desk SET id = 2 => NotADeskFile
 UPDATE desk SET phase = 3 => NotADeskFile
 UPDATE desk SET date = '2024-02-30' => NotADeskFile

@@ -6,6 +6,10 @@ pub returns-in-Make-clause-refused : goal.returns-in-Make-clause-refused
 returns-in-Make-clause-refused g c = denied_for _ _ c.in-Make.is g.O.Write.contents c.make_book.result.0 _ _
     (err_and c.make_book.result.0 _ _ c.make_book.ensures.refused c.make_book.ensures.unchanged)
 
+pub returns-in-Migrate-clause-refused : goal.returns-in-Migrate-clause-refused
+returns-in-Migrate-clause-refused g c = denied_for _ _ c.in-Migrate.is g.O.Write.contents c.migrate_book.result.0 _ _
+    (err_and c.migrate_book.result.0 _ _ c.migrate_book.ensures.refused c.migrate_book.ensures.unchanged)
+
 pub returns-in-Submit-clause-printed : goal.returns-in-Submit-clause-printed
 returns-in-Submit-clause-printed g c = printed_for _ _ c.in-Submit.is c.answer.result.0 _ _ c.answer.ensures.printed
 

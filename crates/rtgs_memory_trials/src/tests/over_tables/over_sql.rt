@@ -41,8 +41,8 @@ impl Store for OverSql {
     }
 }
 
-// Stops a store in the middle of whatever is under way, and opens it again.
-fn stopped<S: Alter + Reopen + Drop>(conn: Connection<S>) -> Result<S, Fail>
+/// Stops a store in the middle of whatever is under way, and opens it again.
+pub fn stopped<S: Alter + Reopen + Drop>(conn: Connection<S>) -> Result<S, Fail>
     ensures fresh { IfOk result (λ store. IsClean (S.Store.view store) → IsFresh (S.Store.view store)) }
 {
     let mut store = conn.into_store();
@@ -50,8 +50,8 @@ fn stopped<S: Alter + Reopen + Drop>(conn: Connection<S>) -> Result<S, Fail>
     Ok(store)
 }
 
-// Opens a database over a store that was opened just now.
-fn connected<S: Alter + Drop>(alloc: Global, store: S) -> Result<Connection<S>, Fail>
+/// Opens a database over a store that was opened just now.
+pub fn connected<S: Alter + Drop>(alloc: Global, store: S) -> Result<Connection<S>, Fail>
     requires { IsClean (S.Store.view store) → IsFresh (S.Store.view store) }
     ensures idle { IfOk result (λ conn. conn.in_transaction ≡ false) }
 {

@@ -3,7 +3,6 @@ use rtgs_book::Command;
 use rtgs_desk::Desk;
 use rtgs_keeper::Keeper;
 use rtgs_money::{Amount, BusinessDate, Code, Credit, Key, Name, PostingAmount, Reference};
-use rtgs_statements::{write_report, write_statement};
 use std::alloc::Global;
 use std::test::Fail;
 
@@ -127,38 +126,7 @@ pub fn desk_after<K: Keeper + Drop>(
     Ok(desk)
 }
 
-/// The day report of Monday.
-fn report_of<K: Keeper>(alloc: Global, desk: &mut Desk<K>) -> Result<String, Fail> {
-    let mut text = Vec::new(alloc);
-    match write_report(alloc, &mut text, desk, date(MONDAY)?) {
-        Ok(()) => Ok(String::from_utf8(text)?),
-        Err(_) => Err(Fail::from("no report")),
-    }
-}
-
-/// A bank's statement of Monday.
-fn statement_of<K: Keeper>(alloc: Global, desk: &mut Desk<K>, bank: &Code) -> Result<String, Fail> {
-    let mut text = Vec::new(alloc);
-    match write_statement(alloc, &mut text, desk, bank, date(MONDAY)?) {
-        Ok(()) => Ok(String::from_utf8(text)?),
-        Err(_) => Err(Fail::from("no statement")),
-    }
-}
-
-/// What a desk tells of a participant.
-fn bank_of<K: Keeper>(alloc: Global, desk: &mut Desk<K>, bank: &Code) -> Result<String, Fail> {
-    let account = desk.account(bank);
-    let queue = desk.queue_of(bank);
-    let statement = statement_of(alloc, desk, bank)?;
-    Ok(format!(in alloc; "{account:?} {queue:?} {statement}")?)
-}
-
 /// What a desk tells of its participants and of Monday.
 pub fn seen_of<K: Keeper>(alloc: Global, desk: &mut Desk<K>) -> Result<String, Fail> {
-    let mut text = report_of(alloc, desk)?;
-    for bank in ["ALFA", "BETA", "GAMA"] {
-        let said = bank_of(alloc, desk, &code(bank)?)?;
-        text.push_str(said.as_str())?;
-    }
-    Ok(text)
+    rtgs_tests_desks::seen_of(alloc, desk, MONDAY)
 }

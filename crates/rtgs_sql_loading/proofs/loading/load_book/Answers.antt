@@ -47,7 +47,7 @@ returns-clause-tells g c clean =
       held = λ trees file whole.
           let sound = subst (IsSound (schema_in version)) file.trees_are
           (subst (λ schema. IsSound schema s.committed.trees) file.schema (c.schema.ensures.live file.is_open).1) in
-          held_book c.shown_records_are_held.ensures version trees _ _ c.judged.result sound whole
+          held_book c.shown_records_are_held.ensures version known trees _ _ c.judged.result sound whole
           (tells.rows trees file) it.given it.sound it.balances;
       shown = λ trees file.
           shown_book version trees _ _ c.judged.result (tells.rows trees file) it.given it.sound it.balances;

@@ -11,7 +11,7 @@ use Rattle.rtgs_sql_loading.proofs.loading.read_tables.Goals as goal
 pub returns-in_err-all-clause-stops : goal.returns-in_err-all-clause-stops
 returns-in_err-all-clause-stops g c =
     let version = c.args.version in
-    stops_after c.read.result _ c.from_residual.result (at_once version (state g.S.Store c.args.conn.now))
+    stops_after c.read.result _ c.from_residual.result (at_once (state g.S.Store c.args.conn.now))
     c.in_err-all.was c.from_residual.ensures.1
     (λ known trees bad formed. bad (formed.day, (each_formed version known trees formed).1))
     (one_unread version) c.read.ensures.stops

@@ -10,7 +10,7 @@ use Rattle.rtgs_sql_look_ups.proofs.FindingLemmas.{finds_order}
 use Rattle.rtgs_sql_look_ups.proofs.finding.order_rows.Goals as goal
 
 pub returns-clause-asks : goal.returns-clause-asks
-returns-clause-asks g c = c.asked_rows.ensures.asks order_query (column_names payment_table) order_seeks order_reads
+returns-clause-asks g c = c.asked_rows.ensures.asks order_reads
 
 pub returns-clause-rows : goal.returns-clause-rows
 returns-clause-rows g c clean book held =

@@ -10,8 +10,7 @@ use Rattle.rtgs_sql_look_ups.proofs.FindingLemmas.{finds_posting}
 use Rattle.rtgs_sql_look_ups.proofs.finding.posting_rows.Goals as goal
 
 pub returns-clause-asks : goal.returns-clause-asks
-returns-clause-asks g c =
-    c.asked_rows.ensures.asks posting_query (column_names posting_table) posting_seeks posting_reads
+returns-clause-asks g c = c.asked_rows.ensures.asks posting_reads
 
 pub returns-clause-rows : goal.returns-clause-rows
 returns-clause-rows g c clean book held =

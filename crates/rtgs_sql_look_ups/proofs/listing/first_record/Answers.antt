@@ -10,13 +10,13 @@ pub returns-in-Ok-clause-looks : goal.returns-in-Ok-clause-looks
 returns-in-Ok-clause-looks g c tests is =
     let t = g.T.TableRow.records.table in
     looks_ok g.S.Store c.args.conn.now c.asked_rows.new.conn _ c.only_record.result
-    (c.in-Ok.ensures.asks (first_query t tests) (column_names t) is.seeks is.reads) c.only_record.ensures.kinds
+    (c.in-Ok.ensures.asks is.reads) c.only_record.ensures.kinds
 
 pub returns-in-Err-clause-looks : goal.returns-in-Err-clause-looks
 returns-in-Err-clause-looks g c tests is =
     let t = g.T.TableRow.records.table in
     looks_err g.S.Store c.args.conn.now c.asked_rows.new.conn c.fault_of.new.conn _ c.fault_of.result
-    (c.in-Err.ensures.asks (first_query t tests) (column_names t) is.seeks is.reads) c.fault_of.ensures.kinds
+    (c.in-Err.ensures.asks is.reads) c.fault_of.ensures.kinds
     c.fault_of.ensures.kept c.fault_of.ensures.mode c.fault_of.ensures.survives
 
 pub returns-in-Ok-clause-found : goal.returns-in-Ok-clause-found

@@ -1,8 +1,7 @@
 use Rattle.std.proofs.Common.{[], Err, inl, ◌∙◌, sym, ap, true≢false}
 use Rattle.sqlite.specs.Held.{state}
 use Rattle.rtgs_sql_queries.proofs.Refusals.{unread_text}
-use Rattle.rtgs_sql_queries.proofs.Resting.{keeps}
-use Rattle.rtgs_sql_queries.proofs.Showing.{file_on}
+use Rattle.rtgs_sql_queries.proofs.Resting.{keeps_open}
 use Rattle.rtgs_sql_queries.proofs.Looking.{no_meaning, not_prepared, look_failed}
 use Rattle.rtgs_sql_queries.proofs.alive.is_alive.Goals.{in-Ok, in-Err+in-SqlInputError, in-Err+in_default}
 use Rattle.rtgs_sql_queries.proofs.alive.is_alive.Goals as goal
@@ -23,9 +22,7 @@ returns-clause-kept g c clean alive =
     let was = state g.S.Store c.args.conn.now in
     let same = returns-clause-alive g c clean alive in (
       same.0.was_open,
-      λ version. keeps {version = version} was (state g.S.Store c.prepare.new.self)
-          (λ trees file. file_on {version = version} trees was (state g.S.Store c.prepare.new.self) file (inl same)
-          same.0.is_open),
+      keeps_open was (state g.S.Store c.prepare.new.self) (inl same) same.0.is_open,
     )
 
 pub returns-clause-dead : goal.returns-clause-dead

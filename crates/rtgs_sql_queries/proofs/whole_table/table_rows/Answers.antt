@@ -4,10 +4,11 @@ use Rattle.sqlite.specs.State.{HasCleanDisk, Shown}
 use Rattle.sqlite_resolve.specs.Compile.{first}
 use Rattle.rtgs_sql_columns.specs.Tables.{query_text}
 use Rattle.rtgs_sql_queries.specs.Answering.{Returnless, FailsAmid}
-use Rattle.rtgs_sql_queries.proofs.Showing.{shows_all, shows_own, refused, intact_after, kept_after}
+use Rattle.rtgs_sql_queries.proofs.Showing.{shows_all, shows_own, refused}
+use Rattle.rtgs_sql_queries.proofs.ReadingAlone.{kept_after, intact_after, foreign_after}
 use Rattle.rtgs_sql_queries.proofs.Versions.{asks_in}
 use Rattle.rtgs_sql_queries.proofs.AsRead.{read_so}
-use Rattle.rtgs_sql_queries.proofs.Answering.{unanswered_amid}
+use Rattle.rtgs_sql_queries.proofs.Answering.{amid, unanswered_amid}
 use Rattle.rtgs_sql_queries.proofs.Displaying.{displayed, returnless}
 use Rattle.rtgs_sql_queries.proofs.whole_table.table_rows.Goals as goal
 
@@ -52,19 +53,20 @@ returns-clause-refused g c clean version has schema =
 
 pub returns-clause-asks : goal.returns-clause-asks
 returns-clause-asks g c =
-    let t = g.T.TableRow.records.table in
+    let text = query_text g.T.TableRow.records.table in
+    let reads = returnless text _ c.query.ensures.asks.query in
     let old = state g.S.Store c.args.conn.now in
     let new = state g.S.Store c.all_rows.new.conn in
-    let shown = λ (clean : HasCleanDisk new). subst (λ text. IfOk c.all_rows.result (λ rows. Shown text [] old new
+    let shown = λ (clean : HasCleanDisk new). subst (λ sql. IfOk c.all_rows.result (λ rows. Shown sql [] old new
     rows.items)) c.query.ensures.is (c.all_rows.ensures.ok clean) in
+    let stopped = λ (clean : HasCleanDisk new). amid text old new c.all_rows.result (subst
+    (λ sql. IfErr c.all_rows.result (FailsAmid sql old new)) c.query.ensures.is (c.all_rows.ensures.err clean)) in
     record {
       survives = c.all_rows.ensures.survives;
       mode = c.all_rows.ensures.mode;
-      kept = λ version has clean. kept_after t c.query.ensures.asks version has old new c.all_rows.result (shown clean);
-      intact = λ version has clean alive. intact_after t c.query.ensures.asks version has old new c.all_rows.result
-          (shown clean)
-          (subst (λ text. IfErr c.all_rows.result (FailsAmid text old new)) c.query.ensures.is
-          (c.all_rows.ensures.err clean)) alive;
+      kept = λ clean. kept_after text [] reads old new c.all_rows.result (shown clean);
+      intact = λ clean. intact_after text [] reads old new c.all_rows.result (shown clean) (stopped clean);
+      foreign = λ clean. foreign_after text [] reads old new c.all_rows.result (stopped clean);
     }
 
 pub returns-clause-answered : goal.returns-clause-answered

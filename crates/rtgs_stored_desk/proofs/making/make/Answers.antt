@@ -28,11 +28,11 @@ returns-in-Ok-clause-stops g c =
 
 pub returns-in-Err-clause-refused : goal.returns-in-Err-clause-refused
 returns-in-Err-clause-refused g c clean blank = record {
-  cause = subst IsMemoryOrStore (sym c.fault_of.ensures) (making_cause c.in-Err.fault);
+  cause = subst IsMemoryOrStore (sym c.fault_of_commit.ensures) (making_cause c.in-Err.fault);
   leaves = λ trees left. none_or_new c.first_rows_are_the_new_book.ensures trees
       ((c.in-Err.ensures.left clean blank).tables trees left);
 }
 
 pub returns-in-Err-clause-memory : goal.returns-in-Err-clause-memory
 returns-in-Err-clause-memory g c told =
-    c.in-Err.ensures.memory (making_memory c.in-Err.fault (sym c.fault_of.ensures ∙ told))
+    c.in-Err.ensures.memory (making_memory c.in-Err.fault (sym c.fault_of_commit.ensures ∙ told))

@@ -4,6 +4,7 @@ use Rattle.sqlite.specs.Tree.{Trees}
 use Rattle.rtgs_stored_desk.proofs.Resting.{held_at_rest, blank_at_rest, file_at_rest, tables_are, memory_explains}
 use Rattle.rtgs_stored_desk.proofs.Resting.{memory_tells}
 use Rattle.rtgs_stored_desk.proofs.opening.desk_over.Goals as goal
+use Rattle.rtgs_rows.specs.Settling.{current_is_known}
 use Rattle.rtgs_rows.specs.declared.numbers.TheConstants.{VERSION}
 
 pub returns-in-Ok-clause-opened : goal.returns-in-Ok-clause-opened
@@ -18,7 +19,7 @@ returns-in-Ok-clause-opened g c honest rest =
       held = λ book tables. it.held book (held_at_rest g.S.Store was
           (c.tables_of_a_desk_are_read_as_such.ensures VERSION) rest book tables);
       kept = λ schema whole.
-          let found = it.kept (file_at_rest (state g.S.Store was) rest schema, whole) in
+          let found = it.kept (file_at_rest VERSION (state g.S.Store was) current_is_known rest schema, whole) in
           let left = (c.holds_a_sound_book.ensures.after_a_crash found.0 found.0 found.1).1 refl in (
             found.0,
             tables_are found.0 (state g.S.Store was).committed.trees left.0 (sym (same left.0 left.1)) left.2,
@@ -39,7 +40,8 @@ returns-in-Err-clause-refused g c honest rest =
           (c.tables_of_a_desk_are_read_as_such.ensures VERSION) rest book tables);
       explained = λ schema. ⊎_elim (λ memory. memory_explains (state g.S.Store was).committed.trees c.in-Err.fault
           memory)
-          (λ told. told.1.0 (state g.S.Store was).committed.trees (file_at_rest (state g.S.Store was) rest schema))
+          (λ told. told.1.0 (state g.S.Store was).committed.trees
+          (file_at_rest VERSION (state g.S.Store was) current_is_known rest schema))
           it.explained;
       told = ⊎_elim (λ memory. memory_tells (state g.S.Store was).now c.in-Err.fault memory) (λ told. told.1.1)
           it.explained;

@@ -68,8 +68,12 @@ fn that_are_no_database(rt: HostRuntime) -> Result<(), Fail> {
 
 const NO_DESK: &str = "\
 93 NotADeskFile ! sql @ DROP TABLE mark
-93 NotADeskFile ! sql @ INSERT INTO desk VALUES (2, 1, NULL, 0)
+93 NotADeskFile ! sql @ DROP TABLE forward
+93 NotADeskFile ! sql @ INSERT INTO forward VALUES (4, '2024-03-05')
+93 NotADeskFile ! sql @ INSERT INTO desk VALUES (2, 2, NULL, 0)
 93 NotADeskFile ! sql @ DELETE FROM desk
+93 NotADeskFile ! sql @ UPDATE desk SET version = 1
+93 NotADeskFile ! sql @ UPDATE desk SET version = 3
 93 NotADeskFile ! sql @ UPDATE desk SET version = 7
 93 NotADeskFile ! sql @ UPDATE payment SET state = 9 WHERE number = 3
 93 NotADeskFile ! sql @ UPDATE payment SET amount = 0 WHERE number = 4

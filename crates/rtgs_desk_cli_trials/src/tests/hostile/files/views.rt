@@ -7,7 +7,10 @@ use std::alloc::{AllocError, Global};
 const EACH: u32 = 70;
 
 // How many objects a book lists.
-const OWN: u32 = 9;
+const OWN: u32 = 10;
+
+// What the page of its list has before the objects themselves: eight bytes, and two for the place of each.
+const LIST_HEAD: usize = 28;
 
 // What the list has of a view, and what its root has of a page below it: so many bytes each.
 const VIEW: usize = 56;
@@ -79,8 +82,8 @@ fn push_page(
 // The book, and behind it the page on which it lists its own objects: its first one, less the head of the file.
 fn with_own(alloc: Global, book: &[u8]) -> Result<Vec<u8>, AllocError> {
     let mut file = Vec::from_slice(alloc, book)?;
-    file.extend_from_slice(piece(book, 100, 26))?;
-    file.extend_from_slice(piece(book, 26, PAGE - 26))?;
+    file.extend_from_slice(piece(book, 100, LIST_HEAD))?;
+    file.extend_from_slice(piece(book, LIST_HEAD, PAGE - LIST_HEAD))?;
     Ok(file)
 }
 

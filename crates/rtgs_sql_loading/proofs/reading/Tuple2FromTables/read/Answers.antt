@@ -5,7 +5,7 @@ use Rattle.rtgs_sql_loading.proofs.reading.Tuple2FromTables.read.Goals as goal
 
 pub returns-in_err-one-clause-stops : goal.returns-in_err-one-clause-stops
 returns-in_err-one-clause-stops g c =
-    stops_after c.read.result _ c.from_residual.result (at_once c.args.version (state g.S.Store c.args.conn.now))
+    stops_after c.read.result _ c.from_residual.result (at_once (state g.S.Store c.args.conn.now))
     c.in_err-one.was c.from_residual.ensures.1 (λ known trees bad formed. bad formed.0)
     (λ known db unread. inl unread) c.read.ensures.stops
 

@@ -7,7 +7,7 @@ use Rattle.rtgs_sql_columns.specs.Numbers.{as_read}
 use Rattle.rtgs_sql_loading.specs.Accounts.{InForm}
 use Rattle.rtgs_sql_loading.proofs.OwnRows.{are_formed}
 use Rattle.rtgs_sql_loading.proofs.Told.{reads_of, reads_none, misread}
-use Rattle.rtgs_sql_loading.proofs.Keeps.{not_foreign, keeps_after, kept_known, schema_of, schema_at, survives_on}
+use Rattle.rtgs_sql_loading.proofs.Keeps.{not_foreign, keeps_after, schema_of, schema_at, survives_on}
 use Rattle.rtgs_sql_loading.proofs.Displaying.{without_form, without_answer, reads_on}
 use Rattle.rtgs_sql_loading.proofs.reading.VecFromTables.read.Goals as goal
 
@@ -30,12 +30,9 @@ returns-in-Ok-clause-told g c clean =
 
 pub returns-in-Ok-clause-on : goal.returns-in-Ok-clause-on
 returns-in-Ok-clause-on g c =
-    let has : IsVersion c.args.version → HasTable c.args.version g.T.TableRow.records.table =
-    (λ known. c.first_version.ensures.has c.args.version known c.if-version-first_version.false) in
-    reads_on c.args.version (state g.S.Store c.args.conn.now) (state g.S.Store c.table_rows.new.conn)
-    c.decode.result c.table_rows.ensures.honest
-    (λ clean known. c.in-Ok.ensures.asks.kept c.args.version (has known) clean)
-    (λ clean. (c.in-Ok.ensures.answered clean).1) c.table_rows.ensures.asks.survives
+    reads_on (state g.S.Store c.args.conn.now) (state g.S.Store c.table_rows.new.conn) c.decode.result
+    c.table_rows.ensures.honest c.in-Ok.ensures.asks.kept (λ clean. (c.in-Ok.ensures.answered clean).1)
+    c.table_rows.ensures.asks.survives
 
 pub returns-in-Ok-clause-stops : goal.returns-in-Ok-clause-stops
 returns-in-Ok-clause-stops g c =
@@ -58,7 +55,7 @@ returns-in-Ok-clause-stops g c =
             without_form (state g.S.Store c.args.conn.now).now (query_text t.table) (InForm t) _ _
                 c.as_slice.ensures.value (c.in-Ok.ensures.answered clean).0 (c.decode.ensures.wrong e),
           );
-      same = λ clean _. kept_known _ _ (λ known. c.in-Ok.ensures.asks.kept c.args.version (has known) clean);
+      same = λ clean _. c.in-Ok.ensures.asks.kept clean;
       survives = c.table_rows.ensures.asks.survives;
     }
 
@@ -85,11 +82,9 @@ returns-in-Err-clause-stops g c =
           );
       same = λ clean.
           let was = c.fault_of.ensures.honest clean in
-          keeps_after c.args.version (state g.S.Store c.args.conn.now) (state g.S.Store c.table_rows.new.conn)
-          (state g.S.Store c.fault_of.new.conn) c.fault_of.result
-          (λ known schema. c.fault_of.ensures.tells.right
-          (c.in-Err.ensures.refused was c.args.version (has known) schema))
-          (λ known. c.in-Err.ensures.asks.intact c.args.version (has known) was)
-          (λ memory. c.fault_of.ensures.kept memory clean);
+          keeps_after (state g.S.Store c.args.conn.now) (state g.S.Store c.table_rows.new.conn)
+          (state g.S.Store c.fault_of.new.conn) _ c.fault_of.result c.fault_of.ensures.tells c.fault_of.ensures.kinds
+          (c.in-Err.ensures.asks.intact was) (c.in-Err.ensures.asks.foreign was)
+          (λ memory. c.fault_of.ensures.same memory clean) (λ other. c.fault_of.ensures.kept other clean);
       survives = survives_on _ _ _ c.table_rows.ensures.asks.survives c.fault_of.ensures.survives;
     }

@@ -1,0 +1,206 @@
+//! Books in tables of an earlier version, as an older program left them, and how they are brought to the newest.
+use super::BEGIN;
+use super::imports::DAY;
+use super::script::{follows, follows_both, follows_each};
+use std::test::Fail;
+
+/// Orders of the day that have settled, that wait and that are withdrawn.
+const ORDERS: &str = "
+$ orders @.csv A-1,BETA,100 A-2,GAMA,50 A-3,BETA,25 A-4,GAMA,25
+$ desk import @ ALFA @.csv
+> reference,result,number,detail
+> A-1,settled,1,1
+> A-2,settled,2,2
+> A-3,queued,3,1
+> A-4,queued,4,2
+$ desk withdraw @ ALFA A-3
+> withdrawn 3
+$ copy @ @.book
+";
+
+/// What the desk tells of that day.
+const READINGS: &str = "
+$ desk report @ 2024-03-04
+> report 2024-03-04
+> ALFA                               1.50                           1.50                           0.00
+> BETA                               0.00                           0.00                           1.00
+> GAMA                               0.00                           0.00                           0.50
+> settled            2                           1.50
+> queued             1                           0.25
+> withdrawn          1                           0.25
+> rejected           0                           0.00
+> marks              2
+$ desk statement @ ALFA 2024-03-04
+> statement ALFA 2024-03-04
+> posting    000000001 P-1              -                        1.50         -
+> sent       000000001 A-1              BETA                     1.00         1
+> sent       000000002 A-2              GAMA                     0.50         2
+> withdrawn  000000003 A-3              BETA                     0.25         -
+> queued     000000004 A-4              GAMA                     0.25         -
+> sum-posted                           1.50
+> sum-sent                             1.50
+> sum-recv                             0.00
+> net                                  0.00
+$ desk account @ BETA
+> {\"balance\":100,\"code\":\"BETA\",\"credit\":0,\"date\":\"2024-03-04\",\"name\":\"A Bank\",\
+   \"phase\":\"OPEN\",\"queued\":0,\"queued_value\":0}
+$ desk queue @ ALFA
+> {\"orders\":[{\"amount\":25,\"number\":4,\"place\":1,\"reference\":\"A-4\",\"to\":\"GAMA\"}]}
+$ desk order @ ALFA A-1
+> {\"amount\":100,\"date\":\"2024-03-04\",\"mark\":1,\"number\":1,\"reference\":\"A-1\",\
+   \"state\":\"settled\",\"to\":\"BETA\"}
+";
+
+/// The tables are made those of the first version.
+const OLDER: &str = "
+$ sql @ DROP TABLE forward; UPDATE desk SET version = 1
+$ desk init @
+! refused 96 FileExists
+status 3
+";
+
+/// Each other run refuses them, and changes no byte of the file.
+const REFUSED: &str = "
+$ copy @ @.kept
+$ desk %1
+! refused 93 NotADeskFile
+status 3
+$ same @ @.kept
+";
+
+const OTHERS: &str = "\
+add @ DELTA 'Delta Bank' 0000000000000000000000000000000d
+credit @ ALFA 100
+post @ ALFA P-9 1
+open @ 2024-03-05
+import @ ALFA @.csv
+withdraw @ ALFA A-4
+resolve @
+cutoff @ 2024-03-04
+close @ 2024-03-04
+account @ ALFA
+queue @ ALFA
+order @ ALFA A-1
+statement @ ALFA 2024-03-04
+report @ 2024-03-04
+serve @ --port 8080 --count 1 --operator-key 0000000000000000000000000000000f";
+
+/// They are brought to the newest version once. The file is then whole without its log: a copy of it alone has the
+/// version, and the table of due dates without a row, or else what is inserted has no value, which is refused.
+const MIGRATED: &str = "
+$ desk migrate @
+> migrated
+$ copy @ @.kept
+$ copy @ @.copied
+$ sql @.copied CREATE TABLE seen (is_so INTEGER NOT NULL)
+$ sql @.copied INSERT INTO seen SELECT CASE WHEN sum(version) = 2 THEN 1 END FROM desk
+$ sql @.copied INSERT INTO seen SELECT CASE WHEN count(*) = 0 THEN 1 END FROM forward
+$ desk migrate @
+> repeated
+$ same @ @.kept
+";
+
+/// The desk goes on with its day.
+const GOES_ON: &str = "
+$ desk post @ ALFA P-2 25
+> posted 2
+$ desk resolve @
+> resolved mark 3 count 1 value 25
+";
+
+#[test]
+fn older_tables_are_brought_to_the_newest_version(rt: HostRuntime) -> Result<(), Fail> {
+    follows_both(&rt, "older", DAY, ORDERS)?;
+    follows_both(&rt, "older", READINGS, OLDER)?;
+    follows_each(&rt, "older", REFUSED, OTHERS)?;
+    follows_both(&rt, "older", MIGRATED, READINGS)?;
+    follows(&rt, "older", GOES_ON)
+}
+
+/// Tables of the newest version stay as they are, byte for byte.
+const REPEATED: &str = "
+$ copy @ @.kept
+$ desk migrate @
+> repeated
+$ same @ @.kept
+";
+
+#[test]
+fn tables_of_the_newest_version_stay(rt: HostRuntime) -> Result<(), Fail> {
+    follows_both(&rt, "newest", BEGIN, REPEATED)
+}
+
+/// The older tables stand in the log alone.
+const LOGGED: &str = "
+$ log @ DROP TABLE forward; UPDATE desk SET version = 1
+$ desk migrate @
+> migrated
+$ desk post @ ALFA P-1 1
+> posted 1
+";
+
+#[test]
+fn older_tables_in_the_log_are_brought_on(rt: HostRuntime) -> Result<(), Fail> {
+    follows_both(&rt, "older_log", BEGIN, LOGGED)
+}
+
+/// What was written stands, where standard output takes four bytes.
+const UNHEARD: &str = "
+$ sql @ DROP TABLE forward; UPDATE desk SET version = 1
+$ out 4 migrate @
+> migr~
+status 3 lost
+$ desk migrate @
+> repeated
+";
+
+#[test]
+fn a_migration_stands_where_nobody_hears_it(rt: HostRuntime) -> Result<(), Fail> {
+    follows_both(&rt, "unheard_migration", BEGIN, UNHEARD)
+}
+
+const MISSING: &str = "
+$ desk migrate @
+! refused 93 NotADeskFile
+status 3
+$ gone @
+";
+
+#[test]
+fn a_migration_makes_no_file(rt: HostRuntime) -> Result<(), Fail> {
+    follows(&rt, "unmade", MISSING)
+}
+
+/// A migration is refused so on the book that a step has changed, and changes no byte of it.
+const UNMIGRATED: &str = "
+$ copy @.book @
+$ %2
+$ copy @ @.kept
+$ desk migrate @
+! refused %1
+status 3
+$ same @ @.kept
+";
+
+/// What is no book, whose tables say no known version, lack a table of theirs or have one more, or hold what is not
+/// sound.
+const UNSOUND: &str = "\
+93 NotADeskFile ! file @ S
+93 NotADeskFile ! sql @ UPDATE desk SET version = 3
+93 NotADeskFile ! sql @ DROP TABLE forward; UPDATE desk SET version = 0
+93 NotADeskFile ! sql @ DROP TABLE forward
+93 NotADeskFile ! sql @ INSERT INTO forward VALUES (1, '2024-03-05')
+93 NotADeskFile ! sql @ UPDATE desk SET version = 1
+93 NotADeskFile ! sql @ DROP TABLE forward; UPDATE desk SET version = 1; CREATE VIEW forward AS SELECT 1
+93 NotADeskFile ! sql @ DROP TABLE forward; UPDATE desk SET version = 1; CREATE INDEX forward ON mark (date)
+93 NotADeskFile ! sql @ DROP TABLE forward; UPDATE desk SET version = 1; DROP TABLE mark
+93 NotADeskFile ! sql @ DROP TABLE forward; UPDATE desk SET version = 1; UPDATE payment SET state = 9 WHERE number = 3
+94 Inconsistent 9 ! sql @ DROP TABLE forward; UPDATE desk SET version = 1; UPDATE mark SET many = 2 WHERE number = 2
+94 Inconsistent 14 ! sql @ DROP TABLE forward; UPDATE desk SET version = 1; UPDATE participant SET balance = balance + 1
+94 Inconsistent 14 ! sql @ UPDATE participant SET balance = balance + 1";
+
+#[test]
+fn what_is_no_sound_book_is_left_as_it_was(rt: HostRuntime) -> Result<(), Fail> {
+    follows_both(&rt, "unmigrated", DAY, ORDERS)?;
+    follows_each(&rt, "unmigrated", UNMIGRATED, UNSOUND)
+}

@@ -1,0 +1,187 @@
+//! Tables of two banks, made those of the first version by hand, since no desk makes such tables: they are made those of
+//! the newest, or refused and left as they are.
+use super::super::scripts::{Answers, follows};
+use super::super::setting::{meddled, new_keeper};
+use super::{BALANCES, BROKEN_RULES, NO_DESK, OTHER_TABLES, WITHOUT_KEYS, two_banks};
+use rtgs_book::Fault;
+use rtgs_sql_loading::load_book;
+use rtgs_tables::{SqlKeeper, migrate};
+use sqlite::{Alter, Connection};
+use std::alloc::Global;
+use std::test::Fail;
+
+/// Makes tables of the newest version those of the first.
+const OLDER: &str = "DROP TABLE forward; UPDATE desk SET version = 1";
+
+/// What tables show: how many there are, and the book that is read of them as those of each version, or why none is.
+#[derive(Drop, PartialEq, Eq)]
+struct Shown {
+    tables: usize,
+    first: String,
+    second: String,
+}
+
+/// The book that is read of tables as those of this version, or why none is.
+fn read_as<S: Alter>(
+    alloc: Global,
+    conn: &mut Connection<S>,
+    version: u64,
+) -> Result<String, Fail> {
+    let book = load_book(alloc, conn, version);
+    Ok(format!(in alloc; "{book:?}")?)
+}
+
+impl Shown {
+    /// What these show.
+    fn of<S: Alter>(alloc: Global, conn: &mut Connection<S>) -> Result<Shown, Fail> {
+        Ok(Shown {
+            tables: conn.schema().tables.len(),
+            first: read_as(alloc, conn, 1)?,
+            second: read_as(alloc, conn, 2)?,
+        })
+    }
+
+    /// Whether this is what they show once they are made those of the newest version: one table more, and the same
+    /// book.
+    fn becomes(&self, after: &Shown) -> bool {
+        after.tables == self.tables.saturating_add(1)
+            && after.second.as_str() == self.first.as_str()
+            && after.first.as_str() == "Err(NotADeskFile)"
+    }
+}
+
+/// What a migration answers. Nothing is changed but where it tells so.
+fn told(
+    alloc: Global,
+    answer: Result<bool, Fault>,
+    before: &Shown,
+    after: &Shown,
+) -> Result<String, Fail> {
+    match answer {
+        Ok(true) if before.becomes(after) => Ok(String::from_str(alloc, "sound")?),
+        Ok(false) if before == after => Ok(String::from_str(alloc, "repeated")?),
+        Err(fault) if before == after => Ok(format!(in alloc; "{fault:?}")?),
+        _ => Err(Fail::from("another change, or none")),
+    }
+}
+
+/// The same of the tables of a keeper.
+fn migrated<S: Alter + Drop>(alloc: Global, keeper: SqlKeeper<S>) -> Result<String, Fail> {
+    let mut conn = keeper.into_connection();
+    let before = Shown::of(alloc, &mut conn)?;
+    if !conn.is_autocommit() {
+        return Err(Fail::from("in a transaction"));
+    }
+    let answer = migrate(alloc, &mut conn);
+    let after = Shown::of(alloc, &mut conn)?;
+    told(alloc, answer, &before, &after)
+}
+
+/// Tells what the migration answers once tables of two banks were made those of the first version, or left as they are,
+/// and a line of SQL was run on them.
+#[derive(Clone, Copy)]
+struct Migrating {
+    is_older: bool,
+}
+
+impl Answers for Migrating {
+    fn answer(&mut self, alloc: Global, asked: &str) -> Result<String, Fail> {
+        let mut keeper = two_banks(alloc)?;
+        if self.is_older {
+            keeper = meddled(keeper, OLDER)?;
+        }
+        migrated(alloc, meddled(keeper, asked)?)
+    }
+}
+
+/// Fails unless tables of two banks, of the first version, are judged by a migration as the script tells.
+fn older_tables_follow(rt: &HostRuntime, script: &str) -> Result<(), Fail> {
+    follows(rt.alloc(), &mut Migrating { is_older: true }, script)
+}
+
+#[test]
+fn a_book_is_judged_as_one_of_the_newest_version(rt: HostRuntime) -> Result<(), Fail> {
+    for script in [NO_DESK, BALANCES, BROKEN_RULES, WITHOUT_KEYS, OTHER_TABLES] {
+        older_tables_follow(&rt, script)?;
+    }
+    Ok(())
+}
+
+// An order in a state that no desk of the first version knew, and one that none knows.
+const STATES: &str = "
+INSERT INTO payment (number, sender, reference, receiver, amount, date, state, mark) \
+    VALUES (1, 'ALFA', 'A-1', 'BETA', 5, '2024-03-04', 4, NULL) => NotADeskFile
+INSERT INTO payment (number, sender, reference, receiver, amount, date, state, mark) \
+    VALUES (1, 'ALFA', 'A-1', 'BETA', 5, '2024-03-04', 9, NULL) => NotADeskFile
+INSERT INTO payment (number, sender, reference, receiver, amount, date, state, mark) \
+    VALUES (1, 'ALFA', 'A-1', 'BETA', 0, '2024-03-04', 2, NULL) => NotADeskFile
+";
+
+#[test]
+fn orders_of_no_form_are_refused(rt: HostRuntime) -> Result<(), Fail> {
+    older_tables_follow(&rt, STATES)
+}
+
+const VERSIONS: &str = "
+UPDATE desk SET version = -1 => NotADeskFile
+UPDATE desk SET version = 0 => NotADeskFile
+UPDATE desk SET version = 2 => NotADeskFile
+UPDATE desk SET version = 7 => NotADeskFile
+INSERT INTO desk (id, version, phase) VALUES (2, 1, 0) => NotADeskFile
+INSERT INTO desk (id, version, phase) VALUES (2, 2, 0) => NotADeskFile
+DROP TABLE desk => NotADeskFile
+";
+
+#[test]
+fn tables_that_tell_no_earlier_version_are_refused(rt: HostRuntime) -> Result<(), Fail> {
+    older_tables_follow(&rt, VERSIONS)
+}
+
+// The name of the table that the first version lacks is taken. Where the book is broken besides, this comes first.
+const TAKEN: &str = "
+CREATE TABLE forward (number INTEGER PRIMARY KEY, due TEXT NOT NULL) STRICT => NotADeskFile
+CREATE VIEW forward AS SELECT number, date AS due FROM posting => NotADeskFile
+CREATE INDEX forward ON payment (receiver) => NotADeskFile
+CREATE TABLE FORWARD (a) => NotADeskFile
+CREATE TABLE forward (a); UPDATE participant SET balance = 999 WHERE code = 'ALFA' => NotADeskFile
+CREATE TABLE another (a) => sound
+";
+
+#[test]
+fn a_name_that_is_taken_is_refused(rt: HostRuntime) -> Result<(), Fail> {
+    older_tables_follow(&rt, TAKEN)
+}
+
+const NEWEST: &str = "
+UPDATE participant SET name = 'B' => repeated
+UPDATE participant SET balance = 999 WHERE code = 'ALFA' => Inconsistent { rule: StoredBalances }
+INSERT INTO forward (number, due) VALUES (1, '2024-03-05') => NotADeskFile
+DROP TABLE forward => NotADeskFile
+UPDATE desk SET version = 1 => NotADeskFile
+UPDATE desk SET version = 3 => NotADeskFile
+";
+
+#[test]
+fn tables_of_the_newest_version_stay(rt: HostRuntime) -> Result<(), Fail> {
+    follows(rt.alloc(), &mut Migrating { is_older: false }, NEWEST)
+}
+
+/// What the migration of a new book of the first version answers.
+fn new_book_migrated(alloc: Global) -> Result<String, Fail> {
+    let keeper = new_keeper(alloc)?;
+    migrated(alloc, meddled(keeper, OLDER)?)
+}
+
+#[test]
+fn a_new_book_is_migrated(rt: HostRuntime) -> Result<(), Fail> {
+    assert_eq!(rt; new_book_migrated(rt.alloc())?.as_str(), "sound");
+    Ok(())
+}
+
+#[test]
+fn an_empty_database_is_refused(rt: HostRuntime) -> Result<(), Fail> {
+    let conn = Connection::open_in_memory(rt.alloc())?;
+    let answer = migrated(rt.alloc(), SqlKeeper::open(conn))?;
+    assert_eq!(rt; answer.as_str(), "NotADeskFile");
+    Ok(())
+}
