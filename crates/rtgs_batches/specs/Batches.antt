@@ -9,12 +9,12 @@ use Rattle.rtgs_book.specs.declared.Refusal.{Refusal}
 use Rattle.rtgs_book.specs.Outcome.{Reply}
 use Rattle.rtgs_book.specs.Session.{is_judged, open_command}
 use Rattle.rtgs_order_files.specs.declared.batch_result.RowReply.{RowReply}
-use Rattle.rtgs_order_files.specs.declared.batch_result.RowReply.TheVariants.{Settled, Queued, Repeated, Refused}
+use Rattle.rtgs_order_files.specs.declared.batch_result.RowReply.TheVariants.{Settled, Queued, Held, Repeated, Refused}
 use Rattle.rtgs_order_files.specs.declared.order_row.OrderRow.{OrderRow}
 
 -- the row as an order of the sender
 abbrev pub order_of : List ℕ → OrderRow → Command
-order_of sender row = Order sender row.reference row.receiver row.amount
+order_of sender row = Order sender row.reference row.receiver row.amount row.due
 
 abbrev pub orders_of : List ℕ → List OrderRow → List Command
 orders_of sender rows = map (order_of sender) rows
@@ -23,6 +23,7 @@ orders_of sender rows = map (order_of sender) rows
 abbrev pub reply_of : RowReply → Reply
 reply_of (Settled number mark) = Ok (answer.Settled number mark)
 reply_of (Queued number place) = Ok (answer.Queued number place)
+reply_of (Held number due) = Ok (answer.Held number due)
 reply_of (Repeated number state) = Ok (answer.Repeated (known.Order number state))
 reply_of (Refused refusal) = Err refusal
 

@@ -90,22 +90,36 @@ fn submit_row<K: Keeper>(
         reference: row.reference,
         receiver: row.receiver,
         amount: row.amount,
+        due: row.due,
     };
     match desk.submit(command) {
-        Ok(answer) => Ok(accepted(answer)),
+        Ok(answer) => Ok(accepted(&answer)),
         Err(refusal) => refused(refusal),
     }
 }
 
 // The reply that is this answer to an order.
-fn accepted(answer: Answer) -> RowReply
-    requires { IsTrue (answers_an_order answer) }
-    ensures { reply_of result ≡ Ok answer }
+fn accepted(answer: &Answer) -> RowReply
+    requires { IsTrue (answers_an_order answer.now) }
+    ensures { reply_of result ≡ Ok answer.now }
 {
     match answer {
-        Answer::Settled { number, mark } => RowReply::Settled { number, mark },
-        Answer::Queued { number, place } => RowReply::Queued { number, place },
-        Answer::Repeated(Known::Order { number, state }) => RowReply::Repeated { number, state },
+        Answer::Settled { number, mark } => RowReply::Settled {
+            number: *number,
+            mark: *mark,
+        },
+        Answer::Queued { number, place } => RowReply::Queued {
+            number: *number,
+            place: *place,
+        },
+        Answer::Held { number, due } => RowReply::Held {
+            number: *number,
+            due: *due,
+        },
+        Answer::Repeated(Known::Order { number, state }) => RowReply::Repeated {
+            number: *number,
+            state: *state,
+        },
         Answer::Added
         | Answer::CreditSet
         | Answer::Posted { .. }

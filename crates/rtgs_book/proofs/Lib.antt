@@ -1,6 +1,7 @@
 pub mod Balances
 pub mod Beginnings
 pub mod Choices
+pub mod Dues
 pub mod IntSums
 pub mod Issue
 pub mod Lists

@@ -1,5 +1,5 @@
 -- The book and its records under short names, and the tests of a phase and a state.
-use Rattle.std.specs.Prelude.{Bool, true, false, List, [], ◌∷◌, None}
+use Rattle.std.specs.Prelude.{Bool, true, false, List, [], ◌∷◌, None, is_some}
 pub use Rattle.rtgs_book.specs.declared.book.Book.{Book}
 pub use Rattle.rtgs_book.specs.declared.day.Day.{Day}
 pub use Rattle.rtgs_book.specs.declared.phase.Phase.{Phase}
@@ -9,7 +9,7 @@ pub use Rattle.rtgs_book.specs.declared.posting.Posting.{Posting}
 pub use Rattle.rtgs_book.specs.declared.order.Order.{Order}
 pub use Rattle.rtgs_book.specs.declared.mark.Mark.{Mark}
 pub use Rattle.rtgs_book.specs.declared.order_state.OrderState.{OrderState}
-pub use Rattle.rtgs_book.specs.declared.order_state.OrderState.TheVariants.{Queued, Settled, Withdrawn, Rejected}
+pub use Rattle.rtgs_book.specs.declared.order_state.OrderState.TheVariants.{Queued, Held, Settled, Withdrawn, Rejected}
 
 abbrev pub is_closed : Phase → Bool
 is_closed Closed = true
@@ -27,6 +27,16 @@ abbrev pub is_queued_state : OrderState → Bool
 is_queued_state Queued = true
 is_queued_state state = false
 
+abbrev pub is_held_state : OrderState → Bool
+is_held_state Held = true
+is_held_state state = false
+
+-- it may yet be settled, or taken back: it stands in its queue, or will enter it
+abbrev pub is_waiting_state : OrderState → Bool
+is_waiting_state Queued = true
+is_waiting_state Held = true
+is_waiting_state state = false
+
 abbrev pub is_settled_state : OrderState → Bool
 is_settled_state (Settled mark) = true
 is_settled_state state = false
@@ -37,6 +47,16 @@ is_withdrawn_state state = false
 
 abbrev pub is_queued : Order → Bool
 is_queued order = is_queued_state order.state
+
+abbrev pub is_held : Order → Bool
+is_held order = is_held_state order.state
+
+abbrev pub is_waiting : Order → Bool
+is_waiting order = is_waiting_state order.state
+
+-- its sender named a due date
+abbrev pub has_due : Order → Bool
+has_due order = is_some order.due
 
 abbrev pub is_settled : Order → Bool
 is_settled order = is_settled_state order.state

@@ -1,7 +1,7 @@
 -- What each command comes to. Its tests stand in their order; `choice` is the greatest one.
 use Rattle.std.specs.Prelude.{ℕ, ◌+◌, ℤ, pos, neg_ℤ, ◌+ℤ◌, ◌-ℤ◌, int_lt, int_le, Bool, true, false, not, ◌&&◌, ◌==◌}
 use Rattle.std.specs.Prelude.{nat_le, nat_lt, if◌then◌else◌, List, [], ◌∷◌, ◌++◌, length, map, filter, Option, Some}
-use Rattle.std.specs.Prelude.{None, is_some, is_none, Ok, Err}
+use Rattle.std.specs.Prelude.{None, is_some, is_none, unwrap_or, Ok, Err}
 use Rattle.std.specs.List.{list_any}
 use Rattle.std.specs.Str.{bytes_eq}
 use Rattle.std.specs.Ordering.{nat_cmp, is_lt, int_eq}
@@ -14,14 +14,15 @@ use Rattle.rtgs_book.specs.declared.refusal.Refusal.TheVariants.{ReferenceUsed, 
 use Rattle.rtgs_book.specs.declared.refusal.Refusal.TheVariants.{NumbersUsedUp, UnknownOrder, CodeTaken, KeyTaken}
 use Rattle.rtgs_book.specs.declared.refusal.Refusal.TheVariants.{TooManyParticipants, TotalTooLarge, WrongPhase}
 use Rattle.rtgs_book.specs.declared.refusal.Refusal.TheVariants.{WrongDate, Weekend, NotQueued, Resolvable, Overdrawn}
+use Rattle.rtgs_book.specs.declared.refusal.Refusal.TheVariants.{DueNotLater}
 use Rattle.rtgs_book.specs.declared.limits.TheConstants.{MOST_PARTICIPANTS, LONGEST_QUEUE, LARGEST_NUMBER}
 use Rattle.rtgs_book.specs.declared.limits.TheConstants.{LARGEST_TOTAL}
 use Rattle.rtgs_book.specs.Books.{Book, Day, Closed, Open, CutOff, Participant, Posting, Order, OrderState, Queued}
-use Rattle.rtgs_book.specs.Books.{Withdrawn, Rejected, is_closed, is_open, is_cut_off, is_queued, is_withdrawn_state}
-use Rattle.rtgs_book.specs.Books.{is_empty}
+use Rattle.rtgs_book.specs.Books.{Held, Withdrawn, Rejected, is_closed, is_open, is_cut_off, is_queued, is_held}
+use Rattle.rtgs_book.specs.Books.{is_waiting, is_withdrawn_state, is_empty}
 use Rattle.rtgs_book.specs.Lookup.{has_code, accounts, participant_of, is_participant, order_named, posting_named}
 use Rattle.rtgs_book.specs.Balance.{balance, floor, total}
-use Rattle.rtgs_book.specs.Queue.{queue}
+use Rattle.rtgs_book.specs.Queue.{queue, waiting}
 use Rattle.rtgs_book.specs.Choice.{Choice, is_chosen, chosen}
 use Rattle.rtgs_book.specs.Settle.{altered, in_state, settle, mark_of, today, next_mark}
 use Rattle.rtgs_book.specs.Outcome.{Outcome, Reply, accepts, first_of}
@@ -102,11 +103,51 @@ post book code reference cents =
     ∷ []
     ) (accepts (answer.Posted number) (record book { postings = book.postings ++ posting ∷ [] }))
 
+-- ---- dates
+
+-- no date is none of the dates
+abbrev pub is_date : Option ℕ → ℕ → Bool
+is_date None date = false
+is_date (Some day) date = day == date
+
+-- the day's date is this one
+abbrev pub is_on : Book → ℕ → Bool
+is_on book date = is_date book.day.date date
+
+abbrev pub is_later : ℕ → Option ℕ → Bool
+is_later date None = true
+is_later date (Some last) = nat_lt last date
+
+-- ---- due dates
+
+-- the same due date, or both times none
+abbrev pub is_same_due : Option ℕ → Option ℕ → Bool
+is_same_due None None = true
+is_same_due (Some one) (Some other) = one == other
+is_same_due one other = false
+
+-- there is a due date, and it is not later than the day's
+abbrev pub is_due_too_early : Book → Option ℕ → Bool
+is_due_too_early book None = false
+is_due_too_early book (Some due) = not (is_later due book.day.date)
+
+-- there is a due date, and it is a Saturday or a Sunday
+abbrev pub is_due_on_a_weekend : Option ℕ → Bool
+is_due_on_a_weekend None = false
+is_due_on_a_weekend (Some due) = is_weekend due
+
+-- there is a due date, and it is this one or earlier
+abbrev pub is_due_by : ℕ → Option ℕ → Bool
+is_due_by date None = false
+is_due_by date (Some due) = nat_le due date
+
 -- ---- orders
 
-abbrev pub is_same_order : Option Order → List ℕ → ℕ → Bool
-is_same_order None receiver amount = false
-is_same_order (Some order) receiver amount = bytes_eq order.receiver receiver && (order.amount == amount)
+-- the order has this content
+abbrev pub is_same_order : Option Order → List ℕ → ℕ → Option ℕ → Bool
+is_same_order None receiver amount due = false
+is_same_order (Some order) receiver amount due =
+    bytes_eq order.receiver receiver && (order.amount == amount) && is_same_due order.due due
 
 abbrev pub known_order : Option Order → Reply
 known_order None = repeated
@@ -117,25 +158,35 @@ unfoldable pub settles_at_once : Book → List ℕ → ℕ → Bool
 settles_at_once book sender amount =
     is_empty (queue book sender) && int_le (floor book sender) (balance book sender -ℤ pos amount)
 
+-- so without a due date
+abbrev pub settles_now : Book → List ℕ → ℕ → Option ℕ → Bool
+settles_now book sender amount due = is_none due && settles_at_once book sender amount
+
 abbrev pub has_number : ℕ → Order → Bool
 has_number number order = order.number == number
 
--- a new order, at the end of its sender's queue
-abbrev pub new_order : Book → List ℕ → List ℕ → List ℕ → ℕ → Order
-new_order book sender reference receiver amount = record {
+-- how an order stands that is taken: held where it has a due date, and else queued
+abbrev pub first_state : Option ℕ → OrderState
+first_state None = Queued
+first_state (Some due) = Held
+
+-- a new order: at the end of its sender's queue, or held until its due date
+abbrev pub new_order : Book → List ℕ → List ℕ → List ℕ → ℕ → Option ℕ → Order
+new_order book sender reference receiver amount due = record {
   number = length book.orders + 1;
   sender = sender;
   reference = reference;
   receiver = receiver;
   amount = amount;
-  date = today book;
-  state = Queued;
+  date = unwrap_or due (today book);
+  due = due;
+  state = first_state due;
 }
 
 abbrev pub with_order : Book → Order → Book
 with_order book order = record book { orders = book.orders ++ order ∷ [] }
 
--- the outcome of an order that is taken
+-- the outcome of an order that is taken without a due date
 unfoldable pub takes : Book → Order → Outcome
 takes book order =
     let queued = with_order book order in
@@ -143,28 +194,35 @@ takes book order =
     then accepts (answer.Settled order.number (next_mark book)) (settle queued (has_number order.number))
     else accepts (answer.Queued order.number (length (queue queued order.sender))) queued
 
-unfoldable pub order : Book → List ℕ → List ℕ → List ℕ → ℕ → Outcome
-order book sender reference receiver amount =
+-- the outcome of an order that is taken
+abbrev pub takes_due : Book → Order → Option ℕ → Outcome
+takes_due book order None = takes book order
+takes_due book order (Some due) = accepts (answer.Held order.number due) (with_order book order)
+
+unfoldable pub order : Book → List ℕ → List ℕ → List ℕ → ℕ → Option ℕ → Outcome
+order book sender reference receiver amount due =
     let found = order_named book sender reference in
     first_of book (
     (not (is_participant book sender), Err UnknownParticipant)
-    ∷ (is_same_order found receiver amount, known_order found)
+    ∷ (is_same_order found receiver amount due, known_order found)
     ∷ (is_some found, Err ReferenceUsed)
     ∷ (not (is_open book.day.phase), Err NotOpen)
     ∷ (not (is_participant book receiver), Err UnknownReceiver)
     ∷ (bytes_eq sender receiver, Err SameParty)
+    ∷ (is_due_too_early book due, Err DueNotLater)
+    ∷ (is_due_on_a_weekend due, Err Weekend)
     ∷ (nat_le LARGEST_NUMBER (length book.orders), Err NumbersUsedUp)
-    ∷ (not (settles_at_once book sender amount) && nat_le LONGEST_QUEUE (length (queue book sender)), Err QueueFull)
+    ∷ (not (settles_now book sender amount due) && nat_le LONGEST_QUEUE (length (waiting book sender)), Err QueueFull)
     ∷ []
-    ) (takes book (new_order book sender reference receiver amount))
+    ) (takes_due book (new_order book sender reference receiver amount due) due)
 
 abbrev pub is_withdrawn_order : Option Order → Bool
 is_withdrawn_order None = false
 is_withdrawn_order (Some order) = is_withdrawn_state order.state
 
-abbrev pub is_queued_order : Option Order → Bool
-is_queued_order None = false
-is_queued_order (Some order) = is_queued order
+abbrev pub is_waiting_order : Option Order → Bool
+is_waiting_order None = false
+is_waiting_order (Some order) = is_waiting order
 
 abbrev pub number_of : Option Order → ℕ
 number_of None = 0
@@ -185,24 +243,27 @@ withdraw book sender reference =
     (not (is_participant book sender), Err UnknownParticipant)
     ∷ (is_none found, Err UnknownOrder)
     ∷ (is_withdrawn_order found, known_order found)
-    ∷ (not (is_queued_order found), Err NotQueued)
+    ∷ (not (is_waiting_order found), Err NotQueued)
     ∷ []
     ) (accepts (answer.Withdrawn (number_of found)) (with_state book (has_number (number_of found)) Withdrawn))
 
 -- ---- the day
 
--- no date is none of the dates
-abbrev pub is_date : Option ℕ → ℕ → Bool
-is_date None date = false
-is_date (Some day) date = day == date
+-- the order is held, and due by this date
+abbrev pub is_due : ℕ → Order → Bool
+is_due date order = is_held order && is_due_by date order.due
 
--- the day's date is this one
-abbrev pub is_on : Book → ℕ → Bool
-is_on book date = is_date book.day.date date
+-- the order in its queue, from this date on
+abbrev pub entered : ℕ → Order → Order
+entered date order = record order { state = Queued; date = date }
 
-abbrev pub is_later : ℕ → Option ℕ → Bool
-is_later date None = true
-is_later date (Some last) = nat_lt last date
+-- the order is held, and has this number
+abbrev pub is_held_with : ℕ → Order → Bool
+is_held_with number order = is_held order && has_number number order
+
+-- the orders that pass the test enter their queues on this date
+unfoldable pub let_in : Book → (Order → Bool) → ℕ → Book
+let_in book is_in date = with_altered book is_in (entered date)
 
 abbrev pub with_day : Book → Day → Book
 with_day book day = record book { day = day }
@@ -215,7 +276,7 @@ open_day book date =
     ∷ (not (is_later date book.day.date), Err WrongDate)
     ∷ (is_weekend date, Err Weekend)
     ∷ []
-    ) (accepts answer.Opened (with_day book (record { date = Some date; phase = Open })))
+    ) (accepts answer.Opened (with_day (let_in book (is_due date) date) (record { date = Some date; phase = Open })))
 
 unfoldable pub cut_off : Book → ℕ → Outcome
 cut_off book date =

@@ -1,5 +1,5 @@
 -- What the laws of the definitions speak of.
-use Rattle.std.specs.Prelude.{◌≡◌, ℤ, pos, true, Ok, List, ◌++◌, ⊤}
+use Rattle.std.specs.Prelude.{◌≡◌, ◌≤◌, ℕ, ℤ, pos, true, Ok, List, ◌++◌, Some, ⊤}
 use Rattle.std.specs.List.{AllByRecursion}
 use Rattle.rtgs_money.specs.Amounts.{IsAmount, IsPostingAmount, IsCredit}
 use Rattle.rtgs_book.specs.declared.command.Command.TheVariants.{SetCredit, Post, Order as PlaceOrder}
@@ -10,6 +10,7 @@ use Rattle.rtgs_book.specs.Lookup.{accounts}
 use Rattle.rtgs_book.specs.Balance.{balance}
 use Rattle.rtgs_book.specs.Outcome.{Command, Reply}
 use Rattle.rtgs_book.specs.Procedure.{Has}
+use Rattle.rtgs_book.specs.Soundness.{is_state_under}
 use Rattle.rtgs_book.specs.Totals.{Within}
 
 -- what an accepted posting adds to all balances together
@@ -26,8 +27,17 @@ pub record KeepsWhatIsFinal (old new : Book) : Type 0 where
 abbrev pub CommandFits : Command → Type 0
 CommandFits (SetCredit code credit) = IsCredit credit
 CommandFits (Post code reference cents) = IsPostingAmount cents
-CommandFits (PlaceOrder sender reference receiver amount) = IsAmount amount
+CommandFits (PlaceOrder sender reference receiver amount due) = IsAmount amount
 CommandFits command = ⊤
+
+-- where the order has a due date, each of these marks that settled it is of that date or a later one
+abbrev pub SettlesInTime : List Mark → Order → Type 0
+SettlesInTime marks o = (due : ℕ) (mark : Mark) → o.due ≡ Some due → Has marks mark
+    → is_state_under mark.number o.state ≡ true → due ≤ mark.date
+
+-- no order is settled under a mark that is dated before its due date
+abbrev pub NothingSettlesEarly : Book → Type 0
+NothingSettlesEarly book = AllByRecursion (SettlesInTime book.marks) book.orders
 
 -- every balance is at most LARGEST_BALANCE in magnitude, which is far below 2^63
 abbrev pub BalancesFit : Book → Type 0

@@ -26,6 +26,7 @@ refusal_kind_of refusal.Weekend = kind.Weekend
 refusal_kind_of refusal.NotQueued = kind.NotQueued
 refusal_kind_of refusal.Resolvable = kind.Resolvable
 refusal_kind_of (refusal.Overdrawn first count) = kind.Overdrawn
+refusal_kind_of refusal.DueNotLater = kind.DueNotLater
 refusal_kind_of refusal.OutOfMemory = kind.OutOfMemory
 refusal_kind_of refusal.StoreFault = kind.StoreFault
 refusal_kind_of refusal.Failed = kind.Failed

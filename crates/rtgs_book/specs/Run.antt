@@ -7,7 +7,7 @@ use Rattle.rtgs_book.specs.declared.command.Command.TheVariants.{Post, Order}
 use Rattle.rtgs_book.specs.declared.answer.Answer.TheVariants.{Repeated}
 use Rattle.rtgs_book.specs.Books.{Book}
 use Rattle.rtgs_book.specs.Lookup.{order_named, posting_named}
-use Rattle.rtgs_book.specs.Commands.{is_same_order, is_same_posting}
+use Rattle.rtgs_book.specs.Commands.{is_same_due, is_same_order, is_same_posting}
 use Rattle.rtgs_book.specs.Outcome.{Command, Reply}
 use Rattle.rtgs_book.specs.Step.{Step}
 
@@ -27,15 +27,15 @@ is_accepted (Err refusal) = false
 
 -- two orders, or two postings, with one name and one content
 abbrev pub is_same_entry : Command → Command → Bool
-is_same_entry (Order s r to amount) (Order s' r' to' amount') = bytes_eq s s' && bytes_eq r r' && bytes_eq to to'
-    && (amount == amount')
+is_same_entry (Order s r to amount due) (Order s' r' to' amount' due') = bytes_eq s s' && bytes_eq r r'
+    && bytes_eq to to' && (amount == amount') && is_same_due due due'
 is_same_entry (Post code r cents) (Post code' r' cents') = bytes_eq code code' && bytes_eq r r' && int_eq cents cents'
 is_same_entry one other = false
 
 -- the book has the order or the posting, with that content
 abbrev pub is_recorded : Book → Command → Bool
-is_recorded book (Order sender reference receiver amount) = is_same_order
-    (order_named book sender reference) receiver amount
+is_recorded book (Order sender reference receiver amount due) = is_same_order
+    (order_named book sender reference) receiver amount due
 is_recorded book (Post code reference cents) = is_same_posting (posting_named book reference) code cents
 is_recorded book command = false
 

@@ -1,6 +1,7 @@
 -- What a sound book keeps, rule by rule.
-use Rattle.std.specs.Prelude.{◌≡◌, ℕ, ◌≤◌, pos, ◌≤ℤ◌, Bool, true, false, not, ◌&&◌, ◌==◌, List, [], ◌∷◌, length, map}
-use Rattle.std.specs.Prelude.{filter, sum_by, unwrap_or, is_some, IsTrue, ⊤}
+use Rattle.std.specs.Prelude.{◌≡◌, ◌⊎◌, ℕ, ◌≤◌, ◌<◌, pos, ◌≤ℤ◌, Bool, true, false, not, ◌&&◌, ◌==◌, List, [], ◌∷◌}
+use Rattle.std.specs.Prelude.{length}
+use Rattle.std.specs.Prelude.{map, filter, sum_by, Option, Some, None, unwrap_or, is_some, IsTrue, ⊤}
 use Rattle.std.specs.List.{AllByRecursion, IsDistinct, list_any, range_with_len}
 use Rattle.std.specs.List.Sorted.{IsStrictlySortedBy}
 use Rattle.std.specs.Ordering.{nat_cmp}
@@ -9,10 +10,11 @@ use Rattle.std.specs.Str.{bytes_eq}
 use Rattle.rtgs_money.specs.Date.{is_weekend}
 use Rattle.rtgs_book.specs.declared.limits.TheConstants.{MOST_PARTICIPANTS, LONGEST_QUEUE, LARGEST_NUMBER}
 use Rattle.rtgs_book.specs.declared.limits.TheConstants.{LARGEST_TOTAL}
-use Rattle.rtgs_book.specs.Books.{Book, Participant, Posting, Order, OrderState, Mark, Settled, is_closed, is_queued}
+use Rattle.rtgs_book.specs.Books.{Book, Participant, Posting, Order, OrderState, Mark, Held, Settled, Withdrawn}
+use Rattle.rtgs_book.specs.Books.{is_closed, is_queued, is_held_state, has_due}
 use Rattle.rtgs_book.specs.Lookup.{accounts, is_participant}
 use Rattle.rtgs_book.specs.Balance.{balance, floor, total}
-use Rattle.rtgs_book.specs.Queue.{queue}
+use Rattle.rtgs_book.specs.Queue.{waiting}
 use Rattle.rtgs_book.specs.Settle.{today}
 
 -- 1, 2, 3 and so on, at most LARGEST_NUMBER
@@ -83,11 +85,11 @@ MarksFitOrders book =
     AllByRecursion (λ (o : Order). HasMark book.marks o.date o.state) book.orders
     × AllByRecursion (CountsItsOrders book) book.marks
 
--- nothing is queued while the desk is closed, a queue has at most LONGEST_QUEUE orders, and a queued order is of the
--- day
+-- nothing is queued while the desk is closed, a sender has at most LONGEST_QUEUE orders that are queued or held, and a
+-- queued order is of the day
 pub record QueuesFit (book : Book) : Type 0 where
   pub closed : IsTrue (is_closed book.day.phase) → filter is_queued book.orders ≡ []
-  pub short : AllByRecursion (λ code. length (queue book code) ≤ LONGEST_QUEUE) (accounts book)
+  pub short : AllByRecursion (λ code. length (waiting book code) ≤ LONGEST_QUEUE) (accounts book)
   pub of_the_day : AllByRecursion (λ (o : Order). o.date ≡ today book) (filter is_queued book.orders)
 
 -- the dates don't fall along the list, and none is after the last
@@ -98,13 +100,26 @@ NeverFall last (date ∷ dates) = AllByRecursion (λ later. date ≤ later) date
 abbrev pub AreWeekdays : List ℕ → Type 0
 AreWeekdays dates = AllByRecursion (λ date. is_weekend date ≡ false) dates
 
+-- how an order with this due date is dated, by where it stands: by its due date, which is later than the day's, while
+-- it is held; not after the day's, once it has entered its queue; and where it was withdrawn in one of these ways
+abbrev pub IsDatedBy : ℕ → ℕ → ℕ → OrderState → Type 0
+IsDatedBy today due date Held = (date ≡ due) × (today < date)
+IsDatedBy today due date Withdrawn = (date ≡ due) ⊎ (date ≤ today)
+IsDatedBy today due date state = date ≤ today
+
+-- a due date is on a weekday, and the order's date is not before it; what is held has a due date
+abbrev pub FitsDue : ℕ → Option ℕ → ℕ → OrderState → Type 0
+FitsDue today None date state = is_held_state state ≡ false
+FitsDue today (Some due) date state = (is_weekend due ≡ false) × (due ≤ date) × IsDatedBy today due date state
+
 -- No date counts as 0, which is before every date.
 pub record DatesFit (book : Book) : Type 0 where
   pub dated : is_closed book.day.phase ≡ false → IsTrue (is_some book.day.date)
   pub weekday : is_some book.day.date ≡ true → is_weekend (today book) ≡ false
   pub order_weekdays : AreWeekdays (map (λ (o : Order). o.date) book.orders)
   pub mark_weekdays : AreWeekdays (map (λ (m : Mark). m.date) book.marks)
-  pub orders : NeverFall (today book) (map (λ (o : Order). o.date) book.orders)
+  pub orders : NeverFall (today book) (map (λ (o : Order). o.date) (filter (λ o. not (has_due o)) book.orders))
+  pub dues : AllByRecursion (λ (o : Order). FitsDue (today book) o.due o.date o.state) book.orders
   pub marks : NeverFall (today book) (map (λ (m : Mark). m.date) book.marks)
   pub postings : NeverFall (today book) (map (λ (p : Posting). unwrap_or p.date 0) book.postings)
 

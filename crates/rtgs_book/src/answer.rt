@@ -1,6 +1,6 @@
 //! Answers to commands.
 use crate::order_state::OrderState;
-use rtgs_money::Cents;
+use rtgs_money::{BusinessDate, Cents};
 
 /// What is known now of a command that was done before.
 #[derive(Clone, Copy, Debug, PartialEq, Eq)]
@@ -20,6 +20,8 @@ pub enum Answer {
     Settled { number: u64, mark: u64 },
     /// The order waits, at this place of its sender's queue, counted from 1.
     Queued { number: u64, place: u64 },
+    /// The order is in no queue until its due date.
+    Held { number: u64, due: BusinessDate },
     Withdrawn { number: u64 },
     /// So many orders of this value were settled under the mark.
     Resolved { mark: u64, count: u64, value: Cents },

@@ -6,7 +6,7 @@ use crate::order_state::OrderState;
 use crate::participant::Participant;
 use crate::posting::Posting;
 use crate::rows::Rows;
-use rtgs_money::{Cents, Code, Credit};
+use rtgs_money::{BusinessDate, Cents, Code, Credit};
 
 /// One row that is added or set.
 #[derive(Clone, Copy, Debug, PartialEq, Eq)]
@@ -20,6 +20,8 @@ pub enum RowChange {
     SetBalance { code: Code, balance: Cents },
     /// The new state of the order with this number.
     SetState { number: u64, state: OrderState },
+    /// The held order with this number enters its queue on this date.
+    EnterQueue { number: u64, date: BusinessDate },
     SetDay(Day),
 }
 

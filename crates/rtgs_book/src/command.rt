@@ -21,16 +21,17 @@ pub enum Command {
         reference: Reference,
         cents: PostingAmount,
     },
-    /// Opens the business day.
+    /// Opens the business day, and lets the held orders into their queues that are due by its date.
     OpenDay(BusinessDate),
-    /// Pays, at once or after the orders that are queued.
+    /// Pays, at once or after the orders that are queued; with a due date, not before that date.
     Order {
         sender: Code,
         reference: Reference,
         receiver: Code,
         amount: Amount,
+        due: Option<BusinessDate>,
     },
-    /// Takes a queued order back.
+    /// Takes back an order that is queued or held.
     Withdraw {
         sender: Code,
         reference: Reference,
@@ -39,6 +40,6 @@ pub enum Command {
     Resolve,
     /// Takes no more orders on this day.
     CutOff(BusinessDate),
-    /// Closes the day, and rejects what is still queued.
+    /// Closes the day, and rejects what is still queued. What is held stays.
     CloseDay(BusinessDate),
 }

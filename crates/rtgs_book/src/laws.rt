@@ -8,10 +8,10 @@ ghost use Rattle.rtgs_book.specs.declared.order_state.OrderState.{OrderState};
 ghost use Rattle.rtgs_book.specs.declared.posting.Posting.{Posting};
 ghost use Rattle.std.specs.Str.{bytes_eq};
 ghost use Rattle.rtgs_book.specs.Books.{is_queued, is_settled, is_settled_state, new_book};
-ghost use Rattle.rtgs_book.specs.Commands.{with_state};
+ghost use Rattle.rtgs_book.specs.Commands.{let_in, with_state};
 ghost use Rattle.rtgs_book.specs.IntSum.{int_sum_by};
 ghost use Rattle.rtgs_book.specs.Lookup.{accounts, is_participant};
-ghost use Rattle.rtgs_book.specs.Laws.{BalancesFit};
+ghost use Rattle.rtgs_book.specs.Laws.{BalancesFit, NothingSettlesEarly};
 ghost use Rattle.rtgs_book.specs.Procedure.{Reaches};
 ghost use Rattle.rtgs_book.specs.Queue.{queue};
 ghost use Rattle.rtgs_book.specs.Balance.{balance, floor, gain, total, issued};
@@ -108,6 +108,18 @@ pub fn balance_after_restating()
     ensures { (book : Book) (is_in : Order → Bool) (state : OrderState) (code : List ℕ)
         → AllByRecursion (λ order. is_in order ≡ true → is_settled order ≡ false) book.orders
         → is_settled_state state ≡ false → balance (with_state book is_in state) code ≡ balance book code }
+{}
+
+/// Orders that enter their queues move no balance.
+pub fn balance_after_entering()
+    ensures { (book : Book) (is_in : Order → Bool) (date : ℕ) (code : List ℕ)
+        → AllByRecursion (λ order. is_in order ≡ true → is_settled order ≡ false) book.orders
+        → balance (let_in book is_in date) code ≡ balance book code }
+{}
+
+/// In a sound book no order is settled under a mark that is dated before the order's due date.
+pub fn nothing_settles_before_it_is_due()
+    ensures { (book : Book) → IsSound book → NothingSettlesEarly book }
 {}
 
 /// In a sound book a code that is no participant's has nothing.

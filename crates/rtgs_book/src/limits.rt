@@ -4,7 +4,7 @@ use rtgs_money::Credit;
 /// The greatest number of participants.
 pub const MOST_PARTICIPANTS: usize = 100;
 
-/// The greatest number of queued orders of one sender.
+/// The greatest number of orders of one sender that are queued or held.
 pub const LONGEST_QUEUE: usize = 500;
 
 /// The greatest number of queued orders in all.

@@ -9,6 +9,8 @@ use crate::standing::Standing;
 #[derive(Clone, Copy, Debug, PartialEq, Eq)]
 pub enum OrderState {
     Queued,
+    /// In no queue until its due date.
+    Held,
     /// Paid for good, under the mark with this number.
     Settled(u64),
     /// Taken back by its sender.
@@ -24,6 +26,7 @@ impl OrderState {
     {
         match self {
             OrderState::Queued => Standing::Queued,
+            OrderState::Held => Standing::Held,
             OrderState::Settled(_) => Standing::Settled,
             OrderState::Withdrawn => Standing::Withdrawn,
             OrderState::Rejected => Standing::Rejected,

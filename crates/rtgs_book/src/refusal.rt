@@ -22,7 +22,7 @@ pub enum Refusal {
     NotOpen,
     /// The balance would be below its floor.
     NoCover,
-    /// As many orders of the sender are queued as may be, `LONGEST_QUEUE`.
+    /// As many orders of the sender are queued or held as may be, `LONGEST_QUEUE`.
     QueueFull,
     /// The last order, or posting, has the number `LARGEST_NUMBER`.
     NumbersUsedUp,
@@ -42,12 +42,14 @@ pub enum Refusal {
     WrongDate,
     /// The date is a Saturday or a Sunday.
     Weekend,
-    /// The order is settled or rejected.
+    /// The order is neither queued nor held: it is settled or rejected.
     NotQueued,
     /// Queued orders could be settled together.
     Resolvable,
     /// So many participants are below zero, and this is the first in code order.
     Overdrawn { first: Code, count: u64 },
+    /// The due date is not later than the day's.
+    DueNotLater,
     /// Memory was refused.
     OutOfMemory,
     /// The store failed.
@@ -81,6 +83,7 @@ impl Refusal {
             Refusal::NotQueued => RefusalKind::NotQueued,
             Refusal::Resolvable => RefusalKind::Resolvable,
             Refusal::Overdrawn { .. } => RefusalKind::Overdrawn,
+            Refusal::DueNotLater => RefusalKind::DueNotLater,
             Refusal::OutOfMemory => RefusalKind::OutOfMemory,
             Refusal::StoreFault => RefusalKind::StoreFault,
             Refusal::Failed => RefusalKind::Failed,

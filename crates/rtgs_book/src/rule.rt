@@ -23,10 +23,13 @@ pub enum Rule {
     Parties,
     /// Each settled order has a mark of its date, and each mark counts its orders, at least one, and their value.
     Marks,
-    /// Nothing is queued while the desk is closed, a queue has at most 500 orders, and they are of the day.
+    /// Nothing is queued while the desk is closed, at most 500 orders of a sender are queued or held, and queued orders
+    /// are of the day.
     Queues,
-    /// A day that is not closed has a date, no date is on a weekend, none falls along its list, and none is after the
-    /// day's.
+    /// A day that is not closed has a date, and no date is on a weekend. The dates of marks, of postings and of orders
+    /// without a due date never fall along their lists, and none is after the day's. The date of an order with a due
+    /// date is not before that date; it is the due date, later than the day's, while the order is held, and not after
+    /// the day's once it has entered its queue.
     Dates,
     /// Every balance is at least its floor.
     Floors,

@@ -10,6 +10,7 @@ use crate::order_state::OrderState;
 pub enum Standing {
     Settled,
     Queued,
+    Held,
     Withdrawn,
     Rejected,
 }
@@ -21,6 +22,7 @@ impl Standing {
     {
         match state {
             OrderState::Queued => self == Standing::Queued,
+            OrderState::Held => self == Standing::Held,
             OrderState::Settled(_) => self == Standing::Settled,
             OrderState::Withdrawn => self == Standing::Withdrawn,
             OrderState::Rejected => self == Standing::Rejected,
@@ -35,6 +37,7 @@ impl Standing {
         match self {
             Standing::Settled => "settled",
             Standing::Queued => "queued",
+            Standing::Held => "held",
             Standing::Withdrawn => "withdrawn",
             Standing::Rejected => "rejected",
         }

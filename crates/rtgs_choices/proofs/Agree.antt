@@ -1,5 +1,6 @@
 -- A choice by index and the same choice by code.
-use Rattle.std.proofs.Common.{◌≡◌, ℕ, ◌<◌, ◌≤◌, List, [], ◌∷◌, length, take, sum_by, refl, sym, ap, ◌∙◌, arith}
+use Rattle.std.proofs.Common.{◌≡◌, ℕ, ◌<◌, ◌≤◌, true, ◌&&◌, List, [], ◌∷◌, length, take, sum_by, refl, sym, ap, ◌∙◌}
+use Rattle.std.proofs.Common.{true≢false, arith}
 use Rattle.std.proofs.lemmas.List.{length-map, length-take-le}
 use Rattle.std.proofs.lemmas.List.Elements.{All-from_recursion}
 use Rattle.std.proofs.lemmas.List.Sums.{sum_by-cons}
@@ -7,7 +8,13 @@ use Rattle.rtgs_book.specs.declared.book.Book.{Book}
 use Rattle.rtgs_book.specs.declared.order.Order.{Order}
 use Rattle.rtgs_book.specs.declared.limits.TheConstants.{MOST_PARTICIPANTS, LONGEST_QUEUE, MOST_QUEUED}
 use Rattle.rtgs_book.specs.Lookup.{accounts}
-use Rattle.rtgs_book.specs.Queue.{queue}
+use Rattle.rtgs_book.specs.Queue.{queue, waiting}
+use Rattle.rtgs_book.specs.declared.order_state.OrderState.{OrderState}
+use Rattle.rtgs_book.specs.declared.order_state.OrderState.TheVariants.{Queued, Held, Settled, Withdrawn, Rejected}
+use Rattle.rtgs_book.specs.Books.{is_queued, is_queued_state, is_waiting, is_waiting_state}
+use Rattle.rtgs_lists.proofs.Bools.{and_left, and_right, and_true}
+use Rattle.rtgs_lists.proofs.Filters.{filter_shorter}
+use Rattle.std.specs.Str.{bytes_eq}
 use Rattle.rtgs_book.specs.Choice.{chosen, balance_after}
 use Rattle.rtgs_book.specs.Soundness.{IsSound}
 use Rattle.rtgs_gridlock.specs.Choices.{sum_below, queue_of, payment_count, sent, after, IsWithin}
@@ -22,6 +29,24 @@ pub queue_length : (book : Book) (i : ℕ) → i < length (accounts book)
     → length (queue_of (queues_of book) i) ≡ length (queue book (code_at book i))
 queue_length book i less = ap length (queue_at book i less) ∙ length-map (queue book (code_at book i)) (payment_of book)
 
+queued_waits : (o : Order) (code : List ℕ) → (is_queued o && bytes_eq o.sender code) ≡ true
+    → (is_waiting o && bytes_eq o.sender code) ≡ true
+queued_waits o code e = and_true (is_waiting o) _ (by o.state (and_left (is_queued o) _ e)) (and_right (is_queued o) _
+    e)
+  where
+    by : (s : OrderState) → is_queued_state s ≡ true → is_waiting_state s ≡ true
+    by Queued e = refl
+    by Held e = absurd (true≢false (sym e))
+    by (Settled mark) e = absurd (true≢false (sym e))
+    by Withdrawn e = absurd (true≢false (sym e))
+    by Rejected e = absurd (true≢false (sym e))
+
+-- a queue is no longer than what waits
+queue_waits : (book : Book) (code : List ℕ) → length (queue book code) ≤ length (waiting book code)
+unfolding queue waiting
+queue_waits book code = filter_shorter (λ o. is_queued o && bytes_eq o.sender code)
+    (λ o. is_waiting o && bytes_eq o.sender code) (λ o e. queued_waits o code e) book.orders
+
 pub payments-le : (book : Book) → IsSound book → payment_count (queues_of book) ≤ MOST_QUEUED
 unfolding payment_count
 payments-le book sound =
@@ -34,9 +59,10 @@ payments-le book sound =
     short : (i : ℕ) → i < length (accounts book) → length (queue_of (queues_of book) i) ≤ LONGEST_QUEUE
     short i less =
         let long = queue_length book i less in
-        let here : length (queue book (code_at book i)) ≤ LONGEST_QUEUE =
-        All-from_recursion (λ code. length (queue book code) ≤ LONGEST_QUEUE) (accounts book) sound.queues.short i
+        let here : length (waiting book (code_at book i)) ≤ LONGEST_QUEUE =
+        All-from_recursion (λ code. length (waiting book code) ≤ LONGEST_QUEUE) (accounts book) sound.queues.short i
         [] less in
+        let part = queue_waits book (code_at book i) in
         omega arith
 
 pub length_is : {X : Type 0} (xs : List X) → sum_by (λ x. 1) xs ≡ length xs

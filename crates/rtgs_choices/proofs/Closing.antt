@@ -11,7 +11,7 @@ use Rattle.rtgs_book.specs.declared.change.RowChange.TheVariants.{SetDay}
 use Rattle.rtgs_book.specs.declared.command.Command.TheVariants.{CloseDay}
 use Rattle.rtgs_book.specs.declared.order.Order.{Order}
 use Rattle.rtgs_book.specs.declared.order_state.OrderState.{OrderState}
-use Rattle.rtgs_book.specs.declared.order_state.OrderState.TheVariants.{Queued, Settled, Withdrawn, Rejected}
+use Rattle.rtgs_book.specs.declared.order_state.OrderState.TheVariants.{Queued, Held, Settled, Withdrawn, Rejected}
 use Rattle.rtgs_book.specs.declared.phase.Phase.{Phase}
 use Rattle.rtgs_book.specs.declared.phase.Phase.TheVariants.{Closed, Open, CutOff}
 use Rattle.rtgs_book.specs.Books.{is_closed, is_cut_off, is_empty, is_queued, is_queued_state, is_settled}
@@ -76,6 +76,7 @@ rejected book states queued =
 
 not_settled : (state : OrderState) → is_queued_state state ≡ true → is_settled_state state ≡ false
 not_settled Queued e = refl
+not_settled Held e = refl
 not_settled (Settled mark) e = absurd (cc)
 not_settled Withdrawn e = refl
 not_settled Rejected e = refl

@@ -6,7 +6,7 @@ use Rattle.rtgs_book.specs.declared.answer.Answer.TheVariants.{Resolved}
 use Rattle.rtgs_book.specs.declared.book.Book.{Book}
 use Rattle.rtgs_book.specs.declared.change.RowChange.{RowChange}
 use Rattle.rtgs_book.specs.declared.change.RowChange.TheVariants.{AddParticipant, AddPosting, AddOrder, AddMark}
-use Rattle.rtgs_book.specs.declared.change.RowChange.TheVariants.{SetCredit, SetBalance, SetState, SetDay}
+use Rattle.rtgs_book.specs.declared.change.RowChange.TheVariants.{SetCredit, SetBalance, SetState, EnterQueue, SetDay}
 use Rattle.rtgs_book.specs.declared.command.Command.TheVariants.{Resolve}
 use Rattle.rtgs_book.specs.declared.mark.Mark.{Mark}
 use Rattle.rtgs_book.specs.declared.order.Order.{Order}
@@ -73,6 +73,7 @@ start_empty new all (AddOrder order ∷ rows) h = absurd h.0
 start_empty new all (AddMark mark ∷ rows) h = absurd h.0
 start_empty new all (SetCredit code credit ∷ rows) h = absurd h.0
 start_empty new all (SetState number state ∷ rows) h = absurd h.0
+start_empty new all (EnterQueue number date ∷ rows) h = absurd h.0
 start_empty new all (SetDay day ∷ rows) h = absurd h.0
 
 pub added : (new book : Book) (choice : Choice) (numbers : List ℕ) (mark : Mark)

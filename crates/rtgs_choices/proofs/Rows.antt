@@ -10,7 +10,7 @@ use Rattle.std.specs.Cmp.Lexicographic.{bytes_decides}
 use Rattle.rtgs_book.specs.declared.book.Book.{Book}
 use Rattle.rtgs_book.specs.declared.change.RowChange.{RowChange}
 use Rattle.rtgs_book.specs.declared.change.RowChange.TheVariants.{AddParticipant, AddPosting, AddOrder, AddMark}
-use Rattle.rtgs_book.specs.declared.change.RowChange.TheVariants.{SetCredit, SetBalance, SetState, SetDay}
+use Rattle.rtgs_book.specs.declared.change.RowChange.TheVariants.{SetCredit, SetBalance, SetState, EnterQueue, SetDay}
 use Rattle.rtgs_book.specs.declared.mark.Mark.{Mark}
 use Rattle.rtgs_book.specs.declared.order.Order.{Order}
 use Rattle.rtgs_book.specs.declared.order_state.OrderState.{OrderState}
@@ -95,6 +95,7 @@ changed-balances book (AddOrder order ∷ rows) h = absurd h.0
 changed-balances book (AddMark mark ∷ rows) h = absurd h.0
 changed-balances book (SetCredit code credit ∷ rows) h = absurd h.0
 changed-balances book (SetState number state ∷ rows) h = absurd h.0
+changed-balances book (EnterQueue number date ∷ rows) h = absurd h.0
 changed-balances book (SetDay day ∷ rows) h = absurd h.0
 
 module _ (book : Book) (choice : Choice) (numbers : List ℕ) (by_number : AllByRecursion

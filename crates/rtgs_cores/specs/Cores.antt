@@ -6,7 +6,7 @@ use Rattle.rtgs_book.specs.declared.Participant.{Participant}
 use Rattle.rtgs_book.specs.declared.Command.{Command}
 use Rattle.rtgs_book.specs.declared.Command.TheVariants.{Order, Withdraw, Post}
 use Rattle.rtgs_book.specs.Balance.{balance}
-use Rattle.rtgs_book.specs.Books.{is_queued}
+use Rattle.rtgs_book.specs.Books.{is_waiting}
 use Rattle.rtgs_book.specs.Lookup.{order_named, posting_named}
 use Rattle.rtgs_book.specs.Ranges.{Fits}
 use Rattle.rtgs_book.specs.Soundness.{IsSound}
@@ -17,11 +17,12 @@ use Rattle.rtgs_cores.specs.declared.found.Found.{Found}
 abbrev pub account_of : Book → Participant → Account
 account_of book p = record { participant = p; balance = balance book p.code }
 
--- each participant with its balance, the queued orders, the day, and the number that the next record of each kind gets
+-- each participant with its balance, the orders that are queued or held, the day, and the number that the next record
+-- of each kind gets
 unfoldable pub core_of : Book → Core
 core_of book = record {
   accounts = map (account_of book) book.participants;
-  queued = filter is_queued book.orders;
+  waiting = filter is_waiting book.orders;
   day = book.day;
   next_posting = length book.postings + 1;
   next_order = length book.orders + 1;
@@ -37,7 +38,7 @@ pub record IsCoreOf (book : Book) (core : Core) : Type 0 where
 -- What a command asks for: of an order and of a withdrawal the order of that sender and reference, of a posting that of
 -- the reference. For other commands nothing is looked up.
 unfoldable pub found_for : Book → Command → Found
-found_for book (Order sender reference receiver amount) = record {
+found_for book (Order sender reference receiver amount due) = record {
   order = order_named book sender reference;
   posting = None;
 }

@@ -7,10 +7,11 @@ use Rattle.rtgs_book.specs.declared.Book.{Book}
 use Rattle.rtgs_book.specs.declared.Participant.{Participant}
 use Rattle.rtgs_book.specs.declared.RowChange.{RowChange}
 use Rattle.rtgs_book.specs.declared.RowChange.TheVariants.{AddParticipant, AddPosting, AddOrder, AddMark}
-use Rattle.rtgs_book.specs.declared.RowChange.TheVariants.{SetCredit, SetBalance, SetState, SetDay}
+use Rattle.rtgs_book.specs.declared.RowChange.TheVariants.{SetCredit, SetBalance, SetState, EnterQueue, SetDay}
 use Rattle.rtgs_book.specs.Balance.{balance}
-use Rattle.rtgs_book.specs.Books.{is_queued, is_queued_state}
-use Rattle.rtgs_book.specs.Commands.{is_before, has_number}
+use Rattle.rtgs_book.specs.Books.{is_waiting, is_waiting_state}
+use Rattle.rtgs_book.specs.Commands.{is_before, has_number, is_held_with, entered}
+use Rattle.rtgs_book.specs.Settle.{altered}
 use Rattle.rtgs_cores.specs.declared.cores.Core.{Core}
 
 -- ---- accounts
@@ -51,21 +52,25 @@ AreBalanced book accounts = AllByRecursion (λ a. a.balance ≡ balance book (co
 
 -- ---- rows
 
--- An order that is added waits or does not. One whose state is set waits no more.
+-- An order that is added waits or does not. One whose state is set waits no more. One that enters its queue waits on,
+-- in its place.
 abbrev pub core_after_row : Core → RowChange → Core
 core_after_row core (AddParticipant participant) = record core {
   accounts = with_account (record { participant = participant; balance = pos 0 }) core.accounts;
 }
 core_after_row core (AddPosting posting) = record core { next_posting = core.next_posting + 1 }
 core_after_row core (AddOrder order) = record core {
-  queued = if is_queued order then core.queued ++ order ∷ [] else core.queued;
+  waiting = if is_waiting order then core.waiting ++ order ∷ [] else core.waiting;
   next_order = core.next_order + 1;
 }
 core_after_row core (AddMark mark) = record core { next_mark = core.next_mark + 1 }
 core_after_row core (SetCredit code credit) = record core { accounts = with_limit code credit core.accounts }
 core_after_row core (SetBalance code balance) = record core { accounts = with_balance code balance core.accounts }
 core_after_row core (SetState number state) = record core {
-  queued = filter (λ o. not (has_number number o)) core.queued;
+  waiting = filter (λ o. not (has_number number o)) core.waiting;
+}
+core_after_row core (EnterQueue number date) = record core {
+  waiting = map (altered (is_held_with number) (entered date)) core.waiting;
 }
 core_after_row core (SetDay day) = record core { day = day }
 
@@ -74,7 +79,7 @@ abbrev pub core_after : Core → List RowChange → Core
 core_after core [] = core
 core_after core (row ∷ rows) = core_after (core_after_row core row) rows
 
--- the row puts no order back into a queue
-abbrev pub QueuesNoneAgain : RowChange → Type 0
-QueuesNoneAgain (SetState number state) = is_queued_state state ≡ false
-QueuesNoneAgain row = ⊤
+-- the row sets no state in which an order waits
+abbrev pub WaitsNoMore : RowChange → Type 0
+WaitsNoMore (SetState number state) = is_waiting_state state ≡ false
+WaitsNoMore row = ⊤

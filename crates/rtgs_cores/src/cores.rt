@@ -1,12 +1,12 @@
 //! What the desk needs of a book in memory.
 use rtgs_book::{Account, Day, Order, Rows};
 
-/// What the desk needs of a book in memory: each participant with its balance, the queued orders, the day, and the
-/// number that the next record of each kind gets.
+/// What the desk needs of a book in memory: each participant with its balance, the orders that are queued or held, the
+/// day, and the number that the next record of each kind gets.
 #[derive(Debug, Drop)]
 pub struct Core {
     pub accounts: Rows<Account>,
-    pub queued: Rows<Order>,
+    pub waiting: Rows<Order>,
     pub day: Day,
     pub next_posting: u64,
     pub next_order: u64,

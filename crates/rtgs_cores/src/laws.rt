@@ -12,7 +12,7 @@ ghost use Rattle.rtgs_book.specs.Ranges.{Fits};
 ghost use Rattle.rtgs_book.specs.Soundness.{IsSound};
 ghost use Rattle.rtgs_cores.specs.declared.cores.Core.{Core};
 ghost use Rattle.rtgs_cores.specs.Cores.{IsCoreOf};
-ghost use Rattle.rtgs_cores.specs.Following.{core_after, AreBalanced, QueuesNoneAgain};
+ghost use Rattle.rtgs_cores.specs.Following.{core_after, AreBalanced, WaitsNoMore};
 ghost use Rattle.rtgs_cores.specs.Nexts.{posting_after, order_after, mark_after, date_of_posting, AreListed};
 ghost use Rattle.rtgs_cores.specs.Nexts.{AreNumberedInOrder};
 
@@ -47,9 +47,9 @@ pub fn nexts_are_the_least()
 }
 
 /// Rows that lead from a book to another lead from the core of the one to that of the other, where they set its
-/// balances right and put no order back into a queue.
+/// balances right, and no state in which an order waits.
 pub fn cores_follow_changes()
     ensures { (old new : Book) (core : Core) (rows : List RowChange) → IsCoreOf old core → Leads old rows new
-        → IsSound new → Fits new → AllByRecursion QueuesNoneAgain rows
+        → IsSound new → Fits new → AllByRecursion WaitsNoMore rows
         → AreBalanced new (core_after core rows).accounts → IsCoreOf new (core_after core rows) }
 {}

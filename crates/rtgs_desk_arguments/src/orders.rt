@@ -32,12 +32,12 @@ pub fn import_words<'a>(given: &ArgMatches<'a>) -> Words<'a>
     }
 }
 
-/// The subcommand that takes a queued order back: a book's file, its sender and its reference.
+/// The subcommand that takes back an order that is queued or held: a book's file, its sender and its reference.
 pub fn withdraw_command<'a>(alloc: Global) -> Result<Command<'a>, AllocError>
     ensures { IfOk result (line.IsSubcommand line.withdraw) }
 {
     Command::new(alloc, "withdraw")
-        .about("Takes back a queued order of a participant")
+        .about("Takes back an order that is queued or held")
         .arg(file_argument(alloc))?
         .arg(code_argument(alloc))?
         .arg(reference_argument(alloc))

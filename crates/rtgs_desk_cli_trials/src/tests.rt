@@ -4,6 +4,7 @@ use std::test::Fail;
 
 mod databases;
 mod days;
+mod due_dates;
 mod files;
 mod gridlocks;
 mod helps;

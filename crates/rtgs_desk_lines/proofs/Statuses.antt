@@ -45,6 +45,7 @@ refusal_ends refusal.Weekend = refl
 refusal_ends refusal.NotQueued = refl
 refusal_ends refusal.Resolvable = refl
 refusal_ends (refusal.Overdrawn first count) = refl
+refusal_ends refusal.DueNotLater = refl
 refusal_ends refusal.OutOfMemory = refl
 refusal_ends refusal.StoreFault = refl
 refusal_ends refusal.Failed = refl

@@ -1,8 +1,9 @@
 -- What a run prints of what it did, without the line's end.
 use Rattle.std.specs.Prelude.{ℕ, List, ◌++◌, codes, decimal}
 use Rattle.std.specs.Fmt.{signed_decimal}
+use Rattle.rtgs_money.specs.Date.{date_text}
 use Rattle.rtgs_book.specs.declared.answer.Answer.{Answer}
-use Rattle.rtgs_book.specs.declared.answer.Answer.TheVariants.{Added, CreditSet, Posted, Opened, Settled, Queued}
+use Rattle.rtgs_book.specs.declared.answer.Answer.TheVariants.{Added, CreditSet, Posted, Opened, Settled, Queued, Held}
 use Rattle.rtgs_book.specs.declared.answer.Answer.TheVariants.{Withdrawn, Resolved, Nothing, CutOffDone, Closed}
 use Rattle.rtgs_book.specs.declared.answer.Answer.TheVariants.{Repeated}
 use Rattle.rtgs_book.specs.declared.standing.Standing.TheVariants as standing
@@ -23,6 +24,7 @@ answer_line (Settled number mark) =
     word_of standing.Settled ++ codes " " ++ decimal number ++ codes " mark " ++ decimal mark
 answer_line (Queued number place) =
     word_of standing.Queued ++ codes " " ++ decimal number ++ codes " place " ++ decimal place
+answer_line (Held number due) = word_of standing.Held ++ codes " " ++ decimal number ++ codes " due " ++ date_text due
 answer_line (Withdrawn number) = word_of standing.Withdrawn ++ codes " " ++ decimal number
 answer_line (Resolved mark count value) =
     codes "resolved mark " ++ decimal mark ++ codes " count " ++ decimal count ++ codes " value "

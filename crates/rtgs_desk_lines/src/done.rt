@@ -1,6 +1,7 @@
 //! What a run did, as it is printed.
-ghost use Rattle.std.specs.Prelude.{◌≡◌, ◌+◌, ◌<◌, ◌≤◌, ◌++◌, ◌∷◌, [], Some};
+ghost use Rattle.std.specs.Prelude.{◌≡◌, ◌+◌, ◌<◌, ◌≤◌, ◌++◌, ◌∷◌, [], Some, codes, decimal};
 ghost use Rattle.arrayvec.specs.ArrayString.{array_string_len};
+ghost use Rattle.rtgs_book.specs.Standings.{word_of};
 ghost use Rattle.rtgs_desk_lines.specs.Lines.{answer_line, done_line};
 ghost use Rattle.rtgs_desk_lines.specs.Told.{IsTold};
 
@@ -65,24 +66,22 @@ fn answer_line(answer: Answer) -> Line
         Answer::Posted { number } => Line::of("posted ").number(number),
         Answer::Opened => Line::of("opened"),
         Answer::Settled { number, mark } => {
-            Line::of(Standing::Settled.word())
-                .then(" ")
-                .number(number)
+            order_line(Standing::Settled, number)
                 .then(" mark ")
                 .number(mark)
         }
         Answer::Queued { number, place } => {
-            Line::of(Standing::Queued.word())
-                .then(" ")
-                .number(number)
+            order_line(Standing::Queued, number)
                 .then(" place ")
                 .number(place)
         }
-        Answer::Withdrawn { number } => {
-            Line::of(Standing::Withdrawn.word())
-                .then(" ")
-                .number(number)
+        Answer::Held { number, due } => {
+            let due = due.text();
+            order_line(Standing::Held, number)
+                .then(" due ")
+                .then(due.as_str())
         }
+        Answer::Withdrawn { number } => order_line(Standing::Withdrawn, number),
         Answer::Resolved { mark, count, value } => {
             let line = Line::of("resolved mark ").number(mark);
             let line = line.then(" count ").number(count);
@@ -93,6 +92,15 @@ fn answer_line(answer: Answer) -> Line
         Answer::Closed { rejected } => Line::of("closed rejected ").number(rejected),
         Answer::Repeated(_) => Line::of(REPEATED),
     }
+}
+
+// Where an order stands now, and its number.
+#[tactic(auto, using(crate::proofs::Words::is_short))]
+fn order_line(standing: Standing, number: u64) -> Line
+    ensures text { result.text.bytes ≡ word_of standing ++ codes " " ++ decimal number }
+    ensures room { array_string_len result.text ≤ 30 }
+{
+    Line::of(standing.word()).then(" ").number(number)
 }
 
 impl fmt::Display for Done {

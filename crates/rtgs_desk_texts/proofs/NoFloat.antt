@@ -1,5 +1,5 @@
 -- No account tells a float.
-use Rattle.std.proofs.Common.{◌≡◌, ◌∙◌, ◌||◌, ℕ, ℤ, pos, negsuc, Bool, Option, Some, None, false, refl}
+use Rattle.std.proofs.Common.{◌≡◌, ℕ, ℤ, pos, negsuc, Option, Some, None, false, refl}
 use Rattle.serde_json.specs.Written.{has_float, members_have_float}
 use Rattle.rtgs_desk.specs.declared.reading.AccountReading.{AccountReading}
 use Rattle.rtgs_desk_texts.specs.Accounts.{account_members, account_with, with_date}

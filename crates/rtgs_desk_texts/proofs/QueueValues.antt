@@ -1,5 +1,5 @@
 -- What the orders of a queue pay together.
-use Rattle.std.proofs.Common.{◌≡◌, ℕ, ◌≤◌, ◌*◌, pos, Bool, true, false, cond, List, [], ◌∷◌, length, map, filter}
+use Rattle.std.proofs.Common.{◌≡◌, ℕ, ◌≤◌, ◌*◌, ◌&&◌, pos, Bool, true, false, cond, List, [], ◌∷◌, length, map, filter}
 use Rattle.std.proofs.Common.{Option, Some, None, Result, Ok, refl, ap, subst, arith}
 use Rattle.std.specs.Prelude.{FitsSigned}
 use Rattle.std.specs.Int.{w64}
@@ -8,14 +8,18 @@ use Rattle.std.specs.Str.{bytes_eq}
 use Rattle.std.proofs.lemmas.Int.{fits_signed_from_abs}
 use Rattle.std.proofs.lemmas.List.Sums.{sum_by-cons}
 use Rattle.std.proofs.lemmas.Slice.Eq.{bytes_eq-Decides}
+use Rattle.rtgs_lists.proofs.Filters.{filter_shorter}
 use Rattle.rtgs_money.specs.declared.amount.TheConstants.Amount as Amount
 use Rattle.rtgs_money.specs.Amounts.{IsAmount}
 use Rattle.rtgs_book.specs.Balance.{balance}
+use Rattle.rtgs_book.specs.Books.{is_queued, is_queued_state, is_waiting, is_waiting_state}
 use Rattle.rtgs_book.specs.declared.book.Book.{Book}
 use Rattle.rtgs_book.specs.declared.participant.Participant.{Participant}
 use Rattle.rtgs_book.specs.declared.order.Order.{Order}
+use Rattle.rtgs_book.specs.declared.order_state.OrderState.{OrderState}
+use Rattle.rtgs_book.specs.declared.order_state.OrderState.TheVariants.{Queued, Held, Settled, Withdrawn, Rejected}
 use Rattle.rtgs_book.specs.Lookup.{participant_of, accounts, has_code}
-use Rattle.rtgs_book.specs.Queue.{queue}
+use Rattle.rtgs_book.specs.Queue.{queue, waiting}
 use Rattle.rtgs_book.specs.Ranges.{Fits}
 use Rattle.rtgs_book.specs.Soundness.{IsSound}
 use Rattle.rtgs_book.specs.declared.refusal.Refusal.{Refusal}
@@ -48,11 +52,31 @@ at_known P code (one ∷ others) found e all = by (bytes_eq one.code code) refl 
     by true same e rest = subst P ((bytes_eq-Decides one.code code).0 same) all.0
     by false other e rest = rest e
 
+queued_waits : (s : OrderState) → is_queued_state s ≡ true → is_waiting_state s ≡ true
+queued_waits Queued e = refl
+queued_waits Held e = refl
+queued_waits (Settled mark) e = absurd (cc)
+queued_waits Withdrawn e = absurd (cc)
+queued_waits Rejected e = absurd (cc)
+
+-- a queue is no longer than the orders of its sender that wait
+queue_within : (book : Book) (code : List ℕ) → length (queue book code) ≤ length (waiting book code)
+unfolding queue waiting
+queue_within book code =
+    filter_shorter (λ o. is_queued o && bytes_eq o.sender code) (λ o. is_waiting o && bytes_eq o.sender code)
+    (λ o e. wider (is_queued o) (bytes_eq o.sender code) (is_waiting o) (queued_waits o.state) e) book.orders
+  where
+    wider : (a b c : Bool) → (a ≡ true → c ≡ true) → (a && b) ≡ true → (c && b) ≡ true
+    wider true b c f e = rw (f refl) e
+    wider false b c f e = absurd (cc)
+
 queue_short : (book : Book) (code : List ℕ) (found : Participant) → IsSound book
     → participant_of book code ≡ Some found → length (queue book code) ≤ LONGEST_QUEUE
 unfolding participant_of accounts
-queue_short book code found sound e = at_known (λ c. length
-    (queue book c) ≤ LONGEST_QUEUE) code book.participants found e sound.queues.short
+queue_short book code found sound e =
+    let short = at_known (λ c. length (waiting book c) ≤ LONGEST_QUEUE) code book.participants found e
+    sound.queues.short in
+    omega (arith, queue_within book code, short)
 
 queue_bounded : (book : Book) (code : List ℕ) → Fits book
     → value_of (queue book code) ≤ Amount.MAX * length (queue book code)

@@ -2,12 +2,14 @@
 use Rattle.std.specs.Prelude.{◌≡◌, ℕ, ℤ, List, [], ◌∷◌, map, Some, None, replicate, codes}
 use Rattle.rtgs_book.specs.declared.Command.TheVariants.{Order}
 use Rattle.rtgs_book.specs.declared.Book.{Book}
+use Rattle.rtgs_book.specs.declared.Order.{Order as OrderRecord}
 use Rattle.rtgs_book.specs.declared.Participant.{Participant}
 use Rattle.rtgs_book.specs.declared.Phase.TheVariants.{Open, Closed}
 use Rattle.rtgs_book.specs.Balance.{balance}
 use Rattle.rtgs_book.specs.Lookup.{accounts}
 use Rattle.rtgs_book.specs.declared.Command.{Command}
 use Rattle.rtgs_book.specs.Outcome.{Reply}
+use Rattle.rtgs_book.specs.Queue.{queued_numbers}
 use Rattle.rtgs_book.specs.Run.{Run}
 
 abbrev pub alfa : List ℕ
@@ -27,6 +29,20 @@ zeta = codes "ZETA"
 abbrev pub monday : ℕ
 monday = 20240304
 
+-- the days after it
+abbrev pub tuesday : ℕ
+tuesday = 20240305
+
+abbrev pub wednesday : ℕ
+wednesday = 20240306
+
+abbrev pub thursday : ℕ
+thursday = 20240307
+
+-- the weekend after it begins
+abbrev pub saturday : ℕ
+saturday = 20240309
+
 abbrev pub bank : List ℕ → List ℕ → ℕ → Participant
 bank code name key = record { code = code; name = name; key = replicate 32 key; credit = 0 }
 
@@ -42,9 +58,13 @@ start = record {
 }
 
 abbrev pub pays : List ℕ → List ℕ → ℕ → List ℕ → Command
-pays sender receiver amount reference = Order sender reference receiver amount
+pays sender receiver amount reference = Order sender reference receiver amount None
 
--- the same before the first day
+-- such an order, due on this date
+abbrev pub pays_on : ℕ → List ℕ → List ℕ → ℕ → List ℕ → Command
+pays_on due sender receiver amount reference = Order sender reference receiver amount (Some due)
+
+-- the book of the start, before the first day
 abbrev pub unopened : Book
 unopened = record start { day = record { date = None; phase = Closed } }
 
@@ -55,3 +75,13 @@ ComesFrom book commands replies balances =
 
 abbrev pub Comes : List Command → List Reply → List ℤ → Type 0
 Comes = ComesFrom start
+
+-- the commands get these replies, and leave the orders with these numbers in the sender's queue
+abbrev pub LeavesQueue : List Command → List Reply → List ℕ → List ℕ → Type 0
+LeavesQueue commands replies sender numbers =
+    (end : Book) × Run start commands replies end × (queued_numbers end.orders sender ≡ numbers)
+
+-- the commands get these replies, and leave the orders with these dates, by number
+abbrev pub LeavesDates : List Command → List Reply → List ℕ → Type 0
+LeavesDates commands replies dates =
+    (end : Book) × Run start commands replies end × (map (λ (o : OrderRecord). o.date) end.orders ≡ dates)

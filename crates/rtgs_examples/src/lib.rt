@@ -2,7 +2,8 @@
 #![tactic(auto)]
 
 ghost use Rattle.std.specs.Prelude.{[], ◌∷◌, ◌++◌, pos, negsuc, Ok, Err, codes};
-ghost use Rattle.rtgs_examples.specs.Examples.{alfa, beta, gama, zeta, monday, unopened, pays, Comes, ComesFrom};
+ghost use Rattle.rtgs_examples.specs.Examples.{alfa, beta, gama, zeta, monday, tuesday, wednesday, thursday, saturday};
+ghost use Rattle.rtgs_examples.specs.Examples.{unopened, pays, pays_on, Comes, ComesFrom, LeavesQueue, LeavesDates};
 
 use rtgs_book::laws::procedure_finds_the_greatest;
 use rtgs_book::{Answer, Command, Known, OrderState, Refusal};
@@ -150,6 +151,156 @@ pub fn first_day()
         (Err Refusal.WrongPhase ∷ Err Refusal.WrongPhase ∷ Err Refusal.NotOpen ∷ Ok Answer.Opened
         ∷ Err Refusal.SameParty ∷ Err Refusal.UnknownReceiver ∷ Err Refusal.UnknownParticipant ∷ [])
         (pos 0 ∷ pos 0 ∷ pos 0 ∷ []) }
+{
+    procedure_finds_the_greatest();
+}
+
+/// An order for a later date is held until that date, and is then queued and settled as any other.
+pub fn due_order()
+    ensures { Comes
+        (Command.Post alfa (codes "P-1") (pos 100) ∷ pays_on tuesday alfa beta 60 (codes "A-1")
+        ∷ pays alfa beta 50 (codes "A-2") ∷ pays_on tuesday alfa beta 60 (codes "A-1")
+        ∷ pays alfa beta 60 (codes "A-1") ∷ pays_on monday alfa beta 60 (codes "A-3")
+        ∷ pays_on saturday alfa beta 60 (codes "A-3") ∷ Command.CutOff monday ∷ Command.CloseDay monday
+        ∷ Command.OpenDay tuesday ∷ pays alfa gama 10 (codes "A-3") ∷ Command.Resolve
+        ∷ Command.Post alfa (codes "P-2") (pos 10) ∷ Command.Resolve ∷ [])
+        (Ok (Answer.Posted 1) ∷ Ok (Answer.Held 1 tuesday) ∷ Ok (Answer.Settled 2 1)
+        ∷ Ok (Answer.Repeated (Known.Order 1 OrderState.Held)) ∷ Err Refusal.ReferenceUsed ∷ Err Refusal.DueNotLater
+        ∷ Err Refusal.Weekend ∷ Ok Answer.CutOffDone ∷ Ok (Answer.Closed 0) ∷ Ok Answer.Opened
+        ∷ Ok (Answer.Queued 3 2) ∷ Ok Answer.Nothing ∷ Ok (Answer.Posted 2) ∷ Ok (Answer.Resolved 2 1 (pos 60)) ∷ [])
+        (pos 0 ∷ pos 110 ∷ pos 0 ∷ []) }
+{
+    procedure_finds_the_greatest();
+}
+
+/// While an order is held, another one of its sender settles past it, and no balance counts it.
+pub fn held_order_moves_nothing()
+    ensures { Comes
+        (Command.Post alfa (codes "P-1") (pos 100) ∷ pays_on tuesday alfa beta 60 (codes "A-1")
+        ∷ pays alfa beta 50 (codes "A-2") ∷ [])
+        (Ok (Answer.Posted 1) ∷ Ok (Answer.Held 1 tuesday) ∷ Ok (Answer.Settled 2 1) ∷ [])
+        (pos 50 ∷ pos 50 ∷ pos 0 ∷ []) }
+{}
+
+/// The day for which an order was held lets it into its queue, though its sender has no cover for it.
+pub fn due_order_enters_its_queue()
+    ensures { LeavesQueue
+        (Command.Post alfa (codes "P-1") (pos 100) ∷ pays_on tuesday alfa beta 60 (codes "A-1")
+        ∷ pays alfa beta 50 (codes "A-2") ∷ pays_on tuesday alfa beta 60 (codes "A-1")
+        ∷ pays alfa beta 60 (codes "A-1") ∷ pays_on monday alfa beta 60 (codes "A-3")
+        ∷ pays_on saturday alfa beta 60 (codes "A-3") ∷ Command.CutOff monday ∷ Command.CloseDay monday
+        ∷ Command.OpenDay tuesday ∷ [])
+        (Ok (Answer.Posted 1) ∷ Ok (Answer.Held 1 tuesday) ∷ Ok (Answer.Settled 2 1)
+        ∷ Ok (Answer.Repeated (Known.Order 1 OrderState.Held)) ∷ Err Refusal.ReferenceUsed ∷ Err Refusal.DueNotLater
+        ∷ Err Refusal.Weekend ∷ Ok Answer.CutOffDone ∷ Ok (Answer.Closed 0) ∷ Ok Answer.Opened ∷ [])
+        alfa (1 ∷ []) }
+{
+    procedure_finds_the_greatest();
+}
+
+/// A day lets in what is due on it or was due before, in the order of acceptance, and what is due later stays held.
+pub fn later_order_stays_held()
+    ensures { LeavesQueue
+        (pays_on wednesday alfa beta 10 (codes "A-1") ∷ pays_on thursday alfa beta 20 (codes "A-2")
+        ∷ pays_on tuesday alfa gama 30 (codes "A-3") ∷ Command.CutOff monday ∷ Command.CloseDay monday
+        ∷ Command.OpenDay wednesday ∷ pays_on thursday alfa beta 20 (codes "A-2")
+        ∷ pays_on tuesday alfa gama 30 (codes "A-3") ∷ [])
+        (Ok (Answer.Held 1 wednesday) ∷ Ok (Answer.Held 2 thursday) ∷ Ok (Answer.Held 3 tuesday)
+        ∷ Ok Answer.CutOffDone ∷ Ok (Answer.Closed 0) ∷ Ok Answer.Opened
+        ∷ Ok (Answer.Repeated (Known.Order 2 OrderState.Held))
+        ∷ Ok (Answer.Repeated (Known.Order 3 OrderState.Queued)) ∷ [])
+        alfa (1 ∷ 3 ∷ []) }
+{
+    procedure_finds_the_greatest();
+}
+
+/// An order that enters its queue bears the date of that day, and one that stays held its due date.
+pub fn entered_order_bears_the_date()
+    ensures { LeavesDates
+        (pays_on wednesday alfa beta 10 (codes "A-1") ∷ pays_on thursday alfa beta 20 (codes "A-2")
+        ∷ pays_on tuesday alfa gama 30 (codes "A-3") ∷ Command.CutOff monday ∷ Command.CloseDay monday
+        ∷ Command.OpenDay wednesday ∷ [])
+        (Ok (Answer.Held 1 wednesday) ∷ Ok (Answer.Held 2 thursday) ∷ Ok (Answer.Held 3 tuesday)
+        ∷ Ok Answer.CutOffDone ∷ Ok (Answer.Closed 0) ∷ Ok Answer.Opened ∷ [])
+        (wednesday ∷ thursday ∷ wednesday ∷ []) }
+{
+    procedure_finds_the_greatest();
+}
+
+/// An order that comes again is the same one with the same due date alone, or both times without one.
+pub fn due_date_is_content()
+    ensures { Comes
+        (pays_on tuesday alfa beta 60 (codes "A-1") ∷ pays_on tuesday alfa beta 60 (codes "A-1")
+        ∷ pays alfa beta 60 (codes "A-1") ∷ pays_on wednesday alfa beta 60 (codes "A-1")
+        ∷ pays alfa beta 60 (codes "A-2") ∷ pays alfa beta 60 (codes "A-2")
+        ∷ pays_on tuesday alfa beta 60 (codes "A-2") ∷ [])
+        (Ok (Answer.Held 1 tuesday) ∷ Ok (Answer.Repeated (Known.Order 1 OrderState.Held))
+        ∷ Err Refusal.ReferenceUsed ∷ Err Refusal.ReferenceUsed ∷ Ok (Answer.Queued 2 1)
+        ∷ Ok (Answer.Repeated (Known.Order 2 OrderState.Queued)) ∷ Err Refusal.ReferenceUsed ∷ [])
+        (pos 0 ∷ pos 0 ∷ pos 0 ∷ []) }
+{}
+
+/// A due date is later than the day's, and on no weekend. One that is early and on a weekend is refused as early.
+pub fn due_date_is_a_later_weekday()
+    ensures { Comes
+        (pays_on monday alfa beta 60 (codes "A-1") ∷ pays_on 20240302 alfa beta 60 (codes "A-1")
+        ∷ pays_on saturday alfa beta 60 (codes "A-1") ∷ pays_on 20240310 alfa beta 60 (codes "A-1")
+        ∷ pays_on 20240311 alfa beta 60 (codes "A-1") ∷ [])
+        (Err Refusal.DueNotLater ∷ Err Refusal.DueNotLater ∷ Err Refusal.Weekend ∷ Err Refusal.Weekend
+        ∷ Ok (Answer.Held 1 20240311) ∷ [])
+        (pos 0 ∷ pos 0 ∷ pos 0 ∷ []) }
+{}
+
+/// An order is refused for its parties, or because the day is not open, before its due date is looked at.
+pub fn due_date_is_judged_last()
+    ensures { Comes
+        (pays_on monday zeta beta 60 (codes "Z-1") ∷ pays_on monday alfa zeta 60 (codes "A-1")
+        ∷ pays_on saturday alfa alfa 60 (codes "A-1") ∷ Command.CutOff monday
+        ∷ pays_on monday alfa beta 60 (codes "A-1") ∷ pays_on tuesday alfa beta 60 (codes "A-1") ∷ [])
+        (Err Refusal.UnknownParticipant ∷ Err Refusal.UnknownReceiver ∷ Err Refusal.SameParty ∷ Ok Answer.CutOffDone
+        ∷ Err Refusal.NotOpen ∷ Err Refusal.NotOpen ∷ [])
+        (pos 0 ∷ pos 0 ∷ pos 0 ∷ []) }
+{}
+
+/// A held order is withdrawn in each phase, once, and enters no queue then.
+pub fn held_orders_are_withdrawn()
+    ensures { LeavesQueue
+        (pays_on tuesday alfa beta 10 (codes "A-1") ∷ pays_on tuesday alfa beta 20 (codes "A-2")
+        ∷ pays_on tuesday alfa beta 30 (codes "A-3") ∷ Command.Withdraw alfa (codes "A-1") ∷ Command.CutOff monday
+        ∷ Command.Withdraw alfa (codes "A-2") ∷ Command.CloseDay monday ∷ Command.Withdraw alfa (codes "A-3")
+        ∷ Command.Withdraw alfa (codes "A-3") ∷ Command.OpenDay tuesday ∷ [])
+        (Ok (Answer.Held 1 tuesday) ∷ Ok (Answer.Held 2 tuesday) ∷ Ok (Answer.Held 3 tuesday)
+        ∷ Ok (Answer.Withdrawn 1) ∷ Ok Answer.CutOffDone ∷ Ok (Answer.Withdrawn 2) ∷ Ok (Answer.Closed 0)
+        ∷ Ok (Answer.Withdrawn 3) ∷ Ok (Answer.Repeated (Known.Order 3 OrderState.Withdrawn)) ∷ Ok Answer.Opened ∷ [])
+        alfa [] }
+{
+    procedure_finds_the_greatest();
+}
+
+/// A close rejects what is queued, and leaves what is held.
+pub fn close_leaves_held_orders()
+    ensures { Comes
+        (pays alfa beta 60 (codes "A-1") ∷ pays_on tuesday alfa beta 60 (codes "A-2") ∷ Command.CutOff monday
+        ∷ Command.CloseDay monday ∷ pays alfa beta 60 (codes "A-1") ∷ pays_on tuesday alfa beta 60 (codes "A-2") ∷ [])
+        (Ok (Answer.Queued 1 1) ∷ Ok (Answer.Held 2 tuesday) ∷ Ok Answer.CutOffDone ∷ Ok (Answer.Closed 1)
+        ∷ Ok (Answer.Repeated (Known.Order 1 OrderState.Rejected))
+        ∷ Ok (Answer.Repeated (Known.Order 2 OrderState.Held)) ∷ [])
+        (pos 0 ∷ pos 0 ∷ pos 0 ∷ []) }
+{
+    procedure_finds_the_greatest();
+}
+
+/// A day that opens settles nothing: an order that enters its queue with cover waits until the queues are resolved.
+pub fn due_order_waits_to_be_resolved()
+    ensures { Comes
+        (Command.Post alfa (codes "P-1") (pos 60) ∷ pays_on tuesday alfa beta 60 (codes "A-1")
+        ∷ Command.CutOff monday ∷ Command.CloseDay monday ∷ Command.OpenDay tuesday
+        ∷ pays_on tuesday alfa beta 60 (codes "A-1") ∷ Command.Resolve ∷ pays_on tuesday alfa beta 60 (codes "A-1")
+        ∷ [])
+        (Ok (Answer.Posted 1) ∷ Ok (Answer.Held 1 tuesday) ∷ Ok Answer.CutOffDone ∷ Ok (Answer.Closed 0)
+        ∷ Ok Answer.Opened ∷ Ok (Answer.Repeated (Known.Order 1 OrderState.Queued))
+        ∷ Ok (Answer.Resolved 1 1 (pos 60)) ∷ Ok (Answer.Repeated (Known.Order 1 (OrderState.Settled 1))) ∷ [])
+        (pos 0 ∷ pos 60 ∷ pos 0 ∷ []) }
 {
     procedure_finds_the_greatest();
 }

@@ -1,3 +1,4 @@
+mod Dated
 mod InRange
 mod NoFloat
 mod Spelled

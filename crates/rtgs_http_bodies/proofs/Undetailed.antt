@@ -7,6 +7,7 @@ use Rattle.rtgs_book.specs.declared.refusal.Refusal.TheVariants.{ReferenceUsed, 
 use Rattle.rtgs_book.specs.declared.refusal.Refusal.TheVariants.{NumbersUsedUp, UnknownOrder, CodeTaken, KeyTaken}
 use Rattle.rtgs_book.specs.declared.refusal.Refusal.TheVariants.{TooManyParticipants, TotalTooLarge, WrongPhase}
 use Rattle.rtgs_book.specs.declared.refusal.Refusal.TheVariants.{WrongDate, Weekend, NotQueued, Resolvable, Overdrawn}
+use Rattle.rtgs_book.specs.declared.refusal.Refusal.TheVariants.{DueNotLater}
 use Rattle.rtgs_book.specs.declared.refusal.Refusal.TheVariants.{OutOfMemory, StoreFault, Failed}
 use Rattle.rtgs_http_replies.specs.Kinds.{kind_data}
 use Rattle.rtgs_http_bodies.specs.Refusals.{refused_data}
@@ -32,6 +33,7 @@ undetailed Weekend other = refl
 undetailed NotQueued other = refl
 undetailed Resolvable other = refl
 undetailed (Overdrawn first count) other = absurd (other first count refl)
+undetailed DueNotLater other = refl
 undetailed OutOfMemory other = refl
 undetailed StoreFault other = refl
 undetailed Failed other = refl

@@ -1,8 +1,9 @@
 -- The values that the bodies of replies to commands spell. Keys stand in byte order.
 use Rattle.std.specs.Prelude.{ℕ, List, codes}
 use Rattle.serde_json.specs.Data.{Data, string, object, Members, member, no_members}
+use Rattle.rtgs_money.specs.Date.{date_text}
 use Rattle.rtgs_book.specs.declared.answer.Answer.{Answer}
-use Rattle.rtgs_book.specs.declared.answer.Answer.TheVariants.{Added, CreditSet, Posted, Opened, Settled, Queued}
+use Rattle.rtgs_book.specs.declared.answer.Answer.TheVariants.{Added, CreditSet, Posted, Opened, Settled, Queued, Held}
 use Rattle.rtgs_book.specs.declared.answer.Answer.TheVariants.{Withdrawn, Resolved, Nothing, CutOffDone, Closed}
 use Rattle.rtgs_book.specs.declared.answer.Answer.TheVariants.{Repeated}
 use Rattle.rtgs_book.specs.declared.answer.Known.{Known}
@@ -29,6 +30,7 @@ repeated_order number (state.Settled mark) = told (codes "repeated")
     (member (codes "mark") (whole mark) (member (codes "number") (whole number)
     (member (codes "state") (string (word_of standing.Settled)) no_members)))
 repeated_order number state.Queued = unsettled_repeat number standing.Queued
+repeated_order number state.Held = unsettled_repeat number standing.Held
 repeated_order number state.Withdrawn = unsettled_repeat number standing.Withdrawn
 repeated_order number state.Rejected = unsettled_repeat number standing.Rejected
 
@@ -47,6 +49,8 @@ answer_data (Settled number mark) = told (word_of standing.Settled)
     (member (codes "mark") (whole mark) (member (codes "number") (whole number) no_members))
 answer_data (Queued number place) = told (word_of standing.Queued)
     (member (codes "number") (whole number) (member (codes "place") (whole place) no_members))
+answer_data (Held number due) = told (word_of standing.Held)
+    (member (codes "due") (string (date_text due)) (member (codes "number") (whole number) no_members))
 answer_data (Withdrawn number) = told (word_of standing.Withdrawn)
     (member (codes "number") (whole number) no_members)
 answer_data (Resolved mark count value) = told (codes "resolved")

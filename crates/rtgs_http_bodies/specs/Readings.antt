@@ -1,5 +1,5 @@
 -- The values that the bodies of replies on orders and queues spell. Keys stand in byte order.
-use Rattle.std.specs.Prelude.{ℕ, ◌+◌, List, [], ◌∷◌, codes}
+use Rattle.std.specs.Prelude.{ℕ, ◌+◌, List, [], ◌∷◌, codes, Option, None, Some}
 use Rattle.serde_json.specs.Data.{Data, string, array, object, Members, member, no_members}
 use Rattle.serde_json.specs.View.{items_of}
 use Rattle.rtgs_money.specs.Date.{date_text}
@@ -17,20 +17,30 @@ order_members order standing = member (codes "number") (whole order.number)
     (member (codes "reference") (string order.reference) (member (codes "state") (string (word_of standing))
     (member (codes "to") (string order.receiver) no_members)))
 
+-- an order's due date, where it has one, before other members
+abbrev pub with_due : Option ℕ → Members → Members
+with_due None members = members
+with_due (Some due) members = member (codes "due") (string (date_text due)) members
+
+-- the order as if it had no due date
+abbrev pub undated : Order → Order
+undated order = record order { due = None }
+
 -- an order that has not settled, and so has no mark; it stands so
 abbrev pub unsettled_order : Order → Standing → Data
 unsettled_order order standing = object (member (codes "amount") (whole order.amount)
-    (member (codes "date") (string (date_text order.date)) (order_members order standing)))
+    (member (codes "date") (string (date_text order.date)) (with_due order.due (order_members order standing))))
 
 -- an order that has settled under this mark
 abbrev pub settled_order : Order → ℕ → Data
 settled_order order mark = object (member (codes "amount") (whole order.amount)
-    (member (codes "date") (string (date_text order.date))
-    (member (codes "mark") (whole mark) (order_members order standing.Settled))))
+    (member (codes "date") (string (date_text order.date)) (with_due order.due
+    (member (codes "mark") (whole mark) (order_members order standing.Settled)))))
 
 abbrev pub order_in : OrderState → Order → Data
 order_in (state.Settled mark) order = settled_order order mark
 order_in state.Queued order = unsettled_order order standing.Queued
+order_in state.Held order = unsettled_order order standing.Held
 order_in state.Withdrawn order = unsettled_order order standing.Withdrawn
 order_in state.Rejected order = unsettled_order order standing.Rejected
 

@@ -37,6 +37,12 @@ fn answer_value(alloc: Global, answer: Answer) -> Result<Value, AllocError>
             let word = Standing::Queued.word();
             json!(in alloc; {"answer": word, "number": number, "place": place})
         }
+        Answer::Held { number, due } => {
+            let word = Standing::Held.word();
+            let due = due.text();
+            let due = due.as_str();
+            json!(in alloc; {"answer": word, "due": due, "number": number})
+        }
         Answer::Withdrawn { number } => numbered_value(alloc, Standing::Withdrawn.word(), number),
         Answer::Resolved { mark, count, value } => {
             let value = value.cents();
@@ -72,6 +78,7 @@ fn repeated_order_value(alloc: Global, number: u64, state: OrderState) -> Result
             json!(in alloc; {"answer": "repeated", "mark": mark, "number": number, "state": state})
         }
         OrderState::Queued => unsettled_value(alloc, number, Standing::Queued),
+        OrderState::Held => unsettled_value(alloc, number, Standing::Held),
         OrderState::Withdrawn => unsettled_value(alloc, number, Standing::Withdrawn),
         OrderState::Rejected => unsettled_value(alloc, number, Standing::Rejected),
     }

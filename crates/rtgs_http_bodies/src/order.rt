@@ -1,13 +1,16 @@
 //! What its sender is told of an order.
-ghost use Rattle.std.specs.Prelude.{◌≡◌, IfOk};
+ghost use Rattle.std.specs.Prelude.{◌≡◌, codes, IfOk};
+ghost use Rattle.serde_json.specs.Data.{Members, object, put, string};
 ghost use Rattle.serde_json.specs.View.{view};
 ghost use Rattle.serde_json.specs.Written.{compact_text};
-ghost use Rattle.rtgs_http_bodies.specs.Readings.{order_data, settled_order, unsettled_order};
+ghost use Rattle.rtgs_http_bodies.specs.Readings.{order_data, settled_order, undated, unsettled_order};
 ghost use Rattle.rtgs_http_replies.specs.Messages.{json_message};
+ghost use Rattle.rtgs_money.specs.Date.{date_text};
 
 use http::StatusCode;
 use rtgs_book::{Order, OrderState, Standing};
 use rtgs_http_replies::{ContentType, Reply};
+use rtgs_money::BusinessDate;
 use serde_json::{Value, json};
 use std::alloc::{AllocError, Global};
 
@@ -19,8 +22,8 @@ pub fn order_reply(alloc: Global, order: &Order) -> Result<Reply, AllocError>
     Reply::new(alloc, StatusCode::OK, ContentType::Json, text.as_slice())
 }
 
-/// What its sender is told of this order, as JSON, with its mark where it has settled. The only error is lack of
-/// memory.
+/// What its sender is told of this order, as JSON, with its due date where it has one, and its mark where it has
+/// settled. The only error is lack of memory.
 pub fn order_text(alloc: Global, order: &Order) -> Result<Vec<u8>, AllocError>
     ensures { IfOk result (λ text. text.items ≡ compact_text (order_data order.now)) }
 {
@@ -32,17 +35,45 @@ pub fn order_text(alloc: Global, order: &Order) -> Result<Vec<u8>, AllocError>
 fn order_value(alloc: Global, order: &Order) -> Result<Value, AllocError>
     ensures { IfOk result (λ value. view value ≡ order_data order.now) }
 {
+    let value = undated_value(alloc, order)?;
+    match order.due {
+        Some(due) => with_due(alloc, value, due),
+        None => Ok(value),
+    }
+}
+
+// The object with the due date as one member more.
+fn with_due(alloc: Global, value: Value, due: BusinessDate) -> Result<Value, AllocError>
+    ensures { (members : Members) → view value ≡ object members → IfOk result
+        (λ dated. view dated ≡ object (put (codes "due") (string (date_text due)) members)) }
+{
+    match value {
+        Value::Object(mut members) => {
+            let due = due.text();
+            let due = Value::try_from_str(alloc, due.as_str())?;
+            members.insert(String::from_str(alloc, "due")?, due)?;
+            Ok(Value::Object(members))
+        }
+        other => Ok(other),
+    }
+}
+
+// What is told of an order but for its due date.
+fn undated_value(alloc: Global, order: &Order) -> Result<Value, AllocError>
+    ensures { IfOk result (λ value. view value ≡ order_data (undated order.now)) }
+{
     match order.state {
         OrderState::Settled(mark) => settled_value(alloc, order, mark),
         OrderState::Queued => unsettled_value(alloc, order, Standing::Queued),
+        OrderState::Held => unsettled_value(alloc, order, Standing::Held),
         OrderState::Withdrawn => unsettled_value(alloc, order, Standing::Withdrawn),
         OrderState::Rejected => unsettled_value(alloc, order, Standing::Rejected),
     }
 }
 
-// What is told of an order that has settled under this mark.
+// What is told of an order that has settled under this mark, but for its due date.
 fn settled_value(alloc: Global, order: &Order, mark: u64) -> Result<Value, AllocError>
-    ensures { IfOk result (λ value. view value ≡ settled_order order.now mark) }
+    ensures { IfOk result (λ value. view value ≡ settled_order (undated order.now) mark) }
 {
     let amount = order.amount.cents();
     let date = order.date.text();
@@ -62,9 +93,9 @@ fn settled_value(alloc: Global, order: &Order, mark: u64) -> Result<Value, Alloc
     })
 }
 
-// What is told of an order that stands so and has not settled.
+// What is told of an order that stands so and has not settled, but for its due date.
 fn unsettled_value(alloc: Global, order: &Order, standing: Standing) -> Result<Value, AllocError>
-    ensures { IfOk result (λ value. view value ≡ unsettled_order order.now standing) }
+    ensures { IfOk result (λ value. view value ≡ unsettled_order (undated order.now) standing) }
 {
     let amount = order.amount.cents();
     let date = order.date.text();

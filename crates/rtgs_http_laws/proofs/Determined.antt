@@ -17,7 +17,7 @@ use Rattle.rtgs_desk.specs.Seen.{Seen}
 use Rattle.rtgs_batches.specs.Batches.{orders_of, reply_of, replies_of, StopsAfter}
 use Rattle.rtgs_order_files.specs.Results.{results_text}
 use Rattle.rtgs_order_files.specs.declared.batch_result.RowReply.{RowReply}
-use Rattle.rtgs_order_files.specs.declared.batch_result.RowReply.TheVariants.{Settled, Queued, Repeated, Refused}
+use Rattle.rtgs_order_files.specs.declared.batch_result.RowReply.TheVariants.{Settled, Queued, Held, Repeated, Refused}
 use Rattle.rtgs_order_files.specs.declared.order_row.OrderRow.{OrderRow}
 use Rattle.rtgs_http_bodies.specs.Statuses.{batch_status}
 use Rattle.rtgs_http_replies.specs.Messages.{Message, message}
@@ -90,6 +90,7 @@ judged (Err refusal.Weekend) done = refl
 judged (Err refusal.NotQueued) done = refl
 judged (Err refusal.Resolvable) done = refl
 judged (Err (refusal.Overdrawn first count)) done = refl
+judged (Err refusal.DueNotLater) done = refl
 judged (Err refusal.OutOfMemory) done = absurd (done refl)
 judged (Err refusal.StoreFault) done = absurd (done refl)
 judged (Err refusal.Failed) done = absurd (done refl)
@@ -114,18 +115,27 @@ submits_alike g old command one other sent told steps done ended a b =
 row_once : (one other : RowReply) → reply_of one ≡ reply_of other → one ≡ other
 row_once (Settled n m) (Settled k j) e = cc
 row_once (Settled n m) (Queued k j) e = absurd (cc)
+row_once (Settled n m) (Held k d) e = absurd (cc)
 row_once (Settled n m) (Repeated k j) e = absurd (cc)
 row_once (Settled n m) (Refused r) e = absurd (cc)
 row_once (Queued n m) (Settled k j) e = absurd (cc)
 row_once (Queued n m) (Queued k j) e = cc
+row_once (Queued n m) (Held k d) e = absurd (cc)
 row_once (Queued n m) (Repeated k j) e = absurd (cc)
 row_once (Queued n m) (Refused r) e = absurd (cc)
+row_once (Held n d) (Settled k j) e = absurd (cc)
+row_once (Held n d) (Queued k j) e = absurd (cc)
+row_once (Held n d) (Held k c) e = cc
+row_once (Held n d) (Repeated k j) e = absurd (cc)
+row_once (Held n d) (Refused r) e = absurd (cc)
 row_once (Repeated n m) (Settled k j) e = absurd (cc)
 row_once (Repeated n m) (Queued k j) e = absurd (cc)
+row_once (Repeated n m) (Held k d) e = absurd (cc)
 row_once (Repeated n m) (Repeated k j) e = cc
 row_once (Repeated n m) (Refused r) e = absurd (cc)
 row_once (Refused s) (Settled k j) e = absurd (cc)
 row_once (Refused s) (Queued k j) e = absurd (cc)
+row_once (Refused s) (Held k d) e = absurd (cc)
 row_once (Refused s) (Repeated k j) e = absurd (cc)
 row_once (Refused s) (Refused r) e = cc
 

@@ -20,10 +20,10 @@ use Rattle.rtgs_http_heads.specs.declared.route.Route.{Route}
 use Rattle.rtgs_http_heads.specs.declared.route.Route.TheVariants.{Bank, Operator}
 use Rattle.rtgs_http_requests.specs.Bodies.{ReadsJson, body_length}
 use Rattle.rtgs_http_requests.specs.Callers.{CodeOf, caller_under, known}
-use Rattle.rtgs_http_requests.specs.Contents.{FindsContent, HasOrder, HasNothing}
+use Rattle.rtgs_http_requests.specs.Contents.{FindsContent, OrderValues, HasOrder, HasNothing}
 use Rattle.rtgs_http_requests.specs.Exchange.{AsksFor, HasRegion, HasHead, HasRoute, HasCaller, HasBody}
 use Rattle.rtgs_http_requests.specs.Meaning.{Answer, AsksPlainly, AsksBatch, Means, MeansBank, SpellsDate}
-use Rattle.rtgs_http_requests.specs.Meaning.{SpellsOrder, SpellsReference}
+use Rattle.rtgs_http_requests.specs.Meaning.{SpellsDue, SpellsOrder, SpellsReference}
 use Rattle.rtgs_http_requests.specs.Steps.{Then, Goes}
 use Rattle.rtgs_http_requests.specs.declared.admitted.Admitted.{Admitted}
 use Rattle.rtgs_http_requests.specs.declared.admitted.Admitted.TheVariants as admitted
@@ -53,14 +53,16 @@ same_own code asked other e own =
     let P : Asked → Type 0 = λ a. IsOwn code a in
     subst P (sym same) own
 
-order_own : (caller : List ℕ) (values : List ℕ × List ℕ × ℕ) (asked : Asked) → SpellsOrder caller values (Ok asked)
+order_own : (caller : List ℕ) (values : OrderValues) (asked : Asked) → SpellsOrder caller values (Ok asked)
     → IsOwn caller asked
 order_own caller values asked x = by (truth (is_reference values.0)) (truth (is_code values.1)) (amount values.2)
   where
     by : IsReference values.0 ⊎ (¬ IsReference values.0) → IsCode values.1 ⊎ (¬ IsCode values.1)
         → IsAmount values.2 ⊎ (¬ IsAmount values.2) → IsOwn caller asked
-    by (inl r) (inl t) (inl a) = same_own caller asked (Submit (command.Order caller values.0 values.1 values.2))
-        (x.found r t a) refl
+    by (inl r) (inl t) (inl a) =
+        let order : Option ℕ → Asked = λ due. Submit (command.Order caller values.0 values.1 values.2 due) in
+        let d = value_of (SpellsDue values.3) (λ due (answer : Answer). answer ≡ Ok (order due)) asked (x.due r t a) in
+        same_own caller asked (order d.0) d.2 refl
     by (inl r) (inl t) (inr a) = let e = x.bad_amount r t a in let no : ⊥ = cc e in absurd no
     by (inl r) (inr t) _ = let e = x.bad_code r t in let no : ⊥ = cc e in absurd no
     by (inr r) _ _ = let e = x.bad_reference r in let no : ⊥ = cc e in absurd no

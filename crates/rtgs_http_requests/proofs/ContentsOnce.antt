@@ -1,5 +1,6 @@
 -- A body has one content, and one meaning.
-use Rattle.std.proofs.Common.{◌≡◌, ◌⊎◌, inl, inr, ℕ, ℤ, List, Some, Result, Ok, Err, refl, sym, ap, ◌∙◌, IsUtf8}
+use Rattle.std.proofs.Common.{◌≡◌, ◌⊎◌, inl, inr, ℕ, ℤ, List, Option, Some, None, Result, Ok, Err, refl, sym, ap}
+use Rattle.std.proofs.Common.{◌∙◌, IsUtf8}
 use Rattle.serde_json.specs.Data.{Data}
 use Rattle.serde_json.specs.Find.{as_integer}
 use Rattle.serde_json.specs.Read.{read}
@@ -7,12 +8,16 @@ use Rattle.rtgs_money.specs.Amounts.{IsAmount, IsPostingAmount, IsCredit}
 use Rattle.rtgs_money.specs.Date.{IsBusinessDate, date_text}
 use Rattle.rtgs_money.specs.Forms.{IsCode, IsReference, is_code, is_reference}
 use Rattle.rtgs_money.specs.declared.lexical.Lexical.TheVariants.{BadDate}
+use Rattle.rtgs_book.specs.declared.command.Command.TheVariants as command
 use Rattle.rtgs_http_requests.specs.Bodies.{ReadsJson}
-use Rattle.rtgs_http_requests.specs.Contents.{FindsContent, HasOrder, HasPosting, HasCredit, HasDate, HasNothing}
-use Rattle.rtgs_http_requests.specs.Meaning.{SpellsReference, SpellsDate, SpellsOrder, IsPostingOf, SpellsCredit}
+use Rattle.rtgs_http_requests.specs.Contents.{FindsContent, OrderValues, HasOrder, HasPosting, HasCredit, HasDate}
+use Rattle.rtgs_http_requests.specs.Contents.{HasNothing}
+use Rattle.rtgs_http_requests.specs.Meaning.{Answer, SpellsReference, SpellsDate, SpellsDue, SpellsOrder}
+use Rattle.rtgs_http_requests.specs.Meaning.{IsPostingOf, SpellsCredit}
+use Rattle.rtgs_http_requests.specs.declared.asked.Asked.TheVariants.{Submit}
 use Rattle.rtgs_http_requests.specs.declared.http_fault.HttpFault.{HttpFault}
 use Rattle.rtgs_http_requests.specs.declared.http_fault.HttpFault.TheVariants as fault
-use Rattle.rtgs_http_requests.proofs.Agreement.{IsDetermined, Tells, told_once, told_equal}
+use Rattle.rtgs_http_requests.proofs.Agreement.{IsDetermined, Tells, told_once, told_equal, then_determined}
 use Rattle.rtgs_http_requests.proofs.Decisions.{truth, amount, credit, posting}
 use Rattle.rtgs_http_requests.proofs.Lower.{LowerLaws}
 
@@ -60,19 +65,28 @@ same_three {A} {B} {C} one other p q r =
     let third : C → A × B × C = λ c. (other.0, other.1, c) in
     ap first p ∙ ap second q ∙ ap third r
 
+same_four : {A B C D : Type 0} (one other : A × B × C × D) → one.0 ≡ other.0 → one.1 ≡ other.1 → one.2 ≡ other.2
+    → one.3 ≡ other.3 → one ≡ other
+same_four {A} {B} {C} {D} one other p q r s =
+    let first : A → A × B × C × D = λ a. (a, one.1, one.2, one.3) in
+    let second : B → A × B × C × D = λ b. (other.0, b, one.2, one.3) in
+    let third : C → A × B × C × D = λ c. (other.0, other.1, c, one.3) in
+    let fourth : D → A × B × C × D = λ d. (other.0, other.1, other.2, d) in
+    ap first p ∙ ap second q ∙ ap third r ∙ ap fourth s
+
 pub same_two : {A B : Type 0} (one other : A × B) → one.0 ≡ other.0 → one.1 ≡ other.1 → one ≡ other
 same_two {A} {B} one other p q =
     let first : A → A × B = λ a. (a, one.1) in
     let second : B → A × B = λ b. (other.0, b) in
     ap first p ∙ ap second q
 
-pub one_order : (value : Data) (one other : List ℕ × List ℕ × ℕ) → HasOrder one value → HasOrder other value
-    → one ≡ other
-one_order value one other x y =
-    let reference : one.0 ≡ other.0 = cc (x, y) in
-    let to : one.1 ≡ other.1 = cc (x, y) in
-    let amount : one.2 ≡ other.2 = cc (x, y) in
-    same_three one other reference to amount
+pub one_order : (value : Data) (one other : OrderValues) → HasOrder one value → HasOrder other value → one ≡ other
+one_order value (reference, to, amount, None) (also, into, cents, None) x y =
+    same_four _ _ (cc (x, y)) (cc (x, y)) (cc (x, y)) refl
+one_order value (reference, to, amount, None) (also, into, cents, Some other) x y = let no : ⊥ = cc (x, y) in absurd no
+one_order value (reference, to, amount, Some due) (also, into, cents, None) x y = let no : ⊥ = cc (x, y) in absurd no
+one_order value (reference, to, amount, Some due) (also, into, cents, Some other) x y =
+    same_four _ _ (cc (x, y)) (cc (x, y)) (cc (x, y)) (cc (x, y))
 
 pub one_posting : (value : Data) (one other : List ℕ × List ℕ × ℤ) → HasPosting one value → HasPosting other value
     → one ≡ other
@@ -120,13 +134,28 @@ date_once laws text one other x y =
     told_once (IsDateOf text) (fault.Form BadDate) (λ a b p q. laws.dates a b p.0 q.0 (sym p.1 ∙ q.1)) one other
     (tells_date text one x) (tells_date text other y)
 
-pub order_once : (caller : List ℕ) (values : List ℕ × List ℕ × ℕ) → IsDetermined (SpellsOrder caller values)
-order_once caller values one other x y = by (truth (is_reference values.0)) (truth (is_code values.1)) (amount values.2)
+-- the answer is this one, whatever the step before told
+pub equal_once : {A B : Type 0} (answer : A → Result B HttpFault) (value : A)
+    → IsDetermined (λ (told : Result B HttpFault). told ≡ answer value)
+equal_once answer value one other x y = told_equal (answer value) one other x y
+
+due_once : LowerLaws → (text : Option (List ℕ)) → IsDetermined (SpellsDue text)
+due_once laws None one other x y = told_equal _ one other x y
+due_once laws (Some text) one other x y =
+    then_determined (SpellsDate text) (λ date (told : Result (Option ℕ) HttpFault). told ≡ Ok (Some date))
+    (date_once laws text) (equal_once (λ date. Ok (Some date))) one other x y
+
+pub order_once : LowerLaws → (caller : List ℕ) (values : OrderValues) → IsDetermined (SpellsOrder caller values)
+order_once laws caller values one other x y =
+    by (truth (is_reference values.0)) (truth (is_code values.1)) (amount values.2)
   where
     by : IsReference values.0 ⊎ (¬ IsReference values.0) → IsCode values.1 ⊎ (¬ IsCode values.1)
         → IsAmount values.2 ⊎ (¬ IsAmount values.2) → (one ≡ Err fault.OutOfMemory)
         ⊎ ((other ≡ Err fault.OutOfMemory) ⊎ (one ≡ other))
-    by (inl r) (inl t) (inl a) = told_equal _ one other (x.found r t a) (y.found r t a)
+    by (inl r) (inl t) (inl a) =
+        let answer : Option ℕ → Answer = λ due. Ok (Submit (command.Order caller values.0 values.1 values.2 due)) in
+        then_determined (SpellsDue values.3) (λ due (told : Answer). told ≡ answer due) (due_once laws values.3)
+        (equal_once answer) one other (x.due r t a) (y.due r t a)
     by (inl r) (inl t) (inr a) = told_equal _ one other (x.bad_amount r t a) (y.bad_amount r t a)
     by (inl r) (inr t) _ = told_equal _ one other (x.bad_code r t) (y.bad_code r t)
     by (inr r) _ _ = told_equal _ one other (x.bad_reference r) (y.bad_reference r)

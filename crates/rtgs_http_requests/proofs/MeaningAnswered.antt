@@ -15,9 +15,10 @@ use Rattle.rtgs_http_heads.specs.declared.operator_route.OperatorRoute.{Operator
 use Rattle.rtgs_http_heads.specs.declared.operator_route.OperatorRoute.TheVariants.{Post, SetCredit, OpenDay, Resolve}
 use Rattle.rtgs_http_heads.specs.declared.operator_route.OperatorRoute.TheVariants.{CutOff, CloseDay, ReadReport}
 use Rattle.rtgs_http_requests.specs.Bodies.{ReadsJson}
-use Rattle.rtgs_http_requests.specs.Contents.{FindsContent, HasOrder, HasPosting, HasCredit, HasDate, HasNothing}
+use Rattle.rtgs_http_requests.specs.Contents.{FindsContent, OrderValues, HasOrder, HasPosting, HasCredit, HasDate}
+use Rattle.rtgs_http_requests.specs.Contents.{HasNothing}
 use Rattle.rtgs_http_requests.specs.Meaning.{AsksDay, AsksPlainly, Means, MeansBank, MeansOperator, SpellsReference}
-use Rattle.rtgs_http_requests.specs.Meaning.{Answer, SpellsDate, SpellsOrder, IsPostingOf, SpellsCredit}
+use Rattle.rtgs_http_requests.specs.Meaning.{Answer, SpellsDate, SpellsDue, SpellsOrder, IsPostingOf, SpellsCredit}
 use Rattle.rtgs_http_requests.specs.Steps.{Then, HasAnswer}
 use Rattle.rtgs_http_requests.specs.declared.admitted.Admitted.{Admitted}
 use Rattle.rtgs_http_requests.specs.declared.admitted.Admitted.TheVariants as admitted
@@ -77,22 +78,29 @@ date_answered text =
     told_answered (IsDateOf text) (fault.Form BadDate) (SpellsDate text) (λ e. cc) (λ date has. has)
     (λ none date is e. none date (is, e))
 
-order_answered : (caller : List ℕ) (values : List ℕ × List ℕ × ℕ) → HasAnswer (SpellsOrder caller values)
+due_answered : (text : Option (List ℕ)) → HasAnswer (SpellsDue text)
+due_answered None = value_answered None
+due_answered (Some text) =
+    then_answered (SpellsDate text) (λ date (told : Result (Option ℕ) HttpFault). told ≡ Ok (Some date))
+    (date_answered text) (λ date. value_answered (Some date))
+
+order_answered : (caller : List ℕ) (values : OrderValues) → HasAnswer (SpellsOrder caller values)
 order_answered caller values none = by (truth (is_reference values.0)) (truth (is_code values.1)) (amount values.2)
   where
     by : IsReference values.0 ⊎ (¬ IsReference values.0) → IsCode values.1 ⊎ (¬ IsCode values.1)
         → IsAmount values.2 ⊎ (¬ IsAmount values.2) → ⊥
     by (inl r) (inl t) (inl a) =
-        let told = none (Ok (Submit (command.Order caller values.0 values.1 values.2))) (record {
-          found = λ _ _ _. refl;
+        let order : Option ℕ → Asked = λ due. Submit (command.Order caller values.0 values.1 values.2 due) in
+        then_answered (SpellsDue values.3) (λ due (told : Answer). told ≡ Ok (order due)) (due_answered values.3)
+        (λ due. value_answered (order due)) (λ answer is. none answer (record {
+          due = λ _ _ _. is;
           bad_reference = λ x. absurd (x r);
           bad_code = λ _ x. absurd (x t);
           bad_amount = λ _ _ x. absurd (x a);
-        }) in
-        cc
+        }))
     by (inl r) (inl t) (inr a) =
         let told = none (Err (fault.Form BadAmount)) (record {
-          found = λ _ _ x. absurd (a x);
+          due = λ _ _ x. absurd (a x);
           bad_reference = λ x. absurd (x r);
           bad_code = λ _ x. absurd (x t);
           bad_amount = λ _ _ _. refl;
@@ -100,7 +108,7 @@ order_answered caller values none = by (truth (is_reference values.0)) (truth (i
         cc
     by (inl r) (inr t) _ =
         let told = none (Err (fault.Form BadCode)) (record {
-          found = λ _ x _. absurd (t x);
+          due = λ _ x _. absurd (t x);
           bad_reference = λ x. absurd (x r);
           bad_code = λ _ _. refl;
           bad_amount = λ _ x _. absurd (t x);
@@ -108,7 +116,7 @@ order_answered caller values none = by (truth (is_reference values.0)) (truth (i
         cc
     by (inr r) _ _ =
         let told = none (Err (fault.Form BadReference)) (record {
-          found = λ x _ _. absurd (r x);
+          due = λ x _ _. absurd (r x);
           bad_reference = λ _. refl;
           bad_code = λ x _. absurd (r x);
           bad_amount = λ x _ _. absurd (r x);

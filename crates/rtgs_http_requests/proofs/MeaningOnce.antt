@@ -25,7 +25,7 @@ use Rattle.rtgs_book.specs.declared.reading.Reading.TheVariants as reading
 use Rattle.rtgs_http_requests.proofs.Agreement.{Agree, Equal, IsDetermined, then_determined, told_equal}
 use Rattle.rtgs_http_requests.proofs.ContentsOnce.{json_once, content_once, one_order, one_posting, one_credit}
 use Rattle.rtgs_http_requests.proofs.ContentsOnce.{one_date, one_nothing, reference_once, date_once, order_once}
-use Rattle.rtgs_http_requests.proofs.ContentsOnce.{posting_once, credit_once}
+use Rattle.rtgs_http_requests.proofs.ContentsOnce.{posting_once, credit_once, equal_once}
 use Rattle.rtgs_http_requests.proofs.Lower.{LowerLaws}
 
 same_as_itself : (answer : Answer) → AreTheSame answer answer
@@ -47,11 +47,6 @@ spelt_once : {A B : Type 0} (Has : A → Data → Type 0) (next : A → Result B
 spelt_once Has next body one_content once =
     then_determined (ReadsJson body) (λ value. Then (FindsContent Has value) next) (json_once body) (λ value.
     then_determined (FindsContent Has value) next (content_once Has one_content value) once)
-
--- the answer is this one, whatever the step before told
-equal_once : {A B : Type 0} (answer : A → Result B HttpFault) (value : A)
-    → IsDetermined (λ (told : Result B HttpFault). told ≡ answer value)
-equal_once answer value one other x y = told_equal (answer value) one other x y
 
 plainly_once : (body : List ℕ) (asked : Asked) → IsDetermined (AsksPlainly body asked)
 plainly_once body asked =
@@ -110,8 +105,8 @@ bank_once : LowerLaws → (route : BankRoute) (caller parameter body : List ℕ)
     → MeansBank route caller parameter body one → MeansBank route caller parameter body other
     → Agree AreTheSame one other
 bank_once laws SendOrder caller parameter body one other x y =
-    the_same one other (spelt_once HasOrder (λ values. SpellsOrder caller values) body one_order (order_once caller) one
-    other x y)
+    the_same one other (spelt_once HasOrder (λ values. SpellsOrder caller values) body one_order
+    (order_once laws caller) one other x y)
 bank_once laws WithdrawOrder caller parameter body one other x y =
     the_same one other (withdrawal_once caller parameter body one other x y)
 bank_once laws SendBatch caller parameter body one other x y = batch_once laws caller body one other x y

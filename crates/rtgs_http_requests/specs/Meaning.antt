@@ -1,5 +1,5 @@
 -- What an admitted caller asks for. The path's parameter is judged first, then the body.
-use Rattle.std.specs.Prelude.{◌≡◌, ◌≢◌, ⊤, ℕ, ℤ, List, Result, Ok, Err}
+use Rattle.std.specs.Prelude.{◌≡◌, ◌≢◌, ⊤, ℕ, ℤ, List, Option, None, Some, Result, Ok, Err}
 use Rattle.rtgs_money.specs.Amounts.{IsAmount, IsPostingAmount, IsCredit}
 use Rattle.rtgs_money.specs.Date.{IsBusinessDate, date_text}
 use Rattle.rtgs_money.specs.Forms.{IsCode, IsReference}
@@ -23,7 +23,8 @@ use Rattle.rtgs_http_requests.specs.declared.http_fault.HttpFault.{HttpFault}
 use Rattle.rtgs_http_requests.specs.declared.http_fault.HttpFault.TheVariants as fault
 use Rattle.rtgs_book.specs.declared.reading.Reading.TheVariants as reading
 use Rattle.rtgs_http_requests.specs.Bodies.{ReadsJson}
-use Rattle.rtgs_http_requests.specs.Contents.{FindsContent, HasOrder, HasPosting, HasCredit, HasDate, HasNothing}
+use Rattle.rtgs_http_requests.specs.Contents.{FindsContent, OrderValues, HasOrder, HasPosting, HasCredit, HasDate}
+use Rattle.rtgs_http_requests.specs.Contents.{HasNothing}
 use Rattle.rtgs_http_requests.specs.Steps.{Then}
 
 -- what a request may come to
@@ -41,10 +42,15 @@ SpellsDate text (Ok date) = IsBusinessDate date × (text ≡ date_text date)
 SpellsDate text (Err (fault.Form BadDate)) = (date : ℕ) → IsBusinessDate date → text ≢ date_text date
 SpellsDate text (Err _) = ⊥
 
+-- the due date that a text is, and none where there is no text
+abbrev pub SpellsDue : Option (List ℕ) → Result (Option ℕ) HttpFault → Type 0
+SpellsDue None told = told ≡ Ok None
+SpellsDue (Some text) told = Then (SpellsDate text) (λ date given. given ≡ Ok (Some date)) told
+
 -- the order of a caller with these values, judged in this order
-pub record SpellsOrder (caller : List ℕ) (values : List ℕ × List ℕ × ℕ) (answer : Answer) : Type 0 where
-  pub found : IsReference values.0 → IsCode values.1 → IsAmount values.2
-      → answer ≡ Ok (Submit (command.Order caller values.0 values.1 values.2))
+pub record SpellsOrder (caller : List ℕ) (values : OrderValues) (answer : Answer) : Type 0 where
+  pub due : IsReference values.0 → IsCode values.1 → IsAmount values.2 → Then (SpellsDue values.3)
+      (λ due given. given ≡ Ok (Submit (command.Order caller values.0 values.1 values.2 due))) answer
   pub bad_reference : ¬ IsReference values.0 → answer ≡ Err (fault.Form BadReference)
   pub bad_code : IsReference values.0 → ¬ IsCode values.1 → answer ≡ Err (fault.Form BadCode)
   pub bad_amount : IsReference values.0 → IsCode values.1 → ¬ IsAmount values.2 → answer ≡ Err (fault.Form BadAmount)

@@ -1,4 +1,5 @@
 //! What participants ask for.
+ghost use Rattle.std.specs.Prelude.{option_map};
 ghost use Rattle.rtgs_http_requests.specs.Meaning.{AsksOrder, SpellsOrder, AsksWithdrawal, AsksBatch};
 ghost use Rattle.rtgs_http_requests.specs.Meaning.{AsksOrderName, AsksStatement, MeansBank};
 
@@ -6,7 +7,7 @@ use crate::asked::Asked;
 use crate::body::read_json;
 use crate::contents::{is_nothing, order_of};
 use crate::http_fault::HttpFault;
-use crate::spelling::{spell_date, spell_reference};
+use crate::spelling::{spell_date, spell_due, spell_reference};
 use rtgs_book::{Command, Reading};
 use rtgs_http_heads::BankRoute;
 use rtgs_money::{Amount, Code, Lexical, Reference};
@@ -39,24 +40,32 @@ fn read_order(alloc: Global, caller: Code, body: &[u8]) -> Result<Asked, HttpFau
     ensures { AsksOrder caller body.now result }
 {
     let value = read_json(alloc, body)?;
-    let Some((reference, to, amount)) = order_of(&value) else {
+    let Some((reference, to, amount, due)) = order_of(&value) else {
         return Err(HttpFault::WrongFields);
     };
-    spell_order(caller, reference, to, amount)
+    spell_order(caller, reference, to, amount, due)
 }
 
-// The order that these values are, each judged by its form.
-fn spell_order(caller: Code, reference: &str, to: &str, amount: u64) -> Result<Asked, HttpFault>
-    ensures { SpellsOrder caller (reference.now, to.now, amount) result }
+// The order that these values are, each judged by its form, the due date last.
+fn spell_order(
+    caller: Code,
+    reference: &str,
+    to: &str,
+    amount: u64,
+    due: Option<&str>,
+) -> Result<Asked, HttpFault>
+    ensures { SpellsOrder caller (reference.now, to.now, amount, option_map (λ d. d.now) due.entry) result }
 {
     let reference = Reference::read(reference.as_bytes())?;
     let receiver = Code::read(to.as_bytes())?;
     let amount = Amount::from_cents(amount).ok_or(Lexical::BadAmount)?;
+    let due = spell_due(due)?;
     Ok(Asked::Submit(Command::Order {
         sender: caller,
         reference,
         receiver,
         amount,
+        due,
     }))
 }
 

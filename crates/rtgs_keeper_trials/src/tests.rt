@@ -6,6 +6,7 @@ mod creation;
 mod disks;
 mod faults;
 mod found;
+mod later_days;
 mod look_ups;
 mod memory;
 mod migration;

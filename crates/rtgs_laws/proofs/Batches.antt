@@ -8,7 +8,7 @@ use Rattle.rtgs_book.specs.declared.book.Book.{Book}
 use Rattle.rtgs_book.specs.declared.mark.Mark.{Mark}
 use Rattle.rtgs_book.specs.declared.order.Order.{Order}
 use Rattle.rtgs_book.specs.declared.order_state.OrderState.{OrderState}
-use Rattle.rtgs_book.specs.declared.order_state.OrderState.TheVariants.{Queued, Settled, Withdrawn, Rejected}
+use Rattle.rtgs_book.specs.declared.order_state.OrderState.TheVariants.{Queued, Held, Settled, Withdrawn, Rejected}
 use Rattle.rtgs_book.specs.Books.{is_queued}
 use Rattle.rtgs_book.specs.Settle.{in_state, restated}
 use Rattle.rtgs_book.specs.Soundness.{AreNumbered, HasMark, is_state_under, CountsItsOrders}
@@ -32,6 +32,7 @@ all_from_filter P p (x ∷ xs) h = by (p x) refl h (all_from_filter P p xs)
 not_under_next : (ms : List Mark) (next date : ℕ) (s : OrderState) → AllByRecursion (λ (m : Mark). m.number < next) ms
     → HasMark ms date s → is_state_under next s ≡ false
 not_under_next ms next date Queued below h = refl
+not_under_next ms next date Held below h = refl
 not_under_next ms next date Withdrawn below h = refl
 not_under_next ms next date Rejected below h = refl
 not_under_next ms next date (Settled k) below h = by ms below h
@@ -106,6 +107,7 @@ list_any_last p (y ∷ ys) x e = by (p y) (list_any_last p ys x e)
 
 mark_stays : (ms : List Mark) (m : Mark) (date : ℕ) (s : OrderState) → HasMark ms date s → HasMark (ms ++ m ∷ []) date s
 mark_stays ms m date Queued h = tt
+mark_stays ms m date Held h = tt
 mark_stays ms m date Withdrawn h = tt
 mark_stays ms m date Rejected h = tt
 mark_stays ms m date (Settled k) h = list_any_left _ ms (m ∷ []) h
@@ -199,6 +201,7 @@ hits_settled first (suc count) k = by (k == first) refl (hits_settled (first + 1
 
 hits_one : (first count : ℕ) (s : OrderState) → hits (range_with_len first count) s ≤ 1
 hits_one first count Queued = let h = hits_none (range_with_len first count) Queued (λ n. refl) in omega arith
+hits_one first count Held = let h = hits_none (range_with_len first count) Held (λ n. refl) in omega arith
 hits_one first count Withdrawn = let h = hits_none (range_with_len first count) Withdrawn (λ n. refl) in omega arith
 hits_one first count Rejected = let h = hits_none (range_with_len first count) Rejected (λ n. refl) in omega arith
 hits_one first count (Settled k) = hits_settled first count k

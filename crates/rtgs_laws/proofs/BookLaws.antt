@@ -11,7 +11,7 @@ use Rattle.rtgs_book.specs.Lookup.{is_participant}
 use Rattle.rtgs_book.specs.IntSum.{int_sum_by}
 use Rattle.rtgs_book.specs.Balance.{balance, total, issued, gain}
 use Rattle.rtgs_book.specs.Settle.{settle}
-use Rattle.rtgs_book.specs.Commands.{with_state}
+use Rattle.rtgs_book.specs.Commands.{let_in, with_state}
 use Rattle.rtgs_book.specs.Soundness.{CodesRise, PartiesAreKnown, IsSound}
 
 -- the orders that pass the test are queued
@@ -33,6 +33,8 @@ pub record BookLaws : Type 0 where
   pub restating : (book : Book) (is_in : Order → Bool) (state : OrderState) (code : List ℕ)
       → AreUnsettled book is_in → is_settled_state state ≡ false
       → balance (with_state book is_in state) code ≡ balance book code
+  pub entering : (book : Book) (is_in : Order → Bool) (date : ℕ) (code : List ℕ) → AreUnsettled book is_in
+      → balance (let_in book is_in date) code ≡ balance book code
   pub settling : (book : Book) (is_in : Order → Bool) (code : List ℕ) → AreQueued book is_in
       → balance (settle book is_in) code ≡ balance book code +ℤ int_sum_by (gain code) (filter is_in book.orders)
   pub unknown : (book : Book) (code : List ℕ) → IsSound book → is_participant book code ≡ false

@@ -1,5 +1,6 @@
 pub mod Batches
 pub mod BookLaws
+pub mod ButLength
 pub mod Insertions
 pub mod Lists
 pub mod Outcomes
@@ -10,6 +11,7 @@ pub mod SoundAdd
 pub mod SoundCommands
 pub mod SoundCredit
 pub mod SoundDays
+pub mod SoundOpening
 pub mod SoundOrders
 pub mod SoundPost
 pub mod SoundSettle

@@ -11,7 +11,8 @@ use Rattle.rtgs_laws.proofs.BookLaws.{BookLaws}
 use Rattle.rtgs_laws.proofs.SoundAdd.{sound_add}
 use Rattle.rtgs_laws.proofs.SoundCommands.{sound_order, sound_resolve}
 use Rattle.rtgs_laws.proofs.SoundCredit.{sound_set_credit}
-use Rattle.rtgs_laws.proofs.SoundDays.{sound_open_day, sound_cut_off}
+use Rattle.rtgs_laws.proofs.SoundDays.{sound_cut_off}
+use Rattle.rtgs_laws.proofs.SoundOpening.{sound_open_day}
 use Rattle.rtgs_laws.proofs.SoundPost.{sound_post}
 use Rattle.rtgs_laws.proofs.SoundStates.{sound_withdraw, sound_close_day}
 
@@ -25,9 +26,9 @@ step_sound laws old new (Add code full key) reply h e = ends _ reply new e (soun
 step_sound laws old new (SetCredit code credit) reply h e = ends _ reply new e (sound_set_credit old code credit h)
 step_sound laws old new (Post code reference cents) reply h e =
     ends _ reply new e (sound_post laws old code reference cents h)
-step_sound laws old new (OpenDay date) reply h e = ends _ reply new e (sound_open_day old date h)
-step_sound laws old new (PlaceOrder sender reference receiver amount) reply h e =
-    ends _ reply new e (sound_order laws old sender reference receiver amount h)
+step_sound laws old new (OpenDay date) reply h e = ends _ reply new e (sound_open_day laws old date h)
+step_sound laws old new (PlaceOrder sender reference receiver amount due) reply h e =
+    ends _ reply new e (sound_order laws old sender reference receiver amount due h)
 step_sound laws old new (Withdraw sender reference) reply h e =
     ends _ reply new e (sound_withdraw laws old sender reference h)
 step_sound laws old new Resolve reply h e = ends _ reply new e.2 (sound_resolve laws old e.0 h e.1.feasible)

@@ -13,11 +13,11 @@ use Rattle.rtgs_book.specs.declared.mark.Mark.{Mark}
 use Rattle.rtgs_book.specs.declared.order.Order.{Order}
 use Rattle.rtgs_book.specs.declared.participant.Participant.{Participant}
 use Rattle.rtgs_book.specs.declared.posting.Posting.{Posting}
-use Rattle.rtgs_book.specs.Books.{is_closed, is_queued}
+use Rattle.rtgs_book.specs.Books.{is_closed, is_waiting}
 use Rattle.rtgs_book.specs.Lookup.{has_code, participant_of, credit_of, accounts, is_participant}
 use Rattle.rtgs_book.specs.IntSum.{int_sum_by}
 use Rattle.rtgs_book.specs.Balance.{balance, floor, total}
-use Rattle.rtgs_book.specs.Queue.{queue}
+use Rattle.rtgs_book.specs.Queue.{waiting}
 use Rattle.rtgs_book.specs.Commands.{is_before, with_participant, add}
 use Rattle.rtgs_book.specs.Soundness.{has_parties, CountsItsOrders, IsSound}
 use Rattle.rtgs_laws.proofs.Insertions.{length-put_in, sum-put_in, any-put_in, distinct_put_in}
@@ -97,11 +97,11 @@ limit-put_in new code apart (p ∷ ps) = by (comes_before new.code p) refl (has_
 
 -- ---- a code that nobody has
 
-no_queue : (code : List ℕ) (os : List Order) → AllByRecursion
+none_wait : (code : List ℕ) (os : List Order) → AllByRecursion
     (λ (o : Order). bytes_eq o.sender code ≡ false) os
-    → length (filter (λ (o : Order). is_queued o && bytes_eq o.sender code) os) ≤ LONGEST_QUEUE
-no_queue code [] h = omega arith
-no_queue code (o ∷ os) h = rw (h.0, and_false (is_queued o)) (no_queue code os h.1)
+    → length (filter (λ (o : Order). is_waiting o && bytes_eq o.sender code) os) ≤ LONGEST_QUEUE
+none_wait code [] h = omega arith
+none_wait code (o ∷ os) h = rw (h.0, and_false (is_waiting o)) (none_wait code os h.1)
   where
     and_false : (b : Bool) → (b && false) ≡ false
     and_false true = refl
@@ -195,7 +195,7 @@ module _ (laws : BookLaws) (book : Book) (code full key : List ℕ) (h : IsSound
 
   participant_sound : AllByRecursion (λ (p : Participant). bytes_eq p.key key ≡ false) book.participants
       → length book.participants < MOST_PARTICIPANTS → IsSound (with_participant book new)
-  unfolding with_participant queue
+  unfolding with_participant waiting
   participant_sound keys room =
       let same = accounts-with_participant in
       let many = length-put_in (λ c. is_before c code) code (accounts book) in
@@ -222,8 +222,8 @@ module _ (laws : BookLaws) (book : Book) (code full key : List ℕ) (h : IsSound
         );
         queues = record {
           closed = h.queues.closed;
-          short = rw same (all_put_in (λ c. length (queue book c) ≤ LONGEST_QUEUE) (λ c. is_before c code) code
-              (accounts book) h.queues.short (no_queue code book.orders unsent));
+          short = rw same (all_put_in (λ c. length (waiting book c) ≤ LONGEST_QUEUE) (λ c. is_before c code) code
+              (accounts book) h.queues.short (none_wait code book.orders unsent));
           of_the_day = h.queues.of_the_day;
         };
         dates = record {
@@ -232,6 +232,7 @@ module _ (laws : BookLaws) (book : Book) (code full key : List ℕ) (h : IsSound
           order_weekdays = h.dates.order_weekdays;
           mark_weekdays = h.dates.mark_weekdays;
           orders = h.dates.orders;
+          dues = h.dates.dues;
           marks = h.dates.marks;
           postings = h.dates.postings;
         };

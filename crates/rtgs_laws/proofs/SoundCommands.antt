@@ -1,32 +1,40 @@
 -- Each command keeps a book sound.
-use Rattle.std.proofs.Common.{◌≡◌, ℕ, ◌<◌, ◌+◌, pos, ◌+ℤ◌, ◌-ℤ◌, ◌≤ℤ◌, nat_le, Bool, true, false, cond, not, ◌&&◌}
-use Rattle.std.proofs.Common.{List, [], ◌∷◌, ◌++◌, filter, length, is_some, refl, sym, ◌∙◌, subst, true≢false}
+use Rattle.std.proofs.Common.{◌≡◌, ℕ, ◌<◌, ◌+◌, pos, ◌+ℤ◌, ◌-ℤ◌, ◌≤ℤ◌, ◌≤◌, nat_le, Bool, true, false, cond, not, ◌&&◌}
+use Rattle.std.proofs.Common.{List, [], ◌∷◌, ◌++◌, map, filter, length, Option, Some, None, is_some, refl, sym, ◌∙◌}
+use Rattle.std.proofs.Common.{subst, true≢false, append-nil}
 use Rattle.std.proofs.Common.{arith}
 use Rattle.std.proofs.lemmas.Int.{ints}
+use Rattle.std.proofs.lemmas.List.{map-append}
 use Rattle.std.proofs.lemmas.List.Elements.{filter-append}
+use Rattle.rtgs_book.specs.declared.order_state.OrderState.TheVariants.{Settled}
+use Rattle.rtgs_book.specs.IntSum.{int_sum_by}
 use Rattle.std.specs.List.{AllByRecursion}
 use Rattle.std.specs.Str.{bytes_eq}
 use Rattle.std.specs.Cmp.Lexicographic.{bytes_decides}
 use Rattle.rtgs_book.specs.declared.limits.TheConstants.{LONGEST_QUEUE, LARGEST_NUMBER}
 use Rattle.rtgs_book.specs.declared.book.Book.{Book}
 use Rattle.rtgs_book.specs.declared.order.Order.{Order}
-use Rattle.rtgs_book.specs.Books.{is_closed, is_queued, is_empty}
+use Rattle.rtgs_book.specs.Books.{is_closed, is_queued, is_waiting, is_empty}
 use Rattle.rtgs_book.specs.Lookup.{accounts, participant_of, credit_of, order_named}
 use Rattle.rtgs_book.specs.Balance.{balance, floor, gain}
-use Rattle.rtgs_book.specs.Queue.{queue}
+use Rattle.rtgs_book.specs.Queue.{waiting}
 use Rattle.rtgs_book.specs.Choice.{Choice, is_chosen, chosen, balance_after, IsFeasible}
-use Rattle.rtgs_book.specs.Settle.{settle}
+use Rattle.rtgs_book.specs.Settle.{in_state, settle, restated, next_mark}
 use Rattle.rtgs_book.specs.Outcome.{Outcome}
-use Rattle.rtgs_book.specs.Commands.{resolve, settles_at_once, new_order, with_order, has_number, takes, order}
+use Rattle.rtgs_book.specs.Commands.{resolve, settles_at_once, settles_now, new_order, with_order, has_number, takes}
+use Rattle.rtgs_book.specs.Commands.{takes_due}
+use Rattle.rtgs_book.specs.Commands.{is_due_too_early, is_due_on_a_weekend, order}
 use Rattle.rtgs_book.specs.Soundness.{IsSound, has_parties}
-use Rattle.rtgs_laws.proofs.BookLaws.{BookLaws}
+use Rattle.rtgs_laws.proofs.BookLaws.{AreQueued, BookLaws}
+use Rattle.rtgs_laws.proofs.ButLength.{FewWait, IsSoundButLength, with_length}
 use Rattle.rtgs_laws.proofs.Outcomes.{sound_first_of}
+use Rattle.rtgs_laws.proofs.Settling.{with_batch, settled_batch}
 use Rattle.rtgs_laws.proofs.SoundDays.{open_not_closed}
-use Rattle.rtgs_laws.proofs.SoundOrders.{sound_with_order, balance-with_order}
+use Rattle.rtgs_laws.proofs.SoundOrders.{few_with_order, sound_with_order, balance-with_order}
 use Rattle.rtgs_laws.proofs.SoundPost.{lt_from_test}
-use Rattle.rtgs_laws.proofs.SoundSettle.{sound_settle}
+use Rattle.rtgs_laws.proofs.SoundSettle.{batch_sound, sound_settle}
 use Rattle.rtgs_lists.proofs.Bools.{and_left, and_right, from_not}
-use Rattle.rtgs_lists.proofs.Filters.{filter_nothing}
+use Rattle.rtgs_lists.proofs.Filters.{filter_nothing, length-filter_changed}
 use Rattle.rtgs_lists.proofs.Lists.{all_of, all_push, all_weaker}
 use Rattle.rtgs_lists.proofs.Numbers.{eq_self, le_from_test, other_number, below_next}
 
@@ -55,10 +63,6 @@ sound_resolve laws book choice h feasible = sound_first_of book _ _ h
 
 -- ---- Order
 
-no_orders : {X : Type 0} (xs : List X) → is_empty xs ≡ true → length xs < LONGEST_QUEUE
-no_orders [] e = omega arith
-no_orders (x ∷ xs) e = absurd (true≢false (sym e))
-
 bytes_apart : (a b c : List ℕ) → bytes_eq a b ≡ false → a ≡ c → bytes_eq b c ≡ false
 bytes_apart a b c e same = by (bytes_eq b c) refl
   where
@@ -70,11 +74,6 @@ choose : (b : Bool) (x y : Outcome) → (b ≡ true → IsSound x.book) → (b �
     → IsSound (cond b x y).book
 choose true x y h k = h refl
 choose false x y h k = k refl
-
-at_once_empty : (book : Book) (sender : List ℕ) (amount : ℕ) → settles_at_once book sender amount ≡ true
-    → length (queue book sender) < LONGEST_QUEUE
-unfolding settles_at_once
-at_once_empty book sender amount e = no_orders _ (and_left _ _ e)
 
 at_once_cover : (book : Book) (sender : List ℕ) (amount : ℕ) → settles_at_once book sender amount ≡ true
     → floor book sender ≤ℤ (balance book sender -ℤ pos amount)
@@ -95,14 +94,16 @@ module _ (book : Book) (sender reference receiver : List ℕ) (amount : ℕ) (h 
       book.orders (below_next (λ (o : Order). o.number) 1 book.orders h.orders_numbered.0)
 
   batch_is : filter (has_number (length book.orders + 1)) (book.orders
-      ++ new_order book sender reference receiver amount ∷ []) ≡ new_order book sender reference receiver amount ∷ []
+      ++ new_order book sender reference receiver amount None ∷ [])
+      ≡ new_order book sender reference receiver amount None ∷ []
   batch_is = filter-append (has_number (length book.orders + 1)) book.orders
-      (new_order book sender reference receiver amount ∷ [])
+      (new_order book sender reference receiver amount None ∷ [])
       ∙ rw (filter_nothing _ book.orders old_numbers, eq_self (length book.orders + 1)) refl
 
   covered_at : bytes_eq sender receiver ≡ false → floor book sender ≤ℤ (balance book sender -ℤ pos amount)
       → (code : List ℕ) → floor book code ≤ℤ balance book code
-      → floor book code ≤ℤ (balance book code +ℤ (gain code (new_order book sender reference receiver amount) +ℤ pos 0))
+      → floor book code ≤ℤ (balance book code +ℤ
+      (gain code (new_order book sender reference receiver amount None) +ℤ pos 0))
   unfolding gain
   covered_at apart cover code holds = by (bytes_eq sender code) refl (bytes_eq receiver code) refl
     where
@@ -118,43 +119,119 @@ module _ (book : Book) (sender reference receiver : List ℕ) (amount : ℕ) (h 
       by false e true f = omega (arith, ints)
       by false e false f = omega (arith, ints)
 
-  settled_sound : BookLaws → IsSound (with_order book (new_order book sender reference receiver amount))
+  -- the new order is settled, so no more orders wait than before
+  few_settled : FewWait (with_batch (with_order book (new_order book sender reference receiver amount None))
+      (has_number (length book.orders + 1)))
+  unfolding accounts waiting
+  few_settled = all_weaker (λ code. length (waiting book code) ≤ LONGEST_QUEUE)
+      (λ code. length (waiting (with_batch (with_order book (new_order book sender reference receiver amount None))
+      (has_number (length book.orders + 1))) code) ≤ LONGEST_QUEUE) one (accounts book) h.queues.short
+    where
+      one : (code : List ℕ) → length (filter (λ o. is_waiting o && bytes_eq o.sender code) book.orders) ≤ LONGEST_QUEUE
+          → length (filter (λ o. is_waiting o && bytes_eq o.sender code)
+          (map (restated (has_number (length book.orders + 1)) (Settled (next_mark book)))
+          (book.orders ++ new_order book sender reference receiver amount None ∷ []))) ≤ LONGEST_QUEUE
+      one code x =
+          let le = length-filter_changed (λ o. is_waiting o && bytes_eq o.sender code)
+          (has_number (length book.orders + 1)) (in_state (Settled (next_mark book))) (λ o. refl) book.orders in
+          rw (
+            map-append (restated (has_number (length book.orders + 1)) (Settled (next_mark book))) book.orders
+                (new_order book sender reference receiver amount None ∷ []),
+            eq_self (length book.orders + 1),
+            filter-append (λ (o : Order). is_waiting o && bytes_eq o.sender code),
+            append-nil,
+          ) (omega arith)
+
+  settled_sound : BookLaws → IsSoundButLength (with_order book (new_order book sender reference receiver amount None))
       → is_closed book.day.phase ≡ false → bytes_eq sender receiver ≡ false
       → floor book sender ≤ℤ (balance book sender -ℤ pos amount)
-      → IsSound (settle (with_order book (new_order book sender reference receiver amount))
+      → IsSound (settle (with_order book (new_order book sender reference receiver amount None))
       (has_number (length book.orders + 1)))
   unfolding accounts floor credit_of participant_of
   settled_sound laws sound not_closed apart cover =
-      let new : Order = new_order book sender reference receiver amount in
-      sound_settle laws (with_order book new) (has_number (length book.orders + 1))
-      (all_push (λ o. has_number (length book.orders + 1) o ≡ true → is_queued o ≡ true) book.orders new
+      let new : Order = new_order book sender reference receiver amount None in
+      let queued : AreQueued (with_order book new) (has_number (length book.orders + 1)) =
+      all_push (λ o. has_number (length book.orders + 1) o ≡ true → is_queued o ≡ true) book.orders new
       (all_weaker (λ o. has_number (length book.orders + 1) o ≡ false)
       (λ o. has_number (length book.orders + 1) o ≡ true → is_queued o ≡ true)
-      (λ o e t. absurd (true≢false (sym t ∙ e))) book.orders old_numbers) (λ _. refl))
-      sound not_closed
+      (λ o e t. absurd (true≢false (sym t ∙ e))) book.orders old_numbers) (λ _. refl) in
+      let some : 1 ≤ length (filter (has_number (length book.orders + 1)) (book.orders ++ new ∷ [])) =
+      rw batch_is (omega arith) in
+      settled_batch (λ b. ((code : List ℕ) → balance b code ≡ balance (with_order book new) code
+      +ℤ int_sum_by (gain code) (filter (has_number (length book.orders + 1)) (book.orders ++ new ∷ []))) → IsSound b)
+      (with_order book new) (has_number (length book.orders + 1)) some
+      (λ balances. batch_sound laws (with_order book new) (has_number (length book.orders + 1)) queued sound not_closed
+      some balances
       (rw batch_is (all_weaker (λ code. floor book code ≤ℤ balance book code)
       (λ code. floor book code ≤ℤ (balance (with_order book new) code +ℤ (gain code new +ℤ pos 0)))
-      (λ code x. rw (balance-with_order book sender reference receiver amount code) (covered_at apart cover code x))
-      (accounts book) h.floors))
+      (λ code x. rw (balance-with_order book sender reference receiver amount None code)
+      (covered_at apart cover code x))
+      (accounts book) h.floors)) few_settled)
+      (λ code. laws.settling (with_order book new) (has_number (length book.orders + 1)) code queued)
 
   takes_sound : BookLaws → length book.orders < LARGEST_NUMBER → is_some (order_named book sender reference) ≡ false
-      → has_parties book (new_order book sender reference receiver amount) ≡ true → bytes_eq sender receiver ≡ false
+      → has_parties book (new_order book sender reference receiver amount None) ≡ true
+      → bytes_eq sender receiver ≡ false
       → is_closed book.day.phase ≡ false → (not (settles_at_once book sender amount) && nat_le LONGEST_QUEUE
-      (length (queue book sender))) ≡ false → IsSound (takes book
-      (new_order book sender reference receiver amount)).book
+      (length (waiting book sender))) ≡ false → IsSound (takes book
+      (new_order book sender reference receiver amount None)).book
   unfolding takes
   takes_sound laws room fresh parties apart not_closed short =
+      let sound = sound_with_order book sender reference receiver amount None h room fresh parties not_closed refl refl
+      in
       choose (settles_at_once book sender amount) _ _
-      (λ e. settled_sound laws (sound_with_order book sender reference receiver amount h room fresh parties not_closed
-      (at_once_empty book sender amount e)) not_closed apart (at_once_cover book sender amount e))
-      (λ e. sound_with_order book sender reference receiver amount h room fresh parties not_closed
-      (lt_from_test _ _ (still_short _ _ e short)))
+      (λ e. settled_sound laws sound not_closed apart (at_once_cover book sender amount e))
+      (λ e. with_length _ sound (few_with_order book sender reference receiver amount None
+      (lt_from_test _ _ (still_short _ _ e short)) h.queues.short))
 
-pub sound_order : BookLaws → (book : Book) (sender reference receiver : List ℕ) (amount : ℕ) → IsSound book
-    → IsSound (order book sender reference receiver amount).book
+  takes_due_sound : BookLaws → (due : Option ℕ) → length book.orders < LARGEST_NUMBER
+      → is_some (order_named book sender reference) ≡ false
+      → has_parties book (new_order book sender reference receiver amount due) ≡ true
+      → bytes_eq sender receiver ≡ false
+      → is_closed book.day.phase ≡ false → is_due_too_early book due ≡ false → is_due_on_a_weekend due ≡ false
+      → (not (settles_now book sender amount due) && nat_le LONGEST_QUEUE (length (waiting book sender))) ≡ false
+      → IsSound (takes_due book (new_order book sender reference receiver amount due) due).book
+  takes_due_sound laws None room fresh parties apart not_closed early weekend short =
+      takes_sound laws room fresh parties apart not_closed short
+  takes_due_sound laws (Some due) room fresh parties apart not_closed early weekend short =
+      with_length _ (sound_with_order book sender reference receiver amount (Some due) h room fresh parties not_closed
+      early weekend) (few_with_order book sender reference receiver amount (Some due) (lt_from_test _ _ short)
+      h.queues.short)
+
+pub sound_order : BookLaws → (book : Book) (sender reference receiver : List ℕ) (amount : ℕ) (due : Option ℕ)
+    → IsSound book → IsSound (order book sender reference receiver amount due).book
 unfolding order
-sound_order laws book sender reference receiver amount h = sound_first_of book _ _ h
-    (λ (sender_known, (_, (unused, (day_open, (receiver_known, (apart, (numbers_left, (short, _)))))))).
-    takes_sound book sender reference receiver amount h laws (lt_from_test _ _ numbers_left) unused
+sound_order laws book sender reference receiver amount due h = sound_first_of book _ _ h
+    (λ (
+      sender_known,
+      (
+        _,
+        (
+          unused,
+          (
+            day_open,
+            (
+              receiver_known,
+              (
+                apart,
+                (
+                  early,
+                  (
+                    weekend,
+                    (
+                      numbers_left,
+                      (
+                        short,
+                        _,
+                      ),
+                    ),
+                  ),
+                ),
+              ),
+            ),
+          ),
+        ),
+      ),
+    ). takes_due_sound book sender reference receiver amount h laws due (lt_from_test _ _ numbers_left) unused
     (all_three _ _ _ (from_not _ sender_known) (from_not _ receiver_known) apart) apart
-    (open_not_closed book.day.phase (from_not _ day_open)) short)
+    (open_not_closed book.day.phase (from_not _ day_open)) early weekend short)

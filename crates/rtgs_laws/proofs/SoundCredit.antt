@@ -12,7 +12,7 @@ use Rattle.rtgs_book.specs.declared.posting.Posting.{Posting}
 use Rattle.rtgs_book.specs.Books.{is_closed}
 use Rattle.rtgs_book.specs.Lookup.{has_code, participant_of, credit_of, accounts, is_participant}
 use Rattle.rtgs_book.specs.Balance.{balance, floor, total}
-use Rattle.rtgs_book.specs.Queue.{queue}
+use Rattle.rtgs_book.specs.Queue.{waiting}
 use Rattle.rtgs_book.specs.Commands.{with_credit, set_credit}
 use Rattle.rtgs_book.specs.Soundness.{IsSound}
 use Rattle.rtgs_laws.proofs.Outcomes.{sound_first_of}
@@ -117,7 +117,7 @@ floor_covered book code credit known enough other holds = by (is_closed book.day
 pub credit_sound : (book : Book) (code : List ℕ) (credit : ℕ) → IsSound book → is_participant book code ≡ true
     → (not (is_closed book.day.phase) && int_lt (balance book code) (neg_ℤ (pos credit))) ≡ false
     → IsSound (with_credit book code credit)
-unfolding with_credit is_participant queue balance total
+unfolding with_credit is_participant waiting balance total
 credit_sound book code credit h known enough =
     let same = accounts-with_credit book code credit in
     record {
@@ -146,6 +146,7 @@ credit_sound book code credit h known enough =
         order_weekdays = h.dates.order_weekdays;
         mark_weekdays = h.dates.mark_weekdays;
         orders = h.dates.orders;
+        dues = h.dates.dues;
         marks = h.dates.marks;
         postings = h.dates.postings;
       };

@@ -1,9 +1,6 @@
--- Opening and cutting off a day keep a book sound.
-use Rattle.std.proofs.Common.{◌≡◌, ℕ, ◌≤◌, true, false, List, [], ◌∷◌, Option, Some, None, unwrap_or, refl, sym}
-use Rattle.std.proofs.Common.{true≢false, arith}
-use Rattle.std.proofs.lemmas.Int.{ints}
-use Rattle.std.proofs.lemmas.Bool.Decides.{nat_tests}
-use Rattle.rtgs_money.specs.Date.{is_weekend}
+-- Cutting off a day keeps a book sound.
+use Rattle.std.proofs.Common.{◌≡◌, ℕ, true, false, refl, sym}
+use Rattle.std.proofs.Common.{true≢false}
 use Rattle.rtgs_book.specs.declared.book.Book.{Book}
 use Rattle.rtgs_book.specs.declared.day.Day.{Day}
 use Rattle.rtgs_book.specs.declared.phase.Phase.{Phase}
@@ -11,10 +8,9 @@ use Rattle.rtgs_book.specs.declared.phase.Phase.TheVariants.{Closed, Open, CutOf
 use Rattle.rtgs_book.specs.Books.{is_closed, is_open}
 use Rattle.rtgs_book.specs.Lookup.{participant_of, credit_of, accounts, is_participant}
 use Rattle.rtgs_book.specs.Balance.{balance, floor, total}
-use Rattle.rtgs_book.specs.Queue.{queue}
-use Rattle.rtgs_book.specs.Settle.{today}
-use Rattle.rtgs_book.specs.Commands.{with_day, is_later, open_day, cut_off}
-use Rattle.rtgs_book.specs.Soundness.{QueuesFit, DatesFit, FloorsHold, NeverFall, IsSound}
+use Rattle.rtgs_book.specs.Queue.{waiting}
+use Rattle.rtgs_book.specs.Commands.{with_day, cut_off}
+use Rattle.rtgs_book.specs.Soundness.{QueuesFit, DatesFit, FloorsHold, IsSound}
 use Rattle.rtgs_laws.proofs.Outcomes.{sound_first_of}
 use Rattle.rtgs_lists.proofs.Lists.{all_weaker}
 use Rattle.rtgs_lists.proofs.Bools.{from_not}
@@ -50,7 +46,7 @@ open_not_closed CutOff e = refl
 
 cut_off_sound : (book : Book) → IsSound book → is_closed book.day.phase ≡ false
     → IsSound (with_day book (record book.day { phase = CutOff }))
-unfolding queue floor credit_of participant_of accounts balance
+unfolding waiting floor credit_of participant_of accounts balance
 cut_off_sound book h e = sound_with_day book (record book.day { phase = CutOff }) h
     (record { closed = λ c. absurd (true≢false (sym c)); short = h.queues.short; of_the_day = h.queues.of_the_day })
     (record {
@@ -59,6 +55,7 @@ cut_off_sound book h e = sound_with_day book (record book.day { phase = CutOff }
       order_weekdays = h.dates.order_weekdays;
       mark_weekdays = h.dates.mark_weekdays;
       orders = h.dates.orders;
+      dues = h.dates.dues;
       marks = h.dates.marks;
       postings = h.dates.postings;
     })
@@ -68,37 +65,3 @@ pub sound_cut_off : (book : Book) (date : ℕ) → IsSound book → IsSound (cut
 unfolding cut_off
 sound_cut_off book date h = sound_first_of book _ _ h (λ passed. cut_off_sound book h
     (open_not_closed book.day.phase (from_not _ passed.1.0)))
-
-later_le : (date : ℕ) (last : Option ℕ) → is_later date last ≡ true → unwrap_or last 0 ≤ date
-later_le date None e = omega arith
-later_le date (Some last) e = grind (arith, nat_tests)
-
-NeverFall-later : (last later : ℕ) → last ≤ later → (dates : List ℕ) → NeverFall last dates → NeverFall later dates
-NeverFall-later last later le [] h = tt
-NeverFall-later last later le (date ∷ dates) h = let b = h.1
-    in (h.0, omega arith, NeverFall-later last later le dates h.2)
-
-open_day_sound : (book : Book) (date : ℕ) → IsSound book → is_closed book.day.phase ≡ true → today book ≤ date
-    → is_weekend date ≡ false → IsSound (with_day book (record { date = Some date; phase = Open }))
-unfolding queue floor credit_of participant_of accounts balance
-open_day_sound book date h e le weekday = sound_with_day book (record { date = Some date; phase = Open }) h
-    (record {
-      closed = λ c. absurd (true≢false (sym c));
-      short = h.queues.short;
-      of_the_day = rw (h.queues.closed e) tt;
-    })
-    (record {
-      dated = λ _. refl;
-      weekday = λ _. weekday;
-      order_weekdays = h.dates.order_weekdays;
-      mark_weekdays = h.dates.mark_weekdays;
-      orders = NeverFall-later _ _ le _ h.dates.orders;
-      marks = NeverFall-later _ _ le _ h.dates.marks;
-      postings = NeverFall-later _ _ le _ h.dates.postings;
-    })
-    (all_weaker _ _ (λ code x. let y = rw e at x in omega (arith, ints)) (accounts book) h.floors)
-
-pub sound_open_day : (book : Book) (date : ℕ) → IsSound book → IsSound (open_day book date).book
-unfolding open_day
-sound_open_day book date h = sound_first_of book _ _ h (λ (_, (closed, (later, (weekday, _)))).
-    open_day_sound book date h (from_not _ closed) (later_le date book.day.date (from_not _ later)) weekday)

@@ -13,7 +13,7 @@ use Rattle.rtgs_book.specs.declared.posting.Posting.{Posting}
 use Rattle.rtgs_book.specs.Lookup.{accounts, is_participant, participant_of, credit_of, posting_named}
 use Rattle.rtgs_book.specs.IntSum.{int_sum_by}
 use Rattle.rtgs_book.specs.Balance.{balance, floor, total}
-use Rattle.rtgs_book.specs.Queue.{queue}
+use Rattle.rtgs_book.specs.Queue.{waiting}
 use Rattle.rtgs_book.specs.Commands.{post}
 use Rattle.rtgs_book.specs.Soundness.{CountsItsOrders, IsSound}
 use Rattle.rtgs_laws.proofs.BookLaws.{BookLaws}
@@ -81,7 +81,7 @@ post_sound : BookLaws → (book : Book) (code reference : List ℕ) (cents : ℤ
       cents = cents;
       date = book.day.date;
     }))
-unfolding accounts is_participant queue floor credit_of participant_of posting_named
+unfolding accounts is_participant waiting floor credit_of participant_of posting_named
 post_sound laws book code reference cents h known new room fits enough =
     let posting : Posting = record {
       number = length book.postings + 1;
@@ -114,6 +114,7 @@ post_sound laws book code reference cents h known new room fits enough =
         order_weekdays = h.dates.order_weekdays;
         mark_weekdays = h.dates.mark_weekdays;
         orders = h.dates.orders;
+        dues = h.dates.dues;
         marks = h.dates.marks;
         postings = rw (map-append (λ (p : Posting). unwrap_or p.date 0) book.postings (posting ∷ []))
             (never_fall_push _ _ h.dates.postings);

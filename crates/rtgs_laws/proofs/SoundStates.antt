@@ -10,22 +10,25 @@ use Rattle.rtgs_book.specs.declared.order.Order.{Order}
 use Rattle.rtgs_book.specs.declared.order_state.OrderState.{OrderState}
 use Rattle.rtgs_book.specs.declared.order_state.OrderState.TheVariants.{Withdrawn, Rejected}
 use Rattle.rtgs_book.specs.declared.phase.Phase.TheVariants.{Closed}
-use Rattle.rtgs_book.specs.Books.{is_queued, is_queued_state, is_settled, is_settled_state, is_empty}
+use Rattle.rtgs_book.specs.Books.{is_queued, is_queued_state, is_waiting, is_waiting_state, is_settled}
+use Rattle.rtgs_book.specs.Books.{is_settled_state}
+use Rattle.rtgs_book.specs.Books.{has_due, is_empty}
 use Rattle.rtgs_book.specs.Lookup.{accounts, is_participant, participant_of, credit_of, is_order_named, order_named}
 use Rattle.rtgs_book.specs.IntSum.{int_sum_by}
 use Rattle.rtgs_book.specs.Balance.{balance, floor, total}
-use Rattle.rtgs_book.specs.Queue.{queue}
+use Rattle.rtgs_book.specs.Queue.{waiting}
 use Rattle.rtgs_book.specs.Settle.{in_state, restated, today}
 use Rattle.rtgs_book.specs.Choice.{Choice}
-use Rattle.rtgs_book.specs.Commands.{with_state, with_day, has_number, number_of, is_queued_order, withdraw, overdrawn}
+use Rattle.rtgs_book.specs.Commands.{with_state, with_day, has_number, number_of, is_waiting_order, withdraw, overdrawn}
 use Rattle.rtgs_book.specs.Commands.{close_day}
-use Rattle.rtgs_book.specs.Soundness.{HasMark, is_state_under, has_parties, CountsItsOrders, IsSound}
+use Rattle.rtgs_book.specs.Soundness.{HasMark, FitsDue, is_state_under, has_parties, CountsItsOrders, IsSound}
 use Rattle.std.proofs.lemmas.List.{length-map}
 use Rattle.rtgs_book.specs.declared.limits.TheConstants.{LONGEST_QUEUE, LARGEST_TOTAL}
 use Rattle.rtgs_laws.proofs.BookLaws.{AreUnsettled, BookLaws}
 use Rattle.rtgs_laws.proofs.Outcomes.{sound_first_of}
 use Rattle.rtgs_laws.proofs.SoundDays.{sound_with_day}
-use Rattle.rtgs_laws.proofs.States.{no_length, queued_not_settled, unsettled_not_under, found_by_number}
+use Rattle.rtgs_laws.proofs.States.{no_length, queued_not_settled, waiting_not_settled, unsettled_not_under}
+use Rattle.rtgs_laws.proofs.States.{found_by_number, kept_filtered, queued_rejected, waiting_withdrawn}
 use Rattle.rtgs_lists.proofs.Bools.{and_left_false, from_not}
 use Rattle.rtgs_lists.proofs.Filters.{filter_changed, all_filter_changed, length-filter_changed}
 use Rattle.rtgs_lists.proofs.Lists.{all_of, all_weaker, map_same, changed_same, all_changed}
@@ -33,9 +36,10 @@ use Rattle.rtgs_lists.proofs.Lists.{all_of, all_weaker, map_same, changed_same, 
 abbrev pub name : Order → List ℕ × List ℕ
 name o = (o.sender, o.reference)
 
--- orders that are not settled get a state in which they are neither queued nor settled
+-- orders that are not settled get a state in which they neither wait nor are settled
 module _ (laws : BookLaws) (book : Book) (is_in : Order → Bool) (s : OrderState)
-    (not_queued : is_queued_state s ≡ false) (not_settled : is_settled_state s ≡ false)
+    (not_queued : is_queued_state s ≡ false) (not_waiting : is_waiting_state s ≡ false)
+    (not_settled : is_settled_state s ≡ false)
     (no_mark : (ms : List Mark) (date : ℕ) → HasMark ms date s) (fresh : AreUnsettled book is_in) where
   pub balance-with_state : (code : List ℕ) → balance (with_state book is_in s) code ≡ balance book code
   balance-with_state code = laws.restating book is_in s code fresh not_settled
@@ -52,9 +56,18 @@ module _ (laws : BookLaws) (book : Book) (is_in : Order → Bool) (s : OrderStat
       → map g (map (restated is_in s) book.orders) ≡ map g book.orders
   kept g same = map_same g (restated is_in s) (changed_same g (in_state s) same is_in) book.orders
 
-  pub sound_with_state : IsSound book → IsSound (with_state book is_in s)
-  unfolding with_state accounts is_participant queue total floor credit_of participant_of
-  sound_with_state h = record {
+  -- an order keeps its due date
+  undated_same : map (λ (o : Order). o.date) (filter (λ o. not (has_due o)) (map (restated is_in s) book.orders))
+      ≡ map (λ (o : Order). o.date) (filter (λ o. not (has_due o)) book.orders)
+  undated_same = kept_filtered (λ (o : Order). o.date) (λ o. not (has_due o)) (restated is_in s)
+      (changed_same (λ (o : Order). o.date) (in_state s) (λ o. refl) is_in)
+      (changed_same (λ o. not (has_due o)) (in_state s) (λ o. refl) is_in) book.orders
+
+  pub sound_with_state : IsSound book → AllByRecursion (λ (o : Order). is_in o ≡ true
+      → FitsDue (today book) o.due o.date o.state → FitsDue (today book) o.due o.date s) book.orders
+      → IsSound (with_state book is_in s)
+  unfolding with_state accounts is_participant waiting total floor credit_of participant_of
+  sound_with_state h dues = record {
     orders_numbered = rw (kept (λ (o : Order). o.number) (λ o. refl)) h.orders_numbered;
     postings_numbered = h.postings_numbered;
     marks_numbered = h.marks_numbered;
@@ -84,10 +97,10 @@ module _ (laws : BookLaws) (book : Book) (is_in : Order → Bool) (s : OrderStat
           let le = length-filter_changed is_queued is_in (in_state s) (λ o. not_queued) book.orders in
           let none = ap length (h.queues.closed e) in
           no_length _ (omega arith);
-      short = all_weaker (λ code. length (queue book code) ≤ LONGEST_QUEUE)
-          (λ code. length (queue (with_state book is_in s) code) ≤ LONGEST_QUEUE)
-          (λ code x. let le = length-filter_changed (λ o. is_queued o && bytes_eq o.sender code) is_in (in_state s)
-          (λ o. and_left_false _ _ not_queued) book.orders in omega arith) (accounts book) h.queues.short;
+      short = all_weaker (λ code. length (waiting book code) ≤ LONGEST_QUEUE)
+          (λ code. length (waiting (with_state book is_in s) code) ≤ LONGEST_QUEUE)
+          (λ code x. let le = length-filter_changed (λ o. is_waiting o && bytes_eq o.sender code) is_in (in_state s)
+          (λ o. and_left_false _ _ not_waiting) book.orders in omega arith) (accounts book) h.queues.short;
       of_the_day = all_filter_changed is_queued is_in (in_state s) (λ o. not_queued) (λ o. o.date ≡ today book)
           book.orders h.queues.of_the_day;
     };
@@ -96,7 +109,9 @@ module _ (laws : BookLaws) (book : Book) (is_in : Order → Bool) (s : OrderStat
       weekday = h.dates.weekday;
       order_weekdays = rw (kept (λ (o : Order). o.date) (λ o. refl)) h.dates.order_weekdays;
       mark_weekdays = h.dates.mark_weekdays;
-      orders = rw (kept (λ (o : Order). o.date) (λ o. refl)) h.dates.orders;
+      orders = rw undated_same h.dates.orders;
+      dues = all_changed (λ (o : Order). FitsDue (today book) o.due o.date o.state) is_in (in_state s) book.orders dues
+          h.dates.dues;
       marks = h.dates.marks;
       postings = h.dates.postings;
     };
@@ -111,19 +126,22 @@ pub sound_withdraw : BookLaws → (book : Book) (sender reference : List ℕ) �
     → IsSound (withdraw book sender reference).book
 unfolding withdraw order_named
 sound_withdraw laws book sender reference h = sound_first_of book _ _ h
-    (λ (_, (_, (_, (queued, _)))). by (order_named book sender reference) refl (from_not _ queued))
+    (λ (_, (_, (_, (waits, _)))). by (order_named book sender reference) refl (from_not _ waits))
   where
-    found_unsettled : (o : Order) → order_named book sender reference ≡ Some o → is_queued o ≡ true
-        → AreUnsettled book (has_number o.number)
-    found_unsettled o e q = found_by_number (λ other. is_settled other ≡ false) (is_order_named sender reference) 1
+    by_number : (P : Order → Type 0) (o : Order) → order_named book sender reference ≡ Some o → P o
+        → AllByRecursion (λ other. has_number o.number other ≡ true → P other) book.orders
+    by_number P o e holds = found_by_number P (is_order_named sender reference) 1
         book.orders o (h.orders_numbered.0 ∙ ap (range_with_len 1) (length-map book.orders (λ (o : Order). o.number))) e
-        (queued_not_settled o.state q)
+        holds
 
-    by : (found : Option Order) → order_named book sender reference ≡ found → is_queued_order found ≡ true
+    by : (found : Option Order) → order_named book sender reference ≡ found → is_waiting_order found ≡ true
         → IsSound (with_state book (has_number (number_of found)) Withdrawn)
     by None e q = absurd (true≢false (sym q))
-    by (Some o) e q = sound_with_state laws book (has_number o.number) Withdrawn refl refl (λ _ _. tt)
-        (found_unsettled o e q) h
+    by (Some o) e q = sound_with_state laws book (has_number o.number) Withdrawn refl refl refl (λ _ _. tt)
+        (by_number (λ other. is_settled other ≡ false) o e (waiting_not_settled o.state q)) h
+        (by_number (λ (other : Order). FitsDue (today book) other.due other.date other.state
+        → FitsDue (today book) other.due other.date Withdrawn) o e
+        (waiting_withdrawn (today book) o.due o.date o.state q))
 
 none_pass : {X : Type 0} (p : X → Bool) (xs : List X) → not (is_empty (filter p xs)) ≡ false
     → AllByRecursion (λ x. p x ≡ false) xs
@@ -157,11 +175,13 @@ not_negative a e = grind (arith, ints)
 close_sound : BookLaws → (book : Book) → IsSound book
     → AllByRecursion (λ code. int_lt (balance book code) (pos 0) ≡ false) (accounts book) → IsSound (with_day
     (with_state book is_queued Rejected) (record book.day { phase = Closed }))
-unfolding with_state accounts queue floor balance
+unfolding with_state accounts waiting floor balance
 close_sound laws book h positive =
     let rejected = with_state book is_queued Rejected in
-    let sound = sound_with_state laws book is_queued Rejected refl refl (λ _ _. tt)
-    (queued_unsettled book) h in
+    let sound = sound_with_state laws book is_queued Rejected refl refl refl (λ _ _. tt) (queued_unsettled book) h
+    (all_of (λ (o : Order). is_queued o ≡ true → FitsDue (today book) o.due o.date o.state
+    → FitsDue (today book) o.due o.date Rejected) (λ o e. queued_rejected (today book) o.due o.date o.state e)
+    book.orders) in
     sound_with_day rejected (record book.day { phase = Closed }) sound
     (record {
       closed = λ _. none_queued book.orders;
@@ -174,13 +194,14 @@ close_sound laws book h positive =
       order_weekdays = sound.dates.order_weekdays;
       mark_weekdays = sound.dates.mark_weekdays;
       orders = sound.dates.orders;
+      dues = sound.dates.dues;
       marks = sound.dates.marks;
       postings = sound.dates.postings;
     })
     (all_weaker (λ code. int_lt (balance book code) (pos 0) ≡ false)
     (λ code. floor (with_day rejected (record book.day { phase = Closed })) code ≤ℤ balance
     (with_day rejected (record book.day { phase = Closed })) code)
-    (λ code e. rw (balance-with_state laws book is_queued Rejected refl refl (λ _ _. tt)
+    (λ code e. rw (balance-with_state laws book is_queued Rejected refl refl refl (λ _ _. tt)
     (queued_unsettled book) code) (not_negative _ e)) (accounts book) positive)
 
 pub sound_close_day : BookLaws → (book : Book) (choice : Choice) (date : ℕ) → IsSound book

@@ -12,7 +12,6 @@ use Rattle.rtgs_book.specs.declared.book.Book.{Book}
 use Rattle.rtgs_book.specs.declared.command.Command.{Command}
 use Rattle.rtgs_book.specs.declared.mark.Mark.{Mark}
 use Rattle.rtgs_book.specs.declared.order.Order.{Order}
-use Rattle.rtgs_book.specs.declared.order_state.OrderState.{OrderState}
 use Rattle.rtgs_book.specs.declared.participant.Participant.{Participant}
 use Rattle.rtgs_book.specs.declared.posting.Posting.{Posting}
 use Rattle.rtgs_book.specs.declared.order_state.OrderState.TheVariants.{Settled, Withdrawn, Rejected}
@@ -21,10 +20,11 @@ use Rattle.rtgs_book.specs.Lookup.{has_code, is_order_named, order_named, postin
 use Rattle.rtgs_book.specs.IntSum.{int_sum_by}
 use Rattle.rtgs_book.specs.Balance.{total, issued}
 use Rattle.rtgs_book.specs.Choice.{is_chosen, chosen}
-use Rattle.rtgs_book.specs.Settle.{altered, in_state, restated, settle, mark_of, next_mark}
+use Rattle.rtgs_book.specs.Settle.{altered, in_state, settle, mark_of, next_mark}
 use Rattle.rtgs_book.specs.Outcome.{Reply, Outcome, first_of}
 use Rattle.rtgs_book.specs.Commands.{is_before, add, with_participant, set_credit, with_credit, known_posting, post}
-use Rattle.rtgs_book.specs.Commands.{new_order, with_order, has_number, takes, settles_at_once, order, is_queued_order}
+use Rattle.rtgs_book.specs.Commands.{new_order, with_order, has_number, takes, takes_due, settles_at_once, order}
+use Rattle.rtgs_book.specs.Commands.{is_waiting_order, is_due, entered, let_in}
 use Rattle.rtgs_book.specs.Commands.{number_of, with_state, withdraw, open_day, cut_off, resolve, close_day}
 use Rattle.rtgs_book.specs.Procedure.{Has}
 use Rattle.rtgs_book.specs.Soundness.{IsSound}
@@ -37,9 +37,10 @@ use Rattle.rtgs_laws.proofs.Outcomes.{NoneHolds, first_of_cases}
 use Rattle.rtgs_laws.proofs.Settling.{settled_either}
 use Rattle.rtgs_laws.proofs.Sound.{KeepsSoundness}
 use Rattle.rtgs_laws.proofs.SoundCommands.{chosen_queued, old_numbers}
+use Rattle.rtgs_laws.proofs.SoundOpening.{due_unsettled}
 use Rattle.rtgs_laws.proofs.SoundSettle.{total-with_batch}
 use Rattle.rtgs_laws.proofs.SoundStates.{queued_unsettled}
-use Rattle.rtgs_laws.proofs.States.{found_by_number, queued_not_settled}
+use Rattle.rtgs_laws.proofs.States.{found_by_number, queued_not_settled, waiting_not_settled}
 use Rattle.rtgs_lists.proofs.Lists.{all_append, all_changed, all_filter, all_map, all_of, all_push, all_weaker}
 use Rattle.rtgs_lists.proofs.Sums.{int_sum_by-append}
 use Rattle.rtgs_lists.proofs.Bools.{from_not}
@@ -86,6 +87,10 @@ unfolding takes
 takes_postings book o = choose_book (λ new. new.postings ≡ book.postings) (settles_at_once book o.sender o.amount) _ _
     (settle_same (with_order book o) (has_number o.number)) refl
 
+takes_due_postings : (book : Book) (o : Order) (due : Option ℕ) → (takes_due book o due).book.postings ≡ book.postings
+takes_due_postings book o None = takes_postings book o
+takes_due_postings book o (Some due) = refl
+
 not_posted : (found : Option Posting) (code reference : List ℕ) (cents : ℤ)
     → posted (Post code reference cents) (known_posting found) ≡ pos 0
 not_posted None code reference cents = refl
@@ -129,7 +134,8 @@ issued_post book code reference cents =
 
 module _ (old new : Book) (reply : Reply) where
   moves : (command : Command) → Step old command reply new → issued new ≡ issued old +ℤ posted command reply
-  unfolding add with_participant set_credit with_credit open_day order withdraw with_state cut_off resolve close_day
+  unfolding add with_participant set_credit with_credit open_day let_in order withdraw with_state cut_off resolve
+      close_day
   moves (Add code name key) e = by_outcome old new (Add code name key) reply _ e
       (issued_by old (add old code name key).book (book_first_of (λ b. b.postings ≡ old.postings) old _ _ refl refl))
   moves (SetCredit code credit) e = by_outcome old new (SetCredit code credit) reply _ e
@@ -139,11 +145,11 @@ module _ (old new : Book) (reply : Reply) where
       (issued_post old code reference cents)
   moves (OpenDay date) e = by_outcome old new (OpenDay date) reply _ e
       (issued_by old (open_day old date).book (book_first_of (λ b. b.postings ≡ old.postings) old _ _ refl refl))
-  moves (PlaceOrder sender reference receiver amount) e = by_outcome old new
-      (PlaceOrder sender reference receiver amount) reply _ e
-      (issued_by old (order old sender reference receiver amount).book
+  moves (PlaceOrder sender reference receiver amount due) e = by_outcome old new
+      (PlaceOrder sender reference receiver amount due) reply _ e
+      (issued_by old (order old sender reference receiver amount due).book
       (book_first_of (λ b. b.postings ≡ old.postings) old _ _ refl
-      (takes_postings old (new_order old sender reference receiver amount))))
+      (takes_due_postings old (new_order old sender reference receiver amount due) due)))
   moves (Withdraw sender reference) e = by_outcome old new (Withdraw sender reference) reply _ e
       (issued_by old (withdraw old sender reference).book (book_first_of (λ b. b.postings ≡ old.postings) old _ _ refl
       refl))
@@ -233,35 +239,43 @@ stands_through old mid new one rest = record {
 -- the order that joins its queue is the only one with its number
 module _ (book : Book) (sender reference receiver : List ℕ) (amount : ℕ) (h : IsSound book) where
   one_new : AllByRecursion (λ o. has_number (length book.orders + 1) o ≡ true → is_queued o ≡ true)
-      (book.orders ++ new_order book sender reference receiver amount ∷ [])
+      (book.orders ++ new_order book sender reference receiver amount None ∷ [])
   one_new = all_push (λ o. has_number (length book.orders + 1) o ≡ true → is_queued o ≡ true) book.orders
-      (new_order book sender reference receiver amount)
+      (new_order book sender reference receiver amount None)
       (all_weaker (λ o. has_number (length book.orders + 1) o ≡ false)
       (λ o. has_number (length book.orders + 1) o ≡ true → is_queued o ≡ true)
       (λ o none e. absurd (true≢false (sym e ∙ none))) book.orders
       (old_numbers book sender reference receiver amount h)) (λ _. refl)
 
-  takes_stands : KeepsWhatIsFinal book (takes book (new_order book sender reference receiver amount)).book
+  joined_stands : (due : Option ℕ)
+      → KeepsWhatIsFinal book (with_order book (new_order book sender reference receiver amount due))
+  joined_stands due =
+      let new = new_order book sender reference receiver amount due in
+      stands_grown book (with_order book new) refl (new ∷ []) refl
+
+  takes_stands : (due : Option ℕ)
+      → KeepsWhatIsFinal book (takes_due book (new_order book sender reference receiver amount due) due).book
   unfolding takes
-  takes_stands =
-      let new = new_order book sender reference receiver amount in
-      let joined = stands_grown book (with_order book new) refl (new ∷ []) refl in
+  takes_stands None =
+      let new = new_order book sender reference receiver amount None in
       choose_book (KeepsWhatIsFinal book) (settles_at_once book sender amount) _ _
       (stands_through book (with_order book new) (settle (with_order book new) (has_number (length book.orders + 1)))
-      joined (stands_settle (with_order book new) (has_number (length book.orders + 1)) one_new)) joined
+      (joined_stands None) (stands_settle (with_order book new) (has_number (length book.orders + 1)) one_new))
+      (joined_stands None)
+  takes_stands (Some due) = joined_stands (Some due)
 
   withdraw_stands : KeepsWhatIsFinal book (withdraw book sender reference).book
   unfolding withdraw with_state order_named
   withdraw_stands = sound_first (KeepsWhatIsFinal book) book _ _ (stands_same book book refl refl)
-      (λ (_, (_, (_, (queued, _)))). by (order_named book sender reference) refl (from_not _ queued))
+      (λ (_, (_, (_, (waits, _)))). by (order_named book sender reference) refl (from_not _ waits))
     where
-      by : (found : Option Order) → order_named book sender reference ≡ found → is_queued_order found ≡ true
+      by : (found : Option Order) → order_named book sender reference ≡ found → is_waiting_order found ≡ true
           → KeepsWhatIsFinal book (with_state book (has_number (number_of found)) Withdrawn)
       by None e q = absurd (true≢false (sym q))
       by (Some o) e q = stands_altered book _ (has_number o.number) (in_state Withdrawn)
           (found_by_number (λ other. is_settled other ≡ false) (is_order_named sender reference) 1 book.orders o
           (h.orders_numbered.0 ∙ ap (range_with_len 1) (length-map book.orders (λ (o : Order). o.number))) e
-          (queued_not_settled o.state q)) [] (sym (append-nil book.marks)) refl
+          (waiting_not_settled o.state q)) [] (sym (append-nil book.marks)) refl
 
 stays : (old new : Book) (reply : Reply) (outcome : Outcome) → record { reply = reply; book = new } ≡ outcome
     → KeepsWhatIsFinal old outcome.book → KeepsWhatIsFinal old new
@@ -269,7 +283,7 @@ stays old new reply outcome e h = subst (λ (o : Outcome). KeepsWhatIsFinal old 
 
 pub step_stands : (old new : Book) (command : Command) (reply : Reply) → IsSound old → Step old command reply new
     → KeepsWhatIsFinal old new
-unfolding add with_participant set_credit with_credit post open_day order with_state cut_off resolve close_day
+unfolding add with_participant set_credit with_credit post open_day let_in order with_state cut_off resolve close_day
 step_stands old new (Add code name key) reply h e = stays old new reply _ e
     (book_first_of (KeepsWhatIsFinal old) old _ _ (stands_same old old refl refl) (stands_same old _ refl refl))
 step_stands old new (SetCredit code credit) reply h e = stays old new reply _ e
@@ -277,10 +291,11 @@ step_stands old new (SetCredit code credit) reply h e = stays old new reply _ e
 step_stands old new (Post code reference cents) reply h e = stays old new reply _ e
     (book_first_of (KeepsWhatIsFinal old) old _ _ (stands_same old old refl refl) (stands_same old _ refl refl))
 step_stands old new (OpenDay date) reply h e = stays old new reply _ e
-    (book_first_of (KeepsWhatIsFinal old) old _ _ (stands_same old old refl refl) (stands_same old _ refl refl))
-step_stands old new (PlaceOrder sender reference receiver amount) reply h e =
+    (book_first_of (KeepsWhatIsFinal old) old _ _ (stands_same old old refl refl)
+    (stands_altered old _ (is_due date) (entered date) (due_unsettled old date) [] (sym (append-nil old.marks)) refl))
+step_stands old new (PlaceOrder sender reference receiver amount due) reply h e =
     stays old new reply _ e (book_first_of (KeepsWhatIsFinal old) old _ _ (stands_same old old refl refl)
-    (takes_stands old sender reference receiver amount h))
+    (takes_stands old sender reference receiver amount h due))
 step_stands old new (Withdraw sender reference) reply h e = stays old new reply _ e
     (withdraw_stands old sender reference [] 0 h)
 step_stands old new Resolve reply h e = stays old new reply _ e.2
@@ -296,11 +311,13 @@ step_stands old new (CloseDay date) reply h e = stays old new reply _ e.2
 
 -- ---- amounts keep their ranges
 
-fits_orders : (old : Book) (is_in : Order → Bool) (s : OrderState)
-    → AllByRecursion (λ (o : Order). IsAmount o.amount) old.orders
-    → AllByRecursion (λ (o : Order). IsAmount o.amount) (map (restated is_in s) old.orders)
-fits_orders old is_in s h = all_changed (λ (o : Order). IsAmount o.amount) is_in (in_state s) old.orders
-    (all_of (λ o. is_in o ≡ true → IsAmount o.amount → IsAmount (in_state s o).amount) (λ o e k. k) old.orders) h
+-- amounts keep their range where orders are changed in what is not their amount
+fits_orders : (old : Book) (is_in : Order → Bool) (change : Order → Order)
+    → ((o : Order) → (change o).amount ≡ o.amount) → AllByRecursion (λ (o : Order). IsAmount o.amount) old.orders
+    → AllByRecursion (λ (o : Order). IsAmount o.amount) (map (altered is_in change) old.orders)
+fits_orders old is_in change same h = all_changed (λ (o : Order). IsAmount o.amount) is_in change old.orders
+    (all_of (λ o. is_in o ≡ true → IsAmount o.amount → IsAmount (change o).amount)
+    (λ o e k. subst IsAmount (sym (same o)) k) old.orders) h
 
 fits_as : (old new : Book) → new.participants ≡ old.participants → new.postings ≡ old.postings
     → AllByRecursion (λ (o : Order). IsAmount o.amount) new.orders → Fits old → Fits new
@@ -313,7 +330,7 @@ fits_as old new p q orders h = record {
 fits_settle : (old : Book) (is_in : Order → Bool) → Fits old → Fits (settle old is_in)
 fits_settle old is_in h =
     settled_either Fits old is_in h
-    (λ _. fits_as old _ refl refl (fits_orders old is_in (Settled (next_mark old)) h.orders) h)
+    (λ _. fits_as old _ refl refl (fits_orders old is_in (in_state (Settled (next_mark old))) (λ o. refl) h.orders) h)
 
 fits_add : (book : Book) (new : Participant) → IsCredit new.credit → Fits book → Fits (with_participant book new)
 unfolding with_participant
@@ -354,13 +371,20 @@ fits_takes book o amount h =
     choose_book Fits (settles_at_once book o.sender o.amount) _ _
     (fits_settle (with_order book o) (has_number o.number) queued) queued
 
+fits_takes_due : (book : Book) (o : Order) (due : Option ℕ) → IsAmount o.amount → Fits book
+    → Fits (takes_due book o due).book
+fits_takes_due book o None amount h = fits_takes book o amount h
+fits_takes_due book o (Some due) amount h =
+    fits_as book (with_order book o) refl refl (all_push (λ (o : Order). IsAmount o.amount) book.orders o h.orders
+    amount) h
+
 fitting : (new : Book) (reply : Reply) (outcome : Outcome) → record { reply = reply; book = new } ≡ outcome
     → Fits outcome.book → Fits new
 fitting new reply outcome e h = subst (λ (o : Outcome). Fits o.book) (sym e) h
 
 pub step_fits : (old new : Book) (command : Command) (reply : Reply) → CommandFits command → Fits old
     → Step old command reply new → Fits new
-unfolding add set_credit post open_day order withdraw with_state cut_off resolve close_day
+unfolding add set_credit post open_day let_in order withdraw with_state cut_off resolve close_day
 step_fits old new (Add code name key) reply fits h e = fitting new reply _ e
     (book_first_of Fits old _ _ h (fits_add old (record { code = code; name = name; key = key; credit = 0 })
     (omega arith) h))
@@ -373,20 +397,23 @@ step_fits old new (Post code reference cents) reply fits h e =
       orders = h.orders;
     }))
 step_fits old new (OpenDay date) reply fits h e = fitting new reply _ e
-    (book_first_of Fits old _ _ h (fits_as old _ refl refl h.orders h))
-step_fits old new (PlaceOrder sender reference receiver amount) reply fits h e =
-    fitting new reply _ e (book_first_of Fits old _ _ h (fits_takes old (new_order old sender reference receiver amount)
-    fits h))
+    (book_first_of Fits old _ _ h (fits_as old _ refl refl (fits_orders old (is_due date) (entered date) (λ o. refl)
+    h.orders) h))
+step_fits old new (PlaceOrder sender reference receiver amount due) reply fits h e =
+    fitting new reply _ e (book_first_of Fits old _ _ h (fits_takes_due old
+    (new_order old sender reference receiver amount due) due fits h))
 step_fits old new (Withdraw sender reference) reply fits h e =
     fitting new reply _ e (book_first_of Fits old _ _ h (fits_as old _ refl refl
-    (fits_orders old (has_number (number_of (order_named old sender reference))) Withdrawn h.orders) h))
+    (fits_orders old (has_number (number_of (order_named old sender reference))) (in_state Withdrawn) (λ o. refl)
+    h.orders) h))
 step_fits old new Resolve reply fits h e = fitting new reply _ e.2
     (book_first_of Fits old _ _ h (choose_book Fits (is_empty (chosen old e.0)) _ _ h
     (fits_settle old (is_chosen old e.0) h)))
 step_fits old new (CutOff date) reply fits h e = fitting new reply _ e
     (book_first_of Fits old _ _ h (fits_as old _ refl refl h.orders h))
 step_fits old new (CloseDay date) reply fits h e = fitting new reply _ e.2
-    (book_first_of Fits old _ _ h (fits_as old _ refl refl (fits_orders old is_queued Rejected h.orders) h))
+    (book_first_of Fits old _ _ h (fits_as old _ refl refl (fits_orders old is_queued (in_state Rejected) (λ o. refl)
+    h.orders) h))
 
 -- ---- marks, and settling
 
@@ -399,4 +426,4 @@ few_marks book h =
 pub settle_total : TotalIsIssued → (book : Book) (is_in : Order → Bool) → IsSound book
     → total (settle book is_in) ≡ total book
 settle_total issue book is_in h = settled_either (λ new. total new ≡ total book) book is_in refl
-    (λ _. total-with_batch issue book is_in h)
+    (λ _. total-with_batch issue book is_in h.codes_rise h.parties)

@@ -17,7 +17,7 @@ ghost use Rattle.rtgs_book.specs.Soundness.{IsSound};
 ghost use Rattle.rtgs_laws.specs.Through.{GoesThrough};
 
 use rtgs_book::laws::{
-    balance_after_posting, balance_after_restating, balance_after_settling,
+    balance_after_entering, balance_after_posting, balance_after_restating, balance_after_settling,
     balance_of_unknown_code, greatest_exists, greatest_is_unique, total_is_issued,
 };
 
@@ -44,6 +44,7 @@ pub fn step_keeps_soundness()
 {
     balance_after_posting();
     balance_after_restating();
+    balance_after_entering();
     balance_after_settling();
     balance_of_unknown_code();
     total_is_issued();

@@ -71,7 +71,8 @@ module _ (r : Whole) (kept : IsKept (held_of r)) (code name key : List ℕ)
     book = refl;
     balances = all_of (λ c. balance_set c (AddParticipant p ∷ [])
         ≡ (if int_eq (balance (book_of r) c) (balance (with_participant (book_of r) p) c) then None else Some
-        (balance (with_participant (book_of r) p) c))) (λ c. rw (balance_same c, int_eq_self (balance (book_of r) c)) refl)
+        (balance (with_participant (book_of r) p) c))) (λ c. rw (balance_same c, int_eq_self (balance (book_of r) c))
+        refl)
         (accounts (with_participant (book_of r) p));
   }
 

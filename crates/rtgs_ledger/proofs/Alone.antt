@@ -9,7 +9,7 @@ use Rattle.rtgs_book.specs.declared.participant.Participant.{Participant}
 use Rattle.rtgs_book.specs.Balance.{balance, floor, total}
 use Rattle.rtgs_book.specs.IntSum.{int_sum_by}
 use Rattle.rtgs_book.specs.Lookup.{accounts}
-use Rattle.rtgs_book.specs.Queue.{queue}
+use Rattle.rtgs_book.specs.Queue.{waiting}
 use Rattle.rtgs_book.specs.Soundness.{IsSound}
 use Rattle.rtgs_accounts.specs.Accounts.{AreOfABook, participant_of, code_of, key_of}
 use Rattle.rtgs_ledger.specs.Alone.{book_of_participants}
@@ -29,7 +29,7 @@ nothing ps [] = refl
 nothing ps (c ∷ codes) = let rest = nothing ps codes in omega (arith, ints, rest)
 
 pub sound_alone : (xs : List Account) → AreOfABook xs → IsSound (book_of_participants (map participant_of xs))
-unfolding accounts balance floor total queue IsDistinct
+unfolding accounts balance floor total waiting IsDistinct
 sound_alone xs of = record {
   orders_numbered = (refl, omega arith);
   postings_numbered = (refl, omega arith);
@@ -42,7 +42,8 @@ sound_alone xs of = record {
   marks = (tt, tt);
   queues = record {
     closed = λ _. refl;
-    short = all_of (λ code. length (queue (book_of_participants (map participant_of xs)) code) ≤ LONGEST_QUEUE) (λ code.
+    short = all_of (λ code. length (waiting (book_of_participants (map participant_of xs)) code) ≤ LONGEST_QUEUE) (λ
+        code.
         omega arith)
         (accounts (book_of_participants (map participant_of xs)));
     of_the_day = tt;
@@ -53,6 +54,7 @@ sound_alone xs of = record {
     order_weekdays = tt;
     mark_weekdays = tt;
     orders = tt;
+    dues = tt;
     marks = tt;
     postings = tt;
   };

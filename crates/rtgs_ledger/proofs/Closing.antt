@@ -16,7 +16,7 @@ use Rattle.rtgs_book.specs.declared.participant.Participant.{Participant}
 use Rattle.rtgs_book.specs.declared.phase.Phase.{Phase}
 use Rattle.rtgs_book.specs.declared.phase.Phase.TheVariants.{Closed, Open, CutOff}
 use Rattle.rtgs_book.specs.Balance.{balance}
-use Rattle.rtgs_book.specs.Books.{is_closed, is_cut_off, is_empty, is_queued}
+use Rattle.rtgs_book.specs.Books.{is_closed, is_cut_off, is_empty, is_queued, is_waiting}
 use Rattle.rtgs_book.specs.Changes.{Leads, StartsEmpty}
 use Rattle.rtgs_book.specs.Choice.{Choice, chosen, IsGreatest}
 use Rattle.rtgs_book.specs.Commands.{close_day, overdrawn, is_date, is_on}
@@ -33,7 +33,7 @@ use Rattle.rtgs_ledger.proofs.Balances.{all_same}
 use Rattle.rtgs_ledger.proofs.Ordering.{is_shut, is_opened, is_day}
 use Rattle.rtgs_ledger.proofs.Rooms.{after-append, accounts_after-states}
 use Rattle.rtgs_ledger.specs.Closing.{IsClosable}
-use Rattle.rtgs_queues.specs.Laws.{QueuesAreOfTheQueued}
+use Rattle.rtgs_queues.specs.Laws.{QueuesAreOfTheWaiting}
 use Rattle.rtgs_ledger.proofs.Reading.{numbers_are}
 use Rattle.rtgs_cores.specs.Following.{AreBalanced}
 use Rattle.rtgs_ledger.proofs.Whole.{Held, IsKept, IsPrepared, Whole, after, book_of, held_of}
@@ -166,8 +166,8 @@ unfolding accounts
 all_queued r = queues_are (book_of r) r.accounts.accounts
 
 -- the queues of the queued orders alone are the same
-pub numbers_queued : QueuesAreOfTheQueued → (orders queued : List Order) (xs : List Account) → queued ≡ filter
-    is_queued orders
+pub numbers_queued : QueuesAreOfTheWaiting → (orders queued : List Order) (xs : List Account) → queued ≡ filter
+    is_waiting orders
     → flat_map (λ a. queued_numbers queued (code_of a)) xs ≡ flat_map (λ a. queued_numbers orders (code_of a)) xs
 numbers_queued law orders queued [] e = refl
 numbers_queued law orders queued (x ∷ xs) e = λ i. numbers_are law orders queued (code_of x) e i

@@ -5,6 +5,7 @@ pub mod Closing
 pub mod Crediting
 pub mod CuttingOff
 pub mod Kept
+pub mod Entering
 pub mod Keys
 pub mod Loading
 pub mod Opening

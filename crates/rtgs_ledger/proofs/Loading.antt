@@ -7,13 +7,13 @@ use Rattle.rtgs_book.specs.declared.book.Book.{Book}
 use Rattle.rtgs_book.specs.declared.order.Order.{Order}
 use Rattle.rtgs_book.specs.declared.limits.TheConstants.{MOST_PARTICIPANTS}
 use Rattle.rtgs_book.specs.declared.participant.Participant.{Participant}
-use Rattle.rtgs_book.specs.Books.{is_queued}
+use Rattle.rtgs_book.specs.Books.{is_waiting}
 use Rattle.rtgs_book.specs.Lookup.{accounts}
 use Rattle.rtgs_book.specs.Soundness.{OrdersAreNumbered}
 use Rattle.rtgs_cores.specs.declared.Core.{Core}
 use Rattle.rtgs_cores.specs.Cores.{account_of, core_of, IsCoreOf}
 use Rattle.rtgs_accounts.specs.Accounts.{CodesRiseStrictly, AreOfABook, code_of, key_of}
-use Rattle.rtgs_queues.specs.Orders.{AreRising, AreQueued}
+use Rattle.rtgs_queues.specs.Orders.{AreRising, AreWaiting}
 
 own_codes : (book : Book) (ps : List Participant) → map code_of (map (account_of book) ps) ≡ map (λ
     (p : Participant). p.code) ps
@@ -27,9 +27,9 @@ own_keys book [] = refl
 own_keys book (p ∷ ps) = ap (λ ks. p.key ∷ ks) (own_keys book ps)
 
 module _ (book : Book) (core : Core) (is : IsCoreOf book core) where
-  queued : core.queued ≡ filter is_queued book.orders
+  waits : core.waiting ≡ filter is_waiting book.orders
   unfolding core_of
-  queued = ap (λ (c : Core). c.queued) is.is
+  waits = ap (λ (c : Core). c.waiting) is.is
 
   pub in_order : CodesRiseStrictly core.accounts
   unfolding core_of accounts
@@ -49,18 +49,18 @@ module _ (book : Book) (core : Core) (is : IsCoreOf book core) where
             (rw (length-map book.participants (λ (p : Participant). p.code)) at is.sound.codes_rise.1));
       }
 
-  pub rising : ((b : Book) → OrdersAreNumbered b → AreRising (filter is_queued b.orders)) → AreRising core.queued
-  rising law = subst AreRising (sym queued) (law book is.sound.orders_numbered)
+  pub rising : ((b : Book) → OrdersAreNumbered b → AreRising (filter is_waiting b.orders)) → AreRising core.waiting
+  rising law = subst AreRising (sym waits) (law book is.sound.orders_numbered)
 
   pub before : ((b : Book) → OrdersAreNumbered b
-      → AllByRecursion (λ (o : Order). o.number < length b.orders + 1) (filter is_queued b.orders))
-      → AllByRecursion (λ (o : Order). o.number < core.next_order) core.queued
+      → AllByRecursion (λ (o : Order). o.number < length b.orders + 1) (filter is_waiting b.orders))
+      → AllByRecursion (λ (o : Order). o.number < core.next_order) core.waiting
   unfolding core_of
   before law =
       let next : core.next_order ≡ length book.orders + 1 = ap (λ (c : Core). c.next_order) is.is in
-      subst (AllByRecursion (λ (o : Order). o.number < core.next_order)) (sym queued)
-      (subst (λ n. AllByRecursion (λ (o : Order). o.number < n) (filter is_queued book.orders)) (sym next)
+      subst (AllByRecursion (λ (o : Order). o.number < core.next_order)) (sym waits)
+      (subst (λ n. AllByRecursion (λ (o : Order). o.number < n) (filter is_waiting book.orders)) (sym next)
       (law book is.sound.orders_numbered))
 
-  pub waiting : ((b : Book) → AreQueued (filter is_queued b.orders)) → AreQueued core.queued
-  waiting law = subst AreQueued (sym queued) (law book)
+  pub waiting : ((b : Book) → AreWaiting (filter is_waiting b.orders)) → AreWaiting core.waiting
+  waiting law = subst AreWaiting (sym waits) (law book)

@@ -13,13 +13,29 @@ use Rattle.rtgs_book.specs.declared.phase.Phase.TheVariants.{Open}
 use Rattle.rtgs_book.specs.Balance.{balance}
 use Rattle.rtgs_book.specs.Books.{is_open, is_closed}
 use Rattle.rtgs_book.specs.Changes.{Leads, balance_set}
-use Rattle.rtgs_book.specs.Commands.{open_day, with_day, is_date, is_later}
+use Rattle.rtgs_book.specs.Commands.{open_day, with_day, is_date, is_later, is_due, is_due_by, let_in}
+use Rattle.rtgs_book.specs.declared.change.RowChange.{RowChange}
+use Rattle.rtgs_book.specs.declared.change.RowChange.TheVariants.{EnterQueue}
+use Rattle.rtgs_book.specs.declared.order.Order.{Order}
+use Rattle.rtgs_book.specs.Books.{is_settled, is_waiting, is_waiting_state, is_held_state}
+use Rattle.rtgs_book.specs.declared.order_state.OrderState.{OrderState}
+use Rattle.rtgs_book.specs.declared.order_state.OrderState.TheVariants as state
+use Rattle.rtgs_book.specs.Changes.{StartsEmpty, changed, with_row}
+use Rattle.rtgs_queues.specs.Laws.{NumbersLeadToOrders}
+use Rattle.rtgs_ledger.proofs.Entering.{enter_rows, due_numbers, due_enter}
+use Rattle.rtgs_ledger.proofs.Whole.{after, after_row}
+use Rattle.rtgs_ledger.proofs.Withdrawing.{waits_unsettled}
+use Rattle.rtgs_cores.specs.Following.{AreBalanced}
+use Rattle.std.proofs.Common.{Bool, ◌++◌, filter, ap, ◌∙◌, sym, subst}
+use Rattle.std.proofs.lemmas.Bool.{and_parts}
+use Rattle.std.specs.List.{AllByRecursion}
 use Rattle.rtgs_book.specs.Lookup.{accounts}
 use Rattle.rtgs_book.specs.Outcome.{first_of}
 use Rattle.rtgs_book.specs.Step.{Step}
 use Rattle.rtgs_ledger.proofs.Balances.{all_same}
 use Rattle.rtgs_ledger.proofs.Kept.{prepared_done}
 use Rattle.rtgs_ledger.proofs.Whole.{Held, IsKept, IsPrepared}
+use Rattle.rtgs_lists.proofs.Filters.{filter_agrees, filter_twice}
 use Rattle.rtgs_lists.proofs.Lists.{all_of}
 use Rattle.rtgs_lists.proofs.Numbers.{int_eq_self}
 
@@ -45,32 +61,98 @@ module _ (book : Book) (date : ℕ) where
     weekend closed later free = rw (new, closed, later, free) refl
 
     pub opens : is_closed book.day.phase ≡ true → is_later date book.day.date ≡ true → is_weekend date ≡ false
-        → Step book (OpenDay date) (Ok Opened) (with_day book (record { date = Some date; phase = Open }))
+        → Step book (OpenDay date) (Ok Opened) (with_day (let_in book (is_due date) date)
+        (record { date = Some date; phase = Open }))
     unfolding open_day first_of
     opens closed later working = rw (new, closed, later, working) refl
 
-module _ (held : Held) (kept : IsKept held) (date : ℕ) where
-  abbrev day : Day
-  day = record { date = Some date; phase = Open }
+-- orders that enter their queues move no balance
+abbrev pub BalanceAfterEntering : Type 0
+BalanceAfterEntering = (book : Book) (is_in : Order → Bool) (date : ℕ) (code : List ℕ)
+    → AllByRecursion (λ order. is_in order ≡ true → is_settled order ≡ false) book.orders
+    → balance (let_in book is_in date) code ≡ balance book code
 
-  balance_same : (c : List ℕ) → balance held.content c ≡ balance (with_day held.content day) c
-  unfolding balance
-  balance_same c = refl
+held_waits : (s : OrderState) → is_held_state s ≡ true → is_waiting_state s ≡ true
+held_waits state.Queued e = refl
+held_waits state.Held e = refl
+held_waits (state.Settled mark) e = absurd (cc)
+held_waits state.Withdrawn e = absurd (cc)
+held_waits state.Rejected e = absurd (cc)
 
-  leads_to_it : Leads held.content (SetDay day ∷ []) (with_day held.content day)
-  leads_to_it = record {
-    book = refl;
-    balances = all_of (λ c. balance_set c (SetDay day ∷ []) ≡ (if int_eq (balance held.content c)
-        (balance (with_day held.content day) c) then None else Some (balance (with_day held.content day) c)))
-        (λ c. rw (← balance_same c, int_eq_self (balance held.content c)) refl) (accounts (with_day held.content day));
-  }
+-- what is due is held, so it waits
+due_waits : (s : OrderState) (due : Bool) → (is_waiting_state s && (is_held_state s && due)) ≡ (is_held_state s && due)
+due_waits state.Queued due = refl
+due_waits state.Held due = refl
+due_waits (state.Settled mark) due = refl
+due_waits state.Withdrawn due = refl
+due_waits state.Rejected due = refl
 
-  pub prepared_open : (is_open held.content.day.phase && is_date
-      held.content.day.date date) ≡ false → is_closed held.content.day.phase ≡ true
-      → is_later date held.content.day.date ≡ true → is_weekend date ≡ false
-      → IsPrepared held (OpenDay date) Opened (SetDay day ∷ [])
-  prepared_open new closed later working =
-      prepared_done held (OpenDay date) Opened (SetDay day ∷ []) (with_day held.content day) tt
-      (opens held.content date new closed later working) leads_to_it (tt, tt)
-      (all_same (balance held.content) (balance (with_day held.content day)) balance_same held.accounts kept.balanced)
-      (λ k e. absurd (cc)) (λ e. absurd (cc))
+-- the orders that are due are among those that wait
+pub due_among : (date : ℕ) (orders : List Order) → filter (is_due date) (filter is_waiting orders)
+    ≡ filter (is_due date) orders
+due_among date orders = filter_twice is_waiting (is_due date) orders
+    ∙ filter_agrees (λ o. is_waiting o && is_due date o) (is_due date) orders
+    (all_of (λ o. (is_waiting o && is_due date o) ≡ is_due date o) (λ o. due_waits o.state (is_due_by date o.due))
+    orders)
+
+changed_more : (book : Book) (rows more : List RowChange) → changed book (rows ++ more)
+    ≡ changed (changed book rows) more
+changed_more book [] more = refl
+changed_more book (row ∷ rows) more = changed_more (with_row book row) rows more
+
+sets_none : (c : List ℕ) (date : ℕ) (numbers : List ℕ) (day : Day)
+    → balance_set c (enter_rows date numbers ++ SetDay day ∷ []) ≡ None
+sets_none c date [] day = refl
+sets_none c date (n ∷ ns) day = sets_none c date ns day
+
+adds_nobody : (new : Book) (all : List RowChange) (date : ℕ) (numbers : List ℕ) (day : Day)
+    → AllByRecursion (StartsEmpty new all) (enter_rows date numbers ++ SetDay day ∷ [])
+adds_nobody new all date [] day = (tt, tt)
+adds_nobody new all date (n ∷ ns) day = (tt, adds_nobody new all date ns day)
+
+accounts_stay : (held : Held) (date : ℕ) (numbers : List ℕ) (day : Day)
+    → (after held (enter_rows date numbers ++ SetDay day ∷ [])).accounts ≡ held.accounts
+accounts_stay held date [] day = refl
+accounts_stay held date (n ∷ ns) day = accounts_stay (after_row held (EnterQueue n date)) date ns day
+
+module _ (held : Held) (kept : IsKept held) (date : ℕ) (law : BalanceAfterEntering) (numbers : NumbersLeadToOrders)
+  where
+    abbrev day : Day
+    day = record { date = Some date; phase = Open }
+
+    abbrev opened : Book
+    opened = with_day (let_in held.content (is_due date) date) day
+
+    abbrev pub entering : List ℕ
+    entering = due_numbers numbers date held.content kept.sound.orders_numbered
+
+    abbrev pub opening_rows : List RowChange
+    opening_rows = enter_rows date entering ++ SetDay day ∷ []
+
+    balance_same : (c : List ℕ) → balance held.content c ≡ balance opened c
+    unfolding balance
+    balance_same c = sym (law held.content (is_due date) date c
+        (all_of (λ o. is_due date o ≡ true → is_settled o ≡ false)
+        (λ o e. waits_unsettled o.state (held_waits o.state (and_parts _ _ e).0)) held.content.orders))
+
+    leads_to_it : Leads held.content opening_rows opened
+    leads_to_it = record {
+      book = changed_more held.content (enter_rows date entering) (SetDay day ∷ [])
+          ∙ ap (λ b. with_day b day) (due_enter numbers date held.content kept.sound.orders_numbered);
+      balances = all_of (λ c. balance_set c opening_rows ≡ (if int_eq (balance held.content c) (balance opened c) then
+          None
+          else Some (balance opened c)))
+          (λ c. sets_none c date entering day ∙ rw (← balance_same c, int_eq_self (balance held.content c)) refl)
+          (accounts opened);
+    }
+
+    pub prepared_open : (is_open held.content.day.phase && is_date
+        held.content.day.date date) ≡ false → is_closed held.content.day.phase ≡ true
+        → is_later date held.content.day.date ≡ true → is_weekend date ≡ false
+        → IsPrepared held (OpenDay date) Opened opening_rows
+    prepared_open new closed later working =
+        prepared_done held (OpenDay date) Opened opening_rows opened tt
+        (opens held.content date new closed later working) leads_to_it (adds_nobody opened opening_rows date entering day)
+        (subst (AreBalanced opened) (sym (accounts_stay held date entering day))
+        (all_same (balance held.content) (balance opened) balance_same held.accounts kept.balanced))
+        (λ k e. absurd (cc)) (λ e. absurd (cc))

@@ -1,6 +1,7 @@
 -- What an order comes to, test by test, and its change.
 use Rattle.std.proofs.Common.{◌≡◌, ℕ, ◌+◌, ◌≤◌, ℤ, pos, ◌+ℤ◌, ◌-ℤ◌, Bool, true, false, not, ◌&&◌, if◌then◌else◌, nat_le}
-use Rattle.std.proofs.Common.{◌==◌, List, [], ◌∷◌, ◌++◌, map, filter, length, find, Option, unwrap_or, is_some, IsTrue}
+use Rattle.std.proofs.Common.{◌==◌, List, [], ◌∷◌, ◌++◌, map, filter, length, find, Option, unwrap_or, is_some, is_none}
+use Rattle.std.proofs.Common.{IsTrue}
 use Rattle.std.proofs.Common.{int_le, Ok, Err, Some, None, refl, sym, ap, subst, ◌∙◌, true≢false, length-append}
 use Rattle.std.proofs.Common.{zero-add, arith}
 use Rattle.std.proofs.lemmas.Int.{ints}
@@ -17,28 +18,37 @@ use Rattle.rtgs_book.specs.declared.answer.Answer.TheVariants as answer
 use Rattle.rtgs_book.specs.declared.answer.Known.TheVariants as known
 use Rattle.rtgs_book.specs.declared.refusal.Refusal.TheVariants.{UnknownParticipant, ReferenceUsed, NotOpen}
 use Rattle.rtgs_book.specs.declared.refusal.Refusal.TheVariants.{UnknownReceiver, SameParty, NumbersUsedUp, QueueFull}
+use Rattle.rtgs_book.specs.declared.refusal.Refusal.TheVariants.{DueNotLater, Weekend}
 use Rattle.rtgs_book.specs.declared.change.RowChange.{RowChange}
 use Rattle.rtgs_book.specs.declared.change.RowChange.TheVariants.{AddOrder, AddMark, SetBalance}
 use Rattle.rtgs_book.specs.declared.book.Book.{Book}
 use Rattle.rtgs_book.specs.declared.order.Order.{Order}
 use Rattle.rtgs_book.specs.declared.order_state.OrderState.{OrderState}
-use Rattle.rtgs_book.specs.declared.order_state.OrderState.TheVariants.{Queued, Settled}
+use Rattle.rtgs_book.specs.declared.order_state.OrderState.TheVariants.{Queued, Held as HeldState, Settled, Withdrawn}
+use Rattle.rtgs_book.specs.declared.order_state.OrderState.TheVariants.{Rejected}
 use Rattle.rtgs_book.specs.declared.phase.Phase.{Phase}
 use Rattle.rtgs_book.specs.declared.phase.Phase.TheVariants.{Closed, Open, CutOff}
 use Rattle.rtgs_book.specs.Balance.{balance, gain, floor_at}
-use Rattle.rtgs_book.specs.Books.{is_open, is_closed, is_queued, is_settled, is_empty}
+use Rattle.rtgs_book.specs.Books.{is_open, is_closed, is_queued, is_queued_state, is_held_state, is_waiting, is_settled}
+use Rattle.rtgs_book.specs.Books.{is_settled_state}
+use Rattle.rtgs_book.specs.Books.{is_empty}
 use Rattle.rtgs_book.specs.Changes.{Leads, balance_set, or_else}
-use Rattle.rtgs_book.specs.Commands.{order, takes, new_order, with_order, settles_at_once, has_number}
+use Rattle.rtgs_book.specs.Commands.{order, takes, takes_due, new_order, first_state, with_order, settles_at_once}
+use Rattle.rtgs_book.specs.Commands.{settles_now}
+use Rattle.rtgs_book.specs.Commands.{has_number, is_same_due, is_due_too_early, is_due_on_a_weekend}
 use Rattle.rtgs_book.specs.Lookup.{accounts, is_participant, order_named}
 use Rattle.rtgs_book.specs.Outcome.{first_of}
-use Rattle.rtgs_book.specs.Queue.{queue, queued_numbers}
+use Rattle.rtgs_book.specs.Queue.{queue, waiting, queued_numbers}
+use Rattle.rtgs_queues.specs.Orders.{numbers_among}
+use Rattle.rtgs_lists.proofs.Bools.{and_true}
 use Rattle.rtgs_book.specs.Settle.{restated, settle, mark_of, next_mark, today}
 use Rattle.rtgs_book.specs.Soundness.{OrdersAreNumbered}
 use Rattle.rtgs_book.specs.Step.{Step}
 use Rattle.rtgs_book.specs.declared.account.Account.{Account}
 use Rattle.rtgs_book.specs.declared.limits.TheConstants.{LONGEST_QUEUE, LARGEST_NUMBER}
 use Rattle.rtgs_accounts.specs.Accounts.{code_of, is_of, with_balance}
-use Rattle.rtgs_ledger.specs.Ordering.{IsTaken}
+use Rattle.rtgs_ledger.specs.Kinds.{answers_an_order}
+use Rattle.rtgs_ledger.specs.Ordering.{IsTaken, is_too_early, waiting_answer}
 use Rattle.rtgs_ledger.proofs.Balances.{other_int, moved, all_moved, all_same, balance-with_order}
 use Rattle.rtgs_ledger.proofs.Kept.{found_balance, found_is, is_known, balance_at, floor_at as floor_is, prepared_done}
 use Rattle.rtgs_cores.specs.declared.Core.{Core}
@@ -48,74 +58,119 @@ use Rattle.rtgs_lists.proofs.Filters.{filter_nothing}
 use Rattle.rtgs_lists.proofs.Lists.{all_of}
 use Rattle.rtgs_lists.proofs.Numbers.{eq_self, int_eq_self}
 
-module _ (book : Book) (sender reference receiver : List ℕ) (amount : ℕ) where
-  pub unknown : is_participant book sender ≡ false → Step book (command.Order sender reference receiver amount)
+module _ (book : Book) (sender reference receiver : List ℕ) (amount : ℕ) (due : Option ℕ) where
+  pub unknown : is_participant book sender ≡ false → Step book (command.Order sender reference receiver amount due)
       (Err UnknownParticipant) book
   unfolding order first_of
   unknown e = rw e refl
 
   pub repeats : is_participant book sender ≡ true → (o : Order) → order_named book sender reference ≡ Some o
-      → (bytes_eq o.receiver receiver && (o.amount == amount)) ≡ true
-      → Step book (command.Order sender reference receiver amount) (Ok (answer.Repeated (known.Order o.number o.state)))
+      → (bytes_eq o.receiver receiver && (o.amount == amount) && is_same_due o.due due) ≡ true
+      → Step book (command.Order sender reference receiver amount due) (Ok (answer.Repeated (known.Order o.number
+      o.state)))
       book
   unfolding order first_of
   repeats e o found same = rw (e, found, same) refl
 
   pub reference_used : is_participant book sender ≡ true → (o : Order) → order_named book sender reference ≡ Some o
-      → (bytes_eq o.receiver receiver && (o.amount == amount)) ≡ false
-      → Step book (command.Order sender reference receiver amount) (Err ReferenceUsed) book
+      → (bytes_eq o.receiver receiver && (o.amount == amount) && is_same_due o.due due) ≡ false
+      → Step book (command.Order sender reference receiver amount due) (Err ReferenceUsed) book
   unfolding order first_of
   reference_used e o found other = rw (e, found, other) refl
 
   module _ (known : is_participant book sender ≡ true) (unused : order_named book sender reference ≡ None) where
-    pub not_open : is_open book.day.phase ≡ false → Step book (command.Order sender reference receiver amount)
+    pub not_open : is_open book.day.phase ≡ false → Step book (command.Order sender reference receiver amount due)
         (Err NotOpen) book
     unfolding order first_of
     not_open shut = rw (known, unused, shut) refl
 
     module _ (opened : is_open book.day.phase ≡ true) where
       pub unknown_receiver : is_participant book receiver ≡ false
-          → Step book (command.Order sender reference receiver amount) (Err UnknownReceiver) book
+          → Step book (command.Order sender reference receiver amount due) (Err UnknownReceiver) book
       unfolding order first_of
       unknown_receiver e = rw (known, unused, opened, e) refl
 
       module _ (there : is_participant book receiver ≡ true) where
-        pub same_party : bytes_eq sender receiver ≡ true → Step book (command.Order sender reference receiver amount)
+        pub same_party : bytes_eq sender receiver ≡ true → Step book (command.Order sender reference receiver amount
+            due)
             (Err SameParty) book
         unfolding order first_of
         same_party same = rw (known, unused, opened, there, same) refl
 
         module _ (apart : bytes_eq sender receiver ≡ false) where
-          pub numbers_used_up : nat_le LARGEST_NUMBER (length book.orders) ≡ true
-              → Step book (command.Order sender reference receiver amount) (Err NumbersUsedUp) book
+          pub due_not_later : is_due_too_early book due ≡ true
+              → Step book (command.Order sender reference receiver amount due) (Err DueNotLater) book
           unfolding order first_of
-          numbers_used_up many = rw (known, unused, opened, there, apart, many) refl
+          due_not_later early = rw (known, unused, opened, there, apart, early) refl
 
-          pub queue_full : nat_le LARGEST_NUMBER (length book.orders) ≡ false
-              → settles_at_once book sender amount ≡ false → nat_le LONGEST_QUEUE (length (queue book sender)) ≡ true
-              → Step book (command.Order sender reference receiver amount) (Err QueueFull) book
-          unfolding order first_of
-          queue_full few waits full = rw (known, unused, opened, there, apart, few, waits, full) refl
+          module _ (later : is_due_too_early book due ≡ false) where
+            pub due_weekend : is_due_on_a_weekend due ≡ true
+                → Step book (command.Order sender reference receiver amount due) (Err Weekend) book
+            unfolding order first_of
+            due_weekend free = rw (known, unused, opened, there, apart, later, free) refl
 
-          taken : nat_le LARGEST_NUMBER (length book.orders) ≡ false
-              → (not (settles_at_once book sender amount) && nat_le LONGEST_QUEUE (length (queue book sender))) ≡ false
-              → order book sender reference receiver amount ≡ takes book
-              (new_order book sender reference receiver amount)
-          unfolding order first_of
-          taken few room = rw (known, unused, opened, there, apart, few, room) refl
+            module _ (working : is_due_on_a_weekend due ≡ false) where
+              pub numbers_used_up : nat_le LARGEST_NUMBER (length book.orders) ≡ true
+                  → Step book (command.Order sender reference receiver amount due) (Err NumbersUsedUp) book
+              unfolding order first_of
+              numbers_used_up many = rw (known, unused, opened, there, apart, later, working, many) refl
 
-          pub is_taken : IsAmount amount → nat_le LARGEST_NUMBER (length book.orders) ≡ false
-              → (not (settles_at_once book sender amount) && nat_le LONGEST_QUEUE (length (queue book sender))) ≡ false
-              → IsTaken book (new_order book sender reference receiver amount)
-          is_taken fits few room = record {
-            next = refl;
-            unused = unused;
-            fits = fits;
-            apart = apart;
-            taken = taken few room;
-          }
+              pub queue_full : nat_le LARGEST_NUMBER (length book.orders) ≡ false
+                  → settles_now book sender amount due ≡ false
+                  → nat_le LONGEST_QUEUE (length (waiting book sender)) ≡ true
+                  → Step book (command.Order sender reference receiver amount due) (Err QueueFull) book
+              unfolding order first_of
+              queue_full few waits full =
+                  rw (known, unused, opened, there, apart, later, working, few, waits, full) refl
 
--- ---- its sender's queue
+              taken : nat_le LARGEST_NUMBER (length book.orders) ≡ false
+                  → (not (settles_now book sender amount due)
+                  && nat_le LONGEST_QUEUE (length (waiting book sender))) ≡ false
+                  → order book sender reference receiver amount due ≡ takes_due book
+                  (new_order book sender reference receiver amount due) due
+              unfolding order first_of
+              taken few room = rw (known, unused, opened, there, apart, later, working, few, room) refl
+
+              pub is_taken : IsAmount amount → nat_le LARGEST_NUMBER (length book.orders) ≡ false
+                  → (not (settles_now book sender amount due)
+                  && nat_le LONGEST_QUEUE (length (waiting book sender))) ≡ false
+                  → IsTaken book (new_order book sender reference receiver amount due)
+              is_taken fits few room = record {
+                next = refl;
+                unused = unused;
+                fits = fits;
+                apart = apart;
+                taken = taken few room;
+              }
+
+-- ---- its sender's queue, and all of its sender's orders that wait
+
+first_unsettled : (due : Option ℕ) → is_settled_state (first_state due) ≡ false
+first_unsettled None = refl
+first_unsettled (Some due) = refl
+
+-- those that are queued and those that are held
+pub waiting_count : (sender : List ℕ) (os : List Order)
+    → length (numbers_among is_queued_state (filter is_waiting os) sender)
+    + length (numbers_among is_held_state (filter is_waiting os) sender)
+    ≡ length (filter (λ o. is_waiting o && bytes_eq o.sender sender) os)
+waiting_count sender [] = refl
+waiting_count sender (o ∷ os) = by o.state refl (bytes_eq o.sender sender) refl (waiting_count sender os)
+  where
+    by : (s : OrderState) → o.state ≡ s → (b : Bool) → bytes_eq o.sender sender ≡ b
+        → length (numbers_among is_queued_state (filter is_waiting os) sender)
+        + length (numbers_among is_held_state (filter is_waiting os) sender)
+        ≡ length (filter (λ o. is_waiting o && bytes_eq o.sender sender) os)
+        → length (numbers_among is_queued_state (filter is_waiting (o ∷ os)) sender)
+        + length (numbers_among is_held_state (filter is_waiting (o ∷ os)) sender)
+        ≡ length (filter (λ o. is_waiting o && bytes_eq o.sender sender) (o ∷ os))
+    by Queued e true f rest = rw (e, f) (omega (arith, rest))
+    by Queued e false f rest = rw (e, f) rest
+    by HeldState e true f rest = rw (e, f) (omega (arith, rest))
+    by HeldState e false f rest = rw (e, f) rest
+    by (Settled mark) e b f rest = rw e rest
+    by Withdrawn e b f rest = rw e rest
+    by Rejected e b f rest = rw e rest
 
 pub queued_length : (book : Book) (sender : List ℕ) → length (queued_numbers book.orders sender)
     ≡ length (queue book sender)
@@ -131,6 +186,26 @@ queued_none book sender = by (filter (λ o. is_queued o && bytes_eq o.sender sen
     by : (os : List Order) → is_empty (map (λ (o : Order). o.number) os) ≡ is_empty os
     by [] = refl
     by (o ∷ os) = refl
+
+pub waiting_all : (book : Book) (os : List Order) (sender : List ℕ) → os ≡ filter is_waiting book.orders
+    → length (numbers_among is_queued_state os sender) + length (numbers_among is_held_state os sender)
+    ≡ length (waiting book sender)
+unfolding waiting
+waiting_all book os sender e = ap (λ (xs : List Order). length (numbers_among is_queued_state xs sender)
+    + length (numbers_among is_held_state xs sender)) e ∙ waiting_count sender book.orders
+
+pub too_early_is : (book : Book) (due : Option ℕ) (b : Bool) → is_too_early book.day.date due ≡ b
+    → is_due_too_early book due ≡ b
+too_early_is book None b e = e
+too_early_is book (Some due) b e = e
+
+pub none_is : (due : Option ℕ) → is_none due ≡ true → due ≡ None
+none_is None e = refl
+none_is (Some due) e = absurd (true≢false (sym e))
+
+pub answers : (number place : ℕ) (due : Option ℕ) → answers_an_order (waiting_answer number place due) ≡ true
+answers number place None = refl
+answers number place (Some due) = refl
 
 -- ---- what the records say
 
@@ -180,23 +255,26 @@ module _ (r : Whole) (kept : IsKept (held_of r)) where
       ) refl
 
   -- the next order, where no test but the last refuses it
-  pub taken_now : (sender reference receiver : List ℕ) (amount date : ℕ) (debtor creditor : Account)
+  pub taken_now : (sender reference receiver : List ℕ) (amount date : ℕ) (due : Option ℕ) (debtor creditor : Account)
       → find (is_of sender) r.accounts.accounts ≡ Some debtor → order_named (book_of r) sender reference ≡ None
       → (if is_open r.day.phase then r.day.date else None) ≡ Some date
       → find (is_of receiver) r.accounts.accounts ≡ Some creditor → bytes_eq sender receiver ≡ false
+      → is_due_too_early (book_of r) due ≡ false → is_due_on_a_weekend due ≡ false
       → nat_le LARGEST_NUMBER (length r.orders) ≡ false → IsAmount amount
-      → (not (settles_at_once (book_of r) sender amount) && nat_le LONGEST_QUEUE (length (queue (book_of r) sender)))
-      ≡ false
+      → (not (settles_now (book_of r) sender amount due)
+      && nat_le LONGEST_QUEUE (length (waiting (book_of r) sender))) ≡ false
       → IsTaken (book_of r) (record {
         number = length r.orders + 1;
         sender = sender;
         reference = reference;
         receiver = receiver;
         amount = amount;
-        date = date;
-        state = Queued;
+        date = unwrap_or due date;
+        due = due;
+        state = first_state due;
       })
-  taken_now sender reference receiver amount date debtor creditor from unused day to apart few fits room =
+  taken_now sender reference receiver amount date due debtor creditor from unused day to apart later working few fits
+      room =
       let today_is : today (book_of r) ≡ date = ap (λ (d : Option ℕ). unwrap_or d 0)
       (is_day (is_open r.day.phase) r.day.date date day) in
       subst (IsTaken (book_of r)) (λ i. record {
@@ -205,11 +283,12 @@ module _ (r : Whole) (kept : IsKept (held_of r)) where
         reference = reference;
         receiver = receiver;
         amount = amount;
-        date = today_is i;
-        state = Queued;
+        date = unwrap_or due (today_is i);
+        due = due;
+        state = first_state due;
       })
-      (is_taken (book_of r) sender reference receiver amount (is_known r kept sender debtor from) unused
-      (open_now date day) (is_known r kept receiver creditor to) apart fits few room)
+      (is_taken (book_of r) sender reference receiver amount due (is_known r kept sender debtor from) unused
+      (open_now date day) (is_known r kept receiver creditor to) apart later working fits few room)
 
 -- ---- the book after it
 
@@ -251,12 +330,13 @@ settle_new book numbered o next =
       eq_self o.number,
     ) refl
 
-pub one_mark : (book : Book) (o : Order) → o ≡ new_order book o.sender o.reference o.receiver o.amount
+pub one_mark : (book : Book) (o : Order) → o ≡ new_order book o.sender o.reference o.receiver o.amount o.due
+    → o.due ≡ None
     → mark_of book (o ∷ []) ≡ record { number = length book.marks + 1; date = o.date; count = 1; value = pos o.amount }
 unfolding mark_of
-one_mark book o next = λ i. record {
+one_mark book o next direct = λ i. record {
   number = length book.marks + 1;
-  date = ap (λ (x : Order). x.date) (sym next) i;
+  date = (sym (ap (λ d. unwrap_or d (today book)) direct) ∙ ap (λ (x : Order). x.date) (sym next)) i;
   count = 1;
   value = pos (zero-add o.amount i);
 }
@@ -270,52 +350,78 @@ module _ (held : Held) (kept : IsKept held) (o : Order) (taken : IsTaken held.co
   number : o.number ≡ length held.content.orders + 1
   number = ap (λ (x : Order). x.number) taken.next
 
-  queued_place : length (queue (with_order held.content o) o.sender) ≡ length (queue held.content o.sender) + 1
+  queued_place : o.due ≡ None
+      → length (queue (with_order held.content o) o.sender) ≡ length (queue held.content o.sender) + 1
   unfolding queue
-  queued_place =
+  queued_place direct =
       let here : (is_queued o && bytes_eq o.sender o.sender)
-      ≡ true = rw (ap is_queued taken.next, (bytes_decides o.sender o.sender).1 refl) refl in
+      ≡ true = and_true _ _ (ap is_queued taken.next ∙ ap (λ d. is_queued_state (first_state d)) direct)
+      ((bytes_decides o.sender o.sender).1 refl) in
       rw (filter-append (λ x. is_queued x && bytes_eq x.sender o.sender) held.content.orders (o ∷ []), here)
       (length-append (filter (λ x. is_queued x && bytes_eq x.sender o.sender) held.content.orders) (o ∷ []))
 
-  step_queued : settles_at_once held.content o.sender o.amount ≡ false
-      → Step held.content (command.Order o.sender o.reference o.receiver o.amount)
+  step_queued : o.due ≡ None → settles_at_once held.content o.sender o.amount ≡ false
+      → Step held.content (command.Order o.sender o.reference o.receiver o.amount o.due)
       (Ok (answer.Queued o.number (length (queue held.content o.sender) + 1))) (with_order held.content o)
   unfolding takes
-  step_queued waits = rw (taken.taken, waits, queued_place) refl
+  step_queued direct waits = sym (taken.taken ∙ ap (takes_due held.content o) direct
+      ∙ rw (waits, queued_place direct) refl)
 
-  step_settled : settles_at_once held.content o.sender o.amount ≡ true
-      → Step held.content (command.Order o.sender o.reference o.receiver o.amount)
+  step_settled : o.due ≡ None → settles_at_once held.content o.sender o.amount ≡ true
+      → Step held.content (command.Order o.sender o.reference o.receiver o.amount o.due)
       (Ok (answer.Settled o.number (next_mark held.content))) (with_settled held.content o)
   unfolding takes
-  step_settled settles = rw (
-    taken.taken,
-    settles,
-    settle_new held.content (let s = kept.sound in s.orders_numbered) o
-        number,
-  ) refl
+  step_settled direct settles = sym (taken.taken ∙ ap (takes_due held.content o) direct
+      ∙ rw (settles, settle_new held.content (let s = kept.sound in s.orders_numbered) o number) refl)
+
+  step_held : (due : ℕ) → o.due ≡ Some due
+      → Step held.content (command.Order o.sender o.reference o.receiver o.amount o.due)
+      (Ok (answer.Held o.number due)) (with_order held.content o)
+  step_held due later = sym (taken.taken ∙ ap (takes_due held.content o) later)
 
   same_balance : (c : List ℕ) → balance held.content c ≡ balance (with_order held.content o) c
   same_balance c =
-      let queued : is_settled o ≡ false = ap is_settled taken.next in
+      let queued : is_settled o ≡ false = ap is_settled taken.next ∙ first_unsettled o.due in
       sym (rw (balance-with_order held.content o held.content.marks c, queued) (omega (arith, ints)))
 
-  pub prepared_queued : settles_at_once held.content o.sender o.amount ≡ false
-      → IsPrepared held (command.Order o.sender o.reference o.receiver o.amount)
-      (answer.Queued o.number (length (queue held.content o.sender) + 1)) (AddOrder o ∷ [])
-  prepared_queued waits =
-      let leads : Leads held.content (AddOrder o ∷ []) (with_order held.content o) = record {
-        book = refl;
-        balances = all_of (λ c. balance_set c (AddOrder o ∷ [])
-            ≡ (if int_eq (balance held.content c) (balance (with_order held.content o) c) then None else Some
-            (balance (with_order held.content o) c))) (λ c. rw (← same_balance c, int_eq_self (balance held.content c))
-            refl) (accounts (with_order held.content o));
-      } in
-      prepared_done held (command.Order o.sender o.reference o.receiver o.amount)
-      (answer.Queued o.number (length (queue held.content o.sender) + 1)) (AddOrder o ∷ [])
-      (with_order held.content o) taken.fits (step_queued waits) leads (tt, tt)
+  joins : Leads held.content (AddOrder o ∷ []) (with_order held.content o)
+  joins = record {
+    book = refl;
+    balances = all_of (λ c. balance_set c (AddOrder o ∷ [])
+        ≡ (if int_eq (balance held.content c) (balance (with_order held.content o) c) then None else Some
+        (balance (with_order held.content o) c))) (λ c. rw (← same_balance c, int_eq_self (balance held.content c))
+        refl) (accounts (with_order held.content o));
+  }
+
+  pub prepared_held : (due : ℕ) → o.due ≡ Some due
+      → IsPrepared held (command.Order o.sender o.reference o.receiver o.amount o.due) (answer.Held o.number due)
+      (AddOrder o ∷ [])
+  prepared_held due later =
+      prepared_done held (command.Order o.sender o.reference o.receiver o.amount o.due) (answer.Held o.number due)
+      (AddOrder o ∷ []) (with_order held.content o) taken.fits (step_held due later) joins (tt, tt)
       (all_same (balance held.content) (balance (with_order held.content o)) same_balance held.accounts kept.balanced)
       (λ k e. absurd (cc)) (λ e. absurd (cc))
+
+  pub prepared_queued : o.due ≡ None → settles_at_once held.content o.sender o.amount ≡ false
+      → IsPrepared held (command.Order o.sender o.reference o.receiver o.amount o.due)
+      (answer.Queued o.number (length (queue held.content o.sender) + 1)) (AddOrder o ∷ [])
+  prepared_queued direct waits =
+      prepared_done held (command.Order o.sender o.reference o.receiver o.amount o.due)
+      (answer.Queued o.number (length (queue held.content o.sender) + 1)) (AddOrder o ∷ [])
+      (with_order held.content o) taken.fits (step_queued direct waits) joins (tt, tt)
+      (all_same (balance held.content) (balance (with_order held.content o)) same_balance held.accounts kept.balanced)
+      (λ k e. absurd (cc)) (λ e. absurd (cc))
+
+  pub prepared_waiting : settles_now held.content o.sender o.amount o.due ≡ false
+      → IsPrepared held (command.Order o.sender o.reference o.receiver o.amount o.due)
+      (waiting_answer o.number (length (queue held.content o.sender) + 1) o.due) (AddOrder o ∷ [])
+  prepared_waiting waits = by o.due refl waits
+    where
+      by : (due : Option ℕ) → o.due ≡ due → settles_now held.content o.sender o.amount due ≡ false
+          → IsPrepared held (command.Order o.sender o.reference o.receiver o.amount o.due)
+          (waiting_answer o.number (length (queue held.content o.sender) + 1) due) (AddOrder o ∷ [])
+      by None direct waits = prepared_queued direct waits
+      by (Some due) later waits = prepared_held due later
 
   moves : (c : List ℕ) → balance (with_settled held.content o) c
       ≡ balance held.content c +ℤ ((if bytes_eq o.receiver c then pos o.amount else pos 0) -ℤ
@@ -392,17 +498,17 @@ module _ (held : Held) (kept : IsKept held) (o : Order) (taken : IsTaken held.co
             (ap Some (balance_of_sender c e f))
         by false false e f = rw (← balance_of_other c e f, int_eq_self (balance held.content c)) refl
 
-    pub prepared_settled : settles_at_once held.content o.sender o.amount ≡ true
-        → IsPrepared held (command.Order o.sender o.reference o.receiver o.amount)
+    pub prepared_settled : o.due ≡ None → settles_at_once held.content o.sender o.amount ≡ true
+        → IsPrepared held (command.Order o.sender o.reference o.receiver o.amount o.due)
         (answer.Settled o.number (next_mark held.content)) rows
-    prepared_settled settles =
+    prepared_settled direct settles =
         let leads : Leads held.content rows (with_settled held.content o) = record {
           book = refl;
           balances = all_of _ (sets (let f = taken.fits in f.0)) (accounts (with_settled held.content o));
         } in
-        prepared_done held (command.Order o.sender o.reference o.receiver o.amount)
+        prepared_done held (command.Order o.sender o.reference o.receiver o.amount o.due)
         (answer.Settled o.number (next_mark held.content)) rows (with_settled held.content o) taken.fits
-        (step_settled settles) leads (tt, (tt, (tt, (tt, tt))))
+        (step_settled direct settles) leads (tt, (tt, (tt, (tt, tt))))
         (all_same (moved o.receiver more (moved o.sender less (balance held.content)))
         (balance (with_settled held.content o)) is_moved
         (with_balance o.receiver more (with_balance o.sender less held.accounts))
@@ -413,42 +519,46 @@ module _ (held : Held) (kept : IsKept held) (o : Order) (taken : IsTaken held.co
 
 -- so it is in the book whose core the records are
 pub order_taken : (book : Book) (r : Records) (core : Core) (of : IsOf book r core)
-    (sender reference receiver : List ℕ) (amount date : ℕ) (debtor creditor : Account) (o : Order)
+    (sender reference receiver : List ℕ) (amount date : ℕ) (due : Option ℕ) (debtor creditor : Account) (o : Order)
     → o ≡ record {
       number = r.orders.next;
       sender = sender;
       reference = reference;
       receiver = receiver;
       amount = amount;
-      date = date;
-      state = Queued;
+      date = unwrap_or due date;
+      due = due;
+      state = first_state due;
     }
     → find (is_of sender) r.accounts.accounts ≡ Some debtor → order_named (book_of (whole book r)) sender reference
     ≡ None
     → (if is_open r.day.phase then r.day.date else None) ≡ Some date
     → find (is_of receiver) r.accounts.accounts ≡ Some creditor → bytes_eq sender receiver ≡ false
+    → is_due_too_early (book_of (whole book r)) due ≡ false → is_due_on_a_weekend due ≡ false
     → nat_le LARGEST_NUMBER (length book.orders) ≡ false → IsAmount amount
-    → (not (settles_at_once (book_of (whole book r)) sender amount)
-    && nat_le LONGEST_QUEUE (length (queue (book_of (whole book r)) sender))) ≡ false
+    → (not (settles_now (book_of (whole book r)) sender amount due)
+    && nat_le LONGEST_QUEUE (length (waiting (book_of (whole book r)) sender))) ≡ false
     → IsTaken book o
-order_taken book r core of sender reference receiver amount date debtor creditor o is from unused day to apart few fits
-    room =
+order_taken book r core of sender reference receiver amount date due debtor creditor o is from unused day to apart later
+    working few fits room =
     let next : o ≡ record {
       number = length book.orders + 1;
       sender = sender;
       reference = reference;
       receiver = receiver;
       amount = amount;
-      date = date;
-      state = Queued;
+      date = unwrap_or due date;
+      due = due;
+      state = first_state due;
     } = is ∙ (λ i. record {
       number = of.orders i;
       sender = sender;
       reference = reference;
       receiver = receiver;
       amount = amount;
-      date = date;
-      state = Queued;
+      date = unwrap_or due date;
+      due = due;
+      state = first_state due;
     }) in
     subst (IsTaken book) (sym next) (subst (λ (b : Book). IsTaken b (record {
       number = length book.orders + 1;
@@ -456,8 +566,10 @@ order_taken book r core of sender reference receiver amount date debtor creditor
       reference = reference;
       receiver = receiver;
       amount = amount;
-      date = date;
-      state = Queued;
-    })) of.same (taken_now (whole book r) of.kept sender reference receiver amount date debtor creditor from unused day
+      date = unwrap_or due date;
+      due = due;
+      state = first_state due;
+    })) of.same (taken_now (whole book r) of.kept sender reference receiver amount date due debtor creditor from unused
+    day
     to
-    apart few fits room))
+    apart later working few fits room))

@@ -11,7 +11,7 @@ use Rattle.rtgs_book.specs.declared.answer.Answer.TheVariants as answer
 use Rattle.rtgs_book.specs.declared.book.Book.{Book}
 use Rattle.rtgs_book.specs.declared.change.RowChange.{RowChange}
 use Rattle.rtgs_book.specs.declared.change.RowChange.TheVariants.{AddParticipant, AddPosting, AddOrder, AddMark}
-use Rattle.rtgs_book.specs.declared.change.RowChange.TheVariants.{SetCredit, SetBalance, SetState, SetDay}
+use Rattle.rtgs_book.specs.declared.change.RowChange.TheVariants.{SetCredit, SetBalance, SetState, EnterQueue, SetDay}
 use Rattle.rtgs_book.specs.declared.command.Command.TheVariants.{Resolve}
 use Rattle.rtgs_book.specs.declared.mark.Mark.{Mark}
 use Rattle.rtgs_book.specs.declared.order.Order.{Order}
@@ -74,6 +74,7 @@ all_set (AddPosting posting ∷ rows) held f h e = all_set rows (after_row held 
 all_set (AddOrder order ∷ rows) held f h e = all_set rows (after_row held (AddOrder order)) f h.1 e
 all_set (AddMark mark ∷ rows) held f h e = all_set rows (after_row held (AddMark mark)) f h.1 e
 all_set (SetState number state ∷ rows) held f h e = all_set rows (after_row held (SetState number state)) f h.1 e
+all_set (EnterQueue number date ∷ rows) held f h e = all_set rows (after_row held (EnterQueue number date)) f h.1 e
 all_set (SetDay day ∷ rows) held f h e = all_set rows (after_row held (SetDay day)) f h.1 e
 
 same_codes : (code : List ℕ) (b : ℤ) (xs : List Account) → map code_of (with_balance code b xs) ≡ map code_of xs
@@ -95,6 +96,7 @@ codes_stay (AddPosting posting ∷ rows) held h = codes_stay rows (after_row hel
 codes_stay (AddOrder order ∷ rows) held h = codes_stay rows (after_row held (AddOrder order)) h.1
 codes_stay (AddMark mark ∷ rows) held h = codes_stay rows (after_row held (AddMark mark)) h.1
 codes_stay (SetState number state ∷ rows) held h = codes_stay rows (after_row held (SetState number state)) h.1
+codes_stay (EnterQueue number date ∷ rows) held h = codes_stay rows (after_row held (EnterQueue number date)) h.1
 codes_stay (SetDay day ∷ rows) held h = codes_stay rows (after_row held (SetDay day)) h.1
 
 set_is_new : (old new : ℤ) → unwrap_or (if int_eq old new then None else Some new) old ≡ new
@@ -181,6 +183,7 @@ balances_leave (AddPosting posting ∷ rows) h = absurd h.0
 balances_leave (AddOrder order ∷ rows) h = absurd h.0
 balances_leave (AddMark mark ∷ rows) h = absurd h.0
 balances_leave (SetState number state ∷ rows) h = absurd h.0
+balances_leave (EnterQueue number date ∷ rows) h = absurd h.0
 balances_leave (SetDay day ∷ rows) h = absurd h.0
 
 pub states_leave : (state : OrderState) (numbers : List ℕ) (rows : List RowChange)

@@ -17,7 +17,16 @@ use Rattle.rtgs_choices.specs.ByIndex.{by_code}
 use Rattle.rtgs_choices.specs.Settling.{orders_taken}
 use Rattle.rtgs_book.specs.declared.order.Order.{Order}
 use Rattle.rtgs_book.specs.Choice.{Choice, IsGreatest}
-use Rattle.rtgs_book.specs.Queue.{queue, queued_among}
+use Rattle.rtgs_book.specs.Queue.{queue, waiting, queued_among}
+use Rattle.rtgs_book.specs.declared.order_state.OrderState.{OrderState}
+use Rattle.rtgs_book.specs.declared.order_state.OrderState.TheVariants.{Queued, Held, Settled, Withdrawn, Rejected}
+use Rattle.rtgs_book.specs.declared.participant.Participant.{Participant}
+use Rattle.rtgs_book.specs.Books.{is_queued, is_queued_state, is_waiting, is_waiting_state}
+use Rattle.rtgs_accounts.specs.Accounts.{participant_of}
+use Rattle.std.specs.Str.{bytes_eq}
+use Rattle.std.proofs.Common.{◌&&◌, Bool, true, false}
+use Rattle.rtgs_lists.proofs.Filters.{filter_shorter}
+use Rattle.rtgs_lists.proofs.Lists.{all_weaker}
 use Rattle.rtgs_book.specs.declared.account.Account.{Account}
 use Rattle.rtgs_book.specs.declared.limits.TheConstants.{LONGEST_QUEUE, MOST_PARTICIPANTS, MOST_QUEUED}
 use Rattle.rtgs_accounts.specs.Accounts.{code_of, is_of, CodesRiseStrictly}
@@ -31,7 +40,7 @@ use Rattle.rtgs_records.specs.declared.records.Records.{Records}
 use Rattle.rtgs_records.specs.Held as seen
 use Rattle.rtgs_records.specs.Records.{held_of as seen_of}
 use Rattle.rtgs_ledger.specs.Resolving.{AreGreatest, CanResolve}
-use Rattle.rtgs_queues.specs.Laws.{QueuesAreOfTheQueued}
+use Rattle.rtgs_queues.specs.Laws.{QueuesAreOfTheWaiting}
 use Rattle.rtgs_lists.proofs.Codes.{later_differs}
 use Rattle.rtgs_ledger.proofs.Loading.{in_order}
 use Rattle.rtgs_ledger.proofs.Reading.{queue_is}
@@ -189,13 +198,36 @@ taken_few book lengths queued i (x ∷ xs) same short =
     let rest = taken_few book lengths queued (i + 1) xs same short.1 in
     omega (arith, long, part, its, first, rest)
 
+queued_waits : (s : OrderState) → is_queued_state s ≡ true → is_waiting_state s ≡ true
+queued_waits Queued e = refl
+queued_waits Held e = refl
+queued_waits (Settled mark) e = absurd (cc)
+queued_waits Withdrawn e = absurd (cc)
+queued_waits Rejected e = absurd (cc)
+
+-- a queue is no longer than the orders that wait
+short_queue : (book : Book) (code : List ℕ) → length (waiting book code) ≤ LONGEST_QUEUE
+    → length (queue book code) ≤ LONGEST_QUEUE
+unfolding queue waiting
+short_queue book code few =
+    let le = filter_shorter (λ o. is_queued o && bytes_eq o.sender code) (λ o. is_waiting o && bytes_eq o.sender code)
+    (λ o e. wider (is_queued o) (bytes_eq o.sender code) (is_waiting o) (queued_waits o.state) e) book.orders in
+    omega (arith, le, few)
+  where
+    wider : (a b c : Bool) → (a ≡ true → c ≡ true) → (a && b) ≡ true → (c && b) ≡ true
+    wider true b c f e = rw (f refl) e
+    wider false b c f e = absurd (cc)
+
 pub few_taken : (r : Whole) (lengths : ℕ → ℕ) (queued : List Order) → IsSound (book_of r)
     → ((code : List ℕ) → queued_among queued code ≡ queue (book_of r) code)
     → length (taken_from lengths queued 0 r.accounts.accounts) ≤ MOST_QUEUED
 unfolding accounts
 few_taken r lengths queued sound same =
     let short = subst (AllByRecursion (λ code. length (queue (book_of r) code) ≤ LONGEST_QUEUE))
-    (sym (codes-participants r.accounts.accounts)) sound.queues.short in
+    (sym (codes-participants r.accounts.accounts))
+    (all_weaker (λ code. length (waiting (book_of r) code) ≤ LONGEST_QUEUE)
+    (λ code. length (queue (book_of r) code) ≤ LONGEST_QUEUE) (λ code few. short_queue (book_of r) code few)
+    (map (λ (p : Participant). p.code) (map participant_of r.accounts.accounts)) sound.queues.short) in
     let few : length (accounts (book_of r)) ≤ MOST_PARTICIPANTS = sound.codes_rise.1 in
     let count = count_is r in
     let all = taken_few (book_of r) lengths queued 0 r.accounts.accounts same short in
@@ -206,7 +238,7 @@ abbrev pub records_of : seen.Held → Records
 records_of held = record {
   accounts = record { accounts = held.core.accounts; room = held.room.participants };
   orders = record {
-    orders = held.core.queued;
+    orders = held.core.waiting;
     tidy = true;
     next = held.core.next_order;
     room = held.room.orders;
@@ -220,10 +252,10 @@ records_of held = record {
 -- ---- what the resolver is told of a ledger that has the core of a book
 
 module _ (book : Book) (r : Records) (held : seen.Held) (view : seen_of r ≡ held) (is : IsCoreOf book held.core)
-    (law : QueuesAreOfTheQueued) where
+    (law : QueuesAreOfTheWaiting) where
   queues_same : (code : List ℕ) → queued_among r.orders.orders code ≡ queue (book_of (whole book r)) code
   queues_same code = let of = is_of_book book r held view is in
-      queue_is law (book_of (whole book r)) r.orders.orders code of.queued
+      queue_is law (book_of (whole book r)) r.orders.orders code of.waiting
 
   pub positions_told : positions_in held.core ≡ positions_of book
   positions_told =
@@ -241,7 +273,7 @@ module _ (book : Book) (r : Records) (held : seen.Held) (view : seen_of r ≡ he
 
   pub greatest_taken : (lengths : ℕ → ℕ) → ((b : Book) (lengths : ℕ → ℕ) (i : ℕ) → IsSound b
       → i < length (accounts b) → by_code b lengths (code_at b i) ≡ lengths i) → IsGreatest book (by_code book lengths)
-      → (orders : List Order) → orders ≡ taken_from lengths held.core.queued 0 held.core.accounts
+      → (orders : List Order) → orders ≡ taken_from lengths held.core.waiting 0 held.core.accounts
       → AreGreatest book orders
   greatest_taken lengths agreed greatest orders e =
       let of = is_of_book book r held view is in
@@ -252,7 +284,7 @@ module _ (book : Book) (r : Records) (held : seen.Held) (view : seen_of r ≡ he
       ∙ agreed book lengths k is.sound (subst (λ n. k < n) (sym (count_is (whole book r))
       ∙ ap (λ (b : Book). length (accounts b)) of.same) lt) in
       let here : orders ≡ taken_from lengths r.orders.orders 0 r.accounts.accounts = e
-      ∙ ap (λ (h : seen.Held). taken_from lengths h.core.queued 0 h.core.accounts) (sym view) in
+      ∙ ap (λ (h : seen.Held). taken_from lengths h.core.waiting 0 h.core.accounts) (sym view) in
       record {
         choice = choice;
         greatest = greatest;

@@ -13,13 +13,13 @@ use Rattle.rtgs_book.specs.declared.participant.Participant.{Participant}
 use Rattle.rtgs_book.specs.declared.posting.Posting.{Posting}
 use Rattle.rtgs_book.specs.declared.change.RowChange.{RowChange}
 use Rattle.rtgs_book.specs.declared.change.RowChange.TheVariants.{AddParticipant, AddPosting, AddOrder, AddMark}
-use Rattle.rtgs_book.specs.declared.change.RowChange.TheVariants.{SetCredit, SetBalance, SetState, SetDay}
+use Rattle.rtgs_book.specs.declared.change.RowChange.TheVariants.{SetCredit, SetBalance, SetState, EnterQueue, SetDay}
 use Rattle.rtgs_book.specs.declared.command.Command.{Command}
 use Rattle.rtgs_book.specs.declared.answer.Answer.{Answer}
 use Rattle.rtgs_book.specs.declared.answer.Answer.TheVariants.{Nothing, Repeated}
 use Rattle.rtgs_book.specs.declared.answer.Known.{Known}
 use Rattle.rtgs_book.specs.declared.refusal.Refusal.{Refusal}
-use Rattle.rtgs_book.specs.Books.{is_queued}
+use Rattle.rtgs_book.specs.Books.{is_waiting}
 use Rattle.rtgs_book.specs.Changes.{Leads, StartsEmpty, with_row}
 use Rattle.rtgs_book.specs.Laws.{CommandFits}
 use Rattle.rtgs_book.specs.Ranges.{Fits}
@@ -83,6 +83,7 @@ same_accounts held core (row ∷ rows) e = same_accounts (after_row held row) (c
     one (SetCredit code credit) = ap (with_limit code credit) e
     one (SetBalance code balance) = ap (with_balance code balance) e
     one (SetState number state) = e
+    one (EnterQueue number date) = e
     one (SetDay day) = e
 
 -- ---- the records of a ledger, with the rest of the book
@@ -128,7 +129,7 @@ pub record IsOf (book : Book) (r : Records) (core : Core) : Type 0 where
   pub same : book_of (whole book r) ≡ book
   pub kept : IsKept (held_of (whole book r))
   pub accounts : r.accounts.accounts ≡ core.accounts
-  pub queued : r.orders.orders ≡ filter is_queued book.orders
+  pub waiting : r.orders.orders ≡ filter is_waiting book.orders
   pub postings : r.next_posting ≡ length book.postings + 1
   pub orders : r.orders.next ≡ length book.orders + 1
   pub marks : r.next_mark ≡ length book.marks + 1
@@ -156,7 +157,7 @@ is_of_book book r held view is =
         fits = subst Fits (sym same) is.fits;
       };
       accounts = ap (λ (h : seen.Held). h.core.accounts) view;
-      queued = ap (λ (c : Core). c.queued) own;
+      waiting = ap (λ (c : Core). c.waiting) own;
       postings = ap (λ (c : Core). c.next_posting) own;
       orders = ap (λ (c : Core). c.next_order) own;
       marks = ap (λ (c : Core). c.next_mark) own;

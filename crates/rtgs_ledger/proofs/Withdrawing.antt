@@ -12,9 +12,10 @@ use Rattle.rtgs_book.specs.declared.change.RowChange.TheVariants.{SetState}
 use Rattle.rtgs_book.specs.declared.book.Book.{Book}
 use Rattle.rtgs_book.specs.declared.order.Order.{Order}
 use Rattle.rtgs_book.specs.declared.order_state.OrderState.{OrderState}
-use Rattle.rtgs_book.specs.declared.order_state.OrderState.TheVariants.{Settled, Withdrawn, Rejected}
+use Rattle.rtgs_book.specs.declared.order_state.OrderState.TheVariants.{Queued, Held as HeldState, Settled, Withdrawn}
+use Rattle.rtgs_book.specs.declared.order_state.OrderState.TheVariants.{Rejected}
 use Rattle.rtgs_book.specs.Balance.{balance}
-use Rattle.rtgs_book.specs.Books.{is_queued_state, is_settled, is_settled_state, is_withdrawn_state}
+use Rattle.rtgs_book.specs.Books.{is_settled, is_waiting_state, is_settled_state, is_withdrawn_state}
 use Rattle.rtgs_book.specs.Changes.{Leads, balance_set}
 use Rattle.rtgs_book.specs.Commands.{withdraw, with_state, has_number}
 use Rattle.rtgs_book.specs.Lookup.{accounts, is_participant, order_named, is_order_named}
@@ -47,21 +48,33 @@ module _ (book : Book) (sender reference : List ℕ) where
       unfolding withdraw first_of
       repeats back = rw (there, found, back) refl
 
-      pub not_queued : is_withdrawn_state o.state ≡ false → is_queued_state o.state ≡ false
+      pub not_queued : is_withdrawn_state o.state ≡ false → is_waiting_state o.state ≡ false
           → Step book (command.Withdraw sender reference) (Err NotQueued) book
       unfolding withdraw first_of
       not_queued not_back done = rw (there, found, not_back, done) refl
 
-      pub withdraws : is_withdrawn_state o.state ≡ false → is_queued_state o.state ≡ true
+      pub withdraws : is_withdrawn_state o.state ≡ false → is_waiting_state o.state ≡ true
           → Step book (command.Withdraw sender reference) (Ok (answer.Withdrawn o.number))
           (with_state book (has_number o.number) Withdrawn)
       unfolding withdraw first_of
       withdraws not_back waits = rw (there, found, not_back, waits) refl
 
 pub is_done : (state : OrderState) → ((mark : ℕ) × (state ≡ Settled mark)) ⊎ (state ≡ Rejected)
-    → (is_withdrawn_state state ≡ false) × (is_queued_state state ≡ false)
+    → (is_withdrawn_state state ≡ false) × (is_waiting_state state ≡ false)
 is_done state (inl settled) = rw settled.1 (refl, refl)
 is_done state (inr rejected) = rw rejected (refl, refl)
+
+pub is_waited : (state : OrderState) → (state ≡ Queued) ⊎ (state ≡ HeldState)
+    → (is_withdrawn_state state ≡ false) × (is_waiting_state state ≡ true)
+is_waited state (inl queued) = rw queued (refl, refl)
+is_waited state (inr held) = rw held (refl, refl)
+
+pub waits_unsettled : (state : OrderState) → is_waiting_state state ≡ true → is_settled_state state ≡ false
+waits_unsettled Queued e = refl
+waits_unsettled HeldState e = refl
+waits_unsettled (Settled mark) e = absurd (cc)
+waits_unsettled Withdrawn e = refl
+waits_unsettled Rejected e = refl
 
 -- ---- the order with a number
 
@@ -90,15 +103,15 @@ BalanceAfterRestating = (book : Book) (is_in : Order → Bool) (state : OrderSta
 
 module _ (held : Held) (kept : IsKept held) (law : BalanceAfterRestating) (numbers : NumbersLeadToOrders)
     (sender reference : List ℕ) (o : Order)
-    (found : order_named held.content sender reference ≡ Some o) (waits : is_queued_state o.state ≡ true)
-    (fresh : is_settled_state o.state ≡ false) where
+    (found : order_named held.content sender reference ≡ Some o) (waits : is_waiting_state o.state ≡ true) where
   abbrev new : Book
   new = with_state held.content (has_number o.number) Withdrawn
 
   unsettled : AllByRecursion (λ x. has_number o.number x ≡ true → is_settled x ≡ false) held.content.orders
   unfolding order_named
   unsettled = all_weaker (λ x. has_number o.number x ≡ true → x ≡ o)
-      (λ x. has_number o.number x ≡ true → is_settled x ≡ false) (λ x h e. ap is_settled (h e) ∙ fresh)
+      (λ x. has_number o.number x ≡ true → is_settled x ≡ false) (λ x h e. ap is_settled (h e)
+      ∙ waits_unsettled o.state waits)
       held.content.orders (alone_in_number numbers held.content (let s = kept.sound in s.orders_numbered)
       (is_order_named sender reference) o found)
 

@@ -27,7 +27,7 @@ payment_in core o = record {
 }
 
 abbrev pub payments_in : Core → List ℕ → List Payment
-payments_in core sender = map (payment_in core) (queued_among core.queued sender)
+payments_in core sender = map (payment_in core) (queued_among core.waiting sender)
 
 abbrev pub queues_in : Core → List (List Payment)
 queues_in core = map (λ a. payments_in core (code_of a)) core.accounts

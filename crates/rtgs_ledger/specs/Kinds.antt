@@ -13,12 +13,13 @@ use Rattle.rtgs_book.specs.declared.RowChange.{RowChange}
 abbrev pub answers_an_order : Answer → Bool
 answers_an_order (answer.Settled number mark) = true
 answers_an_order (answer.Queued number place) = true
+answers_an_order (answer.Held number due) = true
 answers_an_order (answer.Repeated (known.Order number state)) = true
 answers_an_order other = false
 
 -- a command of this kind can have this answer
 abbrev pub answers_its_kind : Command → Answer → Bool
-answers_its_kind (command.Order sender reference receiver amount) given = answers_an_order given
+answers_its_kind (command.Order sender reference receiver amount due) given = answers_an_order given
 answers_its_kind (command.Add code name key) answer.Added = true
 answers_its_kind (command.Add code name key) (answer.Repeated known.Nothing) = true
 answers_its_kind (command.SetCredit code credit) answer.CreditSet = true

@@ -1,16 +1,28 @@
 -- An order that has passed its tests.
-use Rattle.std.specs.Prelude.{◌≡◌, false, None}
+use Rattle.std.specs.Prelude.{◌≡◌, ℕ, Bool, false, not, Option, Some, None}
 use Rattle.std.specs.Str.{bytes_eq}
 use Rattle.rtgs_money.specs.Amounts.{IsAmount}
+use Rattle.rtgs_book.specs.declared.answer.Answer.{Answer}
+use Rattle.rtgs_book.specs.declared.answer.Answer.TheVariants.{Queued, Held}
 use Rattle.rtgs_book.specs.declared.book.Book.{Book}
 use Rattle.rtgs_book.specs.declared.order.Order.{Order}
-use Rattle.rtgs_book.specs.Commands.{order, takes, new_order}
+use Rattle.rtgs_book.specs.Commands.{order, takes_due, new_order, is_later}
 use Rattle.rtgs_book.specs.Lookup.{order_named}
 
--- the order is the book's next one, its name is new, and it will be taken: it settles at once or is queued
+-- the order is the book's next one, its name is new, and it will be taken: it settles at once, is queued or is held
 pub record IsTaken (book : Book) (o : Order) : Type 0 where
-  pub next : o ≡ new_order book o.sender o.reference o.receiver o.amount
+  pub next : o ≡ new_order book o.sender o.reference o.receiver o.amount o.due
   pub unused : order_named book o.sender o.reference ≡ None
   pub fits : IsAmount o.amount
   pub apart : bytes_eq o.sender o.receiver ≡ false
-  pub taken : order book o.sender o.reference o.receiver o.amount ≡ takes book o
+  pub taken : order book o.sender o.reference o.receiver o.amount o.due ≡ takes_due book o o.due
+
+-- there is a due date, and it is not later than the last date of the desk
+abbrev pub is_too_early : Option ℕ → Option ℕ → Bool
+is_too_early last None = false
+is_too_early last (Some due) = not (is_later due last)
+
+-- the answer to an order that waits: at this place of its queue, or until its due date
+abbrev pub waiting_answer : ℕ → ℕ → Option ℕ → Answer
+waiting_answer number place None = Queued number place
+waiting_answer number place (Some due) = Held number due

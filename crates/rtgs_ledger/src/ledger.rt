@@ -23,13 +23,13 @@ use rtgs_accounts::Accounts;
 use rtgs_book::{Answer, Change, Command, Known, Refusal, Rows};
 use rtgs_cores::{Core, Found};
 use rtgs_queues::Orders;
-use rtgs_queues::laws::queued_orders_can_be_loaded;
+use rtgs_queues::laws::waiting_orders_can_be_loaded;
 use rtgs_records::Records;
 use std::alloc::{AllocError, Global};
 use std::marker::Model;
 
 /// What the desk has of a book in memory. Contracts see the core, and the room that was made for what comes next.
-/// Between calls the orders in memory are the queued ones and no other.
+/// Between calls the orders in memory are those that are queued or held, and no other.
 #[derive(Debug, Drop)]
 pub struct Ledger {
     alloc: Global,
@@ -54,10 +54,10 @@ impl Ledger {
         requires { (book : Book) × IsCoreOf book core }
         ensures { IfOk result (λ ledger. ledger.core ≡ core) }
     {
-        queued_orders_can_be_loaded();
+        waiting_orders_can_be_loaded();
         let Core {
             accounts,
-            queued,
+            waiting,
             day,
             next_posting,
             next_order,
@@ -65,7 +65,7 @@ impl Ledger {
         } = core;
         let records = Records {
             accounts: Accounts::load(accounts),
-            orders: Orders::load(alloc, queued, next_order)?,
+            orders: Orders::load(alloc, waiting, next_order)?,
             day,
             next_posting,
             next_mark,
@@ -100,7 +100,8 @@ impl Ledger {
                 reference,
                 receiver,
                 amount,
-            } => self.prepare_order(sender, reference, receiver, amount, found.order),
+                due,
+            } => self.prepare_order(sender, reference, receiver, amount, due, found.order),
             Command::Withdraw { sender, reference } => {
                 self.prepare_withdraw(sender, reference, found.order)
             }

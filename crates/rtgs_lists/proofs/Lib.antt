@@ -4,5 +4,6 @@ pub mod Filters
 pub mod Finds
 pub mod Lists
 pub mod Numbers
+pub mod Places
 pub mod Results
 pub mod Sums

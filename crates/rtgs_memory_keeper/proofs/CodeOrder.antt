@@ -1,8 +1,8 @@
 -- Participants in code order, and one put in at its place.
-use Rattle.std.proofs.Common.{◌≡◌, ℕ, zero, suc, ◌<◌, ◌≤◌, Bool, true, false, cond, not, List, [], ◌∷◌, ◌++◌, map}
+use Rattle.std.proofs.Common.{◌≡◌, ℕ, zero, suc, ◌<◌, Bool, true, false, cond, not, List, [], ◌∷◌, ◌++◌, map}
 use Rattle.std.proofs.Common.{filter, length, get_or, nat_cmp, Ordering, Less, Equal, Greater, is_lt, refl, sym, ap}
 use Rattle.std.proofs.Common.{◌∙◌, subst, true≢false, arith}
-use Rattle.std.specs.List.{AllByRecursion, AllWithin, insert}
+use Rattle.std.specs.List.{AllByRecursion}
 use Rattle.std.specs.List.Sorted.{IsStrictlySortedBy, IsPartitionedBy}
 use Rattle.std.specs.Ordering.{ordering_reverse}
 use Rattle.std.specs.Cmp.Lexicographic.{slice_cmp, nat_list_cmp_total}
@@ -12,6 +12,7 @@ use Rattle.rtgs_book.specs.Commands.{is_before}
 use Rattle.rtgs_memory_keeper.specs.Memory.{AreInCodeOrder}
 use Rattle.rtgs_lists.proofs.Codes.{is_less, not_before}
 use Rattle.rtgs_lists.proofs.Filters.{all_put_in, filter_nothing, put_in}
+use Rattle.rtgs_lists.proofs.Places.{filter_others}
 
 -- what comes no later than a code before c is itself before c
 earlier_before : (z y c : List ℕ) → is_before z y ≡ false → is_before z c ≡ true → is_before y c ≡ true
@@ -37,11 +38,6 @@ all_later : (y c : List ℕ) (ps : List Participant) → is_before y c ≡ false
 all_later y c [] e h = tt
 all_later y c (p ∷ ps) e h = (later_not_before p.code y c h.0 e, all_later y c ps e h.1)
 
-filter_all : {X : Type 0} (p : X → Bool) (xs : List X) → AllByRecursion (λ x. p x ≡ false) xs
-    → filter (λ x. not (p x)) xs ≡ xs
-filter_all p [] h = refl
-filter_all p (x ∷ xs) h = rw (h.0, filter_all p xs h.1) refl
-
 pub order_put_in : (new : Participant) (ps : List Participant) → AreInCodeOrder ps
     → AreInCodeOrder (put_in (λ p. is_before p.code new.code) new ps)
 order_put_in new [] h = (tt, tt)
@@ -62,7 +58,7 @@ order_put_in new (p ∷ ps) h = by (is_before p.code new.code) refl (order_put_i
         all_later p.code new.code ps e h.0 in
         rw (
           filter_nothing (λ (q : Participant). is_before q.code new.code) ps none,
-          filter_all
+          filter_others
               (λ (q : Participant). is_before q.code new.code) ps none,
         ) ((e, none), h)
 
@@ -112,32 +108,3 @@ partitioned code (p ∷ ps) h zero (suc j) d le within before =
 partitioned code (p ∷ ps) h (suc i) zero d le within before = absurd (omega arith)
 partitioned code (p ∷ ps) h (suc i) (suc j) d le within before =
     partitioned code ps h.1 i j d (omega arith) (omega arith) before
-
-none_of : {X : Type 0} (P : X → Type 0) (xs : List X) → AllWithin P xs 0 (length xs) → AllByRecursion P xs
-none_of P [] h = tt
-none_of P (x ∷ xs) h = (
-  h 0 x (omega arith) (omega arith),
-  none_of P xs
-      (λ k d low high. h (suc k) d (omega arith) (omega arith)),
-)
-
--- where those that pass come first, and there are i of them
-pub put_in_at : {X : Type 0} (p : X → Bool) (new : X) (xs : List X) (i : ℕ) → i ≤ length xs
-    → AllWithin (λ x. p x ≡ true) xs 0 i → AllWithin (λ x. p x ≡ false) xs i (length xs)
-    → insert xs i new ≡ put_in p new xs
-put_in_at p new [] zero short pass fail = refl
-put_in_at p new [] (suc i) short pass fail = absurd (omega arith)
-put_in_at p new (x ∷ xs) zero short pass fail =
-    let none : AllByRecursion (λ x. p x ≡ false) (x ∷ xs) = none_of (λ x. p x ≡ false) (x ∷ xs) fail in
-    sym (ap (λ ys. ys ++ new ∷ filter (λ x. not (p x)) (x ∷ xs)) (filter_nothing p (x ∷ xs) none)
-    ∙ ap (λ ys. new ∷ ys) (filter_all p (x ∷ xs) none))
-put_in_at {X} p new (x ∷ xs) (suc i) short pass fail =
-    by (p x) (pass 0 x (omega arith) (omega arith)) (put_in_at p new xs i (omega arith)
-    (λ k d low high. pass (suc k) d (omega arith) (omega arith))
-    (λ k d low high. fail (suc k) d (omega arith) (omega arith)))
-  where
-    by : (b : Bool) → b ≡ true → insert xs i new ≡ put_in p new xs
-        → x ∷ insert xs i new ≡ cond b (x ∷ filter p xs) (filter p xs) ++ new
-        ∷ cond (not b) (x ∷ filter (λ y. not (p y)) xs) (filter (λ y. not (p y)) xs)
-    by true e rest = ap (λ ys. x ∷ ys) rest
-    by false e rest = absurd (true≢false (sym e))

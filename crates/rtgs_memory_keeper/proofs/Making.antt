@@ -9,16 +9,18 @@ use Rattle.rtgs_book.specs.declared.Order.{Order}
 use Rattle.rtgs_book.specs.declared.Participant.{Participant}
 use Rattle.rtgs_book.specs.declared.RowChange.{RowChange}
 use Rattle.rtgs_book.specs.declared.RowChange.TheVariants.{AddParticipant, AddPosting, AddOrder, AddMark, SetCredit}
-use Rattle.rtgs_book.specs.declared.RowChange.TheVariants.{SetBalance, SetState, SetDay}
+use Rattle.rtgs_book.specs.declared.RowChange.TheVariants.{SetBalance, SetState, EnterQueue, SetDay}
 use Rattle.rtgs_book.specs.Changes.{with_row, changed}
-use Rattle.rtgs_book.specs.Commands.{with_participant, with_credit, with_state, has_number}
+use Rattle.rtgs_book.specs.Commands.{with_participant, with_credit, with_state, let_in}
+use Rattle.rtgs_book.specs.Commands.{has_number, is_held_with, entered}
 use Rattle.rtgs_book.specs.Lookup.{accounts, has_code}
+use Rattle.rtgs_book.specs.Settle.{in_state}
 use Rattle.rtgs_book.specs.Soundness.{OrdersAreNumbered, AreNumbered, IsSound}
 use Rattle.rtgs_memory_keeper.specs.declared.memory_keeper.MemoryKeeper.{MemoryKeeper}
 use Rattle.rtgs_memory_keeper.specs.Memory.{AreInCodeOrder, ListsHaveRoom, adds_participant, adds_posting, adds_order}
 use Rattle.rtgs_memory_keeper.specs.Memory.{adds_mark}
 use Rattle.rtgs_memory_keeper.proofs.CodeOrder.{order_put_in, order_map, order_of_codes}
-use Rattle.rtgs_memory_keeper.proofs.OrderNumbers.{beginning_numbered, restated_numbers}
+use Rattle.rtgs_memory_keeper.proofs.OrderNumbers.{beginning_numbered, altered_numbers}
 
 -- ---- the code order stays
 
@@ -32,7 +34,7 @@ same_code code credit p = by (has_code code p)
 
 pub order_stays : (row : RowChange) (book : Book) → AreInCodeOrder book.participants
     → AreInCodeOrder (with_row book row).participants
-unfolding with_participant with_credit with_state
+unfolding with_participant with_credit with_state let_in
 order_stays (AddParticipant p) book h = order_put_in p book.participants h
 order_stays (AddPosting p) book h = h
 order_stays (AddOrder o) book h = h
@@ -41,12 +43,13 @@ order_stays (SetCredit code credit) book h = order_map (λ p. cond (has_code cod
     (same_code code credit) book.participants h
 order_stays (SetBalance code balance) book h = h
 order_stays (SetState number state) book h = h
+order_stays (EnterQueue number date) book h = h
 order_stays (SetDay day) book h = h
 
 -- ---- orders that are numbered after a change were so before
 
 before_row : (row : RowChange) (book : Book) → OrdersAreNumbered (with_row book row) → OrdersAreNumbered book
-unfolding with_participant with_credit with_state
+unfolding with_participant with_credit with_state let_in
 before_row (AddParticipant p) book h = h
 before_row (AddPosting p) book h = h
 before_row (AddOrder o) book h =
@@ -56,7 +59,10 @@ before_row (AddOrder o) book h =
 before_row (AddMark m) book h = h
 before_row (SetCredit code credit) book h = h
 before_row (SetBalance code balance) book h = h
-before_row (SetState number state) book h = subst AreNumbered (restated_numbers (has_number number) state book.orders) h
+before_row (SetState number state) book h =
+    subst AreNumbered (altered_numbers (has_number number) (in_state state) (λ o. refl) book.orders) h
+before_row (EnterQueue number date) book h =
+    subst AreNumbered (altered_numbers (is_held_with number) (entered date) (λ o. refl) book.orders) h
 before_row (SetDay day) book h = h
 
 pub numbered_before : (rows : List RowChange) (book : Book) → OrdersAreNumbered (changed book rows)

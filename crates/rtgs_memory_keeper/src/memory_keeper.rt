@@ -8,13 +8,13 @@ ghost use Rattle.rtgs_book.specs.declared.Fault.{Fault};
 ghost use Rattle.rtgs_book.specs.declared.Order.{Order as OrderSpec};
 ghost use Rattle.rtgs_book.specs.declared.Participant.{Participant as ParticipantSpec};
 ghost use Rattle.rtgs_book.specs.declared.RowChange.{RowChange as RowChangeSpec};
-ghost use Rattle.rtgs_book.specs.Books.{new_book};
+ghost use Rattle.rtgs_book.specs.Books.{is_held, new_book};
 ghost use Rattle.rtgs_book.specs.Changes.{changed, with_row};
-ghost use Rattle.rtgs_book.specs.Commands.{has_number, is_before};
+ghost use Rattle.rtgs_book.specs.Commands.{has_number, is_before, is_held_with, entered};
 ghost use Rattle.rtgs_book.specs.Judgement.{Explains};
 ghost use Rattle.rtgs_book.specs.Lookup.{has_code, is_order_named, is_posting_named};
 ghost use Rattle.rtgs_book.specs.Ranges.{Fits};
-ghost use Rattle.rtgs_book.specs.Settle.{restated};
+ghost use Rattle.rtgs_book.specs.Settle.{altered, restated};
 ghost use Rattle.rtgs_book.specs.Soundness.{AreNumbered, OrdersAreNumbered, IsSound};
 ghost use Rattle.rtgs_cores.specs.Nexts.{is_posting_after, is_order_after, is_mark_after};
 ghost use Rattle.rtgs_memory_keeper.specs.Memory.{book_of, KeepsBook, AreInCodeOrder, ListsHaveRoom, adds_participant};
@@ -119,7 +119,7 @@ impl MemoryKeeper {
     }
 
     // Makes one row.
-    #[tactic(auto, unfolding(rtgs_book::specs::Commands::with_participant, rtgs_book::specs::Commands::with_credit, rtgs_book::specs::Commands::with_state))]
+    #[tactic(auto, unfolding(rtgs_book::specs::Commands::with_participant, rtgs_book::specs::Commands::with_credit, rtgs_book::specs::Commands::with_state, rtgs_book::specs::Commands::let_in))]
     fn apply(&mut self, row: &RowChange)
         requires { ListsHaveRoom self.old (row.now ∷ []) }
         ensures made { AreInCodeOrder self.old.participants.items → OrdersAreNumbered (book_of self.old)
@@ -140,6 +140,9 @@ impl MemoryKeeper {
             RowChange::SetBalance { .. } => {}
             RowChange::SetState { number, state } => {
                 set_state(self.orders.as_mut_slice(), *number, *state);
+            }
+            RowChange::EnterQueue { number, date } => {
+                enter_queue(self.orders.as_mut_slice(), *number, *date);
             }
             RowChange::SetDay(Day { date, phase }) => {
                 self.day.date = *date;
@@ -336,5 +339,25 @@ fn set_state(orders: &mut [Order], number: u64, state: OrderState)
     if (1..=orders.len() as u64).contains(&number) {
         let order = &mut orders[number as usize - 1];
         order.state = state;
+    }
+}
+
+// Lets the order with this number into its queue on this date, if it is held.
+fn enter_queue(orders: &mut [Order], number: u64, date: BusinessDate)
+    ensures { AreNumbered (map (λ (o : OrderSpec). o.number) orders.old)
+        → orders.new ≡ map (altered (is_held_with number) (entered date)) orders.old }
+{
+    if (1..=orders.len() as u64).contains(&number) {
+        enter(&mut orders[number as usize - 1], date);
+    }
+}
+
+// Lets the order into its queue on this date, if it is held.
+fn enter(order: &mut Order, date: BusinessDate)
+    ensures { order.new ≡ altered is_held (entered date) order.old }
+{
+    if order.state == OrderState::Held {
+        order.state = OrderState::Queued;
+        order.date = date;
     }
 }

@@ -1,3 +1,4 @@
+mod DueFields
 mod Fields
 mod Lines
 mod OrderFiles

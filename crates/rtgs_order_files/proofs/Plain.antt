@@ -1,12 +1,14 @@
 -- Why no line of a result file has quotes.
-use Rattle.std.proofs.Common.{◌≡◌, ◌≢◌, ℕ, ◌<◌, ◌^◌, ◌&&◌, Bool, true, false, List, [], ◌∷◌, decimal, refl, subst}
-use Rattle.std.proofs.Common.{append-nil, arith}
+use Rattle.std.proofs.Common.{◌≡◌, ◌≢◌, ◌<◌, ◌+◌, ◌/◌, ◌%◌, ◌^◌, ◌&&◌, ◌++◌, Bool, true, false, ℕ, zero, suc}
+use Rattle.std.proofs.Common.{List, [], ◌∷◌, decimal, refl, subst, append-nil, arith}
 use Rattle.std.proofs.lemmas.Bool.{ne_eqb}
 use Rattle.std.proofs.lemmas.Fmt.{decimal_is_IsNumeral}
 use Rattle.std.specs.List.{list_all, list_any}
 use Rattle.std.specs.Char.{digit_value}
 use Rattle.std.specs.Str.Parse.{AllDigits}
 use Rattle.csv.specs.Writing.{default_writer, needs_byte, fields_text, is_blank}
+use Rattle.rtgs_money.specs.Date.{date_text}
+use Rattle.rtgs_money.specs.Digits.{digits}
 use Rattle.rtgs_money.specs.Forms.{is_reference, IsReference, is_reference_byte}
 use Rattle.rtgs_order_files.specs.Plain.{IsPlain, joined}
 use Rattle.rtgs_order_files.specs.Results.{line}
@@ -60,9 +62,31 @@ digit b e = (
   λ q. (let h : digit_value 10 < 10 = subst (λ x. digit_value x < 10) q e in omega (arith, h)),
 )
 
-digits : (bytes : List ℕ) → AllDigits 10 bytes → IsPlain bytes
-digits [] all = tt
-digits (b ∷ bytes) all = (digit b all.0, digits bytes all.1)
+all_digits : (bytes : List ℕ) → AllDigits 10 bytes → IsPlain bytes
+all_digits [] all = tt
+all_digits (b ∷ bytes) all = (digit b all.0, all_digits bytes all.1)
 
 pub plain_number : (number : ℕ) → number < 2 ^ 64 → IsPlain (decimal number)
-plain_number number small = digits (decimal number) (decimal_is_IsNumeral number small).0.1
+plain_number number small = all_digits (decimal number) (decimal_is_IsNumeral number small).0.1
+
+-- what is plain and then plain is plain
+plain_append : (front back : List ℕ) → IsPlain front → IsPlain back → IsPlain (front ++ back)
+plain_append [] back p q = q
+plain_append (b ∷ front) back p q = (p.0, plain_append front back p.1 q)
+
+plain_digit : (n : ℕ) → (48 + n ≢ 44) × (48 + n ≢ 34) × (48 + n ≢ 13) × (48 + n ≢ 10)
+plain_digit n = (λ q. omega (arith, q), λ q. omega (arith, q), λ q. omega (arith, q), λ q. omega (arith, q))
+
+plain_digits : (count n : ℕ) → IsPlain (digits count n)
+plain_digits zero n = tt
+plain_digits (suc count) n = plain_append (digits count (n / 10)) ((48 + n % 10) ∷ []) (plain_digits count (n / 10))
+    (plain_digit (n % 10), tt)
+
+plain_dashed : (front back : List ℕ) → IsPlain front → IsPlain back → IsPlain (front ++ 45 ∷ back)
+plain_dashed front back p q = plain_append front (45 ∷ back) p (letter 45 refl, q)
+
+pub plain_date : (date : ℕ) → IsPlain (date_text date)
+unfolding date_text
+plain_date date = plain_dashed (digits 4 (date / 10000)) (digits 2 (date / 100 % 100) ++ 45 ∷ digits 2 (date % 100))
+    (plain_digits 4 (date / 10000)) (plain_dashed (digits 2 (date / 100 % 100)) (digits 2 (date % 100))
+    (plain_digits 2 (date / 100 % 100)) (plain_digits 2 (date % 100)))

@@ -2,13 +2,14 @@
 use Rattle.std.specs.Prelude.{◌≡◌, false, ℕ, List, [], ◌∷◌, ◌++◌, codes, decimal, Option, Some, None}
 use Rattle.csv.specs.Writing.{default_writer, row_text, text_written, fields_written, has_written, writer_setup}
 use Rattle.csv.specs.declared.writer.Writer.{Writer}
+use Rattle.rtgs_money.specs.Date.{date_text}
 use Rattle.rtgs_refusals.specs.Table.{entry_of}
 use Rattle.rtgs_book.specs.declared.Standing.TheVariants as standing
 use Rattle.rtgs_book.specs.declared.Refusal.{Refusal}
 use Rattle.rtgs_book.specs.Refusals.{refusal_kind_of}
 use Rattle.rtgs_book.specs.Standings.{standing_of, word_of}
 use Rattle.rtgs_order_files.specs.declared.batch_result.RowReply.{RowReply}
-use Rattle.rtgs_order_files.specs.declared.batch_result.RowReply.TheVariants.{Settled, Queued, Repeated, Refused}
+use Rattle.rtgs_order_files.specs.declared.batch_result.RowReply.TheVariants.{Settled, Queued, Held, Repeated, Refused}
 use Rattle.rtgs_order_files.specs.declared.order_row.OrderRow.{OrderRow}
 
 -- a line of four fields
@@ -22,6 +23,7 @@ header = line (codes "reference") (codes "result") (codes "number") (codes "deta
 abbrev pub reply_line : List ℕ → RowReply → List ℕ
 reply_line reference (Settled number mark) = line reference (word_of standing.Settled) (decimal number) (decimal mark)
 reply_line reference (Queued number place) = line reference (word_of standing.Queued) (decimal number) (decimal place)
+reply_line reference (Held number due) = line reference (word_of standing.Held) (decimal number) (date_text due)
 reply_line reference (Repeated number state) = line reference (codes "repeated") (decimal number)
     (word_of (standing_of state))
 reply_line reference (Refused refusal) = line reference (codes "refused") []

@@ -1,5 +1,6 @@
 //! What came of a batch of orders.
 use rtgs_book::{OrderState, Refusal};
+use rtgs_money::BusinessDate;
 
 /// What the desk replied to a row of a batch.
 #[derive(Clone, Copy, Debug, PartialEq, Eq)]
@@ -8,6 +9,8 @@ pub enum RowReply {
     Settled { number: u64, mark: u64 },
     /// The order waits, at this place of its sender's queue, counted from 1.
     Queued { number: u64, place: u64 },
+    /// The order is in no queue until its due date.
+    Held { number: u64, due: BusinessDate },
     /// The order was taken before, and this is its state now.
     Repeated { number: u64, state: OrderState },
     Refused(Refusal),

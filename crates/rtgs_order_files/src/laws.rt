@@ -2,12 +2,15 @@
 ghost use Rattle.std.specs.Prelude.{◌≡◌, ◌≢◌, ◌↔◌, ◌<◌, ◌^◌, ℕ, List, decimal};
 ghost use Rattle.csv.specs.Reading.{AreRecords, default_config, strip_bom};
 ghost use Rattle.csv.specs.declared.parser.State.TheVariants as st;
+ghost use Rattle.rtgs_money.specs.Date.{date_text};
 ghost use Rattle.rtgs_money.specs.Forms.{IsReference};
 ghost use Rattle.rtgs_order_files.specs.declared.batch_fault.BatchFault.{BatchFault};
 ghost use Rattle.rtgs_order_files.specs.declared.order_row.OrderRow.{OrderRow};
 ghost use Rattle.rtgs_order_files.specs.OrderFile.{CsvFields, records_of, IsFaultOf, IsOrderFile};
 ghost use Rattle.rtgs_order_files.specs.Plain.{IsPlain, joined};
 ghost use Rattle.rtgs_order_files.specs.Results.{line};
+
+use rtgs_money::laws::dates_have_distinct_texts;
 
 /// The records of a text are those that a reader takes from it one by one, to its end, with the usual commas and
 /// quotes.
@@ -20,7 +23,9 @@ pub fn records_are_those_read()
 pub fn rows_are_determined()
     ensures { (bytes : List ℕ) (one other : List OrderRow) → IsOrderFile bytes one → IsOrderFile bytes other
         → one ≡ other }
-{}
+{
+    dates_have_distinct_texts();
+}
 
 /// An order file has no fault, but that memory may be wanting.
 pub fn order_files_have_no_fault()
@@ -45,4 +50,9 @@ pub fn plain_fields_are_joined()
 pub fn references_and_numbers_are_plain()
     ensures reference { (reference : List ℕ) → IsReference reference → IsPlain reference }
     ensures number { (number : ℕ) → number < 2 ^ 64 → IsPlain (decimal number) }
+{}
+
+/// Each date that is written is plain.
+pub fn dates_are_plain()
+    ensures { (date : ℕ) → IsPlain (date_text date) }
 {}

@@ -3,10 +3,12 @@
 
 mod batch_fault;
 mod batch_result;
+mod columns;
 pub mod laws;
 mod limits;
 mod order_file;
 mod order_row;
+mod record_fields;
 mod results;
 
 pub use crate::batch_fault::BatchFault;

@@ -1,6 +1,6 @@
 //! Reading order files.
-ghost use Rattle.std.specs.Prelude.{◌≡◌, ◌≢◌, ◌↔◌, ◌⊎◌, ◌∷◌, List, Err, IsTrue, IfOk, IfErr, OnOk};
-ghost use Rattle.csv.specs.Records.{fields_of};
+ghost use Rattle.std.specs.Prelude.{◌≡◌, ◌≢◌, ◌⊎◌, ◌∷◌, List, Err, IfOk, IfErr, OnOk};
+ghost use Rattle.rtgs_order_files.specs.declared.columns.Columns.{Columns};
 ghost use Rattle.rtgs_order_files.specs.declared.batch_fault.BatchFault.{BatchFault};
 ghost use Rattle.rtgs_order_files.specs.declared.order_row.OrderRow.{OrderRow};
 ghost use Rattle.rtgs_order_files.specs.OrderFile.{CsvFields, header, records_of, AreRows, IsFaultOf, IsFaultOfRows};
@@ -8,16 +8,20 @@ ghost use Rattle.rtgs_order_files.specs.OrderFile.{IsOrderFile};
 ghost use Rattle.rtgs_order_files.specs.Reading.{IsReading, left_of};
 
 use crate::batch_fault::BatchFault;
+use crate::columns::Columns;
 use crate::limits::MOST_ROWS;
-use crate::order_row::{OrderRow, three_fields};
-use csv::{ByteRecord, ByteRecordsIntoIter, ReaderBuilder};
+use crate::order_row::OrderRow;
+use csv::{ByteRecordsIntoIter, ReaderBuilder};
+use rtgs_money::BusinessDate;
+use rtgs_money::laws::dates_have_distinct_texts;
 use std::alloc::Global;
 
-/// The rows of an order file: CSV (RFC 4180) whose first record is `reference,to,amount`, and then 1 to `MOST_ROWS`
-/// records of a reference, a code and an amount in cents. A byte order mark at the start and empty lines are passed
-/// over. The faults come in this order: `BadHeader`, `BadCount` where there is no row, `BadRow` with the first bad row
-/// of the first `MOST_ROWS`, counted from 1, and `BadCount` where there are more. `OutOfMemory` stands for every error
-/// of the reader of the bytes.
+/// The rows of an order file: CSV (RFC 4180) whose first record is `reference,to,amount` or `reference,to,amount,due`,
+/// and then 1 to `MOST_ROWS` records of a reference, a code and an amount in cents. Under the second header a record
+/// has a fourth field: the due date, weekends too, or nothing where the order has none. A byte order mark at the start
+/// and empty lines are passed over. The faults come in this order: `BadHeader`, `BadCount` where there is no row,
+/// `BadRow` with the first bad row of the first `MOST_ROWS`, counted from 1, and `BadCount` where there are more.
+/// `OutOfMemory` stands for every error of the reader of the bytes.
 pub fn read_orders(alloc: Global, bytes: &[u8]) -> Result<Vec<OrderRow>, BatchFault>
     ensures rows { IfOk result (λ rows. IsOrderFile bytes.now rows.items) }
     ensures fault { IfErr result (λ fault. IsFaultOf bytes.now fault) }
@@ -28,9 +32,10 @@ pub fn read_orders(alloc: Global, bytes: &[u8]) -> Result<Vec<OrderRow>, BatchFa
     ensures refused { (fault : BatchFault) → IsFaultOf bytes.now fault → fault ≢ BatchFault.OutOfMemory
         → (result ≡ Err fault) ⊎ (result ≡ Err BatchFault.OutOfMemory) }
 {
+    dates_have_distinct_texts();
     let mut records = records_of(alloc, bytes);
-    take_header(&mut records)?;
-    read_rows(alloc, records)
+    let columns = take_header(&mut records)?;
+    read_rows(alloc, columns, records)
 }
 
 // The records of these bytes.
@@ -45,34 +50,38 @@ fn records_of(alloc: Global, bytes: &[u8]) -> ByteRecordsIntoIter<&[u8]>
         .into_byte_records()
 }
 
-// Takes the header from the records.
-fn take_header(records: &mut ByteRecordsIntoIter<&[u8]>) -> Result<(), BatchFault>
+// Takes the header from the records, and gives the columns that it names.
+fn take_header(records: &mut ByteRecordsIntoIter<&[u8]>) -> Result<Columns, BatchFault>
     requires { IsReading records.old }
     ensures reading { OnOk result (IsReading records.new) }
-    ensures taken { OnOk result (left_of records.old ≡ header ∷ left_of records.new) }
+    ensures taken { IfOk result (λ columns. left_of records.old ≡ header columns ∷ left_of records.new) }
     ensures fault { IfErr result (λ fault. (fault ≡ BatchFault.OutOfMemory)
-        ⊎ ((fault ≡ BatchFault.BadHeader) × ((under : List CsvFields) → left_of records.old ≢ header ∷ under))) }
+        ⊎ ((fault ≡ BatchFault.BadHeader)
+        × ((columns : Columns) (under : List CsvFields) → left_of records.old ≢ header columns ∷ under))) }
 {
     let first = match records.next() {
         Some(Ok(first)) => first,
         Some(Err(error)) => return Err(BatchFault::of_reader(&error)),
         None => return Err(BatchFault::BadHeader),
     };
-    if !is_header(&first) {
+    let Some(columns) = Columns::named(&first) else {
         return Err(BatchFault::BadHeader);
-    }
-    Ok(())
+    };
+    Ok(columns)
 }
 
-// The rows that the records under the header spell.
+// The rows that the records under a header of these columns spell.
 fn read_rows(
     alloc: Global,
+    columns: Columns,
     records: ByteRecordsIntoIter<&[u8]>,
 ) -> Result<Vec<OrderRow>, BatchFault>
     requires { IsReading records }
-    ensures rows { IfOk result (λ rows. AreRows rows.items (left_of records.entry)) }
-    ensures fault { IfErr result (λ fault. IsFaultOfRows fault (left_of records.entry)) }
+    ensures rows { IfOk result (λ rows. AreRows columns rows.items (left_of records.entry)) }
+    ensures fault { IfErr result (λ fault. IsFaultOfRows columns fault (left_of records.entry)) }
 {
+    // Names the type of due dates for the borrow checker, which finds it nowhere else in this function.
+    let _no_date: Option<BusinessDate> = None;
     let mut rows = Vec::new(alloc);
     for record in records {
         let record = match record {
@@ -82,7 +91,7 @@ fn read_rows(
         if rows.len() == MOST_ROWS {
             return Err(BatchFault::BadCount);
         }
-        let Some(row) = OrderRow::read(&record) else {
+        let Some(row) = OrderRow::read(columns, &record) else {
             let row = rows.len() as u64 + 1;
             return Err(BatchFault::BadRow { row });
         };
@@ -92,14 +101,4 @@ fn read_rows(
         return Err(BatchFault::BadCount);
     }
     Ok(rows)
-}
-
-// Whether these fields are the header of an order file.
-fn is_header(fields: &ByteRecord) -> bool
-    ensures { IsTrue result ↔ (fields_of fields.now ≡ header) }
-{
-    let Some((first, second, third)) = three_fields(fields) else {
-        return false;
-    };
-    first == b"reference".as_slice() && second == b"to".as_slice() && third == b"amount".as_slice()
 }

@@ -1,6 +1,6 @@
 //! Result files: what came of each row of a batch.
 ghost use Rattle.std.specs.Io.KnownBytes.{Appends, Keeps};
-ghost use Rattle.std.specs.Prelude.{◌≡◌, ◌++◌, ℕ, List, IfOk, IfErr, OnOk, OnErr};
+ghost use Rattle.std.specs.Prelude.{◌≡◌, ◌++◌, ℕ, List, IfOk, IfErr, OnOk, OnErr, decimal};
 ghost use Rattle.rtgs_order_files.specs.Results.{line, reply_line, stop_line, result_lines, results_text, Wrote};
 ghost use Rattle.rtgs_output.specs.Sent.{AppendsPart};
 
@@ -83,39 +83,60 @@ fn put_reply<W: Write + Drop>(
     ensures { OnOk result ((text : List ℕ) → Wrote W.contents lines.old text
         → Wrote W.contents lines.new (text ++ reply_line reference.now reply)) }
 {
-    let mut first = Buffer::new();
-    let mut second = Buffer::new();
     let reference = reference.as_str();
     match reply {
-        RowReply::Settled { number, mark } => put_line(
+        RowReply::Settled { number, mark } => {
+            put_numbers(lines, reference, Standing::Settled.word(), number, mark)
+        }
+        RowReply::Queued { number, place } => {
+            put_numbers(lines, reference, Standing::Queued.word(), number, place)
+        }
+        RowReply::Held { number, due } => put_number(
             lines,
             reference,
-            Standing::Settled.word(),
-            first.format(number),
-            second.format(mark),
+            Standing::Held.word(),
+            number,
+            due.text().as_str(),
         ),
-        RowReply::Queued { number, place } => put_line(
-            lines,
-            reference,
-            Standing::Queued.word(),
-            first.format(number),
-            second.format(place),
-        ),
-        RowReply::Repeated { number, state } => put_line(
-            lines,
-            reference,
-            "repeated",
-            first.format(number),
-            state.word(),
-        ),
-        RowReply::Refused(refusal) => put_line(
-            lines,
-            reference,
-            "refused",
-            "",
-            second.format(refusal.kind().number()),
-        ),
+        RowReply::Repeated { number, state } => {
+            put_number(lines, reference, "repeated", number, state.word())
+        }
+        RowReply::Refused(refusal) => {
+            let mut digits = Buffer::new();
+            let detail = digits.format(refusal.kind().number());
+            put_line(lines, reference, "refused", "", detail)
+        }
     }
+}
+
+// Adds a line with an order's number, and another number as the detail.
+fn put_numbers<W: Write + Drop>(
+    lines: &mut Writer<W>,
+    reference: &str,
+    word: &str,
+    number: u64,
+    detail: u64,
+) -> Result<(), AllocError>
+    ensures { OnOk result ((text : List ℕ) → Wrote W.contents lines.old text
+        → Wrote W.contents lines.new (text ++ line reference.now word.now (decimal number) (decimal detail))) }
+{
+    let mut digits = Buffer::new();
+    put_number(lines, reference, word, number, digits.format(detail))
+}
+
+// Adds a line with an order's number.
+fn put_number<W: Write + Drop>(
+    lines: &mut Writer<W>,
+    reference: &str,
+    word: &str,
+    number: u64,
+    detail: &str,
+) -> Result<(), AllocError>
+    ensures { OnOk result ((text : List ℕ) → Wrote W.contents lines.old text
+        → Wrote W.contents lines.new (text ++ line reference.now word.now (decimal number) detail.now)) }
+{
+    let mut digits = Buffer::new();
+    put_line(lines, reference, word, digits.format(number), detail)
 }
 
 // Adds the line of the row at which the batch stopped.

@@ -1,3 +1,4 @@
+pub mod Among
 pub mod Numbering
 pub mod OrderLemmas
 pub mod QueueLemmas

@@ -1,9 +1,10 @@
 -- Queued orders: their numbers, which rise, and the queues of their senders.
 use Rattle.std.proofs.Common.{◌≡◌, ◌≢◌, ℕ, zero, suc, ◌+◌, ◌<◌, ◌≤◌, Bool, true, false, cond, not, ◌&&◌, ◌==◌, List, []}
 use Rattle.std.proofs.Common.{◌∷◌, ◌++◌, length, map, filter, get_or, find, Some, None, Option, Result, Ok, Err, IfOk}
-use Rattle.std.proofs.Common.{IfErr, Less, Equal, Greater, Ordering, is_lt, refl, sym, ap, ◌∙◌, subst, true≢false, inl}
+use Rattle.std.proofs.Common.{IfErr, nat_lt, Less, Equal, Greater, Ordering, is_lt, refl, sym, ap, ◌∙◌, subst}
+use Rattle.std.proofs.Common.{true≢false, inl}
 use Rattle.std.proofs.Common.{inr, arith, add-one}
-use Rattle.std.proofs.Math.ListN.{set}
+use Rattle.std.proofs.Math.ListN.{set, length-append}
 use Rattle.std.proofs.lemmas.Bool.{cases_lt}
 use Rattle.std.proofs.lemmas.Bool.Decides.{nat_tests}
 use Rattle.std.proofs.lemmas.Cmp.{nat_cmp_total}
@@ -14,14 +15,18 @@ use Rattle.std.specs.Ordering.{nat_cmp}
 use Rattle.std.specs.Str.{bytes_eq}
 use Rattle.rtgs_book.specs.declared.order.Order.{Order}
 use Rattle.rtgs_book.specs.declared.order_state.OrderState.{OrderState}
-use Rattle.rtgs_book.specs.Books.{is_queued, is_queued_state}
-use Rattle.rtgs_book.specs.Commands.{has_number}
-use Rattle.rtgs_book.specs.Settle.{restated}
-use Rattle.rtgs_book.specs.Queue.{queued_numbers}
+use Rattle.rtgs_book.specs.Books.{is_held, is_waiting, is_queued_state, is_held_state, is_waiting_state}
+use Rattle.rtgs_book.specs.Commands.{entered, has_number, is_held_with}
+use Rattle.rtgs_book.specs.Settle.{altered, restated}
 use Rattle.rtgs_queues.specs.declared.queues.Queues.{Queues}
-use Rattle.rtgs_queues.specs.Orders.{IsKept, AreRising, AreQueued, HasNumberAt}
-use Rattle.rtgs_queues.specs.Queues.{numbers_queued_by, room_of}
-use Rattle.rtgs_lists.proofs.Filters.{filter_all}
+use Rattle.rtgs_queues.specs.Orders.{IsKept, AreRising, AreWaiting, HasNumberAt, numbers_among}
+use Rattle.rtgs_queues.specs.Queues.{AreInOrder, numbers_of, room_of}
+use Rattle.std.specs.Cmp.Lexicographic.{bytes_decides}
+use Rattle.rtgs_book.specs.declared.order_state.OrderState.TheVariants.{Queued, Held, Settled, Withdrawn, Rejected}
+use Rattle.rtgs_queues.proofs.Among.{all_numbers, number_among, numbers_keep, numbers_leave, numbers_push}
+use Rattle.rtgs_queues.proofs.Among.{no_more, one_less, stands}
+use Rattle.rtgs_lists.proofs.Filters.{filter_all, put_in}
+use Rattle.rtgs_lists.proofs.Places.{put_in_first}
 use Rattle.rtgs_lists.proofs.Lists.{all_at_place, all_filter, all_push, all_weaker}
 
 -- ---- numbers
@@ -40,17 +45,17 @@ rising_end [] o h below = (tt, tt)
 rising_end (x ∷ xs) o h below = (all_push (λ y. x.number < y.number) xs o h.0 below.0, rising_end xs o h.1 below.1)
 
 -- what a sweep leaves is queued, and nothing is swept out where all are
-pub are_queued : (os : List Order) → AreQueued (filter is_queued os)
-are_queued [] = tt
-are_queued (o ∷ os) = by (is_queued o) refl (are_queued os)
+pub are_waiting : (os : List Order) → AreWaiting (filter is_waiting os)
+are_waiting [] = tt
+are_waiting (o ∷ os) = by (is_waiting o) refl (are_waiting os)
   where
-    by : (b : Bool) → is_queued o ≡ b → AreQueued (filter is_queued os)
-        → AreQueued (cond b (o ∷ filter is_queued os) (filter is_queued os))
+    by : (b : Bool) → is_waiting o ≡ b → AreWaiting (filter is_waiting os)
+        → AreWaiting (cond b (o ∷ filter is_waiting os) (filter is_waiting os))
     by true e rest = (e, rest)
     by false e rest = rest
 
-pub all_stay : (os : List Order) → AreQueued os → filter is_queued os ≡ os
-all_stay os h = filter_all is_queued os h
+pub all_stay : (os : List Order) → AreWaiting os → filter is_waiting os ≡ os
+all_stay os h = filter_all is_waiting os h
 
 rising_at : (os : List Order) → AreRising os → (k : ℕ) (d : Order) → suc k < length os
     → (get_or os k d).number < (get_or os (suc k) d).number
@@ -82,24 +87,24 @@ none_there number (o ∷ os) h = rw h.0 (none_there number os h.1)
 
 -- ---- what a search finds
 
-pub found_queued : (number : ℕ) (os : List Order) → AreRising os → (i : ℕ) → HasNumberAt number os i → (d : Order)
-    → find (has_number number) (filter is_queued os) ≡ cond (is_queued (get_or os i d)) (Some (get_or os i d)) None
-found_queued number [] h i at d = absurd (let l = at.in_range in omega arith)
-found_queued number (o ∷ os) h zero at d = by (is_queued o) refl
+pub found_waiting : (number : ℕ) (os : List Order) → AreRising os → (i : ℕ) → HasNumberAt number os i → (d : Order)
+    → find (has_number number) (filter is_waiting os) ≡ cond (is_waiting (get_or os i d)) (Some (get_or os i d)) None
+found_waiting number [] h i at d = absurd (let l = at.in_range in omega arith)
+found_waiting number (o ∷ os) h zero at d = by (is_waiting o) refl
   where
     here : has_number number o ≡ true
     here = own number o (at.has_number d)
 
-    later : find (has_number number) (filter is_queued os) ≡ None
-    later = none_there number (filter is_queued os) (all_filter (is_not number) is_queued os
+    later : find (has_number number) (filter is_waiting os) ≡ None
+    later = none_there number (filter is_waiting os) (all_filter (is_not number) is_waiting os
         (all_above number os (subst (λ n. AllByRecursion (λ x. n < x.number) os) (at.has_number d) h.0)))
 
-    by : (b : Bool) → is_queued o ≡ b → find (has_number number) (cond b (o ∷ filter is_queued os)
-        (filter is_queued os))
+    by : (b : Bool) → is_waiting o ≡ b → find (has_number number) (cond b (o ∷ filter is_waiting os)
+        (filter is_waiting os))
         ≡ cond b (Some o) None
     by true e = rw here refl
     by false e = later
-found_queued number (o ∷ os) h (suc i) at d = by (is_queued o) (found_queued number os h.1 i rest d)
+found_waiting number (o ∷ os) h (suc i) at d = by (is_waiting o) (found_waiting number os h.1 i rest d)
   where
     within : i < length os
     within = let l = at.in_range in omega arith
@@ -113,18 +118,18 @@ found_queued number (o ∷ os) h (suc i) at d = by (is_queued o) (found_queued n
     apart : has_number number o ≡ false
     apart = grind (arith, nat_tests, less)
 
-    by : (b : Bool) → find (has_number number) (filter is_queued os)
-        ≡ cond (is_queued (get_or os i d)) (Some (get_or os i d)) None
-        → find (has_number number) (cond b (o ∷ filter is_queued os) (filter is_queued os))
-        ≡ cond (is_queued (get_or os i d)) (Some (get_or os i d)) None
+    by : (b : Bool) → find (has_number number) (filter is_waiting os)
+        ≡ cond (is_waiting (get_or os i d)) (Some (get_or os i d)) None
+        → find (has_number number) (cond b (o ∷ filter is_waiting os) (filter is_waiting os))
+        ≡ cond (is_waiting (get_or os i d)) (Some (get_or os i d)) None
     by true e = rw apart e
     by false e = e
 
 pub found_nowhere : (number : ℕ) (os : List Order) → AllByRecursion (is_not number) os
-    → find (has_number number) (filter is_queued os) ≡ None
-found_nowhere number os h = none_there number (filter is_queued os) (all_filter (is_not number) is_queued os h)
+    → find (has_number number) (filter is_waiting os) ≡ None
+found_nowhere number os h = none_there number (filter is_waiting os) (all_filter (is_not number) is_waiting os h)
 
-recursion_from : (P : Order → Type 0) (os : List Order) → ((k : ℕ) (d : Order) → k < length os → P (get_or os k d))
+pub recursion_from : (P : Order → Type 0) (os : List Order) → ((k : ℕ) (d : Order) → k < length os → P (get_or os k d))
     → AllByRecursion P os
 recursion_from P [] h = tt
 recursion_from P (o ∷ os) h = (h 0 o (omega arith), recursion_from P os (λ k d lt. h (suc k) d (omega arith)))
@@ -169,37 +174,37 @@ searched os rise number (Err at) in_range parted =
 
 -- ---- a change of state
 
-module _ (number : ℕ) (state : OrderState) where
-  unchanged : (order : Order) → has_number number order ≡ false → restated (has_number number) state order ≡ order
+module _ (number : ℕ) (change : Order → Order) (same : (o : Order) → (change o).number ≡ o.number) where
+  unchanged : (order : Order) → has_number number order ≡ false → altered (has_number number) change order ≡ order
   unchanged order e = rw e refl
 
   changed : (order : Order) → has_number number order ≡ true
-      → restated (has_number number) state order ≡ record order { state = state }
+      → altered (has_number number) change order ≡ change order
   changed order e = rw e refl
 
-  number_stays : (order : Order) → (restated (has_number number) state order).number ≡ order.number
+  number_stays : (order : Order) → (altered (has_number number) change order).number ≡ order.number
   number_stays order = by (has_number number order) refl
     where
-      by : (b : Bool) → has_number number order ≡ b → (restated (has_number number) state order).number ≡ order.number
-      by true e = rw e refl
+      by : (b : Bool) → has_number number order ≡ b → (altered (has_number number) change order).number ≡ order.number
+      by true e = rw e (same order)
       by false e = rw e refl
 
-  pub none_restated : (os : List Order) → AllByRecursion (is_not number) os → map (restated
-      (has_number number) state) os ≡ os
-  none_restated [] h = refl
-  none_restated (o ∷ os) h = λ i. unchanged o h.0 i ∷ none_restated os h.1 i
+  pub none_altered : (os : List Order) → AllByRecursion (is_not number) os → map (altered
+      (has_number number) change) os ≡ os
+  none_altered [] h = refl
+  none_altered (o ∷ os) h = λ i. unchanged o h.0 i ∷ none_altered os h.1 i
 
   -- the one order with the number gets the state
-  pub one_restated : (os : List Order) → AreRising os → (i : ℕ) → HasNumberAt number os i → (o : Order)
-      → ((d : Order) → o ≡ get_or os i d) → set os i (record o { state = state }) ≡ map (restated
-      (has_number number) state) os
-  one_restated [] h i at o is = absurd (let l = at.in_range in omega arith)
-  one_restated (x ∷ xs) h zero at o is = λ k. first k ∷ sym (none_restated xs (all_above number xs
+  pub one_altered : (os : List Order) → AreRising os → (i : ℕ) → HasNumberAt number os i → (o : Order)
+      → ((d : Order) → o ≡ get_or os i d) → set os i (change o) ≡ map (altered
+      (has_number number) change) os
+  one_altered [] h i at o is = absurd (let l = at.in_range in omega arith)
+  one_altered (x ∷ xs) h zero at o is = λ k. first k ∷ sym (none_altered xs (all_above number xs
       (subst (λ n. AllByRecursion (λ y. n < y.number) xs) (at.has_number x) h.0))) k
     where
-      first : record o { state = state } ≡ restated (has_number number) state x
-      first = ap (λ (y : Order). record y { state = state }) (is x) ∙ sym (changed x (own number x (at.has_number x)))
-  one_restated (x ∷ xs) h (suc i) at o is = λ k. sym (unchanged x apart) k ∷ one_restated xs h.1 i rest o is k
+      first : change o ≡ altered (has_number number) change x
+      first = ap change (is x) ∙ sym (changed x (own number x (at.has_number x)))
+  one_altered (x ∷ xs) h (suc i) at o is = λ k. sym (unchanged x apart) k ∷ one_altered xs h.1 i rest o is k
     where
       within : i < length xs
       within = let l = at.in_range in omega arith
@@ -214,268 +219,626 @@ module _ (number : ℕ) (state : OrderState) where
       apart = grind (arith, nat_tests, less)
 
   numbers_stay : (P : ℕ → Type 0) (os : List Order) → AllByRecursion (λ (o : Order). P o.number) os
-      → AllByRecursion (λ (o : Order). P o.number) (map (restated (has_number number) state) os)
+      → AllByRecursion (λ (o : Order). P o.number) (map (altered (has_number number) change) os)
   numbers_stay P [] h = tt
   numbers_stay P (o ∷ os) h = (subst P (sym (number_stays o)) h.0, numbers_stay P os h.1)
 
-  rising_restated : (os : List Order) → AreRising os → AreRising (map (restated (has_number number) state) os)
-  rising_restated [] h = tt
-  rising_restated (o ∷ os) h = (
-    subst (λ n. AllByRecursion (λ (x : Order). n < x.number) (map (restated (has_number number) state) os))
+  rising_altered : (os : List Order) → AreRising os → AreRising (map (altered (has_number number) change) os)
+  rising_altered [] h = tt
+  rising_altered (o ∷ os) h = (
+    subst (λ n. AllByRecursion (λ (x : Order). n < x.number) (map (altered (has_number number) change) os))
         (sym (number_stays o)) (numbers_stay (λ n. o.number < n) os h.0),
-    rising_restated os h.1,
+    rising_altered os h.1,
   )
 
-  -- it leaves the queued ones
-  pub queued_rest : is_queued_state state ≡ false → (os : List Order)
-      → filter is_queued (map (restated (has_number number) state) os)
-      ≡ filter (λ o. not (has_number number o)) (filter is_queued os)
-  queued_rest settled [] = refl
-  queued_rest settled (o ∷ os) = by (has_number number o) (is_queued o) refl refl (queued_rest settled os)
+  -- it leaves those that wait
+  pub waiting_rest : ((o : Order) → is_waiting (change o) ≡ false) → (os : List Order)
+      → filter is_waiting (map (altered (has_number number) change) os)
+      ≡ filter (λ o. not (has_number number o)) (filter is_waiting os)
+  waiting_rest settled [] = refl
+  waiting_rest settled (o ∷ os) = by (has_number number o) (is_waiting o) refl refl (waiting_rest settled os)
     where
-      by : (a b : Bool) → has_number number o ≡ a → is_queued o ≡ b
-          → filter is_queued (map (restated (has_number number) state) os)
-          ≡ filter (λ o. not (has_number number o)) (filter is_queued os)
-          → filter is_queued (cond a (record o { state = state }) o ∷ map (restated (has_number number) state) os)
-          ≡ filter (λ o. not (has_number number o)) (cond b (o ∷ filter is_queued os) (filter is_queued os))
-      by true true e f rest = rw (settled, e) rest
-      by true false e f rest = rw settled rest
+      by : (a b : Bool) → has_number number o ≡ a → is_waiting o ≡ b
+          → filter is_waiting (map (altered (has_number number) change) os)
+          ≡ filter (λ o. not (has_number number o)) (filter is_waiting os)
+          → filter is_waiting (cond a (change o) o ∷ map (altered (has_number number) change) os)
+          ≡ filter (λ o. not (has_number number o)) (cond b (o ∷ filter is_waiting os) (filter is_waiting os))
+      by true true e f rest = rw (settled o, e) rest
+      by true false e f rest = rw (settled o) rest
       by false true e f rest = rw (f, e) (ap (λ ys. o ∷ ys) rest)
       by false false e f rest = rw f rest
 
--- ---- queues
-
-abbrev stands : List ℕ → Order → Bool
-stands sender order = is_queued order && bytes_eq order.sender sender
-
-queue_first : (sender : List ℕ) (order : Order) (orders : List Order)
-    → queued_numbers (order ∷ orders) sender ≡ cond (stands sender order) (order.number ∷ queued_numbers orders sender)
-    (queued_numbers orders sender)
-queue_first sender order orders = by (stands sender order) refl
-  where
-    by : (b : Bool) → stands sender order ≡ b → queued_numbers (order ∷ orders) sender
-        ≡ cond (stands sender order) (order.number ∷ queued_numbers orders sender) (queued_numbers orders sender)
-    by true e = rw e refl
-    by false e = rw e refl
-
--- an order at the end of the list comes to the end of its sender's queue, if it is queued
-pub queue_push : (sender : List ℕ) (orders : List Order) (order : Order)
-    → queued_numbers (orders ++ order ∷ []) sender ≡ cond (stands sender order)
-    (queued_numbers orders sender ++ order.number ∷ []) (queued_numbers orders sender)
-queue_push sender [] order = queue_first sender order []
-queue_push sender (first ∷ orders) order = queue_first sender first (orders ++ order ∷ [])
-    ∙ by (stands sender first) (stands sender order) refl refl (queue_push sender orders order)
-    ∙ ap (λ ns. cond (stands sender order) (ns ++ order.number ∷ []) ns) (sym (queue_first sender first orders))
-  where
-    by : (a b : Bool) → stands sender first ≡ a → stands sender order ≡ b
-        → queued_numbers (orders ++ order ∷ []) sender ≡ cond (stands sender order)
-        (queued_numbers orders sender ++ order.number ∷ []) (queued_numbers orders sender)
-        → cond (stands sender first) (first.number ∷ queued_numbers (orders ++ order ∷ []) sender)
-        (queued_numbers (orders ++ order ∷ []) sender)
-        ≡ cond (stands sender order) (cond (stands sender first) (first.number ∷ queued_numbers orders sender)
-        (queued_numbers orders sender) ++ order.number ∷ [])
-        (cond (stands sender first) (first.number ∷ queued_numbers orders sender) (queued_numbers orders sender))
-    by true true e f rest = rw (e, f) (ap (λ ns. first.number ∷ ns) (rest ∙ rw f refl))
-    by true false e f rest = rw (e, f) (ap (λ ns. first.number ∷ ns) (rest ∙ rw f refl))
-    by false true e f rest = rw (e, f) (rest ∙ rw f refl)
-    by false false e f rest = rw (e, f) (rest ∙ rw f refl)
-
-module _ (number : ℕ) (state : OrderState) (settled : is_queued_state state ≡ false) (sender : List ℕ) where
-  gone : (order : Order) → stands sender (record order { state = state }) ≡ false
-  gone order = rw settled refl
-
-  -- the order with the number leaves the queue
-  pub queue_leaves : (orders : List Order) → queued_numbers (map (restated (has_number number) state) orders) sender
-      ≡ filter (λ (n : ℕ). not (n == number)) (queued_numbers orders sender)
-  queue_leaves [] = refl
-  queue_leaves (order ∷ orders) = by (has_number number order) (stands sender order) refl refl (queue_leaves orders)
-    where
-      by : (b s : Bool) → has_number number order ≡ b → stands sender order ≡ s
-          → queued_numbers (map (restated (has_number number) state) orders) sender
-          ≡ filter (λ (n : ℕ). not (n == number)) (queued_numbers orders sender)
-          → queued_numbers (restated (has_number number) state order ∷ map (restated (has_number number) state) orders)
-          sender ≡ filter (λ (n : ℕ). not (n == number)) (queued_numbers (order ∷ orders) sender)
-      by true true e f rest = rw (e, f, e, gone order) rest
-      by true false e f rest = rw (e, f, gone order) rest
-      by false true e f rest = rw (e, f, e) (ap (λ ns. order.number ∷ ns) rest)
-      by false false e f rest = rw (e, f) rest
-
-  -- where it is another sender's, the queue stays
-  pub queue_stays : (orders : List Order) → ((k : ℕ) (d : Order) → k < length orders
-      → has_number number (get_or orders k d) ≡ true → bytes_eq (get_or orders k d).sender sender ≡ false)
-      → queued_numbers (map (restated (has_number number) state) orders) sender ≡ queued_numbers orders sender
-  queue_stays [] other = refl
-  queue_stays (order ∷ orders) other = by (has_number number order) (stands sender order) refl refl
-      (queue_stays orders (λ k d lt. other (suc k) d (omega arith)))
-    where
-      right_false : (a b : Bool) → b ≡ false → (a && b) ≡ false
-      right_false true b e = e
-      right_false false b e = refl
-
-      by : (b s : Bool) → has_number number order ≡ b → stands sender order ≡ s
-          → queued_numbers (map (restated (has_number number) state) orders) sender ≡ queued_numbers orders sender
-          → queued_numbers (restated (has_number number) state order ∷ map (restated (has_number number) state) orders)
-          sender ≡ queued_numbers (order ∷ orders) sender
-      by true s e f rest = rw (
-        e,
-        gone order,
-        right_false (is_queued order) (bytes_eq order.sender sender)
-            (other 0 order (omega arith) e),
-      ) rest
-      by false true e f rest = rw (e, f) (ap (λ ns. order.number ∷ ns) rest)
-      by false false e f rest = rw (e, f) rest
-
 -- ---- what is kept
 
-numbers_again : (sender : List ℕ) (os : List Order) → queued_numbers (filter is_queued os) sender
-    ≡ queued_numbers os sender
-numbers_again sender [] = refl
-numbers_again sender (o ∷ os) = by (is_queued o) (bytes_eq o.sender sender) refl refl (numbers_again sender os)
+numbers_again : (is_in : OrderState → Bool) → ((state : OrderState) → is_in state ≡ true → is_waiting_state state ≡
+    true)
+    → (sender : List ℕ) (os : List Order) → numbers_among is_in (filter is_waiting os) sender
+    ≡ numbers_among is_in os sender
+numbers_again is_in within sender [] = refl
+numbers_again is_in within sender (o ∷ os) = by (is_waiting o) (is_in o.state) (bytes_eq o.sender sender) refl refl refl
+    (numbers_again is_in within sender os)
   where
-    by : (a b : Bool) → is_queued o ≡ a → bytes_eq o.sender sender ≡ b
-        → queued_numbers (filter is_queued os) sender ≡ queued_numbers os sender
-        → queued_numbers (cond a (o ∷ filter is_queued os) (filter is_queued os)) sender ≡ queued_numbers
-        (o ∷ os) sender
-    by true true e f rest = rw (e, f) (ap (λ ns. o.number ∷ ns) rest)
-    by true false e f rest = rw (e, f) rest
-    by false b e f rest = rw e rest
+    by : (w a b : Bool) → is_waiting o ≡ w → is_in o.state ≡ a → bytes_eq o.sender sender ≡ b
+        → numbers_among is_in (filter is_waiting os) sender ≡ numbers_among is_in os sender
+        → numbers_among is_in (cond w (o ∷ filter is_waiting os) (filter is_waiting os)) sender
+        ≡ numbers_among is_in (o ∷ os) sender
+    by true true true w e f rest = rw (e, f) (ap (λ ns. o.number ∷ ns) rest)
+    by true true false w e f rest = rw (e, f) rest
+    by true false b w e f rest = rw e rest
+    by false true b w e f rest = absurd (true≢false (sym (within o.state e) ∙ w))
+    by false false b w e f rest = rw e rest
 
-pub same_numbers : (sender : List ℕ) (os : List Order) → queued_numbers os sender ≡ queued_numbers
-    (filter is_queued os) sender
-same_numbers sender os = sym (numbers_again sender os)
+pub queued_waits : (state : OrderState) → is_queued_state state ≡ true → is_waiting_state state ≡ true
+queued_waits Queued e = refl
+queued_waits Held e = refl
+queued_waits (Settled mark) e = e
+queued_waits Withdrawn e = e
+queued_waits Rejected e = e
 
-module _ (orders : List Order) (queues : Queues) (next : ℕ) (awaited : Option (List ℕ)) (tidy : Bool)
-    (kept : IsKept orders queues next awaited tidy) where
-  -- nothing is awaited
-  pub kept_alone : (new : Queues) → ((sender : List ℕ) → numbers_queued_by new sender ≡ numbers_queued_by queues sender)
-      → IsKept orders new next None tidy
-  kept_alone new same = record {
+pub held_waits : (state : OrderState) → is_held_state state ≡ true → is_waiting_state state ≡ true
+held_waits Queued e = refl
+held_waits Held e = refl
+held_waits (Settled mark) e = e
+held_waits Withdrawn e = e
+held_waits Rejected e = e
+
+pub others_wait_not : (state : OrderState) → is_queued_state state ≡ false → is_held_state state ≡ false
+    → is_waiting_state state ≡ false
+others_wait_not Queued e f = e
+others_wait_not Held e f = f
+others_wait_not (Settled mark) e f = refl
+others_wait_not Withdrawn e f = refl
+others_wait_not Rejected e f = refl
+
+queued_out : (state : OrderState) → is_waiting_state state ≡ false → is_queued_state state ≡ false
+queued_out Queued e = e
+queued_out Held e = refl
+queued_out (Settled mark) e = e
+queued_out Withdrawn e = e
+queued_out Rejected e = e
+
+held_out : (state : OrderState) → is_waiting_state state ≡ false → is_held_state state ≡ false
+held_out Queued e = refl
+held_out Held e = e
+held_out (Settled mark) e = e
+held_out Withdrawn e = e
+held_out Rejected e = e
+
+pub same_numbers : (sender : List ℕ) (os : List Order) → numbers_among is_queued_state os sender
+    ≡ numbers_among is_queued_state (filter is_waiting os) sender
+same_numbers sender os = sym (numbers_again is_queued_state queued_waits sender os)
+
+pub same_held : (sender : List ℕ) (os : List Order) → numbers_among is_held_state os sender
+    ≡ numbers_among is_held_state (filter is_waiting os) sender
+same_held sender os = sym (numbers_again is_held_state held_waits sender os)
+
+right_false : (a b : Bool) → b ≡ false → (a && b) ≡ false
+right_false true b e = e
+right_false false b e = refl
+
+pub held_is_not_queued : (state : OrderState) → is_held_state state ≡ true → is_queued_state state ≡ false
+held_is_not_queued Queued e = absurd (true≢false (sym e))
+held_is_not_queued Held e = refl
+held_is_not_queued (Settled mark) e = refl
+held_is_not_queued Withdrawn e = refl
+held_is_not_queued Rejected e = refl
+
+-- numbers of orders rise where the orders do
+pub numbers_rise : (is_in : OrderState → Bool) (sender : List ℕ) (orders : List Order) → AreRising orders
+    → AreInOrder (numbers_among is_in orders sender)
+numbers_rise is_in sender [] h = tt
+numbers_rise is_in sender (x ∷ xs) h = by (stands is_in sender x) refl (numbers_rise is_in sender xs h.1)
+  where
+    later : AllByRecursion (λ n. x.number ≤ n) (numbers_among is_in xs sender)
+    later = all_numbers is_in sender (λ n. x.number ≤ n) xs (all_weaker (λ (y : Order). x.number < y.number)
+        (λ (y : Order). x.number ≤ y.number) (λ y less. omega arith) xs h.0)
+
+    by : (b : Bool) → stands is_in sender x ≡ b → AreInOrder (numbers_among is_in xs sender)
+        → AreInOrder (numbers_among is_in (x ∷ xs) sender)
+    by true e rest = rw e (later, rest)
+    by false e rest = rw e rest
+
+-- a held order comes to its place in its sender's queue
+numbers_enter : (sender : List ℕ) (number date : ℕ) (orders : List Order) → AreRising orders → (i : ℕ)
+    → HasNumberAt number orders i → ((d : Order) → is_held_state (get_or orders i d).state ≡ true)
+    → ((d : Order) → bytes_eq (get_or orders i d).sender sender ≡ true)
+    → numbers_among is_queued_state (map (altered (has_number number) (entered date)) orders) sender
+    ≡ put_in (λ n. nat_lt n number) number (numbers_among is_queued_state orders sender)
+numbers_enter sender number date [] h i at held own_one = absurd (let l = at.in_range in omega arith)
+numbers_enter sender number date (x ∷ xs) h zero at held own_one =
+    let here : has_number number x ≡ true = own number x (at.has_number x) in
+    let of_it : bytes_eq x.sender sender ≡ true = own_one x in
+    let out : is_queued_state x.state ≡ false = held_is_not_queued x.state (held x) in
+    let above = subst (λ n. AllByRecursion (λ (y : Order). n < y.number) xs) (at.has_number x) h.0 in
+    let rest : map (altered (has_number number) (entered date)) xs ≡ xs = none_altered number (entered date) (λ o. refl)
+    xs (all_above number xs above) in
+    let none : AllByRecursion (λ n. nat_lt n number ≡ false) (numbers_among is_queued_state xs sender) =
+    all_numbers is_queued_state sender (λ n. nat_lt n number ≡ false) xs (all_weaker
+    (λ (y : Order). number < y.number) (λ (y : Order). nat_lt y.number number ≡ false)
+    (λ y less. grind (arith, nat_tests, less)) xs above) in
+    rw (here, of_it, out) (ap (λ ns. x.number ∷ ns) (ap (λ ys. numbers_among is_queued_state ys sender) rest)
+    ∙ ap (λ n. n ∷ numbers_among is_queued_state xs sender) (at.has_number x)
+    ∙ sym (put_in_first (λ n. nat_lt n number) number (numbers_among is_queued_state xs sender) none))
+numbers_enter sender number date (x ∷ xs) h (suc i) at held own_one =
+    by (is_queued_state x.state && bytes_eq x.sender sender) refl (numbers_enter sender number date xs h.1 i
+    (record { in_range = (let l = at.in_range in omega arith); has_number = λ d. at.has_number d }) held own_one)
+  where
+    within : i < length xs
+    within = let l = at.in_range in omega arith
+
+    less : x.number < number
+    less = subst (λ n. x.number < n) (at.has_number x) (all_at_place (λ y. x.number < y.number) xs h.0 i x within)
+
+    apart : has_number number x ≡ false
+    apart = grind (arith, nat_tests, less)
+
+    low : nat_lt x.number number ≡ true
+    low = grind (arith, nat_tests, less)
+
+    by : (b : Bool) → (is_queued_state x.state && bytes_eq x.sender sender) ≡ b
+        → numbers_among is_queued_state (map (altered (has_number number) (entered date)) xs) sender
+        ≡ put_in (λ n. nat_lt n number) number (numbers_among is_queued_state xs sender)
+        → numbers_among is_queued_state (map (altered (has_number number) (entered date)) (x ∷ xs)) sender
+        ≡ put_in (λ n. nat_lt n number) number (numbers_among is_queued_state (x ∷ xs) sender)
+    by true e rest = rw (apart, e, low) (ap (λ ns. x.number ∷ ns) rest)
+    by false e rest = rw (apart, e) rest
+
+-- those that wait, with it
+pub waiting_entered : (number date : ℕ) (os : List Order) → ((k : ℕ) (d : Order) → k < length os
+    → has_number number (get_or os k d) ≡ true → is_held (get_or os k d) ≡ true)
+    → filter is_waiting (map (altered (has_number number) (entered date)) os)
+    ≡ map (altered (is_held_with number) (entered date)) (filter is_waiting os)
+waiting_entered number date [] held = refl
+waiting_entered number date (o ∷ os) held = by (has_number number o) (is_waiting o) refl refl
+    (waiting_entered number date os (λ k d lt. held (suc k) d (omega arith)))
+  where
+    by : (a b : Bool) → has_number number o ≡ a → is_waiting o ≡ b
+        → filter is_waiting (map (altered (has_number number) (entered date)) os)
+        ≡ map (altered (is_held_with number) (entered date)) (filter is_waiting os)
+        → filter is_waiting (cond a (entered date o) o ∷ map (altered (has_number number) (entered date)) os)
+        ≡ map (altered (is_held_with number) (entered date)) (cond b (o ∷ filter is_waiting os) (filter is_waiting os))
+    by true true e f rest =
+        let is : is_held o ≡ true = held 0 o (omega arith) e in
+        rw (is, e) (ap (λ ys. entered date o ∷ ys) rest)
+    by true false e f rest = absurd (true≢false (sym (held_waits o.state (held 0 o (omega arith) e)) ∙ f))
+    by false true e f rest =
+        let out : is_held_with number o ≡ false = right_false (is_held o) (has_number number o) e in
+        rw (f, out) (ap (λ ys. o ∷ ys) rest)
+    by false false e f rest = rw f rest
+
+-- and none of them enters, where none with the number is held
+pub none_entered : (number date : ℕ) (os : List Order) → ((k : ℕ) (d : Order) → k < length os
+    → has_number number (get_or os k d) ≡ true → is_held (get_or os k d) ≡ false)
+    → map (altered (is_held_with number) (entered date)) os ≡ os
+none_entered number date [] out = refl
+none_entered number date (o ∷ os) out = by (has_number number o) refl
+    (none_entered number date os (λ k d lt. out (suc k) d (omega arith)))
+  where
+    by : (a : Bool) → has_number number o ≡ a → map (altered (is_held_with number) (entered date)) os ≡ os
+        → map (altered (is_held_with number) (entered date)) (o ∷ os) ≡ o ∷ os
+    by true e rest =
+        let not_held : is_held o ≡ false = out 0 o (omega arith) e in
+        rw not_held (ap (λ ys. o ∷ ys) rest)
+    by false e rest =
+        let not_it : is_held_with number o ≡ false = right_false (is_held o) (has_number number o) e in
+        rw not_it (ap (λ ys. o ∷ ys) rest)
+
+-- where numbers rise, each order with the number is the one at its place
+pub only_one : (number : ℕ) (order : Order) (xs : List Order) → AreRising xs → (i : ℕ) → HasNumberAt number xs i
+    → ((d : Order) → order ≡ get_or xs i d) → (k : ℕ) (d : Order) → k < length xs
+    → has_number number (get_or xs k d) ≡ true → get_or xs k d ≡ order
+only_one number order [] h i at is k d lt g = absurd (omega arith)
+only_one number order (x ∷ xs) h zero at is zero d lt g = sym (is d)
+only_one number order (x ∷ xs) h zero at is (suc k) d lt g = absurd (true≢false (sym g ∙ all_at_place (is_not number) xs
+    (all_above number xs (subst (λ n. AllByRecursion (λ y. n < y.number) xs) (at.has_number x) h.0)) k d
+    (omega arith)))
+only_one number order (x ∷ xs) h (suc i) at is zero d lt g = absurd (true≢false (sym g ∙ apart))
+  where
+    less : x.number < number
+    less = subst (λ n. x.number < n) (at.has_number x)
+        (all_at_place (λ y. x.number < y.number) xs h.0 i x (let l = at.in_range in omega arith))
+
+    apart : has_number number x ≡ false
+    apart = grind (arith, nat_tests, less)
+only_one number order (x ∷ xs) h (suc i) at is (suc k) d lt g = only_one number order xs h.1 i
+    (record { in_range = (let l = at.in_range in omega arith); has_number = λ d. at.has_number d }) is k d
+    (omega arith) g
+
+module _ (orders : List Order) (queues held : Queues) (next : ℕ) (awaited : Option (List ℕ)) (tidy : Bool)
+    (kept : IsKept orders queues held next awaited tidy) where
+  -- nothing is awaited, and no room is lost
+  pub kept_alone : (new more : Queues) → ((sender : List ℕ) → numbers_of new sender ≡ numbers_of queues sender)
+      → ((sender : List ℕ) → numbers_of more sender ≡ numbers_of held sender)
+      → ((sender : List ℕ) → room_of queues sender ≤ room_of new sender)
+      → IsKept orders new more next None tidy
+  kept_alone new more same also room = record {
     rising = kept.rising;
     before = kept.before;
     queued = λ sender. same sender ∙ kept.queued sender;
+    held = λ sender. also sender ∙ kept.held sender;
+    roomy = λ sender. let long = ap length (also sender) in let had = kept.roomy sender in let has = room sender in
+        omega arith;
     ready = λ name e. absurd (let f : None ≡ Some name = e in cc);
     waiting = kept.waiting;
   }
 
   -- an order of this sender is awaited
-  pub kept_awaiting : (sender : List ℕ) (new : Queues) → ((other : List ℕ) → numbers_queued_by new other
-      ≡ numbers_queued_by queues other)
-      → 1 ≤ room_of new sender → IsKept orders new next (Some sender) tidy
-  kept_awaiting sender new same room = record {
+  pub kept_awaiting : (sender : List ℕ) (new more : Queues)
+      → ((other : List ℕ) → numbers_of new other ≡ numbers_of queues other)
+      → ((other : List ℕ) → numbers_of more other ≡ numbers_of held other)
+      → ((other : List ℕ) → room_of queues other ≤ room_of new other)
+      → length (numbers_of held sender) + 1 ≤ room_of new sender → 1 ≤ room_of more sender
+      → IsKept orders new more next (Some sender) tidy
+  kept_awaiting sender new more same also room wide one = record {
     rising = kept.rising;
     before = kept.before;
     queued = λ other. same other ∙ kept.queued other;
-    ready = λ other e. let f : sender ≡ other = cc in subst (λ n. 1 ≤ room_of new n) f room;
+    held = λ other. also other ∙ kept.held other;
+    roomy = λ other. let long = ap length (also other) in let had = kept.roomy other in let has = room other in
+        omega arith;
+    ready = λ other e. let f : sender ≡ other = cc in subst (λ n. (length (numbers_of more n) + 1 ≤ room_of new n)
+        × (1 ≤ room_of more n)) f (let long = ap length (also sender) in omega arith, one);
     waiting = kept.waiting;
   }
 
   -- an order is counted alone
-  pub kept_counted : IsKept orders queues (next + 1) awaited tidy
+  pub kept_counted : IsKept orders queues held (next + 1) awaited tidy
   kept_counted = record {
     rising = kept.rising;
     before = all_weaker (λ (o : Order). o.number < next) (λ (o : Order). o.number < next + 1) (λ o lt. omega arith)
         orders
         kept.before;
     queued = kept.queued;
+    held = kept.held;
+    roomy = kept.roomy;
     ready = kept.ready;
     waiting = kept.waiting;
   }
 
-  -- the awaited order is queued
-  pub kept_push : (order : Order) (new : Queues) → order.number ≡ next → is_queued order ≡ true
-      → ((sender : List ℕ) → numbers_queued_by new sender ≡ cond (bytes_eq order.sender sender)
-      (numbers_queued_by queues sender ++ order.number ∷ []) (numbers_queued_by queues sender))
-      → IsKept (orders ++ order ∷ []) new (next + 1) None tidy
-  kept_push order new number waits pushed = record {
-    rising = rising_end orders order kept.rising (subst (λ n. AllByRecursion (λ (o : Order). o.number < n) orders)
-        (sym number) kept.before);
-    before = all_push (λ (o : Order). o.number < next + 1) orders order
-        (all_weaker (λ (o : Order). o.number < next) (λ (o : Order). o.number < next + 1) (λ o lt. omega arith) orders
-        kept.before) (omega arith);
-    queued = λ sender. pushed sender ∙ ap (λ ns. cond (bytes_eq order.sender sender) (ns ++ order.number ∷ []) ns)
-        (kept.queued sender) ∙ sym (queue_push sender orders order ∙ rw waits refl);
-    ready = λ name f. absurd (let g : None ≡ Some name = f in cc);
-    waiting = λ all. all_push (λ (o : Order). is_queued o ≡ true) orders order (kept.waiting all) waits;
-  }
+  module _ (order : Order) (number : order.number ≡ next) (waits : is_waiting order ≡ true)
+      (awaits : awaited ≡ Some order.sender) where
+    pushed_rising : AreRising (orders ++ order ∷ [])
+    pushed_rising = rising_end orders order kept.rising (subst (λ n. AllByRecursion (λ (o : Order). o.number < n)
+        orders)
+        (sym number) kept.before)
 
-  -- an order gets a state in which it is not queued, and they are tidy no more
-  pub kept_restated : (number : ℕ) (state : OrderState) (at : ℕ) (order : Order) (new : Queues)
-      → is_queued_state state ≡ false → HasNumberAt number orders at → ((d : Order) → order ≡ get_or orders at d)
-      → ((sender : List ℕ) → numbers_queued_by new sender ≡ cond (bytes_eq order.sender sender)
-      (filter (λ (n : ℕ). not (n == number)) (numbers_queued_by queues sender)) (numbers_queued_by queues sender))
+    pushed_before : AllByRecursion (λ (o : Order). o.number < next + 1) (orders ++ order ∷ [])
+    pushed_before = all_push (λ (o : Order). o.number < next + 1) orders order
+        (all_weaker (λ (o : Order). o.number < next) (λ (o : Order). o.number < next + 1) (λ o lt. omega arith) orders
+        kept.before) (omega arith)
+
+    -- the awaited order is queued
+    pub kept_push : (new : Queues) → is_queued_state order.state ≡ true → is_held_state order.state ≡ false
+        → ((sender : List ℕ) → numbers_of new sender ≡ cond (bytes_eq order.sender sender)
+        (numbers_of queues sender ++ order.number ∷ []) (numbers_of queues sender))
+        → ((sender : List ℕ) → room_of queues sender ≤ room_of new sender + cond (bytes_eq order.sender sender) 1 0)
+        → IsKept (orders ++ order ∷ []) new held (next + 1) None tidy
+    kept_push new is out pushed room = record {
+      rising = pushed_rising;
+      before = pushed_before;
+      queued = λ sender. pushed sender ∙ ap (λ ns. cond (bytes_eq order.sender sender) (ns ++ order.number ∷ []) ns)
+          (kept.queued sender) ∙ sym (numbers_push is_queued_state sender orders order ∙ rw is refl);
+      held = λ sender. kept.held sender ∙ sym (numbers_push is_held_state sender orders order ∙ rw out refl);
+      roomy = λ sender. by sender (bytes_eq order.sender sender) refl (room sender);
+      ready = λ name f. absurd (let g : None ≡ Some name = f in cc);
+      waiting = λ all. all_push (λ (o : Order). is_waiting o ≡ true) orders order (kept.waiting all) waits;
+    }
+      where
+        by : (sender : List ℕ) (b : Bool) → bytes_eq order.sender sender ≡ b
+            → room_of queues sender ≤ room_of new sender + cond b 1 0 → length (numbers_of held sender) ≤ room_of new
+            sender
+        by sender true e less =
+            let at : order.sender ≡ sender = (bytes_decides order.sender sender).0 e in
+            let had = kept.ready sender (awaits ∙ ap (λ s. Some s) at) in
+            let wide : length (numbers_of held sender) + 1 ≤ room_of queues sender = had.0 in omega arith
+        by sender false e less = let had = kept.roomy sender in omega arith
+
+    -- or it is held
+    pub kept_hold : (more : Queues) → is_queued_state order.state ≡ false → is_held_state order.state ≡ true
+        → ((sender : List ℕ) → numbers_of more sender ≡ cond (bytes_eq order.sender sender)
+        (numbers_of held sender ++ order.number ∷ []) (numbers_of held sender))
+        → IsKept (orders ++ order ∷ []) queues more (next + 1) None tidy
+    kept_hold more out is pushed = record {
+      rising = pushed_rising;
+      before = pushed_before;
+      queued = λ sender. kept.queued sender ∙ sym (numbers_push is_queued_state sender orders order ∙ rw out refl);
+      held = λ sender. pushed sender ∙ ap (λ ns. cond (bytes_eq order.sender sender) (ns ++ order.number ∷ []) ns)
+          (kept.held sender) ∙ sym (numbers_push is_held_state sender orders order ∙ rw is refl);
+      roomy = λ sender. by sender (bytes_eq order.sender sender) refl (pushed sender);
+      ready = λ name f. absurd (let g : None ≡ Some name = f in cc);
+      waiting = λ all. all_push (λ (o : Order). is_waiting o ≡ true) orders order (kept.waiting all) waits;
+    }
+      where
+        by : (sender : List ℕ) (b : Bool) → bytes_eq order.sender sender ≡ b
+            → numbers_of more sender ≡ cond b (numbers_of held sender ++ order.number ∷ []) (numbers_of held sender)
+            → length (numbers_of more sender) ≤ room_of queues sender
+        by sender true e is =
+            let at : order.sender ≡ sender = (bytes_decides order.sender sender).0 e in
+            let had = kept.ready sender (awaits ∙ ap (λ s. Some s) at) in
+            let wide : length (numbers_of held sender) + 1 ≤ room_of queues sender = had.0 in
+            let long : length (numbers_of more sender) ≡ length (numbers_of held sender) + 1 = ap length is
+            ∙ length-append (numbers_of held sender) (order.number ∷ []) in
+            omega arith
+        by sender false e is = let had = kept.roomy sender in let long = ap length is in omega arith
+
+  -- an order gets a state in which it waits no more, and they are tidy no more
+  pub kept_restated : (number : ℕ) (state : OrderState) (at : ℕ) (order : Order) (new more : Queues)
+      → is_waiting_state state ≡ false → HasNumberAt number orders at → ((d : Order) → order ≡ get_or orders at d)
+      → ((sender : List ℕ) → numbers_of new sender ≡ cond (bytes_eq order.sender sender)
+      (filter (λ (n : ℕ). not (n == number)) (numbers_of queues sender)) (numbers_of queues sender))
       → ((sender : List ℕ) → room_of queues sender ≤ room_of new sender)
-      → IsKept (map (restated (has_number number) state) orders) new next awaited false
-  kept_restated number state at order new settled there is left room = record {
-    rising = rising_restated number state orders kept.rising;
-    before = numbers_stay number state (λ n. n < next) orders kept.before;
+      → ((sender : List ℕ) → numbers_of more sender ≡ cond (bytes_eq order.sender sender)
+      (filter (λ (n : ℕ). not (n == number)) (numbers_of held sender)) (numbers_of held sender))
+      → ((sender : List ℕ) → room_of held sender ≤ room_of more sender)
+      → IsKept (map (restated (has_number number) state) orders) new more next awaited false
+  kept_restated number state at order new more settled there is left room dropped space = record {
+    rising = rising_altered number (λ o. record o { state = state }) (λ o. refl) orders kept.rising;
+    before = numbers_stay number (λ o. record o { state = state }) (λ o. refl) (λ n. n < next) orders kept.before;
     queued = λ sender. left sender ∙ ap (λ ns. cond (bytes_eq order.sender sender)
         (filter (λ (n : ℕ). not (n == number)) ns) ns) (kept.queued sender)
-        ∙ by sender (bytes_eq order.sender sender) refl;
-    ready = λ sender f. let had = kept.ready sender f in let has = room sender in omega arith;
+        ∙ by is_queued_state (queued_out state settled) sender (bytes_eq order.sender sender) refl;
+    held = λ sender. dropped sender ∙ ap (λ ns. cond (bytes_eq order.sender sender)
+        (filter (λ (n : ℕ). not (n == number)) ns) ns) (kept.held sender)
+        ∙ by is_held_state (held_out state settled) sender (bytes_eq order.sender sender) refl;
+    roomy = λ sender. let had = kept.roomy sender in let has = room sender in let less = shorter sender in omega arith;
+    ready = λ sender f.
+        let had = kept.ready sender f in
+        let wide : length (numbers_of held sender) + 1 ≤ room_of queues sender = had.0 in
+        let one : 1 ≤ room_of held sender = had.1 in
+        let has = room sender in let also = space sender in let less = shorter sender in
+        (omega arith, omega arith);
     waiting = λ all. absurd (true≢false (sym all));
   }
     where
-      by : (sender : List ℕ) (b : Bool) → bytes_eq order.sender sender ≡ b
-          → cond (bytes_eq order.sender sender) (filter (λ (n : ℕ). not (n == number)) (queued_numbers orders sender))
-          (queued_numbers orders sender) ≡ queued_numbers (map (restated (has_number number) state) orders) sender
-      by sender true f = rw f (sym (queue_leaves number state settled sender orders))
-      by sender false f = rw f (sym (queue_stays number state settled sender orders
-          (λ k d lt g. ap (λ (o : Order). bytes_eq o.sender sender) (here orders kept.rising at there is k d lt g)
-          ∙ f)))
+      shorter : (sender : List ℕ) → length (numbers_of more sender) ≤ length (numbers_of held sender)
+      shorter sender = split (bytes_eq order.sender sender) (dropped sender)
         where
-          here : (xs : List Order) → AreRising xs → (i : ℕ) → HasNumberAt number xs i
-              → ((d : Order) → order ≡ get_or xs i d) → (k : ℕ) (d : Order) → k < length xs
-              → has_number number (get_or xs k d) ≡ true → get_or xs k d ≡ order
-          here [] h i at is k d lt g = absurd (omega arith)
-          here (x ∷ xs) h zero at is zero d lt g = sym (is d)
-          here (x ∷ xs) h zero at is (suc k) d lt g = absurd (true≢false (sym g ∙ all_at_place (is_not number) xs
-              (all_above number xs (subst (λ n. AllByRecursion (λ y. n < y.number) xs) (at.has_number x) h.0)) k d
-              (omega arith)))
-          here (x ∷ xs) h (suc i) at is zero d lt g = absurd (true≢false (sym g ∙ apart))
-            where
-              less : x.number < number
-              less = subst (λ n. x.number < n) (at.has_number x)
-                  (all_at_place (λ y. x.number < y.number) xs h.0 i x (let l = at.in_range in omega arith))
+          split : (b : Bool) → numbers_of more sender ≡ cond b (filter (λ (n : ℕ). not (n == number))
+              (numbers_of held sender)) (numbers_of held sender)
+              → length (numbers_of more sender) ≤ length (numbers_of held sender)
+          split true e = let long = ap length e in let less = no_more number (numbers_of held sender) in omega arith
+          split false e = let long = ap length e in omega arith
 
-              apart : has_number number x ≡ false
-              apart = grind (arith, nat_tests, less)
-          here (x ∷ xs) h (suc i) at is (suc k) d lt g = here xs h.1 i
-              (record { in_range = (let l = at.in_range in omega arith); has_number = λ d. at.has_number d }) is k d
-              (omega arith) g
+      by : (is_in : OrderState → Bool) → is_in state ≡ false → (sender : List ℕ) (b : Bool)
+          → bytes_eq order.sender sender ≡ b
+          → cond (bytes_eq order.sender sender)
+          (filter (λ (n : ℕ). not (n == number)) (numbers_among is_in orders sender))
+          (numbers_among is_in orders sender)
+          ≡ numbers_among is_in (map (restated (has_number number) state) orders) sender
+      by is_in out sender true f = rw f (sym (numbers_leave is_in sender number (λ o. record o { state = state })
+          (λ o. out) orders))
+      by is_in out sender false f = rw f (sym (numbers_keep is_in sender number (λ o. record o { state = state }) orders
+          (λ k d lt g. (
+            right_false (is_in (get_or orders k d).state) (bytes_eq (get_or orders k d).sender sender)
+                (ap (λ (o : Order). bytes_eq o.sender sender) (only_one number order orders kept.rising at there is k d
+                lt g) ∙ f),
+            rw out refl,
+          ))))
+
+  -- a held order enters its queue, after the orders there
+  pub kept_entered : (number date at : ℕ) (order : Order) (new more : Queues)
+      → is_held_state order.state ≡ true → HasNumberAt number orders at → ((d : Order) → order ≡ get_or orders at d)
+      → ((sender : List ℕ) → numbers_of new sender ≡ cond (bytes_eq order.sender sender)
+      (put_in (λ n. nat_lt n number) number (numbers_of queues sender)) (numbers_of queues sender))
+      → ((sender : List ℕ) → room_of queues sender ≤ room_of new sender + cond (bytes_eq order.sender sender) 1 0)
+      → ((sender : List ℕ) → numbers_of more sender ≡ cond (bytes_eq order.sender sender)
+      (filter (λ (n : ℕ). not (n == number)) (numbers_of held sender)) (numbers_of held sender))
+      → ((sender : List ℕ) → room_of held sender ≤ room_of more sender)
+      → IsKept (map (altered (has_number number) (entered date)) orders) new more next awaited tidy
+  kept_entered number date at order new more is_held there is placed room dropped space = record {
+    rising = rising_altered number (entered date) (λ o. refl) orders kept.rising;
+    before = numbers_stay number (entered date) (λ o. refl) (λ n. n < next) orders kept.before;
+    queued = λ sender. placed sender ∙ ap (λ ns. cond (bytes_eq order.sender sender)
+        (put_in (λ n. nat_lt n number) number ns) ns) (kept.queued sender)
+        ∙ comes sender (bytes_eq order.sender sender) refl;
+    held = λ sender. dropped sender ∙ ap (λ ns. cond (bytes_eq order.sender sender)
+        (filter (λ (n : ℕ). not (n == number)) ns) ns) (kept.held sender)
+        ∙ goes sender (bytes_eq order.sender sender) refl;
+    roomy = λ sender.
+        let had = kept.roomy sender in
+        let fit = fits sender 0 (omega arith) in omega arith;
+    ready = λ sender f.
+        let had = kept.ready sender f in
+        let one : 1 ≤ room_of held sender = had.1 in
+        let also = space sender in
+        (fits sender 1 had.0, omega arith);
+    waiting = λ all. entered_wait orders (kept.waiting all);
+  }
+    where
+      other : (sender : List ℕ) → bytes_eq order.sender sender ≡ false → (k : ℕ) (d : Order) → k < length orders
+          → has_number number (get_or orders k d) ≡ true → bytes_eq (get_or orders k d).sender sender ≡ false
+      other sender f k d lt g = ap (λ (o : Order). bytes_eq o.sender sender)
+          (only_one number order orders kept.rising at there is k d lt g) ∙ f
+
+      stays : (is_in : OrderState → Bool) (sender : List ℕ) → bytes_eq order.sender sender ≡ false
+          → numbers_among is_in (map (altered (has_number number) (entered date)) orders) sender
+          ≡ numbers_among is_in orders sender
+      stays is_in sender f = numbers_keep is_in sender number (entered date) orders (λ k d lt g. (
+        right_false (is_in (get_or orders k d).state) (bytes_eq (get_or orders k d).sender sender)
+            (other sender f k d lt g),
+        right_false (is_in Queued) (bytes_eq (get_or orders k d).sender sender) (other sender f k d lt g),
+      ))
+
+      goes : (sender : List ℕ) (b : Bool) → bytes_eq order.sender sender ≡ b
+          → cond (bytes_eq order.sender sender)
+          (filter (λ (n : ℕ). not (n == number)) (numbers_among is_held_state orders sender))
+          (numbers_among is_held_state orders sender)
+          ≡ numbers_among is_held_state (map (altered (has_number number) (entered date)) orders) sender
+      goes sender true f = rw f (sym (numbers_leave is_held_state sender number (entered date) (λ o. refl) orders))
+      goes sender false f = rw f (sym (stays is_held_state sender f))
+
+      comes : (sender : List ℕ) (b : Bool) → bytes_eq order.sender sender ≡ b
+          → cond (bytes_eq order.sender sender)
+          (put_in (λ n. nat_lt n number) number (numbers_among is_queued_state orders sender))
+          (numbers_among is_queued_state orders sender)
+          ≡ numbers_among is_queued_state (map (altered (has_number number) (entered date)) orders) sender
+      comes sender true f = rw f (sym (numbers_enter sender number date orders kept.rising at there
+          (λ d. subst (λ (o : Order). is_held_state o.state ≡ true) (is d) is_held)
+          (λ d. subst (λ (o : Order). bytes_eq o.sender sender ≡ true) (is d) f)))
+      comes sender false f = rw f (sym (stays is_queued_state sender f))
+
+      fits : (sender : List ℕ) (more_room : ℕ) → length (numbers_of held sender) + more_room ≤ room_of queues sender
+          → length (numbers_of more sender) + more_room ≤ room_of new sender
+      fits sender more_room had = split (bytes_eq order.sender sender) refl (room sender) (dropped sender)
+        where
+          split : (b : Bool) → bytes_eq order.sender sender ≡ b → room_of queues sender ≤ room_of new sender + cond b 1
+              0
+              → numbers_of more sender ≡ cond b (filter (λ (n : ℕ). not (n == number)) (numbers_of held sender))
+              (numbers_of held sender) → length (numbers_of more sender) + more_room ≤ room_of new sender
+          split true f less e =
+              let among = number_among is_held_state sender orders at order there.in_range
+              (subst (λ (o : Order). (is_held_state o.state && bytes_eq o.sender sender) ≡ true) (is order)
+              (rw (is_held, f) refl)) in
+              let shorter = one_less number (numbers_of held sender) among.0
+              (subst (λ ns. among.0 < length ns) (sym (kept.held sender)) among.1)
+              (ap (λ ns. get_or ns among.0 0) (kept.held sender) ∙ among.2 ∙ there.has_number order) in
+              let long = ap length e in omega arith
+          split false f less e = let long = ap length e in omega arith
+
+      entered_wait : (os : List Order) → AreWaiting os → AreWaiting (map (altered (has_number number) (entered date))
+          os)
+      entered_wait [] h = tt
+      entered_wait (o ∷ os) h = (waits (has_number number o) refl, entered_wait os h.1)
+        where
+          waits : (b : Bool) → has_number number o ≡ b → is_waiting (altered (has_number number) (entered date) o) ≡
+              true
+          waits true e = rw e refl
+          waits false e = rw e h.0
+
+  -- there is room in its queue for a held order
+  pub kept_roomy : (number at : ℕ) (order : Order) → is_held_state order.state ≡ true → HasNumberAt number orders at
+      → ((d : Order) → order ≡ get_or orders at d) → 1 ≤ room_of queues order.sender
+  kept_roomy number at order is_held there is =
+      let own_one : bytes_eq order.sender order.sender ≡ true = (bytes_decides order.sender order.sender).1 refl in
+      let among = number_among is_held_state order.sender orders at order there.in_range
+      (subst (λ (o : Order). (is_held_state o.state && bytes_eq o.sender order.sender) ≡ true) (is order)
+      (rw (is_held, own_one) refl)) in
+      let less : among.0 < length (numbers_of held order.sender) = subst (λ ns. among.0 < length ns)
+      (sym (kept.held order.sender)) among.1 in
+      let fits = kept.roomy order.sender in omega arith
 
   -- what waits no more is swept out
-  pub kept_swept : IsKept (filter is_queued orders) queues next awaited true
+  pub kept_swept : IsKept (filter is_waiting orders) queues held next awaited true
   kept_swept = record {
-    rising = rising_filter is_queued orders kept.rising;
-    before = all_filter (λ (o : Order). o.number < next) is_queued orders kept.before;
+    rising = rising_filter is_waiting orders kept.rising;
+    before = all_filter (λ (o : Order). o.number < next) is_waiting orders kept.before;
     queued = λ sender. kept.queued sender ∙ same_numbers sender orders;
+    held = λ sender. kept.held sender ∙ same_held sender orders;
+    roomy = kept.roomy;
     ready = kept.ready;
-    waiting = λ _. are_queued orders;
+    waiting = λ _. are_waiting orders;
   }
 
-pub queued_twice : (os : List Order) → filter is_queued (filter is_queued os) ≡ filter is_queued os
-queued_twice [] = refl
-queued_twice (o ∷ os) = by (is_queued o) refl (queued_twice os)
+pub waiting_twice : (os : List Order) → filter is_waiting (filter is_waiting os) ≡ filter is_waiting os
+waiting_twice [] = refl
+waiting_twice (o ∷ os) = by (is_waiting o) refl (waiting_twice os)
   where
-    by : (b : Bool) → is_queued o ≡ b → filter is_queued (filter is_queued os) ≡ filter is_queued os
-        → filter is_queued (cond b (o ∷ filter is_queued os) (filter is_queued os))
-        ≡ cond b (o ∷ filter is_queued os) (filter is_queued os)
+    by : (b : Bool) → is_waiting o ≡ b → filter is_waiting (filter is_waiting os) ≡ filter is_waiting os
+        → filter is_waiting (cond b (o ∷ filter is_waiting os) (filter is_waiting os))
+        ≡ cond b (o ∷ filter is_waiting os) (filter is_waiting os)
     by true e rest = rw e (ap (λ ys. o ∷ ys) rest)
     by false e rest = rest
 
-pub queued_end : (os : List Order) (o : Order) → filter is_queued (os ++ o ∷ [])
-    ≡ cond (is_queued o) (filter is_queued os ++ o ∷ []) (filter is_queued os)
-queued_end [] o = by (is_queued o)
+pub waiting_end : (os : List Order) (o : Order) → filter is_waiting (os ++ o ∷ [])
+    ≡ cond (is_waiting o) (filter is_waiting os ++ o ∷ []) (filter is_waiting os)
+waiting_end [] o = by (is_waiting o)
   where
     by : (b : Bool) → cond b (o ∷ []) [] ≡ cond b (o ∷ []) []
     by b = refl
-queued_end (x ∷ xs) o = by (is_queued x) (is_queued o) (queued_end xs o)
+waiting_end (x ∷ xs) o = by (is_waiting x) (is_waiting o) (waiting_end xs o)
   where
-    by : (a b : Bool) → filter is_queued (xs ++ o ∷ []) ≡ cond b (filter is_queued xs ++ o ∷ []) (filter is_queued xs)
-        → cond a (x ∷ filter is_queued (xs ++ o ∷ [])) (filter is_queued (xs ++ o ∷ []))
-        ≡ cond b (cond a (x ∷ filter is_queued xs) (filter is_queued xs) ++ o ∷ [])
-        (cond a (x ∷ filter is_queued xs) (filter is_queued xs))
+    by : (a b : Bool) → filter is_waiting (xs ++ o ∷ []) ≡ cond b (filter is_waiting xs ++ o ∷ []) (filter is_waiting
+        xs)
+        → cond a (x ∷ filter is_waiting (xs ++ o ∷ [])) (filter is_waiting (xs ++ o ∷ []))
+        ≡ cond b (cond a (x ∷ filter is_waiting xs) (filter is_waiting xs) ++ o ∷ [])
+        (cond a (x ∷ filter is_waiting xs) (filter is_waiting xs))
     by true true rest = ap (λ ys. x ∷ ys) rest
     by true false rest = ap (λ ys. x ∷ ys) rest
     by false true rest = rest
     by false false rest = rest
+
+-- ---- loading
+
+-- the places of the orders so far
+abbrev pub ArePlaces : List Order → Queues → Queues → Type 0
+ArePlaces os queues others = record {
+  queued : (sender : List ℕ) → numbers_of queues sender ≡ numbers_among is_queued_state os sender;
+  held : (sender : List ℕ) → numbers_of others sender ≡ numbers_among is_held_state os sender;
+  roomy : (sender : List ℕ) → length (numbers_of others sender) ≤ room_of queues sender;
+}
+
+module _ (os : List Order) (x : Order) (queues held reserved : Queues) (places : ArePlaces os queues held)
+    (same : (sender : List ℕ) → numbers_of reserved sender ≡ numbers_of queues sender)
+    (more : (sender : List ℕ) → room_of queues sender ≤ room_of reserved sender)
+    (wide : length (numbers_of held x.sender) + 1 ≤ room_of reserved x.sender) where
+  pub place_queued : (new : Queues) → is_queued_state x.state ≡ true → is_held_state x.state ≡ false
+      → ((sender : List ℕ) → numbers_of new sender ≡ cond (bytes_eq x.sender sender)
+      (numbers_of reserved sender ++ x.number ∷ []) (numbers_of reserved sender))
+      → ((sender : List ℕ) → room_of reserved sender ≤ room_of new sender + cond (bytes_eq x.sender sender) 1 0)
+      → ArePlaces (os ++ x ∷ []) new held
+  place_queued new is out pushed room = record {
+    queued = λ sender. pushed sender ∙ ap (λ ns. cond (bytes_eq x.sender sender) (ns ++ x.number ∷ []) ns)
+        (same sender ∙ places.queued sender) ∙ sym (numbers_push is_queued_state sender os x ∙ rw is refl);
+    held = λ sender. places.held sender ∙ sym (numbers_push is_held_state sender os x ∙ rw out refl);
+    roomy = λ sender. by sender (bytes_eq x.sender sender) refl (room sender);
+  }
+    where
+      by : (sender : List ℕ) (b : Bool) → bytes_eq x.sender sender ≡ b
+          → room_of reserved sender ≤ room_of new sender + cond b 1 0 → length (numbers_of held sender) ≤ room_of new
+          sender
+      by sender true e less =
+          let at : x.sender ≡ sender = (bytes_decides x.sender sender).0 e in
+          let had = subst (λ s. length (numbers_of held s) + 1 ≤ room_of reserved s) at wide in omega arith
+      by sender false e less = let had = places.roomy sender in let has = more sender in omega arith
+
+  pub place_held : (new space : Queues) → is_queued_state x.state ≡ false → is_held_state x.state ≡ true
+      → ((sender : List ℕ) → numbers_of space sender ≡ numbers_of held sender)
+      → ((sender : List ℕ) → numbers_of new sender ≡ cond (bytes_eq x.sender sender)
+      (numbers_of space sender ++ x.number ∷ []) (numbers_of space sender))
+      → ArePlaces (os ++ x ∷ []) reserved new
+  place_held new space out is spaced pushed = record {
+    queued = λ sender. same sender ∙ places.queued sender
+        ∙ sym (numbers_push is_queued_state sender os x ∙ rw out refl);
+    held = λ sender. pushed sender ∙ ap (λ ns. cond (bytes_eq x.sender sender) (ns ++ x.number ∷ []) ns)
+        (spaced sender ∙ places.held sender) ∙ sym (numbers_push is_held_state sender os x ∙ rw is refl);
+    roomy = λ sender. by sender (bytes_eq x.sender sender) refl (pushed sender);
+  }
+    where
+      by : (sender : List ℕ) (b : Bool) → bytes_eq x.sender sender ≡ b
+          → numbers_of new sender ≡ cond b (numbers_of space sender ++ x.number ∷ []) (numbers_of space sender)
+          → length (numbers_of new sender) ≤ room_of reserved sender
+      by sender true e is =
+          let at : x.sender ≡ sender = (bytes_decides x.sender sender).0 e in
+          let had = subst (λ s. length (numbers_of held s) + 1 ≤ room_of reserved s) at wide in
+          let long : length (numbers_of new sender) ≡ length (numbers_of held sender) + 1 = ap length is
+          ∙ length-append (numbers_of space sender) (x.number ∷ []) ∙ ap (λ ns. length ns + 1) (spaced sender) in
+          omega arith
+      by sender false e is =
+          let had = places.roomy sender in
+          let has = more sender in
+          let long : length (numbers_of new sender) ≡ length (numbers_of held sender) = ap length is
+          ∙ ap length (spaced sender) in
+          omega arith
+
+  pub place_none : is_queued_state x.state ≡ false → is_held_state x.state ≡ false
+      → ArePlaces (os ++ x ∷ []) reserved held
+  place_none out also = record {
+    queued = λ sender. same sender ∙ places.queued sender
+        ∙ sym (numbers_push is_queued_state sender os x ∙ rw out refl);
+    held = λ sender. places.held sender ∙ sym (numbers_push is_held_state sender os x ∙ rw also refl);
+    roomy = λ sender. let had = places.roomy sender in let has = more sender in omega arith;
+  }
+
+pub not_queued : (state : OrderState) → (state ≡ Queued → ⊥) → is_queued_state state ≡ false
+not_queued Queued apart = absurd (apart refl)
+not_queued Held apart = refl
+not_queued (Settled mark) apart = refl
+not_queued Withdrawn apart = refl
+not_queued Rejected apart = refl
+
+pub not_held : (state : OrderState) → (state ≡ Held → ⊥) → is_held_state state ≡ false
+not_held Queued apart = refl
+not_held Held apart = absurd (apart refl)
+not_held (Settled mark) apart = refl
+not_held Withdrawn apart = refl
+not_held Rejected apart = refl

@@ -1,15 +1,16 @@
--- What is read of queued orders: by their numbers, and in the queues of their senders.
+-- What is read of orders that wait: by their numbers, and in the queues of their senders.
 use Rattle.std.proofs.Common.{◌≡◌, ℕ, ◌<◌, Bool, true, false, ◌&&◌, cond, List, [], ◌∷◌, filter, length, get_or, find}
-use Rattle.std.proofs.Common.{Some, refl, ap, ◌∙◌, arith}
+use Rattle.std.proofs.Common.{Some, refl, sym, ap, ◌∙◌, true≢false, arith}
 use Rattle.std.proofs.lemmas.Bool.Decides.{nat_tests}
 use Rattle.std.proofs.lemmas.List.{get_or-map}
 use Rattle.std.specs.List.{AllByRecursion}
 use Rattle.std.specs.Str.{bytes_eq}
 use Rattle.rtgs_book.specs.declared.order.Order.{Order}
-use Rattle.rtgs_book.specs.Books.{is_queued}
+use Rattle.rtgs_book.specs.Books.{is_queued, is_waiting}
 use Rattle.rtgs_book.specs.Commands.{has_number}
 use Rattle.rtgs_book.specs.Queue.{queued_among, queued_numbers}
 use Rattle.rtgs_queues.specs.Orders.{AreRising}
+use Rattle.rtgs_queues.proofs.OrderLemmas.{queued_waits}
 use Rattle.rtgs_lists.proofs.Lists.{all_at_place, all_filter, all_weaker}
 use Rattle.rtgs_lists.proofs.Numbers.{eq_self}
 
@@ -45,15 +46,18 @@ queued_at os rise sender k d lt =
     (all_filter (λ x. find (has_number x.number) os ≡ Some x) (λ o. is_queued o && bytes_eq o.sender sender) os
     (found_by_number os rise)) k d lt
 
--- the queues are those among the queued orders
-pub among_queued : (sender : List ℕ) (os : List Order) → queued_among (filter is_queued os) sender
+-- the queues are those among the orders that wait
+pub among_waiting : (sender : List ℕ) (os : List Order) → queued_among (filter is_waiting os) sender
     ≡ queued_among os sender
-among_queued sender [] = refl
-among_queued sender (o ∷ os) = by (is_queued o) (bytes_eq o.sender sender) refl refl (among_queued sender os)
+among_waiting sender [] = refl
+among_waiting sender (o ∷ os) = by (is_waiting o) (is_queued o) (bytes_eq o.sender sender) refl refl refl
+    (among_waiting sender os)
   where
-    by : (a b : Bool) → is_queued o ≡ a → bytes_eq o.sender sender ≡ b
-        → queued_among (filter is_queued os) sender ≡ queued_among os sender
-        → queued_among (cond a (o ∷ filter is_queued os) (filter is_queued os)) sender ≡ queued_among (o ∷ os) sender
-    by true true e f rest = rw (e, f) (ap (λ xs. o ∷ xs) rest)
-    by true false e f rest = rw (e, f) rest
-    by false b e f rest = rw e rest
+    by : (w a b : Bool) → is_waiting o ≡ w → is_queued o ≡ a → bytes_eq o.sender sender ≡ b
+        → queued_among (filter is_waiting os) sender ≡ queued_among os sender
+        → queued_among (cond w (o ∷ filter is_waiting os) (filter is_waiting os)) sender ≡ queued_among (o ∷ os) sender
+    by true true true w e f rest = rw (e, f) (ap (λ xs. o ∷ xs) rest)
+    by true true false w e f rest = rw (e, f) rest
+    by true false b w e f rest = rw e rest
+    by false true b w e f rest = absurd (true≢false (sym (queued_waits o.state e) ∙ w))
+    by false false b w e f rest = rw e rest

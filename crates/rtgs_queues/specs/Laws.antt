@@ -3,7 +3,7 @@ use Rattle.std.specs.Prelude.{◌≡◌, ℕ, List, filter, Some}
 use Rattle.std.specs.List.{AllByRecursion, find}
 use Rattle.rtgs_book.specs.declared.book.Book.{Book}
 use Rattle.rtgs_book.specs.declared.order.Order.{Order}
-use Rattle.rtgs_book.specs.Books.{is_queued}
+use Rattle.rtgs_book.specs.Books.{is_waiting}
 use Rattle.rtgs_book.specs.Commands.{has_number}
 use Rattle.rtgs_book.specs.Queue.{queued_among}
 use Rattle.rtgs_book.specs.Soundness.{OrdersAreNumbered}
@@ -13,7 +13,7 @@ abbrev pub NumbersLeadToOrders : Type 0
 NumbersLeadToOrders = (book : Book) → OrdersAreNumbered book
     → AllByRecursion (λ (o : Order). find (has_number o.number) book.orders ≡ Some o) book.orders
 
--- a sender's queue among the queued orders is its queue among all
-abbrev pub QueuesAreOfTheQueued : Type 0
-QueuesAreOfTheQueued = (orders : List Order) (sender : List ℕ)
-    → queued_among (filter is_queued orders) sender ≡ queued_among orders sender
+-- a sender's queue among the orders that wait is its queue among all
+abbrev pub QueuesAreOfTheWaiting : Type 0
+QueuesAreOfTheWaiting = (orders : List Order) (sender : List ℕ)
+    → queued_among (filter is_waiting orders) sender ≡ queued_among orders sender

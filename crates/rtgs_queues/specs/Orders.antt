@@ -1,14 +1,16 @@
--- Queued orders, as contracts see them.
-use Rattle.std.specs.Prelude.{◌≡◌, ℕ, ◌≤◌, ◌<◌, Bool, true, List, [], ◌∷◌, ⊤, length, slice_index_or, Option, Some}
+-- Orders that are queued or held, as contracts see them.
+use Rattle.std.specs.Prelude.{◌≡◌, ℕ, ◌+◌, ◌≤◌, ◌<◌, Bool, true, ◌&&◌, List, [], ◌∷◌, ⊤, length, map, filter}
+use Rattle.std.specs.Prelude.{slice_index_or, Option, Some}
 use Rattle.std.specs.List.{AllByRecursion}
+use Rattle.std.specs.Str.{bytes_eq}
 use Rattle.rtgs_book.specs.declared.order.Order.{Order}
-use Rattle.rtgs_book.specs.Books.{is_queued}
-use Rattle.rtgs_book.specs.Queue.{queued_numbers}
+use Rattle.rtgs_book.specs.declared.order_state.OrderState.{OrderState}
+use Rattle.rtgs_book.specs.Books.{is_waiting, is_queued_state, is_held_state}
 use Rattle.rtgs_queues.specs.declared.queues.Queues.{Queues}
-use Rattle.rtgs_queues.specs.Queues.{numbers_queued_by, room_of}
+use Rattle.rtgs_queues.specs.Queues.{numbers_of, room_of}
 
--- the queued orders, whether they are all that is in memory, the number of the next order, how many more can be queued
--- without memory, and the sender whose queue has room for one more
+-- the orders that wait, whether they are all that is in memory, the number of the next order, how many more can wait
+-- without memory, and the sender of whom one more can
 pub record OrderList : Type 0 where
   pub orders : List Order
   pub tidy : Bool
@@ -16,29 +18,39 @@ pub record OrderList : Type 0 where
   pub room : ℕ
   pub awaited : Option (List ℕ)
 
--- if the order is queued, there is room for one more, and its sender's queue is the one that has room
+-- if the order waits, there is room for one more, and its sender is the one of whom one more can
 pub record AwaitsOrder (list : OrderList) (order : Order) : Type 0 where
-  pub room : is_queued order ≡ true → 1 ≤ list.room
-  pub awaited : is_queued order ≡ true → list.awaited ≡ Some order.sender
+  pub room : is_waiting order ≡ true → 1 ≤ list.room
+  pub awaited : is_waiting order ≡ true → list.awaited ≡ Some order.sender
 
 -- numbers rise
 abbrev pub AreRising : List Order → Type 0
 AreRising [] = ⊤
 AreRising (order ∷ orders) = AllByRecursion (λ (later : Order). order.number < later.number) orders × AreRising orders
 
--- each of these orders is queued
-abbrev pub AreQueued : List Order → Type 0
-AreQueued orders = AllByRecursion (λ (o : Order). is_queued o ≡ true) orders
+-- each of these orders waits
+abbrev pub AreWaiting : List Order → Type 0
+AreWaiting orders = AllByRecursion (λ (o : Order). is_waiting o ≡ true) orders
 
--- numbers rise and come before the next one, each queue has its sender's queued orders, and room where one is awaited;
--- and no order is in memory that is not queued, while they are tidy
-pub record IsKept (orders : List Order) (queues : Queues) (next : ℕ) (awaited : Option (List ℕ)) (tidy : Bool) : Type 0
+-- the numbers of the sender's orders that stand so
+abbrev pub numbers_among : (OrderState → Bool) → List Order → List ℕ → List ℕ
+numbers_among is_in orders sender =
+    map (λ (o : Order). o.number) (filter (λ (o : Order). is_in o.state && bytes_eq o.sender sender) orders)
+
+-- Numbers rise and come before the next one. Each sender's queue and held orders are those of the list. Its queue has
+-- room for each of its held orders, and for one order more where one is awaited; so an order needs no memory to enter
+-- its queue. And no order is in memory that waits no more, while they are tidy.
+pub record IsKept (orders : List Order) (queues others : Queues) (next : ℕ) (awaited : Option (List ℕ)) (tidy : Bool)
+    : Type 0
   where
     pub rising : AreRising orders
     pub before : AllByRecursion (λ (o : Order). o.number < next) orders
-    pub queued : (sender : List ℕ) → numbers_queued_by queues sender ≡ queued_numbers orders sender
-    pub ready : (sender : List ℕ) → awaited ≡ Some sender → 1 ≤ room_of queues sender
-    pub waiting : tidy ≡ true → AreQueued orders
+    pub queued : (sender : List ℕ) → numbers_of queues sender ≡ numbers_among is_queued_state orders sender
+    pub held : (sender : List ℕ) → numbers_of others sender ≡ numbers_among is_held_state orders sender
+    pub roomy : (sender : List ℕ) → length (numbers_of others sender) ≤ room_of queues sender
+    pub ready : (sender : List ℕ) → awaited ≡ Some sender
+        → (length (numbers_of others sender) + 1 ≤ room_of queues sender) × (1 ≤ room_of others sender)
+    pub waiting : tidy ≡ true → AreWaiting orders
 
 -- the order with the number stands at this index
 pub record HasNumberAt (number : ℕ) (orders : List Order) (i : ℕ) : Type 0 where

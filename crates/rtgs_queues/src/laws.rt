@@ -3,25 +3,25 @@ ghost use Rattle.std.specs.Prelude.{◌+◌, ◌<◌, filter, length};
 ghost use Rattle.std.specs.List.{AllByRecursion};
 ghost use Rattle.rtgs_book.specs.declared.book.Book.{Book};
 ghost use Rattle.rtgs_book.specs.declared.order.Order.{Order};
-ghost use Rattle.rtgs_book.specs.Books.{is_queued};
+ghost use Rattle.rtgs_book.specs.Books.{is_waiting};
 ghost use Rattle.rtgs_book.specs.Soundness.{OrdersAreNumbered};
-ghost use Rattle.rtgs_queues.specs.Laws.{NumbersLeadToOrders, QueuesAreOfTheQueued};
-ghost use Rattle.rtgs_queues.specs.Orders.{AreRising, AreQueued};
+ghost use Rattle.rtgs_queues.specs.Laws.{NumbersLeadToOrders, QueuesAreOfTheWaiting};
+ghost use Rattle.rtgs_queues.specs.Orders.{AreRising, AreWaiting};
 
 /// Where orders are numbered from one, as in a sound book, each is the first with its number.
 pub fn numbers_lead_to_orders()
     ensures { NumbersLeadToOrders }
 {}
 
-/// A sender's queue among the queued orders is its queue among all.
-pub fn queues_are_of_the_queued()
-    ensures { QueuesAreOfTheQueued }
+/// A sender's queue among the orders that wait is its queue among all.
+pub fn queues_are_of_the_waiting()
+    ensures { QueuesAreOfTheWaiting }
 {}
 
-/// Where orders are numbered from one, the queued ones are what `Orders::load` takes.
-pub fn queued_orders_can_be_loaded()
-    ensures rising { (book : Book) → OrdersAreNumbered book → AreRising (filter is_queued book.orders) }
+/// Where orders are numbered from one, those that wait are what `Orders::load` takes.
+pub fn waiting_orders_can_be_loaded()
+    ensures rising { (book : Book) → OrdersAreNumbered book → AreRising (filter is_waiting book.orders) }
     ensures before { (book : Book) → OrdersAreNumbered book
-        → AllByRecursion (λ (o : Order). o.number < length book.orders + 1) (filter is_queued book.orders) }
-    ensures waiting { (book : Book) → AreQueued (filter is_queued book.orders) }
+        → AllByRecursion (λ (o : Order). o.number < length book.orders + 1) (filter is_waiting book.orders) }
+    ensures waiting { (book : Book) → AreWaiting (filter is_waiting book.orders) }
 {}

@@ -1,30 +1,34 @@
-//! Queued orders, by their numbers and in the queues of their senders.
+//! Orders that are queued or held, by their numbers and under their senders.
 ghost use Rattle.std.specs.Prelude.{◌≡◌, ◌≤◌, ◌<◌, ◌+◌, ◌-◌, ◌++◌, ◌∷◌, [], ℕ, List, length, filter, not, true};
 ghost use Rattle.std.specs.Prelude.{false};
-ghost use Rattle.std.specs.Prelude.{slice_index_or, Some, None, OnOk, IfOk, IfErr, if◌then◌else◌};
+ghost use Rattle.std.specs.Prelude.{map, slice_index_or, Some, None, OnOk, IfOk, IfErr, if◌then◌else◌};
 ghost use Rattle.std.specs.List.{find, AllByRecursion};
 ghost use Rattle.rtgs_book.specs.declared.order.Order.{Order};
 ghost use Rattle.rtgs_book.specs.declared.limits.TheConstants.{LARGEST_NUMBER};
-ghost use Rattle.rtgs_book.specs.Books.{is_queued, is_queued_state};
-ghost use Rattle.rtgs_book.specs.Commands.{has_number};
+ghost use Rattle.rtgs_book.specs.Books.{is_queued, is_held, is_waiting, is_queued_state, is_held_state};
+ghost use Rattle.rtgs_book.specs.Books.{is_waiting_state};
+ghost use Rattle.rtgs_book.specs.Commands.{entered, has_number, is_held_with};
+ghost use Rattle.rtgs_book.specs.Settle.{altered};
 ghost use Rattle.rtgs_book.specs.Queue.{queued_among, queued_numbers};
-ghost use Rattle.rtgs_queues.specs.Orders.{AreRising, AreQueued, AwaitsOrder, HasNumberAt};
-ghost use Rattle.rtgs_queues.specs.Queues.{numbers_queued_by};
+ghost use Rattle.rtgs_queues.specs.Orders.{AreRising, AreWaiting, AwaitsOrder, HasNumberAt, numbers_among};
+ghost use Rattle.rtgs_queues.specs.Queues.{numbers_of, room_of};
 
 use crate::queues::Queues;
 use rtgs_book::{Order, OrderState, Rows};
-use rtgs_money::Code;
+use rtgs_money::{BusinessDate, Code};
 use std::alloc::{AllocError, Global};
 use std::marker::Model;
 
-/// The queued orders in rising number, and the queue of each sender. Contracts see the queued orders, whether no other
-/// is in memory, the number of the next order, how many more there is room for, and the sender whose queue has room for
-/// one more.
+/// The orders that are queued or held in rising number, the queue of each sender, and its held orders. Contracts see
+/// the orders that wait so, whether no other is in memory, the number of the next order, how many more there is room
+/// for, and the sender of whom there is room for one more.
 #[derive(Debug, Drop)]
 pub struct Orders {
     // Those that wait no more are among them until they are swept out.
     orders: Vec<Order>,
     queues: Queues,
+    // Each queue has room for its sender's held orders.
+    held: Queues,
     next: u64,
     awaited: Option<Code>,
     // Whether all of them still wait.
@@ -35,36 +39,37 @@ impl Model for Orders {
     ghost use Rattle.rtgs_queues.specs.Orders.{OrderList, IsKept};
     ghost use Rattle.std.specs.Prelude.{◌-◌, vec_len, filter};
     ghost use Rattle.std.specs.Vec.{vec_capacity};
-    ghost use Rattle.rtgs_book.specs.Books.{is_queued};
+    ghost use Rattle.rtgs_book.specs.Books.{is_waiting};
 
     ghost Value = { OrderList };
 
     ghost view = { λ o. record {
-      orders = filter is_queued o.orders.items;
+      orders = filter is_waiting o.orders.items;
       tidy = o.tidy;
       next = o.next;
       room = vec_capacity o.orders - vec_len o.orders;
       awaited = o.awaited;
     } };
 
-    ghost invariant = { λ o. IsKept o.orders.items o.queues o.next o.awaited o.tidy };
+    ghost invariant = { λ o. IsKept o.orders.items o.queues o.held o.next o.awaited o.tidy };
 }
 
 impl Orders {
-    /// These orders, which are all queued. The next order gets this number.
+    /// These orders, which all wait. The next order gets this number.
     pub fn load(alloc: Global, orders: Rows<Order>, next: u64) -> Result<Orders, AllocError>
         requires rising { AreRising orders }
         requires before { AllByRecursion (λ (o : Order). o.number < next) orders }
-        requires waiting { AreQueued orders }
+        requires waiting { AreWaiting orders }
         ensures orders { IfOk result (λ loaded. loaded.orders ≡ orders) }
         ensures tidy { IfOk result (λ loaded. loaded.tidy ≡ true) }
         ensures next { IfOk result (λ loaded. loaded.next ≡ next) }
     {
         let orders = orders.into_vec();
-        let queues = queues_of(alloc, orders.as_slice())?;
+        let (queues, held) = places_of(alloc, orders.as_slice())?;
         Ok(Orders {
             orders,
             queues,
+            held,
             next,
             awaited: None,
             tidy: true,
@@ -86,7 +91,7 @@ impl Orders {
         self.orders.as_slice()
     }
 
-    /// The queued order with this number, if there is one.
+    /// The order with this number, if it waits.
     pub fn numbered(&self, number: u64) -> Option<Order>
         ensures { result ≡ find (has_number number) self.now.orders }
     {
@@ -94,7 +99,11 @@ impl Orders {
             return None;
         };
         let order = self.orders[at];
-        if is_queued(&order) { Some(order) } else { None }
+        if is_waiting(&order) {
+            Some(order)
+        } else {
+            None
+        }
     }
 
     /// The numbers of the sender's queued orders, rising.
@@ -107,7 +116,16 @@ impl Orders {
         self.queues.get(sender)
     }
 
-    /// Makes room for one queued order more of this sender.
+    /// How many of the sender's orders wait.
+    pub fn count(&self, sender: &Code) -> usize
+        ensures { result ≡ length (numbers_among is_queued_state self.now.orders sender.now)
+            + length (numbers_among is_held_state self.now.orders sender.now) }
+    {
+        let (queued, held) = (self.queues.get(sender), self.held.get(sender));
+        queued.len() + held.len()
+    }
+
+    /// Makes room for one order more of this sender, queued or held.
     pub fn reserve(&mut self, sender: Code) -> Result<(), AllocError>
         ensures orders { self.new.orders ≡ self.old.orders }
         ensures tidy { self.new.tidy ≡ self.old.tidy }
@@ -117,35 +135,42 @@ impl Orders {
     {
         self.awaited = None;
         self.orders.reserve(1)?;
-        self.queues.reserve(sender, 1)?;
+        let held = self.held.get(&sender).len();
+        self.held.reserve(sender, 1)?;
+        self.queues.reserve(sender, held + 1)?;
         self.awaited = Some(sender);
         Ok(())
     }
 
-    /// Counts the next order, and queues it in the room that was made for it, if it is queued.
+    /// Counts the next order, and keeps it in the room that was made for it, if it waits.
+    #[tactic(auto, using(crate::proofs::OrderLemmas::held_waits, crate::proofs::OrderLemmas::queued_waits, crate::proofs::OrderLemmas::others_wait_not))]
     pub fn add(&mut self, order: Order)
         requires number { order.number ≡ self.old.next }
         requires few { self.old.next ≤ LARGEST_NUMBER }
         requires awaited { AwaitsOrder self.old order }
         ensures orders { self.new.orders
-            ≡ (if is_queued order then self.old.orders ++ order ∷ [] else self.old.orders) }
+            ≡ (if is_waiting order then self.old.orders ++ order ∷ [] else self.old.orders) }
         ensures tidy { self.new.tidy ≡ self.old.tidy }
         ensures next { self.new.next ≡ self.old.next + 1 }
-        ensures room { self.new.room ≡ (if is_queued order then self.old.room - 1 else self.old.room) }
-        ensures awaited { self.new.awaited ≡ (if is_queued order then None else self.old.awaited) }
+        ensures room { self.new.room ≡ (if is_waiting order then self.old.room - 1 else self.old.room) }
+        ensures awaited { self.new.awaited ≡ (if is_waiting order then None else self.old.awaited) }
     {
         self.next += 1;
-        if is_queued(&order) {
+        if is_held(&order) {
+            self.awaited = None;
+            self.held.push(&order.sender, order.number);
+            self.orders.push_reserved(order);
+        } else if is_queued(&order) {
             self.awaited = None;
             self.queues.push(&order.sender, order.number);
             self.orders.push_reserved(order);
         }
     }
 
-    /// The order with this number waits no more: it leaves its sender's queue. It takes no memory. Orders that are tidy
-    /// afterwards were so before, and none left.
+    /// The order with this number waits no more: it leaves its sender's queue, or its held ones. It takes no memory.
+    /// Orders that are tidy afterwards were so before, and none left.
     pub fn set_state(&mut self, number: u64, state: OrderState)
-        requires { is_queued_state state ≡ false }
+        requires { is_waiting_state state ≡ false }
         ensures orders { self.new.orders ≡ filter (λ o. not (has_number number o)) self.old.orders }
         ensures tidy { self.new.tidy ≡ true → self.old.tidy ≡ true }
         ensures none { self.new.tidy ≡ true → self.new.orders ≡ self.old.orders }
@@ -159,17 +184,42 @@ impl Orders {
         let order = self.orders[at];
         self.orders[at] = Order { state, ..order };
         self.queues.remove(&order.sender, number);
+        self.held.remove(&order.sender, number);
         self.tidy = false;
     }
 
-    /// Sweeps out the orders that wait no more. Each order in memory is queued then.
+    /// The order with this number enters its sender's queue on this date, at its place by number, if it is held. It
+    /// takes no memory.
+    pub fn enter(&mut self, number: u64, date: BusinessDate)
+        ensures orders { self.new.orders ≡ map (altered (is_held_with number) (entered date)) self.old.orders }
+        ensures tidy { self.new.tidy ≡ self.old.tidy }
+        ensures next { self.new.next ≡ self.old.next }
+        ensures room { self.new.room ≡ self.old.room }
+        ensures awaited { self.new.awaited ≡ self.old.awaited }
+    {
+        let Ok(at) = search(self.orders.as_slice(), number) else {
+            return;
+        };
+        let order = self.orders[at];
+        if is_held(&order) {
+            self.orders[at] = Order {
+                state: OrderState::Queued,
+                date,
+                ..order
+            };
+            self.held.remove(&order.sender, number);
+            self.queues.insert(&order.sender, number);
+        }
+    }
+
+    /// Sweeps out the orders that wait no more. Each order in memory waits then.
     pub fn sweep(&mut self)
         ensures orders { self.new.orders ≡ self.old.orders }
         ensures tidy { self.new.tidy ≡ true }
         ensures next { self.new.next ≡ self.old.next }
     {
         if !self.tidy {
-            keep_queued(&mut self.orders);
+            keep_waiting(&mut self.orders);
             self.tidy = true;
         }
     }
@@ -184,11 +234,18 @@ fn search(orders: &[Order], number: u64) -> Result<usize, usize>
     orders.binary_search_by_key(&number, |order| order.number)
 }
 
-// Takes out the orders that are not queued.
-fn keep_queued(orders: &mut Vec<Order>)
-    ensures { orders.new.items ≡ filter is_queued orders.old.items }
+// Takes out the orders that wait no more.
+fn keep_waiting(orders: &mut Vec<Order>)
+    ensures { orders.new.items ≡ filter is_waiting orders.old.items }
 {
-    orders.retain(is_queued);
+    orders.retain(is_waiting);
+}
+
+// Whether the order is queued or held.
+fn is_waiting(order: &Order) -> bool
+    ensures { result ≡ is_waiting order.now }
+{
+    order.state == OrderState::Queued || order.state == OrderState::Held
 }
 
 // Whether the order is in its sender's queue.
@@ -198,17 +255,35 @@ fn is_queued(order: &Order) -> bool
     order.state == OrderState::Queued
 }
 
-// The queue of each sender.
-fn queues_of(alloc: Global, orders: &[Order]) -> Result<Queues, AllocError>
-    ensures { IfOk result (λ queues. (sender : List ℕ) → numbers_queued_by queues sender ≡ queued_numbers orders.now
-        sender) }
+// Whether the order is held.
+fn is_held(order: &Order) -> bool
+    ensures { result ≡ is_held order.now }
+{
+    order.state == OrderState::Held
+}
+
+// The queue of each sender, with room for its held orders, and these.
+fn places_of(alloc: Global, orders: &[Order]) -> Result<(Queues, Queues), AllocError>
+    ensures queued { IfOk result (λ (queues, held). (sender : List ℕ) → numbers_of queues sender
+        ≡ numbers_among is_queued_state orders.now sender) }
+    ensures held { IfOk result (λ (queues, held). (sender : List ℕ) → numbers_of held sender
+        ≡ numbers_among is_held_state orders.now sender) }
+    ensures roomy { IfOk result (λ (queues, held). (sender : List ℕ) → length (numbers_of held sender)
+        ≤ room_of queues sender) }
 {
     let mut queues = Queues::new(alloc);
+    let mut held = Queues::new(alloc);
     for order in orders {
-        if is_queued(order) {
-            queues.reserve(order.sender, 1)?;
-            queues.push(&order.sender, order.number);
+        let more = held.get(&order.sender).len() + 1;
+        queues.reserve(order.sender, more)?;
+        match order.state {
+            OrderState::Queued => queues.push(&order.sender, order.number),
+            OrderState::Held => {
+                held.reserve(order.sender, 1)?;
+                held.push(&order.sender, order.number);
+            }
+            _ => {}
         }
     }
-    Ok(queues)
+    Ok((queues, held))
 }

@@ -4,14 +4,15 @@ use Rattle.std.specs.Prelude.{⊤, length}
 use Rattle.std.specs.List.{find, list_any}
 use Rattle.rtgs_book.specs.declared.change.RowChange.{RowChange}
 use Rattle.rtgs_book.specs.declared.change.RowChange.TheVariants.{AddParticipant, AddPosting, AddOrder, AddMark}
-use Rattle.rtgs_book.specs.declared.change.RowChange.TheVariants.{SetCredit, SetBalance, SetState, SetDay}
+use Rattle.rtgs_book.specs.declared.change.RowChange.TheVariants.{SetCredit, SetBalance, SetState, EnterQueue, SetDay}
 use Rattle.rtgs_book.specs.declared.limits.TheConstants.{LARGEST_NUMBER, MOST_PARTICIPANTS}
-use Rattle.rtgs_book.specs.Books.{is_queued, is_queued_state}
+use Rattle.rtgs_book.specs.Books.{is_waiting, is_waiting_state}
 use Rattle.rtgs_cores.specs.declared.Core.{Core}
 use Rattle.rtgs_cores.specs.Following.{is_of, core_after_row}
 use Rattle.rtgs_accounts.specs.Accounts.{has_key}
 
--- how many participants and queued orders can be added without memory, and the sender whose queue has room for one more
+-- how many participants, and orders that are queued or held, can be added without memory, and the sender of whom there
+-- is room for one more
 pub record Room : Type 0 where
   pub participants : ℕ
   pub orders : ℕ
@@ -22,26 +23,26 @@ pub record Held : Type 0 where
   pub core : Core
   pub room : Room
 
--- The row can be made: what it adds is new, bears the next number, and finds its room. No order becomes queued again,
--- and
--- no two participants get a key.
+-- The row can be made: what it adds is new, bears the next number, and finds its room. No order waits again, and no two
+-- participants get a key. An order that enters its queue has had its room since it was taken.
 abbrev pub FindsRoom : Held → RowChange → Type 0
 FindsRoom held (AddParticipant participant) = (find (is_of participant.code) held.core.accounts ≡ None)
     × (list_any (has_key participant.key) held.core.accounts ≡ false)
     × (length held.core.accounts < MOST_PARTICIPANTS) × (1 ≤ held.room.participants)
 FindsRoom held (AddPosting posting) = held.core.next_posting ≤ LARGEST_NUMBER
 FindsRoom held (AddOrder order) = (order.number ≡ held.core.next_order) × (held.core.next_order ≤ LARGEST_NUMBER)
-    × (is_queued order ≡ true → (1 ≤ held.room.orders) × (held.room.awaited ≡ Some order.sender))
+    × (is_waiting order ≡ true → (1 ≤ held.room.orders) × (held.room.awaited ≡ Some order.sender))
 FindsRoom held (AddMark mark) = held.core.next_mark < 2 ^ 63
 FindsRoom held (SetCredit code credit) = ⊤
 FindsRoom held (SetBalance code balance) = ⊤
-FindsRoom held (SetState number state) = is_queued_state state ≡ false
+FindsRoom held (SetState number state) = is_waiting_state state ≡ false
+FindsRoom held (EnterQueue number date) = ⊤
 FindsRoom held (SetDay day) = ⊤
 
 abbrev pub room_after : Room → RowChange → Room
 room_after room (AddParticipant participant) = record room { participants = room.participants - 1 }
 room_after room (AddOrder order) =
-    if is_queued order then record room { orders = room.orders - 1; awaited = None } else room
+    if is_waiting order then record room { orders = room.orders - 1; awaited = None } else room
 room_after room row = room
 
 abbrev pub after_row : Held → RowChange → Held

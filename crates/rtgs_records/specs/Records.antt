@@ -6,7 +6,7 @@ use Rattle.rtgs_records.specs.Held.{Held}
 abbrev pub core_in : Records → Core
 core_in r = record {
   accounts = r.accounts.accounts;
-  queued = r.orders.orders;
+  waiting = r.orders.orders;
   day = r.day;
   next_posting = r.next_posting;
   next_order = r.orders.next;

@@ -8,7 +8,7 @@ ghost use Rattle.rtgs_book.specs.IntSum.{int_sum_by};
 ghost use Rattle.rtgs_accounts.specs.Accounts.{balance_of, code_of};
 ghost use Rattle.rtgs_book.specs.Balance.{floor_at};
 ghost use Rattle.rtgs_book.specs.Books.{is_closed, is_open, is_cut_off, is_empty};
-ghost use Rattle.rtgs_book.specs.Commands.{is_date, is_later};
+ghost use Rattle.rtgs_book.specs.Commands.{first_state, is_date, is_later};
 ghost use Rattle.rtgs_book.specs.Queue.{queued_numbers};
 ghost use Rattle.rtgs_records.specs.Records.{held_of};
 ghost use Rattle.rtgs_records.specs.Held.{FindsRoom, after_row};
@@ -20,8 +20,8 @@ use rtgs_book::{
 use rtgs_money::{Amount, BusinessDate, Cents, Code, Credit, PostingAmount, Reference};
 use rtgs_queues::Orders;
 
-/// What a ledger has of a book: accounts with their balances, queued orders, the day, and the numbers of the next
-/// records.
+/// What a ledger has of a book: accounts with their balances, the orders that are queued or held, the day, and the
+/// numbers of the next records.
 #[derive(Debug, Drop)]
 pub struct Records {
     pub accounts: Accounts,
@@ -49,6 +49,7 @@ impl Records {
             RowChange::SetCredit { code, credit } => self.accounts.set_credit(code, *credit),
             RowChange::SetBalance { code, balance } => self.accounts.set_balance(code, *balance),
             RowChange::SetState { number, state } => self.orders.set_state(*number, *state),
+            RowChange::EnterQueue { number, date } => self.orders.enter(*number, *date),
             RowChange::SetDay(day) => self.day = *day,
         }
     }
@@ -180,7 +181,7 @@ impl Records {
             && balance >= i128::from(self.floor(sender))
     }
 
-    /// The next order, queued as yet.
+    /// The next order, queued as yet, or held where it has a due date.
     pub fn next_order(
         &self,
         sender: Code,
@@ -188,6 +189,7 @@ impl Records {
         receiver: Code,
         amount: Amount,
         date: BusinessDate,
+        due: Option<BusinessDate>,
     ) -> Order
         ensures { result ≡ record {
           number = self.now.orders.next;
@@ -196,7 +198,8 @@ impl Records {
           receiver = receiver;
           amount = amount;
           date = date;
-          state = OrderState.Queued;
+          due = due;
+          state = first_state due;
         } }
     {
         Order {
@@ -206,7 +209,11 @@ impl Records {
             receiver,
             amount,
             date,
-            state: OrderState::Queued,
+            due,
+            state: match due {
+                None => OrderState::Queued,
+                Some(_) => OrderState::Held,
+            },
         }
     }
 

@@ -39,12 +39,14 @@ pub enum RefusalKind {
     WrongDate,
     /// The date is a Saturday or a Sunday.
     Weekend,
-    /// The order is settled or rejected.
+    /// The order is neither queued nor held.
     NotQueued,
     /// Queued orders could be settled together.
     Resolvable,
     /// Participants are below zero.
     Overdrawn,
+    /// The due date of an order is not later than the day's.
+    DueNotLater,
     /// A code is not of its form.
     BadCode,
     /// A reference is not of its form.
@@ -160,6 +162,7 @@ impl RefusalKind {
             Self::NotQueued => (17, "NotQueued", Some(409), Some(REFUSED)),
             Self::Resolvable => (18, "Resolvable", Some(409), Some(REFUSED)),
             Self::Overdrawn => (19, "Overdrawn", Some(409), Some(REFUSED)),
+            Self::DueNotLater => (20, "DueNotLater", Some(409), Some(REFUSED)),
             Self::BadCode => (30, "BadCode", Some(400), Some(REFUSED)),
             Self::BadReference => (31, "BadReference", Some(400), Some(REFUSED)),
             Self::BadAmount => (32, "BadAmount", Some(400), Some(REFUSED)),

@@ -16,9 +16,10 @@ use Rattle.rtgs_book.specs.declared.command.Command.{Command}
 use Rattle.rtgs_book.specs.declared.command.Command.TheVariants.{Add, Post, Order as PlaceOrder, Withdraw}
 use Rattle.rtgs_book.specs.declared.answer.Answer.TheVariants as answer
 use Rattle.rtgs_book.specs.declared.answer.Known.TheVariants as known
-use Rattle.rtgs_book.specs.Books.{is_queued_state, is_withdrawn_state}
+use Rattle.rtgs_book.specs.Books.{is_waiting_state, is_withdrawn_state}
 use Rattle.rtgs_book.specs.Commands.{repeated, add, with_participant, is_same_participant, post, is_same_posting}
 use Rattle.rtgs_book.specs.Commands.{known_posting, order, is_same_order, known_order, new_order, takes}
+use Rattle.rtgs_book.specs.Commands.{is_same_due, takes_due}
 use Rattle.rtgs_book.specs.Commands.{settles_at_once, has_number, withdraw, is_withdrawn_order, number_of, with_state}
 use Rattle.rtgs_book.specs.Lookup.{has_code, accounts, participant_of, is_participant, is_order_named, order_named}
 use Rattle.rtgs_book.specs.Lookup.{is_posting_named, posting_named}
@@ -143,47 +144,60 @@ not_accepted_order : (found : Option Order) → is_accepted (known_order found) 
 not_accepted_order None = refl
 not_accepted_order (Some o) = refl
 
-pub order_same : (o : Order) (receiver : List ℕ) (amount : ℕ) → o.receiver ≡ receiver → o.amount ≡ amount
-    → is_same_order (Some o) receiver amount ≡ true
-order_same o receiver amount r a = and_from _ _ ((bytes_decides o.receiver receiver).1 r)
-    (ap (λ n. o.amount == n) (sym a) ∙ eq_self o.amount)
+same_due_self : (due : Option ℕ) → is_same_due due due ≡ true
+same_due_self None = refl
+same_due_self (Some due) = eq_self due
 
-order_known : (book : Book) (sender reference receiver : List ℕ) (amount : ℕ) (o : Order)
+pub order_same : (o : Order) (receiver : List ℕ) (amount : ℕ) (due : Option ℕ) → o.receiver ≡ receiver
+    → o.amount ≡ amount → o.due ≡ due → is_same_order (Some o) receiver amount due ≡ true
+order_same o receiver amount due r a d =
+    and_from _ _ (and_from _ _ ((bytes_decides o.receiver receiver).1 r)
+    (ap (λ n. o.amount == n) (sym a) ∙ eq_self o.amount))
+    (ap (is_same_due o.due) (sym d) ∙ same_due_self o.due)
+
+order_known : (book : Book) (sender reference receiver : List ℕ) (amount : ℕ) (due : Option ℕ) (o : Order)
     → is_participant book sender ≡ true → order_named book sender reference ≡ Some o → o.receiver ≡ receiver
-    → o.amount ≡ amount
-    → Step book (PlaceOrder sender reference receiver amount) (Ok (answer.Repeated (known.Order o.number o.state))) book
+    → o.amount ≡ amount → o.due ≡ due
+    → Step book (PlaceOrder sender reference receiver amount due)
+    (Ok (answer.Repeated (known.Order o.number o.state))) book
 unfolding order
-order_known book sender reference receiver amount o has e r a =
-    sym (second_holds _ _ _ _ _ _ _ (not_from_true _ has) (ap (λ found. is_same_order found receiver amount) e
-    ∙ order_same o receiver amount r a) ∙ (λ i. record { reply = known_order (e i); book = book }))
+order_known book sender reference receiver amount due o has e r a d =
+    sym (second_holds _ _ _ _ _ _ _ (not_from_true _ has) (ap (λ found. is_same_order found receiver amount due) e
+    ∙ order_same o receiver amount due r a d) ∙ (λ i. record { reply = known_order (e i); book = book }))
 
 taken_number : (book : Book) (o : Order) → answered_number (takes book o).reply ≡ o.number
 unfolding takes
 taken_number book o = choose (λ (out : Outcome). answered_number out.reply ≡ o.number)
     (settles_at_once book o.sender o.amount) _ _ refl refl
 
-pub ordered_known : (old new : Book) (reply : Reply) (sender reference receiver : List ℕ) (amount : ℕ) → IsSound old
-    → is_accepted reply ≡ true → Step old (PlaceOrder sender reference receiver amount) reply new
+taken_due_number : (book : Book) (o : Order) (due : Option ℕ)
+    → answered_number (takes_due book o due).reply ≡ o.number
+taken_due_number book o None = taken_number book o
+taken_due_number book o (Some due) = refl
+
+pub ordered_known : (old new : Book) (reply : Reply) (sender reference receiver : List ℕ) (amount : ℕ)
+    (due : Option ℕ) → IsSound old
+    → is_accepted reply ≡ true → Step old (PlaceOrder sender reference receiver amount due) reply new
     → (o : Order) × (order_named new sender reference ≡ Some o) × (o.receiver ≡ receiver) × (o.amount ≡ amount)
-    × (o.number ≡ answered_number reply) × (is_participant old sender ≡ true)
+    × (o.number ≡ answered_number reply) × (is_participant old sender ≡ true) × (o.due ≡ due)
 unfolding order order_named
-ordered_known old new reply sender reference receiver amount h accepted s =
+ordered_known old new reply sender reference receiver amount due h accepted s =
     let p = passed_step old new reply _ _ (
       refl,
       (
         not_accepted_order _,
-        (refl, (refl, (refl, (refl, (refl, (refl, tt)))))),
+        (refl, (refl, (refl, (refl, (refl, (refl, (refl, (refl, tt)))))))),
       ),
     ) accepted s in
     let book = ap (λ (o : Outcome). o.book) p.1 in
     let number = ap (λ (o : Outcome). answered_number o.reply) p.1
-    ∙ taken_number old (new_order old sender reference receiver amount) in
+    ∙ taken_due_number old (new_order old sender reference receiver amount due) due in
     let joined : find (is_order_named sender reference) (old.orders ++ new_order old sender reference receiver amount
-    ∷ []) ≡ Some (new_order old sender reference receiver amount) =
-    find_right (is_order_named sender reference) old.orders (new_order old sender reference receiver amount ∷ [])
+    due ∷ []) ≡ Some (new_order old sender reference receiver amount due) =
+    find_right (is_order_named sender reference) old.orders (new_order old sender reference receiver amount due ∷ [])
     p.0.1.1.0 ∙ rw (bytes_eq_self sender, bytes_eq_self reference) refl in
-    let later = (kept_joined old sender reference receiver amount h.orders_numbered).orders sender reference
-    (new_order old sender reference receiver amount) joined in (
+    let later = (kept_joined old sender reference receiver amount h.orders_numbered due).orders sender reference
+    (new_order old sender reference receiver amount due) joined in (
       later.0,
       ap (λ (b : Book). find (is_order_named sender reference) b.orders) book
           ∙ later.1,
@@ -191,6 +205,7 @@ ordered_known old new reply sender reference receiver amount h accepted s =
       later.2.amount,
       later.2.number ∙ sym number,
       not-false _ p.0.0,
+      later.2.due,
     )
 
 -- ---- a withdrawal
@@ -252,19 +267,19 @@ module _ (old mid new : Book) (reply : Reply) (h : IsSound old) (accepted : is_a
         ap (λ n. Ok (answer.Repeated (known.Posting n))) p.4,
         post_known new code reference cents p.0 (still code p.5) (later.postings reference p.0 p.1) p.2 p.3,
       )
-  acted (PlaceOrder sender reference receiver amount) once s =
-      let p = ordered_known old mid reply sender reference receiver amount h accepted s in
+  acted (PlaceOrder sender reference receiver amount due) once s =
+      let p = ordered_known old mid reply sender reference receiver amount due h accepted s in
       let q = later.orders sender reference p.0 p.1 in (
         Ok (answer.Repeated (known.Order q.0.number q.0.state)),
         (q.0, q.1, q.2.number ∙ p.4, ap (λ n. Ok (answer.Repeated (known.Order n q.0.state))) (q.2.number ∙ p.4)),
-        order_known new sender reference receiver amount q.0 (still sender p.5) q.1 (q.2.receiver ∙ p.2)
-            (q.2.amount ∙ p.3),
+        order_known new sender reference receiver amount due q.0 (still sender p.5) q.1 (q.2.receiver ∙ p.2)
+            (q.2.amount ∙ p.3) (q.2.due ∙ p.6),
       )
   acted (Withdraw sender reference) once s =
       let p = took_back old mid reply sender reference accepted s in
       let q = later.orders sender reference p.0 p.1 in (
         Ok (answer.Repeated (known.Order q.0.number Withdrawn)),
         ap (λ n. Ok (answer.Repeated (known.Order n Withdrawn))) (q.2.number ∙ p.3),
-        withdrawn_known new sender reference q.0 (still sender p.4) q.1 (q.2.state (ap is_queued_state p.2) ∙ p.2),
+        withdrawn_known new sender reference q.0 (still sender p.4) q.1 (q.2.state (ap is_waiting_state p.2) ∙ p.2),
       )
   acted other once s = absurd (true≢false (sym once))

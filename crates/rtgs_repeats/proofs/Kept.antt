@@ -1,6 +1,7 @@
 -- What each change to a book keeps of its records.
 use Rattle.std.proofs.Common.{◌≡◌, ℕ, ◌<◌, ◌+◌, Bool, true, false, cond, not, List, [], ◌∷◌, ◌++◌, map, filter}
 use Rattle.std.proofs.Common.{length, Some, find, is_some, refl, sym, ap, ◌∙◌, true≢false}
+use Rattle.std.proofs.lemmas.Bool.{and_parts}
 use Rattle.std.proofs.lemmas.List.{length-map}
 use Rattle.std.specs.List.{AllByRecursion, range_with_len}
 use Rattle.std.specs.Option.{option_map}
@@ -11,17 +12,17 @@ use Rattle.rtgs_book.specs.declared.posting.Posting.{Posting}
 use Rattle.rtgs_book.specs.declared.order.Order.{Order}
 use Rattle.rtgs_book.specs.declared.mark.Mark.{Mark}
 use Rattle.rtgs_book.specs.declared.order_state.OrderState.{OrderState}
-use Rattle.rtgs_book.specs.declared.order_state.OrderState.TheVariants.{Settled}
-use Rattle.rtgs_book.specs.Books.{is_queued, is_empty}
-use Rattle.rtgs_book.specs.Commands.{is_before, has_number}
+use Rattle.rtgs_book.specs.declared.order_state.OrderState.TheVariants.{Queued, Held, Settled, Withdrawn, Rejected}
+use Rattle.rtgs_book.specs.Books.{is_queued_state, is_held_state, is_waiting_state, is_waiting, is_held, is_empty}
+use Rattle.rtgs_book.specs.Commands.{is_before, has_number, is_due, entered}
 use Rattle.rtgs_book.specs.Lookup.{has_code, participant_of, is_order_named, order_named, is_posting_named}
 use Rattle.rtgs_book.specs.Lookup.{posting_named}
-use Rattle.rtgs_book.specs.Settle.{restated, settle, mark_of, next_mark}
+use Rattle.rtgs_book.specs.Settle.{altered, in_state, restated, settle, mark_of, next_mark}
 use Rattle.rtgs_book.specs.Soundness.{OrdersAreNumbered}
 use Rattle.rtgs_repeats.specs.Kept.{IsKeptParticipant, IsKeptOrder, AreKept}
 use Rattle.rtgs_repeats.proofs.Finds.{find_left, find_right, find_mapped, find_kept, find_dropped}
 use Rattle.rtgs_repeats.proofs.Finds.{find_none_in, found, all_below}
-use Rattle.rtgs_lists.proofs.Lists.{all_weaker}
+use Rattle.rtgs_lists.proofs.Lists.{all_weaker, changed_same}
 use Rattle.rtgs_lists.proofs.Numbers.{other_number}
 
 -- ---- orders
@@ -31,47 +32,91 @@ OrdersKept old new = (sender reference : List ℕ) (o : Order) → find (is_orde
     → (later : Order) × (find (is_order_named sender reference) new ≡ Some later) × IsKeptOrder o later
 
 pub itself : (o : Order) → IsKeptOrder o o
-itself o = record { number = refl; receiver = refl; amount = refl; state = λ _. refl }
+itself o = record {
+  number = refl;
+  receiver = refl;
+  amount = refl;
+  due = refl;
+  state = λ _. refl;
+  date = λ _. refl;
+  held = λ e. e;
+}
 
--- queued orders alone get another state
-abbrev pub QueuedAlone : (Order → Bool) → List Order → Type 0
-QueuedAlone is_in os = AllByRecursion (λ o. is_in o ≡ true → is_queued o ≡ true) os
+pub queued_waits : (s : OrderState) → is_queued_state s ≡ true → is_waiting_state s ≡ true
+queued_waits Queued e = refl
+queued_waits Held e = refl
+queued_waits (Settled mark) e = absurd (true≢false (sym e))
+queued_waits Withdrawn e = absurd (true≢false (sym e))
+queued_waits Rejected e = absurd (true≢false (sym e))
 
-pub restated_kept : (is_in : Order → Bool) (s : OrderState) (o : Order) → (is_in o ≡ true → is_queued o ≡ true)
-    → IsKeptOrder o (restated is_in s o)
-restated_kept is_in s o queued = by (is_in o) queued
+held_waits : (s : OrderState) → is_held_state s ≡ true → is_waiting_state s ≡ true
+held_waits Queued e = refl
+held_waits Held e = refl
+held_waits (Settled mark) e = absurd (true≢false (sym e))
+held_waits Withdrawn e = absurd (true≢false (sym e))
+held_waits Rejected e = absurd (true≢false (sym e))
+
+-- queued and held orders alone get another state
+abbrev pub WaitingAlone : (Order → Bool) → List Order → Type 0
+WaitingAlone is_in os = AllByRecursion (λ o. is_in o ≡ true → is_waiting o ≡ true) os
+
+pub restated_kept : (is_in : Order → Bool) (s : OrderState) (o : Order) → is_held_state s ≡ false
+    → (is_in o ≡ true → is_waiting o ≡ true) → IsKeptOrder o (restated is_in s o)
+restated_kept is_in s o not_held waits = by (is_in o) waits
   where
-    by : (b : Bool) → (b ≡ true → is_queued o ≡ true) → IsKeptOrder o (cond b (record o { state = s }) o)
-    by true q = record {
+    by : (b : Bool) → (b ≡ true → is_waiting o ≡ true) → IsKeptOrder o (cond b (in_state s o) o)
+    by true w = record {
       number = refl;
       receiver = refl;
       amount = refl;
-      state = λ e. absurd (true≢false (sym (q refl) ∙ e));
+      due = refl;
+      state = λ e. absurd (true≢false (sym (w refl) ∙ e));
+      date = λ _. refl;
+      held = λ _. not_held;
     }
-    by false q = itself o
-
-same_name : (sender reference : List ℕ) (is_in : Order → Bool) (s : OrderState) (o : Order)
-    → is_order_named sender reference (restated is_in s o) ≡ is_order_named sender reference o
-same_name sender reference is_in s o = by (is_in o)
-  where
-    by : (b : Bool) → is_order_named sender reference (cond b (record o { state = s }) o)
-        ≡ is_order_named sender reference o
-    by true = refl
-    by false = refl
+    by false w = itself o
 
 pub found_restated : (sender reference : List ℕ) (is_in : Order → Bool) (s : OrderState) (os : List Order) (o : Order)
     → find (is_order_named sender reference) os ≡ Some o → find (is_order_named sender reference)
     (map (restated is_in s) os) ≡ Some (restated is_in s o)
 found_restated sender reference is_in s os o e = find_mapped (is_order_named sender reference) (restated is_in s)
-    (same_name sender reference is_in s) os ∙ ap (option_map (restated is_in s)) e
+    (changed_same (is_order_named sender reference) (in_state s) (λ o. refl) is_in) os
+    ∙ ap (option_map (restated is_in s)) e
 
-pub orders_restated : (is_in : Order → Bool) (s : OrderState) (os : List Order) → QueuedAlone is_in os
-    → OrdersKept os (map (restated is_in s) os)
-orders_restated is_in s os queued sender reference o e = (
+pub orders_restated : (is_in : Order → Bool) (s : OrderState) (os : List Order) → is_held_state s ≡ false
+    → WaitingAlone is_in os → OrdersKept os (map (restated is_in s) os)
+orders_restated is_in s os not_held waits sender reference o e = (
   restated is_in s o,
   found_restated sender reference is_in s os o e,
-  restated_kept is_in s o
-      (found (is_order_named sender reference) (λ o. is_in o ≡ true → is_queued o ≡ true) os o queued e).0,
+  restated_kept is_in s o not_held
+      (found (is_order_named sender reference) (λ o. is_in o ≡ true → is_waiting o ≡ true) os o waits e).0,
+)
+
+-- an order that enters its queue was held, and keeps all but its date and its state
+entered_kept : (date : ℕ) (o : Order) → IsKeptOrder o (altered (is_due date) (entered date) o)
+entered_kept date o = by (is_due date o) refl
+  where
+    by : (b : Bool) → is_due date o ≡ b → IsKeptOrder o (cond b (entered date o) o)
+    by true e =
+        let held : is_held o ≡ true = (and_parts (is_held o) _ e).0 in
+        record {
+          number = refl;
+          receiver = refl;
+          amount = refl;
+          due = refl;
+          state = λ f. absurd (true≢false (sym (held_waits o.state held) ∙ f));
+          date = λ f. absurd (true≢false (sym held ∙ f));
+          held = λ _. refl;
+        }
+    by false e = itself o
+
+pub orders_entered : (date : ℕ) (os : List Order) → OrdersKept os (map (altered (is_due date) (entered date)) os)
+orders_entered date os sender reference o e = (
+  altered (is_due date) (entered date) o,
+  find_mapped (is_order_named sender reference) (altered (is_due date) (entered date))
+      (changed_same (is_order_named sender reference) (entered date) (λ o. refl) (is_due date)) os
+      ∙ ap (option_map (altered (is_due date) (entered date))) e,
+  entered_kept date o,
 )
 
 pub orders_grown : (os later : List Order) → OrdersKept os (os ++ later)
@@ -80,11 +125,11 @@ orders_grown os later sender reference o e = (o, find_left (is_order_named sende
 pub orders_same : (os : List Order) → OrdersKept os os
 orders_same os sender reference o e = (o, e, itself o)
 
-queued_as : (old new : Order) → IsKeptOrder old new → is_queued old ≡ false → is_queued new ≡ false
-queued_as old new k e = by (k.state e)
+waiting_as : (old new : Order) → IsKeptOrder old new → is_waiting old ≡ false → is_waiting new ≡ false
+waiting_as old new k e = by (k.state e)
   where
-    by : new.state ≡ old.state → is_queued new ≡ false
-    by same = (λ i. is_queued (record new { state = same i })) ∙ e
+    by : new.state ≡ old.state → is_waiting new ≡ false
+    by same = (λ i. is_waiting (record new { state = same i })) ∙ e
 
 pub orders_through : (old mid new : List Order) → OrdersKept old mid → OrdersKept mid new → OrdersKept old new
 orders_through old mid new h k sender reference o e =
@@ -96,7 +141,10 @@ orders_through old mid new h k sender reference o e =
         number = two.2.number ∙ one.2.number;
         receiver = two.2.receiver ∙ one.2.receiver;
         amount = two.2.amount ∙ one.2.amount;
-        state = λ f. two.2.state (queued_as o one.0 one.2 f) ∙ one.2.state f;
+        due = two.2.due ∙ one.2.due;
+        state = λ f. two.2.state (waiting_as o one.0 one.2 f) ∙ one.2.state f;
+        date = λ f. two.2.date (one.2.held f) ∙ one.2.date f;
+        held = λ f. two.2.held (one.2.held f);
       },
     )
 

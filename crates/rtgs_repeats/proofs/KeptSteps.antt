@@ -10,10 +10,11 @@ use Rattle.rtgs_book.specs.declared.order_state.OrderState.TheVariants.{Settled,
 use Rattle.rtgs_book.specs.declared.command.Command.{Command}
 use Rattle.rtgs_book.specs.declared.command.Command.TheVariants.{Add, SetCredit, Post, OpenDay, Order as PlaceOrder}
 use Rattle.rtgs_book.specs.declared.command.Command.TheVariants.{Withdraw, Resolve, CutOff, CloseDay}
-use Rattle.rtgs_book.specs.Books.{is_queued, is_empty}
+use Rattle.rtgs_book.specs.Books.{is_queued, is_waiting, is_empty}
 use Rattle.rtgs_book.specs.Choice.{is_chosen, chosen, Choice}
 use Rattle.rtgs_book.specs.Commands.{add, with_participant, set_credit, with_credit, post, new_order, with_order}
-use Rattle.rtgs_book.specs.Commands.{has_number, takes, settles_at_once, order, is_queued_order, number_of, with_state}
+use Rattle.rtgs_book.specs.Commands.{has_number, takes, takes_due, settles_at_once, order, is_waiting_order, number_of}
+use Rattle.rtgs_book.specs.Commands.{with_state, let_in}
 use Rattle.rtgs_book.specs.Commands.{withdraw, open_day, cut_off, resolve, close_day}
 use Rattle.rtgs_book.specs.Lookup.{participant_of, is_order_named, order_named, is_posting_named}
 use Rattle.rtgs_book.specs.Outcome.{Reply, Outcome}
@@ -23,9 +24,9 @@ use Rattle.rtgs_book.specs.Step.{Step}
 use Rattle.rtgs_laws.specs.Through.{GoesThrough}
 use Rattle.rtgs_repeats.specs.Kept.{AreKept}
 use Rattle.rtgs_repeats.proofs.Finds.{find_left, only_one}
-use Rattle.rtgs_repeats.proofs.Kept.{QueuedAlone, orders_same, orders_grown, orders_restated, none_numbered}
-use Rattle.rtgs_repeats.proofs.Kept.{by_settling, participants_same, participants_added, participants_credited, kept_by}
-use Rattle.rtgs_repeats.proofs.Kept.{kept_through}
+use Rattle.rtgs_repeats.proofs.Kept.{WaitingAlone, queued_waits, orders_same, orders_grown, orders_restated}
+use Rattle.rtgs_repeats.proofs.Kept.{orders_entered, none_numbered, by_settling, participants_same, participants_added}
+use Rattle.rtgs_repeats.proofs.Kept.{participants_credited, kept_by, kept_through}
 use Rattle.rtgs_repeats.proofs.Passing.{after_tests, choose_book}
 use Rattle.rtgs_lists.proofs.Lists.{all_of, all_push, all_weaker}
 
@@ -33,15 +34,15 @@ pub kept_itself : (book : Book) → AreKept book book
 kept_itself book = kept_by book book (participants_same book.participants) (λ reference p e. e)
     (orders_same book.orders)
 
-kept_settle : (book : Book) (is_in : Order → Bool) → QueuedAlone is_in book.orders → AreKept book (settle book is_in)
-kept_settle book is_in queued = by_settling (AreKept book) book is_in (kept_itself book)
+kept_settle : (book : Book) (is_in : Order → Bool) → WaitingAlone is_in book.orders → AreKept book (settle book is_in)
+kept_settle book is_in waits = by_settling (AreKept book) book is_in (kept_itself book)
     (λ marks. kept_by book _ (participants_same book.participants) (λ reference p e. e)
-    (orders_restated is_in (Settled (next_mark book)) book.orders queued))
+    (orders_restated is_in (Settled (next_mark book)) book.orders refl waits))
 
-chosen_queued : (book : Book) (choice : Choice) → QueuedAlone (is_chosen book choice) book.orders
+chosen_waits : (book : Book) (choice : Choice) → WaitingAlone (is_chosen book choice) book.orders
 unfolding is_chosen
-chosen_queued book choice = all_of (λ o. is_chosen book choice o ≡ true → is_queued o ≡ true)
-    (λ o e. (and_parts (is_queued o) _ e).0) book.orders
+chosen_waits book choice = all_of (λ o. is_chosen book choice o ≡ true → is_waiting o ≡ true)
+    (λ o e. queued_waits o.state (and_parts (is_queued o) _ e).0) book.orders
 
 kept_order : (book : Book) (o : Order) → AreKept book (with_order book o)
 kept_order book o = kept_by book _ (participants_same book.participants) (λ reference p e. e)
@@ -50,34 +51,36 @@ kept_order book o = kept_by book _ (participants_same book.participants) (λ ref
 -- ---- an order that is taken, and one that is withdrawn
 
 module _ (book : Book) (sender reference receiver : List ℕ) (amount : ℕ) (h : OrdersAreNumbered book) where
-  pub one_new : QueuedAlone (has_number (length book.orders + 1))
-      (book.orders ++ new_order book sender reference receiver amount ∷ [])
-  one_new = all_push (λ o. has_number (length book.orders + 1) o ≡ true → is_queued o ≡ true) book.orders
-      (new_order book sender reference receiver amount)
+  pub one_new : WaitingAlone (has_number (length book.orders + 1))
+      (book.orders ++ new_order book sender reference receiver amount None ∷ [])
+  one_new = all_push (λ o. has_number (length book.orders + 1) o ≡ true → is_waiting o ≡ true) book.orders
+      (new_order book sender reference receiver amount None)
       (all_weaker (λ o. has_number (length book.orders + 1) o ≡ false)
-      (λ o. has_number (length book.orders + 1) o ≡ true → is_queued o ≡ true)
+      (λ o. has_number (length book.orders + 1) o ≡ true → is_waiting o ≡ true)
       (λ o none e. absurd (true≢false (sym e ∙ none))) book.orders (none_numbered book h)) (λ _. refl)
 
-  -- from the order that joined its queue
-  pub kept_joined : AreKept (with_order book (new_order book sender reference receiver amount))
-      (takes book (new_order book sender reference receiver amount)).book
+  -- from the order that joined its queue, or is held
+  pub kept_joined : (due : Option ℕ) → AreKept (with_order book (new_order book sender reference receiver amount due))
+      (takes_due book (new_order book sender reference receiver amount due) due).book
   unfolding takes
-  kept_joined =
-      let joined = with_order book (new_order book sender reference receiver amount) in
+  kept_joined None =
+      let joined = with_order book (new_order book sender reference receiver amount None) in
       choose_book (AreKept joined) (settles_at_once book sender amount) _ _
       (kept_settle joined (has_number (length book.orders + 1)) one_new) (kept_itself joined)
+  kept_joined (Some due) = kept_itself (with_order book (new_order book sender reference receiver amount (Some due)))
 
-  kept_taken : AreKept book (takes book (new_order book sender reference receiver amount)).book
-  kept_taken = kept_through book (with_order book (new_order book sender reference receiver amount)) _
-      (kept_order book (new_order book sender reference receiver amount)) kept_joined
+  kept_taken : (due : Option ℕ)
+      → AreKept book (takes_due book (new_order book sender reference receiver amount due) due).book
+  kept_taken due = kept_through book (with_order book (new_order book sender reference receiver amount due)) _
+      (kept_order book (new_order book sender reference receiver amount due)) (kept_joined due)
 
-pub withdrawn_queued : (book : Book) (sender reference : List ℕ) (o : Order) → OrdersAreNumbered book
-    → order_named book sender reference ≡ Some o → is_queued o ≡ true → QueuedAlone (has_number o.number) book.orders
+pub withdrawn_waits : (book : Book) (sender reference : List ℕ) (o : Order) → OrdersAreNumbered book
+    → order_named book sender reference ≡ Some o → is_waiting o ≡ true → WaitingAlone (has_number o.number) book.orders
 unfolding order_named
-withdrawn_queued book sender reference o h e q =
+withdrawn_waits book sender reference o h e w =
     all_weaker (λ other. has_number o.number other ≡ true → other ≡ o)
-    (λ other. has_number o.number other ≡ true → is_queued other ≡ true) (λ other same t. ap is_queued (same t) ∙ q)
-    book.orders
+    (λ other. has_number o.number other ≡ true → is_waiting other ≡ true)
+    (λ other same t. ap is_waiting (same t) ∙ w) book.orders
     (only_one (is_order_named sender reference) 1 book.orders o
     (h.0 ∙ ap (range_with_len 1) (length-map book.orders (λ (o : Order). o.number))) e)
 
@@ -85,13 +88,14 @@ kept_withdrawn : (book : Book) (sender reference : List ℕ) → OrdersAreNumber
     → AreKept book (withdraw book sender reference).book
 unfolding withdraw with_state
 kept_withdrawn book sender reference h = after_tests (AreKept book) book _ _ (kept_itself book)
-    (λ (_, (_, (_, (queued, _)))). by (order_named book sender reference) refl (not-false _ queued))
+    (λ (_, (_, (_, (waits, _)))). by (order_named book sender reference) refl (not-false _ waits))
   where
-    by : (found : Option Order) → order_named book sender reference ≡ found → is_queued_order found ≡ true
+    by : (found : Option Order) → order_named book sender reference ≡ found → is_waiting_order found ≡ true
         → AreKept book (with_state book (has_number (number_of found)) Withdrawn)
-    by None e q = absurd (true≢false (sym q))
-    by (Some o) e q = kept_by book _ (participants_same book.participants) (λ reference p e. e)
-        (orders_restated (has_number o.number) Withdrawn book.orders (withdrawn_queued book sender reference o h e q))
+    by None e w = absurd (true≢false (sym w))
+    by (Some o) e w = kept_by book _ (participants_same book.participants) (λ reference p e. e)
+        (orders_restated (has_number o.number) Withdrawn book.orders refl
+        (withdrawn_waits book sender reference o h e w))
 
 -- ---- each command
 
@@ -107,7 +111,7 @@ kept_added old code name key = after_tests (AreKept old) old _ _ (kept_itself ol
 
 pub step_kept : (old new : Book) (command : Command) (reply : Reply) → IsSound old → Step old command reply new
     → AreKept old new
-unfolding set_credit with_credit post open_day order with_state cut_off resolve close_day
+unfolding set_credit with_credit post open_day let_in order with_state cut_off resolve close_day
 step_kept old new (Add code name key) reply h e = kept_as old new reply _ e (kept_added old code name key)
 step_kept old new (SetCredit code credit) reply h e = kept_as old new reply _ e
     (after_tests (AreKept old) old _ _ (kept_itself old) (λ _. kept_by old _
@@ -117,23 +121,23 @@ step_kept old new (Post code reference cents) reply h e = kept_as old new reply 
     (λ reference p e. find_left (is_posting_named reference) old.postings _ p e) (orders_same old.orders)))
 step_kept old new (OpenDay date) reply h e = kept_as old new reply _ e
     (after_tests (AreKept old) old _ _ (kept_itself old) (λ _. kept_by old _ (participants_same old.participants)
-    (λ reference p e. e) (orders_same old.orders)))
-step_kept old new (PlaceOrder sender reference receiver amount) reply h e =
+    (λ reference p e. e) (orders_entered date old.orders)))
+step_kept old new (PlaceOrder sender reference receiver amount due) reply h e =
     kept_as old new reply _ e (after_tests (AreKept old) old _ _ (kept_itself old)
-    (λ _. kept_taken old sender reference receiver amount h.orders_numbered))
+    (λ _. kept_taken old sender reference receiver amount h.orders_numbered due))
 step_kept old new (Withdraw sender reference) reply h e = kept_as old new reply _ e
     (kept_withdrawn old sender reference h.orders_numbered)
 step_kept old new Resolve reply h e = kept_as old new reply _ e.2
     (after_tests (AreKept old) old _ _ (kept_itself old) (λ _. choose_book (AreKept old) (is_empty (chosen old e.0)) _ _
-    (kept_itself old) (kept_settle old (is_chosen old e.0) (chosen_queued old e.0))))
+    (kept_itself old) (kept_settle old (is_chosen old e.0) (chosen_waits old e.0))))
 step_kept old new (CutOff date) reply h e = kept_as old new reply _ e
     (after_tests (AreKept old) old _ _ (kept_itself old) (λ _. kept_by old _ (participants_same old.participants)
     (λ reference p e. e) (orders_same old.orders)))
 step_kept old new (CloseDay date) reply h e = kept_as old new reply _ e.2
     (after_tests (AreKept old) old _ _ (kept_itself old) (λ _. kept_by old _ (participants_same old.participants)
     (λ reference p e. e)
-    (orders_restated is_queued Rejected old.orders (all_of (λ o. is_queued o ≡ true → is_queued o ≡ true) (λ o t. t)
-    old.orders))))
+    (orders_restated is_queued Rejected old.orders refl
+    (all_of (λ o. is_queued o ≡ true → is_waiting o ≡ true) (λ o t. queued_waits o.state t) old.orders))))
 
 pub kept_goes_through : GoesThrough AreKept
 kept_goes_through = record { itself = kept_itself; through = kept_through }

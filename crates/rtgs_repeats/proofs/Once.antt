@@ -12,7 +12,7 @@ use Rattle.rtgs_book.specs.declared.posting.Posting.{Posting}
 use Rattle.rtgs_book.specs.declared.order.Order.{Order}
 use Rattle.rtgs_book.specs.declared.command.Command.{Command}
 use Rattle.rtgs_book.specs.declared.command.Command.TheVariants.{Post, Order as PlaceOrder}
-use Rattle.rtgs_book.specs.Commands.{post, is_same_posting, order, is_same_order}
+use Rattle.rtgs_book.specs.Commands.{post, is_same_posting, order, is_same_order, is_same_due}
 use Rattle.rtgs_book.specs.Lookup.{order_named, posting_named}
 use Rattle.rtgs_book.specs.Outcome.{Reply, Outcome}
 use Rattle.rtgs_book.specs.Run.{Run, is_accepted, is_same_entry, is_recorded, once_after}
@@ -40,7 +40,7 @@ book_as old new reply outcome e same = ap (λ (o : Outcome). o.book) e ∙ same
 pub recorded_idle : (old new : Book) (command : Command) (reply : Reply) → is_recorded old command ≡ true
     → Step old command reply new → new ≡ old
 unfolding post order
-recorded_idle old new (PlaceOrder sender reference receiver amount) reply e s =
+recorded_idle old new (PlaceOrder sender reference receiver amount due) reply e s =
     book_as old new reply _ s (some_holds old _ _ (or_second _ _ _ e))
 recorded_idle old new (Post code reference cents) reply e s =
     book_as old new reply _ s (some_holds old _ _ (or_second _ _ _ e))
@@ -49,16 +49,18 @@ recorded_idle old new other reply e s = absurd (true≢false (sym e))
 -- what the book has it keeps
 pub recorded_kept : (old new : Book) (command : Command) → AreKept old new → is_recorded old command ≡ true
     → is_recorded new command ≡ true
-recorded_kept old new (PlaceOrder sender reference receiver amount) kept e =
+recorded_kept old new (PlaceOrder sender reference receiver amount due) kept e =
     by (order_named old sender reference) refl e
   where
-    by : (found : Option Order) → order_named old sender reference ≡ found → is_same_order found receiver amount ≡ true
-        → is_same_order (order_named new sender reference) receiver amount ≡ true
+    by : (found : Option Order) → order_named old sender reference ≡ found
+        → is_same_order found receiver amount due ≡ true
+        → is_same_order (order_named new sender reference) receiver amount due ≡ true
     by None f k = absurd (true≢false (sym k))
     by (Some o) f k =
         let later = kept.orders sender reference o f in
-        ap (λ found. is_same_order found receiver amount) later.1
-        ∙ (λ i. bytes_eq (later.2.receiver i) receiver && (later.2.amount i == amount)) ∙ k
+        ap (λ found. is_same_order found receiver amount due) later.1
+        ∙ (λ i. bytes_eq (later.2.receiver i) receiver && (later.2.amount i == amount)
+        && is_same_due (later.2.due i) due) ∙ k
 recorded_kept old new (Post code reference cents) kept e = by (posting_named old reference) refl e
   where
     by : (found : Option Posting) → posting_named old reference ≡ found → is_same_posting found code cents ≡ true
@@ -78,7 +80,7 @@ number_is : (a b : ℕ) → (a == b) ≡ true → a ≡ b
 number_is a b e = grind (arith, nat_tests)
 
 abbrev is_entry : Command → Bool
-is_entry (PlaceOrder sender reference receiver amount) = true
+is_entry (PlaceOrder sender reference receiver amount due) = true
 is_entry (Post code reference cents) = true
 is_entry other = false
 
@@ -88,22 +90,31 @@ all_three true true false e = absurd (true≢false (sym e))
 all_three true false c e = absurd (true≢false (sym e))
 all_three false b c e = absurd (true≢false (sym e))
 
-all_four : (a b c d : Bool) → (a && b && c && d) ≡ true → (a ≡ true) × (b ≡ true) × (c ≡ true) × (d ≡ true)
-all_four true true true true e = (refl, refl, refl, refl)
-all_four true true true false e = absurd (true≢false (sym e))
-all_four true true false d e = absurd (true≢false (sym e))
-all_four true false c d e = absurd (true≢false (sym e))
-all_four false b c d e = absurd (true≢false (sym e))
+all_five : (a b c d f : Bool) → (a && b && c && d && f) ≡ true
+    → (a ≡ true) × (b ≡ true) × (c ≡ true) × (d ≡ true) × (f ≡ true)
+all_five true true true true true e = (refl, refl, refl, refl, refl)
+all_five true true true true false e = absurd (true≢false (sym e))
+all_five true true true false f e = absurd (true≢false (sym e))
+all_five true true false d f e = absurd (true≢false (sym e))
+all_five true false c d f e = absurd (true≢false (sym e))
+all_five false b c d f e = absurd (true≢false (sym e))
+
+due_is : (a b : Option ℕ) → is_same_due a b ≡ true → a ≡ b
+due_is None None e = refl
+due_is (Some a) (Some b) e = ap Some (number_is a b e)
+due_is None (Some b) e = absurd (true≢false (sym e))
+due_is (Some a) None e = absurd (true≢false (sym e))
 
 -- entries with one name and one content are the same
 same_entry : (other one : Command) → is_same_entry other one ≡ true → (other ≡ one) × (is_entry one ≡ true)
-same_entry (PlaceOrder s r to amount) (PlaceOrder s' r' to' amount') e =
-    let p = all_four (bytes_eq s s') (bytes_eq r r') (bytes_eq to to') (amount == amount') e in
+same_entry (PlaceOrder s r to amount due) (PlaceOrder s' r' to' amount' due') e =
+    let p = all_five (bytes_eq s s') (bytes_eq r r') (bytes_eq to to') (amount == amount') (is_same_due due due') e in
     let sender = (bytes_decides s s').0 p.0 in
     let reference = (bytes_decides r r').0 p.1 in
     let receiver = (bytes_decides to to').0 p.2 in
     let number = number_is amount amount' p.3 in
-    ((λ i. PlaceOrder (sender i) (reference i) (receiver i) (number i)), refl)
+    let day = due_is due due' p.4 in
+    ((λ i. PlaceOrder (sender i) (reference i) (receiver i) (number i) (day i)), refl)
 same_entry (Post code r cents) (Post code' r' cents') e =
     let p = all_three (bytes_eq code code') (bytes_eq r r') (int_eq cents cents') e in
     let account = (bytes_decides code code').0 p.0 in
@@ -115,9 +126,9 @@ same_entry other one e = absurd (true≢false (sym e))
 -- an Order or Post that was accepted is had
 accepted_recorded : (old new : Book) (reply : Reply) (one : Command) → IsSound old → is_accepted reply ≡ true
     → Step old one reply new → is_entry one ≡ true → is_recorded new one ≡ true
-accepted_recorded old new reply (PlaceOrder sender reference receiver amount) h accepted s e =
-    let p = ordered_known old new reply sender reference receiver amount h accepted s in
-    ap (λ found. is_same_order found receiver amount) p.1 ∙ order_same p.0 receiver amount p.2 p.3
+accepted_recorded old new reply (PlaceOrder sender reference receiver amount due) h accepted s e =
+    let p = ordered_known old new reply sender reference receiver amount due h accepted s in
+    ap (λ found. is_same_order found receiver amount due) p.1 ∙ order_same p.0 receiver amount due p.2 p.3 p.6
 accepted_recorded old new reply (Post code reference cents) h accepted s e =
     let p = posted_known old new reply code reference cents accepted s in
     ap (λ found. is_same_posting found code cents) p.1 ∙ posting_same p.0 code cents p.2 p.3

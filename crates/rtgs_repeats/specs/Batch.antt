@@ -5,5 +5,5 @@ use Rattle.rtgs_book.specs.declared.command.Command.TheVariants.{Order}
 
 -- the command is an order of this sender
 abbrev pub IsOrderOf : List ℕ → Command → Type 0
-IsOrderOf sender (Order other reference receiver amount) = other ≡ sender
+IsOrderOf sender (Order other reference receiver amount due) = other ≡ sender
 IsOrderOf sender command = ⊥

@@ -14,7 +14,7 @@ use Rattle.rtgs_book.specs.Outcome.{Reply}
 abbrev pub acts_once : Command → Bool
 acts_once (command.Add code name key) = true
 acts_once (command.Post code reference cents) = true
-acts_once (command.Order sender reference receiver amount) = true
+acts_once (command.Order sender reference receiver amount due) = true
 acts_once (command.Withdraw sender reference) = true
 acts_once other = false
 
@@ -23,6 +23,7 @@ abbrev pub answered_number : Reply → ℕ
 answered_number (Ok (answer.Posted number)) = number
 answered_number (Ok (answer.Settled number mark)) = number
 answered_number (Ok (answer.Queued number place)) = number
+answered_number (Ok (answer.Held number due)) = number
 answered_number (Ok (answer.Withdrawn number)) = number
 answered_number reply = 0
 
@@ -30,7 +31,7 @@ answered_number reply = 0
 abbrev pub IsRepeat : Book → Command → ℕ → Reply → Type 0
 IsRepeat book (command.Add code name key) number reply = reply ≡ Ok (answer.Repeated known.Nothing)
 IsRepeat book (command.Post code reference cents) number reply = reply ≡ Ok (answer.Repeated (known.Posting number))
-IsRepeat book (command.Order sender reference receiver amount) number reply =
+IsRepeat book (command.Order sender reference receiver amount due) number reply =
     (o : Order) × (order_named book sender reference ≡ Some o) × (o.number ≡ number)
     × (reply ≡ Ok (answer.Repeated (known.Order number o.state)))
 IsRepeat book (command.Withdraw sender reference) number reply = reply

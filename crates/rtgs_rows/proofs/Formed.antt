@@ -9,7 +9,7 @@ use Rattle.rtgs_book.specs.declared.Book.{Book}
 use Rattle.rtgs_book.specs.declared.Participant.{Participant}
 use Rattle.rtgs_book.specs.declared.RowChange.{RowChange}
 use Rattle.rtgs_book.specs.declared.RowChange.TheVariants.{AddParticipant, SetCredit, SetDay}
-use Rattle.rtgs_book.specs.Commands.{is_before, with_participant, with_credit, with_state}
+use Rattle.rtgs_book.specs.Commands.{is_before, with_participant, with_credit, with_state, let_in}
 use Rattle.rtgs_book.specs.Changes.{with_row, changed}
 use Rattle.rtgs_book.specs.Lookup.{has_code}
 use Rattle.rtgs_rows.specs.Content.{Content, with_change}
@@ -28,7 +28,7 @@ credited_fits code credit limit p h = elim (cases_Bool (has_code code p)) [
 
 participants_formed : (b : Book) (row : RowChange) → FitsRow row → AllByRecursion FitsParticipant b.participants
     → AllByRecursion FitsParticipant ((with_row b row).participants)
-unfolding with_participant with_credit with_state
+unfolding with_participant with_credit with_state let_in
 participants_formed b (AddParticipant p) new h = all_put_in FitsParticipant (λ q. is_before q.code p.code) p
     b.participants h new
 participants_formed b (SetCredit code credit) new h = all_map FitsParticipant (credited code credit) b.participants
@@ -37,7 +37,7 @@ participants_formed b (SetCredit code credit) new h = all_map FitsParticipant (c
 participants_formed b row new h = h
 
 day_formed : (b : Book) (row : RowChange) → FitsRow row → FitsDate b.day.date → FitsDate ((with_row b row).day.date)
-unfolding with_participant with_credit with_state
+unfolding with_participant with_credit with_state let_in
 day_formed b (SetDay day) new h = new
 day_formed b row new h = h
 

@@ -10,7 +10,7 @@ use Rattle.rtgs_book.specs.declared.Book.{Book}
 use Rattle.rtgs_book.specs.declared.Participant.{Participant}
 use Rattle.rtgs_book.specs.declared.RowChange.{RowChange}
 use Rattle.rtgs_book.specs.declared.RowChange.TheVariants.{AddParticipant, SetCredit, SetBalance, SetDay}
-use Rattle.rtgs_book.specs.Commands.{is_before, with_participant, with_credit, with_state}
+use Rattle.rtgs_book.specs.Commands.{is_before, with_participant, with_credit, with_state, let_in}
 use Rattle.rtgs_book.specs.Lookup.{has_code}
 use Rattle.rtgs_book.specs.Changes.{with_row, changed}
 use Rattle.rtgs_rows.specs.Content.{Holding, Content, newcomer, with_credit_in, with_balance_in, with_change}
@@ -47,7 +47,7 @@ who_balance code balance (h ∷ hs) = elim (cases_Bool (bytes_eq h.participant.c
 ]
 
 day_on : (b : Book) (c : Content) (row : RowChange) → c.day ≡ b.day → (with_change c row).day ≡ (with_row b row).day
-unfolding with_participant with_credit with_state
+unfolding with_participant with_credit with_state let_in
 day_on b c (SetDay day) same = refl
 day_on b c row same = same
 
@@ -56,7 +56,7 @@ HasParticipants b c = IsPermutation (map who c.holdings) b.participants
 
 participants_on : (b : Book) (c : Content) (row : RowChange) → HasParticipants b c
     → HasParticipants (with_row b row) (with_change c row)
-unfolding with_participant with_credit with_state
+unfolding with_participant with_credit with_state let_in
 participants_on b c (AddParticipant p) same = rw (map_push who c.holdings (newcomer c p))
     (IsPermutation-trans _ _ _ (IsPermutation-to_front (map who c.holdings) p)
     (IsPermutation-trans _ _ _ (IsPermutation-cons p _ _ same)

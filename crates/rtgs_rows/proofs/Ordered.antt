@@ -1,6 +1,6 @@
 -- The records stand in order before each change of a list, where those of the book after it do.
 use Rattle.std.proofs.Common.{◌≡◌, inl, inr, ◌≢◌, ℕ, ℤ, ◌+◌, ◌<◌, pos, zero, suc, List, [], ◌∷◌, ◌++◌, map, length}
-use Rattle.std.proofs.Common.{Bool, true, false, sym, subst, ◌∙◌, arith}
+use Rattle.std.proofs.Common.{Bool, true, false, Option, Some, None, sym, subst, ◌∙◌, arith}
 use Rattle.std.specs.List.{AllByRecursion, IsDistinct, range_with_len}
 use Rattle.std.specs.List.Sorted.{IsPermutation, IsStrictlySortedBy}
 use Rattle.std.specs.Ordering.{int_cmp, nat_cmp, eq_by_cmp}
@@ -20,6 +20,7 @@ use Rattle.rtgs_lists.proofs.Lists.{all_push}
 use Rattle.sqlite_keyed.proofs.ListLemmas.{ascending-map, ascending_from_map, ascending_weaker}
 use Rattle.rtgs_book.specs.declared.Book.{Book}
 use Rattle.rtgs_book.specs.declared.Participant.{Participant}
+use Rattle.rtgs_book.specs.declared.Order.{Order}
 use Rattle.rtgs_book.specs.declared.RowChange.{RowChange}
 use Rattle.rtgs_book.specs.declared.RowChange.TheVariants.{AddParticipant, SetCredit, SetBalance}
 use Rattle.rtgs_book.specs.Changes.{with_row}
@@ -27,6 +28,7 @@ use Rattle.rtgs_book.specs.Lookup.{accounts}
 use Rattle.rtgs_book.specs.Soundness.{AreNumbered, IsSound}
 use Rattle.rtgs_rows.specs.Content.{Holding, Content, newcomer, with_credit_in, with_balance_in, with_change}
 use Rattle.rtgs_rows.specs.Content.{with_changes, Rise, IsInOrder, AreInOrder}
+use Rattle.rtgs_rows.specs.Dues.{forward_for, forwards_of}
 use Rattle.rtgs_rows.specs.Keeping.{AreOf}
 use Rattle.rtgs_rows.proofs.NextRow.{all_below}
 use Rattle.rtgs_rows.proofs.Steps.{all_front, front, posting_step, order_step, mark_step, forward_step}
@@ -137,6 +139,32 @@ list_rises : {A : Type 0} (number : A → ℕ) {xs ys : List A} → xs ≡ ys �
     → Rise (λ a. pos (number a)) xs
 list_rises number {ys = ys} same is = subst (Rise (λ a. pos (number a))) (sym same) (rises number ys is)
 
+-- the due dates of orders whose numbers rise stand in the order of their numbers
+pub dues_above : (number : ℕ) (os : List Order)
+    → AllByRecursion (λ (o : Order). int_cmp (pos number) (pos o.number) ≡ Less) os
+    → AllByRecursion (λ (f : Forward). int_cmp (pos number) (pos f.number) ≡ Less) (forwards_of os)
+dues_above number [] h = tt
+dues_above number (o ∷ os) h = by o.due h.0 (dues_above number os h.1)
+  where
+    by : (due : Option ℕ) → int_cmp (pos number) (pos o.number) ≡ Less
+        → AllByRecursion (λ (f : Forward). int_cmp (pos number) (pos f.number) ≡ Less) (forwards_of os)
+        → AllByRecursion (λ (f : Forward). int_cmp (pos number) (pos f.number) ≡ Less)
+        (forward_for o.number due ++ forwards_of os)
+    by None low rest = rest
+    by (Some due) low rest = (low, rest)
+
+pub dues_rise : (os : List Order) → Rise (λ (o : Order). pos o.number) os
+    → Rise (λ (f : Forward). pos f.number) (forwards_of os)
+dues_rise [] h = tt
+dues_rise (o ∷ os) h = by o.due (dues_above o.number os h.0) (dues_rise os h.1)
+  where
+    by : (due : Option ℕ)
+        → AllByRecursion (λ (f : Forward). int_cmp (pos o.number) (pos f.number) ≡ Less) (forwards_of os)
+        → Rise (λ (f : Forward). pos f.number) (forwards_of os)
+        → Rise (λ (f : Forward). pos f.number) (forward_for o.number due ++ forwards_of os)
+    by None above rest = rest
+    by (Some due) above rest = (above, rest)
+
 each_test : {A : Type 0} (e f : A → A → Bool) → ((x y : A) → e x y ≡ f x y) → (x : A) (ys : List A)
     → AllByRecursion (λ y. e x y ≡ false) ys → AllByRecursion (λ y. f x y ≡ false) ys
 each_test e f same x [] h = tt
@@ -181,7 +209,8 @@ order_of b c are ids sound = record {
   postings = list_rises _ are.lists.postings sound.postings_numbered;
   orders = list_rises _ are.lists.orders sound.orders_numbered;
   marks = list_rises _ are.lists.marks sound.marks_numbered;
-  forwards = subst (Rise (λ (f : Forward). pos f.number)) (sym are.lists.forwards) tt;
+  forwards = subst (Rise (λ (f : Forward). pos f.number)) (sym are.lists.forwards)
+      (dues_rise b.orders (rises (λ (o : Order). o.number) b.orders sound.orders_numbered));
 }
 
 -- what holds of the codes after changes held before

@@ -1,6 +1,6 @@
 -- The records that the queries show are those that the tables hold.
-use Rattle.std.proofs.Common.{◌≡◌, true, ℕ, ◌<◌, zero, suc, List, [], ◌∷◌, map, take, IsPermutation, refl, sym, ap₂}
-use Rattle.std.proofs.Common.{subst, subst₂, arith}
+use Rattle.std.proofs.Common.{◌≡◌, true, ℕ, ◌<◌, zero, suc, List, [], ◌∷◌, map, take, IsPermutation, refl, sym, ap}
+use Rattle.std.proofs.Common.{ap₂, subst, subst₂, arith}
 use Rattle.sqlite.specs.Order.{Row}
 use Rattle.std.specs.List.{AllByRecursion}
 use Rattle.std.proofs.lemmas.List.Sorted.{IsPermutation-map, IsPermutation-sym}
@@ -14,13 +14,15 @@ use Rattle.sqlite_keyed.proofs.ListLemmas.{map-map, all_unmap, all_both}
 use Rattle.sqlite_catalog.specs.Listing.{IsSound}
 use Rattle.rtgs_book.specs.declared.Book.{Book}
 use Rattle.rtgs_book.specs.declared.account.Account.{Account}
+use Rattle.rtgs_book.specs.declared.Order.{Order}
 use Rattle.rtgs_book.specs.Balance.{balance}
-use Rattle.rtgs_rows.specs.Dues.{forwards_of}
+use Rattle.rtgs_rows.specs.Dues.{without_due, forwards_of}
 use Rattle.rtgs_rows.specs.Tables.{schema_in, known_tables, table_count, tables_in, desk_table, participant_table}
 use Rattle.rtgs_rows.specs.Tables.{posting_table, payment_table, mark_table, forward_table, width, versions, IsVersion}
 use Rattle.rtgs_rows.specs.Migrating.{HasNoMore}
 use Rattle.rtgs_lists.proofs.Lists.{all_get}
-use Rattle.rtgs_rows.specs.TableRecords.{TableRecords, Each, records_of_tables}
+use Rattle.rtgs_rows.specs.TableRecords.{TableRecords, Each, HasNoneBeyond, records_of_tables}
+use Rattle.rtgs_rows.specs.declared.forward.Forward.{Forward}
 use Rattle.rtgs_rows.specs.Rows.{day_row, posting_row, payment_row, mark_row, shown_day, shown_posting, shown_order}
 use Rattle.rtgs_rows.specs.Rows.{shown_mark, forward_row, shown_forward}
 use Rattle.rtgs_rows.specs.Content.{Tables, tables_of_in, all_tables, tables_for_in, Holding, holding_row}
@@ -49,6 +51,11 @@ mark_told = record { numbered = (refl, _, _, refl); stands = λ m. (refl, refl, 
 
 forward_told : IsTold forward_table forward_row shown_forward (λ f. f.number)
 forward_told = record { numbered = (refl, _, _, refl); stands = λ f. (refl, refl, refl); told = λ r f all null e. cc }
+
+-- the query shows of an order what it shows of it without its due date
+shown_without : (os : List Order) → map shown_order (map without_due os) ≡ map shown_order os
+shown_without [] = refl
+shown_without (o ∷ os) = ap (λ (rows : List Row). shown_order o ∷ rows) (shown_without os)
 
 -- ---- the tables whose records are described
 
@@ -167,7 +174,8 @@ shown_tables_are version trees book accounts people whole shows order =
         (
           λ table. rows_are posting_told schema trees book.postings table order.postings,
           (
-            λ table. rows_are order_told schema trees book.orders table order.orders,
+            λ table shows. rows_are order_told schema trees book.orders table order.orders
+                (subst (ShowsTable payment_table trees) (shown_without book.orders) shows),
             (
               λ table. rows_are mark_told schema trees book.marks table order.marks,
               (λ table. rows_are forward_told schema trees (forwards_of book.orders) table order.forwards, tt),
@@ -178,11 +186,13 @@ shown_tables_are version trees book accounts people whole shows order =
     ) in
     first_rows (table_count version) schema version trees accounts book records_of_tables _ follow whole shows
 
--- a version lacks no table in which a book has records
-no_more : (book : Book) (holdings : List Holding) (version : ℕ) → IsVersion version
-    → HasNoMore version (content_of book holdings)
-no_more book holdings version known = all_get (λ v. HasNoMore v (content_of book holdings)) versions known.0 version
-    known.1 (sym known.2) (refl, (refl, tt))
+-- where the book has no record of a table that the version lacks, its records there are those of a new desk
+no_more : (book : Book) (holdings : List Holding) (accounts : List Account) (version : ℕ) → IsVersion version
+    → HasNoneBeyond version accounts book → HasNoMore version (content_of book holdings)
+no_more book holdings accounts version known =
+    all_get (λ v. HasNoneBeyond v accounts book → HasNoMore v (content_of book holdings)) versions known.0 version
+    known.1 (sym known.2)
+    (λ none. ap (λ (fs : List Forward). map forward_row fs ∷ []) none.0, (λ none. refl, tt))
 
 pub held : ShownRecordsAreHeld
 held version known trees book accounts sound full is fits shown stored =
@@ -206,6 +216,6 @@ held version known trees book accounts sound full is fits shown stored =
     record {
       content = content;
       holds = record { sound = sound; rows = rows };
-      no_more = no_more book people.holdings version known;
+      no_more = no_more book people.holdings accounts version known shown.no_more;
       same = of;
     }

@@ -1,14 +1,14 @@
 -- The tables hold one book at most.
-use Rattle.std.proofs.Common.{◌≡◌, ℕ, pos, zero, suc, List, [], ◌∷◌, map, Option, Some, None, refl, sym, ap, ap₂, subst}
-use Rattle.std.proofs.Common.{◌∙◌, arith, add-one}
+use Rattle.std.proofs.Common.{◌≡◌, ℕ, pos, zero, suc, List, [], ◌∷◌, ◌++◌, map, Option, Some, None, refl, sym, ap, ap₂}
+use Rattle.std.proofs.Common.{subst, ◌∙◌, arith, add-one}
 use Rattle.std.specs.List.{AllByRecursion}
 use Rattle.std.specs.List.Sorted.{IsPermutation, IsSorted, IsStrictlySortedBy}
-use Rattle.std.specs.Ordering.{nat_cmp, ordering_reverse, is_lt}
+use Rattle.std.specs.Ordering.{nat_cmp, int_cmp, ordering_reverse, is_lt}
 use Rattle.std.specs.declared.cmp.Ordering.{Ordering}
-use Rattle.std.specs.declared.cmp.Ordering.TheVariants.{Less}
+use Rattle.std.specs.declared.cmp.Ordering.TheVariants.{Less, Equal}
 use Rattle.std.specs.Cmp.{IsTotalOrder}
 use Rattle.std.specs.Cmp.Lexicographic.{slice_cmp}
-use Rattle.std.proofs.lemmas.Cmp.{nat_list_cmp_total}
+use Rattle.std.proofs.lemmas.Cmp.{nat_list_cmp_total, int_cmp_total, tied_itself}
 use Rattle.std.proofs.lemmas.List.Sorted.{IsPermutation-trans, IsPermutation-sym}
 use Rattle.sqlite.specs.declared.types.Value.{Value}
 use Rattle.sqlite.specs.declared.types.Value.TheVariants.{Null, Int, Text}
@@ -27,15 +27,19 @@ use Rattle.rtgs_book.specs.declared.Posting.{Posting}
 use Rattle.rtgs_book.specs.declared.Order.{Order}
 use Rattle.rtgs_book.specs.declared.Mark.{Mark}
 use Rattle.rtgs_book.specs.declared.OrderState.{OrderState}
-use Rattle.rtgs_book.specs.declared.OrderState.TheVariants.{Queued, Settled, Withdrawn, Rejected}
+use Rattle.rtgs_book.specs.declared.OrderState.TheVariants.{Queued, Held, Settled, Withdrawn, Rejected}
 use Rattle.rtgs_book.specs.Lookup.{accounts}
 use Rattle.rtgs_book.specs.Soundness.{CodesRise}
 use Rattle.rtgs_rows.specs.declared.numbers.TheConstants.{VERSION}
 use Rattle.rtgs_rows.specs.Rows.{date_value, phase_number, state_number, mark_value, day_row, posting_row, payment_row}
-use Rattle.rtgs_rows.specs.Rows.{mark_row}
+use Rattle.rtgs_rows.specs.Rows.{mark_row, forward_row}
+use Rattle.rtgs_rows.specs.Dues.{without_due, forward_for, forwards_of}
+use Rattle.rtgs_rows.specs.declared.forward.Forward.{Forward}
+use Rattle.rtgs_rows.proofs.Ordered.{rises, dues_above}
 use Rattle.rtgs_rows.specs.Tables.{desk_table, participant_table, posting_table, payment_table, mark_table}
-use Rattle.rtgs_rows.specs.Content.{Holding, Content, holding_row, tables_for, rows_in}
-use Rattle.rtgs_rows.specs.Fitting.{FitsDate, FitsPosting, FitsOrder, FitsMark}
+use Rattle.rtgs_rows.specs.Tables.{forward_table}
+use Rattle.rtgs_rows.specs.Content.{Holding, Content, holding_row, tables_for, rows_in, Rise}
+use Rattle.rtgs_rows.specs.Fitting.{FitsDate, FitsPosting, FitsOrder, FitsMark, FitsForward}
 use Rattle.rtgs_rows.specs.Keeping.{IsBookOf}
 
 -- ---- dates
@@ -66,18 +70,27 @@ phase_once CutOff CutOff e = refl
 
 state_once : (a b : OrderState) → state_number a ≡ state_number b → mark_value a ≡ mark_value b → a ≡ b
 state_once Queued Queued e f = refl
+state_once Queued Held e f = absurd (omega arith)
 state_once Queued (Settled n) e f = absurd (omega arith)
 state_once Queued Withdrawn e f = absurd (omega arith)
 state_once Queued Rejected e f = absurd (omega arith)
+state_once Held Queued e f = absurd (omega arith)
+state_once Held Held e f = refl
+state_once Held (Settled n) e f = absurd (omega arith)
+state_once Held Withdrawn e f = absurd (omega arith)
+state_once Held Rejected e f = absurd (omega arith)
 state_once (Settled m) Queued e f = absurd (omega arith)
+state_once (Settled m) Held e f = absurd (omega arith)
 state_once (Settled m) (Settled n) e f = ap Settled (let marks : ◌≡◌ {A = Value} (Int (pos m)) (Int (pos n)) = f in cc)
 state_once (Settled m) Withdrawn e f = absurd (omega arith)
 state_once (Settled m) Rejected e f = absurd (omega arith)
 state_once Withdrawn Queued e f = absurd (omega arith)
+state_once Withdrawn Held e f = absurd (omega arith)
 state_once Withdrawn (Settled n) e f = absurd (omega arith)
 state_once Withdrawn Withdrawn e f = refl
 state_once Withdrawn Rejected e f = absurd (omega arith)
 state_once Rejected Queued e f = absurd (omega arith)
+state_once Rejected Held e f = absurd (omega arith)
 state_once Rejected (Settled n) e f = absurd (omega arith)
 state_once Rejected Withdrawn e f = absurd (omega arith)
 state_once Rejected Rejected e f = refl
@@ -115,8 +128,10 @@ posting_once d a b p q e =
     let date = date_value_once d a.date b.date p.date q.date dates in
     λ i. record { number = number i; code = code i; reference = reference i; cents = cents i; date = date i }
 
-pub order_once : DatesTell → (a b : Order) → FitsOrder a → FitsOrder b → payment_row a ≡ payment_row b → a ≡ b
-order_once d a b p q e =
+-- the rows of orders tell them, but for their due dates
+payment_once : DatesTell → (a b : Order) → FitsOrder a → FitsOrder b → payment_row a ≡ payment_row b
+    → without_due a ≡ without_due b
+payment_once d a b p q e =
     let number : a.number ≡ b.number = cc in
     let sender : a.sender ≡ b.sender = cc in
     let reference : a.reference ≡ b.reference = cc in
@@ -125,7 +140,7 @@ order_once d a b p q e =
     let dates : date_text a.date ≡ date_text b.date = cc in
     let states : state_number a.state ≡ state_number b.state = cc in
     let marks : mark_value a.state ≡ mark_value b.state = cc in
-    let date = d a.date b.date p.date q.date dates in
+    let date = d a.date b.date p.payment.date q.payment.date dates in
     let state = state_once a.state b.state states marks in
     λ i. record {
       number = number i;
@@ -134,8 +149,16 @@ order_once d a b p q e =
       receiver = receiver i;
       amount = amount i;
       date = date i;
+      due = None;
       state = state i;
     }
+
+forward_once : DatesTell → (a b : Forward) → FitsForward a → FitsForward b → forward_row a ≡ forward_row b → a ≡ b
+forward_once d a b p q e =
+    let number : a.number ≡ b.number = cc in
+    let dates : date_text a.due ≡ date_text b.due = cc in
+    let due = d a.due b.due p.due q.due dates in
+    λ i. record { number = number i; due = due i }
 
 pub mark_once : DatesTell → (a b : Mark) → FitsMark a → FitsMark b → mark_row a ≡ mark_row b → a ≡ b
 mark_once d a b p q e =
@@ -162,6 +185,83 @@ same_records : {A : Type 0} {row : A → Row} {P : A → Type 0} → ((a b : A) 
     → map row ys_held ≡ map row xs_held → xs ≡ ys
 same_records {row = row} {P = P} once {xs = xs} {ys = ys} first second p q e =
     rows_once row P once xs ys p q (ap (map row) (sym first) ∙ sym e ∙ ap (map row) second)
+
+-- ---- orders and their due dates
+
+pub forwards_fit : (os : List Order) → AllByRecursion FitsOrder os → AllByRecursion FitsForward (forwards_of os)
+forwards_fit [] h = tt
+forwards_fit (o ∷ os) h = by o.due h.0.due (forwards_fit os h.1)
+  where
+    by : (due : Option ℕ) → FitsDate due → AllByRecursion FitsForward (forwards_of os)
+        → AllByRecursion FitsForward (forward_for o.number due ++ forwards_of os)
+    by None fits rest = rest
+    by (Some due) fits rest = (record { due = fits }, rest)
+
+-- a due date with this number is none of those whose numbers are above it
+not_above : (number due : ℕ) (rest fs : List Forward)
+    → AllByRecursion (λ (f : Forward). int_cmp (pos number) (pos f.number) ≡ Less) fs
+    → ◌≡◌ {A = List Forward} (record { number = number; due = due } ∷ rest) fs → ⊥
+not_above number due rest [] above e = absurd cc
+not_above number due rest (f ∷ fs) above e =
+    let same : number ≡ f.number = cc in
+    let tied = tied_itself int_cmp_total (pos number) in
+    let low : int_cmp (pos number) (pos number) ≡ Less = subst (λ n. int_cmp (pos number) (pos n) ≡ Less) (sym same)
+    above.0 in
+    let clash : ◌≡◌ {A = Ordering} Less Equal = sym low ∙ tied in cc
+
+abbrev first_due : List Forward → ℕ
+first_due [] = 0
+first_due (f ∷ fs) = f.due
+
+abbrev after_first : List Forward → List Forward
+after_first [] = []
+after_first (f ∷ fs) = fs
+
+-- an order is what it is without its due date, and that date
+same_order : (a b : Order) → without_due a ≡ without_due b → a.due ≡ b.due → a ≡ b
+same_order a b e due = λ i. record (e i) { due = due i }
+
+-- orders whose numbers rise are told by their rows and the rows of their due dates
+orders_once : DatesTell → (xs ys : List Order) → AllByRecursion FitsOrder xs → AllByRecursion FitsOrder ys
+    → Rise (λ (o : Order). pos o.number) xs → Rise (λ (o : Order). pos o.number) ys
+    → map payment_row xs ≡ map payment_row ys → forwards_of xs ≡ forwards_of ys → xs ≡ ys
+orders_once d [] [] p q up vp e f = refl
+orders_once d [] (y ∷ ys) p q up vp e f = absurd cc
+orders_once d (x ∷ xs) [] p q up vp e f = absurd cc
+orders_once d (x ∷ xs) (y ∷ ys) p q up vp e f =
+    let head : payment_row x ≡ payment_row y = cc in
+    let tail : map payment_row xs ≡ map payment_row ys = cc in
+    let same = payment_once d x y p.0 q.0 head in
+    let number : x.number ≡ y.number = ap (λ (o : Order). o.number) same in
+    by x.due refl y.due refl same number (dues_above x.number xs up.0) (dues_above y.number ys vp.0) f
+    (λ rest. orders_once d xs ys p.1 q.1 up.1 vp.1 tail rest)
+  where
+    by : (a : Option ℕ) → x.due ≡ a → (b : Option ℕ) → y.due ≡ b → without_due x ≡ without_due y
+        → x.number ≡ y.number
+        → AllByRecursion (λ (f : Forward). int_cmp (pos x.number) (pos f.number) ≡ Less) (forwards_of xs)
+        → AllByRecursion (λ (f : Forward). int_cmp (pos y.number) (pos f.number) ≡ Less) (forwards_of ys)
+        → (forward_for x.number x.due ++ forwards_of xs) ≡ (forward_for y.number y.due ++ forwards_of ys)
+        → (forwards_of xs ≡ forwards_of ys → xs ≡ ys) → ◌≡◌ {A = List Order} (x ∷ xs) (y ∷ ys)
+    by None m None n same number high above f more =
+        let rest : forwards_of xs ≡ forwards_of ys = rw (m, n) at f in
+        ap₂ ◌∷◌ (same_order x y same (m ∙ sym n)) (more rest)
+    by (Some a) m (Some b) n same number high above f more =
+        let all : ◌≡◌ {A = List Forward} (record { number = x.number; due = a } ∷ forwards_of xs)
+        (record { number = y.number; due = b } ∷ forwards_of ys) = rw (m, n) at f in
+        let due : a ≡ b = ap first_due all in
+        ap₂ ◌∷◌ (same_order x y same (m ∙ ap Some due ∙ sym n)) (more (ap after_first all))
+    by (Some a) m None n same number high above f more =
+        let all : ◌≡◌ {A = List Forward} (record { number = x.number; due = a } ∷ forwards_of xs) (forwards_of ys) =
+        rw (m, n) at f in
+        absurd (not_above x.number a (forwards_of xs) (forwards_of ys)
+        (subst (λ k. AllByRecursion (λ (f : Forward). int_cmp (pos k) (pos f.number) ≡ Less) (forwards_of ys))
+        (sym number) above) all)
+    by None m (Some b) n same number high above f more =
+        let all : ◌≡◌ {A = List Forward} (forwards_of xs) (record { number = y.number; due = b } ∷ forwards_of ys) =
+        rw (m, n) at f in
+        absurd (not_above y.number b (forwards_of ys) (forwards_of xs)
+        (subst (λ k. AllByRecursion (λ (f : Forward). int_cmp (pos k) (pos f.number) ≡ Less) (forwards_of xs))
+        number high) (sym all))
 
 -- ---- participants in the order of their codes
 
@@ -224,8 +324,13 @@ once dates one other c d h k e =
       participants = participants i;
       postings = same_records (posting_once dates) theirs.postings ours.postings k.fits.postings h.fits.postings
           (ap (rows_in posting_table) e) i;
-      orders = same_records (order_once dates) theirs.orders ours.orders k.fits.orders h.fits.orders
-          (ap (rows_in payment_table) e) i;
+      orders = orders_once dates other.orders one.orders k.fits.orders h.fits.orders
+          (rises (λ (o : Order). o.number) other.orders k.sound.orders_numbered)
+          (rises (λ (o : Order). o.number) one.orders h.sound.orders_numbered)
+          (ap (map payment_row) (sym theirs.orders) ∙ sym (ap (rows_in payment_table) e)
+          ∙ ap (map payment_row) ours.orders)
+          (same_records (forward_once dates) theirs.forwards ours.forwards (forwards_fit other.orders k.fits.orders)
+          (forwards_fit one.orders h.fits.orders) (ap (rows_in forward_table) e)) i;
       marks = same_records (mark_once dates) theirs.marks ours.marks k.fits.marks h.fits.marks
           (ap (rows_in mark_table) e) i;
       day = day i;

@@ -19,9 +19,10 @@ use Rattle.rtgs_book.specs.declared.Order.{Order}
 use Rattle.rtgs_book.specs.declared.Mark.{Mark}
 use Rattle.rtgs_book.specs.declared.RowChange.{RowChange}
 use Rattle.rtgs_book.specs.declared.RowChange.TheVariants.{AddParticipant, AddPosting, AddOrder, AddMark, SetCredit}
-use Rattle.rtgs_book.specs.declared.RowChange.TheVariants.{SetBalance, SetState, SetDay}
-use Rattle.rtgs_book.specs.Settle.{restated}
-use Rattle.rtgs_book.specs.Commands.{has_number}
+use Rattle.rtgs_book.specs.declared.RowChange.TheVariants.{SetBalance, SetState, EnterQueue, SetDay}
+use Rattle.rtgs_book.specs.Settle.{altered, restated}
+use Rattle.rtgs_book.specs.Commands.{has_number, is_held_with, entered}
+use Rattle.rtgs_rows.specs.Dues.{forward_for}
 use Rattle.rtgs_rows.specs.Tables.{no_schema, desk_schema, schema_in, known_tables, tables_in, table_count}
 use Rattle.rtgs_rows.specs.Tables.{IsVersion}
 use Rattle.rtgs_rows.specs.declared.numbers.TheConstants.{VERSION}
@@ -62,7 +63,8 @@ holding_row h = participant_row h.id h.participant h.balance
 abbrev pub stored_account : Holding → Account
 stored_account h = record { participant = h.participant; balance = h.balance }
 
--- The records of the tables. The participants stand in the order in which they came.
+-- The records of the tables. The participants stand in the order in which they came. The rows of the orders do not
+-- show their due dates, which are records of their own.
 pub record Content : Type 0 where
   pub day : Day
   pub holdings : List Holding
@@ -136,11 +138,17 @@ with_balance_in code balance h = if bytes_eq h.participant.code code then record
 abbrev pub with_change : Content → RowChange → Content
 with_change c (AddParticipant p) = record c { holdings = c.holdings ++ newcomer c p ∷ [] }
 with_change c (AddPosting p) = record c { postings = c.postings ++ p ∷ [] }
-with_change c (AddOrder o) = record c { orders = c.orders ++ o ∷ [] }
+with_change c (AddOrder o) = record c {
+  orders = c.orders ++ o ∷ [];
+  forwards = c.forwards ++ forward_for o.number o.due;
+}
 with_change c (AddMark m) = record c { marks = c.marks ++ m ∷ [] }
 with_change c (SetCredit code credit) = record c { holdings = map (with_credit_in code credit) c.holdings }
 with_change c (SetBalance code balance) = record c { holdings = map (with_balance_in code balance) c.holdings }
 with_change c (SetState number state) = record c { orders = map (restated (has_number number) state) c.orders }
+with_change c (EnterQueue number date) = record c {
+  orders = map (altered (is_held_with number) (entered date)) c.orders;
+}
 with_change c (SetDay day) = record c { day = day }
 
 -- and after one after another

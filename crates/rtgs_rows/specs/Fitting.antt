@@ -13,7 +13,7 @@ use Rattle.rtgs_book.specs.declared.Book.{Book}
 use Rattle.rtgs_rows.specs.declared.forward.Forward.{Forward}
 use Rattle.rtgs_book.specs.declared.RowChange.{RowChange}
 use Rattle.rtgs_book.specs.declared.RowChange.TheVariants.{AddParticipant, AddPosting, AddOrder, AddMark, SetCredit}
-use Rattle.rtgs_book.specs.declared.RowChange.TheVariants.{SetDay}
+use Rattle.rtgs_book.specs.declared.RowChange.TheVariants.{EnterQueue, SetDay}
 
 -- no date, or a business date
 abbrev pub FitsDate : Option ℕ → Type 0
@@ -34,13 +34,18 @@ pub record FitsPosting (p : Posting) : Type 0 where
   pub cents : IsPostingAmount p.cents
   pub date : FitsDate p.date
 
--- so those of an order
-pub record FitsOrder (o : Order) : Type 0 where
+-- so those of an order, but for its due date
+pub record FitsPayment (o : Order) : Type 0 where
   pub sender : IsCode o.sender
   pub reference : IsReference o.reference
   pub receiver : IsCode o.receiver
   pub amount : IsAmount o.amount
   pub date : IsBusinessDate o.date
+
+-- and with it
+pub record FitsOrder (o : Order) : Type 0 where
+  pub payment : FitsPayment o
+  pub due : FitsDate o.due
 
 -- so those of a mark
 pub record FitsMark (m : Mark) : Type 0 where
@@ -65,5 +70,6 @@ FitsRow (AddPosting p) = FitsPosting p
 FitsRow (AddOrder o) = FitsOrder o
 FitsRow (AddMark m) = FitsMark m
 FitsRow (SetCredit code credit) = IsCredit credit
+FitsRow (EnterQueue number date) = IsBusinessDate date
 FitsRow (SetDay day) = FitsDate day.date
 FitsRow row = ⊤

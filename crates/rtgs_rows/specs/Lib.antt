@@ -1,7 +1,7 @@
 pub mod Tables
 pub mod Rows
-pub mod Content
 pub mod Dues
+pub mod Content
 pub mod Fitting
 pub mod Keeping
 pub mod TableRecords

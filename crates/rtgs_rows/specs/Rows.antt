@@ -15,10 +15,10 @@ use Rattle.rtgs_book.specs.declared.Posting.{Posting}
 use Rattle.rtgs_book.specs.declared.Order.{Order}
 use Rattle.rtgs_book.specs.declared.Mark.{Mark}
 use Rattle.rtgs_book.specs.declared.OrderState.{OrderState}
-use Rattle.rtgs_book.specs.declared.OrderState.TheVariants.{Queued, Settled, Withdrawn, Rejected}
-use Rattle.rtgs_rows.specs.declared.forward.Forward.{Forward}
+use Rattle.rtgs_book.specs.declared.OrderState.TheVariants.{Queued, Held, Settled, Withdrawn, Rejected}
 use Rattle.rtgs_rows.specs.declared.numbers.TheConstants.{PHASE_CLOSED, PHASE_OPEN, PHASE_CUT_OFF, STATE_QUEUED}
-use Rattle.rtgs_rows.specs.declared.numbers.TheConstants.{STATE_SETTLED, STATE_WITHDRAWN, STATE_REJECTED}
+use Rattle.rtgs_rows.specs.declared.numbers.TheConstants.{STATE_SETTLED, STATE_WITHDRAWN, STATE_REJECTED, STATE_HELD}
+use Rattle.rtgs_rows.specs.declared.forward.Forward.{Forward}
 
 -- what stands for a phase in its column
 abbrev pub phase_number : Phase → ℕ
@@ -32,10 +32,12 @@ state_number Queued = STATE_QUEUED
 state_number (Settled mark) = STATE_SETTLED
 state_number Withdrawn = STATE_WITHDRAWN
 state_number Rejected = STATE_REJECTED
+state_number Held = STATE_HELD
 
 -- a settled order has its mark, and no other order has one
 abbrev pub mark_value : OrderState → Value
 mark_value Queued = Null
+mark_value Held = Null
 mark_value (Settled mark) = Int (pos mark)
 mark_value Withdrawn = Null
 mark_value Rejected = Null
@@ -43,6 +45,7 @@ mark_value Rejected = Null
 -- a column has room for the mark
 abbrev pub FitsColumn : OrderState → Type 0
 FitsColumn Queued = ⊤
+FitsColumn Held = ⊤
 FitsColumn (Settled mark) = mark < 2 ^ 63
 FitsColumn Withdrawn = ⊤
 FitsColumn Rejected = ⊤
@@ -64,7 +67,7 @@ participant_row id p balance = Int id ∷ Text p.code ∷ Text p.name ∷ Blob p
 abbrev pub posting_row : Posting → Row
 posting_row p = Int (pos p.number) ∷ Null ∷ Text p.code ∷ Text p.reference ∷ Int p.cents ∷ date_value p.date ∷ []
 
--- number, sender, reference, receiver, amount, date, state, mark
+-- number, sender, reference, receiver, amount, date, state, mark; a due date stands in a table of its own
 abbrev pub payment_row : Order → Row
 payment_row o = Int (pos o.number) ∷ Null ∷ Text o.sender ∷ Text o.reference ∷ Text o.receiver ∷ Int (pos o.amount)
     ∷ Text (date_text o.date) ∷ Int (pos (state_number o.state)) ∷ mark_value o.state ∷ []

@@ -1,5 +1,5 @@
 -- The records of each table: how a row shows one, and which of them a book has.
-use Rattle.std.specs.Prelude.{◌⊎◌, Bool, true, false, ℕ, List, [], ◌∷◌, take, ⊤}
+use Rattle.std.specs.Prelude.{◌≡◌, ◌⊎◌, Bool, true, false, ℕ, List, [], ◌∷◌, map, take, drop, None, ⊤}
 use Rattle.sqlite.specs.Order.{Row}
 use Rattle.sqlite.specs.Table.{Table}
 use Rattle.rtgs_book.specs.declared.account.Account.{Account}
@@ -8,8 +8,8 @@ use Rattle.rtgs_book.specs.declared.Day.{Day}
 use Rattle.rtgs_book.specs.declared.Posting.{Posting}
 use Rattle.rtgs_book.specs.declared.Order.{Order}
 use Rattle.rtgs_book.specs.declared.Mark.{Mark}
-use Rattle.rtgs_rows.specs.Dues.{forwards_of}
-use Rattle.rtgs_rows.specs.Fitting.{FitsDate, FitsParticipant, FitsPosting, FitsOrder, FitsMark, FitsForward}
+use Rattle.rtgs_rows.specs.Dues.{without_due, forwards_of}
+use Rattle.rtgs_rows.specs.Fitting.{FitsDate, FitsParticipant, FitsPosting, FitsPayment, FitsMark, FitsForward}
 use Rattle.rtgs_rows.specs.declared.forward.Forward.{Forward}
 use Rattle.rtgs_rows.specs.declared.desk_row.DeskRow.{DeskRow}
 use Rattle.rtgs_rows.specs.Rows.{shown_day, shown_account, shown_posting, shown_order, shown_mark, shown_forward}
@@ -59,13 +59,14 @@ posting_records = record {
   of_book = λ version accounts book. book.postings;
 }
 
+-- a row of an order does not show its due date
 abbrev pub order_records : TableRecords Order
 order_records = record {
   table = payment_table;
   shown = shown_order;
-  fits = FitsOrder;
+  fits = λ order. FitsPayment order × (order.due ≡ None);
   counted = true ∷ false ∷ false ∷ false ∷ false ∷ false ∷ false ∷ true ∷ [];
-  of_book = λ version accounts book. book.orders;
+  of_book = λ version accounts book. map without_due book.orders;
 }
 
 abbrev pub mark_records : TableRecords Mark
@@ -99,10 +100,19 @@ records_of_tables = (DeskRow, day_records) ∷ records_besides_day
 abbrev pub records_in : ℕ → List ((A : Type 0) × TableRecords A)
 records_in version = take (table_count version) records_of_tables
 
+-- and those of the tables that it lacks
+abbrev pub records_beyond : ℕ → List ((A : Type 0) × TableRecords A)
+records_beyond version = drop (table_count version) records_of_tables
+
 -- so it is with each of these records
 abbrev pub Each : ((A : Type 0) → TableRecords A → Type 0) → List ((A : Type 0) × TableRecords A) → Type 0
 Each Fact [] = ⊤
 Each Fact (one ∷ more) = Fact one.0 one.1 × Each Fact more
+
+-- a book has no record of a table that the version lacks
+abbrev pub HasNoneBeyond : ℕ → List Account → Book → Type 0
+HasNoneBeyond version accounts book =
+    Each (λ A records. records.of_book version accounts book ≡ []) (records_beyond version)
 
 -- and so with one of these
 abbrev pub OneOf : ((A : Type 0) → TableRecords A → Type 0) → List ((A : Type 0) × TableRecords A) → Type 0

@@ -24,3 +24,6 @@ pub const STATE_WITHDRAWN: u64 = 2;
 
 /// The order is rejected.
 pub const STATE_REJECTED: u64 = 3;
+
+/// The order is held until its due date, which stands in another table.
+pub const STATE_HELD: u64 = 4;

@@ -1,6 +1,7 @@
 -- What loops over numbers and dates come to.
 use Rattle.std.proofs.Common.{◌≡◌, ℕ, suc, ◌+◌, ◌≤◌, ◌<◌, ◌==◌, Bool, true, false, not, ◌&&◌, nat_le, List, [], ◌∷◌}
-use Rattle.std.proofs.Common.{map, length, drop, get_or, ◌↔◌, refl, sym, ap, ◌∙◌, true≢false, add-one, drop-cons, arith}
+use Rattle.std.proofs.Common.{map, filter, cond, length, drop, get_or, ◌↔◌, refl, sym, ap, ◌∙◌, true≢false, add-one}
+use Rattle.std.proofs.Common.{drop-cons, arith}
 use Rattle.std.proofs.lemmas.Bool.Decides.{nat_tests}
 use Rattle.std.proofs.lemmas.List.{length-map}
 use Rattle.std.proofs.Math.ListN.{drop_of_length-le}
@@ -128,6 +129,48 @@ module _ {X : Type 0} (date : X → ℕ) (xs : List X) (last : ℕ) where
       let whole : nat_le latest last ≡ rises_from 0 last (map date xs) =
       sym (ap (λ ys. rises_from latest last (map date ys)) (drop_of_length-le xs past)) ∙ h in
       rw whole (rises_is last (map date xs))
+
+module _ {X : Type 0} (date : X → ℕ) (p : X → Bool) (xs : List X) (last : ℕ) where
+  -- what is left decides whether the dates of those that pass the test rise
+  abbrev pub RisingIn : ℕ → ℕ → Type 0
+  RisingIn latest i = rises_from latest last (map date (filter p (drop i xs)))
+      ≡ rises_from 0 last (map date (filter p xs))
+
+  next_in : (latest i : ℕ) (x : X) → i < length xs → x ≡ get_or xs i x
+      → rises_from latest last (map date (filter p (drop i xs))) ≡ rises_from latest last
+      (map date (cond (p x) (x ∷ filter p (drop (i + 1) xs)) (filter p (drop (i + 1) xs))))
+  next_in latest i x less is = ap (λ ys. rises_from latest last (map date (filter p ys))) (next_of xs i x less is)
+
+  pub rise_more_in : (latest i d : ℕ) (x : X) → RisingIn latest i → i < length xs → x ≡ get_or xs i x
+      → d ≡ cond (p x) (date x) latest → latest ≤ d → RisingIn d (i + 1)
+  rise_more_in latest i d x h less is same le = by (p x) same (next_in latest i x less is)
+    where
+      by : (b : Bool) → d ≡ cond b (date x) latest → rises_from latest last (map date (filter p (drop i xs)))
+          ≡ rises_from latest last (map date (cond b (x ∷ filter p (drop (i + 1) xs)) (filter p (drop (i + 1) xs))))
+          → RisingIn d (i + 1)
+      by true same next =
+          let up : nat_le latest (date x) ≡ true = grind (arith, nat_tests) in
+          rw same (sym (next ∙ rw up refl) ∙ h)
+      by false same next = rw same (sym next ∙ h)
+
+  pub fallen_in : (latest i d : ℕ) (x : X) → RisingIn latest i → i < length xs → x ≡ get_or xs i x
+      → d ≡ cond (p x) (date x) latest → d < latest → NeverFall last (map date (filter p xs)) → ⊥
+  fallen_in latest i d x h less is same lt rising = by (p x) same (next_in latest i x less is)
+    where
+      by : (b : Bool) → d ≡ cond b (date x) latest → rises_from latest last (map date (filter p (drop i xs)))
+          ≡ rises_from latest last (map date (cond b (x ∷ filter p (drop (i + 1) xs)) (filter p (drop (i + 1) xs))))
+          → ⊥
+      by true same next =
+          let down : nat_le latest (date x) ≡ false = grind (arith, nat_tests) in
+          true≢false (sym ((rises_is last (map date (filter p xs))).1 rising) ∙ sym h ∙ next ∙ rw down refl)
+      by false same next = omega arith
+
+  pub risen_all_in : (latest i : ℕ) → length xs ≤ i → RisingIn latest i
+      → (nat_le latest last ≡ true) ↔ NeverFall last (map date (filter p xs))
+  risen_all_in latest i past h =
+      let whole : nat_le latest last ≡ rises_from 0 last (map date (filter p xs)) =
+      sym (ap (λ ys. rises_from latest last (map date (filter p ys))) (drop_of_length-le xs past)) ∙ h in
+      rw whole (rises_is last (map date (filter p xs)))
 
 not_true : (b : Bool) → not b ≡ true → b ≡ false
 not_true true e = absurd (true≢false (sym e))

@@ -11,7 +11,7 @@ use Rattle.rtgs_book.specs.declared.Book.{Book}
 use Rattle.rtgs_book.specs.declared.Order.{Order}
 use Rattle.rtgs_book.specs.declared.OrderState.{OrderState}
 use Rattle.rtgs_book.specs.declared.Mark.{Mark}
-use Rattle.rtgs_book.specs.declared.OrderState.TheVariants.{Queued, Settled, Withdrawn, Rejected}
+use Rattle.rtgs_book.specs.declared.OrderState.TheVariants.{Queued, Held, Settled, Withdrawn, Rejected}
 use Rattle.rtgs_book.specs.Soundness.{AreNumbered, HasMark, is_state_under, orders_under, CountsItsOrders}
 use Rattle.rtgs_book.specs.Soundness.{MarksFitOrders}
 use Rattle.rtgs_soundness.specs.declared.rules.tally.Tally.{Tally}
@@ -67,6 +67,7 @@ one_dated first (suc k) date d (m ∷ marks) e within =
 pub needs_none : (marks : List Mark) (date : ℕ) (s : OrderState) → ((mark : ℕ) → s ≡ Settled mark → ⊥)
     → HasMark marks date s
 needs_none marks date Queued h = tt
+needs_none marks date Held h = tt
 needs_none marks date (Settled mark) h = absurd (h mark refl)
 needs_none marks date Withdrawn h = tt
 needs_none marks date Rejected h = tt
@@ -103,6 +104,7 @@ tally_pushed orders o mark = whole (is_state_under mark o.state)
 
 under_none : (mark : ℕ) (s : OrderState) → ((k : ℕ) → s ≡ Settled k → ⊥) → is_state_under mark s ≡ false
 under_none mark Queued h = refl
+under_none mark Held h = refl
 under_none mark (Settled k) h = absurd (h k refl)
 under_none mark Withdrawn h = refl
 under_none mark Rejected h = refl

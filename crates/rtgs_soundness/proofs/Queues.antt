@@ -10,7 +10,7 @@ use Rattle.rtgs_book.specs.declared.Participant.{Participant}
 use Rattle.rtgs_book.specs.declared.Order.{Order}
 use Rattle.rtgs_book.specs.Books.{is_closed, is_queued}
 use Rattle.rtgs_book.specs.Lookup.{accounts}
-use Rattle.rtgs_book.specs.Queue.{queue}
+use Rattle.rtgs_book.specs.Queue.{waiting}
 use Rattle.rtgs_book.specs.Settle.{today}
 use Rattle.rtgs_book.specs.Soundness.{QueuesFit}
 use Rattle.rtgs_lists.proofs.Bools.{and_left, and_right, from_not}
@@ -63,17 +63,17 @@ short_length n h = omega (arith, ints)
 length_short : (n : ℕ) → n ≤ LONGEST_QUEUE → pos n ≤ℤ pos LONGEST_QUEUE
 length_short n h = omega (arith, ints)
 
-pub queues_of : (book : Book) (b : Bool) → AllByRecursion (λ (p : Participant). pos (length (queue book p.code)) ≤ℤ pos
-    LONGEST_QUEUE) book.participants → b ≡ list_all (is_queued_on (not (is_closed book.day.phase)) (today book))
+pub queues_of : (book : Book) (b : Bool) → AllByRecursion (λ (p : Participant). pos (length (waiting book p.code))
+    ≤ℤ pos LONGEST_QUEUE) book.participants → b ≡ list_all (is_queued_on (not (is_closed book.day.phase)) (today book))
     book.orders → (b ≡ true) ↔ QueuesFit book
 unfolding accounts
 queues_of book b short is = (
   λ e. let on = all_on (not (is_closed book.day.phase)) (today book) book.orders (sym is ∙ e) in
       record {
         closed = λ closed. on.0 (ap not closed);
-        short = all_map (λ code. length (queue book code) ≤ LONGEST_QUEUE) (λ (p : Participant). p.code)
-            book.participants (all_weaker (λ (p : Participant). pos (length (queue book p.code)) ≤ℤ pos LONGEST_QUEUE)
-            (λ (p : Participant). length (queue book p.code) ≤ LONGEST_QUEUE) (λ p h. short_length _ h)
+        short = all_map (λ code. length (waiting book code) ≤ LONGEST_QUEUE) (λ (p : Participant). p.code)
+            book.participants (all_weaker (λ (p : Participant). pos (length (waiting book p.code)) ≤ℤ pos LONGEST_QUEUE)
+            (λ (p : Participant). length (waiting book p.code) ≤ LONGEST_QUEUE) (λ p h. short_length _ h)
             book.participants short);
         of_the_day = on.1;
       },
@@ -82,9 +82,9 @@ queues_of book b short is = (
 )
 
 pub long_queue : (book : Book) → QueuesFit book → AllByRecursion
-    (λ (p : Participant). pos (length (queue book p.code)) ≤ℤ pos LONGEST_QUEUE) book.participants
+    (λ (p : Participant). pos (length (waiting book p.code)) ≤ℤ pos LONGEST_QUEUE) book.participants
 unfolding accounts
-long_queue book fit = all_weaker (λ (p : Participant). length (queue book p.code) ≤ LONGEST_QUEUE)
-    (λ (p : Participant). pos (length (queue book p.code)) ≤ℤ pos LONGEST_QUEUE) (λ p h. length_short _ h)
-    book.participants (all_unmap (λ code. length (queue book code) ≤ LONGEST_QUEUE) (λ (p : Participant). p.code)
+long_queue book fit = all_weaker (λ (p : Participant). length (waiting book p.code) ≤ LONGEST_QUEUE)
+    (λ (p : Participant). pos (length (waiting book p.code)) ≤ℤ pos LONGEST_QUEUE) (λ p h. length_short _ h)
+    book.participants (all_unmap (λ code. length (waiting book code) ≤ LONGEST_QUEUE) (λ (p : Participant). p.code)
     book.participants fit.short)

@@ -13,8 +13,8 @@ use Rattle.std.specs.Cmp.Lexicographic.{slice_cmp, bytes_decides, texts_ties}
 use Rattle.std.specs.Str.{bytes_eq}
 use Rattle.rtgs_book.specs.declared.Order.{Order}
 use Rattle.rtgs_book.specs.declared.OrderState.{OrderState}
-use Rattle.rtgs_book.specs.declared.OrderState.TheVariants.{Queued, Settled, Withdrawn, Rejected}
-use Rattle.rtgs_book.specs.Books.{is_settled, is_settled_state, is_queued}
+use Rattle.rtgs_book.specs.declared.OrderState.TheVariants.{Queued, Held, Settled, Withdrawn, Rejected}
+use Rattle.rtgs_book.specs.Books.{is_settled, is_settled_state, is_waiting}
 use Rattle.rtgs_book.specs.Balance.{gain}
 use Rattle.std.specs.Int.{w128}
 use Rattle.std.specs.Option.{option_map}
@@ -204,6 +204,7 @@ settled_or_not o h = by o.state h
   where
     by : (s : OrderState) → ((mark : ℕ) → s ≡ Settled mark → ⊥) → is_settled_state s ≡ false
     by Queued h = refl
+    by Held h = refl
     by (Settled mark) h = absurd (h mark refl)
     by Withdrawn h = refl
     by Rejected h = refl
@@ -217,10 +218,10 @@ not_settled codes f m o h holds =
     (λ q. rw not (omega (arith, ints))) holds
 
 pub order_counted : (codes : List (List ℕ)) (f : List ℕ → ℤ) (m n : BTreeMap (List ℕ) ℤ) (o : Order)
-    → is_queued o ≡ true → Totals (slice_cmp nat_cmp) codes f m → Adds (slice_cmp nat_cmp) m o.sender (pos 1) n
-    → Totals (slice_cmp nat_cmp) codes (λ code. f code +ℤ cond (is_queued o && bytes_eq o.sender code) (pos 1) (pos 0))
+    → is_waiting o ≡ true → Totals (slice_cmp nat_cmp) codes f m → Adds (slice_cmp nat_cmp) m o.sender (pos 1) n
+    → Totals (slice_cmp nat_cmp) codes (λ code. f code +ℤ cond (is_waiting o && bytes_eq o.sender code) (pos 1) (pos 0))
     n
-order_counted codes f m n o queued h adds = rw queued
+order_counted codes f m n o waits h adds = rw waits
     (texts_added codes f m n o.sender (pos 1) (pos 1) refl h adds)
 
 -- one element of those of which the fact holds

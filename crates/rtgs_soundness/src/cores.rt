@@ -5,14 +5,15 @@ ghost use Rattle.std.specs.Cmp.Lexicographic.{slice_cmp};
 ghost use Rattle.std.specs.Int.{w64};
 ghost use Rattle.std.specs.Ordering.{nat_cmp};
 ghost use Rattle.rtgs_book.specs.declared.limits.TheConstants.{LARGEST_NUMBER};
-ghost use Rattle.rtgs_book.specs.Books.{is_queued};
+ghost use Rattle.rtgs_book.specs.Books.{is_waiting};
 ghost use Rattle.rtgs_book.specs.Ranges.{Fits};
 ghost use Rattle.rtgs_book.specs.Soundness.{IsSound};
 ghost use Rattle.rtgs_cores.specs.Cores.{account_of, core_of};
 
+use crate::rules::queues::is_waiting;
 use crate::soundness::balances;
 use rtgs_book::laws::balances_are_small;
-use rtgs_book::{Account, Book, Order, OrderState, Participant, Rows};
+use rtgs_book::{Account, Book, Order, Participant, Rows};
 use rtgs_cores::Core;
 use rtgs_money::{Cents, Code};
 use std::alloc::{AllocError, Global};
@@ -26,7 +27,7 @@ pub fn core_of(alloc: Global, book: &Book) -> Result<Core, AllocError>
 {
     Ok(Core {
         accounts: Rows::from_vec(accounts_of(alloc, book)?),
-        queued: Rows::from_vec(queued_of(alloc, book.orders.as_slice())?),
+        waiting: Rows::from_vec(waiting_of(alloc, book.orders.as_slice())?),
         day: book.day,
         next_posting: number_after(book.postings.len()),
         next_order: number_after(book.orders.len()),
@@ -42,18 +43,11 @@ fn number_after(records: usize) -> u64
     records as u64 + 1
 }
 
-// The queued ones among these orders.
-fn queued_of(alloc: Global, orders: &[Order]) -> Result<Vec<Order>, AllocError>
-    ensures { IfOk result (λ queued. queued.items ≡ filter is_queued orders.now) }
+// Those among these orders that are queued or held.
+fn waiting_of(alloc: Global, orders: &[Order]) -> Result<Vec<Order>, AllocError>
+    ensures { IfOk result (λ waiting. waiting.items ≡ filter is_waiting orders.now) }
 {
-    orders.iter().copied().filter(is_queued).collect(alloc)
-}
-
-// Whether the order is queued.
-fn is_queued(order: &Order) -> bool
-    ensures { result ≡ is_queued order.now }
-{
-    order.state == OrderState::Queued
+    orders.iter().copied().filter(is_waiting).collect(alloc)
 }
 
 // The accounts of a sound book, each with its balance.

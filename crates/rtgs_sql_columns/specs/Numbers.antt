@@ -8,7 +8,7 @@ use Rattle.rtgs_book.specs.declared.Book.{Book}
 use Rattle.rtgs_book.specs.declared.Posting.{Posting}
 use Rattle.rtgs_book.specs.declared.Order.{Order}
 use Rattle.rtgs_book.specs.declared.OrderState.{OrderState}
-use Rattle.rtgs_book.specs.declared.OrderState.TheVariants.{Queued, Settled, Withdrawn, Rejected}
+use Rattle.rtgs_book.specs.declared.OrderState.TheVariants.{Queued, Held, Settled, Withdrawn, Rejected}
 use Rattle.rtgs_book.specs.declared.Mark.{Mark}
 use Rattle.rtgs_rows.specs.TableRecords.{TableRecords}
 
@@ -47,6 +47,7 @@ IsNumberedPosting p = 0 < p.number
 
 abbrev pub IsNumberedState : OrderState → Type 0
 IsNumberedState Queued = ⊤
+IsNumberedState Held = ⊤
 IsNumberedState (Settled mark) = 0 < mark
 IsNumberedState Withdrawn = ⊤
 IsNumberedState Rejected = ⊤

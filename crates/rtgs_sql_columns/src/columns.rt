@@ -11,8 +11,8 @@ ghost use Rattle.rtgs_rows.specs.Rows.{phase_number, state_number, mark_value as
 use rtgs_book::{OrderState, Phase};
 use rtgs_money::{Amount, BusinessDate, Cents, Credit, PostingAmount, Text};
 use rtgs_rows::numbers::{
-    PHASE_CLOSED, PHASE_CUT_OFF, PHASE_OPEN, STATE_QUEUED, STATE_REJECTED, STATE_SETTLED,
-    STATE_WITHDRAWN,
+    PHASE_CLOSED, PHASE_CUT_OFF, PHASE_OPEN, STATE_HELD, STATE_QUEUED, STATE_REJECTED,
+    STATE_SETTLED, STATE_WITHDRAWN,
 };
 use sqlite::types::ValueRef;
 use sqlite::{Error, ErrorCode};
@@ -67,6 +67,7 @@ pub fn state_value(state: OrderState) -> ValueRef<'static>
 {
     number_value(match state {
         OrderState::Queued => STATE_QUEUED,
+        OrderState::Held => STATE_HELD,
         OrderState::Settled(_) => STATE_SETTLED,
         OrderState::Withdrawn => STATE_WITHDRAWN,
         OrderState::Rejected => STATE_REJECTED,

@@ -8,7 +8,7 @@ use Rattle.rtgs_book.specs.declared.Book.{Book}
 use Rattle.rtgs_book.specs.declared.Posting.{Posting}
 use Rattle.rtgs_book.specs.declared.Order.{Order}
 use Rattle.rtgs_book.specs.declared.OrderState.{OrderState}
-use Rattle.rtgs_book.specs.declared.OrderState.TheVariants.{Queued, Settled, Withdrawn, Rejected}
+use Rattle.rtgs_book.specs.declared.OrderState.TheVariants.{Queued, Held, Settled, Withdrawn, Rejected}
 use Rattle.rtgs_book.specs.declared.Mark.{Mark}
 use Rattle.rtgs_book.specs.Soundness.{AreNumbered, HasMark, CountsItsOrders, IsSound}
 use Rattle.rtgs_sql_columns.specs.Numbers.{IsNumberedState, IsNumberedOrder, IsNumberedMark, IsNumberedBook}
@@ -37,6 +37,7 @@ known (m ∷ ms) mark date low t = at (m.number == mark) refl t (known ms mark d
 settled : (ms : List Mark) (date : ℕ) (state : OrderState) → AllByRecursion (λ (m : Mark). 0 < m.number) ms
     → HasMark ms date state → IsNumberedState state
 settled ms date Queued low has = tt
+settled ms date Held low has = tt
 settled ms date (Settled mark) low has = known ms mark date low has
 settled ms date Withdrawn low has = tt
 settled ms date Rejected low has = tt

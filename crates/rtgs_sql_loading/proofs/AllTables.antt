@@ -1,5 +1,6 @@
 -- What is said of all tables together.
-use Rattle.std.proofs.Common.{◌≡◌, ◌⊎◌, inl, inr, ℕ, Bool, List, [], ◌∷◌, map, sym, ap, subst, ◌∙◌}
+use Rattle.std.proofs.Common.{◌≡◌, ◌⊎◌, inl, inr, ℕ, ◌<◌, Bool, List, [], ◌∷◌, ◌++◌, map, Option, Some, None, sym, ap}
+use Rattle.std.proofs.Common.{subst, subst₂, ◌∙◌}
 use Rattle.std.specs.List.{AllByRecursion}
 use Rattle.sqlite.specs.Order.{Row}
 use Rattle.sqlite.specs.State.{State}
@@ -7,12 +8,16 @@ use Rattle.sqlite.specs.Table.{Table}
 use Rattle.sqlite_keyed.proofs.ListLemmas.{all_map}
 use Rattle.rtgs_book.specs.declared.Book.{Book}
 use Rattle.rtgs_book.specs.declared.Day.{Day}
+use Rattle.rtgs_book.specs.declared.Order.{Order}
 use Rattle.rtgs_book.specs.declared.account.Account.{Account}
 use Rattle.rtgs_rows.specs.Fitting.{FitsParticipant, HasFormedValues}
 use Rattle.rtgs_rows.specs.declared.desk_row.DeskRow.{DeskRow}
 use Rattle.rtgs_rows.specs.Rows.{shown_day, shown_account}
 use Rattle.rtgs_rows.specs.TableRecords.{TableRecords, Each, OneOf, records_of_tables, records_besides_day}
-use Rattle.rtgs_rows.specs.TableRecords.{records_in, posting_records, order_records, mark_records, desk_row_of}
+use Rattle.rtgs_rows.specs.TableRecords.{records_in, records_beyond, posting_records, order_records, mark_records}
+use Rattle.rtgs_rows.specs.TableRecords.{forward_records, desk_row_of, HasNoneBeyond}
+use Rattle.rtgs_rows.specs.Dues.{without_due, forward_for, forwards_of}
+use Rattle.rtgs_rows.specs.declared.forward.Forward.{Forward}
 use Rattle.rtgs_rows.specs.Tables.{HasTable, IsVersion, table_count, desk_table}
 use Rattle.rtgs_rows.specs.Querying.{as_shown}
 use Rattle.sqlite.specs.Effect.{Database}
@@ -22,9 +27,12 @@ use Rattle.rtgs_sql_columns.specs.Numbers.{IsNumberedPosting, IsNumberedOrder, I
 use Rattle.rtgs_sql_queries.specs.Records.{HasRecords}
 use Rattle.rtgs_sql_loading.specs.Accounts.{Telling, TellsOf, AreTheRecords, AreFormed, IsOneDay, InForm}
 use Rattle.rtgs_sql_loading.specs.Displaying.{IsUnread, IsIllegible}
+use Rattle.rtgs_sql_loading.specs.Joining.{AreJoined}
 use Rattle.rtgs_sql_loading.specs.Loading.{IsToldBy, ReadsRecords, TellsRecords}
-use Rattle.rtgs_sql_loading.proofs.OwnRows.{IsOwn, owns, all_own, posting_own, order_own, mark_own}
-use Rattle.rtgs_sql_loading.proofs.Versions.{Has, has_counted, has_no_more, each_first, each_had, one_had}
+use Rattle.rtgs_sql_loading.proofs.Joining.{joined_once, joined_fit}
+use Rattle.rtgs_sql_loading.proofs.Dues.{book_joined}
+use Rattle.rtgs_sql_loading.proofs.OwnRows.{IsOwn, owns, all_own, posting_own, order_own, mark_own, forward_own}
+use Rattle.rtgs_sql_loading.proofs.Versions.{Has, has_counted, has_no_more, each_first, each_last, each_had, one_had}
 
 -- what two facts of each of these come to
 each_both : {P Q R : (A : Type 0) → TableRecords A → Type 0}
@@ -42,6 +50,7 @@ pub both : {version : ℕ} {P Q R : Telling} {accounts : List Account} {book : B
 both {version = version} {P = P} {Q = Q} {R = R} {accounts = accounts} {book = book} one other on = record {
   fits = one.fits;
   named = one.named;
+  no_more = one.no_more;
   tells = each_both {P = TellsOf version P accounts book} {Q = TellsOf version Q accounts book}
       {R = TellsOf version R accounts book}
       (λ A records. on records.table records.counted _) (records_in version) one.tells other.tells;
@@ -52,6 +61,17 @@ weaker : {version : ℕ} {P Q : Telling} {accounts : List Account} {book : Book}
     → AreTheRecords version Q accounts book
 weaker are on = both are are (λ table counted told tells _. on table counted told tells)
 
+-- due dates stand under the numbers of their orders
+dues_numbered : (os : List Order) → AllByRecursion IsNumberedOrder os
+    → AllByRecursion (λ (f : Forward). 0 < f.number) (forwards_of os)
+dues_numbered [] low = tt
+dues_numbered (o ∷ os) low = by o.due (dues_numbered os low.1)
+  where
+    by : (due : Option ℕ) → AllByRecursion (λ (f : Forward). 0 < f.number) (forwards_of os)
+        → AllByRecursion (λ (f : Forward). 0 < f.number) (forward_for o.number due ++ forwards_of os)
+    by None rest = rest
+    by (Some due) rest = (low.0.0, rest)
+
 -- where the numbers are above zero, what is read as a record's row is its row
 pub own_records : {version : ℕ} {P : Telling} {accounts : List Account} {book : Book}
     → AreTheRecords version P accounts book → IsNumberedBook book
@@ -60,11 +80,19 @@ own_records {version = version} {accounts = accounts} {book = book} are low =
     let day = all_own (shown_day version book.day ∷ []) in
     let stored = all_own (map shown_account accounts) in
     let postings = owns posting_records IsNumberedPosting posting_own book.postings low.postings in
-    let orders = owns order_records IsNumberedOrder order_own book.orders low.orders in
+    let orders = owns order_records IsNumberedOrder order_own (map without_due book.orders)
+    (all_map IsNumberedOrder without_due book.orders low.orders) in
     let marks = owns mark_records IsNumberedMark mark_own book.marks low.marks in
+    let forwards = owns forward_records (λ f. 0 < f.number) forward_own (forwards_of book.orders)
+    (dues_numbered book.orders low.orders) in
     let each = TellsOf version (λ _ counted. AllByRecursion (IsOwn counted)) accounts book in
-    let all : Each each records_of_tables = (day, (stored, (postings, (orders, (marks, (tt, tt)))))) in
-    record { fits = are.fits; named = are.named; tells = each_first each (table_count version) records_of_tables all }
+    let all : Each each records_of_tables = (day, (stored, (postings, (orders, (marks, (forwards, tt)))))) in
+    record {
+      fits = are.fits;
+      named = are.named;
+      no_more = are.no_more;
+      tells = each_first each (table_count version) records_of_tables all;
+    }
 
 -- ---- what is read of each
 
@@ -78,18 +106,24 @@ abbrev pub ReadsEach : ℕ → State → List Account → Book → Type 0
 ReadsEach version s accounts book = Each (λ A records. ReadsRecords version records s
     (records.of_book version accounts book)) records_of_tables
 
+-- the orders come of their rows and of those of their due dates
+abbrev pub ComeOfRows : List Order → Type 0
+ComeOfRows orders = AreJoined (map without_due orders) (forwards_of orders) orders
+
 -- they are in their forms
 all_fit : (version : ℕ) (s : State) (accounts : List Account) (book : Book)
-    → book.participants ≡ map (λ (a : Account). a.participant) accounts → ReadsEach version s accounts book
-    → HasFormedValues book
-all_fit version s accounts book named (day, (stored, (postings, (orders, (marks, others))))) = record {
-  participants = subst (AllByRecursion FitsParticipant) (sym named)
-      (all_map FitsParticipant (λ (a : Account). a.participant) accounts stored.fit);
-  postings = postings.fit;
-  orders = orders.fit;
-  marks = marks.fit;
-  day = day.fit.0;
-}
+    → book.participants ≡ map (λ (a : Account). a.participant) accounts → ComeOfRows book.orders
+    → ReadsEach version s accounts book → HasFormedValues book
+all_fit version s accounts book named joined
+    (day, (stored, (postings, (orders, (marks, (forwards, others)))))) = record {
+      participants = subst (AllByRecursion FitsParticipant) (sym named)
+          (all_map FitsParticipant (λ (a : Account). a.participant) accounts stored.fit);
+      postings = postings.fit;
+      orders = joined_fit (map without_due book.orders) (forwards_of book.orders) book.orders joined orders.fit
+          forwards.fit;
+      marks = marks.fit;
+      day = day.fit.0;
+    }
 
 same_day : (version : ℕ) (a b : Day)
     → ◌≡◌ {A = List DeskRow} (desk_row_of version a ∷ []) (desk_row_of version b ∷ []) → a ≡ b
@@ -99,37 +133,61 @@ same_day version a b e =
 
 -- and they are those of the tables
 are_the_tables : (version : ℕ) (s : State) (accounts : List Account) (book : Book)
-    → book.participants ≡ map (λ (a : Account). a.participant) accounts → ReadsEach version s accounts book
+    → book.participants ≡ map (λ (a : Account). a.participant) accounts → ComeOfRows book.orders
+    → ReadsEach version s accounts book
     → (others : List Account) (other : Book) → HasRecords version others other s → (book ≡ other) × (accounts ≡ others)
-are_the_tables version s accounts book named (day, (stored, (postings, (orders, (marks, none))))) others other held =
+are_the_tables version s accounts book named joined
+    (day, (stored, (postings, (orders, (marks, (forwards, none)))))) others other held =
     let same = stored.given others other held in
     let participants = named ∙ ap (map (λ (a : Account). a.participant)) same ∙ sym held.2.participants in
-    let today = same_day version book.day other.day (day.given others other held) in (
+    let today = same_day version book.day other.day (day.given others other held) in
+    let same_orders : book.orders ≡ other.orders = joined_once (map without_due other.orders)
+    (forwards_of other.orders) book.orders other.orders
+    (subst₂ (λ (ps : List Order) (fs : List Forward). AreJoined ps fs book.orders) (orders.given others other held)
+    (forwards.given others other held) joined) (book_joined others other held) in (
       λ i. record {
         participants = participants i;
         postings = postings.given others other held i;
-        orders = orders.given others other held i;
+        orders = same_orders i;
         marks = marks.given others other held i;
         day = today i;
       },
       same,
     )
 
+-- of a table that the version lacks the book has none
+none_beyond : (version : ℕ) → IsVersion version → (s : State) (accounts : List Account) (book : Book)
+    → ReadsEach version s accounts book → HasNoneBeyond version accounts book
+none_beyond version known s accounts book reads =
+    each_both {P = λ A records. ¬ Has version A records}
+    {Q = λ A records. ReadsRecords version records s (records.of_book version accounts book)}
+    {R = λ A records. records.of_book version accounts book ≡ []} none (records_beyond version)
+    (has_no_more version known) (each_last _ (table_count version) records_of_tables reads)
+  where
+    none : (A : Type 0) (records : TableRecords A) → ¬ Has version A records
+        → ReadsRecords version records s (records.of_book version accounts book)
+        → records.of_book version accounts book ≡ []
+    none A records lacks read = elim (read.had known) [
+      | inl has ↦ absurd (lacks has)
+      | inr other ↦ other.1
+    ]
+
 -- the book of what is read of each
 pub tells : (version : ℕ) → IsVersion version → (s : State) (accounts : List Account) (book : Book)
-    → book.participants ≡ map (λ (a : Account). a.participant) accounts → ReadsEach version s accounts book
-    → TellsRecords version s accounts book
-tells version known s accounts book named reads =
+    → book.participants ≡ map (λ (a : Account). a.participant) accounts → ComeOfRows book.orders
+    → ReadsEach version s accounts book → TellsRecords version s accounts book
+tells version known s accounts book named joined reads =
     let told : AreTheRecords version (IsToldBy version s) accounts book = record {
-      fits = all_fit version s accounts book named reads;
+      fits = all_fit version s accounts book named joined reads;
       named = named;
+      no_more = none_beyond version known s accounts book reads;
       tells = each_both {P = Has version}
           {Q = λ A records. ReadsRecords version records s (records.of_book version accounts book)}
           {R = TellsOf version (IsToldBy version s) accounts book} (λ A records has read. read.told has)
           (records_in version) (has_counted version known) (each_first _ (table_count version) records_of_tables reads);
     } in
     record {
-      records = are_the_tables version s accounts book named reads;
+      records = are_the_tables version s accounts book named joined reads;
       rows = λ trees file. weaker told (λ table counted rows is. is.0 trees file);
       displayed = weaker told (λ table counted rows is. is.1);
     }

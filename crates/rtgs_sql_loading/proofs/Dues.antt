@@ -1,48 +1,101 @@
--- Due dates, of which there are none.
-use Rattle.std.proofs.Common.{◌≡◌, ◌≢◌, ◌⊎◌, inl, inr, ℕ, List, [], ◌∷◌, map, Result, sym, ap}
-use Rattle.std.proofs.Common.{refl, length, arith}
-use Rattle.std.proofs.lemmas.List.Sorted.{length_permutation}
+-- Orders and due dates that do not fit together.
+use Rattle.std.proofs.Common.{◌≡◌, ◌⊎◌, inl, inr, ℕ, pos, List, [], ◌∷◌, map, Result, refl, sym, subst, subst₂}
+use Rattle.std.specs.List.{AllByRecursion}
 use Rattle.sqlite.specs.Order.{Row}
 use Rattle.sqlite.specs.State.{State, HasCleanDisk}
 use Rattle.sqlite.specs.Tree.{Trees}
+use Rattle.rtgs_book.specs.declared.Book.{Book}
+use Rattle.rtgs_book.specs.declared.account.Account.{Account}
 use Rattle.rtgs_book.specs.declared.Fault.{Fault}
+use Rattle.rtgs_book.specs.declared.Order.{Order}
+use Rattle.rtgs_rows.specs.Content.{Rise}
+use Rattle.rtgs_rows.specs.Dues.{without_due, forwards_of}
+use Rattle.rtgs_rows.specs.Fitting.{FitsForward}
 use Rattle.rtgs_rows.specs.Querying.{IsFileIn}
-use Rattle.rtgs_rows.specs.Rows.{shown_forward}
-use Rattle.rtgs_rows.specs.TableRecords.{forward_records}
+use Rattle.rtgs_rows.specs.TableRecords.{order_records, forward_records}
 use Rattle.rtgs_rows.specs.Tables.{HasTable, forward_table}
 use Rattle.rtgs_rows.specs.declared.forward.Forward.{Forward}
-use Rattle.rtgs_sql_columns.specs.Numbers.{as_read}
-use Rattle.rtgs_sql_loading.specs.Accounts.{AreFormed}
-use Rattle.rtgs_sql_loading.specs.Displaying.{IsIllegible, ShowsDues}
-use Rattle.rtgs_sql_loading.specs.Loading.{ReadsOn, ReadsRecords, Stops}
+use Rattle.rtgs_sql_columns.specs.Numbers.{AreReadAs}
+use Rattle.rtgs_sql_queries.specs.Records.{HasRecords}
+use Rattle.rtgs_sql_loading.specs.Accounts.{AreFormed, ShowsDues}
+use Rattle.rtgs_sql_loading.specs.Displaying.{IsIllegible, DisplaysDues}
+use Rattle.rtgs_sql_loading.specs.Joining.{AreJoined, AreOrders}
+use Rattle.rtgs_sql_loading.specs.Loading.{ReadsOn, ReadsList, ReadsRows, Stops}
+use Rattle.rtgs_sql_loading.proofs.Joining.{orders_joined}
 
--- no rows show no due dates
-none_shown : (rows : List Row) (forwards : List Forward) → rows ≡ []
-    → length (map (as_read forward_records.counted) rows) ≡ length (map shown_forward forwards) → forwards ≡ []
-none_shown [] [] none same = refl
-none_shown [] (f ∷ fs) none same = absurd (omega (arith, same))
-none_shown (row ∷ rows) fs none same = absurd cc
+-- the orders of records are joined
+pub book_joined : {version : ℕ} {s : State} (accounts : List Account) (book : Book)
+    → HasRecords version accounts book s
+    → AreJoined (map without_due book.orders) (forwards_of book.orders) book.orders
+book_joined accounts book held =
+    orders_joined book.orders (subst (Rise (λ (o : Order). pos o.number)) held.2.lists.orders held.2.order.orders)
+    held.2.dues
 
--- where due dates are read, the tables are in no form, and the query of due dates shows a row
-pub stops_at_dues : {A : Type 0} {version : ℕ} {old new : State} {forwards : List Forward} (answer : Result A Fault)
-    → ReadsOn old new → (HasCleanDisk new → ReadsRecords version forward_records old forwards)
-    → forwards ≢ [] → Stops version old new answer (λ trees. ¬ AreFormed version trees) (IsIllegible version)
-stops_at_dues {version = version} {old = old} {new = new} {forwards = forwards} answer on reads some = record {
-  right = λ clean accounts book held e. some ((reads clean).given accounts book held);
-  wrong = λ clean trees file e formed. some (unread clean trees file formed ((reads clean).had file.known));
-  unread = λ clean known e. inr (inr (inr (shows clean ((reads clean).had known))));
+-- the rows of due dates that these were read of
+record FoundDues (version : ℕ) (s : State) (forwards : List Forward) : Type 0 where
+  rows : List Row
+  read : AreReadAs forward_records rows forwards
+  only : (others : List Forward) → AllByRecursion FitsForward others → AreReadAs forward_records rows others
+      → forwards ≡ others
+  displayed : DisplaysDues version s.now rows
+  sorted : (trees : Trees) → IsFileIn version trees s → ShowsDues version trees rows
+
+found_dues : {version : ℕ} {s : State} {forwards : List Forward} → ReadsList version forward_records s forwards
+    → HasTable version forward_table ⊎ (¬ HasTable version forward_table × (forwards ≡ []))
+    → FoundDues version s forwards
+found_dues list (inl has) =
+    let its = list.rows has in
+    record {
+      rows = its.rows;
+      read = its.read;
+      only = its.only;
+      displayed = inl (has, its.displayed);
+      sorted = λ trees file. inl (has, its.sorted trees file);
+    }
+found_dues {forwards = forwards} list (inr (lacks, none)) = record {
+  rows = [];
+  read = subst (AreReadAs forward_records []) (sym none) refl;
+  only = λ others fit read. subst (λ (fs : List Forward). fs ≡ others) (sym none) (nothing others read);
+  displayed = inr (lacks, refl);
+  sorted = λ trees file. inr (lacks, refl);
+}
+  where
+    nothing : (others : List Forward) → AreReadAs forward_records [] others → [] ≡ others
+    nothing [] read = refl
+    nothing (f ∷ fs) read = absurd cc
+
+-- these rows are not those of orders
+apart : {version : ℕ} {s : State} {payments : List Order} {forwards : List Forward}
+    → ((all : List Order) → ¬ AreJoined payments forwards all) → (own : ReadsRows version order_records s payments)
+    → (found : FoundDues version s forwards) → ¬ AreOrders own.rows found.rows
+apart none own found are =
+    none are.orders (subst₂ (λ (ps : List Order) (fs : List Forward). AreJoined ps fs are.orders)
+    (sym (own.only are.plain are.plain_fit are.plain_read))
+    (sym (found.only are.forwards are.forwards_fit are.forwards_read)) are.joined)
+
+-- where they do not fit together, the tables are in no form, and their queries show it
+pub stops_apart : {A : Type 0} {version : ℕ} {old new : State} (payments : List Order) (forwards : List Forward)
+    (answer : Result A Fault) → ReadsOn old new
+    → (HasCleanDisk new → ReadsList version order_records old payments)
+    → (HasCleanDisk new → ReadsList version forward_records old forwards)
+    → ((all : List Order) → ¬ AreJoined payments forwards all)
+    → Stops version old new answer (λ trees. ¬ AreFormed version trees) (IsIllegible version)
+stops_apart {version = version} {old = old} payments forwards answer on orders dues none = record {
+  right = λ clean accounts book held e.
+      let given : AreJoined payments forwards book.orders =
+      subst₂ (λ (ps : List Order) (fs : List Forward). AreJoined ps fs book.orders)
+      (sym ((orders clean).reads.given accounts book held)) (sym ((dues clean).reads.given accounts book held))
+      (book_joined accounts book held) in
+      none book.orders given;
+  wrong = λ clean trees file e formed.
+      let own = (orders clean).rows file.known in
+      let found = found_dues (dues clean) ((dues clean).reads.had file.known) in
+      apart none own found
+      (formed.orders own.rows found.rows (own.sorted trees file) (found.sorted trees file));
+  unread = λ clean known e.
+      let own = (orders clean).rows known in
+      let found = found_dues (dues clean) ((dues clean).reads.had known) in
+      inr (inr (inr (own.rows, found.rows, own.displayed, found.displayed, apart none own found)));
   same = λ clean other. on.keeps clean;
   survives = on.survives;
 }
-  where
-    unread : HasCleanDisk new → (trees : Trees) → IsFileIn version trees old → AreFormed version trees
-        → HasTable version forward_table ⊎ (forwards ≡ []) → forwards ≡ []
-    unread clean trees file formed (inl has) =
-        none_shown _ forwards (formed.dues has) (sym (length_permutation _ _ (((reads clean).told has).0 trees file)))
-    unread clean trees file formed (inr none) = none
-
-    shows : HasCleanDisk new → HasTable version forward_table ⊎ (forwards ≡ []) → ShowsDues version old.now
-    shows clean (inl has) =
-        let seen = ((reads clean).told has).1 in
-        (has, (seen.0, seen.1, λ none. some (none_shown seen.0 forwards none (ap length seen.2))))
-    shows clean (inr none) = absurd (some none)

@@ -1,6 +1,9 @@
 pub mod Keeps
 pub mod OwnRows
 pub mod Versions
+pub mod Joining
+pub mod Fitting
+pub mod Dues
 pub mod AllTables
 pub mod AboveZero
 pub mod Told
@@ -8,5 +11,4 @@ pub mod Displaying
 pub mod Blank
 pub mod Judging
 pub mod ReadTables
-pub mod Dues
 pub mod Together

@@ -7,10 +7,11 @@ use Rattle.sqlite.specs.declared.types.Value.TheVariants.{Null, Int, Real, Text,
 use Rattle.rtgs_book.specs.declared.Posting.{Posting}
 use Rattle.rtgs_book.specs.declared.Order.{Order}
 use Rattle.rtgs_book.specs.declared.OrderState.{OrderState}
-use Rattle.rtgs_book.specs.declared.OrderState.TheVariants.{Queued, Settled, Withdrawn, Rejected}
+use Rattle.rtgs_book.specs.declared.OrderState.TheVariants.{Queued, Held, Settled, Withdrawn, Rejected}
 use Rattle.rtgs_book.specs.declared.Mark.{Mark}
-use Rattle.rtgs_rows.specs.Rows.{shown_posting, shown_order, shown_mark, mark_value}
-use Rattle.rtgs_rows.specs.TableRecords.{TableRecords, posting_records, order_records, mark_records}
+use Rattle.rtgs_rows.specs.Rows.{shown_posting, shown_order, shown_mark, shown_forward, mark_value}
+use Rattle.rtgs_rows.specs.TableRecords.{TableRecords, posting_records, order_records, mark_records, forward_records}
+use Rattle.rtgs_rows.specs.declared.forward.Forward.{Forward}
 use Rattle.rtgs_sql_columns.specs.Numbers.{natural_of, at_least_zero, as_read, IsFormed, IsNumberedPosting}
 use Rattle.rtgs_sql_columns.specs.Numbers.{IsNumberedState, IsNumberedOrder, IsNumberedMark}
 
@@ -39,6 +40,11 @@ state_own Queued (Int n) low e = absurd cc
 state_own Queued (Real x) low e = absurd cc
 state_own Queued (Text t) low e = absurd cc
 state_own Queued (Blob b) low e = absurd cc
+state_own Held Null low e = e
+state_own Held (Int n) low e = absurd cc
+state_own Held (Real x) low e = absurd cc
+state_own Held (Text t) low e = absurd cc
+state_own Held (Blob b) low e = absurd cc
 state_own (Settled mark) v low e = above_in v mark low e
 state_own Withdrawn Null low e = e
 state_own Withdrawn (Int n) low e = absurd cc
@@ -86,6 +92,11 @@ mark_own (a ∷ b ∷ c ∷ rest) m low e =
     let number = above_in a m.number low.0 (let is : at_least_zero a ≡ Int (pos m.number) = cc in is) in
     let count = above_in c m.count low.1 (let is : at_least_zero c ≡ Int (pos m.count) = cc in is) in
     cc
+
+pub forward_own : (row : Row) (f : Forward) → 0 < f.number → as_read forward_records.counted row ≡ shown_forward f
+    → row ≡ shown_forward f
+forward_own [] f low e = absurd cc
+forward_own (v ∷ row) f low e = ap₂ ◌∷◌ (above_in v f.number low (head_of _ _ _ _ e)) (tail_of _ _ _ _ e)
 
 -- ---- what is read as a row is the row itself
 

@@ -41,7 +41,8 @@ followed one two = record {
 -- the tables keep their records
 kept_on : {version : ℕ} (accounts : List Account) (book : Book) (old new : State) → KeepsTables old new
     → HasRecords version accounts book old → HasRecords version accounts book new
-kept_on {version = version} accounts book old new keeps held = (held.0, keeps.rests version held.0 held.1, held.2)
+kept_on {version = version} accounts book old new keeps held =
+    (held.0, keeps.rests version held.0 held.1, held.2, held.3)
 
 -- one that stops: its fault is answered
 pub stops_after : {A B : Type 0} {version : ℕ} {a b c : State} {Bad Wrong : Trees → Type 0}

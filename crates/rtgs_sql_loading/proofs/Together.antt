@@ -27,7 +27,7 @@ shows_of version trees accounts book read numbered =
     both (own_records read numbered) read
     (λ table counted told own same. subst (λ seen. IsPermutation seen told) (read_plainly counted
     (as_shown table trees) (all-permutation (IsOwn counted) _ _ (IsPermutation-sym _ _ same) own)) same) in
-    record { named = read.named; shows = plain.tells }
+    record { named = read.named; shows = plain.tells; no_more = read.no_more }
 
 -- what was read, and judged to be sound with its balances stored, is what the tables show
 pub shown_book : (version : ℕ) (trees : Trees) (accounts : List Account) (book : Book) (answer : Result Book Fault)

@@ -13,24 +13,25 @@ use Rattle.rtgs_book.specs.declared.account.Account.{Account}
 use Rattle.rtgs_rows.specs.Fitting.{FitsDate}
 use Rattle.rtgs_rows.specs.Rows.{shown_day}
 use Rattle.rtgs_rows.specs.Querying.{as_shown, IsFileIn}
-use Rattle.rtgs_rows.specs.TableRecords.{TableRecords, desk_row_of}
+use Rattle.rtgs_rows.specs.TableRecords.{TableRecords, desk_row_of, HasNoneBeyond}
 use Rattle.rtgs_rows.specs.declared.desk_row.DeskRow.{DeskRow}
 use Rattle.rtgs_rows.specs.Tables.{HasTable, IsVersion, desk_table}
 use Rattle.rtgs_sql_columns.specs.Numbers.{as_read, IsFormed}
 use Rattle.rtgs_sql_columns.specs.Tables.{query_text}
 use Rattle.rtgs_sql_queries.specs.Displaying.{Displays}
 use Rattle.rtgs_sql_queries.specs.Records.{HasRecords}
+use Rattle.rtgs_sql_queries.specs.TableQueries.{ShowsSorted}
 use Rattle.rtgs_sql_loading.specs.Accounts.{IsOneDay, IsOneDesk, InForm}
 use Rattle.rtgs_sql_loading.specs.Displaying.{IsUnread, SaysNoVersion}
-use Rattle.rtgs_sql_loading.specs.Loading.{ReadsRecords, ReadsDesk, ReadsOneDay, ReadsOn, Stops}
+use Rattle.rtgs_sql_loading.specs.Loading.{ReadsList, ReadsDesk, ReadsOneDay, ReadsOn, Stops}
 use Rattle.sqlite.specs.Effect.{Database}
 use Rattle.rtgs_sql_loading.proofs.Versions.{known_of}
 
--- of the rows that a query shows, these records are read
+-- of the rows that a query shows, these records are read, and no others
 pub reads_of : {A : Type 0} (version : ℕ) (records : TableRecords A) (s : State) (rows seen : List Row)
     (r : Result (Vec A Global) Fault) → seen ≡ rows → Displays s.now (query_text records.table) rows
     → (HasTable version records.table → (trees : Trees) → IsFileIn version trees s
-    → IsPermutation (as_shown records.table trees) rows)
+    → ShowsSorted records.table trees rows)
     → (IsVersion version → HasTable version records.table)
     → ((accounts : List Account) (book : Book) → HasRecords version accounts book s
     → AllByRecursion records.fits (records.of_book version accounts book)
@@ -39,34 +40,47 @@ pub reads_of : {A : Type 0} (version : ℕ) (records : TableRecords A) (s : Stat
     → map (as_read records.counted) seen ≡ map records.shown found → IfOk r (λ v. v.items ≡ found))
     → IfOk r (λ v. AllByRecursion records.fits v.items
     × (map (as_read records.counted) seen ≡ map records.shown v.items))
-    → IfOk r (λ v. ReadsRecords version records s v.items)
+    → IfOk r (λ v. ReadsList version records s v.items)
 reads_of version records s rows seen (Ok v) same shows raw has own given is =
     let counted = records.counted in
     let told : map (as_read counted) rows ≡ map records.shown v.items = ap (map (as_read counted)) (sym same) ∙ is.1 in
     record {
-      given = λ accounts book held.
-          let its = own accounts book held in
-          given (records.of_book version accounts book) its.0 (ap (map (as_read counted)) same ∙ its.1);
-      fit = is.0;
-      told = λ its. (
-        λ trees file. subst (IsPermutation (map (as_read counted) (as_shown records.table trees))) told
-            (IsPermutation-map (as_read counted) _ _ (raw its trees file)),
-        (rows, shows, told),
-      );
-      had = λ known. inl (has known);
+      reads = record {
+        given = λ accounts book held.
+            let its = own accounts book held in
+            given (records.of_book version accounts book) its.0 (ap (map (as_read counted)) same ∙ its.1);
+        fit = is.0;
+        told = λ its. (
+          λ trees file. subst (IsPermutation (map (as_read counted) (as_shown records.table trees))) told
+              (IsPermutation-map (as_read counted) _ _ (raw its trees file).0),
+          (rows, shows, told),
+        );
+        had = λ known. inl (has known);
+      };
+      rows = λ its. record {
+        rows = rows;
+        read = told;
+        only = λ others fit alike. given others fit (ap (map (as_read counted)) same ∙ alike);
+        displayed = shows;
+        sorted = λ trees file. raw its trees file;
+      };
     }
 reads_of version records s rows seen (Err e) same shows raw has own given is = tt
 
 -- of a table that the version has not, none is read
 pub reads_none : {A : Type 0} (version : ℕ) (records : TableRecords A) (s : State) (all : List A) → all ≡ []
     → (IsVersion version → ¬ HasTable version records.table)
-    → (IsVersion version → (accounts : List Account) (book : Book) → records.of_book version accounts book ≡ [])
-    → ReadsRecords version records s all
+    → (IsVersion version → (accounts : List Account) (book : Book) → HasNoneBeyond version accounts book
+    → records.of_book version accounts book ≡ [])
+    → ReadsList version records s all
 reads_none version records s all none lacks own = record {
-  given = λ accounts book held. none ∙ sym (own held.1.known accounts book);
-  fit = subst (AllByRecursion records.fits) (sym none) tt;
-  told = λ has. absurd (lacks (known_of version records.table has) has);
-  had = λ known. inr none;
+  reads = record {
+    given = λ accounts book held. none ∙ sym (own held.1.known accounts book held.3);
+    fit = subst (AllByRecursion records.fits) (sym none) tt;
+    told = λ has. absurd (lacks (known_of version records.table has) has);
+    had = λ known. inr (lacks known, none);
+  };
+  rows = λ has. absurd (lacks (known_of version records.table has) has);
 }
 
 -- where no number is read in another way

@@ -52,6 +52,12 @@ each_first P zero all is = tt
 each_first P (suc count) [] is = tt
 each_first P (suc count) (records ∷ all) is = (is.0, each_first P count all is.1)
 
+-- and of those after the first
+pub each_last : (P : Fact) (count : ℕ) (all : All) → Each P all → Each P (drop count all)
+each_last P zero all is = is
+each_last P (suc count) [] is = is
+each_last P (suc count) (records ∷ all) is = each_last P count all is.1
+
 -- where those after the first are not had, what is so of each of the first is so of each that is had
 pub each_had : (H P : Fact) (count : ℕ) (all : All) → Each (λ A records. ¬ H A records) (drop count all)
     → Each P (take count all) → Each (λ A records. H A records → P A records) all

@@ -1,5 +1,6 @@
 -- The records of the tables as they are read, and what an opening says of them.
-use Rattle.std.specs.Prelude.{◌≡◌, ℕ, ℤ, Bool, false, List, [], ◌∷◌, map, option_map, unwrap_or, IsPermutation, ⊤}
+use Rattle.std.specs.Prelude.{◌≡◌, ◌⊎◌, ℕ, ℤ, Bool, false, List, [], ◌∷◌, map, option_map, unwrap_or, IsPermutation}
+use Rattle.std.specs.Prelude.{⊤}
 use Rattle.std.specs.List.{AllByRecursion}
 use Rattle.std.specs.BTreeMap.{BTreeMap, get}
 use Rattle.std.specs.Ordering.{nat_cmp, int_eq}
@@ -18,9 +19,11 @@ use Rattle.rtgs_rows.specs.Fitting.{HasFormedValues, FitsDate}
 use Rattle.rtgs_rows.specs.Keeping.{AreBalances}
 use Rattle.rtgs_rows.specs.Rows.{shown_day}
 use Rattle.rtgs_rows.specs.Querying.{as_shown, ShowsBook}
-use Rattle.rtgs_rows.specs.TableRecords.{TableRecords, Each, records_in}
-use Rattle.rtgs_rows.specs.Tables.{HasTable, desk_table, forward_table}
+use Rattle.rtgs_rows.specs.TableRecords.{TableRecords, Each, HasNoneBeyond, records_in}
+use Rattle.rtgs_rows.specs.Tables.{HasTable, desk_table, payment_table, forward_table}
 use Rattle.rtgs_sql_columns.specs.Numbers.{as_read, IsFormed}
+use Rattle.rtgs_sql_queries.specs.TableQueries.{ShowsSorted}
+use Rattle.rtgs_sql_loading.specs.Joining.{AreOrders}
 use Rattle.rtgs_book.specs.declared.account.Account.{Account}
 
 -- the rows of a table as its query shows them and as they are read, in some order
@@ -44,6 +47,7 @@ pub record AreTheRecords (version : ℕ) (Tells : Telling) (accounts : List Acco
   pub fits : HasFormedValues book
   pub named : book.participants ≡ map (λ (a : Account). a.participant) accounts
   pub tells : Each (TellsOf version Tells accounts book) (records_in version)
+  pub no_more : HasNoneBeyond version accounts book
 
 -- What is read of trees of this version, sound or not: each row of the tables is told by one record. A number below
 -- zero is read as 0, which breaks the same rule of a sound book.
@@ -62,16 +66,22 @@ IsOneDesk rows = (version : ℕ) × IsOneDay version rows
 abbrev pub InForm : {A : Type 0} → TableRecords A → List Row → Type 0
 InForm records = AllByRecursion (IsFormed records)
 
--- the table of due dates, where the version has it, has no row, for no order has a due date
-abbrev pub HasNoDues : ℕ → Trees → Type 0
-HasNoDues version trees = HasTable version forward_table → as_shown forward_table trees ≡ []
+-- these are the rows of due dates, as their query shows and sorts them; a version without their table has none
+abbrev pub ShowsDues : ℕ → Trees → List Row → Type 0
+ShowsDues version trees dues = (HasTable version forward_table × ShowsSorted forward_table trees dues)
+    ⊎ (¬ HasTable version forward_table × (dues ≡ []))
+
+-- the rows of the two tables, sorted by their numbers, are those of orders
+abbrev pub HasOrders : ℕ → Trees → Type 0
+HasOrders version trees = (payments dues : List Row) → ShowsSorted payment_table trees payments
+    → ShowsDues version trees dues → AreOrders payments dues
 
 -- Each row of the tables that the version has is in the form of a record; the first table has one row, which says this
--- version; and there is no due date.
+-- version; each due date is of an order, and each held order has one.
 pub record AreFormed (version : ℕ) (trees : Trees) : Type 0 where
   pub day : IsOneDay version (as_shown desk_table trees)
   pub rows : Each (λ A records. InForm records (as_shown records.table trees)) (records_in version)
-  pub dues : HasNoDues version trees
+  pub orders : HasOrders version trees
 
 -- ---- why no book is given
 

@@ -1,5 +1,5 @@
 -- What the queries of the tables show of a database, and why they show nothing, whatever its schema is.
-use Rattle.std.specs.Prelude.{◌≡◌, ◌≢◌, ◌⊎◌, ℕ, Bool, List, [], map, ⊤}
+use Rattle.std.specs.Prelude.{◌≡◌, ◌⊎◌, ℕ, Bool, List, [], map, ⊤}
 use Rattle.sqlite.specs.Order.{Row}
 use Rattle.sqlite.specs.Effect.{Database}
 use Rattle.rtgs_book.specs.declared.Book.{Book}
@@ -8,10 +8,11 @@ use Rattle.rtgs_book.specs.declared.Fault.{Fault}
 use Rattle.rtgs_book.specs.declared.Fault.TheVariants.{OutOfMemory, StoreFault, NotADeskFile, Inconsistent}
 use Rattle.rtgs_rows.specs.Keeping.{AreBalances}
 use Rattle.rtgs_rows.specs.TableRecords.{OneOf, records_in}
-use Rattle.rtgs_rows.specs.Tables.{HasTable, IsVersion, desk_table, forward_table}
+use Rattle.rtgs_rows.specs.Tables.{HasTable, IsVersion, desk_table, payment_table, forward_table}
 use Rattle.rtgs_sql_columns.specs.Numbers.{as_read}
 use Rattle.rtgs_sql_columns.specs.Tables.{query_text}
 use Rattle.rtgs_sql_queries.specs.Displaying.{Displays, HasNoAnswer}
+use Rattle.rtgs_sql_loading.specs.Joining.{AreOrders}
 use Rattle.rtgs_sql_loading.specs.Accounts.{AreTheRecords, StoredBreaksFirst, IsOneDay, IsOneDesk, InForm}
 
 -- ---- what they show
@@ -45,19 +46,24 @@ SaysVersion version db = (rows : List Row) × Displays db (query_text desk_table
 abbrev pub SaysNoVersion : Database → Type 0
 SaysNoVersion db = IsUnread db (query_text desk_table) IsOneDesk
 
--- the version has the table of due dates, and its query shows a row, which is of no order
-abbrev pub ShowsDues : ℕ → Database → Type 0
-ShowsDues version db = HasTable version forward_table
-    × ((rows : List Row) × Displays db (query_text forward_table) rows × (rows ≢ []))
+-- these are the rows of due dates that the query shows; a version without their table has none
+abbrev pub DisplaysDues : ℕ → Database → List Row → Type 0
+DisplaysDues version db dues = (HasTable version forward_table × Displays db (query_text forward_table) dues)
+    ⊎ (¬ HasTable version forward_table × (dues ≡ []))
+
+-- the queries show rows of orders and of due dates that are not those of orders
+abbrev pub ShowsNoOrders : ℕ → Database → Type 0
+ShowsNoOrders version db = (payments dues : List Row) × Displays db (query_text payment_table) payments
+    × DisplaysDues version db dues × ¬ AreOrders payments dues
 
 -- The version is not known; or the query of the first table has no answer, or shows not one row, or one that does not
 -- say this version; or that of one of the version's tables has no answer, or shows a row that is in the form of no
--- record; or there is a due date.
+-- record; or a due date is of no order, or a held order has none.
 abbrev pub IsIllegible : ℕ → Database → Type 0
 IsIllegible version db = ¬ IsVersion version
     ⊎ IsUnread db (query_text desk_table) (IsOneDay version)
     ⊎ OneOf (λ A records. IsUnread db (query_text records.table) (InForm records)) (records_in version)
-    ⊎ ShowsDues version db
+    ⊎ ShowsNoOrders version db
 
 -- Why a database gives no book of tables of this version, whatever its schema is: it cannot be read; or this is the
 -- first rule that the records break which it shows; or else the store failed or memory was refused.

@@ -21,11 +21,14 @@ use Rattle.rtgs_rows.specs.Querying.{as_shown, IsFileIn, AreWholeIn}
 use Rattle.rtgs_rows.specs.Tables.{HasTable, IsVersion, desk_table}
 use Rattle.rtgs_rows.specs.declared.desk_row.DeskRow.{DeskRow}
 use Rattle.rtgs_rows.specs.TableRecords.{TableRecords, day_records, desk_row_of}
+use Rattle.rtgs_sql_columns.specs.Numbers.{AreReadAs}
 use Rattle.rtgs_sql_columns.specs.Tables.{query_text}
 use Rattle.rtgs_sql_queries.specs.Answering.{KeepsTables}
 use Rattle.rtgs_sql_queries.specs.Displaying.{Displays}
 use Rattle.rtgs_sql_queries.specs.Faults.{IsOfStore}
 use Rattle.rtgs_sql_queries.specs.Records.{HasRecords}
+use Rattle.rtgs_sql_queries.specs.TableQueries.{ShowsSorted}
+use Rattle.sqlite.specs.Order.{Row}
 use Rattle.rtgs_sql_loading.specs.Accounts.{Telling, AreTold, AreReadOf, ExplainsRead, ExplainsTrees, IsShown}
 use Rattle.rtgs_sql_loading.specs.Displaying.{DisplaysAs, AreDisplayed, IsDisplayed, ExplainsDatabase}
 
@@ -48,7 +51,7 @@ pub record ReadsRecords {A : Type 0} (version : ℕ) (records : TableRecords A) 
       → all ≡ records.of_book version accounts book
   pub fit : AllByRecursion records.fits all
   pub told : HasTable version records.table → IsToldBy version s records.table records.counted (map records.shown all)
-  pub had : IsVersion version → HasTable version records.table ⊎ (all ≡ [])
+  pub had : IsVersion version → HasTable version records.table ⊎ (¬ HasTable version records.table × (all ≡ []))
 
 -- it was there before what was read first
 pub read_after : {A : Type 0} {version : ℕ} {records : TableRecords A} {first old : State} {all : List A}
@@ -56,7 +59,7 @@ pub read_after : {A : Type 0} {version : ℕ} {records : TableRecords A} {first 
     → ReadsRecords version records first all
 read_after {version = version} {records = records} {all = all} on clean reads = record {
   given = λ accounts book held.
-      reads.given accounts book (held.0, (on.keeps clean).rests version held.0 held.1, held.2);
+      reads.given accounts book (held.0, (on.keeps clean).rests version held.0 held.1, held.2, held.3);
   fit = reads.fit;
   told = λ has. (
     λ trees file. (reads.told has).0 trees ((on.keeps clean).file version trees file),
@@ -64,6 +67,34 @@ read_after {version = version} {records = records} {all = all} on clean reads = 
         (reads.told has).1,
   );
   had = reads.had;
+}
+
+-- These records are read of the rows that the query shows of the table, and no others.
+pub record ReadsRows {A : Type 0} (version : ℕ) (records : TableRecords A) (s : State) (all : List A) : Type 0 where
+  pub rows : List Row
+  pub read : AreReadAs records rows all
+  pub only : (others : List A) → AllByRecursion records.fits others → AreReadAs records rows others → all ≡ others
+  pub displayed : Displays s.now (query_text records.table) rows
+  pub sorted : (trees : Trees) → IsFileIn version trees s → ShowsSorted records.table trees rows
+
+-- so it is with the table of a list of records, where the version has it
+pub record ReadsList {A : Type 0} (version : ℕ) (records : TableRecords A) (s : State) (all : List A) : Type 0 where
+  pub reads : ReadsRecords version records s all
+  pub rows : HasTable version records.table → ReadsRows version records s all
+
+pub list_after : {A : Type 0} {version : ℕ} {records : TableRecords A} {first old : State} {all : List A}
+    → ReadsOn first old → HasCleanDisk old → ReadsList version records old all → ReadsList version records first all
+list_after {version = version} {records = records} on clean list = record {
+  reads = read_after on clean list.reads;
+  rows = λ has.
+      let its = list.rows has in
+      record {
+        rows = its.rows;
+        read = its.read;
+        only = its.only;
+        displayed = subst (λ now. Displays now (query_text records.table) its.rows) (on.same clean) its.displayed;
+        sorted = λ trees file. its.sorted trees ((on.keeps clean).file version trees file);
+      };
 }
 
 -- This is what the one row of the first table says: by the records, where the tables of a version have any; by its

@@ -4,7 +4,9 @@
 mod balances;
 mod desk;
 mod faults;
+pub mod laws;
 mod loading;
+mod orders;
 mod reading;
 
 pub use crate::desk::version_of;

@@ -10,13 +10,13 @@ ghost use Rattle.rtgs_sql_loading.specs.Displaying.{IsIllegible};
 ghost use Rattle.rtgs_sql_loading.specs.Loading.{TellsRecords, Stops, LoadsFrom};
 ghost use Rattle.rtgs_book.specs.Ranges.{Fits};
 ghost use Rattle.rtgs_book.specs.Soundness.{IsSound};
-ghost use Rattle.rtgs_rows.specs.Dues.{forwards_of};
 ghost use Rattle.rtgs_rows.specs.Keeping.{AreBalances};
 ghost use Rattle.rtgs_rows.specs.Tables.{IsVersion};
 ghost use Rattle.sqlite.specs.State.{HasCleanDisk, Survives};
 ghost use Rattle.sqlite.specs.Held.{state};
 
 use crate::balances::balances_agree;
+use crate::orders::joined;
 use crate::reading::FromTables;
 use rtgs_book::{Account, Book, Day, Fault, Mark, Order, Participant, Posting, Rows, Rule};
 use rtgs_rows::Forward;
@@ -70,19 +70,6 @@ fn read_tables<S: Alter>(
         day,
     };
     Ok(Stored { accounts, book })
-}
-
-/// The orders with their due dates, of which there are none: a row of a due date is of no order.
-fn joined(orders: Vec<Order>, forwards: &[Forward]) -> Result<Vec<Order>, Fault>
-    ensures joined { IfOk result (λ all. (all ≡ orders) × (forwards.now ≡ forwards_of all.items)) }
-    ensures wrong { IfErr result (λ fault. (fault ≡ Fault.NotADeskFile)
-        × (forwards.now ≢ forwards_of orders.items)) }
-{
-    if forwards.is_empty() {
-        Ok(orders)
-    } else {
-        Err(Fault::NotADeskFile)
-    }
 }
 
 /// The participants of the accounts.

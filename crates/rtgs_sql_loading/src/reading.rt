@@ -6,7 +6,7 @@ ghost use Rattle.rtgs_rows.specs.Tables.{HasTable, desk_table};
 ghost use Rattle.rtgs_sql_columns.specs.Tables.{query_text};
 ghost use Rattle.rtgs_sql_loading.specs.Accounts.{InForm, IsOneDay};
 ghost use Rattle.rtgs_sql_loading.specs.Displaying.{IsUnread};
-ghost use Rattle.rtgs_sql_loading.specs.Loading.{ReadsRecords, ReadsOneDay, ReadsOn, Stops, read_after};
+ghost use Rattle.rtgs_sql_loading.specs.Loading.{ReadsList, ReadsOneDay, ReadsOn, Stops, read_after, list_after};
 ghost use Rattle.sqlite.specs.Effect.{Database};
 ghost use Rattle.sqlite.specs.State.{State, HasCleanDisk};
 ghost use Rattle.sqlite.specs.Held.{state};
@@ -68,9 +68,9 @@ impl FromTables for Day {
 
 // The records of a table, in the order of its query. A version before the table has none, and nothing is asked.
 impl<T: TableRow + Drop> FromTables for Vec<T> {
-    ghost tells = { λ version s v. ReadsRecords version T.records s v.items };
+    ghost tells = { λ version s v. ReadsList version T.records s v.items };
 
-    ghost after = { λ version first old on clean v. read_after on clean };
+    ghost after = { λ version first old on clean v. list_after on clean };
 
     ghost formed = { λ version trees. HasTable version T.records.table
         → InForm T.records (as_shown T.records.table trees) };

@@ -1,7 +1,7 @@
 -- The rows that a query of one table shows, where it tests by a parameter.
 use Rattle.std.proofs.Common.{◌≡◌, ◌≢◌, ◌⊎◌, inl, inr, ℕ, ℤ, pos, List, [], ◌∷◌, map, filter, take, Bool, true, false}
-use Rattle.std.proofs.Common.{◌&&◌, nat_lt, Option, Some, None, Ok, Err, Result, IsTrue, IfOk, IfErr, Vec, Global, ◌<ℤ◌}
-use Rattle.std.proofs.Common.{refl, sym, ap, subst, ◌∙◌, arith}
+use Rattle.std.proofs.Common.{◌&&◌, ◌==◌, nat_lt, Option, Some, None, Ok, Err, Result, IsTrue, IfOk, IfErr, Vec, Global}
+use Rattle.std.proofs.Common.{◌<ℤ◌, refl, sym, ap, subst, ◌∙◌, arith}
 use Rattle.std.specs.List.{AllByRecursion, find, IsDistinct}
 use Rattle.std.specs.List.Sorted.{IsPermutation}
 use Rattle.std.specs.Option.{option_map}
@@ -40,15 +40,16 @@ use Rattle.rtgs_book.specs.declared.Fault.TheVariants.{OutOfMemory, StoreFault}
 use Rattle.rtgs_book.specs.declared.Posting.{Posting}
 use Rattle.rtgs_book.specs.declared.Order.{Order}
 use Rattle.rtgs_book.specs.declared.Mark.{Mark}
+use Rattle.rtgs_rows.specs.declared.forward.Forward.{Forward}
 use Rattle.rtgs_book.specs.Lookup.{is_order_named, is_posting_named, order_named, posting_named}
 use Rattle.rtgs_book.specs.Soundness.{is_same_name}
 use Rattle.rtgs_rows.specs.Content.{Content, Rests, rows_in}
 use Rattle.rtgs_rows.specs.Keeping.{IsBookOf, HoldsBook}
-use Rattle.rtgs_rows.specs.Rows.{posting_row, payment_row, mark_row, shown_posting, shown_order}
+use Rattle.rtgs_rows.specs.Rows.{posting_row, payment_row, mark_row, forward_row, shown_posting, shown_order}
 use Rattle.rtgs_sql_columns.specs.OneTable.{simple, passes, shows, OneTableAnswers}
 use Rattle.rtgs_sql_queries.specs.Answering.{IsQuery, KeepsTables}
-use Rattle.rtgs_sql_look_ups.specs.Finding.{one_of, IsLook, first_query, after_tests, order_after_tests}
-use Rattle.rtgs_sql_look_ups.proofs.Passing.{truth_of, same_text}
+use Rattle.rtgs_sql_look_ups.specs.Finding.{one_of, IsLook, first_query, after_tests, order_after_tests, under_tests}
+use Rattle.rtgs_sql_look_ups.proofs.Passing.{truth_of, same_number, same_text}
 use Rattle.rtgs_sql_look_ups.proofs.FindingTexts.{order_tests, posting_tests, order_query, posting_query}
 use Rattle.rtgs_sql_queries.specs.TableQueries.{columns_of}
 use Rattle.rtgs_rows.specs.Tables.{posting_table, payment_table}
@@ -313,6 +314,11 @@ pub mark_is_after : (number : ℕ) (m : Mark)
     → passes after_tests (Int (pos number) ∷ []) (mark_row m) ≡ nat_lt number m.number
 unfolding binary
 mark_is_after number m = truth_of _ ∙ is_above m.number number
+
+pub forward_is_under : (number : ℕ) (f : Forward)
+    → passes under_tests (Int (pos number) ∷ []) (forward_row f) ≡ (f.number == number)
+unfolding binary
+forward_is_under number f = truth_of _ ∙ same_number f.number number
 
 -- ---- no name comes twice
 

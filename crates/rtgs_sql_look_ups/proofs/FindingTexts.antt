@@ -7,13 +7,13 @@ use Rattle.sqlite.specs.Term.{Term, col, op2}
 use Rattle.sqlite_tied.specs.Compute.{everything}
 use Rattle.sqlite_resolve.specs.Compile.{first}
 use Rattle.sqlite.specs.Listing.{understood}
-use Rattle.rtgs_rows.specs.Tables.{schema_in, posting_table, payment_table, mark_table}
+use Rattle.rtgs_rows.specs.Tables.{schema_in, posting_table, payment_table, mark_table, forward_table}
 use Rattle.rtgs_sql_columns.specs.Tables.{column_names}
 use Rattle.sqlite.specs.Query.{Query}
 use Rattle.rtgs_sql_columns.specs.OneTable.{simple}
 use Rattle.rtgs_sql_queries.specs.Answering.{Returnless}
 use Rattle.rtgs_sql_queries.specs.TableQueries.{Seeks, columns_of}
-use Rattle.rtgs_sql_look_ups.specs.Finding.{IsFirstQuery, after_tests, order_after_tests}
+use Rattle.rtgs_sql_look_ups.specs.Finding.{IsFirstQuery, after_tests, order_after_tests, under_tests}
 
 -- ---- by name
 
@@ -94,6 +94,21 @@ mark_after_text = codes "SELECT number, date, many, value FROM mark WHERE number
 pub mark_after_asks : IsFirstQuery mark_table after_tests mark_after_text 1
 unfolding understood everything schema_in
 mark_after_asks = record {
+  seeks = record {
+    asks = record { command = refl; plain = (refl, refl); whole = refl; given = refl };
+    unlisted = refl;
+  };
+  reads = λ schema base. refl;
+}
+
+-- ---- the due date of a number
+
+abbrev pub due_text : List ℕ
+due_text = codes "SELECT number, due FROM forward WHERE number = ?1 ORDER BY number LIMIT 1"
+
+pub due_asks : IsFirstQuery forward_table under_tests due_text 1
+unfolding understood everything schema_in
+due_asks = record {
   seeks = record {
     asks = record { command = refl; plain = (refl, refl); whole = refl; given = refl };
     unlisted = refl;

@@ -1,6 +1,6 @@
 -- The first row above a number, in each table.
 use Rattle.std.proofs.Common.{◌≡◌, ℕ, pos, nat_lt, ◌==◌, ◌&&◌, Bool, List, [], ◌∷◌, map, refl, sym, ap, subst, ◌∙◌}
-use Rattle.std.proofs.Common.{inl, inr, true≢false, eqb-true, eq-eqb}
+use Rattle.std.proofs.Common.{inl, inr, option_map, true≢false, eqb-true, eq-eqb}
 use Rattle.std.specs.List.{AllByRecursion, find}
 use Rattle.std.specs.Str.{bytes_eq}
 use Rattle.std.specs.Ordering.{int_cmp}
@@ -23,17 +23,21 @@ use Rattle.rtgs_book.specs.declared.Book.{Book}
 use Rattle.rtgs_book.specs.declared.Order.{Order}
 use Rattle.rtgs_cores.specs.Nexts.{order_after, is_order_after}
 use Rattle.rtgs_rows.specs.RowLaws.{RecordsStandInOrder}
-use Rattle.rtgs_rows.specs.Rows.{posting_row, payment_row, mark_row}
+use Rattle.rtgs_rows.specs.Rows.{posting_row, payment_row, mark_row, forward_row}
 use Rattle.rtgs_rows.specs.Content.{Content, Rests, Rise, rows_in}
+use Rattle.rtgs_rows.specs.Dues.{without_due, forwards_of}
 use Rattle.rtgs_rows.specs.Fitting.{FitsOrder}
 use Rattle.rtgs_rows.specs.Keeping.{IsBookOf}
-use Rattle.rtgs_rows.specs.TableRecords.{TableRecords, posting_records, order_records, mark_records}
-use Rattle.rtgs_rows.specs.Tables.{posting_table, payment_table, mark_table}
+use Rattle.rtgs_rows.specs.TableRecords.{TableRecords, posting_records, order_records, mark_records, forward_records}
+use Rattle.rtgs_rows.specs.Tables.{posting_table, payment_table, mark_table, forward_table}
+use Rattle.rtgs_rows.specs.declared.forward.Forward.{Forward}
 use Rattle.rtgs_sql_columns.specs.OneTable.{passes, OneTableAnswers}
 use Rattle.rtgs_sql_queries.specs.Laws.{RecordsAreRead}
-use Rattle.rtgs_sql_look_ups.specs.Finding.{first_query, after_tests, order_after_tests, ShowsFirst}
+use Rattle.rtgs_sql_look_ups.specs.Finding.{first_query, after_tests, order_after_tests, under_tests, ShowsFirst}
 use Rattle.rtgs_sql_look_ups.specs.Seeking.{first_above}
 use Rattle.rtgs_sql_look_ups.proofs.FindingLemmas.{first_rows, posting_is_after, order_is_after, mark_is_after}
+use Rattle.rtgs_sql_look_ups.proofs.FindingLemmas.{forward_is_under}
+use Rattle.rtgs_sql_look_ups.proofs.DueLemmas.{shown_plain}
 use Rattle.rtgs_lists.proofs.Lists.{all_of, all_weaker}
 
 -- no two dates of the calendar have one text
@@ -80,7 +84,7 @@ same_date tell date is o fits = elim (cases_Bool (o.date == date)) [
   | inl same ↦ (bytes_eq-Decides _ _).1 (ap date_text (eqb-true o.date date same)) ∙ sym same
   | inr other ↦ elim (cases_Bool (bytes_eq (date_text o.date) (date_text date))) [
     | inl same ↦ absurd (true≢false (sym (eq-eqb o.date date
-        (tell o.date date fits.date is ((bytes_eq-Decides _ _).0 same))) ∙ other))
+        (tell o.date date fits.payment.date is ((bytes_eq-Decides _ _).0 same))) ∙ other))
     | inr apart ↦ apart ∙ sym other
   ]
 ]
@@ -89,9 +93,9 @@ pub order_first : RecordsStandInOrder → OneTableAnswers → RecordsAreRead ord
     → (date number : ℕ) → IsBusinessDate date → (book : Book) (s : State) (content : Content) → Rests content s
     → IsBookOf book content
     → ShowsFirst order_records order_after_tests s.now.trees (Text (date_text date) ∷ Int (pos number) ∷ [])
-    (order_after book date number)
+    (option_map without_due (order_after book date number))
 unfolding order_after
-order_first in_order answers read tell date number is book s content rests of =
+order_first in_order answers read tell date number is book s content rests of rows answer =
     first_in_table order_records order_after_tests payment_row (λ o. o.number) (is_order_after date number)
     (Text (date_text date) ∷ Int (pos number) ∷ []) answers read
     (λ a b low. then-Equal _ ∙ value_cmp-Int (pos a.number) (pos b.number) ∙ low) (λ _. refl) s.now.trees
@@ -99,7 +103,20 @@ order_first in_order answers read tell date number is book s content rests of =
     (all_weaker FitsOrder _ (λ o fits. order_is_after date number o
     ∙ ap (λ b. b && nat_lt number o.number) (same_date tell date is o fits)) book.orders of.fits.orders)
     (held_in content s rests payment_table ∙ ap (rows_in payment_table) rests.holds.rows)
-    of.records.lists.orders (in_order book content of).orders
+    of.records.lists.orders (in_order book content of).orders rows answer
+    ∙ sym (shown_plain (order_after book date number))
+
+pub forward_first : RecordsStandInOrder → OneTableAnswers → RecordsAreRead forward_records → (number : ℕ) (book : Book)
+    (s : State) (content : Content) → Rests content s → IsBookOf book content
+    → ShowsFirst forward_records under_tests s.now.trees (Int (pos number) ∷ [])
+    (find (λ (f : Forward). f.number == number) (forwards_of book.orders))
+forward_first in_order answers read number book s content rests of =
+    first_in_table forward_records under_tests forward_row (λ f. f.number) (λ f. f.number == number)
+    (Int (pos number) ∷ []) answers read
+    (λ a b low. then-Equal _ ∙ value_cmp-Int (pos a.number) (pos b.number) ∙ low) (λ _. refl) s.now.trees
+    (forwards_of book.orders) content.forwards (all_of _ (forward_is_under number) (forwards_of book.orders))
+    (held_in content s rests forward_table ∙ ap (rows_in forward_table) rests.holds.rows)
+    of.records.lists.forwards (in_order book content of).forwards
 
 pub mark_first : RecordsStandInOrder → OneTableAnswers → RecordsAreRead mark_records → (number : ℕ) (book : Book)
     (s : State) (content : Content) → Rests content s → IsBookOf book content

@@ -1,6 +1,7 @@
 -- Looks at the tables, which write nothing.
 use Rattle.std.specs.Prelude.{◌≡◌, ◌≢◌, ◌⊎◌, ℕ, pos, false, List, [], ◌∷◌, Option, Some, None, Err, Result}
-use Rattle.std.specs.Prelude.{IfErr}
+use Rattle.std.specs.Prelude.{◌==◌, option_map, IfErr}
+use Rattle.std.specs.List.{find}
 use Rattle.sqlite.specs.Collation.TheVariants.{Binary}
 use Rattle.sqlite.specs.declared.types.Value.TheVariants.{Int}
 use Rattle.sqlite.specs.Order.{Row}
@@ -19,6 +20,7 @@ use Rattle.sqlite_trees.specs.declared.store.Store.{Ghosts}
 use Rattle.rtgs_book.specs.declared.Fault.{Fault}
 use Rattle.rtgs_book.specs.declared.Fault.TheVariants.{OutOfMemory, StoreFault}
 use Rattle.rtgs_rows.specs.TableRecords.{TableRecords}
+use Rattle.rtgs_rows.specs.declared.forward.Forward.{Forward}
 use Rattle.rtgs_sql_columns.specs.Numbers.{AreReadAs}
 use Rattle.rtgs_sql_columns.specs.OneTable.{simple}
 use Rattle.rtgs_sql_columns.specs.Tables.{column_names}
@@ -29,6 +31,11 @@ use Rattle.rtgs_sql_queries.specs.TableQueries.{Seeks, columns_of, rising_by}
 abbrev pub one_of : {A : Type 0} → Option A → List A
 one_of None = []
 one_of (Some a) = a ∷ []
+
+-- the due date under this number
+abbrev pub due_under : ℕ → List Forward → Option ℕ
+due_under number forwards =
+    option_map (λ (f : Forward). f.due) (find (λ (f : Forward). f.number == number) forwards)
 
 -- What a look leaves: nothing is written, and the tables stay unless the store failed. It fails by the store or for
 -- want of memory alone.
@@ -60,6 +67,10 @@ ShowsFirst records tests trees params found = (rows : List Row)
 -- the row's number is above the parameter
 abbrev pub after_tests : List Term
 after_tests = op2 (Compare Gt Binary) (col 1 0) (col 0 0) ∷ []
+
+-- the row's number is the parameter
+abbrev pub under_tests : List Term
+under_tests = op2 (Compare Eq Binary) (col 1 0) (col 0 0) ∷ []
 
 -- an order's date is the first parameter, and its number is above the second
 abbrev pub order_after_tests : List Term

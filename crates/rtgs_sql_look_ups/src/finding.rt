@@ -1,8 +1,10 @@
 //! Looking up one record by its name.
 ghost use Rattle.std.specs.Prelude.{ℕ, ◌≡◌, ◌⊎◌, Option, None, [], map, false, Ok, IfOk, IfErr, IsTrue};
+ghost use Rattle.std.specs.Prelude.{option_map};
 ghost use Rattle.std.specs.List.{AllByRecursion};
 ghost use Rattle.rtgs_book.specs.declared.Book.{Book};
 ghost use Rattle.rtgs_book.specs.Lookup.{order_named, posting_named};
+ghost use Rattle.rtgs_rows.specs.Dues.{without_due};
 ghost use Rattle.rtgs_rows.specs.Keeping.{HoldsBook};
 ghost use Rattle.rtgs_rows.specs.Rows.{shown_posting, shown_order};
 ghost use Rattle.rtgs_sql_queries.specs.Answering.{IsQuery, KeepsTables};
@@ -97,15 +99,15 @@ pub(crate) fn only_record<T: TableRow + Drop>(rows: &[Row]) -> Result<Option<T>,
     }
 }
 
-/// The order that the sender gave this reference, where the tables have one.
-pub fn find_order<S: Alter>(
+/// The order that the sender gave this reference, where the tables have one, without its due date.
+pub(crate) fn named_payment<S: Alter>(
     conn: &mut Connection<S>,
     sender: &Code,
     reference: &Reference,
 ) -> Result<Option<Order>, Fault>
     ensures looks { IsLook S.Store conn.old conn.new result }
     ensures found { HasCleanDisk (state S.Store conn.new) → (book : Book) → HoldsBook S.Store conn.old book
-        → IfOk result (λ found. found ≡ order_named book sender.now reference.now) }
+        → IfOk result (λ found. found ≡ option_map without_due (order_named book sender.now reference.now)) }
 {
     records_are_read::<Order>();
     match order_rows(conn, sender, reference) {

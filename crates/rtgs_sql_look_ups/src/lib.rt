@@ -3,8 +3,9 @@
 
 mod finding;
 mod listing;
+mod orders;
 mod seeking;
 
-pub use crate::finding::{find_order, find_posting};
-pub use crate::listing::next_order;
+pub use crate::finding::find_posting;
+pub use crate::orders::{find_order, next_order};
 pub use crate::seeking::{Listed, next_of};

@@ -1,9 +1,10 @@
 //! The first record above a number: of all postings or marks, and of the orders of a date.
-ghost use Rattle.std.specs.Prelude.{◌≡◌, ◌<◌, ◌^◌, List, Option, IfOk, length};
+ghost use Rattle.std.specs.Prelude.{◌≡◌, ◌<◌, ◌^◌, List, Option, IfOk, length, option_map};
 ghost use Rattle.std.specs.List.{AllByRecursion};
 ghost use Rattle.rtgs_book.specs.declared.Book.{Book};
 ghost use Rattle.rtgs_cores.specs.Nexts.{date_of_posting, order_after};
 ghost use Rattle.rtgs_rows.specs.Content.{Content, Rests};
+ghost use Rattle.rtgs_rows.specs.Dues.{without_due};
 ghost use Rattle.rtgs_rows.specs.Keeping.{HoldsBook};
 ghost use Rattle.rtgs_sql_look_ups.specs.Finding.{one_of, IsLook, IsFirstQuery, ShowsFirst};
 ghost use Rattle.sqlite.specs.State.{HasCleanDisk};
@@ -27,7 +28,7 @@ use sqlite::types::ValueRef;
 use sqlite::{Alter, Connection};
 
 /// The record that the text's query finds first with these parameters, and none where there is no such row.
-fn first_record<T: TableRow + Drop, S: Alter>(
+pub(crate) fn first_record<T: TableRow + Drop, S: Alter>(
     conn: &mut Connection<S>,
     text: &str,
     params: &[ValueRef<'_>],
@@ -103,16 +104,16 @@ impl Listed for Mark {
     }
 }
 
-/// The order of the date with the least number above this one. The query names the date, so nothing is asked of the
-/// dates of other orders.
-pub fn next_order<S: Alter>(
+/// The order of the date with the least number above this one, without its due date. The query names the date, so
+/// nothing is asked of the dates of other orders.
+pub(crate) fn payment_after<S: Alter>(
     conn: &mut Connection<S>,
     date: BusinessDate,
     number: u64,
 ) -> Result<Option<Order>, Fault>
     ensures looks { IsLook S.Store conn.old conn.new result }
     ensures found { HasCleanDisk (state S.Store conn.new) → (book : Book) → HoldsBook S.Store conn.old book
-        → IfOk result (λ found. found ≡ order_after book date number) }
+        → IfOk result (λ found. found ≡ option_map without_due (order_after book date number)) }
 {
     records_are_listed();
     if number >= LARGEST_NUMBER as u64 {

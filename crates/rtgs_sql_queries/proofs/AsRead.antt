@@ -9,7 +9,7 @@ use Rattle.sqlite_keyed.proofs.ListLemmas.{map-map, map_same}
 use Rattle.rtgs_book.specs.declared.Posting.{Posting}
 use Rattle.rtgs_book.specs.declared.Order.{Order}
 use Rattle.rtgs_book.specs.declared.OrderState.{OrderState}
-use Rattle.rtgs_book.specs.declared.OrderState.TheVariants.{Queued, Settled, Withdrawn, Rejected}
+use Rattle.rtgs_book.specs.declared.OrderState.TheVariants.{Queued, Held, Settled, Withdrawn, Rejected}
 use Rattle.rtgs_book.specs.declared.Mark.{Mark}
 use Rattle.sqlite_value.specs.Order.{column}
 use Rattle.rtgs_money.specs.Date.{date_text, IsBusinessDate}
@@ -28,6 +28,7 @@ posting_same p = refl
 
 mark_same_value : (state : OrderState) → at_least_zero (mark_value state) ≡ mark_value state
 mark_same_value Queued = refl
+mark_same_value Held = refl
 mark_same_value (Settled mark) = refl
 mark_same_value Withdrawn = refl
 mark_same_value Rejected = refl

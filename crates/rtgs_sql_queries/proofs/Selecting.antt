@@ -1,5 +1,6 @@
 -- The queries of whole tables.
-use Rattle.std.proofs.Common.{◌≡◌, ◌<◌, ◌≤◌, ℕ, pos, List, [], ◌∷◌, map, refl, sym, ap, subst, ◌∙◌, arith}
+use Rattle.std.proofs.Common.{◌≡◌, ◌<◌, ◌≤◌, ℕ, pos, List, [], ◌∷◌, ◌++◌, map, Option, Some, None, refl, sym, ap}
+use Rattle.std.proofs.Common.{subst, ◌∙◌, arith}
 use Rattle.std.specs.List.{AllByRecursion}
 use Rattle.std.specs.Ordering.{int_cmp}
 use Rattle.std.specs.List.Sorted.{IsPermutation}
@@ -15,13 +16,15 @@ use Rattle.sqlite.specs.Listing.{understood, listing_schema}
 use Rattle.sqlite_keyed.proofs.ListLemmas.{ascending-map, ascending_weaker, map-map, map_same}
 use Rattle.rtgs_book.specs.declared.Book.{Book}
 use Rattle.rtgs_book.specs.declared.Day.{Day}
+use Rattle.rtgs_book.specs.declared.Order.{Order}
 use Rattle.rtgs_rows.specs.Tables.{IsVersion, schema_in, known_tables, desk_table, participant_table, posting_table}
 use Rattle.rtgs_rows.specs.Tables.{payment_table, mark_table, forward_table, versions_of, HasTable}
 use Rattle.sqlite.specs.Table.{Table}
-use Rattle.rtgs_rows.specs.Fitting.{FitsParticipant}
+use Rattle.rtgs_rows.specs.Dues.{without_due, forward_for, forwards_of}
+use Rattle.rtgs_rows.specs.Fitting.{FitsDate, FitsParticipant, FitsPayment, FitsOrder, FitsForward}
 use Rattle.rtgs_rows.specs.Rows.{day_row, posting_row, payment_row, mark_row, forward_row, shown_account}
 use Rattle.rtgs_rows.specs.TableRecords.{TableRecords, day_records, account_records, posting_records, order_records}
-use Rattle.rtgs_rows.specs.TableRecords.{mark_records, forward_records, desk_row_of}
+use Rattle.rtgs_rows.specs.TableRecords.{mark_records, forward_records, desk_row_of, HasNoneBeyond}
 use Rattle.rtgs_rows.specs.Content.{Holding, Content, holding_row, stored_account, tables_of_in, tables_for_in}
 use Rattle.rtgs_rows.specs.Content.{rows_in, Rise}
 use Rattle.rtgs_book.specs.declared.account.Account.{Account}
@@ -30,7 +33,7 @@ use Rattle.rtgs_sql_queries.specs.TableQueries.{IsTableQuery, ShowsOwn, whole_ta
 use Rattle.rtgs_sql_queries.proofs.AsRead.{posting_same, order_same, mark_same, forward_same}
 use Rattle.rtgs_sql_queries.proofs.Versions.{in_each, in_all}
 use Rattle.rtgs_sql_queries.proofs.Showing.{numbered, shown_are}
-use Rattle.rtgs_lists.proofs.Lists.{all_unmap}
+use Rattle.rtgs_lists.proofs.Lists.{all_unmap, map_same as plain_rows}
 
 -- ---- what they are to the engine
 
@@ -67,7 +70,14 @@ lacks_forwards version known low has =
     let only = in_each (λ v. 2 ≤ v) forward_table (omega arith, tt) version has in
     omega (arith, low, only)
 
-pub ruleset since_the_second = (second_has_forwards, has_forwards, lacks_forwards)
+-- a book has none in tables of the first, where it has no record that they lack
+pub no_forwards : (version : ℕ) → IsVersion version → version < 2 → (accounts : List Account) (book : Book)
+    → HasNoneBeyond version accounts book → forwards_of book.orders ≡ []
+no_forwards = in_all (λ version. version < 2 → (accounts : List Account) (book : Book)
+    → HasNoneBeyond version accounts book → forwards_of book.orders ≡ [])
+    (λ low accounts book none. none.0, (λ low accounts book none. absurd (omega (arith, low)), tt))
+
+pub ruleset since_the_second = (second_has_forwards, has_forwards, lacks_forwards, no_forwards)
 
 -- ---- what they show of a book
 
@@ -111,11 +121,43 @@ postings_own = own_numbered posting_records posting_row (λ p. p.number) (λ ver
     (λ version c accounts book are. (are.fits.postings, are.order.postings, are.lists.postings))
     (λ c trees held. ap (rows_in posting_table) held, (λ c trees held. ap (rows_in posting_table) held, tt))
 
+-- the rows of orders are those of the orders without their due dates
+plainly : (os : List Order) → map payment_row os ≡ map payment_row (map without_due os)
+plainly os = sym (plain_rows payment_row without_due (λ o. refl) os)
+
+plain_fit : (os : List Order) → AllByRecursion FitsOrder os
+    → AllByRecursion (λ (o : Order). FitsPayment o × (o.due ≡ None)) (map without_due os)
+plain_fit [] fits = tt
+plain_fit (o ∷ os) fits =
+    let it = fits.0.payment in (
+      (
+        record {
+          sender = it.sender;
+          reference = it.reference;
+          receiver = it.receiver;
+          amount = it.amount;
+          date = it.date;
+        },
+        refl,
+      ),
+      plain_fit os fits.1,
+    )
+
+plain_rise : (os : List Order) → Rise (λ (o : Order). pos o.number) os
+    → Rise (λ (o : Order). pos o.number) (map without_due os)
+plain_rise = ascending-map (λ (a b : Order). int_cmp (pos a.number) (pos b.number) ≡ Less) without_due
+
 pub payments_own : ShowsOwn order_records
-payments_own = own_numbered order_records payment_row (λ o. o.number) (λ version c. c.orders)
+payments_own = own_numbered order_records payment_row (λ o. o.number) (λ version c. map without_due c.orders)
     (λ a b low. then-Equal _ ∙ value_cmp-Int (pos a.number) (pos b.number) ∙ low) (λ a. refl)
-    (λ version c accounts book are. (are.fits.orders, are.order.orders, are.lists.orders))
-    (λ c trees held. ap (rows_in payment_table) held, (λ c trees held. ap (rows_in payment_table) held, tt))
+    (λ version c accounts book are. (
+      plain_fit book.orders are.fits.orders,
+      plain_rise c.orders are.order.orders,
+      ap (map without_due) are.lists.orders,
+    )) (
+      λ c trees held. ap (rows_in payment_table) held ∙ plainly c.orders,
+      (λ c trees held. ap (rows_in payment_table) held ∙ plainly c.orders, tt),
+    )
 
 pub marks_own : ShowsOwn mark_records
 marks_own = own_numbered mark_records mark_row (λ m. m.number) (λ version c. c.marks)
@@ -123,10 +165,20 @@ marks_own = own_numbered mark_records mark_row (λ m. m.number) (λ version c. c
     (λ version c accounts book are. (are.fits.marks, are.order.marks, are.lists.marks))
     (λ c trees held. ap (rows_in mark_table) held, (λ c trees held. ap (rows_in mark_table) held, tt))
 
+forwards_fit : (os : List Order) → AllByRecursion FitsOrder os → AllByRecursion FitsForward (forwards_of os)
+forwards_fit [] fits = tt
+forwards_fit (o ∷ os) fits = by o.due fits.0.due (forwards_fit os fits.1)
+  where
+    by : (due : Option ℕ) → FitsDate due → AllByRecursion FitsForward (forwards_of os)
+        → AllByRecursion FitsForward (forward_for o.number due ++ forwards_of os)
+    by None fit rest = rest
+    by (Some due) fit rest = (record { due = fit }, rest)
+
 pub forwards_own : ShowsOwn forward_records
 forwards_own = own_numbered forward_records forward_row (λ f. f.number) (λ version c. c.forwards)
     (λ a b low. then-Equal _ ∙ value_cmp-Int (pos a.number) (pos b.number) ∙ low) (λ a. refl)
-    (λ version c accounts book are. (tt, are.order.forwards, are.lists.forwards))
+    (λ version c accounts book are.
+    (forwards_fit book.orders are.fits.orders, are.order.forwards, are.lists.forwards))
     (λ c trees held. ap (rows_in forward_table) held, tt)
 
 -- ---- the participants, in the order of their codes

@@ -32,13 +32,13 @@ use Rattle.rtgs_rows.specs.Tables.{places, HasTable}
 use Rattle.rtgs_rows.specs.TableRecords.{TableRecords}
 use Rattle.rtgs_sql_columns.specs.Tables.{column_names, query_text}
 use Rattle.rtgs_rows.specs.Content.{Content, RestsIn, tables_of_in}
-use Rattle.rtgs_rows.specs.Querying.{IsFileIn, picked, ShowsTable}
+use Rattle.rtgs_rows.specs.Querying.{IsFileIn, picked}
 use Rattle.rtgs_sql_queries.specs.Records.{AreRead}
 use Rattle.rtgs_sql_queries.specs.Answering.{FailsAmid}
 use Rattle.rtgs_sql_queries.specs.Faults.{IsOfStore}
 use Rattle.rtgs_sql_queries.proofs.Versions.{asks_in}
 use Rattle.rtgs_sql_queries.specs.TableQueries.{IsTableQuery, AsksTable, IsOneQuery, ShowsOwn, whole_table}
-use Rattle.rtgs_sql_queries.specs.TableQueries.{rising_by, shown_columns}
+use Rattle.rtgs_sql_queries.specs.TableQueries.{rising_by, shown_columns, ShowsSorted}
 use Rattle.rtgs_sql_queries.proofs.Refusals.{of_store}
 use Rattle.rtgs_sql_queries.proofs.Resting.{schema_of}
 use Rattle.rtgs_sql_columns.specs.OneTable.{simple, passes, shows, Sorts, OneTableAnswers}
@@ -83,19 +83,20 @@ module _ (t : Table) {own : Schema} (is : AsksTable t own) (old new : State) (sc
       (answers.sorted t.tree [] (shown_columns (places t)) (rising_by (place_of t 0)) _ [] rows (read.answer Null))
 
 module _ (t : Table) (is : IsTableQuery t) (version : ℕ) (has : HasTable version t) (old new : State) where
-  -- it shows the columns that it names, of each row of the table
+  -- it shows the columns that it names, of each row of the table, sorted by the first of them
   pub shows_all : OneTableAnswers → (trees : Trees) → IsFileIn version trees old → (r : Result (Vec Row Global) Error)
       → IfOk r (λ rows. Shown (query_text t) [] old new rows.items)
-      → IfOk r (λ rows. ShowsTable t trees rows.items)
+      → IfOk r (λ rows. ShowsSorted t trees rows.items)
   shows_all answers trees file (Err e) h = tt
   shows_all answers trees file (Ok rows) h =
       let here : old.now.trees t.tree ≡ trees t.tree = ap (λ (d : Database). d.trees t.tree) file.clean
       ∙ ap (λ (all : Trees). all t.tree) file.trees_are in
-      subst (λ all. IsPermutation all rows.items)
-      (map_same (shows (shown_columns (places t)) []) (picked (places t)) (shows_places (places t)) _
-      ∙ ap (map (picked (places t))) here)
-      (answers.shown (whole_table t) [] _ rows.items
-      (sorted t (asks_in t is version has) old new (schema_of trees old file) answers rows.items h))
+      let sorts = sorted t (asks_in t is version has) old new (schema_of trees old file) answers rows.items h in (
+        subst (λ all. IsPermutation all rows.items)
+            (map_same (shows (shown_columns (places t)) []) (picked (places t)) (shows_places (places t)) _
+            ∙ ap (map (picked (places t))) here) (answers.shown (whole_table t) [] _ rows.items sorts),
+        subst (λ stored. Sorts (whole_table t) [] stored rows.items) here sorts,
+      )
 
 -- over tables with records, it shows those that a book has of the table
 pub shows_own : OneTableAnswers → {A : Type 0} (records : TableRecords A) → IsTableQuery records.table

@@ -30,6 +30,7 @@ use Rattle.rtgs_book.specs.declared.account.Account.{Account}
 use Rattle.rtgs_rows.specs.Tables.{desk_schema, places, schema_in, versions_of, HasTable}
 use Rattle.rtgs_rows.specs.TableRecords.{TableRecords}
 use Rattle.rtgs_rows.specs.Content.{Content, tables_of_in, tables_for_in}
+use Rattle.rtgs_rows.specs.Querying.{ShowsTable}
 use Rattle.rtgs_sql_queries.specs.Records.{AreRead}
 use Rattle.rtgs_sql_columns.specs.OneTable.{simple, Sorts}
 use Rattle.rtgs_sql_columns.specs.Tables.{column_names, query_text}
@@ -74,6 +75,10 @@ rising_by place = (col 1 place, record { collation = Binary; descending = false 
 -- the columns that are named, of all rows of the table, sorted by the first of them
 abbrev pub whole_table : Table → Query
 whole_table t = simple t.tree [] (columns_of t) (rising_by (place_of t 0))
+
+-- the rows are those of the table, as that query shows and sorts them
+abbrev pub ShowsSorted : Table → Trees → List Row → Type 0
+ShowsSorted t trees rows = ShowsTable t trees rows × Sorts (whole_table t) [] (trees t.tree) rows
 
 -- over this schema the text is that query
 pub record AsksTable (t : Table) (schema : Schema) : Type 0 where

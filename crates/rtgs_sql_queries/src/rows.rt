@@ -13,8 +13,8 @@ use crate::table_row::TableRow;
 use rtgs_book::{Account, Day, Mark, Order, OrderState, Participant, Phase, Posting};
 use rtgs_money::{Amount, Credit, KeyDigest, PostingAmount};
 use rtgs_rows::numbers::{
-    PHASE_CLOSED, PHASE_CUT_OFF, PHASE_OPEN, STATE_QUEUED, STATE_REJECTED, STATE_SETTLED,
-    STATE_WITHDRAWN,
+    PHASE_CLOSED, PHASE_CUT_OFF, PHASE_OPEN, STATE_HELD, STATE_QUEUED, STATE_REJECTED,
+    STATE_SETTLED, STATE_WITHDRAWN,
 };
 use rtgs_rows::{DeskRow, Forward};
 use rtgs_sql_columns::fields::{
@@ -106,6 +106,7 @@ impl TableRow for Posting {
     }
 }
 
+// A row of an order does not say its due date, which stands in a row of another table.
 impl TableRow for Order {
     ghost records = { order_records };
 
@@ -128,6 +129,7 @@ impl TableRow for Order {
             receiver: code(row, 3)?,
             amount: Amount::from_cents(unsigned(row, 4)?)?,
             date: date(row, 5)?,
+            due: None,
             state: state(row, 6, 7)?,
         })
     }
@@ -204,6 +206,7 @@ fn state(row: &Row, at: usize, mark_at: usize) -> Option<OrderState>
     let has_mark = !is_null(row, mark_at);
     match (unsigned(row, at)?, has_mark) {
         (STATE_QUEUED, false) => Some(OrderState::Queued),
+        (STATE_HELD, false) => Some(OrderState::Held),
         (STATE_SETTLED, true) => Some(OrderState::Settled(number(row, mark_at)?)),
         (STATE_WITHDRAWN, false) => Some(OrderState::Withdrawn),
         (STATE_REJECTED, false) => Some(OrderState::Rejected),

@@ -4,7 +4,7 @@ ghost use Rattle.std.specs.List.{AllByRecursion};
 ghost use Rattle.rtgs_book.specs.declared.Book.{Book};
 ghost use Rattle.rtgs_book.specs.declared.Rule.{Rule};
 ghost use Rattle.rtgs_book.specs.declared.account.Account.{Account as AccountSpec};
-ghost use Rattle.rtgs_rows.specs.TableRecords.{TableRecords};
+ghost use Rattle.rtgs_rows.specs.TableRecords.{TableRecords, HasNoneBeyond};
 ghost use Rattle.rtgs_rows.specs.Tables.{HasTable, IsVersion};
 ghost use Rattle.rtgs_sql_columns.specs.Numbers.{as_read, AreReadAs, IsFormed};
 ghost use Rattle.rtgs_sql_columns.specs.Tables.{query_text};
@@ -32,7 +32,7 @@ pub trait TableRow: Sized {
         ensures has { (version : ℕ) → IsVersion version → result ≤ version → HasTable version records.table }
         ensures lacks { (version : ℕ) → IsVersion version → version < result → ¬ HasTable version records.table }
         ensures none { (version : ℕ) → IsVersion version → version < result → (accounts : List AccountSpec)
-            (book : Book) → records.of_book version accounts book ≡ [] };
+            (book : Book) → HasNoneBeyond version accounts book → records.of_book version accounts book ≡ [] };
 
     /// The record, where each value of the row is in its form and range, and there are no more values.
     fn from_row(row: &Row) -> Option<Self>

@@ -2,7 +2,7 @@
 ghost use Rattle.std.specs.Prelude.{◌≡◌, ◌⊎◌, ℕ, List, IfOk, IfErr};
 ghost use Rattle.rtgs_book.specs.declared.Book.{Book};
 ghost use Rattle.rtgs_book.specs.declared.account.Account.{Account as AccountSpec};
-ghost use Rattle.rtgs_rows.specs.Querying.{ShowsTable, IsFileIn};
+ghost use Rattle.rtgs_rows.specs.Querying.{IsFileIn};
 ghost use Rattle.rtgs_rows.specs.Tables.{HasTable, schema_in};
 ghost use Rattle.rtgs_sql_columns.specs.Numbers.{as_read};
 ghost use Rattle.rtgs_sql_columns.specs.Tables.{query_text};
@@ -10,6 +10,7 @@ ghost use Rattle.rtgs_sql_queries.specs.Answering.{IsQuery};
 ghost use Rattle.rtgs_sql_queries.specs.Records.{HasRecords, GivesRecords};
 ghost use Rattle.rtgs_sql_queries.specs.Displaying.{Displays, HasNoAnswer};
 ghost use Rattle.rtgs_sql_queries.specs.Faults.{IsOfStore};
+ghost use Rattle.rtgs_sql_queries.specs.TableQueries.{ShowsSorted};
 ghost use Rattle.sqlite.specs.State.{HasCleanDisk};
 ghost use Rattle.sqlite.specs.Held.{state};
 ghost use Rattle.sqlite.specs.Tree.{Trees};
@@ -31,7 +32,7 @@ pub fn table_rows<T: TableRow, S: Alter>(
     ensures own { (it : T) → as_read T.records.counted (T.records.shown it) ≡ T.records.shown it }
     ensures raw { HasCleanDisk (state S.Store conn.new) → (version : ℕ) → HasTable version T.records.table
         → (trees : Trees) → IsFileIn version trees (state S.Store conn.old)
-        → IfOk result (λ rows. ShowsTable T.records.table trees rows.items) }
+        → IfOk result (λ rows. ShowsSorted T.records.table trees rows.items) }
     ensures refused { HasCleanDisk (state S.Store conn.new) → (version : ℕ) → HasTable version T.records.table
         → (state S.Store conn.old).now.schema ≡ schema_in version → IfErr result IsOfStore }
     ensures answered { HasCleanDisk (state S.Store conn.new) → IfOk result (λ rows.

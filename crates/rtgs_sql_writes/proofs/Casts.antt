@@ -8,7 +8,7 @@ use Rattle.sqlite.specs.Kind.TheVariants as kind
 use Rattle.sqlite.specs.Values.{or_null, bound_value}
 use Rattle.rtgs_money.specs.Date.{date_text}
 use Rattle.rtgs_book.specs.declared.OrderState.{OrderState}
-use Rattle.rtgs_book.specs.declared.OrderState.TheVariants.{Queued, Settled, Withdrawn, Rejected}
+use Rattle.rtgs_book.specs.declared.OrderState.TheVariants.{Queued, Held, Settled, Withdrawn, Rejected}
 use Rattle.rtgs_rows.specs.Rows.{date_value, mark_value}
 use Rattle.sqlite.specs.Cast.{cast}
 
@@ -39,12 +39,14 @@ date_bound (Some d) = refl
 
 pub cast_mark : (state : OrderState) → cast Integer (mark_value state) ≡ mark_value state
 cast_mark Queued = cast_null
+cast_mark Held = cast_null
 cast_mark (Settled mark) = cast_int (pos mark)
 cast_mark Withdrawn = cast_null
 cast_mark Rejected = cast_null
 
 pub bound_mark : (state : OrderState) → bound_value (mark_value state) ≡ mark_value state
 bound_mark Queued = refl
+bound_mark Held = refl
 bound_mark (Settled mark) = refl
 bound_mark Withdrawn = refl
 bound_mark Rejected = refl

@@ -22,3 +22,9 @@ pub leads_on : (a b c : State) (first next last : Content) → Survives b c (λ 
     → ChangesTables b c next last → ChangesTables a c first last
 leads_on a b c first next last survives one two clean was stands =
     two clean was (one (omega (arith, survives.clean)) was stands)
+
+-- where the second one may fail
+pub leads_then : (a b c : State) (first next last : Content) (r : Result ℕ Error) → Survives b c (λ _. ⊥)
+    → ChangesTables a b first next → OnOk r (ChangesTables b c next last) → OnOk r (ChangesTables a c first last)
+leads_then a b c first next last (Ok count) survives one two = leads_on a b c first next last survives one two
+leads_then a b c first next last (Err e) survives one two = tt

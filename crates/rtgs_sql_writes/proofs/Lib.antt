@@ -9,6 +9,8 @@ pub mod Adding
 pub mod Replacing
 pub mod PostingLemmas
 pub mod OrderLemmas
+pub mod ForwardLemmas
+pub mod EnterLemmas
 pub mod MarkLemmas
 pub mod DayLemmas
 pub mod HoldingLemmas

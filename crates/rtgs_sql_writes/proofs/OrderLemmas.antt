@@ -30,6 +30,7 @@ use Rattle.sqlite.proofs.Callers.{one_permutation}
 use Rattle.sqlite_tied.specs.Compute.{everything}
 use Rattle.std.proofs.lemmas.Cmp.{int_cmp_total, tied_itself}
 use Rattle.std.proofs.lemmas.Bool.{cases_Bool}
+use Rattle.rtgs_sql_writes.specs.Staging.{with_payment}
 use Rattle.rtgs_sql_writes.proofs.Casts.{cast_null, cast_int, cast_mark, bound_mark}
 use Rattle.rtgs_sql_columns.specs.OneTable.{simple, passes, shows, OneTableAnswers}
 use Rattle.rtgs_sql_writes.proofs.Replacing.{Replaces, replaces}
@@ -82,12 +83,12 @@ given_is : (o : Order) → order_given o ≡ params o
 given_is o = ap (λ mark. Int (pos o.number) ∷ Text o.sender ∷ Text o.reference ∷ Text o.receiver ∷ Int (pos o.amount)
     ∷ Int (pos (state_number o.state)) ∷ mark ∷ Text (date_text o.date) ∷ []) (bound_mark o.state)
 
-pub adds_order : (was : Database) (content : Content) (old new : State) (o : Order) (r : Result ℕ Error) (values : Row)
-    → values ≡ order_given o → IsUnderWay was content old → IsInOrder (with_change content (AddOrder o))
-    → ExecutesInside 0 order_text values old new r → OnOk r (IsUnderWay was (with_change content (AddOrder o)) new)
-adds_order was content old new o r values same stands order h =
+pub adds_payment : (was : Database) (content : Content) (old new : State) (o : Order) (r : Result ℕ Error)
+    (values : Row) → values ≡ order_given o → IsUnderWay was content old → IsInOrder (with_change content (AddOrder o))
+    → ExecutesInside 0 order_text values old new r → OnOk r (IsUnderWay was (with_payment content o) new)
+adds_payment was content old new o r values same stands order h =
     adds order_text 3 (omega arith) terms 9 payment_row (λ q. pos q.number) (λ _. refl) order_means (params o) o
-    (λ trees. edit trees o) was content (with_change content (AddOrder o)) content.orders old new r stands
+    (λ trees. edit trees o) was content (with_payment content o) content.orders old new r stands
     (ap (rows_in table) stands.holds.rows) order.orders
     (ap (with_rows table (map payment_row (content.orders ++ o ∷ []))) stands.holds.rows)
     (subst (λ all. ExecutesInside 0 order_text all old new r) (same ∙ given_is o) h)
@@ -129,7 +130,8 @@ apart_all : (number : ℕ) (o : Order) (all : List Order) → AllByRecursion
 apart_all number o [] low = tt
 apart_all number o (b ∷ all) low = (apart number o.number b.number low.0, apart_all number o all low.1)
 
-differ : (number : ℕ) (all : List Order) → IsAscending (λ (a b : Order). int_cmp (pos a.number) (pos b.number) ≡ Less)
+pub differ : (number : ℕ) (all : List Order) → IsAscending (λ (a b : Order). int_cmp (pos a.number) (pos b.number) ≡
+    Less)
     all → IsAscending (λ a b. has_number number a ≡ true → has_number number b ≡ false) all
 differ number [] rise = tt
 differ number (o ∷ all) rise = (apart_all number o all rise.0, differ number all rise.1)

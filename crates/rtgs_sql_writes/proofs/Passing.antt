@@ -14,6 +14,12 @@ pub truth_of : (b : Bool) → is_true (from_truth (Some b)) && true ≡ b
 truth_of true = refl
 truth_of false = refl
 
+pub two_truths : (a b : Bool) → (is_true (from_truth (Some a)) && (is_true (from_truth (Some b)) && true)) ≡ (a && b)
+two_truths true true = refl
+two_truths true false = refl
+two_truths false true = refl
+two_truths false false = refl
+
 -- as SQL compares numbers
 pub same_number : (m n : ℕ) → is_eq (value_cmp (Int (pos m)) (Int (pos n))) ≡ (m == n)
 same_number m n =

@@ -1,9 +1,10 @@
 -- The parts of a change, and what a stop leaves where it was written.
-use Rattle.std.specs.Prelude.{List}
+use Rattle.std.specs.Prelude.{ℕ, List, [], ◌∷◌, ◌++◌}
 use Rattle.std.specs.List.{AllByRecursion}
 use Rattle.sqlite.specs.Tree.{Trees}
 use Rattle.sqlite.specs.Effect.{Database}
 use Rattle.sqlite.specs.State.{State, HasCleanDisk}
+use Rattle.rtgs_book.specs.declared.Order.{Order}
 use Rattle.rtgs_book.specs.declared.RowChange.{RowChange}
 use Rattle.rtgs_rows.specs.Content.{Content, Holds, IsUnderWay, Rests, AreInOrder, with_changes}
 use Rattle.rtgs_rows.specs.Fitting.{FitsRow}
@@ -13,6 +14,14 @@ use Rattle.rtgs_rows.specs.Fitting.{FitsRow}
 abbrev pub ChangesTables : State → State → Content → Content → Type 0
 ChangesTables old new before after =
     HasCleanDisk new → (was : Database) → IsUnderWay was before old → IsUnderWay was after new
+
+-- the records with the row of one more order, which does not say its due date
+abbrev pub with_payment : Content → Order → Content
+with_payment c o = record c { orders = c.orders ++ o ∷ [] }
+
+-- and with the row of one more due date, under this number
+abbrev pub with_forward : Content → ℕ → ℕ → Content
+with_forward c number due = record c { forwards = c.forwards ++ record { number = number; due = due } ∷ [] }
 
 -- Each value of the rows is in its form and range, and whatever records the tables held before, they hold these after
 -- the rows.

@@ -10,7 +10,8 @@ ghost use Rattle.rtgs_sql_writes.specs.Stops.{IsBefore};
 ghost use Rattle.rtgs_sql_writes.specs.Staging.{ChangesTables, HoldsChange};
 
 use crate::statements::{
-    add_mark, add_order, add_participant, add_posting, set_balance, set_credit, set_day, set_state,
+    add_mark, add_order, add_participant, add_posting, enter_queue, set_balance, set_credit,
+    set_day, set_state,
 };
 use rtgs_book::RowChange;
 use sqlite::{Alter, Connection, Error, Transaction};
@@ -43,6 +44,7 @@ fn stage_row<S: Alter>(tx: &mut Transaction<'_, S>, row: &RowChange) -> Result<(
         RowChange::SetCredit { code, credit } => set_credit(tx, code, *credit)?,
         RowChange::SetBalance { code, balance } => set_balance(tx, code, *balance)?,
         RowChange::SetState { number, state } => set_state(tx, *number, *state)?,
+        RowChange::EnterQueue { number, date } => enter_queue(tx, *number, *date)?,
         RowChange::SetDay(day) => set_day(tx, *day)?,
     };
     Ok(())

@@ -6,11 +6,11 @@ use Rattle.rtgs_book.specs.declared.order.Order.{Order}
 use Rattle.rtgs_book.specs.declared.mark.Mark.{Mark}
 use Rattle.rtgs_statements.specs.declared.line.Line.{Line}
 use Rattle.rtgs_statements.specs.declared.line.Line.TheVariants.{ReportOf, Marks, Record, StatementOf}
-use Rattle.rtgs_book.specs.declared.standing.Standing.TheVariants.{Settled, Queued, Withdrawn, Rejected}
 use Rattle.rtgs_book.specs.Lookup.{accounts}
 use Rattle.rtgs_statements.specs.Lines.{row_of_posting, row_of_order}
 use Rattle.rtgs_statements.specs.Records.{postings_on, orders_on, marks_on, postings_on_statement, orders_on_statement}
 use Rattle.rtgs_statements.specs.Sums.{sums_of}
+use Rattle.rtgs_statements.specs.Tallies.{reported_standings}
 use Rattle.rtgs_statements.specs.Texts.{text_of, account_line, orders_line, report, report_text, sum_lines}
 use Rattle.rtgs_statements.specs.Texts.{statement, statement_text}
 use Rattle.rtgs_statements.proofs.Growth.{lines-have_bytes}
@@ -18,7 +18,7 @@ use Rattle.rtgs_statements.proofs.Growth.{lines-have_bytes}
 pub report_is : (date : ℕ) (codes : List (List ℕ)) (postings : List Posting) (orders : List Order) (marks : List Mark)
     (a b c d : List Line)
     → a ≡ ReportOf date ∷ [] → b ≡ map (account_line postings orders) codes
-    → c ≡ map (orders_line orders) (Settled ∷ Queued ∷ Withdrawn ∷ Rejected ∷ [])
+    → c ≡ map (orders_line orders) reported_standings
     → d ≡ Marks (length marks) ∷ [] → text_of (((a ++ b) ++ c) ++ d) ≡ report_text date codes postings orders marks
 unfolding report_text
 report_is date codes postings orders marks a b c d one two three four = rw (one, two, three, four) refl
@@ -27,7 +27,7 @@ pub report-has_bytes : (book : Book) (date : ℕ) → 0 < length (report book da
 unfolding report_text
 report-has_bytes book date =
     lines-have_bytes (ReportOf date) ((map (account_line (postings_on date book.postings) (orders_on date book.orders))
-    (accounts book) ++ map (orders_line (orders_on date book.orders)) (Settled ∷ Queued ∷ Withdrawn ∷ Rejected ∷ []))
+    (accounts book) ++ map (orders_line (orders_on date book.orders)) reported_standings)
     ++ (Marks (length (marks_on date book.marks)) ∷ []))
 
 pub statement-has_bytes : (book : Book) (code : List ℕ) (date : ℕ) → 0 < length (statement book code date)

@@ -17,6 +17,7 @@ use Rattle.rtgs_book.specs.declared.order.Order.{Order}
 use Rattle.rtgs_book.specs.declared.limits.TheConstants.{LARGEST_NUMBER}
 use Rattle.rtgs_statements.specs.declared.kind.Kind.{Kind}
 use Rattle.rtgs_statements.specs.declared.kind.Kind.TheVariants.{Posting as OfPosting, Sent, Queued as OfQueued}
+use Rattle.rtgs_statements.specs.declared.kind.Kind.TheVariants.{Held as OfHeld}
 use Rattle.rtgs_statements.specs.declared.kind.Kind.TheVariants.{Withdrawn as OfWithdrawn, Rejected as OfRejected}
 use Rattle.rtgs_statements.specs.declared.kind.Kind.TheVariants.{Received}
 use Rattle.rtgs_statements.specs.declared.line.Line.TheVariants.{Sum}
@@ -77,6 +78,7 @@ kind_short : (kind : Kind) → length (kind_text kind) ≤ 10
 kind_short OfPosting = omega arith
 kind_short Sent = omega arith
 kind_short OfQueued = omega arith
+kind_short OfHeld = omega arith
 kind_short OfWithdrawn = omega arith
 kind_short OfRejected = omega arith
 kind_short Received = omega arith

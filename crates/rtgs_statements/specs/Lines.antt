@@ -5,11 +5,12 @@ use Rattle.rtgs_money.specs.Units.{units_text}
 use Rattle.rtgs_book.specs.declared.posting.Posting.{Posting}
 use Rattle.rtgs_book.specs.declared.order.Order.{Order}
 use Rattle.rtgs_book.specs.declared.order_state.OrderState.{OrderState}
-use Rattle.rtgs_book.specs.declared.order_state.OrderState.TheVariants.{Queued, Settled, Withdrawn, Rejected}
+use Rattle.rtgs_book.specs.declared.order_state.OrderState.TheVariants.{Queued, Held, Settled, Withdrawn, Rejected}
 use Rattle.rtgs_book.specs.declared.standing.Standing.TheVariants as standing
 use Rattle.rtgs_book.specs.Standings.{word_of}
 use Rattle.rtgs_statements.specs.declared.kind.Kind.{Kind}
 use Rattle.rtgs_statements.specs.declared.kind.Kind.TheVariants.{Posting as OfPosting, Sent, Queued as OfQueued}
+use Rattle.rtgs_statements.specs.declared.kind.Kind.TheVariants.{Held as OfHeld}
 use Rattle.rtgs_statements.specs.declared.kind.Kind.TheVariants.{Withdrawn as OfWithdrawn, Rejected as OfRejected}
 use Rattle.rtgs_statements.specs.declared.kind.Kind.TheVariants.{Received}
 use Rattle.rtgs_statements.specs.declared.row.Row.{Row}
@@ -19,6 +20,7 @@ abbrev pub kind_text : Kind → List ℕ
 kind_text OfPosting = codes "posting"
 kind_text Sent = codes "sent"
 kind_text OfQueued = word_of standing.Queued
+kind_text OfHeld = word_of standing.Held
 kind_text OfWithdrawn = word_of standing.Withdrawn
 kind_text OfRejected = word_of standing.Rejected
 kind_text Received = codes "received"
@@ -26,6 +28,7 @@ kind_text Received = codes "received"
 -- how its sender is told of an order
 abbrev pub kind_of_sent : OrderState → Kind
 kind_of_sent Queued = OfQueued
+kind_of_sent Held = OfHeld
 kind_of_sent (Settled mark) = Sent
 kind_of_sent Withdrawn = OfWithdrawn
 kind_of_sent Rejected = OfRejected

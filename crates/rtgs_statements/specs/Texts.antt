@@ -13,7 +13,6 @@ use Rattle.rtgs_statements.specs.declared.line.Line.{Line}
 use Rattle.rtgs_statements.specs.declared.line.Line.TheVariants.{StatementOf, Record, Sum, ReportOf, Account, Orders}
 use Rattle.rtgs_statements.specs.declared.line.Line.TheVariants.{Marks}
 use Rattle.rtgs_book.specs.declared.standing.Standing.{Standing}
-use Rattle.rtgs_book.specs.declared.standing.Standing.TheVariants.{Settled, Queued, Withdrawn, Rejected}
 use Rattle.rtgs_statements.specs.declared.sums.Sums.{Sums}
 use Rattle.rtgs_statements.specs.declared.total.Total.{Total}
 use Rattle.rtgs_statements.specs.declared.total.Total.TheVariants.{Posted, Sent, Received, Net}
@@ -21,6 +20,7 @@ use Rattle.rtgs_statements.specs.Columns.{left_in, right_in}
 use Rattle.rtgs_statements.specs.Lines.{row_of_posting, row_of_order, row_text}
 use Rattle.rtgs_statements.specs.Records.{postings_on_statement, orders_on_statement, postings_on, orders_on, marks_on}
 use Rattle.rtgs_statements.specs.Sums.{amount_of, sums_of, net}
+use Rattle.rtgs_statements.specs.Tallies.{reported_standings}
 
 abbrev pub total_text : Total → List ℕ
 total_text Posted = codes "sum-posted"
@@ -97,7 +97,7 @@ abbrev pub report_lines : ℕ → List (List ℕ) → List Posting → List Orde
 report_lines date codes postings orders marks =
     ReportOf date
     ∷ map (account_line postings orders) codes
-    ++ map (orders_line orders) (Settled ∷ Queued ∷ Withdrawn ∷ Rejected ∷ [])
+    ++ map (orders_line orders) reported_standings
     ++ Marks (length marks) ∷ []
 
 -- the text of a report with these participants and records

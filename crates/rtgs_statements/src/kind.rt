@@ -12,6 +12,7 @@ pub enum Kind {
     Posting,
     Sent,
     Queued,
+    Held,
     Withdrawn,
     Rejected,
     Received,
@@ -24,6 +25,7 @@ impl Kind {
     {
         match state {
             OrderState::Queued => Kind::Queued,
+            OrderState::Held => Kind::Held,
             OrderState::Settled(_) => Kind::Sent,
             OrderState::Withdrawn => Kind::Withdrawn,
             OrderState::Rejected => Kind::Rejected,
@@ -39,6 +41,7 @@ impl Kind {
             Kind::Posting => "posting",
             Kind::Sent => "sent",
             Kind::Queued => Standing::Queued.word(),
+            Kind::Held => Standing::Held.word(),
             Kind::Withdrawn => Standing::Withdrawn.word(),
             Kind::Rejected => Standing::Rejected.word(),
             Kind::Received => "received",

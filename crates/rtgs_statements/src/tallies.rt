@@ -1,8 +1,8 @@
 //! The orders of a day by where they stand.
-ghost use Rattle.std.specs.Prelude.{◌≡◌, ◌∷◌, [], map};
+ghost use Rattle.std.specs.Prelude.{◌≡◌, map};
 ghost use Rattle.rtgs_book.specs.declared.standing.Standing.{Standing};
 ghost use Rattle.rtgs_statements.specs.declared.line.Line.{Line};
-ghost use Rattle.rtgs_statements.specs.Tallies.{tally_of, tally_with, no_orders, HaveRoom};
+ghost use Rattle.rtgs_statements.specs.Tallies.{tally_of, tally_with, no_orders, HaveRoom, reported_standings};
 
 use crate::line::Line;
 use crate::tally::Tally;
@@ -14,6 +14,7 @@ use rtgs_money::Units;
 pub struct Tallies {
     pub settled: Tally,
     pub queued: Tally,
+    pub held: Tally,
     pub withdrawn: Tally,
     pub rejected: Tally,
 }
@@ -27,6 +28,7 @@ impl Tallies {
         Tallies {
             settled: none,
             queued: none,
+            held: none,
             withdrawn: none,
             rejected: none,
         }
@@ -41,20 +43,21 @@ impl Tallies {
         Tallies {
             settled: self.settled.with(Standing::Settled, order),
             queued: self.queued.with(Standing::Queued, order),
+            held: self.held.with(Standing::Held, order),
             withdrawn: self.withdrawn.with(Standing::Withdrawn, order),
             rejected: self.rejected.with(Standing::Rejected, order),
         }
     }
 
-    /// A line for each standing.
-    pub fn lines(&self) -> [Line; 4]
+    /// A line for each standing, in the order in which a report tells them.
+    pub fn lines(&self) -> [Line; 5]
         ensures { result ≡ map (λ standing. Line.Orders standing (tally_of self.now standing).count
-            (tally_of self.now standing).cents) (Standing.Settled ∷ Standing.Queued ∷ Standing.Withdrawn
-            ∷ Standing.Rejected ∷ []) }
+            (tally_of self.now standing).cents) reported_standings }
     {
         [
             line(Standing::Settled, self.settled),
             line(Standing::Queued, self.queued),
+            line(Standing::Held, self.held),
             line(Standing::Withdrawn, self.withdrawn),
             line(Standing::Rejected, self.rejected),
         ]

@@ -1,11 +1,12 @@
 -- The records as they are read.
-use Rattle.std.proofs.Common.{◌≡◌, ℕ, List, [], ◌∷◌, map, IsPermutation, ap₂, refl, sym, subst}
+use Rattle.std.proofs.Common.{◌≡◌, ℕ, List, [], ◌∷◌, map, Option, IsPermutation, ap₂, refl, sym, subst, ◌∙◌}
 use Rattle.std.specs.List.{AllByRecursion}
 use Rattle.std.proofs.lemmas.List.Sorted.{IsPermutation-map}
 use Rattle.std.specs.List.Sorted.{IsStrictlySortedBy}
 use Rattle.std.specs.Ordering.{nat_cmp}
 use Rattle.std.specs.declared.cmp.Ordering.TheVariants.{Less}
 use Rattle.std.specs.Cmp.Lexicographic.{slice_cmp}
+use Rattle.sqlite.specs.Order.{Row}
 use Rattle.sqlite.specs.State.{State}
 use Rattle.sqlite.specs.Tree.{IsAscending}
 use Rattle.rtgs_sql_queries.specs.Records.{AreRead, HasRecords}
@@ -14,11 +15,20 @@ use Rattle.rtgs_book.specs.declared.Book.{Book}
 use Rattle.rtgs_book.specs.Balance.{balance}
 use Rattle.rtgs_book.specs.declared.Participant.{Participant}
 use Rattle.rtgs_book.specs.Lookup.{accounts}
-use Rattle.rtgs_book.specs.Soundness.{CodesRise}
+use Rattle.rtgs_book.specs.Soundness.{CodesRise, FitsDue}
+use Rattle.rtgs_book.specs.Settle.{today}
+use Rattle.rtgs_book.specs.declared.Order.{Order}
+use Rattle.rtgs_lists.proofs.Lists.{all_get}
 use Rattle.rtgs_rows.specs.Content.{Holding, Content, RestsIn, stored_account}
 use Rattle.rtgs_book.specs.declared.account.Account.{Account}
 use Rattle.rtgs_rows.specs.Keeping.{IsBookOf, AreBalances}
 use Rattle.rtgs_rows.specs.RowLaws.{RecordsStandInOrder}
+use Rattle.rtgs_rows.specs.Dues.{forwards_of, IsHeldByDue}
+use Rattle.rtgs_rows.specs.Migrating.{HasNoMore}
+use Rattle.rtgs_rows.specs.Rows.{forward_row}
+use Rattle.rtgs_rows.specs.TableRecords.{HasNoneBeyond}
+use Rattle.rtgs_rows.specs.Tables.{IsVersion, versions}
+use Rattle.rtgs_rows.specs.declared.forward.Forward.{Forward}
 
 abbrev account_of : Book → Participant → Account
 account_of book p = record { participant = p; balance = balance book p.code }
@@ -47,6 +57,31 @@ own_accounts book [] stored = refl
 own_accounts book (h ∷ hs) stored = ap₂ ◌∷◌ (λ i. record { participant = h.participant; balance = stored.0 i })
     (own_accounts book hs stored.1)
 
+-- no order of a sound book is held without a due date
+held_by_dues : (today : ℕ) (os : List Order)
+    → AllByRecursion (λ (o : Order). FitsDue today o.due o.date o.state) os → AllByRecursion IsHeldByDue os
+held_by_dues today [] fit = tt
+held_by_dues today (o ∷ os) fit = (
+  λ none. subst (λ (due : Option ℕ). FitsDue today due o.date o.state) none fit.0,
+  held_by_dues today os fit.1,
+)
+
+no_rows : (forwards : List Forward) → map forward_row forwards ≡ [] → forwards ≡ []
+no_rows [] none = refl
+no_rows (f ∷ forwards) none = absurd cc
+
+-- where the tables lack none of the records, the book has none beyond them
+none_beyond : (version : ℕ) → IsVersion version → (content : Content) (book : Book) (accounts : List Account)
+    → content.forwards ≡ forwards_of book.orders → HasNoMore version content → HasNoneBeyond version accounts book
+none_beyond version known content book accounts same =
+    all_get (λ v. HasNoMore v content → HasNoneBeyond v accounts book) versions known.0 version known.1 (sym known.2) (
+      λ none. (sym same ∙ no_rows content.forwards (first_of none), tt),
+      (λ none. tt, tt),
+    )
+  where
+    first_of : {rows : List Row} → ◌≡◌ {A = List (List Row)} (rows ∷ []) ([] ∷ []) → rows ≡ []
+    first_of e = cc
+
 are_own : RecordsStandInOrder → (content : Content) (book : Book) → IsBookOf book content
     → AreRead content (accounts_of book) book
 are_own in_order content book of =
@@ -59,11 +94,18 @@ are_own in_order content book of =
       participants = sym (map_back (account_of book) (λ (a : Account). a.participant) (λ p. refl) book.participants);
       lists = of.records.lists;
       fits = of.fits;
+      dues = held_by_dues (today book) book.orders of.sound.dates.dues;
     }
 
 pub has_own : RecordsStandInOrder → (version : ℕ) (s : State) (content : Content) (book : Book)
-    → RestsIn version content s → IsBookOf book content → HasRecords version (accounts_of book) book s
-has_own in_order version s content book rests of = (content, rests, are_own in_order content book of)
+    → RestsIn version content s → HasNoMore version content → IsBookOf book content
+    → HasRecords version (accounts_of book) book s
+has_own in_order version s content book rests none of = (
+  content,
+  rests,
+  are_own in_order content book of,
+  none_beyond version rests.known content book (accounts_of book) of.records.lists.forwards none,
+)
 
 balances_of : (book : Book) (ps : List Participant) → AreBalances book (map (account_of book) ps)
 balances_of book [] = tt

@@ -248,8 +248,9 @@ keeps_then old mid new one two = record {
 pub loads_before : (version : ℕ) (old mid : State) (answer : Result Book Fault) → KeepsTables old mid
     → mid.now ≡ old.now → LoadsFrom version mid answer → LoadsFrom version old answer
 loads_before version old mid answer keeps same loads = record {
-  read = λ accounts book held. loads.read accounts book (held.0, keeps.rests version held.0 held.1, held.2);
-  explained = λ accounts book held. loads.explained accounts book (held.0, keeps.rests version held.0 held.1, held.2);
+  read = λ accounts book held. loads.read accounts book (held.0, keeps.rests version held.0 held.1, held.2, held.3);
+  explained = λ accounts book held.
+      loads.explained accounts book (held.0, keeps.rests version held.0 held.1, held.2, held.3);
   held = λ trees file whole. loads.held trees (keeps.file version trees file) whole;
   shown = λ trees file. loads.shown trees (keeps.file version trees file);
   caused = λ trees file. loads.caused trees (keeps.file version trees file);
@@ -375,10 +376,10 @@ module _ {S : Type 0} (g : Ghosts S) (in_order : RecordsStandInOrder) (old new :
     explained_migrates fault why = refused fault (λ version book it. elim it [
       | inl older ↦ of_sound (accounts_of book) book older.same.sound (own_balances book) fault
           (why.records version (accounts_of book) book
-          (has_own in_order version (state g old) older.content book older.rests older.same))
+          (has_own in_order version (state g old) older.content book older.rests older.no_more older.same))
       | inr holds ↦ of_sound (accounts_of book) book holds.2.sound (own_balances book) fault
           (why.records VERSION (accounts_of book) book
-          (has_own in_order VERSION (state g old) holds.0 book holds.1 holds.2))
+          (has_own in_order VERSION (state g old) holds.0 book holds.1 (newest_lacks_none holds.0) holds.2))
     ])
 
     pub failed_migrates : (fault : Fault) → (fault ≡ OutOfMemory) ⊎ (fault ≡ StoreFault) → Migrates g old new (Err fault)

@@ -1,5 +1,5 @@
 -- The book that was loaded, and the connection after it.
-use Rattle.std.proofs.Common.{◌≢◌, Ok, Err, Result, IfOk, sym, subst}
+use Rattle.std.proofs.Common.{◌≢◌, Ok, Err, Result, IfOk, refl, sym, subst}
 use Rattle.sqlite.specs.Held.{Held, state}
 use Rattle.sqlite.specs.State.{State, HasCleanDisk, Survives}
 use Rattle.sqlite.specs.Tree.{Trees}
@@ -58,9 +58,9 @@ answers_book in_order g old new answer loads same empty =
     let trees = s.committed.trees in
     record {
       given = λ book holds. the_book (accounts_of book) book answer (loads.read (accounts_of book) book
-          (has_own in_order VERSION s holds.0 book holds.1 holds.2));
+          (has_own in_order VERSION s holds.0 book holds.1 refl holds.2));
       accepted = λ book holds. accepted (accounts_of book) book answer holds.2.sound (own_balances book)
-          (loads.explained (accounts_of book) book (has_own in_order VERSION s holds.0 book holds.1 holds.2));
+          (loads.explained (accounts_of book) book (has_own in_order VERSION s holds.0 book holds.1 refl holds.2));
       explained = explained s answer loads;
       shown = shown_always s answer loads;
       kept = λ tables. kept_book (state g new) trees answer (loads.held trees tables.0 tables.1)

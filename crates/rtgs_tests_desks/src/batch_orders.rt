@@ -17,6 +17,7 @@ pub fn orders(alloc: Global, script: &str, most: usize) -> Result<Vec<OrderRow>,
             reference,
             receiver,
             amount,
+            due,
             ..
         } = command(line)?
         else {
@@ -26,6 +27,7 @@ pub fn orders(alloc: Global, script: &str, most: usize) -> Result<Vec<OrderRow>,
             reference,
             receiver,
             amount,
+            due,
         })?;
     }
     Ok(orders)
@@ -56,6 +58,7 @@ fn replied(alloc: Global, replies: &[RowReply], script: &str, known: usize) -> R
         let answer: Reply = match *reply {
             RowReply::Settled { number, mark } => Ok(Answer::Settled { number, mark }),
             RowReply::Queued { number, place } => Ok(Answer::Queued { number, place }),
+            RowReply::Held { number, due } => Ok(Answer::Held { number, due }),
             RowReply::Repeated { number, state } => {
                 Ok(Answer::Repeated(Known::Order { number, state }))
             }

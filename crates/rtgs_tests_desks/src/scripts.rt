@@ -1,10 +1,10 @@
-//! Scripts: a line for each command, in words, and behind ` => ` what it is answered. A line that is not understood
-//! fails the test.
+//! Scripts: a line for each command, in words, and behind ` => ` what it is answered. An order for a later day ends
+//! with `due` and that day. A line that is not understood fails the test.
 use rtgs_book::{Answer, Command, Refusal};
 use rtgs_desk::Desk;
 use rtgs_desk_requests::CommandWords;
 use rtgs_keeper::Keeper;
-use rtgs_money::{Amount, Code, Reference};
+use rtgs_money::{Amount, BusinessDate, Code, Reference};
 use std::alloc::Global;
 use std::fmt::Debug;
 use std::test::Fail;
@@ -23,7 +23,10 @@ pub fn command(line: &str) -> Result<Command, Fail> {
     let third = words.next().unwrap_or_default();
     let fourth = words.next().unwrap_or_default();
     if kind == "order" && count == 5 {
-        return order(first, second, third, fourth);
+        return order(first, second, third, fourth, None);
+    }
+    if kind == "order" && count == 7 && words.next() == Some("due") {
+        return order(first, second, third, fourth, words.next());
     }
     match spelt(kind, count, first, second, third) {
         Some(words) => Ok(words.read()?),
@@ -74,18 +77,35 @@ fn spelt_for_a_day<'a>(kind: &str, count: usize, date: &'a str) -> Option<Comman
     }
 }
 
-// The order that these words give.
-fn order(sender: &str, reference: &str, receiver: &str, cents: &str) -> Result<Command, Fail> {
+// The order that these words give, which may have a due date.
+fn order(
+    sender: &str,
+    reference: &str,
+    receiver: &str,
+    cents: &str,
+    due: Option<&str>,
+) -> Result<Command, Fail> {
     Ok(Command::Order {
         sender: Code::read(sender.as_bytes())?,
         reference: Reference::read(reference.as_bytes())?,
         receiver: Code::read(receiver.as_bytes())?,
         amount: Amount::read(cents.as_bytes())?,
+        due: due_date(due)?,
     })
+}
+
+// The due date of an order that has one.
+fn due_date(word: Option<&str>) -> Result<Option<BusinessDate>, Fail> {
+    match word {
+        Some(word) => Ok(Some(BusinessDate::read(word.as_bytes())?)),
+        None => Ok(None),
+    }
 }
 
 /// The commands of a script, of which there have to be some.
 pub fn commands(alloc: Global, script: &str) -> Result<Vec<Command>, Fail> {
+    // Names the type of due dates for the borrow checker, which finds it nowhere else in this function.
+    let _no_date: Option<BusinessDate> = None;
     let mut commands = Vec::new(alloc);
     for line in script.lines() {
         commands.push(command(line)?)?;

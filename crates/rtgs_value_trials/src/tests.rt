@@ -1,6 +1,8 @@
 //! Texts and values from outside, each call on its happy path, and proved uses of the clauses.
 mod book;
+mod books;
 mod cores;
+mod due_dates;
 mod limits;
 mod money;
 mod refusals;

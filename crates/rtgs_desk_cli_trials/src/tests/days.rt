@@ -125,6 +125,7 @@ $ desk report @ 2024-03-04
 > GAMA                               0.00                           0.00                           0.00
 > settled            2                           1.10
 > queued             3                           0.35
+> held               0                           0.00
 > withdrawn          0                           0.00
 > rejected           0                           0.00
 > marks              1
@@ -210,6 +211,7 @@ $ desk report @ 2024-03-05
 > GAMA                               0.00                           0.00                           0.00
 > settled            0                           0.00
 > queued             0                           0.00
+> held               0                           0.00
 > withdrawn          0                           0.00
 > rejected           0                           0.00
 > marks              0

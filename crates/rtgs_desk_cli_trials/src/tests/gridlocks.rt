@@ -21,6 +21,7 @@ $ desk report @ 2024-03-04
 > GAMA                               0.00                           0.00                           0.00
 > settled            0                           0.00
 > queued             2                           1.90
+> held               0                           0.00
 > withdrawn          0                           0.00
 > rejected           0                           0.00
 > marks              0

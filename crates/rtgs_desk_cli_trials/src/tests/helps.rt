@@ -27,7 +27,7 @@ fn helps_name_the_commands_and_the_forms_of_their_words(rt: HostRuntime) -> Resu
 /// The version of the tables is that of a new book, or else what is inserted has no value, which is refused.
 const VERSIONS: &str = "
 $ names --version
-> desk 0.10.0, tables 2, rattle-kit-
+> desk 0.11.0, tables 2, rattle-kit-
 status 0 helped
 $ desk init @
 > initialised

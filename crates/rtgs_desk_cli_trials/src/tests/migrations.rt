@@ -27,6 +27,7 @@ $ desk report @ 2024-03-04
 > GAMA                               0.00                           0.00                           0.50
 > settled            2                           1.50
 > queued             1                           0.25
+> held               0                           0.00
 > withdrawn          1                           0.25
 > rejected           0                           0.00
 > marks              2
@@ -189,7 +190,10 @@ const UNSOUND: &str = "\
 93 NotADeskFile ! sql @ UPDATE desk SET version = 3
 93 NotADeskFile ! sql @ DROP TABLE forward; UPDATE desk SET version = 0
 93 NotADeskFile ! sql @ DROP TABLE forward
-93 NotADeskFile ! sql @ INSERT INTO forward VALUES (1, '2024-03-05')
+93 NotADeskFile ! sql @ INSERT INTO forward VALUES (5, '2024-03-05')
+93 NotADeskFile ! sql @ UPDATE payment SET state = 4 WHERE number = 4
+94 Inconsistent 11 ! sql @ INSERT INTO forward VALUES (1, '2024-03-05')
+93 NotADeskFile ! sql @ DROP TABLE forward; UPDATE desk SET version = 1; UPDATE payment SET state = 4 WHERE number = 4
 93 NotADeskFile ! sql @ UPDATE desk SET version = 1
 93 NotADeskFile ! sql @ DROP TABLE forward; UPDATE desk SET version = 1; CREATE VIEW forward AS SELECT 1
 93 NotADeskFile ! sql @ DROP TABLE forward; UPDATE desk SET version = 1; CREATE INDEX forward ON mark (date)

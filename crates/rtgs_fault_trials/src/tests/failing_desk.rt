@@ -52,8 +52,8 @@ fn after<K: Keeper + Drop>(alloc: Global, keeper: K, script: &str) -> Result<K, 
     Ok(desk.into_keeper())
 }
 
-// A desk over this keeper answers as the first script tells, and one over what it kept as the other tells.
-fn answers_again<K: Keeper + Drop>(
+/// A desk over this keeper answers as the first script tells, and one over what it kept as the other tells.
+pub fn answers_again<K: Keeper + Drop>(
     alloc: Global,
     keeper: FailingKeeper<K>,
     script: &str,

@@ -83,6 +83,47 @@ fn texts_and_keys(rt: HostRuntime) -> Result<(), Fail> {
     tells_faults(rt.alloc(), TEXTS_AND_KEYS)
 }
 
+// The due date is judged last, and may be left out.
+const DUE_DATES: &str = r#"
+ALFA POST /orders {"amount":100,"due":null,"reference":"A-1","to":"BETA"}
+-> 400 66 WrongFields
+
+ALFA POST /orders {"amount":100,"due":20240305,"reference":"A-1","to":"BETA"}
+-> 400 66 WrongFields
+
+ALFA POST /orders {"amount":100,"due":"2024-03-05","reference":"A-1","to":"BETA","x":1}
+-> 400 66 WrongFields
+
+ALFA POST /orders {"amount":100,"due":"2024-03-05","reference":"A-1"}
+-> 400 66 WrongFields
+
+ALFA POST /orders {"amount":0,"due":"","reference":"A-1","to":"BETA"}
+-> 400 32 BadAmount
+
+ALFA POST /orders {"amount":100,"due":"","reference":"A-1","to":"BETA"}
+-> 400 35 BadDate
+
+ALFA POST /orders {"amount":100,"due":"2024-02-30","reference":"A-1","to":"BETA"}
+-> 400 35 BadDate
+
+ALFA POST /orders {"amount":100,"due":"2024-03-05","reference":"A-1","to":"BETA"}
+-> order ALFA A-1 BETA 100 due 2024-03-05
+
+ALFA POST /orders {"due":"2024-03-06","to":"BETA","reference":"A-1","due":"2024-03-05","amount":100}
+-> order ALFA A-1 BETA 100 due 2024-03-05
+
+ALFA POST /batches
+reference,to,amount,due
+A-1,BETA,100,2024-03-05
+A-2,GAMA,50,
+-> batch ALFA, A-1 BETA 100 due 2024-03-05, A-2 GAMA 50
+"#;
+
+#[test]
+fn due_dates(rt: HostRuntime) -> Result<(), Fail> {
+    tells_faults(rt.alloc(), DUE_DATES)
+}
+
 const WITHOUT_CONTENT: &str = r#"
 ALFA POST /orders/A-1/withdraw
 -> 400 65 BadJson

@@ -6,6 +6,7 @@ mod connections;
 mod counted_reader;
 mod cut_writer;
 mod days;
+mod due_dates;
 mod first_day;
 mod forms;
 mod gridlocks;

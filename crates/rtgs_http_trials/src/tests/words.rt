@@ -1,7 +1,20 @@
 //! What a request asks for, in words.
 use rtgs_book::{Command, Reading};
 use rtgs_http_requests::Asked;
+use rtgs_money::BusinessDate;
 use std::alloc::{AllocError, Global};
+
+// What is said of an order, and behind it its due date, if it has one.
+fn with_due(
+    alloc: Global,
+    order: String,
+    due: &Option<BusinessDate>,
+) -> Result<String, AllocError> {
+    match due {
+        None => Ok(order),
+        Some(due) => format!(in alloc; "{order} due {due}"),
+    }
+}
 
 // A command, in words.
 fn command_words(alloc: Global, command: &Command) -> Result<String, AllocError> {
@@ -19,7 +32,11 @@ fn command_words(alloc: Global, command: &Command) -> Result<String, AllocError>
             reference,
             receiver,
             amount,
-        } => format!(in alloc; "order {sender} {reference} {receiver} {amount}"),
+            due,
+        } => {
+            let order = format!(in alloc; "order {sender} {reference} {receiver} {amount}")?;
+            with_due(alloc, order, due)
+        }
         Command::Withdraw { sender, reference } => {
             format!(in alloc; "withdraw {sender} {reference}")
         }
@@ -52,6 +69,7 @@ pub fn in_words(alloc: Global, asked: &Asked) -> Result<String, AllocError> {
             for row in rows.as_slice() {
                 let (reference, receiver, amount) = (row.reference, row.receiver, row.amount);
                 let words = format!(in alloc; ", {reference} {receiver} {amount}")?;
+                let words = with_due(alloc, words, &row.due)?;
                 text.push_str(words.as_str())?;
             }
             Ok(text)

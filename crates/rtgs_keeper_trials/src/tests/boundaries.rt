@@ -6,7 +6,8 @@ use super::store::{Booked, Ended, Job, Store};
 use super::two_keepers::{end_in_one_book, make};
 use rtgs_book::{Answer, Command, Refusal};
 use rtgs_desk_requests::CommandWords;
-use rtgs_tests_desks::{Reply, command, desk_over};
+use rtgs_money::BusinessDate;
+use rtgs_tests_desks::{Reply, command, desk_over, follows};
 use std::alloc::Global;
 use std::fmt::Write;
 use std::mem;
@@ -57,6 +58,8 @@ fn refuse_the_last_in<S: Store>(
 
 // These commands, and behind them those of the script.
 fn all_of(alloc: Global, first: &[Command], script: &str) -> Result<Vec<Command>, Fail> {
+    // Names the type of due dates for the borrow checker, which finds it nowhere else in this function.
+    let _no_date: Option<BusinessDate> = None;
     let mut all = Vec::new(alloc);
     all.extend_from_slice(first)?;
     for line in script.lines() {
@@ -177,4 +180,104 @@ fn five_hundred_orders_of_one_sender_wait(rt: HostRuntime) -> Result<(), Fail> {
         write!(script, "order BANK1 A-{number} BANK2 5\n")?;
     }
     refuse_the_last::<InMemory, OnDisks>(rt.alloc(), &[], script.as_str(), Refusal::QueueFull)
+}
+
+// A script that a desk follows.
+#[derive(Drop)]
+struct Follows {
+    script: String,
+}
+
+impl Job for Follows {
+    fn done<K: Booked>(&mut self, alloc: Global, keeper: K) -> Result<(K, bool), Fail> {
+        let mut desk = desk_over(alloc, keeper)?;
+        follows(alloc, &mut desk, self.script.as_str())?;
+        Ok((desk.into_keeper(), true))
+    }
+}
+
+// Fails unless new desks in both stores answer as the script tells, and end with one book.
+fn follow<M: Store, S: Store>(alloc: Global, script: String) -> Result<(), Fail> {
+    let mut job = Follows { script };
+    let (mut memory, mut store) = (M::blank(alloc), S::blank(alloc));
+    make(alloc, &mut memory)?;
+    make(alloc, &mut store)?;
+    let in_memory = memory.session(alloc, false, &mut job)?;
+    let in_store = store.session(alloc, false, &mut job)?;
+    if !matches!((in_memory, in_store), (Ended::Closed, Ended::Closed)) {
+        return Err(Fail::new("not closed"));
+    }
+    end_in_one_book(alloc, &mut memory, &mut store)
+}
+
+const TWO_BANKS_OPEN: &str = "\
+add BANK1 00000000000000000000000000000001 => Ok(Added)
+add BANK2 00000000000000000000000000000002 => Ok(Added)
+open 2024-03-04 => Ok(Opened)
+";
+
+// Adds orders of the first bank that wait: so many in its queue, since nothing covers them, and behind them so many
+// that are held.
+fn add_waiting(script: &mut String, queued: u64, held: u64) -> Result<(), Fail> {
+    for number in 1..=queued {
+        write!(
+            script,
+            "order BANK1 A-{number} BANK2 5 => Ok(Queued {{ number: {number}, place: {number} }})\n"
+        )?;
+    }
+    for number in queued.saturating_add(1)..=queued.saturating_add(held) {
+        write!(
+            script,
+            "order BANK1 A-{number} BANK2 5 due 2024-03-05 => \
+            Ok(Held {{ number: {number}, due: BusinessDate {{ number: 20240305 }} }})\n"
+        )?;
+    }
+    Ok(())
+}
+
+// The bank that has as many as may wait is refused one more, whether it would be queued or held. Where one of them is
+// taken back, one more is taken.
+const ONE_MORE: &str = "\
+order BANK1 B-1 BANK2 5 => Err(QueueFull)
+order BANK1 B-1 BANK2 5 due 2024-03-06 => Err(QueueFull)
+order BANK2 B-1 BANK1 5 due 2024-03-06 => Ok(Held { number: 501, due: BusinessDate { number: 20240306 } })
+withdraw BANK1 A-500 => Ok(Withdrawn { number: 500 })
+order BANK1 B-1 BANK2 5 due 2024-03-06 => Ok(Held { number: 502, due: BusinessDate { number: 20240306 } })
+order BANK1 B-2 BANK2 5 => Err(QueueFull)";
+
+#[test]
+fn five_hundred_orders_are_queued_or_held(rt: HostRuntime) -> Result<(), Fail> {
+    for (queued, held) in [(499, 1), (1, 499)] {
+        let mut script = String::from_str(rt.alloc(), TWO_BANKS_OPEN)?;
+        add_waiting(&mut script, queued, held)?;
+        script.push_str(ONE_MORE)?;
+        follow::<InMemory, OnDisks>(rt.alloc(), script)?;
+    }
+    Ok(())
+}
+
+// What is covered is settled at once beside as many held orders as there may be. They fill the queue on the next day,
+// and are settled together.
+const ALL_ENTER: &str = "\
+order BANK1 B-1 BANK2 5 => Err(QueueFull)
+order BANK1 B-1 BANK2 5 due 2024-03-06 => Err(QueueFull)
+post BANK1 P-1 5 => Ok(Posted { number: 1 })
+order BANK1 B-1 BANK2 5 due 2024-03-06 => Err(QueueFull)
+order BANK1 B-1 BANK2 5 => Ok(Settled { number: 501, mark: 1 })
+cutoff 2024-03-04 => Ok(CutOffDone)
+close 2024-03-04 => Ok(Closed { rejected: 0 })
+open 2024-03-05 => Ok(Opened)
+post BANK1 P-2 2495 => Ok(Posted { number: 2 })
+order BANK1 B-2 BANK2 5 => Err(QueueFull)
+order BANK1 B-2 BANK2 5 due 2024-03-06 => Err(QueueFull)
+post BANK1 P-3 5 => Ok(Posted { number: 3 })
+resolve => Ok(Resolved { mark: 2, count: 500, value: Cents(2500) })
+order BANK1 B-2 BANK2 5 => Ok(Queued { number: 502, place: 1 })";
+
+#[test]
+fn five_hundred_held_orders_enter_one_queue(rt: HostRuntime) -> Result<(), Fail> {
+    let mut script = String::from_str(rt.alloc(), TWO_BANKS_OPEN)?;
+    add_waiting(&mut script, 0, 500)?;
+    script.push_str(ALL_ENTER)?;
+    follow::<InMemory, OnDisks>(rt.alloc(), script)
 }

@@ -23,9 +23,13 @@ pub struct Business {
     // the day that was opened last, and the one that was asked for last, as places among the days
     today: u64,
     asked: u64,
-    // the last order: its sender, and the number in its reference
+    // the last order: its sender, the number in its reference, its receiver, its cents, and the place of its due date
+    // among the days, if it has one
     sender: u64,
     number: u64,
+    receiver: u64,
+    cents: u64,
+    due: Option<u64>,
 }
 
 /// How many codes there are: BANK0 and those after it.
@@ -53,6 +57,9 @@ impl Business {
             asked: 0,
             sender: 0,
             number: 0,
+            receiver: 1,
+            cents: 1,
+            due: None,
         }
     }
 
@@ -76,6 +83,12 @@ impl Business {
             // of the last order
             return Ok(format!(in self.alloc; "withdraw BANK{} R-{}", self.sender, self.number)?);
         }
+        if kind == 15 {
+            if self.below(4) == 0 {
+                self.due = self.due_place();
+            }
+            return self.order();
+        }
         let code = self.below(CODES);
         let words = match kind {
             0 => format!(in self.alloc; "add BANK{code} {:032}", self.below(11)),
@@ -88,11 +101,40 @@ impl Business {
             _ => {
                 self.sender = code;
                 self.number = self.below(ORDERS);
-                let (receiver, cents) = (self.below(CODES), self.below(900) + 1);
-                format!(in self.alloc; "order BANK{code} R-{} BANK{receiver} {cents}", self.number)
+                self.receiver = self.below(CODES);
+                self.cents = self.below(900) + 1;
+                self.due = self.due_place();
+                return self.order();
             }
         };
         Ok(words?)
+    }
+
+    // The words of the last order.
+    fn order(&self) -> Result<String, Fail> {
+        let (sender, number, receiver, cents) = (
+            self.sender,
+            self.number,
+            self.receiver,
+            self.cents,
+        );
+        let mut words = format!(in self.alloc;
+            "order BANK{sender} R-{number} BANK{receiver} {cents}"
+        )?;
+        if let Some(place) = self.due {
+            words = format!(in self.alloc; "{words} due {}", day_at(place)?)?;
+        }
+        Ok(words)
+    }
+
+    // The place of an order's due date among the days. One order in four has one, mostly after the day that was opened
+    // last.
+    fn due_place(&mut self) -> Option<u64> {
+        if self.below(4) == 0 {
+            Some(self.today.wrapping_add(self.below(6)))
+        } else {
+            None
+        }
     }
 
     /// Takes notice of a day that was opened.

@@ -146,6 +146,14 @@ fn stops_leave_what_was_answered<S: Store>(
     Ok(())
 }
 
+/// Gives the commands to a desk in a store of each kind, with a stop behind each of them in the second. Just those that
+/// were answered are found then, and the banks stand as it is told.
+pub fn answers_of_two<M: Store, S: Store>(alloc: Global, trial: &Trial) -> Result<(), Fail> {
+    let books = books(alloc, &mut M::blank(alloc), trial)?;
+    let mut store = S::blank(alloc);
+    stops_leave_what_was_answered(alloc, &mut store, trial, books.as_slice())
+}
+
 /// Tries the commands in a store of the second kind, with a stop behind each of them and with each of two failures, and
 /// tells how many calls go well where first no run meets them. The books that may be found are those of the first kind.
 pub fn failures_of_two<M: Store, S: Store>(

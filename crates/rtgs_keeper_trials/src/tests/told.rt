@@ -1,6 +1,7 @@
 //! What a desk answers, and what its keeper then tells of its book: each record by its name, and the records of each
 //! date one after another.
 use super::business::{CODES, DAYS, ORDERS, POSTINGS, day_at};
+use super::seen::{PLACES, place_of};
 use rtgs_book::{Mark, Order, Posting};
 use rtgs_keeper::Keeper;
 use rtgs_money::{BusinessDate, Code, Reference};
@@ -98,6 +99,8 @@ impl Told {
     // Asks for each order by the names that the commands use: codes and references, and of each kind one that they do
     // not use.
     fn finds_orders<K: Keeper>(&mut self, alloc: Global, keeper: &mut K) -> Result<(), Fail> {
+        // Names the type of due dates for the borrow checker, which finds it nowhere else in this function.
+        let _no_date: Option<BusinessDate> = None;
         for place in 0..(CODES + 1) * (ORDERS + 1) {
             let code = format!(in alloc; "BANK{}", place / (ORDERS + 1))?;
             let reference = format!(in alloc; "R-{}", place % (ORDERS + 1))?;
@@ -116,6 +119,19 @@ impl Told {
             self.postings.push(keeper.find_posting(&reference)?)?;
         }
         Ok(())
+    }
+
+    /// Notes where orders with a due date stand, and whether one entered its queue after that date.
+    pub fn notes_due(&self, stand: &mut [bool; PLACES], is_late: &mut bool) {
+        for told in self.orders.as_slice() {
+            if let Some(order) = told {
+                if let Some(due) = order.due {
+                    let place = place_of(order.state);
+                    stand[place] = true;
+                    *is_late = *is_late || due < order.date;
+                }
+            }
+        }
     }
 
     /// Whether both tell the same.

@@ -4,7 +4,7 @@ use super::business::Business;
 use super::disks::OnDisks;
 use super::memory::InMemory;
 use super::runs::found_in;
-use super::seen::{KINDS, kind_of};
+use super::seen::{KINDS, PLACES, kind_of};
 use super::store::{Booked, Ended, Job, Store};
 use super::told::Told;
 use super::trial::{Part, Work};
@@ -91,7 +91,8 @@ pub fn end_in_one_book<M: Store, S: Store>(
     }
 }
 
-/// Five thousand commands, of all kinds and with all kinds of answers, which both stores answer alike.
+/// Five thousand commands, of all kinds and with all kinds of answers, which both stores answer alike. Orders with due
+/// dates come to stand wherever they may, and one enters its queue late, since its day was not opened.
 fn answer_alike<M: Store, S: Store>(
     alloc: Global,
     memory: &mut M,
@@ -100,6 +101,7 @@ fn answer_alike<M: Store, S: Store>(
 ) -> Result<(), Fail> {
     let (mut one, mut other) = (Run::new(alloc, seed), Run::new(alloc, seed));
     let mut seen = [false; KINDS];
+    let (mut stand, mut is_late) = ([false; PLACES], false);
     for _ in 0..50 {
         let told = one.hundred(alloc, memory)?;
         if !told.is_like(&other.hundred(alloc, store)?) {
@@ -109,9 +111,11 @@ fn answer_alike<M: Store, S: Store>(
             let kind = kind_of(reply);
             seen[kind] = true;
         }
+        told.notes_due(&mut stand, &mut is_late);
     }
-    if seen.contains(&false) {
-        Err(Fail::new("a kind of answer that was not given"))
+    if seen.contains(&false) || stand.contains(&false) || !is_late {
+        let seen = format!(in alloc; "{seen:?}, {stand:?}, {is_late}: not all of it was seen")?;
+        Err(Fail::from(seen))
     } else {
         Ok(())
     }

@@ -13,7 +13,7 @@ use rtgs_book::{MOST_QUEUED, Order};
 use rtgs_choices::laws;
 use rtgs_gridlock::{OutOfMemory, Payment, Position, Positions, Queues, Workspace, greatest};
 use rtgs_money::Code;
-use rtgs_queues::laws::queues_are_of_the_queued;
+use rtgs_queues::laws::queues_are_of_the_waiting;
 use std::alloc::AllocError;
 
 impl Ledger {
@@ -22,7 +22,7 @@ impl Ledger {
         ensures { (book : Book) → IsCoreOf book self.now.core → IfOk result (λ orders. AreGreatest book orders.items) }
     {
         laws::choices_agree();
-        queues_are_of_the_queued();
+        queues_are_of_the_waiting();
         let lengths = self.greatest_lengths()?;
         let orders = self.beginnings(lengths.as_slice())?;
         Ok(orders)
@@ -38,7 +38,7 @@ impl Ledger {
     {
         laws::conditions_hold();
         laws::greatest_means_greatest();
-        queues_are_of_the_queued();
+        queues_are_of_the_waiting();
         let positions = self.positions()?;
         let queues = self.payments()?;
         if !can_resolve(&positions, &queues) {
@@ -101,7 +101,7 @@ impl Ledger {
     // no length, there are none.
     fn beginnings(&self, lengths: &[usize]) -> Result<Vec<Order>, AllocError>
         ensures { IfOk result (λ orders. orders.items
-            ≡ taken_from (slice_index lengths.now) self.now.core.queued 0 self.now.core.accounts) }
+            ≡ taken_from (slice_index lengths.now) self.now.core.waiting 0 self.now.core.accounts) }
     {
         let mut orders = Vec::new(self.alloc);
         for (index, account) in self.records.accounts.as_slice().iter().enumerate() {

@@ -17,7 +17,7 @@ use rtgs_book::{
 };
 use rtgs_choices::laws::{chosen_numbers, queued_are_numbered, rows_close, taken_are_chosen};
 use rtgs_money::BusinessDate;
-use rtgs_queues::laws::queues_are_of_the_queued;
+use rtgs_queues::laws::queues_are_of_the_waiting;
 use std::alloc::{AllocError, Global};
 
 impl Ledger {
@@ -75,7 +75,7 @@ impl Ledger {
             });
         }
         queued_are_numbered();
-        queues_are_of_the_queued();
+        queues_are_of_the_waiting();
         rows_close();
         let numbers = self.queued_numbers()?;
         let day = Day {
@@ -90,7 +90,7 @@ impl Ledger {
     // The numbers of all queued orders, account by account.
     fn queued_numbers(&self) -> Result<Vec<u64>, AllocError>
         ensures { IfOk result (λ numbers. numbers.items
-            ≡ flat_map (λ account. queued_numbers self.now.core.queued (code_of account)) self.now.core.accounts) }
+            ≡ flat_map (λ account. queued_numbers self.now.core.waiting (code_of account)) self.now.core.accounts) }
     {
         let mut numbers = Vec::new(self.alloc);
         for account in self.records.accounts.as_slice() {

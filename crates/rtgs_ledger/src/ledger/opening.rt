@@ -1,5 +1,7 @@
 //! Opening a business day.
-ghost use Rattle.std.specs.Prelude.{◌≡◌, IfOk, IfErr, false};
+ghost use Rattle.std.specs.Prelude.{◌≡◌, ◌++◌, ◌∷◌, [], map, filter, IfOk, IfErr, false};
+ghost use Rattle.rtgs_book.specs.declared.order.Order.{Order};
+ghost use Rattle.rtgs_book.specs.Commands.{is_due};
 ghost use Rattle.rtgs_book.specs.declared.book.Book.{Book};
 ghost use Rattle.rtgs_cores.specs.Cores.{IsCoreOf};
 ghost use Rattle.rtgs_records.specs.Held.{HasRoom};
@@ -7,11 +9,16 @@ ghost use Rattle.rtgs_ledger.specs.Kept.{IsPrepared, IsCommandRefused};
 ghost use Rattle.rtgs_ledger.specs.Kinds.{CanAnswer, is_of_the_store};
 
 use super::Ledger;
-use rtgs_book::{Answer, Change, Command, Day, Known, Phase, Refusal, RowChange, Rows};
+use rtgs_book::{
+    Answer, Change, Command, Day, Known, Order, OrderState, Phase, Refusal, RowChange, Rows, laws,
+};
 use rtgs_money::BusinessDate;
+use rtgs_queues::laws::numbers_lead_to_orders;
+use std::alloc::{AllocError, Global};
 
 impl Ledger {
-    /// The day is opened, where the desk is closed and the date is later than the last one.
+    /// The day is opened, where the desk is closed and the date is later than the last one. The held orders that are
+    /// due enter their queues.
     pub(super) fn prepare_open_day(
         &mut self,
         date: BusinessDate,
@@ -42,7 +49,46 @@ impl Ledger {
             date: Some(date),
             phase: Phase::Open,
         };
-        let rows = vec![in self.alloc; RowChange::SetDay(day)]?;
+        numbers_lead_to_orders();
+        laws::balance_after_entering();
+        let numbers = due_numbers(self.alloc, self.records.orders.as_slice(), date)?;
+        let rows = opening_rows(self.alloc, numbers.as_slice(), date, day)?;
         Ok((Answer::Opened, Rows::from_vec(rows)))
+    }
+}
+
+// The numbers of the held orders that are due by this date.
+fn due_numbers(alloc: Global, orders: &[Order], date: BusinessDate) -> Result<Vec<u64>, AllocError>
+    ensures { IfOk result (λ numbers. numbers.items
+        ≡ map (λ (o : Order). o.number) (filter (is_due date) orders.now)) }
+{
+    let due = orders.iter().filter(|order| is_due(order, date));
+    due.map(|order| order.number).collect(alloc)
+}
+
+// The rows by which the orders with these numbers enter their queues on this date, and the one that sets the day.
+fn opening_rows(
+    alloc: Global,
+    numbers: &[u64],
+    date: BusinessDate,
+    day: Day,
+) -> Result<Vec<RowChange>, AllocError>
+    ensures { IfOk result (λ rows. rows.items ≡ map (λ number. RowChange.EnterQueue number date) numbers.now
+        ++ RowChange.SetDay day ∷ []) }
+{
+    let entering = numbers.iter().map(|number| RowChange::EnterQueue {
+        number: *number,
+        date,
+    });
+    entering.chain(Some(RowChange::SetDay(day))).collect(alloc)
+}
+
+// Whether the order is held, and due by this date.
+fn is_due(order: &Order, date: BusinessDate) -> bool
+    ensures { result ≡ is_due date order.now }
+{
+    match order.due {
+        None => false,
+        Some(due) => order.state == OrderState::Held && due <= date,
     }
 }

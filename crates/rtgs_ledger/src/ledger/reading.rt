@@ -14,8 +14,8 @@ ghost use Rattle.rtgs_ledger.specs.Keys.{code_under};
 
 use super::Ledger;
 use rtgs_book::{Account, Day, Order};
-use rtgs_money::{Code, KeyDigest};
-use rtgs_queues::laws::queues_are_of_the_queued;
+use rtgs_money::{BusinessDate, Code, KeyDigest};
+use rtgs_queues::laws::queues_are_of_the_waiting;
 use std::alloc::AllocError;
 
 impl Ledger {
@@ -40,21 +40,22 @@ impl Ledger {
         }
     }
 
-    /// All orders in memory: the queued ones, in rising number.
-    pub fn queued(&self) -> &[Order]
-        ensures { result.now ≡ self.now.core.queued }
+    /// All orders in memory: those that are queued or held, in rising number.
+    pub fn waiting(&self) -> &[Order]
+        ensures { result.now ≡ self.now.core.waiting }
     {
         self.records.orders.as_slice()
     }
 
     /// The queued orders of the sender, in their order. It answers lack of memory.
     pub fn queue(&self, sender: &Code) -> Result<Vec<Order>, AllocError>
-        ensures orders { IfOk result (λ orders. orders.items ≡ queued_among self.now.core.queued sender.now) }
+        ensures orders { IfOk result (λ orders. orders.items ≡ queued_among self.now.core.waiting sender.now) }
         ensures told { (book : Book) → IsCoreOf book self.now.core
             → IfOk result (λ orders. orders.items ≡ queue book sender.now) }
     {
-        queues_are_of_the_queued();
+        queues_are_of_the_waiting();
         let numbers = self.records.orders.queue(sender);
+        let _no_date: Option<BusinessDate> = None;
         let mut queue = Vec::with_capacity(self.alloc, numbers.len())?;
         for number in numbers {
             queue.push_reserved(self.records.orders.numbered(*number).unwrap());

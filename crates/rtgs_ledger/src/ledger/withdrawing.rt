@@ -15,7 +15,7 @@ use rtgs_money::{Code, Reference};
 use rtgs_queues::laws::numbers_lead_to_orders;
 
 impl Ledger {
-    /// A queued order is taken back by its sender.
+    /// An order that is queued or held is taken back by its sender.
     pub(super) fn prepare_withdraw(
         &mut self,
         sender: Code,
@@ -48,7 +48,7 @@ impl Ledger {
                 }));
             }
             OrderState::Settled(_) | OrderState::Rejected => return Err(Refusal::NotQueued),
-            OrderState::Queued => {}
+            OrderState::Queued | OrderState::Held => {}
         }
         laws::balance_after_restating();
         numbers_lead_to_orders();

@@ -1,4 +1,4 @@
-//! Whether queues are short, of the day, and empty while the desk is closed.
+//! Whether few orders of each sender wait, and queues are of the day, and empty while the desk is closed.
 ghost use Rattle.std.specs.Prelude.{◌≡◌, ◌↔◌, ◌≤◌, ◌+◌, ◌*◌, ◌==◌, ℕ, List, ℤ, pos, ◌+ℤ◌, ◌≤ℤ◌, ◌&&◌, ◌||◌, map};
 ghost use Rattle.std.specs.Prelude.{filter, if◌then◌else◌, IfOk, IsTrue, Some, true, false, not, length};
 ghost use Rattle.std.specs.BTreeMap.{get};
@@ -9,10 +9,10 @@ ghost use Rattle.std.specs.Str.{bytes_eq};
 ghost use Rattle.rtgs_book.specs.declared.limits.TheConstants.{LONGEST_QUEUE, LARGEST_NUMBER};
 ghost use Rattle.rtgs_book.specs.declared.order.Order.{Order};
 ghost use Rattle.rtgs_book.specs.declared.participant.Participant.{Participant};
-ghost use Rattle.rtgs_book.specs.Books.{is_closed, is_queued};
+ghost use Rattle.rtgs_book.specs.Books.{is_closed, is_queued, is_waiting};
 ghost use Rattle.rtgs_book.specs.IntSum.{int_sum_by};
 ghost use Rattle.rtgs_book.specs.Lookup.{accounts};
-ghost use Rattle.rtgs_book.specs.Queue.{queue};
+ghost use Rattle.rtgs_book.specs.Queue.{waiting};
 ghost use Rattle.rtgs_book.specs.Settle.{today};
 ghost use Rattle.rtgs_book.specs.Soundness.{QueuesFit};
 ghost use Rattle.rtgs_book.specs.Totals.{Totals, AreWithin};
@@ -24,13 +24,13 @@ use rtgs_money::Code;
 use std::alloc::{AllocError, Global};
 use std::collections::BTreeMap;
 
-/// Whether nothing is queued while the desk is closed, each queue has at most `LONGEST_QUEUE` orders, and queued orders
-/// are of the day.
+/// Whether nothing is queued while the desk is closed, at most `LONGEST_QUEUE` orders of each sender are queued or
+/// held, and queued orders are of the day.
 pub fn queues_fit(alloc: Global, book: &Book) -> Result<bool, AllocError>
     requires { length book.now.orders ≤ LARGEST_NUMBER }
     ensures { IfOk result (λ yes. IsTrue yes ↔ QueuesFit book.now) }
 {
-    let lengths = queue_lengths(alloc, book)?;
+    let lengths = waiting_lengths(alloc, book)?;
     if !are_short(&lengths, book.participants.as_slice()) {
         return Ok(false);
     }
@@ -61,7 +61,7 @@ fn are_queued_on(orders: &[Order], has_day: bool, today: u32) -> bool
         || (has_day && order.date.number() == today))
 }
 
-// Whether each participant's queue is short.
+// Whether few orders of each participant wait.
 fn are_short(lengths: &BTreeMap<Code, i128>, participants: &[Participant]) -> bool
     ensures { (length_of : List ℕ → ℤ) → Totals (slice_cmp nat_cmp)
         (map (λ (p : Participant). p.code) participants.now) length_of lengths.now →
@@ -75,7 +75,7 @@ fn are_short(lengths: &BTreeMap<Code, i128>, participants: &[Participant]) -> bo
     true
 }
 
-// Whether the participant's queue is short.
+// Whether few orders of the participant wait.
 fn is_short(lengths: &BTreeMap<Code, i128>, participant: &Participant) -> bool
     ensures { (length : ℤ) → get (slice_cmp nat_cmp) lengths.now participant.now.code ≡ Some length
         → (IsTrue result ↔ (length ≤ℤ pos LONGEST_QUEUE)) }
@@ -86,42 +86,55 @@ fn is_short(lengths: &BTreeMap<Code, i128>, participant: &Participant) -> bool
     }
 }
 
-// How many orders of each participant are queued.
-fn queue_lengths(alloc: Global, book: &Book) -> Result<BTreeMap<Code, i128>, AllocError>
+// How many orders of each participant are queued or held.
+fn waiting_lengths(alloc: Global, book: &Book) -> Result<BTreeMap<Code, i128>, AllocError>
     requires { length book.now.orders ≤ LARGEST_NUMBER }
     ensures { IfOk result (Totals (slice_cmp nat_cmp) (accounts book.now)
-        (λ code. pos (length (queue book.now code)))) }
+        (λ code. pos (length (waiting book.now code)))) }
 {
     let mut lengths = zeros(alloc, codes_of(alloc, book.participants.as_slice())?)?;
-    count_queued(&mut lengths, book.orders.as_slice());
+    count_waiting(&mut lengths, book.orders.as_slice());
     Ok(lengths)
 }
 
-// Counts the queued orders under the codes of their senders.
-fn count_queued(lengths: &mut BTreeMap<Code, i128>, orders: &[Order])
+// Counts the orders that are queued or held under the codes of their senders.
+fn count_waiting(lengths: &mut BTreeMap<Code, i128>, orders: &[Order])
     requires few { length orders.now ≤ LARGEST_NUMBER }
     requires small { AreWithin (slice_cmp nat_cmp) 0 lengths.old }
     ensures { (codes : List (List ℕ)) (length_of : List ℕ → ℤ) → Totals (slice_cmp nat_cmp) codes length_of lengths.old
         →
         Totals (slice_cmp nat_cmp) codes (λ code. length_of code +ℤ int_sum_by (λ (o : Order). pos 1)
-        (filter (λ (o : Order). is_queued o && bytes_eq o.sender code) orders.now)) lengths.new }
+        (filter (λ (o : Order). is_waiting o && bytes_eq o.sender code) orders.now)) lengths.new }
 {
     for order in orders {
         count_order(lengths, order);
     }
 }
 
-// Counts the order, if it is queued, under the code of its sender.
+// Counts the order, if it is queued or held, under the code of its sender.
 fn count_order(lengths: &mut BTreeMap<Code, i128>, order: &Order)
     requires { AreWithin (slice_cmp nat_cmp) LARGEST_NUMBER lengths.old }
     ensures sums { (codes : List (List ℕ)) (length_of : List ℕ → ℤ) →
         Totals (slice_cmp nat_cmp) codes length_of lengths.old →
         Totals (slice_cmp nat_cmp) codes (λ code. length_of code +ℤ
-        (if is_queued order.now && bytes_eq order.now.sender code then pos 1 else pos 0)) lengths.new }
+        (if is_waiting order.now && bytes_eq order.now.sender code then pos 1 else pos 0)) lengths.new }
     ensures within { (bound : ℕ) → AreWithin (slice_cmp nat_cmp) bound lengths.old
         → AreWithin (slice_cmp nat_cmp) (bound + 1) lengths.new }
 {
-    if order.state == OrderState::Queued {
+    if is_waiting(order) {
         add(lengths, &order.sender, 1);
+    }
+}
+
+/// Whether the order is queued or held.
+pub fn is_waiting(order: &Order) -> bool
+    ensures { result ≡ is_waiting order.now }
+{
+    match order.state {
+        OrderState::Queued => true,
+        OrderState::Held => true,
+        OrderState::Settled(_) => false,
+        OrderState::Withdrawn => false,
+        OrderState::Rejected => false,
     }
 }

@@ -2,12 +2,14 @@
 ghost use Rattle.std.specs.Prelude.{◌≡◌, OnOk};
 ghost use Rattle.rtgs_book.specs.declared.RowChange.TheVariants as change;
 ghost use Rattle.rtgs_rows.specs.Content.{Content, IsInOrder, with_change};
-ghost use Rattle.rtgs_rows.specs.Fitting.{FitsParticipant, FitsPosting, FitsOrder, FitsMark};
-ghost use Rattle.rtgs_sql_writes.specs.Staging.{ChangesTables};
+ghost use Rattle.rtgs_money.specs.Date.{IsBusinessDate};
+ghost use Rattle.rtgs_rows.specs.Fitting.{FitsParticipant, FitsPosting, FitsPayment, FitsOrder, FitsMark};
+ghost use Rattle.rtgs_sql_writes.specs.Staging.{ChangesTables, with_payment, with_forward};
 ghost use Rattle.sqlite.specs.State.{HasCleanDisk, KeepsCommit, Survives};
 ghost use Rattle.sqlite.specs.Held.{state};
 
 use rtgs_book::{Mark, Order, Participant, Posting};
+use rtgs_money::BusinessDate;
 use rtgs_rows::laws::next_row_is_above;
 use rtgs_sql_columns::columns::{
     amount_value, blob, cents_value, check_mark, check_number, credit_value, mark_value,
@@ -69,16 +71,13 @@ pub(crate) fn add_posting<S: Alter>(
     )
 }
 
-/// Adds the row of an order.
-pub(crate) fn add_order<S: Alter>(
-    tx: &mut Transaction<'_, S>,
-    order: &Order,
-) -> Result<usize, Error>
+/// Adds the row of an order, which does not say its due date.
+fn add_payment<S: Alter>(tx: &mut Transaction<'_, S>, order: &Order) -> Result<usize, Error>
     ensures same_reference { tx.new.conn.ghost_name ≡ tx.old.conn.ghost_name }
     ensures made { (content : Content) → IsInOrder (with_change content (change.AddOrder order.now))
         → OnOk result (ChangesTables (state S.Store tx.old.conn.now) (state S.Store tx.new.conn.now) content
-        (with_change content (change.AddOrder order.now))) }
-    ensures formed { OnOk result (FitsOrder order.now) }
+        (with_payment content order.now)) }
+    ensures formed { OnOk result (FitsPayment order.now) }
     ensures kept { HasCleanDisk (state S.Store tx.new.conn.now)
         → KeepsCommit (state S.Store tx.old.conn.now) (state S.Store tx.new.conn.now) }
     ensures survives { Survives (state S.Store tx.old.conn.now) (state S.Store tx.new.conn.now) (λ _. ⊥) }
@@ -100,6 +99,50 @@ pub(crate) fn add_order<S: Alter>(
             text_or_null(&date),
         ],
     )
+}
+
+/// Adds the row of a due date, which stands under the number of its order.
+fn add_forward<S: Alter>(
+    tx: &mut Transaction<'_, S>,
+    number: u64,
+    due: BusinessDate,
+) -> Result<usize, Error>
+    ensures same_reference { tx.new.conn.ghost_name ≡ tx.old.conn.ghost_name }
+    ensures made { (content : Content) → IsInOrder (with_forward content number due)
+        → OnOk result (ChangesTables (state S.Store tx.old.conn.now) (state S.Store tx.new.conn.now) content
+        (with_forward content number due)) }
+    ensures formed { OnOk result (IsBusinessDate due) }
+    ensures kept { HasCleanDisk (state S.Store tx.new.conn.now)
+        → KeepsCommit (state S.Store tx.old.conn.now) (state S.Store tx.new.conn.now) }
+    ensures survives { Survives (state S.Store tx.old.conn.now) (state S.Store tx.new.conn.now) (λ _. ⊥) }
+{
+    check_number(number)?;
+    let date = text_of(Some(due));
+    tx.execute(
+        "INSERT INTO forward (number, due) VALUES (?1, ?2)",
+        &[number_value(number), text_or_null(&date)],
+    )
+}
+
+/// Adds the row of an order, and that of its due date where it has one.
+pub(crate) fn add_order<S: Alter>(
+    tx: &mut Transaction<'_, S>,
+    order: &Order,
+) -> Result<usize, Error>
+    ensures same_reference { tx.new.conn.ghost_name ≡ tx.old.conn.ghost_name }
+    ensures made { (content : Content) → IsInOrder (with_change content (change.AddOrder order.now))
+        → OnOk result (ChangesTables (state S.Store tx.old.conn.now) (state S.Store tx.new.conn.now) content
+        (with_change content (change.AddOrder order.now))) }
+    ensures formed { OnOk result (FitsOrder order.now) }
+    ensures kept { HasCleanDisk (state S.Store tx.new.conn.now)
+        → KeepsCommit (state S.Store tx.old.conn.now) (state S.Store tx.new.conn.now) }
+    ensures survives { Survives (state S.Store tx.old.conn.now) (state S.Store tx.new.conn.now) (λ _. ⊥) }
+{
+    let rows = add_payment(tx, order)?;
+    match order.due {
+        Some(due) => add_forward(tx, order.number, due),
+        None => Ok(rows),
+    }
 }
 
 /// Adds the row of a mark.

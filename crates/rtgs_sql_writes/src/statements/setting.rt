@@ -3,13 +3,14 @@ ghost use Rattle.std.specs.Prelude.{◌≡◌, OnOk};
 ghost use Rattle.rtgs_book.specs.declared.RowChange.TheVariants as change;
 ghost use Rattle.rtgs_rows.specs.Content.{Content, IsInOrder, with_change};
 ghost use Rattle.rtgs_money.specs.Amounts.{IsCredit};
+ghost use Rattle.rtgs_money.specs.Date.{IsBusinessDate};
 ghost use Rattle.rtgs_rows.specs.Fitting.{FitsDate};
 ghost use Rattle.rtgs_sql_writes.specs.Staging.{ChangesTables};
 ghost use Rattle.sqlite.specs.State.{HasCleanDisk, KeepsCommit, Survives};
 ghost use Rattle.sqlite.specs.Held.{state};
 
 use rtgs_book::{Day, OrderState};
-use rtgs_money::{Cents, Code, Credit};
+use rtgs_money::{BusinessDate, Cents, Code, Credit};
 use rtgs_sql_columns::columns::{
     cents_value, check_mark, check_number, credit_value, mark_value, number_value, phase_value,
     state_value, text, text_of, text_or_null,
@@ -80,6 +81,35 @@ pub(crate) fn set_state<S: Alter>(
     tx.execute(
         "UPDATE payment SET state = ?2, mark = ?3 WHERE number = ?1",
         &[number_value(number), state_value(stage), mark_value(stage)],
+    )
+}
+
+/// Lets a held order into its queue, on this date. An order that is not held stays as it is.
+pub(crate) fn enter_queue<S: Alter>(
+    tx: &mut Transaction<'_, S>,
+    number: u64,
+    date: BusinessDate,
+) -> Result<usize, Error>
+    ensures same_reference { tx.new.conn.ghost_name ≡ tx.old.conn.ghost_name }
+    ensures made { (content : Content) → IsInOrder content
+        → OnOk result (ChangesTables (state S.Store tx.old.conn.now) (state S.Store tx.new.conn.now) content
+        (with_change content (change.EnterQueue number date))) }
+    ensures formed { OnOk result (IsBusinessDate date) }
+    ensures kept { HasCleanDisk (state S.Store tx.new.conn.now)
+        → KeepsCommit (state S.Store tx.old.conn.now) (state S.Store tx.new.conn.now) }
+    ensures survives { Survives (state S.Store tx.old.conn.now) (state S.Store tx.new.conn.now) (λ _. ⊥) }
+{
+    one_table_answers();
+    check_number(number)?;
+    let day = text_of(Some(date));
+    tx.execute(
+        "UPDATE payment SET state = ?2, date = ?3 WHERE number = ?1 AND state = ?4",
+        &[
+            number_value(number),
+            state_value(OrderState::Queued),
+            text_or_null(&day),
+            state_value(OrderState::Held),
+        ],
     )
 }
 

@@ -133,3 +133,39 @@ phase => CutOff
 ",
     )
 }
+
+// A held order is in memory and in no queue, and moves nothing. What is due when a day is opened stands in its queue by
+// its number, and what is queued on the day comes behind it.
+#[test]
+fn held_orders_enter_their_queues_by_number(rt: HostRuntime) -> Result<(), Fail> {
+    funded_ledger_follows(
+        &rt,
+        "
+order ALFA A-1 BETA 60 due 2024-03-06 => Held { number: 1, due: BusinessDate { number: 20240306 } }
+order ALFA A-2 BETA 70 due 2024-03-05 => Held { number: 2, due: BusinessDate { number: 20240305 } }
+order ALFA A-3 BETA 80 due 2024-03-07 => Held { number: 3, due: BusinessDate { number: 20240307 } }
+order BETA B-1 ALFA 5 due 2024-03-06 => Held { number: 4, due: BusinessDate { number: 20240306 } }
+order ALFA A-4 BETA 50 due 2024-03-06 => Held { number: 5, due: BusinessDate { number: 20240306 } }
+withdraw ALFA A-4 => Withdrawn { number: 5 }
+queue ALFA => empty
+in-memory => [1, 2, 3, 4]
+resolve => Nothing
+balance ALFA => 100 cents
+cutoff 2024-03-04 => CutOffDone
+close 2024-03-04 => Closed { rejected: 0 }
+in-memory => [1, 2, 3, 4]
+open 2024-03-06 => Opened
+order ALFA A-5 BETA 1 => Queued { number: 6, place: 3 }
+queue ALFA => 1 ALFA A-1 BETA 60 2024-03-06 Queued due 2024-03-06, \
+2 ALFA A-2 BETA 70 2024-03-06 Queued due 2024-03-05, 6 ALFA A-5 BETA 1 2024-03-06 Queued
+queue BETA => 4 BETA B-1 ALFA 5 2024-03-06 Queued due 2024-03-06
+kept ALFA A-2 => 2 ALFA A-2 BETA 70 2024-03-06 Queued due 2024-03-05
+kept ALFA A-3 => 3 ALFA A-3 BETA 80 2024-03-07 Held due 2024-03-07
+kept ALFA A-4 => 5 ALFA A-4 BETA 50 2024-03-06 Withdrawn due 2024-03-06
+in-memory => [1, 2, 3, 4, 6]
+resolve => Resolved { mark: 1, count: 2, value: Cents(65) }
+in-memory => [2, 3, 6]
+balance ALFA => 45 cents
+",
+    )
+}

@@ -57,14 +57,18 @@ fn meant_by(letter: u8) -> Option<&'static [u8]> {
     }
 }
 
-// A row: its reference, its receiver and its cents.
+// A row: its reference, its receiver and its cents, and its due date if it has one.
 fn row_text(alloc: Global, row: &OrderRow) -> Result<String, AllocError> {
     let OrderRow {
         reference,
         receiver,
         amount,
+        due,
     } = row;
-    format!(in alloc; "{reference} {receiver} {amount}")
+    match due {
+        Some(due) => format!(in alloc; "{reference} {receiver} {amount} due {due}"),
+        None => format!(in alloc; "{reference} {receiver} {amount}"),
+    }
 }
 
 // Rows, with a comma between them.
@@ -170,6 +174,32 @@ reference,to,amount\nA,BETA,1\n"A""1",BETA,100\nA-2\n => BadRow { row: 2 }
 #[test]
 fn a_row_is_three_fields_in_their_forms(rt: HostRuntime) -> Result<(), Fail> {
     files_follow(&rt, BAD_ROWS)
+}
+
+// Files with a column for due dates, which may be empty. A due date on a Saturday is judged by the desk.
+const WITH_DUE_DATES: &str = r#"
+reference,to,amount,due\nA-1,BETA,100,2024-03-05\nA-2,GAMA,50,\n => A-1 BETA 100 due 2024-03-05, A-2 GAMA 50
+reference,to,amount,due\nA-1,BETA,100,\n => A-1 BETA 100
+reference,to,amount,due\nA-1,BETA,100,"2024-03-09" => A-1 BETA 100 due 2024-03-09
+\breference,to,amount,"due"\r\nA-1,BETA,100,2999-12-31\r\n => A-1 BETA 100 due 2999-12-31
+reference,to,amount,due\n => BadCount
+reference,to,amount,Due\nA-1,BETA,100,\n => BadHeader
+reference,to,due,amount\nA-1,BETA,,100\n => BadHeader
+reference,to,amount,due,\nA-1,BETA,100,,\n => BadHeader
+reference,to,amount,due\nA,BETA,1,\nA-1,BETA,100\n => BadRow { row: 2 }
+reference,to,amount,due\nA,BETA,1,\nA-1,BETA,100,,\n => BadRow { row: 2 }
+reference,to,amount,due\nA,BETA,1,\nA-1,BETA,100,2024-02-30\n => BadRow { row: 2 }
+reference,to,amount,due\nA,BETA,1,\nA-1,BETA,100,2024-3-5\n => BadRow { row: 2 }
+reference,to,amount,due\nA,BETA,1,\nA-1,BETA,100, 2024-03-05\n => BadRow { row: 2 }
+reference,to,amount,due\nA,BETA,1,\nA-1,BETA,100,1999-12-31\n => BadRow { row: 2 }
+reference,to,amount,due\nA,BETA,1,\nA-1,BETA,100,3000-01-01\n => BadRow { row: 2 }
+reference,to,amount,due\nA,BETA,1,\nA-1,BETA,0,2024-03-05\n => BadRow { row: 2 }
+reference,to,amount\nA,BETA,1\nA-1,BETA,100,2024-03-05\n => BadRow { row: 2 }
+"#;
+
+#[test]
+fn rows_may_have_a_due_date(rt: HostRuntime) -> Result<(), Fail> {
+    files_follow(&rt, WITH_DUE_DATES)
 }
 
 // A file of one row, whose receiver is so many letters.

@@ -72,7 +72,10 @@ pub fn command_of(words: &[&str]) -> Result<Command, Fail> {
         ["credit", participant, cents] => limited(participant, cents),
         ["post", participant, name, cents] => posted(participant, name, cents),
         ["open", day] => Ok(Command::OpenDay(day_of(day)?)),
-        ["order", sender, name, receiver, cents] => ordered(sender, name, receiver, cents),
+        ["order", sender, name, receiver, cents] => ordered(sender, name, receiver, cents, None),
+        ["order", sender, name, receiver, cents, "due", day] => {
+            ordered(sender, name, receiver, cents, Some(day_of(day)?))
+        }
         ["withdraw", sender, name] => withdrawn(sender, name),
         ["resolve"] => Ok(Command::Resolve),
         ["cutoff", day] => Ok(Command::CutOff(day_of(day)?)),
@@ -112,13 +115,20 @@ fn posted(participant: &str, name: &str, cents: &str) -> Result<Command, Fail> {
     })
 }
 
-/// An order of the sender to pay the receiver.
-fn ordered(sender: &str, name: &str, receiver: &str, cents: &str) -> Result<Command, Fail> {
+/// An order of the sender to pay the receiver, perhaps not before a later day.
+fn ordered(
+    sender: &str,
+    name: &str,
+    receiver: &str,
+    cents: &str,
+    due: Option<BusinessDate>,
+) -> Result<Command, Fail> {
     Ok(Command::Order {
         sender: code(sender)?,
         reference: reference(name)?,
         receiver: code(receiver)?,
         amount: Amount::read(cents.as_bytes())?,
+        due,
     })
 }
 

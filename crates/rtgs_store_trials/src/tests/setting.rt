@@ -18,6 +18,9 @@ pub type Reply = Result<Answer, Refusal>;
 /// The first day of the week.
 pub const MONDAY: u32 = 20240304;
 
+/// The second day of the week.
+pub const TUESDAY: u32 = 20240305;
+
 /// Fails where another text is wanted.
 pub fn is_same(found: &str, wanted: &str) -> Result<(), Fail> {
     if found == wanted {
@@ -76,7 +79,18 @@ pub fn order(number: u64, name: &str, cents: u64, state: OrderState) -> Result<O
         receiver: code("BETA")?,
         amount: amount(cents)?,
         date: date(MONDAY)?,
+        due: None,
         state,
+    })
+}
+
+/// The record of ALFA's order to pay BETA on this day, until which it is held.
+pub fn held(number: u64, name: &str, cents: u64, day: u32) -> Result<Order, Fail> {
+    let due = date(day)?;
+    Ok(Order {
+        date: due,
+        due: Some(due),
+        ..order(number, name, cents, OrderState::Held)?
     })
 }
 

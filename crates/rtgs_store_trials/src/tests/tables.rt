@@ -1,4 +1,5 @@
 //! Books kept in tables, found again, and refused where they are meddled with, over a store in memory.
+mod due_dates;
 mod memory_keeper;
 mod migrations;
 mod no_memory;

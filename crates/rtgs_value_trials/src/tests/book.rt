@@ -60,6 +60,7 @@ fn order(n: u32, banks: u32, date: BusinessDate) -> Result<Order, Fail> {
         receiver: code_of((n % banks + 1) % banks)?,
         amount: Amount::read(b"1")?,
         date,
+        due: None,
         state: OrderState::Settled(number),
     })
 }
@@ -84,6 +85,8 @@ fn banks_of(alloc: Global, banks: u32) -> Result<Vec<Participant>, Fail> {
 
 // Adds the n-th order.
 fn add_order(sent: &mut Vec<Order>, n: u32, banks: u32, date: BusinessDate) -> Result<(), Fail> {
+    // Names the type of due dates for the borrow checker, which finds it nowhere else in this function.
+    let _no_date: Option<BusinessDate> = None;
     let order = order(n, banks, date)?;
     sent.push(order)?;
     Ok(())

@@ -1,6 +1,6 @@
 //! The core of a book.
 use super::script::ensure;
-use super::setting::{MONDAY, code, date};
+use super::setting::{MONDAY, TUESDAY, code, date};
 use rtgs_book::{Account, Book, Day, Mark, Order, OrderState, Participant, Phase, Posting, Rows};
 use rtgs_cores::Core;
 use rtgs_money::{Amount, Cents, Credit, KeyDigest, Name, PostingAmount, Reference};
@@ -27,7 +27,18 @@ fn order(number: u64, name: &str, cents: u64, state: OrderState) -> Result<Order
         receiver: code("BETA")?,
         amount: Amount::from_cents(cents).ok_or("an amount")?,
         date: date(MONDAY)?,
+        due: None,
         state,
+    })
+}
+
+/// The same order, which is held until Tuesday.
+fn held_order(number: u64, name: &str, cents: u64) -> Result<Order, Fail> {
+    let tuesday = date(TUESDAY)?;
+    Ok(Order {
+        date: tuesday,
+        due: Some(tuesday),
+        ..order(number, name, cents, OrderState::Held)?
     })
 }
 
@@ -60,11 +71,11 @@ fn day() -> Result<Day, Fail> {
     })
 }
 
-/// ALFA's first order, which is settled, and its second one, which waits.
-fn orders() -> Result<[Order; 2], Fail> {
+/// ALFA's first order, which is settled, its second one, which waits in its queue, and its third one, which is held.
+fn orders() -> Result<[Order; 3], Fail> {
     let settled = order(1, "A-1", 30, OrderState::Settled(1))?;
     let queued = order(2, "A-2", 80, OrderState::Queued)?;
-    Ok([settled, queued])
+    Ok([settled, queued, held_order(3, "A-3", 40)?])
 }
 
 /// A book with these orders.
@@ -105,23 +116,24 @@ fn a_core_has_balances(rt: HostRuntime) -> Result<(), Fail> {
     are_accounts(core(rt.alloc())?.accounts.as_slice())
 }
 
-// The second order alone is queued.
-fn are_queued(queued: &[Order]) -> Result<(), Fail> {
-    let [queued] = queued else {
-        return Err(Fail::from("not one queued order"));
+// The second order is queued and the third one held, and no other waits.
+fn are_waiting(waiting: &[Order]) -> Result<(), Fail> {
+    let [queued, held] = waiting else {
+        return Err(Fail::from("not two orders that wait"));
     };
-    ensure(*queued == order(2, "A-2", 80, OrderState::Queued)?)
+    ensure(*queued == order(2, "A-2", 80, OrderState::Queued)?)?;
+    ensure(*held == held_order(3, "A-3", 40)?)
 }
 
 #[test]
-fn a_core_has_the_queued_orders(rt: HostRuntime) -> Result<(), Fail> {
-    are_queued(core(rt.alloc())?.queued.as_slice())
+fn a_core_has_the_orders_that_wait(rt: HostRuntime) -> Result<(), Fail> {
+    are_waiting(core(rt.alloc())?.waiting.as_slice())
 }
 
 // The day, and the numbers of the next posting, order and mark.
 fn goes_on(core: &Core) -> Result<(), Fail> {
     ensure(core.day == day()?)?;
-    ensure(core.next_posting == 2 && core.next_order == 3 && core.next_mark == 2)
+    ensure(core.next_posting == 2 && core.next_order == 4 && core.next_mark == 2)
 }
 
 #[test]

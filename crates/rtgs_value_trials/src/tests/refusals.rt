@@ -32,6 +32,7 @@ Weekend = 16 Weekend Some(409) Some(1)
 NotQueued = 17 NotQueued Some(409) Some(1)
 Resolvable = 18 Resolvable Some(409) Some(1)
 Overdrawn = 19 Overdrawn Some(409) Some(1)
+DueNotLater = 20 DueNotLater Some(409) Some(1)
 BadCode = 30 BadCode Some(400) Some(1)
 BadReference = 31 BadReference Some(400) Some(1)
 BadAmount = 32 BadAmount Some(400) Some(1)
@@ -81,10 +82,10 @@ fn kind_after(kind: RefusalKind) -> Option<RefusalKind> {
     after!(kind; []
         UnknownParticipant UnknownReceiver SameParty ReferenceUsed NotOpen NoCover QueueFull NumbersUsedUp
         UnknownOrder CodeTaken KeyTaken TooManyParticipants TotalTooLarge WrongPhase WrongDate Weekend
-        NotQueued Resolvable Overdrawn BadCode BadReference BadAmount BadName BadKey BadDate BadHeader
-        BadRow BadCount BadHead HeadTooLong NoLength BodyTooLong Truncated BadJson WrongFields NoSuchRoute
-        NoKey AnswerLost OutOfMemory StoreFault Failed NotADeskFile Inconsistent InUse FileExists NoListen
-        NoOrderFile
+        NotQueued Resolvable Overdrawn DueNotLater BadCode BadReference BadAmount BadName BadKey BadDate
+        BadHeader BadRow BadCount BadHead HeadTooLong NoLength BodyTooLong Truncated BadJson WrongFields
+        NoSuchRoute NoKey AnswerLost OutOfMemory StoreFault Failed NotADeskFile Inconsistent InUse FileExists
+        NoListen NoOrderFile
     )
 }
 
@@ -103,5 +104,5 @@ fn kinds_have_numbers_names_and_statuses(rt: HostRuntime) -> Result<(), Fail> {
         next = next.and_then(kind_after);
         rows = rows.saturating_add(1);
     }
-    ensure(next.is_none() && rows == 47)
+    ensure(next.is_none() && rows == 48)
 }

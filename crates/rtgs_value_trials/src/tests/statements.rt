@@ -1,5 +1,4 @@
 //! Texts from outside, each call on its happy path, and writers that fail.
-mod books;
 mod day_reports;
 mod faults;
 mod of_participants;
@@ -7,8 +6,8 @@ mod refused_reads;
 mod shelf;
 mod uses;
 
+use super::books::book_of;
 use super::setting::{code, date};
-use books::book_of;
 use rtgs_book::Book;
 use rtgs_statements::{write_report, write_statement};
 use shelf::Shelf;

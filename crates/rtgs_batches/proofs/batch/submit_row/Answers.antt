@@ -1,4 +1,28 @@
+use Rattle.std.proofs.Common.{◌≡◌, true, false, Bool, Result, Ok, Err, refl, sym, ap, subst}
+use Rattle.rtgs_book.specs.declared.Refusal.{Refusal}
+use Rattle.rtgs_book.specs.Outcome.{Reply}
+use Rattle.rtgs_book.specs.Session.{is_judged}
+use Rattle.rtgs_desk.specs.Holding.{Acts}
+use Rattle.rtgs_order_files.specs.declared.batch_result.RowReply.{RowReply}
+use Rattle.rtgs_order_files.specs.declared.batch_result.RowReply.TheVariants.{Refused}
+use Rattle.rtgs_batches.specs.Batches.{order_of, replied}
 use Rattle.rtgs_batches.proofs.batch.submit_row.Goals as goal
 
 pub accepted-requires : goal.accepted-requires
 accepted-requires g c = c.in-Ok.ensures.of_its_kind
+
+-- a refusal is told as it is, whether the desk judged the order or not
+told : (refusal : Refusal) (result : Result RowReply Refusal)
+    → (is_judged (Err refusal) ≡ true → result ≡ Ok (Refused refusal))
+    → (is_judged (Err refusal) ≡ false → result ≡ Err refusal) → replied result ≡ Err refusal
+told refusal result judged unjudged = by (is_judged (Err refusal)) refl
+  where
+    by : (b : Bool) → is_judged (Err refusal) ≡ b → replied result ≡ Err refusal
+    by true e = ap replied (judged e)
+    by false e = ap replied (unjudged e)
+
+pub returns-in-Err-clause-acts : goal.returns-in-Err-clause-acts
+returns-in-Err-clause-acts g c = λ honest book holds.
+    subst (λ (reply : Reply). Acts g.K.Keeper book (order_of c.args.sender c.args.row.now) reply c.submit.new.self)
+    (sym (told c.in-Err.refusal c.refused.result c.refused.ensures.judged c.refused.ensures.unjudged))
+    (c.in-Err.ensures.acts honest book holds)

@@ -25,6 +25,7 @@ returns c = record {
     order_weekdays = tt;
     mark_weekdays = tt;
     orders = tt;
+    dues = tt;
     marks = tt;
     postings = tt;
   };

@@ -52,6 +52,7 @@ BETA                               0.00                           0.00          
 GAMA                               0.00                           0.00                           0.00
 settled            1                           1.00
 queued             1                           0.01
+held               0                           0.00
 withdrawn          0                           0.00
 rejected           0                           0.00
 marks              1

@@ -59,6 +59,7 @@ BETA                               0.00                           0.50          
 GAMA                               0.00                           0.00                           0.00
 settled            2                           1.10
 queued             3                           0.35
+held               0                           0.00
 withdrawn          0                           0.00
 rejected           0                           0.00
 marks              1
@@ -124,6 +125,7 @@ BETA                               0.00                           0.50          
 GAMA                               0.00                           0.00                           0.00
 settled            2                           1.10
 queued             0                           0.00
+held               0                           0.00
 withdrawn          1                           0.10
 rejected           2                           0.25
 marks              1

@@ -46,6 +46,7 @@ GAMA                               0.00                           0.00          
 ZETA1234                           0.00                           0.00                           0.00
 settled            0                           0.00
 queued             2                 10000000000.01
+held               0                           0.00
 withdrawn          0                           0.00
 rejected           0                           0.00
 marks              0

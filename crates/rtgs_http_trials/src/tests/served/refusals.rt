@@ -65,6 +65,7 @@ BETA                               0.00                           0.00          
 GAMA                               0.00                           0.00                           0.00
 settled            1                 10000000000.00
 queued             0                           0.00
+held               0                           0.00
 withdrawn          0                           0.00
 rejected           0                           0.00
 marks              1

@@ -4,8 +4,9 @@ use Rattle.std.specs.List.{insert}
 use Rattle.rtgs_book.specs.declared.Participant.{Participant}
 use Rattle.rtgs_book.specs.Commands.{is_before}
 use Rattle.rtgs_memory_keeper.specs.Memory.{AreInCodeOrder}
-use Rattle.rtgs_memory_keeper.proofs.CodeOrder.{partitioned, put_in_at}
+use Rattle.rtgs_memory_keeper.proofs.CodeOrder.{partitioned}
 use Rattle.rtgs_lists.proofs.Filters.{put_in}
+use Rattle.rtgs_lists.proofs.Places.{put_in_at}
 use Rattle.rtgs_memory_keeper.proofs.memory_keeper.insert_in_code_order.Goals as goal
 
 pub returns-clause-items : goal.returns-clause-items

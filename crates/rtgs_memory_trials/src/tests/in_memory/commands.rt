@@ -52,6 +52,26 @@ fn order_that_waits(rt: HostRuntime) -> Result<(), Fail> {
 }
 
 #[test]
+fn order_that_is_held(rt: HostRuntime) -> Result<(), Fail> {
+    let worked = Worked::order_that_is_held(rt.alloc())?;
+    tries(
+        &rt,
+        "tests::in_memory::commands::order_that_is_held",
+        &worked,
+    )
+}
+
+#[test]
+fn open_day_that_lets_in(rt: HostRuntime) -> Result<(), Fail> {
+    let worked = Worked::open_day_that_lets_in(rt.alloc())?;
+    tries(
+        &rt,
+        "tests::in_memory::commands::open_day_that_lets_in",
+        &worked,
+    )
+}
+
+#[test]
 fn withdraw(rt: HostRuntime) -> Result<(), Fail> {
     let worked = Worked::withdraw(rt.alloc())?;
     tries(&rt, "tests::in_memory::commands::withdraw", &worked)

@@ -1,5 +1,7 @@
 //! Calls that make no request for memory: they go well where there is none.
-use super::super::scarce::setting::{KEYS, adds, code, limits, opens, pays};
+use super::super::scarce::setting::{
+    KEYS, MONDAY, TUESDAY, adds, code, date, limits, opens, pays, pays_on,
+};
 use super::super::scarce::{Held, in_a_process, is_limited};
 use rtgs_book::Command;
 use rtgs_cores::Found;
@@ -112,6 +114,24 @@ fn order_adopted(alloc: Global, cents: u64) -> Result<[(i64, usize); 2], Fail> {
     Ok([standing(&ledger, "ALFA")?, standing(&ledger, "BETA")?])
 }
 
+// How they stand where two orders for the next day are adopted so, and then the end of the day and the next one, which
+// lets them in.
+fn held_orders_adopted(alloc: Global) -> Result<[(i64, usize); 2], Fail> {
+    let mut ledger = ledger_of_two(alloc)?;
+    let (monday, tuesday) = (date(MONDAY)?, date(TUESDAY)?);
+    let commands = [
+        pays_on("A-1", 100, TUESDAY)?,
+        pays_on("A-2", 7, TUESDAY)?,
+        Command::CutOff(monday),
+        Command::CloseDay(monday),
+        Command::OpenDay(tuesday),
+    ];
+    for command in commands {
+        adopt_without_memory(alloc, &mut ledger, &command)?;
+    }
+    Ok([standing(&ledger, "ALFA")?, standing(&ledger, "BETA")?])
+}
+
 #[test]
 fn adopt(rt: HostRuntime) -> Result<(), Fail> {
     if !is_limited(&rt) {
@@ -119,6 +139,7 @@ fn adopt(rt: HostRuntime) -> Result<(), Fail> {
     }
     assert_eq!(rt; order_adopted(rt.alloc(), 100)?, [(-100, 0), (100, 0)]);
     assert_eq!(rt; order_adopted(rt.alloc(), 101)?, [(0, 1), (0, 0)]);
+    assert_eq!(rt; held_orders_adopted(rt.alloc())?, [(0, 2), (0, 0)]);
     Ok(())
 }
 

@@ -16,6 +16,9 @@ pub const KEYS: [&str; 3] = [
 /// The first day, a Monday.
 pub const MONDAY: &str = "2024-03-04";
 
+/// The day after it.
+pub const TUESDAY: &str = "2024-03-05";
+
 /// The code of this text.
 pub fn code(text: &str) -> Result<Code, Fail> {
     Ok(Code::read(text.as_bytes())?)
@@ -74,6 +77,18 @@ pub fn pays(sender: &str, name: &str, receiver: &str, cents: u64) -> Result<Comm
         reference: reference(name)?,
         receiver: code(receiver)?,
         amount: amount(cents)?,
+        due: None,
+    })
+}
+
+/// An order of ALFA to pay BETA, which is held until this day.
+pub fn pays_on(name: &str, cents: u64, due: &str) -> Result<Command, Fail> {
+    Ok(Command::Order {
+        sender: code("ALFA")?,
+        reference: reference(name)?,
+        receiver: code("BETA")?,
+        amount: amount(cents)?,
+        due: Some(date(due)?),
     })
 }
 
@@ -126,7 +141,10 @@ pub fn desk_after<K: Keeper + Drop>(
     Ok(desk)
 }
 
-/// What a desk tells of its participants and of Monday.
+/// What a desk tells of its participants, of Monday and of Tuesday.
 pub fn seen_of<K: Keeper>(alloc: Global, desk: &mut Desk<K>) -> Result<String, Fail> {
-    rtgs_tests_desks::seen_of(alloc, desk, MONDAY)
+    let mut seen = rtgs_tests_desks::seen_of(alloc, desk, MONDAY)?;
+    let tuesday = rtgs_tests_desks::seen_of(alloc, desk, TUESDAY)?;
+    seen.push_str(tuesday.as_str())?;
+    Ok(seen)
 }

@@ -1,5 +1,5 @@
 //! Commands of every kind, each to a desk where it changes something.
-use super::setting::{MONDAY, adds, date, limits, opens, pays, posts, withdraws};
+use super::setting::{MONDAY, TUESDAY, adds, date, limits, opens, pays, pays_on, posts, withdraws};
 use rtgs_book::Command;
 use std::alloc::Global;
 use std::test::Fail;
@@ -57,6 +57,31 @@ impl Worked {
         Ok(Worked {
             before: vec![in alloc; opens()?]?,
             command: pays("ALFA", "A-1", "BETA", 100)?,
+        })
+    }
+
+    /// An order for the next day.
+    pub fn order_that_is_held(alloc: Global) -> Result<Worked, Fail> {
+        Ok(Worked {
+            before: vec![in alloc; opens()?]?,
+            command: pays_on("A-1", 100, TUESDAY)?,
+        })
+    }
+
+    /// The next day is opened, and lets in three orders. A fourth is held on.
+    pub fn open_day_that_lets_in(alloc: Global) -> Result<Worked, Fail> {
+        let before = vec![in alloc;
+            opens()?,
+            pays_on("A-1", 100, TUESDAY)?,
+            pays_on("A-2", 7, "2024-03-06")?,
+            pays_on("A-3", 5, TUESDAY)?,
+            pays_on("A-4", 3, TUESDAY)?,
+            Command::CutOff(date(MONDAY)?),
+            Command::CloseDay(date(MONDAY)?),
+        ]?;
+        Ok(Worked {
+            before,
+            command: Command::OpenDay(date(TUESDAY)?),
         })
     }
 

@@ -26,9 +26,9 @@ loop-record-preserved c =
     let row = c.in-Some-read.ensures.value in
     record {
       reading = one.0;
-      spelled = rw items (begin_more c.loop-record.rows.items c.in-Some-read.row (fields_of c.in-Ok.«record»)
-          (left_of c.loop-record.record-iterator) (left_of c.next.new.self) (left_of c.args.records) i.spelled one.1
-          row.1 row.0);
+      spelled = rw items (begin_more c.args.columns c.loop-record.rows.items c.in-Some-read.row
+          (fields_of c.in-Ok.«record») (left_of c.loop-record.record-iterator) (left_of c.next.new.self)
+          (left_of c.args.records) i.spelled one.1 row.1 row.0);
       few = rw (items, length-append) (omega (arith, c.len.ensures));
     }
 
@@ -67,7 +67,7 @@ returns-then-is_empty-clause-fault c =
     let i = c.loop-record.invariant in
     let none = rw c.in-None.is at (stepped c.loop-record.record-iterator c.next.new.self c.next.result i.reading
     c.next.ensures.steps) in
-    inl (no_rows c.loop-record.rows.items (left_of c.args.records) (rw none at i.spelled)
+    inl (no_rows c.args.columns c.loop-record.rows.items (left_of c.args.records) (rw none at i.spelled)
     (omega (
       arith,
       c.loop-record.rows.ok.0,

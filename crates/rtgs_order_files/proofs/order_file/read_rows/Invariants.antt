@@ -7,6 +7,6 @@ use Rattle.rtgs_order_files.proofs.order_file.read_rows.Given as goal
 abbrev pub invariant-loop-record : goal.invariant-loop-record
 invariant-loop-record l = record {
   reading : IsReading l.record-iterator;
-  spelled : BeginWith l.rows.items (left_of l.record-iterator) (left_of l.fn.records);
+  spelled : BeginWith l.columns l.rows.items (left_of l.record-iterator) (left_of l.fn.records);
   few : length l.rows.items ≤ 500;
 }

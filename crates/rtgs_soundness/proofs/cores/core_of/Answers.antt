@@ -5,7 +5,7 @@ use Rattle.rtgs_book.specs.declared.Order.{Order}
 use Rattle.rtgs_book.specs.declared.Posting.{Posting}
 use Rattle.rtgs_book.specs.declared.limits.TheConstants.{LARGEST_NUMBER}
 use Rattle.rtgs_cores.specs.Cores.{core_of}
-use Rattle.rtgs_book.specs.Books.{is_queued}
+use Rattle.rtgs_book.specs.Books.{is_waiting}
 use Rattle.rtgs_soundness.proofs.cores.core_of.Goals as goal
 
 pub number_after-requires : goal.number_after-requires
@@ -27,7 +27,7 @@ pub returns : goal.returns
 unfolding core_of
 returns c = λ i. record {
   accounts = (c.from_vec.ensures ∙ c.in_ok-accounts_of.ensures) i;
-  queued = (c.from_vec-2.ensures ∙ c.in_ok-queued_of.ensures ∙ ap (λ orders. filter is_queued orders)
+  waiting = (c.from_vec-2.ensures ∙ c.in_ok-waiting_of.ensures ∙ ap (λ orders. filter is_waiting orders)
       c.as_slice.ensures) i;
   day = c.args.book.now.day;
   next_posting = (c.number_after.ensures ∙ ap (λ n. n + 1) c.len.ensures) i;

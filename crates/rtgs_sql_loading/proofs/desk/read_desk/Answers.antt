@@ -14,7 +14,7 @@ pub returns-in-Ok-clause-told : goal.returns-in-Ok-clause-told
 returns-in-Ok-clause-told g c clean =
     desk_reads (state g.S.Store c.args.conn.now) _ _ c.only_desk.result c.as_slice.ensures.value
     (c.in-Ok.ensures.answered clean).0
-    (λ version trees file. c.in-Ok.ensures.raw clean version file.known trees file)
+    (λ version trees file. (c.in-Ok.ensures.raw clean version file.known trees file).0)
     (λ version accounts book held. c.only_desk.ensures.given (desk_row_of version book.day) held.2.fits.day
     (c.as_slice.ensures.value ∙ (c.in-Ok.ensures.given clean version held.1.known accounts book held).rows))
     c.only_desk.ensures.is
@@ -34,7 +34,7 @@ returns-in-Ok-clause-stops g c version = record {
   wrong = λ clean trees file e.
       let stored = as_shown desk_table trees in
       no_desk stored _ (subst (IsPermutation stored) (sym c.as_slice.ensures.value)
-      (c.in-Ok.ensures.raw clean version file.known trees file))
+      (c.in-Ok.ensures.raw clean version file.known trees file).0)
       (not_read c.only_desk.result _ _ c.only_desk.ensures.wrong e);
   unread = λ clean known e. without_form (state g.S.Store c.args.conn.now).now (query_text desk_table) IsOneDesk _ _
       c.as_slice.ensures.value (c.in-Ok.ensures.answered clean).0

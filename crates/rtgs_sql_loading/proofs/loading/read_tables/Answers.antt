@@ -1,10 +1,15 @@
-use Rattle.std.proofs.Common.{map, Vec, Global, sym, ap, ◌∙◌}
+use Rattle.std.proofs.Common.{◌≡◌, List, None, map, sym, ap, subst, subst₂, ◌∙◌}
+use Rattle.sqlite_keyed.proofs.ListLemmas.{all_weaker}
 use Rattle.rtgs_book.specs.declared.Order.{Order}
 use Rattle.rtgs_book.specs.declared.account.Account.{Account}
+use Rattle.rtgs_rows.specs.Dues.{without_due, forwards_of}
+use Rattle.rtgs_rows.specs.declared.forward.Forward.{Forward}
+use Rattle.rtgs_sql_loading.specs.Joining.{AreJoined}
 use Rattle.sqlite.specs.Held.{state}
 use Rattle.rtgs_sql_loading.proofs.Blank.{unshown}
-use Rattle.rtgs_sql_loading.proofs.AllTables.{renamed, tells, each_formed, one_unread}
-use Rattle.rtgs_sql_loading.proofs.Dues.{stops_at_dues}
+use Rattle.rtgs_sql_loading.proofs.AllTables.{renamed, tells, each_formed, one_unread, ComeOfRows}
+use Rattle.rtgs_sql_loading.proofs.Dues.{stops_apart}
+use Rattle.rtgs_sql_loading.proofs.Joining.{taken_apart}
 use Rattle.rtgs_sql_loading.proofs.ReadTables.{at_once, stops_after, stops_never, not_foreign}
 use Rattle.rtgs_sql_loading.proofs.loading.read_tables.Goals as goal
 
@@ -18,8 +23,9 @@ returns-in_err-all-clause-stops g c =
 
 pub returns-in_err-orders-clause-stops : goal.returns-in_err-orders-clause-stops
 returns-in_err-orders-clause-stops g c =
-    stops_at_dues _ c.in_ok-all.ensures.on (λ clean. (c.in_ok-all.ensures.told clean).1.1.1.1.1.0)
-    (λ none. c.in_err-orders.ensures.wrong.1 (c.as_slice.ensures.value ∙ none))
+    stops_apart _ _ _ c.in_ok-all.ensures.on (λ clean. (c.in_ok-all.ensures.told clean).1.1.1.0)
+    (λ clean. (c.in_ok-all.ensures.told clean).1.1.1.1.1.0)
+    (λ all. rw c.as_slice.ensures.value at (c.in_err-orders.ensures.apart all))
 
 pub returns-in_err-participants-clause-stops : goal.returns-in_err-participants-clause-stops
 returns-in_err-participants-clause-stops g c = stops_never _ c.in_ok-all.ensures.on (not_foreign _
@@ -46,10 +52,19 @@ returns-clause-told g c known clean =
     let participants = c.from_vec.ensures ∙ c.in_ok-participants.ensures
     ∙ ap (map (λ (a : Account). a.participant)) c.as_slice-2.ensures.value in
     let lists = read.1.1 in
-    let postings = renamed c.from_vec-2.ensures lists.0 in
-    let joined = c.in_ok-orders.ensures.joined in
-    let orders = renamed (c.from_vec-3.ensures ∙ ap (λ (v : Vec Order Global). v.items) joined.0) lists.1.0 in
-    let marks = renamed c.from_vec-4.ensures lists.1.1.0 in
-    let forwards = renamed (sym joined.1 ∙ c.as_slice.ensures.value) lists.1.1.1.0 in
-    tells c.args.version known (state g.S.Store c.args.conn.now) _ _ participants
-    (read.0, (read.1.0, (postings, (orders, (marks, (forwards, tt))))))
+    let postings = renamed c.from_vec-2.ensures lists.0.reads in
+    let payments = c.in_ok-all.all.1.1.1.0.items in
+    let dues = c.in_ok-all.all.1.1.1.1.1.0.items in
+    let joined : AreJoined payments dues c.in_ok-orders.orders.items =
+    rw c.as_slice.ensures.value at c.in_ok-orders.ensures.joined in
+    let parts = taken_apart payments dues c.in_ok-orders.orders.items joined
+    (all_weaker _ (λ (o : Order). o.due ≡ None) (λ o fit. fit.1) payments lists.1.0.reads.fit) in
+    let is = c.from_vec-3.ensures in
+    let orders = renamed (ap (map without_due) is ∙ parts.0) lists.1.0.reads in
+    let marks = renamed c.from_vec-4.ensures lists.1.1.0.reads in
+    let forwards = renamed (ap forwards_of is ∙ parts.1) lists.1.1.1.0.reads in
+    let whole : ComeOfRows c.from_vec-3.result = subst ComeOfRows (sym is)
+    (subst₂ (λ (ps : List Order) (fs : List Forward). AreJoined ps fs c.in_ok-orders.orders.items) (sym parts.0)
+    (sym parts.1) joined) in
+    tells c.args.version known (state g.S.Store c.args.conn.now) _ _ participants whole
+    (read.0, (read.1.0.reads, (postings, (orders, (marks, (forwards, tt))))))

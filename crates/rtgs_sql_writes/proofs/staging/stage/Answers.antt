@@ -29,7 +29,8 @@ loop-row-preserved g c =
           order in
           let after = order_after c.args.rows.now c.loop-row.row-index c.row-item.result content (omega arith)
           c.row-item.is order in
-          subst (ChangesTables old now content) (more_changes c.args.rows.now c.loop-row.row-index c.row-item.result content
+          subst (ChangesTables old now content) (more_changes c.args.rows.now c.loop-row.row-index c.row-item.result
+          content
           (omega arith) c.row-item.is)
           (leads_on old mid now content _ _ step.survives (inv.made content order) (step.made _ at after));
     }

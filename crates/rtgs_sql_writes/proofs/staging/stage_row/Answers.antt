@@ -29,6 +29,10 @@ pub returns-in_ok-set_state-in-SetState-clause-made : goal.returns-in_ok-set_sta
 returns-in_ok-set_state-in-SetState-clause-made g c content before after = rw c.in-SetState.is
     (c.in_ok-set_state-in-SetState.ensures.made content before)
 
+pub returns-in_ok-enter_queue-in-EnterQueue-clause-made : goal.returns-in_ok-enter_queue-in-EnterQueue-clause-made
+returns-in_ok-enter_queue-in-EnterQueue-clause-made g c content before after = rw c.in-EnterQueue.is
+    (c.in_ok-enter_queue-in-EnterQueue.ensures.made content before)
+
 pub returns-in_ok-set_day-in-SetDay-clause-made : goal.returns-in_ok-set_day-in-SetDay-clause-made
 returns-in_ok-set_day-in-SetDay-clause-made g c content before after = rw c.in-SetDay.is
     (c.in_ok-set_day-in-SetDay.ensures.made content before)

@@ -15,4 +15,5 @@ returns-clause-made g c clean was content known none is =
     let built = c.in_ok-create_from.ensures.made (was_clean mid _ c.set_version.ensures.survives clean) was
     (tables_for_in version content) (rw c.count_of_tables.ensures is) in
     c.in_ok-set_version.ensures.made clean was version content
-    (subst (λ rows. IsBuilt was (table_count VERSION) rows mid) (all_there version content known none) (rw c.count_of_tables.ensures at built))
+    (subst (λ rows. IsBuilt was (table_count VERSION) rows mid) (all_there version content known none) (rw
+    c.count_of_tables.ensures at built))

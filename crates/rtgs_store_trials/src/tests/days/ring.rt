@@ -5,7 +5,7 @@ use super::super::setting::{
 };
 use rtgs_book::{Answer, Command, Day, Known, Order, OrderState, Phase, RowChange};
 use rtgs_keeper::Keeper;
-use rtgs_money::{Code, Reference};
+use rtgs_money::{BusinessDate, Code, Reference};
 use rtgs_tables::SqlKeeper;
 use sqlite::Alter;
 use std::alloc::Global;
@@ -71,12 +71,15 @@ fn order(alloc: Global, number: u64) -> Result<Order, Fail> {
         receiver: bank(alloc, (number % BANKS + 1) % BANKS)?,
         amount: amount(1)?,
         date: date(MONDAY)?,
+        due: None,
         state: OrderState::Queued,
     })
 }
 
 /// The rows of the orders after this number, as many as are kept at once.
 fn orders_after(alloc: Global, number: u64) -> Result<Vec<RowChange>, Fail> {
+    // Names the type of due dates for the borrow checker, which finds it nowhere else in this function.
+    let _no_date: Option<BusinessDate> = None;
     let mut rows = Vec::new(alloc);
     for at in 1..=AT_ONCE {
         let row = [RowChange::AddOrder(order(alloc, number.saturating_add(at))?)];
@@ -102,6 +105,7 @@ fn sends(alloc: Global, number: u64) -> Result<Command, Fail> {
         reference: order.reference,
         receiver: order.receiver,
         amount: order.amount,
+        due: order.due,
     })
 }
 

@@ -127,6 +127,7 @@ BETA                               0.00                           0.00          
 GAMA                               0.00                           0.00                           0.00
 settled            1                           0.60
 queued             1                           0.25
+held               0                           0.00
 withdrawn          0                           0.00
 rejected           0                           0.00
 marks              1
@@ -137,4 +138,38 @@ fn a_report_has_what_bears_the_date(rt: HostRuntime) -> Result<(), Fail> {
     let mut desk = desk_after(rt.alloc(), TWO_DAYS)?;
     let text = report(rt.alloc(), &mut desk)?;
     is_same(text.as_str(), REPORT)
+}
+
+// What bears a date changes as orders for it are held, taken back, and enter their queue on a later day.
+const LATER_DAYS: &str = "
+open 2024-03-01 => Opened
+order ALFA O-1 BETA 100 due 2024-03-04 => Held { number: 1, due: BusinessDate { number: 20240304 } }
+order ALFA O-2 BETA 60 due 2024-03-05 => Held { number: 2, due: BusinessDate { number: 20240305 } }
+order ALFA O-3 BETA 7 due 2024-03-04 => Held { number: 3, due: BusinessDate { number: 20240304 } }
+order ALFA O-4 BETA 5 => Queued { number: 4, place: 1 }
+account ALFA => 0 cents, 1 queued
+withdraw ALFA O-3 => Withdrawn { number: 3 }
+next-order 2024-03-01 0 => 4 ALFA O-4 BETA 5 2024-03-01 Queued
+next-order 2024-03-01 4 => none
+next-order 2024-03-04 0 => 1 ALFA O-1 BETA 100 2024-03-04 Held due 2024-03-04
+next-order 2024-03-04 1 => 3 ALFA O-3 BETA 7 2024-03-04 Withdrawn due 2024-03-04
+next-order 2024-03-04 3 => none
+next-order 2024-03-05 0 => 2 ALFA O-2 BETA 60 2024-03-05 Held due 2024-03-05
+cutoff 2024-03-01 => CutOffDone
+close 2024-03-01 => Closed { rejected: 1 }
+next-order 2024-03-01 0 => 4 ALFA O-4 BETA 5 2024-03-01 Rejected
+next-order 2024-03-04 0 => 1 ALFA O-1 BETA 100 2024-03-04 Held due 2024-03-04
+open 2024-03-05 => Opened
+account ALFA => 0 cents, 2 queued
+next-order 2024-03-04 0 => 3 ALFA O-3 BETA 7 2024-03-04 Withdrawn due 2024-03-04
+next-order 2024-03-04 3 => none
+next-order 2024-03-05 0 => 1 ALFA O-1 BETA 100 2024-03-05 Queued due 2024-03-04
+next-order 2024-03-05 1 => 2 ALFA O-2 BETA 60 2024-03-05 Queued due 2024-03-05
+next-order 2024-03-05 2 => none
+";
+
+#[test]
+fn an_order_bears_its_due_date_until_it_enters(rt: HostRuntime) -> Result<(), Fail> {
+    desk_after(rt.alloc(), LATER_DAYS)?;
+    Ok(())
 }

@@ -1,5 +1,7 @@
 //! What a keeper in memory and one over tables tell of the same records.
-use super::super::setting::{MONDAY, code, date, kept, new_keeper, order, participant, posting};
+use super::super::setting::{
+    MONDAY, TUESDAY, change, code, date, held, kept, new_keeper, order, participant, posting,
+};
 use super::asking::answers;
 use rtgs_book::{Account, Day, Fault, Mark, Order, OrderState, Phase, RowChange, Rule};
 use rtgs_cores::Core;
@@ -39,14 +41,16 @@ fn sets_balance(of: &str, cents: i64) -> Result<RowChange, Fail> {
     })
 }
 
-/// The rows of a book: one posting from before all days, one order that is settled and one that waits.
-fn rows() -> Result<[RowChange; 9], Fail> {
+/// The rows of a book: one posting from before all days, one order that is settled, one that waits in its queue, and
+/// one that is held until Tuesday.
+fn rows() -> Result<[RowChange; 10], Fail> {
     Ok([
         RowChange::AddParticipant(participant("ALFA", 1)?),
         RowChange::AddParticipant(participant("BETA", 2)?),
         RowChange::AddPosting(posting(1, "ALFA", "P-1", 100)?),
         RowChange::AddOrder(order(1, "A-1", 30, OrderState::Settled(1))?),
         RowChange::AddOrder(order(2, "A-2", 80, OrderState::Queued)?),
+        RowChange::AddOrder(held(3, "A-3", 40, TUESDAY)?),
         RowChange::AddMark(mark()?),
         sets_balance("ALFA", 70)?,
         sets_balance("BETA", 30)?,
@@ -87,32 +91,33 @@ fn add_orders(told: &mut String, orders: &[Order]) -> Result<(), Fail> {
 fn core_in_words(alloc: Global, core: &Core) -> Result<String, Fail> {
     let mut told = String::new(alloc);
     add_accounts(&mut told, core.accounts.as_slice())?;
-    add_orders(&mut told, core.queued.as_slice())?;
+    add_orders(&mut told, core.waiting.as_slice())?;
     let (posting, order, mark) = (core.next_posting, core.next_order, core.next_mark);
     write!(told, "{:?}, next {posting} {order} {mark}", core.day.phase)?;
     Ok(told)
 }
 
-// Whether the core has the day, the participants and the order of the rows, to the last field.
+// Whether the core has the day, the participants and the orders of the rows, to the last field.
 fn has_the_rows(core: &Core) -> Result<bool, Fail> {
-    let ([alfa, beta], [queued]) = (core.accounts.as_slice(), core.queued.as_slice()) else {
-        return Err(Fail::from("not two accounts and an order that waits"));
+    let ([alfa, beta], [queued, later]) = (core.accounts.as_slice(), core.waiting.as_slice()) else {
+        return Err(Fail::from("not two accounts and two orders that wait"));
     };
     let parties = [alfa.participant, beta.participant];
     Ok(
         parties == [participant("ALFA", 1)?, participant("BETA", 2)?]
             && *queued == order(2, "A-2", 80, OrderState::Queued)?
+            && *later == held(3, "A-3", 40, TUESDAY)?
             && core.day.date == Some(date(MONDAY)?),
     )
 }
 
-// The core is that of the rows: the participants and the order to the last field, and the rest in words.
+// The core is that of the rows: the participants and the orders to the last field, and the rest in words.
 fn tells_the_core<K: Keeper>(rt: &(impl Abort + AllocGlobal), keeper: &mut K) -> Result<(), Fail> {
     let core = keeper.core(rt.alloc())?;
     assert!(rt; has_the_rows(&core)?);
     assert_eq!(rt;
         core_in_words(rt.alloc(), &core)?.as_str(),
-        "ALFA 70, BETA 30, 2 Queued, Open, next 2 3 2"
+        "ALFA 70, BETA 30, 2 Queued, 3 Held, Open, next 2 4 2"
     );
     Ok(())
 }
@@ -126,7 +131,9 @@ fn a_core_is_told_alike(rt: HostRuntime) -> Result<(), Fail> {
 const NAMES: &str = "
     order ALFA A-1 = 1 ALFA A-1 BETA 30 2024-03-04 Settled(1)
     order BETA A-1 = none
-    order ALFA A-3 = none
+    order ALFA A-3 = 3 ALFA A-3 BETA 40 2024-03-05 Held due 2024-03-05
+    order BETA A-3 = none
+    order ALFA A-4 = none
     posting P-1 = 1 ALFA P-1 100 undated
     posting A-1 = none
 ";
@@ -141,7 +148,8 @@ fn records_are_found_alike(rt: HostRuntime) -> Result<(), Fail> {
 const DAY: &str = "
     order of 2024-03-04 after 1 = 2 ALFA A-2 BETA 80 2024-03-04 Queued
     order of 2024-03-04 after 2 = none
-    order of 2024-03-05 after 0 = none
+    order of 2024-03-05 after 0 = 3 ALFA A-3 BETA 40 2024-03-05 Held due 2024-03-05
+    order of 2024-03-05 after 3 = none
     mark of 2024-03-04 after 0 = 1 2024-03-04 1 30
     mark of 2024-03-04 after 1 = none
     posting of 2024-03-04 after 0 = none
@@ -151,6 +159,43 @@ const DAY: &str = "
 fn a_day_is_gone_through_alike(rt: HostRuntime) -> Result<(), Fail> {
     answers(rt.alloc(), &mut in_memory(rt.alloc())?, DAY)?;
     answers(rt.alloc(), &mut in_tables(rt.alloc())?, DAY)
+}
+
+/// The third day of the week.
+const WEDNESDAY: u32 = 20240306;
+
+// The held order enters its queue on Wednesday, since Tuesday is not opened. A row for an order that is not held lets
+// nothing in.
+fn enters<K: Keeper>(alloc: Global, keeper: &mut K) -> Result<(), Fail> {
+    let date = date(WEDNESDAY)?;
+    for number in [3, 2, 1, 4] {
+        let enters = [RowChange::EnterQueue { number, date }];
+        keeper.commit(&change(alloc, &enters)?)?;
+    }
+    Ok(())
+}
+
+const ENTERED: &str = "
+    order ALFA A-1 = 1 ALFA A-1 BETA 30 2024-03-04 Settled(1)
+    order ALFA A-2 = 2 ALFA A-2 BETA 80 2024-03-04 Queued
+    order ALFA A-3 = 3 ALFA A-3 BETA 40 2024-03-06 Queued due 2024-03-05
+    order ALFA A-4 = none
+    order of 2024-03-04 after 2 = none
+    order of 2024-03-05 after 0 = none
+    order of 2024-03-06 after 0 = 3 ALFA A-3 BETA 40 2024-03-06 Queued due 2024-03-05
+    order of 2024-03-06 after 3 = none
+";
+
+// A keeper that lets the held order in tells this of it.
+fn lets_in<K: Keeper>(alloc: Global, keeper: &mut K) -> Result<(), Fail> {
+    enters(alloc, keeper)?;
+    answers(alloc, keeper, ENTERED)
+}
+
+#[test]
+fn an_order_enters_alike(rt: HostRuntime) -> Result<(), Fail> {
+    lets_in(rt.alloc(), &mut in_memory(rt.alloc())?)?;
+    lets_in(rt.alloc(), &mut in_tables(rt.alloc())?)
 }
 
 #[test]

@@ -1,6 +1,6 @@
 //! The next record of a date where there are none, where records of earlier days stand before it, and at the first and
 //! last numbers, in a keeper in memory and in one over tables.
-use super::super::setting::{MONDAY, code, date, new_keeper, reference};
+use super::super::setting::{MONDAY, TUESDAY, code, date, new_keeper, reference};
 use rtgs_book::{Change, Mark, Order, OrderState, Posting, RowChange, Rows};
 use rtgs_keeper::Keeper;
 use rtgs_memory_keeper::MemoryKeeper;
@@ -11,9 +11,6 @@ use std::test::Fail;
 
 /// The Friday before the week.
 const FRIDAY: u32 = 20240301;
-
-/// The second day of the week.
-const TUESDAY: u32 = 20240305;
 
 /// The largest number that a record has.
 const LAST: u64 = 999_999_999;
@@ -44,6 +41,7 @@ fn adds_order(alloc: Global, number: u64, day: BusinessDate) -> Result<RowChange
         receiver: code("BETA")?,
         amount: Amount::from_cents(5).ok_or("an amount")?,
         date: day,
+        due: None,
         state: OrderState::Queued,
     }))
 }

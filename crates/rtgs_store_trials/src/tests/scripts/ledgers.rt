@@ -148,7 +148,7 @@ fn kept_order<K: Keeper>(
 /// The numbers of the orders that a ledger has in memory.
 fn numbers_in_memory(alloc: Global, ledger: &Ledger) -> Result<String, Fail> {
     let mut numbers = Vec::new(alloc);
-    for order in ledger.queued() {
+    for order in ledger.waiting() {
         numbers.push(order.number)?;
     }
     Ok(format!(in alloc; "{:?}", numbers.as_slice())?)

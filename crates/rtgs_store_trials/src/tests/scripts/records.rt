@@ -4,7 +4,7 @@ use rtgs_money::BusinessDate;
 use std::alloc::{AllocError, Global};
 use std::test::Fail;
 
-/// An order: its number, sender, reference, receiver, cents, date and state.
+/// An order: its number, sender, reference, receiver, cents, date and state, and its due date if it has one.
 fn order_text(alloc: Global, order: &Order) -> Result<String, Fail> {
     let Order {
         number,
@@ -13,9 +13,16 @@ fn order_text(alloc: Global, order: &Order) -> Result<String, Fail> {
         receiver,
         amount,
         date,
+        due,
         state,
     } = order;
-    Ok(format!(in alloc; "{number} {sender} {reference} {receiver} {amount} {date} {state:?}")?)
+    let text = format!(in alloc;
+        "{number} {sender} {reference} {receiver} {amount} {date} {state:?}"
+    )?;
+    match due {
+        Some(due) => Ok(format!(in alloc; "{text} due {due}")?),
+        None => Ok(text),
+    }
 }
 
 /// Adds a part to a text, with a comma before it unless it is the first.

@@ -1,5 +1,5 @@
-//! Tables of two banks, made those of the first version by hand, since no desk makes such tables: they are made those of
-//! the newest, or refused and left as they are.
+//! Tables of two banks, made those of the first version by hand, since no desk makes such tables: they are made those
+//! of the newest, or refused and left as they are.
 use super::super::scripts::{Answers, follows};
 use super::super::setting::{meddled, new_keeper};
 use super::{BALANCES, BROKEN_RULES, NO_DESK, OTHER_TABLES, WITHOUT_KEYS, two_banks};

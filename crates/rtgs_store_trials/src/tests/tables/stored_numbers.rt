@@ -51,6 +51,10 @@ UPDATE desk SET date = '2024-03-04', phase = 1; \
 UPDATE desk SET date = '2024-03-04', phase = 1; \
     INSERT INTO payment (number, sender, reference, receiver, amount, date, state, mark) \
     VALUES (1, 'ALFA', 'A-1', 'BETA', 5, '2024-03-04', 3, NULL) => Open, Rejected
+UPDATE desk SET date = '2024-03-04', phase = 1; \
+    INSERT INTO payment (number, sender, reference, receiver, amount, date, state, mark) \
+    VALUES (1, 'ALFA', 'A-1', 'BETA', 5, '2024-03-05', 4, NULL); \
+    INSERT INTO forward (number, due) VALUES (1, '2024-03-05') => Open, Held
 ";
 
 #[test]

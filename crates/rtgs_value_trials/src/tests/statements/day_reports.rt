@@ -1,6 +1,6 @@
 //! Day reports, line by line.
+use super::super::books::book_of;
 use super::super::setting::{MONDAY, TUESDAY};
-use super::books::book_of;
 use super::report;
 use std::test::Fail;
 
@@ -41,6 +41,7 @@ BETA                               0.00                           0.50          
 GAMA                               0.00                           0.00                           0.00
 settled            2                           1.10
 queued             3                           0.35
+held               0                           0.00
 withdrawn          0                           0.00
 rejected           0                           0.00
 marks              1
@@ -60,6 +61,7 @@ BETA                               0.00                           0.00          
 GAMA                               0.00                           0.00                           0.00
 settled            0                           0.00
 queued             0                           0.00
+held               0                           0.00
 withdrawn          0                           0.00
 rejected           0                           0.00
 marks              1
@@ -79,9 +81,63 @@ BETA                               0.00                           0.00          
 GAMA                 -10000000000000.00                           0.00                           0.00
 settled            0                           0.00
 queued             0                           0.00
+held               0                           0.00
 withdrawn          1                           0.60
 rejected           2                           0.20
 marks              0
+"
+    );
+    Ok(())
+}
+
+/// Orders with due dates: one is held until Tuesday and one was taken back before it, one that was held until Monday is
+/// queued and one has settled, one was due on Friday and entered on Monday, and one is held until Wednesday.
+const DUE: &str = "
+participant ALFA
+participant BETA
+order 1 ALFA BETA A-1 60 2024-03-05 held due 2024-03-05
+order 2 ALFA BETA A-2 7 2024-03-05 withdrawn due 2024-03-05
+order 3 ALFA BETA A-3 80 2024-03-04 queued due 2024-03-04
+order 4 ALFA BETA A-4 10 2024-03-04 1 due 2024-03-04
+order 5 BETA ALFA B-5 9 2024-03-04 queued due 2024-03-01
+order 6 BETA ALFA B-6 5 2024-03-06 held due 2024-03-06
+order 7 BETA ALFA B-7 400 2024-03-05 held due 2024-03-05
+mark 1 2024-03-04 1 10
+";
+
+#[test]
+fn held_orders_are_reported_on_their_due_dates(rt: HostRuntime) -> Result<(), Fail> {
+    let text = report(rt.alloc(), TUESDAY, book_of(rt.alloc(), DUE)?)?;
+    assert_eq!(rt;
+        text.as_str(),
+        "report 2024-03-05
+ALFA                               0.00                           0.00                           0.00
+BETA                               0.00                           0.00                           0.00
+settled            0                           0.00
+queued             0                           0.00
+held               2                           4.60
+withdrawn          1                           0.07
+rejected           0                           0.00
+marks              0
+"
+    );
+    Ok(())
+}
+
+#[test]
+fn orders_that_entered_are_reported_on_the_day_they_did(rt: HostRuntime) -> Result<(), Fail> {
+    let text = report(rt.alloc(), MONDAY, book_of(rt.alloc(), DUE)?)?;
+    assert_eq!(rt;
+        text.as_str(),
+        "report 2024-03-04
+ALFA                               0.00                           0.10                           0.00
+BETA                               0.00                           0.00                           0.10
+settled            1                           0.10
+queued             2                           0.89
+held               0                           0.00
+withdrawn          0                           0.00
+rejected           0                           0.00
+marks              1
 "
     );
     Ok(())
@@ -95,7 +151,7 @@ fn a_hundred_participants_have_a_line_each(rt: HostRuntime) -> Result<(), Fail> 
     }
     records.push_str("order 1 B100 B199 A-1 1000000000000 2024-03-04 1")?;
     let text = report(rt.alloc(), MONDAY, book_of(rt.alloc(), records.as_str())?)?;
-    assert_eq!(rt; text.as_str().lines().count(), 106);
+    assert_eq!(rt; text.as_str().lines().count(), 107);
     assert!(rt;
         text.as_str().contains(
             "\nB100                               0.00                 10000000000.00                           0.00\n"

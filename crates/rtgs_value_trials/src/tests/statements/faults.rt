@@ -1,6 +1,6 @@
 //! Writers that fail, take nothing, or take little.
+use super::super::books::book_of;
 use super::super::setting::{MONDAY, code, date};
-use super::books::book_of;
 use super::shelf::Shelf;
 use rtgs_output::TextFault;
 use rtgs_statements::{BookTextFault, write_report, write_statement};

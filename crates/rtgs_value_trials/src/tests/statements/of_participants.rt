@@ -100,6 +100,51 @@ net                                  2.00
     Ok(())
 }
 
+/// Orders with due dates: two are held until Tuesday, one of them to ALFA, and one was taken back before it. One that
+/// was due on Friday entered on Monday, and one that was due on Monday has settled.
+const DUE: &str = "
+order 1 ALFA BETA A-1 60 2024-03-05 held due 2024-03-05
+order 2 BETA ALFA B-2 400 2024-03-05 held due 2024-03-05
+order 3 ALFA GAMA A-3 7 2024-03-05 withdrawn due 2024-03-05
+order 4 ALFA BETA A-4 80 2024-03-04 queued due 2024-03-01
+order 5 BETA ALFA B-5 10 2024-03-04 1 due 2024-03-04
+order 6 ALFA BETA A-6 1 2024-03-06 held due 2024-03-06
+";
+
+#[test]
+fn an_order_is_held_on_its_due_date_and_counts_nothing(rt: HostRuntime) -> Result<(), Fail> {
+    let text = statement(rt.alloc(), "ALFA", TUESDAY, DUE)?;
+    assert_eq!(rt;
+        text.as_str(),
+        "statement ALFA 2024-03-05
+held       000000001 A-1              BETA                     0.60         -
+withdrawn  000000003 A-3              GAMA                     0.07         -
+sum-posted                           0.00
+sum-sent                             0.00
+sum-recv                             0.00
+net                                  0.00
+"
+    );
+    Ok(())
+}
+
+#[test]
+fn an_order_that_entered_is_told_on_that_day(rt: HostRuntime) -> Result<(), Fail> {
+    let text = statement(rt.alloc(), "ALFA", MONDAY, DUE)?;
+    assert_eq!(rt;
+        text.as_str(),
+        "statement ALFA 2024-03-04
+queued     000000004 A-4              BETA                     0.80         -
+received   000000005 B-5              BETA                     0.10         1
+sum-posted                           0.00
+sum-sent                             0.00
+sum-recv                             0.10
+net                                  0.10
+"
+    );
+    Ok(())
+}
+
 /// The largest postings and the largest order, with the longest codes and references.
 const LARGEST: &str = "
 posting 999999998 ALFA1234 ABCDEFGHIJKLMNOP 1000000000000000 2024-03-04

@@ -1,7 +1,7 @@
 //! Reads that are refused, each in turn: what was written is a beginning of the text.
+use super::super::books::book_of;
 use super::super::script::ensure;
 use super::super::setting::{MONDAY, code, date};
-use super::books::book_of;
 use super::shelf::{Shelf, Trouble};
 use rtgs_book::Refusal;
 use rtgs_statements::{BookTextFault, write_report, write_statement};

@@ -20,11 +20,11 @@ found_posting : (book : Book) (code reference : List ℕ) (cents : ℤ) (posting
 unfolding found_for
 found_posting book code reference cents posting e = λ i. record { order = None; posting = e i }
 
-found_order : (book : Book) (sender reference receiver : List ℕ) (amount : ℕ) (order : Option Order)
+found_order : (book : Book) (sender reference receiver : List ℕ) (amount : ℕ) (due : Option ℕ) (order : Option Order)
     → order ≡ order_named book sender reference
-    → record { order = order; posting = None } ≡ found_for book (command.Order sender reference receiver amount)
+    → record { order = order; posting = None } ≡ found_for book (command.Order sender reference receiver amount due)
 unfolding found_for
-found_order book sender reference receiver amount order e = λ i. record { order = e i; posting = None }
+found_order book sender reference receiver amount due order e = λ i. record { order = e i; posting = None }
 
 found_withdrawn : (book : Book) (sender reference : List ℕ) (order : Option Order)
     → order ≡ order_named book sender reference
@@ -34,13 +34,14 @@ found_withdrawn book sender reference order e = λ i. record { order = e i; post
 
 found_nothing : (book : Book) (c : Command)
     → ((code reference : List ℕ) (cents : ℤ) → c ≢ command.Post code reference cents)
-    → ((sender reference receiver : List ℕ) (amount : ℕ) → c ≢ command.Order sender reference receiver amount)
+    → ((sender reference receiver : List ℕ) (amount : ℕ) (due : Option ℕ) → c ≢ command.Order sender reference receiver
+    amount due)
     → ((sender reference : List ℕ) → c ≢ command.Withdraw sender reference)
     → record { order = None; posting = None } ≡ found_for book c
 unfolding found_for
 found_nothing book (command.Post code reference cents) post order withdraw = absurd (post code reference cents refl)
-found_nothing book (command.Order sender reference receiver amount) post order withdraw = absurd
-    (order sender reference receiver amount refl)
+found_nothing book (command.Order sender reference receiver amount due) post order withdraw = absurd
+    (order sender reference receiver amount due refl)
 found_nothing book (command.Withdraw sender reference) post order withdraw = absurd (withdraw sender reference refl)
 found_nothing book (command.Add code name key) post order withdraw = refl
 found_nothing book (command.SetCredit code credit) post order withdraw = refl
@@ -86,7 +87,7 @@ returns-clause-found g c honest book held = elim c.match-command.branch [
   | in-Order+in_ok-found-in-Order w ↦
       let found = w.in_ok-found-in-Order.ensures.found
       (subst (λ (s : Seen g.row.K.Denot). g.K.Keeper.is_honest s.keeper) w.self-is honest) book held in
-      w.found-is ∙ found_order book w.in-Order.sender w.in-Order.reference _ _ w.in_ok-found-in-Order.field-0 found
+      w.found-is ∙ found_order book w.in-Order.sender w.in-Order.reference _ _ _ w.in_ok-found-in-Order.field-0 found
       ∙ ap (found_for book) (sym w.in-Order.is)
   | in-Withdraw+in_ok-found-in-Withdraw w ↦
       let found = w.in_ok-found-in-Withdraw.ensures.found

@@ -16,6 +16,7 @@ $ desk report @ 2024-03-04
 > GAMA                               0.00                           0.00                           0.50
 > settled            2                           1.50
 > queued             1                           0.25
+> held               0                           0.00
 > withdrawn          1                           0.25
 > rejected           0                           0.00
 > marks              2
@@ -69,7 +70,9 @@ fn that_are_no_database(rt: HostRuntime) -> Result<(), Fail> {
 const NO_DESK: &str = "\
 93 NotADeskFile ! sql @ DROP TABLE mark
 93 NotADeskFile ! sql @ DROP TABLE forward
-93 NotADeskFile ! sql @ INSERT INTO forward VALUES (4, '2024-03-05')
+93 NotADeskFile ! sql @ INSERT INTO forward VALUES (5, '2024-03-05')
+93 NotADeskFile ! sql @ INSERT INTO forward VALUES (1, 'never')
+93 NotADeskFile ! sql @ UPDATE payment SET state = 4 WHERE number = 4
 93 NotADeskFile ! sql @ INSERT INTO desk VALUES (2, 2, NULL, 0)
 93 NotADeskFile ! sql @ DELETE FROM desk
 93 NotADeskFile ! sql @ UPDATE desk SET version = 1

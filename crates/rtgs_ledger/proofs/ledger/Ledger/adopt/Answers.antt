@@ -12,6 +12,6 @@ returns c =
     let now : core_in c.loop-row.self-inside.records ≡ _ = ap (λ (h : Held). h.core) there
     ∙ core-after c.args.self.now c.args.change in
     (λ i. record (core_in c.loop-row.self-inside.records) {
-      queued = c.sweep.ensures.orders i;
+      waiting = c.sweep.ensures.orders i;
       next_order = c.sweep.ensures.next i;
     }) ∙ now

@@ -8,7 +8,7 @@ use Rattle.rtgs_ledger.proofs.ledger.Ledger.beginnings.Goals as goal
 pub returns : goal.returns
 returns c =
     let lengths = slice_index c.args.lengths.now in
-    let queued = c.args.self.now.core.queued in
+    let queued = c.args.self.now.core.waiting in
     all_done c.loop-index.orders.items _ _ (ap (taken_from lengths queued c.loop-index.index)
     (drop_all c.loop-index.index c.as_slice-account-items.result.now c.loop-index-test.false)) c.loop-index.invariant
     ∙ ap (taken_from lengths queued 0) (c.as_slice-account-items.ensures.value

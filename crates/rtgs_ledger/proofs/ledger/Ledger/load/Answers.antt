@@ -6,20 +6,20 @@ load-requires c = of_a_book c.requires.0 c.args.core c.requires.1
 
 pub load-requires-2-clause-rising : goal.load-requires-2-clause-rising
 load-requires-2-clause-rising c = rising c.requires.0 c.args.core c.requires.1
-    c.queued_orders_can_be_loaded.ensures.rising
+    c.waiting_orders_can_be_loaded.ensures.rising
 
 pub load-requires-2-clause-before : goal.load-requires-2-clause-before
 load-requires-2-clause-before c = before c.requires.0 c.args.core c.requires.1
-    c.queued_orders_can_be_loaded.ensures.before
+    c.waiting_orders_can_be_loaded.ensures.before
 
 pub load-requires-2-clause-waiting : goal.load-requires-2-clause-waiting
 load-requires-2-clause-waiting c = waiting c.requires.0 c.args.core c.requires.1
-    c.queued_orders_can_be_loaded.ensures.waiting
+    c.waiting_orders_can_be_loaded.ensures.waiting
 
 pub returns : goal.returns
 returns c = λ i. record {
   accounts = c.load.ensures i;
-  queued = c.in_ok-load.ensures.orders i;
+  waiting = c.in_ok-load.ensures.orders i;
   day = c.args.core.day;
   next_posting = c.args.core.next_posting;
   next_order = c.in_ok-load.ensures.next i;

@@ -43,10 +43,10 @@ returns-clause-prepared c book is can =
     let covered = nobody_below r of.kept (sym c.first_overdrawn.ensures ∙ c.in_default.is) in
     let numbers : c.in_ok-numbers.numbers.items ≡ flat_map (queued_numbers here.orders) (accounts here) =
     c.in_ok-numbers.ensures
-    ∙ ap (λ (h : seen.Held). flat_map (λ (a : Account). queued_numbers h.core.queued (code_of a)) h.core.accounts)
+    ∙ ap (λ (h : seen.Held). flat_map (λ (a : Account). queued_numbers h.core.waiting (code_of a)) h.core.accounts)
     (sym c.self.view_is)
-    ∙ numbers_queued c.queues_are_of_the_queued.ensures book.orders c.self.inside.records.orders.orders
-    r.accounts.accounts of.queued ∙ all_queued r in
+    ∙ numbers_queued c.queues_are_of_the_waiting.ensures book.orders c.self.inside.records.orders.orders
+    r.accounts.accounts of.waiting ∙ all_queued r in
     let count : c.len-rejected.result ≡ length (filter is_queued here.orders) = c.len-rejected.ensures
     ∙ c.in_ok-numbers.numbers.ok.0 ∙ ap length numbers
     ∙ sym (c.queued_are_numbered.ensures.count here of.kept.sound) in

@@ -1,8 +1,12 @@
 use Rattle.rtgs_book.specs.declared.command.Command.TheVariants as command
-use Rattle.std.proofs.Common.{◌∙◌, sym, inr, refl}
+use Rattle.std.proofs.Common.{◌≡◌, ◌∙◌, sym, ap, map, filter, inr, refl}
+use Rattle.rtgs_book.specs.declared.book.Book.{Book}
+use Rattle.rtgs_book.specs.declared.order.Order.{Order}
+use Rattle.rtgs_book.specs.Commands.{is_due}
 use Rattle.rtgs_book.specs.declared.answer.Known.TheVariants.{Nothing}
 use Rattle.rtgs_ledger.proofs.Kept.{prepared_repeat}
-use Rattle.rtgs_ledger.proofs.Opening.{repeats, wrong_phase, wrong_date, weekend, prepared_open}
+use Rattle.rtgs_ledger.proofs.Opening.{repeats, wrong_phase, wrong_date, weekend, due_among, prepared_open}
+use Rattle.rtgs_ledger.proofs.Rooms.{room_to_open}
 use Rattle.rtgs_ledger.proofs.Whole.{held_of, book_of, whole, is_of_book, to_refused, to_prepared}
 use Rattle.rtgs_ledger.proofs.ledger.Ledger.prepare_open_day.Goals as goal
 
@@ -46,11 +50,23 @@ returns-then-is_weekend-clause-refused c book is =
       refl,
     ))
 
+pub returns-clause-room : goal.returns-clause-room
+returns-clause-room c = rw (c.from_vec.ensures, c.in_ok-rows.ensures)
+    (room_to_open c.args.date c.as_slice-2.result.now _ _)
+
 pub returns-clause-prepared : goal.returns-clause-prepared
 returns-clause-prepared c book is =
     let r = c.self.inside.records in
     let of = is_of_book book r c.args.self.now c.self.view_is is in
-    rw (c.from_vec.ensures, c.in_ok-rows.ensures.items) (to_prepared book r c.args.self.now.core of _ _ _
-    (prepared_open (held_of (whole book r)) of.kept c.args.date
+    let here = book_of (whole book r) in
+    let due : c.in_ok-numbers.numbers.items ≡ map (λ (o : Order). o.number) (filter (is_due c.args.date) here.orders) =
+    c.in_ok-numbers.ensures
+    ∙ ap (λ os. map (λ (o : Order). o.number) (filter (is_due c.args.date) os)) (c.as_slice.ensures ∙ of.waiting)
+    ∙ ap (map (λ (o : Order). o.number)) (due_among c.args.date book.orders)
+    ∙ ap (λ (b : Book). map (λ (o : Order). o.number) (filter (is_due c.args.date) b.orders)) (sym of.same) in
+    rw (c.from_vec.ensures, c.in_ok-rows.ensures, c.as_slice-2.ensures.value, due)
+    (to_prepared book r c.args.self.now.core of _ _ _
+    (prepared_open (held_of (whole book r)) of.kept c.args.date c.balance_after_entering.ensures
+    c.numbers_lead_to_orders.ensures
     (sym c.is_open_on.ensures ∙ c.if-is_open_on.false) (sym c.is_closed.ensures ∙ c.if-not-is_closed.false)
     (sym c.is_before.ensures ∙ c.if-not-is_before.false) (sym c.is_weekend.ensures ∙ c.if-is_weekend.false)))

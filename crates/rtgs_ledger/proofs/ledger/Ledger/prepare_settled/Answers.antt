@@ -22,7 +22,7 @@ returns-then-not-counts_marks-clause-refused c book is =
 
 pub returns-clause-prepared : goal.returns-clause-prepared
 unfolding mark_of
-returns-clause-prepared c book is taken settles from to =
+returns-clause-prepared c book is taken direct settles from to =
     let r = c.self.inside.records in
     let of = is_of_book book r c.args.self.now c.self.view_is is in
     let w = whole book r in
@@ -42,11 +42,11 @@ returns-clause-prepared c book is taken settles from to =
     let more : c.with_more-credited.result ≡ creditor.balance +ℤ pos o.amount = c.with_more-credited.ensures
     (let low = creditor_fits.0 in let high = creditor_fits.1 in omega (arith, ints)) in
     let mark : c.next_mark-mark.result ≡ mark_of (book_of w) (o ∷ []) = c.next_mark-mark.ensures
-    ∙ rw (of.marks, one_mark (book_of w) o taken_here.next) refl in
+    ∙ rw (of.marks, one_mark (book_of w) o taken_here.next direct) refl in
     rw (c.from_vec.ensures, c.in_ok-rows.ensures, mark) (to_prepared book r c.args.self.now.core of _ _ _
     (prepared_settled (held_of w) of.kept o taken_here debtor creditor from_here to_here
     c.with_less-debited.result c.with_more-credited.result less more
-    settles_here))
+    direct settles_here))
 
 pub returns-clause-room : goal.returns-clause-room
 returns-clause-room c =

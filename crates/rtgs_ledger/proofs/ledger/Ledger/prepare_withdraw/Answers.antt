@@ -1,10 +1,11 @@
 use Rattle.rtgs_book.specs.declared.command.Command.TheVariants as command
 use Rattle.std.proofs.Common.{◌≡◌, ◌∙◌, sym, ap, inr, refl}
 use Rattle.rtgs_book.specs.declared.answer.Known.TheVariants as known
-use Rattle.rtgs_book.specs.Books.{is_queued_state, is_settled_state, is_withdrawn_state}
+use Rattle.rtgs_book.specs.Books.{is_withdrawn_state}
 use Rattle.rtgs_book.specs.Lookup.{order_named}
 use Rattle.rtgs_ledger.proofs.Kept.{is_known, is_unknown, prepared_repeat}
-use Rattle.rtgs_ledger.proofs.Withdrawing.{unknown, unknown_order, repeats, is_done, not_queued, prepared_withdraw}
+use Rattle.rtgs_ledger.proofs.Withdrawing.{unknown, unknown_order, repeats, is_done, is_waited, not_queued}
+use Rattle.rtgs_ledger.proofs.Withdrawing.{prepared_withdraw}
 use Rattle.rtgs_book.specs.declared.book.Book.{Book}
 use Rattle.rtgs_ledger.proofs.Whole.{held_of, book_of, whole, is_of_book, to_refused, to_prepared}
 use Rattle.rtgs_ledger.proofs.ledger.Ledger.prepare_withdraw.Goals as goal
@@ -78,5 +79,5 @@ returns-clause-prepared c book is found =
     rw (c.from_vec.ensures, c.in_ok-rows.ensures.items) (to_prepared book c.self.inside.records c.args.self.now.core of
     _ _ _ (prepared_withdraw (held_of r) of.kept c.balance_after_restating.ensures
     c.numbers_lead_to_orders.ensures c.args.sender c.args.reference o
-    (sym found_here ∙ c.in-Some-found.is) (ap is_queued_state c.in-Queued.is) (ap is_settled_state c.in-Queued.is)
-    there (ap is_withdrawn_state c.in-Queued.is)))
+    (sym found_here ∙ c.in-Some-found.is) (is_waited o.state c.in-Queued.is).1
+    there (is_waited o.state c.in-Queued.is).0))

@@ -47,7 +47,7 @@ returns-clause-orders c =
     ap length c.queue-numbers.ensures.numbers ∙ length-map (queued_among orders sender) (λ (o : Order). o.number) in
     c.loop-number.invariant.orders ∙ take_all c.loop-number.number-index (queued_among orders sender)
     (omega (arith, many, c.loop-number-test.false))
-    ∙ ap (λ (h : Held). queued_among h.core.queued sender) c.self.view_is
+    ∙ ap (λ (h : Held). queued_among h.core.waiting sender) c.self.view_is
 
 pub returns-clause-told : goal.returns-clause-told
 returns-clause-told c book is =
@@ -57,5 +57,5 @@ returns-clause-told c book is =
     ap length c.queue-numbers.ensures.numbers ∙ length-map (queued_among orders sender) (λ (o : Order). o.number) in
     let of = is_of_book book c.self.inside.records c.args.self.now c.self.view_is is in
     c.loop-number.invariant.orders ∙ take_all c.loop-number.number-index (queued_among orders sender)
-    (omega (arith, many, c.loop-number-test.false)) ∙ queue_is c.queues_are_of_the_queued.ensures book orders
-    sender of.queued
+    (omega (arith, many, c.loop-number-test.false)) ∙ queue_is c.queues_are_of_the_waiting.ensures book orders
+    sender of.waiting

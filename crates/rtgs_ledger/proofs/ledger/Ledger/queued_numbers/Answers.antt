@@ -14,5 +14,5 @@ returns c =
     ∙ ap (flat_map (λ (a : Account). queued_numbers r.orders.orders (code_of a)))
     (take_all c.loop-account.account-index c.as_slice-account-items.result.now c.loop-account-test.false
     ∙ c.as_slice-account-items.ensures.value)
-    ∙ ap (λ (h : Held). flat_map (λ (a : Account). queued_numbers h.core.queued (code_of a)) h.core.accounts)
+    ∙ ap (λ (h : Held). flat_map (λ (a : Account). queued_numbers h.core.waiting (code_of a)) h.core.accounts)
     c.self.view_is

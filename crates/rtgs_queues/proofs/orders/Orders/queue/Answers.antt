@@ -1,7 +1,7 @@
 use Rattle.std.proofs.Common.{◌≡◌, ◌∙◌, ◌<◌, ap, subst, List, ℕ, find, get_or, length}
 use Rattle.std.proofs.lemmas.List.{length-map}
 use Rattle.rtgs_book.specs.declared.order.Order.{Order}
-use Rattle.rtgs_book.specs.Books.{is_queued}
+use Rattle.rtgs_book.specs.Books.{is_waiting}
 use Rattle.rtgs_book.specs.Commands.{has_number}
 use Rattle.rtgs_book.specs.Queue.{queued_among, queued_numbers}
 use Rattle.rtgs_queues.specs.Orders.{AreRising}
@@ -22,7 +22,7 @@ returns-clause-found c k d lt =
     ∙ same_numbers sender c.self.inside.orders.items
     ∙ ap (λ (os : List Order). queued_numbers os sender) (λ i. (c.self.view_is i).orders) in
     let rise : AreRising orders = subst AreRising (λ i. (c.self.view_is i).orders)
-    (rising_filter is_queued c.self.inside.orders.items c.self.invariant.rising) in
+    (rising_filter is_waiting c.self.inside.orders.items c.self.invariant.rising) in
     let long : length c.get.result.now ≡ length (queued_among orders sender) = ap length is
     ∙ length-map (queued_among orders sender) (λ (o : Order). o.number) in
     ap (λ (ns : List ℕ). find (has_number (get_or ns k 0)) orders) is

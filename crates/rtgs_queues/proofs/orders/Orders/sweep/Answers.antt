@@ -1,13 +1,14 @@
 use Rattle.std.proofs.Common.{◌∙◌, ap, filter}
-use Rattle.rtgs_book.specs.Books.{is_queued}
-use Rattle.rtgs_queues.proofs.OrderLemmas.{kept_swept, queued_twice}
+use Rattle.rtgs_book.specs.Books.{is_waiting}
+use Rattle.rtgs_queues.proofs.OrderLemmas.{kept_swept, waiting_twice}
 use Rattle.rtgs_queues.proofs.orders.Orders.sweep.Goals as goal
 
 pub invariant_of-self : goal.invariant_of-self
-invariant_of-self c = rw c.keep_queued.ensures (kept_swept c.self.inside.orders.items c.self.inside.queues
+invariant_of-self c = rw c.keep_waiting.ensures (kept_swept c.self.inside.orders.items c.self.inside.queues
+    c.self.inside.held
     c.self.inside.next c.self.inside.awaited c.self.inside.tidy c.self.invariant)
 
 pub returns-then-not-self-clause-orders : goal.returns-then-not-self-clause-orders
-returns-then-not-self-clause-orders c = ap (filter is_queued) c.keep_queued.ensures
-    ∙ queued_twice c.self.inside.orders.items
+returns-then-not-self-clause-orders c = ap (filter is_waiting) c.keep_waiting.ensures
+    ∙ waiting_twice c.self.inside.orders.items
     ∙ (λ i. (c.self.view_is i).orders)

@@ -3,7 +3,7 @@ use Rattle.std.proofs.Common.{ap, ◌∙◌, ◌-◌, ◌≤◌, arith, refl}
 use Rattle.std.specs.Option.{option_map_or, UnwrapsOrElse}
 use Rattle.std.specs.BTreeMap.Entry.{map_with_value}
 use Rattle.std.specs.Vec.{vec_capacity}
-use Rattle.rtgs_queues.specs.Queues.{numbers_queued_by, room_of}
+use Rattle.rtgs_queues.specs.Queues.{numbers_of, room_of}
 use Rattle.rtgs_queues.proofs.QueueLemmas.{read_after}
 use Rattle.rtgs_queues.proofs.queues.Queues.reserve.Goals as goal
 
@@ -17,16 +17,16 @@ pub returns-clause-same : goal.returns-clause-same
 returns-clause-same c = λ other.
     let found = subst (λ o. UnwrapsOrElse o (λ (queue : Vec ℕ Global). (queue.items ≡ []) × (vec_len queue ≡ 0))
     c.or_default-queue.result.now) c.in_ok-self.ensures.value c.or_default-queue.ensures.value in
-    let here : c.reserve.new.self.items ≡ numbers_queued_by c.args.self.now c.args.sender = c.reserve.ensures.items
+    let here : c.reserve.new.self.items ≡ numbers_of c.args.self.now c.args.sender = c.reserve.ensures.items
     ∙ items_of _ c.or_default-queue.result.now found in
-    let there : numbers_queued_by (record { numbers = map_with_value c.in_ok-self.field-0 c.reserve.new.self }) other
-    ≡ numbers_queued_by c.args.self.now other = read_after (λ queue. queue.items) [] (λ b before after. after ≡ before)
+    let there : numbers_of (record { numbers = map_with_value c.in_ok-self.field-0 c.reserve.new.self }) other
+    ≡ numbers_of c.args.self.now other = read_after (λ queue. queue.items) [] (λ b before after. after ≡ before)
     (λ a. refl)
     c.args.self.now.numbers (map_with_value c.in_ok-self.field-0 c.reserve.new.self) c.args.sender c.reserve.new.self
     (c.in_ok-self.ensures.update.0 c.reserve.new.self) here other in
     let after = λ (n : BTreeMap (List ℕ) (Vec ℕ Global)) (e : n
     ≡ map_with_value c.in_ok-self.field-0 c.reserve.new.self). subst
-    (λ n. numbers_queued_by (record { numbers = n }) other ≡ numbers_queued_by c.args.self.now other) (sym e) there in
+    (λ n. numbers_of (record { numbers = n }) other ≡ numbers_of c.args.self.now other) (sym e) there in
     search (rules, after)
 
 pub returns-clause-room : goal.returns-clause-room

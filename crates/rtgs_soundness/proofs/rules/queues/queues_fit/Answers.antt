@@ -4,7 +4,7 @@ use Rattle.std.specs.List.{AllByRecursion}
 use Rattle.rtgs_book.specs.declared.limits.TheConstants.{LONGEST_QUEUE}
 use Rattle.rtgs_book.specs.declared.Participant.{Participant}
 use Rattle.rtgs_book.specs.Lookup.{accounts}
-use Rattle.rtgs_book.specs.Queue.{queue}
+use Rattle.rtgs_book.specs.Queue.{waiting}
 use Rattle.rtgs_book.specs.Totals.{Totals}
 use Rattle.rtgs_soundness.proofs.Queues.{queues_of, long_queue}
 use Rattle.rtgs_soundness.proofs.rules.queues.queues_fit.Goals as goal
@@ -15,11 +15,11 @@ returns-then-not-are_short c = (
   λ e. absurd (true≢false (sym e)),
   λ fit. let same = c.as_slice.ensures in
       let lengths = subst (λ (ps : List Participant). Totals (slice_cmp nat_cmp) (map (λ (p : Participant). p.code) ps)
-      (λ code. pos (length (queue c.args.book.now code))) c.in_ok-lengths.lengths) (sym same)
+      (λ code. pos (length (waiting c.args.book.now code))) c.in_ok-lengths.lengths) (sym same)
       c.in_ok-lengths.ensures in
       let told = subst (λ (ps : List Participant). (c.are_short.result ≡ true) ↔ AllByRecursion
-      (λ (p : Participant). pos (length (queue c.args.book.now p.code)) ≤ℤ pos LONGEST_QUEUE) ps) same
-      (c.are_short.ensures (λ code. pos (length (queue c.args.book.now code))) lengths) in
+      (λ (p : Participant). pos (length (waiting c.args.book.now p.code)) ≤ℤ pos LONGEST_QUEUE) ps) same
+      (c.are_short.ensures (λ code. pos (length (waiting c.args.book.now code))) lengths) in
       absurd (true≢false (sym (told.1 (long_queue c.args.book.now fit)) ∙ c.if-not-are_short.true)),
 )
 
@@ -28,9 +28,9 @@ unfolding accounts
 returns c =
     let same = c.as_slice.ensures in
     let lengths = subst (λ (ps : List Participant). Totals (slice_cmp nat_cmp) (map (λ (p : Participant). p.code) ps)
-    (λ code. pos (length (queue c.args.book.now code))) c.in_ok-lengths.lengths) (sym same) c.in_ok-lengths.ensures
+    (λ code. pos (length (waiting c.args.book.now code))) c.in_ok-lengths.lengths) (sym same) c.in_ok-lengths.ensures
     in
     let told = subst (λ (ps : List Participant). (c.are_short.result ≡ true) ↔ AllByRecursion
-    (λ (p : Participant). pos (length (queue c.args.book.now p.code)) ≤ℤ pos LONGEST_QUEUE) ps) same
-    (c.are_short.ensures (λ code. pos (length (queue c.args.book.now code))) lengths) in
+    (λ (p : Participant). pos (length (waiting c.args.book.now p.code)) ≤ℤ pos LONGEST_QUEUE) ps) same
+    (c.are_short.ensures (λ code. pos (length (waiting c.args.book.now code))) lengths) in
     queues_of c.args.book.now c.are_queued_today.result (told.0 c.if-not-are_short.false) c.are_queued_today.ensures

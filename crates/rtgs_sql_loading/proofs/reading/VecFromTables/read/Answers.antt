@@ -47,7 +47,7 @@ returns-in-Ok-clause-stops g c =
       wrong = λ clean trees file e formed.
           let stored = as_shown g.T.TableRow.records.table trees in
           misread g.T.TableRow.records stored _ (subst (IsPermutation stored) (sym c.as_slice.ensures.value)
-          (c.in-Ok.ensures.raw clean c.args.version (has file.known) trees file)) (c.decode.ensures.wrong e)
+          (c.in-Ok.ensures.raw clean c.args.version (has file.known) trees file).0) (c.decode.ensures.wrong e)
           (formed (has file.known));
       unread = λ clean known e.
           let t = g.T.TableRow.records in (

@@ -1,9 +1,9 @@
 use Rattle.std.proofs.Common.{◌≡◌, rules, map, IfOk, string_bytes, [], ◌∷◌, refl, subst, ◌∙◌}
-use Rattle.rtgs_book.specs.declared.standing.Standing.TheVariants.{Settled, Queued, Withdrawn, Rejected}
 use Rattle.rtgs_book.specs.Lookup.{accounts}
 use Rattle.rtgs_statements.specs.declared.line.Line.TheVariants.{ReportOf, Account, Marks}
 use Rattle.rtgs_statements.specs.Records.{postings_on, orders_on, marks_on}
 use Rattle.rtgs_statements.specs.Sums.{sums_at}
+use Rattle.rtgs_statements.specs.Tallies.{reported_standings}
 use Rattle.rtgs_statements.specs.Texts.{account_line, orders_line}
 use Rattle.rtgs_statements.proofs.Groups.{report_is}
 use Rattle.rtgs_statements.proofs.day_sums.DaySums.text.Goals as goal
@@ -21,9 +21,8 @@ returns c book is =
       received = is.ordered.received code i;
     })) (is.codes i)) in
     let standings_are : c.lines-standings.result ≡ map (orders_line (orders_on date book.orders))
-    (Settled ∷ Queued ∷ Withdrawn ∷ Rejected ∷ []) =
-    c.lines-standings.ensures ∙ (λ i. is.ordered.standings Settled i ∷ is.ordered.standings Queued i
-    ∷ is.ordered.standings Withdrawn i ∷ is.ordered.standings Rejected i ∷ []) in
+    reported_standings = c.lines-standings.ensures ∙ (λ i. map (λ standing. is.ordered.standings standing i)
+    reported_standings) in
     subst (λ bytes. IfOk c.text_of_parts.result (λ text. string_bytes text ≡ bytes))
     (report_is date (accounts book) (postings_on date book.postings) (orders_on date book.orders)
     (marks_on date book.marks) (ReportOf date ∷ []) c.deref.result.now c.lines-standings.result (Marks day.marks ∷ [])

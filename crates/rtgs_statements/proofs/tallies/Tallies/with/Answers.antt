@@ -1,4 +1,4 @@
-use Rattle.rtgs_book.specs.declared.standing.Standing.TheVariants.{Settled, Queued, Withdrawn, Rejected}
+use Rattle.rtgs_book.specs.declared.standing.Standing.TheVariants.{Settled, Queued, Held, Withdrawn, Rejected}
 use Rattle.rtgs_statements.proofs.tallies.Tallies.with.Goals as goal
 
 pub with-requires : goal.with-requires
@@ -8,7 +8,10 @@ pub with-requires-2 : goal.with-requires-2
 with-requires-2 c = c.requires Queued
 
 pub with-requires-3 : goal.with-requires-3
-with-requires-3 c = c.requires Withdrawn
+with-requires-3 c = c.requires Held
 
 pub with-requires-4 : goal.with-requires-4
-with-requires-4 c = c.requires Rejected
+with-requires-4 c = c.requires Withdrawn
+
+pub with-requires-5 : goal.with-requires-5
+with-requires-5 c = c.requires Rejected

@@ -1,0 +1,5 @@
+use Rattle.rtgs_examples.proofs.Held.{due_date_is_content_comes}
+use Rattle.rtgs_examples.proofs.due_date_is_content.Goals as goal
+
+pub returns : goal.returns
+returns c = due_date_is_content_comes

@@ -1,0 +1,103 @@
+//! Looking up orders. An order is two rows: one without its due date, and one with it where it has one.
+ghost use Rattle.std.specs.Prelude.{◌≡◌, Bool, IfOk, option_map};
+ghost use Rattle.std.specs.List.{find};
+ghost use Rattle.rtgs_book.specs.declared.Book.{Book};
+ghost use Rattle.rtgs_book.specs.declared.Order.{Order as OrderSpec};
+ghost use Rattle.rtgs_book.specs.Lookup.{order_named};
+ghost use Rattle.rtgs_cores.specs.Nexts.{order_after};
+ghost use Rattle.rtgs_rows.specs.Dues.{without_due, forwards_of};
+ghost use Rattle.rtgs_rows.specs.Keeping.{HoldsBook};
+ghost use Rattle.rtgs_sql_look_ups.specs.Finding.{IsLook, due_under};
+ghost use Rattle.sqlite.specs.State.{HasCleanDisk};
+ghost use Rattle.sqlite.specs.Held.{state};
+
+use crate::finding::named_payment;
+use crate::listing::{first_record, payment_after};
+use rtgs_book::{Fault, LARGEST_NUMBER, Order};
+use rtgs_cores::laws::records_are_listed;
+use rtgs_money::{BusinessDate, Code, Reference};
+use rtgs_rows::Forward;
+use rtgs_rows::laws::records_stand_in_order;
+use rtgs_sql_columns::columns::number_value;
+use rtgs_sql_columns::laws::one_table_answers;
+use rtgs_sql_queries::laws::records_are_read;
+use sqlite::{Alter, Connection};
+
+/// The due date of the order with this number, where it has one. No order has a number above the greatest.
+fn due_date<S: Alter>(conn: &mut Connection<S>, number: u64) -> Result<Option<BusinessDate>, Fault>
+    ensures looks { IsLook S.Store conn.old conn.new result }
+    ensures found { HasCleanDisk (state S.Store conn.new) → (book : Book) → HoldsBook S.Store conn.old book
+        → IfOk result (λ due. due ≡ due_under number (forwards_of book.orders)) }
+{
+    if number > LARGEST_NUMBER as u64 {
+        return Err(Fault::StoreFault);
+    }
+    records_stand_in_order();
+    one_table_answers();
+    records_are_read::<Forward>();
+    let found = first_record::<Forward, S>(
+        conn,
+        "SELECT number, due FROM forward WHERE number = ?1 ORDER BY number LIMIT 1",
+        &[number_value(number)],
+    );
+    match found {
+        Ok(Some(forward)) => Ok(Some(forward.due)),
+        Ok(None) => Ok(None),
+        Err(fault) => Err(fault),
+    }
+}
+
+/// The order of a row with its due date, where there is a row.
+fn with_due<S: Alter>(
+    conn: &mut Connection<S>,
+    payment: Option<Order>,
+) -> Result<Option<Order>, Fault>
+    ensures looks { IsLook S.Store conn.old conn.new result }
+    ensures found { HasCleanDisk (state S.Store conn.new) → (book : Book) → HoldsBook S.Store conn.old book
+        → (is_it : OrderSpec → Bool) → payment ≡ option_map without_due (find is_it book.orders)
+        → IfOk result (λ found. found ≡ find is_it book.orders) }
+{
+    records_are_listed();
+    let Some(mut order) = payment else {
+        return Ok(None);
+    };
+    match due_date(conn, order.number) {
+        Ok(due) => {
+            order.due = due;
+            Ok(Some(order))
+        }
+        Err(fault) => Err(fault),
+    }
+}
+
+/// The order that the sender gave this reference, where the tables have one.
+pub fn find_order<S: Alter>(
+    conn: &mut Connection<S>,
+    sender: &Code,
+    reference: &Reference,
+) -> Result<Option<Order>, Fault>
+    ensures looks { IsLook S.Store conn.old conn.new result }
+    ensures found { HasCleanDisk (state S.Store conn.new) → (book : Book) → HoldsBook S.Store conn.old book
+        → IfOk result (λ found. found ≡ order_named book sender.now reference.now) }
+{
+    match named_payment(conn, sender, reference) {
+        Ok(payment) => with_due(conn, payment),
+        Err(fault) => Err(fault),
+    }
+}
+
+/// The order of the date with the least number above this one.
+pub fn next_order<S: Alter>(
+    conn: &mut Connection<S>,
+    date: BusinessDate,
+    number: u64,
+) -> Result<Option<Order>, Fault>
+    ensures looks { IsLook S.Store conn.old conn.new result }
+    ensures found { HasCleanDisk (state S.Store conn.new) → (book : Book) → HoldsBook S.Store conn.old book
+        → IfOk result (λ found. found ≡ order_after book date number) }
+{
+    match payment_after(conn, date, number) {
+        Ok(payment) => with_due(conn, payment),
+        Err(fault) => Err(fault),
+    }
+}
