@@ -7,6 +7,7 @@ use rtgs_cores::Found;
 use rtgs_keeper::Keeper;
 use rtgs_ledger::Ledger;
 use rtgs_memory_keeper::MemoryKeeper;
+use rtgs_money::BusinessDate;
 use std::alloc::Global;
 use std::test::Fail;
 
@@ -19,6 +20,8 @@ struct Kept {
 
 impl Answers for Kept {
     fn answer(&mut self, alloc: Global, asked: &str) -> Result<String, Fail> {
+        // Names the type of due dates for the borrow checker, which finds it nowhere else in this function.
+        let _no_date: Option<BusinessDate> = None;
         let words = words_of(alloc, asked)?;
         match words.as_slice() {
             ["balance", participant] => balance_text(alloc, &self.ledger, participant),
