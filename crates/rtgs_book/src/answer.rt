@@ -20,7 +20,7 @@ pub enum Answer {
     Settled { number: u64, mark: u64 },
     /// The order waits, at this place of its sender's queue, counted from 1.
     Queued { number: u64, place: u64 },
-    /// The order is in no queue until its due date.
+    /// The order waits in no queue as yet, with this due date.
     Held { number: u64, due: BusinessDate },
     Withdrawn { number: u64 },
     /// So many orders of this value were settled under the mark.

@@ -1,6 +1,7 @@
 //! Where payment orders stand.
 ghost use Rattle.std.specs.Prelude.{◌≡◌};
 ghost use Rattle.std.specs.Str.{IsAscii};
+ghost use Rattle.rtgs_book.specs.Books.{is_queued_state, is_held_state, is_waiting_state};
 ghost use Rattle.rtgs_book.specs.Standings.{standing_of, word_of};
 
 use crate::standing::Standing;
@@ -9,7 +10,7 @@ use crate::standing::Standing;
 #[derive(Clone, Copy, Debug, PartialEq, Eq)]
 pub enum OrderState {
     Queued,
-    /// In no queue until its due date.
+    /// In no queue as yet: it enters its sender's as a day on or after its due date is opened.
     Held,
     /// Paid for good, under the mark with this number.
     Settled(u64),
@@ -20,6 +21,27 @@ pub enum OrderState {
 }
 
 impl OrderState {
+    /// Whether the order is in its sender's queue.
+    pub fn is_queued(self) -> bool
+        ensures { result ≡ is_queued_state self }
+    {
+        self == OrderState::Queued
+    }
+
+    /// Whether the order is held until its due date.
+    pub fn is_held(self) -> bool
+        ensures { result ≡ is_held_state self }
+    {
+        self == OrderState::Held
+    }
+
+    /// Whether the order is queued or held.
+    pub fn is_waiting(self) -> bool
+        ensures { result ≡ is_waiting_state self }
+    {
+        self.is_queued() || self.is_held()
+    }
+
     /// Where the order stands, whatever its mark.
     pub fn standing(self) -> Standing
         ensures { result ≡ standing_of self }

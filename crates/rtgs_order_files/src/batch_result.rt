@@ -9,7 +9,7 @@ pub enum RowReply {
     Settled { number: u64, mark: u64 },
     /// The order waits, at this place of its sender's queue, counted from 1.
     Queued { number: u64, place: u64 },
-    /// The order is in no queue until its due date.
+    /// The order waits in no queue as yet.
     Held { number: u64, due: BusinessDate },
     /// The order was taken before, and this is its state now.
     Repeated { number: u64, state: OrderState },
