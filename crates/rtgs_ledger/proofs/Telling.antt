@@ -243,6 +243,7 @@ records_of held = record {
     next = held.core.next_order;
     room = held.room.orders;
     awaited = held.room.awaited;
+    holds = held.room.holds;
   };
   day = held.core.day;
   next_posting = held.core.next_posting;

@@ -290,6 +290,9 @@ others_wait_not (Settled mark) e f = refl
 others_wait_not Withdrawn e f = refl
 others_wait_not Rejected e f = refl
 
+-- orders that are queued or held wait, and no others
+pub ruleset which_states_wait = (queued_waits, held_waits, others_wait_not)
+
 queued_out : (state : OrderState) → is_waiting_state state ≡ false → is_queued_state state ≡ false
 queued_out Queued e = e
 queued_out Held e = refl
@@ -444,13 +447,13 @@ only_one number order (x ∷ xs) h (suc i) at is (suc k) d lt g = only_one numbe
     (record { in_range = (let l = at.in_range in omega arith); has_number = λ d. at.has_number d }) is k d
     (omega arith) g
 
-module _ (orders : List Order) (queues held : Queues) (next : ℕ) (awaited : Option (List ℕ)) (tidy : Bool)
-    (kept : IsKept orders queues held next awaited tidy) where
+module _ (orders : List Order) (queues held : Queues) (next : ℕ) (awaited : Option (List ℕ)) (holds tidy : Bool)
+    (kept : IsKept orders queues held next awaited holds tidy) where
   -- nothing is awaited, and no room is lost
   pub kept_alone : (new more : Queues) → ((sender : List ℕ) → numbers_of new sender ≡ numbers_of queues sender)
       → ((sender : List ℕ) → numbers_of more sender ≡ numbers_of held sender)
       → ((sender : List ℕ) → room_of queues sender ≤ room_of new sender)
-      → IsKept orders new more next None tidy
+      → IsKept orders new more next None holds tidy
   kept_alone new more same also room = record {
     rising = kept.rising;
     before = kept.before;
@@ -462,27 +465,8 @@ module _ (orders : List Order) (queues held : Queues) (next : ℕ) (awaited : Op
     waiting = kept.waiting;
   }
 
-  -- an order of this sender is awaited
-  pub kept_awaiting : (sender : List ℕ) (new more : Queues)
-      → ((other : List ℕ) → numbers_of new other ≡ numbers_of queues other)
-      → ((other : List ℕ) → numbers_of more other ≡ numbers_of held other)
-      → ((other : List ℕ) → room_of queues other ≤ room_of new other)
-      → length (numbers_of held sender) + 1 ≤ room_of new sender → 1 ≤ room_of more sender
-      → IsKept orders new more next (Some sender) tidy
-  kept_awaiting sender new more same also room wide one = record {
-    rising = kept.rising;
-    before = kept.before;
-    queued = λ other. same other ∙ kept.queued other;
-    held = λ other. also other ∙ kept.held other;
-    roomy = λ other. let long = ap length (also other) in let had = kept.roomy other in let has = room other in
-        omega arith;
-    ready = λ other e. let f : sender ≡ other = cc in subst (λ n. (length (numbers_of more n) + 1 ≤ room_of new n)
-        × (1 ≤ room_of more n)) f (let long = ap length (also sender) in omega arith, one);
-    waiting = kept.waiting;
-  }
-
   -- an order is counted alone
-  pub kept_counted : IsKept orders queues held (next + 1) awaited tidy
+  pub kept_counted : IsKept orders queues held (next + 1) awaited holds tidy
   kept_counted = record {
     rising = kept.rising;
     before = all_weaker (λ (o : Order). o.number < next) (λ (o : Order). o.number < next + 1) (λ o lt. omega arith)
@@ -512,7 +496,7 @@ module _ (orders : List Order) (queues held : Queues) (next : ℕ) (awaited : Op
         → ((sender : List ℕ) → numbers_of new sender ≡ cond (bytes_eq order.sender sender)
         (numbers_of queues sender ++ order.number ∷ []) (numbers_of queues sender))
         → ((sender : List ℕ) → room_of queues sender ≤ room_of new sender + cond (bytes_eq order.sender sender) 1 0)
-        → IsKept (orders ++ order ∷ []) new held (next + 1) None tidy
+        → IsKept (orders ++ order ∷ []) new held (next + 1) None holds tidy
     kept_push new is out pushed room = record {
       rising = pushed_rising;
       before = pushed_before;
@@ -537,7 +521,7 @@ module _ (orders : List Order) (queues held : Queues) (next : ℕ) (awaited : Op
     pub kept_hold : (more : Queues) → is_queued_state order.state ≡ false → is_held_state order.state ≡ true
         → ((sender : List ℕ) → numbers_of more sender ≡ cond (bytes_eq order.sender sender)
         (numbers_of held sender ++ order.number ∷ []) (numbers_of held sender))
-        → IsKept (orders ++ order ∷ []) queues more (next + 1) None tidy
+        → IsKept (orders ++ order ∷ []) queues more (next + 1) None holds tidy
     kept_hold more out is pushed = record {
       rising = pushed_rising;
       before = pushed_before;
@@ -570,7 +554,7 @@ module _ (orders : List Order) (queues held : Queues) (next : ℕ) (awaited : Op
       → ((sender : List ℕ) → numbers_of more sender ≡ cond (bytes_eq order.sender sender)
       (filter (λ (n : ℕ). not (n == number)) (numbers_of held sender)) (numbers_of held sender))
       → ((sender : List ℕ) → room_of held sender ≤ room_of more sender)
-      → IsKept (map (restated (has_number number) state) orders) new more next awaited false
+      → IsKept (map (restated (has_number number) state) orders) new more next awaited holds false
   kept_restated number state at order new more settled there is left room dropped space = record {
     rising = rising_altered number (λ o. record o { state = state }) (λ o. refl) orders kept.rising;
     before = numbers_stay number (λ o. record o { state = state }) (λ o. refl) (λ n. n < next) orders kept.before;
@@ -584,9 +568,8 @@ module _ (orders : List Order) (queues held : Queues) (next : ℕ) (awaited : Op
     ready = λ sender f.
         let had = kept.ready sender f in
         let wide : length (numbers_of held sender) + 1 ≤ room_of queues sender = had.0 in
-        let one : 1 ≤ room_of held sender = had.1 in
         let has = room sender in let also = space sender in let less = shorter sender in
-        (omega arith, omega arith);
+        (omega arith, λ may. let one = had.1 may in omega arith);
     waiting = λ all. absurd (true≢false (sym all));
   }
     where
@@ -624,7 +607,7 @@ module _ (orders : List Order) (queues held : Queues) (next : ℕ) (awaited : Op
       → ((sender : List ℕ) → numbers_of more sender ≡ cond (bytes_eq order.sender sender)
       (filter (λ (n : ℕ). not (n == number)) (numbers_of held sender)) (numbers_of held sender))
       → ((sender : List ℕ) → room_of held sender ≤ room_of more sender)
-      → IsKept (map (altered (has_number number) (entered date)) orders) new more next awaited tidy
+      → IsKept (map (altered (has_number number) (entered date)) orders) new more next awaited holds tidy
   kept_entered number date at order new more is_held there is placed room dropped space = record {
     rising = rising_altered number (entered date) (λ o. refl) orders kept.rising;
     before = numbers_stay number (entered date) (λ o. refl) (λ n. n < next) orders kept.before;
@@ -639,9 +622,8 @@ module _ (orders : List Order) (queues held : Queues) (next : ℕ) (awaited : Op
         let fit = fits sender 0 (omega arith) in omega arith;
     ready = λ sender f.
         let had = kept.ready sender f in
-        let one : 1 ≤ room_of held sender = had.1 in
         let also = space sender in
-        (fits sender 1 had.0, omega arith);
+        (fits sender 1 had.0, λ may. let one = had.1 may in omega arith);
     waiting = λ all. entered_wait orders (kept.waiting all);
   }
     where
@@ -718,7 +700,7 @@ module _ (orders : List Order) (queues held : Queues) (next : ℕ) (awaited : Op
       let fits = kept.roomy order.sender in omega arith
 
   -- what waits no more is swept out
-  pub kept_swept : IsKept (filter is_waiting orders) queues held next awaited true
+  pub kept_swept : IsKept (filter is_waiting orders) queues held next awaited holds true
   kept_swept = record {
     rising = rising_filter is_waiting orders kept.rising;
     before = all_filter (λ (o : Order). o.number < next) is_waiting orders kept.before;

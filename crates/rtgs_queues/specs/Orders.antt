@@ -5,23 +5,26 @@ use Rattle.std.specs.List.{AllByRecursion}
 use Rattle.std.specs.Str.{bytes_eq}
 use Rattle.rtgs_book.specs.declared.order.Order.{Order}
 use Rattle.rtgs_book.specs.declared.order_state.OrderState.{OrderState}
-use Rattle.rtgs_book.specs.Books.{is_waiting, is_queued_state, is_held_state}
+use Rattle.rtgs_book.specs.Books.{is_held, is_waiting, is_queued_state, is_held_state}
 use Rattle.rtgs_queues.specs.declared.queues.Queues.{Queues}
 use Rattle.rtgs_queues.specs.Queues.{numbers_of, room_of}
 
 -- the orders that wait, whether they are all that is in memory, the number of the next order, how many more can wait
--- without memory, and the sender of whom one more can
+-- without memory, the sender of whom one more can, and whether that one may be held
 pub record OrderList : Type 0 where
   pub orders : List Order
   pub tidy : Bool
   pub next : ℕ
   pub room : ℕ
   pub awaited : Option (List ℕ)
+  pub holds : Bool
 
--- if the order waits, there is room for one more, and its sender is the one of whom one more can
+-- if the order waits, there is room for one more, and its sender is the one of whom one more can; if it is held, that
+-- one may be
 pub record AwaitsOrder (list : OrderList) (order : Order) : Type 0 where
   pub room : is_waiting order ≡ true → 1 ≤ list.room
   pub awaited : is_waiting order ≡ true → list.awaited ≡ Some order.sender
+  pub holds : is_held order ≡ true → list.holds ≡ true
 
 -- numbers rise
 abbrev pub AreRising : List Order → Type 0
@@ -39,9 +42,10 @@ numbers_among is_in orders sender =
 
 -- Numbers rise and come before the next one. Each sender's queue and held orders are those of the list. Its queue has
 -- room for each of its held orders, and for one order more where one is awaited; so an order needs no memory to enter
--- its queue. And no order is in memory that waits no more, while they are tidy.
-pub record IsKept (orders : List Order) (queues others : Queues) (next : ℕ) (awaited : Option (List ℕ)) (tidy : Bool)
-    : Type 0
+-- its queue. There is room among the held where the awaited order may be held. And no order is in memory that waits no
+-- more, while they are tidy.
+pub record IsKept (orders : List Order) (queues others : Queues) (next : ℕ) (awaited : Option (List ℕ))
+    (holds tidy : Bool) : Type 0
   where
     pub rising : AreRising orders
     pub before : AllByRecursion (λ (o : Order). o.number < next) orders
@@ -49,7 +53,8 @@ pub record IsKept (orders : List Order) (queues others : Queues) (next : ℕ) (a
     pub held : (sender : List ℕ) → numbers_of others sender ≡ numbers_among is_held_state orders sender
     pub roomy : (sender : List ℕ) → length (numbers_of others sender) ≤ room_of queues sender
     pub ready : (sender : List ℕ) → awaited ≡ Some sender
-        → (length (numbers_of others sender) + 1 ≤ room_of queues sender) × (1 ≤ room_of others sender)
+        → (length (numbers_of others sender) + 1 ≤ room_of queues sender)
+        × (holds ≡ true → 1 ≤ room_of others sender)
     pub waiting : tidy ≡ true → AreWaiting orders
 
 -- the order with the number stands at this index

@@ -5,8 +5,7 @@ ghost use Rattle.std.specs.Prelude.{map, slice_index_or, Some, None, OnOk, IfOk,
 ghost use Rattle.std.specs.List.{find, AllByRecursion};
 ghost use Rattle.rtgs_book.specs.declared.order.Order.{Order};
 ghost use Rattle.rtgs_book.specs.declared.limits.TheConstants.{LARGEST_NUMBER};
-ghost use Rattle.rtgs_book.specs.Books.{is_queued, is_held, is_waiting, is_queued_state, is_held_state};
-ghost use Rattle.rtgs_book.specs.Books.{is_waiting_state};
+ghost use Rattle.rtgs_book.specs.Books.{is_waiting, is_queued_state, is_held_state, is_waiting_state};
 ghost use Rattle.rtgs_book.specs.Commands.{entered, has_number, is_held_with};
 ghost use Rattle.rtgs_book.specs.Settle.{altered};
 ghost use Rattle.rtgs_book.specs.Queue.{queued_among, queued_numbers};
@@ -21,7 +20,7 @@ use std::marker::Model;
 
 /// The orders that are queued or held in rising number, the queue of each sender, and its held orders. Contracts see
 /// the orders that wait so, whether no other is in memory, the number of the next order, how many more there is room
-/// for, and the sender of whom there is room for one more.
+/// for, the sender of whom there is room for one more, and whether that one may be held.
 #[derive(Debug, Drop)]
 pub struct Orders {
     // Those that wait no more are among them until they are swept out.
@@ -31,6 +30,8 @@ pub struct Orders {
     held: Queues,
     next: u64,
     awaited: Option<Code>,
+    // Whether the awaited order has room among the held ones.
+    holds: bool,
     // Whether all of them still wait.
     tidy: bool,
 }
@@ -49,9 +50,10 @@ impl Model for Orders {
       next = o.next;
       room = vec_capacity o.orders - vec_len o.orders;
       awaited = o.awaited;
+      holds = o.holds;
     } };
 
-    ghost invariant = { λ o. IsKept o.orders.items o.queues o.held o.next o.awaited o.tidy };
+    ghost invariant = { λ o. IsKept o.orders.items o.queues o.held o.next o.awaited o.holds o.tidy };
 }
 
 impl Orders {
@@ -72,6 +74,7 @@ impl Orders {
             held,
             next,
             awaited: None,
+            holds: false,
             tidy: true,
         })
     }
@@ -99,7 +102,7 @@ impl Orders {
             return None;
         };
         let order = self.orders[at];
-        if is_waiting(&order) {
+        if order.state.is_waiting() {
             Some(order)
         } else {
             None
@@ -125,25 +128,30 @@ impl Orders {
         queued.len() + held.len()
     }
 
-    /// Makes room for one order more of this sender, queued or held.
-    pub fn reserve(&mut self, sender: Code) -> Result<(), AllocError>
+    /// Makes room for one order more of this sender, in this state: in its queue, beside its held orders, and among
+    /// those only if the order is held.
+    pub fn reserve(&mut self, sender: Code, state: OrderState) -> Result<(), AllocError>
         ensures orders { self.new.orders ≡ self.old.orders }
         ensures tidy { self.new.tidy ≡ self.old.tidy }
         ensures next { self.new.next ≡ self.old.next }
         ensures room { OnOk result (1 ≤ self.new.room) }
         ensures awaited { OnOk result (self.new.awaited ≡ Some sender) }
+        ensures holds { OnOk result (self.new.holds ≡ is_held_state state) }
     {
         self.awaited = None;
         self.orders.reserve(1)?;
         let held = self.held.get(&sender).len();
-        self.held.reserve(sender, 1)?;
+        if state.is_held() {
+            self.held.reserve(sender, 1)?;
+        }
         self.queues.reserve(sender, held + 1)?;
         self.awaited = Some(sender);
+        self.holds = state.is_held();
         Ok(())
     }
 
     /// Counts the next order, and keeps it in the room that was made for it, if it waits.
-    #[tactic(auto, using(crate::proofs::OrderLemmas::held_waits, crate::proofs::OrderLemmas::queued_waits, crate::proofs::OrderLemmas::others_wait_not))]
+    #[tactic(auto, using(crate::proofs::OrderLemmas::which_states_wait))]
     pub fn add(&mut self, order: Order)
         requires number { order.number ≡ self.old.next }
         requires few { self.old.next ≤ LARGEST_NUMBER }
@@ -154,13 +162,14 @@ impl Orders {
         ensures next { self.new.next ≡ self.old.next + 1 }
         ensures room { self.new.room ≡ (if is_waiting order then self.old.room - 1 else self.old.room) }
         ensures awaited { self.new.awaited ≡ (if is_waiting order then None else self.old.awaited) }
+        ensures holds { self.new.holds ≡ self.old.holds }
     {
         self.next += 1;
-        if is_held(&order) {
+        if order.state.is_held() {
             self.awaited = None;
             self.held.push(&order.sender, order.number);
             self.orders.push_reserved(order);
-        } else if is_queued(&order) {
+        } else if order.state.is_queued() {
             self.awaited = None;
             self.queues.push(&order.sender, order.number);
             self.orders.push_reserved(order);
@@ -177,6 +186,7 @@ impl Orders {
         ensures next { self.new.next ≡ self.old.next }
         ensures room { self.new.room ≡ self.old.room }
         ensures awaited { self.new.awaited ≡ self.old.awaited }
+        ensures holds { self.new.holds ≡ self.old.holds }
     {
         let Ok(at) = search(self.orders.as_slice(), number) else {
             return;
@@ -196,12 +206,13 @@ impl Orders {
         ensures next { self.new.next ≡ self.old.next }
         ensures room { self.new.room ≡ self.old.room }
         ensures awaited { self.new.awaited ≡ self.old.awaited }
+        ensures holds { self.new.holds ≡ self.old.holds }
     {
         let Ok(at) = search(self.orders.as_slice(), number) else {
             return;
         };
         let order = self.orders[at];
-        if is_held(&order) {
+        if order.state.is_held() {
             self.orders[at] = Order {
                 state: OrderState::Queued,
                 date,
@@ -238,28 +249,7 @@ fn search(orders: &[Order], number: u64) -> Result<usize, usize>
 fn keep_waiting(orders: &mut Vec<Order>)
     ensures { orders.new.items ≡ filter is_waiting orders.old.items }
 {
-    orders.retain(is_waiting);
-}
-
-// Whether the order is queued or held.
-fn is_waiting(order: &Order) -> bool
-    ensures { result ≡ is_waiting order.now }
-{
-    order.state == OrderState::Queued || order.state == OrderState::Held
-}
-
-// Whether the order is in its sender's queue.
-fn is_queued(order: &Order) -> bool
-    ensures { result ≡ is_queued order.now }
-{
-    order.state == OrderState::Queued
-}
-
-// Whether the order is held.
-fn is_held(order: &Order) -> bool
-    ensures { result ≡ is_held order.now }
-{
-    order.state == OrderState::Held
+    orders.retain(|order| order.state.is_waiting());
 }
 
 // The queue of each sender, with room for its held orders, and these.

@@ -1,22 +1,23 @@
 -- A ledger, as contracts see it, and the room that the rows of a change find, one after another.
 use Rattle.std.specs.Prelude.{◌≡◌, ℕ, ◌-◌, ◌≤◌, ◌<◌, ◌^◌, true, false, List, [], ◌∷◌, Option, Some, None, if◌then◌else◌}
-use Rattle.std.specs.Prelude.{⊤, length}
+use Rattle.std.specs.Prelude.{⊤, Bool, length}
 use Rattle.std.specs.List.{find, list_any}
 use Rattle.rtgs_book.specs.declared.change.RowChange.{RowChange}
 use Rattle.rtgs_book.specs.declared.change.RowChange.TheVariants.{AddParticipant, AddPosting, AddOrder, AddMark}
 use Rattle.rtgs_book.specs.declared.change.RowChange.TheVariants.{SetCredit, SetBalance, SetState, EnterQueue, SetDay}
 use Rattle.rtgs_book.specs.declared.limits.TheConstants.{LARGEST_NUMBER, MOST_PARTICIPANTS}
-use Rattle.rtgs_book.specs.Books.{is_waiting, is_waiting_state}
+use Rattle.rtgs_book.specs.Books.{is_held, is_waiting, is_waiting_state}
 use Rattle.rtgs_cores.specs.declared.Core.{Core}
 use Rattle.rtgs_cores.specs.Following.{is_of, core_after_row}
 use Rattle.rtgs_accounts.specs.Accounts.{has_key}
 
--- how many participants, and orders that are queued or held, can be added without memory, and the sender of whom there
--- is room for one more
+-- how many participants, and orders that are queued or held, can be added without memory, the sender of whom there is
+-- room for one more, and whether that one may be held
 pub record Room : Type 0 where
   pub participants : ℕ
   pub orders : ℕ
   pub awaited : Option (List ℕ)
+  pub holds : Bool
 
 -- the core of a book, and the room for what comes next
 pub record Held : Type 0 where
@@ -32,6 +33,7 @@ FindsRoom held (AddParticipant participant) = (find (is_of participant.code) hel
 FindsRoom held (AddPosting posting) = held.core.next_posting ≤ LARGEST_NUMBER
 FindsRoom held (AddOrder order) = (order.number ≡ held.core.next_order) × (held.core.next_order ≤ LARGEST_NUMBER)
     × (is_waiting order ≡ true → (1 ≤ held.room.orders) × (held.room.awaited ≡ Some order.sender))
+    × (is_held order ≡ true → held.room.holds ≡ true)
 FindsRoom held (AddMark mark) = held.core.next_mark < 2 ^ 63
 FindsRoom held (SetCredit code credit) = ⊤
 FindsRoom held (SetBalance code balance) = ⊤

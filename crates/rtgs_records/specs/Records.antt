@@ -16,5 +16,10 @@ core_in r = record {
 abbrev pub held_of : Records → Held
 held_of r = record {
   core = core_in r;
-  room = record { participants = r.accounts.room; orders = r.orders.room; awaited = r.orders.awaited };
+  room = record {
+    participants = r.accounts.room;
+    orders = r.orders.room;
+    awaited = r.orders.awaited;
+    holds = r.orders.holds;
+  };
 }

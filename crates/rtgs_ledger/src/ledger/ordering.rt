@@ -157,7 +157,7 @@ impl Ledger {
         queues_are_of_the_waiting();
         let place = self.records.orders.queue(&order.sender).len() as u64 + 1;
         let rows = vec![in self.alloc; RowChange::AddOrder(order)]?;
-        self.records.orders.reserve(order.sender)?;
+        self.records.orders.reserve(order.sender, order.state)?;
         Ok((waiting_answer(&order, place), Rows::from_vec(rows)))
     }
 }

@@ -54,6 +54,6 @@ returns-clause-room c =
     let mark : c.args.self.now.core.next_mark < 2 ^ 63 = subst (λ n. n < 2 ^ 63)
     (ap (λ (h : Held). h.core.next_mark) c.self.view_is) (omega (arith, counted)) in
     rw (c.from_vec.ensures, c.in_ok-rows.ensures) (
-      (c.requires.number, c.requires.few, λ e. absurd (cc)),
+      (c.requires.number, c.requires.few, λ e. absurd (cc), λ e. absurd (cc)),
       (mark, (tt, (tt, tt))),
     )

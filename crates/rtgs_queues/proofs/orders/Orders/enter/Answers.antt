@@ -40,7 +40,7 @@ insert-requires c =
     ∙ get_or_default orders c.in-Ok.at o d there.in_range in
     let held : is_held o ≡ true = sym c.is_held.ensures ∙ c.if-is_held.true in
     kept_roomy orders c.self.inside.queues c.self.inside.held c.self.inside.next c.self.inside.awaited
-    c.self.inside.tidy c.self.invariant c.args.number c.in-Ok.at o held there is
+    c.self.inside.holds c.self.inside.tidy c.self.invariant c.args.number c.in-Ok.at o held there is
 
 pub invariant_of-self : goal.invariant_of-self
 invariant_of-self c =
@@ -56,11 +56,11 @@ invariant_of-self c =
     let rising : AreInOrder (numbers_of c.self.inside.queues o.sender) = subst AreInOrder
     (sym (c.self.invariant.queued o.sender)) (numbers_rise is_queued_state o.sender orders c.self.invariant.rising) in
     subst (λ (os : List Order). IsKept os c.insert.new.self c.remove.new.self c.self.inside.next c.self.inside.awaited
-    c.self.inside.tidy) (sym is_entered)
+    c.self.inside.holds c.self.inside.tidy) (sym is_entered)
     (kept_entered orders c.self.inside.queues c.self.inside.held c.self.inside.next c.self.inside.awaited
-    c.self.inside.tidy c.self.invariant c.args.number c.args.date c.in-Ok.at o c.insert.new.self c.remove.new.self held
-    there is (λ other. c.insert.ensures.queues other rising) c.insert.ensures.room c.remove.ensures.queues
-    c.remove.ensures.room)
+    c.self.inside.holds c.self.inside.tidy c.self.invariant c.args.number c.args.date c.in-Ok.at o c.insert.new.self
+    c.remove.new.self held there is (λ other. c.insert.ensures.queues other rising) c.insert.ensures.room
+    c.remove.ensures.queues c.remove.ensures.room)
 
 pub returns-then-is_held-clause-orders : goal.returns-then-is_held-clause-orders
 returns-then-is_held-clause-orders c =

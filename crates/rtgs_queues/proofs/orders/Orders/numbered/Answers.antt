@@ -17,9 +17,9 @@ returns-in_default c =
 pub returns-then-is_waiting : goal.returns-then-is_waiting
 returns-then-is_waiting c =
     let orders = c.self.inside.orders.items in
-    let o = c.index.result.now in
+    let o = c.index-order.result.now in
     let there = subst (λ os. HasNumberAt c.args.number os c.in-Ok.at) c.as_slice.ensures.value c.in-Ok.ensures.found in
-    let is : o ≡ get_or orders c.in-Ok.at o = c.index.ensures in
+    let is : o ≡ get_or orders c.in-Ok.at o = c.index-order.ensures in
     let queued : is_waiting (get_or orders c.in-Ok.at o) ≡ true = ap is_waiting (sym is) ∙ sym c.is_waiting.ensures
     ∙ c.if-is_waiting.true in
     ap Some is ∙ sym (found_waiting c.args.number orders c.self.invariant.rising c.in-Ok.at there o
@@ -29,9 +29,9 @@ returns-then-is_waiting c =
 pub returns-else-is_waiting : goal.returns-else-is_waiting
 returns-else-is_waiting c =
     let orders = c.self.inside.orders.items in
-    let o = c.index.result.now in
+    let o = c.index-order.result.now in
     let there = subst (λ os. HasNumberAt c.args.number os c.in-Ok.at) c.as_slice.ensures.value c.in-Ok.ensures.found in
-    let is : o ≡ get_or orders c.in-Ok.at o = c.index.ensures in
+    let is : o ≡ get_or orders c.in-Ok.at o = c.index-order.ensures in
     let queued : is_waiting (get_or orders c.in-Ok.at o) ≡ false = ap is_waiting (sym is) ∙ sym c.is_waiting.ensures
     ∙ c.if-is_waiting.false in
     sym (found_waiting c.args.number orders c.self.invariant.rising c.in-Ok.at there o

@@ -37,14 +37,11 @@ returns-in_default-clause-orders c =
 
 pub invariant_of-self : goal.invariant_of-self
 invariant_of-self c =
-    subst (λ orders. IsKept orders c.remove.new.self c.remove-2.new.self c.self.inside.next c.self.inside.awaited false)
-    (sym (is_restated
-    c))
+    subst (λ orders. IsKept orders c.remove.new.self c.remove-2.new.self c.self.inside.next c.self.inside.awaited
+    c.self.inside.holds false) (sym (is_restated c))
     (kept_restated c.self.inside.orders.items c.self.inside.queues c.self.inside.held c.self.inside.next
-    c.self.inside.awaited
-    c.self.inside.tidy c.self.invariant c.args.number c.args.state c.in-Ok.at c.index.result.now c.remove.new.self
-    c.remove-2.new.self
-    c.requires (there c)
+    c.self.inside.awaited c.self.inside.holds c.self.inside.tidy c.self.invariant c.args.number c.args.state c.in-Ok.at
+    c.index.result.now c.remove.new.self c.remove-2.new.self c.requires (there c)
     (λ d. c.index.ensures ∙ get_or_default c.self.inside.orders.items c.in-Ok.at c.index.result.now d
     (let t = there c in t.in_range)) c.remove.ensures.queues c.remove.ensures.room
     c.remove-2.ensures.queues c.remove-2.ensures.room)

@@ -5,8 +5,8 @@ use Rattle.rtgs_queues.proofs.orders.Orders.sweep.Goals as goal
 
 pub invariant_of-self : goal.invariant_of-self
 invariant_of-self c = rw c.keep_waiting.ensures (kept_swept c.self.inside.orders.items c.self.inside.queues
-    c.self.inside.held
-    c.self.inside.next c.self.inside.awaited c.self.inside.tidy c.self.invariant)
+    c.self.inside.held c.self.inside.next c.self.inside.awaited c.self.inside.holds c.self.inside.tidy
+    c.self.invariant)
 
 pub returns-then-not-self-clause-orders : goal.returns-then-not-self-clause-orders
 returns-then-not-self-clause-orders c = ap (filter is_waiting) c.keep_waiting.ensures
