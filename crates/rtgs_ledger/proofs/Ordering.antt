@@ -3,7 +3,7 @@ use Rattle.std.proofs.Common.{◌≡◌, ℕ, ◌+◌, ◌≤◌, ℤ, pos, ◌+
 use Rattle.std.proofs.Common.{◌==◌, List, [], ◌∷◌, ◌++◌, map, filter, length, find, Option, unwrap_or, is_some, is_none}
 use Rattle.std.proofs.Common.{IsTrue}
 use Rattle.std.proofs.Common.{int_le, Ok, Err, Some, None, refl, sym, ap, subst, ◌∙◌, true≢false, length-append}
-use Rattle.std.proofs.Common.{zero-add, arith}
+use Rattle.std.proofs.Common.{zero-add, arith, inl, inr}
 use Rattle.std.proofs.lemmas.Int.{ints}
 use Rattle.std.proofs.lemmas.Bool.Decides.{nat_tests}
 use Rattle.std.proofs.lemmas.List.{length-map, map-append}
@@ -18,7 +18,8 @@ use Rattle.rtgs_book.specs.declared.answer.Answer.TheVariants as answer
 use Rattle.rtgs_book.specs.declared.answer.Known.TheVariants as known
 use Rattle.rtgs_book.specs.declared.refusal.Refusal.TheVariants.{UnknownParticipant, ReferenceUsed, NotOpen}
 use Rattle.rtgs_book.specs.declared.refusal.Refusal.TheVariants.{UnknownReceiver, SameParty, NumbersUsedUp, QueueFull}
-use Rattle.rtgs_book.specs.declared.refusal.Refusal.TheVariants.{DueNotLater, Weekend}
+use Rattle.rtgs_book.specs.declared.refusal.Refusal.{Refusal}
+use Rattle.rtgs_book.specs.Session.{is_judged}
 use Rattle.rtgs_book.specs.declared.change.RowChange.{RowChange}
 use Rattle.rtgs_book.specs.declared.change.RowChange.TheVariants.{AddOrder, AddMark, SetBalance}
 use Rattle.rtgs_book.specs.declared.book.Book.{Book}
@@ -48,7 +49,7 @@ use Rattle.rtgs_book.specs.declared.account.Account.{Account}
 use Rattle.rtgs_book.specs.declared.limits.TheConstants.{LONGEST_QUEUE, LARGEST_NUMBER}
 use Rattle.rtgs_accounts.specs.Accounts.{code_of, is_of, with_balance}
 use Rattle.rtgs_ledger.specs.Kinds.{answers_an_order}
-use Rattle.rtgs_ledger.specs.Ordering.{IsTaken, is_too_early, waiting_answer}
+use Rattle.rtgs_ledger.specs.Ordering.{IsTaken, IsDueRefused, is_too_early, waiting_answer}
 use Rattle.rtgs_ledger.proofs.Balances.{other_int, moved, all_moved, all_same, balance-with_order}
 use Rattle.rtgs_ledger.proofs.Kept.{found_balance, found_is, is_known, balance_at, floor_at as floor_is, prepared_done}
 use Rattle.rtgs_cores.specs.declared.Core.{Core}
@@ -57,6 +58,11 @@ use Rattle.rtgs_ledger.proofs.Whole.{Held, IsKept, IsOf, IsPrepared, Whole, book
 use Rattle.rtgs_lists.proofs.Filters.{filter_nothing}
 use Rattle.rtgs_lists.proofs.Lists.{all_of}
 use Rattle.rtgs_lists.proofs.Numbers.{eq_self, int_eq_self}
+
+pub too_early_is : (book : Book) (due : Option ℕ) (b : Bool) → is_too_early book.day.date due ≡ b
+    → is_due_too_early book due ≡ b
+too_early_is book None b e = e
+too_early_is book (Some due) b e = e
 
 module _ (book : Book) (sender reference receiver : List ℕ) (amount : ℕ) (due : Option ℕ) where
   pub unknown : is_participant book sender ≡ false → Step book (command.Order sender reference receiver amount due)
@@ -98,17 +104,18 @@ module _ (book : Book) (sender reference receiver : List ℕ) (amount : ℕ) (du
         same_party same = rw (known, unused, opened, there, same) refl
 
         module _ (apart : bytes_eq sender receiver ≡ false) where
-          pub due_not_later : is_due_too_early book due ≡ true
-              → Step book (command.Order sender reference receiver amount due) (Err DueNotLater) book
+          pub due_refused : (refusal : Refusal) → IsDueRefused book.day.date due refusal
+              → Step book (command.Order sender reference receiver amount due) (Err refusal) book
+              × (is_judged (Err refusal) ≡ true)
           unfolding order first_of
-          due_not_later early = rw (known, unused, opened, there, apart, early) refl
+          due_refused refusal (inl early) =
+              let is_early = too_early_is book due true early.1 in
+              (rw (early.0, known, unused, opened, there, apart, is_early) refl, rw early.0 refl)
+          due_refused refusal (inr free) =
+              let later = too_early_is book due false free.1 in
+              (rw (free.0, known, unused, opened, there, apart, later, free.2) refl, rw free.0 refl)
 
           module _ (later : is_due_too_early book due ≡ false) where
-            pub due_weekend : is_due_on_a_weekend due ≡ true
-                → Step book (command.Order sender reference receiver amount due) (Err Weekend) book
-            unfolding order first_of
-            due_weekend free = rw (known, unused, opened, there, apart, later, free) refl
-
             module _ (working : is_due_on_a_weekend due ≡ false) where
               pub numbers_used_up : nat_le LARGEST_NUMBER (length book.orders) ≡ true
                   → Step book (command.Order sender reference receiver amount due) (Err NumbersUsedUp) book
@@ -193,11 +200,6 @@ pub waiting_all : (book : Book) (os : List Order) (sender : List ℕ) → os ≡
 unfolding waiting
 waiting_all book os sender e = ap (λ (xs : List Order). length (numbers_among is_queued_state xs sender)
     + length (numbers_among is_held_state xs sender)) e ∙ waiting_count sender book.orders
-
-pub too_early_is : (book : Book) (due : Option ℕ) (b : Bool) → is_too_early book.day.date due ≡ b
-    → is_due_too_early book due ≡ b
-too_early_is book None b e = e
-too_early_is book (Some due) b e = e
 
 pub none_is : (due : Option ℕ) → is_none due ≡ true → due ≡ None
 none_is None e = refl

@@ -10,7 +10,7 @@ ghost use Rattle.rtgs_ledger.specs.Kinds.{CanAnswer, is_of_the_store};
 
 use super::Ledger;
 use rtgs_book::{
-    Answer, Change, Command, Day, Known, Order, OrderState, Phase, Refusal, RowChange, Rows, laws,
+    Answer, Change, Command, Day, Known, Order, Phase, Refusal, RowChange, Rows, laws,
 };
 use rtgs_money::BusinessDate;
 use rtgs_queues::laws::numbers_lead_to_orders;
@@ -89,6 +89,6 @@ fn is_due(order: &Order, date: BusinessDate) -> bool
 {
     match order.due {
         None => false,
-        Some(due) => order.state == OrderState::Held && due <= date,
+        Some(due) => order.state.is_held() && due <= date,
     }
 }

@@ -17,7 +17,7 @@ ghost use Rattle.rtgs_cores.specs.Cores.{IsCoreOf};
 ghost use Rattle.rtgs_records.specs.Held.{HasRoom};
 ghost use Rattle.rtgs_ledger.specs.Kept.{IsPrepared, IsCommandRefused};
 ghost use Rattle.rtgs_ledger.specs.Kinds.{CanAnswer, is_of_the_store};
-ghost use Rattle.rtgs_ledger.specs.Ordering.{IsTaken, is_too_early, waiting_answer};
+ghost use Rattle.rtgs_ledger.specs.Ordering.{IsTaken, IsDueRefused, is_too_early, waiting_answer};
 
 use super::Ledger;
 use rtgs_accounts::sums::{with_less, with_more};
@@ -74,23 +74,14 @@ impl Ledger {
         if sender == receiver {
             return Err(Refusal::SameParty);
         }
-        if is_too_early(&self.records, &due) {
-            return Err(Refusal::DueNotLater);
-        }
-        if is_on_a_weekend(&due) {
-            return Err(Refusal::Weekend);
-        }
+        check_due(&self.records, &due)?;
         if self.records.orders.next() > LARGEST_NUMBER as u64 {
             return Err(Refusal::NumbersUsedUp);
         }
-        let order = self.records.next_order(
-            sender,
-            reference,
-            receiver,
-            amount,
-            date_of(&due, date),
-            due,
-        );
+        let order_date = date_of(&due, date);
+        let order = self
+            .records
+            .next_order(sender, reference, receiver, amount, order_date, due);
         if settles_now(&self.records, &debtor, amount, &due) {
             return self.prepare_settled(&order, &debtor, &creditor);
         }
@@ -230,6 +221,21 @@ fn is_same_due(one: &Option<BusinessDate>, other: &Option<BusinessDate>) -> bool
     }
 }
 
+// Refuses a due date that is not later than the last date of the desk, and then one that is a Saturday or a Sunday.
+fn check_due(records: &Records, due: &Option<BusinessDate>) -> Result<(), Refusal>
+    ensures passed { IfOk result (λ _. (is_too_early records.now.day.date due.now ≡ false)
+        × (is_due_on_a_weekend due.now ≡ false)) }
+    ensures refused { IfErr result (IsDueRefused records.now.day.date due.now) }
+{
+    if is_too_early(records, due) {
+        return Err(Refusal::DueNotLater);
+    }
+    if is_on_a_weekend(due) {
+        return Err(Refusal::Weekend);
+    }
+    Ok(())
+}
+
 // Whether there is a due date, and it is not later than the last date of the desk.
 fn is_too_early(records: &Records, due: &Option<BusinessDate>) -> bool
     ensures { result ≡ is_too_early records.now.day.date due.now }
@@ -267,7 +273,8 @@ fn settles_now(
     amount: Amount,
     due: &Option<BusinessDate>,
 ) -> bool
-    ensures value { result ≡ (is_none due.now && (is_empty (queued_numbers records.now.orders.orders (code_of debtor.now))
+    ensures value { result ≡ (is_none due.now
+        && (is_empty (queued_numbers records.now.orders.orders (code_of debtor.now))
         && int_le (floor_at records.now.day.phase debtor.now.participant.credit)
         (debtor.now.balance -ℤ pos amount))) }
     ensures fits { IsAmount amount }

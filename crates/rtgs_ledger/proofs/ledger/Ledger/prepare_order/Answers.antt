@@ -2,6 +2,7 @@ use Rattle.rtgs_book.specs.declared.command.Command.TheVariants as command
 use Rattle.std.proofs.Common.{◌≡◌, ◌∙◌, sym, ap, subst, find, Some, nat_le, length, true, false, not, ◌&&◌, inr}
 use Rattle.std.proofs.Common.{refl, arith}
 use Rattle.std.proofs.lemmas.Bool.Decides.{nat_tests}
+use Rattle.std.proofs.lemmas.Result.{err_from_is_err_and}
 use Rattle.rtgs_book.specs.declared.answer.Known.TheVariants as known
 use Rattle.rtgs_book.specs.declared.limits.TheConstants.{LONGEST_QUEUE, LARGEST_NUMBER}
 use Rattle.rtgs_book.specs.Commands.{settles_at_once, settles_now}
@@ -12,7 +13,7 @@ use Rattle.rtgs_ledger.proofs.Reading.{numbers_are}
 use Rattle.rtgs_ledger.proofs.Kept.{is_known, is_unknown, prepared_repeat}
 use Rattle.rtgs_ledger.proofs.Ordering.{unknown, repeats, reference_used, not_open, unknown_receiver, same_party}
 use Rattle.rtgs_ledger.proofs.Ordering.{numbers_used_up, queue_full, shut_now, open_now, settles_is, order_taken}
-use Rattle.rtgs_ledger.proofs.Ordering.{due_not_later, due_weekend, too_early_is, none_is, waiting_all}
+use Rattle.rtgs_ledger.proofs.Ordering.{due_refused, too_early_is, none_is, waiting_all}
 use Rattle.rtgs_book.specs.declared.book.Book.{Book}
 use Rattle.rtgs_ledger.proofs.Whole.{held_of, book_of, whole, is_of_book, to_refused, to_prepared}
 use Rattle.rtgs_ledger.proofs.ledger.Ledger.prepare_order.Goals as goal
@@ -117,9 +118,9 @@ returns-then-eq-clause-refused c book is found =
       refl,
     ))
 
-pub returns-then-is_too_early-clause-refused : goal.returns-then-is_too_early-clause-refused
+pub returns-in_err-check_due-clause-refused : goal.returns-in_err-check_due-clause-refused
 unfolding order_named
-returns-then-is_too_early-clause-refused c book is found =
+returns-in_err-check_due-clause-refused c book is found =
     let of = is_of_book book c.self.inside.records c.args.self.now c.self.view_is is in
     let r = whole book c.self.inside.records in
     let found_here : c.args.found ≡ order_named (book_of r) c.args.sender c.args.reference = found
@@ -129,34 +130,13 @@ returns-then-is_too_early-clause-refused c book is found =
     in
     let receiver = is_known r of.kept c.args.receiver c.in-Some-get.creditor
     (sym c.get-2.ensures ∙ c.in-Some-get.is) in
-    to_refused book c.self.inside.records c.args.self.now.core of
+    let given = err_from_is_err_and c.from_residual.result c.from_residual.ensures.1 in
+    rw (given.1, given.2) (to_refused book c.self.inside.records c.args.self.now.core of
     (command.Order c.args.sender c.args.reference c.args.receiver c.args.amount c.args.due) _ (inr (
-      due_not_later (book_of r) c.args.sender c.args.reference c.args.receiver c.args.amount c.args.due
-          there (sym found_here ∙ c.in_default-found.is) opened receiver (sym c.eq.ensures ∙ c.if-eq.false)
-          (too_early_is (book_of r) c.args.due _ (sym c.is_too_early.ensures ∙ c.if-is_too_early.true)),
-      refl,
-    ))
-
-pub returns-then-is_on_a_weekend-clause-refused : goal.returns-then-is_on_a_weekend-clause-refused
-unfolding order_named
-returns-then-is_on_a_weekend-clause-refused c book is found =
-    let of = is_of_book book c.self.inside.records c.args.self.now c.self.view_is is in
-    let r = whole book c.self.inside.records in
-    let found_here : c.args.found ≡ order_named (book_of r) c.args.sender c.args.reference = found
-    ∙ ap (λ (b : Book). order_named b c.args.sender c.args.reference) (sym of.same) in
-    let there = is_known r of.kept c.args.sender c.in-Some.debtor (sym c.get.ensures ∙ c.in-Some.is) in
-    let opened = open_now r of.kept c.in-Some-open_date.date (sym c.open_date.ensures ∙ c.in-Some-open_date.is)
-    in
-    let receiver = is_known r of.kept c.args.receiver c.in-Some-get.creditor
-    (sym c.get-2.ensures ∙ c.in-Some-get.is) in
-    to_refused book c.self.inside.records c.args.self.now.core of
-    (command.Order c.args.sender c.args.reference c.args.receiver c.args.amount c.args.due) _ (inr (
-      due_weekend (book_of r) c.args.sender c.args.reference c.args.receiver c.args.amount c.args.due
-          there (sym found_here ∙ c.in_default-found.is) opened receiver (sym c.eq.ensures ∙ c.if-eq.false)
-          (too_early_is (book_of r) c.args.due _ (sym c.is_too_early.ensures ∙ c.if-is_too_early.false))
-          (sym c.is_on_a_weekend.ensures ∙ c.if-is_on_a_weekend.true),
-      refl,
-    ))
+    due_refused (book_of r) c.args.sender c.args.reference c.args.receiver c.args.amount c.args.due there
+    (sym found_here ∙ c.in_default-found.is) opened receiver (sym c.eq.ensures ∙ c.if-eq.false) _
+    c.in_err-check_due.ensures.refused
+    )))
 
 pub returns-then-next-clause-refused : goal.returns-then-next-clause-refused
 unfolding order_named
@@ -177,8 +157,8 @@ returns-then-next-clause-refused c book is found =
     (command.Order c.args.sender c.args.reference c.args.receiver c.args.amount c.args.due) _ (inr (
       numbers_used_up (book_of r) c.args.sender c.args.reference c.args.receiver c.args.amount c.args.due
           there (sym found_here ∙ c.in_default-found.is) opened receiver (sym c.eq.ensures ∙ c.if-eq.false)
-          (too_early_is (book_of r) c.args.due _ (sym c.is_too_early.ensures ∙ c.if-is_too_early.false))
-          (sym c.is_on_a_weekend.ensures ∙ c.if-is_on_a_weekend.false) many,
+          (too_early_is (book_of r) c.args.due _ c.in_ok-check_due.ensures.passed.0)
+          c.in_ok-check_due.ensures.passed.1 many,
       refl,
     ))
 
@@ -202,10 +182,10 @@ returns-then-settles_now-clause-prepared c book is found =
     let o = c.next_order-order.result in
     let taken = order_taken book c.self.inside.records c.args.self.now.core of c.args.sender c.args.reference
     c.args.receiver c.args.amount c.in-Some-open_date.date c.args.due c.in-Some.debtor c.in-Some-get.creditor o
-    (rw c.date_of.ensures at c.next_order-order.ensures) from (sym found_here ∙ c.in_default-found.is)
+    (rw c.date_of-order_date.ensures at c.next_order-order.ensures) from (sym found_here ∙ c.in_default-found.is)
     (sym c.open_date.ensures ∙ c.in-Some-open_date.is) to (sym c.eq.ensures ∙ c.if-eq.false)
-    (too_early_is (book_of r) c.args.due _ (sym c.is_too_early.ensures ∙ c.if-is_too_early.false))
-    (sym c.is_on_a_weekend.ensures ∙ c.if-is_on_a_weekend.false) few
+    (too_early_is (book_of r) c.args.due _ c.in_ok-check_due.ensures.passed.0)
+    c.in_ok-check_due.ensures.passed.1 few
     c.settles_now.ensures.fits (rw (both.0, settles) refl) in
     let settles_it : settles_at_once book o.sender o.amount ≡ true =
     rw c.next_order-order.ensures (subst (λ (b : Book). settles_at_once b c.args.sender c.args.amount
@@ -248,8 +228,8 @@ returns-then-count-ge-LONGEST_QUEUE-clause-refused c book is found =
       queue_full (book_of r) c.args.sender c.args.reference c.args.receiver c.args.amount c.args.due
           (is_known r of.kept c.args.sender c.in-Some.debtor from) (sym found_here ∙ c.in_default-found.is)
           opened receiver (sym c.eq.ensures ∙ c.if-eq.false)
-          (too_early_is (book_of r) c.args.due _ (sym c.is_too_early.ensures ∙ c.if-is_too_early.false))
-          (sym c.is_on_a_weekend.ensures ∙ c.if-is_on_a_weekend.false) few waits full,
+          (too_early_is (book_of r) c.args.due _ c.in_ok-check_due.ensures.passed.0)
+          c.in_ok-check_due.ensures.passed.1 few waits full,
       refl,
     ))
 
@@ -277,10 +257,10 @@ returns-clause-prepared c book is found =
     let o = c.next_order-order.result in
     let taken = order_taken book c.self.inside.records c.args.self.now.core of c.args.sender c.args.reference
     c.args.receiver c.args.amount c.in-Some-open_date.date c.args.due c.in-Some.debtor c.in-Some-get.creditor o
-    (rw c.date_of.ensures at c.next_order-order.ensures) from (sym found_here ∙ c.in_default-found.is)
+    (rw c.date_of-order_date.ensures at c.next_order-order.ensures) from (sym found_here ∙ c.in_default-found.is)
     (sym c.open_date.ensures ∙ c.in-Some-open_date.is) to (sym c.eq.ensures ∙ c.if-eq.false)
-    (too_early_is (book_of r) c.args.due _ (sym c.is_too_early.ensures ∙ c.if-is_too_early.false))
-    (sym c.is_on_a_weekend.ensures ∙ c.if-is_on_a_weekend.false) few
+    (too_early_is (book_of r) c.args.due _ c.in_ok-check_due.ensures.passed.0)
+    c.in_ok-check_due.ensures.passed.1 few
     c.settles_now.ensures.fits (and_right_false (not (settles_now (book_of r) c.args.sender c.args.amount c.args.due))
     (nat_le LONGEST_QUEUE (length (waiting (book_of r) c.args.sender))) short) in
     let waits_it : settles_now book o.sender o.amount o.due ≡ false =
