@@ -29,7 +29,7 @@ use Rattle.rtgs_sql_loading.specs.Accounts.{Telling, TellsOf, AreTheRecords, Are
 use Rattle.rtgs_sql_loading.specs.Displaying.{IsUnread, IsIllegible}
 use Rattle.rtgs_sql_loading.specs.Joining.{AreJoined}
 use Rattle.rtgs_sql_loading.specs.Loading.{IsToldBy, ReadsRecords, TellsRecords}
-use Rattle.rtgs_sql_loading.proofs.Joining.{joined_once, joined_fit}
+use Rattle.rtgs_sql_loading.proofs.Joining.{joined_once, joined_fit, joined_held}
 use Rattle.rtgs_sql_loading.proofs.Dues.{book_joined}
 use Rattle.rtgs_sql_loading.proofs.OwnRows.{IsOwn, owns, all_own, posting_own, order_own, mark_own, forward_own}
 use Rattle.rtgs_sql_loading.proofs.Versions.{Has, has_counted, has_no_more, each_first, each_last, each_had, one_had}
@@ -49,6 +49,7 @@ pub both : {version : ℕ} {P Q R : Telling} {accounts : List Account} {book : B
     → R table counted told) → AreTheRecords version R accounts book
 both {version = version} {P = P} {Q = Q} {R = R} {accounts = accounts} {book = book} one other on = record {
   fits = one.fits;
+  dues = one.dues;
   named = one.named;
   no_more = one.no_more;
   tells = each_both {P = TellsOf version P accounts book} {Q = TellsOf version Q accounts book}
@@ -89,6 +90,7 @@ own_records {version = version} {accounts = accounts} {book = book} are low =
     let all : Each each records_of_tables = (day, (stored, (postings, (orders, (marks, (forwards, tt)))))) in
     record {
       fits = are.fits;
+      dues = are.dues;
       named = are.named;
       no_more = are.no_more;
       tells = each_first each (table_count version) records_of_tables all;
@@ -179,6 +181,7 @@ pub tells : (version : ℕ) → IsVersion version → (s : State) (accounts : Li
 tells version known s accounts book named joined reads =
     let told : AreTheRecords version (IsToldBy version s) accounts book = record {
       fits = all_fit version s accounts book named joined reads;
+      dues = joined_held (map without_due book.orders) (forwards_of book.orders) book.orders joined;
       named = named;
       no_more = none_beyond version known s accounts book reads;
       tells = each_both {P = Has version}

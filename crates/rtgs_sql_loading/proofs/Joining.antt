@@ -11,6 +11,7 @@ use Rattle.std.specs.Ordering.{int_cmp}
 use Rattle.std.specs.declared.cmp.Ordering.{Ordering}
 use Rattle.std.specs.declared.cmp.Ordering.TheVariants.{Less, Equal}
 use Rattle.rtgs_book.specs.declared.Order.{Order}
+use Rattle.rtgs_book.specs.Books.{is_held}
 use Rattle.rtgs_rows.specs.Content.{Rise}
 use Rattle.rtgs_rows.specs.Dues.{without_due, forward_for, forwards_of, IsHeldByDue}
 use Rattle.rtgs_rows.specs.Fitting.{FitsDate, FitsPayment, FitsOrder, FitsForward}
@@ -123,6 +124,19 @@ joined_fit (p ∷ payments) forwards (o ∷ orders) joined plain dated =
       subst FitsOrder (sym same) (record { payment = plain.0.0; due = subst FitsDate (sym plain.0.1) tt }),
       more (subst (AllByRecursion FitsForward) (sym stays) dated),
     )
+
+-- and none of them is held without a due date
+pub joined_held : (payments : List Order) (forwards : List Forward) (orders : List Order)
+    → AreJoined payments forwards orders → AllByRecursion IsHeldByDue orders
+joined_held [] forwards orders joined = subst (AllByRecursion IsHeldByDue) (sym joined.1) tt
+joined_held (p ∷ payments) forwards [] joined = absurd joined
+joined_held (p ∷ payments) forwards (o ∷ orders) joined =
+    (by joined.1, joined_held payments joined.0 orders joined.2)
+  where
+    by : Takes p forwards o joined.0 → IsHeldByDue o
+    by (inl (due, is, same)) none =
+        let clash : ◌≡◌ {A = Option ℕ} (Some due) None = sym (ap (λ (it : Order). it.due) same) ∙ none in absurd cc
+    by (inr (free, apart, stays, same)) none = ap is_held same ∙ free
 
 -- ---- orders in the order of their numbers are joined
 

@@ -15,6 +15,7 @@ use Rattle.rtgs_book.specs.declared.Rule.{Rule}
 use Rattle.rtgs_book.specs.declared.Rule.TheVariants.{StoredBalances}
 use Rattle.rtgs_book.specs.Judgement.{Keeps, KeepsBefore}
 use Rattle.rtgs_book.specs.declared.Day.{Day}
+use Rattle.rtgs_rows.specs.Dues.{IsHeldByDue}
 use Rattle.rtgs_rows.specs.Fitting.{HasFormedValues, FitsDate}
 use Rattle.rtgs_rows.specs.Keeping.{AreBalances}
 use Rattle.rtgs_rows.specs.Rows.{shown_day}
@@ -41,10 +42,11 @@ abbrev pub TellsOf : ℕ → Telling → List Account → Book → (A : Type 0) 
 TellsOf version Tells accounts book A records =
     Tells records.table records.counted (map records.shown (records.of_book version accounts book))
 
--- These are the records of the tables that this version has, all of them: each value is in its form and range, and
--- `Tells` holds of each table and of the rows of its records.
+-- These are the records of the tables that this version has, all of them: each value is in its form and range, each
+-- held order has a due date, and `Tells` holds of each table and of the rows of its records.
 pub record AreTheRecords (version : ℕ) (Tells : Telling) (accounts : List Account) (book : Book) : Type 0 where
   pub fits : HasFormedValues book
+  pub dues : AllByRecursion IsHeldByDue book.orders
   pub named : book.participants ≡ map (λ (a : Account). a.participant) accounts
   pub tells : Each (TellsOf version Tells accounts book) (records_in version)
   pub no_more : HasNoneBeyond version accounts book

@@ -1,20 +1,12 @@
 //! Orders and their due dates, which are read from two tables.
 ghost use Rattle.std.specs.Prelude.{◌≡◌, ◌≤◌, ◌<◌, ◌+◌, true, false, List, None, ◌∷◌, drop, length};
 ghost use Rattle.std.specs.Prelude.{IfOk, IfErr, IfSome};
-ghost use Rattle.rtgs_book.specs.Books.{is_held};
 ghost use Rattle.rtgs_book.specs.declared.Order.{Order as OrderSpec};
 ghost use Rattle.rtgs_sql_loading.specs.Joining.{IsNotNext, Takes, TakesNone, AreJoined};
 
-use rtgs_book::{Fault, Order, OrderState};
+use rtgs_book::{Fault, Order};
 use rtgs_money::BusinessDate;
 use rtgs_rows::Forward;
-
-/// Whether the order is held.
-fn is_held(order: &Order) -> bool
-    ensures { result ≡ is_held order.now }
-{
-    order.state == OrderState::Held
-}
 
 /// The due date at this place, where it is that of the order.
 fn own_due(order: &Order, forwards: &[Forward], place: usize) -> Option<BusinessDate>
@@ -45,7 +37,7 @@ fn take_due(order: &mut Order, forwards: &[Forward], place: usize) -> Option<usi
             order.due = Some(due);
             Some(place + 1)
         }
-        None if is_held(order) => None,
+        None if order.state.is_held() => None,
         None => Some(place),
     }
 }
