@@ -1,10 +1,16 @@
 -- Orders and their due dates, which a look finds in another table.
 use Rattle.std.proofs.Common.{◌≡◌, ◌≢◌, inl, inr, ℕ, ◌<◌, ◌==◌, Bool, false, List, [], ◌∷◌, ◌++◌, map, Option}
-use Rattle.std.proofs.Common.{Some, None, option_map, eqb-true, eq-eqb, refl, ap, subst, ◌∙◌, arith}
+use Rattle.std.proofs.Common.{Some, None, option_map, is_some, eqb-true, eq-eqb, true≢false, refl, sym, ap, subst}
+use Rattle.std.proofs.Common.{◌∙◌, arith}
 use Rattle.std.specs.List.{AllByRecursion, find}
 use Rattle.std.proofs.lemmas.Bool.{cases_Bool}
+use Rattle.rtgs_book.specs.Books.{is_held}
+use Rattle.rtgs_book.specs.Settle.{today}
+use Rattle.rtgs_book.specs.Soundness.{FitsDue, IsSound}
+use Rattle.rtgs_book.specs.declared.Book.{Book}
 use Rattle.rtgs_book.specs.declared.Order.{Order}
 use Rattle.rtgs_cores.specs.Nexts.{AreNumberedInOrder}
+use Rattle.rtgs_lists.proofs.Finds.{all_found}
 use Rattle.rtgs_rows.specs.Dues.{without_due, forward_for, forwards_of}
 use Rattle.rtgs_rows.specs.Fitting.{FitsDate, FitsPayment, FitsOrder, FitsForward}
 use Rattle.rtgs_rows.specs.Rows.{shown_order}
@@ -124,3 +130,14 @@ joined is_it os numbers payment due same is = at (find is_it os) refl same
         let own_due : due ≡ o.due = is ∙ ap (λ n. due_under n (forwards_of os)) number
         ∙ due_of_found is_it os o numbers e in
         λ i. Some (record (one i) { due = own_due i })
+
+-- an order that is found in a sound book is not held without a due date
+pub not_held : (is_it : Order → Bool) (book : Book) → IsSound book → (o : Order)
+    → ◌≡◌ {A = Option Order} (Some o) (find is_it book.orders) → is_some o.due ≡ false → is_held o ≡ false
+not_held is_it book sound o same = by o.due
+    (all_found (λ (it : Order). FitsDue (today book) it.due it.date it.state) is_it book.orders o sound.dates.dues
+    (sym same))
+  where
+    by : (due : Option ℕ) → FitsDue (today book) due o.date o.state → is_some due ≡ false → is_held o ≡ false
+    by None fits none = fits
+    by (Some due) fits none = absurd (true≢false none)

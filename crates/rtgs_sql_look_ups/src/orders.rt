@@ -1,11 +1,12 @@
 //! Looking up orders. An order is two rows: one without its due date, and one with it where it has one.
-ghost use Rattle.std.specs.Prelude.{◌≡◌, Bool, IfOk, option_map};
+ghost use Rattle.std.specs.Prelude.{◌≡◌, Bool, Some, Ok, IfOk, IfErr, IfSome, option_map};
 ghost use Rattle.std.specs.List.{find};
 ghost use Rattle.rtgs_book.specs.declared.Book.{Book};
 ghost use Rattle.rtgs_book.specs.declared.Order.{Order as OrderSpec};
 ghost use Rattle.rtgs_book.specs.Lookup.{order_named};
+ghost use Rattle.rtgs_book.specs.Soundness.{IsSound};
 ghost use Rattle.rtgs_cores.specs.Nexts.{order_after};
-ghost use Rattle.rtgs_rows.specs.Dues.{without_due, forwards_of};
+ghost use Rattle.rtgs_rows.specs.Dues.{without_due, forwards_of, IsHeldByDue};
 ghost use Rattle.rtgs_rows.specs.Keeping.{HoldsBook};
 ghost use Rattle.rtgs_sql_look_ups.specs.Finding.{IsLook, due_under};
 ghost use Rattle.sqlite.specs.State.{HasCleanDisk};
@@ -47,6 +48,21 @@ fn due_date<S: Alter>(conn: &mut Connection<S>, number: u64) -> Result<Option<Bu
     }
 }
 
+/// The order of a row, with this due date. No order of a sound book is held without one: that is a fault of the store.
+fn dated(payment: Order, due: Option<BusinessDate>) -> Result<Option<Order>, Fault>
+    ensures right { (book : Book) → IsSound book → (is_it : OrderSpec → Bool)
+        → Some (record payment { due = due }) ≡ find is_it book.orders → result ≡ Ok (find is_it book.orders) }
+    ensures dues { IfOk result (λ found. IfSome found IsHeldByDue) }
+    ensures fault { IfErr result (λ fault. fault ≡ Fault.StoreFault) }
+{
+    if due.is_none() && payment.state.is_held() {
+        return Err(Fault::StoreFault);
+    }
+    let mut order = payment;
+    order.due = due;
+    Ok(Some(order))
+}
+
 /// The order of a row with its due date, where there is a row.
 fn with_due<S: Alter>(
     conn: &mut Connection<S>,
@@ -56,21 +72,20 @@ fn with_due<S: Alter>(
     ensures found { HasCleanDisk (state S.Store conn.new) → (book : Book) → HoldsBook S.Store conn.old book
         → (is_it : OrderSpec → Bool) → payment ≡ option_map without_due (find is_it book.orders)
         → IfOk result (λ found. found ≡ find is_it book.orders) }
+    ensures dues { IfOk result (λ found. IfSome found IsHeldByDue) }
 {
     records_are_listed();
-    let Some(mut order) = payment else {
+    let Some(order) = payment else {
         return Ok(None);
     };
     match due_date(conn, order.number) {
-        Ok(due) => {
-            order.due = due;
-            Ok(Some(order))
-        }
+        Ok(due) => dated(order, due),
         Err(fault) => Err(fault),
     }
 }
 
-/// The order that the sender gave this reference, where the tables have one.
+/// The order that the sender gave this reference, where the tables have one. None that is given is held without a due
+/// date.
 pub fn find_order<S: Alter>(
     conn: &mut Connection<S>,
     sender: &Code,
@@ -79,6 +94,7 @@ pub fn find_order<S: Alter>(
     ensures looks { IsLook S.Store conn.old conn.new result }
     ensures found { HasCleanDisk (state S.Store conn.new) → (book : Book) → HoldsBook S.Store conn.old book
         → IfOk result (λ found. found ≡ order_named book sender.now reference.now) }
+    ensures dues { IfOk result (λ found. IfSome found IsHeldByDue) }
 {
     match named_payment(conn, sender, reference) {
         Ok(payment) => with_due(conn, payment),
@@ -86,7 +102,7 @@ pub fn find_order<S: Alter>(
     }
 }
 
-/// The order of the date with the least number above this one.
+/// The order of the date with the least number above this one. None that is given is held without a due date.
 pub fn next_order<S: Alter>(
     conn: &mut Connection<S>,
     date: BusinessDate,
@@ -95,6 +111,7 @@ pub fn next_order<S: Alter>(
     ensures looks { IsLook S.Store conn.old conn.new result }
     ensures found { HasCleanDisk (state S.Store conn.new) → (book : Book) → HoldsBook S.Store conn.old book
         → IfOk result (λ found. found ≡ order_after book date number) }
+    ensures dues { IfOk result (λ found. IfSome found IsHeldByDue) }
 {
     match payment_after(conn, date, number) {
         Ok(payment) => with_due(conn, payment),
