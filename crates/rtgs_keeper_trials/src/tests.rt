@@ -6,6 +6,7 @@ mod creation;
 mod disks;
 mod faults;
 mod found;
+mod held_faults;
 mod later_days;
 mod look_ups;
 mod memory;

@@ -24,9 +24,9 @@ fn each_of_the_keeper(alloc: Global, trial: &Trial) -> Result<usize, Fail> {
     }
 }
 
-// Tries the commands with each failure. It fails unless they met one of the log in so many runs, one of the database
-// file in so many, and one of the keeper in so many.
-fn meets(alloc: Global, trial: &Trial, told: [usize; 3]) -> Result<(), Fail> {
+/// Tries the commands with each failure. It fails unless they met one of the log in so many runs, one of the database
+/// file in so many, and one of the keeper in so many.
+pub fn meets(alloc: Global, trial: &Trial, told: [usize; 3]) -> Result<(), Fail> {
     let keeper = each_of_the_keeper(alloc, trial)?;
     let (log, db) = failures_of_two::<InMemory, OnDisks>(
         alloc,
@@ -55,6 +55,7 @@ order GAMA G-1 ALFA 5 => Ok(Queued { number: 5, place: 1 })";
 
 const RESOLUTION: Trial = Trial {
     before: CASCADE,
+    held: 0,
     rows: "resolve => Ok(Resolved { mark: 1, count: 2, value: Cents(110) }) => Ok(Nothing)",
     is_batch: false,
     standings: "\
@@ -72,6 +73,7 @@ const BATCH: Trial = Trial {
     before: "\
 post ALFA P-1 150 => Ok(Posted { number: 1 })
 open 2024-03-04 => Ok(Opened)",
+    held: 0,
     rows: "\
 order ALFA A-1 BETA 100 => Ok(Settled { number: 1, mark: 1 }) => Ok(Repeated(Order { number: 1, state: Settled(1) }))
 order ALFA A-2 GAMA 50 => Ok(Settled { number: 2, mark: 2 }) => Ok(Repeated(Order { number: 2, state: Settled(2) }))
@@ -96,6 +98,7 @@ open 2024-03-04 => Ok(Opened)
 order ALFA A-1 BETA 100 => Ok(Queued { number: 1, place: 1 })
 order BETA B-1 GAMA 90 => Ok(Queued { number: 2, place: 1 })
 cutoff 2024-03-04 => Ok(CutOffDone)",
+    held: 0,
     rows: "close 2024-03-04 => Ok(Closed { rejected: 2 }) => Ok(Repeated(Nothing))",
     is_batch: false,
     standings: "\
@@ -113,6 +116,7 @@ const NEW_ORDER: Trial = Trial {
     before: "\
 open 2024-03-04 => Ok(Opened)
 credit ALFA 100 => Ok(CreditSet)",
+    held: 0,
     rows: "\
 order ALFA A-1 BETA 100 => Ok(Settled { number: 1, mark: 1 }) => Ok(Repeated(Order { number: 1, state: Settled(1) }))",
     is_batch: false,
@@ -131,6 +135,7 @@ const ORDER_THAT_WAITS: Trial = Trial {
     before: "\
 open 2024-03-04 => Ok(Opened)
 credit ALFA 100 => Ok(CreditSet)",
+    held: 0,
     rows: "\
 order ALFA A-1 BETA 101 => Ok(Queued { number: 1, place: 1 }) => Ok(Repeated(Order { number: 1, state: Queued }))",
     is_batch: false,
@@ -154,6 +159,7 @@ const REPEATED_ORDER: Trial = Trial {
 open 2024-03-04 => Ok(Opened)
 credit ALFA 100 => Ok(CreditSet)
 order ALFA A-1 BETA 100 => Ok(Settled { number: 1, mark: 1 })",
+    held: 0,
     rows: "\
 order ALFA A-1 BETA 100 => Ok(Repeated(Order { number: 1, state: Settled(1) })) => \
 Ok(Repeated(Order { number: 1, state: Settled(1) }))",
@@ -171,6 +177,7 @@ fn an_order_that_comes_again_changes_nothing(rt: HostRuntime) -> Result<(), Fail
 
 const OPENING: Trial = Trial {
     before: CASCADE,
+    held: 0,
     rows: "",
     is_batch: false,
     standings: "[(10, 2), (0, 2), (0, 1)]",
@@ -179,6 +186,7 @@ const OPENING: Trial = Trial {
 
 const OPENING_AFTER_A_CRASH: Trial = Trial {
     before: CASCADE,
+    held: 0,
     rows: "",
     is_batch: false,
     standings: "[(10, 2), (0, 2), (0, 1)]",

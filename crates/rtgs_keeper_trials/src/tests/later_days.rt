@@ -11,6 +11,7 @@ use std::test::Fail;
 fn answer(alloc: Global, rows: &'static str, standings: &'static str) -> Result<(), Fail> {
     let trial = Trial {
         before: "open 2024-03-04 => Ok(Opened)",
+        held: 0,
         rows,
         is_batch: false,
         standings,

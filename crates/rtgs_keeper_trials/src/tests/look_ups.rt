@@ -43,6 +43,7 @@ fn acts_after_a_restart<S: Store>(
     let mut store = S::blank(alloc);
     let trial = Trial {
         before: COMMANDS,
+        held: 0,
         rows: line,
         is_batch: false,
         standings: "",

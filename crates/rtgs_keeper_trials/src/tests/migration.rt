@@ -29,6 +29,7 @@ order ALFA A-2 GAMA 90 => Ok(Queued { number: 3, place: 1 })
 order ALFA A-3 BETA 1 => Ok(Queued { number: 4, place: 2 })
 order BETA B-1 GAMA 141 => Ok(Queued { number: 5, place: 1 })
 withdraw ALFA A-3 => Ok(Withdrawn { number: 4 })",
+    held: 0,
     rows: "",
     is_batch: false,
     standings: "",

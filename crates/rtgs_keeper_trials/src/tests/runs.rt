@@ -8,7 +8,8 @@ use std::test::Fail;
 /// Makes the store new, with a desk of three banks, after the commands before.
 pub fn begin<S: Store>(alloc: Global, store: &mut S, trial: &Trial) -> Result<(), Fail> {
     *store = S::blank(alloc);
-    let mut work = Work::new(trial.before, false, Part::Begin, trial.is_closed);
+    let part = Part::Begin { held: trial.held };
+    let mut work = Work::new(trial.before, false, part, trial.is_closed);
     match store.session(alloc, true, &mut work)? {
         Ended::Closed if trial.is_closed => Ok(()),
         Ended::Stopped if !trial.is_closed => {

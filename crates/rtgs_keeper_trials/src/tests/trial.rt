@@ -4,15 +4,22 @@ use super::store::{Booked, Job};
 use rtgs_book::Fault;
 use rtgs_desk::Desk;
 use rtgs_keeper::Keeper;
-use rtgs_tests_desks::{answered, begun, is_silent, sent};
+use rtgs_tests_desks::{answered, begun, follows, is_silent, sent};
 use std::alloc::Global;
+use std::fmt::Write;
 use std::test::Fail;
+
+const END_OF_MONDAY: &str = "\
+cutoff 2024-03-04 => Ok(CutOffDone)
+close 2024-03-04 => Ok(Closed { rejected: 0 })";
 
 /// What a desk with three banks is given, in words.
 #[derive(Clone, Copy)]
 pub struct Trial {
     /// Commands before the store fails.
     pub before: &'static str,
+    /// Behind them so many orders of ALFA for Tuesday, and the end of Monday; or neither.
+    pub held: u64,
     /// Commands while it fails. Each has a second answer, for where it comes again. There may be none.
     pub rows: &'static str,
     /// These are orders of ALFA, and come in one batch.
@@ -41,8 +48,8 @@ pub enum Progress {
 pub enum Part {
     /// Nothing is given to a desk.
     Rest,
-    /// The banks are added to a new book, and the commands are given.
-    Begin,
+    /// The banks are added to a new book, and the commands are given, and behind them so many orders for Tuesday.
+    Begin { held: u64 },
     /// So many of the commands are given.
     Give(usize),
     /// So many of the commands are given, of which so many come again, and then what is found is looked at.
@@ -102,12 +109,30 @@ impl Work {
     }
 }
 
+// Gives the desk so many orders of ALFA for Tuesday, and ends Monday. Where there are none, it does nothing.
+fn hold<K: Keeper>(alloc: Global, desk: &mut Desk<K>, held: u64) -> Result<(), Fail> {
+    if held == 0 {
+        return Ok(());
+    }
+    let mut script = String::new(alloc);
+    for number in 1..=held {
+        write!(
+            script,
+            "order ALFA A-{number} BETA 1 due 2024-03-05 => \
+            Ok(Held {{ number: {number}, due: BusinessDate {{ number: 20240305 }} }})\n"
+        )?;
+    }
+    script.push_str(END_OF_MONDAY)?;
+    follows(alloc, desk, script.as_str())
+}
+
 impl Job for Work {
     fn done<K: Booked>(&mut self, alloc: Global, keeper: K) -> Result<(K, bool), Fail> {
         let (known, most) = match self.part {
             Part::Rest => return Ok((keeper, self.closes)),
-            Part::Begin => {
-                let desk = begun(alloc, keeper, self.script)?;
+            Part::Begin { held } => {
+                let mut desk = begun(alloc, keeper, self.script)?;
+                hold(alloc, &mut desk, held)?;
                 return Ok((desk.into_keeper(), self.closes));
             }
             Part::Give(most) => (0, most),
