@@ -21,30 +21,24 @@ PATIENCE = 10
 class Proofs:
     """The proofs of crates, which are given lowest first, and how far they are. `tell` takes a line of that."""
 
-    def __init__(self, rt, crates, tell):
-        self.rt, self.crates, self.tell, self.guard = rt, crates, tell, threading.Lock()
+    def __init__(self, crates, tell):
+        self.crates, self.tell, self.guard = crates, tell, threading.Lock()
         self.start, self.proved = time.monotonic(), 0
         self.behind = {it.name: 0 for it in crates}
         for crate in reversed(crates):
-            for low in crate.below():
+            for low in kit.below(crate):
                 self.behind[low.name] = max(self.behind[low.name], self.behind[crate.name] + 1)
         self.left = set(self.behind)
 
     def are_made(self):
         """Proves what is not proved already, and returns whether all is."""
-        # (its first call sets a signal's handler, which only the main thread may)
-        self.rt.rtlib.guarded()
-        kit.share_work(self.rt)
-        held = self.rt.rtlib.lock(self.crates)
-        is_proved = all(self.rt.in_lanes(self.tasks()).values())
-        for it in held:
-            os.close(it)
-        return is_proved
+        with kit.held(self.crates):
+            return all(kit.in_lanes(self.tasks()).values())
 
     def tasks(self):
-        """Returns the crates as rt's in_lanes takes them: what each waits for, its work, its memory, and its call."""
+        """Returns the crates as kit.in_lanes takes them: what each waits for, its work, its memory, and its call."""
         return {
-            it.name: ([low.name for low in it.below()], 1, MEMORY * self.rt.need(it), self.task(it))
+            it.name: ([low.name for low in kit.below(it)], 1, MEMORY * kit.memory_of(it), self.task(it))
             for it in self.crates
         }
 
@@ -52,9 +46,9 @@ class Proofs:
         """Returns a call that proves the crate with so many jobs once the crates below it are proved."""
 
         def call(given, jobs):
-            if not all(given[it.name] for it in crate.below()):
+            if not all(given[it.name] for it in kit.below(crate)):
                 return False
-            jobs, patience = (self.rt.processors(), 0) if self.is_first(crate) else (jobs, PATIENCE)
+            jobs, patience = (kit.processors(), 0) if self.is_first(crate) else (jobs, PATIENCE)
             # (of a thread, so that what it starts gives way and nothing else)
             with ThreadPoolExecutor(1, initializer=os.nice, initargs=(patience,)) as apart:
                 return apart.submit(self.prove, copy.copy(crate), jobs).result()
@@ -68,13 +62,9 @@ class Proofs:
 
     def prove(self, crate, jobs):
         """Returns whether the crate is proved, and tells it."""
-        with tempfile.TemporaryFile("w+", errors="replace") as crate.out:
-            try:
-                os.makedirs(f"{crate.folder}/out", exist_ok=True)
-                is_proved = crate.build_rlib(["--jobs", str(jobs)], anew=False) == 0
-            except SystemExit:
-                is_proved = False
-            crate.out.seek(0)
+        with tempfile.TemporaryFile("w+", errors="replace") as log:
+            is_proved = kit.is_proved(crate, jobs, log)
+            log.seek(0)
             with self.guard:
                 self.left.remove(crate.name)
                 self.proved += is_proved
@@ -82,6 +72,6 @@ class Proofs:
                 if is_proved:
                     self.tell(f"{self.proved} of {len(self.crates)} crates after {took:.0f} s: {crate.name}")
                 else:
-                    sys.stderr.write(crate.out.read())
+                    sys.stderr.write(log.read())
                     self.tell(f"{crate.name} is not proved")
         return is_proved
