@@ -1,22 +1,16 @@
-#!/usr/bin/env python3
 """Migrates books with tables of version 1, and looks at them with the stock sqlite3.
 
 Makes three books by commands, and of each a copy with tables of version 1. Every command but `init` and `migrate`
 refuses the copy with 93. Once it is migrated, its dump and all that the desk tells of it are those of the book. Then it
 migrates books of version 1 that are broken, each by one rule or form: they must be refused with that rule or with 93,
-and no byte of their files may change. Ends with 1 where anything is otherwise.
+and no byte of their files may change.
 """
-import os
 import shutil
 import subprocess
-import sys
-import tempfile
 
-TOP = os.path.dirname(os.path.dirname(os.path.realpath(__file__)))
-DESK = f"{TOP}/crates/desk/out/desk"
-KEYS = {"ALFA": "a" * 32, "BETA": "b" * 32, "GAMA": "c" * 32}
-OLDER = "DROP TABLE forward; UPDATE desk SET version = 1"
-DAYS = ["2024-03-04", "2024-03-05"]
+from lib import desks
+
+KEYS, DAYS = desks.KEYS, ["2024-03-04", "2024-03-05"]
 
 NEW = ["init @", *[f"add @ {code} {code} {key}" for code, key in KEYS.items()], "post @ BETA P-0 20"]
 DAY = [*NEW, "credit @ ALFA 10", "open @ 2024-03-04", "post @ ALFA P-1 150",
@@ -98,26 +92,19 @@ NO_DESK = [
 
 
 class Books:
-    """Books in a folder, and how many of the things that were looked at were as they must be, or not."""
+    """Books in a folder, and what the check finds of them."""
 
-    def __init__(self, folder):
-        self.folder, self.right, self.wrong = folder, 0, 0
-
-    def sees(self, what, found, wanted):
-        if found == wanted:
-            self.right += 1
-        else:
-            self.wrong += 1
-            print(f"{what}\n  must be: {wanted}\n  is:      {found}")
+    def __init__(self, folder, report):
+        self.folder, self.sees = folder, report.sees
 
     def run(self, book, line):
         """Returns how a run ends and what it prints. Orders behind `import` are those of a file."""
         words = [book if it == "@" else it for it in line.split(" ")]
         if words[0] == "import":
-            with open(f"{self.folder}/orders.csv", "w") as it:
+            with open(f"{self.folder}/orders.csv", "w", encoding="utf-8") as it:
                 it.write("\n".join(["reference,to,amount", *words[3:], ""]))
             words[3:] = [f"{self.folder}/orders.csv"]
-        ran = subprocess.run([DESK, *words], capture_output=True, text=True, timeout=60)
+        ran = subprocess.run([desks.DESK, *words], capture_output=True, text=True, timeout=60, check=False)
         return ran.returncode, ran.stdout + ran.stderr
 
     def made(self, name, commands):
@@ -126,62 +113,47 @@ class Books:
         for line in commands:
             status, said = self.run(book, line)
             if status:
-                sys.exit(f"bin/migrations: {line}: {said}")
+                raise desks.Broken(f"{line}: {said}")
         return book
 
     def copied(self, book, *changes):
         """Returns a copy of the book with tables of version 1, which the stock tool then changed."""
         copy = f"{self.folder}/copy.desk"
-        for end in ("", "-wal", "-shm", ".lock"):
-            if os.path.exists(copy + end):
-                os.remove(copy + end)
+        desks.remove(copy)
         shutil.copy(book, copy)
-        stock(copy, OLDER, *changes)
+        desks.stock(copy, desks.OLDER, *changes)
         return copy
 
     def migrated(self, name, book):
         """Migrates a copy of the book, and compares it with the book."""
         copy = self.copied(book)
-        with open(copy, "rb") as it:
-            before = it.read()
+        before = desks.content(copy)
         for line in OTHERS:
             self.sees(f"{name}: {line}", self.run(copy, line), (3, "refused 93 NotADeskFile\n"))
         self.sees(f"{name}: init", self.run(copy, "init @"), (3, "refused 96 FileExists\n"))
         self.keeps(f"{name}, before its migration", copy, before)
         self.sees(f"{name}: migrate", self.run(copy, "migrate @"), (0, "migrated\n"))
-        self.sees(f"{name}, once migrated", stock(copy, ".dump"), stock(book, ".dump"))
+        self.sees(f"{name}, once migrated", desks.stock(copy, ".dump"), desks.stock(book, ".dump"))
         for line in TOLD:
             self.sees(f"{name}: {line}", self.run(copy, line), self.run(book, line))
-        with open(copy, "rb") as it:
-            after = it.read()
+        after = desks.content(copy)
         self.sees(f"{name}: migrate again", self.run(copy, "migrate @"), (0, "repeated\n"))
         self.keeps(f"{name}, migrated again", copy, after)
 
     def refused(self, book, change, answer):
         """Migrates a copy of the book with this change, which must be refused so."""
         copy = self.copied(book, change)
-        with open(copy, "rb") as it:
-            before = it.read()
+        before = desks.content(copy)
         self.sees(change, self.run(copy, "migrate @"), (3, f"refused {answer}\n"))
         self.keeps(change, copy, before)
 
     def keeps(self, what, file, before):
-        with open(file, "rb") as it:
-            self.sees(f"{what}: the bytes of the file", it.read() == before, True)
+        self.sees(f"{what}: the bytes of the file", desks.content(file) == before, True)
 
 
-def stock(book, *commands):
-    """Does this to the book with the stock tool, and returns what it prints."""
-    ran = subprocess.run(["sqlite3", "-bail", book, *commands], capture_output=True, text=True)
-    if ran.returncode:
-        sys.exit(f"bin/migrations: sqlite3 said {ran.stderr.strip()} at {commands}")
-    return ran.stdout
-
-
-def main():
-    subprocess.run([f"{TOP}/bin/desk", "--help"], check=True, stdout=subprocess.DEVNULL)
-    with tempfile.TemporaryDirectory() as folder:
-        books = Books(folder)
+def run(_given, report):
+    with desks.room() as folder:
+        books = Books(folder, report)
         made = {name: books.made(name, commands) for name, commands in BOOKS.items()}
         for name, book in made.items():
             books.migrated(name, book)
@@ -189,10 +161,5 @@ def main():
             books.refused(made["an open day"], change, f"94 Inconsistent {rule}")
         for change in NO_DESK:
             books.refused(made["an open day"], change, "93 NotADeskFile")
-    print(f"{len(made)} books migrated, {len(UNSOUND)} unsound and {len(NO_DESK)} that are no desk's refused: "
-          f"{books.right} things as they must be, {books.wrong} not")
-    return 1 if books.wrong else 0
-
-
-if __name__ == "__main__":
-    sys.exit(main())
+    report.finds(f"{len(made)} books migrated, {len(UNSOUND)} unsound and {len(NO_DESK)} that are no desk's refused: "
+                 f"{report.right} things as they must be, {report.wrong} not")

@@ -1,31 +1,14 @@
-#!/usr/bin/env python3
-"""Makes books' files as stock tools and damage leave them, and asks the desk for a report on each. Then it makes the
-same files of a book with tables of version 1, and has the desk migrate each.
-
-Prints for each file its length, what the desk answers, how long that took, and what became of the files beside it. Ends
-with 1 where a file was changed by a byte (but by its own log, or since it was migrated), no report can be made of one
-that was migrated, an answer is none of a report, `migrated`, 91, 93 and 94, or a run did not end within a minute. Takes
-words, and then tries the files alone whose names have one. Needs the stock sqlite3.
-"""
+"""Files of books as stock tools and damage leave them: by name, with a page damaged, large ones whose pages lead to one
+another, and as chance changes a file. Each is made of a good book, by a function of its file."""
 import os
 import random
-import re
 import shutil
 import sqlite3
 import struct
 import subprocess
-import sys
-import tempfile
-import time
 
-TOP = os.path.dirname(os.path.dirname(os.path.realpath(__file__)))
-DESK = f"{TOP}/crates/desk/out/desk"
-DATE = "2024-03-04"
-REPORT, MIGRATE = ("report", DATE), ("migrate",)
-OLDER = "DROP TABLE forward; UPDATE desk SET version = 1"
-KEYS = {"ALFA": "a" * 32, "BETA": "b" * 32, "GAMA": "c" * 32}
-ANSWER = re.compile(r"refused 91 StoreFault\n|refused 93 NotADeskFile\n|refused 94 Inconsistent ([1-9]|1[0-4])\n")
-SECONDS = 60
+from lib import desks
+
 SIZES = [512, 1024, 2048, 4096, 8192, 16384, 32768, 65536]
 # The one file that a report changes.
 MOVED_IN = "a log with one commit more"
@@ -33,33 +16,8 @@ MOVED_IN = "a log with one commit more"
 MANY = 10 * 1024 * 1024 // 4096
 
 
-def desk(*words):
-    subprocess.run([DESK, *words], check=True, stdout=subprocess.DEVNULL)
-
-
-def make_book(book):
-    """Makes a book with a day in which orders have settled, one is withdrawn and one waits."""
-    desk("init", book)
-    for code, key in KEYS.items():
-        desk("add", book, code, "A Bank", key)
-    desk("post", book, "ALFA", "P-1", "150")
-    desk("open", book, DATE)
-    orders = f"{book}.csv"
-    with open(orders, "w") as it:
-        it.write("reference,to,amount\nA-1,BETA,100\nA-2,GAMA,50\nA-3,BETA,25\nA-4,GAMA,25\n")
-    desk("import", book, "ALFA", orders)
-    desk("withdraw", book, "ALFA", "A-3")
-
-
-def stock(book, *commands):
-    """Does this to the file with the stock tool."""
-    ran = subprocess.run(["sqlite3", "-bail", book, *commands], capture_output=True, text=True)
-    if ran.returncode:
-        sys.exit(f"bin/hostile-files: sqlite3 said {ran.stderr.strip()} at {commands}")
-
-
 def by_sql(*commands):
-    return lambda book: stock(book, *commands)
+    return lambda book: desks.stock(book, *commands)
 
 
 def with_size(size, *after):
@@ -69,8 +27,8 @@ def with_size(size, *after):
 def dumped(*before):
     """The file as the dump of its tables makes it anew."""
     def dumped(book):
-        dump = subprocess.run(["sqlite3", book, ".dump"], check=True, capture_output=True, text=True).stdout
-        remove(book)
+        dump = desks.stock(book, ".dump")
+        desks.remove(book)
         subprocess.run(["sqlite3", book], input="".join(f"{it};\n" for it in before) + dump, check=True, text=True,
                        stdout=subprocess.DEVNULL)
     return dumped
@@ -78,8 +36,8 @@ def dumped(*before):
 
 def replaced_by(command):
     def replaced(book):
-        stock(book, f"{command} '{book}.new'")
-        remove(book)
+        desks.stock(book, f"{command} '{book}.new'")
+        desks.remove(book)
         os.replace(f"{book}.new", book)
     return replaced
 
@@ -93,14 +51,12 @@ def left_open(mode, *commands):
         link.execute("PRAGMA cache_size = 1")
         for command in commands:
             link.execute(command)
-        for end in ["", "-wal", "-shm", "-journal"]:
-            if os.path.exists(book + end):
-                shutil.copy(book + end, f"{book}.left{end}")
+        for end in desks.parts_of(book):
+            shutil.copy(book + end, f"{book}.left{end}")
         link.close()
-        remove(book)
-        for end in ["", "-wal", "-shm", "-journal"]:
-            if os.path.exists(f"{book}.left{end}"):
-                os.replace(f"{book}.left{end}", book + end)
+        desks.remove(book)
+        for end in desks.parts_of(f"{book}.left"):
+            os.replace(f"{book}.left{end}", book + end)
     return left
 
 
@@ -108,17 +64,10 @@ def with_log(change):
     """The file beside a log with one commit, in which this was changed."""
     def with_log(book):
         left_open("wal", "UPDATE participant SET name = 'B Bank'")(book)
-        with open(f"{book}-wal", "rb") as it:
-            log = it.read()
-        with open(f"{book}-wal", "wb") as it:
-            it.write(change(log))
+        log = change(desks.content(book + desks.LOG))
+        with open(book + desks.LOG, "wb") as it:
+            it.write(log)
     return with_log
-
-
-def remove(book):
-    for end in ["", "-wal", "-shm", "-journal"]:
-        if os.path.exists(book + end):
-            os.remove(book + end)
 
 
 FREED = ("CREATE TABLE more (id INTEGER PRIMARY KEY, filling BLOB)",
@@ -184,17 +133,16 @@ def damaged(how):
 
 
 def damage(book, tenth, how):
-    stock(book, POSTED.format(9999))
+    desks.stock(book, POSTED.format(9999))
     chance = random.Random(tenth)
-    with open(book, "rb") as it:
-        pages = pages_of(it.read())
+    pages = pages_of(desks.content(book))
     at = chance.randrange(len(pages) * tenth // 10, len(pages) * (tenth + 1) // 10)
     how(pages[at], chance)
     rewrite(book, pages)
 
 
 def rewrite(book, pages):
-    remove(book)
+    desks.remove(book)
     with open(book, "wb") as it:
         it.write(b"".join(pages))
 
@@ -227,8 +175,7 @@ def changed_pages(make, change):
     """A file as it is made, and each of its pages changed."""
     def changed(book):
         make(book)
-        with open(book, "rb") as it:
-            pages = pages_of(it.read())
+        pages = pages_of(desks.content(book))
         for number in range(2, len(pages) + 1):
             change(pages, number)
         rewrite(book, pages)
@@ -311,7 +258,7 @@ def all_inner(pages, number):
 def large_files():
     """Files of 10 MB whose pages point at one another, and sound ones of as many bytes beside them."""
     tree, rows = filled(MANY, 40), filled(MANY, 200000)
-    freed = lambda book: (rows(book), stock(book, "DROP TABLE more"))
+    freed = lambda book: (rows(book), desks.stock(book, "DROP TABLE more"))
     yield "10 MB, sound, of short rows", tree
     yield "10 MB, sound, of long rows", rows
     yield "10 MB, sound, of free pages", freed
@@ -321,68 +268,6 @@ def large_files():
         yield f"10 MB, each page of a row has {name} behind it", changed_pages(rows, chains_to(target))
         yield f"10 MB, each free page has {name} behind it", changed_pages(freed, trunks_to(target))
     yield "10 MB, each page has 501 others as its children", changed_pages(tree, all_inner)
-
-
-def sums(book):
-    found = {}
-    for end in ["", "-wal", "-shm", "-journal"]:
-        if os.path.exists(book + end):
-            with open(book + end, "rb") as it:
-                found[end] = it.read()
-    return found
-
-
-def asked(book, request=REPORT):
-    """Returns what the desk says of the file, and after how many seconds."""
-    start = time.monotonic()
-    try:
-        ran = subprocess.run([DESK, request[0], book, *request[1:]], capture_output=True, text=True, timeout=SECONDS)
-    except subprocess.TimeoutExpired:
-        return None, SECONDS
-    took = time.monotonic() - start
-    if ran.returncode == 0 and not ran.stderr:
-        if request == REPORT and ran.stdout.startswith(f"report {DATE}\n"):
-            return "report", took
-        if request == MIGRATE and ran.stdout == "migrated\n":
-            return "migrated", took
-    if ran.returncode == 3 and ANSWER.fullmatch(ran.stderr) and not ran.stdout:
-        return ran.stderr.strip(), took
-    return f"{ran.returncode}: {ran.stdout!r} {ran.stderr!r}", took
-
-
-def became(before, after):
-    """Returns what became of the files beside the book's."""
-    parts = []
-    for end in ["-wal", "-shm", "-journal"]:
-        old, new = before.get(end), after.get(end)
-        if old != new:
-            length = "gone" if new is None else f"{len(new)} bytes"
-            parts.append(f"{end} {'new' if old is None else 'changed'}, {length}")
-    return "; ".join(parts)
-
-
-def is_well(book, said, is_kept, is_moved_in):
-    """Returns whether an answer goes with what became of the file."""
-    if said == "migrated":
-        return asked(book)[0] == "report"
-    return is_kept != is_moved_in and (said == "report" or ANSWER.fullmatch(f"{said}\n") is not None)
-
-
-def tried(folder, good, name, make, request):
-    """Makes a file from the good one, asks for this, and returns whether all is well."""
-    book = f"{folder}/tried.desk"
-    remove(book)
-    shutil.copy(good, book)
-    make(book)
-    before = sums(book)
-    said, took = asked(book, request)
-    after = sums(book)
-    is_kept = before[""] == after.get("")
-    is_moved_in = name == MOVED_IN and request == REPORT
-    size = len(before[""])
-    kept = "" if is_kept or said == "migrated" else "; its log was moved in" if is_moved_in else "; CHANGED"
-    print(f"{name:58} {size:9}  {said or 'NO END'}{kept}  {took:.2f} s  {became(before, after)}", flush=True)
-    return is_well(book, said, is_kept, is_moved_in)
 
 
 def changed_by(chance, data):
@@ -404,56 +289,9 @@ def changed_by(chance, data):
     return data[:at] + bytes([data[at] ^ 1 << chance.randrange(8)]) + data[at + 1:]
 
 
-def tried_by_chance(folder, good, count, request):
-    """Tries so many files that chance has changed, prints how many had each answer, and returns how many went wrong."""
-    chance, met, bad, most = random.Random(1), {}, 0, 0
-    stock(good, *FREED)
-    with open(good, "rb") as it:
-        data = it.read()
-    book = f"{folder}/tried.desk"
-    for _ in range(count):
-        remove(book)
-        changed = changed_by(chance, data)
-        for _ in range(chance.randrange(3)):
-            changed = changed_by(chance, changed) if len(changed) > 4096 else changed
-        with open(book, "wb") as it:
-            it.write(changed)
-        said, took = asked(book, request)
-        most = max(most, took)
-        met[said] = met.get(said, 0) + 1
-        bad += not is_well(book, said, sums(book)[""] == changed, False)
-    print(f"{count} files as chance changes them: {met}, {bad} changed or answered otherwise, at most {most:.2f} s")
-    return bad
-
-
-def tried_all(folder, good, request):
-    """Tries each file made of the good one, or those that words name, and returns how many went wrong."""
-    files, only, bad = list(FILES.items()), sys.argv[1:], 0
+def all_files():
+    """Yields the name of each file, and what makes it."""
+    yield from FILES.items()
     for how in [of_noise, of_zeros, with_a_bit_changed]:
-        files += damaged(how)
-    files += large_files()
-    for name, make in files:
-        if not only or any(it in name for it in only):
-            bad += not tried(folder, good, name, make, request)
-    if not only or "chance" in only:
-        bad += tried_by_chance(folder, good, 1000, request)
-    return bad
-
-
-def main():
-    subprocess.run([f"{TOP}/bin/desk", "--help"], check=True, stdout=subprocess.DEVNULL)
-    with tempfile.TemporaryDirectory() as folder:
-        good, older = f"{folder}/good.desk", f"{folder}/older.desk"
-        make_book(good)
-        shutil.copy(good, older)
-        stock(older, OLDER)
-        print("A report on each:")
-        bad = tried_all(folder, good, REPORT)
-        print("A migration of each, made of a book of version 1:")
-        bad += tried_all(folder, older, MIGRATE)
-    print(f"{bad} of the files were changed, or had an answer that no operator is told of")
-    return 1 if bad else 0
-
-
-if __name__ == "__main__":
-    sys.exit(main())
+        yield from damaged(how)
+    yield from large_files()

@@ -1,0 +1,37 @@
+"""Copies the book of a server under load while it is held still, and looks whether the copy has what was replied.
+
+Each round starts the server over one book, sends orders one after another, holds it still at a random moment by
+SIGSTOP, copies the book's file and its log, and kills the server. The copy must have every order whose reply came, and
+at most one more. The check ends at the first round where that is not so.
+"""
+import shutil
+import signal
+import time
+
+from lib import desks
+from lib.checks import kills
+
+COPY = ".copy"
+
+
+def options(words):
+    words.add_argument("--rounds", type=int, default=1000, help="how many copies: 1000 if not given")
+
+
+def run(given, report):
+    kills.kill_again_and_again(given.rounds, report, "copies and kills", copy, COPY)
+
+
+def copy(server, book):
+    """Copies the book's two files while the server is held still."""
+    server.send_signal(signal.SIGSTOP)
+    while state_of(server) not in "TZ":
+        time.sleep(0.001)
+    for end in ("", desks.LOG):
+        shutil.copyfile(f"{book}{end}", f"{book}{COPY}{end}")
+
+
+def state_of(process):
+    """Returns the letter for a process's state: T where it is held still, Z where it has ended."""
+    with open(f"/proc/{process.pid}/stat", encoding="utf-8") as stat:
+        return stat.read().rsplit(")", 1)[1].split()[0]

@@ -1,0 +1,192 @@
+"""What the checks and measures of a built program share: the program and its runs, a small book, a server over it, the
+stock sqlite3, and libraries of C."""
+import argparse
+import json
+import os
+import socket
+import statistics
+import subprocess
+import sys
+import tempfile
+
+import kit
+
+PROGRAMS = f"{kit.TOP}/crates/desk/out"
+DESK = f"{PROGRAMS}/desk"
+KEYS = {"ALFA": "a" * 32, "BETA": "b" * 32, "GAMA": "c" * 32}
+OPERATOR = "f" * 32
+DATE = "2024-03-04"
+# a book's file, and what may stand beside it
+LOG = "-wal"
+BESIDE = (LOG, "-shm", "-journal")
+PARTS = ("", *BESIDE)
+LOCK = ".lock"
+# the longest time of a reply
+SECONDS = 60
+# what makes of the tables of a book those of version 1
+OLDER = "DROP TABLE forward; UPDATE desk SET version = 1"
+
+
+class Broken(Exception):
+    """Why a check or a measure cannot go on."""
+
+
+def options(text):
+    """Returns what reads the words of a script, whose help is this text."""
+    return argparse.ArgumentParser(description=text, formatter_class=argparse.RawDescriptionHelpFormatter)
+
+
+def end(main):
+    """Runs a script, and ends with its exit status, or with 1 and the reason where it could not go on."""
+    try:
+        sys.exit(main())
+    except Broken as why:
+        sys.exit(f"{os.path.basename(sys.argv[0])}: {why}")
+
+
+def room():
+    """Returns a folder that is removed at the end of its `with`."""
+    return tempfile.TemporaryDirectory(prefix="desk-")
+
+
+# The program
+
+
+def build():
+    """Has the program built where it is missing or older than its sources."""
+    if subprocess.run([f"{kit.TOP}/bin/desk", "--version"], stdout=subprocess.DEVNULL, check=False).returncode:
+        raise Broken("the program is not built")
+
+
+def desk(*words):
+    """Returns what a run of the program prints. It must end with 0."""
+    ran = subprocess.run([DESK, *words], capture_output=True, text=True, check=False)
+    if ran.returncode:
+        raise Broken(f"desk {' '.join(words)}: {ran.returncode}: {(ran.stdout + ran.stderr).strip()}")
+    return ran.stdout
+
+
+def new_book(book, keys, money, name="A Bank"):
+    """Makes a book of banks with these keys, gives money to the first, and opens a day. The name may have {} for a
+    bank's code."""
+    desk("init", book)
+    for code, key in keys.items():
+        desk("add", book, code, name.format(code.title()), key)
+    desk("post", book, next(iter(keys)), "P-1", str(money))
+    desk("open", book, DATE)
+
+
+def parts_of(book, ends=PARTS):
+    """Returns the ends of the names of those files of a book that are there."""
+    return [it for it in ends if os.path.exists(book + it)]
+
+
+def remove(book):
+    """Removes a book's files, and its lock."""
+    for it in parts_of(book, (*PARTS, LOCK)):
+        os.remove(book + it)
+
+
+def content(path):
+    """Returns the bytes of a file."""
+    with open(path, "rb") as it:
+        return it.read()
+
+
+# The server
+
+
+def free_port():
+    """Returns a port that nothing listens at."""
+    with socket.socket() as it:
+        it.bind(("127.0.0.1", 0))
+        return it.getsockname()[1]
+
+
+class Server:
+    """A desk that serves a book, as many connections as are said, and listens. With a library, that one is loaded
+    first. At the end of its `with` it must have had them all."""
+
+    def __init__(self, book, connections, library=None, operator=OPERATOR):
+        self.port = free_port()
+        words = ["--port", str(self.port), "--count", str(connections), "--operator-key", operator]
+        env = {**os.environ, "LD_PRELOAD": library} if library else None
+        self.process = subprocess.Popen([DESK, "serve", book, *words], stdout=subprocess.PIPE, env=env)
+        if self.process.stdout.readline() != b"listening %d\n" % self.port:
+            self.kill()
+            raise Broken("the server does not listen")
+
+    def __enter__(self):
+        return self
+
+    def __exit__(self, kind, *_):
+        if kind:
+            self.process.kill()
+        self.wait()
+
+    def kill(self):
+        """Ends the server at once."""
+        self.process.kill()
+        self.wait()
+
+    def wait(self):
+        """Waits until the server has ended."""
+        self.process.stdout.close()
+        self.process.wait()
+
+    def asked(self, request):
+        """Returns the server's reply to a request."""
+        return asked(self.port, request)
+
+    def memory(self, what="VmRSS"):
+        """Returns the server's memory in kB: VmRSS what it has now, VmHWM the most that it had."""
+        with open(f"/proc/{self.process.pid}/status", encoding="utf-8") as status:
+            return int(next(line.split()[1] for line in status if line.startswith(what)))
+
+
+def request(method, path, key, body=None):
+    """Returns the bytes of a request."""
+    head = f"{method} {path} HTTP/1.1\r\nHost: desk\r\ndesk-key: {key}\r\n"
+    if body is None:
+        return f"{head}\r\n".encode()
+    return f"{head}Content-Length: {len(body.encode())}\r\n\r\n{body}".encode()
+
+
+def order(key, to, number, amount=1):
+    """Returns the request of an order, whose reference has this number."""
+    return request("POST", "/orders", key, json.dumps({"amount": amount, "reference": f"A-{number}", "to": to}))
+
+
+def asked(port, sent):
+    """Returns the whole reply to one request on a connection of its own. It must be good."""
+    with socket.create_connection(("127.0.0.1", port), timeout=SECONDS) as link:
+        link.sendall(sent)
+        reply = bytearray()
+        while part := link.recv(65536):
+            reply += part
+    if b" 200 OK\r\n" not in reply[:20]:
+        raise Broken(f"a server replied {bytes(reply[-400:])!r}")
+    return bytes(reply)
+
+
+# Other tools
+
+
+def stock(book, *commands, words=()):
+    """Does this to a book with the stock sqlite3, and returns what it prints."""
+    ran = subprocess.run(["sqlite3", *words, "-bail", book, *commands], capture_output=True, text=True, check=False)
+    if ran.returncode:
+        raise Broken(f"sqlite3 said {ran.stderr.strip()} at {commands}")
+    return ran.stdout
+
+
+def library(name, folder):
+    """Compiles the file of C of this name, which stands beside this one, to a library in the folder."""
+    made, source = f"{folder}/{name}.so", f"{os.path.dirname(os.path.realpath(__file__))}/{name}.c"
+    subprocess.run(["cc", "-shared", "-fPIC", "-O2", "-o", made, source], check=True)
+    return made
+
+
+def told(measures):
+    """Returns the median and the range of what was measured, in words."""
+    return f"{statistics.median(measures):8.1f} ({min(measures):.1f} to {max(measures):.1f})"

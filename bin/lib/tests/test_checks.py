@@ -1,0 +1,145 @@
+"""The parts of each check that need no program."""
+import random
+import re
+import unittest
+from unittest import mock
+
+from lib import desks, hostile
+from lib.checks import copies, handbooks, hostile_files, kills, migrations, refusals
+from lib.report import Report
+
+
+def quiet():
+    return Report(lambda *_, **__: None)
+
+
+class Kills(unittest.TestCase):
+    """The server is stood in for by numbers: of the last order that was replied to, and of orders in the book."""
+
+    def found(self, last, in_the_book):
+        report = quiet()
+        with mock.patch.object(desks, "new_book"), mock.patch.object(kills, "last_replied", side_effect=last), \
+                mock.patch.object(kills, "balance", side_effect=in_the_book):
+            kills.kill_again_and_again(len(last), report, "kills", None, "")
+        return report
+
+    def test_all_that_was_replied_to_and_one_more_is_well(self):
+        report = self.found([3, 9], [3, 3, 10, 10])
+        self.assertEqual(report.wrong, 0)
+        told = "2 kills: 9 orders were replied to, and all are in the book; 1 more without a reply"
+        self.assertEqual(report.found, [told])
+
+    def test_an_order_that_is_lost_ends_the_check(self):
+        report = self.found([3, 9], [2])
+        self.assertEqual(report.wrong, 1)
+        self.assertEqual(report.found, ["round 1: 3 orders were replied to, and 2 are in the book"])
+
+    def test_two_orders_without_a_reply_end_the_check(self):
+        self.assertEqual(self.found([3], [5]).wrong, 1)
+
+    def test_a_copy_is_looked_at_in_place_of_the_book(self):
+        with mock.patch.object(kills, "kill_again_and_again") as called:
+            copies.run(mock.Mock(rounds=5), None)
+        called.assert_called_once_with(5, None, "copies and kills", copies.copy, ".copy")
+
+
+class Handbooks(unittest.TestCase):
+    TEXT = "Say:\n\n    $ desk init a\n    initialised\n\n    $ desk queue a\n\n```sql\n    $ no command\n```\n"
+
+    def test_commands_have_the_lines_behind_them(self):
+        wanted = [("desk init a", ["initialised"]), ("desk queue a", [])]
+        self.assertEqual(handbooks.commands(self.TEXT, handbooks.SHOWN), wanted)
+
+    def test_a_row_of_the_table_of_faults_is_cut_into_its_cells(self):
+        row = "| Q3 | `DELETE FROM mark` | `1` and `2` | Q4 | 94 Inconsistent 9 |"
+        self.assertEqual(handbooks.table_of_faults(f"| a | b |\n{row}\n"),
+                         [["Q3", "DELETE FROM mark", "`1` and `2`", "Q4", "94 Inconsistent 9"]])
+        self.assertEqual(handbooks.rows_of("`1` and `2`"), ["1", "2"])
+
+    def test_the_handbooks_show_commands_queries_and_faults(self):
+        self.assertGreater(len(handbooks.commands(handbooks.handbook("OPERATORS"), handbooks.SHOWN)), 50)
+        self.assertGreater(len(handbooks.commands(handbooks.handbook("BANKS"), handbooks.SHOWN_TO_BANKS)), 5)
+        audit = handbooks.Audit(None, handbooks.handbook("AUDITORS"), None)
+        faults = handbooks.table_of_faults(handbooks.handbook("AUDITORS"))
+        self.assertGreater(len(faults), 10)
+        self.assertLessEqual({it[0] for it in faults} - {"none"}, set(audit.queries))
+        self.assertEqual({len(it) for it in faults}, {5})
+
+
+class HostileFiles(unittest.TestCase):
+    def test_each_file_has_a_name_of_its_own(self):
+        names = [name for name, _ in hostile.all_files()]
+        self.assertEqual(len(names), len(set(names)))
+        self.assertIn(hostile.MOVED_IN, names)
+
+    def test_chance_changes_a_file_in_the_same_way_each_time(self):
+        data = bytes(range(256)) * 64
+        changed = [[hostile.changed_by(chance, data) for _ in range(50)] for chance in map(random.Random, (1, 1))]
+        self.assertEqual(*changed)
+        self.assertGreater(len(set(changed[0])), 20)
+
+    def judged(self, said, is_kept, is_moved_in=False):
+        return hostile_files.is_well("", said, is_kept, is_moved_in)
+
+    def test_a_file_must_be_kept_and_have_an_answer_that_operators_are_told_of(self):
+        for said in ("report", "refused 91 StoreFault", "refused 93 NotADeskFile", "refused 94 Inconsistent 14"):
+            self.assertTrue(self.judged(said, True), said)
+            self.assertFalse(self.judged(said, False), said)
+        for said in ("NO END", "refused 94 Inconsistent 15", "refused 90 OutOfMemory", "101: '' 'panic'"):
+            self.assertFalse(self.judged(said, True), said)
+
+    def test_the_one_file_whose_log_is_moved_in_must_change(self):
+        self.assertTrue(self.judged("report", False, True))
+        self.assertFalse(self.judged("report", True, True))
+
+    def test_a_migrated_file_must_be_reported_on(self):
+        for said in ("report", "refused 91 StoreFault"):
+            with mock.patch.object(hostile_files, "asked", lambda book, said=said: (said, 0)):
+                self.assertEqual(self.judged("migrated", False), said == "report")
+
+    def test_what_became_of_the_files_beside_is_told(self):
+        self.assertEqual(hostile_files.became({"": b"", "-wal": b"1"}, {"": b"", "-shm": b"22"}),
+                         "-wal changed, gone; -shm new, 2 bytes")
+
+
+class Migrations(unittest.TestCase):
+    def test_each_rule_is_broken(self):
+        self.assertEqual({rule for rule, _ in migrations.UNSOUND}, set(range(1, 15)))
+
+    def test_every_command_but_two_is_refused(self):
+        with open(f"{desks.kit.TOP}/docs/SPECIFICATION.md", encoding="utf-8") as it:
+            told = set(re.findall(r"^    desk ([a-z]+) FILE", it.read(), re.M))
+        tried = {it.split(" ")[0] for it in migrations.OTHERS}
+        self.assertEqual(tried, told - {"init", "migrate"})
+
+
+class Refusals(unittest.TestCase):
+    def test_how_far_a_call_came_is_the_last_line_of_its_test(self):
+        text = "tests::a: begins\ntests::b: called\n  tests::a: Refused\n"
+        self.assertEqual(refusals.last_word(text, "tests::a"), "Refused")
+        self.assertIsNone(refusals.last_word(text, "tests::c"))
+
+    def test_requests_that_came_to_the_same_are_told_together(self):
+        self.assertEqual(refusals.counted(["Refused", "Refused", "Ample"]), "1 to 2 Refused, 3 Ample")
+        self.assertEqual(refusals.counted([]), "none")
+
+    def test_the_requests_of_the_state_made_again_are_left_out(self):
+        program = refusals.Program.__new__(refusals.Program)
+        words = {6: "Refused", 7: "Ample", 8: "Ample", 9: "called", 3: "made", 4: "begins"}
+        program.run = lambda _, number: (words.get(number), [2, 5])
+        self.assertEqual(program.outcomes("tests::a"), ["Refused", "Ample"])
+
+    def test_a_call_that_came_to_what_no_test_allows_is_wrong(self):
+        report = quiet()
+        def said(_, number):
+            return f"test tests::a ... tests::a: {('called', 'Other')[number - 1]}\n"
+
+        with mock.patch.object(refusals.kit, "tests_with_a_request_refused", said):
+            refusals.by_rt_try(1, 2, "crate", report)
+            self.assertEqual((report.right, report.wrong), (2, 0))
+            refusals.by_rt_try(2, 2, "crate", report)
+            self.assertEqual((report.right, report.wrong), (2, 1))
+
+
+if __name__ == "__main__":
+    unittest.main()

@@ -1,0 +1,173 @@
+"""The scripts as they are called, in a tree that has them, two crates and no program, with a stand-in for the kit."""
+import os
+import re
+import shutil
+import subprocess
+import sys
+import unittest
+
+import kit
+from lib import desks
+
+HERE = os.path.dirname(os.path.realpath(__file__))
+SCRIPTS = sorted(it for it in os.listdir(f"{kit.TOP}/bin") if os.access(f"{kit.TOP}/bin/{it}", os.X_OK)
+                 and os.path.isfile(f"{kit.TOP}/bin/{it}"))
+EDITS = {"must-fail": ["a"], "more-mutants": ["b", "missed", "lost"]}
+
+
+class Scripts(unittest.TestCase):
+    def setUp(self):
+        folder = desks.room()
+        self.addCleanup(folder.cleanup)
+        self.top, self.path = f"{folder.name}/tree", f"{folder.name}/path"
+        shutil.copytree(f"{kit.TOP}/bin", f"{self.top}/bin", ignore=shutil.ignore_patterns("__pycache__"))
+        os.makedirs(f"{self.top}/crates/low/src")
+        os.makedirs(f"{self.top}/crates/desk/src")
+        for it in ("crates.txt", "HANDLES", "crates/desk/src/main.rt"):
+            self.write(it, "")
+        os.mkdir(self.path)
+        shutil.copy(f"{HERE}/fake_rt.py", f"{self.path}/rt")
+
+    def write(self, name, text):
+        os.makedirs(os.path.dirname(f"{self.top}/{name}"), exist_ok=True)
+        with open(f"{self.top}/{name}", "w", encoding="utf-8") as it:
+            it.write(text)
+
+    def read(self, name):
+        with open(f"{self.top}/{name}", encoding="utf-8") as it:
+            return it.read()
+
+    def run_script(self, name, *words):
+        env = {**os.environ, "PATH": f"{self.path}:{os.environ['PATH']}"}
+        return subprocess.run([f"{self.top}/bin/{name}", *words], env=env, capture_output=True, text=True, check=False)
+
+    def called(self):
+        """Returns the commands of the kit that were called."""
+        if not os.path.exists(f"{self.path}/called"):
+            return []
+        with open(f"{self.path}/called", encoding="utf-8") as it:
+            return it.read().splitlines()
+
+    def edits(self):
+        for folder, names in EDITS.items():
+            for it in names:
+                self.write(f"crates/low/{folder}/{it}.edit", "file: src/lib.rt\nold: a\nnew: b\n")
+
+
+class Help(Scripts):
+    def test_each_script_has_help_that_starts_nothing(self):
+        self.assertGreater(len(SCRIPTS), 8)
+        for name in SCRIPTS:
+            ran = self.run_script(name, "--help")
+            self.assertEqual((ran.returncode, ran.stderr), (0, ""), name)
+            self.assertGreater(len(ran.stdout), 100, name)
+        self.assertEqual(self.called(), [])
+        self.assertFalse(os.path.exists(f"{self.top}/crates/desk/out"))
+
+    def test_each_check_has_help_that_starts_nothing(self):
+        listed = [it.split()[0] for it in self.run_script("checks", "--list").stdout.splitlines()]
+        self.assertEqual(sorted(listed), ["copies", "handbooks", "hostile-files", "kills", "migrations", "refusals"])
+        for name in listed:
+            self.assertIn("--no-evidence", self.run_script("checks", name, "--help").stdout)
+        self.assertEqual(self.called(), [])
+
+    def test_no_name_prints_the_help_and_a_wrong_one_is_an_error(self):
+        self.assertIn("usage: bin/checks NAME", self.run_script("checks").stdout)
+        self.assertEqual(self.run_script("checks", "skills").returncode, 2)
+
+
+class Kit(Scripts):
+    def test_only_one_file_calls_into_the_kits_scripts(self):
+        calls = r"\.(in_lanes|must_fail|read_edit|build_rlib)\("
+        words = (r"\brtlib", r"\[.rt.,", calls, r"kit\.scripts", r"SourceFileLoader")
+        of_kit = re.compile("|".join(words))
+        found = []
+        for folder, folders, files in os.walk(f"{kit.TOP}/bin"):
+            folders[:] = [it for it in folders if it not in ("tests", "__pycache__")]
+            for name in files:
+                with open(f"{folder}/{name}", encoding="utf-8") as it:
+                    if of_kit.search(it.read().replace("kit.in_lanes(", "")):
+                        found.append(name)
+        self.assertEqual(found, ["kit.py"])
+
+    def test_a_program_that_is_missing_is_built_before_it_runs(self):
+        ran = self.run_script("desk", "--version")
+        self.assertEqual((ran.returncode, self.called()), (0, ["run"]))
+        self.assertIn("1 crates to prove", ran.stderr)
+        self.run_script("desk", "--version")
+        self.assertEqual(self.called(), ["run"])
+
+    def test_the_gate_keeps_what_it_prints_and_writes_evidence_of_a_whole_run(self):
+        ran = self.run_script("gate-times", "--memory", "0.5", "--anew")
+        self.assertEqual(ran.returncode, 0)
+        lines = ran.stdout.splitlines()
+        self.assertEqual((lines[0], lines[-1]), ("ran ci --anew", "2 passed, 0 failed"))
+        head, machine, _, table, *_, last = self.read("evidence/gate.txt").splitlines()
+        self.assertRegex(head, "^bin/gate-times --memory 0.5 --anew over .*, by a kit of the tests$")
+        self.assertRegex(machine, r"^\d+ seconds on 2 processors, ended ")
+        self.assertEqual((table, last), (lines[1], "2 passed, 0 failed"))
+
+    def test_the_gate_of_some_crates_writes_none(self):
+        self.assertIn("ran ci low", self.run_script("gate-times", "low").stdout)
+        self.assertFalse(os.path.exists(f"{self.top}/evidence"))
+
+    def test_edits_are_tried_over_what_was_kept_and_then_from_nothing(self):
+        self.edits()
+        ran = self.run_script("mutants", "low")
+        self.assertEqual(ran.returncode, 1)
+        self.assertIn("b.edit: refused over what was kept\n", ran.stdout)
+        self.assertIn("missed.edit: missed\n", ran.stdout)
+        self.assertRegex(ran.stdout.splitlines()[-1], "^all: 2 refused, 1 NOT REFUSED; ")
+        self.assertEqual(self.run_script("mutants", "--gate", "low/a").returncode, 0)
+
+    def test_edits_that_do_not_apply_are_listed(self):
+        self.edits()
+        ran = self.run_script("mutants", "--check")
+        self.assertEqual(ran.returncode, 1)
+        told = ["crates/low/more-mutants/lost.edit: it does not apply", "3 edits apply, 1 do not"]
+        self.assertEqual(ran.stdout.splitlines(), told)
+
+    def test_where_there_is_no_kit_that_is_said(self):
+        self.edits()
+        env = {**os.environ, "PATH": self.path}
+        os.remove(f"{self.path}/rt")
+        words = [sys.executable, f"{self.top}/bin/mutants", "--check"]
+        ran = subprocess.run(words, env=env, capture_output=True, text=True, check=False)
+        self.assertEqual((ran.returncode, ran.stdout), (2, ""))
+        self.assertIn("the Rattle kit is needed", ran.stderr)
+
+
+class Checks(Scripts):
+    """The runner, over a program that is current and refuses all."""
+
+    def setUp(self):
+        super().setUp()
+        self.write("crates/desk/out/desk", "#!/bin/sh\necho refused; exit 3\n")
+        os.chmod(f"{self.top}/crates/desk/out/desk", 0o755)
+        # (the runner has the program's version told, which must do)
+        self.write("bin/desk", "#!/bin/sh\n")
+        os.chmod(f"{self.top}/bin/desk", 0o755)
+
+    def test_a_check_that_cannot_go_on_fails_and_the_next_one_runs(self):
+        ran = self.run_script("checks", "kills", "--rounds", "2", "copies", "--rounds", "3")
+        self.assertEqual((ran.returncode, ran.stdout.count("could not go on: desk init ")), (1, 2))
+        for name, rounds in (("kills", 2), ("copies", 3)):
+            head, _, _, found = self.read(f"evidence/{name}.txt").splitlines()
+            self.assertRegex(head, f"^bin/checks {name} --rounds {rounds} over .*, by a kit of the tests$")
+            self.assertIn("could not go on", found)
+
+    def test_none_is_written_where_it_is_not_wanted_or_a_check_is_not_whole(self):
+        self.run_script("checks", "kills", "--rounds", "2", "--no-evidence", "hostile-files", "--only", "VACUUM")
+        self.assertFalse(os.path.exists(f"{self.top}/evidence"))
+
+    def test_a_build_that_fails_ends_all(self):
+        self.write("bin/desk", "#!/bin/sh\nexit 3\n")
+        ran = self.run_script("checks", "kills")
+        self.assertEqual((ran.returncode, ran.stderr), (1, "checks: the program is not built\n"))
+
+
+del Scripts
+
+
+if __name__ == "__main__":
+    unittest.main()
