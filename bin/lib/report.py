@@ -11,9 +11,13 @@ class Report:
         """Prints a line alone."""
         self.show(line, flush=True)
 
+    def keeps(self, line):
+        """Keeps a line as evidence alone."""
+        self.found.append(line)
+
     def finds(self, line):
         """Prints a line, and keeps it as evidence."""
-        self.found.append(line)
+        self.keeps(line)
         self.tells(line)
 
     def judges(self, is_well, line):

@@ -23,7 +23,14 @@ EVIDENCE = "refused-memory"
 NEEDS_THE_PROGRAM = False
 CRATES = ("rtgs_memory_trials",)
 BEGINS, CALLED, ANSWERED = "begins", "called", "answered"
-OUTCOMES = ("Ample", "Refused", "Faulted", "Stopped", "Lost")
+# what a call may come to
+OUTCOMES = {
+    "Ample": "the answer with ample memory",
+    "Refused": "90, and nothing has changed",
+    "Faulted": "91: the store found no memory where it commits or rolls back",
+    "Stopped": "69, or a batch that stopped: all is done, or a part of which the same call does the rest",
+    "Lost": "69: all is done",
+}
 MOST_REQUESTS = 1 << 14
 
 
@@ -89,8 +96,16 @@ def counted(words):
     return ", ".join(runs) or "none"
 
 
+def summed(words):
+    """Returns how many requests a call made, and how often it came to what."""
+    counts = [f"{words.count(it)} {it}" for it in dict.fromkeys([*OUTCOMES, *words]) if it in words]
+    return f"{len(words)} requests: {', '.join(counts) or 'none'}"
+
+
 def each_request(names, report):
     """Refuses each request of each call, and finds what came of it."""
+    for word, meaning in OUTCOMES.items():
+        report.keeps(f"{word:9}{meaning}")
     wanted = [it for it in CRATES if not names or any(name.split("/")[0] == it for name in names)]
     report.counts(wanted)
     calls = requests = 0
@@ -101,7 +116,8 @@ def each_request(names, report):
             tests = [it for it in program.tests() if is_whole or f"{program.crate}/{it}" in names]
             report.counts(tests)
             for test, found in zip(tests, lanes.map(program.outcomes, tests)):
-                report.finds(f"{program.crate}/{test}: {len(found)} requests: {counted(found)}")
+                report.tells(f"{program.crate}/{test}: {len(found)} requests: {counted(found)}")
+                report.keeps(f"{program.crate}/{test}: {summed(found)}")
                 report.counts(all(word in OUTCOMES for word in found))
                 calls, requests = calls + 1, requests + len(found)
     report.finds(f"{requests} requests of {calls} calls; {report.wrong} calls came to what no test allows")

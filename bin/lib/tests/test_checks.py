@@ -122,6 +122,9 @@ class Refusals(unittest.TestCase):
     def test_requests_that_came_to_the_same_are_told_together(self):
         self.assertEqual(refusals.counted(["Refused", "Refused", "Ample"]), "1 to 2 Refused, 3 Ample")
         self.assertEqual(refusals.counted([]), "none")
+        self.assertEqual(refusals.summed(["Refused", "Ample", "Refused"]), "3 requests: 1 Ample, 2 Refused")
+        self.assertEqual(refusals.summed(["Other"]), "1 requests: 1 Other")
+        self.assertEqual(refusals.summed([]), "0 requests: none")
 
     def test_the_requests_of_the_state_made_again_are_left_out(self):
         program = refusals.Program.__new__(refusals.Program)
