@@ -130,6 +130,14 @@ impl Store for OnDisks {
         self.disks.log.crash();
         self.disks.db.crash();
     }
+
+    fn copied(&self, alloc: Global) -> Result<Option<OnDisks>, Fail> {
+        let log = passing(alloc, &self.disks.log, u64::MAX)?;
+        let db = passing(alloc, &self.disks.db, u64::MAX)?;
+        Ok(Some(OnDisks {
+            disks: Files { log, db },
+        }))
+    }
 }
 
 impl OverTables for OnDisks {

@@ -58,4 +58,8 @@ impl Store for InMemory {
     }
 
     fn crash(&mut self) {}
+
+    fn copied(&self, _alloc: Global) -> Result<Option<InMemory>, Fail> {
+        Ok(None)
+    }
 }

@@ -98,6 +98,22 @@ fn place_of(books: &[String], all: usize, progress: Progress, found: &str) -> Op
     }
 }
 
+// Makes the store as it is before the commands: by a copy, where there is one to copy, since that is quicker.
+fn begin_again<S: Store>(
+    alloc: Global,
+    store: &mut S,
+    trial: &Trial,
+    begun: &Option<S>,
+) -> Result<(), Fail> {
+    match begun {
+        None => begin(alloc, store, trial),
+        Some(begun) => {
+            *store = begun.copied(alloc)?.ok_or("no second copy")?;
+            Ok(())
+        }
+    }
+}
+
 // How many calls go well where first no run meets this failure. In each run before one is met, and then a book is
 // found that may be, and the commands, given once more, end from it as if they had come once.
 fn failures<S: Store>(
@@ -108,8 +124,10 @@ fn failures<S: Store>(
     failing: Failing,
 ) -> Result<usize, Fail> {
     let all = trial.rows.lines().count();
+    begin(alloc, store, trial)?;
+    let begun = store.copied(alloc)?;
     for calls in 0..1000 {
-        begin(alloc, store, trial)?;
+        begin_again(alloc, store, trial, &begun)?;
         store.fail(alloc, failing, calls)?;
         let progress = progress_in(alloc, store, trial, all, true)?;
         store.crash();

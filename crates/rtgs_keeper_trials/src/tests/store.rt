@@ -54,6 +54,9 @@ pub trait Store: Drop {
 
     /// Leaves of it what a crash leaves, after which nothing fails.
     fn crash(&mut self);
+
+    /// Another one with all that it has, which does not fail; none where it has no copy.
+    fn copied(&self, alloc: Global) -> Result<Option<Self>, Fail>;
 }
 
 /// What is done with the database of a store while it is open.
