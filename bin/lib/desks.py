@@ -23,8 +23,11 @@ PARTS = ("", *BESIDE)
 LOCK = ".lock"
 # the longest time of a reply
 SECONDS = 60
-# what makes of the tables of a book those of version 1
-OLDER = "DROP TABLE forward; UPDATE desk SET version = 1"
+# what makes of the tables of a book, by their version, those of an earlier one
+OLDER = {
+    1: "DROP TABLE resolution; DROP TABLE forward; UPDATE desk SET version = 1",
+    2: "DROP TABLE resolution; UPDATE desk SET version = 2",
+}
 
 
 class Broken(Exception):
@@ -66,14 +69,14 @@ def desk(*words):
     return ran.stdout
 
 
-def new_book(book, keys, money, name="A Bank"):
-    """Makes a book of banks with these keys, gives money to the first, and opens a day. The name may have {} for a
-    bank's code."""
+def new_book(book, keys, money, name="A Bank", *choice):
+    """Makes a book of banks with these keys, gives money to the first, and opens a day, with this choice. The name may
+    have {} for a bank's code."""
     desk("init", book)
     for code, key in keys.items():
         desk("add", book, code, name.format(code.title()), key)
     desk("post", book, next(iter(keys)), "P-1", str(money))
-    desk("open", book, DATE)
+    desk("open", book, DATE, *choice)
 
 
 def parts_of(book, ends=PARTS):

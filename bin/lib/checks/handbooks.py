@@ -144,15 +144,14 @@ def auditors(session, report):
     audit = Audit(session, text, report)
     good = audit.of_a_good_book()
     for row in table_of_faults(text):
-        if row[0] != "none":
-            audit.of_a_fault(good, row)
+        audit.of_a_fault(good, row)
 
 
 def banks(session, report):
     text = handbook("BANKS")
     many = len([it for it, _ in commands(text, SHOWN_TO_BANKS) if it.startswith("curl")])
     keys = {code: f"{10 + at:032x}" for at, code in enumerate(desks.KEYS)}
-    desks.new_book(f"{session.folder}/bank.desk", keys, 150, "{} Bank")
+    desks.new_book(f"{session.folder}/bank.desk", keys, 150, "{} Bank", "--automatic")
     session.run(f"desk serve bank.desk --port 8080 --count {many} --operator-key {255:032x} > server.txt &")
     session.follow(text, SHOWN_TO_BANKS, report)
     session.run("wait")

@@ -19,15 +19,15 @@ class Kills(unittest.TestCase):
     def found(self, last, in_the_book):
         report = quiet()
         with mock.patch.object(desks, "new_book"), mock.patch.object(kills, "last_replied", side_effect=last), \
-                mock.patch.object(kills, "balance", side_effect=in_the_book):
+                mock.patch.object(kills, "freed", side_effect=in_the_book):
             kills.kill_again_and_again(len(last), report, "kills", None, "")
         return report
 
     def test_all_that_was_replied_to_and_one_more_is_well(self):
         report = self.found([3, 9], [3, 3, 10, 10])
         self.assertEqual(report.wrong, 0)
-        told = "2 kills: 9 orders were replied to, and all are in the book; 1 more without a reply"
-        self.assertEqual(report.found, [told])
+        told = "2 kills: 9 orders were replied to, and all are in the book with what followed them"
+        self.assertEqual(report.found, [f"{told}; 1 more without a reply"])
 
     def test_an_order_that_is_lost_ends_the_check(self):
         report = self.found([3, 9], [2])
@@ -82,10 +82,10 @@ class HostileFiles(unittest.TestCase):
         return hostile_files.is_well("", said, is_kept, is_moved_in)
 
     def test_a_file_must_be_kept_and_have_an_answer_that_operators_are_told_of(self):
-        for said in ("report", "refused 91 StoreFault", "refused 93 NotADeskFile", "refused 94 Inconsistent 14"):
+        for said in ("report", "refused 91 StoreFault", "refused 93 NotADeskFile", "refused 94 Inconsistent 16"):
             self.assertTrue(self.judged(said, True), said)
             self.assertFalse(self.judged(said, False), said)
-        for said in ("NO END", "refused 94 Inconsistent 15", "refused 90 OutOfMemory", "101: '' 'panic'"):
+        for said in ("NO END", "refused 94 Inconsistent 17", "refused 90 OutOfMemory", "101: '' 'panic'"):
             self.assertFalse(self.judged(said, True), said)
 
     def test_the_one_file_whose_log_is_moved_in_must_change(self):
@@ -105,6 +105,11 @@ class HostileFiles(unittest.TestCase):
 class Migrations(unittest.TestCase):
     def test_each_rule_is_broken(self):
         self.assertEqual({rule for rule, _ in migrations.UNSOUND}, set(range(1, 15)))
+
+    def test_each_older_version_of_the_tables_migrates_a_book(self):
+        since = {migrations.SINCE.get(name, 1) for name in migrations.BOOKS}
+        self.assertEqual(since, set(desks.OLDER))
+        self.assertEqual(set(migrations.NO_DESK_OF), set(desks.OLDER))
 
     def test_every_command_but_two_is_refused(self):
         with open(f"{desks.kit.TOP}/docs/SPECIFICATION.md", encoding="utf-8") as it:

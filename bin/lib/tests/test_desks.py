@@ -44,6 +44,10 @@ class Runs(Desks):
                   "open 2024-03-04"]
         self.assertEqual(desks.content(self.book).decode().splitlines(), wanted)
 
+    def test_the_day_of_a_new_book_is_opened_as_it_is_chosen(self):
+        desks.new_book(self.book, {"ALFA": "1" * 32}, 150, "A Bank", "--automatic")
+        self.assertEqual(desks.content(self.book).decode().splitlines()[-1], "open 2024-03-04 --automatic")
+
     def test_a_build_that_fails_is_told(self):
         with mock.patch.object(desks.kit, "TOP", self.folder):
             os.mkdir(f"{self.folder}/bin")

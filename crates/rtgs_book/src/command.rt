@@ -22,7 +22,11 @@ pub enum Command {
         cents: PostingAmount,
     },
     /// Opens the business day, and lets the held orders into their queues that are due by its date.
-    OpenDay(BusinessDate),
+    /// On an automatic day a resolution follows each command that may let orders settle.
+    OpenDay {
+        date: BusinessDate,
+        automatic: bool,
+    },
     /// Pays, at once or after the orders that are queued; with a due date, not before that date.
     Order {
         sender: Code,

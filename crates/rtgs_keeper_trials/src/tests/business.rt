@@ -3,7 +3,7 @@ ghost use Rattle.std.specs.Prelude.{◌<◌, ◌≤◌};
 
 use rtgs_book::{Answer, Command, Refusal};
 use rtgs_money::BusinessDate;
-use rtgs_tests_desks::command;
+use rtgs_tests_desks::{Reply, command};
 use std::alloc::Global;
 use std::test::Fail;
 
@@ -23,6 +23,9 @@ pub struct Business {
     // the day that was opened last, and the one that was asked for last, as places among the days
     today: u64,
     asked: u64,
+    // whether the day that is in progress is automatic, and whether the one that was asked for last is to be
+    automatic: bool,
+    chosen: bool,
     // the last order: its sender, the number in its reference, its receiver, its cents, and the place of its due date
     // among the days, if it has one
     sender: u64,
@@ -55,6 +58,8 @@ impl Business {
             state: seed,
             today: 0,
             asked: 0,
+            automatic: false,
+            chosen: false,
             sender: 0,
             number: 0,
             receiver: 1,
@@ -68,7 +73,11 @@ impl Business {
         match self.below(32) {
             5 | 6 => {
                 self.asked = self.today.wrapping_add(self.below(3));
-                Ok(Command::OpenDay(day_at(self.asked)?))
+                self.chosen = self.below(2) == 1;
+                Ok(Command::OpenDay {
+                    date: day_at(self.asked)?,
+                    automatic: self.chosen,
+                })
             }
             9 | 10 => Ok(Command::Resolve),
             11 if self.below(8) == 0 => Ok(Command::CutOff(self.day()?)),
@@ -137,10 +146,31 @@ impl Business {
         }
     }
 
-    /// Takes notice of a day that was opened.
-    pub fn hear(&mut self, reply: &Result<Answer, Refusal>) {
-        if let Ok(Answer::Opened) = reply {
-            self.today = self.asked;
+    /// Takes notice of a day that was opened or closed.
+    pub fn hear(&mut self, reply: &Reply) {
+        let Ok(answer) = reply else {
+            return;
+        };
+        match answer.own {
+            Answer::Opened => {
+                self.today = self.asked;
+                self.automatic = self.chosen;
+            }
+            Answer::Closed { .. } => self.automatic = false,
+            _ => {}
+        }
+    }
+
+    /// Whether a reply that was heard goes with the day. On an automatic day nothing is left for those who ask, and on
+    /// another one nothing is resolved unasked.
+    pub fn is_of_the_day(&self, reply: &Reply) -> bool {
+        match reply {
+            Ok(answer) => match answer.own {
+                Answer::Resolved { .. } => !self.automatic,
+                _ => self.automatic || answer.auto.is_none(),
+            },
+            Err(Refusal::Resolvable) => !self.automatic,
+            Err(_) => true,
         }
     }
 

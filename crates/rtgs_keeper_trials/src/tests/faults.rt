@@ -196,5 +196,5 @@ const OPENING_AFTER_A_CRASH: Trial = Trial {
 #[test]
 fn an_opening_leaves_the_book(rt: HostRuntime) -> Result<(), Fail> {
     meets(rt.alloc(), &OPENING, [29, 43, 1])?;
-    meets(rt.alloc(), &OPENING_AFTER_A_CRASH, [215, 21, 1])
+    meets(rt.alloc(), &OPENING_AFTER_A_CRASH, [227, 22, 1])
 }

@@ -18,7 +18,7 @@ const AGAIN: &str =
     "reference,result,number,detail\nA-1,repeated,1,settled\nA-2,settled,2,2\nA-3,queued,3,1\n";
 
 /// How many steps there are.
-const STEPS: usize = 512;
+const STEPS: usize = 4096;
 
 // The file of these results is this one.
 fn has_file(

@@ -28,7 +28,9 @@ const TOLD: &str = "report | > report 2024-03-04\n | \n> marks              2\n
 = 94 | ! refused 94 Inconsistent 11\nstatus 3\n | =
 = 94 | ! refused 94 Inconsistent 12\nstatus 3\n | =
 = 94 | ! refused 94 Inconsistent 13\nstatus 3\n | =
-= 94 | ! refused 94 Inconsistent 14\nstatus 3\n | =";
+= 94 | ! refused 94 Inconsistent 14\nstatus 3\n | =
+= 94 | ! refused 94 Inconsistent 15\nstatus 3\n | =
+= 94 | ! refused 94 Inconsistent 16\nstatus 3\n | =";
 
 // The word for what a report on a file shows.
 fn told(rt: &HostRuntime, file: &str) -> Result<&'static str, Fail> {
