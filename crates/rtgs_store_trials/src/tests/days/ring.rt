@@ -227,11 +227,12 @@ fn replies_to_the_closing<S: Alter + Drop>(
     alloc: Global,
     keeper: SqlKeeper<S>,
 ) -> Result<[Reply; 3], Fail> {
-    let closing = closing(alloc)?;
+    let first = closing(alloc)?;
+    let again = closing(alloc)?;
     let last = sends(alloc, OPEN, OPEN.orders())?;
     let mut keeper = keeper;
     keep_ring(alloc, &mut keeper, OPEN, true)?;
-    replies(alloc, keeper, [closing, closing, last])
+    replies(alloc, keeper, [first, again, last])
 }
 
 /// The order with this number came before, and was settled under the first mark.

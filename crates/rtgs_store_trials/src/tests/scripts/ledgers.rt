@@ -3,7 +3,7 @@ use super::super::setting::{Reply, code, reference};
 use super::records::{order_if_any, queue_text};
 use super::rows::{day_text, rows_text};
 use super::{Answers, command_of, follows, reply_text, words_of};
-use rtgs_book::Command;
+use rtgs_book::{Answer, Command};
 use rtgs_cores::Found;
 use rtgs_keeper::Keeper;
 use rtgs_ledger::Ledger;
@@ -21,8 +21,9 @@ struct Kept {
 
 impl Answers for Kept {
     fn answer(&mut self, alloc: Global, asked: &str) -> Result<String, Fail> {
-        // Names the type of due dates for the borrow checker, which finds it nowhere else in this function.
+        // Names the types of due dates and answers for the borrow checker, which finds them nowhere else in this function.
         let _no_date: Option<BusinessDate> = None;
+        let _no_answer: Option<Answer> = None;
         let words = words_of(alloc, asked)?;
         match words.as_slice() {
             ["balance", participant] => balance_text(alloc, &self.ledger, participant),
