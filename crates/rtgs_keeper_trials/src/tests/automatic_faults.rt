@@ -26,7 +26,7 @@ const CASCADE: Trial = Trial {
 
 #[test]
 fn an_order_is_found_with_what_it_freed_or_not_at_all(rt: HostRuntime) -> Result<(), Fail> {
-    meets(rt.alloc(), &CASCADE, [0, 0, 3])
+    meets(rt.alloc(), &CASCADE, [50, 52, 3])
 }
 
 const RING: Trial = Trial {
@@ -46,7 +46,7 @@ order BETA B-1 GAMA 100 => Ok(Queued { number: 2, place: 1 })",
 
 #[test]
 fn a_ring_is_found_closed_and_settled_or_open(rt: HostRuntime) -> Result<(), Fail> {
-    meets(rt.alloc(), &RING, [0, 0, 3])
+    meets(rt.alloc(), &RING, [48, 51, 3])
 }
 
 const TWO_MARKS: Trial = Trial {
@@ -66,7 +66,7 @@ order ALFA A-1 GAMA 20 => Ok(Queued { number: 1, place: 1 })",
 
 #[test]
 fn two_marks_are_found_or_none(rt: HostRuntime) -> Result<(), Fail> {
-    meets(rt.alloc(), &TWO_MARKS, [0, 0, 3])
+    meets(rt.alloc(), &TWO_MARKS, [50, 52, 3])
 }
 
 const POSTING: Trial = Trial {
@@ -82,7 +82,7 @@ const POSTING: Trial = Trial {
 
 #[test]
 fn a_posting_is_found_with_what_it_freed_or_not_at_all(rt: HostRuntime) -> Result<(), Fail> {
-    meets(rt.alloc(), &POSTING, [0, 0, 3])
+    meets(rt.alloc(), &POSTING, [52, 53, 3])
 }
 
 const LIMIT: Trial = Trial {
@@ -98,7 +98,7 @@ const LIMIT: Trial = Trial {
 
 #[test]
 fn a_limit_is_found_with_what_it_freed_or_not_at_all(rt: HostRuntime) -> Result<(), Fail> {
-    meets(rt.alloc(), &LIMIT, [0, 0, 2])
+    meets(rt.alloc(), &LIMIT, [48, 51, 2])
 }
 
 const WITHDRAWAL: Trial = Trial {
@@ -115,7 +115,7 @@ const WITHDRAWAL: Trial = Trial {
 
 #[test]
 fn a_withdrawal_is_found_with_what_it_freed_or_not_at_all(rt: HostRuntime) -> Result<(), Fail> {
-    meets(rt.alloc(), &WITHDRAWAL, [0, 0, 3])
+    meets(rt.alloc(), &WITHDRAWAL, [48, 51, 3])
 }
 
 const DAY: Trial = Trial {
@@ -137,7 +137,7 @@ close 2024-03-04 => Ok(Closed { rejected: 0 })",
 
 #[test]
 fn a_day_is_found_open_with_what_settled_or_closed(rt: HostRuntime) -> Result<(), Fail> {
-    meets(rt.alloc(), &DAY, [0, 0, 2])
+    meets(rt.alloc(), &DAY, [52, 53, 2])
 }
 
 // As many orders of one sender are due as there may be, and four in five are covered.
@@ -156,7 +156,7 @@ post ALFA P-1 400 => Ok(Posted { number: 1 })",
 
 #[test]
 fn a_day_is_found_open_with_all_that_settled_or_closed(rt: HostRuntime) -> Result<(), Fail> {
-    meets(rt.alloc(), &A_WHOLE_QUEUE, [0, 0, 2])
+    meets(rt.alloc(), &A_WHOLE_QUEUE, [60, 81, 2])
 }
 
 // The first order of the batch frees two of others. The rest wait.
@@ -183,7 +183,7 @@ order ALFA A-3 GAMA 10 => Ok(Queued { number: 5, place: 2 }) => Ok(Repeated(Orde
 
 #[test]
 fn a_batch_is_found_up_to_a_row_with_what_it_freed(rt: HostRuntime) -> Result<(), Fail> {
-    meets(rt.alloc(), &BATCH, [0, 0, 7])
+    meets(rt.alloc(), &BATCH, [60, 52, 7])
 }
 
 // Three orders wait that cannot settle together.
@@ -205,6 +205,11 @@ const OPENING: Trial = Trial {
     is_closed: true,
 };
 
+#[test]
+fn an_opening_leaves_the_book(rt: HostRuntime) -> Result<(), Fail> {
+    meets(rt.alloc(), &OPENING, [29, 46, 1])
+}
+
 const OPENING_AFTER_A_CRASH: Trial = Trial {
     before: CALM,
     held: 0,
@@ -215,11 +220,6 @@ const OPENING_AFTER_A_CRASH: Trial = Trial {
 };
 
 #[test]
-fn an_opening_leaves_the_book(rt: HostRuntime) -> Result<(), Fail> {
-    meets(rt.alloc(), &OPENING, [0, 0, 1])
-}
-
-#[test]
 fn an_opening_after_a_crash_leaves_the_book(rt: HostRuntime) -> Result<(), Fail> {
-    meets(rt.alloc(), &OPENING_AFTER_A_CRASH, [0, 0, 1])
+    meets(rt.alloc(), &OPENING_AFTER_A_CRASH, [235, 22, 1])
 }

@@ -321,12 +321,12 @@ fn is_migrated(
 fn a_book_of_the_first_version_is_migrated_whole_or_not_at_all(
     rt: HostRuntime,
 ) -> Result<(), Fail> {
-    is_migrated(rt.alloc(), &FIRST, (0, 0), (0, 0))
+    is_migrated(rt.alloc(), &FIRST, (50, 16), (50, 6))
 }
 
 #[test]
 fn a_book_of_the_second_version_is_migrated_whole_or_not_at_all(
     rt: HostRuntime,
 ) -> Result<(), Fail> {
-    is_migrated(rt.alloc(), &SECOND, (0, 0), (0, 0))
+    is_migrated(rt.alloc(), &SECOND, (48, 14), (51, 5))
 }

@@ -135,10 +135,10 @@ fn five_thousand<M: Store, S: Store>(alloc: Global, seed: u64) -> Result<(), Fai
 
 #[test]
 fn the_first_five_thousand_commands_end_in_one_book(rt: HostRuntime) -> Result<(), Fail> {
-    five_thousand::<InMemory, OnDisks>(rt.alloc(), 2024)
+    five_thousand::<InMemory, OnDisks>(rt.alloc(), 2031)
 }
 
 #[test]
 fn another_five_thousand_commands_end_in_one_book(rt: HostRuntime) -> Result<(), Fail> {
-    five_thousand::<InMemory, OnDisks>(rt.alloc(), 2025)
+    five_thousand::<InMemory, OnDisks>(rt.alloc(), 2057)
 }

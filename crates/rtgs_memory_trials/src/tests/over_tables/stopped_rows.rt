@@ -1,5 +1,5 @@
 //! A batch whose second row is refused for lack of memory, and what its file of results says.
-use super::super::scarce::setting::{code, seen_of};
+use super::super::scarce::setting::{code, limits, seen_of};
 use super::super::scarce::{Held, ORDERS, Store, in_a_process, is_limited, orders_desk, same};
 use super::over_sql::OverSql;
 use rtgs_batches::submit_batch;
@@ -17,8 +17,22 @@ const STOPPED: &str = "reference,result,number,detail\nA-1,settled,1,1\nA-2,stop
 const AGAIN: &str =
     "reference,result,number,detail\nA-1,repeated,1,settled\nA-2,settled,2,2\nA-3,queued,3,1\n";
 
-/// How many steps there are.
-const STEPS: usize = 4096;
+/// How many steps there are for each desk.
+const STEPS: usize = 512;
+
+/// How many desks there are, by how many limits were set before the rows come. The store asks for a large block now and
+/// then, whenever its pages fill the one before, so that one desk has memory for the first row and not for the second,
+/// and another one for both or for none.
+const DESKS: u64 = 9;
+
+// A desk for the rows, after so many limits.
+fn rows_desk<K: Keeper + Drop>(alloc: Global, keeper: K, limited: u64) -> Result<Desk<K>, Fail> {
+    let mut desk = orders_desk(alloc, keeper)?;
+    for cents in 0..limited {
+        desk.submit(limits("GAMA", cents)?)?;
+    }
+    Ok(desk)
+}
 
 // The file of these results is this one.
 fn has_file(
@@ -89,12 +103,12 @@ fn is_met<S: Store>(
     store: &S,
     rows: &[OrderRow],
     once: &str,
-    given: usize,
+    (limited, given): (u64, usize),
 ) -> Result<bool, Fail>
 where
     S::Kept: Keeper + Drop,
 {
-    let mut desk = orders_desk(alloc, store.keeper(alloc)?)?;
+    let mut desk = rows_desk(alloc, store.keeper(alloc)?, limited)?;
     if !is_stopped(alloc, &mut desk, rows, given)? {
         return Ok(false);
     }
@@ -103,24 +117,34 @@ where
 }
 
 // What is seen of a desk that was sent the rows once.
-fn seen_once<S: Store>(alloc: Global, store: &S, rows: &[OrderRow]) -> Result<String, Fail>
+fn seen_once<S: Store>(
+    alloc: Global,
+    store: &S,
+    rows: &[OrderRow],
+    limited: u64,
+) -> Result<String, Fail>
 where
     S::Kept: Keeper + Drop,
 {
-    let mut desk = orders_desk(alloc, store.keeper(alloc)?)?;
+    let mut desk = rows_desk(alloc, store.keeper(alloc)?, limited)?;
     submit_batch(alloc, &mut desk, code("ALFA")?, rows)?;
     seen_of(alloc, &mut desk)
 }
 
-// At how many steps the second row is refused.
-fn steps_met<S: Store>(alloc: Global, store: &S, rows: &[OrderRow]) -> Result<usize, Fail>
+// At how many steps the second row is refused, after so many limits.
+fn steps_met<S: Store>(
+    alloc: Global,
+    store: &S,
+    rows: &[OrderRow],
+    limited: u64,
+) -> Result<usize, Fail>
 where
     S::Kept: Keeper + Drop,
 {
-    let once = seen_once(alloc, store, rows)?;
+    let once = seen_once(alloc, store, rows, limited)?;
     let mut met = 0usize;
     for given in 0..STEPS {
-        if is_met(alloc, store, rows, once.as_str(), given)? {
+        if is_met(alloc, store, rows, once.as_str(), (limited, given))? {
             met = met.saturating_add(1);
         }
     }
@@ -133,8 +157,16 @@ fn second_row(rt: HostRuntime) -> Result<(), Fail> {
         return in_a_process(&rt, "tests::over_tables::stopped_rows::second_row");
     }
     let rows = read_orders(rt.alloc(), ORDERS)?;
-    let met = steps_met(rt.alloc(), &OverSql, rows.as_slice())?;
-    rt.println(format_args!("the second row is refused at {met} of {STEPS} steps"))?;
-    assert!(rt; met > 0);
+    let mut desks = 0usize;
+    for limited in 0..DESKS {
+        let met = steps_met(rt.alloc(), &OverSql, rows.as_slice(), limited)?;
+        rt.println(format_args!(
+            "after {limited} limits the second row is refused at {met} of {STEPS} steps"
+        ))?;
+        if met > 0 {
+            desks = desks.saturating_add(1);
+        }
+    }
+    assert!(rt; desks > 0);
     Ok(())
 }

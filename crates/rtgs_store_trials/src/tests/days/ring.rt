@@ -181,16 +181,25 @@ fn replies<S: Alter + Drop>(
     Ok([first, second, third])
 }
 
-/// What is answered to a resolution of the closed ring, to the last order again, and to one order more.
-fn replies_to_a_resolution<S: Alter + Drop>(
+/// The same over tables in which the ring is kept first, on a day that is automatic or not.
+fn replies_over<S: Alter + Drop>(
     alloc: Global,
     keeper: SqlKeeper<S>,
+    (ring, automatic): (Ring, bool),
+    commands: [Command; 3],
 ) -> Result<[Reply; 3], Fail> {
-    let again = sends(alloc, CLOSED, CLOSED.orders())?;
-    let one_more = sends(alloc, CLOSED, CLOSED.orders().saturating_add(1))?;
     let mut keeper = keeper;
-    keep_ring(alloc, &mut keeper, CLOSED, false)?;
-    replies(alloc, keeper, [Command::Resolve, again, one_more])
+    keep_ring(alloc, &mut keeper, ring, automatic)?;
+    replies(alloc, keeper, commands)
+}
+
+/// A resolution of the closed ring, its last order again, and one order more.
+fn resolving(alloc: Global) -> Result<[Command; 3], Fail> {
+    Ok([
+        Command::Resolve,
+        sends(alloc, CLOSED, CLOSED.orders())?,
+        sends(alloc, CLOSED, CLOSED.orders().saturating_add(1))?,
+    ])
 }
 
 #[test]
@@ -204,7 +213,9 @@ fn a_ring_of_33000_orders_is_settled_under_one_mark(rt: HostRuntime) -> Result<(
         alone(Answer::Repeated(settled)),
         queued(33_001, 1),
     ];
-    let replies = replies_to_a_resolution(rt.alloc(), new_keeper(rt.alloc())?)?;
+    let commands = resolving(rt.alloc())?;
+    let keeper = new_keeper(rt.alloc())?;
+    let replies = replies_over(rt.alloc(), keeper, (CLOSED, false), commands)?;
     assert_eq!(rt; replies, wanted);
     Ok(())
 }
@@ -221,18 +232,13 @@ fn closing(alloc: Global) -> Result<Command, Fail> {
     })
 }
 
-/// What is answered to the order that closes the open ring on an automatic day, to that order again, and to the last
-/// order of the ring again.
-fn replies_to_the_closing<S: Alter + Drop>(
-    alloc: Global,
-    keeper: SqlKeeper<S>,
-) -> Result<[Reply; 3], Fail> {
-    let first = closing(alloc)?;
-    let again = closing(alloc)?;
-    let last = sends(alloc, OPEN, OPEN.orders())?;
-    let mut keeper = keeper;
-    keep_ring(alloc, &mut keeper, OPEN, true)?;
-    replies(alloc, keeper, [first, again, last])
+/// The order that closes the open ring, that order again, and the last order of the ring again.
+fn closing_twice(alloc: Global) -> Result<[Command; 3], Fail> {
+    Ok([
+        closing(alloc)?,
+        closing(alloc)?,
+        sends(alloc, OPEN, OPEN.orders())?,
+    ])
 }
 
 /// The order with this number came before, and was settled under the first mark.
@@ -257,7 +263,9 @@ fn an_order_settles_with_32500_others_on_an_automatic_day(rt: HostRuntime) -> Re
         }),
     };
     let wanted = [Ok(closed), settled_before(32_501), settled_before(32_500)];
-    let replies = replies_to_the_closing(rt.alloc(), new_keeper(rt.alloc())?)?;
+    let commands = closing_twice(rt.alloc())?;
+    let keeper = new_keeper(rt.alloc())?;
+    let replies = replies_over(rt.alloc(), keeper, (OPEN, true), commands)?;
     assert_eq!(rt; replies, wanted);
     Ok(())
 }

@@ -21,9 +21,6 @@ struct Kept {
 
 impl Answers for Kept {
     fn answer(&mut self, alloc: Global, asked: &str) -> Result<String, Fail> {
-        // Names the types of due dates and answers for the borrow checker, which finds them nowhere else in this function.
-        let _no_date: Option<BusinessDate> = None;
-        let _no_answer: Option<Answer> = None;
         let words = words_of(alloc, asked)?;
         match words.as_slice() {
             ["balance", participant] => balance_text(alloc, &self.ledger, participant),
@@ -31,17 +28,8 @@ impl Answers for Kept {
             ["kept", sender, name] => kept_order(alloc, &mut self.keeper, sender, name),
             ["in-memory"] => numbers_in_memory(alloc, &self.ledger),
             ["day"] => day_text(alloc, &self.ledger.day()),
-            ["rows", others @ ..] => {
-                let command = command_of(others)?;
-                let text = rows_of(alloc, self, &command)?;
-                let _ = submit(self, &command)?;
-                Ok(text)
-            }
-            others => {
-                let command = command_of(others)?;
-                let reply = submit(self, &command)?;
-                reply_text(alloc, &reply)
-            }
+            ["rows", others @ ..] => rows_told(alloc, self, others),
+            others => reply_told(alloc, self, others),
         }
     }
 }
@@ -124,6 +112,27 @@ fn found_for(keeper: &mut MemoryKeeper, command: &Command) -> Result<Found, Fail
         }),
         _ => Ok(Found::NOTHING),
     }
+}
+
+/// What a command of these words is answered.
+fn reply_told(alloc: Global, kept: &mut Kept, words: &[&str]) -> Result<String, Fail> {
+    // Names the types of due dates and answers for the borrow checker, which finds them nowhere else in this function.
+    let _no_date: Option<BusinessDate> = None;
+    let _no_answer: Option<Answer> = None;
+    let command = command_of(words)?;
+    let reply = submit(kept, &command)?;
+    reply_text(alloc, &reply)
+}
+
+/// The rows of the change that a command of these words makes, which is adopted.
+fn rows_told(alloc: Global, kept: &mut Kept, words: &[&str]) -> Result<String, Fail> {
+    // Names the types of due dates and answers for the borrow checker, which finds them nowhere else in this function.
+    let _no_date: Option<BusinessDate> = None;
+    let _no_answer: Option<Answer> = None;
+    let command = command_of(words)?;
+    let text = rows_of(alloc, kept, &command)?;
+    let _ = submit(kept, &command)?;
+    Ok(text)
 }
 
 /// The rows of the change that a command makes, which is not adopted.
