@@ -23,8 +23,11 @@ PARTS = ("", *BESIDE)
 LOCK = ".lock"
 # the longest time of a reply
 SECONDS = 60
-# what makes of the tables of a book those of version 1
-OLDER = "DROP TABLE forward; UPDATE desk SET version = 1"
+# what makes of the tables of a book, by their version, those of an earlier one
+OLDER = {
+    1: "DROP TABLE resolution; DROP TABLE forward; UPDATE desk SET version = 1",
+    2: "DROP TABLE resolution; UPDATE desk SET version = 2",
+}
 
 
 class Broken(Exception):
@@ -66,14 +69,14 @@ def desk(*words):
     return ran.stdout
 
 
-def new_book(book, keys, money, name="A Bank"):
-    """Makes a book of banks with these keys, gives money to the first, and opens a day. The name may have {} for a
-    bank's code."""
+def new_book(book, keys, money, name="A Bank", *choice):
+    """Makes a book of banks with these keys, gives money to the first, and opens a day, with this choice. The name may
+    have {} for a bank's code."""
     desk("init", book)
     for code, key in keys.items():
         desk("add", book, code, name.format(code.title()), key)
     desk("post", book, next(iter(keys)), "P-1", str(money))
-    desk("open", book, DATE)
+    desk("open", book, DATE, *choice)
 
 
 def parts_of(book, ends=PARTS):
@@ -111,10 +114,13 @@ class Server:
         self.port = free_port()
         words = ["--port", str(self.port), "--count", str(connections), "--operator-key", operator]
         env = {**os.environ, "LD_PRELOAD": library} if library else None
-        self.process = subprocess.Popen([DESK, "serve", book, *words], stdout=subprocess.PIPE, env=env)
+        pipes = {"stdout": subprocess.PIPE, "stderr": subprocess.PIPE}
+        self.process = subprocess.Popen([DESK, "serve", book, *words], env=env, **pipes)
         if self.process.stdout.readline() != b"listening %d\n" % self.port:
-            self.kill()
-            raise Broken("the server does not listen")
+            self.process.kill()
+            said = self.process.stderr.read().decode().strip()
+            self.wait()
+            raise Broken(f"the server does not listen: {said}")
 
     def __enter__(self):
         return self
@@ -132,7 +138,17 @@ class Server:
     def wait(self):
         """Waits until the server has ended."""
         self.process.stdout.close()
+        self.process.stderr.close()
         self.process.wait()
+
+    def ended(self):
+        """Returns how the server ended that has had its connections: its exit status, and what it printed since it
+        listens on standard output, and on standard error."""
+        try:
+            status = self.process.wait(SECONDS)
+        except subprocess.TimeoutExpired as why:
+            raise Broken("the server does not end") from why
+        return status, self.process.stdout.read().decode(), self.process.stderr.read().decode()
 
     def asked(self, request):
         """Returns the server's reply to a request."""

@@ -1,5 +1,8 @@
 """Runs each command that the handbooks show, and compares what it prints with what they say.
 
+Standard output and standard error are kept apart: a refusal and a stock tool's error must stand on standard error, all
+else on standard output, and the exit status must be the one that goes with that.
+
 OPERATORS.md is one session in a folder that has a book of an earlier version of the program. AUDITORS.md goes on with
 the book that this makes before its section on HTTP: each query over a copy, and each fault of the last table in a copy
 of its own. BANKS.md has a book and a server made for it. Needs the stock `sqlite3` and `curl`.
@@ -10,15 +13,18 @@ import re
 import shutil
 import signal
 import subprocess
+import typing
 
 import kit
-from lib import desks
+from lib import desks, runs
 
 OLD = f"{kit.TOP}/crates/kept_books/data/closed.desk"
 END = "-- end of a command --"
 SHOWN = re.compile(r"    \$ ")
 SHOWN_TO_BANKS = re.compile(r"    (curl|printf|KEY=|DESK=)")
-REPORT = "desk report {0} 2024-03-05"
+REPORT, REPORTED = "desk report {0} 2024-03-05", "report 2024-03-05"
+# what stands on standard error: a refusal, or what the stock sqlite3 says of an error or of a command's status
+ON_ERROR = re.compile(r"refused (?P<refusal>\d\d) |Error: .*\((?P<error>\d+)\)$|System command returns ")
 
 
 class Session:
@@ -27,7 +33,7 @@ class Session:
     def __init__(self, folder):
         self.folder, self.port = folder, desks.free_port()
         env = {**os.environ, "PATH": f"{desks.PROGRAMS}:{os.environ['PATH']}"}
-        pipes = {"stdin": subprocess.PIPE, "stdout": subprocess.PIPE, "stderr": subprocess.STDOUT}
+        pipes = {"stdin": subprocess.PIPE, "stdout": subprocess.PIPE, "stderr": subprocess.PIPE}
         self.shell = subprocess.Popen(["bash"], cwd=folder, env=env, text=True, start_new_session=True, **pipes)
         self.run('curl() { command curl -s "$@"; echo; }')
 
@@ -37,25 +43,48 @@ class Session:
     def __exit__(self, *_):
         self.shell.stdin.close()
         self.shell.stdout.close()
+        self.shell.stderr.close()
         # (what a session that was broken off still runs)
         with contextlib.suppress(ProcessLookupError):
             os.killpg(self.shell.pid, signal.SIGKILL)
         self.shell.wait()
 
     def run(self, command):
-        """Returns what a command prints, once it has ended, or listens."""
+        """Returns how a command ends, and what lines it prints on each stream, once it has ended, or listens."""
         waits = "\nuntil grep -qs listening server.txt; do sleep 0.1; done" if command.endswith("&") else ""
-        self.shell.stdin.write(f"{command}{waits}\necho '{END}'\n".replace("8080", str(self.port)))
+        ends = f"echo '{END}' $?; echo '{END}' >&2"
+        self.shell.stdin.write(f"{command}{waits}\n{ends}\n".replace("8080", str(self.port)))
         self.shell.stdin.flush()
+        out, status = self.until_the_end(self.shell.stdout)
+        return Ended(int(status or -1), out, self.until_the_end(self.shell.stderr)[0])
+
+    def until_the_end(self, stream):
+        """Returns the lines that the shell prints on a stream until a command has ended, and what its end says."""
         lines = []
-        while (line := self.shell.stdout.readline()) not in (f"{END}\n", ""):
+        while (line := stream.readline()) and not line.startswith(END):
             lines.append(line.rstrip("\n"))
-        return [it.replace(str(self.port), "8080") for it in lines if it]
+        return [it.replace(str(self.port), "8080") for it in lines if it], line[len(END):].strip()
 
     def follow(self, text, is_command, report):
         """Runs the commands of a handbook's indented lines. The lines behind each are what it prints."""
-        for command, wanted in commands(text, is_command):
-            report.sees(command, self.run(command), wanted)
+        for command, shown in commands(text, is_command):
+            report.sees(command, self.run(command), ended(shown))
+
+
+class Ended(typing.NamedTuple):
+    """How a command ended, and the lines that it printed on standard output and on standard error."""
+
+    status: int
+    out: list
+    err: list
+
+
+def ended(shown):
+    """Returns how a command must end of which a handbook shows these lines."""
+    out, err = ([it for it in shown if bool(ON_ERROR.match(it)) == is_error] for is_error in (False, True))
+    last = ON_ERROR.match(err[-1]).groupdict() if err else {}
+    status = runs.refusals()[int(last["refusal"])][1] if last.get("refusal") else int(last.get("error") or 0)
+    return Ended(status, out, err)
 
 
 def handbook(name):
@@ -84,18 +113,19 @@ class Audit:
         self.queries = dict(re.findall(r"\*\*(Q\d+),.*?```sql\n(.*?)```", text, re.S))
 
     def answers(self, book):
+        """Returns the lines that each query prints over a book, on standard output and on standard error."""
         said = {}
         for name, sql in self.queries.items():
             words = ["sqlite3", "-readonly", "-csv", book, sql]
             ran = subprocess.run(words, cwd=self.session.folder, capture_output=True, text=True, check=False)
-            said[name] = (ran.stdout + ran.stderr).split("\n")[:-1]
+            said[name] = tuple(it.split("\n")[:-1] for it in (ran.stdout, ran.stderr))
         return said
 
     def of_a_good_book(self):
         good = self.answers("audit.desk")
         wanted = {**{name: [] for name in good}, "Q2": ["ok"], "Q13": ["165000,165000"]}
         for name, found in good.items():
-            self.report.sees(name, found, wanted[name])
+            self.report.sees(name, found, (wanted[name], []))
         return good
 
     def of_a_fault(self, good, row):
@@ -106,15 +136,17 @@ class Audit:
         subprocess.run(["sqlite3", book, fault], check=True)
         said = self.answers(book)
         changed = {it for it in said if said[it] != good[it]}
-        found = [it.split(",")[0] for it in said[name]] if name == "Q1" else said.get(name, [])
+        found, error = said.get(name, ([], []))
+        found = [it.split(",")[0] for it in found] if name == "Q1" else found
         sees = self.report.sees
-        sees(f"{name} of {fault}", found, rows_of(rows))
+        sees(f"{name} of {fault}", (found, error), (rows_of(rows), []))
         named = set(re.findall(r"Q\d+", others)) | ({name} & set(said))
         sees(f"queries of {fault}", sorted(changed), sorted(named))
-        told = self.session.run(REPORT.format("fault.desk"))[0]
-        sees(f"the desk of {fault}", told.startswith("report"), desk == "opens it")
-        if desk != "opens it":
-            sees(f"the desk of {fault}", told, f"refused {desk}")
+        told = self.session.run(REPORT.format("fault.desk"))
+        if desk == "opens it":
+            sees(f"the desk of {fault}", (told.status, told.out[:1], told.err), (0, [REPORTED], []))
+        else:
+            sees(f"the desk of {fault}", told, ended([f"refused {desk}"]))
         desks.remove(book)
 
 
@@ -144,19 +176,18 @@ def auditors(session, report):
     audit = Audit(session, text, report)
     good = audit.of_a_good_book()
     for row in table_of_faults(text):
-        if row[0] != "none":
-            audit.of_a_fault(good, row)
+        audit.of_a_fault(good, row)
 
 
 def banks(session, report):
     text = handbook("BANKS")
     many = len([it for it, _ in commands(text, SHOWN_TO_BANKS) if it.startswith("curl")])
     keys = {code: f"{10 + at:032x}" for at, code in enumerate(desks.KEYS)}
-    desks.new_book(f"{session.folder}/bank.desk", keys, 150, "{} Bank")
+    desks.new_book(f"{session.folder}/bank.desk", keys, 150, "{} Bank", "--automatic")
     session.run(f"desk serve bank.desk --port 8080 --count {many} --operator-key {255:032x} > server.txt &")
     session.follow(text, SHOWN_TO_BANKS, report)
-    session.run("wait")
-    report.sees("server.txt", session.run("cat server.txt"), ["listening 8080", f"served {many}"])
+    served = session.run("wait $! && cat server.txt")
+    report.sees("server.txt", served, ended(["listening 8080", f"served {many}"]))
 
 
 def run(_given, report):

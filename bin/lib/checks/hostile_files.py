@@ -1,8 +1,8 @@
 """Has the desk report on damaged and foreign files, and migrate such files of older books.
 
-Makes a book's files as stock tools and damage leave them, and asks the desk for a report on each. Then it makes the
-same files of a book with tables of version 1, and has the desk migrate each. Prints for each file its length, what the
-desk answers, how long that took, and what became of the files beside it.
+Makes a book's files, whose day is automatic, as stock tools and damage leave them, and asks the desk for a report on
+each. Then it makes the same files of a book with tables of each earlier version, and has the desk migrate each. Prints
+for each file its length, what the desk answers, how long that took, and what became of the files beside it.
 
 Something is otherwise where a file was changed by a byte (but by its own log, or since it was migrated), no report can
 be made of one that was migrated, an answer is none of a report, `migrated`, 91, 93 and 94, or a run did not end within
@@ -17,7 +17,7 @@ import time
 from lib import desks, hostile
 
 REPORT, MIGRATE = ("report", desks.DATE), ("migrate",)
-ANSWER = re.compile(r"refused 91 StoreFault\n|refused 93 NotADeskFile\n|refused 94 Inconsistent ([1-9]|1[0-4])\n")
+ANSWER = re.compile(r"refused 91 StoreFault\n|refused 93 NotADeskFile\n|refused 94 Inconsistent ([1-9]|1[0-6])\n")
 SECONDS = 60
 CHANGED_BY_CHANCE = 1000
 ORDERS = "reference,to,amount\nA-1,BETA,100\nA-2,GAMA,50\nA-3,BETA,25\nA-4,GAMA,25\n"
@@ -28,9 +28,9 @@ def options(words):
     words.add_argument("--only", action="append", default=[], metavar="TEXT", help=f"{told}; may be given again")
 
 
-def make_book(book):
-    """Makes a book with a day in which orders have settled, one is withdrawn and one waits."""
-    desks.new_book(book, desks.KEYS, 150)
+def make_book(book, *choice):
+    """Makes a book with a day of this choice in which orders have settled, one is withdrawn and one waits."""
+    desks.new_book(book, desks.KEYS, 150, "A Bank", *choice)
     with open(f"{book}.csv", "w", encoding="utf-8") as it:
         it.write(ORDERS)
     desks.desk("import", book, "ALFA", f"{book}.csv")
@@ -147,12 +147,15 @@ class Trial:
 
 def run(given, report):
     with desks.room() as folder:
-        good, older = f"{folder}/good.desk", f"{folder}/older.desk"
-        make_book(good)
-        shutil.copy(good, older)
-        desks.stock(older, desks.OLDER)
-        for told, book, request in [("A report on each:", good, REPORT),
-                                    ("A migration of each, made of a book of version 1:", older, MIGRATE)]:
+        good = f"{folder}/good.desk"
+        make_book(good, "--automatic")
+        trials = [("A report on each:", good, REPORT)]
+        for version, made in desks.OLDER.items():
+            older = f"{folder}/older{version}.desk"
+            make_book(older)
+            desks.stock(older, made)
+            trials.append((f"A migration of each, made of a book of version {version}:", older, MIGRATE))
+        for told, book, request in trials:
             report.finds(told)
             trial = Trial(folder, book, request, report)
             trial.try_files(given.only)

@@ -1,16 +1,15 @@
-"""Migrates books with tables of version 1, and looks at them with the stock sqlite3.
+"""Migrates books with tables of each earlier version, and looks at them with the stock sqlite3.
 
-Makes three books by commands, and of each a copy with tables of version 1. Every command but `init` and `migrate`
-refuses the copy with 93. Once it is migrated, its dump and all that the desk tells of it are those of the book. Then it
-migrates books of version 1 that are broken, each by one rule or form: they must be refused with that rule or with 93,
-and no byte of their files may change.
+Makes books by commands, and of each a copy with tables of each earlier version that can hold it. Every command but
+`init` and `migrate` refuses the copy with 93. Once it is migrated, its dump and all that the desk tells of it are those
+of the book. Then it migrates books of these versions that are broken, each by one rule or form: they must be refused
+with that rule or with 93, and no byte of their files may change.
 """
 import shutil
-import subprocess
 
-from lib import desks
+from lib import desks, runs
 
-KEYS, DAYS = desks.KEYS, ["2024-03-04", "2024-03-05"]
+KEYS, DAYS = desks.KEYS, ["2024-03-04", "2024-03-05", "2024-03-06", "2024-03-07"]
 
 NEW = ["init @", *[f"add @ {code} {code} {key}" for code, key in KEYS.items()], "post @ BETA P-0 20"]
 DAY = [*NEW, "credit @ ALFA 10", "open @ 2024-03-04", "post @ ALFA P-1 150",
@@ -18,16 +17,24 @@ DAY = [*NEW, "credit @ ALFA 10", "open @ 2024-03-04", "post @ ALFA P-1 150",
 TWO_DAYS = [*DAY, "import @ GAMA G-1,ALFA,60", "import @ BETA B-1,GAMA,130", "resolve @", "import @ GAMA G-2,BETA,900",
             "cutoff @ 2024-03-04", "close @ 2024-03-04", "post @ GAMA P-2 7", "open @ 2024-03-05",
             "import @ BETA B-2,ALFA,3 B-3,GAMA,5000", "cutoff @ 2024-03-05"]
-BOOKS = {"a new book": NEW, "an open day": DAY, "two days": TWO_DAYS}
+# orders with a due date behind their amount: held, withdrawn while they were, settled, rejected, and one that waits
+DUES = [*DAY, "import @ ALFA A-5,BETA,30,2024-03-05 A-6,GAMA,40,2024-03-05 A-7,BETA,2,2024-03-06 A-8,BETA,1,2024-03-06",
+        "import @ BETA B-1,ALFA,7,2024-03-05 B-2,GAMA,400,2024-03-05", "cutoff @ 2024-03-04", "withdraw @ ALFA A-8",
+        "close @ 2024-03-04", "open @ 2024-03-05", "resolve @", "cutoff @ 2024-03-05", "close @ 2024-03-05",
+        "open @ 2024-03-06", "import @ GAMA G-1,BETA,900,2024-03-07"]
+BOOKS = {"a new book": NEW, "an open day": DAY, "two days": TWO_DAYS, "due dates": DUES}
+# The first version of tables that can hold such a book, where it is not the first of all.
+SINCE = {"due dates": 2}
 
 # What every command but `init` and `migrate` refuses, in the words of the program.
 OTHERS = [f"add @ DELTA Delta {'d' * 32}", "credit @ ALFA 1", "post @ ALFA P-9 1", "open @ 2024-03-06",
-          "import @ ALFA A-9,BETA,1", "resolve @", "cutoff @ 2024-03-05", "close @ 2024-03-05", "withdraw @ ALFA A-4",
-          "account @ ALFA", "queue @ ALFA", "order @ ALFA A-1", "statement @ ALFA 2024-03-04", "report @ 2024-03-04",
+          "open @ 2024-03-06 --automatic", "import @ ALFA A-9,BETA,1", "resolve @", "cutoff @ 2024-03-05",
+          "close @ 2024-03-05", "withdraw @ ALFA A-4", "account @ ALFA", "queue @ ALFA", "order @ ALFA A-1",
+          "statement @ ALFA 2024-03-04", "report @ 2024-03-04",
           f"serve @ --port 1 --count 1 --operator-key {'f' * 32}"]
 TOLD = [*[f"report @ {day}" for day in DAYS], *[f"statement @ {code} {day}" for code in KEYS for day in DAYS],
         *[f"{reading} @ {code}" for code in KEYS for reading in ("account", "queue")],
-        *[f"order @ ALFA A-{number}" for number in range(1, 6)]]
+        *[f"order @ {code} {code[0]}-{number}" for code in KEYS for number in range(1, 9)]]
 
 
 def anew(table, columns, rows):
@@ -69,11 +76,20 @@ UNSOUND = [
     (13, "UPDATE posting SET cents = 1000000000000000 WHERE number = 2"),
     (14, "UPDATE participant SET balance = balance + 1 WHERE code = 'GAMA'"),
 ]
+# The same of due dates, which tables have since version 2.
+HELD = "INSERT INTO payment VALUES (5, 'ALFA', 'A-5', 'BETA', 1, '{0}', 4, NULL); INSERT INTO forward VALUES (5, '{0}')"
+UNSOUND_DUES = [
+    (10, MANY.format(500)
+     + "INSERT INTO payment SELECT 4 + i, 'ALFA', 'B-' || i, 'BETA', 1000, '2024-03-05', 4, NULL FROM n; "
+     "INSERT INTO forward SELECT number, date FROM payment WHERE state = 4"),
+    *[(11, HELD.format(date)) for date in ("2024-03-01", "2024-03-04", "2024-03-09")],
+    (11, "INSERT INTO forward VALUES (1, '2024-03-05')"),
+]
 NO_DESK = [
     *[f"DROP TABLE {table}" for table in ("desk", "participant", "posting", "payment", "mark")],
     "DELETE FROM desk",
     "INSERT INTO desk VALUES (2, 1, NULL, 0)",
-    *[f"UPDATE desk SET version = {version}" for version in (-1, 0, 2, 3, 7)],
+    *[f"UPDATE desk SET version = {version}" for version in (-1, 0, 3, 4, 7)],
     *[f"UPDATE desk SET {value}" for value in ("id = 2", "phase = 3", "date = '2024-02-30'", "date = 'never'")],
     *[f"UPDATE participant SET {value} WHERE code = 'ALFA'"
       for value in ("code = 'alfa'", "code = 'AL'", "name = ' A'", "name = ''", "key = x'00'", "credit = -1")],
@@ -82,13 +98,29 @@ NO_DESK = [
       for value in ("state = 4", "state = 9", "amount = 0", "reference = 'a-4'", "mark = 1", "date = '2024-02-30'")],
     "UPDATE payment SET mark = NULL WHERE number = 2",
     "UPDATE mark SET date = '2024-02-30' WHERE number = 2",
-    "CREATE TABLE forward (number INTEGER PRIMARY KEY, due TEXT NOT NULL) STRICT",
-    "CREATE VIEW forward AS SELECT number, date AS due FROM posting",
-    "CREATE INDEX forward ON payment (receiver)",
-    "CREATE TABLE Forward (a)",
+    "CREATE TABLE resolution (id INTEGER PRIMARY KEY, automatic INTEGER NOT NULL) STRICT",
+    "CREATE VIEW resolution AS SELECT id, phase AS automatic FROM desk",
+    "CREATE INDEX resolution ON payment (receiver)",
+    "CREATE TABLE Resolution (a)",
     "CREATE TRIGGER more AFTER INSERT ON payment BEGIN DELETE FROM mark; END",
     "ALTER TABLE mark RENAME COLUMN many TO few",
 ]
+# Of one version alone.
+NO_DESK_OF = {
+    1: [
+        "UPDATE desk SET version = 2",
+        "CREATE TABLE forward (number INTEGER PRIMARY KEY, due TEXT NOT NULL) STRICT",
+        "CREATE VIEW forward AS SELECT number, date AS due FROM posting",
+        "CREATE INDEX forward ON payment (receiver)",
+        "CREATE TABLE Forward (a)",
+    ],
+    2: [
+        "UPDATE desk SET version = 1",
+        "DROP TABLE forward",
+        "INSERT INTO forward VALUES (9, '2024-03-05')",
+        "INSERT INTO forward VALUES (4, '2024-02-30')",
+    ],
+}
 
 
 class Books:
@@ -98,54 +130,54 @@ class Books:
         self.folder, self.sees = folder, report.sees
 
     def run(self, book, line):
-        """Returns how a run ends and what it prints. Orders behind `import` are those of a file."""
+        """Returns how a run ends. Orders behind `import` are those of a file."""
         words = [book if it == "@" else it for it in line.split(" ")]
         if words[0] == "import":
+            due = ",due" if words[3].count(",") == 3 else ""
             with open(f"{self.folder}/orders.csv", "w", encoding="utf-8") as it:
-                it.write("\n".join(["reference,to,amount", *words[3:], ""]))
+                it.write("\n".join([f"reference,to,amount{due}", *words[3:], ""]))
             words[3:] = [f"{self.folder}/orders.csv"]
-        ran = subprocess.run([desks.DESK, *words], capture_output=True, text=True, timeout=60, check=False)
-        return ran.returncode, ran.stdout + ran.stderr
+        return runs.run(*words)
 
     def made(self, name, commands):
         """Returns a book that these commands made."""
         book = f"{self.folder}/{name.replace(' ', '-')}.desk"
         for line in commands:
-            status, said = self.run(book, line)
-            if status:
-                raise desks.Broken(f"{line}: {said}")
+            ran = self.run(book, line)
+            if ran.status or not runs.is_apart(ran):
+                raise desks.Broken(f"{line}: {ran}")
         return book
 
-    def copied(self, book, *changes):
-        """Returns a copy of the book with tables of version 1, which the stock tool then changed."""
+    def copied(self, version, book, *changes):
+        """Returns a copy of the book with tables of this version, which the stock tool then changed."""
         copy = f"{self.folder}/copy.desk"
         desks.remove(copy)
         shutil.copy(book, copy)
-        desks.stock(copy, desks.OLDER, *changes)
+        desks.stock(copy, desks.OLDER[version], *changes)
         return copy
 
-    def migrated(self, name, book):
-        """Migrates a copy of the book, and compares it with the book."""
-        copy = self.copied(book)
+    def migrated(self, version, name, book):
+        """Migrates a copy of the book with tables of this version, and compares it with the book."""
+        copy, name = self.copied(version, book), f"{name} of version {version}"
         before = desks.content(copy)
         for line in OTHERS:
-            self.sees(f"{name}: {line}", self.run(copy, line), (3, "refused 93 NotADeskFile\n"))
-        self.sees(f"{name}: init", self.run(copy, "init @"), (3, "refused 96 FileExists\n"))
+            self.sees(f"{name}: {line}", self.run(copy, line), runs.refused(93))
+        self.sees(f"{name}: init", self.run(copy, "init @"), runs.refused(96))
         self.keeps(f"{name}, before its migration", copy, before)
-        self.sees(f"{name}: migrate", self.run(copy, "migrate @"), (0, "migrated\n"))
+        self.sees(f"{name}: migrate", self.run(copy, "migrate @"), runs.Ran(0, "migrated\n"))
         self.sees(f"{name}, once migrated", desks.stock(copy, ".dump"), desks.stock(book, ".dump"))
         for line in TOLD:
             self.sees(f"{name}: {line}", self.run(copy, line), self.run(book, line))
         after = desks.content(copy)
-        self.sees(f"{name}: migrate again", self.run(copy, "migrate @"), (0, "repeated\n"))
+        self.sees(f"{name}: migrate again", self.run(copy, "migrate @"), runs.Ran(0, "repeated\n"))
         self.keeps(f"{name}, migrated again", copy, after)
 
-    def refused(self, book, change, answer):
-        """Migrates a copy of the book with this change, which must be refused so."""
-        copy = self.copied(book, change)
+    def refused(self, version, book, change, number, detail=""):
+        """Migrates a copy of the book with tables of this version and this change, which must be refused so."""
+        copy, what = self.copied(version, book, change), f"{change}, of version {version}"
         before = desks.content(copy)
-        self.sees(change, self.run(copy, "migrate @"), (3, f"refused {answer}\n"))
-        self.keeps(change, copy, before)
+        self.sees(what, self.run(copy, "migrate @"), runs.refused(number, detail))
+        self.keeps(what, copy, before)
 
     def keeps(self, what, file, before):
         self.sees(f"{what}: the bytes of the file", desks.content(file) == before, True)
@@ -155,11 +187,15 @@ def run(_given, report):
     with desks.room() as folder:
         books = Books(folder, report)
         made = {name: books.made(name, commands) for name, commands in BOOKS.items()}
-        for name, book in made.items():
-            books.migrated(name, book)
-        for rule, change in UNSOUND:
-            books.refused(made["an open day"], change, f"94 Inconsistent {rule}")
-        for change in NO_DESK:
-            books.refused(made["an open day"], change, "93 NotADeskFile")
-    report.finds(f"{len(made)} books migrated, {len(UNSOUND)} unsound and {len(NO_DESK)} that are no desk's refused: "
-                 f"{report.right} things as they must be, {report.wrong} not")
+        migrated = 0
+        for version in desks.OLDER:
+            for name, book in made.items():
+                if SINCE.get(name, 1) <= version:
+                    books.migrated(version, name, book)
+                    migrated += 1
+            for rule, change in UNSOUND + (UNSOUND_DUES if version > 1 else []):
+                books.refused(version, made["an open day"], change, 94, str(rule))
+            for change in NO_DESK + NO_DESK_OF[version]:
+                books.refused(version, made["an open day"], change, 93)
+    report.finds(f"tables of {len(desks.OLDER)} versions: {migrated} books migrated, and unsound books and files that "
+                 f"are no desk's refused: {report.right} things as they must be, {report.wrong} not")

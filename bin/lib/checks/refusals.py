@@ -27,7 +27,7 @@ BEGINS, CALLED, ANSWERED = "begins", "called", "answered"
 OUTCOMES = {
     "Ample": "the answer with ample memory",
     "Refused": "90, and nothing has changed",
-    "Faulted": "91: the store found no memory where it commits or rolls back",
+    "Faulted": "91: the store has failed, and the book is the one before or the one after",
     "Stopped": "69, or a batch that stopped: all is done, or a part of which the same call does the rest",
     "Lost": "69: all is done",
 }

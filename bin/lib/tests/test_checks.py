@@ -4,8 +4,8 @@ import re
 import unittest
 from unittest import mock
 
-from lib import desks, hostile
-from lib.checks import copies, handbooks, hostile_files, kills, migrations, refusals
+from lib import desks, hostile, runs
+from lib.checks import copies, edges, handbooks, hostile_files, kills, migrations, refusals
 from lib.report import Report
 
 
@@ -19,15 +19,15 @@ class Kills(unittest.TestCase):
     def found(self, last, in_the_book):
         report = quiet()
         with mock.patch.object(desks, "new_book"), mock.patch.object(kills, "last_replied", side_effect=last), \
-                mock.patch.object(kills, "balance", side_effect=in_the_book):
+                mock.patch.object(kills, "freed", side_effect=in_the_book):
             kills.kill_again_and_again(len(last), report, "kills", None, "")
         return report
 
     def test_all_that_was_replied_to_and_one_more_is_well(self):
         report = self.found([3, 9], [3, 3, 10, 10])
         self.assertEqual(report.wrong, 0)
-        told = "2 kills: 9 orders were replied to, and all are in the book; 1 more without a reply"
-        self.assertEqual(report.found, [told])
+        told = "2 kills: 9 orders were replied to, and all are in the book with what followed them"
+        self.assertEqual(report.found, [f"{told}; 1 more without a reply"])
 
     def test_an_order_that_is_lost_ends_the_check(self):
         report = self.found([3, 9], [2])
@@ -50,6 +50,33 @@ class Handbooks(unittest.TestCase):
         wanted = [("desk init a", ["initialised"]), ("desk queue a", [])]
         self.assertEqual(handbooks.commands(self.TEXT, handbooks.SHOWN), wanted)
 
+    def test_a_shell_tells_the_streams_of_a_command_apart(self):
+        with desks.room() as folder, handbooks.Session(folder) as session:
+            said = session.run("echo 8080; echo refused >&2; echo b; (exit 3)")
+            self.assertEqual(said, handbooks.Ended(3, ["8080", "b"], ["refused"]))
+            self.assertEqual(session.run("SEEN=1"), handbooks.Ended(0, [], []))
+            self.assertEqual(session.run("(sleep 0.1; exit 3) > server.txt & sleep 0"), (0, [], []))
+            self.assertEqual(session.run("wait $! && echo well"), (3, [], []))
+            self.assertEqual(session.run("exit"), (-1, [], []))
+
+    def test_a_refusal_that_is_shown_stands_on_standard_error_and_has_its_status(self):
+        for shown, wanted in (
+                (["opened", "repeated"], (0, ["opened", "repeated"], [])),
+                (["refused 19 Overdrawn ALFA 1"], (1, [], ["refused 19 Overdrawn ALFA 1"])),
+                (["refused 91 StoreFault"], (3, [], ["refused 91 StoreFault"])),
+                (["refused 91 StoreFault", "System command returns 768"],
+                 (0, [], ["refused 91 StoreFault", "System command returns 768"])),
+                (["Error: it is locked (5)"], (5, [], ["Error: it is locked (5)"])),
+        ):
+            self.assertEqual(handbooks.ended(shown), wanted)
+
+    def test_no_command_of_a_handbook_shows_lines_of_both_streams(self):
+        for name, shown in (("OPERATORS", handbooks.SHOWN), ("AUDITORS", handbooks.SHOWN),
+                            ("BANKS", handbooks.SHOWN_TO_BANKS)):
+            for command, lines in handbooks.commands(handbooks.handbook(name), shown):
+                _, out, err = handbooks.ended(lines)
+                self.assertFalse(out and err, command)
+
     def test_a_row_of_the_table_of_faults_is_cut_into_its_cells(self):
         row = "| Q3 | `DELETE FROM mark` | `1` and `2` | Q4 | 94 Inconsistent 9 |"
         self.assertEqual(handbooks.table_of_faults(f"| a | b |\n{row}\n"),
@@ -64,6 +91,50 @@ class Handbooks(unittest.TestCase):
         self.assertGreater(len(faults), 10)
         self.assertLessEqual({it[0] for it in faults} - {"none"}, set(audit.queries))
         self.assertEqual({len(it) for it in faults}, {5})
+
+
+class Edges(unittest.TestCase):
+    """The program is stood in for by what a run comes to."""
+
+    def test_an_answer_names_a_refusal_or_what_is_printed(self):
+        self.assertEqual(edges.wanted("!19 ALFA 1"), (runs.Ran(1, "", "refused 19 Overdrawn ALFA 1\n"), False))
+        self.assertEqual(edges.wanted("=repeated"), (runs.Ran(0, "repeated\n"), False))
+        self.assertEqual(edges.wanted("opened / auto"), (runs.Ran(0, "opened\nauto\n"), True))
+
+    def tried(self, answer, line="init @", content=None):
+        """Returns what is found where a run comes to this, and leaves this in the book's file."""
+        report = quiet()
+
+        def run(*_, **how):
+            if content is not None:
+                with open(f"{how['cwd']}/{edges.BOOK}", "w", encoding="utf-8") as it:
+                    it.write(content)
+            return answer
+
+        with desks.room() as folder, mock.patch.object(runs, "run", run):
+            tried = edges.Edges(folder, report)
+            tried.follows(f"{line} => initialised")
+        return report.wrong, tried.met
+
+    def test_a_run_that_ends_with_0_must_have_acted_and_said_so(self):
+        done = runs.Ran(0, "initialised\n")
+        self.assertEqual(self.tried(done, content="1"), (0, set()))
+        self.assertEqual(self.tried(done), (1, set()))
+        self.assertEqual(self.tried(done._replace(status=3), content="1"), (1, set()))
+        self.assertEqual(self.tried(runs.Ran(0, "", "initialised\n"), content="1"), (1, set()))
+        self.assertEqual(self.tried(runs.refused(96)), (1, {96}))
+
+    def test_each_refusal_of_a_run_and_each_command_is_among_the_lines(self):
+        answers = [line.split(" => ")[1] for line in edges.RUNS]
+        refused = {int(it[1:].split(" ")[0]) for it in answers if it.startswith("!")}
+        # (those of other files, of a taken port and of lack of memory)
+        others = {90, 91, 93, 94, 95, 97}
+        unmet = edges.OF_ROWS | edges.AT_THE_LAST_NUMBER | edges.NEVER
+        self.assertEqual(refused | others | unmet, set(runs.refusals()))
+        self.assertFalse((refused | others) & unmet)
+        with open(f"{desks.kit.TOP}/docs/SPECIFICATION.md", encoding="utf-8") as it:
+            told = set(re.findall(r"^    desk ([a-z]+) FILE", it.read(), re.M))
+        self.assertEqual({it.split(" ")[0] for it in edges.EACH}, told)
 
 
 class HostileFiles(unittest.TestCase):
@@ -82,10 +153,10 @@ class HostileFiles(unittest.TestCase):
         return hostile_files.is_well("", said, is_kept, is_moved_in)
 
     def test_a_file_must_be_kept_and_have_an_answer_that_operators_are_told_of(self):
-        for said in ("report", "refused 91 StoreFault", "refused 93 NotADeskFile", "refused 94 Inconsistent 14"):
+        for said in ("report", "refused 91 StoreFault", "refused 93 NotADeskFile", "refused 94 Inconsistent 16"):
             self.assertTrue(self.judged(said, True), said)
             self.assertFalse(self.judged(said, False), said)
-        for said in ("NO END", "refused 94 Inconsistent 15", "refused 90 OutOfMemory", "101: '' 'panic'"):
+        for said in ("NO END", "refused 94 Inconsistent 17", "refused 90 OutOfMemory", "101: '' 'panic'"):
             self.assertFalse(self.judged(said, True), said)
 
     def test_the_one_file_whose_log_is_moved_in_must_change(self):
@@ -105,6 +176,11 @@ class HostileFiles(unittest.TestCase):
 class Migrations(unittest.TestCase):
     def test_each_rule_is_broken(self):
         self.assertEqual({rule for rule, _ in migrations.UNSOUND}, set(range(1, 15)))
+
+    def test_each_older_version_of_the_tables_migrates_a_book(self):
+        since = {migrations.SINCE.get(name, 1) for name in migrations.BOOKS}
+        self.assertEqual(since, set(desks.OLDER))
+        self.assertEqual(set(migrations.NO_DESK_OF), set(desks.OLDER))
 
     def test_every_command_but_two_is_refused(self):
         with open(f"{desks.kit.TOP}/docs/SPECIFICATION.md", encoding="utf-8") as it:

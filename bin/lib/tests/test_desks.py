@@ -44,6 +44,10 @@ class Runs(Desks):
                   "open 2024-03-04"]
         self.assertEqual(desks.content(self.book).decode().splitlines(), wanted)
 
+    def test_the_day_of_a_new_book_is_opened_as_it_is_chosen(self):
+        desks.new_book(self.book, {"ALFA": "1" * 32}, 150, "A Bank", "--automatic")
+        self.assertEqual(desks.content(self.book).decode().splitlines()[-1], "open 2024-03-04 --automatic")
+
     def test_a_build_that_fails_is_told(self):
         with mock.patch.object(desks.kit, "TOP", self.folder):
             os.mkdir(f"{self.folder}/bin")
@@ -88,8 +92,7 @@ class Servers(Desks):
             self.assertGreater(server.memory("VmHWM"), 0)
             with self.assertRaisesRegex(desks.Broken, "404"):
                 server.asked(desks.request("POST", "/x", "1" * 32, "{}"))
-            self.assertEqual(server.process.stdout.read(), b"served 2\n")
-        self.assertEqual(server.process.returncode, 0)
+            self.assertEqual(server.ended(), (0, "served 2\n", ""))
 
     def test_a_server_is_ended_where_a_check_breaks_off(self):
         with self.assertRaises(desks.Broken), desks.Server(self.book, 2) as server:
@@ -99,6 +102,12 @@ class Servers(Desks):
     def test_a_server_that_does_not_listen_is_told(self):
         with mock.patch.object(desks, "free_port", lambda: 1), self.assertRaisesRegex(desks.Broken, "not listen"):
             desks.Server(self.book, 1)
+
+    def test_a_server_that_does_not_end_is_told(self):
+        with mock.patch.object(desks, "SECONDS", 0.1), self.assertRaisesRegex(desks.Broken, "not end"), \
+                desks.Server(self.book, 1) as server:
+            server.ended()
+        self.assertEqual(server.process.returncode, -signal.SIGKILL)
 
     def test_a_request_has_its_key_and_the_length_of_its_body(self):
         head, body = desks.request("POST", "/orders", "k", "a\u00e4").split(b"\r\n\r\n")

@@ -1,8 +1,11 @@
 """What is found, and written down."""
+import glob
 import os
+import re
 import tempfile
 import unittest
 
+import kit
 from lib import evidence
 from lib.report import Report
 
@@ -47,6 +50,37 @@ class Evidence(unittest.TestCase):
 
     def test_a_commit_is_named_in_full(self):
         self.assertRegex(evidence.commit(), r"^([0-9a-f]{40}(-dirty)?|unknown)$")
+
+
+class FailingStores(unittest.TestCase):
+    """The counts that evidence/failing-stores.md tells are those that the tests of the gate assert."""
+
+    def setUp(self):
+        with open(f"{evidence.FOLDER}/failing-stores.md", encoding="utf-8") as it:
+            self.text = it.read()
+
+    def asserted(self, pattern):
+        """Returns the numbers that the tests have where this pattern is found."""
+        found = set()
+        for path in glob.glob(f"{kit.TOP}/crates/rtgs_keeper_trials/src/tests/*.rt"):
+            with open(path, encoding="utf-8") as it:
+                found |= {tuple(re.findall(r"\d+", row)) for row in re.findall(pattern, it.read())}
+        return found
+
+    def told(self, columns):
+        """Returns the numbers of each row of the tables that has so many of them."""
+        return set(re.findall(r"^\| [^|]+ " + columns * r"\| (\d+) " + r"\|$", self.text, re.M))
+
+    def test_commands_and_openings(self):
+        found = self.asserted(r"meets\(rt\.alloc\(\), &\w+, (\[\d+, \d+, \d+\])\)")
+        self.assertGreater(len(found), 10)
+        self.assertEqual(self.told(3), found)
+
+    def test_makings_and_migrations(self):
+        found = self.asserted(r"&(?:FIRST|SECOND), (\(\d+, \d+\), \(\d+, \d+\))\)")
+        found |= self.asserted(r"log == (\(\d+, \d+\) && db == \(\d+, \d+\))")
+        self.assertEqual(len(found), 3)
+        self.assertEqual(self.told(4), found)
 
 
 if __name__ == "__main__":

@@ -66,7 +66,8 @@ class Help(Scripts):
 
     def test_each_check_has_help_that_starts_nothing(self):
         listed = [it.split()[0] for it in self.run_script("checks", "--list").stdout.splitlines()]
-        self.assertEqual(sorted(listed), ["copies", "handbooks", "hostile-files", "kills", "migrations", "refusals"])
+        wanted = ["copies", "edges", "handbooks", "hostile-files", "kills", "migrations", "refusals"]
+        self.assertEqual(sorted(listed), wanted)
         for name in listed:
             self.assertIn("--no-evidence", self.run_script("checks", name, "--help").stdout)
         self.assertEqual(self.called(), [])

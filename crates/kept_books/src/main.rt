@@ -1,4 +1,4 @@
-//! Brings the tables of the books in `data/`, which are of version 1, to the newest version, and asks the desk of each
+//! Brings the tables of the books in `data/`, which are of earlier versions, to the newest, and asks the desk of each
 //! book. Each line of the input has the words of one run; it is printed, and then what the desk prints of it.
 #![tactic(auto)]
 

@@ -6,7 +6,7 @@ use Rattle.rtgs_book.specs.declared.Command.{Command}
 use Rattle.rtgs_book.specs.declared.Command.TheVariants.{Order}
 use Rattle.rtgs_book.specs.declared.Known.TheVariants as known
 use Rattle.rtgs_book.specs.declared.Refusal.{Refusal}
-use Rattle.rtgs_book.specs.Outcome.{Reply}
+use Rattle.rtgs_book.specs.Outcome.{OwnReply, Reply}
 use Rattle.rtgs_book.specs.Session.{is_judged, open_command}
 use Rattle.rtgs_order_files.specs.declared.batch_result.RowReply.{RowReply}
 use Rattle.rtgs_order_files.specs.declared.batch_result.RowReply.TheVariants.{Settled, Queued, Held, Repeated, Refused}
@@ -19,19 +19,19 @@ order_of sender row = Order sender row.reference row.receiver row.amount row.due
 abbrev pub orders_of : List ℕ → List OrderRow → List Command
 orders_of sender rows = map (order_of sender) rows
 
--- the desk's reply
-abbrev pub reply_of : RowReply → Reply
+-- the desk's own reply to the row's order, which the result file shows
+abbrev pub reply_of : RowReply → OwnReply
 reply_of (Settled number mark) = Ok (answer.Settled number mark)
 reply_of (Queued number place) = Ok (answer.Queued number place)
 reply_of (Held number due) = Ok (answer.Held number due)
 reply_of (Repeated number state) = Ok (answer.Repeated (known.Order number state))
 reply_of (Refused refusal) = Err refusal
 
-abbrev pub replies_of : List RowReply → List Reply
+abbrev pub replies_of : List RowReply → List OwnReply
 replies_of replies = map reply_of replies
 
--- the reply to a row, or the refusal at which the batch stops
-abbrev pub replied : Result RowReply Refusal → Reply
+-- the own reply to a row, or the refusal at which the batch stops
+abbrev pub replied : Result RowReply Refusal → OwnReply
 replied (Ok reply) = reply_of reply
 replied (Err refusal) = Err refusal
 
@@ -41,10 +41,9 @@ with_stop replies None = replies
 with_stop replies (Some refusal) = replies ++ Err refusal ∷ []
 
 -- the order of which nobody knows whether it acted: the one at which the store failed
-abbrev pub open_order : List ℕ → List OrderRow → List RowReply → Option Refusal → Option Command
+abbrev pub open_order : List ℕ → List OrderRow → List Reply → Option Refusal → Option Command
 open_order sender rows replies stopped =
-    open_command (orders_of sender (take (length (with_stop (replies_of replies) stopped)) rows))
-    (with_stop (replies_of replies) stopped)
+    open_command (orders_of sender (take (length (with_stop replies stopped)) rows)) (with_stop replies stopped)
 
 -- After so many replies a batch of so many rows is at its end, or has stopped at the next row, where the desk judged
 -- nothing.

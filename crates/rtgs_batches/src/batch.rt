@@ -1,6 +1,7 @@
 //! Batches of orders of one sender.
 ghost use Rattle.std.specs.Prelude.{◌≡◌, ◌≢◌, [], true, false, length, Some, Ok, Err, IsTrue, IfOk, IfErr, OnErr};
 ghost use Rattle.rtgs_book.specs.declared.Book.{Book};
+ghost use Rattle.rtgs_book.specs.Outcome.{Reply, alone, own_of};
 ghost use Rattle.rtgs_book.specs.Session.{is_judged};
 ghost use Rattle.rtgs_desk.specs.Holding.{Holds, Acts};
 ghost use Rattle.rtgs_desk.specs.Replies.{answers_an_order};
@@ -74,10 +75,11 @@ fn submit_row<K: Keeper>(
     sender: Code,
     row: &OrderRow,
 ) -> Result<RowReply, Refusal>
-    ensures judged { IfOk result (λ reply. is_judged (reply_of reply) ≡ true) }
+    ensures judged { IfOk result (λ reply. is_judged (alone (reply_of reply)) ≡ true) }
     ensures unjudged { IfErr result (λ refusal. is_judged (Err refusal) ≡ false) }
     ensures acts { K.is_honest desk.new.keeper → (book : Book) → Holds K.Keeper desk.old book
-        → Acts K.Keeper book (order_of sender row.now) (replied result) desk.new }
+        → (whole : Reply) × (own_of whole ≡ replied result)
+        × Acts K.Keeper book (order_of sender row.now) whole desk.new }
     ensures honest { K.is_honest desk.new.keeper → K.is_honest desk.old.keeper }
     ensures fault { result ≡ Err Refusal.StoreFault
         → (K.has_failed desk.old.keeper ≡ false) × (K.has_failed desk.new.keeper ≡ true) }
@@ -93,7 +95,7 @@ fn submit_row<K: Keeper>(
         due: row.due,
     };
     match desk.submit(command) {
-        Ok(answer) => Ok(accepted(&answer)),
+        Ok(answer) => Ok(accepted(&answer.own)),
         Err(refusal) => refused(refusal),
     }
 }

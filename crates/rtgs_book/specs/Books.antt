@@ -1,5 +1,5 @@
 -- The book and its records under short names, and the tests of a phase and a state.
-use Rattle.std.specs.Prelude.{Bool, true, false, List, [], ◌∷◌, None, is_some}
+use Rattle.std.specs.Prelude.{Bool, true, false, not, ◌&&◌, List, [], ◌∷◌, None, is_some}
 pub use Rattle.rtgs_book.specs.declared.book.Book.{Book}
 pub use Rattle.rtgs_book.specs.declared.day.Day.{Day}
 pub use Rattle.rtgs_book.specs.declared.phase.Phase.{Phase}
@@ -22,6 +22,10 @@ is_open phase = false
 abbrev pub is_cut_off : Phase → Bool
 is_cut_off CutOff = true
 is_cut_off phase = false
+
+-- a resolution follows commands: the day was opened as an automatic one, and is in progress
+abbrev pub is_automatic : Day → Bool
+is_automatic day = day.automatic && not (is_closed day.phase)
 
 abbrev pub is_queued_state : OrderState → Bool
 is_queued_state Queued = true
@@ -72,5 +76,5 @@ new_book = record {
   postings = [];
   orders = [];
   marks = [];
-  day = record { date = None; phase = Closed };
+  day = record { date = None; phase = Closed; automatic = false };
 }

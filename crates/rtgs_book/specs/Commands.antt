@@ -25,9 +25,9 @@ use Rattle.rtgs_book.specs.Balance.{balance, floor, total}
 use Rattle.rtgs_book.specs.Queue.{queue, waiting}
 use Rattle.rtgs_book.specs.Choice.{Choice, is_chosen, chosen}
 use Rattle.rtgs_book.specs.Settle.{altered, in_state, settle, mark_of, today, next_mark}
-use Rattle.rtgs_book.specs.Outcome.{Outcome, Reply, accepts, first_of}
+use Rattle.rtgs_book.specs.Outcome.{Outcome, OwnReply, accepts, first_of}
 
-abbrev pub repeated : Reply
+abbrev pub repeated : OwnReply
 repeated = Ok (answer.Repeated known.Nothing)
 
 -- ---- participants
@@ -78,7 +78,7 @@ abbrev pub is_same_posting : Option Posting → List ℕ → ℤ → Bool
 is_same_posting None code cents = false
 is_same_posting (Some posting) code cents = bytes_eq posting.code code && int_eq posting.cents cents
 
-abbrev pub known_posting : Option Posting → Reply
+abbrev pub known_posting : Option Posting → OwnReply
 known_posting None = repeated
 known_posting (Some posting) = Ok (answer.Repeated (known.Posting posting.number))
 
@@ -149,7 +149,7 @@ is_same_order None receiver amount due = false
 is_same_order (Some order) receiver amount due =
     bytes_eq order.receiver receiver && (order.amount == amount) && is_same_due order.due due
 
-abbrev pub known_order : Option Order → Reply
+abbrev pub known_order : Option Order → OwnReply
 known_order None = repeated
 known_order (Some order) = Ok (answer.Repeated (known.Order order.number order.state))
 
@@ -268,15 +268,21 @@ let_in book is_in date = with_altered book is_in (entered date)
 abbrev pub with_day : Book → Day → Book
 with_day book day = record book { day = day }
 
-unfoldable pub open_day : Book → ℕ → Outcome
-open_day book date =
+-- the day was opened with this choice
+abbrev pub has_choice : Bool → Day → Bool
+has_choice true day = day.automatic
+has_choice false day = not day.automatic
+
+unfoldable pub open_day : Book → ℕ → Bool → Outcome
+open_day book date automatic =
     first_of book (
-    (is_open book.day.phase && is_on book date, repeated)
+    (is_open book.day.phase && is_on book date && has_choice automatic book.day, repeated)
     ∷ (not (is_closed book.day.phase), Err WrongPhase)
     ∷ (not (is_later date book.day.date), Err WrongDate)
     ∷ (is_weekend date, Err Weekend)
     ∷ []
-    ) (accepts answer.Opened (with_day (let_in book (is_due date) date) (record { date = Some date; phase = Open })))
+    ) (accepts answer.Opened
+    (with_day (let_in book (is_due date) date) (record { date = Some date; phase = Open; automatic = automatic })))
 
 unfoldable pub cut_off : Book → ℕ → Outcome
 cut_off book date =
@@ -313,4 +319,4 @@ close_day book choice date =
     ∷ (not (is_empty (overdrawn book)), Err (Overdrawn (first_code (overdrawn book)) (length (overdrawn book))))
     ∷ []
     ) (accepts (answer.Closed (length (filter is_queued book.orders)))
-    (with_day (with_state book is_queued Rejected) (record book.day { phase = Closed })))
+    (with_day (with_state book is_queued Rejected) (record book.day { phase = Closed; automatic = false })))

@@ -3,13 +3,16 @@ use Rattle.std.specs.Prelude.{ℕ, ◌<◌, ⊤}
 use Rattle.rtgs_book.specs.declared.rule.Rule.{Rule}
 use Rattle.rtgs_book.specs.declared.rule.Rule.TheVariants.{OrderNumbers, PostingNumbers, MarkNumbers, ParticipantCodes}
 use Rattle.rtgs_book.specs.declared.rule.Rule.TheVariants.{Keys, OrderReferences, PostingReferences, Parties, Marks}
-use Rattle.rtgs_book.specs.declared.rule.Rule.TheVariants.{Queues, Dates, Floors, Total, StoredBalances}
+use Rattle.rtgs_book.specs.declared.rule.Rule.TheVariants.{Queues, Dates, Floors, Total, StoredBalances, AutomaticDay}
+use Rattle.rtgs_book.specs.declared.rule.Rule.TheVariants.{Calm}
 use Rattle.rtgs_book.specs.declared.fault.Fault.{Fault}
 use Rattle.rtgs_book.specs.declared.fault.Fault.TheVariants.{OutOfMemory, Inconsistent}
 use Rattle.rtgs_book.specs.Books.{Book}
 use Rattle.rtgs_book.specs.Soundness.{OrdersAreNumbered, PostingsAreNumbered, MarksAreNumbered, CodesRise}
 use Rattle.rtgs_book.specs.Soundness.{KeysAreDistinct, OrderReferencesAreDistinct, PostingReferencesAreDistinct}
 use Rattle.rtgs_book.specs.Soundness.{PartiesAreKnown, MarksFitOrders, QueuesFit, DatesFit, FloorsHold, TotalFits}
+use Rattle.rtgs_book.specs.Soundness.{ChoiceFits}
+use Rattle.rtgs_book.specs.Calm.{IsCalm}
 
 -- the number by which a rule is known
 abbrev pub rule_number : Rule → ℕ
@@ -27,6 +30,8 @@ rule_number Dates = 11
 rule_number Floors = 12
 rule_number Total = 13
 rule_number StoredBalances = 14
+rule_number AutomaticDay = 15
+rule_number Calm = 16
 
 -- the book keeps the rule
 abbrev pub Keeps : Book → Rule → Type 0
@@ -44,6 +49,8 @@ Keeps book Dates = DatesFit book
 Keeps book Floors = FloorsHold book
 Keeps book Total = TotalFits book
 Keeps book StoredBalances = ⊤
+Keeps book AutomaticDay = ChoiceFits book
+Keeps book Calm = IsCalm book
 
 -- the book keeps each rule before this one
 abbrev pub KeepsBefore : Book → Rule → Type 0

@@ -8,15 +8,18 @@ use Rattle.rtgs_book.specs.declared.limits.TheConstants.{LARGEST_BALANCE}
 use Rattle.rtgs_book.specs.Books.{Book, Order, Mark, is_settled}
 use Rattle.rtgs_book.specs.Lookup.{accounts}
 use Rattle.rtgs_book.specs.Balance.{balance}
-use Rattle.rtgs_book.specs.Outcome.{Command, Reply}
+use Rattle.rtgs_book.specs.Outcome.{Command, Reply, OwnReply, own_of}
 use Rattle.rtgs_book.specs.Procedure.{Has}
 use Rattle.rtgs_book.specs.Soundness.{is_state_under}
 use Rattle.rtgs_book.specs.Totals.{Within}
 
 -- what an accepted posting adds to all balances together
+abbrev pub posted_by_itself : Command → OwnReply → ℤ
+posted_by_itself (Post code reference cents) (Ok (Posted number)) = cents
+posted_by_itself command reply = pos 0
+
 abbrev pub posted : Command → Reply → ℤ
-posted (Post code reference cents) (Ok (Posted number)) = cents
-posted command reply = pos 0
+posted command reply = posted_by_itself command (own_of reply)
 
 -- the old marks stand, and so do the old orders that were settled
 pub record KeepsWhatIsFinal (old new : Book) : Type 0 where

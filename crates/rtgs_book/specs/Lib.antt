@@ -1,6 +1,7 @@
 pub mod Accounts
 pub mod Balance
 pub mod Books
+pub mod Calm
 pub mod Changes
 pub mod Choice
 pub mod Commands

@@ -1,14 +1,13 @@
 -- Lists of commands.
-use Rattle.std.specs.Prelude.{◌≡◌, Bool, true, false, ◌&&◌, ◌||◌, ◌==◌, if◌then◌else◌, List, [], ◌∷◌, Ok, Err}
+use Rattle.std.specs.Prelude.{◌≡◌, Bool, false, ◌&&◌, ◌||◌, ◌==◌, if◌then◌else◌, List, [], ◌∷◌}
 use Rattle.std.specs.List.{list_any}
 use Rattle.std.specs.Str.{bytes_eq}
 use Rattle.std.specs.Ordering.{int_eq}
 use Rattle.rtgs_book.specs.declared.command.Command.TheVariants.{Post, Order}
-use Rattle.rtgs_book.specs.declared.answer.Answer.TheVariants.{Repeated}
 use Rattle.rtgs_book.specs.Books.{Book}
 use Rattle.rtgs_book.specs.Lookup.{order_named, posting_named}
 use Rattle.rtgs_book.specs.Commands.{is_same_due, is_same_order, is_same_posting}
-use Rattle.rtgs_book.specs.Outcome.{Command, Reply}
+use Rattle.rtgs_book.specs.Outcome.{Command, Reply, own_of, is_done}
 use Rattle.rtgs_book.specs.Step.{Step}
 
 -- the commands one after another, each with its reply
@@ -21,9 +20,7 @@ Run old (command ∷ commands) [] new = ⊥
 
 -- neither refused nor a repeat
 abbrev pub is_accepted : Reply → Bool
-is_accepted (Ok (Repeated known)) = false
-is_accepted (Ok answer) = true
-is_accepted (Err refusal) = false
+is_accepted reply = is_done (own_of reply)
 
 -- two orders, or two postings, with one name and one content
 abbrev pub is_same_entry : Command → Command → Bool

@@ -123,13 +123,17 @@ pub record DatesFit (book : Book) : Type 0 where
   pub marks : NeverFall (today book) (map (λ (m : Mark). m.date) book.marks)
   pub postings : NeverFall (today book) (map (λ (p : Posting). unwrap_or p.date 0) book.postings)
 
+-- no day is automatic while the desk is closed
+abbrev pub ChoiceFits : Book → Type 0
+ChoiceFits book = IsTrue (is_closed book.day.phase) → book.day.automatic ≡ false
+
 abbrev pub FloorsHold : Book → Type 0
 FloorsHold book = AllByRecursion (λ code. floor book code ≤ℤ balance book code) (accounts book)
 
 abbrev pub TotalFits : Book → Type 0
 TotalFits book = total book ≤ℤ pos LARGEST_TOTAL
 
--- rules 1 to 13, in the order in which `check` names them
+-- rules 1 to 13, and rule 15, in the order in which `check` names them
 pub record IsSound (book : Book) : Type 0 where
   pub orders_numbered : OrdersAreNumbered book
   pub postings_numbered : PostingsAreNumbered book
@@ -144,3 +148,4 @@ pub record IsSound (book : Book) : Type 0 where
   pub dates : DatesFit book
   pub floors : FloorsHold book
   pub total_fits : TotalFits book
+  pub choice_fits : ChoiceFits book

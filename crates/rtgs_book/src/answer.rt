@@ -10,7 +10,23 @@ pub enum Known {
     Order { number: u64, state: OrderState },
 }
 
-/// The answer to a command that was not refused.
+/// What a resolution settled: so many orders of this value, under the mark.
+#[derive(Clone, Copy, Debug, PartialEq, Eq)]
+pub struct Resolution {
+    pub mark: u64,
+    pub count: u64,
+    pub value: Cents,
+}
+
+/// The whole answer to a command that was not refused: its own, as if nothing followed, and what was resolved after it
+/// in the same step, if anything was.
+#[derive(Clone, Copy, Debug, PartialEq, Eq)]
+pub struct WholeAnswer {
+    pub own: Answer,
+    pub auto: Option<Resolution>,
+}
+
+/// What a command by itself is answered, where it was not refused.
 #[derive(Clone, Copy, Debug, PartialEq, Eq)]
 pub enum Answer {
     Added,

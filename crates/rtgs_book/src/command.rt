@@ -1,4 +1,9 @@
 //! Commands.
+//!
+//! To add one, say what it means in `specs/Commands.antt`, and in `specs/Step.antt` whether it may free orders. The
+//! compiler names each function that lacks a case for it, but for `judge` in `following.rt` of `rtgs_ledger`, which says
+//! that the amounts of a command are in their ranges. Whether it comes again as a repeat stands in `Lasting.antt` of
+//! `rtgs_repeats`, and who may send it in `Access.antt` and the routes of `rtgs_http_requests` and `rtgs_http_heads`.
 use rtgs_money::{Amount, BusinessDate, Code, Credit, KeyDigest, Name, PostingAmount, Reference};
 
 /// What the desk can be asked to do.
@@ -22,7 +27,11 @@ pub enum Command {
         cents: PostingAmount,
     },
     /// Opens the business day, and lets the held orders into their queues that are due by its date.
-    OpenDay(BusinessDate),
+    /// On an automatic day a resolution follows each command that may let orders settle.
+    OpenDay {
+        date: BusinessDate,
+        automatic: bool,
+    },
     /// Pays, at once or after the orders that are queued; with a due date, not before that date.
     Order {
         sender: Code,

@@ -23,7 +23,7 @@ mod rule;
 mod standing;
 
 pub use crate::account::Account;
-pub use crate::answer::{Answer, Known};
+pub use crate::answer::{Answer, Known, Resolution, WholeAnswer};
 pub use crate::book::Book;
 pub use crate::change::{Change, RowChange};
 pub use crate::command::Command;

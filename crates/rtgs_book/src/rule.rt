@@ -37,6 +37,10 @@ pub enum Rule {
     Total,
     /// A stored balance is the sum of what is recorded. A book stores none.
     StoredBalances,
+    /// A day is automatic only while it is in progress.
+    AutomaticDay,
+    /// On an automatic day nothing that is queued could be settled.
+    Calm,
 }
 
 impl Rule {
@@ -59,6 +63,8 @@ impl Rule {
             Rule::Floors => 12,
             Rule::Total => 13,
             Rule::StoredBalances => 14,
+            Rule::AutomaticDay => 15,
+            Rule::Calm => 16,
         }
     }
 }

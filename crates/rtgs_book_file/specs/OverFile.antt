@@ -49,7 +49,7 @@ pub record OverFile (K U C : Type 0) : Type 1 where
   pub refused_at : List ℕ → U → Type 0
   pub closed_at : List ℕ → C → Type 0
   -- Whatever a stop leaves of the desk's file is a book that a session of these commands may find, in its tables,
-  -- whole.
+  -- whole, and calm.
   pub stop_leaves : Seen K → Book → List Command → List Reply → Type 0
 
 -- a file that held what the second says, with the keeper's trait and its connection

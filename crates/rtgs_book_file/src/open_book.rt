@@ -33,8 +33,8 @@ pub struct OpenBook<K: Keeper> {
 }
 
 impl<S: Start> BookLock<'_, S> {
-    /// Opens the book in the file, which held what `S` says. A fault where there is no book, or none that is sound;
-    /// the lock is then let go with the refusal.
+    /// Opens the book in the file, which held what `S` says. A fault where there is no book, or none that is sound and
+    /// calm; the lock is then let go with the refusal.
     pub fn open(self, rt: &HostRuntime) -> Result<OpenBook<FileKeeper<S>>, Unopened<S>>
         ensures opened { IfOk result (λ book. HasCleanDisk (file_state book.desk.keeper.conn)
             → WasOpened ⟦<FileKeeper<S> as Keeper>⟧ (image_at S.Start) book.desk book.desk.keeper.conn) }

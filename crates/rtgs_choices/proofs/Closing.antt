@@ -24,7 +24,7 @@ use Rattle.rtgs_book.specs.Commands.{close_day, is_on, overdrawn, with_day, with
 use Rattle.rtgs_book.specs.Settle.{in_state}
 use Rattle.rtgs_book.specs.Outcome.{first_of}
 use Rattle.rtgs_book.specs.Changes.{changed, balance_set, SetsBalances, StartsEmpty}
-use Rattle.rtgs_book.specs.Step.{Step}
+use Rattle.rtgs_book.specs.Step.{OwnStep}
 use Rattle.rtgs_choices.specs.Settling.{is_numbered, state_rows}
 use Rattle.rtgs_choices.specs.Closing.{closed_book, closing_rows}
 use Rattle.rtgs_choices.proofs.Rows.{changed-append, balance_set-states, added-states}
@@ -37,7 +37,7 @@ not_closed CutOff e = refl
 
 pub closing : (book : Book) (choice : Choice) (date : ℕ) → is_cut_off book.day.phase ≡ true → is_on book date ≡ true
     → IsGreatest book choice → is_empty (chosen book choice) ≡ true → overdrawn book ≡ []
-    → Step book (CloseDay date) (Ok (answer.Closed (length (filter is_queued book.orders)))) (closed_book book)
+    → OwnStep book (CloseDay date) (Ok (answer.Closed (length (filter is_queued book.orders)))) (closed_book book)
 unfolding close_day first_of
 closing book choice date cut same greatest none covered = (
   choice,
@@ -69,9 +69,12 @@ pub rejected : (book : Book) → StatesOneByOne → QueuedAreNumbered book
     → changed book (closing_rows book) ≡ closed_book book
 unfolding with_state
 rejected book states queued =
-    changed-append book (state_rows Rejected (numbers book)) (SetDay (record book.day { phase = Closed }) ∷ [])
-    ∙ ap (λ (b : Book). with_day b (record book.day { phase = Closed })) (states book Rejected (numbers book))
-    ∙ ap (λ (os : List Order). with_day (record book { orders = os }) (record book.day { phase = Closed }))
+    changed-append book (state_rows Rejected (numbers book))
+    (SetDay (record book.day { phase = Closed; automatic = false }) ∷ [])
+    ∙ ap (λ (b : Book). with_day b (record book.day { phase = Closed; automatic = false }))
+    (states book Rejected (numbers book))
+    ∙ ap (λ (os : List Order).
+    with_day (record book { orders = os }) (record book.day { phase = Closed; automatic = false }))
     (sym (changed_agrees is_queued (is_numbered (numbers book)) (in_state Rejected) book.orders queued))
 
 not_settled : (state : OrderState) → is_queued_state state ≡ true → is_settled_state state ≡ false
@@ -97,10 +100,10 @@ moves_nothing book law = all_of (λ code. balance_set code (closing_rows book)
         (Some (balance (closed_book book) code))
     at code =
         balance_set-states code Rejected (flat_map (queued_numbers book.orders) (accounts book))
-        (SetDay (record book.day { phase = Closed }) ∷ [])
+        (SetDay (record book.day { phase = Closed; automatic = false }) ∷ [])
         ∙ rw (same_balance book law code, int_eq_equiv.refl (balance book code)) refl
 
 pub adds_nobody : (new : Book) (all : List RowChange) (book : Book)
     → AllByRecursion (StartsEmpty new all) (closing_rows book)
 adds_nobody new all book = added-states new all Rejected (flat_map (queued_numbers book.orders) (accounts book))
-    (SetDay (record book.day { phase = Closed }) ∷ []) (tt, tt)
+    (SetDay (record book.day { phase = Closed; automatic = false }) ∷ []) (tt, tt)

@@ -8,3 +8,4 @@ pub mod Rows
 pub mod Sums
 pub mod Taken
 pub mod Told
+pub mod Joining

@@ -18,7 +18,7 @@ use Rattle.rtgs_book.specs.Commands.{resolve}
 use Rattle.rtgs_book.specs.Outcome.{first_of}
 use Rattle.rtgs_book.specs.Settle.{settle, mark_of, next_mark}
 use Rattle.rtgs_book.specs.Soundness.{IsSound}
-use Rattle.rtgs_book.specs.Step.{Step}
+use Rattle.rtgs_book.specs.Step.{OwnStep}
 use Rattle.rtgs_choices.specs.Settling.{IsOfBalance, balance_rows, settling_rows}
 use Rattle.rtgs_choices.proofs.Rows.{added-states, of_balances}
 
@@ -53,7 +53,7 @@ module _ (book : Book) (choice : Choice) (mark : Mark) (sound : IsSound book) (g
   resolved = rw (not_closed book choice sound some, some) (λ i. record
       { reply = Ok (Resolved (is i).number (is i).count (is i).value); book = settle book (is_chosen book choice) })
 
-  pub resolution : Step book Resolve (Ok (Resolved mark.number mark.count mark.value))
+  pub resolution : OwnStep book Resolve (Ok (Resolved mark.number mark.count mark.value))
       (settle book (is_chosen book choice))
   resolution = (choice, greatest, resolved)
 

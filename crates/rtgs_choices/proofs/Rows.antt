@@ -149,7 +149,7 @@ of_balances book choice = each (filter (moves book choice) (accounts book))
     each (code ∷ codes) = (tt, each codes)
 
 -- a row for each code that passes sets its balance, and no other
-balance_set-rows : (passes : List ℕ → Bool) (new : List ℕ → ℤ) (code : List ℕ) (codes : List (List ℕ))
+pub balance_set-rows : (passes : List ℕ → Bool) (new : List ℕ → ℤ) (code : List ℕ) (codes : List (List ℕ))
     → balance_set code (map (λ c. SetBalance c (new c)) (filter passes codes))
     ≡ cond (list_any (bytes_eq code) codes && passes code) (Some (new code)) None
 balance_set-rows passes new code [] = refl
@@ -256,3 +256,8 @@ module _ (law : SettledBalances) (book : Book) (choice : Choice) (numbers : List
       (recursion_from_All (λ code. list_any (bytes_eq code) (accounts book) ≡ true) (accounts book)
       (All-from_get_or (λ code. list_any (bytes_eq code) (accounts book) ≡ true) (accounts book) []
       (λ i less. in_codes (accounts book) i less))))
+
+-- each code of a list is in it
+pub known_codes : (codes : List (List ℕ)) → AllByRecursion (λ code. list_any (bytes_eq code) codes ≡ true) codes
+known_codes codes = recursion_from_All (λ code. list_any (bytes_eq code) codes ≡ true) codes
+    (All-from_get_or (λ code. list_any (bytes_eq code) codes ≡ true) codes [] (λ i less. in_codes codes i less))

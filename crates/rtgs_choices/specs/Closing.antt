@@ -1,5 +1,5 @@
 -- The rows that close a day.
-use Rattle.std.specs.Prelude.{List, [], ◌∷◌, ◌++◌}
+use Rattle.std.specs.Prelude.{false, List, [], ◌∷◌, ◌++◌}
 use Rattle.std.specs.List.{flat_map}
 use Rattle.rtgs_book.specs.declared.book.Book.{Book}
 use Rattle.rtgs_book.specs.declared.change.RowChange.{RowChange}
@@ -14,9 +14,9 @@ use Rattle.rtgs_choices.specs.Settling.{state_rows}
 
 -- the book with all that was queued rejected, and its day closed
 abbrev pub closed_book : Book → Book
-closed_book book = with_day (with_state book is_queued Rejected) (record book.day { phase = Closed })
+closed_book book = with_day (with_state book is_queued Rejected) (record book.day { phase = Closed; automatic = false })
 
 -- what is queued is rejected, account by account; then the day is closed
 abbrev pub closing_rows : Book → List RowChange
 closing_rows book = state_rows Rejected (flat_map (queued_numbers book.orders) (accounts book))
-    ++ SetDay (record book.day { phase = Closed }) ∷ []
+    ++ SetDay (record book.day { phase = Closed; automatic = false }) ∷ []

@@ -2,3 +2,4 @@ pub mod ByIndex
 pub mod Closing
 pub mod OneByOne
 pub mod Settling
+pub mod Joining

@@ -27,12 +27,13 @@ ghost use Rattle.rtgs_book.specs.Commands.{is_on, overdrawn, with_altered, with_
 ghost use Rattle.rtgs_book.specs.Settle.{settle, mark_of, next_mark};
 ghost use Rattle.rtgs_book.specs.Changes.{balance_set, changed, SetsBalances, Leads, StartsEmpty};
 ghost use Rattle.rtgs_book.specs.Soundness.{IsSound};
-ghost use Rattle.rtgs_book.specs.Step.{Step};
+ghost use Rattle.rtgs_book.specs.Step.{OwnStep};
 ghost use Rattle.rtgs_choices.specs.ByIndex.{code_at, index_of, positions_of, queues_of, by_code};
 ghost use Rattle.rtgs_choices.specs.Closing.{closed_book, closing_rows};
 ghost use Rattle.rtgs_choices.specs.OneByOne.{ChangesOrders, passes_one};
 ghost use Rattle.rtgs_choices.specs.Settling.{orders_taken, numbers_taken, is_numbered, state_rows, IsOfBalance};
 ghost use Rattle.rtgs_choices.specs.Settling.{settling_rows};
+ghost use Rattle.rtgs_choices.specs.Joining.{joined_rows};
 
 use rtgs_book::laws::{balance_after_restating, chosen_are_beginnings, settled_balances};
 
@@ -146,7 +147,7 @@ pub fn balances_one_by_one()
 pub fn rows_settle()
     ensures step { (book : Book) (choice : Choice) (mark : Mark) → IsSound book → IsGreatest book choice
         → is_empty (chosen book choice) ≡ false → mark ≡ mark_of book (chosen book choice) →
-        Step book Resolve (Ok (Resolved mark.number mark.count mark.value)) (settle book (is_chosen book choice)) }
+        OwnStep book Resolve (Ok (Resolved mark.number mark.count mark.value)) (settle book (is_chosen book choice)) }
     ensures leads { (book : Book) (choice : Choice) (mark : Mark) → IsSound book
         → is_empty (chosen book choice) ≡ false → mark ≡ mark_of book (chosen book choice) →
         Leads book (settling_rows book choice (numbers_taken book choice) mark)
@@ -166,7 +167,7 @@ pub fn rows_settle()
 pub fn rows_close()
     ensures step { (book : Book) (choice : Choice) (date : ℕ) → is_cut_off book.day.phase ≡ true
         → is_on book date ≡ true → IsGreatest book choice → is_empty (chosen book choice) ≡ true → overdrawn book ≡ [] →
-        Step book (CloseDay date) (Ok (answer.Closed (length (filter is_queued book.orders)))) (closed_book book) }
+        OwnStep book (CloseDay date) (Ok (answer.Closed (length (filter is_queued book.orders)))) (closed_book book) }
     ensures leads { (book : Book) → IsSound book → Leads book (closing_rows book) (closed_book book) }
     ensures balances { (book : Book) (code : List ℕ) → balance (closed_book book) code ≡ balance book code }
     ensures added { (book new : Book) → AllByRecursion (StartsEmpty new (closing_rows book)) (closing_rows book) }
@@ -175,3 +176,10 @@ pub fn rows_close()
     queued_are_numbered();
     states_one_by_one();
 }
+
+/// Two changes, one after the other, are one: the rows of both without their balances, and then the balances that are
+/// others at the end. It leads to the same book, and sets the balances that move, each once, and no others.
+pub fn changes_join()
+    ensures { (old mid new : Book) (one next : List RowChange) → accounts new ≡ accounts old → Leads old one mid
+        → Leads mid next new → Leads old (joined_rows old one next new) new }
+{}

@@ -16,7 +16,7 @@ use Rattle.rtgs_statements.specs.Reads.{LeavesRead}
 use Rattle.rtgs_desk.specs.Holding.{Holds, IsLeft, KeepsAsBefore}
 use Rattle.rtgs_desk.specs.LookUps.{LooksUp, refusal_of}
 use Rattle.rtgs_desk.specs.Seen.{Seen}
-use Rattle.rtgs_desk.proofs.HoldingLemmas.{in_memory, holding, works_held, keeps_held}
+use Rattle.rtgs_desk.proofs.HoldingLemmas.{in_memory, holding, works_held, keeps_held, calm_held}
 
 -- the keeper's laws
 pub record KeeperLaws {K : Type 0} (g : Ghosts K) : Type 0 where
@@ -88,7 +88,7 @@ looked g laws X old new result ended looks core works quiet ends = record {
   honest = looks.reads.honest;
   kept = λ honest book held no. holding g new book (looks.reads.only_fault quiet ∙ works)
       (looks.reads.same honest book (keeps_held g old book held) quiet)
-      (subst (IsCoreOf book) (sym core) (in_memory g old book held));
+      (subst (IsCoreOf book) (sym core) (in_memory g old book held)) (calm_held g old book held);
   left = λ honest book held. record {
     after_a_crash = λ found left. laws.settled old.keeper book found (keeps_held g old book held)
         (looks.reads.stops honest found left);

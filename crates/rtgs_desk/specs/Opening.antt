@@ -1,9 +1,12 @@
 -- What opening a desk makes of what an honest keeper has.
 use Rattle.std.specs.Prelude.{◌≡◌, ◌≢◌, ◌⊎◌}
+use Rattle.rtgs_book.specs.Calm.{IsCalm}
+use Rattle.rtgs_book.specs.Soundness.{IsSound}
 use Rattle.rtgs_book.specs.declared.Book.{Book}
 use Rattle.rtgs_book.specs.declared.Fault.{Fault}
 use Rattle.rtgs_book.specs.declared.Fault.TheVariants.{OutOfMemory, StoreFault, Inconsistent}
 use Rattle.rtgs_book.specs.declared.Rule.{Rule}
+use Rattle.rtgs_book.specs.declared.Rule.TheVariants.{Calm}
 use Rattle.rtgs_keeper.specs.declared.keeper.Keeper.{Ghosts}
 use Rattle.rtgs_desk.specs.Holding.{Holds, HasInMemory}
 use Rattle.rtgs_desk.specs.Seen.{Seen}
@@ -27,11 +30,18 @@ pub record IsOpenedOver {K : Type 0} (g : Ghosts K) (keeper : K) (desk : Seen K)
   pub not_empty : g.is_empty keeper → ⊥
   pub left : LeavesKept g keeper desk.keeper
 
--- The keeper that is handed back beside a fault. A book that is kept is refused for lack of memory or a fault of the
--- store alone, and what is kept stays the same.
+-- a sound book that the store showed is not calm
+abbrev pub IsNotCalm : {K : Type 0} → Ghosts K → K → Fault → Type 0
+IsNotCalm g keeper fault = (fault ≡ Inconsistent Calm)
+    × ((book : Book) × IsSound book × g.shows keeper book × ¬ IsCalm book)
+
+-- The keeper that is handed back beside a fault. A calm book that is kept is refused for lack of memory or a fault of
+-- the store alone, and one that is not calm by its rule besides; what is kept stays the same.
 pub record IsHandedBack {K : Type 0} (g : Ghosts K) (keeper : K) (fault : Fault) (back : K) : Type 0 where
-  pub accepted : (book : Book) → g.content keeper book → (fault ≡ OutOfMemory) ⊎ (fault ≡ StoreFault)
-  pub explained : (fault ≡ OutOfMemory) ⊎ g.explains keeper fault
+  pub accepted : (book : Book) → g.content keeper book → IsCalm book → (fault ≡ OutOfMemory) ⊎ (fault ≡ StoreFault)
+  pub restless : (book : Book) → g.content keeper book
+      → (fault ≡ OutOfMemory) ⊎ ((fault ≡ StoreFault) ⊎ (fault ≡ Inconsistent Calm))
+  pub explained : (fault ≡ OutOfMemory) ⊎ (g.explains keeper fault ⊎ IsNotCalm g keeper fault)
   pub no_rule : g.is_empty keeper → (rule : Rule) → fault ≢ Inconsistent rule
   pub kept : (book : Book) → g.content keeper book → fault ≢ StoreFault → g.content back book
   pub left : LeavesKept g keeper back

@@ -39,7 +39,8 @@ IsCommand called given (Post code reference cents debit) = (called ≡ codes "po
     × IsFlag given (codes "debit") debit
 IsCommand called given (Withdraw code reference) = (called ≡ codes "withdraw") × IsWord given (codes "code") code
     × IsWord given (codes "reference") reference
-IsCommand called given (Open date) = (called ≡ codes "open") × IsWord given (codes "date") date
+IsCommand called given (Open date automatic) = (called ≡ codes "open") × IsWord given (codes "date") date
+    × IsFlag given (codes "automatic") automatic
 IsCommand called given Resolve = called ≡ codes "resolve"
 IsCommand called given (CutOff date) = (called ≡ codes "cutoff") × IsWord given (codes "date") date
 IsCommand called given (Close date) = (called ≡ codes "close") × IsWord given (codes "date") date

@@ -34,6 +34,9 @@ count = record (named (needed (codes "count"))) { parser = Some (Signed (pos 1) 
 abbrev pub debit : Rule
 debit = record (named (new_rule (codes "debit"))) { action = Some SetTrue }
 
+abbrev pub automatic : Rule
+automatic = record (named (new_rule (codes "automatic"))) { action = Some SetTrue }
+
 -- a subcommand: its name, and what follows the book's file, in this order
 abbrev pub subcommand : Text → List Rule → Shape
 subcommand name arguments = record (new_shape name) { rules = file ∷ arguments }
@@ -55,7 +58,7 @@ post = subcommand (codes "post")
     (word (codes "code") ∷ word (codes "reference") ∷ word (codes "cents") ∷ debit ∷ [])
 
 abbrev pub open_day : Shape
-open_day = subcommand (codes "open") (word (codes "date") ∷ [])
+open_day = subcommand (codes "open") (word (codes "date") ∷ automatic ∷ [])
 
 abbrev pub import_orders : Shape
 import_orders = subcommand (codes "import") (word (codes "code") ∷ word (codes "orders") ∷ [])

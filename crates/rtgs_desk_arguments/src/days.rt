@@ -1,11 +1,11 @@
 //! The course of a business day, as the command line names it.
-ghost use Rattle.std.specs.Prelude.{IfOk, ◌∷◌, [], codes};
-ghost use Rattle.clap.specs.Words.{found_of, rows_of};
+ghost use Rattle.std.specs.Prelude.{◌≡◌, IfOk, ◌∷◌, [], codes, false};
+ghost use Rattle.clap.specs.Words.{found_of, rows_of, rule_of};
 ghost use Rattle.rtgs_desk_arguments.specs.Asked.{IsCommand};
 ghost use Rattle.rtgs_desk_arguments.specs.CommandLine as line;
 
-use crate::{date_argument, file_argument, word};
-use clap::{ArgMatches, Command};
+use crate::{date_argument, file_argument, flag, word};
+use clap::{Arg, ArgAction, ArgMatches, Command};
 use rtgs_desk_requests::CommandWords;
 use std::alloc::{AllocError, Global};
 
@@ -23,19 +23,31 @@ fn dated_command<'a>(
         .arg(date_argument(alloc))
 }
 
-/// The subcommand that opens a business day: a book's file and a date.
+/// The subcommand that opens a business day: a book's file, a date and the flag of an automatic day.
 pub fn open_command<'a>(alloc: Global) -> Result<Command<'a>, AllocError>
     ensures { IfOk result (line.IsSubcommand line.open_day) }
 {
-    dated_command(alloc, "open", "Opens a business day")
+    dated_command(alloc, "open", "Opens a business day")?.arg(automatic_argument(alloc))
 }
 
-/// The date of the day to open, as it was given.
+/// The flag of a day in which a resolution follows each command that may free orders.
+fn automatic_argument<'a>(alloc: Global) -> Arg<'a>
+    ensures rule { rule_of result ≡ line.automatic }
+    ensures local { result.global ≡ false }
+{
+    Arg::new(alloc, "automatic")
+        .long("automatic")
+        .help("Resolves gridlock after each command that may free orders")
+        .action(ArgAction::SetTrue)
+}
+
+/// The date of the day to open, as it was given, and whether it is automatic.
 pub fn open_words<'a>(given: &ArgMatches<'a>) -> CommandWords<'a>
     ensures { IsCommand (codes "open") (rows_of (found_of given.now)) result }
 {
     CommandWords::Open {
         date: word(given, "date"),
+        automatic: flag(given, "automatic"),
     }
 }
 

@@ -19,7 +19,7 @@ mod serving;
 
 /// What `--version` says behind the program's name: its version, that of the tables that it keeps a book in, and the
 /// kit that it is proved with, as `rt version` prints it.
-const VERSION: &str = "0.11.0, tables 2, rattle-kit-13f logic dac8208d650f15bf";
+const VERSION: &str = "0.12.0, tables 3, rattle-kit-13f logic dac8208d650f15bf";
 
 /// The book's file, which each subcommand takes first.
 fn file_argument<'a>(alloc: Global) -> Arg<'a>

@@ -2,6 +2,7 @@
 use script::{follows, follows_both};
 use std::test::Fail;
 
+mod automatic_days;
 mod databases;
 mod days;
 mod due_dates;

@@ -1,12 +1,12 @@
 -- What a run that makes a book, brings its tables to the newest version, or gives the desk a command, has to print, and
 -- why it is refused.
 use Rattle.std.specs.Prelude.{◌≡◌, ◌⊎◌, ◌∷◌, [], Bool, true, ℕ, List, Option, None, Ok, Err, if◌then◌else◌}
-use Rattle.rtgs_book.specs.declared.answer.Answer.{Answer}
+use Rattle.rtgs_book.specs.declared.answer.WholeAnswer.{WholeAnswer}
 use Rattle.rtgs_book.specs.declared.command.Command.{Command}
 use Rattle.rtgs_book.specs.declared.refusal.Refusal.{Refusal}
 use Rattle.rtgs_book.specs.Outcome.{Reply}
 use Rattle.rtgs_desk.specs.Holding.{Acts}
-use Rattle.rtgs_desk.specs.Replies.{answers_its_kind}
+use Rattle.rtgs_desk.specs.Replies.{IsOfItsKind}
 use Rattle.rtgs_desk.specs.Seen.{Seen}
 use Rattle.rtgs_desk_lines.specs.Lines.{done_line}
 use Rattle.rtgs_desk_lines.specs.declared.done.Done.{Done}
@@ -46,12 +46,13 @@ module _ {A K U C F P N : Type 0} (book_file : OverFile K U C) where
       × book_file.was_migrated wrote migrated) × (text ≡ ended_line (done_line (done_by_migration wrote)))
       × (stopped ≡ None)
 
-  -- what a run that gives a command has to print: the line of its answer
+  -- what a run that gives a command has to print: the line of its answer, and a second of what was resolved after it
   abbrev pub HasAnswered : Command → Touched A U C (Met F P N) → List ℕ → Option Refusal → Type 0
   HasAnswered command touched text stopped =
-      (answer : Answer) × (left : Seen K) × IsClosed book_file left met.Nothing touched
+      (answer : WholeAnswer) × (left : Seen K) × IsClosed book_file left met.Nothing touched
       × IsSubmitted book_file command (Ok answer) left
-      × (answers_its_kind command answer ≡ true) × (text ≡ ended_line (done_line (Answered answer))) × (stopped ≡ None)
+      × IsOfItsKind command answer × (text ≡ ended_line (done_line (Answered answer)))
+      × (stopped ≡ None)
 
   -- why a run that gives a command is refused
   abbrev pub IsNotAnswered : Command → Touched A U C (Met F P N) → Failure → Type 0

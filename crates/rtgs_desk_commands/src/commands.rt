@@ -3,7 +3,7 @@
 ghost use Rattle.std.specs.Prelude.{◌≡◌, true, None, Ok, Err, IfOk, IfErr, OnErr, string_bytes};
 ghost use Rattle.rtgs_book_file.specs.Files.{lock_name};
 ghost use Rattle.rtgs_book_file.specs.OverFile.{file_from};
-ghost use Rattle.rtgs_desk.specs.Replies.{answers_its_kind};
+ghost use Rattle.rtgs_desk.specs.Replies.{IsOfItsKind};
 ghost use Rattle.rtgs_desk_commands.specs.Commands.{HasAnswered, HasMade, HasMigrated, IsNotAnswered, IsSubmitted};
 ghost use Rattle.rtgs_desk_commands.specs.Commands.{done_by_migration};
 ghost use Rattle.rtgs_desk_files.specs.Printing.{ended_line, PrintsText};
@@ -11,7 +11,7 @@ ghost use Rattle.rtgs_desk_files.specs.Touching.{IsNoBookMade, IsNotMigrated, Is
 ghost use Rattle.rtgs_desk_lines.specs.Lines.{done_line};
 ghost use Rattle.rtgs_desk_lines.specs.Texts.{Prints};
 
-use rtgs_book::{Answer, Command, Refusal};
+use rtgs_book::{Command, Refusal, WholeAnswer};
 use rtgs_book_file::{FileKeeper, Start};
 use rtgs_desk_files::{
     Acted, Finished, Met, Touched, close_book, failure_of_unopened, make, migrate, open,
@@ -99,11 +99,10 @@ fn submit<S: Start>(
     file: &str,
     command: Command,
     start: S,
-) -> Finished<S, Result<Answer, Refusal>>
+) -> Finished<S, Result<WholeAnswer, Refusal>>
     ensures replied { IfOk result (λ (book, reply). IsSubmitted
         (file_from ⟦<FileKeeper<S> as Keeper>⟧ S.Start (λ keeper. keeper.conn)) command reply book.desk) }
-    ensures of_its_kind { IfOk result (λ (_, reply).
-        IfOk reply (λ answer. answers_its_kind command answer ≡ true)) }
+    ensures of_its_kind { IfOk result (λ (_, reply). IfOk reply (IsOfItsKind command)) }
     ensures unopened { IfErr result (λ unopened.
         (file_from ⟦<FileKeeper<S> as Keeper>⟧ S.Start (λ keeper. keeper.conn)).was_unopened unopened) }
     ensures at { IfOk result (λ (book, _). string_bytes book.lock.locked.name ≡ lock_name file.now) }
@@ -115,8 +114,8 @@ fn submit<S: Start>(
     Ok((book.finish(), reply))
 }
 
-// Prints the line of what the desk answered. Where it refused the command, nothing is printed.
-fn told<O: Write>(reply: Result<Answer, Refusal>, out: &mut O) -> Result<Printed, Failure>
+// Prints what the desk answered. Where it refused the command, nothing is printed.
+fn told<O: Write>(reply: Result<WholeAnswer, Refusal>, out: &mut O) -> Result<Printed, Failure>
     ensures printed { IfOk result (λ printed. (answer : _) × (reply ≡ Ok answer)
         × Prints (ended_line (done_line (Done.Answered answer))) None printed (O.contents out.old)
         (O.contents out.new)) }

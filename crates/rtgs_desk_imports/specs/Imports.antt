@@ -6,7 +6,7 @@ use Rattle.rtgs_book.specs.declared.book.Book.{Book}
 use Rattle.rtgs_book.specs.declared.refusal.Refusal.{Refusal}
 use Rattle.rtgs_book.specs.declared.refusal.Refusal.TheVariants.{OutOfMemory}
 use Rattle.rtgs_desk.specs.Seen.{Seen}
-use Rattle.rtgs_batches.specs.Batches.{StopsAfter, orders_of, replies_of, with_stop}
+use Rattle.rtgs_batches.specs.Batches.{StopsAfter, orders_of, with_stop}
 use Rattle.rtgs_batches.specs.Sent.{Sent}
 use Rattle.rtgs_order_files.specs.Results.{results_text}
 use Rattle.rtgs_order_files.specs.declared.batch_result.RowReply.{RowReply}
@@ -32,13 +32,14 @@ abbrev pub IsNotSent : {P N : Type 0} → Met (Snapshot OrderFile) P N → Failu
 IsNotSent (met.Orders read) why = RefusesRows (λ bytes. bytes.items) read.value.answer why
 IsNotSent _ why = ⊥
 
--- what rows that were submitted make of a book that the desk over the file held, and what a stop then leaves
+-- what rows that were submitted make of a book that the desk over the file held, and what a stop then leaves, by the
+-- desk's whole replies
 abbrev pub SentOver : {K U C : Type 0} → OverFile K U C → Book → List ℕ → List OrderRow → List RowReply → Option Refusal
     → Seen K → Type 0
 SentOver file book sender rows replies stopped desk =
-    Sent file.keeper book sender rows replies stopped desk
-    × file.stop_leaves desk book (orders_of sender (take (length (with_stop (replies_of replies) stopped)) rows))
-    (with_stop (replies_of replies) stopped)
+    (sent : Sent file.keeper book sender rows replies stopped desk)
+    × file.stop_leaves desk book (orders_of sender (take (length (with_stop sent.given stopped)) rows))
+    (with_stop sent.given stopped)
 
 module _ {K U C : Type 0} (file : OverFile K U C) where
   -- the rows of a batch were submitted, with these replies, and it stopped so, if it did

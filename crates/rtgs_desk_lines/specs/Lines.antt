@@ -1,11 +1,13 @@
--- What a run prints of what it did, without the line's end.
-use Rattle.std.specs.Prelude.{ℕ, List, ◌++◌, codes, decimal}
+-- What a run prints of what it did, without the end of the last line.
+use Rattle.std.specs.Prelude.{ℕ, List, [], ◌∷◌, ◌++◌, Option, None, Some, codes, decimal}
 use Rattle.std.specs.Fmt.{signed_decimal}
 use Rattle.rtgs_money.specs.Date.{date_text}
 use Rattle.rtgs_book.specs.declared.answer.Answer.{Answer}
 use Rattle.rtgs_book.specs.declared.answer.Answer.TheVariants.{Added, CreditSet, Posted, Opened, Settled, Queued, Held}
 use Rattle.rtgs_book.specs.declared.answer.Answer.TheVariants.{Withdrawn, Resolved, Nothing, CutOffDone, Closed}
 use Rattle.rtgs_book.specs.declared.answer.Answer.TheVariants.{Repeated}
+use Rattle.rtgs_book.specs.declared.answer.Resolution.{Resolution}
+use Rattle.rtgs_book.specs.declared.answer.WholeAnswer.{WholeAnswer}
 use Rattle.rtgs_book.specs.declared.standing.Standing.TheVariants as standing
 use Rattle.rtgs_book.specs.Standings.{word_of}
 use Rattle.rtgs_desk_lines.specs.declared.done.Done.{Done}
@@ -34,10 +36,21 @@ answer_line CutOffDone = codes "cut off"
 answer_line (Closed rejected) = codes "closed rejected " ++ decimal rejected
 answer_line (Repeated known) = repeated_line
 
+-- a second line behind the end of the first, where something was resolved after the command
+abbrev pub auto_line : Option Resolution → List ℕ
+auto_line None = []
+auto_line (Some auto) =
+    10 ∷ codes "auto mark " ++ decimal auto.mark ++ codes " count " ++ decimal auto.count ++ codes " value "
+    ++ signed_decimal auto.value
+
+-- the command's own line, and the second where there is one
+abbrev pub whole_line : WholeAnswer → List ℕ
+whole_line answer = answer_line answer.own ++ auto_line answer.auto
+
 abbrev pub done_line : Done → List ℕ
 done_line done.Made = codes "initialised"
 done_line done.Migrated = codes "migrated"
 done_line done.Repeated = repeated_line
-done_line (done.Answered answer) = answer_line answer
+done_line (done.Answered answer) = whole_line answer
 done_line (done.Listening port) = codes "listening " ++ decimal port
 done_line (done.Served count) = codes "served " ++ decimal count

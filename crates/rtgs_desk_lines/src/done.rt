@@ -2,11 +2,11 @@
 ghost use Rattle.std.specs.Prelude.{◌≡◌, ◌+◌, ◌<◌, ◌≤◌, ◌++◌, ◌∷◌, [], Some, codes, decimal};
 ghost use Rattle.arrayvec.specs.ArrayString.{array_string_len};
 ghost use Rattle.rtgs_book.specs.Standings.{word_of};
-ghost use Rattle.rtgs_desk_lines.specs.Lines.{answer_line, done_line};
+ghost use Rattle.rtgs_desk_lines.specs.Lines.{answer_line, auto_line, done_line, whole_line};
 ghost use Rattle.rtgs_desk_lines.specs.Told.{IsTold};
 
 use crate::line::{Line, ROOM};
-use rtgs_book::{Answer, Standing};
+use rtgs_book::{Answer, Resolution, Standing, WholeAnswer};
 use rtgs_output::WriterFailed;
 use std::fmt;
 use std::io::Write;
@@ -14,7 +14,11 @@ use std::io::Write;
 /// What is printed where what was asked for had been done before.
 const REPEATED: &str = "repeated";
 
-/// What a run did. It prints as one line, without its end.
+/// The most bytes of one line of an answer, where it may have two.
+const LONGEST_LINE: usize = 88;
+
+/// What a run did. It prints as one line, or as two where something was resolved after the command, without the end of
+/// the last.
 #[derive(Clone, Copy, Debug, PartialEq, Eq)]
 pub enum Done {
     /// A new book was made.
@@ -24,7 +28,7 @@ pub enum Done {
     /// What was asked for had been done before.
     Repeated,
     /// The desk answered.
-    Answered(Answer),
+    Answered(WholeAnswer),
     /// The server waits for connections on this port.
     Listening { port: u16 },
     /// The server has served so many connections, all that it was to serve.
@@ -32,14 +36,15 @@ pub enum Done {
 }
 
 impl Done {
-    /// Prints the line with its end, in one piece. Where the writer fails, a beginning of it is printed, and not all.
+    /// Prints the line or the two lines with their ends, in one piece. Where the writer fails, a beginning of that is
+    /// printed, and not all.
     pub fn print<O: Write>(self, out: &mut O) -> Result<(), WriterFailed>
         ensures { IsTold result (O.contents out.old) (O.contents out.new) (done_line self ++ 10 ∷ []) }
     {
         self.line().send(out)
     }
 
-    // The line, without its end.
+    // The line or the two lines, without the end of the last.
     fn line(self) -> Line
         ensures text { result.text.bytes ≡ done_line self }
         ensures room { array_string_len result.text < ROOM }
@@ -48,17 +53,39 @@ impl Done {
             Done::Made => Line::of("initialised"),
             Done::Migrated => Line::of("migrated"),
             Done::Repeated => Line::of(REPEATED),
-            Done::Answered(answer) => answer_line(answer),
+            Done::Answered(answer) => whole_line(answer),
             Done::Listening { port } => Line::of("listening ").number(port),
             Done::Served { count } => Line::of("served ").number(count),
         }
     }
 }
 
+// An answer as one line, and what was resolved after the command as a second, without the end of the last.
+fn whole_line(answer: WholeAnswer) -> Line
+    ensures text { result.text.bytes ≡ whole_line answer }
+    ensures room { array_string_len result.text < ROOM }
+{
+    let line = answer_line(answer.own);
+    match answer.auto {
+        None => line,
+        Some(auto) => line.then(auto_line(auto).as_str()),
+    }
+}
+
+// What was resolved after a command, as a second line behind the end of the first, without its own.
+fn auto_line(auto: Resolution) -> Line
+    ensures text { result.text.bytes ≡ auto_line (Some auto) }
+    ensures room { array_string_len result.text ≤ LONGEST_LINE }
+{
+    let line = Line::of("\nauto mark ").number(auto.mark);
+    let line = line.then(" count ").number(auto.count);
+    line.then(" value ").number(auto.value.cents())
+}
+
 // An answer as one line, without its end.
 fn answer_line(answer: Answer) -> Line
     ensures text { result.text.bytes ≡ answer_line answer }
-    ensures room { array_string_len result.text < ROOM }
+    ensures room { array_string_len result.text ≤ LONGEST_LINE }
 {
     match answer {
         Answer::Added => Line::of("added"),

@@ -8,8 +8,8 @@ use itoa::{Buffer, Integer};
 use rtgs_output::{WriterFailed, send_all};
 use std::io::Write;
 
-/// How many bytes a line may have, with its end.
-pub(crate) const ROOM: usize = 128;
+/// How many bytes what a run says may have, a line or two, with the ends.
+pub(crate) const ROOM: usize = 192;
 
 /// The beginning of a line. It has its room in itself, and takes no memory.
 #[derive(Clone, Copy)]

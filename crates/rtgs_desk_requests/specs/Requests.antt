@@ -32,7 +32,7 @@ ReadsCommand (Credit code cents) result = ReadsCredit code.now cents.now result
 ReadsCommand (Post code reference cents debit) result = ReadsPost code.now reference.now cents.now debit result
 ReadsCommand (Withdraw code reference) result = IsMadeOf (ReadsOrderName code.now reference.now)
     (λ order. command.Withdraw order.0 order.1) result
-ReadsCommand (Open date) result = ReadsDay command.OpenDay date.now result
+ReadsCommand (Open date automatic) result = ReadsDay (λ day. command.OpenDay day automatic) date.now result
 ReadsCommand Resolve result = result ≡ Ok command.Resolve
 ReadsCommand (CutOff date) result = ReadsDay command.CutOff date.now result
 ReadsCommand (Close date) result = ReadsDay command.CloseDay date.now result

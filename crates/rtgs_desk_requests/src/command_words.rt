@@ -31,6 +31,7 @@ pub enum CommandWords<'a> {
     },
     Open {
         date: &'a str,
+        automatic: bool,
     },
     Resolve,
     CutOff {
@@ -59,7 +60,7 @@ impl CommandWords<'_> {
                 let (sender, reference) = read_order_name(code, reference)?;
                 Ok(Command::Withdraw { sender, reference })
             }
-            CommandWords::Open { date } => read_open(date),
+            CommandWords::Open { date, automatic } => read_open(date, automatic),
             CommandWords::Resolve => Ok(Command::Resolve),
             CommandWords::CutOff { date } => read_cut_off(date),
             CommandWords::Close { date } => read_close(date),

@@ -56,11 +56,12 @@ fn read_cents(cents: &str, debit: bool) -> Result<PostingAmount, Lexical>
     }
 }
 
-/// The opening of a day that the word spells.
-pub fn read_open(date: &str) -> Result<Command, Lexical>
-    ensures { ReadsDay OpenDay date.now result }
+/// The opening of a day that the word spells, with this choice.
+pub fn read_open(date: &str, automatic: bool) -> Result<Command, Lexical>
+    ensures { ReadsDay (λ day. OpenDay day automatic) date.now result }
 {
-    Ok(Command::OpenDay(read_date(date)?))
+    let date = read_date(date)?;
+    Ok(Command::OpenDay { date, automatic })
 }
 
 /// The cut-off of a day that the word spells.

@@ -1,5 +1,5 @@
 -- The examples, computed.
-use Rattle.std.proofs.Common.{pos, ◌≤ℤ◌, negsuc, [], ◌∷◌, None, Ok, Err, codes, refl, inl, inr}
+use Rattle.std.proofs.Common.{pos, ◌≤ℤ◌, negsuc, false, List, [], ◌∷◌, None, Ok, Err, codes, refl, inl, inr}
 use Rattle.std.specs.Bool.{⊤}
 use Rattle.std.specs.List.{AllByRecursion}
 use Rattle.rtgs_book.specs.declared.Command.TheVariants.{SetCredit, Post, OpenDay, Withdraw, Resolve, CutOff, CloseDay}
@@ -10,7 +10,8 @@ use Rattle.rtgs_book.specs.declared.OrderState.TheVariants as state
 use Rattle.jiff_core.specs.Calendar.{days_from_civil, weekday_number, day_count, days_of_years, days_of_months}
 use Rattle.rtgs_money.specs.Date.{is_weekend}
 use Rattle.rtgs_book.specs.declared.Book.{Book}
-use Rattle.rtgs_book.specs.Outcome.{first_of}
+use Rattle.rtgs_book.specs.declared.Command.{Command}
+use Rattle.rtgs_book.specs.Outcome.{OwnReply, first_of}
 use Rattle.rtgs_book.specs.Lookup.{participant_of, credit_of, accounts, is_participant, order_named, posting_named}
 use Rattle.rtgs_book.specs.Balance.{gain, balance, floor, total}
 use Rattle.rtgs_book.specs.Queue.{queue, waiting, orders_before}
@@ -18,6 +19,7 @@ use Rattle.rtgs_book.specs.Choice.{Choice, is_chosen, chosen, balance_after, IsG
 use Rattle.rtgs_book.specs.Settle.{settle, mark_of}
 use Rattle.rtgs_book.specs.Commands.{order, takes, settles_at_once, resolve, set_credit, post, withdraw, let_in, open_day, cut_off, close_day, with_credit, with_state, overdrawn}
 use Rattle.rtgs_book.specs.Procedure.{everything, taken_back, Reaches, All, Without_newest}
+use Rattle.rtgs_examples.proofs.Plainly.{plainly}
 use Rattle.rtgs_examples.specs.Examples.{alfa, beta, gama, zeta, monday, start, unopened, pays, Comes, ComesFrom}
 
 -- All that the examples compute with, named once: a proof that names this one unfolds them all.
@@ -63,12 +65,25 @@ ring_5_greatest law = law ring_4 ring_5_choice All (record { le = tt }, (record 
 abbrev ring_5 : Book
 ring_5 = (resolve ring_4 ring_5_choice).book
 
-pub ring_comes : FindsGreatest → Comes
-    (pays alfa beta 100 (codes "A-1") ∷ pays beta gama 100 (codes "B-1") ∷ pays gama alfa 100 (codes "G-1") ∷ Resolve ∷ Resolve ∷ [])
-    (Ok (answer.Queued 1 1) ∷ Ok (answer.Queued 2 1) ∷ Ok (answer.Queued 3 1) ∷ Ok (answer.Resolved 1 3 (pos 300)) ∷ Ok answer.Nothing ∷ [])
+abbrev ring_commands : List Command
+ring_commands =
+    pays alfa beta 100 (codes "A-1") ∷ pays beta gama 100 (codes "B-1") ∷ pays gama alfa 100 (codes "G-1") ∷ Resolve
+    ∷ Resolve ∷ []
+
+abbrev ring_replies : List OwnReply
+ring_replies =
+    Ok (answer.Queued 1 1) ∷ Ok (answer.Queued 2 1) ∷ Ok (answer.Queued 3 1) ∷ Ok (answer.Resolved 1 3 (pos 300))
+    ∷ Ok answer.Nothing ∷ []
+
+pub ring_comes : FindsGreatest → Comes ring_commands ring_replies
     (pos 0 ∷ pos 0 ∷ pos 0 ∷ [])
 unfolding computed
-ring_comes law = (ring_5, (ring_1, refl, (ring_2, refl, (ring_3, refl, (ring_4, (ring_4_choice, ring_4_greatest law, refl), (ring_5, (ring_5_choice, ring_5_greatest law, refl), refl))))), refl)
+ring_comes law = (
+  ring_5,
+  plainly start ring_5 ring_commands ring_replies
+      (ring_1, refl, (ring_2, refl, (ring_3, refl, (ring_4, (ring_4_choice, ring_4_greatest law, refl), (ring_5, (ring_5_choice, ring_5_greatest law, refl), refl))))) refl,
+  refl,
+)
 
 -- ---- deadlock
 
@@ -112,23 +127,38 @@ abbrev deadlock_6 : Book
 deadlock_6 = (close_day deadlock_5 deadlock_6_choice monday).book
 
 abbrev deadlock_7 : Book
-deadlock_7 = (open_day deadlock_6 20240309).book
+deadlock_7 = (open_day deadlock_6 20240309 false).book
 
 abbrev deadlock_8 : Book
-deadlock_8 = (open_day deadlock_7 20240304).book
+deadlock_8 = (open_day deadlock_7 20240304 false).book
 
 abbrev deadlock_9 : Book
-deadlock_9 = (open_day deadlock_8 20240305).book
+deadlock_9 = (open_day deadlock_8 20240305 false).book
 
 abbrev deadlock_10 : Book
-deadlock_10 = (open_day deadlock_9 20240305).book
+deadlock_10 = (open_day deadlock_9 20240305 false).book
 
-pub deadlock_comes : FindsGreatest → Comes
-    (pays alfa beta 100 (codes "A-1") ∷ pays beta gama 90 (codes "B-1") ∷ Resolve ∷ CutOff monday ∷ CloseDay monday ∷ CloseDay monday ∷ OpenDay 20240309 ∷ OpenDay 20240304 ∷ OpenDay 20240305 ∷ OpenDay 20240305 ∷ [])
-    (Ok (answer.Queued 1 1) ∷ Ok (answer.Queued 2 1) ∷ Ok answer.Nothing ∷ Ok answer.CutOffDone ∷ Ok (answer.Closed 2) ∷ Ok (answer.Repeated known.Nothing) ∷ Err refusal.Weekend ∷ Err refusal.WrongDate ∷ Ok answer.Opened ∷ Ok (answer.Repeated known.Nothing) ∷ [])
+abbrev deadlock_commands : List Command
+deadlock_commands =
+    pays alfa beta 100 (codes "A-1") ∷ pays beta gama 90 (codes "B-1") ∷ Resolve ∷ CutOff monday ∷ CloseDay monday
+    ∷ CloseDay monday ∷ OpenDay 20240309 false ∷ OpenDay 20240304 false ∷ OpenDay 20240305 false
+    ∷ OpenDay 20240305 false ∷ []
+
+abbrev deadlock_replies : List OwnReply
+deadlock_replies =
+    Ok (answer.Queued 1 1) ∷ Ok (answer.Queued 2 1) ∷ Ok answer.Nothing ∷ Ok answer.CutOffDone ∷ Ok (answer.Closed 2)
+    ∷ Ok (answer.Repeated known.Nothing) ∷ Err refusal.Weekend ∷ Err refusal.WrongDate ∷ Ok answer.Opened
+    ∷ Ok (answer.Repeated known.Nothing) ∷ []
+
+pub deadlock_comes : FindsGreatest → Comes deadlock_commands deadlock_replies
     (pos 0 ∷ pos 0 ∷ pos 0 ∷ [])
 unfolding computed
-deadlock_comes law = (deadlock_10, (deadlock_1, refl, (deadlock_2, refl, (deadlock_3, (deadlock_3_choice, deadlock_3_greatest law, refl), (deadlock_4, refl, (deadlock_5, (deadlock_5_choice, deadlock_5_greatest law, refl), (deadlock_6, (deadlock_6_choice, deadlock_6_greatest law, refl), (deadlock_7, refl, (deadlock_8, refl, (deadlock_9, refl, (deadlock_10, refl, refl)))))))))), refl)
+deadlock_comes law = (
+  deadlock_10,
+  plainly start deadlock_10 deadlock_commands deadlock_replies
+      (deadlock_1, refl, (deadlock_2, refl, (deadlock_3, (deadlock_3_choice, deadlock_3_greatest law, refl), (deadlock_4, refl, (deadlock_5, (deadlock_5_choice, deadlock_5_greatest law, refl), (deadlock_6, (deadlock_6_choice, deadlock_6_greatest law, refl), (deadlock_7, refl, (deadlock_8, refl, (deadlock_9, refl, (deadlock_10, refl, refl)))))))))) refl,
+  refl,
+)
 
 -- ---- partial
 
@@ -151,12 +181,24 @@ partial_4_greatest law = law partial_3 partial_4_choice (Without_newest All alfa
 abbrev partial_4 : Book
 partial_4 = (resolve partial_3 partial_4_choice).book
 
-pub partial_comes : FindsGreatest → Comes
-    (pays alfa beta 100 (codes "A-1") ∷ pays alfa gama 50 (codes "A-2") ∷ pays beta alfa 100 (codes "B-1") ∷ Resolve ∷ [])
-    (Ok (answer.Queued 1 1) ∷ Ok (answer.Queued 2 2) ∷ Ok (answer.Queued 3 1) ∷ Ok (answer.Resolved 1 2 (pos 200)) ∷ [])
+abbrev partial_commands : List Command
+partial_commands =
+    pays alfa beta 100 (codes "A-1") ∷ pays alfa gama 50 (codes "A-2") ∷ pays beta alfa 100 (codes "B-1") ∷ Resolve
+    ∷ []
+
+abbrev partial_replies : List OwnReply
+partial_replies =
+    Ok (answer.Queued 1 1) ∷ Ok (answer.Queued 2 2) ∷ Ok (answer.Queued 3 1) ∷ Ok (answer.Resolved 1 2 (pos 200)) ∷ []
+
+pub partial_comes : FindsGreatest → Comes partial_commands partial_replies
     (pos 0 ∷ pos 0 ∷ pos 0 ∷ [])
 unfolding computed
-partial_comes law = (partial_4, (partial_1, refl, (partial_2, refl, (partial_3, refl, (partial_4, (partial_4_choice, partial_4_greatest law, refl), refl)))), refl)
+partial_comes law = (
+  partial_4,
+  plainly start partial_4 partial_commands partial_replies
+      (partial_1, refl, (partial_2, refl, (partial_3, refl, (partial_4, (partial_4_choice, partial_4_greatest law, refl), refl)))) refl,
+  refl,
+)
 
 -- ---- cascade
 
@@ -188,12 +230,26 @@ cascade_7_greatest law = law cascade_6 cascade_7_choice (Without_newest (Without
 abbrev cascade_7 : Book
 cascade_7 = (resolve cascade_6 cascade_7_choice).book
 
-pub cascade_comes : FindsGreatest → Comes
-    (Post alfa (codes "P-1") (pos 10) ∷ pays alfa beta 60 (codes "A-1") ∷ pays alfa gama 10 (codes "A-2") ∷ pays beta alfa 50 (codes "B-1") ∷ pays beta gama 20 (codes "B-2") ∷ pays gama alfa 5 (codes "G-1") ∷ Resolve ∷ [])
-    (Ok (answer.Posted 1) ∷ Ok (answer.Queued 1 1) ∷ Ok (answer.Queued 2 2) ∷ Ok (answer.Queued 3 1) ∷ Ok (answer.Queued 4 2) ∷ Ok (answer.Queued 5 1) ∷ Ok (answer.Resolved 1 2 (pos 110)) ∷ [])
+abbrev cascade_commands : List Command
+cascade_commands =
+    Post alfa (codes "P-1") (pos 10) ∷ pays alfa beta 60 (codes "A-1") ∷ pays alfa gama 10 (codes "A-2")
+    ∷ pays beta alfa 50 (codes "B-1") ∷ pays beta gama 20 (codes "B-2") ∷ pays gama alfa 5 (codes "G-1") ∷ Resolve
+    ∷ []
+
+abbrev cascade_replies : List OwnReply
+cascade_replies =
+    Ok (answer.Posted 1) ∷ Ok (answer.Queued 1 1) ∷ Ok (answer.Queued 2 2) ∷ Ok (answer.Queued 3 1)
+    ∷ Ok (answer.Queued 4 2) ∷ Ok (answer.Queued 5 1) ∷ Ok (answer.Resolved 1 2 (pos 110)) ∷ []
+
+pub cascade_comes : FindsGreatest → Comes cascade_commands cascade_replies
     (pos 0 ∷ pos 10 ∷ pos 0 ∷ [])
 unfolding computed
-cascade_comes law = (cascade_7, (cascade_1, refl, (cascade_2, refl, (cascade_3, refl, (cascade_4, refl, (cascade_5, refl, (cascade_6, refl, (cascade_7, (cascade_7_choice, cascade_7_greatest law, refl), refl))))))), refl)
+cascade_comes law = (
+  cascade_7,
+  plainly start cascade_7 cascade_commands cascade_replies
+      (cascade_1, refl, (cascade_2, refl, (cascade_3, refl, (cascade_4, refl, (cascade_5, refl, (cascade_6, refl, (cascade_7, (cascade_7_choice, cascade_7_greatest law, refl), refl))))))) refl,
+  refl,
+)
 
 -- ---- boundary of credit
 
@@ -218,12 +274,26 @@ boundary_of_credit_6 = (set_credit boundary_of_credit_5 alfa 99).book
 abbrev boundary_of_credit_7 : Book
 boundary_of_credit_7 = (set_credit boundary_of_credit_6 alfa 100).book
 
-pub boundary_of_credit_comes : Comes
-    (SetCredit alfa 100 ∷ pays alfa beta 100 (codes "A-1") ∷ pays alfa beta 1 (codes "A-2") ∷ pays alfa beta 100 (codes "A-1") ∷ pays alfa beta 99 (codes "A-1") ∷ SetCredit alfa 99 ∷ SetCredit alfa 100 ∷ [])
-    (Ok answer.CreditSet ∷ Ok (answer.Settled 1 1) ∷ Ok (answer.Queued 2 1) ∷ Ok (answer.Repeated (known.Order 1 (state.Settled 1))) ∷ Err refusal.ReferenceUsed ∷ Err refusal.NoCover ∷ Ok answer.CreditSet ∷ [])
+abbrev boundary_of_credit_commands : List Command
+boundary_of_credit_commands =
+    SetCredit alfa 100 ∷ pays alfa beta 100 (codes "A-1") ∷ pays alfa beta 1 (codes "A-2")
+    ∷ pays alfa beta 100 (codes "A-1") ∷ pays alfa beta 99 (codes "A-1") ∷ SetCredit alfa 99 ∷ SetCredit alfa 100 ∷ []
+
+abbrev boundary_of_credit_replies : List OwnReply
+boundary_of_credit_replies =
+    Ok answer.CreditSet ∷ Ok (answer.Settled 1 1) ∷ Ok (answer.Queued 2 1)
+    ∷ Ok (answer.Repeated (known.Order 1 (state.Settled 1))) ∷ Err refusal.ReferenceUsed ∷ Err refusal.NoCover
+    ∷ Ok answer.CreditSet ∷ []
+
+pub boundary_of_credit_comes : Comes boundary_of_credit_commands boundary_of_credit_replies
     (negsuc 99 ∷ pos 100 ∷ pos 0 ∷ [])
 unfolding computed
-boundary_of_credit_comes = (boundary_of_credit_7, (boundary_of_credit_1, refl, (boundary_of_credit_2, refl, (boundary_of_credit_3, refl, (boundary_of_credit_4, refl, (boundary_of_credit_5, refl, (boundary_of_credit_6, refl, (boundary_of_credit_7, refl, refl))))))), refl)
+boundary_of_credit_comes = (
+  boundary_of_credit_7,
+  plainly start boundary_of_credit_7 boundary_of_credit_commands boundary_of_credit_replies
+      (boundary_of_credit_1, refl, (boundary_of_credit_2, refl, (boundary_of_credit_3, refl, (boundary_of_credit_4, refl, (boundary_of_credit_5, refl, (boundary_of_credit_6, refl, (boundary_of_credit_7, refl, refl))))))) refl,
+  refl,
+)
 
 -- ---- no bypass
 
@@ -246,12 +316,24 @@ no_bypass_4_greatest law = law no_bypass_3 no_bypass_4_choice (Without_newest (W
 abbrev no_bypass_4 : Book
 no_bypass_4 = (resolve no_bypass_3 no_bypass_4_choice).book
 
-pub no_bypass_comes : FindsGreatest → Comes
-    (Post alfa (codes "P-1") (pos 100) ∷ pays alfa beta 150 (codes "A-1") ∷ pays alfa beta 20 (codes "A-2") ∷ Resolve ∷ [])
-    (Ok (answer.Posted 1) ∷ Ok (answer.Queued 1 1) ∷ Ok (answer.Queued 2 2) ∷ Ok answer.Nothing ∷ [])
+abbrev no_bypass_commands : List Command
+no_bypass_commands =
+    Post alfa (codes "P-1") (pos 100) ∷ pays alfa beta 150 (codes "A-1") ∷ pays alfa beta 20 (codes "A-2") ∷ Resolve
+    ∷ []
+
+abbrev no_bypass_replies : List OwnReply
+no_bypass_replies =
+    Ok (answer.Posted 1) ∷ Ok (answer.Queued 1 1) ∷ Ok (answer.Queued 2 2) ∷ Ok answer.Nothing ∷ []
+
+pub no_bypass_comes : FindsGreatest → Comes no_bypass_commands no_bypass_replies
     (pos 100 ∷ pos 0 ∷ pos 0 ∷ [])
 unfolding computed
-no_bypass_comes law = (no_bypass_4, (no_bypass_1, refl, (no_bypass_2, refl, (no_bypass_3, refl, (no_bypass_4, (no_bypass_4_choice, no_bypass_4_greatest law, refl), refl)))), refl)
+no_bypass_comes law = (
+  no_bypass_4,
+  plainly start no_bypass_4 no_bypass_commands no_bypass_replies
+      (no_bypass_1, refl, (no_bypass_2, refl, (no_bypass_3, refl, (no_bypass_4, (no_bypass_4_choice, no_bypass_4_greatest law, refl), refl)))) refl,
+  refl,
+)
 
 -- ---- finality
 
@@ -276,12 +358,26 @@ finality_6 = (withdraw finality_5 alfa (codes "A-2")).book
 abbrev finality_7 : Book
 finality_7 = (withdraw finality_6 alfa (codes "A-3")).book
 
-pub finality_comes : Comes
-    (SetCredit alfa 100 ∷ pays alfa beta 100 (codes "A-1") ∷ pays alfa beta 1 (codes "A-2") ∷ Withdraw alfa (codes "A-1") ∷ Withdraw alfa (codes "A-2") ∷ Withdraw alfa (codes "A-2") ∷ Withdraw alfa (codes "A-3") ∷ [])
-    (Ok answer.CreditSet ∷ Ok (answer.Settled 1 1) ∷ Ok (answer.Queued 2 1) ∷ Err refusal.NotQueued ∷ Ok (answer.Withdrawn 2) ∷ Ok (answer.Repeated (known.Order 2 state.Withdrawn)) ∷ Err refusal.UnknownOrder ∷ [])
+abbrev finality_commands : List Command
+finality_commands =
+    SetCredit alfa 100 ∷ pays alfa beta 100 (codes "A-1") ∷ pays alfa beta 1 (codes "A-2")
+    ∷ Withdraw alfa (codes "A-1") ∷ Withdraw alfa (codes "A-2") ∷ Withdraw alfa (codes "A-2")
+    ∷ Withdraw alfa (codes "A-3") ∷ []
+
+abbrev finality_replies : List OwnReply
+finality_replies =
+    Ok answer.CreditSet ∷ Ok (answer.Settled 1 1) ∷ Ok (answer.Queued 2 1) ∷ Err refusal.NotQueued
+    ∷ Ok (answer.Withdrawn 2) ∷ Ok (answer.Repeated (known.Order 2 state.Withdrawn)) ∷ Err refusal.UnknownOrder ∷ []
+
+pub finality_comes : Comes finality_commands finality_replies
     (negsuc 99 ∷ pos 100 ∷ pos 0 ∷ [])
 unfolding computed
-finality_comes = (finality_7, (finality_1, refl, (finality_2, refl, (finality_3, refl, (finality_4, refl, (finality_5, refl, (finality_6, refl, (finality_7, refl, refl))))))), refl)
+finality_comes = (
+  finality_7,
+  plainly start finality_7 finality_commands finality_replies
+      (finality_1, refl, (finality_2, refl, (finality_3, refl, (finality_4, refl, (finality_5, refl, (finality_6, refl, (finality_7, refl, refl))))))) refl,
+  refl,
+)
 
 -- ---- largest posting
 
@@ -294,12 +390,24 @@ largest_posting_2 = (post largest_posting_1 beta (codes "P-2") (pos 1)).book
 abbrev largest_posting_3 : Book
 largest_posting_3 = (post largest_posting_2 alfa (codes "P-3") (negsuc 0)).book
 
-pub largest_posting_comes : Comes
-    (Post alfa (codes "P-1") (pos 1000000000000000) ∷ Post beta (codes "P-2") (pos 1) ∷ Post alfa (codes "P-3") (negsuc 0) ∷ [])
-    (Ok (answer.Posted 1) ∷ Err refusal.TotalTooLarge ∷ Ok (answer.Posted 2) ∷ [])
+abbrev largest_posting_commands : List Command
+largest_posting_commands =
+    Post alfa (codes "P-1") (pos 1000000000000000) ∷ Post beta (codes "P-2") (pos 1)
+    ∷ Post alfa (codes "P-3") (negsuc 0) ∷ []
+
+abbrev largest_posting_replies : List OwnReply
+largest_posting_replies =
+    Ok (answer.Posted 1) ∷ Err refusal.TotalTooLarge ∷ Ok (answer.Posted 2) ∷ []
+
+pub largest_posting_comes : Comes largest_posting_commands largest_posting_replies
     (pos 999999999999999 ∷ pos 0 ∷ pos 0 ∷ [])
 unfolding computed
-largest_posting_comes = (largest_posting_3, (largest_posting_1, refl, (largest_posting_2, refl, (largest_posting_3, refl, refl))), refl)
+largest_posting_comes = (
+  largest_posting_3,
+  plainly start largest_posting_3 largest_posting_commands largest_posting_replies
+      (largest_posting_1, refl, (largest_posting_2, refl, (largest_posting_3, refl, refl))) refl,
+  refl,
+)
 
 -- ---- cut off stops orders
 
@@ -334,12 +442,27 @@ cut_off_stops_orders_8_greatest law = law cut_off_stops_orders_7 cut_off_stops_o
 abbrev cut_off_stops_orders_8 : Book
 cut_off_stops_orders_8 = (resolve cut_off_stops_orders_7 cut_off_stops_orders_8_choice).book
 
-pub cut_off_stops_orders_comes : FindsGreatest → Comes
-    (pays alfa beta 100 (codes "A-1") ∷ pays beta alfa 100 (codes "B-1") ∷ pays gama alfa 1 (codes "G-1") ∷ CutOff monday ∷ pays alfa beta 5 (codes "A-2") ∷ pays alfa beta 100 (codes "A-1") ∷ Withdraw gama (codes "G-1") ∷ Resolve ∷ [])
-    (Ok (answer.Queued 1 1) ∷ Ok (answer.Queued 2 1) ∷ Ok (answer.Queued 3 1) ∷ Ok answer.CutOffDone ∷ Err refusal.NotOpen ∷ Ok (answer.Repeated (known.Order 1 state.Queued)) ∷ Ok (answer.Withdrawn 3) ∷ Ok (answer.Resolved 1 2 (pos 200)) ∷ [])
+abbrev cut_off_stops_orders_commands : List Command
+cut_off_stops_orders_commands =
+    pays alfa beta 100 (codes "A-1") ∷ pays beta alfa 100 (codes "B-1") ∷ pays gama alfa 1 (codes "G-1")
+    ∷ CutOff monday ∷ pays alfa beta 5 (codes "A-2") ∷ pays alfa beta 100 (codes "A-1") ∷ Withdraw gama (codes "G-1")
+    ∷ Resolve ∷ []
+
+abbrev cut_off_stops_orders_replies : List OwnReply
+cut_off_stops_orders_replies =
+    Ok (answer.Queued 1 1) ∷ Ok (answer.Queued 2 1) ∷ Ok (answer.Queued 3 1) ∷ Ok answer.CutOffDone
+    ∷ Err refusal.NotOpen ∷ Ok (answer.Repeated (known.Order 1 state.Queued)) ∷ Ok (answer.Withdrawn 3)
+    ∷ Ok (answer.Resolved 1 2 (pos 200)) ∷ []
+
+pub cut_off_stops_orders_comes : FindsGreatest → Comes cut_off_stops_orders_commands cut_off_stops_orders_replies
     (pos 0 ∷ pos 0 ∷ pos 0 ∷ [])
 unfolding computed
-cut_off_stops_orders_comes law = (cut_off_stops_orders_8, (cut_off_stops_orders_1, refl, (cut_off_stops_orders_2, refl, (cut_off_stops_orders_3, refl, (cut_off_stops_orders_4, refl, (cut_off_stops_orders_5, refl, (cut_off_stops_orders_6, refl, (cut_off_stops_orders_7, refl, (cut_off_stops_orders_8, (cut_off_stops_orders_8_choice, cut_off_stops_orders_8_greatest law, refl), refl)))))))), refl)
+cut_off_stops_orders_comes law = (
+  cut_off_stops_orders_8,
+  plainly start cut_off_stops_orders_8 cut_off_stops_orders_commands cut_off_stops_orders_replies
+      (cut_off_stops_orders_1, refl, (cut_off_stops_orders_2, refl, (cut_off_stops_orders_3, refl, (cut_off_stops_orders_4, refl, (cut_off_stops_orders_5, refl, (cut_off_stops_orders_6, refl, (cut_off_stops_orders_7, refl, (cut_off_stops_orders_8, (cut_off_stops_orders_8_choice, cut_off_stops_orders_8_greatest law, refl), refl)))))))) refl,
+  refl,
+)
 
 -- ---- close with gridlock
 
@@ -375,12 +498,25 @@ close_with_gridlock_6_greatest law = law close_with_gridlock_5 close_with_gridlo
 abbrev close_with_gridlock_6 : Book
 close_with_gridlock_6 = (close_day close_with_gridlock_5 close_with_gridlock_6_choice monday).book
 
-pub close_with_gridlock_comes : FindsGreatest → Comes
-    (pays alfa beta 100 (codes "A-1") ∷ pays beta gama 100 (codes "B-1") ∷ pays gama alfa 100 (codes "G-1") ∷ CloseDay monday ∷ CutOff monday ∷ CloseDay monday ∷ [])
-    (Ok (answer.Queued 1 1) ∷ Ok (answer.Queued 2 1) ∷ Ok (answer.Queued 3 1) ∷ Err refusal.WrongPhase ∷ Ok answer.CutOffDone ∷ Err refusal.Resolvable ∷ [])
+abbrev close_with_gridlock_commands : List Command
+close_with_gridlock_commands =
+    pays alfa beta 100 (codes "A-1") ∷ pays beta gama 100 (codes "B-1") ∷ pays gama alfa 100 (codes "G-1")
+    ∷ CloseDay monday ∷ CutOff monday ∷ CloseDay monday ∷ []
+
+abbrev close_with_gridlock_replies : List OwnReply
+close_with_gridlock_replies =
+    Ok (answer.Queued 1 1) ∷ Ok (answer.Queued 2 1) ∷ Ok (answer.Queued 3 1) ∷ Err refusal.WrongPhase
+    ∷ Ok answer.CutOffDone ∷ Err refusal.Resolvable ∷ []
+
+pub close_with_gridlock_comes : FindsGreatest → Comes close_with_gridlock_commands close_with_gridlock_replies
     (pos 0 ∷ pos 0 ∷ pos 0 ∷ [])
 unfolding computed
-close_with_gridlock_comes law = (close_with_gridlock_6, (close_with_gridlock_1, refl, (close_with_gridlock_2, refl, (close_with_gridlock_3, refl, (close_with_gridlock_4, (close_with_gridlock_4_choice, close_with_gridlock_4_greatest law, refl), (close_with_gridlock_5, refl, (close_with_gridlock_6, (close_with_gridlock_6_choice, close_with_gridlock_6_greatest law, refl), refl)))))), refl)
+close_with_gridlock_comes law = (
+  close_with_gridlock_6,
+  plainly start close_with_gridlock_6 close_with_gridlock_commands close_with_gridlock_replies
+      (close_with_gridlock_1, refl, (close_with_gridlock_2, refl, (close_with_gridlock_3, refl, (close_with_gridlock_4, (close_with_gridlock_4_choice, close_with_gridlock_4_greatest law, refl), (close_with_gridlock_5, refl, (close_with_gridlock_6, (close_with_gridlock_6_choice, close_with_gridlock_6_greatest law, refl), refl)))))) refl,
+  refl,
+)
 
 -- ---- close with overdraft
 
@@ -406,12 +542,25 @@ close_with_overdraft_5_greatest law = law close_with_overdraft_4 close_with_over
 abbrev close_with_overdraft_5 : Book
 close_with_overdraft_5 = (close_day close_with_overdraft_4 close_with_overdraft_5_choice monday).book
 
-pub close_with_overdraft_comes : FindsGreatest → Comes
-    (SetCredit alfa 100 ∷ pays alfa beta 100 (codes "A-1") ∷ pays alfa beta 1 (codes "A-2") ∷ CutOff monday ∷ CloseDay monday ∷ [])
-    (Ok answer.CreditSet ∷ Ok (answer.Settled 1 1) ∷ Ok (answer.Queued 2 1) ∷ Ok answer.CutOffDone ∷ Err (refusal.Overdrawn alfa 1) ∷ [])
+abbrev close_with_overdraft_commands : List Command
+close_with_overdraft_commands =
+    SetCredit alfa 100 ∷ pays alfa beta 100 (codes "A-1") ∷ pays alfa beta 1 (codes "A-2") ∷ CutOff monday
+    ∷ CloseDay monday ∷ []
+
+abbrev close_with_overdraft_replies : List OwnReply
+close_with_overdraft_replies =
+    Ok answer.CreditSet ∷ Ok (answer.Settled 1 1) ∷ Ok (answer.Queued 2 1) ∷ Ok answer.CutOffDone
+    ∷ Err (refusal.Overdrawn alfa 1) ∷ []
+
+pub close_with_overdraft_comes : FindsGreatest → Comes close_with_overdraft_commands close_with_overdraft_replies
     (negsuc 99 ∷ pos 100 ∷ pos 0 ∷ [])
 unfolding computed
-close_with_overdraft_comes law = (close_with_overdraft_5, (close_with_overdraft_1, refl, (close_with_overdraft_2, refl, (close_with_overdraft_3, refl, (close_with_overdraft_4, refl, (close_with_overdraft_5, (close_with_overdraft_5_choice, close_with_overdraft_5_greatest law, refl), refl))))), refl)
+close_with_overdraft_comes law = (
+  close_with_overdraft_5,
+  plainly start close_with_overdraft_5 close_with_overdraft_commands close_with_overdraft_replies
+      (close_with_overdraft_1, refl, (close_with_overdraft_2, refl, (close_with_overdraft_3, refl, (close_with_overdraft_4, refl, (close_with_overdraft_5, (close_with_overdraft_5_choice, close_with_overdraft_5_greatest law, refl), refl))))) refl,
+  refl,
+)
 
 -- ---- first day
 
@@ -439,7 +588,7 @@ abbrev first_day_3 : Book
 first_day_3 = (order first_day_2 alfa (codes "A-1") beta 1 None).book
 
 abbrev first_day_4 : Book
-first_day_4 = (open_day first_day_3 monday).book
+first_day_4 = (open_day first_day_3 monday false).book
 
 abbrev first_day_5 : Book
 first_day_5 = (order first_day_4 alfa (codes "A-1") alfa 1 None).book
@@ -450,9 +599,22 @@ first_day_6 = (order first_day_5 alfa (codes "A-1") zeta 1 None).book
 abbrev first_day_7 : Book
 first_day_7 = (order first_day_6 zeta (codes "Z-1") alfa 1 None).book
 
-pub first_day_comes : FindsGreatest → ComesFrom unopened
-    (CloseDay monday ∷ Resolve ∷ pays alfa beta 1 (codes "A-1") ∷ OpenDay monday ∷ pays alfa alfa 1 (codes "A-1") ∷ pays alfa zeta 1 (codes "A-1") ∷ pays zeta alfa 1 (codes "Z-1") ∷ [])
-    (Err refusal.WrongPhase ∷ Err refusal.WrongPhase ∷ Err refusal.NotOpen ∷ Ok answer.Opened ∷ Err refusal.SameParty ∷ Err refusal.UnknownReceiver ∷ Err refusal.UnknownParticipant ∷ [])
+abbrev first_day_commands : List Command
+first_day_commands =
+    CloseDay monday ∷ Resolve ∷ pays alfa beta 1 (codes "A-1") ∷ OpenDay monday false ∷ pays alfa alfa 1 (codes "A-1")
+    ∷ pays alfa zeta 1 (codes "A-1") ∷ pays zeta alfa 1 (codes "Z-1") ∷ []
+
+abbrev first_day_replies : List OwnReply
+first_day_replies =
+    Err refusal.WrongPhase ∷ Err refusal.WrongPhase ∷ Err refusal.NotOpen ∷ Ok answer.Opened ∷ Err refusal.SameParty
+    ∷ Err refusal.UnknownReceiver ∷ Err refusal.UnknownParticipant ∷ []
+
+pub first_day_comes : FindsGreatest → ComesFrom unopened first_day_commands first_day_replies
     (pos 0 ∷ pos 0 ∷ pos 0 ∷ [])
 unfolding computed
-first_day_comes law = (first_day_7, (first_day_1, (first_day_1_choice, first_day_1_greatest law, refl), (first_day_2, (first_day_2_choice, first_day_2_greatest law, refl), (first_day_3, refl, (first_day_4, refl, (first_day_5, refl, (first_day_6, refl, (first_day_7, refl, refl))))))), refl)
+first_day_comes law = (
+  first_day_7,
+  plainly unopened first_day_7 first_day_commands first_day_replies
+      (first_day_1, (first_day_1_choice, first_day_1_greatest law, refl), (first_day_2, (first_day_2_choice, first_day_2_greatest law, refl), (first_day_3, refl, (first_day_4, refl, (first_day_5, refl, (first_day_6, refl, (first_day_7, refl, refl))))))) refl,
+  refl,
+)

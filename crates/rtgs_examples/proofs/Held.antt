@@ -1,16 +1,19 @@
 -- The examples of orders for a later date, computed.
-use Rattle.std.proofs.Common.{pos, [], ◌∷◌, Some, None, Ok, Err, codes, refl, inl}
+use Rattle.std.proofs.Common.{pos, false, List, [], ◌∷◌, Some, None, Ok, Err, codes, refl, inl}
 use Rattle.rtgs_book.specs.declared.Command.TheVariants.{Post, OpenDay, Withdraw, Resolve, CutOff, CloseDay}
 use Rattle.rtgs_book.specs.declared.Answer.TheVariants as answer
 use Rattle.rtgs_book.specs.declared.Known.TheVariants as known
 use Rattle.rtgs_book.specs.declared.Refusal.TheVariants as refusal
 use Rattle.rtgs_book.specs.declared.OrderState.TheVariants as state
 use Rattle.rtgs_book.specs.declared.Book.{Book}
+use Rattle.rtgs_book.specs.declared.Command.{Command}
+use Rattle.rtgs_book.specs.Outcome.{OwnReply}
 use Rattle.rtgs_book.specs.Choice.{Choice, IsGreatest}
 use Rattle.rtgs_book.specs.Commands.{order, resolve, post, withdraw, open_day, cut_off, close_day}
 use Rattle.rtgs_book.specs.Procedure.{everything, taken_back, All, Without_newest}
 use Rattle.rtgs_examples.specs.Examples.{alfa, beta, gama, zeta, monday, tuesday, wednesday, thursday, saturday}
 use Rattle.rtgs_examples.specs.Examples.{start, pays, pays_on, Comes, LeavesQueue, LeavesDates}
+use Rattle.rtgs_examples.proofs.Plainly.{plainly}
 use Rattle.rtgs_examples.proofs.Computed.{computed, FindsGreatest}
 
 -- ---- due order
@@ -52,7 +55,7 @@ abbrev due_9 : Book
 due_9 = (close_day due_8 due_9_choice monday).book
 
 abbrev due_10 : Book
-due_10 = (open_day due_9 tuesday).book
+due_10 = (open_day due_9 tuesday false).book
 
 abbrev due_11 : Book
 due_11 = (order due_10 alfa (codes "A-3") gama 10 None).book
@@ -84,21 +87,27 @@ due_14_greatest law = law due_13 due_14_choice
 abbrev due_14 : Book
 due_14 = (resolve due_13 due_14_choice).book
 
-pub due_order_comes : FindsGreatest → Comes
-    (Post alfa (codes "P-1") (pos 100) ∷ pays_on tuesday alfa beta 60 (codes "A-1") ∷ pays alfa beta 50 (codes "A-2")
+abbrev due_order_commands : List Command
+due_order_commands =
+    Post alfa (codes "P-1") (pos 100) ∷ pays_on tuesday alfa beta 60 (codes "A-1") ∷ pays alfa beta 50 (codes "A-2")
     ∷ pays_on tuesday alfa beta 60 (codes "A-1") ∷ pays alfa beta 60 (codes "A-1")
     ∷ pays_on monday alfa beta 60 (codes "A-3") ∷ pays_on saturday alfa beta 60 (codes "A-3") ∷ CutOff monday
-    ∷ CloseDay monday ∷ OpenDay tuesday ∷ pays alfa gama 10 (codes "A-3") ∷ Resolve
-    ∷ Post alfa (codes "P-2") (pos 10) ∷ Resolve ∷ [])
-    (Ok (answer.Posted 1) ∷ Ok (answer.Held 1 tuesday) ∷ Ok (answer.Settled 2 1)
+    ∷ CloseDay monday ∷ OpenDay tuesday false ∷ pays alfa gama 10 (codes "A-3") ∷ Resolve
+    ∷ Post alfa (codes "P-2") (pos 10) ∷ Resolve ∷ []
+
+abbrev due_order_replies : List OwnReply
+due_order_replies =
+    Ok (answer.Posted 1) ∷ Ok (answer.Held 1 tuesday) ∷ Ok (answer.Settled 2 1)
     ∷ Ok (answer.Repeated (known.Order 1 state.Held)) ∷ Err refusal.ReferenceUsed ∷ Err refusal.DueNotLater
     ∷ Err refusal.Weekend ∷ Ok answer.CutOffDone ∷ Ok (answer.Closed 0) ∷ Ok answer.Opened ∷ Ok (answer.Queued 3 2)
-    ∷ Ok answer.Nothing ∷ Ok (answer.Posted 2) ∷ Ok (answer.Resolved 2 1 (pos 60)) ∷ [])
+    ∷ Ok answer.Nothing ∷ Ok (answer.Posted 2) ∷ Ok (answer.Resolved 2 1 (pos 60)) ∷ []
+
+pub due_order_comes : FindsGreatest → Comes due_order_commands due_order_replies
     (pos 0 ∷ pos 110 ∷ pos 0 ∷ [])
 unfolding computed
 due_order_comes law = (
   due_14,
-  (
+  plainly start due_14 due_order_commands due_order_replies (
     due_1,
     refl,
     (
@@ -150,39 +159,53 @@ due_order_comes law = (
         ),
       ),
     ),
-  ),
+  ) refl,
   refl,
 )
 
 -- ---- held order moves nothing
 
-pub held_order_moves_nothing_comes : Comes
-    (Post alfa (codes "P-1") (pos 100) ∷ pays_on tuesday alfa beta 60 (codes "A-1") ∷ pays alfa beta 50 (codes "A-2")
-    ∷ [])
-    (Ok (answer.Posted 1) ∷ Ok (answer.Held 1 tuesday) ∷ Ok (answer.Settled 2 1) ∷ [])
+abbrev held_order_moves_nothing_commands : List Command
+held_order_moves_nothing_commands =
+    Post alfa (codes "P-1") (pos 100) ∷ pays_on tuesday alfa beta 60 (codes "A-1") ∷ pays alfa beta 50 (codes "A-2")
+    ∷ []
+
+abbrev held_order_moves_nothing_replies : List OwnReply
+held_order_moves_nothing_replies =
+    Ok (answer.Posted 1) ∷ Ok (answer.Held 1 tuesday) ∷ Ok (answer.Settled 2 1) ∷ []
+
+pub held_order_moves_nothing_comes : Comes held_order_moves_nothing_commands held_order_moves_nothing_replies
     (pos 50 ∷ pos 50 ∷ pos 0 ∷ [])
 unfolding computed
 held_order_moves_nothing_comes = (
   due_3,
-  (due_1, refl, (due_2, refl, (due_3, refl, refl))),
+  plainly start due_3 held_order_moves_nothing_commands held_order_moves_nothing_replies
+      (due_1, refl, (due_2, refl, (due_3, refl, refl))) refl,
   refl,
 )
 
 -- ---- due order enters its queue
 
-pub due_order_enters_its_queue_comes : FindsGreatest → LeavesQueue
-    (Post alfa (codes "P-1") (pos 100) ∷ pays_on tuesday alfa beta 60 (codes "A-1") ∷ pays alfa beta 50 (codes "A-2")
+abbrev due_order_enters_its_queue_commands : List Command
+due_order_enters_its_queue_commands =
+    Post alfa (codes "P-1") (pos 100) ∷ pays_on tuesday alfa beta 60 (codes "A-1") ∷ pays alfa beta 50 (codes "A-2")
     ∷ pays_on tuesday alfa beta 60 (codes "A-1") ∷ pays alfa beta 60 (codes "A-1")
     ∷ pays_on monday alfa beta 60 (codes "A-3") ∷ pays_on saturday alfa beta 60 (codes "A-3") ∷ CutOff monday
-    ∷ CloseDay monday ∷ OpenDay tuesday ∷ [])
-    (Ok (answer.Posted 1) ∷ Ok (answer.Held 1 tuesday) ∷ Ok (answer.Settled 2 1)
+    ∷ CloseDay monday ∷ OpenDay tuesday false ∷ []
+
+abbrev due_order_enters_its_queue_replies : List OwnReply
+due_order_enters_its_queue_replies =
+    Ok (answer.Posted 1) ∷ Ok (answer.Held 1 tuesday) ∷ Ok (answer.Settled 2 1)
     ∷ Ok (answer.Repeated (known.Order 1 state.Held)) ∷ Err refusal.ReferenceUsed ∷ Err refusal.DueNotLater
-    ∷ Err refusal.Weekend ∷ Ok answer.CutOffDone ∷ Ok (answer.Closed 0) ∷ Ok answer.Opened ∷ [])
+    ∷ Err refusal.Weekend ∷ Ok answer.CutOffDone ∷ Ok (answer.Closed 0) ∷ Ok answer.Opened ∷ []
+
+pub due_order_enters_its_queue_comes : FindsGreatest
+    → LeavesQueue due_order_enters_its_queue_commands due_order_enters_its_queue_replies
     alfa (1 ∷ [])
 unfolding computed
 due_order_enters_its_queue_comes law = (
   due_10,
-  (
+  plainly start due_10 due_order_enters_its_queue_commands due_order_enters_its_queue_replies (
     due_1,
     refl,
     (
@@ -214,7 +237,7 @@ due_order_enters_its_queue_comes law = (
         ),
       ),
     ),
-  ),
+  ) refl,
   refl,
 )
 
@@ -245,7 +268,7 @@ abbrev late_5 : Book
 late_5 = (close_day late_4 late_5_choice monday).book
 
 abbrev late_6 : Book
-late_6 = (open_day late_5 wednesday).book
+late_6 = (open_day late_5 wednesday false).book
 
 abbrev late_7 : Book
 late_7 = (order late_6 alfa (codes "A-2") beta 20 (Some thursday)).book
@@ -253,18 +276,25 @@ late_7 = (order late_6 alfa (codes "A-2") beta 20 (Some thursday)).book
 abbrev late_8 : Book
 late_8 = (order late_7 alfa (codes "A-3") gama 30 (Some tuesday)).book
 
-pub later_order_stays_held_comes : FindsGreatest → LeavesQueue
-    (pays_on wednesday alfa beta 10 (codes "A-1") ∷ pays_on thursday alfa beta 20 (codes "A-2")
-    ∷ pays_on tuesday alfa gama 30 (codes "A-3") ∷ CutOff monday ∷ CloseDay monday ∷ OpenDay wednesday
-    ∷ pays_on thursday alfa beta 20 (codes "A-2") ∷ pays_on tuesday alfa gama 30 (codes "A-3") ∷ [])
-    (Ok (answer.Held 1 wednesday) ∷ Ok (answer.Held 2 thursday) ∷ Ok (answer.Held 3 tuesday) ∷ Ok answer.CutOffDone
+abbrev later_order_stays_held_commands : List Command
+later_order_stays_held_commands =
+    pays_on wednesday alfa beta 10 (codes "A-1") ∷ pays_on thursday alfa beta 20 (codes "A-2")
+    ∷ pays_on tuesday alfa gama 30 (codes "A-3") ∷ CutOff monday ∷ CloseDay monday ∷ OpenDay wednesday false
+    ∷ pays_on thursday alfa beta 20 (codes "A-2") ∷ pays_on tuesday alfa gama 30 (codes "A-3") ∷ []
+
+abbrev later_order_stays_held_replies : List OwnReply
+later_order_stays_held_replies =
+    Ok (answer.Held 1 wednesday) ∷ Ok (answer.Held 2 thursday) ∷ Ok (answer.Held 3 tuesday) ∷ Ok answer.CutOffDone
     ∷ Ok (answer.Closed 0) ∷ Ok answer.Opened ∷ Ok (answer.Repeated (known.Order 2 state.Held))
-    ∷ Ok (answer.Repeated (known.Order 3 state.Queued)) ∷ [])
+    ∷ Ok (answer.Repeated (known.Order 3 state.Queued)) ∷ []
+
+pub later_order_stays_held_comes : FindsGreatest
+    → LeavesQueue later_order_stays_held_commands later_order_stays_held_replies
     alfa (1 ∷ 3 ∷ [])
 unfolding computed
 later_order_stays_held_comes law = (
   late_8,
-  (
+  plainly start late_8 later_order_stays_held_commands later_order_stays_held_replies (
     late_1,
     refl,
     (
@@ -284,22 +314,29 @@ later_order_stays_held_comes law = (
         ),
       ),
     ),
-  ),
+  ) refl,
   refl,
 )
 
 -- ---- entered order bears the date
 
-pub entered_order_bears_the_date_comes : FindsGreatest → LeavesDates
-    (pays_on wednesday alfa beta 10 (codes "A-1") ∷ pays_on thursday alfa beta 20 (codes "A-2")
-    ∷ pays_on tuesday alfa gama 30 (codes "A-3") ∷ CutOff monday ∷ CloseDay monday ∷ OpenDay wednesday ∷ [])
-    (Ok (answer.Held 1 wednesday) ∷ Ok (answer.Held 2 thursday) ∷ Ok (answer.Held 3 tuesday) ∷ Ok answer.CutOffDone
-    ∷ Ok (answer.Closed 0) ∷ Ok answer.Opened ∷ [])
+abbrev entered_order_bears_the_date_commands : List Command
+entered_order_bears_the_date_commands =
+    pays_on wednesday alfa beta 10 (codes "A-1") ∷ pays_on thursday alfa beta 20 (codes "A-2")
+    ∷ pays_on tuesday alfa gama 30 (codes "A-3") ∷ CutOff monday ∷ CloseDay monday ∷ OpenDay wednesday false ∷ []
+
+abbrev entered_order_bears_the_date_replies : List OwnReply
+entered_order_bears_the_date_replies =
+    Ok (answer.Held 1 wednesday) ∷ Ok (answer.Held 2 thursday) ∷ Ok (answer.Held 3 tuesday) ∷ Ok answer.CutOffDone
+    ∷ Ok (answer.Closed 0) ∷ Ok answer.Opened ∷ []
+
+pub entered_order_bears_the_date_comes : FindsGreatest
+    → LeavesDates entered_order_bears_the_date_commands entered_order_bears_the_date_replies
     (wednesday ∷ thursday ∷ wednesday ∷ [])
 unfolding computed
 entered_order_bears_the_date_comes law = (
   late_6,
-  (
+  plainly start late_6 entered_order_bears_the_date_commands entered_order_bears_the_date_replies (
     late_1,
     refl,
     (
@@ -319,7 +356,7 @@ entered_order_bears_the_date_comes law = (
         ),
       ),
     ),
-  ),
+  ) refl,
   refl,
 )
 
@@ -346,19 +383,24 @@ content_6 = (order content_5 alfa (codes "A-2") beta 60 None).book
 abbrev content_7 : Book
 content_7 = (order content_6 alfa (codes "A-2") beta 60 (Some tuesday)).book
 
-pub due_date_is_content_comes : Comes
-    (pays_on tuesday alfa beta 60 (codes "A-1") ∷ pays_on tuesday alfa beta 60 (codes "A-1")
-    ∷ pays alfa beta 60 (codes "A-1") ∷ pays_on wednesday alfa beta 60 (codes "A-1")
-    ∷ pays alfa beta 60 (codes "A-2") ∷ pays alfa beta 60 (codes "A-2") ∷ pays_on tuesday alfa beta 60 (codes "A-2")
-    ∷ [])
-    (Ok (answer.Held 1 tuesday) ∷ Ok (answer.Repeated (known.Order 1 state.Held)) ∷ Err refusal.ReferenceUsed
+abbrev due_date_is_content_commands : List Command
+due_date_is_content_commands =
+    pays_on tuesday alfa beta 60 (codes "A-1") ∷ pays_on tuesday alfa beta 60 (codes "A-1")
+    ∷ pays alfa beta 60 (codes "A-1") ∷ pays_on wednesday alfa beta 60 (codes "A-1") ∷ pays alfa beta 60 (codes "A-2")
+    ∷ pays alfa beta 60 (codes "A-2") ∷ pays_on tuesday alfa beta 60 (codes "A-2") ∷ []
+
+abbrev due_date_is_content_replies : List OwnReply
+due_date_is_content_replies =
+    Ok (answer.Held 1 tuesday) ∷ Ok (answer.Repeated (known.Order 1 state.Held)) ∷ Err refusal.ReferenceUsed
     ∷ Err refusal.ReferenceUsed ∷ Ok (answer.Queued 2 1) ∷ Ok (answer.Repeated (known.Order 2 state.Queued))
-    ∷ Err refusal.ReferenceUsed ∷ [])
+    ∷ Err refusal.ReferenceUsed ∷ []
+
+pub due_date_is_content_comes : Comes due_date_is_content_commands due_date_is_content_replies
     (pos 0 ∷ pos 0 ∷ pos 0 ∷ [])
 unfolding computed
 due_date_is_content_comes = (
   content_7,
-  (
+  plainly start content_7 due_date_is_content_commands due_date_is_content_replies (
     content_1,
     refl,
     (
@@ -382,7 +424,7 @@ due_date_is_content_comes = (
         ),
       ),
     ),
-  ),
+  ) refl,
   refl,
 )
 
@@ -403,17 +445,24 @@ weekday_4 = (order weekday_3 alfa (codes "A-1") beta 60 (Some 20240310)).book
 abbrev weekday_5 : Book
 weekday_5 = (order weekday_4 alfa (codes "A-1") beta 60 (Some 20240311)).book
 
-pub due_date_is_a_later_weekday_comes : Comes
-    (pays_on monday alfa beta 60 (codes "A-1") ∷ pays_on 20240302 alfa beta 60 (codes "A-1")
+abbrev due_date_is_a_later_weekday_commands : List Command
+due_date_is_a_later_weekday_commands =
+    pays_on monday alfa beta 60 (codes "A-1") ∷ pays_on 20240302 alfa beta 60 (codes "A-1")
     ∷ pays_on saturday alfa beta 60 (codes "A-1") ∷ pays_on 20240310 alfa beta 60 (codes "A-1")
-    ∷ pays_on 20240311 alfa beta 60 (codes "A-1") ∷ [])
-    (Err refusal.DueNotLater ∷ Err refusal.DueNotLater ∷ Err refusal.Weekend ∷ Err refusal.Weekend
-    ∷ Ok (answer.Held 1 20240311) ∷ [])
+    ∷ pays_on 20240311 alfa beta 60 (codes "A-1") ∷ []
+
+abbrev due_date_is_a_later_weekday_replies : List OwnReply
+due_date_is_a_later_weekday_replies =
+    Err refusal.DueNotLater ∷ Err refusal.DueNotLater ∷ Err refusal.Weekend ∷ Err refusal.Weekend
+    ∷ Ok (answer.Held 1 20240311) ∷ []
+
+pub due_date_is_a_later_weekday_comes : Comes due_date_is_a_later_weekday_commands due_date_is_a_later_weekday_replies
     (pos 0 ∷ pos 0 ∷ pos 0 ∷ [])
 unfolding computed
 due_date_is_a_later_weekday_comes = (
   weekday_5,
-  (weekday_1, refl, (weekday_2, refl, (weekday_3, refl, (weekday_4, refl, (weekday_5, refl, refl))))),
+  plainly start weekday_5 due_date_is_a_later_weekday_commands due_date_is_a_later_weekday_replies
+      (weekday_1, refl, (weekday_2, refl, (weekday_3, refl, (weekday_4, refl, (weekday_5, refl, refl))))) refl,
   refl,
 )
 
@@ -437,17 +486,25 @@ judged_5 = (order judged_4 alfa (codes "A-1") beta 60 (Some monday)).book
 abbrev judged_6 : Book
 judged_6 = (order judged_5 alfa (codes "A-1") beta 60 (Some tuesday)).book
 
-pub due_date_is_judged_last_comes : Comes
-    (pays_on monday zeta beta 60 (codes "Z-1") ∷ pays_on monday alfa zeta 60 (codes "A-1")
+abbrev due_date_is_judged_last_commands : List Command
+due_date_is_judged_last_commands =
+    pays_on monday zeta beta 60 (codes "Z-1") ∷ pays_on monday alfa zeta 60 (codes "A-1")
     ∷ pays_on saturday alfa alfa 60 (codes "A-1") ∷ CutOff monday ∷ pays_on monday alfa beta 60 (codes "A-1")
-    ∷ pays_on tuesday alfa beta 60 (codes "A-1") ∷ [])
-    (Err refusal.UnknownParticipant ∷ Err refusal.UnknownReceiver ∷ Err refusal.SameParty ∷ Ok answer.CutOffDone
-    ∷ Err refusal.NotOpen ∷ Err refusal.NotOpen ∷ [])
+    ∷ pays_on tuesday alfa beta 60 (codes "A-1") ∷ []
+
+abbrev due_date_is_judged_last_replies : List OwnReply
+due_date_is_judged_last_replies =
+    Err refusal.UnknownParticipant ∷ Err refusal.UnknownReceiver ∷ Err refusal.SameParty ∷ Ok answer.CutOffDone
+    ∷ Err refusal.NotOpen ∷ Err refusal.NotOpen ∷ []
+
+pub due_date_is_judged_last_comes : Comes due_date_is_judged_last_commands due_date_is_judged_last_replies
     (pos 0 ∷ pos 0 ∷ pos 0 ∷ [])
 unfolding computed
 due_date_is_judged_last_comes = (
   judged_6,
-  (judged_1, refl, (judged_2, refl, (judged_3, refl, (judged_4, refl, (judged_5, refl, (judged_6, refl, refl)))))),
+  plainly start judged_6 due_date_is_judged_last_commands due_date_is_judged_last_replies
+      (judged_1, refl, (judged_2, refl, (judged_3, refl, (judged_4, refl, (judged_5, refl, (judged_6, refl, refl))))))
+      refl,
   refl,
 )
 
@@ -490,21 +547,28 @@ abbrev withdrawn_9 : Book
 withdrawn_9 = (withdraw withdrawn_8 alfa (codes "A-3")).book
 
 abbrev withdrawn_10 : Book
-withdrawn_10 = (open_day withdrawn_9 tuesday).book
+withdrawn_10 = (open_day withdrawn_9 tuesday false).book
 
-pub held_orders_are_withdrawn_comes : FindsGreatest → LeavesQueue
-    (pays_on tuesday alfa beta 10 (codes "A-1") ∷ pays_on tuesday alfa beta 20 (codes "A-2")
+abbrev held_orders_are_withdrawn_commands : List Command
+held_orders_are_withdrawn_commands =
+    pays_on tuesday alfa beta 10 (codes "A-1") ∷ pays_on tuesday alfa beta 20 (codes "A-2")
     ∷ pays_on tuesday alfa beta 30 (codes "A-3") ∷ Withdraw alfa (codes "A-1") ∷ CutOff monday
     ∷ Withdraw alfa (codes "A-2") ∷ CloseDay monday ∷ Withdraw alfa (codes "A-3") ∷ Withdraw alfa (codes "A-3")
-    ∷ OpenDay tuesday ∷ [])
-    (Ok (answer.Held 1 tuesday) ∷ Ok (answer.Held 2 tuesday) ∷ Ok (answer.Held 3 tuesday) ∷ Ok (answer.Withdrawn 1)
+    ∷ OpenDay tuesday false ∷ []
+
+abbrev held_orders_are_withdrawn_replies : List OwnReply
+held_orders_are_withdrawn_replies =
+    Ok (answer.Held 1 tuesday) ∷ Ok (answer.Held 2 tuesday) ∷ Ok (answer.Held 3 tuesday) ∷ Ok (answer.Withdrawn 1)
     ∷ Ok answer.CutOffDone ∷ Ok (answer.Withdrawn 2) ∷ Ok (answer.Closed 0) ∷ Ok (answer.Withdrawn 3)
-    ∷ Ok (answer.Repeated (known.Order 3 state.Withdrawn)) ∷ Ok answer.Opened ∷ [])
+    ∷ Ok (answer.Repeated (known.Order 3 state.Withdrawn)) ∷ Ok answer.Opened ∷ []
+
+pub held_orders_are_withdrawn_comes : FindsGreatest
+    → LeavesQueue held_orders_are_withdrawn_commands held_orders_are_withdrawn_replies
     alfa []
 unfolding computed
 held_orders_are_withdrawn_comes law = (
   withdrawn_10,
-  (
+  plainly start withdrawn_10 held_orders_are_withdrawn_commands held_orders_are_withdrawn_replies (
     withdrawn_1,
     refl,
     (
@@ -536,7 +600,7 @@ held_orders_are_withdrawn_comes law = (
         ),
       ),
     ),
-  ),
+  ) refl,
   refl,
 )
 
@@ -569,16 +633,23 @@ close_5 = (order close_4 alfa (codes "A-1") beta 60 None).book
 abbrev close_6 : Book
 close_6 = (order close_5 alfa (codes "A-2") beta 60 (Some tuesday)).book
 
-pub close_leaves_held_orders_comes : FindsGreatest → Comes
-    (pays alfa beta 60 (codes "A-1") ∷ pays_on tuesday alfa beta 60 (codes "A-2") ∷ CutOff monday ∷ CloseDay monday
-    ∷ pays alfa beta 60 (codes "A-1") ∷ pays_on tuesday alfa beta 60 (codes "A-2") ∷ [])
-    (Ok (answer.Queued 1 1) ∷ Ok (answer.Held 2 tuesday) ∷ Ok answer.CutOffDone ∷ Ok (answer.Closed 1)
-    ∷ Ok (answer.Repeated (known.Order 1 state.Rejected)) ∷ Ok (answer.Repeated (known.Order 2 state.Held)) ∷ [])
+abbrev close_leaves_held_orders_commands : List Command
+close_leaves_held_orders_commands =
+    pays alfa beta 60 (codes "A-1") ∷ pays_on tuesday alfa beta 60 (codes "A-2") ∷ CutOff monday ∷ CloseDay monday
+    ∷ pays alfa beta 60 (codes "A-1") ∷ pays_on tuesday alfa beta 60 (codes "A-2") ∷ []
+
+abbrev close_leaves_held_orders_replies : List OwnReply
+close_leaves_held_orders_replies =
+    Ok (answer.Queued 1 1) ∷ Ok (answer.Held 2 tuesday) ∷ Ok answer.CutOffDone ∷ Ok (answer.Closed 1)
+    ∷ Ok (answer.Repeated (known.Order 1 state.Rejected)) ∷ Ok (answer.Repeated (known.Order 2 state.Held)) ∷ []
+
+pub close_leaves_held_orders_comes : FindsGreatest
+    → Comes close_leaves_held_orders_commands close_leaves_held_orders_replies
     (pos 0 ∷ pos 0 ∷ pos 0 ∷ [])
 unfolding computed
 close_leaves_held_orders_comes law = (
   close_6,
-  (
+  plainly start close_6 close_leaves_held_orders_commands close_leaves_held_orders_replies (
     close_1,
     refl,
     (
@@ -594,7 +665,7 @@ close_leaves_held_orders_comes law = (
         ),
       ),
     ),
-  ),
+  ) refl,
   refl,
 )
 
@@ -622,7 +693,7 @@ abbrev idle_4 : Book
 idle_4 = (close_day idle_3 idle_4_choice monday).book
 
 abbrev idle_5 : Book
-idle_5 = (open_day idle_4 tuesday).book
+idle_5 = (open_day idle_4 tuesday false).book
 
 abbrev idle_6 : Book
 idle_6 = (order idle_5 alfa (codes "A-1") beta 60 (Some tuesday)).book
@@ -642,18 +713,25 @@ idle_7 = (resolve idle_6 idle_7_choice).book
 abbrev idle_8 : Book
 idle_8 = (order idle_7 alfa (codes "A-1") beta 60 (Some tuesday)).book
 
-pub due_order_waits_to_be_resolved_comes : FindsGreatest → Comes
-    (Post alfa (codes "P-1") (pos 60) ∷ pays_on tuesday alfa beta 60 (codes "A-1") ∷ CutOff monday ∷ CloseDay monday
-    ∷ OpenDay tuesday ∷ pays_on tuesday alfa beta 60 (codes "A-1") ∷ Resolve
-    ∷ pays_on tuesday alfa beta 60 (codes "A-1") ∷ [])
-    (Ok (answer.Posted 1) ∷ Ok (answer.Held 1 tuesday) ∷ Ok answer.CutOffDone ∷ Ok (answer.Closed 0)
-    ∷ Ok answer.Opened ∷ Ok (answer.Repeated (known.Order 1 state.Queued)) ∷ Ok (answer.Resolved 1 1 (pos 60))
-    ∷ Ok (answer.Repeated (known.Order 1 (state.Settled 1))) ∷ [])
+abbrev due_order_waits_to_be_resolved_commands : List Command
+due_order_waits_to_be_resolved_commands =
+    Post alfa (codes "P-1") (pos 60) ∷ pays_on tuesday alfa beta 60 (codes "A-1") ∷ CutOff monday ∷ CloseDay monday
+    ∷ OpenDay tuesday false ∷ pays_on tuesday alfa beta 60 (codes "A-1") ∷ Resolve
+    ∷ pays_on tuesday alfa beta 60 (codes "A-1") ∷ []
+
+abbrev due_order_waits_to_be_resolved_replies : List OwnReply
+due_order_waits_to_be_resolved_replies =
+    Ok (answer.Posted 1) ∷ Ok (answer.Held 1 tuesday) ∷ Ok answer.CutOffDone ∷ Ok (answer.Closed 0) ∷ Ok answer.Opened
+    ∷ Ok (answer.Repeated (known.Order 1 state.Queued)) ∷ Ok (answer.Resolved 1 1 (pos 60))
+    ∷ Ok (answer.Repeated (known.Order 1 (state.Settled 1))) ∷ []
+
+pub due_order_waits_to_be_resolved_comes : FindsGreatest
+    → Comes due_order_waits_to_be_resolved_commands due_order_waits_to_be_resolved_replies
     (pos 0 ∷ pos 60 ∷ pos 0 ∷ [])
 unfolding computed
 due_order_waits_to_be_resolved_comes law = (
   idle_8,
-  (
+  plainly start idle_8 due_order_waits_to_be_resolved_commands due_order_waits_to_be_resolved_replies (
     idle_1,
     refl,
     (
@@ -673,6 +751,6 @@ due_order_waits_to_be_resolved_comes law = (
         ),
       ),
     ),
-  ),
+  ) refl,
   refl,
 )

@@ -1,5 +1,5 @@
 -- Worked examples: three banks with no credit on Monday 2024-03-04.
-use Rattle.std.specs.Prelude.{◌≡◌, ℕ, ℤ, List, [], ◌∷◌, map, Some, None, replicate, codes}
+use Rattle.std.specs.Prelude.{◌≡◌, ℕ, ℤ, true, false, List, [], ◌∷◌, map, Some, None, replicate, codes}
 use Rattle.rtgs_book.specs.declared.Command.TheVariants.{Order}
 use Rattle.rtgs_book.specs.declared.Book.{Book}
 use Rattle.rtgs_book.specs.declared.Order.{Order as OrderRecord}
@@ -8,7 +8,7 @@ use Rattle.rtgs_book.specs.declared.Phase.TheVariants.{Open, Closed}
 use Rattle.rtgs_book.specs.Balance.{balance}
 use Rattle.rtgs_book.specs.Lookup.{accounts}
 use Rattle.rtgs_book.specs.declared.Command.{Command}
-use Rattle.rtgs_book.specs.Outcome.{Reply}
+use Rattle.rtgs_book.specs.Outcome.{OwnReply, Reply, alone, with_resolution}
 use Rattle.rtgs_book.specs.Queue.{queued_numbers}
 use Rattle.rtgs_book.specs.Run.{Run}
 
@@ -54,7 +54,7 @@ start = record {
   postings = [];
   orders = [];
   marks = [];
-  day = record { date = Some monday; phase = Open };
+  day = record { date = Some monday; phase = Open; automatic = false };
 }
 
 abbrev pub pays : List ℕ → List ℕ → ℕ → List ℕ → Command
@@ -66,22 +66,34 @@ pays_on due sender receiver amount reference = Order sender reference receiver a
 
 -- the book of the start, before the first day
 abbrev pub unopened : Book
-unopened = record start { day = record { date = None; phase = Closed } }
+unopened = record start { day = record { date = None; phase = Closed; automatic = false } }
 
--- from the book, the commands get these replies and leave these balances
-abbrev pub ComesFrom : Book → List Command → List Reply → List ℤ → Type 0
-ComesFrom book commands replies balances =
+-- the book of the start, on an automatic day
+abbrev pub automatic_start : Book
+automatic_start = record start { day = record { date = Some monday; phase = Open; automatic = true } }
+
+-- the command's own reply, and after it so many orders of this value settle under the mark
+abbrev pub and_settles : OwnReply → ℕ → ℕ → ℤ → Reply
+and_settles reply mark count value = with_resolution reply (Some (record { mark = mark; count = count; value = value }))
+
+-- from the book, the commands get these replies, and leave these balances
+abbrev pub ComesWholeFrom : Book → List Command → List Reply → List ℤ → Type 0
+ComesWholeFrom book commands replies balances =
     (end : Book) × Run book commands replies end × (map (balance end) (accounts end) ≡ balances)
 
-abbrev pub Comes : List Command → List Reply → List ℤ → Type 0
+-- so with nothing resolved after any of them
+abbrev pub ComesFrom : Book → List Command → List OwnReply → List ℤ → Type 0
+ComesFrom book commands replies = ComesWholeFrom book commands (map alone replies)
+
+abbrev pub Comes : List Command → List OwnReply → List ℤ → Type 0
 Comes = ComesFrom start
 
--- the commands get these replies, and leave the orders with these numbers in the sender's queue
-abbrev pub LeavesQueue : List Command → List Reply → List ℕ → List ℕ → Type 0
+-- the commands get these replies alone, and leave the orders with these numbers in the sender's queue
+abbrev pub LeavesQueue : List Command → List OwnReply → List ℕ → List ℕ → Type 0
 LeavesQueue commands replies sender numbers =
-    (end : Book) × Run start commands replies end × (queued_numbers end.orders sender ≡ numbers)
+    (end : Book) × Run start commands (map alone replies) end × (queued_numbers end.orders sender ≡ numbers)
 
--- the commands get these replies, and leave the orders with these dates, by number
-abbrev pub LeavesDates : List Command → List Reply → List ℕ → Type 0
+-- the commands get these replies alone, and leave the orders with these dates, by number
+abbrev pub LeavesDates : List Command → List OwnReply → List ℕ → Type 0
 LeavesDates commands replies dates =
-    (end : Book) × Run start commands replies end × (map (λ (o : OrderRecord). o.date) end.orders ≡ dates)
+    (end : Book) × Run start commands (map alone replies) end × (map (λ (o : OrderRecord). o.date) end.orders ≡ dates)

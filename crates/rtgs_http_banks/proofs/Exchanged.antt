@@ -1,5 +1,7 @@
 -- What is known of a request becomes what a desk makes of it.
-use Rattle.std.proofs.Common.{false, ◌≡◌, true, ℕ, List, [], ◌∷◌, length, Result, Ok, Err, refl, inl, inr, arith}
+use Rattle.std.proofs.Common.{false, ◌≡◌, true, ℕ, List, [], ◌∷◌, length, Result, Ok, Err, refl, inl, inr}
+use Rattle.std.proofs.Common.{arith, sym, subst}
+use Rattle.rtgs_book.specs.Calm.{IsCalm}
 use Rattle.rtgs_book.specs.Soundness.{IsSound}
 use Rattle.rtgs_book.specs.declared.book.Book.{Book}
 use Rattle.rtgs_book.specs.declared.refusal.Refusal.TheVariants.{Failed}
@@ -7,7 +9,7 @@ use Rattle.rtgs_keeper.specs.declared.keeper.Keeper.{Ghosts}
 use Rattle.rtgs_ledger.specs.Keys.{code_under}
 use Rattle.rtgs_desk.specs.Holding.{HasParticipants, Holds}
 use Rattle.rtgs_desk.specs.Seen.{Seen}
-use Rattle.rtgs_batches.specs.Batches.{replies_of, with_stop}
+use Rattle.rtgs_batches.specs.Batches.{with_stop}
 use Rattle.rtgs_http_bodies.specs.Refusals.{refused_message}
 use Rattle.rtgs_http_input.specs.Input.{Requests}
 use Rattle.rtgs_http_input.specs.Known.{KnowsOf}
@@ -33,9 +35,11 @@ of_book : {K : Type 0} (g : Ghosts K) (desk : Seen K) (book : Book) → HasParti
     → KnowsOf g desk (code_under book)
 of_book g desk book memory = λ works. (book, memory, refl)
 
-stood : {K : Type 0} (g : Ghosts K) (old : Book) (desk : Seen K) → StillHolds g old desk → Makes g old [] [] desk
-stood g old desk s = record {
+stood : {K : Type 0} (g : Ghosts K) (old : Book) (desk : Seen K) → IsCalm old → StillHolds g old desk
+    → Makes g old [] [] desk
+stood g old desk calm s = record {
   last = old;
+  calm = calm;
   kept = s.kept;
   none_open = λ works. refl;
   session = λ found left. record {
@@ -46,43 +50,49 @@ stood g old desk s = record {
     found = s.after_a_crash found left;
   };
   whole_after_a_crash = s.whole_after_a_crash;
+  calm_after_a_crash = λ found left. subst IsCalm (sym (s.after_a_crash found left)) calm;
 }
 
 -- no commands
-pub idle : {K : Type 0} (g : Ghosts K) (old : Book) (desk : Seen K) → StillHolds g old desk → Works g old desk
-idle g old desk s = ([], [], stood g old desk s)
+pub idle : {K : Type 0} (g : Ghosts K) (old : Book) (desk : Seen K) → IsCalm old → StillHolds g old desk
+    → Works g old desk
+idle g old desk calm s = ([], [], stood g old desk calm s)
 
 -- the commands that are asked for
 pub works_for : {K : Type 0} (g : Ghosts K) (old : Book) (answer : Result Asked HttpFault) (desk : Seen K)
-    (sent : Message) → ComesTo g old answer desk sent → WorksFor g old answer desk
-works_for g old (Err fault) desk sent comes = ([], stood g old desk comes.0)
-works_for g old (Ok (Submit command)) desk sent comes = (
+    (sent : Message) → IsCalm old → ComesTo g old answer desk sent → WorksFor g old answer desk
+works_for g old (Err fault) desk sent calm comes = ([], stood g old desk calm comes.0)
+works_for g old (Ok (Submit command)) desk sent calm comes = (
   comes.reply ∷ [],
   record {
     last = comes.acts.book;
+    calm = comes.acts.calm;
     kept = comes.acts.kept;
     none_open = comes.acts.none_open;
     session = comes.acts.session;
     whole_after_a_crash = comes.acts.whole_after_a_crash;
+    calm_after_a_crash = comes.acts.calm_after_a_crash;
   },
 )
-works_for g old (Ok (Batch sender rows)) desk sent (inl comes) = ([], stood g old desk comes.0)
-works_for g old (Ok (Batch sender rows)) desk sent (inr comes) = (
-  with_stop (replies_of comes.replies) comes.stopped,
+works_for g old (Ok (Batch sender rows)) desk sent calm (inl comes) = ([], stood g old desk calm comes.0)
+works_for g old (Ok (Batch sender rows)) desk sent calm (inr comes) = (
+  with_stop comes.acts.given comes.stopped,
   record {
     last = comes.acts.last;
+    calm = comes.acts.calm (length comes.replies) comes.acts.given comes.acts.last comes.acts.run;
     kept = comes.acts.kept;
     none_open = comes.acts.none_open;
     session = comes.acts.session;
     whole_after_a_crash = comes.acts.whole_after_a_crash;
+    calm_after_a_crash = comes.acts.calm_after_a_crash;
   },
 )
-works_for g old (Ok (Read reading)) desk sent comes = ([], stood g old desk comes.0)
+works_for g old (Ok (Read reading)) desk sent calm comes = ([], stood g old desk calm comes.0)
 
 pub works_of : {K : Type 0} (g : Ghosts K) (old : Book) (answer : Result Asked HttpFault) (desk : Seen K)
-    (sent : Message) → ComesTo g old answer desk sent → Works g old desk
-works_of g old answer desk sent comes =
-    let works = works_for g old answer desk sent comes in (given answer (length works.0), works.0, works.1)
+    (sent : Message) → IsCalm old → ComesTo g old answer desk sent → Works g old desk
+works_of g old answer desk sent calm comes =
+    let works = works_for g old answer desk sent calm comes in (given answer (length works.0), works.0, works.1)
 
 -- a request that asks for something
 pub asked_exchange : {K : Type 0} (g : Ghosts K) (operator input : List ℕ) (old new : Seen K) (asked : Asked)
@@ -91,11 +101,12 @@ pub asked_exchange : {K : Type 0} (g : Ghosts K) (operator input : List ℕ) (ol
     → AsksFor operator code_of input (Ok asked)
     → (digest : List ℕ) × BearsKey input digest × MayAsk operator code_of digest asked)
     → ((book : Book) × HasParticipants old book × IsSound book)
-    → ((book : Book) → Holds g old book → HasParticipants old book) → Requests (KnowsOf g old) operator input (Ok asked)
+    → ((book : Book) → Holds g old book → HasParticipants old book)
+    → ((book : Book) → Holds g old book → IsCalm book) → Requests (KnowsOf g old) operator input (Ok asked)
     → (g.is_honest new.keeper → (book : Book) → Holds g old book → ComesTo g book (Ok asked) new sent)
     → (g.has_failed old.keeper ≡ true → (new ≡ old) × IsSaid (refused_message Failed) sent)
     → Exchanges g operator old input new sent
-asked_exchange g operator input old new asked sent own memory has asks comes failed = record {
+asked_exchange g operator input old new asked sent own memory has calm asks comes failed = record {
   deals = λ honest book held.
       let a = asks.1 (code_under book) (of_book g old book (has book held)) in
       record {
@@ -103,7 +114,7 @@ asked_exchange g operator input old new asked sent own memory has asks comes fai
         asks = a;
         allowed = own operator (code_under book) input asked a;
         comes = comes honest book held;
-        works = works_for g book (Ok asked) new sent (comes honest book held);
+        works = works_for g book (Ok asked) new sent (calm book held) (comes honest book held);
       };
   changes =
       let book = memory.0 in
@@ -117,16 +128,17 @@ pub fault_exchange : {K : Type 0} (g : Ghosts K) (operator input : List ℕ) (de
     (sent : Message)
     → ((code_of : CodeOf) → KnowsOf g desk code_of → AsksFor operator code_of input (Err fault))
     → ((book : Book) → Holds g desk book → HasParticipants desk book)
+    → ((book : Book) → Holds g desk book → IsCalm book)
     → ((book : Book) → Holds g desk book → StillHolds g book desk)
     → ((book : Book) → Holds g desk book → g.has_failed desk.keeper ≡ false) → IsSaid (fault_message fault) sent
     → Exchanges g operator desk input desk sent
-fault_exchange g operator input desk fault sent asks has stands work said = record {
+fault_exchange g operator input desk fault sent asks has calm stands work said = record {
   deals = λ honest book held. record {
     answer = Err fault;
     asks = asks (code_under book) (of_book g desk book (has book held));
     allowed = tt;
     comes = (stands book held, work book held, said);
-    works = ([], stood g book desk (stands book held));
+    works = ([], stood g book desk (calm book held) (stands book held));
   };
   changes = inl refl;
   failed = λ f. (refl, inr (fault, (λ code_of. asks code_of (nobody g desk code_of f)), said));

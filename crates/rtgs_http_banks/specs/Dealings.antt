@@ -6,6 +6,7 @@ use Rattle.rtgs_book.specs.declared.book.Book.{Book}
 use Rattle.rtgs_book.specs.declared.command.Command.{Command}
 use Rattle.rtgs_book.specs.declared.refusal.Refusal.{Refusal}
 use Rattle.rtgs_book.specs.declared.refusal.Refusal.TheVariants.{OutOfMemory, StoreFault, Failed}
+use Rattle.rtgs_book.specs.Calm.{IsCalm}
 use Rattle.rtgs_book.specs.Outcome.{Reply}
 use Rattle.rtgs_book.specs.Session.{IsSession, open_command}
 use Rattle.rtgs_keeper.specs.declared.keeper.Keeper.{Ghosts}
@@ -78,14 +79,17 @@ ComesTo g old (Ok (Read reading)) desk sent = Reads g old reading desk sent
 pub record Makes {K : Type 0} (g : Ghosts K) (old : Book) (commands : List Command) (replies : List Reply)
     (desk : Seen K) : Type 0 where
   pub last : Book
+  -- on an automatic day nothing waits in it that could settle
+  pub calm : IsCalm last
   -- unless the store failed, the desk holds that book, and no command is open
   pub kept : g.has_failed desk.keeper ≡ false → Holds g desk last
   pub none_open : g.has_failed desk.keeper ≡ false → open_command commands replies ≡ None
   -- whatever the next opening finds, the commands were a session of the definitions
   pub session : (found : Book) → g.leaves desk.keeper found
       → IsSession (record { start = old; commands = commands; replies = replies; found = found })
-  -- and it is a book, kept whole
+  -- and it is a book, kept whole, and calm
   pub whole_after_a_crash : g.is_whole desk.keeper
+  pub calm_after_a_crash : (found : Book) → g.leaves desk.keeper found → IsCalm found
 
 -- the commands that are given for what a request asks, where so many were replied to
 abbrev pub given : Result Asked HttpFault → ℕ → List Command

@@ -33,7 +33,7 @@ abbrev pub fault_message : HttpFault → Message
 fault_message (Batch fault) = batch_refused_message fault
 fault_message fault = kind_message (http_kind_of fault)
 
--- what the desk replied to a command
+-- what the desk replied to a command, with what was resolved after it
 abbrev pub reply_message : Reply → Message
 reply_message (Ok answer) = json_message 200 (answer_data answer)
 reply_message (Err refusal) = refused_message refusal

@@ -12,7 +12,7 @@ ghost use Rattle.rtgs_http_replies.specs.Messages.{Message};
 use crate::faults::failed_reply;
 use crate::readings::{read, stands};
 use rtgs_batches::submit_batch;
-use rtgs_book::{Answer, Command, Refusal};
+use rtgs_book::{Command, Refusal, WholeAnswer};
 use rtgs_desk::Desk;
 use rtgs_http_bodies::{answer_reply, batch_reply, refusal_reply};
 use rtgs_http_replies::Reply;
@@ -54,7 +54,7 @@ fn submit<K: Keeper>(alloc: Global, desk: &mut Desk<K>, command: Command) -> Rep
 }
 
 // What is told of a reply of the desk. Lack of memory for the command is told without taking any.
-fn tell(alloc: Global, reply: Result<Answer, Refusal>) -> Reply
+fn tell(alloc: Global, reply: Result<WholeAnswer, Refusal>) -> Reply
     ensures told { IsSentOrLost (reply_message reply) result }
     ensures refused { reply ≡ Err Refusal.OutOfMemory → result ≡ no_memory }
 {

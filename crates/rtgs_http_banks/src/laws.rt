@@ -16,6 +16,7 @@ use rtgs_repeats::laws::sessions_join;
 pub fn a_desk_at_rest_works<K: Keeper>(desk: &Desk<K>)
     ensures { (book : Book) → Holds K.Keeper desk.now book → Works K.Keeper book desk.now }
 {
+    desk.holds_a_sound_book();
     stands(desk);
 }
 

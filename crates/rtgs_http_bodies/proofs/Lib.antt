@@ -1,3 +1,4 @@
+mod Auto
 mod Dated
 mod InRange
 mod NoFloat

@@ -1,19 +1,21 @@
 //! Replies that tell an answer.
-ghost use Rattle.std.specs.Prelude.{◌≡◌, codes, IfOk};
-ghost use Rattle.serde_json.specs.Data.{member, no_members};
+ghost use Rattle.std.specs.Prelude.{◌≡◌, None, codes, IfOk};
+ghost use Rattle.serde_json.specs.Data.{Members, member, no_members, object, put};
 ghost use Rattle.serde_json.specs.View.{view};
-ghost use Rattle.rtgs_http_bodies.specs.Answers.{told, answer_data, repeated_data, repeated_order, unsettled_repeat};
-ghost use Rattle.rtgs_http_replies.specs.Bodies.{whole, signed};
+ghost use Rattle.rtgs_http_bodies.specs.Answers.{told, answer_data, own_data, repeated_data, repeated_order};
+ghost use Rattle.rtgs_http_bodies.specs.Answers.{resolution_data, unsettled_repeat};
+ghost use Rattle.rtgs_http_replies.specs.Bodies.{whole};
 ghost use Rattle.rtgs_http_replies.specs.Messages.{json_message};
 
 use http::StatusCode;
-use rtgs_book::{Answer, Known, OrderState, Standing};
+use rtgs_book::{Answer, Known, OrderState, Resolution, Standing, WholeAnswer};
 use rtgs_http_replies::Reply;
 use serde_json::{Value, json};
 use std::alloc::{AllocError, Global};
 
-/// The reply that tells this answer. The only error is lack of memory.
-pub fn answer_reply(alloc: Global, answer: Answer) -> Result<Reply, AllocError>
+/// The reply that tells this answer, and what was resolved after the command, if anything was. The only error is lack
+/// of memory.
+pub fn answer_reply(alloc: Global, answer: WholeAnswer) -> Result<Reply, AllocError>
     ensures { IfOk result (λ reply. reply ≡ json_message 200 (answer_data answer)) }
 {
     let value = answer_value(alloc, answer)?;
@@ -21,8 +23,44 @@ pub fn answer_reply(alloc: Global, answer: Answer) -> Result<Reply, AllocError>
 }
 
 // What is told of an answer.
-fn answer_value(alloc: Global, answer: Answer) -> Result<Value, AllocError>
+fn answer_value(alloc: Global, answer: WholeAnswer) -> Result<Value, AllocError>
     ensures { IfOk result (λ value. view value ≡ answer_data answer) }
+{
+    let value = own_value(alloc, answer.own)?;
+    match &answer.auto {
+        Some(auto) => with_auto(alloc, value, auto),
+        None => Ok(value),
+    }
+}
+
+// The object with what was resolved as one member more.
+fn with_auto(alloc: Global, value: Value, auto: &Resolution) -> Result<Value, AllocError>
+    ensures { (members : Members) → view value ≡ object members → IfOk result
+        (λ whole. view whole ≡ object (put (codes "auto") (resolution_data auto.now) members)) }
+{
+    match value {
+        Value::Object(mut members) => {
+            let auto = resolution_value(alloc, auto)?;
+            members.insert(String::from_str(alloc, "auto")?, auto)?;
+            Ok(Value::Object(members))
+        }
+        other => Ok(other),
+    }
+}
+
+// What is told of what was resolved.
+fn resolution_value(alloc: Global, auto: &Resolution) -> Result<Value, AllocError>
+    ensures { IfOk result (λ value. view value ≡ resolution_data auto.now) }
+{
+    let count = auto.count;
+    let mark = auto.mark;
+    let value = auto.value.cents();
+    json!(in alloc; {"count": count, "mark": mark, "value": value})
+}
+
+// What is told of the command's own answer.
+fn own_value(alloc: Global, answer: Answer) -> Result<Value, AllocError>
+    ensures { IfOk result (λ value. view value ≡ own_data None answer) }
 {
     match answer {
         Answer::Added => word_value(alloc, "added"),
@@ -59,7 +97,7 @@ fn answer_value(alloc: Global, answer: Answer) -> Result<Value, AllocError>
 
 // What is told of a command that was done before.
 fn repeated_value(alloc: Global, known: Known) -> Result<Value, AllocError>
-    ensures { IfOk result (λ value. view value ≡ repeated_data known) }
+    ensures { IfOk result (λ value. view value ≡ repeated_data None known) }
 {
     match known {
         Known::Nothing => word_value(alloc, "repeated"),
@@ -70,7 +108,7 @@ fn repeated_value(alloc: Global, known: Known) -> Result<Value, AllocError>
 
 // What is told of an order that was taken before.
 fn repeated_order_value(alloc: Global, number: u64, state: OrderState) -> Result<Value, AllocError>
-    ensures { IfOk result (λ value. view value ≡ repeated_order number state) }
+    ensures { IfOk result (λ value. view value ≡ repeated_order None number state) }
 {
     match state {
         OrderState::Settled(mark) => {
@@ -86,21 +124,22 @@ fn repeated_order_value(alloc: Global, number: u64, state: OrderState) -> Result
 
 // An answer that is a word alone.
 fn word_value(alloc: Global, word: &str) -> Result<Value, AllocError>
-    ensures { IfOk result (λ value. view value ≡ told word.now no_members) }
+    ensures { IfOk result (λ value. view value ≡ told None word.now no_members) }
 {
     json!(in alloc; {"answer": word})
 }
 
 // An answer with a number.
 fn numbered_value(alloc: Global, word: &str, number: u64) -> Result<Value, AllocError>
-    ensures { IfOk result (λ value. view value ≡ told word.now (member (codes "number") (whole number) no_members)) }
+    ensures { IfOk result (λ value. view value ≡ told None word.now
+        (member (codes "number") (whole number) no_members)) }
 {
     json!(in alloc; {"answer": word, "number": number})
 }
 
 // An order that was taken before and has not settled: it stands so.
 fn unsettled_value(alloc: Global, number: u64, standing: Standing) -> Result<Value, AllocError>
-    ensures { IfOk result (λ value. view value ≡ unsettled_repeat number standing) }
+    ensures { IfOk result (λ value. view value ≡ unsettled_repeat None number standing) }
 {
     let state = standing.word();
     json!(in alloc; {"answer": "repeated", "number": number, "state": state})

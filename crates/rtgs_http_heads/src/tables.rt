@@ -1,4 +1,7 @@
 //! The tables of routes.
+//!
+//! To add a route, add its variant and path to `BankRoute` or `OperatorRoute`, and a line here and in
+//! `specs/Tables.antt`. The compiler does not see a variant without a line: a request for it would find no route.
 ghost use Rattle.std.specs.Prelude.{◌≡◌, IfOk, OnOk};
 ghost use Rattle.matchit.specs.Route.{parse_route};
 ghost use Rattle.rtgs_http_heads.specs.Tables.{holding, with_path, read_paths, command_paths};

@@ -1,12 +1,12 @@
 -- A book, the operator's digest and an input have one reply.
-use Rattle.std.proofs.Common.{◌≡◌, true, ℕ, List, [], ◌∷◌, length, take, Option, Some, None, Ok, Err}
+use Rattle.std.proofs.Common.{◌≡◌, true, ℕ, List, [], ◌∷◌, map, length, take, Option, Some, None, Ok, Err}
 use Rattle.std.proofs.Common.{refl, sym, ap, subst, ◌∙◌, inl, inr}
 use Rattle.std.specs.Prelude.{◌≢◌}
 use Rattle.rtgs_book.specs.declared.book.Book.{Book}
 use Rattle.rtgs_book.specs.declared.command.Command.{Command}
 use Rattle.rtgs_book.specs.declared.refusal.Refusal.{Refusal}
 use Rattle.rtgs_book.specs.declared.refusal.Refusal.TheVariants as refusal
-use Rattle.rtgs_book.specs.Outcome.{Reply}
+use Rattle.rtgs_book.specs.Outcome.{Reply, own_of}
 use Rattle.rtgs_book.specs.Run.{Run}
 use Rattle.rtgs_book.specs.Session.{is_judged}
 use Rattle.rtgs_book.specs.Step.{Step}
@@ -167,13 +167,13 @@ batches_alike g old sender rows one other sent told steps done past a b =
     subst (λ (s : Option Refusal). StopsAfter (length a.replies) (length rows) s) none a.stops in
     let as_long : length b.replies ≡ length rows =
     subst (λ (s : Option Refusal). StopsAfter (length b.replies) (length rows) s) neither b.stops in
-    let run = subst (λ (n : ℕ). Run old (orders_of sender (take n rows)) (replies_of a.replies) a.acts.last) long
+    let run = subst (λ (n : ℕ). Run old (orders_of sender (take n rows)) a.acts.given a.acts.last) long
     a.acts.run in
-    let again = subst (λ (n : ℕ). Run old (orders_of sender (take n rows)) (replies_of b.replies) b.acts.last) as_long
+    let again = subst (λ (n : ℕ). Run old (orders_of sender (take n rows)) b.acts.given b.acts.last) as_long
     b.acts.run in
     let once = run_once steps old a.acts.last b.acts.last (orders_of sender (take (length rows) rows))
-    (replies_of a.replies) (replies_of b.replies) run again in
-    let replies = rows_once a.replies b.replies once.0 in
+    a.acts.given b.acts.given run again in
+    let replies = rows_once a.replies b.replies (sym a.acts.shown ∙ ap (map own_of) once.0 ∙ b.acts.shown) in
     let stop = none ∙ sym neither in
     let stopped = ap (λ (s : Option Refusal). message (batch_status s) Csv (results_text rows a.replies s)) stop in
     let listed = ap (λ (r : List RowReply). message (batch_status b.stopped) Csv (results_text rows r b.stopped))

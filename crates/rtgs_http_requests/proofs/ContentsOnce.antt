@@ -1,5 +1,5 @@
 -- A body has one content, and one meaning.
-use Rattle.std.proofs.Common.{◌≡◌, ◌⊎◌, inl, inr, ℕ, ℤ, List, Option, Some, None, Result, Ok, Err, refl, sym, ap}
+use Rattle.std.proofs.Common.{◌≡◌, ◌⊎◌, inl, inr, ℕ, ℤ, Bool, List, Option, Some, None, Result, Ok, Err, refl, sym, ap}
 use Rattle.std.proofs.Common.{◌∙◌, IsUtf8}
 use Rattle.serde_json.specs.Data.{Data}
 use Rattle.serde_json.specs.Find.{as_integer}
@@ -11,7 +11,7 @@ use Rattle.rtgs_money.specs.declared.lexical.Lexical.TheVariants.{BadDate}
 use Rattle.rtgs_book.specs.declared.command.Command.TheVariants as command
 use Rattle.rtgs_http_requests.specs.Bodies.{ReadsJson}
 use Rattle.rtgs_http_requests.specs.Contents.{FindsContent, OrderValues, HasOrder, HasPosting, HasCredit, HasDate}
-use Rattle.rtgs_http_requests.specs.Contents.{HasNothing}
+use Rattle.rtgs_http_requests.specs.Contents.{HasOpening, HasNothing}
 use Rattle.rtgs_http_requests.specs.Meaning.{Answer, SpellsReference, SpellsDate, SpellsDue, SpellsOrder}
 use Rattle.rtgs_http_requests.specs.Meaning.{IsPostingOf, SpellsCredit}
 use Rattle.rtgs_http_requests.specs.declared.asked.Asked.TheVariants.{Submit}
@@ -106,6 +106,13 @@ one_credit value one other x y =
 
 pub one_date : (value : Data) (one other : List ℕ) → HasDate one value → HasDate other value → one ≡ other
 one_date value one other x y = cc (x, y)
+
+pub one_opening : (value : Data) (one other : List ℕ × Bool) → HasOpening one value → HasOpening other value
+    → one ≡ other
+one_opening value (date, automatic) (day, choice) (inl x) (inl y) = same_two _ _ (cc (x, y)) (cc (x, y))
+one_opening value (date, automatic) (day, choice) (inl x) (inr y) = let no : ⊥ = cc (x, y.1) in absurd no
+one_opening value (date, automatic) (day, choice) (inr x) (inl y) = let no : ⊥ = cc (x.1, y) in absurd no
+one_opening value (date, automatic) (day, choice) (inr x) (inr y) = same_two _ _ (cc (x.1, y.1)) (x.0 ∙ sym y.0)
 
 pub one_nothing : (value : Data) (one other : Unit {0}) → HasNothing value → HasNothing value → one ≡ other
 one_nothing value one other x y = refl

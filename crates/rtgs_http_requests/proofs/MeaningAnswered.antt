@@ -1,5 +1,6 @@
 -- Each body and each parameter means something, or has a fault.
-use Rattle.std.proofs.Common.{◌≡◌, ◌⊎◌, inl, inr, ℕ, ℤ, List, Option, Some, None, Result, Ok, Err, refl, IsUtf8, Global}
+use Rattle.std.proofs.Common.{◌≡◌, ◌⊎◌, inl, inr, ℕ, ℤ, Bool, List, Option, Some, None, Result, Ok, Err, refl, IsUtf8}
+use Rattle.std.proofs.Common.{Global}
 use Rattle.serde_json.specs.Data.{Data}
 use Rattle.serde_json.specs.Read.{read}
 use Rattle.rtgs_money.specs.Amounts.{IsAmount, IsPostingAmount, IsCredit}
@@ -16,9 +17,10 @@ use Rattle.rtgs_http_heads.specs.declared.operator_route.OperatorRoute.TheVarian
 use Rattle.rtgs_http_heads.specs.declared.operator_route.OperatorRoute.TheVariants.{CutOff, CloseDay, ReadReport}
 use Rattle.rtgs_http_requests.specs.Bodies.{ReadsJson}
 use Rattle.rtgs_http_requests.specs.Contents.{FindsContent, OrderValues, HasOrder, HasPosting, HasCredit, HasDate}
-use Rattle.rtgs_http_requests.specs.Contents.{HasNothing}
+use Rattle.rtgs_http_requests.specs.Contents.{HasOpening, HasNothing}
 use Rattle.rtgs_http_requests.specs.Meaning.{AsksDay, AsksPlainly, Means, MeansBank, MeansOperator, SpellsReference}
 use Rattle.rtgs_http_requests.specs.Meaning.{Answer, SpellsDate, SpellsDue, SpellsOrder, IsPostingOf, SpellsCredit}
+use Rattle.rtgs_http_requests.specs.Meaning.{SpellsOpening}
 use Rattle.rtgs_http_requests.specs.Steps.{Then, HasAnswer}
 use Rattle.rtgs_http_requests.specs.declared.admitted.Admitted.{Admitted}
 use Rattle.rtgs_http_requests.specs.declared.admitted.Admitted.TheVariants as admitted
@@ -206,6 +208,9 @@ dated_answered parameter asked =
     then_answered (SpellsDate parameter) (λ date (told : Answer). told ≡ Ok (asked date)) (date_answered parameter)
     (λ date. value_answered (asked date))
 
+opening_answered : (values : List ℕ × Bool) → HasAnswer (SpellsOpening values)
+opening_answered (text, automatic) = dated_answered text (λ date. Submit (command.OpenDay date automatic))
+
 referred_answered : (parameter : List ℕ) (asked : List ℕ → Asked)
     → HasAnswer (Then (SpellsReference parameter) (λ reference (told : Answer). told ≡ Ok (asked reference)))
 referred_answered parameter asked =
@@ -236,7 +241,8 @@ operator_answered : (route : OperatorRoute) (parameter body : List ℕ) → HasA
 operator_answered Post parameter body = spelt_answered HasPosting (λ values. IsPostingOf values) body posting_answered
 operator_answered SetCredit parameter body = spelt_answered HasCredit (λ values. SpellsCredit values) body
     credit_answered
-operator_answered OpenDay parameter body = day_answered body (λ date. Submit (command.OpenDay date))
+operator_answered OpenDay parameter body = spelt_answered HasOpening (λ values. SpellsOpening values) body
+    opening_answered
 operator_answered Resolve parameter body = plainly_answered body (Submit command.Resolve)
 operator_answered CutOff parameter body = day_answered body (λ date. Submit (command.CutOff date))
 operator_answered CloseDay parameter body = day_answered body (λ date. Submit (command.CloseDay date))

@@ -1,5 +1,5 @@
 -- What an admitted caller asks for is one thing.
-use Rattle.std.proofs.Common.{◌≡◌, inl, inr, ℕ, List, Result, Ok, Err, refl, sym, ap, subst, ◌∙◌}
+use Rattle.std.proofs.Common.{◌≡◌, inl, inr, ℕ, Bool, List, Result, Ok, Err, refl, sym, ap, subst, ◌∙◌}
 use Rattle.serde_json.specs.Data.{Data}
 use Rattle.rtgs_book.specs.declared.command.Command.TheVariants as command
 use Rattle.rtgs_http_heads.specs.declared.bank_route.BankRoute.{BankRoute}
@@ -10,9 +10,11 @@ use Rattle.rtgs_http_heads.specs.declared.operator_route.OperatorRoute.{Operator
 use Rattle.rtgs_http_heads.specs.declared.operator_route.OperatorRoute.TheVariants.{Post, SetCredit, OpenDay, Resolve}
 use Rattle.rtgs_http_heads.specs.declared.operator_route.OperatorRoute.TheVariants.{CutOff, CloseDay, ReadReport}
 use Rattle.rtgs_http_requests.specs.Bodies.{ReadsJson}
-use Rattle.rtgs_http_requests.specs.Contents.{FindsContent, HasOrder, HasPosting, HasCredit, HasDate, HasNothing}
+use Rattle.rtgs_http_requests.specs.Contents.{FindsContent, HasOrder, HasPosting, HasCredit, HasDate, HasOpening}
+use Rattle.rtgs_http_requests.specs.Contents.{HasNothing}
 use Rattle.rtgs_http_requests.specs.Meaning.{Answer, AsksBatch, AsksDay, AsksPlainly, Means, MeansBank, MeansOperator}
 use Rattle.rtgs_http_requests.specs.Meaning.{SpellsReference, SpellsDate, SpellsOrder, IsPostingOf, SpellsCredit}
+use Rattle.rtgs_http_requests.specs.Meaning.{SpellsOpening}
 use Rattle.rtgs_http_requests.specs.Same.{AreTheSame}
 use Rattle.rtgs_http_requests.specs.Steps.{Then}
 use Rattle.rtgs_http_requests.specs.declared.admitted.Admitted.{Admitted}
@@ -24,8 +26,8 @@ use Rattle.rtgs_http_requests.specs.declared.http_fault.HttpFault.TheVariants as
 use Rattle.rtgs_book.specs.declared.reading.Reading.TheVariants as reading
 use Rattle.rtgs_http_requests.proofs.Agreement.{Agree, Equal, IsDetermined, then_determined, told_equal}
 use Rattle.rtgs_http_requests.proofs.ContentsOnce.{json_once, content_once, one_order, one_posting, one_credit}
-use Rattle.rtgs_http_requests.proofs.ContentsOnce.{one_date, one_nothing, reference_once, date_once, order_once}
-use Rattle.rtgs_http_requests.proofs.ContentsOnce.{posting_once, credit_once, equal_once}
+use Rattle.rtgs_http_requests.proofs.ContentsOnce.{one_date, one_opening, one_nothing, reference_once, date_once}
+use Rattle.rtgs_http_requests.proofs.ContentsOnce.{order_once, posting_once, credit_once, equal_once}
 use Rattle.rtgs_http_requests.proofs.Lower.{LowerLaws}
 
 same_as_itself : (answer : Answer) → AreTheSame answer answer
@@ -71,6 +73,9 @@ day_once : LowerLaws → (body : List ℕ) (answer : ℕ → Answer)
 day_once laws body answer =
     then_determined (AsksDay body) (λ date (told : Answer). told ≡ answer date)
     (spelt_once HasDate (λ text. SpellsDate text) body one_date (date_once laws)) (equal_once answer)
+
+opening_once : LowerLaws → (values : List ℕ × Bool) → IsDetermined (SpellsOpening values)
+opening_once laws (text, automatic) = dated_once laws text (λ date. Ok (Submit (command.OpenDay date automatic)))
 
 withdrawal_once : (caller parameter body : List ℕ) → IsDetermined (MeansBank WithdrawOrder caller parameter body)
 withdrawal_once caller parameter body =
@@ -123,7 +128,8 @@ operator_once laws Post parameter body = spelt_once HasPosting (λ values. IsPos
     posting_once
 operator_once laws SetCredit parameter body = spelt_once HasCredit (λ values. SpellsCredit values) body one_credit
     credit_once
-operator_once laws OpenDay parameter body = day_once laws body (λ date. Ok (Submit (command.OpenDay date)))
+operator_once laws OpenDay parameter body = spelt_once HasOpening (λ values. SpellsOpening values) body one_opening
+    (opening_once laws)
 operator_once laws Resolve parameter body = plainly_once body (Submit command.Resolve)
 operator_once laws CutOff parameter body = day_once laws body (λ date. Ok (Submit (command.CutOff date)))
 operator_once laws CloseDay parameter body = day_once laws body (λ date. Ok (Submit (command.CloseDay date)))

@@ -1,6 +1,6 @@
 -- The values that bodies are to have: objects with exactly these keys.
-use Rattle.std.specs.Prelude.{◌≡◌, ℕ, ℤ, List, codes, Option, None, Some, Result, Ok, Err}
-use Rattle.serde_json.specs.Data.{Data, Num, unsigned, number, string, object, Members, member, no_members}
+use Rattle.std.specs.Prelude.{◌≡◌, ◌⊎◌, ℕ, ℤ, Bool, false, List, codes, Option, None, Some, Result, Ok, Err}
+use Rattle.serde_json.specs.Data.{Data, Num, unsigned, boolean, number, string, object, Members, member, no_members}
 use Rattle.serde_json.specs.Find.{as_integer}
 use Rattle.rtgs_http_requests.specs.declared.http_fault.HttpFault.{HttpFault}
 use Rattle.rtgs_http_requests.specs.declared.http_fault.HttpFault.TheVariants.{WrongFields}
@@ -33,6 +33,16 @@ HasCredit (code, credit) value =
 
 abbrev pub HasDate : List ℕ → Data → Type 0
 HasDate date value = value ≡ object (member (codes "date") (string date) no_members)
+
+-- a date and a choice
+abbrev pub HasChoice : List ℕ × Bool → Data → Type 0
+HasChoice (date, automatic) value =
+    value ≡ object (member (codes "automatic") (boolean automatic) (member (codes "date") (string date) no_members))
+
+-- a date and a choice, or a date alone, which is the choice of no
+abbrev pub HasOpening : List ℕ × Bool → Data → Type 0
+HasOpening (date, automatic) value =
+    HasChoice (date, automatic) value ⊎ ((automatic ≡ false) × HasDate date value)
 
 abbrev pub HasNothing : Data → Type 0
 HasNothing value = value ≡ object no_members

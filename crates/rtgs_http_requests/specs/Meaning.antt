@@ -1,5 +1,5 @@
 -- What an admitted caller asks for. The path's parameter is judged first, then the body.
-use Rattle.std.specs.Prelude.{◌≡◌, ◌≢◌, ⊤, ℕ, ℤ, List, Option, None, Some, Result, Ok, Err}
+use Rattle.std.specs.Prelude.{◌≡◌, ◌≢◌, ⊤, ℕ, ℤ, Bool, List, Option, None, Some, Result, Ok, Err}
 use Rattle.rtgs_money.specs.Amounts.{IsAmount, IsPostingAmount, IsCredit}
 use Rattle.rtgs_money.specs.Date.{IsBusinessDate, date_text}
 use Rattle.rtgs_money.specs.Forms.{IsCode, IsReference}
@@ -24,7 +24,7 @@ use Rattle.rtgs_http_requests.specs.declared.http_fault.HttpFault.TheVariants as
 use Rattle.rtgs_book.specs.declared.reading.Reading.TheVariants as reading
 use Rattle.rtgs_http_requests.specs.Bodies.{ReadsJson}
 use Rattle.rtgs_http_requests.specs.Contents.{FindsContent, OrderValues, HasOrder, HasPosting, HasCredit, HasDate}
-use Rattle.rtgs_http_requests.specs.Contents.{HasNothing}
+use Rattle.rtgs_http_requests.specs.Contents.{HasOpening, HasNothing}
 use Rattle.rtgs_http_requests.specs.Steps.{Then}
 
 -- what a request may come to
@@ -113,6 +113,15 @@ AsksCredit body = Then (ReadsJson body) (λ value. Then (FindsContent HasCredit 
 abbrev pub AsksDay : List ℕ → Result ℕ HttpFault → Type 0
 AsksDay body = Then (ReadsJson body) (λ value. Then (FindsContent HasDate value) (λ text. SpellsDate text))
 
+-- the opening of the day of this date, with this choice
+abbrev pub SpellsOpening : List ℕ × Bool → Answer → Type 0
+SpellsOpening (text, automatic) =
+    Then (SpellsDate text) (λ date answer. answer ≡ Ok (Submit (command.OpenDay date automatic)))
+
+abbrev pub AsksOpening : List ℕ → Answer → Type 0
+AsksOpening body =
+    Then (ReadsJson body) (λ value. Then (FindsContent HasOpening value) (λ values. SpellsOpening values))
+
 abbrev pub AsksResolution : List ℕ → Answer → Type 0
 AsksResolution body = AsksPlainly body (Submit command.Resolve)
 
@@ -130,8 +139,7 @@ MeansBank ReadStatement caller parameter body answer = AsksStatement caller para
 abbrev pub MeansOperator : OperatorRoute → List ℕ → List ℕ → Answer → Type 0
 MeansOperator Post parameter body answer = AsksPosting body answer
 MeansOperator SetCredit parameter body answer = AsksCredit body answer
-MeansOperator OpenDay parameter body answer =
-    Then (AsksDay body) (λ date given. given ≡ Ok (Submit (command.OpenDay date))) answer
+MeansOperator OpenDay parameter body answer = AsksOpening body answer
 MeansOperator Resolve parameter body answer = AsksResolution body answer
 MeansOperator CutOff parameter body answer =
     Then (AsksDay body) (λ date given. given ≡ Ok (Submit (command.CutOff date))) answer

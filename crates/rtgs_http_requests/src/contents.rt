@@ -1,9 +1,10 @@
 //! The members of a body's value: exactly the keys of a route, of their kinds.
-ghost use Rattle.std.specs.Prelude.{◌≡◌, ◌↔◌, ℕ, ℤ, List, Option, Some, None, IsTrue, IfSome, option_and_then};
+ghost use Rattle.std.specs.Prelude.{◌≡◌, ◌↔◌, ℕ, ℤ, Bool, List, Option, Some, None, IsTrue, IfSome, option_and_then};
 ghost use Rattle.std.specs.Prelude.{option_map};
 ghost use Rattle.serde_json.specs.Find.{as_integer, as_number};
 ghost use Rattle.serde_json.specs.View.{view};
-ghost use Rattle.rtgs_http_requests.specs.Contents.{HasOrder, HasPosting, HasCredit, HasDate, HasNothing};
+ghost use Rattle.rtgs_http_requests.specs.Contents.{HasOrder, HasPosting, HasCredit, HasDate, HasChoice, HasOpening};
+ghost use Rattle.rtgs_http_requests.specs.Contents.{HasNothing};
 
 use serde_json::Value;
 
@@ -111,6 +112,33 @@ pub fn date_of(value: &Value) -> Option<&str>
         return None;
     }
     date.as_str()
+}
+
+/// The date of a day that opens, and whether the day is to be automatic: it is not where nothing is said of that.
+pub fn opening_of(value: &Value) -> Option<(&str, bool)>
+    ensures some { IfSome result (λ (date, automatic). HasOpening (date.now, automatic) (view value.now)) }
+    ensures none { result ≡ None → (date : List ℕ) (automatic : Bool)
+        → ¬ HasOpening (date, automatic) (view value.now) }
+{
+    match date_of(value) {
+        Some(date) => Some((date, false)),
+        None => chosen_opening_of(value),
+    }
+}
+
+// The same where it is said whether the day is to be automatic.
+fn chosen_opening_of(value: &Value) -> Option<(&str, bool)>
+    ensures some { IfSome result (λ (date, automatic). HasChoice (date.now, automatic) (view value.now)) }
+    ensures none { result ≡ None → (date : List ℕ) (automatic : Bool)
+        → ¬ HasChoice (date, automatic) (view value.now) }
+{
+    let mut members = value.as_object()?.iter();
+    let (first, automatic) = members.next()?;
+    let (second, date) = members.next()?;
+    if members.next().is_some() || first.as_str() != "automatic" || second.as_str() != "date" {
+        return None;
+    }
+    Some((date.as_str()?, automatic.as_bool()?))
 }
 
 /// Whether the value is the object with no members.

@@ -1,10 +1,11 @@
 //! What the operator asks for.
 ghost use Rattle.rtgs_http_requests.specs.Meaning.{AsksPosting, IsPostingOf, AsksCredit, SpellsCredit};
-ghost use Rattle.rtgs_http_requests.specs.Meaning.{AsksDay, AsksResolution, AsksReport, MeansOperator};
+ghost use Rattle.rtgs_http_requests.specs.Meaning.{AsksDay, AsksOpening, SpellsOpening, AsksResolution, AsksReport};
+ghost use Rattle.rtgs_http_requests.specs.Meaning.{MeansOperator};
 
 use crate::asked::Asked;
 use crate::body::read_json;
-use crate::contents::{credit_of, date_of, is_nothing, posting_of};
+use crate::contents::{credit_of, date_of, is_nothing, opening_of, posting_of};
 use crate::http_fault::HttpFault;
 use crate::spelling::{posting_amount, spell_date};
 use rtgs_book::{Command, Reading};
@@ -24,7 +25,7 @@ pub fn read_operator(
     match route {
         OperatorRoute::Post => read_posting(alloc, body),
         OperatorRoute::SetCredit => read_credit(alloc, body),
-        OperatorRoute::OpenDay => Ok(Asked::Submit(Command::OpenDay(read_day(alloc, body)?))),
+        OperatorRoute::OpenDay => read_opening(alloc, body),
         OperatorRoute::Resolve => read_resolution(alloc, body),
         OperatorRoute::CutOff => Ok(Asked::Submit(Command::CutOff(read_day(alloc, body)?))),
         OperatorRoute::CloseDay => Ok(Asked::Submit(Command::CloseDay(read_day(alloc, body)?))),
@@ -75,6 +76,25 @@ fn spell_credit(code: &str, credit: u64) -> Result<Asked, HttpFault>
     let code = Code::read(code.as_bytes())?;
     let credit = Credit::from_cents(credit).ok_or(Lexical::BadAmount)?;
     Ok(Asked::Submit(Command::SetCredit { code, credit }))
+}
+
+// The opening of a day that a body asks for.
+fn read_opening(alloc: Global, body: &[u8]) -> Result<Asked, HttpFault>
+    ensures { AsksOpening body.now result }
+{
+    let value = read_json(alloc, body)?;
+    let Some((date, automatic)) = opening_of(&value) else {
+        return Err(HttpFault::WrongFields);
+    };
+    spell_opening(date, automatic)
+}
+
+// The opening of a day that these values are: the date is judged by its form.
+fn spell_opening(date: &str, automatic: bool) -> Result<Asked, HttpFault>
+    ensures { SpellsOpening (date.now, automatic) result }
+{
+    let date = spell_date(date)?;
+    Ok(Asked::Submit(Command::OpenDay { date, automatic }))
 }
 
 // The date that a body names.

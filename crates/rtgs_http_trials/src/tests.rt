@@ -5,6 +5,7 @@ mod drip;
 mod faults;
 mod heads;
 mod numbers;
+mod openings;
 mod pieces;
 mod requests;
 mod routes;

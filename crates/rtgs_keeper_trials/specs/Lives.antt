@@ -3,6 +3,7 @@ use Rattle.std.specs.Prelude.{◌≡◌, List, [], ◌∷◌}
 use Rattle.rtgs_book.specs.declared.book.Book.{Book}
 use Rattle.rtgs_book.specs.declared.command.Command.{Command}
 use Rattle.rtgs_book.specs.Books.{new_book}
+use Rattle.rtgs_book.specs.Calm.{IsCalm}
 use Rattle.rtgs_book.specs.Laws.{KeepsWhatIsFinal}
 use Rattle.rtgs_book.specs.Outcome.{Reply}
 use Rattle.rtgs_book.specs.Run.{Run}
@@ -28,3 +29,5 @@ pub record AreTwoSessions (commands : List Command) (replies : List Reply) (more
   -- what was final stands, and the book is sound
   pub sound : IsSound found
   pub stands : KeepsWhatIsFinal new_book found
+  -- and each book that was found is calm
+  pub calm : IsCalm middle × IsCalm found

@@ -1,5 +1,7 @@
 //! Two desks that are given the same commands, ten thousand of them from a fixed random generator and those at the
 //! bounds of all forms; and disks in memory that fail, keepers that fail, and what is found then.
+mod automatic_days;
+mod automatic_faults;
 mod boundaries;
 mod business;
 mod creation;

@@ -10,7 +10,8 @@ use Rattle.rtgs_book.specs.Queue.{waiting}
 use Rattle.rtgs_book.specs.Settle.{today}
 use Rattle.rtgs_book.specs.Soundness.{OrdersAreNumbered, PostingsAreNumbered, MarksAreNumbered, CodesRise}
 use Rattle.rtgs_book.specs.Soundness.{KeysAreDistinct, OrderReferencesAreDistinct, PostingReferencesAreDistinct}
-use Rattle.rtgs_book.specs.Soundness.{PartiesAreKnown, MarksFitOrders, DatesFit, FloorsHold, TotalFits, IsSound}
+use Rattle.rtgs_book.specs.Soundness.{PartiesAreKnown, MarksFitOrders, DatesFit, FloorsHold, TotalFits, ChoiceFits}
+use Rattle.rtgs_book.specs.Soundness.{IsSound}
 
 pub record QueuesStand (book : Book) : Type 0 where
   pub closed : is_closed book.day.phase ≡ true → filter is_queued book.orders ≡ []
@@ -34,6 +35,7 @@ pub record IsSoundButLength (book : Book) : Type 0 where
   pub dates : DatesFit book
   pub floors : FloorsHold book
   pub total_fits : TotalFits book
+  pub choice_fits : ChoiceFits book
 
 pub but_length : (book : Book) → IsSound book → IsSoundButLength book
 but_length book h = record {
@@ -50,6 +52,7 @@ but_length book h = record {
   dates = h.dates;
   floors = h.floors;
   total_fits = h.total_fits;
+  choice_fits = h.choice_fits;
 }
 
 pub with_length : (book : Book) → IsSoundButLength book → FewWait book → IsSound book
@@ -67,4 +70,5 @@ with_length book h short = record {
   dates = h.dates;
   floors = h.floors;
   total_fits = h.total_fits;
+  choice_fits = h.choice_fits;
 }

@@ -1,9 +1,12 @@
 pub mod Batches
 pub mod BookLaws
 pub mod ButLength
+pub mod Calm
 pub mod Insertions
+pub mod Lifting
 pub mod Lists
 pub mod Outcomes
+pub mod Quiet
 pub mod Runs
 pub mod Settling
 pub mod Sound
@@ -19,3 +22,4 @@ pub mod SoundStates
 pub mod States
 pub mod Steady
 pub mod Steps
+pub mod Sums

@@ -2,15 +2,15 @@
 use Rattle.std.proofs.Common.{◌≡◌, Bool, true, false, cond, ◌⊎◌, List, [], ◌∷◌, refl, sym, subst, inl, inr, ⊎_elim}
 use Rattle.std.specs.List.{AllByRecursion}
 use Rattle.rtgs_book.specs.declared.book.Book.{Book}
-use Rattle.rtgs_book.specs.Outcome.{Reply, Outcome, first_of}
+use Rattle.rtgs_book.specs.Outcome.{OwnReply, Outcome, first_of}
 use Rattle.rtgs_book.specs.Soundness.{IsSound}
 
 -- no test holds
-abbrev pub NoneHolds : List (Bool × Reply) → Type 0
-NoneHolds rows = AllByRecursion (λ (row : Bool × Reply). row.0 ≡ false) rows
+abbrev pub NoneHolds : List (Bool × OwnReply) → Type 0
+NoneHolds rows = AllByRecursion (λ (row : Bool × OwnReply). row.0 ≡ false) rows
 
 -- either nothing changes, or no test holds and the command does what it is for
-pub first_of_cases : (book : Book) (rows : List (Bool × Reply)) (outcome : Outcome)
+pub first_of_cases : (book : Book) (rows : List (Bool × OwnReply)) (outcome : Outcome)
     → ((first_of book rows outcome).book ≡ book) ⊎ (NoneHolds rows × (first_of book rows outcome ≡ outcome))
 unfolding first_of
 first_of_cases book [] outcome = inr (tt, refl)
@@ -25,7 +25,7 @@ first_of_cases book (row ∷ rows) outcome = by row.0 refl (first_of_cases book 
     by false e rest = ⊎_elim (λ same. inl same) (λ h. inr ((e, h.0), h.1)) rest
 
 -- soundness is kept where what the command is for keeps it
-pub sound_first_of : (book : Book) (rows : List (Bool × Reply)) (outcome : Outcome) → IsSound book
+pub sound_first_of : (book : Book) (rows : List (Bool × OwnReply)) (outcome : Outcome) → IsSound book
     → (NoneHolds rows → IsSound outcome.book) → IsSound (first_of book rows outcome).book
 sound_first_of book rows outcome h keeps =
     ⊎_elim

@@ -7,9 +7,9 @@ use Rattle.rtgs_book.specs.Run.{Run}
 use Rattle.rtgs_book.specs.Soundness.{IsSound}
 use Rattle.rtgs_book.specs.Step.{Step}
 use Rattle.rtgs_laws.specs.Through.{GoesThrough}
-use Rattle.rtgs_laws.proofs.Sound.{KeepsSoundness}
+use Rattle.rtgs_laws.proofs.Lifting.{StepKeepsSoundness}
 
-module _ (keeps : KeepsSoundness) (Relation : Book → Book → Type 0) (goes : GoesThrough Relation)
+module _ (keeps : StepKeepsSoundness) (Relation : Book → Book → Type 0) (goes : GoesThrough Relation)
     (steps : (old new : Book) (command : Command) (reply : Reply) → IsSound old → Step old command reply new
     → Relation old new) where
   pub over_run : (old new : Book) (commands : List Command) (replies : List Reply) → IsSound old
@@ -22,7 +22,7 @@ module _ (keeps : KeepsSoundness) (Relation : Book → Book → Type 0) (goes : 
       (over_run r.0 new commands replies (keeps old r.0 command reply h r.1) r.2)
 
 -- that a sound book stays sound goes through too
-pub run_sound : KeepsSoundness → (old new : Book) (commands : List Command) (replies : List Reply) → IsSound old
+pub run_sound : StepKeepsSoundness → (old new : Book) (commands : List Command) (replies : List Reply) → IsSound old
     → Run old commands replies new → IsSound new
 run_sound keeps old new commands replies h r = over_run keeps (λ one other. IsSound one → IsSound other)
     (record { itself = λ book sound. sound; through = λ one mid other f g sound. g (f sound) })

@@ -2,6 +2,7 @@
 use Rattle.std.proofs.Common.{◌≡◌, ℕ, ◌≤◌, ◌<◌, ◌+◌, ℤ, pos, neg_ℤ, ◌+ℤ◌, ◌≤ℤ◌, Bool, true, false, cond, not, ◌&&◌}
 use Rattle.std.proofs.Common.{List, [], ◌∷◌, ◌++◌, filter, length, Some, find, option_map, unwrap_or, refl, sym, ap}
 use Rattle.std.proofs.Common.{◌∙◌, true≢false, arith}
+use Rattle.std.proofs.Common.{subst}
 use Rattle.std.proofs.lemmas.Int.{ints}
 use Rattle.std.proofs.lemmas.List.{length-map, map-append}
 use Rattle.std.specs.List.{AllByRecursion, list_any}
@@ -14,10 +15,11 @@ use Rattle.rtgs_book.specs.declared.order.Order.{Order}
 use Rattle.rtgs_book.specs.declared.participant.Participant.{Participant}
 use Rattle.rtgs_book.specs.declared.posting.Posting.{Posting}
 use Rattle.rtgs_book.specs.Books.{is_closed, is_waiting}
+use Rattle.rtgs_book.specs.Choice.{Choice, is_chosen, chosen, balance_after, IsFeasible}
 use Rattle.rtgs_book.specs.Lookup.{has_code, participant_of, credit_of, accounts, is_participant}
 use Rattle.rtgs_book.specs.IntSum.{int_sum_by}
 use Rattle.rtgs_book.specs.Balance.{balance, floor, total}
-use Rattle.rtgs_book.specs.Queue.{waiting}
+use Rattle.rtgs_book.specs.Queue.{queue, orders_before, waiting}
 use Rattle.rtgs_book.specs.Commands.{is_before, with_participant, add}
 use Rattle.rtgs_book.specs.Soundness.{has_parties, CountsItsOrders, IsSound}
 use Rattle.rtgs_laws.proofs.Insertions.{length-put_in, sum-put_in, any-put_in, distinct_put_in}
@@ -107,6 +109,32 @@ none_wait code (o ∷ os) h = rw (h.0, and_false (is_waiting o)) (none_wait code
     and_false true = refl
     and_false false = refl
 
+all_filters : {X : Type 0} (P : X → Type 0) (p : X → Bool) (xs : List X) → AllByRecursion P (filter p xs)
+    → AllByRecursion P (filter (λ x. not (p x)) xs) → AllByRecursion P xs
+all_filters P p [] a b = tt
+all_filters P p (x ∷ xs) a b = by (p x) (all_filters P p xs) a b
+  where
+    by : (t : Bool)
+        → (AllByRecursion P (filter p xs) → AllByRecursion P (filter (λ y. not (p y)) xs) → AllByRecursion P xs)
+        → AllByRecursion P (cond t (x ∷ filter p xs) (filter p xs))
+        → AllByRecursion P (cond (not t) (x ∷ filter (λ y. not (p y)) xs) (filter (λ y. not (p y)) xs))
+        → AllByRecursion P (x ∷ xs)
+    by true rest a b = (a.0, rest a.1 b)
+    by false rest a b = (b.0, rest a b.1)
+
+all_front : {X : Type 0} (P : X → Type 0) (xs ys : List X) → AllByRecursion P (xs ++ ys) → AllByRecursion P xs
+all_front P [] ys h = tt
+all_front P (x ∷ xs) ys h = (h.0, all_front P xs ys h.1)
+
+all_back : {X : Type 0} (P : X → Type 0) (xs ys : List X) → AllByRecursion P (xs ++ ys) → AllByRecursion P ys
+all_back P [] ys h = h
+all_back P (x ∷ xs) ys h = all_back P xs ys h.1
+
+all_put_out : {X : Type 0} (P : X → Type 0) (p : X → Bool) (x : X) (xs : List X)
+    → AllByRecursion P (put_in p x xs) → AllByRecursion P xs
+all_put_out P p x xs h = all_filters P p xs (all_front P (filter p xs) (x ∷ filter (λ y. not (p y)) xs) h)
+    (all_back P (filter p xs) (x ∷ filter (λ y. not (p y)) xs) h).1
+
 module _ (laws : BookLaws) (book : Book) (code full key : List ℕ) (h : IsSound book)
     (free : AllByRecursion (λ (p : Participant). bytes_eq p.code code ≡ false) book.participants) where
   abbrev new : Participant
@@ -167,6 +195,21 @@ module _ (laws : BookLaws) (book : Book) (code full key : List ℕ) (h : IsSound
   unfolding floor credit_of participant_of with_participant
   floor_same c apart = ap (λ n. cond (is_closed book.day.phase) (pos 0) (neg_ℤ (pos n)))
       (limit-put_in new c (bytes_eq_comm code c ∙ apart) book.participants)
+
+  -- who was there before is covered by no less without the newcomer
+  pub feasible_before : (choice : Choice) → IsFeasible (with_participant book new) choice → IsFeasible book choice
+  unfolding balance_after chosen is_chosen orders_before queue balance with_participant
+  feasible_before choice f = record {
+    within = f.within;
+    covered = all_both (λ c. bytes_eq c code ≡ false)
+        (λ c. floor (with_participant book new) c ≤ℤ balance_after (with_participant book new) choice c)
+        (λ c. floor book c ≤ℤ balance_after book choice c)
+        (λ c e x. subst (λ z. z ≤ℤ balance_after book choice c) (floor_same c e) x) (accounts book) unused
+        (all_put_out (λ c. floor (with_participant book new) c ≤ℤ balance_after (with_participant book new) choice c)
+        (λ c. is_before c code) code (accounts book)
+        (subst (AllByRecursion (λ c. floor (with_participant book new) c
+        ≤ℤ balance_after (with_participant book new) choice c)) accounts-with_participant f.covered));
+  }
 
   parties_lifted : (o : Order) → has_parties book o ≡ true → has_parties (with_participant book new) o ≡ true
   parties_lifted o e = lift _ _ (not (bytes_eq o.sender o.receiver)) _ _ (still_known o.sender) (still_known o.receiver)
@@ -243,6 +286,7 @@ module _ (laws : BookLaws) (book : Book) (code full key : List ℕ) (h : IsSound
             (λ c e x. rw (floor_same c e, balance_same c) x) (accounts book) unused h.floors)
             (rw (balance_same code, balance_none) floor_low));
         total_fits = rw total_same h.total_fits;
+        choice_fits = h.choice_fits;
       }
 
 pub sound_add : BookLaws → (book : Book) (code full key : List ℕ) → IsSound book → IsSound (add book code full key).book

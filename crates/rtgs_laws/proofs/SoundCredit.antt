@@ -154,6 +154,7 @@ credit_sound book code credit h known enough =
           (λ other. floor (with_credit book code credit) other ≤ℤ balance (with_credit book code credit) other)
           (floor_covered book code credit known enough) (accounts book) h.floors);
       total_fits = rw same h.total_fits;
+      choice_fits = h.choice_fits;
     }
 
 pub sound_set_credit : (book : Book) (code : List ℕ) (credit : ℕ) → IsSound book

@@ -10,16 +10,17 @@ use Rattle.rtgs_book.specs.Lookup.{participant_of, credit_of, accounts, is_parti
 use Rattle.rtgs_book.specs.Balance.{balance, floor, total}
 use Rattle.rtgs_book.specs.Queue.{waiting}
 use Rattle.rtgs_book.specs.Commands.{with_day, cut_off}
-use Rattle.rtgs_book.specs.Soundness.{QueuesFit, DatesFit, FloorsHold, IsSound}
+use Rattle.rtgs_book.specs.Soundness.{QueuesFit, DatesFit, FloorsHold, ChoiceFits, IsSound}
 use Rattle.rtgs_laws.proofs.Outcomes.{sound_first_of}
 use Rattle.rtgs_lists.proofs.Lists.{all_weaker}
 use Rattle.rtgs_lists.proofs.Bools.{from_not}
 
 -- what the day does not touch stays
 pub sound_with_day : (book : Book) (day : Day) → IsSound book → QueuesFit (with_day book day)
-    → DatesFit (with_day book day) → FloorsHold (with_day book day) → IsSound (with_day book day)
+    → DatesFit (with_day book day) → FloorsHold (with_day book day) → ChoiceFits (with_day book day)
+    → IsSound (with_day book day)
 unfolding accounts is_participant balance total
-sound_with_day book day h queues dates floors = record {
+sound_with_day book day h queues dates floors choice = record {
   orders_numbered = h.orders_numbered;
   postings_numbered = h.postings_numbered;
   marks_numbered = h.marks_numbered;
@@ -37,6 +38,7 @@ sound_with_day book day h queues dates floors = record {
   dates = dates;
   floors = floors;
   total_fits = h.total_fits;
+  choice_fits = choice;
 }
 
 pub open_not_closed : (p : Phase) → is_open p ≡ true → is_closed p ≡ false
@@ -59,7 +61,7 @@ cut_off_sound book h e = sound_with_day book (record book.day { phase = CutOff }
       marks = h.dates.marks;
       postings = h.dates.postings;
     })
-    (all_weaker _ _ (λ code x. rw e at x) (accounts book) h.floors)
+    (all_weaker _ _ (λ code x. rw e at x) (accounts book) h.floors) (λ c. absurd (true≢false (sym c)))
 
 pub sound_cut_off : (book : Book) (date : ℕ) → IsSound book → IsSound (cut_off book date).book
 unfolding cut_off

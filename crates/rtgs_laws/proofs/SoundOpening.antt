@@ -135,12 +135,12 @@ entered_of_day date (o ∷ os) e = by (is_due date o) (is_queued o) refl e (ente
     by true false q none rest = (refl, rest none)
     by false false q none rest = rw q (rest none)
 
-module _ (laws : BookLaws) (book : Book) (date : ℕ) (h : IsSound book) where
+module _ (laws : BookLaws) (book : Book) (date : ℕ) (automatic : Bool) (h : IsSound book) where
   abbrev lets_in : Order → Order
   lets_in = altered (is_due date) (entered date)
 
   abbrev opened : Book
-  opened = with_day (let_in book (is_due date) date) (record { date = Some date; phase = Open })
+  opened = with_day (let_in book (is_due date) date) (record { date = Some date; phase = Open; automatic = automatic })
 
   balance_opened : (code : List ℕ) → balance opened code ≡ balance book code
   unfolding balance
@@ -221,9 +221,12 @@ module _ (laws : BookLaws) (book : Book) (date : ℕ) (h : IsSound book) where
         (λ code x. let y = rw closed at x in rw (balance_opened code) (omega (arith, ints))) (accounts book) h.floors;
     total_fits = subst (λ (f : List ℕ → ℤ). int_sum_by f (accounts book) ≤ℤ pos LARGEST_TOTAL)
         (λ i code. sym (balance_opened code) i) h.total_fits;
+    choice_fits = λ e. absurd (true≢false (sym e));
   }
 
-pub sound_open_day : BookLaws → (book : Book) (date : ℕ) → IsSound book → IsSound (open_day book date).book
+pub sound_open_day : BookLaws → (book : Book) (date : ℕ) (automatic : Bool) → IsSound book
+    → IsSound (open_day book date automatic).book
 unfolding open_day
-sound_open_day laws book date h = sound_first_of book _ _ h (λ (_, (closed, (later, (weekday, _)))).
-    open_day_sound laws book date h (from_not _ closed) (later_le date book.day.date (from_not _ later)) weekday)
+sound_open_day laws book date automatic h = sound_first_of book _ _ h (λ (_, (closed, (later, (weekday, _)))).
+    open_day_sound laws book date automatic h (from_not _ closed) (later_le date book.day.date (from_not _ later))
+    weekday)

@@ -193,4 +193,5 @@ module _ (book : Book) (sender reference receiver : List ℕ) (amount : ℕ) (du
             (accounts book) h.floors;
         total_fits = subst (λ (f : List ℕ → ℤ). int_sum_by f (accounts book) ≤ℤ pos LARGEST_TOTAL)
             (λ i code. sym (balance-with_order code) i) h.total_fits;
+        choice_fits = h.choice_fits;
       }

@@ -124,6 +124,7 @@ post_sound laws book code reference cents h known new room fits enough =
           (λ other x. rw (laws.posting book posting other) (covered_all book code cents enough other x))
           (accounts book) h.floors;
       total_fits = rw (total-with_posting laws book posting h known) (total_fits (total book) cents h.total_fits fits);
+      choice_fits = h.choice_fits;
     }
 
 pub sound_post : BookLaws → (book : Book) (code reference : List ℕ) (cents : ℤ) → IsSound book

@@ -153,6 +153,7 @@ module _ (laws : BookLaws) (book : Book) (is_in : Order → Bool) (queued : AreQ
             (filter is_in book.orders))) (λ code. floor book code ≤ℤ balance (with_batch book is_in) code)
             (λ code x. rw (balances code) x) (accounts book) covered;
         total_fits = rw (total-with_batch laws.issue book is_in h.codes_rise h.parties) h.total_fits;
+        choice_fits = h.choice_fits;
       }
 
 -- fewer orders wait once a batch is settled

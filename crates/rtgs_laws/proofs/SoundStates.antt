@@ -120,6 +120,7 @@ module _ (laws : BookLaws) (book : Book) (is_in : Order → Bool) (s : OrderStat
         (accounts book) h.floors;
     total_fits = subst (λ (f : List ℕ → ℤ). int_sum_by f (accounts book) ≤ℤ pos LARGEST_TOTAL)
         (λ i code. sym (balance-with_state code) i) h.total_fits;
+    choice_fits = h.choice_fits;
   }
 
 pub sound_withdraw : BookLaws → (book : Book) (sender reference : List ℕ) → IsSound book
@@ -174,7 +175,7 @@ not_negative a e = grind (arith, ints)
 
 close_sound : BookLaws → (book : Book) → IsSound book
     → AllByRecursion (λ code. int_lt (balance book code) (pos 0) ≡ false) (accounts book) → IsSound (with_day
-    (with_state book is_queued Rejected) (record book.day { phase = Closed }))
+    (with_state book is_queued Rejected) (record book.day { phase = Closed; automatic = false }))
 unfolding with_state accounts waiting floor balance
 close_sound laws book h positive =
     let rejected = with_state book is_queued Rejected in
@@ -182,7 +183,7 @@ close_sound laws book h positive =
     (all_of (λ (o : Order). is_queued o ≡ true → FitsDue (today book) o.due o.date o.state
     → FitsDue (today book) o.due o.date Rejected) (λ o e. queued_rejected (today book) o.due o.date o.state e)
     book.orders) in
-    sound_with_day rejected (record book.day { phase = Closed }) sound
+    sound_with_day rejected (record book.day { phase = Closed; automatic = false }) sound
     (record {
       closed = λ _. none_queued book.orders;
       short = sound.queues.short;
@@ -199,10 +200,10 @@ close_sound laws book h positive =
       postings = sound.dates.postings;
     })
     (all_weaker (λ code. int_lt (balance book code) (pos 0) ≡ false)
-    (λ code. floor (with_day rejected (record book.day { phase = Closed })) code ≤ℤ balance
-    (with_day rejected (record book.day { phase = Closed })) code)
+    (λ code. floor (with_day rejected (record book.day { phase = Closed; automatic = false })) code ≤ℤ balance
+    (with_day rejected (record book.day { phase = Closed; automatic = false })) code)
     (λ code e. rw (balance-with_state laws book is_queued Rejected refl refl refl (λ _ _. tt)
-    (queued_unsettled book) code) (not_negative _ e)) (accounts book) positive)
+    (queued_unsettled book) code) (not_negative _ e)) (accounts book) positive) (λ _. refl)
 
 pub sound_close_day : BookLaws → (book : Book) (choice : Choice) (date : ℕ) → IsSound book
     → IsSound (close_day book choice date).book

@@ -21,15 +21,15 @@ use Rattle.rtgs_book.specs.IntSum.{int_sum_by}
 use Rattle.rtgs_book.specs.Balance.{total, issued}
 use Rattle.rtgs_book.specs.Choice.{is_chosen, chosen}
 use Rattle.rtgs_book.specs.Settle.{altered, in_state, settle, mark_of, next_mark}
-use Rattle.rtgs_book.specs.Outcome.{Reply, Outcome, first_of}
+use Rattle.rtgs_book.specs.Outcome.{OwnReply, Outcome, first_of}
 use Rattle.rtgs_book.specs.Commands.{is_before, add, with_participant, set_credit, with_credit, known_posting, post}
 use Rattle.rtgs_book.specs.Commands.{new_order, with_order, has_number, takes, takes_due, settles_at_once, order}
 use Rattle.rtgs_book.specs.Commands.{is_waiting_order, is_due, entered, let_in}
 use Rattle.rtgs_book.specs.Commands.{number_of, with_state, withdraw, open_day, cut_off, resolve, close_day}
 use Rattle.rtgs_book.specs.Procedure.{Has}
 use Rattle.rtgs_book.specs.Soundness.{IsSound}
-use Rattle.rtgs_book.specs.Step.{Step}
-use Rattle.rtgs_book.specs.Laws.{posted, KeepsWhatIsFinal, CommandFits}
+use Rattle.rtgs_book.specs.Step.{OwnStep}
+use Rattle.rtgs_book.specs.Laws.{posted_by_itself, KeepsWhatIsFinal, CommandFits}
 use Rattle.rtgs_book.specs.Ranges.{Fits}
 use Rattle.rtgs_laws.proofs.Batches.{marks_le}
 use Rattle.rtgs_laws.proofs.BookLaws.{AreQueued, AreUnsettled, TotalIsIssued}
@@ -46,8 +46,8 @@ use Rattle.rtgs_lists.proofs.Sums.{int_sum_by-append}
 use Rattle.rtgs_lists.proofs.Bools.{from_not}
 
 -- what holds where a test is answered, and after what the command is for, holds of the outcome
-pub holds_first_of : (P : Outcome → Type 0) (book : Book) (rows : List (Bool × Reply)) (outcome : Outcome)
-    → AllByRecursion (λ (row : Bool × Reply). P (record { reply = row.1; book = book })) rows → P outcome
+pub holds_first_of : (P : Outcome → Type 0) (book : Book) (rows : List (Bool × OwnReply)) (outcome : Outcome)
+    → AllByRecursion (λ (row : Bool × OwnReply). P (record { reply = row.1; book = book })) rows → P outcome
     → P (first_of book rows outcome)
 unfolding first_of
 holds_first_of P book [] outcome h p = p
@@ -59,13 +59,13 @@ holds_first_of P book (row ∷ rows) outcome h p = by row.0 (holds_first_of P bo
     by false rest = rest
 
 -- the same of the book alone
-pub book_first_of : (P : Book → Type 0) (book : Book) (rows : List (Bool × Reply)) (outcome : Outcome) → P book
+pub book_first_of : (P : Book → Type 0) (book : Book) (rows : List (Bool × OwnReply)) (outcome : Outcome) → P book
     → P outcome.book → P (first_of book rows outcome).book
 book_first_of P book rows outcome h p = holds_first_of (λ o. P o.book) book rows outcome
-    (all_of (λ (row : Bool × Reply). P book) (λ row. h) rows) p
+    (all_of (λ (row : Bool × OwnReply). P book) (λ row. h) rows) p
 
 -- the same, where what the command is for is known to come after all tests
-sound_first : (P : Book → Type 0) (book : Book) (rows : List (Bool × Reply)) (outcome : Outcome) → P book
+sound_first : (P : Book → Type 0) (book : Book) (rows : List (Bool × OwnReply)) (outcome : Outcome) → P book
     → (NoneHolds rows → P outcome.book) → P (first_of book rows outcome).book
 sound_first P book rows outcome h keeps =
     ⊎_elim (λ same. subst P (sym same) h) (λ passed. subst (λ (o : Outcome). P o.book) (sym passed.1) (keeps passed.0))
@@ -92,7 +92,7 @@ takes_due_postings book o None = takes_postings book o
 takes_due_postings book o (Some due) = refl
 
 not_posted : (found : Option Posting) (code reference : List ℕ) (cents : ℤ)
-    → posted (Post code reference cents) (known_posting found) ≡ pos 0
+    → posted_by_itself (Post code reference cents) (known_posting found) ≡ pos 0
 not_posted None code reference cents = refl
 not_posted (Some p) code reference cents = refl
 
@@ -110,20 +110,21 @@ issued_with book posting = int_sum_by-append (λ (p : Posting). p.cents) book.po
 none_issued : (book : Book) → issued book ≡ issued book +ℤ pos 0
 none_issued book = omega (arith, ints)
 
-by_outcome : (old new : Book) (command : Command) (reply : Reply) (outcome : Outcome) → record {
+by_outcome : (old new : Book) (command : Command) (reply : OwnReply) (outcome : Outcome) → record {
   reply = reply;
   book = new;
-} ≡ outcome → issued outcome.book ≡ issued old +ℤ posted command outcome.reply
-    → issued new ≡ issued old +ℤ posted command reply
+} ≡ outcome → issued outcome.book ≡ issued old +ℤ posted_by_itself command outcome.reply
+    → issued new ≡ issued old +ℤ posted_by_itself command reply
 by_outcome old new command reply outcome e h = subst (λ (o : Outcome). issued o.book
-    ≡ issued old +ℤ posted command o.reply) (sym e) h
+    ≡ issued old +ℤ posted_by_itself command o.reply) (sym e) h
 
 issued_post : (book : Book) (code reference : List ℕ) (cents : ℤ)
-    → issued (post book code reference cents).book ≡ issued book +ℤ posted (Post code reference cents)
+    → issued (post book code reference cents).book ≡ issued book +ℤ posted_by_itself (Post code reference cents)
     (post book code reference cents).reply
 unfolding post
 issued_post book code reference cents =
-    holds_first_of (λ (o : Outcome). issued o.book ≡ issued book +ℤ posted (Post code reference cents) o.reply) book _ _ (
+    holds_first_of
+    (λ (o : Outcome). issued o.book ≡ issued book +ℤ posted_by_itself (Post code reference cents) o.reply) book _ _ (
       none_issued book,
       (
         rw (not_posted (posting_named book reference) code reference cents) (none_issued book),
@@ -132,8 +133,9 @@ issued_post book code reference cents =
     )
     (issued_with book _)
 
-module _ (old new : Book) (reply : Reply) where
-  moves : (command : Command) → Step old command reply new → issued new ≡ issued old +ℤ posted command reply
+module _ (old new : Book) (reply : OwnReply) where
+  moves : (command : Command) → OwnStep old command reply new
+      → issued new ≡ issued old +ℤ posted_by_itself command reply
   unfolding add with_participant set_credit with_credit open_day let_in order withdraw with_state cut_off resolve
       close_day
   moves (Add code name key) e = by_outcome old new (Add code name key) reply _ e
@@ -143,8 +145,9 @@ module _ (old new : Book) (reply : Reply) where
       refl))
   moves (Post code reference cents) e = by_outcome old new (Post code reference cents) reply _ e
       (issued_post old code reference cents)
-  moves (OpenDay date) e = by_outcome old new (OpenDay date) reply _ e
-      (issued_by old (open_day old date).book (book_first_of (λ b. b.postings ≡ old.postings) old _ _ refl refl))
+  moves (OpenDay date automatic) e = by_outcome old new (OpenDay date automatic) reply _ e
+      (issued_by old (open_day old date automatic).book
+      (book_first_of (λ b. b.postings ≡ old.postings) old _ _ refl refl))
   moves (PlaceOrder sender reference receiver amount due) e = by_outcome old new
       (PlaceOrder sender reference receiver amount due) reply _ e
       (issued_by old (order old sender reference receiver amount due).book
@@ -162,12 +165,12 @@ module _ (old new : Book) (reply : Reply) where
   moves (CloseDay date) e = by_outcome old new (CloseDay date) reply _ e.2
       (issued_by old (close_day old e.0 date).book (book_first_of (λ b. b.postings ≡ old.postings) old _ _ refl refl))
 
-pub total_moves : TotalIsIssued → KeepsSoundness → (old new : Book) (command : Command) (reply : Reply) → IsSound old
-    → Step old command reply new → total new ≡ total old +ℤ posted command reply
+pub total_moves : TotalIsIssued → KeepsSoundness → (old new : Book) (command : Command) (reply : OwnReply) → IsSound old
+    → OwnStep old command reply new → total new ≡ total old +ℤ posted_by_itself command reply
 total_moves issue keeps old new command reply h s =
     let sound = keeps old new command reply h s in
     issue new sound.codes_rise sound.parties ∙ moves old new reply command s
-    ∙ ap (λ z. z +ℤ posted command reply) (sym (issue old h.codes_rise h.parties))
+    ∙ ap (λ z. z +ℤ posted_by_itself command reply) (sym (issue old h.codes_rise h.parties))
 
 -- ---- marks and settled orders stand
 
@@ -192,7 +195,7 @@ settled_stays is_in change o fresh settled = by (is_in o) fresh
     by true f = absurd (true≢false (sym settled ∙ f refl))
     by false f = refl
 
-stands_same : (old new : Book) → new.marks ≡ old.marks → new.orders ≡ old.orders → KeepsWhatIsFinal old new
+pub stands_same : (old new : Book) → new.marks ≡ old.marks → new.orders ≡ old.orders → KeepsWhatIsFinal old new
 stands_same old new m o = record {
   marks = ([], m ∙ sym (append-nil old.marks));
   orders = λ x h settled. subst (λ os. Has os x) (sym o) h;
@@ -277,11 +280,11 @@ module _ (book : Book) (sender reference receiver : List ℕ) (amount : ℕ) (h 
           (h.orders_numbered.0 ∙ ap (range_with_len 1) (length-map book.orders (λ (o : Order). o.number))) e
           (waiting_not_settled o.state q)) [] (sym (append-nil book.marks)) refl
 
-stays : (old new : Book) (reply : Reply) (outcome : Outcome) → record { reply = reply; book = new } ≡ outcome
+stays : (old new : Book) (reply : OwnReply) (outcome : Outcome) → record { reply = reply; book = new } ≡ outcome
     → KeepsWhatIsFinal old outcome.book → KeepsWhatIsFinal old new
 stays old new reply outcome e h = subst (λ (o : Outcome). KeepsWhatIsFinal old o.book) (sym e) h
 
-pub step_stands : (old new : Book) (command : Command) (reply : Reply) → IsSound old → Step old command reply new
+pub step_stands : (old new : Book) (command : Command) (reply : OwnReply) → IsSound old → OwnStep old command reply new
     → KeepsWhatIsFinal old new
 unfolding add with_participant set_credit with_credit post open_day let_in order with_state cut_off resolve close_day
 step_stands old new (Add code name key) reply h e = stays old new reply _ e
@@ -290,7 +293,7 @@ step_stands old new (SetCredit code credit) reply h e = stays old new reply _ e
     (book_first_of (KeepsWhatIsFinal old) old _ _ (stands_same old old refl refl) (stands_same old _ refl refl))
 step_stands old new (Post code reference cents) reply h e = stays old new reply _ e
     (book_first_of (KeepsWhatIsFinal old) old _ _ (stands_same old old refl refl) (stands_same old _ refl refl))
-step_stands old new (OpenDay date) reply h e = stays old new reply _ e
+step_stands old new (OpenDay date automatic) reply h e = stays old new reply _ e
     (book_first_of (KeepsWhatIsFinal old) old _ _ (stands_same old old refl refl)
     (stands_altered old _ (is_due date) (entered date) (due_unsettled old date) [] (sym (append-nil old.marks)) refl))
 step_stands old new (PlaceOrder sender reference receiver amount due) reply h e =
@@ -378,12 +381,12 @@ fits_takes_due book o (Some due) amount h =
     fits_as book (with_order book o) refl refl (all_push (λ (o : Order). IsAmount o.amount) book.orders o h.orders
     amount) h
 
-fitting : (new : Book) (reply : Reply) (outcome : Outcome) → record { reply = reply; book = new } ≡ outcome
+fitting : (new : Book) (reply : OwnReply) (outcome : Outcome) → record { reply = reply; book = new } ≡ outcome
     → Fits outcome.book → Fits new
 fitting new reply outcome e h = subst (λ (o : Outcome). Fits o.book) (sym e) h
 
-pub step_fits : (old new : Book) (command : Command) (reply : Reply) → CommandFits command → Fits old
-    → Step old command reply new → Fits new
+pub step_fits : (old new : Book) (command : Command) (reply : OwnReply) → CommandFits command → Fits old
+    → OwnStep old command reply new → Fits new
 unfolding add set_credit post open_day let_in order withdraw with_state cut_off resolve close_day
 step_fits old new (Add code name key) reply fits h e = fitting new reply _ e
     (book_first_of Fits old _ _ h (fits_add old (record { code = code; name = name; key = key; credit = 0 })
@@ -396,7 +399,7 @@ step_fits old new (Post code reference cents) reply fits h e =
       postings = all_push (λ (p : Posting). IsPostingAmount p.cents) old.postings _ h.postings fits;
       orders = h.orders;
     }))
-step_fits old new (OpenDay date) reply fits h e = fitting new reply _ e
+step_fits old new (OpenDay date automatic) reply fits h e = fitting new reply _ e
     (book_first_of Fits old _ _ h (fits_as old _ refl refl (fits_orders old (is_due date) (entered date) (λ o. refl)
     h.orders) h))
 step_fits old new (PlaceOrder sender reference receiver amount due) reply fits h e =

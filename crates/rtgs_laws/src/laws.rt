@@ -1,25 +1,68 @@
 //! Laws of commands: what each leaves of a book, and what a list of them does. Each function does nothing: its
 //! contract is the law.
-ghost use Rattle.std.specs.Prelude.{◌≡◌, ◌≤◌, ◌+ℤ◌, Bool, true, List, length};
+ghost use Rattle.std.specs.Prelude.{◌≡◌, ◌≤◌, ◌+ℤ◌, ℕ, Bool, true, false, List, length};
 ghost use Rattle.std.specs.List.{AllByRecursion};
 ghost use Rattle.rtgs_book.specs.declared.book.Book.{Book};
 ghost use Rattle.rtgs_book.specs.declared.command.Command.{Command};
 ghost use Rattle.rtgs_book.specs.declared.order.Order.{Order};
-ghost use Rattle.rtgs_book.specs.Books.{is_queued};
+ghost use Rattle.rtgs_book.specs.Books.{is_automatic, is_queued};
+ghost use Rattle.rtgs_book.specs.Commands.{with_credit};
+ghost use Rattle.rtgs_book.specs.Lookup.{accounts};
+ghost use Rattle.rtgs_laws.specs.Quiet.{GainsNothing, NewestIsOutOfReach};
 ghost use Rattle.rtgs_book.specs.Laws.{posted, KeepsWhatIsFinal, CommandFits};
-ghost use Rattle.rtgs_book.specs.Outcome.{Reply};
+ghost use Rattle.rtgs_book.specs.Outcome.{OwnReply, Reply, is_done};
 ghost use Rattle.rtgs_book.specs.Balance.{total};
 ghost use Rattle.rtgs_book.specs.Settle.{settle};
 ghost use Rattle.rtgs_book.specs.Ranges.{Fits};
 ghost use Rattle.rtgs_book.specs.Run.{Run};
-ghost use Rattle.rtgs_book.specs.Step.{Step};
+ghost use Rattle.rtgs_book.specs.Calm.{IsCalm};
+ghost use Rattle.rtgs_book.specs.Step.{OwnStep, Step, is_followed};
 ghost use Rattle.rtgs_book.specs.Soundness.{IsSound};
 ghost use Rattle.rtgs_laws.specs.Through.{GoesThrough};
 
 use rtgs_book::laws::{
     balance_after_entering, balance_after_posting, balance_after_restating, balance_after_settling,
-    balance_of_unknown_code, greatest_exists, greatest_is_unique, total_is_issued,
+    balance_of_unknown_code, chosen_are_beginnings, greatest_exists, greatest_is_unique,
+    rest_stays_queued, settled_balances, total_is_issued,
 };
+
+/// A command by itself has one reply at most, and leaves one book.
+pub fn own_step_is_determined()
+    ensures { (old new last : Book) (command : Command) (reply other : OwnReply) → OwnStep old command reply new
+        → OwnStep old command other last → (reply ≡ other) × (new ≡ last) }
+{
+    greatest_is_unique();
+}
+
+/// By itself it leaves a sound book sound.
+pub fn own_step_keeps_soundness()
+    ensures { (old new : Book) (command : Command) (reply : OwnReply) → IsSound old → OwnStep old command reply new
+        → IsSound new }
+{
+    balance_after_posting();
+    balance_after_restating();
+    balance_after_entering();
+    balance_after_settling();
+    balance_of_unknown_code();
+    total_is_issued();
+}
+
+/// By itself it leaves amounts in their ranges.
+pub fn own_step_keeps_ranges()
+    ensures { (old new : Book) (command : Command) (reply : OwnReply) → CommandFits command → Fits old
+        → OwnStep old command reply new → Fits new }
+{}
+
+/// What did not act by itself, being refused or a repeat, leaves the book as it was.
+pub fn what_did_not_act_leaves_the_book()
+    ensures { (old new : Book) (command : Command) (reply : OwnReply) → OwnStep old command reply new
+        → is_done reply ≡ false → new ≡ old }
+{}
+
+/// A new credit limit leaves the same accounts.
+pub fn new_credit_leaves_the_accounts()
+    ensures { (book : Book) (code : List ℕ) (credit : ℕ) → accounts (with_credit book code credit) ≡ accounts book }
+{}
 
 /// A command has one reply at most, and leaves one book.
 pub fn step_is_determined()
@@ -35,12 +78,42 @@ pub fn step_exists()
         → (reply : Reply) × (new : Book) × Step book command reply new }
 {
     greatest_exists();
+    own_step_keeps_soundness();
 }
 
-/// Each command leaves a sound book sound.
-pub fn step_keeps_soundness()
-    ensures { (old new : Book) (command : Command) (reply : Reply) → IsSound old → Step old command reply new
-        → IsSound new }
+/// Where a resolution followed a command, nothing is left to settle, whatever was before.
+pub fn followed_books_are_calm()
+    ensures { (old new : Book) (command : Command) (reply : Reply) → IsSound old
+        → (s : Step old command reply new) → is_followed command s.0 ≡ true → IsCalm new }
+{
+    chosen_are_beginnings();
+    rest_stays_queued();
+    settled_balances();
+    own_step_keeps_soundness();
+}
+
+/// Where nobody with a queue gains anything, a calm book is calm afterwards, without a resolution.
+pub fn quiet_changes_leave_calm()
+    ensures { (old new : Book) → IsSound old → IsSound new → GainsNothing old new → is_automatic old.day ≡ true
+        → IsCalm old → IsCalm new }
+{
+    chosen_are_beginnings();
+    greatest_exists();
+}
+
+/// So it is where one order more is queued that is out of its sender's reach whatever settles.
+pub fn orders_out_of_reach_leave_calm()
+    ensures { (old new : Book) (sender : List ℕ) → IsSound old → IsSound new → NewestIsOutOfReach old new sender
+        → is_automatic old.day ≡ true → IsCalm old → IsCalm new }
+{
+    chosen_are_beginnings();
+    greatest_exists();
+}
+
+/// Each command leaves a calm book calm.
+pub fn step_keeps_calm()
+    ensures { (old new : Book) (command : Command) (reply : Reply) → IsSound old → IsCalm old
+        → Step old command reply new → IsCalm new }
 {
     balance_after_posting();
     balance_after_restating();
@@ -48,6 +121,28 @@ pub fn step_keeps_soundness()
     balance_after_settling();
     balance_of_unknown_code();
     total_is_issued();
+    chosen_are_beginnings();
+    rest_stays_queued();
+    settled_balances();
+    greatest_exists();
+    own_step_keeps_soundness();
+}
+
+/// So does each list of commands.
+pub fn run_keeps_calm()
+    ensures { (old new : Book) (commands : List Command) (replies : List Reply) → IsSound old → IsCalm old
+        → Run old commands replies new → IsCalm new }
+{
+    step_keeps_soundness();
+    step_keeps_calm();
+}
+
+/// Each command leaves a sound book sound.
+pub fn step_keeps_soundness()
+    ensures { (old new : Book) (command : Command) (reply : Reply) → IsSound old → Step old command reply new
+        → IsSound new }
+{
+    own_step_keeps_soundness();
 }
 
 /// So does each list of commands.
@@ -72,7 +167,7 @@ pub fn total_moves_by_postings()
     ensures { (old new : Book) (command : Command) (reply : Reply) → IsSound old → Step old command reply new
         → total new ≡ total old +ℤ posted command reply }
 {
-    step_keeps_soundness();
+    own_step_keeps_soundness();
     total_is_issued();
 }
 
@@ -80,7 +175,10 @@ pub fn total_moves_by_postings()
 pub fn step_keeps_what_is_final()
     ensures { (old new : Book) (command : Command) (reply : Reply) → IsSound old → Step old command reply new
         → KeepsWhatIsFinal old new }
-{}
+{
+    own_step_keeps_soundness();
+    what_is_final_goes_through();
+}
 
 /// What stands up to a book in between, and from there on, stands from the first book to the last.
 pub fn what_is_final_goes_through()

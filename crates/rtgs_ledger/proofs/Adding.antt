@@ -12,7 +12,7 @@ use Rattle.rtgs_book.specs.declared.participant.Participant.{Participant}
 use Rattle.rtgs_book.specs.Lookup as lookup
 use Rattle.rtgs_book.specs.Outcome.{first_of}
 use Rattle.rtgs_book.specs.Commands.{add, with_participant, is_before}
-use Rattle.rtgs_book.specs.Step.{Step}
+use Rattle.rtgs_book.specs.Step.{OwnStep}
 use Rattle.std.specs.Ordering.{int_eq}
 use Rattle.rtgs_book.specs.declared.change.RowChange.TheVariants.{AddParticipant}
 use Rattle.rtgs_book.specs.declared.limits.TheConstants.{MOST_PARTICIPANTS}
@@ -30,29 +30,30 @@ use Rattle.rtgs_lists.proofs.Numbers.{int_eq_self}
 
 module _ (book : Book) (code name key : List ℕ) where
   pub repeats : (p : Participant) → lookup.participant_of book code ≡ Some p
-      → (bytes_eq p.name name && bytes_eq p.key key) ≡ true → Step book (Add code name key) (Ok (Repeated Nothing)) book
+      → (bytes_eq p.name name && bytes_eq p.key key) ≡ true
+      → OwnStep book (Add code name key) (Ok (Repeated Nothing)) book
   unfolding add first_of
   repeats p found same = rw (found, same) refl
 
   pub code_taken : (p : Participant) → lookup.participant_of book code ≡ Some p
-      → (bytes_eq p.name name && bytes_eq p.key key) ≡ false → Step book (Add code name key) (Err CodeTaken) book
+      → (bytes_eq p.name name && bytes_eq p.key key) ≡ false → OwnStep book (Add code name key) (Err CodeTaken) book
   unfolding add first_of
   code_taken p found other = rw (found, other) refl
 
   pub key_taken : lookup.participant_of book code ≡ None → list_any (λ (p : Participant). bytes_eq p.key key)
-      book.participants ≡ true → Step book (Add code name key) (Err KeyTaken) book
+      book.participants ≡ true → OwnStep book (Add code name key) (Err KeyTaken) book
   unfolding add first_of
   key_taken absent taken = rw (absent, taken) refl
 
   pub too_many : lookup.participant_of book code ≡ None → list_any (λ (p : Participant). bytes_eq p.key key)
       book.participants ≡ false → nat_le MOST_PARTICIPANTS (length book.participants) ≡ true
-      → Step book (Add code name key) (Err TooManyParticipants) book
+      → OwnStep book (Add code name key) (Err TooManyParticipants) book
   unfolding add first_of
   too_many absent free many = rw (absent, free, many) refl
 
   pub adds : lookup.participant_of book code ≡ None → list_any (λ (p : Participant). bytes_eq p.key key)
       book.participants ≡ false → nat_le MOST_PARTICIPANTS (length book.participants) ≡ false
-      → Step book (Add code name key) (Ok Added) (with_participant book
+      → OwnStep book (Add code name key) (Ok Added) (with_participant book
       (record { code = code; name = name; key = key; credit = 0 }))
   unfolding add first_of
   adds absent free few = rw (absent, free, few) refl

@@ -64,4 +64,5 @@ sound_alone xs of = record {
       (λ code. omega (arith, ints)) (accounts (book_of_participants (map participant_of xs)));
   total_fits = let none = nothing (map participant_of xs) (accounts (book_of_participants (map participant_of xs)))
       in omega (arith, ints, none);
+  choice_fits = λ _. refl;
 }

@@ -23,7 +23,7 @@ use Rattle.rtgs_book.specs.Commands.{close_day, overdrawn, is_date, is_on}
 use Rattle.rtgs_book.specs.Lookup.{accounts}
 use Rattle.rtgs_book.specs.Outcome.{first_of}
 use Rattle.rtgs_book.specs.Queue.{queue, queued_numbers}
-use Rattle.rtgs_book.specs.Step.{Step}
+use Rattle.rtgs_book.specs.Step.{OwnStep}
 use Rattle.rtgs_choices.specs.Closing.{closed_book, closing_rows}
 use Rattle.rtgs_choices.specs.Settling.{state_rows}
 use Rattle.rtgs_book.specs.declared.account.Account.{Account}
@@ -45,27 +45,28 @@ not_closed CutOff e = refl
 
 module _ (book : Book) (date : ℕ) (choice : Choice) (greatest : IsGreatest book choice) where
   pub repeats : (is_closed book.day.phase && is_date book.day.date date) ≡ true
-      → Step book (command.CloseDay date) (Ok (answer.Repeated Nothing)) book
+      → OwnStep book (command.CloseDay date) (Ok (answer.Repeated Nothing)) book
   unfolding close_day first_of
   repeats same = (choice, greatest, rw same refl)
 
   pub wrong_phase : (is_closed book.day.phase && is_date book.day.date date) ≡ false → is_cut_off book.day.phase ≡ false
-      → Step book (command.CloseDay date) (Err WrongPhase) book
+      → OwnStep book (command.CloseDay date) (Err WrongPhase) book
   unfolding close_day first_of
   wrong_phase new other = (choice, greatest, rw (new, other) refl)
 
   module _ (cut : is_cut_off book.day.phase ≡ true) where
-    pub wrong_date : is_on book date ≡ false → Step book (command.CloseDay date) (Err WrongDate) book
+    pub wrong_date : is_on book date ≡ false → OwnStep book (command.CloseDay date) (Err WrongDate) book
     unfolding close_day first_of
     wrong_date other = (choice, greatest, rw (not_closed book.day.phase cut, cut, other) refl)
 
     module _ (same : is_on book date ≡ true) where
-      pub resolvable : is_empty (chosen book choice) ≡ false → Step book (command.CloseDay date) (Err Resolvable) book
+      pub resolvable : is_empty (chosen book choice) ≡ false
+          → OwnStep book (command.CloseDay date) (Err Resolvable) book
       unfolding close_day first_of
       resolvable some = (choice, greatest, rw (not_closed book.day.phase cut, cut, same, some) refl)
 
       pub somebody_overdrawn : is_empty (chosen book choice) ≡ true → (code : List ℕ) (codes : List (List ℕ))
-          → overdrawn book ≡ code ∷ codes → Step book (command.CloseDay date)
+          → overdrawn book ≡ code ∷ codes → OwnStep book (command.CloseDay date)
           (Err (Overdrawn code (length (code ∷ codes)))) book
       unfolding close_day first_of
       somebody_overdrawn none code codes some = (
@@ -140,7 +141,7 @@ module _ (r : Whole) (kept : IsKept (held_of r)) where
   nobody_below none = below_zero ∙ ap (map code_of) (none_of_filter is_overdrawn r.accounts.accounts none)
 
   pub overdraws : (date : ℕ) → IsClosable (book_of r) date → (a : Account)
-      → find is_overdrawn r.accounts.accounts ≡ Some a → Step (book_of r) (command.CloseDay date)
+      → find is_overdrawn r.accounts.accounts ≡ Some a → OwnStep (book_of r) (command.CloseDay date)
       (Err (Overdrawn (code_of a) (length (filter is_overdrawn r.accounts.accounts)))) (book_of r)
   overdraws date at a found =
       let parts = first_of_filter is_overdrawn r.accounts.accounts a found in
@@ -148,7 +149,7 @@ module _ (r : Whole) (kept : IsKept (held_of r)) where
       let count : length (filter is_overdrawn r.accounts.accounts)
       ≡ length (code_of a ∷ map code_of parts.0) = sym (length-map (filter is_overdrawn r.accounts.accounts)
       code_of) ∙ ap (λ xs. length (map code_of xs)) parts.1 in
-      subst (λ n. Step (book_of r) (command.CloseDay date) (Err (Overdrawn (code_of a) n)) (book_of r)) (sym count)
+      subst (λ n. OwnStep (book_of r) (command.CloseDay date) (Err (Overdrawn (code_of a) n)) (book_of r)) (sym count)
       (somebody_overdrawn (book_of r) date at.choice at.greatest at.cut at.same at.none (code_of a)
       (map code_of parts.0) there)
 
@@ -184,10 +185,10 @@ module _ (held : Held) (kept : IsKept held) (law : ClosingMovesNothing) where
   accounts_stay =
       ap (λ (h : Held). h.accounts) (after-append held (state_rows Rejected
       (flat_map (queued_numbers held.content.orders) (accounts held.content)))
-      (SetDay (record held.content.day { phase = Closed }) ∷ []))
+      (SetDay (record held.content.day { phase = Closed; automatic = false }) ∷ []))
       ∙ accounts_after-states Rejected (flat_map (queued_numbers held.content.orders) (accounts held.content)) held
 
-  pub prepared_closing : (date : ℕ) → Step held.content (command.CloseDay date)
+  pub prepared_closing : (date : ℕ) → OwnStep held.content (command.CloseDay date)
       (Ok (answer.Closed (length (filter is_queued held.content.orders)))) (closed_book held.content)
       → Leads held.content (closing_rows held.content) (closed_book held.content)
       → AllByRecursion (StartsEmpty (closed_book held.content) (closing_rows held.content)) (closing_rows held.content)

@@ -1,8 +1,7 @@
 -- What setting a credit limit comes to, test by test, and its change.
-use Rattle.std.proofs.Common.{◌≡◌, ℕ, ℤ, pos, neg_ℤ, Bool, true, false, not, ◌&&◌, cond, if◌then◌else◌, List, [], ◌∷◌}
+use Rattle.std.proofs.Common.{◌≡◌, ℕ, pos, neg_ℤ, true, false, not, ◌&&◌, if◌then◌else◌, List, [], ◌∷◌}
 use Rattle.std.proofs.Common.{Ok, Err, Some, None, refl}
 use Rattle.std.specs.Prelude.{int_lt}
-use Rattle.std.specs.List.{AllByRecursion}
 use Rattle.std.specs.Ordering.{int_eq}
 use Rattle.rtgs_money.specs.Amounts.{IsCredit}
 use Rattle.rtgs_book.specs.declared.command.Command.TheVariants as command
@@ -16,43 +15,31 @@ use Rattle.rtgs_book.specs.Changes.{Leads, balance_set}
 use Rattle.rtgs_book.specs.Commands.{set_credit, with_credit}
 use Rattle.rtgs_book.specs.Lookup.{accounts, is_participant}
 use Rattle.rtgs_book.specs.Outcome.{first_of}
-use Rattle.rtgs_book.specs.Step.{Step}
-use Rattle.rtgs_book.specs.declared.account.Account.{Account}
-use Rattle.rtgs_accounts.specs.Accounts.{code_of, is_of, with_limit}
+use Rattle.rtgs_book.specs.Step.{OwnStep}
+use Rattle.rtgs_accounts.specs.Accounts.{with_limit}
 use Rattle.rtgs_ledger.proofs.Balances.{all_same}
 use Rattle.rtgs_ledger.proofs.Kept.{prepared_done}
+use Rattle.rtgs_ledger.proofs.Resolving.{balanced_limit}
 use Rattle.rtgs_ledger.proofs.Whole.{Held, IsKept, IsPrepared}
 use Rattle.rtgs_lists.proofs.Lists.{all_of}
 use Rattle.rtgs_lists.proofs.Numbers.{int_eq_self}
 
 module _ (book : Book) (code : List ℕ) (credit : ℕ) where
-  pub unknown : is_participant book code ≡ false → Step book (command.SetCredit code credit) (Err UnknownParticipant)
+  pub unknown : is_participant book code ≡ false → OwnStep book (command.SetCredit code credit) (Err UnknownParticipant)
       book
   unfolding set_credit first_of
   unknown e = rw e refl
 
   module _ (known : is_participant book code ≡ true) where
     pub no_cover : (not (is_closed book.day.phase) && int_lt (balance book code) (neg_ℤ (pos credit))) ≡ true
-        → Step book (command.SetCredit code credit) (Err NoCover) book
+        → OwnStep book (command.SetCredit code credit) (Err NoCover) book
     unfolding set_credit first_of
     no_cover past = rw (known, past) refl
 
     pub sets : (not (is_closed book.day.phase) && int_lt (balance book code) (neg_ℤ (pos credit))) ≡ false
-        → Step book (command.SetCredit code credit) (Ok CreditSet) (with_credit book code credit)
+        → OwnStep book (command.SetCredit code credit) (Ok CreditSet) (with_credit book code credit)
     unfolding set_credit first_of
     sets within = rw (known, within) refl
-
--- a limit moves no balance
-balanced_limit : (f : List ℕ → ℤ) (code : List ℕ) (credit : ℕ) (xs : List Account)
-    → AllByRecursion (λ a. a.balance ≡ f (code_of a)) xs → AllByRecursion (λ a. a.balance ≡ f (code_of a))
-    (with_limit code credit xs)
-balanced_limit f code credit [] h = tt
-balanced_limit f code credit (x ∷ xs) h = (by (is_of code x), balanced_limit f code credit xs h.1)
-  where
-    by : (b : Bool) → (cond b (record x { participant = record x.participant { credit = credit } }) x).balance
-        ≡ f (code_of (cond b (record x { participant = record x.participant { credit = credit } }) x))
-    by true = h.0
-    by false = h.0
 
 module _ (held : Held) (kept : IsKept held) (code : List ℕ) (credit : ℕ) where
   balance_same : (c : List ℕ) → balance held.content c ≡ balance (with_credit held.content code credit) c

@@ -16,7 +16,7 @@ use Rattle.rtgs_book.specs.Changes.{Leads, balance_set}
 use Rattle.rtgs_book.specs.Commands.{cut_off, with_day, is_date}
 use Rattle.rtgs_book.specs.Lookup.{accounts}
 use Rattle.rtgs_book.specs.Outcome.{first_of}
-use Rattle.rtgs_book.specs.Step.{Step}
+use Rattle.rtgs_book.specs.Step.{OwnStep}
 use Rattle.rtgs_ledger.proofs.Balances.{all_same}
 use Rattle.rtgs_ledger.proofs.Kept.{prepared_done}
 use Rattle.rtgs_ledger.proofs.Whole.{Held, IsKept, IsPrepared}
@@ -40,22 +40,22 @@ same_date day date e = by (day == date) e
 
 module _ (book : Book) (date : ℕ) where
   pub repeats : (is_cut_off book.day.phase && is_date book.day.date date) ≡ true
-      → Step book (command.CutOff date) (Ok (Repeated Nothing)) book
+      → OwnStep book (command.CutOff date) (Ok (Repeated Nothing)) book
   unfolding cut_off first_of
   repeats same = rw same refl
 
   module _ (new : (is_cut_off book.day.phase && is_date book.day.date date) ≡ false) where
-    pub wrong_phase : is_open book.day.phase ≡ false → Step book (command.CutOff date) (Err WrongPhase) book
+    pub wrong_phase : is_open book.day.phase ≡ false → OwnStep book (command.CutOff date) (Err WrongPhase) book
     unfolding cut_off first_of
     wrong_phase shut = rw (new, shut) refl
 
     pub wrong_date : is_open book.day.phase ≡ true → is_date book.day.date date ≡ false
-        → Step book (command.CutOff date) (Err WrongDate) book
+        → OwnStep book (command.CutOff date) (Err WrongDate) book
     unfolding cut_off first_of
     wrong_date opened other = rw (new, opened, other) refl
 
     pub cuts_off : is_open book.day.phase ≡ true → is_date book.day.date date ≡ true
-        → Step book (command.CutOff date) (Ok CutOffDone) (with_day book (record book.day { phase = CutOff }))
+        → OwnStep book (command.CutOff date) (Ok CutOffDone) (with_day book (record book.day { phase = CutOff }))
     unfolding cut_off first_of
     cuts_off opened same = rw (new, opened, same) refl
 

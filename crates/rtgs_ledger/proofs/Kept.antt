@@ -21,7 +21,7 @@ use Rattle.rtgs_book.specs.Changes.{Leads, StartsEmpty, balance_set, SetsBalance
 use Rattle.rtgs_book.specs.IntSum.{int_sum_by}
 use Rattle.rtgs_book.specs.Lookup as lookup
 use Rattle.rtgs_book.specs.Lookup.{has_code, accounts, is_participant, credit_of}
-use Rattle.rtgs_book.specs.Step.{Step}
+use Rattle.rtgs_book.specs.Step.{OwnStep}
 use Rattle.rtgs_book.specs.declared.account.Account.{Account}
 use Rattle.rtgs_book.specs.declared.limits.TheConstants.{LARGEST_BALANCE}
 use Rattle.rtgs_accounts.specs.Accounts.{code_of, participant_of, balance_of, is_of, has_key}
@@ -127,7 +127,7 @@ no_balance_set book = all_of (λ code. balance_set code [] ≡ (if int_eq (balan
     else Some (balance book code))) (λ code. rw (int_eq_self (balance book code)) refl) (accounts book)
 
 pub prepared_repeat : (held : Held) (c : Command) (k : Known) → IsKept held
-    → Step held.content c (Ok (Repeated k)) held.content → IsPrepared held c (Repeated k) []
+    → OwnStep held.content c (Ok (Repeated k)) held.content → IsPrepared held c (Repeated k) []
 prepared_repeat held c k kept step = record {
   book = held.content;
   step = step;
@@ -182,7 +182,7 @@ module _ (r : Whole) (kept : IsKept (held_of r)) where
 
 -- a command that was not done before, and rows that lead on
 pub prepared_done : (held : Held) (c : Command) (a : Answer) (rows : List RowChange) (book : Book)
-    → CommandFits c → Step held.content c (Ok a) book
+    → CommandFits c → OwnStep held.content c (Ok a) book
     → Leads held.content rows book → AllByRecursion (StartsEmpty book rows) rows
     → AreBalanced book (after held rows).accounts → ((k : Known) → a ≡ Repeated k → ⊥)
     → (a ≡ Nothing → ⊥) → IsPrepared held c a rows

@@ -6,6 +6,7 @@ pub mod Crediting
 pub mod CuttingOff
 pub mod Kept
 pub mod Entering
+pub mod Following
 pub mod Keys
 pub mod Loading
 pub mod Opening

@@ -44,7 +44,7 @@ use Rattle.rtgs_queues.specs.Orders.{numbers_among}
 use Rattle.rtgs_lists.proofs.Bools.{and_true}
 use Rattle.rtgs_book.specs.Settle.{restated, settle, mark_of, next_mark, today}
 use Rattle.rtgs_book.specs.Soundness.{OrdersAreNumbered}
-use Rattle.rtgs_book.specs.Step.{Step}
+use Rattle.rtgs_book.specs.Step.{OwnStep}
 use Rattle.rtgs_book.specs.declared.account.Account.{Account}
 use Rattle.rtgs_book.specs.declared.limits.TheConstants.{LONGEST_QUEUE, LARGEST_NUMBER}
 use Rattle.rtgs_accounts.specs.Accounts.{code_of, is_of, with_balance}
@@ -65,14 +65,14 @@ too_early_is book None b e = e
 too_early_is book (Some due) b e = e
 
 module _ (book : Book) (sender reference receiver : List ℕ) (amount : ℕ) (due : Option ℕ) where
-  pub unknown : is_participant book sender ≡ false → Step book (command.Order sender reference receiver amount due)
+  pub unknown : is_participant book sender ≡ false → OwnStep book (command.Order sender reference receiver amount due)
       (Err UnknownParticipant) book
   unfolding order first_of
   unknown e = rw e refl
 
   pub repeats : is_participant book sender ≡ true → (o : Order) → order_named book sender reference ≡ Some o
       → (bytes_eq o.receiver receiver && (o.amount == amount) && is_same_due o.due due) ≡ true
-      → Step book (command.Order sender reference receiver amount due) (Ok (answer.Repeated (known.Order o.number
+      → OwnStep book (command.Order sender reference receiver amount due) (Ok (answer.Repeated (known.Order o.number
       o.state)))
       book
   unfolding order first_of
@@ -80,24 +80,24 @@ module _ (book : Book) (sender reference receiver : List ℕ) (amount : ℕ) (du
 
   pub reference_used : is_participant book sender ≡ true → (o : Order) → order_named book sender reference ≡ Some o
       → (bytes_eq o.receiver receiver && (o.amount == amount) && is_same_due o.due due) ≡ false
-      → Step book (command.Order sender reference receiver amount due) (Err ReferenceUsed) book
+      → OwnStep book (command.Order sender reference receiver amount due) (Err ReferenceUsed) book
   unfolding order first_of
   reference_used e o found other = rw (e, found, other) refl
 
   module _ (known : is_participant book sender ≡ true) (unused : order_named book sender reference ≡ None) where
-    pub not_open : is_open book.day.phase ≡ false → Step book (command.Order sender reference receiver amount due)
+    pub not_open : is_open book.day.phase ≡ false → OwnStep book (command.Order sender reference receiver amount due)
         (Err NotOpen) book
     unfolding order first_of
     not_open shut = rw (known, unused, shut) refl
 
     module _ (opened : is_open book.day.phase ≡ true) where
       pub unknown_receiver : is_participant book receiver ≡ false
-          → Step book (command.Order sender reference receiver amount due) (Err UnknownReceiver) book
+          → OwnStep book (command.Order sender reference receiver amount due) (Err UnknownReceiver) book
       unfolding order first_of
       unknown_receiver e = rw (known, unused, opened, e) refl
 
       module _ (there : is_participant book receiver ≡ true) where
-        pub same_party : bytes_eq sender receiver ≡ true → Step book (command.Order sender reference receiver amount
+        pub same_party : bytes_eq sender receiver ≡ true → OwnStep book (command.Order sender reference receiver amount
             due)
             (Err SameParty) book
         unfolding order first_of
@@ -105,7 +105,7 @@ module _ (book : Book) (sender reference receiver : List ℕ) (amount : ℕ) (du
 
         module _ (apart : bytes_eq sender receiver ≡ false) where
           pub due_refused : (refusal : Refusal) → IsDueRefused book.day.date due refusal
-              → Step book (command.Order sender reference receiver amount due) (Err refusal) book
+              → OwnStep book (command.Order sender reference receiver amount due) (Err refusal) book
               × (is_judged (Err refusal) ≡ true)
           unfolding order first_of
           due_refused refusal (inl early) =
@@ -118,14 +118,14 @@ module _ (book : Book) (sender reference receiver : List ℕ) (amount : ℕ) (du
           module _ (later : is_due_too_early book due ≡ false) where
             module _ (working : is_due_on_a_weekend due ≡ false) where
               pub numbers_used_up : nat_le LARGEST_NUMBER (length book.orders) ≡ true
-                  → Step book (command.Order sender reference receiver amount due) (Err NumbersUsedUp) book
+                  → OwnStep book (command.Order sender reference receiver amount due) (Err NumbersUsedUp) book
               unfolding order first_of
               numbers_used_up many = rw (known, unused, opened, there, apart, later, working, many) refl
 
               pub queue_full : nat_le LARGEST_NUMBER (length book.orders) ≡ false
                   → settles_now book sender amount due ≡ false
                   → nat_le LONGEST_QUEUE (length (waiting book sender)) ≡ true
-                  → Step book (command.Order sender reference receiver amount due) (Err QueueFull) book
+                  → OwnStep book (command.Order sender reference receiver amount due) (Err QueueFull) book
               unfolding order first_of
               queue_full few waits full =
                   rw (known, unused, opened, there, apart, later, working, few, waits, full) refl
@@ -363,21 +363,21 @@ module _ (held : Held) (kept : IsKept held) (o : Order) (taken : IsTaken held.co
       (length-append (filter (λ x. is_queued x && bytes_eq x.sender o.sender) held.content.orders) (o ∷ []))
 
   step_queued : o.due ≡ None → settles_at_once held.content o.sender o.amount ≡ false
-      → Step held.content (command.Order o.sender o.reference o.receiver o.amount o.due)
+      → OwnStep held.content (command.Order o.sender o.reference o.receiver o.amount o.due)
       (Ok (answer.Queued o.number (length (queue held.content o.sender) + 1))) (with_order held.content o)
   unfolding takes
   step_queued direct waits = sym (taken.taken ∙ ap (takes_due held.content o) direct
       ∙ rw (waits, queued_place direct) refl)
 
   step_settled : o.due ≡ None → settles_at_once held.content o.sender o.amount ≡ true
-      → Step held.content (command.Order o.sender o.reference o.receiver o.amount o.due)
+      → OwnStep held.content (command.Order o.sender o.reference o.receiver o.amount o.due)
       (Ok (answer.Settled o.number (next_mark held.content))) (with_settled held.content o)
   unfolding takes
   step_settled direct settles = sym (taken.taken ∙ ap (takes_due held.content o) direct
       ∙ rw (settles, settle_new held.content (let s = kept.sound in s.orders_numbered) o number) refl)
 
   step_held : (due : ℕ) → o.due ≡ Some due
-      → Step held.content (command.Order o.sender o.reference o.receiver o.amount o.due)
+      → OwnStep held.content (command.Order o.sender o.reference o.receiver o.amount o.due)
       (Ok (answer.Held o.number due)) (with_order held.content o)
   step_held due later = sym (taken.taken ∙ ap (takes_due held.content o) later)
 

@@ -17,7 +17,7 @@ use Rattle.rtgs_book.specs.Balance.{balance, floor, total}
 use Rattle.rtgs_book.specs.Lookup.{is_participant, posting_named, accounts}
 use Rattle.rtgs_book.specs.Outcome.{first_of}
 use Rattle.rtgs_book.specs.Commands.{post}
-use Rattle.rtgs_book.specs.Step.{Step}
+use Rattle.rtgs_book.specs.Step.{OwnStep}
 use Rattle.rtgs_money.specs.Amounts.{IsPostingAmount}
 use Rattle.rtgs_book.specs.declared.change.RowChange.TheVariants.{AddPosting, SetBalance}
 use Rattle.rtgs_book.specs.Changes.{Leads, balance_set}
@@ -44,46 +44,46 @@ abbrev pub with_posting : Book → Posting → Book
 with_posting book posting = record book { postings = book.postings ++ posting ∷ [] }
 
 module _ (book : Book) (code reference : List ℕ) (cents : ℤ) where
-  pub unknown : is_participant book code ≡ false → Step book (command.Post code reference cents)
+  pub unknown : is_participant book code ≡ false → OwnStep book (command.Post code reference cents)
       (Err UnknownParticipant) book
   unfolding post first_of
   unknown e = rw e refl
 
   pub repeats : is_participant book code ≡ true → (p : Posting) → posting_named book reference ≡ Some p
       → (bytes_eq p.code code && int_eq p.cents cents) ≡ true
-      → Step book (command.Post code reference cents) (Ok (Repeated (known.Posting p.number))) book
+      → OwnStep book (command.Post code reference cents) (Ok (Repeated (known.Posting p.number))) book
   unfolding post first_of
   repeats e p found same = rw (e, found, same) refl
 
   pub reference_used : is_participant book code ≡ true → (p : Posting) → posting_named book reference ≡ Some p
       → (bytes_eq p.code code && int_eq p.cents cents) ≡ false
-      → Step book (command.Post code reference cents) (Err ReferenceUsed) book
+      → OwnStep book (command.Post code reference cents) (Err ReferenceUsed) book
   unfolding post first_of
   reference_used e p found other = rw (e, found, other) refl
 
   module _ (known : is_participant book code ≡ true) (absent : posting_named book reference ≡ None) where
     pub numbers_used_up : nat_le LARGEST_NUMBER (length book.postings) ≡ true
-        → Step book (command.Post code reference cents) (Err NumbersUsedUp) book
+        → OwnStep book (command.Post code reference cents) (Err NumbersUsedUp) book
     unfolding post first_of
     numbers_used_up many = rw (known, absent, many) refl
 
     pub total_too_large : nat_le LARGEST_NUMBER (length book.postings) ≡ false
         → (int_lt (pos 0) cents && int_lt (pos LARGEST_TOTAL) (total book +ℤ cents)) ≡ true
-        → Step book (command.Post code reference cents) (Err TotalTooLarge) book
+        → OwnStep book (command.Post code reference cents) (Err TotalTooLarge) book
     unfolding post first_of
     total_too_large few large = rw (known, absent, few, large) refl
 
     pub no_cover : nat_le LARGEST_NUMBER (length book.postings) ≡ false
         → (int_lt (pos 0) cents && int_lt (pos LARGEST_TOTAL) (total book +ℤ cents)) ≡ false
         → (int_lt cents (pos 0) && int_lt (balance book code +ℤ cents) (floor book code)) ≡ true
-        → Step book (command.Post code reference cents) (Err NoCover) book
+        → OwnStep book (command.Post code reference cents) (Err NoCover) book
     unfolding post first_of
     no_cover few small short = rw (known, absent, few, small, short) refl
 
     pub posts : nat_le LARGEST_NUMBER (length book.postings) ≡ false
         → (int_lt (pos 0) cents && int_lt (pos LARGEST_TOTAL) (total book +ℤ cents)) ≡ false
         → (int_lt cents (pos 0) && int_lt (balance book code +ℤ cents) (floor book code)) ≡ false
-        → Step book (command.Post code reference cents) (Ok (Posted (length book.postings + 1)))
+        → OwnStep book (command.Post code reference cents) (Ok (Posted (length book.postings + 1)))
         (with_posting book (next_posting book code reference cents))
     unfolding post first_of
     posts few small covered = rw (known, absent, few, small, covered) refl

@@ -29,11 +29,11 @@ use Rattle.rtgs_book.specs.Lookup.{accounts}
 use Rattle.rtgs_book.specs.Outcome.{first_of}
 use Rattle.rtgs_book.specs.Settle.{restated, settle, mark_of, next_mark}
 use Rattle.rtgs_book.specs.Soundness.{IsSound}
-use Rattle.rtgs_book.specs.Step.{Step}
+use Rattle.rtgs_book.specs.Step.{OwnStep}
 use Rattle.rtgs_choices.specs.Settling.{orders_taken, numbers_taken, state_rows, IsOfBalance, moves, balance_rows}
 use Rattle.rtgs_choices.specs.Settling.{settling_rows}
 use Rattle.rtgs_book.specs.declared.account.Account.{Account}
-use Rattle.rtgs_accounts.specs.Accounts.{code_of, participant_of, is_of, with_balance}
+use Rattle.rtgs_accounts.specs.Accounts.{code_of, participant_of, is_of, with_balance, with_limit}
 use Rattle.rtgs_ledger.specs.Resolving.{AreGreatest, after_orders, moved_rows}
 use Rattle.rtgs_ledger.proofs.Balances.{moved, all_moved}
 use Rattle.rtgs_ledger.proofs.Kept.{codes-participants, no_balance_set}
@@ -44,11 +44,32 @@ use Rattle.rtgs_lists.proofs.Numbers.{same_from_int_eq}
 
 -- ---- the balances that rows leave
 
--- the row leaves participants as they are
+-- the row leaves the codes of participants as they are
 abbrev pub LeavesParticipants : RowChange → Type 0
 LeavesParticipants (AddParticipant participant) = ⊥
-LeavesParticipants (SetCredit code credit) = ⊥
 LeavesParticipants row = ⊤
+
+-- a limit moves no balance
+pub balanced_limit : (f : List ℕ → ℤ) (code : List ℕ) (credit : ℕ) (xs : List Account)
+    → AllByRecursion (λ a. a.balance ≡ f (code_of a)) xs → AllByRecursion (λ a. a.balance ≡ f (code_of a))
+    (with_limit code credit xs)
+balanced_limit f code credit [] h = tt
+balanced_limit f code credit (x ∷ xs) h = (by (is_of code x), balanced_limit f code credit xs h.1)
+  where
+    by : (b : Bool) → (cond b (record x { participant = record x.participant { credit = credit } }) x).balance
+        ≡ f (code_of (cond b (record x { participant = record x.participant { credit = credit } }) x))
+    by true = h.0
+    by false = h.0
+
+limited_codes : (code : List ℕ) (credit : ℕ) (xs : List Account) → map code_of (with_limit code credit xs)
+    ≡ map code_of xs
+limited_codes code credit [] = refl
+limited_codes code credit (x ∷ xs) = λ i. by (is_of code x) i ∷ limited_codes code credit xs i
+  where
+    by : (t : Bool) → code_of (cond t (record x { participant = record x.participant { credit = credit } }) x)
+        ≡ code_of x
+    by true = refl
+    by false = refl
 
 set_here : (b old : ℤ) (o : Option ℤ) (t : Bool) → unwrap_or o (if t then b else old)
     ≡ unwrap_or (or_else o (if t then Some b else None)) old
@@ -69,7 +90,8 @@ all_set (SetBalance code b ∷ rows) held f h e =
     (after held (SetBalance code b ∷ rows)).accounts
     (all_set rows (after_row held (SetBalance code b)) (moved code b f) h.1 (all_moved code b f held.accounts e))
 all_set (AddParticipant participant ∷ rows) held f h e = absurd h.0
-all_set (SetCredit code credit ∷ rows) held f h e = absurd h.0
+all_set (SetCredit code credit ∷ rows) held f h e = all_set rows (after_row held (SetCredit code credit)) f h.1
+    (balanced_limit f code credit held.accounts e)
 all_set (AddPosting posting ∷ rows) held f h e = all_set rows (after_row held (AddPosting posting)) f h.1 e
 all_set (AddOrder order ∷ rows) held f h e = all_set rows (after_row held (AddOrder order)) f h.1 e
 all_set (AddMark mark ∷ rows) held f h e = all_set rows (after_row held (AddMark mark)) f h.1 e
@@ -91,7 +113,8 @@ codes_stay [] held h = refl
 codes_stay (SetBalance code b ∷ rows) held h = codes_stay rows (after_row held (SetBalance code b)) h.1
     ∙ same_codes code b held.accounts
 codes_stay (AddParticipant participant ∷ rows) held h = absurd h.0
-codes_stay (SetCredit code credit ∷ rows) held h = absurd h.0
+codes_stay (SetCredit code credit ∷ rows) held h = codes_stay rows (after_row held (SetCredit code credit)) h.1
+    ∙ limited_codes code credit held.accounts
 codes_stay (AddPosting posting ∷ rows) held h = codes_stay rows (after_row held (AddPosting posting)) h.1
 codes_stay (AddOrder order ∷ rows) held h = codes_stay rows (after_row held (AddOrder order)) h.1
 codes_stay (AddMark mark ∷ rows) held h = codes_stay rows (after_row held (AddMark mark)) h.1
@@ -235,12 +258,12 @@ module _ (r : Whole) (kept : IsKept (held_of r)) where
   date_now date e = dated_so (is_closed r.day.phase) r.day.date date e
 
 module _ (book : Book) (choice : Choice) (greatest : IsGreatest book choice) where
-  pub wrong_phase : is_closed book.day.phase ≡ true → Step book Resolve (Err WrongPhase) book
+  pub wrong_phase : is_closed book.day.phase ≡ true → OwnStep book Resolve (Err WrongPhase) book
   unfolding resolve first_of
   wrong_phase closed = (choice, greatest, rw closed refl)
 
   pub nothing : is_closed book.day.phase ≡ false → is_empty (chosen book choice) ≡ true
-      → Step book Resolve (Ok answer.Nothing) book
+      → OwnStep book Resolve (Ok answer.Nothing) book
   unfolding resolve first_of
   nothing opened none = (choice, greatest, rw (opened, none) refl)
 
@@ -271,6 +294,15 @@ pub none_chosen : Count → Numbers → (book : Book) (orders : List Order) (g :
     → length orders ≡ 0 → is_empty (chosen book g.choice) ≡ true
 none_chosen count numbers book orders g sound none = no_elements (chosen book g.choice)
     (sym (as_many count numbers book orders g sound) ∙ none)
+
+empty_length : {X : Type 0} (xs : List X) → is_empty xs ≡ true → length xs ≡ 0
+empty_length [] e = refl
+empty_length (x ∷ xs) e = absurd (true≢false (sym e))
+
+pub none_taken : Count → Numbers → (book : Book) (orders : List Order) (g : AreGreatest book orders) → IsSound book
+    → is_empty (chosen book g.choice) ≡ true → length orders ≡ 0
+none_taken count numbers book orders g sound none =
+    as_many count numbers book orders g sound ∙ empty_length (chosen book g.choice) none
 
 pub some_chosen : Count → Numbers → (book : Book) (orders : List Order) (g : AreGreatest book orders) → IsSound book
     → 1 ≤ length orders → is_empty (chosen book g.choice) ≡ false
@@ -310,7 +342,7 @@ module _ (held : Held) (kept : IsKept held) (orders : List Order) (g : AreGreate
       → int_sum_by (gain code) (orders_taken book choice) ≡ int_sum_by (gain code) (chosen book choice))
       (steps : (book : Book) (choice : Choice) (mark : Mark) → IsSound book → IsGreatest book choice
       → is_empty (chosen book choice) ≡ false → mark ≡ mark_of book (chosen book choice)
-      → Step book Resolve (Ok (answer.Resolved mark.number mark.count mark.value))
+      → OwnStep book Resolve (Ok (answer.Resolved mark.number mark.count mark.value))
       (settle book (is_chosen book choice)))
       (leading : (book : Book) (choice : Choice) (mark : Mark) → IsSound book → is_empty (chosen book choice) ≡ false
       → mark ≡ mark_of book (chosen book choice)

@@ -65,7 +65,8 @@ apart_from x xs (y ∷ ys) less h = (
 )
 
 -- each account is found by its code
-all_found : (xs : List Account) → CodesRiseStrictly xs → AllByRecursion (λ a. find (is_of (code_of a)) xs ≡ Some a) xs
+pub all_found : (xs : List Account) → CodesRiseStrictly xs
+    → AllByRecursion (λ a. find (is_of (code_of a)) xs ≡ Some a) xs
 unfolding IsStrictlySortedBy
 all_found [] rise = tt
 all_found (x ∷ xs) rise = (

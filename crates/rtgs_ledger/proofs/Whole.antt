@@ -24,7 +24,7 @@ use Rattle.rtgs_book.specs.Changes.{Leads, StartsEmpty, with_row}
 use Rattle.rtgs_book.specs.Laws.{CommandFits}
 use Rattle.rtgs_book.specs.Ranges.{Fits}
 use Rattle.rtgs_book.specs.Soundness.{IsSound}
-use Rattle.rtgs_book.specs.Step.{Step}
+use Rattle.rtgs_book.specs.Step.{OwnStep}
 use Rattle.rtgs_cores.specs.declared.Core.{Core}
 use Rattle.rtgs_cores.specs.Cores.{account_of, core_of, IsCoreOf}
 use Rattle.rtgs_cores.specs.Following.{AreBalanced, core_after_row, core_after}
@@ -61,7 +61,7 @@ pub record IsKept (held : Held) : Type 0 where
 
 pub record IsPrepared (held : Held) (command : Command) (answer : Answer) (rows : List RowChange) : Type 0 where
   pub book : Book
-  pub step : Step held.content command (Ok answer) book
+  pub step : OwnStep held.content command (Ok answer) book
   pub leads : Leads held.content rows book
   pub added : AllByRecursion (StartsEmpty book rows) rows
   pub in_range : rows ≢ [] → CommandFits command
@@ -70,7 +70,7 @@ pub record IsPrepared (held : Held) (command : Command) (answer : Answer) (rows 
   pub nothing : answer ≡ Nothing → rows ≡ []
 
 -- the accounts of a core go the same way
-same_accounts : (held : Held) (core : Core) (rows : List RowChange) → held.accounts ≡ core.accounts
+pub same_accounts : (held : Held) (core : Core) (rows : List RowChange) → held.accounts ≡ core.accounts
     → (after held rows).accounts ≡ (core_after core rows).accounts
 same_accounts held core [] e = e
 same_accounts held core (row ∷ rows) e = same_accounts (after_row held row) (core_after_row core row) rows (one row)
@@ -164,16 +164,16 @@ is_of_book book r held view is =
     }
 
 module _ (book : Book) (r : Records) (core : Core) (of : IsOf book r core) where
-  pub to_refused : (command : Command) (refusal : Refusal) → kept.IsCommandRefused (book_of (whole book r)) command
+  pub to_refused : (command : Command) (refusal : Refusal) → kept.IsRefusedByItself (book_of (whole book r)) command
       refusal
-      → kept.IsCommandRefused book command refusal
-  to_refused command refusal refused = subst (λ b. kept.IsCommandRefused b command refusal) of.same refused
+      → kept.IsRefusedByItself book command refusal
+  to_refused command refusal refused = subst (λ b. kept.IsRefusedByItself b command refusal) of.same refused
 
   pub to_prepared : (command : Command) (answer : Answer) (rows : List RowChange)
-      → IsPrepared (held_of (whole book r)) command answer rows → kept.IsPrepared book core command answer rows
+      → IsPrepared (held_of (whole book r)) command answer rows → kept.IsPreparedByItself book core command answer rows
   to_prepared command answer rows p = record {
     book = p.book;
-    step = subst (λ b. Step b command (Ok answer) p.book) of.same p.step;
+    step = subst (λ b. OwnStep b command (Ok answer) p.book) of.same p.step;
     leads = subst (λ b. Leads b rows p.book) of.same p.leads;
     added = p.added;
     in_range = p.in_range;

@@ -21,7 +21,7 @@ use Rattle.rtgs_book.specs.Commands.{withdraw, with_state, has_number}
 use Rattle.rtgs_book.specs.Lookup.{accounts, is_participant, order_named, is_order_named}
 use Rattle.rtgs_book.specs.Outcome.{first_of}
 use Rattle.rtgs_book.specs.Soundness.{OrdersAreNumbered}
-use Rattle.rtgs_book.specs.Step.{Step}
+use Rattle.rtgs_book.specs.Step.{OwnStep}
 use Rattle.rtgs_ledger.proofs.Balances.{all_same}
 use Rattle.rtgs_ledger.proofs.Kept.{prepared_done}
 use Rattle.rtgs_queues.specs.Laws.{NumbersLeadToOrders}
@@ -31,30 +31,30 @@ use Rattle.rtgs_lists.proofs.Finds.{all_found}
 use Rattle.rtgs_lists.proofs.Numbers.{int_eq_self}
 
 module _ (book : Book) (sender reference : List ℕ) where
-  pub unknown : is_participant book sender ≡ false → Step book (command.Withdraw sender reference)
+  pub unknown : is_participant book sender ≡ false → OwnStep book (command.Withdraw sender reference)
       (Err UnknownParticipant) book
   unfolding withdraw first_of
   unknown e = rw e refl
 
   module _ (there : is_participant book sender ≡ true) where
     pub unknown_order : order_named book sender reference ≡ None
-        → Step book (command.Withdraw sender reference) (Err UnknownOrder) book
+        → OwnStep book (command.Withdraw sender reference) (Err UnknownOrder) book
     unfolding withdraw first_of
     unknown_order absent = rw (there, absent) refl
 
     module _ (o : Order) (found : order_named book sender reference ≡ Some o) where
-      pub repeats : is_withdrawn_state o.state ≡ true → Step book (command.Withdraw sender reference)
+      pub repeats : is_withdrawn_state o.state ≡ true → OwnStep book (command.Withdraw sender reference)
           (Ok (answer.Repeated (known.Order o.number o.state))) book
       unfolding withdraw first_of
       repeats back = rw (there, found, back) refl
 
       pub not_queued : is_withdrawn_state o.state ≡ false → is_waiting_state o.state ≡ false
-          → Step book (command.Withdraw sender reference) (Err NotQueued) book
+          → OwnStep book (command.Withdraw sender reference) (Err NotQueued) book
       unfolding withdraw first_of
       not_queued not_back done = rw (there, found, not_back, done) refl
 
       pub withdraws : is_withdrawn_state o.state ≡ false → is_waiting_state o.state ≡ true
-          → Step book (command.Withdraw sender reference) (Ok (answer.Withdrawn o.number))
+          → OwnStep book (command.Withdraw sender reference) (Ok (answer.Withdrawn o.number))
           (with_state book (has_number o.number) Withdrawn)
       unfolding withdraw first_of
       withdraws not_back waits = rw (there, found, not_back, waits) refl

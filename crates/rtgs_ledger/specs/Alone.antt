@@ -1,5 +1,5 @@
 -- Participants without records.
-use Rattle.std.specs.Prelude.{List, [], None}
+use Rattle.std.specs.Prelude.{false, List, [], None}
 use Rattle.rtgs_book.specs.declared.Book.{Book}
 use Rattle.rtgs_book.specs.declared.Participant.{Participant}
 use Rattle.rtgs_book.specs.declared.Phase.TheVariants.{Closed}
@@ -11,5 +11,5 @@ book_of_participants participants = record {
   postings = [];
   orders = [];
   marks = [];
-  day = record { date = None; phase = Closed };
+  day = record { date = None; phase = Closed; automatic = false };
 }

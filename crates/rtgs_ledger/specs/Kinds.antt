@@ -1,5 +1,5 @@
 -- Which answers and refusals a command can have, and which answers change nothing.
-use Rattle.std.specs.Prelude.{◌≡◌, Bool, true, false, List, [], ⊤}
+use Rattle.std.specs.Prelude.{◌≡◌, Bool, true, false, ◌&&◌, List, [], Ok, is_some, ⊤}
 use Rattle.rtgs_book.specs.declared.Answer.{Answer}
 use Rattle.rtgs_book.specs.declared.Answer.TheVariants as answer
 use Rattle.rtgs_book.specs.declared.Command.{Command}
@@ -8,6 +8,9 @@ use Rattle.rtgs_book.specs.declared.Known.TheVariants as known
 use Rattle.rtgs_book.specs.declared.Refusal.{Refusal}
 use Rattle.rtgs_book.specs.declared.Refusal.TheVariants.{StoreFault, Failed}
 use Rattle.rtgs_book.specs.declared.RowChange.{RowChange}
+use Rattle.rtgs_book.specs.declared.WholeAnswer.{WholeAnswer}
+use Rattle.rtgs_book.specs.Outcome.{is_done}
+use Rattle.rtgs_book.specs.Step.{may_free}
 
 -- an order can have this answer
 abbrev pub answers_an_order : Answer → Bool
@@ -27,8 +30,8 @@ answers_its_kind (command.Post code reference cents) (answer.Posted number) = tr
 answers_its_kind (command.Post code reference cents) (answer.Repeated (known.Posting number)) = true
 answers_its_kind (command.Withdraw sender reference) (answer.Withdrawn number) = true
 answers_its_kind (command.Withdraw sender reference) (answer.Repeated (known.Order number state)) = true
-answers_its_kind (command.OpenDay date) answer.Opened = true
-answers_its_kind (command.OpenDay date) (answer.Repeated known.Nothing) = true
+answers_its_kind (command.OpenDay date automatic) answer.Opened = true
+answers_its_kind (command.OpenDay date automatic) (answer.Repeated known.Nothing) = true
 answers_its_kind command.Resolve (answer.Resolved mark count value) = true
 answers_its_kind command.Resolve answer.Nothing = true
 answers_its_kind (command.CutOff date) answer.CutOffDone = true
@@ -43,9 +46,19 @@ IsQuiet (answer.Repeated known) rows = rows ≡ []
 IsQuiet answer.Nothing rows = rows ≡ []
 IsQuiet other rows = ⊤
 
--- the command can have this answer, with this change
-abbrev pub CanAnswer : Command → Answer → List RowChange → Type 0
-CanAnswer command given rows = (answers_its_kind command given ≡ true) × IsQuiet given rows
+-- the command by itself can have this answer, with this change
+abbrev pub CanAnswerByItself : Command → Answer → List RowChange → Type 0
+CanAnswerByItself command given rows = (answers_its_kind command given ≡ true) × IsQuiet given rows
+
+-- The whole step can have this answer: its own is one of the command's kind, and something is resolved only after a
+-- command that may free orders, and that acted.
+abbrev pub IsOfItsKind : Command → WholeAnswer → Type 0
+IsOfItsKind command given = (answers_its_kind command given.own ≡ true)
+    × (is_some given.auto ≡ true → (may_free command && is_done (Ok given.own)) ≡ true)
+
+-- so it can, with this change
+abbrev pub CanAnswer : Command → WholeAnswer → List RowChange → Type 0
+CanAnswer command given rows = IsOfItsKind command given × IsQuiet given.own rows
 
 -- a refusal that tells of a store, and of no command
 abbrev pub is_of_the_store : Refusal → Bool

@@ -1,6 +1,7 @@
 pub mod Alone
 pub mod Choosing
 pub mod Closing
+pub mod Following
 pub mod Keys
 pub mod Kept
 pub mod Kinds

@@ -1,17 +1,21 @@
 //! The ledger.
-ghost use Rattle.std.specs.Prelude.{◌≡◌, [], IfOk, IfErr, false};
+ghost use Rattle.std.specs.Prelude.{◌≡◌, ◌⊎◌, [], IfOk, IfErr, true, false};
 ghost use Rattle.rtgs_book.specs.declared.book.Book.{Book};
+ghost use Rattle.rtgs_book.specs.Calm.{IsCalm};
+ghost use Rattle.rtgs_book.specs.Step.{may_free};
 ghost use Rattle.rtgs_cores.specs.Cores.{IsCoreOf, found_for};
 ghost use Rattle.rtgs_cores.specs.Following.{core_after};
 ghost use Rattle.rtgs_records.specs.Held.{HasRoom};
-ghost use Rattle.rtgs_ledger.specs.Kept.{IsPrepared, IsCommandRefused};
-ghost use Rattle.rtgs_ledger.specs.Kinds.{CanAnswer, is_of_the_store};
+ghost use Rattle.rtgs_ledger.specs.Following.{FreesOrders};
+ghost use Rattle.rtgs_ledger.specs.Kept.{IsPrepared, IsPreparedByItself, IsCommandRefused, IsRefusedByItself};
+ghost use Rattle.rtgs_ledger.specs.Kinds.{CanAnswer, CanAnswerByItself, is_of_the_store};
 
 mod adding;
 mod choosing;
 mod closing;
 mod crediting;
 mod cutting_off;
+mod following;
 mod opening;
 mod ordering;
 mod posting;
@@ -20,7 +24,7 @@ mod resolving;
 mod withdrawing;
 
 use rtgs_accounts::Accounts;
-use rtgs_book::{Answer, Change, Command, Known, Refusal, Rows};
+use rtgs_book::{Answer, Change, Command, Fault, Known, Refusal, Rows, Rule, WholeAnswer};
 use rtgs_cores::{Core, Found};
 use rtgs_queues::Orders;
 use rtgs_queues::laws::waiting_orders_can_be_loaded;
@@ -49,8 +53,27 @@ impl Model for Ledger {
 }
 
 impl Ledger {
-    /// The ledger of a book with this core. The only error is lack of memory.
-    pub fn load(alloc: Global, core: Core) -> Result<Ledger, AllocError>
+    /// The ledger of a book with this core. There is none of a book whose automatic day left orders that could settle
+    /// together, and none where memory was refused.
+    pub fn load(alloc: Global, core: Core) -> Result<Ledger, Fault>
+        requires { (book : Book) × IsCoreOf book core }
+        ensures given { IfOk result (λ ledger. ledger.core ≡ core) }
+        ensures calm { (book : Book) → IsCoreOf book core → IfOk result (λ ledger. IsCalm book) }
+        ensures fault { (book : Book) → IsCoreOf book core → IfErr result (λ fault. (fault ≡ Fault.OutOfMemory)
+            ⊎ ((fault ≡ Fault.Inconsistent Rule.Calm) × ¬ IsCalm book)) }
+    {
+        let ledger = Ledger::of_core(alloc, core)?;
+        let Ok(calm) = ledger.is_calm() else {
+            return Err(Fault::OutOfMemory);
+        };
+        if !calm {
+            return Err(Fault::Inconsistent { rule: Rule::Calm });
+        }
+        Ok(ledger)
+    }
+
+    // The ledger of a book with this core. The only error is lack of memory.
+    fn of_core(alloc: Global, core: Core) -> Result<Ledger, AllocError>
         requires { (book : Book) × IsCoreOf book core }
         ensures { IfOk result (λ ledger. ledger.core ≡ core) }
     {
@@ -73,18 +96,44 @@ impl Ledger {
         Ok(Ledger { alloc, records })
     }
 
-    /// What the command is answered, and the row changes that it makes, where this was found for it. The core stays as
-    /// it is, and every growth that the change needs is made here. A refusal is that of the command's first test that
-    /// holds, or lack of memory.
-    pub fn prepare(&mut self, command: &Command, found: &Found) -> Result<(Answer, Change), Refusal>
+    /// What the command is answered, and the row changes that it makes with what follows it, where this was found for
+    /// it in a calm book. The core stays as it is, and every growth that the change needs is made here. A refusal is
+    /// that of the command's first test that holds, or lack of memory.
+    pub fn prepare(
+        &mut self,
+        command: &Command,
+        found: &Found,
+    ) -> Result<(WholeAnswer, Change), Refusal>
         ensures core { self.new.core ≡ self.old.core }
         ensures room { IfOk result (λ (answer, change). HasRoom self.new change) }
         ensures answered { IfOk result (λ (answer, change). CanAnswer command.now answer change) }
         ensures of_the_command { IfErr result (λ refusal. is_of_the_store refusal ≡ false) }
-        ensures prepared { (book : Book) → IsCoreOf book self.old.core → found.now ≡ found_for book command.now
+        ensures prepared { (book : Book) → IsCoreOf book self.old.core → IsCalm book
+            → found.now ≡ found_for book command.now
             → IfOk result (λ (answer, change). IsPrepared book self.old.core command.now answer change) }
+        ensures refused { (book : Book) → IsCoreOf book self.old.core → IsCalm book
+            → found.now ≡ found_for book command.now → IfErr result (IsCommandRefused book command.now) }
+    {
+        let (own, change) = self.prepare_own(command, found)?;
+        if !self.is_followed(command, &own, &change) {
+            return Ok((WholeAnswer { own, auto: None }, change));
+        }
+        self.prepare_following(command, found, own, change)
+    }
+
+    // What the command by itself is answered, and the row changes that it makes. The core stays as it is, and every
+    // growth that the change needs is made here. A refusal is that of the command's first test that holds, or lack of
+    // memory.
+    fn prepare_own(&mut self, command: &Command, found: &Found) -> Result<(Answer, Change), Refusal>
+        ensures core { self.new.core ≡ self.old.core }
+        ensures room { IfOk result (λ (answer, change). HasRoom self.new change) }
+        ensures frees { may_free command.now ≡ true → IfOk result (λ (answer, change). FreesOrders change) }
+        ensures answered { IfOk result (λ (answer, change). CanAnswerByItself command.now answer change) }
+        ensures of_the_command { IfErr result (λ refusal. is_of_the_store refusal ≡ false) }
+        ensures prepared { (book : Book) → IsCoreOf book self.old.core → found.now ≡ found_for book command.now
+            → IfOk result (λ (answer, change). IsPreparedByItself book self.old.core command.now answer change) }
         ensures refused { (book : Book) → IsCoreOf book self.old.core → found.now ≡ found_for book command.now
-            → IfErr result (IsCommandRefused book command.now) }
+            → IfErr result (IsRefusedByItself book command.now) }
     {
         match *command {
             Command::Add { code, name, key } => self.prepare_add(code, name, key),
@@ -94,7 +143,7 @@ impl Ledger {
                 reference,
                 cents,
             } => self.prepare_post(code, reference, cents, found.posting),
-            Command::OpenDay(date) => self.prepare_open_day(date),
+            Command::OpenDay { date, automatic } => self.prepare_open_day(date, automatic),
             Command::Order {
                 sender,
                 reference,
@@ -120,6 +169,23 @@ impl Ledger {
             self.records.apply(row);
         }
         self.records.orders.sweep();
+    }
+
+    // The same ledger once more, with no room for what comes next.
+    fn copy(&self) -> Result<Ledger, AllocError>
+        ensures { IfOk result (λ copy. copy.core ≡ self.now.core) }
+    {
+        let records = Records {
+            accounts: self.records.accounts.copy()?,
+            orders: self.records.orders.copy(self.alloc)?,
+            day: self.records.day,
+            next_posting: self.records.next_posting,
+            next_mark: self.records.next_mark,
+        };
+        Ok(Ledger {
+            alloc: self.alloc,
+            records,
+        })
     }
 
     // The answer to a command that was done before. Nothing changes.

@@ -56,6 +56,7 @@ impl MemoryKeeper {
             day: Day {
                 date: None,
                 phase: Phase::Closed,
+                automatic: false,
             },
         }
     }
@@ -144,9 +145,16 @@ impl MemoryKeeper {
             RowChange::EnterQueue { number, date } => {
                 enter_queue(self.orders.as_mut_slice(), *number, *date);
             }
-            RowChange::SetDay(Day { date, phase }) => {
+            RowChange::SetDay(
+                Day {
+                    date,
+                    phase,
+                    automatic,
+                },
+            ) => {
                 self.day.date = *date;
                 self.day.phase = *phase;
+                self.day.automatic = *automatic;
             }
         }
     }

@@ -79,6 +79,26 @@ impl Orders {
         })
     }
 
+    /// The same orders once more, with no room for others.
+    pub fn copy(&self, alloc: Global) -> Result<Orders, AllocError>
+        requires { self.now.tidy ≡ true }
+        ensures orders { IfOk result (λ copy. copy.orders ≡ self.now.orders) }
+        ensures tidy { IfOk result (λ copy. copy.tidy ≡ true) }
+        ensures next { IfOk result (λ copy. copy.next ≡ self.now.next) }
+    {
+        let orders = Vec::from_slice(alloc, self.orders.as_slice())?;
+        let (queued, held) = places_of(alloc, orders.as_slice())?;
+        Ok(Orders {
+            orders,
+            queues: queued,
+            held,
+            next: self.next,
+            awaited: None,
+            holds: false,
+            tidy: true,
+        })
+    }
+
     /// The number of the next order.
     pub fn next(&self) -> u64
         ensures { result ≡ self.now.next }

@@ -8,7 +8,7 @@ ghost use Rattle.rtgs_book.specs.IntSum.{int_sum_by};
 ghost use Rattle.rtgs_accounts.specs.Accounts.{balance_of, code_of};
 ghost use Rattle.rtgs_book.specs.Balance.{floor_at};
 ghost use Rattle.rtgs_book.specs.Books.{is_closed, is_open, is_cut_off, is_empty};
-ghost use Rattle.rtgs_book.specs.Commands.{first_state, is_date, is_later};
+ghost use Rattle.rtgs_book.specs.Commands.{first_state, has_choice, is_date, is_later};
 ghost use Rattle.rtgs_book.specs.Queue.{queued_numbers};
 ghost use Rattle.rtgs_records.specs.Records.{held_of};
 ghost use Rattle.rtgs_records.specs.Held.{FindsRoom, after_row};
@@ -81,13 +81,25 @@ impl Records {
         matches!(self.day.phase, Phase::Closed)
     }
 
-    /// Whether the desk takes orders on this date.
-    pub fn is_open_on(&self, date: BusinessDate) -> bool
-        ensures { result ≡ (is_open self.now.day.phase && is_date self.now.day.date date) }
+    /// Whether the desk takes orders on this date, which was opened with this choice.
+    pub fn is_open_on(&self, date: BusinessDate, automatic: bool) -> bool
+        ensures { result ≡ (is_open self.now.day.phase && is_date self.now.day.date date
+            && has_choice automatic self.now.day) }
     {
         match self.open_date() {
-            Some(day) => day == date,
+            Some(day) => day == date && self.has_choice(automatic),
             None => false,
+        }
+    }
+
+    // Whether the day was opened with this choice.
+    fn has_choice(&self, automatic: bool) -> bool
+        ensures { result ≡ has_choice automatic self.now.day }
+    {
+        if automatic {
+            self.day.automatic
+        } else {
+            !self.day.automatic
         }
     }
 

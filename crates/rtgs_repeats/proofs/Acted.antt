@@ -1,6 +1,6 @@
 -- A command that acted is known, and where it is known it acts no more.
 use Rattle.std.proofs.Common.{◌≡◌, ℕ, ◌+◌, ◌==◌, Bool, true, false, cond, ◌||◌, List, [], ◌∷◌, ◌++◌, map, length}
-use Rattle.std.proofs.Common.{Option, Some, None, Ok, find, is_some, is_none, refl, sym, ap, ◌∙◌, true≢false, ℤ}
+use Rattle.std.proofs.Common.{Option, Some, None, Ok, find, is_some, is_none, refl, sym, ap, ◌∙◌, subst, true≢false, ℤ}
 use Rattle.std.proofs.lemmas.Bool.{not-false, and_from, not_from_true}
 use Rattle.std.specs.List.{list_any}
 use Rattle.std.specs.Ordering.{int_eq}
@@ -23,14 +23,15 @@ use Rattle.rtgs_book.specs.Commands.{is_same_due, takes_due}
 use Rattle.rtgs_book.specs.Commands.{settles_at_once, has_number, withdraw, is_withdrawn_order, number_of, with_state}
 use Rattle.rtgs_book.specs.Lookup.{has_code, accounts, participant_of, is_participant, is_order_named, order_named}
 use Rattle.rtgs_book.specs.Lookup.{is_posting_named, posting_named}
-use Rattle.rtgs_book.specs.Outcome.{Reply, Outcome}
+use Rattle.rtgs_book.specs.Outcome.{OwnReply, Reply, Outcome, alone, is_done}
 use Rattle.rtgs_book.specs.Run.{is_accepted}
 use Rattle.rtgs_book.specs.Settle.{restated}
 use Rattle.rtgs_book.specs.Soundness.{IsSound}
-use Rattle.rtgs_book.specs.Step.{Step}
+use Rattle.rtgs_book.specs.Step.{OwnStep, Step}
 use Rattle.rtgs_repeats.specs.Kept.{AreKept}
-use Rattle.rtgs_repeats.specs.Repeats.{acts_once, answered_number, IsRepeat}
+use Rattle.rtgs_repeats.specs.Repeats.{acts_once, own_number, answered_number, IsRepeat}
 use Rattle.rtgs_repeats.proofs.Finds.{find_right}
+use Rattle.rtgs_repeats.proofs.Following.{quietly, own_accepted, own_numbered}
 use Rattle.rtgs_repeats.proofs.Kept.{found_restated, find_added}
 use Rattle.rtgs_repeats.proofs.KeptSteps.{kept_joined}
 use Rattle.rtgs_repeats.proofs.Passing.{passed_step, choose, first_holds, second_holds, third_holds}
@@ -72,14 +73,15 @@ participant_kept old new code kept e =
 -- ---- a participant
 
 add_known : (book : Book) (code name key : List ℕ) (p : Participant) → participant_of book code ≡ Some p → p.name ≡ name
-    → p.key ≡ key → Step book (Add code name key) repeated book
+    → p.key ≡ key → OwnStep book (Add code name key) repeated book
 unfolding add
 add_known book code name key p e n k = sym (first_holds _ _ _ _ _
     (ap (λ found. is_same_participant found name key) e ∙ and_from _ _ ((bytes_decides p.name name).1 n)
     ((bytes_decides p.key key).1 k)))
 
-added_known : (old new : Book) (reply : Reply) (code name key : List ℕ) → is_accepted reply ≡ true
-    → Step old (Add code name key) reply new → (p : Participant) × (participant_of new code ≡ Some p) × (p.name ≡ name)
+added_known : (old new : Book) (reply : OwnReply) (code name key : List ℕ) → is_done reply ≡ true
+    → OwnStep old (Add code name key) reply new
+    → (p : Participant) × (participant_of new code ≡ Some p) × (p.name ≡ name)
     × (p.key ≡ key)
 unfolding add with_participant participant_of
 added_known old new reply code name key accepted s =
@@ -94,7 +96,7 @@ added_known old new reply code name key accepted s =
 
 -- ---- a posting
 
-not_accepted_posting : (found : Option Posting) → is_accepted (known_posting found) ≡ false
+pub not_accepted_posting : (found : Option Posting) → is_done (known_posting found) ≡ false
 not_accepted_posting None = refl
 not_accepted_posting (Some p) = refl
 
@@ -105,22 +107,22 @@ posting_same p code cents c z = and_from _ _ ((bytes_decides p.code code).1 c)
 
 post_known : (book : Book) (code reference : List ℕ) (cents : ℤ) (p : Posting) → is_participant book code ≡ true
     → posting_named book reference ≡ Some p → p.code ≡ code → p.cents ≡ cents
-    → Step book (Post code reference cents) (Ok (answer.Repeated (known.Posting p.number))) book
+    → OwnStep book (Post code reference cents) (Ok (answer.Repeated (known.Posting p.number))) book
 unfolding post
 post_known book code reference cents p has e c z =
     sym (second_holds _ _ _ _ _ _ _ (not_from_true _ has) (ap (λ found. is_same_posting found code cents) e
     ∙ posting_same p code cents c z) ∙ (λ i. record { reply = known_posting (e i); book = book }))
 
-pub posted_known : (old new : Book) (reply : Reply) (code reference : List ℕ) (cents : ℤ) → is_accepted reply ≡ true
-    → Step old (Post code reference cents) reply new
+pub posted_known : (old new : Book) (reply : OwnReply) (code reference : List ℕ) (cents : ℤ) → is_done reply ≡ true
+    → OwnStep old (Post code reference cents) reply new
     → (p : Posting) × (posting_named new reference ≡ Some p) × (p.code ≡ code) × (p.cents ≡ cents)
-    × (p.number ≡ answered_number reply) × (is_participant old code ≡ true)
+    × (p.number ≡ own_number reply) × (is_participant old code ≡ true)
 unfolding post posting_named
 posted_known old new reply code reference cents accepted s =
     let p = passed_step old new reply _ _ (refl, (not_accepted_posting _, (refl, (refl, (refl, (refl, tt)))))) accepted
     s in
     let book = ap (λ (o : Outcome). o.book) p.1 in
-    let number = ap (λ (o : Outcome). answered_number o.reply) p.1 in
+    let number = ap (λ (o : Outcome). own_number o.reply) p.1 in
     let posting : Posting = record {
       number = length old.postings + 1;
       code = code;
@@ -140,7 +142,7 @@ posted_known old new reply code reference cents accepted s =
 
 -- ---- an order
 
-not_accepted_order : (found : Option Order) → is_accepted (known_order found) ≡ false
+pub not_accepted_order : (found : Option Order) → is_done (known_order found) ≡ false
 not_accepted_order None = refl
 not_accepted_order (Some o) = refl
 
@@ -158,28 +160,28 @@ order_same o receiver amount due r a d =
 order_known : (book : Book) (sender reference receiver : List ℕ) (amount : ℕ) (due : Option ℕ) (o : Order)
     → is_participant book sender ≡ true → order_named book sender reference ≡ Some o → o.receiver ≡ receiver
     → o.amount ≡ amount → o.due ≡ due
-    → Step book (PlaceOrder sender reference receiver amount due)
+    → OwnStep book (PlaceOrder sender reference receiver amount due)
     (Ok (answer.Repeated (known.Order o.number o.state))) book
 unfolding order
 order_known book sender reference receiver amount due o has e r a d =
     sym (second_holds _ _ _ _ _ _ _ (not_from_true _ has) (ap (λ found. is_same_order found receiver amount due) e
     ∙ order_same o receiver amount due r a d) ∙ (λ i. record { reply = known_order (e i); book = book }))
 
-taken_number : (book : Book) (o : Order) → answered_number (takes book o).reply ≡ o.number
+taken_number : (book : Book) (o : Order) → own_number (takes book o).reply ≡ o.number
 unfolding takes
-taken_number book o = choose (λ (out : Outcome). answered_number out.reply ≡ o.number)
+taken_number book o = choose (λ (out : Outcome). own_number out.reply ≡ o.number)
     (settles_at_once book o.sender o.amount) _ _ refl refl
 
 taken_due_number : (book : Book) (o : Order) (due : Option ℕ)
-    → answered_number (takes_due book o due).reply ≡ o.number
+    → own_number (takes_due book o due).reply ≡ o.number
 taken_due_number book o None = taken_number book o
 taken_due_number book o (Some due) = refl
 
-pub ordered_known : (old new : Book) (reply : Reply) (sender reference receiver : List ℕ) (amount : ℕ)
+pub ordered_known : (old new : Book) (reply : OwnReply) (sender reference receiver : List ℕ) (amount : ℕ)
     (due : Option ℕ) → IsSound old
-    → is_accepted reply ≡ true → Step old (PlaceOrder sender reference receiver amount due) reply new
+    → is_done reply ≡ true → OwnStep old (PlaceOrder sender reference receiver amount due) reply new
     → (o : Order) × (order_named new sender reference ≡ Some o) × (o.receiver ≡ receiver) × (o.amount ≡ amount)
-    × (o.number ≡ answered_number reply) × (is_participant old sender ≡ true) × (o.due ≡ due)
+    × (o.number ≡ own_number reply) × (is_participant old sender ≡ true) × (o.due ≡ due)
 unfolding order order_named
 ordered_known old new reply sender reference receiver amount due h accepted s =
     let p = passed_step old new reply _ _ (
@@ -190,7 +192,7 @@ ordered_known old new reply sender reference receiver amount due h accepted s =
       ),
     ) accepted s in
     let book = ap (λ (o : Outcome). o.book) p.1 in
-    let number = ap (λ (o : Outcome). answered_number o.reply) p.1
+    let number = ap (λ (o : Outcome). own_number o.reply) p.1
     ∙ taken_due_number old (new_order old sender reference receiver amount due) due in
     let joined : find (is_order_named sender reference) (old.orders ++ new_order old sender reference receiver amount
     due ∷ []) ≡ Some (new_order old sender reference receiver amount due) =
@@ -212,7 +214,7 @@ ordered_known old new reply sender reference receiver amount due h accepted s =
 
 withdrawn_known : (book : Book) (sender reference : List ℕ) (o : Order) → is_participant book sender ≡ true
     → order_named book sender reference ≡ Some o → o.state ≡ Withdrawn
-    → Step book (Withdraw sender reference) (Ok (answer.Repeated (known.Order o.number Withdrawn))) book
+    → OwnStep book (Withdraw sender reference) (Ok (answer.Repeated (known.Order o.number Withdrawn))) book
 unfolding withdraw
 withdrawn_known book sender reference o has e w =
     sym (third_holds _ _ _ _ _ _ _ _ _ (not_from_true _ has) (ap is_none e)
@@ -222,22 +224,22 @@ withdrawn_known book sender reference o has e w =
     withdrawn : (s : OrderState) → s ≡ Withdrawn → is_withdrawn_state s ≡ true
     withdrawn s same = ap is_withdrawn_state same
 
-took_back : (old new : Book) (reply : Reply) (sender reference : List ℕ) → is_accepted reply ≡ true
-    → Step old (Withdraw sender reference) reply new
+took_back : (old new : Book) (reply : OwnReply) (sender reference : List ℕ) → is_done reply ≡ true
+    → OwnStep old (Withdraw sender reference) reply new
     → (o : Order) × (order_named new sender reference ≡ Some o) × (o.state ≡ Withdrawn)
-    × (o.number ≡ answered_number reply) × (is_participant old sender ≡ true)
+    × (o.number ≡ own_number reply) × (is_participant old sender ≡ true)
 unfolding withdraw order_named with_state
 took_back old new reply sender reference accepted s =
     let p = passed_step old new reply _ _ (refl, (refl, (not_accepted_order _, (refl, tt)))) accepted s in
     let book = ap (λ (o : Outcome). o.book) p.1 in
-    let number = ap (λ (o : Outcome). answered_number o.reply) p.1 in
+    let number = ap (λ (o : Outcome). own_number o.reply) p.1 in
     by (find (is_order_named sender reference) old.orders) refl p.0.1.0 book number (not-false _ p.0.0)
   where
     by : (found : Option Order) → find (is_order_named sender reference) old.orders ≡ found → is_none found ≡ false
         → new ≡ record old { orders = map (restated (has_number (number_of found)) Withdrawn) old.orders }
-        → answered_number reply ≡ number_of found → is_participant old sender ≡ true
+        → own_number reply ≡ number_of found → is_participant old sender ≡ true
         → (o : Order) × (find (is_order_named sender reference) new.orders ≡ Some o) × (o.state ≡ Withdrawn)
-        × (o.number ≡ answered_number reply) × (is_participant old sender ≡ true)
+        × (o.number ≡ own_number reply) × (is_participant old sender ≡ true)
     by None e some book number has = absurd (true≢false some)
     by (Some o) e some book number has = (
       restated (has_number o.number) Withdrawn o,
@@ -250,36 +252,59 @@ took_back old new reply sender reference accepted s =
 
 -- ---- each command that acts once
 
-module _ (old mid new : Book) (reply : Reply) (h : IsSound old) (accepted : is_accepted reply ≡ true)
+module _ (old mid new : Book) (reply : OwnReply) (h : IsSound old) (accepted : is_done reply ≡ true)
     (kept : AreKept old mid) (later : AreKept mid new) where
   still : (code : List ℕ) → is_participant old code ≡ true → is_participant new code ≡ true
   still code e = participant_kept mid new code later (participant_kept old mid code kept e)
 
-  pub acted : (command : Command) → acts_once command ≡ true → Step old command reply mid
-      → (again : Reply) × IsRepeat new command (answered_number reply) again × Step new command again new
-  acted (Add code name key) once s =
+  own_acted : (command : Command) → acts_once command ≡ true → OwnStep old command reply mid
+      → (again : Reply) × IsRepeat new command (own_number reply) again × Step new command again new
+  own_acted (Add code name key) once s =
       let p = added_known old mid reply code name key accepted s in
-      let q = later.participants code p.0 p.1 in
-      (repeated, refl, add_known new code name key q.0 q.1 (q.2.name ∙ p.2) (q.2.key ∙ p.3))
-  acted (Post code reference cents) once s =
-      let p = posted_known old mid reply code reference cents accepted s in (
-        Ok (answer.Repeated (known.Posting p.0.number)),
-        ap (λ n. Ok (answer.Repeated (known.Posting n))) p.4,
-        post_known new code reference cents p.0 (still code p.5) (later.postings reference p.0 p.1) p.2 p.3,
+      let q = later.participants code p.0 p.1 in (
+        alone repeated,
+        refl,
+        quietly new (Add code name key) repeated refl
+            (add_known new code name key q.0 q.1 (q.2.name ∙ p.2) (q.2.key ∙ p.3)),
       )
-  acted (PlaceOrder sender reference receiver amount due) once s =
+  own_acted (Post code reference cents) once s =
+      let p = posted_known old mid reply code reference cents accepted s in (
+        alone (Ok (answer.Repeated (known.Posting p.0.number))),
+        ap (λ n. alone (Ok (answer.Repeated (known.Posting n)))) p.4,
+        quietly new (Post code reference cents) (Ok (answer.Repeated (known.Posting p.0.number))) refl
+            (post_known new code reference cents p.0 (still code p.5) (later.postings reference p.0 p.1) p.2 p.3),
+      )
+  own_acted (PlaceOrder sender reference receiver amount due) once s =
       let p = ordered_known old mid reply sender reference receiver amount due h accepted s in
       let q = later.orders sender reference p.0 p.1 in (
-        Ok (answer.Repeated (known.Order q.0.number q.0.state)),
-        (q.0, q.1, q.2.number ∙ p.4, ap (λ n. Ok (answer.Repeated (known.Order n q.0.state))) (q.2.number ∙ p.4)),
-        order_known new sender reference receiver amount due q.0 (still sender p.5) q.1 (q.2.receiver ∙ p.2)
-            (q.2.amount ∙ p.3) (q.2.due ∙ p.6),
+        alone (Ok (answer.Repeated (known.Order q.0.number q.0.state))),
+        (
+          q.0,
+          q.1,
+          q.2.number ∙ p.4,
+          ap (λ n. alone (Ok (answer.Repeated (known.Order n q.0.state)))) (q.2.number ∙ p.4),
+        ),
+        quietly new (PlaceOrder sender reference receiver amount due)
+            (Ok (answer.Repeated (known.Order q.0.number q.0.state))) refl
+            (order_known new sender reference receiver amount due q.0 (still sender p.5) q.1 (q.2.receiver ∙ p.2)
+            (q.2.amount ∙ p.3) (q.2.due ∙ p.6)),
       )
-  acted (Withdraw sender reference) once s =
+  own_acted (Withdraw sender reference) once s =
       let p = took_back old mid reply sender reference accepted s in
       let q = later.orders sender reference p.0 p.1 in (
-        Ok (answer.Repeated (known.Order q.0.number Withdrawn)),
-        ap (λ n. Ok (answer.Repeated (known.Order n Withdrawn))) (q.2.number ∙ p.3),
-        withdrawn_known new sender reference q.0 (still sender p.4) q.1 (q.2.state (ap is_waiting_state p.2) ∙ p.2),
+        alone (Ok (answer.Repeated (known.Order q.0.number Withdrawn))),
+        ap (λ n. alone (Ok (answer.Repeated (known.Order n Withdrawn)))) (q.2.number ∙ p.3),
+        quietly new (Withdraw sender reference) (Ok (answer.Repeated (known.Order q.0.number Withdrawn))) refl
+            (withdrawn_known new sender reference q.0 (still sender p.4) q.1
+            (q.2.state (ap is_waiting_state p.2) ∙ p.2)),
       )
-  acted other once s = absurd (true≢false (sym once))
+  own_acted other once s = absurd (true≢false (sym once))
+
+-- what follows a command keeps what it made
+pub acted : (old mid new : Book) (command : Command) (reply : Reply) → IsSound old → acts_once command ≡ true
+    → is_accepted reply ≡ true → (s : Step old command reply mid) → AreKept old s.0.book → AreKept s.0.book new
+    → (again : Reply) × IsRepeat new command (answered_number reply) again × Step new command again new
+acted old mid new command reply h once accepted s kept later =
+    let k = own_acted old s.0.book new s.0.reply h (own_accepted old mid command reply s accepted) kept later
+    command once s.1 in
+    (k.0, subst (λ n. IsRepeat new command n k.0) (sym (own_numbered old mid command reply s)) k.1, k.2)

@@ -2,85 +2,105 @@
 -- were answered.
 use Rattle.std.proofs.Common.{◌≡◌, ℕ, ◌≤◌, nat_le, Bool, true, false, not, ◌&&◌, ◌||◌, List, [], ◌∷◌, ◌++◌, length}
 use Rattle.std.proofs.Common.{is_some, refl, sym, ap, ◌∙◌, subst, arith, ◌⊎◌, inl, inr, ℤ, pos, ◌-ℤ◌, ◌≤ℤ◌, int_le}
-use Rattle.std.proofs.Common.{Option, Some, None, find, unwrap_or, true≢false}
+use Rattle.std.proofs.Common.{Option, Some, None, Err, find, unwrap_or, true≢false}
 use Rattle.std.proofs.lemmas.Bool.{and_parts, and_from}
 use Rattle.std.proofs.lemmas.Bool.Decides.{nat_tests}
 use Rattle.std.proofs.lemmas.Int.{ints}
+use Rattle.std.proofs.lemmas.List.{length-map}
 use Rattle.std.proofs.lemmas.List.Folds.{list_any-append}
 use Rattle.std.specs.List.{AllByRecursion, list_any}
 use Rattle.std.specs.Option.{option_map}
 use Rattle.std.specs.Str.{bytes_eq}
 use Rattle.rtgs_book.specs.declared.book.Book.{Book}
 use Rattle.rtgs_book.specs.declared.order.Order.{Order}
+use Rattle.rtgs_book.specs.declared.order_state.OrderState.TheVariants.{Settled}
 use Rattle.rtgs_book.specs.declared.participant.Participant.{Participant}
 use Rattle.rtgs_book.specs.declared.command.Command.{Command}
-use Rattle.rtgs_book.specs.declared.command.Command.TheVariants.{Order as PlaceOrder}
+use Rattle.rtgs_book.specs.declared.command.Command.TheVariants.{Resolve, Order as PlaceOrder}
+use Rattle.rtgs_book.specs.declared.refusal.Refusal.{Refusal}
+use Rattle.rtgs_book.specs.declared.refusal.Refusal.TheVariants.{UnknownParticipant, ReferenceUsed, NotOpen}
+use Rattle.rtgs_book.specs.declared.refusal.Refusal.TheVariants.{UnknownReceiver, SameParty, DueNotLater, Weekend}
+use Rattle.rtgs_book.specs.declared.refusal.Refusal.TheVariants.{NumbersUsedUp, QueueFull}
 use Rattle.rtgs_book.specs.declared.limits.TheConstants.{LONGEST_QUEUE, LARGEST_NUMBER}
-use Rattle.rtgs_book.specs.Books.{is_open, is_empty}
+use Rattle.rtgs_book.specs.Books.{is_automatic, is_open, is_empty}
 use Rattle.rtgs_book.specs.Balance.{balance, floor, floor_at}
+use Rattle.rtgs_book.specs.Choice.{chosen, is_chosen}
 use Rattle.rtgs_book.specs.Commands.{is_same_order, settles_at_once, settles_now, new_order, takes_due, is_later, order}
-use Rattle.rtgs_book.specs.Commands.{is_due_too_early, is_due_on_a_weekend}
+use Rattle.rtgs_book.specs.Commands.{is_due_too_early, is_due_on_a_weekend, known_order, resolve}
 use Rattle.rtgs_book.specs.Lookup.{has_code, is_participant, participant_of, credit_of, order_named}
 use Rattle.rtgs_book.specs.Queue.{queue, waiting}
-use Rattle.rtgs_book.specs.Outcome.{Reply, Outcome}
-use Rattle.rtgs_book.specs.Run.{Run, is_accepted}
+use Rattle.rtgs_book.specs.Outcome.{OwnReply, Reply, Outcome, alone, is_done}
+use Rattle.rtgs_book.specs.Run.{Run}
+use Rattle.rtgs_book.specs.Settle.{restated, next_mark}
 use Rattle.rtgs_book.specs.Soundness.{IsSound}
-use Rattle.rtgs_book.specs.Step.{Step}
+use Rattle.rtgs_book.specs.Step.{OwnStep, Ends, Step, is_followed, may_free}
 use Rattle.rtgs_repeats.specs.Kept.{AreKept}
-use Rattle.rtgs_repeats.specs.Batch.{IsOrderOf}
-use Rattle.rtgs_repeats.proofs.Acted.{ordered_known, order_same, same_participant, there}
-use Rattle.rtgs_repeats.proofs.Kept.{kept_through}
-use Rattle.rtgs_repeats.proofs.KeptSteps.{step_kept, kept_itself}
-use Rattle.rtgs_repeats.proofs.Runs.{StepKeepsSoundness, over_run}
-use Rattle.rtgs_repeats.proofs.Once.{or_second, book_as, recorded_kept}
-use Rattle.rtgs_repeats.proofs.Passing.{some_holds, none_holds}
+use Rattle.rtgs_repeats.specs.Batch.{IsOrderOf, IsNotFull, MayComeAgain}
+use Rattle.rtgs_repeats.proofs.Acted.{ordered_known, order_same, same_participant, there, not_accepted_order}
+use Rattle.rtgs_repeats.proofs.Days.{left_so}
+use Rattle.rtgs_repeats.proofs.Following.{IdleLeavesTheBook, idle, never, not_followed}
+use Rattle.rtgs_repeats.proofs.Kept.{by_settling, kept_through}
+use Rattle.rtgs_repeats.proofs.KeptSteps.{step_kept, kept_after, kept_itself}
+use Rattle.rtgs_repeats.proofs.Runs.{KeepsSoundness, StepKeepsSoundness}
+use Rattle.rtgs_repeats.proofs.Once.{or_second, recorded_kept}
+use Rattle.rtgs_repeats.proofs.Passing.{some_refuses, none_holds, last_holds, choose_book, after_tests}
 use Rattle.rtgs_repeats.proofs.Taken.{OrdersMove, SettlingMoves, Grows, takes_due_accepted, takes_due_leaves, grows}
 use Rattle.rtgs_repeats.proofs.Taken.{covers_less}
 
--- the tests of an order that last while nothing but orders comes: each but that of the full queue
-abbrev lasting_tests : Book → List ℕ → List ℕ → List ℕ → ℕ → Option ℕ → List Bool
+-- the tests of an order that last, whatever orders and resolutions come: each but that of the full queue
+abbrev lasting_tests : Book → List ℕ → List ℕ → List ℕ → ℕ → Option ℕ → List (Bool × OwnReply)
 lasting_tests book sender reference receiver amount due =
-    not (is_participant book sender)
-    ∷ is_same_order (order_named book sender reference) receiver amount due
-    ∷ is_some (order_named book sender reference)
-    ∷ not (is_open book.day.phase)
-    ∷ not (is_participant book receiver)
-    ∷ bytes_eq sender receiver
-    ∷ is_due_too_early book due
-    ∷ is_due_on_a_weekend due
-    ∷ nat_le LARGEST_NUMBER (length book.orders)
+    (not (is_participant book sender), Err UnknownParticipant)
+    ∷ (
+      is_same_order (order_named book sender reference) receiver amount due,
+      known_order (order_named book sender reference),
+    )
+    ∷ (is_some (order_named book sender reference), Err ReferenceUsed)
+    ∷ (not (is_open book.day.phase), Err NotOpen)
+    ∷ (not (is_participant book receiver), Err UnknownReceiver)
+    ∷ (bytes_eq sender receiver, Err SameParty)
+    ∷ (is_due_too_early book due, Err DueNotLater)
+    ∷ (is_due_on_a_weekend due, Err Weekend)
+    ∷ (nat_le LARGEST_NUMBER (length book.orders), Err NumbersUsedUp)
     ∷ []
 
 -- one of them holds
 abbrev pub is_stopped_for_good : Book → List ℕ → List ℕ → List ℕ → ℕ → Option ℕ → Bool
 is_stopped_for_good book sender reference receiver amount due =
-    list_any (λ b. b) (lasting_tests book sender reference receiver amount due)
+    list_any (λ (row : Bool × OwnReply). row.0) (lasting_tests book sender reference receiver amount due)
 
 -- the test of the full queue holds, which comes last
 abbrev pub is_queue_full : Book → List ℕ → ℕ → Option ℕ → Bool
 is_queue_full book sender amount due =
     not (settles_now book sender amount due) && nat_le LONGEST_QUEUE (length (waiting book sender))
 
--- a test of the order holds, so that it changes nothing
+-- A test of the order holds that holds on, so that it changes nothing. That of the full queue is one where no
+-- resolution makes room.
 abbrev pub IsStopped : Book → List ℕ → List ℕ → List ℕ → ℕ → Option ℕ → Type 0
 IsStopped book sender reference receiver amount due =
     (is_stopped_for_good book sender reference receiver amount due ≡ true)
-    ⊎ (is_queue_full book sender amount due ≡ true)
+    ⊎ ((is_automatic book.day ≡ false) × (is_queue_full book sender amount due ≡ true))
 
 -- all tests, of which the last is apart
-any_test : (tests : List Bool) (last : Bool) → list_any (λ b. b) (tests ++ last ∷ [])
-    ≡ (list_any (λ b. b) tests || last)
-any_test tests true = list_any-append (λ b. b) tests (true ∷ [])
-any_test tests false = list_any-append (λ b. b) tests (false ∷ [])
+any_test : (tests : List (Bool × OwnReply)) (full : Bool)
+    → list_any (λ (row : Bool × OwnReply). row.0) (tests ++ (full, Err QueueFull) ∷ [])
+    ≡ (list_any (λ (row : Bool × OwnReply). row.0) tests || full)
+any_test tests true = list_any-append (λ (row : Bool × OwnReply). row.0) tests ((true, Err QueueFull) ∷ [])
+any_test tests false = list_any-append (λ (row : Bool × OwnReply). row.0) tests ((false, Err QueueFull) ∷ [])
+
+-- no fewer orders of the sender are queued, no fewer wait, and its balance is no higher
+record MakesNoRoom (sender : List ℕ) (old new : Book) : Type 0 where
+  pub queued : length (queue old sender) ≤ length (queue new sender)
+  pub waiting : length (waiting old sender) ≤ length (waiting new sender)
+  pub cover : balance new sender ≤ℤ balance old sender
 
 -- what orders of this sender alone leave
 record Follows (sender : List ℕ) (old new : Book) : Type 0 where
   pub participants : new.participants ≡ old.participants
   pub day : new.day ≡ old.day
   pub orders : length old.orders ≤ length new.orders
-  pub queued : length (queue old sender) ≤ length (queue new sender)
-  pub waiting : length (waiting old sender) ≤ length (waiting new sender)
-  pub cover : balance new sender ≤ℤ balance old sender
+  -- on an automatic day a resolution may make room
+  pub plain : is_automatic old.day ≡ false → MakesNoRoom sender old new
   pub kept : AreKept old new
 
 follows_itself : (sender : List ℕ) (book : Book) → Follows sender book book
@@ -88,9 +108,7 @@ follows_itself sender book = record {
   participants = refl;
   day = refl;
   orders = omega arith;
-  queued = omega arith;
-  waiting = omega arith;
-  cover = omega (arith, ints);
+  plain = λ _. record { queued = omega arith; waiting = omega arith; cover = omega (arith, ints) };
   kept = kept_itself book;
 }
 
@@ -100,9 +118,14 @@ follows_through sender old mid new h k = record {
   participants = k.participants ∙ h.participants;
   day = k.day ∙ h.day;
   orders = let a = h.orders in let b = k.orders in omega arith;
-  queued = let a = h.queued in let b = k.queued in omega arith;
-  waiting = let a = h.waiting in let b = k.waiting in omega arith;
-  cover = let a = h.cover in let b = k.cover in omega (arith, ints);
+  plain = λ automatic.
+      let one = h.plain automatic in
+      let other = k.plain ((λ i. is_automatic (h.day i)) ∙ automatic) in
+      record {
+        queued = let a = one.queued in let b = other.queued in omega arith;
+        waiting = let a = one.waiting in let b = other.waiting in omega arith;
+        cover = let a = one.cover in let b = other.cover in omega (arith, ints);
+      };
   kept = kept_through old mid new h.kept k.kept;
 }
 
@@ -136,20 +159,21 @@ same_floor old new code participants day = λ i. floor_at (day i).phase
 
 -- an order that would settle now would have settled before
 settled_before : (old new : Book) (sender : List ℕ) (amount : ℕ) → Follows sender old new
-    → settles_at_once new sender amount ≡ true → settles_at_once old sender amount ≡ true
+    → is_automatic old.day ≡ false → settles_at_once new sender amount ≡ true → settles_at_once old sender amount ≡ true
 unfolding settles_at_once
-settled_before old new sender amount f e =
+settled_before old new sender amount f plain e =
+    let none = f.plain plain in
     let parts = and_parts (is_empty (queue new sender)) _ e in
     let cover : int_le (floor old sender) (balance new sender -ℤ pos amount) ≡ true =
     subst (λ z. int_le z (balance new sender -ℤ pos amount) ≡ true) (same_floor old new sender f.participants f.day)
     parts.1 in
-    and_from _ _ (empty_before (queue old sender) (queue new sender) f.queued parts.0)
-    (covered_before (floor old sender) (balance old sender) (balance new sender) amount f.cover cover)
+    and_from _ _ (empty_before (queue old sender) (queue new sender) none.queued parts.0)
+    (covered_before (floor old sender) (balance old sender) (balance new sender) amount none.cover cover)
 
 now_before : (old new : Book) (sender : List ℕ) (amount : ℕ) (due : Option ℕ) → Follows sender old new
-    → settles_now new sender amount due ≡ true → settles_now old sender amount due ≡ true
-now_before old new sender amount None f e = settled_before old new sender amount f e
-now_before old new sender amount (Some due) f e = e
+    → is_automatic old.day ≡ false → settles_now new sender amount due ≡ true → settles_now old sender amount due ≡ true
+now_before old new sender amount None f plain e = settled_before old new sender amount f plain e
+now_before old new sender amount (Some due) f plain e = e
 
 not_now : (a b : Bool) → (b ≡ true → a ≡ true) → not a ≡ true → not b ≡ true
 not_now a false f e = refl
@@ -178,12 +202,14 @@ lasts old new sender reference receiver amount due f =
     (λ e. e)))))))))
 
 stays_full : (old new : Book) (sender : List ℕ) (amount : ℕ) (due : Option ℕ) → Follows sender old new
-    → is_queue_full old sender amount due ≡ true → is_queue_full new sender amount due ≡ true
-stays_full old new sender amount due f e =
+    → is_automatic old.day ≡ false → is_queue_full old sender amount due ≡ true
+    → is_queue_full new sender amount due ≡ true
+stays_full old new sender amount due f plain e =
     let parts = and_parts (not (settles_now old sender amount due))
     (nat_le LONGEST_QUEUE (length (waiting old sender))) e in
-    and_from _ _ (not_now _ _ (now_before old new sender amount due f) parts.0)
-    (more_waiting (length (waiting old sender)) (length (waiting new sender)) f.waiting parts.1)
+    and_from _ _ (not_now _ _ (now_before old new sender amount due f plain) parts.0)
+    (more_waiting (length (waiting old sender)) (length (waiting new sender))
+    (f.plain plain).waiting parts.1)
 
 stopped_later : (old new : Book) (sender reference receiver : List ℕ) (amount : ℕ) (due : Option ℕ)
     → Follows sender old new → IsStopped old sender reference receiver amount due
@@ -191,75 +217,153 @@ stopped_later : (old new : Book) (sender reference receiver : List ℕ) (amount 
 stopped_later old new sender reference receiver amount due f (inl e) =
     inl (lasts old new sender reference receiver amount due f e)
 stopped_later old new sender reference receiver amount due f (inr e) =
-    inr (stays_full old new sender amount due f e)
+    inr ((λ i. is_automatic (f.day i)) ∙ e.0, stays_full old new sender amount due f e.0 e.1)
 
 -- ---- one order
 
-stays : (old new : Book) (sender reference receiver : List ℕ) (amount : ℕ) (due : Option ℕ) (reply : Reply)
+either : (a b : Bool) → (a ≡ true) ⊎ (b ≡ true) → (a || b) ≡ true
+either a b (inl e) = rw e refl
+either true b (inr e) = refl
+either false b (inr e) = e
+
+one_holds : (book : Book) (sender reference receiver : List ℕ) (amount : ℕ) (due : Option ℕ)
+    → IsStopped book sender reference receiver amount due
+    → (is_stopped_for_good book sender reference receiver amount due ≡ true)
+    ⊎ (is_queue_full book sender amount due ≡ true)
+one_holds book sender reference receiver amount due (inl e) = inl e
+one_holds book sender reference receiver amount due (inr e) = inr e.1
+
+-- it does not act
+own_stays : (old new : Book) (sender reference receiver : List ℕ) (amount : ℕ) (due : Option ℕ) (reply : OwnReply)
     → IsStopped old sender reference receiver amount due
-    → Step old (PlaceOrder sender reference receiver amount due) reply new → new ≡ old
+    → OwnStep old (PlaceOrder sender reference receiver amount due) reply new → is_done reply ≡ false
 unfolding order
-stays old new sender reference receiver amount due reply stopped s = book_as old new reply _ s (some_holds old _ _
+own_stays old new sender reference receiver amount due reply stopped s =
+    ap (λ (o : Outcome). is_done o.reply) s ∙ some_refuses old _ _
+    (refl, (not_accepted_order _, (refl, (refl, (refl, (refl, (refl, (refl, (refl, (refl, tt))))))))))
     (any_test (lasting_tests old sender reference receiver amount due) (is_queue_full old sender amount due)
     ∙ either (is_stopped_for_good old sender reference receiver amount due) (is_queue_full old sender amount due)
-    stopped))
-  where
-    either : (a b : Bool) → (a ≡ true) ⊎ (b ≡ true) → (a || b) ≡ true
-    either a b (inl e) = rw e refl
-    either true b (inr e) = refl
-    either false b (inr e) = e
+    (one_holds old sender reference receiver amount due stopped))
 
-acts : (old new : Book) (sender reference receiver : List ℕ) (amount : ℕ) (due : Option ℕ) (reply : Reply)
+stays : IdleLeavesTheBook → (old new : Book) (sender reference receiver : List ℕ) (amount : ℕ) (due : Option ℕ)
+    (reply : Reply) → IsStopped old sender reference receiver amount due
+    → Step old (PlaceOrder sender reference receiver amount due) reply new → new ≡ old
+stays leaves old new sender reference receiver amount due reply stopped s =
+    idle leaves old new (PlaceOrder sender reference receiver amount due) reply s
+    (own_stays old s.0.book sender reference receiver amount due s.0.reply stopped s.1)
+
+-- where no other test holds, the full queue is what it is answered
+own_full : (old new : Book) (sender reference receiver : List ℕ) (amount : ℕ) (due : Option ℕ) (reply : OwnReply)
+    → is_stopped_for_good old sender reference receiver amount due ≡ false
+    → is_queue_full old sender amount due ≡ true
+    → OwnStep old (PlaceOrder sender reference receiver amount due) reply new → reply ≡ Err QueueFull
+unfolding order
+own_full old new sender reference receiver amount due reply lasting full s = ap (λ (o : Outcome). o.reply)
+    (s ∙ last_holds old (lasting_tests old sender reference receiver amount due)
+    (is_queue_full old sender amount due) (Err QueueFull) _ lasting full)
+
+own_acts : (old new : Book) (sender reference receiver : List ℕ) (amount : ℕ) (due : Option ℕ) (reply : OwnReply)
     → is_stopped_for_good old sender reference receiver amount due ≡ false
     → is_queue_full old sender amount due ≡ false
-    → Step old (PlaceOrder sender reference receiver amount due) reply new
+    → OwnStep old (PlaceOrder sender reference receiver amount due) reply new
     → record { reply = reply; book = new } ≡ takes_due old (new_order old sender reference receiver amount due) due
 unfolding order
-acts old new sender reference receiver amount due reply lasting full s = s ∙ none_holds old _ _
+own_acts old new sender reference receiver amount due reply lasting full s = s ∙ none_holds old _ _
     (any_test (lasting_tests old sender reference receiver amount due) (is_queue_full old sender amount due)
     ∙ rw (lasting, full) refl)
 
-module _ (joins : OrdersMove) (settles : SettlingMoves) where
+-- a resolution restates orders, and adds none
+own_resolution_long : (old new : Book) (reply : OwnReply) → OwnStep old Resolve reply new
+    → length old.orders ≤ length new.orders
+unfolding resolve
+own_resolution_long old new reply s = subst (λ (o : Outcome). length old.orders ≤ length o.book.orders) (sym s.2)
+    (after_tests (λ b. length old.orders ≤ length b.orders) old _ _ (omega arith)
+    (λ _. choose_book (λ b. length old.orders ≤ length b.orders) (is_empty (chosen old s.0)) _ _ (omega arith)
+    (by_settling (λ b. length old.orders ≤ length b.orders) old (is_chosen old s.0) (omega arith)
+    (λ marks. let same = length-map old.orders (restated (is_chosen old s.0) (Settled (next_mark old)))
+    in omega (arith, same)))))
+
+ends_long : (b : Bool) (new : Book) (own : Outcome) (reply : Reply) → Ends b own reply new
+    → length own.book.orders ≤ length new.orders
+ends_long false new own reply e = subst (λ (x : Book). length own.book.orders ≤ length x.orders) (sym e.1) (omega arith)
+ends_long true new own reply e = own_resolution_long own.book new e.0 e.1
+
+-- the own reply of a refused command is the reply
+refused_so : (old new : Book) (command : Command) (reply : Reply) (refusal : Refusal) → (s : Step old command reply new)
+    → s.0.reply ≡ Err refusal → reply ≡ Err refusal
+refused_so old new command reply refusal s e =
+    (not_followed old new command reply s (never (may_free command) (is_done s.0.reply) (is_automatic s.0.book.day)
+    (ap is_done e))).1 ∙ ap alone e
+
+plain_step : (may done automatic : Bool) → automatic ≡ false → (may && done && automatic) ≡ false
+plain_step true true automatic e = e
+plain_step true false automatic e = refl
+plain_step false done automatic e = refl
+
+module _ (joins : OrdersMove) (settles : SettlingMoves) (sounds : KeepsSoundness) (leaves : IdleLeavesTheBook) where
   -- an order is stopped after it, and what came before follows
   after_order : (old new : Book) (sender reference receiver : List ℕ) (amount : ℕ) (due : Option ℕ) (reply : Reply)
-      → IsSound old → Step old (PlaceOrder sender reference receiver amount due) reply new
+      → IsSound old → (is_automatic old.day ≡ true → IsNotFull reply)
+      → Step old (PlaceOrder sender reference receiver amount due) reply new
       → IsStopped new sender reference receiver amount due × Follows sender old new
-  after_order old new sender reference receiver amount due reply h s =
+  after_order old new sender reference receiver amount due reply h room s =
       by (is_stopped_for_good old sender reference receiver amount due) refl (is_queue_full old sender amount due) refl
     where
+      command : Command
+      command = PlaceOrder sender reference receiver amount due
+
       unchanged : IsStopped old sender reference receiver amount due
           → IsStopped new sender reference receiver amount due × Follows sender old new
       unchanged stopped =
-          let same = stays old new sender reference receiver amount due reply stopped s in (
+          let same = stays leaves old new sender reference receiver amount due reply stopped s in (
             subst (λ book. IsStopped book sender reference receiver amount due) (sym same) stopped,
             subst (Follows sender old) (sym same) (follows_itself sender old),
           )
+
+      full_now : is_stopped_for_good old sender reference receiver amount due ≡ false
+          → is_queue_full old sender amount due ≡ true → (b : Bool) → is_automatic old.day ≡ b
+          → IsStopped old sender reference receiver amount due
+      full_now e k false plain = inr (plain, k)
+      full_now e k true automatic = absurd (room automatic (refused_so old new command reply QueueFull s
+          (own_full old s.0.book sender reference receiver amount due s.0.reply e k s.1)))
 
       by : (lasting : Bool) → is_stopped_for_good old sender reference receiver amount due ≡ lasting
           → (full : Bool) → is_queue_full old sender amount due ≡ full
           → IsStopped new sender reference receiver amount due × Follows sender old new
       by true e full k = unchanged (inl e)
-      by false e true k = unchanged (inr k)
+      by false e true k = unchanged (full_now e k (is_automatic old.day) refl)
       by false e false k =
-          let took = acts old new sender reference receiver amount due reply e k s in
-          let accepted = ap (λ (o : Outcome). is_accepted o.reply) took
+          let took = own_acts old s.0.book sender reference receiver amount due s.0.reply e k s.1 in
+          let done = ap (λ (o : Outcome). is_done o.reply) took
           ∙ takes_due_accepted old (new_order old sender reference receiver amount due) due in
-          let known = ordered_known old new reply sender reference receiver amount due h accepted s in
+          let known = ordered_known old s.0.book s.0.reply sender reference receiver amount due h done s.1 in
           let book = ap (λ (o : Outcome). o.book) took in
           let leaves = takes_due_leaves old (new_order old sender reference receiver amount due) due in
-          let more = subst (Grows sender old) (sym book)
-          (grows old sender reference receiver amount due sender h.orders_numbered) in (
-            inl (or_second _ _ _ (ap (λ found. is_same_order found receiver amount due) known.1
-                ∙ order_same known.0 receiver amount due known.2 known.3 known.6)),
+          let left = left_so old new command reply s in
+          let long = ends_long (is_followed command s.0) new s.0 reply s.2 in
+          let day : s.0.book.day ≡ old.day = (λ i. (book i).day) ∙ leaves.1 in
+          let recorded = recorded_kept s.0.book new command (kept_after sounds old new command reply h s)
+          (ap (λ found. is_same_order found receiver amount due) known.1
+          ∙ order_same known.0 receiver amount due known.2 known.3 known.6) in (
+            inl (or_second _ _ _ recorded),
             record {
-              participants = (λ i. (book i).participants) ∙ leaves.0;
-              day = (λ i. (book i).day) ∙ leaves.1;
-              orders = subst (λ (b : Book). length old.orders ≤ length b.orders) (sym book) leaves.2;
-              queued = more.0;
-              waiting = more.1;
-              cover = subst (λ (b : Book). balance b sender ≤ℤ balance old sender) (sym book)
-                  (covers_less joins settles old sender reference receiver amount h.orders_numbered due);
-              kept = step_kept old new (PlaceOrder sender reference receiver amount due) reply h s;
+              participants = left.1 ∙ (λ i. (book i).participants) ∙ leaves.0;
+              day = left.0 ∙ day;
+              orders =
+                  let more = subst (λ (b : Book). length old.orders ≤ length b.orders) (sym book) leaves.2 in
+                  omega (arith, more, long);
+              plain = λ plain.
+                  let same = (not_followed old new command reply s (plain_step (may_free command) (is_done s.0.reply)
+                  (is_automatic s.0.book.day) ((λ i. is_automatic (day i)) ∙ plain))).0 ∙ book in
+                  let more = subst (Grows sender old) (sym same)
+                  (grows old sender reference receiver amount due sender h.orders_numbered) in
+                  record {
+                    queued = more.0;
+                    waiting = more.1;
+                    cover = subst (λ (b : Book). balance b sender ≤ℤ balance old sender) (sym same)
+                        (covers_less joins settles old sender reference receiver amount h.orders_numbered due);
+                  };
+              kept = step_kept sounds old new command reply h s;
             },
           )
 
@@ -277,47 +381,44 @@ stopped_after sender old new (PlaceOrder other reference receiver amount due) f 
     (h.0, stopped_later old new other reference receiver amount due (subst (λ s. Follows s old new) (sym h.0) f) h.1)
 stopped_after sender old new other f h = absurd h
 
-module _ (joins : OrdersMove) (settles : SettlingMoves) (law : StepKeepsSoundness) (sender : List ℕ) where
+module _ (joins : OrdersMove) (settles : SettlingMoves) (own : KeepsSoundness) (leaves : IdleLeavesTheBook)
+    (law : StepKeepsSoundness) (sender : List ℕ) where
   after_one : (old new : Book) (command : Command) (reply : Reply) → IsSound old → IsOrderOf sender command
-      → Step old command reply new → Stopped sender new command × Follows sender old new
-  after_one old new (PlaceOrder other reference receiver amount due) reply h is s =
-      let one = after_order joins settles old new other reference receiver amount due reply h s in
+      → (is_automatic old.day ≡ true → IsNotFull reply) → Step old command reply new
+      → Stopped sender new command × Follows sender old new
+  after_one old new (PlaceOrder other reference receiver amount due) reply h is room s =
+      let one = after_order joins settles own leaves old new other reference receiver amount due reply h room s in
       ((is, one.0), subst (λ s. Follows s old new) is one.1)
-  after_one old new other reply h is s = absurd is
+  after_one old new other reply h is room s = absurd is
 
-  follows_all : (old new : Book) (commands : List Command) (replies : List Reply) → IsSound old
-      → AllByRecursion (IsOrderOf sender) commands → Run old commands replies new → Follows sender old new
-  follows_all = over_run law (IsOrderOf sender) (Follows sender)
-      (record { itself = follows_itself sender; through = follows_through sender })
-      (λ old new command reply h is s. (after_one old new command reply h is s).1)
-
-  stopped_all : (old new : Book) (commands : List Command) (replies : List Reply) → IsSound old
-      → AllByRecursion (IsOrderOf sender) commands → Run old commands replies new
-      → AllByRecursion (Stopped sender new) commands
-  stopped_all old new [] [] h is r = tt
-  stopped_all old new [] (reply ∷ replies) h is r = absurd r
-  stopped_all old new (command ∷ commands) [] h is r = absurd r
-  stopped_all old new (command ∷ commands) (reply ∷ replies) h is r =
-      let one = after_one old r.0 command reply h is.0 r.1 in
-      let sound = law old r.0 command reply h r.1 in (
-        stopped_after sender r.0 new command (follows_all r.0 new commands replies sound is.1 r.2) one.0,
-        stopped_all r.0 new commands replies sound is.1 r.2,
+  after_all : (old new : Book) (commands : List Command) (replies : List Reply) → IsSound old
+      → AllByRecursion (IsOrderOf sender) commands → MayComeAgain old replies → Run old commands replies new
+      → AllByRecursion (Stopped sender new) commands × Follows sender old new
+  after_all old new [] [] h is may r = (tt, subst (Follows sender old) (sym r) (follows_itself sender old))
+  after_all old new [] (reply ∷ replies) h is may r = absurd r
+  after_all old new (command ∷ commands) [] h is may r = absurd r
+  after_all old new (command ∷ commands) (reply ∷ replies) h is may r =
+      let one = after_one old r.0 command reply h is.0 (λ automatic. (may automatic).0) r.1 in
+      let rest = after_all r.0 new commands replies (law old r.0 command reply h r.1) is.1
+      (λ automatic. (may ((λ i. is_automatic (sym one.1.day i)) ∙ automatic)).1) r.2 in (
+        (stopped_after sender r.0 new command rest.1 one.0, rest.0),
+        follows_through sender old r.0 new one.1 rest.1,
       )
 
-stays_one : (sender : List ℕ) (old new : Book) (command : Command) (reply : Reply) → Stopped sender old command
-    → Step old command reply new → new ≡ old
-stays_one sender old new (PlaceOrder other reference receiver amount due) reply h s =
-    stays old new other reference receiver amount due reply h.1 s
-stays_one sender old new other reply h s = absurd h
+stays_one : IdleLeavesTheBook → (sender : List ℕ) (old new : Book) (command : Command) (reply : Reply)
+    → Stopped sender old command → Step old command reply new → new ≡ old
+stays_one leaves sender old new (PlaceOrder other reference receiver amount due) reply h s =
+    stays leaves old new other reference receiver amount due reply h.1 s
+stays_one leaves sender old new other reply h s = absurd h
 
-stays_all : (sender : List ℕ) (old new : Book) (commands : List Command) (replies : List Reply)
+stays_all : IdleLeavesTheBook → (sender : List ℕ) (old new : Book) (commands : List Command) (replies : List Reply)
     → AllByRecursion (Stopped sender old) commands → Run old commands replies new → new ≡ old
-stays_all sender old new [] [] h r = r
-stays_all sender old new [] (reply ∷ replies) h r = absurd r
-stays_all sender old new (command ∷ commands) [] h r = absurd r
-stays_all sender old new (command ∷ commands) (reply ∷ replies) h r =
-    let same = stays_one sender old r.0 command reply h.0 r.1 in
-    stays_all sender old new commands replies h.1 (subst (λ b. Run b commands replies new) same r.2)
+stays_all leaves sender old new [] [] h r = r
+stays_all leaves sender old new [] (reply ∷ replies) h r = absurd r
+stays_all leaves sender old new (command ∷ commands) [] h r = absurd r
+stays_all leaves sender old new (command ∷ commands) (reply ∷ replies) h r =
+    let same = stays_one leaves sender old r.0 command reply h.0 r.1 in
+    stays_all leaves sender old new commands replies h.1 (subst (λ b. Run b commands replies new) same r.2)
 
 -- ---- a batch that stopped
 
@@ -350,17 +451,17 @@ all_left : {X : Type 0} (P : X → Type 0) (xs ys : List X) → AllByRecursion P
 all_left P [] ys h = tt
 all_left P (x ∷ xs) ys h = (h.0, all_left P xs ys h.1)
 
-module _ (joins : OrdersMove) (settles : SettlingMoves) (sounds : StepKeepsSoundness)
-    (determined : StepIsDetermined) where
+module _ (joins : OrdersMove) (settles : SettlingMoves) (own : KeepsSoundness) (leaves : IdleLeavesTheBook)
+    (sounds : StepKeepsSoundness) (determined : StepIsDetermined) where
   pub resumed : (old mid last end : Book) (sender : List ℕ) (first rest : List Command) (one two three : List Reply)
-      → IsSound old → AllByRecursion (IsOrderOf sender) (first ++ rest)
+      → IsSound old → AllByRecursion (IsOrderOf sender) (first ++ rest) → MayComeAgain old one
       → Run old first one mid → Run mid (first ++ rest) two last → Run old (first ++ rest) three end → last ≡ end
-  resumed old mid last end sender first rest one two three h is r s t =
+  resumed old mid last end sender first rest one two three h is may r s t =
       let again = run_parts mid last first rest two s in
       let whole = run_parts old end first rest three t in
-      let stopped = stopped_all joins settles sounds sender old mid first one h
-      (all_left (IsOrderOf sender) first rest is) r in
-      let stayed = stays_all sender mid again.0 first again.1 stopped again.3 in
+      let stopped = (after_all joins settles own leaves sounds sender old mid first one h
+      (all_left (IsOrderOf sender) first rest is) may r).0 in
+      let stayed = stays_all leaves sender mid again.0 first again.1 stopped again.3 in
       let there = run_determined determined old whole.0 mid first whole.1 one whole.3 r in
       run_determined determined again.0 last end rest again.2 whole.2 again.4
       (subst (λ b. Run b rest whole.2 end) (there ∙ sym stayed) whole.4)

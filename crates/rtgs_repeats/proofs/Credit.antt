@@ -2,7 +2,7 @@
 use Rattle.std.proofs.Common.{◌≡◌, ℕ, ℤ, pos, neg_ℤ, ◌≤ℤ◌, int_lt, Bool, true, false, cond, not, ◌&&◌, ◌||◌, List, []}
 use Rattle.std.proofs.Common.{◌∷◌, map, find, Ok, unwrap_or, refl, sym, ap, ◌∙◌, subst, true≢false, arith}
 use Rattle.std.proofs.Common.{if◌then◌else◌}
-use Rattle.std.proofs.lemmas.Bool.{not-false}
+use Rattle.std.proofs.lemmas.Bool.{not-false, and_from}
 use Rattle.std.proofs.lemmas.Int.{ints}
 use Rattle.std.specs.List.{AllByRecursion, list_any}
 use Rattle.std.specs.Option.{option_map}
@@ -10,17 +10,21 @@ use Rattle.std.specs.Str.{bytes_eq}
 use Rattle.std.specs.Cmp.Lexicographic.{bytes_decides}
 use Rattle.rtgs_book.specs.declared.book.Book.{Book}
 use Rattle.rtgs_book.specs.declared.participant.Participant.{Participant}
+use Rattle.rtgs_book.specs.declared.command.Command.{Command}
 use Rattle.rtgs_book.specs.declared.command.Command.TheVariants.{SetCredit}
-use Rattle.rtgs_book.specs.declared.answer.Answer.TheVariants.{CreditSet}
+use Rattle.rtgs_book.specs.declared.answer.Answer.TheVariants.{CreditSet, Nothing}
 use Rattle.rtgs_book.specs.Balance.{balance, floor}
-use Rattle.rtgs_book.specs.Books.{is_closed}
+use Rattle.rtgs_book.specs.Books.{is_automatic, is_closed}
+use Rattle.rtgs_book.specs.Calm.{IsCalm}
 use Rattle.rtgs_book.specs.Commands.{set_credit, with_credit}
 use Rattle.rtgs_book.specs.Lookup.{has_code, accounts, is_participant, credit_of, participant_of}
-use Rattle.rtgs_book.specs.Outcome.{Reply, Outcome, first_of}
+use Rattle.rtgs_book.specs.Outcome.{OwnReply, Reply, Outcome, alone, first_of, is_done}
 use Rattle.rtgs_book.specs.Run.{is_accepted}
 use Rattle.rtgs_book.specs.Soundness.{FloorsHold, IsSound}
-use Rattle.rtgs_book.specs.Step.{Step}
+use Rattle.rtgs_book.specs.Step.{OwnStep, Ends, Step, is_followed}
 use Rattle.rtgs_repeats.proofs.Acted.{same_participant}
+use Rattle.rtgs_repeats.proofs.Days.{SomeGreatest, left_so, nothing_more}
+use Rattle.rtgs_repeats.proofs.Following.{own_accepted}
 use Rattle.rtgs_repeats.proofs.Passing.{passed_step}
 use Rattle.rtgs_lists.proofs.Codes.{bytes_eq_comm}
 
@@ -128,26 +132,64 @@ covered book code credit le is = by (is_closed book.day.phase) (credit_of book c
 
 set_there : (book : Book) (code : List ℕ) (credit : ℕ) → is_participant book code ≡ true
     → (not (is_closed book.day.phase) && int_lt (balance book code) (neg_ℤ (pos credit))) ≡ false
-    → with_credit book code credit ≡ book → Step book (SetCredit code credit) (Ok CreditSet) book
+    → with_credit book code credit ≡ book → OwnStep book (SetCredit code credit) (Ok CreditSet) book
 unfolding set_credit first_of
 set_there book code credit known cover has =
     rw (known, cover) (λ i. record { reply = Ok CreditSet; book = sym has i })
 
-was_set : (old new : Book) (reply : Reply) (code : List ℕ) (credit : ℕ) → is_accepted reply ≡ true
-    → Step old (SetCredit code credit) reply new
+was_set : (old new : Book) (reply : OwnReply) (code : List ℕ) (credit : ℕ) → is_done reply ≡ true
+    → OwnStep old (SetCredit code credit) reply new
     → (is_participant old code ≡ true) × (new ≡ with_credit old code credit)
 unfolding set_credit
 was_set old new reply code credit accepted s =
     let p = passed_step old new reply _ _ (refl, (refl, tt)) accepted s in
     (not-false _ p.0.0, ap (λ (o : Outcome). o.book) p.1)
 
-pub set_again : (old new : Book) (reply : Reply) (code : List ℕ) (credit : ℕ) → IsSound new → is_accepted reply ≡ true
-    → Step old (SetCredit code credit) reply new → Step new (SetCredit code credit) (Ok CreditSet) new
-set_again old new reply code credit sound accepted s =
-    let set = was_set old new reply code credit accepted s in
-    let same = ap (λ (b : Book). b.participants) set.1 in
+-- ---- and nothing more follows it, since the book is calm
+
+abbrev pub FollowedBooksAreCalm : Type 0
+FollowedBooksAreCalm = (old new : Book) (command : Command) (reply : Reply) → IsSound old
+    → (s : Step old command reply new) → is_followed command s.0 ≡ true → IsCalm new
+
+opened_when : (a closed : Bool) → (a && not closed) ≡ true → closed ≡ false
+opened_when a false e = refl
+opened_when true true e = absurd (true≢false (sym e))
+opened_when false true e = absurd (true≢false (sym e))
+
+calmly : SomeGreatest → (book : Book) (code : List ℕ) (credit : ℕ) → FloorsHold book
+    → OwnStep book (SetCredit code credit) (Ok CreditSet) book → IsCalm book
+    → Step book (SetCredit code credit) (alone (Ok CreditSet)) book
+calmly exists book code credit floors s calm =
+    (record { reply = Ok CreditSet; book = book }, s, by (is_automatic book.day) refl)
+  where
+    by : (b : Bool) → is_automatic book.day ≡ b
+        → Ends b (record { reply = Ok CreditSet; book = book }) (alone (Ok CreditSet)) book
+    by false e = (refl, refl)
+    by true e =
+        let g = exists book floors in (
+          Ok Nothing,
+          (
+            g.0,
+            g.1,
+            nothing_more book g.0 (opened_when book.day.automatic (is_closed book.day.phase) e) (calm e g.0 g.1),
+          ),
+          refl,
+        )
+
+pub set_again : SomeGreatest → FollowedBooksAreCalm → (old new : Book) (reply : Reply) (code : List ℕ) (credit : ℕ)
+    → IsSound old → IsSound new → is_accepted reply ≡ true → Step old (SetCredit code credit) reply new
+    → Step new (SetCredit code credit) (alone (Ok CreditSet)) new
+set_again exists calms old new reply code credit sound_old sound accepted s =
+    let done = own_accepted old new (SetCredit code credit) reply s accepted in
+    let set = was_set old s.0.book s.0.reply code credit done s.1 in
+    let left = left_so old new (SetCredit code credit) reply s in
+    let same = left.1 ∙ ap (λ (b : Book). b.participants) set.1 in
     let known : is_participant new code ≡ true =
     same_participant (with_credit old code credit) new code same ∙ still_participant old code credit ∙ set.0 in
-    set_there new code credit known
+    calmly exists new code credit sound.floors
+    (set_there new code credit known
     (covered new code credit (floor_there new code sound.floors known) (credit_there old new code credit same set.0))
-    (stays_set old new code credit same)
+    (stays_set old new code credit same))
+    (λ automatic. calms old new (SetCredit code credit) reply sound_old s
+    (and_from (is_done s.0.reply) (is_automatic s.0.book.day) done
+    ((λ i. is_automatic (sym left.0 i)) ∙ automatic)) automatic)

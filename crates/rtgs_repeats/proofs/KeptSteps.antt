@@ -17,10 +17,10 @@ use Rattle.rtgs_book.specs.Commands.{has_number, takes, takes_due, settles_at_on
 use Rattle.rtgs_book.specs.Commands.{with_state, let_in}
 use Rattle.rtgs_book.specs.Commands.{withdraw, open_day, cut_off, resolve, close_day}
 use Rattle.rtgs_book.specs.Lookup.{participant_of, is_order_named, order_named, is_posting_named}
-use Rattle.rtgs_book.specs.Outcome.{Reply, Outcome}
+use Rattle.rtgs_book.specs.Outcome.{OwnReply, Outcome, Reply}
 use Rattle.rtgs_book.specs.Settle.{settle, next_mark}
 use Rattle.rtgs_book.specs.Soundness.{OrdersAreNumbered, IsSound}
-use Rattle.rtgs_book.specs.Step.{Step}
+use Rattle.rtgs_book.specs.Step.{OwnStep, Ends, Step, is_followed}
 use Rattle.rtgs_laws.specs.Through.{GoesThrough}
 use Rattle.rtgs_repeats.specs.Kept.{AreKept}
 use Rattle.rtgs_repeats.proofs.Finds.{find_left, only_one}
@@ -28,6 +28,7 @@ use Rattle.rtgs_repeats.proofs.Kept.{WaitingAlone, queued_waits, orders_same, or
 use Rattle.rtgs_repeats.proofs.Kept.{orders_entered, none_numbered, by_settling, participants_same, participants_added}
 use Rattle.rtgs_repeats.proofs.Kept.{participants_credited, kept_by, kept_through}
 use Rattle.rtgs_repeats.proofs.Passing.{after_tests, choose_book}
+use Rattle.rtgs_repeats.proofs.Runs.{KeepsSoundness}
 use Rattle.rtgs_lists.proofs.Lists.{all_of, all_push, all_weaker}
 
 pub kept_itself : (book : Book) → AreKept book book
@@ -99,7 +100,7 @@ kept_withdrawn book sender reference h = after_tests (AreKept book) book _ _ (ke
 
 -- ---- each command
 
-kept_as : (old new : Book) (reply : Reply) (outcome : Outcome) → record { reply = reply; book = new } ≡ outcome
+kept_as : (old new : Book) (reply : OwnReply) (outcome : Outcome) → record { reply = reply; book = new } ≡ outcome
     → AreKept old outcome.book → AreKept old new
 kept_as old new reply outcome e h = subst (λ (o : Outcome). AreKept old o.book) (sym e) h
 
@@ -109,31 +110,31 @@ kept_added old code name key = after_tests (AreKept old) old _ _ (kept_itself ol
     (λ passed. kept_by old _ (participants_added _ old.participants passed.1.0) (λ reference p e. e)
     (orders_same old.orders))
 
-pub step_kept : (old new : Book) (command : Command) (reply : Reply) → IsSound old → Step old command reply new
-    → AreKept old new
+pub own_step_kept : (old new : Book) (command : Command) (reply : OwnReply) → IsSound old
+    → OwnStep old command reply new → AreKept old new
 unfolding set_credit with_credit post open_day let_in order with_state cut_off resolve close_day
-step_kept old new (Add code name key) reply h e = kept_as old new reply _ e (kept_added old code name key)
-step_kept old new (SetCredit code credit) reply h e = kept_as old new reply _ e
+own_step_kept old new (Add code name key) reply h e = kept_as old new reply _ e (kept_added old code name key)
+own_step_kept old new (SetCredit code credit) reply h e = kept_as old new reply _ e
     (after_tests (AreKept old) old _ _ (kept_itself old) (λ _. kept_by old _
     (participants_credited code credit old.participants) (λ reference p e. e) (orders_same old.orders)))
-step_kept old new (Post code reference cents) reply h e = kept_as old new reply _ e
+own_step_kept old new (Post code reference cents) reply h e = kept_as old new reply _ e
     (after_tests (AreKept old) old _ _ (kept_itself old) (λ _. kept_by old _ (participants_same old.participants)
     (λ reference p e. find_left (is_posting_named reference) old.postings _ p e) (orders_same old.orders)))
-step_kept old new (OpenDay date) reply h e = kept_as old new reply _ e
+own_step_kept old new (OpenDay date automatic) reply h e = kept_as old new reply _ e
     (after_tests (AreKept old) old _ _ (kept_itself old) (λ _. kept_by old _ (participants_same old.participants)
     (λ reference p e. e) (orders_entered date old.orders)))
-step_kept old new (PlaceOrder sender reference receiver amount due) reply h e =
+own_step_kept old new (PlaceOrder sender reference receiver amount due) reply h e =
     kept_as old new reply _ e (after_tests (AreKept old) old _ _ (kept_itself old)
     (λ _. kept_taken old sender reference receiver amount h.orders_numbered due))
-step_kept old new (Withdraw sender reference) reply h e = kept_as old new reply _ e
+own_step_kept old new (Withdraw sender reference) reply h e = kept_as old new reply _ e
     (kept_withdrawn old sender reference h.orders_numbered)
-step_kept old new Resolve reply h e = kept_as old new reply _ e.2
+own_step_kept old new Resolve reply h e = kept_as old new reply _ e.2
     (after_tests (AreKept old) old _ _ (kept_itself old) (λ _. choose_book (AreKept old) (is_empty (chosen old e.0)) _ _
     (kept_itself old) (kept_settle old (is_chosen old e.0) (chosen_waits old e.0))))
-step_kept old new (CutOff date) reply h e = kept_as old new reply _ e
+own_step_kept old new (CutOff date) reply h e = kept_as old new reply _ e
     (after_tests (AreKept old) old _ _ (kept_itself old) (λ _. kept_by old _ (participants_same old.participants)
     (λ reference p e. e) (orders_same old.orders)))
-step_kept old new (CloseDay date) reply h e = kept_as old new reply _ e.2
+own_step_kept old new (CloseDay date) reply h e = kept_as old new reply _ e.2
     (after_tests (AreKept old) old _ _ (kept_itself old) (λ _. kept_by old _ (participants_same old.participants)
     (λ reference p e. e)
     (orders_restated is_queued Rejected old.orders refl
@@ -141,3 +142,21 @@ step_kept old new (CloseDay date) reply h e = kept_as old new reply _ e.2
 
 pub kept_goes_through : GoesThrough AreKept
 kept_goes_through = record { itself = kept_itself; through = kept_through }
+
+-- what follows the command keeps what it left
+ends_kept : KeepsSoundness → (b : Bool) (new : Book) (own : Outcome) (reply : Reply) → IsSound own.book
+    → Ends b own reply new → AreKept own.book new
+ends_kept sounds false new own reply h e = subst (AreKept own.book) (sym e.1) (kept_itself own.book)
+ends_kept sounds true new own reply h e = own_step_kept own.book new Resolve e.0 h e.1
+
+pub kept_after : KeepsSoundness → (old new : Book) (command : Command) (reply : Reply) → IsSound old
+    → (s : Step old command reply new) → AreKept s.0.book new
+kept_after sounds old new command reply h s =
+    ends_kept sounds (is_followed command s.0) new s.0 reply (sounds old s.0.book command s.0.reply h s.1) s.2
+
+-- so the whole step keeps them, of which what follows the command is one more
+pub step_kept : KeepsSoundness → (old new : Book) (command : Command) (reply : Reply) → IsSound old
+    → Step old command reply new → AreKept old new
+step_kept sounds old new command reply h s =
+    kept_through old s.0.book new (own_step_kept old s.0.book command s.0.reply h s.1)
+    (kept_after sounds old new command reply h s)

@@ -14,17 +14,19 @@ use Rattle.rtgs_book.specs.declared.command.Command.{Command}
 use Rattle.rtgs_book.specs.declared.command.Command.TheVariants.{Post, Order as PlaceOrder}
 use Rattle.rtgs_book.specs.Commands.{post, is_same_posting, order, is_same_order, is_same_due}
 use Rattle.rtgs_book.specs.Lookup.{order_named, posting_named}
-use Rattle.rtgs_book.specs.Outcome.{Reply, Outcome}
+use Rattle.rtgs_book.specs.Outcome.{OwnReply, Reply, Outcome, is_done}
 use Rattle.rtgs_book.specs.Run.{Run, is_accepted, is_same_entry, is_recorded, once_after}
 use Rattle.rtgs_book.specs.Soundness.{IsSound}
-use Rattle.rtgs_book.specs.Step.{Step}
+use Rattle.rtgs_book.specs.Step.{OwnStep, Step}
 use Rattle.rtgs_repeats.specs.Kept.{AreKept}
 use Rattle.rtgs_repeats.specs.Once.{once_replies_after}
 use Rattle.rtgs_repeats.proofs.Acted.{posted_known, ordered_known, order_same, posting_same}
-use Rattle.rtgs_repeats.proofs.KeptSteps.{step_kept}
-use Rattle.rtgs_repeats.proofs.Runs.{StepKeepsSoundness}
+use Rattle.rtgs_repeats.proofs.Acted.{not_accepted_order, not_accepted_posting}
+use Rattle.rtgs_repeats.proofs.Following.{IdleLeavesTheBook, idle, own_accepted}
+use Rattle.rtgs_repeats.proofs.KeptSteps.{step_kept, kept_after}
+use Rattle.rtgs_repeats.proofs.Runs.{KeepsSoundness, StepKeepsSoundness}
 use Rattle.rtgs_repeats.proofs.Kept.{kept_through}
-use Rattle.rtgs_repeats.proofs.Passing.{some_holds}
+use Rattle.rtgs_repeats.proofs.Passing.{some_refuses}
 use Rattle.rtgs_lists.proofs.Lists.{all_weaker}
 use Rattle.rtgs_lists.proofs.Numbers.{same_from_int_eq}
 
@@ -32,19 +34,28 @@ pub or_second : (a b c : Bool) → b ≡ true → (a || (b || c)) ≡ true
 or_second true b c e = refl
 or_second false b c e = rw e refl
 
-pub book_as : (old new : Book) (reply : Reply) (outcome : Outcome) → record { reply = reply; book = new } ≡ outcome
+pub book_as : (old new : Book) (reply : OwnReply) (outcome : Outcome) → record { reply = reply; book = new } ≡ outcome
     → outcome.book ≡ old → new ≡ old
 book_as old new reply outcome e same = ap (λ (o : Outcome). o.book) e ∙ same
 
--- what the book has changes nothing
-pub recorded_idle : (old new : Book) (command : Command) (reply : Reply) → is_recorded old command ≡ true
-    → Step old command reply new → new ≡ old
+-- what the book has is answered, and does not act
+own_recorded : (old new : Book) (command : Command) (reply : OwnReply) → is_recorded old command ≡ true
+    → OwnStep old command reply new → is_done reply ≡ false
 unfolding post order
-recorded_idle old new (PlaceOrder sender reference receiver amount due) reply e s =
-    book_as old new reply _ s (some_holds old _ _ (or_second _ _ _ e))
-recorded_idle old new (Post code reference cents) reply e s =
-    book_as old new reply _ s (some_holds old _ _ (or_second _ _ _ e))
-recorded_idle old new other reply e s = absurd (true≢false (sym e))
+own_recorded old new (PlaceOrder sender reference receiver amount due) reply e s =
+    ap (λ (o : Outcome). is_done o.reply) s ∙ some_refuses old _ _
+    (refl, (not_accepted_order _, (refl, (refl, (refl, (refl, (refl, (refl, (refl, (refl, tt))))))))))
+    (or_second _ _ _ e)
+own_recorded old new (Post code reference cents) reply e s =
+    ap (λ (o : Outcome). is_done o.reply) s ∙ some_refuses old _ _
+    (refl, (not_accepted_posting _, (refl, (refl, (refl, (refl, tt)))))) (or_second _ _ _ e)
+own_recorded old new other reply e s = absurd (true≢false (sym e))
+
+-- so it changes nothing
+recorded_idle : IdleLeavesTheBook → (old new : Book) (command : Command) (reply : Reply)
+    → is_recorded old command ≡ true → Step old command reply new → new ≡ old
+recorded_idle leaves old new command reply e s =
+    idle leaves old new command reply s (own_recorded old s.0.book command s.0.reply e s.1)
 
 -- what the book has it keeps
 pub recorded_kept : (old new : Book) (command : Command) → AreKept old new → is_recorded old command ≡ true
@@ -124,21 +135,27 @@ same_entry (Post code r cents) (Post code' r' cents') e =
 same_entry other one e = absurd (true≢false (sym e))
 
 -- an Order or Post that was accepted is had
-accepted_recorded : (old new : Book) (reply : Reply) (one : Command) → IsSound old → is_accepted reply ≡ true
-    → Step old one reply new → is_entry one ≡ true → is_recorded new one ≡ true
-accepted_recorded old new reply (PlaceOrder sender reference receiver amount due) h accepted s e =
+own_accepted_recorded : (old new : Book) (reply : OwnReply) (one : Command) → IsSound old → is_done reply ≡ true
+    → OwnStep old one reply new → is_entry one ≡ true → is_recorded new one ≡ true
+own_accepted_recorded old new reply (PlaceOrder sender reference receiver amount due) h accepted s e =
     let p = ordered_known old new reply sender reference receiver amount due h accepted s in
     ap (λ found. is_same_order found receiver amount due) p.1 ∙ order_same p.0 receiver amount due p.2 p.3 p.6
-accepted_recorded old new reply (Post code reference cents) h accepted s e =
+own_accepted_recorded old new reply (Post code reference cents) h accepted s e =
     let p = posted_known old new reply code reference cents accepted s in
     ap (λ found. is_same_posting found code cents) p.1 ∙ posting_same p.0 code cents p.2 p.3
-accepted_recorded old new reply other h accepted s e = absurd (true≢false (sym e))
+own_accepted_recorded old new reply other h accepted s e = absurd (true≢false (sym e))
 
-accepted_covered : (old new : Book) (reply : Reply) (one : Command) → IsSound old → is_accepted reply ≡ true
-    → Step old one reply new → Covers new one
-accepted_covered old new reply one h accepted s other e =
+pub accepted_recorded : KeepsSoundness → (old new : Book) (reply : Reply) (one : Command) → IsSound old
+    → is_accepted reply ≡ true → Step old one reply new → is_entry one ≡ true → is_recorded new one ≡ true
+accepted_recorded sounds old new reply one h accepted s e =
+    recorded_kept s.0.book new one (kept_after sounds old new one reply h s)
+    (own_accepted_recorded old s.0.book s.0.reply one h (own_accepted old new one reply s accepted) s.1 e)
+
+accepted_covered : KeepsSoundness → (old new : Book) (reply : Reply) (one : Command) → IsSound old
+    → is_accepted reply ≡ true → Step old one reply new → Covers new one
+accepted_covered sounds old new reply one h accepted s other e =
     let same = same_entry other one e in
-    ap (is_recorded new) same.0 ∙ accepted_recorded old new reply one h accepted s same.1
+    ap (is_recorded new) same.0 ∙ accepted_recorded sounds old new reply one h accepted s same.1
 
 any_covered : (book : Book) (ones : List Command) (other : Command) → AllByRecursion (Covers book) ones
     → list_any (is_same_entry other) ones ≡ true → is_recorded book other ≡ true
@@ -148,7 +165,7 @@ any_covered book (one ∷ ones) other h e = ⊎_elim (λ here. h.0 other here) (
 
 -- ---- the list
 
-module _ (law : StepKeepsSoundness) (start : Book) where
+module _ (sounds : KeepsSoundness) (leaves : IdleLeavesTheBook) (law : StepKeepsSoundness) (start : Book) where
   pub once_run : (accepted : List Command) (old new : Book) (commands : List Command) (replies : List Reply)
       → IsSound old → AreKept start old → AllByRecursion (Covers old) accepted
       → Run old commands replies new → Run old (once_after accepted start commands replies)
@@ -158,7 +175,7 @@ module _ (law : StepKeepsSoundness) (start : Book) where
   once_run accepted old new [] (reply ∷ replies) h kept covers r = absurd r
   once_run accepted old new (command ∷ commands) [] h kept covers r = absurd r
   once_run accepted old new (command ∷ commands) (reply ∷ replies) h kept covers r =
-      let onward = step_kept old r.0 command reply h r.1 in
+      let onward = step_kept sounds old r.0 command reply h r.1 in
       by (is_recorded start command || list_any (is_same_entry command) accepted) refl onward
       (λ more covered. once_run more r.0 new commands replies (law old r.0 command reply h r.1)
       (kept_through start old r.0 kept onward) covered r.2)
@@ -173,7 +190,7 @@ module _ (law : StepKeepsSoundness) (start : Book) where
 
       more : AreKept old r.0 → (b : Bool) → is_accepted reply ≡ b
           → AllByRecursion (Covers r.0) (cond b (command ∷ accepted) accepted)
-      more onward true e = (accepted_covered old r.0 reply command h e r.1, still onward)
+      more onward true e = (accepted_covered sounds old r.0 reply command h e r.1, still onward)
       more onward false e = still onward
 
       by : (b : Bool) → (is_recorded start command || list_any (is_same_entry command) accepted) ≡ b → AreKept old r.0
@@ -185,7 +202,8 @@ module _ (law : StepKeepsSoundness) (start : Book) where
           (reply ∷ once_replies_after (cond (is_accepted reply) (command ∷ accepted) accepted) start commands
           replies)) new
       by true e onward rest = subst (λ (b : Book). Run b (once_after accepted start commands replies)
-          (once_replies_after accepted start commands replies) new) (recorded_idle old r.0 command reply (had e) r.1)
+          (once_replies_after accepted start commands replies) new)
+          (recorded_idle leaves old r.0 command reply (had e) r.1)
           (rest accepted (still onward))
       by false e onward rest = (
         r.0,

@@ -17,15 +17,14 @@ use Rattle.rtgs_book.specs.Choice.{Choice, is_chosen, chosen, balance_after, IsF
 use Rattle.rtgs_book.specs.Commands.{resolve}
 use Rattle.rtgs_book.specs.IntSum.{int_sum_by}
 use Rattle.rtgs_book.specs.Lookup.{accounts, is_participant, credit_of, participant_of}
-use Rattle.rtgs_book.specs.Outcome.{Reply, Outcome, first_of}
+use Rattle.rtgs_book.specs.Outcome.{OwnReply, Outcome, is_done}
 use Rattle.rtgs_book.specs.Queue.{queue, orders_before}
-use Rattle.rtgs_book.specs.Run.{is_accepted}
 use Rattle.rtgs_book.specs.Settle.{settle}
 use Rattle.rtgs_book.specs.Soundness.{OrdersAreNumbered, has_parties, IsSound}
-use Rattle.rtgs_book.specs.Step.{Step}
-use Rattle.rtgs_repeats.proofs.Days.{SomeGreatest}
+use Rattle.rtgs_book.specs.Step.{OwnStep}
+use Rattle.rtgs_repeats.proofs.Days.{SomeGreatest, nothing_more}
 use Rattle.rtgs_repeats.proofs.Kept.{by_settling}
-use Rattle.rtgs_repeats.proofs.Runs.{StepKeepsSoundness}
+use Rattle.rtgs_repeats.proofs.Runs.{KeepsSoundness}
 use Rattle.rtgs_repeats.proofs.Sums.{sent_by, by_senders}
 use Rattle.rtgs_repeats.proofs.Passing.{passed_step}
 use Rattle.rtgs_lists.proofs.Lists.{all_filter, all_weaker}
@@ -166,12 +165,7 @@ unfolding settle chosen
 settled book choice true e one other f g = rw e f
 settled book choice false e one other f g = g
 
-nothing_more : (book : Book) (choice : Choice) → is_closed book.day.phase ≡ false → is_empty (chosen book choice) ≡ true
-    → record { reply = Ok Nothing; book = book } ≡ resolve book choice
-unfolding resolve first_of
-nothing_more book choice e f = rw (e, f) refl
-
-resolved_as : (old new : Book) (reply : Reply) (choice : Choice) → is_accepted reply ≡ true → record {
+resolved_as : (old new : Book) (reply : OwnReply) (choice : Choice) → is_done reply ≡ true → record {
   reply = reply;
   book = new;
 } ≡ resolve old choice → (is_closed old.day.phase ≡ false) × (new ≡ settle old (is_chosen old choice))
@@ -180,12 +174,12 @@ resolved_as old new reply choice accepted s =
     let p = passed_step old new reply _ _ (refl, tt) accepted s in
     (p.0.0, ap (λ (o : Outcome). o.book) p.1 ∙ settled old choice (is_empty (chosen old choice)) refl _ _ refl refl)
 
-pub resolved_again : ChosenAreBeginnings → RestStaysQueued → SettledBalances → SomeGreatest → StepKeepsSoundness
-    → (old new : Book) (reply : Reply) → IsSound old → is_accepted reply ≡ true → Step old Resolve reply new
-    → Step new Resolve (Ok Nothing) new
+pub resolved_again : ChosenAreBeginnings → RestStaysQueued → SettledBalances → SomeGreatest → KeepsSoundness
+    → (old new : Book) (reply : OwnReply) → IsSound old → is_done reply ≡ true → OwnStep old Resolve reply new
+    → OwnStep new Resolve (Ok Nothing) new
 resolved_again beginnings rest balances greatest sounds old new reply sound accepted s =
     let p = resolved_as old new reply s.0 accepted s.2 in
-    subst (λ book. IsSound book → Step book Resolve (Ok Nothing) book) (sym p.1)
+    subst (λ book. IsSound book → OwnStep book Resolve (Ok Nothing) book) (sym p.1)
     (λ sound_mid.
     let next = greatest (settle old (is_chosen old s.0)) sound_mid.floors in
     let none = none_left beginnings rest balances old s.0 next.0 sound sound_mid s.1 next.1.feasible in

@@ -3,11 +3,16 @@ use Rattle.std.proofs.Common.{List, [], ◌∷◌, sym, subst}
 use Rattle.std.specs.List.{AllByRecursion}
 use Rattle.rtgs_book.specs.declared.book.Book.{Book}
 use Rattle.rtgs_book.specs.declared.command.Command.{Command}
-use Rattle.rtgs_book.specs.Outcome.{Reply}
+use Rattle.rtgs_book.specs.Outcome.{OwnReply, Reply}
 use Rattle.rtgs_book.specs.Run.{Run}
 use Rattle.rtgs_book.specs.Soundness.{IsSound}
-use Rattle.rtgs_book.specs.Step.{Step}
+use Rattle.rtgs_book.specs.Step.{OwnStep, Step}
 use Rattle.rtgs_laws.specs.Through.{GoesThrough}
+
+-- each command by itself keeps a sound book sound
+abbrev pub KeepsSoundness : Type 0
+KeepsSoundness = (old new : Book) (command : Command) (reply : OwnReply) → IsSound old → OwnStep old command reply new
+    → IsSound new
 
 abbrev pub StepKeepsSoundness : Type 0
 StepKeepsSoundness = (old new : Book) (command : Command) (reply : Reply) → IsSound old → Step old command reply new

@@ -17,8 +17,7 @@ use Rattle.rtgs_book.specs.Balance.{balance, gain}
 use Rattle.rtgs_book.specs.IntSum.{int_sum_by}
 use Rattle.rtgs_book.specs.Commands.{settles_at_once, new_order, with_order, has_number, takes, takes_due}
 use Rattle.rtgs_book.specs.Queue.{queue, waiting}
-use Rattle.rtgs_book.specs.Outcome.{Outcome}
-use Rattle.rtgs_book.specs.Run.{is_accepted}
+use Rattle.rtgs_book.specs.Outcome.{Outcome, is_done}
 use Rattle.rtgs_book.specs.Settle.{restated, settle, next_mark}
 use Rattle.rtgs_book.specs.Soundness.{OrdersAreNumbered}
 use Rattle.rtgs_lists.proofs.Codes.{bytes_eq_self}
@@ -28,12 +27,12 @@ use Rattle.rtgs_lists.proofs.Numbers.{eq_self}
 use Rattle.rtgs_repeats.proofs.Kept.{none_numbered, by_settling}
 use Rattle.rtgs_repeats.proofs.Passing.{choose, choose_book}
 
-takes_accepted : (book : Book) (o : Order) → is_accepted (takes book o).reply ≡ true
+takes_accepted : (book : Book) (o : Order) → is_done (takes book o).reply ≡ true
 unfolding takes
-takes_accepted book o = choose (λ (out : Outcome). is_accepted out.reply ≡ true)
+takes_accepted book o = choose (λ (out : Outcome). is_done out.reply ≡ true)
     (settles_at_once book o.sender o.amount) _ _ refl refl
 
-pub takes_due_accepted : (book : Book) (o : Order) (due : Option ℕ) → is_accepted (takes_due book o due).reply ≡ true
+pub takes_due_accepted : (book : Book) (o : Order) (due : Option ℕ) → is_done (takes_due book o due).reply ≡ true
 takes_due_accepted book o None = takes_accepted book o
 takes_due_accepted book o (Some due) = refl
 

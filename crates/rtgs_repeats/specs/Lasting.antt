@@ -8,7 +8,8 @@ use Rattle.rtgs_book.specs.Balance.{total}
 use Rattle.rtgs_book.specs.Choice.{Choice, chosen, IsGreatest}
 use Rattle.rtgs_book.specs.Commands.{repeated}
 use Rattle.rtgs_book.specs.Laws.{posted, KeepsWhatIsFinal}
-use Rattle.rtgs_book.specs.Outcome.{Reply}
+use Rattle.rtgs_book.specs.Calm.{IsCalm}
+use Rattle.rtgs_book.specs.Outcome.{Reply, alone, own_of}
 use Rattle.rtgs_book.specs.Run.{Run, is_accepted, once}
 use Rattle.rtgs_book.specs.Step.{Step}
 use Rattle.rtgs_repeats.specs.Once.{once_replies}
@@ -22,11 +23,11 @@ IsKnown book command reply =
 
 -- the command at once again changes nothing
 abbrev pub StaysAtOnce : Book → Command → Type 0
-StaysAtOnce book (SetCredit code credit) = Step book (SetCredit code credit) (Ok CreditSet) book
-StaysAtOnce book (OpenDay date) = Step book (OpenDay date) repeated book
-StaysAtOnce book Resolve = Step book Resolve (Ok Nothing) book
-StaysAtOnce book (CutOff date) = Step book (CutOff date) repeated book
-StaysAtOnce book (CloseDay date) = Step book (CloseDay date) repeated book
+StaysAtOnce book (SetCredit code credit) = Step book (SetCredit code credit) (alone (Ok CreditSet)) book
+StaysAtOnce book (OpenDay date automatic) = Step book (OpenDay date automatic) (alone repeated) book
+StaysAtOnce book Resolve = Step book Resolve (alone (Ok Nothing)) book
+StaysAtOnce book (CutOff date) = Step book (CutOff date) (alone repeated) book
+StaysAtOnce book (CloseDay date) = Step book (CloseDay date) (alone repeated) book
 StaysAtOnce book command = ⊤
 
 -- what lasts of a command, its reply, and the book that it leaves
@@ -40,8 +41,10 @@ pub record IsLasting (old : Book) (command : Command) (reply : Reply) (new : Boo
   -- and the rest where it comes again at once
   pub at_once : is_accepted reply ≡ true → StaysAtOnce new command
   -- what a close rejected was a deadlock
-  pub deadlock : (date count : ℕ) → command ≡ CloseDay date → reply ≡ Ok (Closed count) → (choice : Choice)
+  pub deadlock : (date count : ℕ) → command ≡ CloseDay date → own_of reply ≡ Ok (Closed count) → (choice : Choice)
       → IsGreatest old choice → chosen old choice ≡ []
+  -- a calm book stays calm, and so does any book that a resolution followed
+  pub calm : IsCalm old → IsCalm new
 
 -- what the accepted postings of a list add to all balances together
 abbrev pub posted_by : List Command → List Reply → ℤ
@@ -55,3 +58,4 @@ pub record AreLasting (old : Book) (commands : List Command) (replies : List Rep
   pub money : total new ≡ total old +ℤ posted_by commands replies
   -- each order and posting but once makes the same book, with the same replies to what stays
   pub once : Run old (once old commands replies) (once_replies old commands replies) new
+  pub calm : IsCalm old → IsCalm new

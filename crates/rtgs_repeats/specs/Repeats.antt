@@ -8,7 +8,7 @@ use Rattle.rtgs_book.specs.declared.command.Command.TheVariants as command
 use Rattle.rtgs_book.specs.declared.answer.Answer.TheVariants as answer
 use Rattle.rtgs_book.specs.declared.answer.Known.TheVariants as known
 use Rattle.rtgs_book.specs.Lookup.{order_named}
-use Rattle.rtgs_book.specs.Outcome.{Reply}
+use Rattle.rtgs_book.specs.Outcome.{OwnReply, Reply, alone, own_of}
 
 -- the commands that act once, and are known ever after
 abbrev pub acts_once : Command → Bool
@@ -19,21 +19,27 @@ acts_once (command.Withdraw sender reference) = true
 acts_once other = false
 
 -- the number that an accepted posting, order or withdrawal was answered, and 0 for other answers
-abbrev pub answered_number : Reply → ℕ
-answered_number (Ok (answer.Posted number)) = number
-answered_number (Ok (answer.Settled number mark)) = number
-answered_number (Ok (answer.Queued number place)) = number
-answered_number (Ok (answer.Held number due)) = number
-answered_number (Ok (answer.Withdrawn number)) = number
-answered_number reply = 0
+abbrev pub own_number : OwnReply → ℕ
+own_number (Ok (answer.Posted number)) = number
+own_number (Ok (answer.Settled number mark)) = number
+own_number (Ok (answer.Queued number place)) = number
+own_number (Ok (answer.Held number due)) = number
+own_number (Ok (answer.Withdrawn number)) = number
+own_number reply = 0
 
--- the reply to the command where it comes again: the number that it was answered, and of an order its state now
+-- so whatever was resolved after it
+abbrev pub answered_number : Reply → ℕ
+answered_number reply = own_number (own_of reply)
+
+-- The reply to the command where it comes again: the number that it was answered, and of an order its state now.
+-- Nothing is resolved after it.
 abbrev pub IsRepeat : Book → Command → ℕ → Reply → Type 0
-IsRepeat book (command.Add code name key) number reply = reply ≡ Ok (answer.Repeated known.Nothing)
-IsRepeat book (command.Post code reference cents) number reply = reply ≡ Ok (answer.Repeated (known.Posting number))
+IsRepeat book (command.Add code name key) number reply = reply ≡ alone (Ok (answer.Repeated known.Nothing))
+IsRepeat book (command.Post code reference cents) number reply = reply
+    ≡ alone (Ok (answer.Repeated (known.Posting number)))
 IsRepeat book (command.Order sender reference receiver amount due) number reply =
     (o : Order) × (order_named book sender reference ≡ Some o) × (o.number ≡ number)
-    × (reply ≡ Ok (answer.Repeated (known.Order number o.state)))
+    × (reply ≡ alone (Ok (answer.Repeated (known.Order number o.state))))
 IsRepeat book (command.Withdraw sender reference) number reply = reply
-    ≡ Ok (answer.Repeated (known.Order number state.Withdrawn))
+    ≡ alone (Ok (answer.Repeated (known.Order number state.Withdrawn)))
 IsRepeat book other number reply = ⊥

@@ -18,13 +18,16 @@ use Rattle.rtgs_book.specs.declared.Order.{Order}
 use Rattle.rtgs_book.specs.Balance.{balance}
 use Rattle.rtgs_rows.specs.Dues.{without_due, forwards_of}
 use Rattle.rtgs_rows.specs.Tables.{schema_in, known_tables, table_count, tables_in, desk_table, participant_table}
-use Rattle.rtgs_rows.specs.Tables.{posting_table, payment_table, mark_table, forward_table, width, versions, IsVersion}
+use Rattle.rtgs_rows.specs.Tables.{posting_table, payment_table, mark_table, forward_table, resolution_table, width}
+use Rattle.rtgs_rows.specs.Tables.{versions, IsVersion}
 use Rattle.rtgs_rows.specs.Migrating.{HasNoMore}
 use Rattle.rtgs_lists.proofs.Lists.{all_get}
-use Rattle.rtgs_rows.specs.TableRecords.{TableRecords, Each, HasNoneBeyond, records_of_tables}
+use Rattle.rtgs_rows.specs.TableRecords.{TableRecords, Each, HasNoMoreBeyond, records_of_tables}
 use Rattle.rtgs_rows.specs.declared.forward.Forward.{Forward}
-use Rattle.rtgs_rows.specs.Rows.{day_row, posting_row, payment_row, mark_row, shown_day, shown_posting, shown_order}
-use Rattle.rtgs_rows.specs.Rows.{shown_mark, forward_row, shown_forward}
+use Rattle.rtgs_rows.specs.declared.resolution_row.ResolutionRow.{ResolutionRow}
+use Rattle.rtgs_rows.specs.Rows.{desk_row, desk_row_of, posting_row, payment_row, mark_row, forward_row, resolution_row}
+use Rattle.rtgs_rows.specs.Rows.{resolution_row_of, shown_desk, shown_posting, shown_order, shown_mark, shown_forward}
+use Rattle.rtgs_rows.specs.Rows.{shown_resolution}
 use Rattle.rtgs_rows.specs.Content.{Tables, tables_of_in, all_tables, tables_for_in, Holding, holding_row}
 use Rattle.rtgs_rows.specs.Content.{stored_account, Content, HoldsIn, IsInOrder}
 use Rattle.rtgs_rows.specs.Keeping.{SameLists, IsBookOf, content_of}
@@ -36,9 +39,8 @@ use Rattle.rtgs_rows.specs.RowLaws.{ShownRecordsAreHeld}
 
 -- ---- the tables of numbered records
 
-day_told : (version : ℕ) → IsTold desk_table (day_row version) (shown_day version) (λ _. 1)
-day_told version =
-    record { numbered = (refl, _, _, refl); stands = λ d. (refl, refl, refl); told = λ r d all null e. cc }
+desk_told : IsTold desk_table desk_row shown_desk (λ _. 1)
+desk_told = record { numbered = (refl, _, _, refl); stands = λ d. (refl, refl, refl); told = λ r d all null e. cc }
 
 posting_told : IsTold posting_table posting_row shown_posting (λ p. p.number)
 posting_told = record { numbered = (refl, _, _, refl); stands = λ p. (refl, refl, refl); told = λ r p all null e. cc }
@@ -51,6 +53,10 @@ mark_told = record { numbered = (refl, _, _, refl); stands = λ m. (refl, refl, 
 
 forward_told : IsTold forward_table forward_row shown_forward (λ f. f.number)
 forward_told = record { numbered = (refl, _, _, refl); stands = λ f. (refl, refl, refl); told = λ r f all null e. cc }
+
+resolution_told : IsTold resolution_table resolution_row shown_resolution (λ _. 1)
+resolution_told =
+    record { numbered = (refl, _, _, refl); stands = λ c. (refl, refl, refl); told = λ r c all null e. cc }
 
 -- the query shows of an order what it shows of it without its due date
 shown_without : (os : List Order) → map shown_order (map without_due os) ≡ map shown_order os
@@ -94,15 +100,16 @@ pub book_is_whole : (version : ℕ) (content : Content) (trees : Trees) (book : 
     → IsBookOf book content → AreWholeIn version trees
 book_is_whole version content trees book holds of =
     let order = book_in_order book content of in
-    let day = numbered_rows (day_told version) (content.day ∷ []) refl (tt, tt) in
+    let day = numbered_rows desk_told (desk_row_of version content.day ∷ []) refl (tt, tt) in
     let people = are_numbered (width participant_table) holding_row (λ (h : Holding). h.id) (λ h. (refl, refl))
     content.holdings refl order.ids in
     let postings = numbered_rows posting_told content.postings refl order.postings in
     let orders = numbered_rows order_told content.orders refl order.orders in
     let marks = numbered_rows mark_told content.marks refl order.marks in
     let forwards = numbered_rows forward_told content.forwards refl order.forwards in
+    let choice = numbered_rows resolution_told (resolution_row_of content.day ∷ []) refl (tt, tt) in
     first_pairs (λ t rows. AreNumberedRows (width t) rows) trees (table_count version) known_tables _
-    (day, (people, (postings, (orders, (marks, (forwards, tt)))))) holds.rows
+    (day, (people, (postings, (orders, (marks, (forwards, (choice, tt))))))) holds.rows
 
 -- ---- tables that show a book hold it
 
@@ -168,7 +175,7 @@ shown_tables_are version trees book accounts people whole shows order =
     let schema = schema_in version in
     let follow : RowsFollow schema version trees accounts book records_of_tables (all_tables version
     (content_of book people.holdings)) = (
-      λ table. rows_are (day_told version) schema trees (book.day ∷ []) table (tt, tt),
+      λ table. rows_are desk_told schema trees (desk_row_of version book.day ∷ []) table (tt, tt),
       (
         λ table same. people.rows_are,
         (
@@ -178,7 +185,10 @@ shown_tables_are version trees book accounts people whole shows order =
                 (subst (ShowsTable payment_table trees) (shown_without book.orders) shows),
             (
               λ table. rows_are mark_told schema trees book.marks table order.marks,
-              (λ table. rows_are forward_told schema trees (forwards_of book.orders) table order.forwards, tt),
+              (
+                λ table. rows_are forward_told schema trees (forwards_of book.orders) table order.forwards,
+                (λ table. rows_are resolution_told schema trees (resolution_row_of book.day ∷ []) table (tt, tt), tt),
+              ),
             ),
           ),
         ),
@@ -186,13 +196,16 @@ shown_tables_are version trees book accounts people whole shows order =
     ) in
     first_rows (table_count version) schema version trees accounts book records_of_tables _ follow whole shows
 
--- where the book has no record of a table that the version lacks, its records there are those of a new desk
+-- of the tables that the version lacks the rows are those of a new desk, where the records are
 no_more : (book : Book) (holdings : List Holding) (accounts : List Account) (version : ℕ) → IsVersion version
-    → HasNoneBeyond version accounts book → HasNoMore version (content_of book holdings)
+    → HasNoMoreBeyond version accounts book → HasNoMore version (content_of book holdings)
 no_more book holdings accounts version known =
-    all_get (λ v. HasNoneBeyond v accounts book → HasNoMore v (content_of book holdings)) versions known.0 version
-    known.1 (sym known.2)
-    (λ none. ap (λ (fs : List Forward). map forward_row fs ∷ []) none.0, (λ none. refl, tt))
+    all_get (λ v. HasNoMoreBeyond v accounts book → HasNoMore v (content_of book holdings)) versions known.0 version
+    known.1 (sym known.2) (
+      λ none. ap₂ (λ (fs : List Forward) (cs : List ResolutionRow). map forward_row fs ∷ map resolution_row cs ∷ [])
+          none.0 none.1.0,
+      (λ none. ap (λ (cs : List ResolutionRow). map resolution_row cs ∷ []) none.0, (λ none. refl, tt)),
+    )
 
 pub held : ShownRecordsAreHeld
 held version known trees book accounts sound full is fits shown stored =

@@ -1,6 +1,6 @@
 -- The tables hold one book at most.
 use Rattle.std.proofs.Common.{◌≡◌, ℕ, pos, zero, suc, List, [], ◌∷◌, ◌++◌, map, Option, Some, None, refl, sym, ap, ap₂}
-use Rattle.std.proofs.Common.{subst, ◌∙◌, arith, add-one}
+use Rattle.std.proofs.Common.{Bool, true, false, subst, ◌∙◌, arith, add-one}
 use Rattle.std.specs.List.{AllByRecursion}
 use Rattle.std.specs.List.Sorted.{IsPermutation, IsSorted, IsStrictlySortedBy}
 use Rattle.std.specs.Ordering.{nat_cmp, int_cmp, ordering_reverse, is_lt}
@@ -32,12 +32,12 @@ use Rattle.rtgs_book.specs.Lookup.{accounts}
 use Rattle.rtgs_book.specs.Soundness.{CodesRise}
 use Rattle.rtgs_rows.specs.declared.numbers.TheConstants.{VERSION}
 use Rattle.rtgs_rows.specs.Rows.{date_value, phase_number, state_number, mark_value, day_row, posting_row, payment_row}
-use Rattle.rtgs_rows.specs.Rows.{mark_row, forward_row}
+use Rattle.rtgs_rows.specs.Rows.{mark_row, forward_row, resolution_number, choice_row}
 use Rattle.rtgs_rows.specs.Dues.{without_due, forward_for, forwards_of}
 use Rattle.rtgs_rows.specs.declared.forward.Forward.{Forward}
 use Rattle.rtgs_rows.proofs.Ordered.{rises, dues_above}
 use Rattle.rtgs_rows.specs.Tables.{desk_table, participant_table, posting_table, payment_table, mark_table}
-use Rattle.rtgs_rows.specs.Tables.{forward_table}
+use Rattle.rtgs_rows.specs.Tables.{forward_table, resolution_table}
 use Rattle.rtgs_rows.specs.Content.{Holding, Content, holding_row, tables_for, rows_in, Rise}
 use Rattle.rtgs_rows.specs.Fitting.{FitsDate, FitsPosting, FitsOrder, FitsMark, FitsForward}
 use Rattle.rtgs_rows.specs.Keeping.{IsBookOf}
@@ -68,6 +68,12 @@ phase_once CutOff Closed e = absurd (omega arith)
 phase_once CutOff Open e = absurd (omega arith)
 phase_once CutOff CutOff e = refl
 
+choice_once : (a b : Bool) → resolution_number a ≡ resolution_number b → a ≡ b
+choice_once false false e = refl
+choice_once false true e = absurd (omega arith)
+choice_once true false e = absurd (omega arith)
+choice_once true true e = refl
+
 state_once : (a b : OrderState) → state_number a ≡ state_number b → mark_value a ≡ mark_value b → a ≡ b
 state_once Queued Queued e f = refl
 state_once Queued Held e f = absurd (omega arith)
@@ -96,13 +102,25 @@ state_once Rejected Withdrawn e f = absurd (omega arith)
 state_once Rejected Rejected e f = refl
 
 pub day_once : DatesTell → (version : ℕ) (a b : Day) → FitsDate a.date → FitsDate b.date
-    → day_row version a ≡ day_row version b → a ≡ b
-day_once d version a b p q e =
+    → day_row version a ≡ day_row version b → choice_row a ≡ choice_row b → a ≡ b
+day_once d version a b p q e f =
     let dates : date_value a.date ≡ date_value b.date = cc in
     let phases : phase_number a.phase ≡ phase_number b.phase = cc in
     let date = date_value_once d a.date b.date p q dates in
     let phase = phase_once a.phase b.phase phases in
-    λ i. record { date = date i; phase = phase i }
+    let choices : resolution_number a.automatic ≡ resolution_number b.automatic = cc in
+    let automatic = choice_once a.automatic b.automatic choices in
+    λ i. record { date = date i; phase = phase i; automatic = automatic i }
+
+-- so where the rows are those of what the tables hold
+same_day : DatesTell → (version : ℕ) {a b a_held b_held : Day} → a_held ≡ a → b_held ≡ b → FitsDate a.date
+    → FitsDate b.date → ◌≡◌ {A = List Row} (day_row version b_held ∷ []) (day_row version a_held ∷ [])
+    → ◌≡◌ {A = List Row} (choice_row b_held ∷ []) (choice_row a_held ∷ []) → a ≡ b
+same_day d version {a = a} {b = b} {a_held = a_held} {b_held = b_held} first second p q e f =
+    let rows : day_row version b_held ≡ day_row version a_held = cc in
+    let choices : choice_row b_held ≡ choice_row a_held = cc in
+    day_once d version a b p q (ap (day_row version) (sym first) ∙ sym rows ∙ ap (day_row version) second)
+    (ap choice_row (sym first) ∙ sym choices ∙ ap choice_row second)
 
 holding_once : (a b : Holding) → holding_row a ≡ holding_row b → a ≡ b
 holding_once a b e =
@@ -316,10 +334,8 @@ once dates one other c d h k e =
     k.sound.codes_rise h.records.participants
     (subst (λ hs. IsPermutation (map (λ (h : Holding). h.participant) hs) other.participants) holdings
     k.records.participants) in
-    let days = same_records {row = day_row VERSION} {P = λ (day : Day). FitsDate day.date} (day_once dates VERSION)
-    (ap (λ day. day ∷ []) theirs.day) (ap (λ day. day ∷ []) ours.day) (k.fits.day, tt) (h.fits.day, tt)
-    (ap (rows_in desk_table) e) in
-    let day : other.day ≡ one.day = cc in
+    let day = same_day dates VERSION theirs.day ours.day k.fits.day h.fits.day (ap (rows_in desk_table) e)
+    (ap (rows_in resolution_table) e) in
     λ i. record {
       participants = participants i;
       postings = same_records (posting_once dates) theirs.postings ours.postings k.fits.postings h.fits.postings

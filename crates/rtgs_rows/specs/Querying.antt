@@ -13,7 +13,7 @@ use Rattle.rtgs_book.specs.declared.Book.{Book}
 use Rattle.rtgs_book.specs.declared.account.Account.{Account}
 use Rattle.rtgs_rows.specs.declared.numbers.TheConstants.{VERSION}
 use Rattle.rtgs_rows.specs.Tables.{IsVersion, schema_in, tables_in, width, places}
-use Rattle.rtgs_rows.specs.TableRecords.{Each, records_in, HasNoneBeyond}
+use Rattle.rtgs_rows.specs.TableRecords.{Each, records_in, HasNoMoreBeyond}
 
 -- outside a transaction, with the tables of this version, which is known, and these trees committed
 pub record IsFileIn (version : ℕ) (trees : Trees) (s : State) : Type 0 where
@@ -67,4 +67,4 @@ ShowsEach version trees accounts book = Each (λ A records. ShowsTable records.t
 pub record ShowsBook (version : ℕ) (trees : Trees) (accounts : List Account) (book : Book) : Type 0 where
   pub named : book.participants ≡ map (λ (a : Account). a.participant) accounts
   pub shows : ShowsEach version trees accounts book
-  pub no_more : HasNoneBeyond version accounts book
+  pub no_more : HasNoMoreBeyond version accounts book

@@ -1,6 +1,6 @@
 -- The rows that records have in the tables. A stored row begins with its row number; where a column is the row number,
 -- it is stored as null.
-use Rattle.std.specs.Prelude.{ℕ, ◌<◌, ◌^◌, ℤ, pos, Option, [], ◌∷◌, ⊤}
+use Rattle.std.specs.Prelude.{ℕ, ◌<◌, ◌^◌, ℤ, pos, Bool, true, false, Option, [], ◌∷◌, ⊤}
 use Rattle.sqlite.specs.declared.types.Value.{Value}
 use Rattle.sqlite.specs.declared.types.Value.TheVariants.{Null, Int, Text, Blob}
 use Rattle.sqlite.specs.Order.{Row}
@@ -18,6 +18,9 @@ use Rattle.rtgs_book.specs.declared.OrderState.{OrderState}
 use Rattle.rtgs_book.specs.declared.OrderState.TheVariants.{Queued, Held, Settled, Withdrawn, Rejected}
 use Rattle.rtgs_rows.specs.declared.numbers.TheConstants.{PHASE_CLOSED, PHASE_OPEN, PHASE_CUT_OFF, STATE_QUEUED}
 use Rattle.rtgs_rows.specs.declared.numbers.TheConstants.{STATE_SETTLED, STATE_WITHDRAWN, STATE_REJECTED, STATE_HELD}
+use Rattle.rtgs_rows.specs.declared.numbers.TheConstants.{RESOLUTION_ON_REQUEST, RESOLUTION_AUTOMATIC}
+use Rattle.rtgs_rows.specs.declared.desk_row.DeskRow.{DeskRow}
+use Rattle.rtgs_rows.specs.declared.resolution_row.ResolutionRow.{ResolutionRow}
 use Rattle.rtgs_rows.specs.declared.forward.Forward.{Forward}
 
 -- what stands for a phase in its column
@@ -25,6 +28,11 @@ abbrev pub phase_number : Phase → ℕ
 phase_number Closed = PHASE_CLOSED
 phase_number Open = PHASE_OPEN
 phase_number CutOff = PHASE_CUT_OFF
+
+-- for whether a day is automatic
+abbrev pub resolution_number : Bool → ℕ
+resolution_number false = RESOLUTION_ON_REQUEST
+resolution_number true = RESOLUTION_AUTOMATIC
 
 -- and for an order's state
 abbrev pub state_number : OrderState → ℕ
@@ -55,9 +63,26 @@ abbrev pub date_value : Option ℕ → Value
 date_value = or_null (λ date. Text (date_text date))
 
 -- id 1, version, date, phase
+abbrev pub desk_row : DeskRow → Row
+desk_row d = Int (pos 1) ∷ Null ∷ Int (pos d.version) ∷ date_value d.date ∷ Int (pos (phase_number d.phase)) ∷ []
+
+-- id 1, automatic
+abbrev pub resolution_row : ResolutionRow → Row
+resolution_row r = Int (pos 1) ∷ Null ∷ Int (pos (resolution_number r.automatic)) ∷ []
+
+-- what these two rows say of a day, in tables of this version
+abbrev pub desk_row_of : ℕ → Day → DeskRow
+desk_row_of version day = record { version = version; date = day.date; phase = day.phase }
+
+abbrev pub resolution_row_of : Day → ResolutionRow
+resolution_row_of day = record { automatic = day.automatic }
+
+-- the row of a day in the table `desk`, and that in the table `resolution`
 abbrev pub day_row : ℕ → Day → Row
-day_row version day = Int (pos 1) ∷ Null ∷ Int (pos version) ∷ date_value day.date
-    ∷ Int (pos (phase_number day.phase)) ∷ []
+day_row version day = desk_row (desk_row_of version day)
+
+abbrev pub choice_row : Day → Row
+choice_row day = resolution_row (resolution_row_of day)
 
 -- code, name, key, credit, balance; the row numbers tell in which order the participants came
 abbrev pub participant_row : ℤ → Participant → ℤ → Row
@@ -82,8 +107,11 @@ forward_row f = Int (pos f.number) ∷ Null ∷ Text (date_text f.due) ∷ []
 
 -- ---- as the queries show them
 
-abbrev pub shown_day : ℕ → Day → Row
-shown_day version day = Int (pos 1) ∷ Int (pos version) ∷ date_value day.date ∷ Int (pos (phase_number day.phase)) ∷ []
+abbrev pub shown_desk : DeskRow → Row
+shown_desk d = Int (pos 1) ∷ Int (pos d.version) ∷ date_value d.date ∷ Int (pos (phase_number d.phase)) ∷ []
+
+abbrev pub shown_resolution : ResolutionRow → Row
+shown_resolution r = Int (pos 1) ∷ Int (pos (resolution_number r.automatic)) ∷ []
 
 abbrev pub shown_account : Account → Row
 shown_account a = Text a.participant.code ∷ Text a.participant.name ∷ Blob a.participant.key

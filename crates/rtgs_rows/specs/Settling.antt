@@ -28,7 +28,7 @@ stays g h there book holds = ((state g h).committed.trees, there holds.1.is_open
 
 -- the version in which new tables are made is known
 pub current_is_known : IsVersion VERSION
-current_is_known = (1, omega arith, refl)
+current_is_known = (2, omega arith, refl)
 
 -- what holds a book has the tables of a desk
 pub tabled : {S : Type 0} (g : Ghosts S) (h : Held S) → TablesOfABookAreWhole → (book : Book) → HoldsBook g h book

@@ -1,20 +1,22 @@
 -- The records of each table: how a row shows one, and which of them a book has.
-use Rattle.std.specs.Prelude.{◌≡◌, ◌⊎◌, Bool, true, false, ℕ, List, [], ◌∷◌, map, take, drop, None, ⊤}
+use Rattle.std.specs.Prelude.{◌≡◌, ◌⊎◌, Bool, true, false, ℕ, List, [], ◌∷◌, ◌++◌, map, take, drop, None, ⊤}
 use Rattle.sqlite.specs.Order.{Row}
 use Rattle.sqlite.specs.Table.{Table}
 use Rattle.rtgs_book.specs.declared.account.Account.{Account}
 use Rattle.rtgs_book.specs.declared.Book.{Book}
-use Rattle.rtgs_book.specs.declared.Day.{Day}
 use Rattle.rtgs_book.specs.declared.Posting.{Posting}
 use Rattle.rtgs_book.specs.declared.Order.{Order}
 use Rattle.rtgs_book.specs.declared.Mark.{Mark}
+use Rattle.rtgs_book.specs.Books.{new_book}
 use Rattle.rtgs_rows.specs.Dues.{without_due, forwards_of}
 use Rattle.rtgs_rows.specs.Fitting.{FitsDate, FitsParticipant, FitsPosting, FitsPayment, FitsMark, FitsForward}
 use Rattle.rtgs_rows.specs.declared.forward.Forward.{Forward}
 use Rattle.rtgs_rows.specs.declared.desk_row.DeskRow.{DeskRow}
-use Rattle.rtgs_rows.specs.Rows.{shown_day, shown_account, shown_posting, shown_order, shown_mark, shown_forward}
+use Rattle.rtgs_rows.specs.declared.resolution_row.ResolutionRow.{ResolutionRow}
+use Rattle.rtgs_rows.specs.Rows.{desk_row_of, resolution_row_of, shown_desk, shown_account, shown_posting, shown_order}
+use Rattle.rtgs_rows.specs.Rows.{shown_mark, shown_forward, shown_resolution}
 use Rattle.rtgs_rows.specs.Tables.{desk_table, participant_table, posting_table, payment_table, mark_table}
-use Rattle.rtgs_rows.specs.Tables.{forward_table, table_count}
+use Rattle.rtgs_rows.specs.Tables.{forward_table, resolution_table, table_count}
 
 -- the records of a table
 pub record TableRecords (A : Type 0) : Type 1 where
@@ -28,15 +30,11 @@ pub record TableRecords (A : Type 0) : Type 1 where
   -- those that a book has in tables of a version, whose accounts are its participants with their stored balances
   pub of_book : ℕ → List Account → Book → List A
 
--- the day, in tables of this version
-abbrev pub desk_row_of : ℕ → Day → DeskRow
-desk_row_of version day = record { version = version; day = day }
-
-abbrev pub day_records : TableRecords DeskRow
-day_records = record {
+abbrev pub desk_records : TableRecords DeskRow
+desk_records = record {
   table = desk_table;
-  shown = λ desk. shown_day desk.version desk.day;
-  fits = λ desk. FitsDate desk.day.date;
+  shown = shown_desk;
+  fits = λ desk. FitsDate desk.date;
   counted = [];
   of_book = λ version accounts book. desk_row_of version book.day ∷ [];
 }
@@ -87,14 +85,23 @@ forward_records = record {
   of_book = λ version accounts book. forwards_of book.orders;
 }
 
+abbrev pub resolution_records : TableRecords ResolutionRow
+resolution_records = record {
+  table = resolution_table;
+  shown = shown_resolution;
+  fits = λ resolution. ⊤;
+  counted = [];
+  of_book = λ version accounts book. resolution_row_of book.day ∷ [];
+}
+
 -- those of the tables that have a row for each record of a list
-abbrev pub records_besides_day : List ((A : Type 0) × TableRecords A)
-records_besides_day = (Account, account_records) ∷ (Posting, posting_records) ∷ (Order, order_records)
+abbrev pub records_of_lists : List ((A : Type 0) × TableRecords A)
+records_of_lists = (Account, account_records) ∷ (Posting, posting_records) ∷ (Order, order_records)
     ∷ (Mark, mark_records) ∷ (Forward, forward_records) ∷ []
 
 -- those of all tables, in the order of the tables
 abbrev pub records_of_tables : List ((A : Type 0) × TableRecords A)
-records_of_tables = (DeskRow, day_records) ∷ records_besides_day
+records_of_tables = (DeskRow, desk_records) ∷ (records_of_lists ++ (ResolutionRow, resolution_records) ∷ [])
 
 -- those of the tables that a version has
 abbrev pub records_in : ℕ → List ((A : Type 0) × TableRecords A)
@@ -109,10 +116,14 @@ abbrev pub Each : ((A : Type 0) → TableRecords A → Type 0) → List ((A : Ty
 Each Fact [] = ⊤
 Each Fact (one ∷ more) = Fact one.0 one.1 × Each Fact more
 
--- a book has no record of a table that the version lacks
-abbrev pub HasNoneBeyond : ℕ → List Account → Book → Type 0
-HasNoneBeyond version accounts book =
-    Each (λ A records. records.of_book version accounts book ≡ []) (records_beyond version)
+-- those that a new desk has
+abbrev pub at_first : {A : Type 0} → ℕ → TableRecords A → List A
+at_first version records = records.of_book version [] new_book
+
+-- of the tables that the version lacks a book has the records of a new desk: no due date, and no automatic day
+abbrev pub HasNoMoreBeyond : ℕ → List Account → Book → Type 0
+HasNoMoreBeyond version accounts book =
+    Each (λ A records. records.of_book version accounts book ≡ at_first version records) (records_beyond version)
 
 -- and so with one of these
 abbrev pub OneOf : ((A : Type 0) → TableRecords A → Type 0) → List ((A : Type 0) × TableRecords A) → Type 0

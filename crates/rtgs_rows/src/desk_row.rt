@@ -1,9 +1,12 @@
-//! The row of the business day, as the tables have it.
-use rtgs_book::Day;
+//! The first row of the business day, as the tables have it.
+use rtgs_book::Phase;
+use rtgs_money::BusinessDate;
 
-/// What the one row of the table `desk` says: the version of the tables, and the business day.
+/// What the one row of the table `desk` says: the version of the tables, and the date and the phase of the business
+/// day.
 #[derive(Clone, Copy, Debug, PartialEq, Eq)]
 pub struct DeskRow {
     pub version: u64,
-    pub day: Day,
+    pub date: Option<BusinessDate>,
+    pub phase: Phase,
 }

@@ -5,6 +5,8 @@ mod desk_row;
 mod forward;
 pub mod laws;
 pub mod numbers;
+mod resolution_row;
 
 pub use crate::desk_row::DeskRow;
 pub use crate::forward::Forward;
+pub use crate::resolution_row::ResolutionRow;

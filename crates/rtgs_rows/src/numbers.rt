@@ -1,8 +1,8 @@
-//! The numbers that stand in columns: the version of the tables, and what stands for a phase of the day and for where
-//! an order stands.
+//! The numbers that stand in columns: the version of the tables, and what stands for a phase of the day, for the choice
+//! of how gridlocks are resolved, and for where an order stands.
 
 /// The version in which new tables are made.
-pub const VERSION: u64 = 2;
+pub const VERSION: u64 = 3;
 
 /// No day is open.
 pub const PHASE_CLOSED: u64 = 0;
@@ -12,6 +12,12 @@ pub const PHASE_OPEN: u64 = 1;
 
 /// A day is open, past its cut-off.
 pub const PHASE_CUT_OFF: u64 = 2;
+
+/// Gridlocks are resolved where that is asked for, and else not.
+pub const RESOLUTION_ON_REQUEST: u64 = 0;
+
+/// Gridlocks are resolved without being asked for.
+pub const RESOLUTION_AUTOMATIC: u64 = 1;
 
 /// The order is queued.
 pub const STATE_QUEUED: u64 = 0;

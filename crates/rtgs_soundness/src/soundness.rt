@@ -1,5 +1,5 @@
 //! The test of soundness, and the balances of a sound book.
-ghost use Rattle.std.specs.Prelude.{◌≡◌, ◌↔◌, IfOk, OnOk, IfErr, IsTrue};
+ghost use Rattle.std.specs.Prelude.{◌≡◌, ◌≢◌, ◌↔◌, Err, IfOk, OnOk, IfErr, IsTrue};
 ghost use Rattle.std.specs.Cmp.Lexicographic.{slice_cmp};
 ghost use Rattle.std.specs.Ordering.{nat_cmp};
 ghost use Rattle.rtgs_book.specs.Balance.{balance};
@@ -7,10 +7,10 @@ ghost use Rattle.rtgs_book.specs.Lookup.{accounts};
 ghost use Rattle.rtgs_book.specs.Totals.{Totals};
 ghost use Rattle.rtgs_book.specs.Judgement.{Keeps, KeepsBefore, Explains};
 ghost use Rattle.rtgs_book.specs.Ranges.{Fits};
-ghost use Rattle.rtgs_book.specs.Soundness.{IsSound};
+ghost use Rattle.rtgs_book.specs.Soundness.{IsSound, OrdersAreNumbered, PostingsAreNumbered};
 
 use crate::rules::balances::{balances as summed, floors_hold, is_issue_small};
-use crate::rules::dates::dates_fit;
+use crate::rules::dates::{choice_fits, dates_fit};
 use crate::rules::marks::marks_fit;
 use crate::rules::names::{
     codes_rise, keys_are_distinct, order_references_are_distinct, posting_references_are_distinct,
@@ -24,8 +24,9 @@ use rtgs_money::Code;
 use std::alloc::AllocError;
 use std::collections::BTreeMap;
 
-/// The rules about a book, by number. The last rule is about stored balances, which a book has not.
-pub const RULES_OF_A_BOOK: [Rule; 13] = [
+/// The rules about a book, by number. That on stored balances is no such rule, since a book has none; nor is the last,
+/// which is about what an automatic day has left.
+pub const RULES_OF_A_BOOK: [Rule; 14] = [
     Rule::OrderNumbers,
     Rule::PostingNumbers,
     Rule::MarkNumbers,
@@ -39,6 +40,7 @@ pub const RULES_OF_A_BOOK: [Rule; 13] = [
     Rule::Dates,
     Rule::Floors,
     Rule::Total,
+    Rule::AutomaticDay,
 ];
 
 /// Tests whether the book is sound. Else the fault names the first rule that it breaks, or memory was refused.
@@ -46,6 +48,7 @@ pub fn check(book: &Book) -> Result<(), Fault>
     ensures sound { OnOk result (IsSound book.now) }
     ensures fits { OnOk result (Fits book.now) }
     ensures fault { IfErr result (Explains book.now) }
+    ensures of_a_book { result ≢ Err (Fault.Inconsistent Rule.Calm) }
 {
     for rule in RULES_OF_A_BOOK {
         if !keeps(book, rule)? {
@@ -55,17 +58,19 @@ pub fn check(book: &Book) -> Result<(), Fault>
     Ok(())
 }
 
-/// The balance of each participant of a sound book, in cents.
+/// The balance of each participant of a book whose postings and orders are numbered, in cents.
 pub fn balances(book: &Book) -> Result<BTreeMap<Code, i128>, AllocError>
-    requires { IsSound book.now }
+    requires postings { PostingsAreNumbered book.now }
+    requires orders { OrdersAreNumbered book.now }
     ensures { IfOk result (Totals (slice_cmp nat_cmp) (accounts book.now) (balance book.now)) }
 {
     summed(book.orders.allocator(), book)
 }
 
-// Whether the book keeps the rule, where it keeps those before it.
+// Whether the book keeps the rule, which is one about a book, where it keeps those before it.
 fn keeps(book: &Book, rule: Rule) -> Result<bool, AllocError>
-    requires { KeepsBefore book.now rule }
+    requires before { KeepsBefore book.now rule }
+    requires of_a_book { rule ≢ Rule.Calm }
     ensures kept { IfOk result (λ yes. IsTrue yes ↔ Keeps book.now rule) }
     ensures fits { rule ≡ Rule.Floors → IfOk result (λ yes. IsTrue yes → Fits book.now) }
 {
@@ -88,6 +93,9 @@ fn keeps(book: &Book, rule: Rule) -> Result<bool, AllocError>
         Rule::Dates => Ok(dates_fit(book)),
         Rule::Floors => floors_hold(alloc, book),
         Rule::Total => Ok(is_issue_small(postings)),
+        Rule::AutomaticDay => Ok(choice_fits(&book.day)),
         Rule::StoredBalances => Ok(true),
+        // It is none of a book's.
+        Rule::Calm => Ok(false),
     }
 }

@@ -6,13 +6,14 @@ ghost use Rattle.sqlite_value.specs.Value.{owned};
 ghost use Rattle.rtgs_money.specs.Amounts.{IsAmount, IsPostingAmount, IsCredit};
 ghost use Rattle.rtgs_money.specs.Date.{date_text, IsBusinessDate};
 ghost use Rattle.rtgs_rows.specs.Fitting.{FitsDate};
-ghost use Rattle.rtgs_rows.specs.Rows.{phase_number, state_number, mark_value as value_of_mark, FitsColumn};
+ghost use Rattle.rtgs_rows.specs.Rows.{phase_number, resolution_number, state_number, mark_value as value_of_mark};
+ghost use Rattle.rtgs_rows.specs.Rows.{FitsColumn};
 
 use rtgs_book::{OrderState, Phase};
 use rtgs_money::{Amount, BusinessDate, Cents, Credit, PostingAmount, Text};
 use rtgs_rows::numbers::{
-    PHASE_CLOSED, PHASE_CUT_OFF, PHASE_OPEN, STATE_HELD, STATE_QUEUED, STATE_REJECTED,
-    STATE_SETTLED, STATE_WITHDRAWN,
+    PHASE_CLOSED, PHASE_CUT_OFF, PHASE_OPEN, RESOLUTION_AUTOMATIC, RESOLUTION_ON_REQUEST,
+    STATE_HELD, STATE_QUEUED, STATE_REJECTED, STATE_SETTLED, STATE_WITHDRAWN,
 };
 use sqlite::types::ValueRef;
 use sqlite::{Error, ErrorCode};
@@ -82,6 +83,17 @@ pub fn phase_value(phase: Phase) -> ValueRef<'static>
         Phase::Closed => PHASE_CLOSED,
         Phase::Open => PHASE_OPEN,
         Phase::CutOff => PHASE_CUT_OFF,
+    })
+}
+
+/// The number of the choice whether a day is automatic.
+pub fn resolution_value(automatic: bool) -> ValueRef<'static>
+    ensures { owned result ≡ Int (pos (resolution_number automatic)) }
+{
+    number_value(if automatic {
+        RESOLUTION_AUTOMATIC
+    } else {
+        RESOLUTION_ON_REQUEST
     })
 }
 

@@ -12,10 +12,11 @@ use Rattle.rtgs_book.specs.declared.Order.{Order}
 use Rattle.rtgs_book.specs.declared.account.Account.{Account}
 use Rattle.rtgs_rows.specs.Fitting.{FitsParticipant, HasFormedValues}
 use Rattle.rtgs_rows.specs.declared.desk_row.DeskRow.{DeskRow}
-use Rattle.rtgs_rows.specs.Rows.{shown_day, shown_account}
-use Rattle.rtgs_rows.specs.TableRecords.{TableRecords, Each, OneOf, records_of_tables, records_besides_day}
+use Rattle.rtgs_rows.specs.declared.resolution_row.ResolutionRow.{ResolutionRow}
+use Rattle.rtgs_rows.specs.Rows.{desk_row_of, resolution_row_of, shown_desk, shown_resolution, shown_account}
+use Rattle.rtgs_rows.specs.TableRecords.{TableRecords, Each, OneOf, records_of_tables, records_of_lists}
 use Rattle.rtgs_rows.specs.TableRecords.{records_in, records_beyond, posting_records, order_records, mark_records}
-use Rattle.rtgs_rows.specs.TableRecords.{forward_records, desk_row_of, HasNoneBeyond}
+use Rattle.rtgs_rows.specs.TableRecords.{forward_records, resolution_records, HasNoMoreBeyond, at_first}
 use Rattle.rtgs_rows.specs.Dues.{without_due, forward_for, forwards_of}
 use Rattle.rtgs_rows.specs.declared.forward.Forward.{Forward}
 use Rattle.rtgs_rows.specs.Tables.{HasTable, IsVersion, table_count, desk_table}
@@ -25,14 +26,15 @@ use Rattle.sqlite.specs.Tree.{Trees}
 use Rattle.rtgs_sql_columns.specs.Tables.{query_text}
 use Rattle.rtgs_sql_columns.specs.Numbers.{IsNumberedPosting, IsNumberedOrder, IsNumberedMark, IsNumberedBook}
 use Rattle.rtgs_sql_queries.specs.Records.{HasRecords}
-use Rattle.rtgs_sql_loading.specs.Accounts.{Telling, TellsOf, AreTheRecords, AreFormed, IsOneDay, InForm}
-use Rattle.rtgs_sql_loading.specs.Displaying.{IsUnread, IsIllegible}
+use Rattle.rtgs_sql_loading.specs.Accounts.{Telling, TellsOf, AreTheRecords, AreFormed, IsDeskOf, InForm}
+use Rattle.rtgs_sql_loading.specs.Displaying.{IsUnread, ShowsNoChoice, IsIllegible}
 use Rattle.rtgs_sql_loading.specs.Joining.{AreJoined}
 use Rattle.rtgs_sql_loading.specs.Loading.{IsToldBy, ReadsRecords, TellsRecords}
 use Rattle.rtgs_sql_loading.proofs.Joining.{joined_once, joined_fit, joined_held}
 use Rattle.rtgs_sql_loading.proofs.Dues.{book_joined}
 use Rattle.rtgs_sql_loading.proofs.OwnRows.{IsOwn, owns, all_own, posting_own, order_own, mark_own, forward_own}
 use Rattle.rtgs_sql_loading.proofs.Versions.{Has, has_counted, has_no_more, each_first, each_last, each_had, one_had}
+use Rattle.rtgs_sql_loading.proofs.Versions.{one_before}
 
 -- what two facts of each of these come to
 each_both : {P Q R : (A : Type 0) → TableRecords A → Type 0}
@@ -78,7 +80,7 @@ pub own_records : {version : ℕ} {P : Telling} {accounts : List Account} {book 
     → AreTheRecords version P accounts book → IsNumberedBook book
     → AreTheRecords version (λ _ counted. AllByRecursion (IsOwn counted)) accounts book
 own_records {version = version} {accounts = accounts} {book = book} are low =
-    let day = all_own (shown_day version book.day ∷ []) in
+    let desk = all_own (shown_desk (desk_row_of version book.day) ∷ []) in
     let stored = all_own (map shown_account accounts) in
     let postings = owns posting_records IsNumberedPosting posting_own book.postings low.postings in
     let orders = owns order_records IsNumberedOrder order_own (map without_due book.orders)
@@ -86,8 +88,9 @@ own_records {version = version} {accounts = accounts} {book = book} are low =
     let marks = owns mark_records IsNumberedMark mark_own book.marks low.marks in
     let forwards = owns forward_records (λ f. 0 < f.number) forward_own (forwards_of book.orders)
     (dues_numbered book.orders low.orders) in
+    let choice = all_own (shown_resolution (resolution_row_of book.day) ∷ []) in
     let each = TellsOf version (λ _ counted. AllByRecursion (IsOwn counted)) accounts book in
-    let all : Each each records_of_tables = (day, (stored, (postings, (orders, (marks, (forwards, tt)))))) in
+    let all : Each each records_of_tables = (desk, (stored, (postings, (orders, (marks, (forwards, (choice, tt))))))) in
     record {
       fits = are.fits;
       dues = are.dues;
@@ -117,21 +120,23 @@ all_fit : (version : ℕ) (s : State) (accounts : List Account) (book : Book)
     → book.participants ≡ map (λ (a : Account). a.participant) accounts → ComeOfRows book.orders
     → ReadsEach version s accounts book → HasFormedValues book
 all_fit version s accounts book named joined
-    (day, (stored, (postings, (orders, (marks, (forwards, others)))))) = record {
+    (desk, (stored, (postings, (orders, (marks, (forwards, others)))))) = record {
       participants = subst (AllByRecursion FitsParticipant) (sym named)
           (all_map FitsParticipant (λ (a : Account). a.participant) accounts stored.fit);
       postings = postings.fit;
       orders = joined_fit (map without_due book.orders) (forwards_of book.orders) book.orders joined orders.fit
           forwards.fit;
       marks = marks.fit;
-      day = day.fit.0;
+      day = desk.fit.0;
     }
 
 same_day : (version : ℕ) (a b : Day)
-    → ◌≡◌ {A = List DeskRow} (desk_row_of version a ∷ []) (desk_row_of version b ∷ []) → a ≡ b
-same_day version a b e =
-    let rows : desk_row_of version a ≡ desk_row_of version b = cc in
-    ap (λ (desk : DeskRow). desk.day) rows
+    → ◌≡◌ {A = List DeskRow} (desk_row_of version a ∷ []) (desk_row_of version b ∷ [])
+    → ◌≡◌ {A = List ResolutionRow} (resolution_row_of a ∷ []) (resolution_row_of b ∷ []) → a ≡ b
+same_day version a b e f =
+    let desk : desk_row_of version a ≡ desk_row_of version b = cc in
+    let choice : resolution_row_of a ≡ resolution_row_of b = cc in
+    λ i. record { date = (desk i).date; phase = (desk i).phase; automatic = (choice i).automatic }
 
 -- and they are those of the tables
 are_the_tables : (version : ℕ) (s : State) (accounts : List Account) (book : Book)
@@ -139,10 +144,10 @@ are_the_tables : (version : ℕ) (s : State) (accounts : List Account) (book : B
     → ReadsEach version s accounts book
     → (others : List Account) (other : Book) → HasRecords version others other s → (book ≡ other) × (accounts ≡ others)
 are_the_tables version s accounts book named joined
-    (day, (stored, (postings, (orders, (marks, (forwards, none)))))) others other held =
+    (desk, (stored, (postings, (orders, (marks, (forwards, (choice, none))))))) others other held =
     let same = stored.given others other held in
     let participants = named ∙ ap (map (λ (a : Account). a.participant)) same ∙ sym held.2.participants in
-    let today = same_day version book.day other.day (day.given others other held) in
+    let today = same_day version book.day other.day (desk.given others other held) (choice.given others other held) in
     let same_orders : book.orders ≡ other.orders = joined_once (map without_due other.orders)
     (forwards_of other.orders) book.orders other.orders
     (subst₂ (λ (ps : List Order) (fs : List Forward). AreJoined ps fs book.orders) (orders.given others other held)
@@ -157,18 +162,18 @@ are_the_tables version s accounts book named joined
       same,
     )
 
--- of a table that the version lacks the book has none
+-- of a table that the version lacks the book has the records of a new desk
 none_beyond : (version : ℕ) → IsVersion version → (s : State) (accounts : List Account) (book : Book)
-    → ReadsEach version s accounts book → HasNoneBeyond version accounts book
+    → ReadsEach version s accounts book → HasNoMoreBeyond version accounts book
 none_beyond version known s accounts book reads =
     each_both {P = λ A records. ¬ Has version A records}
     {Q = λ A records. ReadsRecords version records s (records.of_book version accounts book)}
-    {R = λ A records. records.of_book version accounts book ≡ []} none (records_beyond version)
+    {R = λ A records. records.of_book version accounts book ≡ at_first version records} none (records_beyond version)
     (has_no_more version known) (each_last _ (table_count version) records_of_tables reads)
   where
     none : (A : Type 0) (records : TableRecords A) → ¬ Has version A records
         → ReadsRecords version records s (records.of_book version accounts book)
-        → records.of_book version accounts book ≡ []
+        → records.of_book version accounts book ≡ at_first version records
     none A records lacks read = elim (read.had known) [
       | inl has ↦ absurd (lacks has)
       | inr other ↦ other.1
@@ -207,9 +212,14 @@ each_formed version known trees formed =
 
 -- a query that cannot be read is one of a table that the version has
 pub one_unread : (version : ℕ) → IsVersion version → (db : Database)
-    → IsUnread db (query_text desk_table) (IsOneDay version) ⊎ OneOf (λ A records. HasTable version records.table
-    × IsUnread db (query_text records.table) (InForm records)) records_besides_day → IsIllegible version db
-one_unread version known db (inl day) = inr (inl day)
-one_unread version known db (inr other) =
-    inr (inr (inl (one_had (Has version) (λ A records. IsUnread db (query_text records.table) (InForm records))
-    (table_count version) records_of_tables (has_no_more version known) (inr other))))
+    → IsUnread db (query_text desk_table) (IsDeskOf version) ⊎ (ShowsNoChoice version db
+    ⊎ OneOf (λ A records. HasTable version records.table × IsUnread db (query_text records.table) (InForm records))
+    records_of_lists) → IsIllegible version db
+one_unread version known db (inl desk) = inr (inl desk)
+one_unread version known db (inr (inl choice)) = inr (inr (inl choice))
+one_unread version known db (inr (inr other)) =
+    let P = λ (A : Type 0) (records : TableRecords A). HasTable version records.table
+    × IsUnread db (query_text records.table) (InForm records) in
+    inr (inr (inr (inl (one_had (Has version) (λ A records. IsUnread db (query_text records.table) (InForm records))
+    (table_count version) records_of_tables (has_no_more version known)
+    (inr (one_before P records_of_lists ((ResolutionRow, resolution_records) ∷ []) other))))))

@@ -95,7 +95,7 @@ stops_apart {version = version} {old = old} payments forwards answer on orders d
   unread = λ clean known e.
       let own = (orders clean).rows known in
       let found = found_dues (dues clean) ((dues clean).reads.had known) in
-      inr (inr (inr (own.rows, found.rows, own.displayed, found.displayed, apart none own found)));
+      inr (inr (inr (inr (own.rows, found.rows, own.displayed, found.displayed, apart none own found))));
   same = λ clean other. on.keeps clean;
   survives = on.survives;
 }

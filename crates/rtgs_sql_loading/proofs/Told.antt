@@ -10,20 +10,19 @@ use Rattle.sqlite_trees.proofs.ListLemmas.{all-permutation}
 use Rattle.rtgs_book.specs.declared.Book.{Book}
 use Rattle.rtgs_book.specs.declared.Fault.{Fault}
 use Rattle.rtgs_book.specs.declared.account.Account.{Account}
-use Rattle.rtgs_rows.specs.Fitting.{FitsDate}
-use Rattle.rtgs_rows.specs.Rows.{shown_day}
+use Rattle.rtgs_rows.specs.Rows.{desk_row_of, shown_desk}
 use Rattle.rtgs_rows.specs.Querying.{as_shown, IsFileIn}
-use Rattle.rtgs_rows.specs.TableRecords.{TableRecords, desk_row_of, HasNoneBeyond}
+use Rattle.rtgs_rows.specs.TableRecords.{TableRecords, desk_records, HasNoMoreBeyond, at_first}
 use Rattle.rtgs_rows.specs.declared.desk_row.DeskRow.{DeskRow}
 use Rattle.rtgs_rows.specs.Tables.{HasTable, IsVersion, desk_table}
-use Rattle.rtgs_sql_columns.specs.Numbers.{as_read, IsFormed}
+use Rattle.rtgs_sql_columns.specs.Numbers.{as_read, AreReadAs, IsFormed}
 use Rattle.rtgs_sql_columns.specs.Tables.{query_text}
 use Rattle.rtgs_sql_queries.specs.Displaying.{Displays}
 use Rattle.rtgs_sql_queries.specs.Records.{HasRecords}
 use Rattle.rtgs_sql_queries.specs.TableQueries.{ShowsSorted}
-use Rattle.rtgs_sql_loading.specs.Accounts.{IsOneDay, IsOneDesk, InForm}
+use Rattle.rtgs_sql_loading.specs.Accounts.{IsOneRow, IsDeskOf, InForm}
 use Rattle.rtgs_sql_loading.specs.Displaying.{IsUnread, SaysNoVersion}
-use Rattle.rtgs_sql_loading.specs.Loading.{ReadsList, ReadsDesk, ReadsOneDay, ReadsOn, Stops}
+use Rattle.rtgs_sql_loading.specs.Loading.{ReadsRecords, ReadsList, ReadsOne, ReadsDesk, ReadsAlone, ReadsOn, Stops}
 use Rattle.sqlite.specs.Effect.{Database}
 use Rattle.rtgs_sql_loading.proofs.Versions.{known_of}
 
@@ -67,26 +66,31 @@ reads_of version records s rows seen (Ok v) same shows raw has own given is =
     }
 reads_of version records s rows seen (Err e) same shows raw has own given is = tt
 
--- of a table that the version has not, none is read
-pub reads_none : {A : Type 0} (version : ℕ) (records : TableRecords A) (s : State) (all : List A) → all ≡ []
+-- of a table that the version has not, the records are those of a new desk
+pub first_reads : {A : Type 0} (version : ℕ) (records : TableRecords A) (s : State) (all : List A)
+    → all ≡ at_first version records → AllByRecursion records.fits all
     → (IsVersion version → ¬ HasTable version records.table)
-    → (IsVersion version → (accounts : List Account) (book : Book) → HasNoneBeyond version accounts book
-    → records.of_book version accounts book ≡ [])
-    → ReadsList version records s all
-reads_none version records s all none lacks own = record {
-  reads = record {
-    given = λ accounts book held. none ∙ sym (own held.1.known accounts book held.3);
-    fit = subst (AllByRecursion records.fits) (sym none) tt;
-    told = λ has. absurd (lacks (known_of version records.table has) has);
-    had = λ known. inr (lacks known, none);
-  };
-  rows = λ has. absurd (lacks (known_of version records.table has) has);
+    → (IsVersion version → (accounts : List Account) (book : Book) → HasNoMoreBeyond version accounts book
+    → records.of_book version accounts book ≡ at_first version records)
+    → ReadsRecords version records s all
+first_reads version records s all first fit lacks own = record {
+  given = λ accounts book held. first ∙ sym (own held.1.known accounts book held.3);
+  fit = fit;
+  told = λ has. absurd (lacks (known_of version records.table has) has);
+  had = λ known. inr (lacks known, first);
 }
 
--- where no number is read in another way
-pub as_they_are : (rows : List Row) → map (as_read []) rows ≡ rows
-as_they_are [] = refl
-as_they_are (row ∷ rows) = ap (λ rs. row ∷ rs) (as_they_are rows)
+-- where a new desk has none there, none is read
+pub reads_none : {A : Type 0} (version : ℕ) (records : TableRecords A) (s : State) (all : List A) → all ≡ []
+    → at_first version records ≡ [] → (IsVersion version → ¬ HasTable version records.table)
+    → (IsVersion version → (accounts : List Account) (book : Book) → HasNoMoreBeyond version accounts book
+    → records.of_book version accounts book ≡ at_first version records)
+    → ReadsList version records s all
+reads_none version records s all none empty lacks own = record {
+  reads = first_reads version records s all (none ∙ sym empty) (subst (AllByRecursion records.fits) (sym none) tt)
+      lacks own;
+  rows = λ has. absurd (lacks (known_of version records.table has) has);
+}
 
 -- one row alone is the only row
 only_row : (rows : List Row) (row : Row) → IsPermutation (row ∷ []) rows → rows ≡ row ∷ []
@@ -98,78 +102,101 @@ only_row rows row same = all_one rows row (all-permutation (λ r. r ≡ row) _ _
     all_one (x ∷ []) r each many = ap (λ y. y ∷ []) each.0
     all_one (x ∷ y ∷ rs) r each many = absurd (omega (arith, many))
 
--- what the query shows of the first table is what its one row says
-pub desk_reads : (s : State) (rows seen : List Row) (r : Result DeskRow Fault) → seen ≡ rows
-    → Displays s.now (query_text desk_table) rows
-    → ((version : ℕ) (trees : Trees) → IsFileIn version trees s → IsPermutation (as_shown desk_table trees) rows)
-    → ((version : ℕ) (accounts : List Account) (book : Book) → HasRecords version accounts book s
-    → r ≡ Ok (desk_row_of version book.day))
-    → IfOk r (λ desk. FitsDate desk.day.date × (seen ≡ shown_day desk.version desk.day ∷ []))
-    → IfOk r (ReadsDesk s)
-desk_reads s rows seen (Ok desk) same shows raw given is =
-    let are : rows ≡ shown_day desk.version desk.day ∷ [] = sym same ∙ is.1 in
+-- the one record that a book has of a table is what its row says
+pub single : {A : Type 0} (records : TableRecords A) (it : A) (all : List A) (rows seen : List Row)
+    (r : Result A Fault) → all ≡ it ∷ [] → seen ≡ rows → AllByRecursion records.fits all → AreReadAs records rows all
+    → ((found : A) → records.fits found → AreReadAs records seen (found ∷ []) → r ≡ Ok found) → r ≡ Ok it
+single records it all rows seen r one same fit read given =
+    let fits = subst (AllByRecursion records.fits) one fit in
+    given it fits.0 (ap (map (as_read records.counted)) same ∙ read ∙ ap (map records.shown) one)
+
+-- what the query shows of a table of one row is what that row says
+pub one_reads : {A : Type 0} (records : TableRecords A) (s : State) (rows seen : List Row) (r : Result A Fault)
+    → seen ≡ rows → Displays s.now (query_text records.table) rows
+    → ((version : ℕ) → HasTable version records.table → (trees : Trees) → IsFileIn version trees s
+    → IsPermutation (as_shown records.table trees) rows)
+    → ((version : ℕ) → HasTable version records.table → (accounts : List Account) (book : Book)
+    → HasRecords version accounts book s
+    → (it : A) × (records.of_book version accounts book ≡ it ∷ []) × (r ≡ Ok it))
+    → IfOk r (λ it. records.fits it × AreReadAs records seen (it ∷ []))
+    → IfOk r (ReadsOne records s)
+one_reads {A = A} records s rows seen (Ok it) same shows raw given is =
+    let counted = records.counted in
+    let are : map (as_read counted) rows ≡ records.shown it ∷ [] = ap (map (as_read counted)) (sym same) ∙ is.1 in
     record {
-      given = λ version accounts book held.
-          let found : ◌≡◌ {A = Result DeskRow Fault} (Ok desk) (Ok (desk_row_of version book.day)) =
-          given version accounts book held in
-          cc;
-      rows = λ version trees file. only_row _ _ (IsPermutation-sym _ _
-          (subst (IsPermutation (as_shown desk_table trees)) are (raw version trees file)));
-      shown = subst (Displays s.now (query_text desk_table)) are shows;
+      given = λ version has accounts book held.
+          let own = given version has accounts book held in
+          let found : ◌≡◌ {A = Result A Fault} (Ok it) (Ok own.0) = own.2 in
+          let alike : it ≡ own.0 = cc in
+          ap (λ (x : A). x ∷ []) alike ∙ sym own.1;
+      rows = λ version has trees file. only_row _ _ (IsPermutation-sym _ _
+          (subst (IsPermutation (map (as_read counted) (as_shown records.table trees))) are
+          (IsPermutation-map (as_read counted) _ _ (raw version has trees file))));
+      shown = (rows, shows, are);
       fit = is.0;
     }
-desk_reads s rows seen (Err e) same shows raw given is = tt
+one_reads records s rows seen (Err e) same shows raw given is = tt
 
--- so the day, where it says this version
-pub day_reads : (version : ℕ) (s : State) (desk : DeskRow) → desk.version ≡ version → ReadsDesk s desk
-    → ReadsOneDay version s desk.day
-day_reads version s desk is reads =
-    let day = λ (v : ℕ). shown_day v desk.day ∷ [] in
-    record {
-      given = λ accounts book held.
-          ap (λ (d : DeskRow). desk_row_of version d.day ∷ []) (reads.given version accounts book held);
-      fit = (reads.fit, tt);
-      told = λ has. (
-        λ trees file. subst (IsPermutation (map (as_read []) (as_shown desk_table trees)))
-            (as_they_are _ ∙ reads.rows version trees file ∙ ap day is) (IsPermutation-refl _),
-        (day desk.version, reads.shown, as_they_are _ ∙ ap day is),
-      );
-      had = λ known. inl known;
-    }
+-- so it is read in tables of a version that has the table
+pub one_read : {A : Type 0} (version : ℕ) (records : TableRecords A) (s : State) (it : A)
+    → (IsVersion version → HasTable version records.table) → ReadsOne records s it → ReadsAlone version records s it
+one_read version records s it has reads = record {
+  given = λ accounts book held. reads.given version (has held.1.known) accounts book held;
+  fit = (reads.fit, tt);
+  told = λ its. (
+    λ trees file. subst (IsPermutation (map (as_read records.counted) (as_shown records.table trees)))
+        (reads.rows version its trees file) (IsPermutation-refl _),
+    reads.shown,
+  );
+  had = λ known. inl (has known);
+}
 
 -- where it says another version
-pub other_day : (version : ℕ) (desk : DeskRow) → desk.version ≢ version
-    → ¬ IsOneDay version (shown_day desk.version desk.day ∷ [])
-other_day version desk other one =
-    let is : shown_day desk.version desk.day ∷ [] ≡ shown_day version one.0 ∷ [] = one.2 in
-    other cc
+pub other_version : (version : ℕ) (desk : DeskRow) → desk.version ≢ version → (rows : List Row)
+    → AreReadAs desk_records rows (desk ∷ []) → ¬ IsDeskOf version rows
+other_version version desk other rows read one =
+    let is : ◌≡◌ {A = List Row} (shown_desk desk ∷ []) (shown_desk one.0.0 ∷ []) = sym read ∙ one.0.2 in
+    let same : desk.version ≡ one.0.0.version = cc in
+    other (same ∙ one.1)
 
 -- a row that the query shows is in no form, so one that the table has
 pub misread : {A : Type 0} (records : TableRecords A) (stored rows : List Row) → IsPermutation stored rows
     → ¬ InForm records rows → ¬ InForm records stored
 misread records stored rows same wrong all = wrong (all-permutation (IsFormed records) _ _ same all)
 
-pub no_desk : (stored rows : List Row) → IsPermutation stored rows → ¬ IsOneDesk rows → ¬ IsOneDesk stored
-no_desk stored rows same none found =
-    let one = found.1 in
-    none (found.0, (one.0, one.1, only_row rows _ (subst (λ all. IsPermutation all rows) one.2 same)))
+-- so where it shows not one row in form
+pub no_row : {A : Type 0} (records : TableRecords A) (stored rows : List Row) → IsPermutation stored rows
+    → ¬ IsOneRow records rows → ¬ IsOneRow records stored
+no_row records stored rows same none found =
+    let counted = records.counted in
+    none (
+      found.0,
+      found.1,
+      only_row _ _ (subst (λ told. IsPermutation told (map (as_read counted) rows)) found.2
+          (IsPermutation-map (as_read counted) _ _ same)),
+    )
 
 -- no version that is said, so not this one
-pub unsaid : (version : ℕ) (db : Database) → SaysNoVersion db → IsUnread db (query_text desk_table) (IsOneDay version)
+pub unsaid : (version : ℕ) (db : Database) → SaysNoVersion db → IsUnread db (query_text desk_table) (IsDeskOf version)
 unsaid version db (inl none) = inl none
-unsaid version db (inr shown) = inr (shown.0, shown.1, λ one. shown.2 (version, one))
+unsaid version db (inr shown) = inr (shown.0, shown.1, λ one. shown.2 one.0)
 
 -- where another version is said, this one is not read
 pub stops_at_another : {A : Type 0} (version : ℕ) (old new : State) (desk : DeskRow) (answer : Result A Fault)
     → ReadsOn old new → (HasCleanDisk new → ReadsDesk old desk) → desk.version ≢ version
-    → Stops version old new answer (λ trees. ¬ IsOneDay version (as_shown desk_table trees))
-    (λ db. IsUnread db (query_text desk_table) (IsOneDay version))
+    → Stops version old new answer (λ trees. ¬ IsDeskOf version (as_shown desk_table trees))
+    (λ db. IsUnread db (query_text desk_table) (IsDeskOf version))
 stops_at_another version old new desk answer on reads other = record {
   right = λ clean accounts book held e.
-      other (ap (λ (d : DeskRow). d.version) ((reads clean).given version accounts book held));
+      let is = (reads clean).given version held.1.known accounts book held in
+      let same : desk ≡ desk_row_of version book.day = cc in
+      other (ap (λ (d : DeskRow). d.version) same);
   wrong = λ clean trees file e one.
-      other_day version desk other (subst (IsOneDay version) ((reads clean).rows version trees file) one);
-  unread = λ clean known e. inr (_, (reads clean).shown, other_day version desk other);
+      let rows = (reads clean).rows version file.known trees file in
+      other_version version desk other (as_shown desk_table trees) rows one;
+  unread = λ clean known e.
+      let shown = (reads clean).shown in
+      inr (shown.0, shown.1, other_version version desk other shown.0 shown.2);
   same = λ clean _. on.keeps clean;
   survives = on.survives;
 }

@@ -1,5 +1,6 @@
 -- The records of the tables as they are read, and what an opening says of them.
-use Rattle.std.specs.Prelude.{◌≡◌, ◌⊎◌, ℕ, ℤ, Bool, false, List, [], ◌∷◌, map, option_map, unwrap_or, IsPermutation}
+use Rattle.std.specs.Prelude.{◌≡◌, ◌≢◌, ◌⊎◌, ◌<◌, ◌≤◌, ℕ, ℤ, Bool, false, List, [], ◌∷◌, map, option_map, unwrap_or}
+use Rattle.std.specs.Prelude.{IsPermutation}
 use Rattle.std.specs.Prelude.{⊤}
 use Rattle.std.specs.List.{AllByRecursion}
 use Rattle.std.specs.BTreeMap.{BTreeMap, get}
@@ -12,17 +13,16 @@ use Rattle.rtgs_book.specs.declared.Book.{Book}
 use Rattle.rtgs_book.specs.declared.Fault.{Fault}
 use Rattle.rtgs_book.specs.declared.Fault.TheVariants.{OutOfMemory, StoreFault, NotADeskFile, Inconsistent}
 use Rattle.rtgs_book.specs.declared.Rule.{Rule}
-use Rattle.rtgs_book.specs.declared.Rule.TheVariants.{StoredBalances}
-use Rattle.rtgs_book.specs.Judgement.{Keeps, KeepsBefore}
-use Rattle.rtgs_book.specs.declared.Day.{Day}
+use Rattle.rtgs_book.specs.declared.Rule.TheVariants.{StoredBalances, Calm}
+use Rattle.rtgs_book.specs.Judgement.{Keeps, BreaksFirst, rule_number}
 use Rattle.rtgs_rows.specs.Dues.{IsHeldByDue}
-use Rattle.rtgs_rows.specs.Fitting.{HasFormedValues, FitsDate}
+use Rattle.rtgs_rows.specs.Fitting.{HasFormedValues}
 use Rattle.rtgs_rows.specs.Keeping.{AreBalances}
-use Rattle.rtgs_rows.specs.Rows.{shown_day}
 use Rattle.rtgs_rows.specs.Querying.{as_shown, ShowsBook}
-use Rattle.rtgs_rows.specs.TableRecords.{TableRecords, Each, HasNoneBeyond, records_in}
-use Rattle.rtgs_rows.specs.Tables.{HasTable, desk_table, payment_table, forward_table}
-use Rattle.rtgs_sql_columns.specs.Numbers.{as_read, IsFormed}
+use Rattle.rtgs_rows.specs.TableRecords.{TableRecords, Each, HasNoMoreBeyond, records_in, desk_records}
+use Rattle.rtgs_rows.specs.TableRecords.{resolution_records}
+use Rattle.rtgs_rows.specs.Tables.{HasTable, desk_table, payment_table, forward_table, resolution_table}
+use Rattle.rtgs_sql_columns.specs.Numbers.{as_read, AreReadAs, IsFormed}
 use Rattle.rtgs_sql_queries.specs.TableQueries.{ShowsSorted}
 use Rattle.rtgs_sql_loading.specs.Joining.{AreOrders}
 use Rattle.rtgs_book.specs.declared.account.Account.{Account}
@@ -49,20 +49,24 @@ pub record AreTheRecords (version : ℕ) (Tells : Telling) (accounts : List Acco
   pub dues : AllByRecursion IsHeldByDue book.orders
   pub named : book.participants ≡ map (λ (a : Account). a.participant) accounts
   pub tells : Each (TellsOf version Tells accounts book) (records_in version)
-  pub no_more : HasNoneBeyond version accounts book
+  pub no_more : HasNoMoreBeyond version accounts book
 
 -- What is read of trees of this version, sound or not: each row of the tables is told by one record. A number below
 -- zero is read as 0, which breaks the same rule of a sound book.
 abbrev pub AreReadOf : ℕ → Trees → List Account → Book → Type 0
 AreReadOf version trees = AreTheRecords version (AreTold trees)
 
--- one row alone, which is a business day in tables of this version
-abbrev pub IsOneDay : ℕ → List Row → Type 0
-IsOneDay version rows = (day : Day) × FitsDate day.date × (rows ≡ shown_day version day ∷ [])
+-- one row alone, which is in the form of a record
+abbrev pub IsOneRow : {A : Type 0} → TableRecords A → List Row → Type 0
+IsOneRow {A = A} records rows = (it : A) × records.fits it × AreReadAs records rows (it ∷ [])
 
--- one row alone, which is a business day in tables of some version
+-- one row alone, which says some version of the tables
 abbrev pub IsOneDesk : List Row → Type 0
-IsOneDesk rows = (version : ℕ) × IsOneDay version rows
+IsOneDesk = IsOneRow desk_records
+
+-- one row alone, which says this version
+abbrev pub IsDeskOf : ℕ → List Row → Type 0
+IsDeskOf version rows = (one : IsOneDesk rows) × (one.0.version ≡ version)
 
 -- each row is in the form of a record
 abbrev pub InForm : {A : Type 0} → TableRecords A → List Row → Type 0
@@ -79,9 +83,10 @@ HasOrders version trees = (payments dues : List Row) → ShowsSorted payment_tab
     → ShowsDues version trees dues → AreOrders payments dues
 
 -- Each row of the tables that the version has is in the form of a record; the first table has one row, which says this
--- version; each due date is of an order, and each held order has one.
+-- version; that of the choice has one row; each due date is of an order, and each held order has one.
 pub record AreFormed (version : ℕ) (trees : Trees) : Type 0 where
-  pub day : IsOneDay version (as_shown desk_table trees)
+  pub desk : IsDeskOf version (as_shown desk_table trees)
+  pub choice : HasTable version resolution_table → IsOneRow resolution_records (as_shown resolution_table trees)
   pub rows : Each (λ A records. InForm records (as_shown records.table trees)) (records_in version)
   pub orders : HasOrders version trees
 
@@ -92,14 +97,21 @@ abbrev pub is_stored : BTreeMap (List ℕ) ℤ → Account → Bool
 is_stored balances a = unwrap_or (option_map (int_eq a.balance)
     (get (slice_cmp nat_cmp) balances a.participant.code)) false
 
--- the records keep the rule: the last one is about the stored balances, which a book has not
+-- the records keep the rule: one is about the stored balances, which a book has not, and the last is none of records
 abbrev pub KeepsStored : List Account → Book → Rule → Type 0
-KeepsStored accounts book rule = Keeps book rule × (rule ≡ StoredBalances → AreBalances book accounts)
+KeepsStored accounts book rule =
+    (rule ≢ Calm → Keeps book rule) × (rule ≡ StoredBalances → AreBalances book accounts)
 
 -- of the rules that the records break, this is the first
 pub record StoredBreaksFirst (accounts : List Account) (book : Book) (rule : Rule) : Type 0 where
   pub broken : ¬ KeepsStored accounts book rule
-  pub before : KeepsBefore book rule
+  pub before : (other : Rule) → rule_number other < rule_number rule → KeepsStored accounts book other
+
+-- why a book is refused by one of the rules before this one: it breaks it, and none before; or memory was refused
+abbrev pub ExplainsBefore : Book → Rule → Fault → Type 0
+ExplainsBefore book last OutOfMemory = ⊤
+ExplainsBefore book last (Inconsistent rule) = (rule_number rule ≤ rule_number last) × BreaksFirst book rule
+ExplainsBefore book last fault = ⊥
 
 -- Why records in their forms give no book: they break a rule, and this one first, or else the store failed or memory
 -- was refused.

@@ -7,13 +7,13 @@ use Rattle.rtgs_book.specs.declared.account.Account.{Account}
 use Rattle.rtgs_book.specs.declared.Fault.{Fault}
 use Rattle.rtgs_book.specs.declared.Fault.TheVariants.{OutOfMemory, StoreFault, NotADeskFile, Inconsistent}
 use Rattle.rtgs_rows.specs.Keeping.{AreBalances}
-use Rattle.rtgs_rows.specs.TableRecords.{OneOf, records_in}
-use Rattle.rtgs_rows.specs.Tables.{HasTable, IsVersion, desk_table, payment_table, forward_table}
+use Rattle.rtgs_rows.specs.TableRecords.{OneOf, records_in, resolution_records}
+use Rattle.rtgs_rows.specs.Tables.{HasTable, IsVersion, desk_table, payment_table, forward_table, resolution_table}
 use Rattle.rtgs_sql_columns.specs.Numbers.{as_read}
 use Rattle.rtgs_sql_columns.specs.Tables.{query_text}
 use Rattle.rtgs_sql_queries.specs.Displaying.{Displays, HasNoAnswer}
 use Rattle.rtgs_sql_loading.specs.Joining.{AreOrders}
-use Rattle.rtgs_sql_loading.specs.Accounts.{AreTheRecords, StoredBreaksFirst, IsOneDay, IsOneDesk, InForm}
+use Rattle.rtgs_sql_loading.specs.Accounts.{AreTheRecords, StoredBreaksFirst, IsOneRow, IsDeskOf, IsOneDesk, InForm}
 
 -- ---- what they show
 
@@ -40,11 +40,16 @@ IsUnread db text AreFormed = HasNoAnswer db text
 
 -- the query of the first table shows one row, which says this version
 abbrev pub SaysVersion : ℕ → Database → Type 0
-SaysVersion version db = (rows : List Row) × Displays db (query_text desk_table) rows × IsOneDay version rows
+SaysVersion version db = (rows : List Row) × Displays db (query_text desk_table) rows × IsDeskOf version rows
 
 -- it has no answer, or shows not one row, or one that says no version
 abbrev pub SaysNoVersion : Database → Type 0
 SaysNoVersion db = IsUnread db (query_text desk_table) IsOneDesk
+
+-- the version has the table of the choice, and its query has no answer, or shows not one row, or one in no form
+abbrev pub ShowsNoChoice : ℕ → Database → Type 0
+ShowsNoChoice version db = HasTable version resolution_table
+    × IsUnread db (query_text resolution_table) (IsOneRow resolution_records)
 
 -- these are the rows of due dates that the query shows; a version without their table has none
 abbrev pub DisplaysDues : ℕ → Database → List Row → Type 0
@@ -57,11 +62,12 @@ ShowsNoOrders version db = (payments dues : List Row) × Displays db (query_text
     × DisplaysDues version db dues × ¬ AreOrders payments dues
 
 -- The version is not known; or the query of the first table has no answer, or shows not one row, or one that does not
--- say this version; or that of one of the version's tables has no answer, or shows a row that is in the form of no
--- record; or a due date is of no order, or a held order has none.
+-- say this version; or so it is with the table of the choice; or the query of one of the version's tables has no
+-- answer, or shows a row that is in the form of no record; or a due date is of no order, or a held order has none.
 abbrev pub IsIllegible : ℕ → Database → Type 0
 IsIllegible version db = ¬ IsVersion version
-    ⊎ IsUnread db (query_text desk_table) (IsOneDay version)
+    ⊎ IsUnread db (query_text desk_table) (IsDeskOf version)
+    ⊎ ShowsNoChoice version db
     ⊎ OneOf (λ A records. IsUnread db (query_text records.table) (InForm records)) (records_in version)
     ⊎ ShowsNoOrders version db
 

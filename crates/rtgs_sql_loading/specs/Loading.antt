@@ -9,18 +9,15 @@ use Rattle.sqlite.specs.declared.error.Error.TheVariants.{SqliteFailure}
 use Rattle.sqlite.specs.declared.error.ErrorCode.TheVariants as code
 use Rattle.rtgs_book.specs.declared.account.Account.{Account}
 use Rattle.rtgs_book.specs.declared.Book.{Book}
-use Rattle.rtgs_book.specs.declared.Day.{Day}
 use Rattle.rtgs_book.specs.declared.Fault.{Fault}
 use Rattle.rtgs_book.specs.declared.Fault.TheVariants.{OutOfMemory, StoreFault, NotADeskFile}
 use Rattle.sqlite.specs.Effect.{Database}
-use Rattle.rtgs_rows.specs.Fitting.{FitsDate}
 use Rattle.rtgs_rows.specs.Keeping.{AreBalances}
 use Rattle.rtgs_rows.specs.Migrating.{TellIn}
-use Rattle.rtgs_rows.specs.Rows.{shown_day}
 use Rattle.rtgs_rows.specs.Querying.{as_shown, IsFileIn, AreWholeIn}
-use Rattle.rtgs_rows.specs.Tables.{HasTable, IsVersion, desk_table}
+use Rattle.rtgs_rows.specs.Tables.{HasTable, IsVersion}
 use Rattle.rtgs_rows.specs.declared.desk_row.DeskRow.{DeskRow}
-use Rattle.rtgs_rows.specs.TableRecords.{TableRecords, day_records, desk_row_of}
+use Rattle.rtgs_rows.specs.TableRecords.{TableRecords, desk_records, at_first}
 use Rattle.rtgs_sql_columns.specs.Numbers.{AreReadAs}
 use Rattle.rtgs_sql_columns.specs.Tables.{query_text}
 use Rattle.rtgs_sql_queries.specs.Answering.{KeepsTables}
@@ -45,13 +42,14 @@ IsToldBy version s table counted told = ((trees : Trees) → IsFileIn version tr
     → AreTold trees table counted told) × DisplaysAs s.now (query_text table) counted told
 
 -- These records are read of a table of this version: they are those that it has, where the tables have any, and each is
--- in its form. Their rows are told where the version has the table, and where it has not there are none.
+-- in its form. Their rows are told where the version has the table, and where it has not they are those of a new desk.
 pub record ReadsRecords {A : Type 0} (version : ℕ) (records : TableRecords A) (s : State) (all : List A) : Type 0 where
   pub given : (accounts : List Account) (book : Book) → HasRecords version accounts book s
       → all ≡ records.of_book version accounts book
   pub fit : AllByRecursion records.fits all
   pub told : HasTable version records.table → IsToldBy version s records.table records.counted (map records.shown all)
-  pub had : IsVersion version → HasTable version records.table ⊎ (¬ HasTable version records.table × (all ≡ []))
+  pub had : IsVersion version → HasTable version records.table
+      ⊎ (¬ HasTable version records.table × (all ≡ at_first version records))
 
 -- it was there before what was read first
 pub read_after : {A : Type 0} {version : ℕ} {records : TableRecords A} {first old : State} {all : List A}
@@ -97,19 +95,23 @@ list_after {version = version} {records = records} on clean list = record {
       };
 }
 
--- This is what the one row of the first table says: by the records, where the tables of a version have any; by its
--- rows, where the schema is that of a version; and by what the query shows, whatever the schema is.
-pub record ReadsDesk (s : State) (desk : DeskRow) : Type 0 where
-  pub given : (version : ℕ) (accounts : List Account) (book : Book) → HasRecords version accounts book s
-      → desk ≡ desk_row_of version book.day
-  pub rows : (version : ℕ) (trees : Trees) → IsFileIn version trees s
-      → as_shown desk_table trees ≡ shown_day desk.version desk.day ∷ []
-  pub shown : Displays s.now (query_text desk_table) (shown_day desk.version desk.day ∷ [])
-  pub fit : FitsDate desk.day.date
+-- This is what the one row of a table says: by the records, where the tables of a version that has it have any; by its
+-- rows, where the schema is that of such a version; and by what the query shows, whatever the schema is.
+pub record ReadsOne {A : Type 0} (records : TableRecords A) (s : State) (it : A) : Type 0 where
+  pub given : (version : ℕ) → HasTable version records.table → (accounts : List Account) (book : Book)
+      → HasRecords version accounts book s → it ∷ [] ≡ records.of_book version accounts book
+  pub rows : (version : ℕ) → HasTable version records.table → (trees : Trees) → IsFileIn version trees s
+      → AreReadAs records (as_shown records.table trees) (it ∷ [])
+  pub shown : DisplaysAs s.now (query_text records.table) records.counted (records.shown it ∷ [])
+  pub fit : records.fits it
 
--- so the day
-abbrev pub ReadsOneDay : ℕ → State → Day → Type 0
-ReadsOneDay version s day = ReadsRecords version day_records s (desk_row_of version day ∷ [])
+-- so the first table
+abbrev pub ReadsDesk : State → DeskRow → Type 0
+ReadsDesk = ReadsOne desk_records
+
+-- this record alone is read of a table of this version
+abbrev pub ReadsAlone : {A : Type 0} → ℕ → TableRecords A → State → A → Type 0
+ReadsAlone version records s it = ReadsRecords version records s (it ∷ [])
 
 -- What is read of this version, in three ways: these are the records, where the tables have any; the rows tell them,
 -- where the schema is that of the version; and the queries show them, whatever the schema is.

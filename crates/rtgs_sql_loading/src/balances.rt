@@ -1,12 +1,12 @@
 //! Stored balances against the sums from scratch.
 ghost use Rattle.std.specs.Prelude.{◌≡◌, ◌↔◌, map, IfOk, IsTrue};
 ghost use Rattle.std.specs.List.{list_all};
-ghost use Rattle.rtgs_book.specs.Soundness.{IsSound};
+ghost use Rattle.rtgs_book.specs.Judgement.{KeepsBefore};
 ghost use Rattle.rtgs_book.specs.declared.account.Account.{Account as AccountSpec};
 ghost use Rattle.rtgs_rows.specs.Keeping.{AreBalances};
 ghost use Rattle.rtgs_sql_loading.specs.Accounts.{is_stored as is_stored_in};
 
-use rtgs_book::{Account, Book};
+use rtgs_book::{Account, Book, Rule};
 use rtgs_money::Code;
 use rtgs_soundness::balances;
 use std::alloc::AllocError;
@@ -14,7 +14,7 @@ use std::collections::BTreeMap;
 
 /// Whether each stored balance is the sum of the account's postings and settled orders.
 pub(crate) fn balances_agree(accounts: &[Account], book: &Book) -> Result<bool, AllocError>
-    requires sound { IsSound book.now }
+    requires kept { KeepsBefore book.now Rule.StoredBalances }
     requires participants { book.now.participants ≡ map (λ (a : AccountSpec). a.participant) accounts.now }
     ensures { IfOk result (λ yes. IsTrue yes ↔ AreBalances book.now accounts.now) }
 {

@@ -6,6 +6,7 @@ mod desk;
 mod faults;
 pub mod laws;
 mod loading;
+mod one_row;
 mod orders;
 mod reading;
 

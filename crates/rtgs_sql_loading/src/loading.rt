@@ -1,13 +1,14 @@
 //! The book that the tables hold.
-ghost use Rattle.std.specs.Prelude.{◌≡◌, ◌≢◌, ◌↔◌, false, map, Err, IfOk, IfErr, OnOk, IsTrue};
+ghost use Rattle.std.specs.Prelude.{◌≡◌, ◌≢◌, ◌↔◌, false, map, None, Err, IfOk, IfErr, IfSome, OnOk, IsTrue};
 ghost use Rattle.rtgs_book.specs.declared.Book.{Book};
 ghost use Rattle.rtgs_book.specs.declared.Rule.{Rule};
 ghost use Rattle.rtgs_book.specs.declared.account.Account.{Account as AccountSpec};
 ghost use Rattle.rtgs_sql_queries.specs.Answering.{KeepsTables};
-ghost use Rattle.rtgs_sql_loading.specs.Accounts.{AreFormed, ExplainsRead};
+ghost use Rattle.rtgs_sql_loading.specs.Accounts.{AreFormed, ExplainsBefore, ExplainsRead};
 ghost use Rattle.rtgs_sql_columns.specs.Blank.{IsBlank};
 ghost use Rattle.rtgs_sql_loading.specs.Displaying.{IsIllegible};
 ghost use Rattle.rtgs_sql_loading.specs.Loading.{TellsRecords, Stops, LoadsFrom};
+ghost use Rattle.rtgs_book.specs.Judgement.{KeepsBefore, BreaksFirst};
 ghost use Rattle.rtgs_book.specs.Ranges.{Fits};
 ghost use Rattle.rtgs_book.specs.Soundness.{IsSound};
 ghost use Rattle.rtgs_rows.specs.Keeping.{AreBalances};
@@ -19,19 +20,19 @@ use crate::balances::balances_agree;
 use crate::orders::joined;
 use crate::reading::FromTables;
 use rtgs_book::{Account, Book, Day, Fault, Mark, Order, Participant, Posting, Rows, Rule};
-use rtgs_rows::Forward;
 use rtgs_rows::laws::shown_records_are_held;
+use rtgs_rows::{DeskRow, Forward, ResolutionRow};
 use rtgs_soundness::check;
 use sqlite::{Alter, Connection};
 use std::alloc::{AllocError, Global};
 
 /// What the tables of all versions hold, in the order in which they are read.
-type AllTables = (
-    Day,
-    (
-        Vec<Account>,
-        (Vec<Posting>, (Vec<Order>, (Vec<Mark>, (Vec<Forward>, ())))),
-    ),
+type AllTables = (DeskRow, (ResolutionRow, AllLists));
+
+/// Those tables that have a row for each record of a list.
+type AllLists = (
+    Vec<Account>,
+    (Vec<Posting>, (Vec<Order>, (Vec<Mark>, (Vec<Forward>, ())))),
 );
 
 /// A book as it stands in the tables, with the stored balances.
@@ -59,7 +60,8 @@ fn read_tables<S: Alter>(
     ensures honest { HasCleanDisk (state S.Store conn.new) → HasCleanDisk (state S.Store conn.old) }
 {
     let all = AllTables::read(alloc, conn, version)?;
-    let (day, (accounts, (postings, (orders, (marks, (forwards, ())))))) = all;
+    let (desk, (resolution, lists)) = all;
+    let (accounts, (postings, (orders, (marks, (forwards, ()))))) = lists;
     let orders = joined(orders, forwards.as_slice())?;
     let participants = participants_of(alloc, accounts.as_slice())?;
     let book = Book {
@@ -67,7 +69,11 @@ fn read_tables<S: Alter>(
         postings: Rows::from_vec(postings),
         orders: Rows::from_vec(orders),
         marks: Rows::from_vec(marks),
-        day,
+        day: Day {
+            date: desk.date,
+            phase: desk.phase,
+            automatic: resolution.automatic,
+        },
     };
     Ok(Stored { accounts, book })
 }
@@ -82,6 +88,22 @@ fn participants_of(alloc: Global, accounts: &[Account]) -> Result<Vec<Participan
         .collect(alloc)
 }
 
+/// The first rule after that on stored balances which the book breaks, where it breaks none before.
+fn later_rule(book: &Book) -> Result<Option<Rule>, Fault>
+    ensures kept { OnOk result (KeepsBefore book.now Rule.StoredBalances) }
+    ensures sound { IfOk result (λ later. later ≡ None → IsSound book.now × Fits book.now) }
+    ensures broken { IfOk result (λ later. IfSome later (λ rule. BreaksFirst book.now rule × (rule ≢ Rule.Calm))) }
+    ensures fault { IfErr result (ExplainsBefore book.now Rule.StoredBalances) }
+{
+    match check(book) {
+        Ok(()) => Ok(None),
+        Err(Fault::Inconsistent { rule }) if rule.number() > Rule::StoredBalances.number() => {
+            Ok(Some(rule))
+        }
+        Err(fault) => Err(fault),
+    }
+}
+
 /// The book of the tables, once it is seen to be sound, and the stored balances to be its balances. Else the fault
 /// names the first rule that is broken, or memory was refused.
 fn judged(stored: Stored) -> Result<Book, Fault>
@@ -93,13 +115,15 @@ fn judged(stored: Stored) -> Result<Book, Fault>
     ensures explained { IfErr result (ExplainsRead stored.accounts.items stored.book) }
 {
     let Stored { accounts, book } = stored;
-    check(&book)?;
-    if balances_agree(accounts.as_slice(), &book)? {
-        Ok(book)
-    } else {
-        Err(Fault::Inconsistent {
+    let later = later_rule(&book)?;
+    if !balances_agree(accounts.as_slice(), &book)? {
+        return Err(Fault::Inconsistent {
             rule: Rule::StoredBalances,
-        })
+        });
+    }
+    match later {
+        Some(rule) => Err(Fault::Inconsistent { rule }),
+        None => Ok(book),
     }
 }
 
@@ -107,7 +131,7 @@ fn judged(stored: Stored) -> Result<Book, Fault>
 fn is_version(version: u64) -> bool
     ensures { IsTrue result ↔ IsVersion version }
 {
-    version == 1 || version == 2
+    version == 1 || version == 2 || version == 3
 }
 
 /// Loads the book of tables of this version, and judges it. Records that break a rule are answered by the first one

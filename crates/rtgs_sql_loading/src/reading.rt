@@ -2,20 +2,22 @@
 ghost use Rattle.std.specs.Prelude.{◌≡◌, ◌≢◌, ◌⊎◌, ℕ, false, Err, IfOk, OnOk, ⊤};
 ghost use Rattle.rtgs_book.specs.declared.Rule.{Rule};
 ghost use Rattle.rtgs_rows.specs.Querying.{as_shown};
-ghost use Rattle.rtgs_rows.specs.Tables.{HasTable, desk_table};
+ghost use Rattle.rtgs_rows.specs.TableRecords.{desk_records, resolution_records};
+ghost use Rattle.rtgs_rows.specs.Tables.{HasTable, desk_table, resolution_table};
 ghost use Rattle.rtgs_sql_columns.specs.Tables.{query_text};
-ghost use Rattle.rtgs_sql_loading.specs.Accounts.{InForm, IsOneDay};
-ghost use Rattle.rtgs_sql_loading.specs.Displaying.{IsUnread};
-ghost use Rattle.rtgs_sql_loading.specs.Loading.{ReadsList, ReadsOneDay, ReadsOn, Stops, read_after, list_after};
+ghost use Rattle.rtgs_sql_loading.specs.Accounts.{InForm, IsOneRow, IsDeskOf};
+ghost use Rattle.rtgs_sql_loading.specs.Displaying.{IsUnread, ShowsNoChoice};
+ghost use Rattle.rtgs_sql_loading.specs.Loading.{ReadsList, ReadsAlone, ReadsOn, Stops, read_after, list_after};
 ghost use Rattle.sqlite.specs.Effect.{Database};
 ghost use Rattle.sqlite.specs.State.{State, HasCleanDisk};
 ghost use Rattle.sqlite.specs.Held.{state};
 ghost use Rattle.sqlite.specs.Tree.{Trees};
 
-use crate::desk::read_desk;
 use crate::faults::fault_of;
-use rtgs_book::{Day, Fault};
-use rtgs_sql_queries::table_row::{TableRow, decode};
+use crate::one_row::read_one;
+use rtgs_book::Fault;
+use rtgs_rows::{DeskRow, ResolutionRow};
+use rtgs_sql_queries::table_row::{ListRow, TableRow, decode};
 use rtgs_sql_queries::whole_table::table_rows;
 use sqlite::{Alter, Connection};
 use std::alloc::Global;
@@ -46,28 +48,56 @@ pub(crate) trait FromTables: Sized {
         ensures honest { HasCleanDisk (state S.Store conn.new) → HasCleanDisk (state S.Store conn.old) };
 }
 
-// The business day, of the one row of the table `desk`.
-impl FromTables for Day {
-    ghost tells = { ReadsOneDay };
+// What the one row of the table `desk` says, where it says this version.
+impl FromTables for DeskRow {
+    ghost tells = { λ version s desk. (desk.version ≡ version) × ReadsAlone version desk_records s desk };
 
-    ghost after = { λ version first old on clean day. read_after on clean };
+    ghost after = { λ version first old on clean desk told. (told.0, read_after on clean told.1) };
 
-    ghost formed = { λ version trees. IsOneDay version (as_shown desk_table trees) };
+    ghost formed = { λ version trees. IsDeskOf version (as_shown desk_table trees) };
 
-    ghost illegible = { λ version db. IsUnread db (query_text desk_table) (IsOneDay version) };
+    ghost illegible = { λ version db. IsUnread db (query_text desk_table) (IsDeskOf version) };
 
-    fn read<S: Alter>(alloc: Global, conn: &mut Connection<S>, version: u64) -> Result<Day, Fault> {
-        let desk = read_desk(alloc, conn)?;
+    fn read<S: Alter>(
+        alloc: Global,
+        conn: &mut Connection<S>,
+        version: u64,
+    ) -> Result<DeskRow, Fault> {
+        let desk = read_one::<DeskRow, S>(alloc, conn)?;
         if desk.version == version {
-            Ok(desk.day)
+            Ok(desk)
         } else {
             Err(Fault::NotADeskFile)
         }
     }
 }
 
+// What the one row of the table `resolution` says. In a version before the table no day is automatic, and nothing is
+// asked.
+impl FromTables for ResolutionRow {
+    ghost tells = { λ version s it. ReadsAlone version resolution_records s it };
+
+    ghost after = { λ version first old on clean it. read_after on clean };
+
+    ghost formed = { λ version trees. HasTable version resolution_table
+        → IsOneRow resolution_records (as_shown resolution_table trees) };
+
+    ghost illegible = { ShowsNoChoice };
+
+    fn read<S: Alter>(
+        alloc: Global,
+        conn: &mut Connection<S>,
+        version: u64,
+    ) -> Result<ResolutionRow, Fault> {
+        if version < ResolutionRow::first_version() {
+            return Ok(ResolutionRow { automatic: false });
+        }
+        read_one::<ResolutionRow, S>(alloc, conn)
+    }
+}
+
 // The records of a table, in the order of its query. A version before the table has none, and nothing is asked.
-impl<T: TableRow + Drop> FromTables for Vec<T> {
+impl<T: ListRow + Drop> FromTables for Vec<T> {
     ghost tells = { λ version s v. ReadsList version T.records s v.items };
 
     ghost after = { λ version first old on clean v. list_after on clean };

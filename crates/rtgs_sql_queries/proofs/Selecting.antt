@@ -18,13 +18,14 @@ use Rattle.rtgs_book.specs.declared.Book.{Book}
 use Rattle.rtgs_book.specs.declared.Day.{Day}
 use Rattle.rtgs_book.specs.declared.Order.{Order}
 use Rattle.rtgs_rows.specs.Tables.{IsVersion, schema_in, known_tables, desk_table, participant_table, posting_table}
-use Rattle.rtgs_rows.specs.Tables.{payment_table, mark_table, forward_table, versions_of, HasTable}
+use Rattle.rtgs_rows.specs.Tables.{payment_table, mark_table, forward_table, resolution_table, versions_of, HasTable}
 use Rattle.sqlite.specs.Table.{Table}
 use Rattle.rtgs_rows.specs.Dues.{without_due, forward_for, forwards_of}
 use Rattle.rtgs_rows.specs.Fitting.{FitsDate, FitsParticipant, FitsPayment, FitsOrder, FitsForward}
-use Rattle.rtgs_rows.specs.Rows.{day_row, posting_row, payment_row, mark_row, forward_row, shown_account}
-use Rattle.rtgs_rows.specs.TableRecords.{TableRecords, day_records, account_records, posting_records, order_records}
-use Rattle.rtgs_rows.specs.TableRecords.{mark_records, forward_records, desk_row_of, HasNoneBeyond}
+use Rattle.rtgs_rows.specs.Rows.{desk_row, desk_row_of, posting_row, payment_row, mark_row, forward_row, resolution_row}
+use Rattle.rtgs_rows.specs.Rows.{resolution_row_of, shown_account}
+use Rattle.rtgs_rows.specs.TableRecords.{TableRecords, desk_records, account_records, posting_records, order_records}
+use Rattle.rtgs_rows.specs.TableRecords.{mark_records, forward_records, resolution_records, HasNoMoreBeyond, at_first}
 use Rattle.rtgs_rows.specs.Content.{Holding, Content, holding_row, stored_account, tables_of_in, tables_for_in}
 use Rattle.rtgs_rows.specs.Content.{rows_in, Rise}
 use Rattle.rtgs_book.specs.declared.account.Account.{Account}
@@ -53,7 +54,8 @@ has_always version known low = known
 
 -- none that is known is before the first
 pub none_before : (version : ℕ) → IsVersion version → version < 1 → ⊥
-none_before = in_all (λ version. version < 1 → ⊥) (λ low. omega (arith, low), (λ low. omega (arith, low), tt))
+none_before = in_all (λ version. version < 1 → ⊥)
+    (λ low. omega (arith, low), (λ low. omega (arith, low), (λ low. omega (arith, low), tt)))
 
 pub ruleset since_the_first = (first_is_known, has_always, none_before)
 
@@ -63,21 +65,46 @@ second_has_forwards = (0, omega arith, refl)
 
 pub has_forwards : (version : ℕ) → IsVersion version → 2 ≤ version → HasTable version forward_table
 has_forwards = in_all (λ version. 2 ≤ version → HasTable version forward_table)
-    (λ low. absurd (omega (arith, low)), (λ low. second_has_forwards, tt))
+    (λ low. absurd (omega (arith, low)), (λ low. second_has_forwards, (λ low. (1, omega arith, refl), tt)))
 
 pub lacks_forwards : (version : ℕ) → IsVersion version → version < 2 → ¬ HasTable version forward_table
 lacks_forwards version known low has =
-    let only = in_each (λ v. 2 ≤ v) forward_table (omega arith, tt) version has in
+    let only = in_each (λ v. 2 ≤ v) forward_table (omega arith, (omega arith, tt)) version has in
     omega (arith, low, only)
 
--- a book has none in tables of the first, where it has no record that they lack
-pub no_forwards : (version : ℕ) → IsVersion version → version < 2 → (accounts : List Account) (book : Book)
-    → HasNoneBeyond version accounts book → forwards_of book.orders ≡ []
-no_forwards = in_all (λ version. version < 2 → (accounts : List Account) (book : Book)
-    → HasNoneBeyond version accounts book → forwards_of book.orders ≡ [])
-    (λ low accounts book none. none.0, (λ low accounts book none. absurd (omega (arith, low)), tt))
+-- the records of a table that a version lacks are those of a new desk, where a book has no more of such tables
+abbrev FirstIn : {A : Type 0} → TableRecords A → ℕ → ℕ → Type 0
+FirstIn records first version = version < first → (accounts : List Account) (book : Book)
+    → HasNoMoreBeyond version accounts book → records.of_book version accounts book ≡ at_first version records
+
+pub no_forwards : (version : ℕ) → IsVersion version → FirstIn forward_records 2 version
+no_forwards = in_all (FirstIn forward_records 2) (
+  λ low accounts book none. none.0,
+  (λ low accounts book none. absurd (omega (arith, low)), (λ low accounts book none. absurd (omega (arith, low)), tt)),
+)
 
 pub ruleset since_the_second = (second_has_forwards, has_forwards, lacks_forwards, no_forwards)
+
+-- the choice of a day is in the third
+pub third_has_choices : HasTable 3 resolution_table
+third_has_choices = (0, omega arith, refl)
+
+pub has_choices : (version : ℕ) → IsVersion version → 3 ≤ version → HasTable version resolution_table
+has_choices = in_all (λ version. 3 ≤ version → HasTable version resolution_table)
+    (λ low. absurd (omega (arith, low)), (λ low. absurd (omega (arith, low)), (λ low. third_has_choices, tt)))
+
+pub lacks_choices : (version : ℕ) → IsVersion version → version < 3 → ¬ HasTable version resolution_table
+lacks_choices version known low has =
+    let only = in_each (λ v. 3 ≤ v) resolution_table (omega arith, tt) version has in
+    omega (arith, low, only)
+
+pub no_choice : (version : ℕ) → IsVersion version → FirstIn resolution_records 3 version
+no_choice = in_all (FirstIn resolution_records 3) (
+  λ low accounts book none. none.1.0,
+  (λ low accounts book none. none.0, (λ low accounts book none. absurd (omega (arith, low)), tt)),
+)
+
+pub ruleset since_the_third = (third_has_choices, has_choices, lacks_choices, no_choice)
 
 -- ---- what they show of a book
 
@@ -107,19 +134,22 @@ own_numbered records row number all by shows read held = record {
       (records.of_book version accounts book) its.1 its.2 (trees records.table.tree) rows here;
 }
 
-pub desk_own : ShowsOwn day_records
-desk_own = own_numbered day_records (λ desk. day_row desk.version desk.day) (λ _. 1)
-    (λ version c. desk_row_of version c.day ∷ [])
+pub desk_own : ShowsOwn desk_records
+desk_own = own_numbered desk_records desk_row (λ _. 1) (λ version c. desk_row_of version c.day ∷ [])
     (λ a b low. then-Equal _ ∙ value_cmp-Int (pos 1) (pos 1) ∙ low) (λ a. refl)
     (λ version c accounts book are.
-    ((are.fits.day, tt), (tt, tt), ap (λ (day : Day). desk_row_of version day ∷ []) are.lists.day))
-    (λ c trees held. ap (rows_in desk_table) held, (λ c trees held. ap (rows_in desk_table) held, tt))
+    ((are.fits.day, tt), (tt, tt), ap (λ (day : Day). desk_row_of version day ∷ []) are.lists.day)) (
+      λ c trees held. ap (rows_in desk_table) held,
+      (λ c trees held. ap (rows_in desk_table) held, (λ c trees held. ap (rows_in desk_table) held, tt)),
+    )
 
 pub postings_own : ShowsOwn posting_records
 postings_own = own_numbered posting_records posting_row (λ p. p.number) (λ version c. c.postings)
     (λ a b low. then-Equal _ ∙ value_cmp-Int (pos a.number) (pos b.number) ∙ low) (λ a. refl)
-    (λ version c accounts book are. (are.fits.postings, are.order.postings, are.lists.postings))
-    (λ c trees held. ap (rows_in posting_table) held, (λ c trees held. ap (rows_in posting_table) held, tt))
+    (λ version c accounts book are. (are.fits.postings, are.order.postings, are.lists.postings)) (
+      λ c trees held. ap (rows_in posting_table) held,
+      (λ c trees held. ap (rows_in posting_table) held, (λ c trees held. ap (rows_in posting_table) held, tt)),
+    )
 
 -- the rows of orders are those of the orders without their due dates
 plainly : (os : List Order) → map payment_row os ≡ map payment_row (map without_due os)
@@ -156,14 +186,19 @@ payments_own = own_numbered order_records payment_row (λ o. o.number) (λ versi
       ap (map without_due) are.lists.orders,
     )) (
       λ c trees held. ap (rows_in payment_table) held ∙ plainly c.orders,
-      (λ c trees held. ap (rows_in payment_table) held ∙ plainly c.orders, tt),
+      (
+        λ c trees held. ap (rows_in payment_table) held ∙ plainly c.orders,
+        (λ c trees held. ap (rows_in payment_table) held ∙ plainly c.orders, tt),
+      ),
     )
 
 pub marks_own : ShowsOwn mark_records
 marks_own = own_numbered mark_records mark_row (λ m. m.number) (λ version c. c.marks)
     (λ a b low. then-Equal _ ∙ value_cmp-Int (pos a.number) (pos b.number) ∙ low) (λ a. refl)
-    (λ version c accounts book are. (are.fits.marks, are.order.marks, are.lists.marks))
-    (λ c trees held. ap (rows_in mark_table) held, (λ c trees held. ap (rows_in mark_table) held, tt))
+    (λ version c accounts book are. (are.fits.marks, are.order.marks, are.lists.marks)) (
+      λ c trees held. ap (rows_in mark_table) held,
+      (λ c trees held. ap (rows_in mark_table) held, (λ c trees held. ap (rows_in mark_table) held, tt)),
+    )
 
 forwards_fit : (os : List Order) → AllByRecursion FitsOrder os → AllByRecursion FitsForward (forwards_of os)
 forwards_fit [] fits = tt
@@ -179,7 +214,14 @@ forwards_own = own_numbered forward_records forward_row (λ f. f.number) (λ ver
     (λ a b low. then-Equal _ ∙ value_cmp-Int (pos a.number) (pos b.number) ∙ low) (λ a. refl)
     (λ version c accounts book are.
     (forwards_fit book.orders are.fits.orders, are.order.forwards, are.lists.forwards))
-    (λ c trees held. ap (rows_in forward_table) held, tt)
+    (λ c trees held. ap (rows_in forward_table) held, (λ c trees held. ap (rows_in forward_table) held, tt))
+
+pub resolution_own : ShowsOwn resolution_records
+resolution_own = own_numbered resolution_records resolution_row (λ _. 1) (λ version c. resolution_row_of c.day ∷ [])
+    (λ a b low. then-Equal _ ∙ value_cmp-Int (pos 1) (pos 1) ∙ low) (λ a. refl)
+    (λ version c accounts book are.
+    ((tt, tt), (tt, tt), ap (λ (day : Day). resolution_row_of day ∷ []) are.lists.day))
+    (λ c trees held. ap (rows_in resolution_table) held, tt)
 
 -- ---- the participants, in the order of their codes
 
@@ -200,9 +242,13 @@ pub participants_own : ShowsOwn account_records
 participants_own = record {
   fit = λ version. accounts_fit;
   rows = λ version has content accounts book are trees held rows s.
-      let here = in_each (HasRows participant_table (λ _ c. map holding_row c.holdings)) participant_table
-      (λ c trees same. ap (rows_in participant_table) same, (λ c trees same. ap (rows_in participant_table) same, tt))
-      version has content trees held in
+      let here = in_each (HasRows participant_table (λ _ c. map holding_row c.holdings)) participant_table (
+        λ c trees same. ap (rows_in participant_table) same,
+        (
+          λ c trees same. ap (rows_in participant_table) same,
+          (λ c trees same. ap (rows_in participant_table) same, tt),
+        ),
+      ) version has content trees held in
       let q = whole_table participant_table in
       let up = ascending-map (λ (a b : Output). output_cmp q a b ≡ Less) out accounts
       (ascending_weaker _ _ (λ a b low. then-Equal _ ∙ value_cmp-Text a.participant.code b.participant.code ∙ low)
@@ -230,4 +276,5 @@ pub ruleset queries = (
   mark_same,
   forwards_own,
   forward_same,
+  resolution_own,
 )

@@ -15,7 +15,7 @@ use Rattle.rtgs_rows.specs.Content.{Content, IsInOrder, RestsIn, stored_account}
 use Rattle.rtgs_rows.specs.Dues.{IsHeldByDue}
 use Rattle.rtgs_rows.specs.Fitting.{HasFormedValues}
 use Rattle.rtgs_rows.specs.Keeping.{SameLists}
-use Rattle.rtgs_rows.specs.TableRecords.{TableRecords, HasNoneBeyond}
+use Rattle.rtgs_rows.specs.TableRecords.{TableRecords, HasNoMoreBeyond}
 use Rattle.rtgs_sql_columns.specs.Numbers.{AreReadAs}
 
 -- What is read of such tables, sound or not: the accounts in the order of their codes, all else as it stands. Each
@@ -32,7 +32,7 @@ pub record AreRead (content : Content) (accounts : List Account) (book : Book) :
 -- the tables of this version, at rest, have these records, all of them
 abbrev pub HasRecords : ℕ → List Account → Book → State → Type 0
 HasRecords version accounts book s = (content : Content) × RestsIn version content s × AreRead content accounts book
-    × HasNoneBeyond version accounts book
+    × HasNoMoreBeyond version accounts book
 
 -- what the query of a whole table gives that has these records: their rows, which are read as them, each in its form
 pub record GivesRecords {A : Type 0} (records : TableRecords A) (all : List A) (result : Result (Vec Row Global) Error)

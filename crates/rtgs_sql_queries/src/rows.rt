@@ -1,32 +1,33 @@
 //! The record of each table's row.
-ghost use Rattle.std.specs.Prelude.{◌≡◌, ◌<◌, pos, length, Some, IfSome};
+ghost use Rattle.std.specs.Prelude.{◌≡◌, ◌<◌, pos, Bool, length, Some, IfSome, refl};
 ghost use Rattle.sqlite_value.specs.Order.{column};
 ghost use Rattle.sqlite.specs.declared.types.Value.TheVariants.{Int};
 ghost use Rattle.rtgs_book.specs.declared.Phase.{Phase as PhaseSpec};
 ghost use Rattle.rtgs_book.specs.declared.OrderState.{OrderState as StateSpec};
-ghost use Rattle.rtgs_rows.specs.Rows.{phase_number, state_number, mark_value};
-ghost use Rattle.rtgs_rows.specs.TableRecords.{day_records, account_records, posting_records, order_records};
-ghost use Rattle.rtgs_rows.specs.TableRecords.{mark_records, forward_records};
+ghost use Rattle.rtgs_rows.specs.Rows.{desk_row_of, resolution_row_of, phase_number, resolution_number, state_number};
+ghost use Rattle.rtgs_rows.specs.Rows.{mark_value};
+ghost use Rattle.rtgs_rows.specs.TableRecords.{desk_records, account_records, posting_records, order_records};
+ghost use Rattle.rtgs_rows.specs.TableRecords.{mark_records, forward_records, resolution_records};
 ghost use Rattle.rtgs_sql_columns.specs.Numbers.{at_least_zero};
 
-use crate::table_row::TableRow;
-use rtgs_book::{Account, Day, Mark, Order, OrderState, Participant, Phase, Posting};
+use crate::table_row::{ListRow, OneRow, TableRow};
+use rtgs_book::{Account, Mark, Order, OrderState, Participant, Phase, Posting};
 use rtgs_money::{Amount, Credit, KeyDigest, PostingAmount};
 use rtgs_rows::numbers::{
-    PHASE_CLOSED, PHASE_CUT_OFF, PHASE_OPEN, STATE_HELD, STATE_QUEUED, STATE_REJECTED,
-    STATE_SETTLED, STATE_WITHDRAWN,
+    PHASE_CLOSED, PHASE_CUT_OFF, PHASE_OPEN, RESOLUTION_AUTOMATIC, RESOLUTION_ON_REQUEST,
+    STATE_HELD, STATE_QUEUED, STATE_REJECTED, STATE_SETTLED, STATE_WITHDRAWN,
 };
-use rtgs_rows::{DeskRow, Forward};
+use rtgs_rows::{DeskRow, Forward, ResolutionRow};
 use rtgs_sql_columns::fields::{
     blob, cents, code, date, date_or_null, int, is_null, name, number, reference, unsigned, width,
 };
 use sqlite::Row;
 
-/// The number of the row of the table `desk`.
-const DESK_ID: i64 = 1;
+/// The number of the row in a table of one row.
+const ONLY_ID: i64 = 1;
 
 impl TableRow for DeskRow {
-    ghost records = { day_records };
+    ghost records = { desk_records };
 
     #[tactic(auto, using(crate::proofs::Selecting::queries))]
     fn query() -> &'static str {
@@ -40,15 +41,13 @@ impl TableRow for DeskRow {
 
     fn from_row(row: &Row) -> Option<DeskRow> {
         width(row, 4)?;
-        if int(row, 0)? != DESK_ID {
+        if int(row, 0)? != ONLY_ID {
             return None;
         }
         Some(DeskRow {
             version: unsigned(row, 1)?,
-            day: Day {
-                date: date_or_null(row, 2)?,
-                phase: phase_of(unsigned(row, 3)?)?,
-            },
+            date: date_or_null(row, 2)?,
+            phase: phase_of(unsigned(row, 3)?)?,
         })
     }
 }
@@ -181,6 +180,66 @@ impl TableRow for Forward {
     }
 }
 
+impl TableRow for ResolutionRow {
+    ghost records = { resolution_records };
+
+    #[tactic(auto, using(crate::proofs::Selecting::queries))]
+    fn query() -> &'static str {
+        "SELECT id, automatic FROM resolution ORDER BY id"
+    }
+
+    #[tactic(auto, using(crate::proofs::Selecting::since_the_third))]
+    fn first_version() -> u64 {
+        3
+    }
+
+    fn from_row(row: &Row) -> Option<ResolutionRow> {
+        width(row, 2)?;
+        if int(row, 0)? != ONLY_ID {
+            return None;
+        }
+        Some(ResolutionRow {
+            automatic: choice_of(unsigned(row, 1)?)?,
+        })
+    }
+}
+
+// ---- the tables of one row
+
+impl OneRow for DeskRow {
+    ghost of_day = { λ version book. desk_row_of version book.day };
+
+    ghost one = { λ version accounts book. refl };
+}
+
+impl OneRow for ResolutionRow {
+    ghost of_day = { λ version book. resolution_row_of book.day };
+
+    ghost one = { λ version accounts book. refl };
+}
+
+// ---- and those of lists
+
+impl ListRow for Account {
+    ghost none_at_first = { λ version. refl };
+}
+
+impl ListRow for Posting {
+    ghost none_at_first = { λ version. refl };
+}
+
+impl ListRow for Order {
+    ghost none_at_first = { λ version. refl };
+}
+
+impl ListRow for Mark {
+    ghost none_at_first = { λ version. refl };
+}
+
+impl ListRow for Forward {
+    ghost none_at_first = { λ version. refl };
+}
+
 /// The phase with this number.
 fn phase_of(number: u64) -> Option<Phase>
     ensures found { (phase : PhaseSpec) → number ≡ phase_number phase → result ≡ Some phase }
@@ -190,6 +249,18 @@ fn phase_of(number: u64) -> Option<Phase>
         PHASE_CLOSED => Some(Phase::Closed),
         PHASE_OPEN => Some(Phase::Open),
         PHASE_CUT_OFF => Some(Phase::CutOff),
+        _ => None,
+    }
+}
+
+/// The choice with this number, whether a day is automatic.
+fn choice_of(number: u64) -> Option<bool>
+    ensures found { (automatic : Bool) → number ≡ resolution_number automatic → result ≡ Some automatic }
+    ensures is { IfSome result (λ it. number ≡ resolution_number it) }
+{
+    match number {
+        RESOLUTION_ON_REQUEST => Some(false),
+        RESOLUTION_AUTOMATIC => Some(true),
         _ => None,
     }
 }

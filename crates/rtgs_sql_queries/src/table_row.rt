@@ -1,10 +1,10 @@
 //! What a table's row says.
-ghost use Rattle.std.specs.Prelude.{◌≡◌, ◌≢◌, ◌≤◌, ◌<◌, ℕ, List, [], Some, Err, IfOk, IfSome};
+ghost use Rattle.std.specs.Prelude.{◌≡◌, ◌≢◌, ◌≤◌, ◌<◌, ℕ, List, [], ◌∷◌, Some, Err, IfOk, IfSome};
 ghost use Rattle.std.specs.List.{AllByRecursion};
 ghost use Rattle.rtgs_book.specs.declared.Book.{Book};
 ghost use Rattle.rtgs_book.specs.declared.Rule.{Rule};
 ghost use Rattle.rtgs_book.specs.declared.account.Account.{Account as AccountSpec};
-ghost use Rattle.rtgs_rows.specs.TableRecords.{TableRecords, HasNoneBeyond};
+ghost use Rattle.rtgs_rows.specs.TableRecords.{TableRecords, HasNoMoreBeyond, at_first};
 ghost use Rattle.rtgs_rows.specs.Tables.{HasTable, IsVersion};
 ghost use Rattle.rtgs_sql_columns.specs.Numbers.{as_read, AreReadAs, IsFormed};
 ghost use Rattle.rtgs_sql_columns.specs.Tables.{query_text};
@@ -31,8 +31,9 @@ pub trait TableRow: Sized {
         ensures is { HasTable result records.table }
         ensures has { (version : ℕ) → IsVersion version → result ≤ version → HasTable version records.table }
         ensures lacks { (version : ℕ) → IsVersion version → version < result → ¬ HasTable version records.table }
-        ensures none { (version : ℕ) → IsVersion version → version < result → (accounts : List AccountSpec)
-            (book : Book) → HasNoneBeyond version accounts book → records.of_book version accounts book ≡ [] };
+        ensures first { (version : ℕ) → IsVersion version → version < result → (accounts : List AccountSpec)
+            (book : Book) → HasNoMoreBeyond version accounts book
+            → records.of_book version accounts book ≡ at_first version records };
 
     /// The record, where each value of the row is in its form and range, and there are no more values.
     fn from_row(row: &Row) -> Option<Self>
@@ -40,6 +41,20 @@ pub trait TableRow: Sized {
             → result ≡ Some it }
         ensures is { IfSome result (λ it. records.fits it
             × (as_read records.counted row.now ≡ records.shown it)) };
+}
+
+/// A record of a table that has a row for each record of a list. A new desk has none there.
+pub trait ListRow: TableRow {
+    ghost none_at_first: { (version : ℕ) → at_first version Self.records ≡ [] };
+}
+
+/// The record of a table that has one row.
+pub trait OneRow: TableRow {
+    // The one that a book has, in tables of a version.
+    ghost of_day: { ℕ → Book → Self };
+
+    ghost one: { (version : ℕ) (accounts : List AccountSpec) (book : Book)
+        → Self.records.of_book version accounts book ≡ of_day version book ∷ [] };
 }
 
 /// The records of the rows, in their order. A row that is in no form is `NotADeskFile`, also where memory is wanting.

@@ -16,14 +16,15 @@ use Rattle.sqlite.specs.Tree.{Trees}
 use Rattle.sqlite.specs.Effect.{Database, value_rows}
 use Rattle.sqlite.specs.State.{State, mode_of, HasCleanDisk, Survives, Writes, ExecutesInside}
 use Rattle.sqlite.proofs.Callers.{runs_as}
-use Rattle.rtgs_rows.specs.Tables.{desk_schema, with_tables, desk_table, table_count, schema_in}
+use Rattle.rtgs_book.specs.Books.{new_book}
+use Rattle.rtgs_rows.specs.Tables.{desk_schema, with_tables, desk_table, resolution_table, table_count, schema_in}
 use Rattle.rtgs_rows.specs.Content.{Tables, IsUnderWay, rows_in}
 use Rattle.rtgs_rows.specs.Keeping.{first_content}
-use Rattle.rtgs_rows.specs.Rows.{day_row}
+use Rattle.rtgs_rows.specs.Rows.{day_row, choice_row}
 use Rattle.rtgs_rows.specs.declared.numbers.TheConstants.{VERSION}
 use Rattle.sqlite.specs.declared.types.Value.TheVariants.{Int}
 use Rattle.rtgs_sql_columns.specs.Blank.{IsBlank}
-use Rattle.rtgs_sql_writes.specs.Building.{IsBuilt, MakesTable, unplaced}
+use Rattle.rtgs_sql_writes.specs.Building.{IsBuilt, MakesTable, unplaced, with_rows, all_but_the_first}
 use Rattle.sqlite.specs.Rows.{stamped}
 use Rattle.sqlite.specs.Edit.{edit_of, edited}
 use Rattle.sqlite.specs.Rowids.TheVariants.{Chosen}
@@ -31,9 +32,9 @@ use Rattle.sqlite_catalog.specs.Listing.{IsSound}
 use Rattle.sqlite_trees.specs.declared.store.Store.{Ghosts}
 use Rattle.sqlite.specs.Held.{Held, state}
 use Rattle.rtgs_sql_writes.proofs.Casts.{cast_null, cast_int}
-use Rattle.rtgs_sql_writes.proofs.StateLemmas.{framed, with_rows}
-use Rattle.rtgs_sql_writes.specs.declared.create.TheConstants.{FIRST_DAY}
-use Rattle.rtgs_sql_writes.proofs.CreateTexts.{first_terms, first_day_means}
+use Rattle.rtgs_sql_writes.proofs.StateLemmas.{framed}
+use Rattle.rtgs_sql_writes.specs.declared.create.TheConstants.{FIRST_DAY, FIRST_CHOICE}
+use Rattle.rtgs_sql_writes.proofs.CreateTexts.{first_terms, first_day_means, choice_terms, first_choice_means}
 use Rattle.rtgs_sql_writes.proofs.Writing.{inserted}
 use Rattle.rtgs_sql_writes.proofs.Steps.{went, same_value}
 
@@ -117,6 +118,35 @@ pub newest : with_tables (table_count VERSION) ≡ desk_schema
 unfolding with_tables schema_in
 newest = refl
 
+-- ---- the row of the choice
+
+choice_edit : (trees : Trees) → trees resolution_table.tree ≡ []
+    → edited trees (edit_of trees resolution_table [] Chosen 0
+    (value_rows (stamped resolution_table []) 3 1 choice_terms)) ≡ (choice_row new_book.day ∷ [])
+choice_edit trees none = rw (cast_int (pos 1), cast_null, cast_int (pos 0), none)
+
+pub chooses : (was : Database) (rows : Tables) (old new : State) (r : Result ℕ Error)
+    → rows_in resolution_table rows ≡ [] → IsBuilt was (table_count VERSION) rows old
+    → ExecutesInside 0 FIRST_CHOICE.now [] old new r
+    → OnOk r (IsBuilt was (table_count VERSION) (with_rows resolution_table (choice_row new_book.day ∷ []) rows) new)
+chooses was rows old new (Err e) none is h = tt
+chooses was rows old new (Ok count) none is h =
+    let made = inserted FIRST_CHOICE.now 6 (omega arith) old new [] count (is.schema_is ∙ newest) h.0
+    choice_terms 3 first_choice_means in
+    let empty : old.now.trees resolution_table.tree ≡ [] = ap (rows_in resolution_table) is.rows_are ∙ none in
+    let here : new.now.trees resolution_table.tree ≡ (choice_row new_book.day ∷ []) = made.rows
+    ∙ choice_edit old.now.trees empty in
+    record {
+      is_open = h.1.is_open;
+      inside = h.1.mode;
+      schema_is = made.schema ∙ sym newest;
+      rows_are = framed resolution_table.tree old.now.trees new.now.trees _ here made.frame
+          ∙ ap (with_rows resolution_table (choice_row new_book.day ∷ [])) is.rows_are;
+      committed = h.1.committed_is ∙ is.committed;
+    }
+
+-- ---- the row of the day
+
 abbrev pub first_given : Row
 first_given = Int (pos VERSION) ∷ []
 
@@ -125,7 +155,7 @@ first_edit : (trees : Trees) → trees desk_table.tree ≡ [] → edited trees (
 first_edit trees none = rw (cast_int (pos 1), cast_int (pos VERSION), cast_null, cast_int (pos 0), none)
 
 begun : (was : Database) (old new : State) (count : ℕ)
-    → IsBuilt was (table_count VERSION) (replicate (table_count VERSION) []) old
+    → IsBuilt was (table_count VERSION) all_but_the_first old
     → ExecutesInside 0 FIRST_DAY.now first_given old new (Ok count) → IsUnderWay was first_content new
 begun was old new count is h =
     let made = inserted FIRST_DAY.now 0 (omega arith) old new first_given count (is.schema_is ∙ newest) h.0
@@ -146,7 +176,7 @@ begun was old new count is h =
     }
 
 pub begins : (was : Database) (old new : State) (r : Result ℕ Error) (values : Row) → values ≡ first_given
-    → IsBuilt was (table_count VERSION) (replicate (table_count VERSION) []) old
+    → IsBuilt was (table_count VERSION) all_but_the_first old
     → ExecutesInside 0 FIRST_DAY.now values old new r
     → OnOk r (IsUnderWay was first_content new)
 begins was old new (Ok count) values same is h = begun was old new count is

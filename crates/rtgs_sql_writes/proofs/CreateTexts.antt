@@ -7,7 +7,7 @@ use Rattle.sqlite.specs.Command.TheVariants.{Insert}
 use Rattle.sqlite_tied.specs.Compute.{everything}
 use Rattle.sqlite.specs.Listing.{understood}
 use Rattle.rtgs_rows.specs.Tables.{known_tables, desk_table, with_tables, schema_in}
-use Rattle.rtgs_sql_writes.specs.declared.create.TheConstants.{NAMES, TABLES, FIRST_DAY}
+use Rattle.rtgs_sql_writes.specs.declared.create.TheConstants.{NAMES, TABLES, FIRST_DAY, FIRST_CHOICE}
 use Rattle.rtgs_sql_writes.specs.Building.{MakesTable}
 use Rattle.rtgs_sql_writes.proofs.Lists.{EachAt, each_at}
 use Rattle.rtgs_sql_writes.proofs.Writing.{IsUnderstoodAs}
@@ -37,3 +37,10 @@ first_terms = lit (Int (pos 1)) ∷ lit Null ∷ col 0 0 ∷ lit Null ∷ lit (I
 pub first_day_means : IsUnderstoodAs FIRST_DAY.now (Insert 0 (Values first_terms 5))
 unfolding understood everything schema_in
 first_day_means = record { is = refl; plain = (refl, refl) }
+
+abbrev pub choice_terms : List Term
+choice_terms = lit (Int (pos 1)) ∷ lit Null ∷ lit (Int (pos 0)) ∷ []
+
+pub first_choice_means : IsUnderstoodAs FIRST_CHOICE.now (Insert 6 (Values choice_terms 3))
+unfolding understood everything schema_in
+first_choice_means = record { is = refl; plain = (refl, refl) }

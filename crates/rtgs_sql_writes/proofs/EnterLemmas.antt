@@ -29,7 +29,8 @@ use Rattle.rtgs_sql_columns.specs.OneTable.{simple, passes, shows, OneTableAnswe
 use Rattle.rtgs_sql_writes.proofs.Casts.{cast_null, cast_int}
 use Rattle.rtgs_sql_writes.proofs.OrderLemmas.{differ}
 use Rattle.rtgs_sql_writes.proofs.Replacing.{Replaces, replaces}
-use Rattle.rtgs_sql_writes.proofs.StateLemmas.{with_rows, framed, stands_on}
+use Rattle.rtgs_sql_writes.specs.Building.{with_rows}
+use Rattle.rtgs_sql_writes.proofs.StateLemmas.{framed, stands_on}
 use Rattle.rtgs_sql_writes.proofs.Writing.{IsUnderstoodAs, updated}
 use Rattle.rtgs_sql_writes.proofs.Passing.{two_truths, same_number}
 use Rattle.rtgs_book.specs.declared.Order.{Order}

@@ -17,7 +17,7 @@ use Rattle.sqlite.specs.State.{State, ExecutesInside}
 use Rattle.sqlite_tied.specs.Compute.{everything}
 use Rattle.rtgs_sql_writes.specs.Staging.{with_payment, with_forward}
 use Rattle.rtgs_sql_writes.proofs.Casts.{cast_null, cast_int}
-use Rattle.rtgs_sql_writes.proofs.StateLemmas.{with_rows}
+use Rattle.rtgs_sql_writes.specs.Building.{with_rows}
 use Rattle.rtgs_sql_writes.proofs.Writing.{IsUnderstoodAs}
 use Rattle.rtgs_sql_writes.proofs.Adding.{adds}
 use Rattle.rtgs_book.specs.declared.Order.{Order}

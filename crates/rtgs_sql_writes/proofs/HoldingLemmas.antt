@@ -32,7 +32,8 @@ use Rattle.rtgs_sql_writes.proofs.Lists.{put_last}
 use Rattle.rtgs_rows.specs.RowLaws.{NextRowIsAbove}
 use Rattle.rtgs_sql_columns.specs.OneTable.{simple, passes, shows, OneTableAnswers}
 use Rattle.rtgs_sql_writes.proofs.Replacing.{Replaces, replaces}
-use Rattle.rtgs_sql_writes.proofs.StateLemmas.{with_rows, framed, stands_on}
+use Rattle.rtgs_sql_writes.specs.Building.{with_rows}
+use Rattle.rtgs_sql_writes.proofs.StateLemmas.{framed, stands_on}
 use Rattle.rtgs_sql_writes.proofs.Writing.{IsUnderstoodAs, inserted, updated}
 use Rattle.rtgs_sql_writes.proofs.Passing.{truth_of, same_text}
 use Rattle.rtgs_book.specs.declared.Participant.{Participant}

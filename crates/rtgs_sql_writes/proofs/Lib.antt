@@ -13,6 +13,7 @@ pub mod ForwardLemmas
 pub mod EnterLemmas
 pub mod MarkLemmas
 pub mod DayLemmas
+pub mod ChoiceLemmas
 pub mod HoldingLemmas
 pub mod Changing
 pub mod Leading

@@ -51,3 +51,18 @@ some_from p (x ∷ xs) zero (suc at) d low within is =
 some_from p (x ∷ xs) (suc from) zero d low within is = absurd (omega (arith, low))
 some_from p (x ∷ xs) (suc from) (suc at) d low within is =
     some_from p xs from at d (omega (arith, low)) (omega (arith, within)) is
+
+or_false : (b c : Bool) → b ≡ false → c ≡ false → (b || c) ≡ false
+or_false true c is more = is
+or_false false c is more = more
+
+-- where none from a place on passes, there is none that does
+pub none_from : {A : Type 0} (p : A → Bool) (xs : List A) (from : ℕ) (d : A)
+    → ((at : ℕ) → from ≤ at → at < length xs → p (get_or xs at d) ≡ false) → list_any p (drop from xs) ≡ false
+none_from p [] zero d none = refl
+none_from p [] (suc from) d none = refl
+none_from p (x ∷ xs) zero d none =
+    or_false (p x) _ (none 0 (omega arith) (omega arith))
+    (none_from p xs zero d (λ at low within. none (suc at) (omega arith) (omega (arith, within))))
+none_from p (x ∷ xs) (suc from) d none =
+    none_from p xs from d (λ at low within. none (suc at) (omega (arith, low)) (omega (arith, within)))

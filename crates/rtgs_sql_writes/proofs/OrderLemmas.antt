@@ -34,7 +34,8 @@ use Rattle.rtgs_sql_writes.specs.Staging.{with_payment}
 use Rattle.rtgs_sql_writes.proofs.Casts.{cast_null, cast_int, cast_mark, bound_mark}
 use Rattle.rtgs_sql_columns.specs.OneTable.{simple, passes, shows, OneTableAnswers}
 use Rattle.rtgs_sql_writes.proofs.Replacing.{Replaces, replaces}
-use Rattle.rtgs_sql_writes.proofs.StateLemmas.{with_rows, framed, stands_on}
+use Rattle.rtgs_sql_writes.specs.Building.{with_rows}
+use Rattle.rtgs_sql_writes.proofs.StateLemmas.{framed, stands_on}
 use Rattle.rtgs_sql_writes.proofs.Adding.{adds}
 use Rattle.rtgs_sql_writes.proofs.Writing.{IsUnderstoodAs, updated}
 use Rattle.rtgs_sql_writes.proofs.Passing.{truth_of, same_number}

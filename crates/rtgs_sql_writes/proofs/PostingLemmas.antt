@@ -21,7 +21,7 @@ use Rattle.rtgs_rows.specs.Tables.{schema_in, posting_table as table}
 use Rattle.rtgs_rows.specs.Rows.{date_value, posting_row}
 use Rattle.rtgs_rows.specs.Content.{rows_in, Content, IsUnderWay, IsInOrder, with_change}
 use Rattle.rtgs_sql_writes.proofs.Casts.{cast_null, cast_int, cast_date, bound_date}
-use Rattle.rtgs_sql_writes.proofs.StateLemmas.{with_rows}
+use Rattle.rtgs_sql_writes.specs.Building.{with_rows}
 use Rattle.rtgs_sql_writes.proofs.Writing.{IsUnderstoodAs}
 use Rattle.rtgs_sql_writes.proofs.Adding.{adds}
 

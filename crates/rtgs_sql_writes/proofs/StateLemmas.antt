@@ -15,7 +15,7 @@ use Rattle.sqlite.specs.Tree.{Trees}
 use Rattle.sqlite.specs.Held.{Held, state}
 use Rattle.sqlite.proofs.StateLemmas.{survives_then}
 use Rattle.sqlite.proofs.Callers.{survives_begin}
-use Rattle.rtgs_rows.specs.Content.{Tables, tables_of, tables_for, Content, Holds, IsUnderWay, Rests}
+use Rattle.rtgs_rows.specs.Content.{tables_of, tables_for, Content, Holds, IsUnderWay, Rests}
 
 -- the database, with its schema written out
 abbrev pub desk_over : Trees → Database
@@ -28,15 +28,6 @@ frame_but tree old new = AllByRecursion (λ t. t.tree ≢ tree → new t.tree �
 -- these rows in place of those of one tree
 abbrev pub with_tree : ℕ → List Row → Trees → Trees
 with_tree tree rows trees t = if t == tree then rows else trees t
-
-abbrev with_rows_at : ℕ → List Row → List Table → Tables → Tables
-with_rows_at tree rows (table ∷ tables) (old ∷ more) =
-    (if table.tree == tree then rows else old) ∷ with_rows_at tree rows tables more
-with_rows_at tree rows tables all = []
-
--- these rows in place of those of one table
-abbrev pub with_rows : Table → List Row → Tables → Tables
-with_rows table rows = with_rows_at table.tree rows current_tables
 
 -- so the tables are as they were, with the rows of that tree
 module _ (tree : ℕ) (old new : Trees) (rows : List Row) (here : new tree ≡ rows) where

@@ -1,6 +1,6 @@
 -- What the UPDATE of the version does, and how tables of an earlier version grow.
 use Rattle.std.proofs.Common.{◌≡◌, ℕ, pos, List, [], ◌∷◌, map, filter, codes, true, Ok, Err, Result, OnOk, refl, ap}
-use Rattle.std.proofs.Common.{◌-◌, ◌++◌, drop, replicate, subst, sym, ◌∙◌, take-append-drop, arith}
+use Rattle.std.proofs.Common.{◌-◌, ◌<◌, ◌≤◌, ◌++◌, replicate, subst, sym, ◌∙◌, arith}
 use Rattle.rtgs_lists.proofs.Lists.{all_get}
 use Rattle.std.specs.List.Sorted.{IsPermutation}
 use Rattle.sqlite.specs.declared.types.Value.TheVariants.{Null, Int}
@@ -27,19 +27,19 @@ use Rattle.sqlite_value.proofs.OrderLemmas.{value_cmp-Int}
 use Rattle.sqlite_catalog.specs.Listing.{IsSound}
 use Rattle.rtgs_sql_writes.proofs.Casts.{cast_null, cast_int, cast_date}
 use Rattle.rtgs_sql_columns.specs.OneTable.{simple, passes, shows, OneTableAnswers}
-use Rattle.rtgs_sql_writes.proofs.StateLemmas.{with_rows, framed}
+use Rattle.rtgs_sql_writes.proofs.StateLemmas.{framed}
 use Rattle.rtgs_sql_writes.proofs.Writing.{IsUnderstoodAs, updated}
 use Rattle.rtgs_sql_writes.proofs.Passing.{truth_of, same_number}
-use Rattle.rtgs_sql_writes.specs.Building.{IsBuilt}
+use Rattle.rtgs_sql_writes.specs.Building.{IsBuilt, with_rows}
 use Rattle.rtgs_sql_writes.proofs.CreateLemmas.{newest}
 use Rattle.rtgs_book.specs.declared.Day.{Day}
 use Rattle.rtgs_rows.specs.declared.numbers.TheConstants.{VERSION}
-use Rattle.rtgs_rows.specs.Rows.{day_row, phase_number}
+use Rattle.rtgs_book.specs.Books.{new_book}
+use Rattle.rtgs_rows.specs.Rows.{day_row, choice_row, phase_number}
 use Rattle.rtgs_rows.specs.Content.{Tables, rows_in, tables_of_in, all_tables, tables_for_in, Content, IsUnderWay}
 use Rattle.rtgs_rows.specs.Content.{RestsIn}
-use Rattle.rtgs_rows.specs.Keeping.{first_content}
 use Rattle.rtgs_rows.specs.Migrating.{HasNoMore}
-use Rattle.rtgs_rows.specs.Tables.{schema_in, with_tables, table_count, versions, IsVersion}
+use Rattle.rtgs_rows.specs.Tables.{schema_in, with_tables, table_count, resolution_table, versions, IsVersion}
 use Rattle.rtgs_rows.specs.Tables.{desk_table as table}
 
 abbrev pub set_version_text : List ℕ
@@ -121,17 +121,33 @@ built_before g h version content rests = record {
   committed = refl;
 }
 
--- in the tables that a version lacks a new desk has nothing
-none_new : (version : ℕ) → IsVersion version → drop (table_count version) (all_tables version first_content)
-    ≡ replicate (table_count VERSION - table_count version) []
-none_new version known = all_get (λ v. drop (table_count v) (all_tables v first_content)
-    ≡ replicate (table_count VERSION - table_count v) []) versions known.0 version known.1 (sym known.2)
-    (refl, (refl, tt))
+-- ---- the tables that a version lacks
 
--- so these and the new ones are all
-pub all_there : (version : ℕ) (content : Content) → IsVersion version → HasNoMore version content
-    → tables_for_in version content ++ replicate (table_count VERSION - table_count version) []
-    ≡ all_tables version content
-all_there version content known none =
-    ap (λ (more : Tables). tables_for_in version content ++ more) (sym (none ∙ none_new version known))
-    ∙ take-append-drop (table_count version) (all_tables version content)
+abbrev grown : ℕ → Content → Tables
+grown version content = tables_for_in version content ++ replicate (table_count VERSION - table_count version) []
+
+-- an earlier version lacks that of the choice
+pub unchosen : (version : ℕ) (content : Content) → IsVersion version → version < VERSION
+    → rows_in resolution_table (grown version content) ≡ []
+unchosen version content known = all_get (λ v. v < VERSION → rows_in resolution_table (grown v content) ≡ []) versions
+    known.0 version known.1 (sym known.2) (λ low. refl, (λ low. refl, (λ low. absurd (omega (arith, low)), tt)))
+
+-- and with its row, these and the new ones are all
+pub all_there : (version : ℕ) (content : Content) → IsVersion version → HasNoMore version content → version < VERSION
+    → with_rows resolution_table (choice_row new_book.day ∷ []) (grown version content) ≡ all_tables version content
+all_there version content known = all_get (λ v. HasNoMore v content → v < VERSION
+    → with_rows resolution_table (choice_row new_book.day ∷ []) (grown v content) ≡ all_tables v content) versions
+    known.0 version known.1 (sym known.2) (
+      λ none low. ap (λ (more : Tables). tables_for_in 1 content ++ more) (sym none),
+      (
+        λ none low. ap (λ (more : Tables). tables_for_in 2 content ++ more) (sym none),
+        (λ none low. absurd (omega (arith, low)), tt),
+      ),
+    )
+
+-- the newest lacks none
+pub nothing_lacks : (version : ℕ) (content : Content) → version ≤ VERSION → VERSION ≤ version
+    → grown version content ≡ all_tables version content
+nothing_lacks version content low high =
+    let is : VERSION ≡ version = omega (arith, low, high) in
+    subst (λ v. grown v content ≡ all_tables v content) is refl

@@ -1,6 +1,8 @@
 -- The tables as they are made.
-use Rattle.std.specs.Prelude.{◌≡◌, ℕ, ◌+◌, Bool, true, false, List, get_or, map, take, drop, Ok, IsTrue}
+use Rattle.std.specs.Prelude.{◌≡◌, ℕ, ◌+◌, ◌==◌, Bool, true, false, List, [], ◌∷◌, get_or, map, take, drop, Ok, IsTrue}
+use Rattle.std.specs.Prelude.{if◌then◌else◌}
 use Rattle.std.specs.List.{list_any}
+use Rattle.sqlite.specs.Order.{Row}
 use Rattle.sqlite.specs.Table.{Table}
 use Rattle.sqlite.specs.Schema.{Schema}
 use Rattle.sqlite.specs.Command.TheVariants.{CreateTable}
@@ -13,7 +15,8 @@ use Rattle.sqlite.specs.Listing.{understood}
 use Rattle.sqlite.specs.Given.{IsPlain}
 use Rattle.sqlite.proofs.Callers.{command_of, statement_of}
 use Rattle.sqlite_catalog.specs.Change.{is_used}
-use Rattle.rtgs_rows.specs.Content.{Tables}
+use Rattle.rtgs_rows.specs.Content.{Tables, tables_for}
+use Rattle.rtgs_rows.specs.Keeping.{first_content}
 use Rattle.rtgs_rows.specs.Tables.{desk_table, known_tables, current_tables, with_tables, table_count}
 
 -- inside a transaction, with the first tables, so many, and these rows in them
@@ -23,6 +26,19 @@ pub record IsBuilt (was : Database) (count : ℕ) (rows : Tables) (s : State) : 
   pub schema_is : s.now.schema ≡ with_tables count
   pub rows_are : map (λ (t : Table). s.now.trees t.tree) (take count known_tables) ≡ rows
   pub committed : s.committed ≡ was
+
+abbrev with_rows_at : ℕ → List Row → List Table → Tables → Tables
+with_rows_at tree rows (table ∷ tables) (old ∷ more) =
+    (if table.tree == tree then rows else old) ∷ with_rows_at tree rows tables more
+with_rows_at tree rows tables all = []
+
+-- these rows in place of those of one table
+abbrev pub with_rows : Table → List Row → Tables → Tables
+with_rows table rows = with_rows_at table.tree rows current_tables
+
+-- the tables of a new desk, but for the row of the first
+abbrev pub all_but_the_first : Tables
+all_but_the_first = with_rows desk_table [] (tables_for first_content)
 
 -- whether something of the schema has the name of a table that the version lacks
 abbrev pub takes_a_name : ℕ → Schema → Bool

@@ -1,9 +1,10 @@
 -- The parts of a change, and what a stop leaves where it was written.
-use Rattle.std.specs.Prelude.{ℕ, List, [], ◌∷◌, ◌++◌}
+use Rattle.std.specs.Prelude.{ℕ, Bool, List, [], ◌∷◌, ◌++◌}
 use Rattle.std.specs.List.{AllByRecursion}
 use Rattle.sqlite.specs.Tree.{Trees}
 use Rattle.sqlite.specs.Effect.{Database}
 use Rattle.sqlite.specs.State.{State, HasCleanDisk}
+use Rattle.rtgs_book.specs.declared.Day.{Day}
 use Rattle.rtgs_book.specs.declared.Order.{Order}
 use Rattle.rtgs_book.specs.declared.RowChange.{RowChange}
 use Rattle.rtgs_rows.specs.Content.{Content, Holds, IsUnderWay, Rests, AreInOrder, with_changes}
@@ -22,6 +23,14 @@ with_payment c o = record c { orders = c.orders ++ o ∷ [] }
 -- and with the row of one more due date, under this number
 abbrev pub with_forward : Content → ℕ → ℕ → Content
 with_forward c number due = record c { forwards = c.forwards ++ record { number = number; due = due } ∷ [] }
+
+-- the records with the date and the phase of a day, and the choice as it was
+abbrev pub with_date : Content → Day → Content
+with_date c day = record c { day = record day { automatic = c.day.automatic } }
+
+-- and with this choice, whether the day is automatic
+abbrev pub with_choice : Content → Bool → Content
+with_choice c automatic = record c { day = record c.day { automatic = automatic } }
 
 -- Each value of the rows is in its form and range, and whatever records the tables held before, they hold these after
 -- the rows.

@@ -1,12 +1,14 @@
 //! The tables of a new book.
 ghost use Rattle.std.specs.Prelude.{◌≡◌, ◌≤◌, ℕ, ◌+◌, ◌-◌, [], ◌∷◌, ◌++◌, replicate, false, IsTrue, OnOk, IfErr};
 ghost use Rattle.sqlite.specs.Effect.{Database};
-ghost use Rattle.rtgs_rows.specs.Tables.{table_count};
-ghost use Rattle.rtgs_rows.specs.Content.{Tables, Holds, IsUnderWay, Rests};
+ghost use Rattle.rtgs_book.specs.Books.{new_book};
+ghost use Rattle.rtgs_rows.specs.Rows.{choice_row};
+ghost use Rattle.rtgs_rows.specs.Tables.{resolution_table, table_count};
+ghost use Rattle.rtgs_rows.specs.Content.{Tables, Holds, IsUnderWay, Rests, rows_in};
 ghost use Rattle.rtgs_rows.specs.Keeping.{first_content};
 ghost use Rattle.rtgs_sql_writes.specs.Stops.{IsBefore};
 ghost use Rattle.rtgs_sql_columns.specs.Blank.{IsBlank};
-ghost use Rattle.rtgs_sql_writes.specs.Building.{IsBuilt, MakesTable};
+ghost use Rattle.rtgs_sql_writes.specs.Building.{IsBuilt, MakesTable, with_rows, all_but_the_first};
 ghost use Rattle.sqlite.specs.State.{HasCleanDisk, KeepsCommit, Survives};
 ghost use Rattle.sqlite.specs.Held.{state};
 
@@ -44,21 +46,37 @@ const MARK: &str =
 /// The due dates of orders for a later date.
 const FORWARD: &str = "CREATE TABLE forward (number INTEGER PRIMARY KEY, due TEXT NOT NULL) STRICT";
 
+/// Whether the day is automatic.
+const RESOLUTION: &str =
+    "CREATE TABLE resolution (id INTEGER PRIMARY KEY, automatic INTEGER NOT NULL) STRICT";
+
 /// The names of the tables, in their order. Each version after the first adds one.
-pub(crate) const NAMES: [&str; 6] = [
+pub(crate) const NAMES: [&str; 7] = [
     "desk",
     "participant",
     "posting",
     "payment",
     "mark",
     "forward",
+    "resolution",
 ];
 
 /// The texts that make them, in the same order.
-const TABLES: [&str; 6] = [DESK, PARTICIPANT, POSTING, PAYMENT, MARK, FORWARD];
+const TABLES: [&str; 7] = [
+    DESK,
+    PARTICIPANT,
+    POSTING,
+    PAYMENT,
+    MARK,
+    FORWARD,
+    RESOLUTION,
+];
 
-/// The one row of a new desk.
+/// The one row of the first table of a new desk.
 const FIRST_DAY: &str = "INSERT INTO desk (id, version, phase) VALUES (1, ?1, 0)";
+
+/// The one row of the last.
+const FIRST_CHOICE: &str = "INSERT INTO resolution (id, automatic) VALUES (1, 0)";
 
 /// Makes one more table.
 fn create_table<S: Alter>(tx: &mut Transaction<'_, S>, text: &str) -> Result<usize, Error>
@@ -91,11 +109,25 @@ pub(crate) fn create_from<S: Alter>(tx: &mut Transaction<'_, S>, from: usize) ->
     Ok(())
 }
 
-/// The one row of the desk.
+/// The one row of the table `resolution`: no day is automatic.
+pub(crate) fn first_choice<S: Alter>(tx: &mut Transaction<'_, S>) -> Result<usize, Error>
+    ensures same_reference { tx.new.conn.ghost_name ≡ tx.old.conn.ghost_name }
+    ensures made { HasCleanDisk (state S.Store tx.new.conn.now) → (was : Database) (rows : Tables)
+        → rows_in resolution_table rows ≡ [] → IsBuilt was (table_count VERSION) rows (state S.Store tx.old.conn.now)
+        → OnOk result (IsBuilt was (table_count VERSION)
+        (with_rows resolution_table (choice_row new_book.day ∷ []) rows) (state S.Store tx.new.conn.now)) }
+    ensures kept { HasCleanDisk (state S.Store tx.new.conn.now)
+        → KeepsCommit (state S.Store tx.old.conn.now) (state S.Store tx.new.conn.now) }
+    ensures survives { Survives (state S.Store tx.old.conn.now) (state S.Store tx.new.conn.now) (λ _. ⊥) }
+{
+    tx.execute(FIRST_CHOICE, &[])
+}
+
+/// The one row of the table `desk`: no day was opened.
 fn first_day<S: Alter>(tx: &mut Transaction<'_, S>) -> Result<usize, Error>
     ensures same_reference { tx.new.conn.ghost_name ≡ tx.old.conn.ghost_name }
     ensures made { HasCleanDisk (state S.Store tx.new.conn.now) → (was : Database)
-        → IsBuilt was (table_count VERSION) (replicate (table_count VERSION) []) (state S.Store tx.old.conn.now)
+        → IsBuilt was (table_count VERSION) all_but_the_first (state S.Store tx.old.conn.now)
         → OnOk result (IsUnderWay was first_content (state S.Store tx.new.conn.now)) }
     ensures kept { HasCleanDisk (state S.Store tx.new.conn.now)
         → KeepsCommit (state S.Store tx.old.conn.now) (state S.Store tx.new.conn.now) }
@@ -115,6 +147,7 @@ fn build<S: Alter>(tx: &mut Transaction<'_, S>) -> Result<(), Error>
     ensures survives { Survives (state S.Store tx.old.conn.now) (state S.Store tx.new.conn.now) (λ _. ⊥) }
 {
     create_from(tx, 0)?;
+    first_choice(tx)?;
     first_day(tx)?;
     Ok(())
 }

@@ -9,7 +9,7 @@ ghost use Rattle.rtgs_sql_writes.specs.Building.{IsBuilt, takes_a_name};
 ghost use Rattle.sqlite.specs.State.{HasCleanDisk, KeepsCommit, Survives};
 ghost use Rattle.sqlite.specs.Held.{state};
 
-use crate::create::{NAMES, create_from};
+use crate::create::{NAMES, create_from, first_choice};
 use crate::staging::Stopped;
 use rtgs_rows::numbers::VERSION;
 use rtgs_sql_columns::columns::number_value;
@@ -60,6 +60,27 @@ fn set_version<S: Alter>(tx: &mut Transaction<'_, S>) -> Result<usize, Error>
     )
 }
 
+/// Makes the tables that the version lacks, with the rows that a new desk has in them.
+fn add_tables<S: Alter>(tx: &mut Transaction<'_, S>, version: u64) -> Result<(), Error>
+    requires { version ≤ VERSION }
+    ensures same_reference { tx.new.conn.ghost_name ≡ tx.old.conn.ghost_name }
+    ensures made { HasCleanDisk (state S.Store tx.new.conn.now) → (was : Database) (content : Content)
+        → IsVersion version → HasNoMore version content
+        → IsBuilt was (table_count version) (tables_for_in version content) (state S.Store tx.old.conn.now)
+        → OnOk result (IsBuilt was (table_count VERSION) (all_tables version content)
+        (state S.Store tx.new.conn.now)) }
+    ensures kept { HasCleanDisk (state S.Store tx.new.conn.now)
+        → KeepsCommit (state S.Store tx.old.conn.now) (state S.Store tx.new.conn.now) }
+    ensures survives { Survives (state S.Store tx.old.conn.now) (state S.Store tx.new.conn.now) (λ _. ⊥) }
+{
+    create_from(tx, count_of_tables(version))?;
+    // Each earlier version lacks the table `resolution`, the only one of these in which a new desk has a row.
+    if version < VERSION {
+        first_choice(tx)?;
+    }
+    Ok(())
+}
+
 /// Makes the tables that the version lacks, and says that they are of the newest.
 fn upgrade<S: Alter>(tx: &mut Transaction<'_, S>, version: u64) -> Result<(), Error>
     requires { version ≤ VERSION }
@@ -72,7 +93,7 @@ fn upgrade<S: Alter>(tx: &mut Transaction<'_, S>, version: u64) -> Result<(), Er
         → KeepsCommit (state S.Store tx.old.conn.now) (state S.Store tx.new.conn.now) }
     ensures survives { Survives (state S.Store tx.old.conn.now) (state S.Store tx.new.conn.now) (λ _. ⊥) }
 {
-    create_from(tx, count_of_tables(version))?;
+    add_tables(tx, version)?;
     set_version(tx)?;
     Ok(())
 }

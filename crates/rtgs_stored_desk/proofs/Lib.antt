@@ -1,2 +1,3 @@
 pub mod Migrations
+pub mod Older
 pub mod Resting

@@ -19,6 +19,7 @@ use Rattle.rtgs_tables.specs.Migrating.{ExplainsMigration, IsWritten, WasJudged}
 use Rattle.rtgs_stored_desk.specs.Migrated.{AreOlderTablesOf, AreSomeTablesOf, IsMigrated, IsUpToDate, IsUnmigrated}
 use Rattle.rtgs_stored_desk.specs.Migrated.{WasMigration}
 use Rattle.rtgs_stored_desk.specs.Stored.{AreTablesOf, IsAtRest, IsMemoryOrStore}
+use Rattle.rtgs_stored_desk.proofs.Older.{older_is_calm}
 use Rattle.rtgs_stored_desk.proofs.Resting.{IsReadAs, committed_tables, file_at_rest, held_at_rest}
 use Rattle.rtgs_stored_desk.proofs.Resting.{older_at_rest, tables_are}
 
@@ -61,6 +62,7 @@ module _ {S : Type 0} (g : Ghosts S) (old new : Held S) (as_such : (version : �
         let holds_now = (it.migrated older.version book (older_at_rest g old as_such rest book older)).1 in
         tables_are book trees (state g new).committed.trees (committed holds_now.1.is_open trees left)
         (committed_tables g new book holds_now);
+    calm = λ book older. older_is_calm book was.committed.trees older;
     not_newest = λ book tables. let bad : true ≡ false = (it.repeated book (holds book tables)).0 in cc;
     some = some;
   }

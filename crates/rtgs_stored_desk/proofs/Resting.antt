@@ -1,5 +1,5 @@
 -- Tables of a store that is at rest.
-use Rattle.std.proofs.Common.{◌≡◌, ◌⊎◌, ℕ, Result, Ok, Err, refl, sym, subst, inl, inr}
+use Rattle.std.proofs.Common.{◌≡◌, ◌⊎◌, ℕ, true, false, Result, Ok, Err, refl, sym, subst, inl, inr}
 use Rattle.std.specs.Result.{IfErr}
 use Rattle.sqlite_catalog.specs.Listing.{IsSound as IsReadBy}
 use Rattle.sqlite_trees.specs.declared.store.Store.{Ghosts}
@@ -12,6 +12,7 @@ use Rattle.rtgs_book.specs.declared.Book.{Book}
 use Rattle.rtgs_book.specs.declared.Fault.{Fault}
 use Rattle.rtgs_book.specs.declared.Fault.TheVariants.{OutOfMemory}
 use Rattle.rtgs_book.specs.Books.{new_book}
+use Rattle.rtgs_book.specs.Calm.{IsCalm}
 use Rattle.rtgs_keeper.specs.declared.commit_fault.CommitFault.{CommitFault}
 use Rattle.rtgs_keeper.specs.declared.commit_fault.CommitFault.TheVariants as commit
 use Rattle.rtgs_rows.specs.Content.{Content, HasNoTables, HoldsIn, RestsIn}
@@ -89,6 +90,17 @@ tables_are book trees at same tables = subst (AreTablesOf book) (sym same) table
 pub none_or_new : IsBookOf new_book first_content → (trees : Trees) → IsNoneOrNew trees
     → HasNoTables trees ⊎ AreTablesOf new_book trees
 none_or_new is trees left = elim left [ inl none ↦ inl none | inr made ↦ inr (first_content, made, is) ]
+
+-- a new book has no automatic day
+pub new_is_calm : IsCalm new_book
+new_is_calm automatic choice greatest = let bad : false ≡ true = automatic in cc
+
+-- why a desk was not opened: for lack of memory, by what a loading tells, or because the book is not calm
+pub why : {Memory Told Restless Explained NotCalm : Type 0} → (Memory → Explained) → (Told → Explained)
+    → (Restless → NotCalm) → Memory ⊎ (Told ⊎ Restless) → Explained ⊎ NotCalm
+why memory told restless (inl it) = inl (memory it)
+why memory told restless (inr (inl it)) = inl (told it)
+why memory told restless (inr (inr it)) = inr (restless it)
 
 pub making_cause : (fault : CommitFault) → IsMemoryOrStore (fault_of_commit fault)
 making_cause commit.OutOfMemory = inl refl

@@ -2,6 +2,7 @@
 use Rattle.std.specs.Prelude.{◌≡◌, ◌≢◌, ◌⊎◌, ◌<◌, ℕ, Bool, true, false}
 use Rattle.sqlite.specs.State.{State}
 use Rattle.sqlite.specs.Tree.{Trees}
+use Rattle.rtgs_book.specs.Calm.{IsCalm}
 use Rattle.rtgs_book.specs.Soundness.{IsSound}
 use Rattle.rtgs_book.specs.declared.Book.{Book}
 use Rattle.rtgs_book.specs.declared.Fault.{Fault}
@@ -38,6 +39,8 @@ pub record IsMigrated (old new : State) : Type 0 where
   -- and a stop leaves the same book, in tables of the newest version
   pub held : (book : Book) → AreOlderTablesOf book old.committed.trees → (trees : Trees) → new.may_leave trees
       → AreTablesOf book trees
+  -- which is calm, since earlier tables have no automatic day
+  pub calm : (book : Book) → AreOlderTablesOf book old.committed.trees → IsCalm book
   -- in which there was none before
   pub not_newest : (book : Book) → AreTablesOf book old.committed.trees → ⊥
   -- and over a database that has no tables this is not done

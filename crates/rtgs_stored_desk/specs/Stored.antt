@@ -9,9 +9,12 @@ use Rattle.rtgs_book.specs.declared.Command.{Command}
 use Rattle.rtgs_book.specs.declared.Fault.{Fault}
 use Rattle.rtgs_book.specs.declared.Fault.TheVariants.{OutOfMemory, StoreFault, Inconsistent}
 use Rattle.rtgs_book.specs.declared.Rule.{Rule}
+use Rattle.rtgs_book.specs.declared.Rule.TheVariants.{Calm}
 use Rattle.rtgs_book.specs.Books.{new_book}
+use Rattle.rtgs_book.specs.Calm.{IsCalm}
 use Rattle.rtgs_book.specs.Outcome.{Reply}
 use Rattle.rtgs_book.specs.Session.{IsSession}
+use Rattle.rtgs_book.specs.Soundness.{IsSound}
 use Rattle.rtgs_keeper.specs.declared.keeper.Keeper.{Ghosts}
 use Rattle.rtgs_rows.specs.Content.{Content, HasNoTables}
 use Rattle.rtgs_rows.specs.Content as rows
@@ -20,7 +23,7 @@ use Rattle.rtgs_rows.specs.Querying.{AreWhole}
 use Rattle.rtgs_rows.specs.Tables.{desk_schema, no_schema}
 use Rattle.rtgs_rows.specs.declared.numbers.TheConstants.{VERSION}
 use Rattle.rtgs_tables.specs.Building.{IsBlank}
-use Rattle.rtgs_tables.specs.Loading.{ExplainsTrees, IsDisplayed, ExplainsDatabase}
+use Rattle.rtgs_tables.specs.Loading.{ExplainsTrees, IsShown, IsDisplayed, ExplainsDatabase}
 use Rattle.rtgs_desk.specs.Holding.{HasInMemory, Holds}
 use Rattle.rtgs_desk.specs.Seen.{Seen}
 
@@ -54,7 +57,7 @@ pub record IsUnmade (fault : Fault) (new : State) : Type 0 where
 
 -- the desk was opened over what the store had committed
 pub record IsOver {K : Type 0} (k : Ghosts K) (old : State) (desk : Seen K) (new : State) : Type 0 where
-  -- where the tables held a book, the desk holds it
+  -- where the tables held a book, the desk holds it, and it is calm
   pub held : (book : Book) → AreTablesOf book old.committed.trees → Holds k desk book
   -- over the tables of a desk, whatever values their rows have, there is a desk only where they held a book
   pub kept : old.committed.schema ≡ desk_schema → AreWhole old.committed.trees
@@ -67,25 +70,37 @@ pub record IsOver {K : Type 0} (k : Ghosts K) (old : State) (desk : Seen K) (new
   -- a stop leaves what was found
   pub leaves : (trees : Trees) → new.may_leave trees → trees ≡ old.committed.trees
 
+-- a sound book that is so shown is not calm, and the fault names that rule
+abbrev pub IsNotCalmAs : (Book → Type 0) → Fault → Type 0
+IsNotCalmAs IsShownAs fault =
+    (fault ≡ Inconsistent Calm) × ((book : Book) × IsSound book × IsShownAs book × ¬ IsCalm book)
+
 -- no desk was opened over what the store had committed
 pub record IsRefused (old : State) (fault : Fault) (new : State) : Type 0 where
-  -- tables that hold a book are refused for lack of memory or a fault of the store alone
-  pub cause : (book : Book) → AreTablesOf book old.committed.trees → IsMemoryOrStore fault
-  -- over the schema of a desk the rows explain the fault: one is in no form, or this is the first rule that they break
-  pub explained : old.committed.schema ≡ desk_schema → ExplainsTrees VERSION old.committed.trees fault
+  -- tables that hold a calm book are refused for lack of memory or a fault of the store alone
+  pub cause : (book : Book) → AreTablesOf book old.committed.trees → IsCalm book → IsMemoryOrStore fault
+  -- and those that hold any book by the rule that it is calm besides
+  pub restless : (book : Book) → AreTablesOf book old.committed.trees
+      → IsMemoryOrStore fault ⊎ (fault ≡ Inconsistent Calm)
+  -- over the schema of a desk the rows explain the fault: one is in no form, or this is the first rule that they break;
+  -- or they are those of a sound book that is not calm
+  pub explained : old.committed.schema ≡ desk_schema
+      → ExplainsTrees VERSION old.committed.trees fault ⊎ IsNotCalmAs (IsShown VERSION old.committed.trees) fault
   -- whatever tables there were, a query has no answer over them, or shows a row in no form; or this is the first rule
-  -- that the records break which the queries show; or memory was refused or the store failed
-  pub told : ExplainsDatabase VERSION old.now fault
+  -- that the records break which the queries show; or the queries show a sound book that is not calm; or memory was
+  -- refused or the store failed
+  pub told : ExplainsDatabase VERSION old.now fault ⊎ IsNotCalmAs (IsDisplayed VERSION old.now) fault
   -- a database that has no tables breaks no rule
   pub no_rule : HasNoTables old.committed.trees → (rule : Rule) → fault ≢ Inconsistent rule
   -- a stop leaves what was found
   pub leaves : (trees : Trees) → new.may_leave trees → trees ≡ old.committed.trees
 
 -- What a stop leaves after these commands: tables that hold a book which a session of the definitions may find, and
--- stored balances that add up to the postings' cents.
+-- which is calm, and stored balances that add up to the postings' cents.
 pub record AreLeft (start : Book) (commands : List Command) (replies : List Reply) (trees : Trees) : Type 0 where
   pub found : Book
   pub session : IsSession (record { start = start; commands = commands; replies = replies; found = found })
+  pub calm : IsCalm found
   pub content : Content
   pub holds : rows.Holds content trees
   pub records : IsBookOf found content

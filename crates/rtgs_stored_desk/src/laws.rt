@@ -4,6 +4,7 @@ ghost use Rattle.sqlite.specs.Held.{state};
 ghost use Rattle.sqlite.specs.Tree.{Trees};
 ghost use Rattle.rtgs_book.specs.declared.Book.{Book};
 ghost use Rattle.rtgs_book.specs.declared.Command.{Command};
+ghost use Rattle.rtgs_book.specs.Calm.{IsCalm};
 ghost use Rattle.rtgs_book.specs.Outcome.{Reply};
 ghost use Rattle.rtgs_book.specs.Session.{IsSession};
 ghost use Rattle.rtgs_stored_desk.specs.Stored.{AreLeft};
@@ -14,14 +15,15 @@ use rtgs_rows::laws::stored_balances_are_the_postings;
 use rtgs_tables::SqlKeeper;
 use sqlite::Alter;
 
-/// Where commands with these replies were a session, whatever a crash leaves, and whole, as `submit`, `run` and a batch
-/// promise it: there the tables that a stop leaves hold a book that the session may find, and their stored balances
-/// add up to what was posted.
+/// Where commands with these replies were a session, whatever a crash leaves, and that is whole and calm, as `submit`,
+/// `run` and a batch promise it: there the tables that a stop leaves hold a book that the session may find, which is
+/// calm, and their stored balances add up to what was posted.
 pub fn what_a_session_leaves<S: Alter + Drop>(desk: &Desk<SqlKeeper<S>>)
     ensures { (start : Book) (commands : List Command) (replies : List Reply)
         → ⟦<SqlKeeper<S> as Keeper>⟧.is_whole desk.now.keeper
         → ((found : Book) → ⟦<SqlKeeper<S> as Keeper>⟧.leaves desk.now.keeper found
         → IsSession (record { start = start; commands = commands; replies = replies; found = found }))
+        → ((found : Book) → ⟦<SqlKeeper<S> as Keeper>⟧.leaves desk.now.keeper found → IsCalm found)
         → (trees : Trees) → (state S.Store desk.now.keeper.conn).may_leave trees
         → AreLeft start commands replies trees }
 {

@@ -5,11 +5,11 @@ ghost use Rattle.sqlite.specs.Held.{state};
 ghost use Rattle.sqlite.specs.State.{HasCleanDisk};
 ghost use Rattle.rtgs_book.specs.declared.Book.{Book};
 ghost use Rattle.rtgs_desk.specs.Holding.{Holds, Acts, Ran};
-ghost use Rattle.rtgs_desk.specs.Replies.{answers_its_kind, IsOfAWorkingDesk, FailsOnce};
+ghost use Rattle.rtgs_desk.specs.Replies.{IsOfItsKind, IsOfAWorkingDesk, FailsOnce};
 ghost use Rattle.rtgs_stored_desk.specs.Stored.{StopLeaves};
 
 use crate::laws::what_a_session_leaves;
-use rtgs_book::{Answer, Command, Refusal};
+use rtgs_book::{Command, Refusal, WholeAnswer};
 use rtgs_desk::Desk;
 use rtgs_keeper::Keeper;
 use rtgs_tables::SqlKeeper;
@@ -21,7 +21,7 @@ use std::alloc::AllocError;
 pub fn submit<S: Alter + Drop>(
     desk: &mut Desk<SqlKeeper<S>>,
     command: Command,
-) -> Result<Answer, Refusal>
+) -> Result<WholeAnswer, Refusal>
     ensures acts { HasCleanDisk (state S.Store desk.new.keeper.conn) → (book : Book)
         → Holds ⟦<SqlKeeper<S> as Keeper>⟧ desk.old book
         → Acts ⟦<SqlKeeper<S> as Keeper>⟧ book command result desk.new }
@@ -30,7 +30,7 @@ pub fn submit<S: Alter + Drop>(
         → StopLeaves book (command ∷ []) (result ∷ []) (state S.Store desk.new.keeper.conn) }
     ensures honest { HasCleanDisk (state S.Store desk.new.keeper.conn)
         → HasCleanDisk (state S.Store desk.old.keeper.conn) }
-    ensures of_its_kind { IfOk result (λ answer. answers_its_kind command answer ≡ true) }
+    ensures of_its_kind { IfOk result (IsOfItsKind command) }
     ensures fault { result ≡ Err Refusal.StoreFault
         → (desk.old.keeper.failed ≡ false) × (desk.new.keeper.failed ≡ true) }
     ensures only_fault { result ≢ Err Refusal.StoreFault → desk.new.keeper.failed ≡ desk.old.keeper.failed }
@@ -47,7 +47,7 @@ pub fn submit<S: Alter + Drop>(
 pub fn run<S: Alter + Drop>(
     desk: &mut Desk<SqlKeeper<S>>,
     commands: &[Command],
-) -> Result<Vec<Result<Answer, Refusal>>, AllocError>
+) -> Result<Vec<Result<WholeAnswer, Refusal>>, AllocError>
     ensures one_each { IfOk result (λ replies. length replies.items ≡ length commands.now) }
     ensures ran { IfOk result (λ replies. HasCleanDisk (state S.Store desk.new.keeper.conn) → (book : Book)
         → Holds ⟦<SqlKeeper<S> as Keeper>⟧ desk.old book

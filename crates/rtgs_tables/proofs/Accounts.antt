@@ -1,5 +1,6 @@
 -- The records as they are read.
-use Rattle.std.proofs.Common.{◌≡◌, ℕ, List, [], ◌∷◌, map, Option, IsPermutation, ap₂, refl, sym, subst, ◌∙◌}
+use Rattle.std.proofs.Common.{◌≡◌, ℕ, Bool, true, false, List, [], ◌∷◌, map, Option, IsPermutation, ap, ap₂, refl}
+use Rattle.std.proofs.Common.{sym, subst, ◌∙◌, arith}
 use Rattle.std.specs.List.{AllByRecursion}
 use Rattle.std.proofs.lemmas.List.Sorted.{IsPermutation-map}
 use Rattle.std.specs.List.Sorted.{IsStrictlySortedBy}
@@ -12,6 +13,8 @@ use Rattle.sqlite.specs.Tree.{IsAscending}
 use Rattle.rtgs_sql_queries.specs.Records.{AreRead, HasRecords}
 use Rattle.sqlite_keyed.proofs.ListLemmas.{ascending-map, ascending_from_map, map_back}
 use Rattle.rtgs_book.specs.declared.Book.{Book}
+use Rattle.rtgs_book.specs.declared.Day.{Day}
+use Rattle.rtgs_book.specs.Books.{new_book}
 use Rattle.rtgs_book.specs.Balance.{balance}
 use Rattle.rtgs_book.specs.declared.Participant.{Participant}
 use Rattle.rtgs_book.specs.Lookup.{accounts}
@@ -21,14 +24,15 @@ use Rattle.rtgs_book.specs.declared.Order.{Order}
 use Rattle.rtgs_lists.proofs.Lists.{all_get}
 use Rattle.rtgs_rows.specs.Content.{Holding, Content, RestsIn, stored_account}
 use Rattle.rtgs_book.specs.declared.account.Account.{Account}
-use Rattle.rtgs_rows.specs.Keeping.{IsBookOf, AreBalances}
+use Rattle.rtgs_rows.specs.Keeping.{SameLists, IsBookOf, AreBalances}
 use Rattle.rtgs_rows.specs.RowLaws.{RecordsStandInOrder}
-use Rattle.rtgs_rows.specs.Dues.{forwards_of, IsHeldByDue}
+use Rattle.rtgs_rows.specs.Dues.{IsHeldByDue}
 use Rattle.rtgs_rows.specs.Migrating.{HasNoMore}
-use Rattle.rtgs_rows.specs.Rows.{forward_row}
-use Rattle.rtgs_rows.specs.TableRecords.{HasNoneBeyond}
+use Rattle.rtgs_rows.specs.Rows.{forward_row, resolution_number, resolution_row_of, choice_row}
+use Rattle.rtgs_rows.specs.TableRecords.{HasNoMoreBeyond}
 use Rattle.rtgs_rows.specs.Tables.{IsVersion, versions}
 use Rattle.rtgs_rows.specs.declared.forward.Forward.{Forward}
+use Rattle.rtgs_rows.specs.declared.resolution_row.ResolutionRow.{ResolutionRow}
 
 abbrev account_of : Book → Participant → Account
 account_of book p = record { participant = p; balance = balance book p.code }
@@ -70,17 +74,45 @@ no_rows : (forwards : List Forward) → map forward_row forwards ≡ [] → forw
 no_rows [] none = refl
 no_rows (f ∷ forwards) none = absurd cc
 
--- where the tables lack none of the records, the book has none beyond them
+-- a day whose row is that of a new desk is not automatic
+plain : (automatic : Bool) → resolution_number automatic ≡ resolution_number false → automatic ≡ false
+plain false same = refl
+plain true same = absurd (omega arith)
+
+same_choice : (day : Day) → ◌≡◌ {A = List Row} (choice_row day ∷ []) (choice_row new_book.day ∷ [])
+    → ◌≡◌ {A = List ResolutionRow} (resolution_row_of day ∷ []) (resolution_row_of new_book.day ∷ [])
+same_choice day rows =
+    let number : resolution_number day.automatic ≡ resolution_number false = cc in
+    λ i. record { automatic = plain day.automatic number i } ∷ []
+
+-- where the tables lack none of the records, the book has no more than a new one beyond them
 none_beyond : (version : ℕ) → IsVersion version → (content : Content) (book : Book) (accounts : List Account)
-    → content.forwards ≡ forwards_of book.orders → HasNoMore version content → HasNoneBeyond version accounts book
+    → SameLists book content → HasNoMore version content → HasNoMoreBeyond version accounts book
 none_beyond version known content book accounts same =
-    all_get (λ v. HasNoMore v content → HasNoneBeyond v accounts book) versions known.0 version known.1 (sym known.2) (
-      λ none. (sym same ∙ no_rows content.forwards (first_of none), tt),
-      (λ none. tt, tt),
+    all_get (λ v. HasNoMore v content → HasNoMoreBeyond v accounts book) versions known.0 version known.1
+    (sym known.2) (
+      λ none. (
+        sym same.forwards ∙ no_rows content.forwards (first_of none),
+        (chosen (second_of none), tt),
+      ),
+      (λ none. (chosen (only_of none), tt), (λ none. tt, tt)),
     )
   where
-    first_of : {rows : List Row} → ◌≡◌ {A = List (List Row)} (rows ∷ []) ([] ∷ []) → rows ≡ []
+    first_of : {rows more : List Row} → ◌≡◌ {A = List (List Row)} (rows ∷ more ∷ [])
+        ([] ∷ (choice_row new_book.day ∷ []) ∷ []) → rows ≡ []
     first_of e = cc
+
+    second_of : {rows more : List Row} → ◌≡◌ {A = List (List Row)} (rows ∷ more ∷ [])
+        ([] ∷ (choice_row new_book.day ∷ []) ∷ []) → more ≡ choice_row new_book.day ∷ []
+    second_of e = cc
+
+    only_of : {rows : List Row} → ◌≡◌ {A = List (List Row)} (rows ∷ []) ((choice_row new_book.day ∷ []) ∷ [])
+        → rows ≡ choice_row new_book.day ∷ []
+    only_of e = cc
+
+    chosen : ◌≡◌ {A = List Row} (choice_row content.day ∷ []) (choice_row new_book.day ∷ [])
+        → ◌≡◌ {A = List ResolutionRow} (resolution_row_of book.day ∷ []) (resolution_row_of new_book.day ∷ [])
+    chosen rows = ap (λ (day : Day). resolution_row_of day ∷ []) (sym same.day) ∙ same_choice content.day rows
 
 are_own : RecordsStandInOrder → (content : Content) (book : Book) → IsBookOf book content
     → AreRead content (accounts_of book) book
@@ -104,7 +136,7 @@ has_own in_order version s content book rests none of = (
   content,
   rests,
   are_own in_order content book of,
-  none_beyond version rests.known content book (accounts_of book) of.records.lists.forwards none,
+  none_beyond version rests.known content book (accounts_of book) of.records.lists none,
 )
 
 balances_of : (book : Book) (ps : List Participant) → AreBalances book (map (account_of book) ps)

@@ -1,5 +1,5 @@
 -- Why a sound book is refused, and what a fault explains.
-use Rattle.std.proofs.Common.{◌≡◌, ◌⊎◌, inl, inr, List, Ok, Err, Result, IfOk, IfErr, refl, sym, ap, subst, ◌∙◌}
+use Rattle.std.proofs.Common.{◌≡◌, ◌≢◌, ◌⊎◌, inl, inr, List, Ok, Err, Result, IfOk, IfErr, refl, sym, ap, subst, ◌∙◌}
 use Rattle.std.specs.Result.{IsErrAnd}
 use Rattle.sqlite.specs.State.{State}
 use Rattle.rtgs_book.specs.declared.Book.{Book}
@@ -9,7 +9,7 @@ use Rattle.rtgs_book.specs.declared.Fault.TheVariants.{OutOfMemory, StoreFault, 
 use Rattle.rtgs_book.specs.declared.Rule.{Rule}
 use Rattle.rtgs_book.specs.declared.Rule.TheVariants.{OrderNumbers, PostingNumbers, MarkNumbers, ParticipantCodes, Keys}
 use Rattle.rtgs_book.specs.declared.Rule.TheVariants.{OrderReferences, PostingReferences, Parties, Marks, Queues, Dates}
-use Rattle.rtgs_book.specs.declared.Rule.TheVariants.{Floors, Total, StoredBalances}
+use Rattle.rtgs_book.specs.declared.Rule.TheVariants.{Floors, Total, StoredBalances, AutomaticDay, Calm}
 use Rattle.rtgs_book.specs.Judgement.{Keeps}
 use Rattle.rtgs_book.specs.Soundness.{IsSound}
 use Rattle.rtgs_rows.specs.Keeping.{AreBalances}
@@ -18,22 +18,24 @@ use Rattle.rtgs_sql_loading.specs.Accounts.{ExplainsRead}
 use Rattle.rtgs_sql_loading.specs.Loading.{LoadsFrom}
 use Rattle.rtgs_tables.specs.Loading.{ExplainsLoad}
 
--- a sound book keeps each rule of a book
-keeps_all : (book : Book) → IsSound book → (rule : Rule) → Keeps book rule
-keeps_all book sound OrderNumbers = sound.orders_numbered
-keeps_all book sound PostingNumbers = sound.postings_numbered
-keeps_all book sound MarkNumbers = sound.marks_numbered
-keeps_all book sound ParticipantCodes = sound.codes_rise
-keeps_all book sound Keys = sound.keys_distinct
-keeps_all book sound OrderReferences = sound.order_references
-keeps_all book sound PostingReferences = sound.posting_references
-keeps_all book sound Parties = sound.parties
-keeps_all book sound Marks = sound.marks
-keeps_all book sound Queues = sound.queues
-keeps_all book sound Dates = sound.dates
-keeps_all book sound Floors = sound.floors
-keeps_all book sound Total = sound.total_fits
-keeps_all book sound StoredBalances = tt
+-- a sound book keeps each rule but the last
+keeps_all : (book : Book) → IsSound book → (rule : Rule) → rule ≢ Calm → Keeps book rule
+keeps_all book sound OrderNumbers other = sound.orders_numbered
+keeps_all book sound PostingNumbers other = sound.postings_numbered
+keeps_all book sound MarkNumbers other = sound.marks_numbered
+keeps_all book sound ParticipantCodes other = sound.codes_rise
+keeps_all book sound Keys other = sound.keys_distinct
+keeps_all book sound OrderReferences other = sound.order_references
+keeps_all book sound PostingReferences other = sound.posting_references
+keeps_all book sound Parties other = sound.parties
+keeps_all book sound Marks other = sound.marks
+keeps_all book sound Queues other = sound.queues
+keeps_all book sound Dates other = sound.dates
+keeps_all book sound Floors other = sound.floors
+keeps_all book sound Total other = sound.total_fits
+keeps_all book sound StoredBalances other = tt
+keeps_all book sound AutomaticDay other = sound.choice_fits
+keeps_all book sound Calm other = absurd (other refl)
 
 -- where no rule is broken, the store failed or memory was refused
 pub of_sound : (accounts : List Account) (book : Book) → IsSound book → AreBalances book accounts → (fault : Fault)

@@ -1,9 +1,11 @@
 -- What a migration finds, and what it leaves.
-use Rattle.std.proofs.Common.{◌≡◌, ◌≢◌, ◌⊎◌, inl, inr, ℕ, zero, suc, ◌<◌, ◌≤◌, true, false, List, [], ◌∷◌}
+use Rattle.std.proofs.Common.{◌≡◌, ◌≢◌, ◌⊎◌, inl, inr, ℕ, zero, suc, ◌+◌, ◌<◌, ◌≤◌, true, false, List, [], ◌∷◌}
+use Rattle.std.proofs.Common.{get_or}
 use Rattle.std.proofs.Common.{Ok, Err, Result, IfOk, IfErr, IsTrue, true≢false, refl, sym, ap, subst, ◌∙◌, arith}
 use Rattle.std.specs.Result.{IsErrAnd}
 use Rattle.rtgs_lists.proofs.Lists.{all_get}
 use Rattle.sqlite.specs.Order.{Row}
+use Rattle.sqlite.specs.Table.{Table}
 use Rattle.sqlite.specs.Effect.{Database}
 use Rattle.sqlite.specs.Listing.{understood, listing_schema}
 use Rattle.sqlite_schema.specs.Names.{same_name}
@@ -18,7 +20,6 @@ use Rattle.sqlite_resolve.specs.declared.error.CompileError.{CompileError}
 use Rattle.sqlite_resolve.specs.declared.error.CompileError.TheVariants.{NoSuchTable}
 use Rattle.rtgs_book.specs.declared.account.Account.{Account}
 use Rattle.rtgs_book.specs.declared.Book.{Book}
-use Rattle.rtgs_book.specs.declared.Day.{Day}
 use Rattle.rtgs_book.specs.declared.Fault.{Fault}
 use Rattle.rtgs_book.specs.declared.Fault.TheVariants.{OutOfMemory, StoreFault, NotADeskFile, Inconsistent}
 use Rattle.rtgs_book.specs.declared.Rule.{Rule}
@@ -28,16 +29,17 @@ use Rattle.rtgs_rows.specs.Keeping.{HoldsBook}
 use Rattle.rtgs_rows.specs.Migrating.{HasNoMore, TellIn, IsOlder, LeavesEither, Migrates}
 use Rattle.rtgs_rows.specs.Querying.{as_shown, IsFileIn, AreWholeIn}
 use Rattle.rtgs_rows.specs.RowLaws.{RecordsStandInOrder}
-use Rattle.rtgs_rows.specs.Rows.{shown_day}
-use Rattle.rtgs_rows.specs.TableRecords.{desk_row_of}
-use Rattle.rtgs_rows.specs.Tables.{IsVersion, versions, schema_in, desk_table, forward_table}
+use Rattle.rtgs_rows.specs.Rows.{desk_row_of, shown_desk}
+use Rattle.rtgs_rows.specs.TableRecords.{desk_records}
+use Rattle.rtgs_rows.specs.Tables.{IsVersion, versions, schema_in, known_tables, desk_table}
 use Rattle.rtgs_rows.specs.declared.desk_row.DeskRow.{DeskRow}
 use Rattle.rtgs_rows.specs.declared.numbers.TheConstants.{VERSION}
+use Rattle.rtgs_sql_columns.specs.Numbers.{AreReadAs}
 use Rattle.rtgs_sql_columns.specs.Tables.{query_text}
 use Rattle.rtgs_sql_queries.specs.Answering.{KeepsTables}
 use Rattle.rtgs_sql_queries.specs.Displaying.{Displays}
 use Rattle.rtgs_sql_queries.specs.Records.{HasRecords}
-use Rattle.rtgs_sql_loading.specs.Accounts.{IsOneDay, IsOneDesk, ExplainsTrees}
+use Rattle.rtgs_sql_loading.specs.Accounts.{IsDeskOf, IsOneDesk, ExplainsTrees}
 use Rattle.rtgs_sql_loading.specs.Displaying.{SaysVersion, SaysNoVersion, AreDisplayed, IsDisplayed, ExplainsDatabase}
 use Rattle.rtgs_sql_loading.specs.Loading.{LoadsFrom, ReadsDesk, Stops}
 use Rattle.rtgs_sql_writes.specs.Building.{takes_a_name}
@@ -49,7 +51,7 @@ use Rattle.rtgs_tables.proofs.Judging.{of_sound}
 
 known_range : (version : ℕ) → IsVersion version → (1 ≤ version) × (version ≤ VERSION)
 known_range version known = all_get (λ v. (1 ≤ v) × (v ≤ VERSION)) versions known.0 version known.1 (sym known.2)
-    ((omega arith, omega arith), ((omega arith, omega arith), tt))
+    ((omega arith, omega arith), ((omega arith, omega arith), ((omega arith, omega arith), tt)))
 
 unknown : (version : ℕ) → VERSION < version → ¬ IsVersion version
 unknown version high known = let range = known_range version known in omega (arith, high, range.1)
@@ -58,7 +60,8 @@ known_or_not : (version : ℕ) → IsVersion version ⊎ ¬ IsVersion version
 known_or_not zero = inr (λ known. let range = known_range zero known in omega (arith, range.0))
 known_or_not (suc zero) = inl (0, omega arith, refl)
 known_or_not (suc (suc zero)) = inl (1, omega arith, refl)
-known_or_not (suc (suc (suc more))) = inr (unknown (suc (suc (suc more))) (omega arith))
+known_or_not (suc (suc (suc zero))) = inl (2, omega arith, refl)
+known_or_not (suc (suc (suc (suc more)))) = inr (unknown (suc (suc (suc (suc more)))) (omega arith))
 
 -- what a loading does not refuse for the version is of a version that is known
 known_by : {answer : Result Book Fault} (version : ℕ) → (¬ IsVersion version → answer ≡ Err NotADeskFile)
@@ -72,58 +75,79 @@ known_by version refuses other = elim (known_or_not version) [
 none_taken : (version : ℕ) → IsVersion version → takes_a_name version (schema_in version) ≡ false
 unfolding schema_in same_name
 none_taken version known = all_get (λ v. takes_a_name v (schema_in v) ≡ false) versions known.0 version known.1
-    (sym known.2) (refl, (refl, tt))
+    (sym known.2) (refl, (refl, (refl, tt)))
 
-no_dues : understood (schema_in 1) (query_text forward_table) ≡ Err NoSuchTable
-unfolding understood listing_schema everything schema_in
-no_dues = refl
-
-some_taken : takes_a_name 1 (schema_in 2) ≡ true
-unfolding schema_in same_name
-some_taken = refl
+-- the table that came with a version, and the last of those of the first
+abbrev last_table : ℕ → Table
+last_table version = get_or known_tables (version + 3) desk_table
 
 -- tables of one version are not taken for those of another
 abbrev IsTheSame : ℕ → ℕ → Type 0
 IsTheSame other version = (db : Database) → db.schema ≡ schema_in other
     → (version ≤ VERSION → takes_a_name version db.schema ≡ false)
-    → (version ≡ VERSION → (rows : List Row) × Displays db (query_text forward_table) rows) → other ≡ version
+    → (rows : List Row) × Displays db (query_text (last_table version)) rows → other ≡ version
 
-earlier_dues : IsTheSame 1 2
-earlier_dues db schema free shows =
-    let shown = shows refl in
-    let clash : ◌≡◌ {A = Result Compiled CompileError} (Err NoSuchTable) (Ok shown.1.0) = sym no_dues
-    ∙ sym (ap (λ s. understood s (query_text forward_table)) schema) ∙ shown.1.1 in
+-- nor those of an earlier one, which lack that table
+abbrev IsUnknownIn : ℕ → ℕ → Type 0
+IsUnknownIn other version = understood (schema_in other) (query_text (last_table version)) ≡ Err NoSuchTable
+
+lacks : IsUnknownIn 1 2 × IsUnknownIn 1 3 × IsUnknownIn 2 3
+unfolding understood listing_schema everything schema_in
+lacks = (refl, refl, refl)
+
+earlier : (other version : ℕ) → IsUnknownIn other version → IsTheSame other version
+earlier other version none db schema free shown =
+    let clash : ◌≡◌ {A = Result Compiled CompileError} (Err NoSuchTable) (Ok shown.1.0) = sym none
+    ∙ sym (ap (λ s. understood s (query_text (last_table version))) schema) ∙ shown.1.1 in
     absurd cc
 
-later_names : IsTheSame 2 1
-later_names db schema free shows = absurd (true≢false (sym some_taken ∙ sym (ap (takes_a_name 1) schema)
-    ∙ free (omega arith)))
+-- nor those of a later one, which have a name that it lacks
+abbrev IsTakenIn : ℕ → ℕ → Type 0
+IsTakenIn other version = takes_a_name version (schema_in other) ≡ true
+
+taken : IsTakenIn 2 1 × IsTakenIn 3 1 × IsTakenIn 3 2
+unfolding schema_in same_name
+taken = (refl, refl, refl)
+
+later : (other version : ℕ) → version ≤ VERSION → IsTakenIn other version → IsTheSame other version
+later other version low some db schema free shown = absurd (true≢false (sym some
+    ∙ sym (ap (takes_a_name version) schema) ∙ free low))
+
+itself : (version : ℕ) → IsTheSame version version
+itself version db schema free shown = refl
 
 same_version : (other version : ℕ) → IsVersion other → IsVersion version → IsTheSame other version
-same_version other version its known = all_get (λ v. IsTheSame v version) versions its.0 other its.1 (sym its.2) (
-  all_get (IsTheSame 1) versions known.0 version known.1 (sym known.2)
-      (λ db schema free shows. refl, (earlier_dues, tt)),
-  (
-    all_get (IsTheSame 2) versions known.0 version known.1 (sym known.2)
-        (later_names, (λ db schema free shows. refl, tt)),
-    tt,
-  ),
-)
+same_version other version its known =
+    let of_this = λ (v : ℕ). all_get (IsTheSame v) versions known.0 version known.1 (sym known.2) in
+    all_get (λ v. IsTheSame v version) versions its.0 other its.1 (sym its.2) (
+      of_this 1 (itself 1, (earlier 1 2 lacks.0, (earlier 1 3 lacks.1, tt))),
+      (
+        of_this 2 (later 2 1 (omega arith) taken.0, (itself 2, (earlier 2 3 lacks.2, tt))),
+        (of_this 3 (later 3 1 (omega arith) taken.1, (later 3 2 (omega arith) taken.2, (itself 3, tt))), tt),
+      ),
+    )
 
--- the query of due dates shows rows, where the tables are read as those of the newest version
-dues_read : (version : ℕ) (db : Database) (accounts : List Account) (book : Book)
-    → AreDisplayed version db accounts book → version ≡ VERSION
-    → (rows : List Row) × Displays db (query_text forward_table) rows
-dues_read version db accounts book displayed newest =
-    let it = subst (λ v. AreDisplayed v db accounts book) newest displayed in
-    let shown = it.tells.1.1.1.1.1.0 in
-    (shown.0, shown.1)
+-- the query of that table shows rows, where the tables are read as those of the version
+last_read : (version : ℕ) → IsVersion version → (db : Database) (accounts : List Account) (book : Book)
+    → AreDisplayed version db accounts book → (rows : List Row) × Displays db (query_text (last_table version)) rows
+last_read version known db accounts book = all_get (λ v. AreDisplayed v db accounts book
+    → (rows : List Row) × Displays db (query_text (last_table v)) rows) versions known.0 version known.1
+    (sym known.2) (
+      λ it. let shown = it.tells.1.1.1.1.0 in (shown.0, shown.1),
+      (
+        λ it. let shown = it.tells.1.1.1.1.1.0 in (shown.0, shown.1),
+        (λ it. let shown = it.tells.1.1.1.1.1.1.0 in (shown.0, shown.1), tt),
+      ),
+    )
 
-dues_shown : (version : ℕ) (db : Database) (book : Book) → IsDisplayed version db book → version ≡ VERSION
-    → (rows : List Row) × Displays db (query_text forward_table) rows
-dues_shown version db book displayed newest =
-    let it = subst (λ v. IsDisplayed v db book) newest displayed in
-    (_, it.2.tells.1.1.1.1.1.0)
+last_shown : (version : ℕ) → IsVersion version → (db : Database) (book : Book) → IsDisplayed version db book
+    → (rows : List Row) × Displays db (query_text (last_table version)) rows
+last_shown version known db book = all_get (λ v. IsDisplayed v db book
+    → (rows : List Row) × Displays db (query_text (last_table v)) rows) versions known.0 version known.1
+    (sym known.2) (
+      λ it. (_, it.2.tells.1.1.1.1.0),
+      (λ it. (_, it.2.tells.1.1.1.1.1.0), (λ it. (_, it.2.tells.1.1.1.1.1.1.0), tt)),
+    )
 
 -- ---- what the desk's row says
 
@@ -141,22 +165,28 @@ file_of version content s rests = record {
 }
 
 -- one row says one version
-said_once : (version other : ℕ) (day : Day) → IsOneDay other (shown_day version day ∷ []) → version ≡ other
-said_once version other day one =
-    let same : shown_day version day ∷ [] ≡ shown_day other one.0 ∷ [] = one.2 in
-    cc
+said_once : (desk : DeskRow) (other : ℕ) (rows : List Row) → AreReadAs desk_records rows (desk ∷ [])
+    → IsDeskOf other rows → desk.version ≡ other
+said_once desk other rows read one =
+    let same : ◌≡◌ {A = List Row} (shown_desk desk ∷ []) (shown_desk one.0.0 ∷ []) = sym read ∙ one.0.2 in
+    let alike : desk.version ≡ one.0.0.version = cc in
+    alike ∙ one.1
 
-module _ (s : State) (version : ℕ) (day : Day) (reads : ReadsDesk s (desk_row_of version day)) where
+module _ (s : State) (version : ℕ) (desk : DeskRow) (is : desk.version ≡ version) (reads : ReadsDesk s desk) where
   pub said : SaysVersion version s.now
-  said = (shown_day version day ∷ [], reads.shown, (day, reads.fit, refl))
+  said = let shown = reads.shown in (shown.0, shown.1, ((desk, reads.fit, shown.2), is))
 
   of_records : (other : ℕ) (accounts : List Account) (book : Book) → HasRecords other accounts book s
       → version ≡ other
-  of_records other accounts book held = ap (λ (d : DeskRow). d.version) (reads.given other accounts book held)
+  of_records other accounts book held =
+      let rows = reads.given other held.1.known accounts book held in
+      let same : desk ≡ desk_row_of other book.day = cc in
+      sym is ∙ ap (λ (d : DeskRow). d.version) same
 
-  of_rows : (other : ℕ) (trees : Trees) → IsFileIn other trees s → IsOneDay other (as_shown desk_table trees)
+  of_rows : (other : ℕ) (trees : Trees) → IsFileIn other trees s → IsDeskOf other (as_shown desk_table trees)
       → version ≡ other
-  of_rows other trees file one = said_once version other day (subst (IsOneDay other) (reads.rows other trees file) one)
+  of_rows other trees file one = sym is
+      ∙ said_once desk other (as_shown desk_table trees) (reads.rows other file.known trees file) one
 
   not_taken : (other : ℕ) → version ≡ other → IsVersion other → s.now.schema ≡ schema_in other
       → takes_a_name version s.now.schema ≢ true
@@ -170,7 +200,7 @@ module _ (s : State) (version : ℕ) (day : Day) (reads : ReadsDesk s (desk_row_
         let file = file_of other held.0 s held.1 in
         not_taken other (of_records other accounts book held) file.known (schema_of other s.committed.trees s file)
         taken;
-    rows = λ other trees file formed. not_taken other (of_rows other trees file formed.day) file.known
+    rows = λ other trees file formed. not_taken other (of_rows other trees file formed.desk) file.known
         (schema_of other trees s file) taken;
     shown = inr (version, said, inr taken);
   }
@@ -184,7 +214,7 @@ module _ (s : State) (version : ℕ) (day : Day) (reads : ReadsDesk s (desk_row_
       loads = loads;
       alone = λ other trees file. same_version other version file.known
           (known_by version loads.unknown (λ e. cc)) s.now (schema_of other trees s file) free
-          (dues_shown version s.now book loads.displayed);
+          (last_shown version (known_by version loads.unknown (λ e. cc)) s.now book loads.displayed);
     }
 
     its_rows : (fault : Fault) → LoadsFrom version s (Err fault) → (other : ℕ) (trees : Trees)
@@ -192,13 +222,14 @@ module _ (s : State) (version : ℕ) (day : Day) (reads : ReadsDesk s (desk_row_
     its_rows OutOfMemory loads other trees file = tt
     its_rows StoreFault loads other trees file = tt
     its_rows NotADeskFile loads other trees file = λ formed.
-        let same = of_rows other trees file formed.day in
+        let same = of_rows other trees file formed.desk in
         subst (λ v. ExplainsTrees v trees NotADeskFile) same
         (loads.caused trees (subst (λ v. IsFileIn v trees s) (sym same) file)) formed
     its_rows (Inconsistent rule) loads other trees file =
         let told = loads.told in
         let same = same_version other version file.known (known_by version loads.unknown (λ e. cc)) s.now
-        (schema_of other trees s file) free (dues_read version s.now told.0 told.1 told.2) in
+        (schema_of other trees s file) free
+        (last_read version (known_by version loads.unknown (λ e. cc)) s.now told.0 told.1 told.2) in
         subst (λ v. ExplainsTrees v trees (Inconsistent rule)) (sym same)
         (loads.caused trees (subst (λ v. IsFileIn v trees s) same file))
 
@@ -233,7 +264,7 @@ unsaid_explained s mid StoreFault met was clean stops rules = record {
 }
 unsaid_explained s mid NotADeskFile met was clean stops rules = record {
   records = λ version accounts book held. (stops version).right clean accounts book held was;
-  rows = λ version trees file formed. (stops version).wrong clean trees file was (version, formed.day);
+  rows = λ version trees file formed. (stops version).wrong clean trees file was formed.desk.0;
   shown = inl ((stops 1).unread clean (0, omega arith, refl) was);
 }
 unsaid_explained s mid (Inconsistent rule) met was clean stops rules = absurd (rules rule was)

@@ -30,8 +30,8 @@ use rtgs_sql_writes::{create_tables, write};
 use sqlite::{Alter, Connection};
 use std::alloc::Global;
 
-/// Keeps a book in six tables, over a connection of any store. It has failed once the store has answered a fault, to a
-/// change or to a reading.
+/// Keeps a book in seven tables, over a connection of any store. It has failed once the store has answered a fault, to
+/// a change or to a reading.
 #[derive(Drop)]
 pub struct SqlKeeper<S: Alter + Drop> {
     conn: Connection<S>,

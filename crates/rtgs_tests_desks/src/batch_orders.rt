@@ -1,5 +1,5 @@
 //! Orders of a batch, in words.
-use crate::scripts::{Reply, command, is_told};
+use crate::scripts::{command, is_told_by_itself};
 use rtgs_batches::submit_batch;
 use rtgs_book::{Answer, Command, Known, Refusal};
 use rtgs_desk::Desk;
@@ -51,11 +51,12 @@ pub fn sent<K: Keeper>(
     replied(alloc, batch.replies.as_slice(), script, known)
 }
 
-// Counts the replies, of which so many are to orders that come again. Each is as the script tells of its order.
+// Counts the replies, of which so many are to orders that come again. Each is as the script tells of its order, but for
+// what was resolved after it, which no reply to a row tells.
 fn replied(alloc: Global, replies: &[RowReply], script: &str, known: usize) -> Result<usize, Fail> {
     let mut count = 0usize;
     for (line, reply) in script.lines().zip(replies) {
-        let answer: Reply = match *reply {
+        let own: Result<Answer, Refusal> = match *reply {
             RowReply::Settled { number, mark } => Ok(Answer::Settled { number, mark }),
             RowReply::Queued { number, place } => Ok(Answer::Queued { number, place }),
             RowReply::Held { number, due } => Ok(Answer::Held { number, due }),
@@ -64,7 +65,7 @@ fn replied(alloc: Global, replies: &[RowReply], script: &str, known: usize) -> R
             }
             RowReply::Refused(refusal) => Err(refusal),
         };
-        if !is_told(alloc, &answer, line, count < known)? {
+        if !is_told_by_itself(alloc, &own, line, count < known)? {
             return Err(Fail::new("another row reply"));
         }
         count = count.saturating_add(1);

@@ -15,5 +15,7 @@ pub use crate::counting_keeper::CountingKeeper;
 pub use crate::failing_keeper::{FailingKeeper, Trouble, failing};
 pub use crate::opened::{BANKS, begun, desk_over};
 pub use crate::readings::seen_of;
-pub use crate::scripts::{Reply, answered, command, commands, follows, is_told};
+pub use crate::scripts::{
+    Reply, answered, command, commands, follows, is_told, is_told_by_itself, reply_text,
+};
 pub use crate::silence::is_silent;

@@ -1,16 +1,17 @@
 //! Scripts: a line for each command, in words, and behind ` => ` what it is answered. An order for a later day ends
-//! with `due` and that day. A line that is not understood fails the test.
-use rtgs_book::{Answer, Command, Refusal};
+//! with `due` and that day, the opening of an automatic day with `automatic`. Behind an answer stands ` auto` with the
+//! mark, the count and the cents of what was resolved after the command, if anything was. A line that is not understood
+//! fails the test.
+use rtgs_book::{Answer, Command, Refusal, Resolution, WholeAnswer};
 use rtgs_desk::Desk;
 use rtgs_desk_requests::CommandWords;
 use rtgs_keeper::Keeper;
 use rtgs_money::{Amount, BusinessDate, Code, Reference};
 use std::alloc::Global;
-use std::fmt::Debug;
 use std::test::Fail;
 
 /// What a command is answered.
-pub type Reply = Result<Answer, Refusal>;
+pub type Reply = Result<WholeAnswer, Refusal>;
 
 /// The command of a line's words, which may have its answer behind it. A posting that takes money is a `debit`.
 pub fn command(line: &str) -> Result<Command, Fail> {
@@ -62,14 +63,21 @@ fn spelt<'a>(
             code: first,
             reference: second,
         }),
+        "open" if count == 3 && second == "automatic" => Some(CommandWords::Open {
+            date: first,
+            automatic: true,
+        }),
         _ => spelt_for_a_day(kind, count, first),
     }
 }
 
-// The words of a command about the day.
+// The words of a command about the day, which is not automatic.
 fn spelt_for_a_day<'a>(kind: &str, count: usize, date: &'a str) -> Option<CommandWords<'a>> {
     match kind {
-        "open" if count == 2 => Some(CommandWords::Open { date }),
+        "open" if count == 2 => Some(CommandWords::Open {
+            date,
+            automatic: false,
+        }),
         "cutoff" if count == 2 => Some(CommandWords::CutOff { date }),
         "close" if count == 2 => Some(CommandWords::Close { date }),
         "resolve" if count == 1 => Some(CommandWords::Resolve),
@@ -116,16 +124,49 @@ pub fn commands(alloc: Global, script: &str) -> Result<Vec<Command>, Fail> {
     Ok(commands)
 }
 
-/// Whether an answer displays itself as the line tells: behind its command, or behind that where it comes again.
-pub fn is_told<T: Debug>(
+// What a line tells behind its command, or behind that where it comes again.
+fn told(line: &str, comes_again: bool) -> Option<&str> {
+    line.split(" => ").nth(if comes_again { 2 } else { 1 })
+}
+
+/// Whether a reply is the one that the line tells behind its command, or behind that where it comes again.
+pub fn is_told(alloc: Global, reply: &Reply, line: &str, comes_again: bool) -> Result<bool, Fail> {
+    let text = reply_text(alloc, reply)?;
+    Ok(told(line, comes_again) == Some(text.as_str()))
+}
+
+/// The same of a command's own reply alone, whatever was resolved after the command.
+pub fn is_told_by_itself(
     alloc: Global,
-    answer: &T,
+    own: &Result<Answer, Refusal>,
     line: &str,
     comes_again: bool,
 ) -> Result<bool, Fail> {
-    let told = line.split(" => ").nth(if comes_again { 2 } else { 1 });
-    let text = format!(in alloc; "{answer:?}")?;
-    Ok(told == Some(text.as_str()))
+    let text = format!(in alloc; "{own:?}")?;
+    match told(line, comes_again) {
+        Some(told) => Ok(told.split(" auto ").next() == Some(text.as_str())),
+        None => Ok(false),
+    }
+}
+
+/// A reply as a line tells it.
+pub fn reply_text(alloc: Global, reply: &Reply) -> Result<String, Fail> {
+    match reply {
+        Ok(answer) => answer_text(alloc, answer),
+        Err(refusal) => Ok(format!(in alloc; "Err({refusal:?})")?),
+    }
+}
+
+// The same of a reply that is no refusal.
+fn answer_text(alloc: Global, answer: &WholeAnswer) -> Result<String, Fail> {
+    let own = &answer.own;
+    match &answer.auto {
+        None => Ok(format!(in alloc; "Ok({own:?})")?),
+        Some(Resolution { mark, count, value }) => {
+            let cents = value.cents();
+            Ok(format!(in alloc; "Ok({own:?}) auto {mark} {count} {cents}")?)
+        }
+    }
 }
 
 /// Gives the desk the first of the commands of a script, at most so many, and counts those that are answered before a
@@ -166,8 +207,8 @@ fn is_answered<K: Keeper>(
             return Ok(false);
         }
     }
-    let said = format!(in alloc; "{line} was answered {reply:?}")?;
-    Err(Fail::from(said))
+    let text = reply_text(alloc, &reply)?;
+    Err(Fail::from(format!(in alloc; "{line} was answered {text}")?))
 }
 
 /// Fails unless each command of a script is answered as it tells, and there is one.

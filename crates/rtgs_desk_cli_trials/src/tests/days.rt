@@ -3,7 +3,7 @@ use super::script::follows_both;
 use std::test::Fail;
 
 /// A new book with three banks.
-const THREE_BANKS: &str = "
+pub const THREE_BANKS: &str = "
 $ desk init @
 > initialised
 $ desk add @ ALFA 'Alfa Bank' 0000000000000000000000000000000a

@@ -17,6 +17,10 @@ $ names post --help
 > The amount in cents, without a sign
 > --debit
 status 0 helped
+$ names open --help
+> --automatic
+> Resolves gridlock after each command that may free orders
+status 0 helped
 ";
 
 #[test]
@@ -27,12 +31,12 @@ fn helps_name_the_commands_and_the_forms_of_their_words(rt: HostRuntime) -> Resu
 /// The version of the tables is that of a new book, or else what is inserted has no value, which is refused.
 const VERSIONS: &str = "
 $ names --version
-> desk 0.11.0, tables 2, rattle-kit-
+> desk 0.12.0, tables 3, rattle-kit-
 status 0 helped
 $ desk init @
 > initialised
 $ sql @ CREATE TABLE seen (is_so INTEGER NOT NULL)
-$ sql @ INSERT INTO seen SELECT CASE WHEN sum(version) = 2 THEN 1 END FROM desk
+$ sql @ INSERT INTO seen SELECT CASE WHEN sum(version) = 3 THEN 1 END FROM desk
 ";
 
 #[test]

@@ -1,4 +1,5 @@
 //! Replies, to the byte, of a desk in memory that serves one request after another.
+mod automatic_days;
 mod batches;
 mod begun_texts;
 mod beyond_reach;

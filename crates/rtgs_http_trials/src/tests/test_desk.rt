@@ -42,10 +42,11 @@ pub fn add_banks<K: Keeper>(desk: &mut Desk<K>) -> Result<(), Fail> {
     add(desk, "GAMA", "Gama Bank", GAMA)
 }
 
-/// Adds three banks and opens a Monday.
-pub fn begin_day<K: Keeper>(desk: &mut Desk<K>) -> Result<(), Fail> {
+/// Adds three banks and opens a Monday, which is automatic where this says so.
+pub fn begin_day<K: Keeper>(desk: &mut Desk<K>, automatic: bool) -> Result<(), Fail> {
     add_banks(desk)?;
-    desk.submit(Command::OpenDay(BusinessDate::read(b"2024-03-04")?))?;
+    let date = BusinessDate::read(b"2024-03-04")?;
+    desk.submit(Command::OpenDay { date, automatic })?;
     Ok(())
 }
 
@@ -147,7 +148,7 @@ impl TestDesk {
     /// With three banks, on a Monday that is open. After so many calls more one meets this trouble.
     pub fn troubled(alloc: Global, calls: usize, trouble: Trouble) -> Result<TestDesk, Fail> {
         let mut desk = TestDesk::new(alloc, OPENING.saturating_add(calls), trouble)?;
-        begin_day(&mut desk.desk)?;
+        begin_day(&mut desk.desk, false)?;
         Ok(desk)
     }
 
@@ -240,6 +241,13 @@ impl TestDesk {
             Err(_) => Err(Fail::from("nothing was read")),
         }
     }
+}
+
+/// A desk of three banks, without a day as yet, follows this script.
+pub fn follows_before_a_day(alloc: Global, script: &str) -> Result<(), Fail> {
+    let mut desk = TestDesk::new(alloc, usize::MAX, Trouble::Lost)?;
+    add_banks(&mut desk.desk)?;
+    desk.follow(script)
 }
 
 /// A desk of three banks on a Monday follows this script.

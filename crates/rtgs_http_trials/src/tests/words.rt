@@ -26,7 +26,10 @@ fn command_words(alloc: Global, command: &Command) -> Result<String, AllocError>
             reference,
             cents,
         } => format!(in alloc; "post {code} {reference} {cents}"),
-        Command::OpenDay(date) => format!(in alloc; "open {date}"),
+        Command::OpenDay { date, automatic } => {
+            let choice = if *automatic { " automatic" } else { "" };
+            format!(in alloc; "open {date}{choice}")
+        }
         Command::Order {
             sender,
             reference,

@@ -41,8 +41,7 @@ fn refuse_the_last_in<S: Store>(
     for reply in listed.replies.as_slice() {
         left = left.saturating_sub(1);
         let is_right = match reply {
-            Ok(Answer::Repeated(_)) => false,
-            Ok(_) => left > 0,
+            Ok(answer) => left > 0 && !matches!(answer.own, Answer::Repeated(_)),
             Err(other) => left == 0 && other == refusal,
         };
         if !is_right {
@@ -279,5 +278,45 @@ fn five_hundred_held_orders_enter_one_queue(rt: HostRuntime) -> Result<(), Fail>
     let mut script = String::from_str(rt.alloc(), TWO_BANKS_OPEN)?;
     add_waiting(&mut script, 0, 500)?;
     script.push_str(ALL_ENTER)?;
+    follow::<InMemory, OnDisks>(rt.alloc(), script)
+}
+
+const TWO_BANKS_AUTOMATIC: &str = "\
+add BANK1 00000000000000000000000000000001 => Ok(Added)
+add BANK2 00000000000000000000000000000002 => Ok(Added)
+open 2024-03-04 automatic => Ok(Opened)
+";
+
+// One posting frees a whole queue, and the next order settles at once.
+const ALL_SETTLE: &str = "\
+order BANK1 B-1 BANK2 5 => Err(QueueFull)
+post BANK1 P-1 2500 => Ok(Posted { number: 1 }) auto 1 500 2500
+post BANK1 P-2 5 => Ok(Posted { number: 2 })
+order BANK1 B-1 BANK2 5 => Ok(Settled { number: 501, mark: 2 })
+order BANK1 A-500 BANK2 5 => Ok(Repeated(Order { number: 500, state: Settled(1) }))";
+
+#[test]
+fn five_hundred_orders_settle_behind_one_posting(rt: HostRuntime) -> Result<(), Fail> {
+    let mut script = String::from_str(rt.alloc(), TWO_BANKS_AUTOMATIC)?;
+    add_waiting(&mut script, 500, 0)?;
+    script.push_str(ALL_SETTLE)?;
+    follow::<InMemory, OnDisks>(rt.alloc(), script)
+}
+
+// As many held orders as there may be enter their queue as an automatic day is opened, and all but one settle then.
+const ALL_ENTER_AND_SETTLE: &str = "\
+cutoff 2024-03-04 => Ok(CutOffDone)
+close 2024-03-04 => Ok(Closed { rejected: 0 })
+post BANK1 P-1 2499 => Ok(Posted { number: 1 })
+open 2024-03-05 automatic => Ok(Opened) auto 1 499 2495
+order BANK1 B-1 BANK2 4 => Ok(Queued { number: 501, place: 2 })
+withdraw BANK1 A-500 => Ok(Withdrawn { number: 500 }) auto 2 1 4
+resolve => Ok(Nothing)";
+
+#[test]
+fn five_hundred_held_orders_settle_at_an_opening(rt: HostRuntime) -> Result<(), Fail> {
+    let mut script = String::from_str(rt.alloc(), TWO_BANKS_OPEN)?;
+    add_waiting(&mut script, 0, 500)?;
+    script.push_str(ALL_ENTER_AND_SETTLE)?;
     follow::<InMemory, OnDisks>(rt.alloc(), script)
 }

@@ -3,7 +3,7 @@ ghost use Rattle.std.specs.Prelude.{◌<◌, ◌≤◌};
 
 use rtgs_book::{Answer, Command, Refusal};
 use rtgs_money::BusinessDate;
-use rtgs_tests_desks::command;
+use rtgs_tests_desks::{Reply, command};
 use std::alloc::Global;
 use std::test::Fail;
 
@@ -15,7 +15,8 @@ pub const DAYS: [u32; 24] = [
 ];
 
 /// Gives commands in an order that is the same for each seed. Codes, references and amounts are few, so that commands
-/// come twice, are at odds with each other, and lack cover.
+/// come twice, are at odds with each other, and lack cover. Orders are paid back and taken back, and limits are set for
+/// the last sender, so that each kind of command comes to free orders that wait.
 #[derive(Drop)]
 pub struct Business {
     alloc: Global,
@@ -23,6 +24,9 @@ pub struct Business {
     // the day that was opened last, and the one that was asked for last, as places among the days
     today: u64,
     asked: u64,
+    // whether the day that is in progress is automatic, and whether the one that was asked for last is to be
+    automatic: bool,
+    chosen: bool,
     // the last order: its sender, the number in its reference, its receiver, its cents, and the place of its due date
     // among the days, if it has one
     sender: u64,
@@ -30,7 +34,13 @@ pub struct Business {
     receiver: u64,
     cents: u64,
     due: Option<u64>,
+    // the senders of the last orders and the numbers in their references, and how many orders there were
+    sent: [(u64, u64); KEPT],
+    count: u64,
 }
+
+/// How many of the last orders may be taken back.
+const KEPT: usize = 8;
 
 /// How many codes there are: BANK0 and those after it.
 pub const CODES: u64 = 12;
@@ -55,11 +65,15 @@ impl Business {
             state: seed,
             today: 0,
             asked: 0,
+            automatic: false,
+            chosen: false,
             sender: 0,
             number: 0,
             receiver: 1,
             cents: 1,
             due: None,
+            sent: [(0, 0); KEPT],
+            count: 0,
         }
     }
 
@@ -68,7 +82,11 @@ impl Business {
         match self.below(32) {
             5 | 6 => {
                 self.asked = self.today.wrapping_add(self.below(3));
-                Ok(Command::OpenDay(day_at(self.asked)?))
+                self.chosen = self.below(2) == 1;
+                Ok(Command::OpenDay {
+                    date: day_at(self.asked)?,
+                    automatic: self.chosen,
+                })
             }
             9 | 10 => Ok(Command::Resolve),
             11 if self.below(8) == 0 => Ok(Command::CutOff(self.day()?)),
@@ -79,35 +97,75 @@ impl Business {
 
     // The words of a command of this kind, which names participants.
     fn words(&mut self, kind: u64) -> Result<String, Fail> {
-        if matches!(kind, 7 | 8) {
-            // of the last order
-            return Ok(format!(in self.alloc; "withdraw BANK{} R-{}", self.sender, self.number)?);
-        }
-        if kind == 15 {
-            if self.below(4) == 0 {
-                self.due = self.due_place();
+        match kind {
+            7 | 8 => return self.takes_back(),
+            15 => {
+                if self.below(4) == 0 {
+                    self.due = self.due_place();
+                }
+                return self.order();
             }
-            return self.order();
+            16 => return self.pays_back(),
+            _ => {}
         }
         let code = self.below(CODES);
         let words = match kind {
             0 => format!(in self.alloc; "add BANK{code} {:032}", self.below(11)),
-            1 => format!(in self.alloc; "credit BANK{code} {}", self.below(400)),
+            1 => {
+                let code = if self.below(2) == 0 {
+                    self.sender
+                } else {
+                    code
+                };
+                format!(in self.alloc; "credit BANK{code} {}", self.below(400))
+            }
             2 | 3 | 4 => {
                 let (number, size) = (self.below(POSTINGS), self.below(1_500) + 1);
                 let word = if self.below(4) == 0 { "debit" } else { "post" };
                 format!(in self.alloc; "{word} BANK{code} P-{number} {size}")
             }
-            _ => {
-                self.sender = code;
-                self.number = self.below(ORDERS);
-                self.receiver = self.below(CODES);
-                self.cents = self.below(900) + 1;
-                self.due = self.due_place();
-                return self.order();
-            }
+            _ => return self.new_order(code),
         };
         Ok(words?)
+    }
+
+    // The words that take one of the last orders back.
+    fn takes_back(&mut self) -> Result<String, Fail> {
+        let place = self.below(KEPT as u64) as usize % KEPT;
+        let (sender, number) = self.sent[place];
+        Ok(format!(in self.alloc; "withdraw BANK{sender} R-{number}")?)
+    }
+
+    // The words of an order by which the last receiver pays the same amount back.
+    fn pays_back(&mut self) -> Result<String, Fail> {
+        let sender = self.receiver;
+        self.receiver = self.sender;
+        self.sender = sender;
+        self.number = self.below(ORDERS);
+        self.due = None;
+        self.note();
+        self.order()
+    }
+
+    // The words of a new order of this sender. One in eight is of more than anybody has.
+    fn new_order(&mut self, sender: u64) -> Result<String, Fail> {
+        self.sender = sender;
+        self.number = self.below(ORDERS);
+        self.receiver = self.below(CODES);
+        let cents = self.below(900) + 1;
+        let more = if self.below(8) == 0 { 9_000 } else { 0 };
+        self.cents = cents.saturating_add(more);
+        self.due = self.due_place();
+        self.note();
+        self.order()
+    }
+
+    // Counts the last order among those that may be taken back.
+    fn note(&mut self) {
+        let place = self.count as usize % KEPT;
+        let last = (self.sender, self.number);
+        self.sent[place] = last;
+        self.count = self.count.wrapping_add(1);
     }
 
     // The words of the last order.
@@ -137,10 +195,31 @@ impl Business {
         }
     }
 
-    /// Takes notice of a day that was opened.
-    pub fn hear(&mut self, reply: &Result<Answer, Refusal>) {
-        if let Ok(Answer::Opened) = reply {
-            self.today = self.asked;
+    /// Takes notice of a day that was opened or closed.
+    pub fn hear(&mut self, reply: &Reply) {
+        let Ok(answer) = reply else {
+            return;
+        };
+        match answer.own {
+            Answer::Opened => {
+                self.today = self.asked;
+                self.automatic = self.chosen;
+            }
+            Answer::Closed { .. } => self.automatic = false,
+            _ => {}
+        }
+    }
+
+    /// Whether a reply that was heard goes with the day. On an automatic day nothing is left for those who ask, and on
+    /// another one nothing is resolved unasked.
+    pub fn is_of_the_day(&self, reply: &Reply) -> bool {
+        match reply {
+            Ok(answer) => match answer.own {
+                Answer::Resolved { .. } => !self.automatic,
+                _ => self.automatic || answer.auto.is_none(),
+            },
+            Err(Refusal::Resolvable) => !self.automatic,
+            Err(_) => true,
         }
     }
 

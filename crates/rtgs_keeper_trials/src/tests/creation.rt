@@ -41,7 +41,7 @@ fn makings<M: Store, S: Store>(alloc: Global, disk: Failing) -> Result<(usize, u
 fn a_desk_is_made_whole_or_not_at_all(rt: HostRuntime) -> Result<(), Fail> {
     let log = makings::<InMemory, OnDisks>(rt.alloc(), Failing::Log)?;
     let db = makings::<InMemory, OnDisks>(rt.alloc(), Failing::Database)?;
-    if log == (53, 30) && db == (27, 13) {
+    if log == (55, 32) && db == (28, 14) {
         Ok(())
     } else {
         Err(Fail::from(format!(in rt.alloc(); "{log:?} of the log, {db:?} of the file")?))

@@ -20,7 +20,7 @@ Ok(Repeated(Order { number: 1, state: Held }))",
 
 #[test]
 fn a_held_order_is_found_with_its_due_date_or_not_at_all(rt: HostRuntime) -> Result<(), Fail> {
-    meets(rt.alloc(), &HELD_ORDER, [48, 48, 3])
+    meets(rt.alloc(), &HELD_ORDER, [48, 51, 3])
 }
 
 // A day is opened on which nothing is due.
@@ -41,7 +41,7 @@ close 2024-03-04 => Ok(Closed { rejected: 0 })",
 
 #[test]
 fn a_day_is_found_open_or_closed(rt: HostRuntime) -> Result<(), Fail> {
-    meets(rt.alloc(), &NONE_ENTERS, [44, 46, 2])
+    meets(rt.alloc(), &NONE_ENTERS, [46, 50, 2])
 }
 
 const ONE_ENTERS: Trial = Trial {
@@ -57,7 +57,7 @@ const ONE_ENTERS: Trial = Trial {
 
 #[test]
 fn a_day_is_found_open_with_the_order_that_is_due(rt: HostRuntime) -> Result<(), Fail> {
-    meets(rt.alloc(), &ONE_ENTERS, [46, 47, 2])
+    meets(rt.alloc(), &ONE_ENTERS, [48, 51, 2])
 }
 
 // Three orders are due, of which one was due before. One was taken back, and one stays.
@@ -83,7 +83,7 @@ close 2024-03-04 => Ok(Closed { rejected: 0 })",
 
 #[test]
 fn a_day_is_found_open_with_all_that_is_due(rt: HostRuntime) -> Result<(), Fail> {
-    meets(rt.alloc(), &THREE_ENTER, [46, 47, 2])
+    meets(rt.alloc(), &THREE_ENTER, [48, 51, 2])
 }
 
 // As many orders of one sender are due as there may be.
@@ -100,5 +100,5 @@ const A_WHOLE_QUEUE_ENTERS: Trial = Trial {
 
 #[test]
 fn a_day_is_found_open_with_a_whole_queue(rt: HostRuntime) -> Result<(), Fail> {
-    meets(rt.alloc(), &A_WHOLE_QUEUE_ENTERS, [54, 75, 2])
+    meets(rt.alloc(), &A_WHOLE_QUEUE_ENTERS, [56, 79, 2])
 }

@@ -1,5 +1,5 @@
-//! Tables of the first version that are made those of the newest, at each call of their disks that fails, and what is
-//! found of them after a crash.
+//! Tables of each earlier version that are made those of the newest, at each call of their disks that fails, and what
+//! is found of them after a crash.
 ghost use Rattle.std.specs.Prelude.{◌≡◌, false};
 
 use super::disks::OnDisks;
@@ -14,9 +14,18 @@ use sqlite::{Alter, Connection};
 use std::alloc::Global;
 use std::test::Fail;
 
-/// Two days, with an order in each state: rejected, settled, queued and withdrawn.
-const BOOK: Trial = Trial {
-    before: "\
+/// A book in tables of an earlier version.
+#[derive(Clone, Copy)]
+struct Older {
+    book: Trial,
+    /// Makes tables of the newest version those of this one.
+    ages: &'static str,
+}
+
+/// Two days, with an order in each state that the first version has: rejected, settled, queued and withdrawn.
+const FIRST: Older = Older {
+    book: Trial {
+        before: "\
 open 2024-03-01 => Ok(Opened)
 order GAMA G-1 ALFA 5 => Ok(Queued { number: 1, place: 1 })
 cutoff 2024-03-01 => Ok(CutOffDone)
@@ -29,22 +38,52 @@ order ALFA A-2 GAMA 90 => Ok(Queued { number: 3, place: 1 })
 order ALFA A-3 BETA 1 => Ok(Queued { number: 4, place: 2 })
 order BETA B-1 GAMA 141 => Ok(Queued { number: 5, place: 1 })
 withdraw ALFA A-3 => Ok(Withdrawn { number: 4 })",
-    held: 0,
-    rows: "",
-    is_batch: false,
-    standings: "",
-    is_closed: true,
+        held: 0,
+        rows: "",
+        is_batch: false,
+        standings: "",
+        is_closed: true,
+    },
+    ages: "DROP TABLE resolution; DROP TABLE forward; UPDATE desk SET version = 1",
 };
 
-/// The days of this book.
-const DAYS: [&str; 2] = ["2024-03-01", "2024-03-04"];
+/// The same with orders that have due dates: one has entered its queue and settled, one was taken back, and one is
+/// held.
+const SECOND: Older = Older {
+    book: Trial {
+        before: "\
+open 2024-03-01 => Ok(Opened)
+order GAMA G-1 ALFA 5 => Ok(Queued { number: 1, place: 1 })
+order ALFA A-1 BETA 7 due 2024-03-04 => Ok(Held { number: 2, due: BusinessDate { number: 20240304 } })
+order ALFA A-2 BETA 9 due 2024-03-06 => Ok(Held { number: 3, due: BusinessDate { number: 20240306 } })
+order ALFA A-3 BETA 8 due 2024-03-06 => Ok(Held { number: 4, due: BusinessDate { number: 20240306 } })
+cutoff 2024-03-01 => Ok(CutOffDone)
+close 2024-03-01 => Ok(Closed { rejected: 1 })
+post ALFA P-1 150 => Ok(Posted { number: 1 })
+credit BETA 40 => Ok(CreditSet)
+open 2024-03-04 => Ok(Opened)
+order ALFA A-4 BETA 100 => Ok(Queued { number: 5, place: 2 })
+resolve => Ok(Resolved { mark: 1, count: 2, value: Cents(107) })
+order ALFA A-5 GAMA 90 => Ok(Queued { number: 6, place: 1 })
+order BETA B-1 GAMA 148 => Ok(Queued { number: 7, place: 1 })
+withdraw ALFA A-2 => Ok(Withdrawn { number: 3 })",
+        held: 0,
+        rows: "",
+        is_batch: false,
+        standings: "",
+        is_closed: true,
+    },
+    ages: "DROP TABLE resolution; UPDATE desk SET version = 2",
+};
 
-/// Makes tables of the newest version those of the first.
-const OLDER: &str = "DROP TABLE forward; UPDATE desk SET version = 1";
+/// The days of these books.
+const DAYS: [&str; 3] = ["2024-03-01", "2024-03-04", "2024-03-06"];
 
-/// The tables are made those of the first version by hand, since no desk makes such tables.
+/// The tables are made those of an earlier version by hand, since no desk makes such tables.
 #[derive(Clone, Copy)]
-struct Ages;
+struct Ages {
+    sql: &'static str,
+}
 
 impl Task for Ages {
     fn done<S: Alter + Drop>(
@@ -53,7 +92,7 @@ impl Task for Ages {
         conn: Connection<S>,
     ) -> Result<(Connection<S>, Ended), Fail> {
         let mut conn = conn;
-        conn.execute_batch(OLDER)?;
+        conn.execute_batch(self.sql)?;
         Ok((conn, Ended::Closed))
     }
 }
@@ -109,7 +148,8 @@ impl Task for Looks {
         let tables = conn.schema().tables.len();
         let first = read_as(alloc, &mut conn, 1)?;
         let second = read_as(alloc, &mut conn, 2)?;
-        self.shown = Some(format!(in alloc; "{tables} tables: {first}, {second}")?);
+        let third = read_as(alloc, &mut conn, 3)?;
+        self.shown = Some(format!(in alloc; "{tables} tables: {first}, {second}, {third}")?);
         Ok((conn, Ended::Stopped))
     }
 }
@@ -146,10 +186,13 @@ fn told_in<S: OverTables>(alloc: Global, store: &mut S) -> Result<String, Fail> 
     Ok(tells.told.ok_or("nothing is told")?)
 }
 
-// Makes the store new, with the book in tables of the first version.
-fn begin_older<S: OverTables>(alloc: Global, store: &mut S) -> Result<(), Fail> {
-    begin(alloc, store, &BOOK)?;
-    if matches!(store.tables(alloc, &mut Ages)?, Ended::Closed) {
+// Makes the store new, with the book in tables of the earlier version.
+fn begin_older<S: OverTables>(alloc: Global, store: &mut S, older: &Older) -> Result<(), Fail> {
+    begin(alloc, store, &older.book)?;
+    if matches!(
+        store.tables(alloc, &mut Ages { sql: older.ages })?,
+        Ended::Closed
+    ) {
         Ok(())
     } else {
         Err(Fail::new("not closed"))
@@ -159,7 +202,7 @@ fn begin_older<S: OverTables>(alloc: Global, store: &mut S) -> Result<(), Fail> 
 /// What is known of the book.
 #[derive(Drop)]
 struct Known {
-    /// What its tables show while they are of the first version, and what those show that a desk makes today.
+    /// What its tables show while they are of the earlier version, and what those show that a desk makes today.
     older: String,
     newest: String,
     /// What a desk tells of it.
@@ -168,11 +211,11 @@ struct Known {
 
 impl Known {
     // In a store that does not fail.
-    fn of<S: OverTables>(alloc: Global, store: &mut S) -> Result<Known, Fail> {
-        begin(alloc, store, &BOOK)?;
+    fn of<S: OverTables>(alloc: Global, store: &mut S, older: &Older) -> Result<Known, Fail> {
+        begin(alloc, store, &older.book)?;
         let newest = shown_in(alloc, store)?;
         let told = told_in(alloc, store)?;
-        begin_older(alloc, store)?;
+        begin_older(alloc, store, older)?;
         Ok(Known {
             older: shown_in(alloc, store)?,
             newest,
@@ -224,15 +267,20 @@ fn goes_with(answer: Option<Result<bool, Fault>>, is_newest: bool) -> bool {
     }
 }
 
-// Makes a book of the first version one of the newest, for as many calls that go well as it takes until no failure is
+// Makes a book of an earlier version one of the newest, for as many calls that go well as it takes until no failure is
 // met: how many that are, and in how many of the runs before the tables were of the newest version after a crash. In
-// each they were whole, of that version or the first.
-fn migrations<S: OverTables>(alloc: Global, failing: Failing) -> Result<(usize, usize), Fail> {
-    let mut store = S::blank(alloc);
-    let known = Known::of(alloc, &mut store)?;
+// each they were whole, of that version or the earlier one.
+fn migrations<S: OverTables>(
+    alloc: Global,
+    older: &Older,
+    failing: Failing,
+) -> Result<(usize, usize), Fail> {
+    let mut begun = S::blank(alloc);
+    let known = Known::of(alloc, &mut begun, older)?;
+    begin_older(alloc, &mut begun, older)?;
     let mut migrated = 0usize;
     for calls in 0..1000 {
-        begin_older(alloc, &mut store)?;
+        let mut store = begun.copied(alloc)?.ok_or("no copy")?;
         store.fail(alloc, failing, calls)?;
         let mut tried = Migrates { answer: None };
         let ended = store.tables(alloc, &mut tried)?;
@@ -252,13 +300,33 @@ fn migrations<S: OverTables>(alloc: Global, failing: Failing) -> Result<(usize, 
     Err(Fail::new("each run failed"))
 }
 
-#[test]
-fn a_book_is_migrated_whole_or_not_at_all(rt: HostRuntime) -> Result<(), Fail> {
-    let log = migrations::<OnDisks>(rt.alloc(), Failing::Log)?;
-    let db = migrations::<OnDisks>(rt.alloc(), Failing::Database)?;
-    if log == (48, 14) && db == (48, 5) {
+// Fails unless a failure of the log is met in so many runs, of which so many leave the newest version, and one of the
+// database file in so many.
+fn is_migrated(
+    alloc: Global,
+    older: &Older,
+    of_log: (usize, usize),
+    of_file: (usize, usize),
+) -> Result<(), Fail> {
+    let log = migrations::<OnDisks>(alloc, older, Failing::Log)?;
+    let db = migrations::<OnDisks>(alloc, older, Failing::Database)?;
+    if log == of_log && db == of_file {
         Ok(())
     } else {
-        Err(Fail::from(format!(in rt.alloc(); "{log:?} of the log, {db:?} of the file")?))
+        Err(Fail::from(format!(in alloc; "{log:?} of the log, {db:?} of the file")?))
     }
+}
+
+#[test]
+fn a_book_of_the_first_version_is_migrated_whole_or_not_at_all(
+    rt: HostRuntime,
+) -> Result<(), Fail> {
+    is_migrated(rt.alloc(), &FIRST, (50, 16), (50, 6))
+}
+
+#[test]
+fn a_book_of_the_second_version_is_migrated_whole_or_not_at_all(
+    rt: HostRuntime,
+) -> Result<(), Fail> {
+    is_migrated(rt.alloc(), &SECOND, (48, 14), (51, 5))
 }

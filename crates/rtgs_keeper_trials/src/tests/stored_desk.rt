@@ -15,7 +15,7 @@ ghost use Rattle.rtgs_stored_desk.specs.Stored.{AreTablesOf};
 
 use super::found::standings;
 use rtgs_book::laws::new_book_is_sound;
-use rtgs_book::{Answer, Command, Fault};
+use rtgs_book::{Answer, Command, Fault, Resolution, WholeAnswer};
 use rtgs_desk::Desk;
 use rtgs_keeper::Keeper;
 use rtgs_repeats::laws::life_is_a_run;
@@ -182,8 +182,14 @@ fn lived_twice_in_memory(
 fn ends_so<K: Keeper + Drop>(
     lived: Result<(Vec<Reply>, Vec<Reply>, Desk<K>), Fail>,
 ) -> Result<(), Fail> {
+    // Names the type of resolutions for the borrow checker, which finds it nowhere else in this function.
+    let _none: Option<Resolution> = None;
     let (replies, others, desk) = lived?;
-    let are_posted = matches!(others.as_slice(), [Ok(Answer::Posted { number: 2 })]);
+    let posted: Reply = Ok(WholeAnswer {
+        own: Answer::Posted { number: 2 },
+        auto: None,
+    });
+    let are_posted = others.as_slice() == [posted].as_slice();
     let are_standing = standings(&desk)? == [(1000, 0), (5, 0), (0, 0)];
     if replies.len() == 4 && are_posted && are_standing {
         Ok(())

@@ -8,8 +8,8 @@ ghost use Rattle.rtgs_cores.specs.Cores.{IsCoreOf};
 ghost use Rattle.rtgs_accounts.specs.Accounts.{code_of};
 ghost use Rattle.rtgs_ledger.specs.Closing.{IsClosable};
 ghost use Rattle.rtgs_records.specs.Held.{HasRoom};
-ghost use Rattle.rtgs_ledger.specs.Kept.{IsPrepared, IsCommandRefused};
-ghost use Rattle.rtgs_ledger.specs.Kinds.{CanAnswer, is_of_the_store};
+ghost use Rattle.rtgs_ledger.specs.Kept.{IsPreparedByItself, IsRefusedByItself};
+ghost use Rattle.rtgs_ledger.specs.Kinds.{CanAnswerByItself, is_of_the_store};
 
 use super::Ledger;
 use rtgs_book::{
@@ -29,12 +29,13 @@ impl Ledger {
     ) -> Result<(Answer, Change), Refusal>
         ensures core { self.new.core ≡ self.old.core }
         ensures room { IfOk result (λ (answer, change). HasRoom self.new change) }
-        ensures answered { IfOk result (λ (answer, change). CanAnswer (Command.CloseDay date) answer change) }
+        ensures answered { IfOk result (λ (answer, change). CanAnswerByItself (Command.CloseDay date) answer change) }
         ensures of_the_command { IfErr result (λ refusal. is_of_the_store refusal ≡ false) }
         ensures prepared { (book : Book) → IsCoreOf book self.old.core
-            → IfOk result (λ (answer, change). IsPrepared book self.old.core (Command.CloseDay date) answer change) }
+            → IfOk result (λ (answer, change). IsPreparedByItself book self.old.core (Command.CloseDay date) answer
+            change) }
         ensures refused { (book : Book) → IsCoreOf book self.old.core
-            → IfErr result (IsCommandRefused book (Command.CloseDay date)) }
+            → IfErr result (IsRefusedByItself book (Command.CloseDay date)) }
     {
         laws::greatest_exists();
         chosen_numbers();
@@ -61,12 +62,13 @@ impl Ledger {
     fn prepare_closing(&mut self, date: BusinessDate) -> Result<(Answer, Change), Refusal>
         ensures core { self.new.core ≡ self.old.core }
         ensures room { IfOk result (λ (answer, change). HasRoom self.new change) }
-        ensures answered { IfOk result (λ (answer, change). CanAnswer (Command.CloseDay date) answer change) }
+        ensures answered { IfOk result (λ (answer, change). CanAnswerByItself (Command.CloseDay date) answer change) }
         ensures of_the_command { IfErr result (λ refusal. is_of_the_store refusal ≡ false) }
         ensures prepared { (book : Book) → IsCoreOf book self.old.core → IsClosable book date
-            → IfOk result (λ (answer, change). IsPrepared book self.old.core (Command.CloseDay date) answer change) }
+            → IfOk result (λ (answer, change). IsPreparedByItself book self.old.core (Command.CloseDay date) answer
+            change) }
         ensures refused { (book : Book) → IsCoreOf book self.old.core → IsClosable book date
-            → IfErr result (IsCommandRefused book (Command.CloseDay date)) }
+            → IfErr result (IsRefusedByItself book (Command.CloseDay date)) }
     {
         if let Some(account) = self.records.accounts.first_overdrawn() {
             return Err(Refusal::Overdrawn {
@@ -80,6 +82,7 @@ impl Ledger {
         let numbers = self.queued_numbers()?;
         let day = Day {
             phase: Phase::Closed,
+            automatic: false,
             ..self.records.day
         };
         let rows = closing_rows(self.alloc, numbers.as_slice(), day)?;

@@ -5,8 +5,9 @@ ghost use Rattle.rtgs_book.specs.Commands.{is_due};
 ghost use Rattle.rtgs_book.specs.declared.book.Book.{Book};
 ghost use Rattle.rtgs_cores.specs.Cores.{IsCoreOf};
 ghost use Rattle.rtgs_records.specs.Held.{HasRoom};
-ghost use Rattle.rtgs_ledger.specs.Kept.{IsPrepared, IsCommandRefused};
-ghost use Rattle.rtgs_ledger.specs.Kinds.{CanAnswer, is_of_the_store};
+ghost use Rattle.rtgs_ledger.specs.Following.{FreesOrders};
+ghost use Rattle.rtgs_ledger.specs.Kept.{IsPreparedByItself, IsRefusedByItself};
+ghost use Rattle.rtgs_ledger.specs.Kinds.{CanAnswerByItself, is_of_the_store};
 
 use super::Ledger;
 use rtgs_book::{
@@ -22,18 +23,21 @@ impl Ledger {
     pub(super) fn prepare_open_day(
         &mut self,
         date: BusinessDate,
+        automatic: bool,
     ) -> Result<(Answer, Change), Refusal>
         ensures core { self.new.core ≡ self.old.core }
         ensures room { IfOk result (λ (answer, change). HasRoom self.new change) }
-        ensures answered { IfOk result (λ (answer, change). CanAnswer (Command.OpenDay date) answer change) }
+        ensures frees { IfOk result (λ (answer, change). FreesOrders change) }
+        ensures answered { IfOk result (λ (answer, change). CanAnswerByItself (Command.OpenDay date automatic) answer
+            change) }
         ensures of_the_command { IfErr result (λ refusal. is_of_the_store refusal ≡ false) }
         ensures prepared { (book : Book) → IsCoreOf book self.old.core
-            → IfOk result (λ (answer, change). IsPrepared book self.old.core
-            (Command.OpenDay date) answer change) }
+            → IfOk result (λ (answer, change). IsPreparedByItself book self.old.core
+            (Command.OpenDay date automatic) answer change) }
         ensures refused { (book : Book) → IsCoreOf book self.old.core
-            → IfErr result (IsCommandRefused book (Command.OpenDay date)) }
+            → IfErr result (IsRefusedByItself book (Command.OpenDay date automatic)) }
     {
-        if self.records.is_open_on(date) {
+        if self.records.is_open_on(date, automatic) {
             return Ok(self.repeated(Known::Nothing));
         }
         if !self.records.is_closed() {
@@ -48,6 +52,7 @@ impl Ledger {
         let day = Day {
             date: Some(date),
             phase: Phase::Open,
+            automatic,
         };
         numbers_lead_to_orders();
         laws::balance_after_entering();

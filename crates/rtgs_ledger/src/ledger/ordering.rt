@@ -15,8 +15,9 @@ ghost use Rattle.rtgs_book.specs.declared.book.Book.{Book};
 ghost use Rattle.rtgs_book.specs.Lookup.{order_named};
 ghost use Rattle.rtgs_cores.specs.Cores.{IsCoreOf};
 ghost use Rattle.rtgs_records.specs.Held.{HasRoom};
-ghost use Rattle.rtgs_ledger.specs.Kept.{IsPrepared, IsCommandRefused};
-ghost use Rattle.rtgs_ledger.specs.Kinds.{CanAnswer, is_of_the_store};
+ghost use Rattle.rtgs_ledger.specs.Following.{FreesOrders};
+ghost use Rattle.rtgs_ledger.specs.Kept.{IsPreparedByItself, IsRefusedByItself};
+ghost use Rattle.rtgs_ledger.specs.Kinds.{CanAnswerByItself, is_of_the_store};
 ghost use Rattle.rtgs_ledger.specs.Ordering.{IsTaken, IsDueRefused, is_too_early, waiting_answer};
 
 use super::Ledger;
@@ -43,14 +44,15 @@ impl Ledger {
     ) -> Result<(Answer, Change), Refusal>
         ensures core { self.new.core ≡ self.old.core }
         ensures room { IfOk result (λ (answer, change). HasRoom self.new change) }
-        ensures answered { IfOk result (λ (answer, change). CanAnswer
+        ensures frees { IfOk result (λ (answer, change). FreesOrders change) }
+        ensures answered { IfOk result (λ (answer, change). CanAnswerByItself
             (Command.Order sender reference receiver amount due) answer change) }
         ensures of_the_command { IfErr result (λ refusal. is_of_the_store refusal ≡ false) }
         ensures prepared { (book : Book) → IsCoreOf book self.old.core → found ≡ order_named book sender reference
-            → IfOk result (λ (answer, change). IsPrepared book self.old.core
+            → IfOk result (λ (answer, change). IsPreparedByItself book self.old.core
             (Command.Order sender reference receiver amount due) answer change) }
         ensures refused { (book : Book) → IsCoreOf book self.old.core → found ≡ order_named book sender reference
-            → IfErr result (IsCommandRefused book (Command.Order sender reference receiver amount due)) }
+            → IfErr result (IsRefusedByItself book (Command.Order sender reference receiver amount due)) }
     {
         queues_are_of_the_waiting();
         let Some(debtor) = self.records.accounts.get(&sender) else {
@@ -102,7 +104,8 @@ impl Ledger {
         requires few { self.old.core.next_order ≤ LARGEST_NUMBER }
         ensures core { self.new.core ≡ self.old.core }
         ensures room { IfOk result (λ (answer, change). HasRoom self.new change) }
-        ensures answered { IfOk result (λ (answer, change). CanAnswer
+        ensures frees { IfOk result (λ (answer, change). FreesOrders change) }
+        ensures answered { IfOk result (λ (answer, change). CanAnswerByItself
             (Command.Order order.now.sender order.now.reference order.now.receiver order.now.amount order.now.due)
             answer change) }
         ensures of_the_command { IfErr result (λ refusal. is_of_the_store refusal ≡ false) }
@@ -110,7 +113,7 @@ impl Ledger {
             → order.now.due ≡ None → settles_at_once book order.now.sender order.now.amount ≡ true
             → find (is_of order.now.sender) self.old.core.accounts ≡ Some debtor.now
             → find (is_of order.now.receiver) self.old.core.accounts ≡ Some creditor.now
-            → IfOk result (λ (answer, change). IsPrepared book self.old.core
+            → IfOk result (λ (answer, change). IsPreparedByItself book self.old.core
             (Command.Order order.now.sender order.now.reference order.now.receiver order.now.amount order.now.due)
             answer change) }
         ensures refused { (book : Book) → IsCoreOf book self.old.core
@@ -137,11 +140,12 @@ impl Ledger {
         requires few { self.old.core.next_order ≤ LARGEST_NUMBER }
         ensures core { self.new.core ≡ self.old.core }
         ensures room { IfOk result (λ (answer, change). HasRoom self.new change) }
-        ensures answered { IfOk result (λ (answer, change). CanAnswer
+        ensures frees { IfOk result (λ (answer, change). FreesOrders change) }
+        ensures answered { IfOk result (λ (answer, change). CanAnswerByItself
             (Command.Order order.sender order.reference order.receiver order.amount order.due) answer change) }
         ensures prepared { (book : Book) → IsCoreOf book self.old.core → IsTaken book order
             → settles_now book order.sender order.amount order.due ≡ false
-            → IfOk result (λ (answer, change). IsPrepared book self.old.core
+            → IfOk result (λ (answer, change). IsPreparedByItself book self.old.core
             (Command.Order order.sender order.reference order.receiver order.amount order.due) answer change) }
         ensures refused { IfErr result (λ refusal. refusal ≡ Refusal.OutOfMemory) }
     {

@@ -4,8 +4,9 @@ ghost use Rattle.rtgs_book.specs.declared.book.Book.{Book};
 ghost use Rattle.rtgs_book.specs.Lookup.{posting_named};
 ghost use Rattle.rtgs_cores.specs.Cores.{IsCoreOf};
 ghost use Rattle.rtgs_records.specs.Held.{HasRoom};
-ghost use Rattle.rtgs_ledger.specs.Kept.{IsPrepared, IsCommandRefused};
-ghost use Rattle.rtgs_ledger.specs.Kinds.{CanAnswer, is_of_the_store};
+ghost use Rattle.rtgs_ledger.specs.Following.{FreesOrders};
+ghost use Rattle.rtgs_ledger.specs.Kept.{IsPreparedByItself, IsRefusedByItself};
+ghost use Rattle.rtgs_ledger.specs.Kinds.{CanAnswerByItself, is_of_the_store};
 
 use super::Ledger;
 use rtgs_accounts::sums::moved;
@@ -25,14 +26,15 @@ impl Ledger {
     ) -> Result<(Answer, Change), Refusal>
         ensures core { self.new.core ≡ self.old.core }
         ensures room { IfOk result (λ (answer, change). HasRoom self.new change) }
-        ensures answered { IfOk result (λ (answer, change). CanAnswer
+        ensures frees { IfOk result (λ (answer, change). FreesOrders change) }
+        ensures answered { IfOk result (λ (answer, change). CanAnswerByItself
             (Command.Post code reference cents) answer change) }
         ensures of_the_command { IfErr result (λ refusal. is_of_the_store refusal ≡ false) }
         ensures prepared { (book : Book) → IsCoreOf book self.old.core → found ≡ posting_named book reference
-            → IfOk result (λ (answer, change). IsPrepared book self.old.core
+            → IfOk result (λ (answer, change). IsPreparedByItself book self.old.core
             (Command.Post code reference cents) answer change) }
         ensures refused { (book : Book) → IsCoreOf book self.old.core → found ≡ posting_named book reference
-            → IfErr result (IsCommandRefused book (Command.Post code reference cents)) }
+            → IfErr result (IsRefusedByItself book (Command.Post code reference cents)) }
     {
         let Some(account) = self.records.accounts.get(&code) else {
             return Err(Refusal::UnknownParticipant);

@@ -1,24 +1,28 @@
 //! Resolving a gridlock.
-ghost use Rattle.std.specs.Prelude.{◌≡◌, ◌≤◌, List, map, length, Some, IfOk, IfErr, false};
+ghost use Rattle.std.specs.Prelude.{◌≡◌, ◌≤◌, ◌↔◌, List, map, length, Some, IfOk, IfErr, IsTrue, false};
 ghost use Rattle.std.specs.List.{AllByRecursion};
 ghost use Rattle.rtgs_book.specs.declared.limits.TheConstants.{MOST_QUEUED};
 ghost use Rattle.rtgs_book.specs.declared.account.Account.{Account as AccountSpec};
 ghost use Rattle.rtgs_book.specs.declared.order.Order.{Order};
 ghost use Rattle.rtgs_accounts.specs.Accounts.{code_of};
 ghost use Rattle.rtgs_book.specs.declared.book.Book.{Book};
+ghost use Rattle.rtgs_book.specs.Calm.{IsCalm};
 ghost use Rattle.rtgs_cores.specs.Cores.{IsCoreOf};
 ghost use Rattle.rtgs_records.specs.Held.{HasRoom};
-ghost use Rattle.rtgs_ledger.specs.Kept.{IsPrepared, IsCommandRefused};
-ghost use Rattle.rtgs_ledger.specs.Kinds.{CanAnswer, is_of_the_store};
+ghost use Rattle.rtgs_ledger.specs.Following.{SettlesOrders};
+ghost use Rattle.rtgs_ledger.specs.Kept.{IsPreparedByItself, IsRefusedByItself};
+ghost use Rattle.rtgs_ledger.specs.Kinds.{CanAnswerByItself, is_of_the_store};
 ghost use Rattle.rtgs_choices.specs.Settling.{IsOfBalance};
 ghost use Rattle.rtgs_ledger.specs.Resolving.{AreGreatest, AreSmall, after_orders, moved_accounts, moved_rows};
 
 use super::Ledger;
+use super::following::is_automatic;
 use rtgs_accounts::Accounts;
 use rtgs_book::{
     Account, Answer, Change, Command, Mark, Order, OrderState, Refusal, RowChange, Rows, laws,
 };
 use rtgs_choices::laws::{chosen_numbers, rows_settle, taken_are_chosen};
+use rtgs_gridlock::OutOfMemory;
 use rtgs_money::BusinessDate;
 use std::alloc::{AllocError, Global};
 
@@ -28,12 +32,13 @@ impl Ledger {
     pub(super) fn prepare_resolve(&mut self) -> Result<(Answer, Change), Refusal>
         ensures core { self.new.core ≡ self.old.core }
         ensures room { IfOk result (λ (answer, change). HasRoom self.new change) }
-        ensures answered { IfOk result (λ (answer, change). CanAnswer Command.Resolve answer change) }
+        ensures answered { IfOk result (λ (answer, change). CanAnswerByItself Command.Resolve answer change) }
+        ensures settles { IfOk result (λ (answer, change). SettlesOrders change) }
         ensures of_the_command { IfErr result (λ refusal. is_of_the_store refusal ≡ false) }
         ensures prepared { (book : Book) → IsCoreOf book self.old.core
-            → IfOk result (λ (answer, change). IsPrepared book self.old.core Command.Resolve answer change) }
+            → IfOk result (λ (answer, change). IsPreparedByItself book self.old.core Command.Resolve answer change) }
         ensures refused { (book : Book) → IsCoreOf book self.old.core
-            → IfErr result (IsCommandRefused book Command.Resolve) }
+            → IfErr result (IsRefusedByItself book Command.Resolve) }
     {
         laws::greatest_exists();
         chosen_numbers();
@@ -50,6 +55,20 @@ impl Ledger {
         self.prepare_settlement(&orders, date)
     }
 
+    /// Whether the day is not automatic, or nothing that is queued could be settled.
+    pub(super) fn is_calm(&self) -> Result<bool, OutOfMemory>
+        ensures { (book : Book) → IsCoreOf book self.now.core → IfOk result (λ calm. IsTrue calm ↔ IsCalm book) }
+    {
+        laws::greatest_is_unique();
+        chosen_numbers();
+        taken_are_chosen();
+        if !is_automatic(self.records.day) {
+            return Ok(true);
+        }
+        let orders = self.chosen_orders()?;
+        Ok(orders.is_empty())
+    }
+
     // The orders are settled together, under one mark.
     fn prepare_settlement(
         &mut self,
@@ -59,11 +78,12 @@ impl Ledger {
         requires some { 1 ≤ length orders.now }
         ensures core { self.new.core ≡ self.old.core }
         ensures room { IfOk result (λ (answer, change). HasRoom self.new change) }
-        ensures answered { IfOk result (λ (answer, change). CanAnswer Command.Resolve answer change) }
+        ensures answered { IfOk result (λ (answer, change). CanAnswerByItself Command.Resolve answer change) }
+        ensures settles { IfOk result (λ (answer, change). SettlesOrders change) }
         ensures of_the_command { IfErr result (λ refusal. is_of_the_store refusal ≡ false) }
         ensures prepared { (book : Book) → IsCoreOf book self.old.core → AreGreatest book orders.now
             → book.day.date ≡ Some date
-            → IfOk result (λ (answer, change). IsPrepared book self.old.core Command.Resolve answer change) }
+            → IfOk result (λ (answer, change). IsPreparedByItself book self.old.core Command.Resolve answer change) }
         ensures refused { (book : Book) → IsCoreOf book self.old.core
             → IfErr result (λ refusal. refusal ≡ Refusal.OutOfMemory) }
     {
@@ -124,7 +144,7 @@ impl Ledger {
 }
 
 // The rows that set these balances.
-fn rows_of(alloc: Global, accounts: &[Account]) -> Result<Vec<RowChange>, AllocError>
+pub(super) fn rows_of(alloc: Global, accounts: &[Account]) -> Result<Vec<RowChange>, AllocError>
     ensures { IfOk result (λ rows. rows.items ≡ map (λ (a : AccountSpec). RowChange.SetBalance (code_of a) a.balance)
         accounts.now) }
 {

@@ -4,8 +4,9 @@ ghost use Rattle.rtgs_book.specs.declared.book.Book.{Book};
 ghost use Rattle.rtgs_book.specs.Lookup.{order_named};
 ghost use Rattle.rtgs_cores.specs.Cores.{IsCoreOf};
 ghost use Rattle.rtgs_records.specs.Held.{HasRoom};
-ghost use Rattle.rtgs_ledger.specs.Kept.{IsPrepared, IsCommandRefused};
-ghost use Rattle.rtgs_ledger.specs.Kinds.{CanAnswer, is_of_the_store};
+ghost use Rattle.rtgs_ledger.specs.Following.{FreesOrders};
+ghost use Rattle.rtgs_ledger.specs.Kept.{IsPreparedByItself, IsRefusedByItself};
+ghost use Rattle.rtgs_ledger.specs.Kinds.{CanAnswerByItself, is_of_the_store};
 
 use super::Ledger;
 use rtgs_book::{
@@ -24,14 +25,15 @@ impl Ledger {
     ) -> Result<(Answer, Change), Refusal>
         ensures core { self.new.core ≡ self.old.core }
         ensures room { IfOk result (λ (answer, change). HasRoom self.new change) }
-        ensures answered { IfOk result (λ (answer, change). CanAnswer
+        ensures frees { IfOk result (λ (answer, change). FreesOrders change) }
+        ensures answered { IfOk result (λ (answer, change). CanAnswerByItself
             (Command.Withdraw sender reference) answer change) }
         ensures of_the_command { IfErr result (λ refusal. is_of_the_store refusal ≡ false) }
         ensures prepared { (book : Book) → IsCoreOf book self.old.core → found ≡ order_named book sender reference
-            → IfOk result (λ (answer, change). IsPrepared book self.old.core
+            → IfOk result (λ (answer, change). IsPreparedByItself book self.old.core
             (Command.Withdraw sender reference) answer change) }
         ensures refused { (book : Book) → IsCoreOf book self.old.core → found ≡ order_named book sender reference
-            → IfErr result (IsCommandRefused book (Command.Withdraw sender reference)) }
+            → IfErr result (IsRefusedByItself book (Command.Withdraw sender reference)) }
     {
         let Some(_) = self.records.accounts.get(&sender) else {
             return Err(Refusal::UnknownParticipant);

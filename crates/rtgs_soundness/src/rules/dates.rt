@@ -30,6 +30,16 @@ pub fn dates_fit(book: &Book) -> bool
         && never_fall(book.postings.as_slice(), last)
 }
 
+/// Whether the day is automatic only while it is in progress.
+pub fn choice_fits(day: &Day) -> bool
+    ensures { IsTrue result ↔ (IsTrue (is_closed day.now.phase) → day.now.automatic ≡ false) }
+{
+    match day.phase {
+        Phase::Closed => !day.automatic,
+        Phase::Open | Phase::CutOff => true,
+    }
+}
+
 // Whether the day has a date or is closed, and its date is a weekday.
 fn day_fits(day: &Day) -> bool
     ensures { IsTrue result ↔ ((is_closed day.now.phase ≡ false → IsTrue (is_some day.now.date))

@@ -5,7 +5,7 @@ ghost use Rattle.rtgs_rows.specs.Content.{Content, IsInOrder, with_change};
 ghost use Rattle.rtgs_money.specs.Amounts.{IsCredit};
 ghost use Rattle.rtgs_money.specs.Date.{IsBusinessDate};
 ghost use Rattle.rtgs_rows.specs.Fitting.{FitsDate};
-ghost use Rattle.rtgs_sql_writes.specs.Staging.{ChangesTables};
+ghost use Rattle.rtgs_sql_writes.specs.Staging.{ChangesTables, with_date, with_choice};
 ghost use Rattle.sqlite.specs.State.{HasCleanDisk, KeepsCommit, Survives};
 ghost use Rattle.sqlite.specs.Held.{state};
 
@@ -13,7 +13,7 @@ use rtgs_book::{Day, OrderState};
 use rtgs_money::{BusinessDate, Cents, Code, Credit};
 use rtgs_sql_columns::columns::{
     cents_value, check_mark, check_number, credit_value, mark_value, number_value, phase_value,
-    state_value, text, text_of, text_or_null,
+    resolution_value, state_value, text, text_of, text_or_null,
 };
 use rtgs_sql_columns::laws::one_table_answers;
 use sqlite::{Alter, Error, Transaction};
@@ -113,12 +113,11 @@ pub(crate) fn enter_queue<S: Alter>(
     )
 }
 
-/// Sets the business day.
-pub(crate) fn set_day<S: Alter>(tx: &mut Transaction<'_, S>, day: Day) -> Result<usize, Error>
+/// Sets the date and the phase of the business day.
+fn set_date<S: Alter>(tx: &mut Transaction<'_, S>, day: Day) -> Result<usize, Error>
     ensures same_reference { tx.new.conn.ghost_name ≡ tx.old.conn.ghost_name }
-    ensures made { (content : Content) → IsInOrder content
-        → OnOk result (ChangesTables (state S.Store tx.old.conn.now) (state S.Store tx.new.conn.now) content
-        (with_change content (change.SetDay day))) }
+    ensures made { (content : Content) → OnOk result (ChangesTables (state S.Store tx.old.conn.now)
+        (state S.Store tx.new.conn.now) content (with_date content day)) }
     ensures formed { OnOk result (FitsDate day.date) }
     ensures kept { HasCleanDisk (state S.Store tx.new.conn.now)
         → KeepsCommit (state S.Store tx.old.conn.now) (state S.Store tx.new.conn.now) }
@@ -130,4 +129,36 @@ pub(crate) fn set_day<S: Alter>(tx: &mut Transaction<'_, S>, day: Day) -> Result
         "UPDATE desk SET date = ?1, phase = ?2 WHERE id = 1",
         &[text_or_null(&date), phase_value(day.phase)],
     )
+}
+
+/// Sets whether the day is automatic.
+fn set_choice<S: Alter>(tx: &mut Transaction<'_, S>, automatic: bool) -> Result<usize, Error>
+    ensures same_reference { tx.new.conn.ghost_name ≡ tx.old.conn.ghost_name }
+    ensures made { (content : Content) → OnOk result (ChangesTables (state S.Store tx.old.conn.now)
+        (state S.Store tx.new.conn.now) content (with_choice content automatic)) }
+    ensures kept { HasCleanDisk (state S.Store tx.new.conn.now)
+        → KeepsCommit (state S.Store tx.old.conn.now) (state S.Store tx.new.conn.now) }
+    ensures survives { Survives (state S.Store tx.old.conn.now) (state S.Store tx.new.conn.now) (λ _. ⊥) }
+{
+    one_table_answers();
+    tx.execute(
+        "UPDATE resolution SET automatic = ?1 WHERE id = 1",
+        &[resolution_value(automatic)],
+    )
+}
+
+/// Sets the business day, which stands in the rows of two tables.
+pub(crate) fn set_day<S: Alter>(tx: &mut Transaction<'_, S>, day: Day) -> Result<usize, Error>
+    ensures same_reference { tx.new.conn.ghost_name ≡ tx.old.conn.ghost_name }
+    ensures made { (content : Content) → IsInOrder content
+        → OnOk result (ChangesTables (state S.Store tx.old.conn.now) (state S.Store tx.new.conn.now) content
+        (with_change content (change.SetDay day))) }
+    ensures formed { OnOk result (FitsDate day.date) }
+    ensures kept { HasCleanDisk (state S.Store tx.new.conn.now)
+        → KeepsCommit (state S.Store tx.old.conn.now) (state S.Store tx.new.conn.now) }
+    ensures survives { Survives (state S.Store tx.old.conn.now) (state S.Store tx.new.conn.now) (λ _. ⊥) }
+{
+    let automatic = day.automatic;
+    set_date(tx, day)?;
+    set_choice(tx, automatic)
 }

@@ -1,9 +1,10 @@
 //! A desk over a keeper in memory.
+mod calm;
 mod dated;
 mod readings;
 
 use super::scripts::command;
-use super::setting::desk_over;
+use super::setting::{alone, desk_over};
 use rtgs_book::{Answer, Refusal};
 use rtgs_desk::Desk;
 use rtgs_keeper::Keeper;
@@ -22,7 +23,7 @@ fn a_posting_is_answered_and_kept(rt: HostRuntime) -> Result<(), Fail> {
     let post = command(rt.alloc(), "post ALFA P-1 100")?;
     let mut desk = desk_over(rt.alloc(), MemoryKeeper::new(rt.alloc()))?;
     let replies = [desk.submit(add), desk.submit(post)];
-    let wanted = [Ok(Answer::Added), Ok(Answer::Posted { number: 1 })];
+    let wanted = [alone(Answer::Added), alone(Answer::Posted { number: 1 })];
     assert_eq!(rt; (replies, desk.failed()), (wanted, false));
     assert_eq!(rt; postings_kept(rt.alloc(), desk)?, 1);
     Ok(())
@@ -34,7 +35,7 @@ fn commands_are_run_in_order(rt: HostRuntime) -> Result<(), Fail> {
     let commands = [add, command(rt.alloc(), "post ALFA P-1 -1")?];
     let mut desk = desk_over(rt.alloc(), MemoryKeeper::new(rt.alloc()))?;
     let answers = desk.run(&commands)?;
-    let expected = [Ok(Answer::Added), Err(Refusal::NoCover)];
+    let expected = [alone(Answer::Added), Err(Refusal::NoCover)];
     assert_eq!(rt; answers.as_slice(), expected.as_slice());
     Ok(())
 }

@@ -1,4 +1,6 @@
 //! A ledger on its happy path, and the refusals of its commands.
+mod following;
+
 use super::scripts::command;
 use super::scripts::ledgers::{funded_ledger_follows, new_ledger, new_ledger_follows};
 use super::setting::change;
@@ -15,7 +17,7 @@ fn a_participant_is_prepared_and_adopted(rt: HostRuntime) -> Result<(), Fail> {
     let mut ledger = new_ledger(rt.alloc())?;
     match ledger.prepare(&command, &Found::NOTHING) {
         Ok((answer, change)) => {
-            assert_eq!(rt; (answer, change.len()), (Answer::Added, 1));
+            assert_eq!(rt; (answer.own, change.len()), (Answer::Added, 1));
             ledger.adopt(change);
         }
         Err(_) => assert!(rt; false, "refused"),
@@ -37,6 +39,7 @@ fn fault_without_a_date<K: Keeper>(alloc: Global, keeper: &mut K) -> Result<Opti
     let open = Day {
         date: None,
         phase: Phase::Open,
+        automatic: false,
     };
     keeper.commit(&change(alloc, &[RowChange::SetDay(open)])?)?;
     Ok(keeper.core(alloc).err())
@@ -129,7 +132,7 @@ cutoff 2024-03-05 => refused: WrongDate
 cutoff 2024-03-04 => CutOffDone
 cutoff 2024-03-04 => Repeated(Nothing)
 cutoff 2024-03-05 => refused: WrongPhase
-phase => CutOff
+day => day CutOff on request
 ",
     )
 }

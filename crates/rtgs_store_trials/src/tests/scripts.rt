@@ -1,10 +1,12 @@
-//! Scripts: each line asks something in words, and tells after ` => ` what is answered.
+//! Scripts: each line asks something in words, and tells after ` => ` what is answered. Behind the answer to a command
+//! stands ` auto` with the mark, the count and the cents of what was resolved after it, if anything was.
 pub mod desks;
 pub mod ledgers;
 pub mod records;
+pub mod rows;
 
-use super::setting::{code, reference};
-use rtgs_book::{Answer, Command, Refusal};
+use super::setting::{Reply, code, reference};
+use rtgs_book::{Command, Resolution, WholeAnswer};
 use rtgs_money::{Amount, BusinessDate, Credit, Key, Name, PostingAmount};
 use std::alloc::Global;
 use std::test::Fail;
@@ -71,7 +73,8 @@ pub fn command_of(words: &[&str]) -> Result<Command, Fail> {
         ["add", participant, key] => added(participant, key),
         ["credit", participant, cents] => limited(participant, cents),
         ["post", participant, name, cents] => posted(participant, name, cents),
-        ["open", day] => Ok(Command::OpenDay(day_of(day)?)),
+        ["open", day] => opened(day, false),
+        ["open", day, "automatic"] => opened(day, true),
         ["order", sender, name, receiver, cents] => ordered(sender, name, receiver, cents, None),
         ["order", sender, name, receiver, cents, "due", day] => {
             ordered(sender, name, receiver, cents, Some(day_of(day)?))
@@ -87,6 +90,14 @@ pub fn command_of(words: &[&str]) -> Result<Command, Fail> {
 /// The date of this text.
 pub fn day_of(text: &str) -> Result<BusinessDate, Fail> {
     Ok(BusinessDate::read(text.as_bytes())?)
+}
+
+/// Opens a day, which is automatic or not.
+fn opened(day: &str, automatic: bool) -> Result<Command, Fail> {
+    Ok(Command::OpenDay {
+        date: day_of(day)?,
+        automatic,
+    })
 }
 
 /// Adds a participant. All have one name.
@@ -141,9 +152,21 @@ fn withdrawn(sender: &str, name: &str) -> Result<Command, Fail> {
 }
 
 /// What a command was answered.
-pub fn reply_text(alloc: Global, reply: Result<Answer, Refusal>) -> Result<String, Fail> {
+pub fn reply_text(alloc: Global, reply: &Reply) -> Result<String, Fail> {
     match reply {
-        Ok(answer) => Ok(format!(in alloc; "{answer:?}")?),
+        Ok(answer) => answer_text(alloc, answer),
         Err(refusal) => Ok(format!(in alloc; "refused: {refusal:?}")?),
+    }
+}
+
+/// An answer, and behind it what was resolved after the command, if anything was.
+fn answer_text(alloc: Global, answer: &WholeAnswer) -> Result<String, Fail> {
+    let own = &answer.own;
+    match &answer.auto {
+        None => Ok(format!(in alloc; "{own:?}")?),
+        Some(Resolution { mark, count, value }) => {
+            let cents = value.cents();
+            Ok(format!(in alloc; "{own:?} auto {mark} {count} {cents}")?)
+        }
     }
 }

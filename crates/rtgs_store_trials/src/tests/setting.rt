@@ -1,6 +1,7 @@
 //! Banks, their records, desks over keepers, and keepers over tables.
 use rtgs_book::{
-    Answer, Change, Order, OrderState, Participant, Posting, Refusal, RowChange, Rows,
+    Answer, Change, Order, OrderState, Participant, Posting, Refusal, Resolution, RowChange, Rows,
+    WholeAnswer,
 };
 use rtgs_desk::Desk;
 use rtgs_keeper::Keeper;
@@ -13,7 +14,7 @@ use std::alloc::Global;
 use std::test::Fail;
 
 /// What a command is answered.
-pub type Reply = Result<Answer, Refusal>;
+pub type Reply = Result<WholeAnswer, Refusal>;
 
 /// The first day of the week.
 pub const MONDAY: u32 = 20240304;
@@ -138,14 +139,21 @@ pub fn desk_over<K: Keeper + Drop>(alloc: Global, keeper: K) -> Result<Desk<K>, 
     }
 }
 
+/// A command is answered so, and nothing was resolved after it.
+pub fn alone(own: Answer) -> Reply {
+    // Names the type of resolutions for the borrow checker, which finds it nowhere else in this function.
+    let _none: Option<Resolution> = None;
+    Ok(WholeAnswer { own, auto: None })
+}
+
 /// The order has this number, and waits at this place of its queue.
 pub fn queued(number: u64, place: u64) -> Reply {
-    Ok(Answer::Queued { number, place })
+    alone(Answer::Queued { number, place })
 }
 
 /// So many orders of this value in cents settled under this mark.
 pub fn resolved(mark: u64, count: u64, cents: i64) -> Reply {
-    Ok(Answer::Resolved {
+    alone(Answer::Resolved {
         mark,
         count,
         value: Cents::new(cents),

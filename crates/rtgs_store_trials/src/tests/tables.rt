@@ -1,4 +1,5 @@
 //! Books kept in tables, found again, and refused where they are meddled with, over a store in memory.
+mod automatic_days;
 mod due_dates;
 mod memory_keeper;
 mod migrations;
@@ -50,6 +51,16 @@ fn with_two_banks<K: Keeper + Drop>(alloc: Global, keeper: K) -> Result<K, Fail>
     add_two_banks(alloc, &mut keeper)?;
     Ok(keeper)
 }
+
+/// Makes tables of the newest version those of the first, which has two tables less.
+const FIRST_VERSION: &str =
+    "DROP TABLE resolution; DROP TABLE forward; UPDATE desk SET version = 1";
+
+/// The same of the second, which has one table less.
+const SECOND_VERSION: &str = "DROP TABLE resolution; UPDATE desk SET version = 2";
+
+/// Leaves them as they are made.
+const NEWEST_VERSION: &str = "";
 
 /// A keeper with these two banks in its tables.
 fn two_banks(alloc: Global) -> Result<SqlKeeper<MemStore>, Fail> {
@@ -177,7 +188,7 @@ DROP TABLE mark; CREATE VIEW mark AS SELECT number, date, cents AS value FROM po
 CREATE TABLE large (a INTEGER); INSERT INTO large VALUES (9223372036854775807), (1); DROP TABLE mark; \
     CREATE VIEW mark AS SELECT sum(a) AS number, '' AS date, 1 AS many, 1 AS value FROM large => NotADeskFile
 DELETE FROM desk => NotADeskFile
-UPDATE desk SET version = 3 => NotADeskFile
+UPDATE desk SET version = 4 => NotADeskFile
 UPDATE desk SET id = 2 => NotADeskFile
 UPDATE desk SET phase = 3 => NotADeskFile
 UPDATE desk SET date = '2024-02-30' => NotADeskFile

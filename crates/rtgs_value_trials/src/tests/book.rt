@@ -29,6 +29,7 @@ fn open_day() -> Result<Day, Fail> {
     Ok(Day {
         date: Some(date(MONDAY)?),
         phase: Phase::Open,
+        automatic: false,
     })
 }
 
@@ -178,6 +179,13 @@ fn sound_records() -> Result<Records, Fail> {
     })
 }
 
+// Closes the day with nothing queued, and leaves it automatic.
+fn close_automatically(records: &mut Records) {
+    records.orders[3].state = OrderState::Rejected;
+    records.day.phase = Phase::Closed;
+    records.day.automatic = true;
+}
+
 // Breaks the rule, and no other.
 fn break_rule(records: &mut Records, rule: Rule) -> Result<(), Fail> {
     match rule {
@@ -197,7 +205,8 @@ fn break_rule(records: &mut Records, rule: Rule) -> Result<(), Fail> {
         Rule::Dates => records.postings[1].date = Some(date(TUESDAY)?),
         Rule::Floors => records.postings[1].cents = PostingAmount::read(b"-11")?,
         Rule::Total => records.postings[1].cents = PostingAmount::read(b"1000000000000000")?,
-        Rule::StoredBalances => {}
+        Rule::AutomaticDay => close_automatically(records),
+        Rule::StoredBalances | Rule::Calm => {}
     }
     Ok(())
 }
@@ -231,9 +240,19 @@ fn broken(alloc: Global, rule: Rule) -> Result<Book, Fail> {
 
 #[test]
 fn each_broken_rule_is_named(rt: HostRuntime) -> Result<(), Fail> {
+    let mut named = 0usize;
     for rule in RULES_OF_A_BOOK {
         breaks(&broken(rt.alloc(), rule)?, rule)?;
+        named = named.saturating_add(1);
     }
+    ensure(named == 14)
+}
+
+// Neither the rule on stored balances nor the one on what an automatic day has left is about a book by itself.
+#[test]
+fn a_book_breaks_no_rule_about_more_than_a_book(rt: HostRuntime) -> Result<(), Fail> {
+    check(&broken(rt.alloc(), Rule::StoredBalances)?)?;
+    check(&broken(rt.alloc(), Rule::Calm)?)?;
     Ok(())
 }
 
@@ -251,6 +270,7 @@ fn undated(alloc: Global) -> Result<Book, Fail> {
     book.day = Day {
         date: None,
         phase: Phase::Closed,
+        automatic: false,
     };
     Ok(book)
 }
@@ -298,14 +318,16 @@ fn rows_are_lists(rt: HostRuntime) -> Result<(), Fail> {
     ensure(rows.into_vec().as_slice() == [2, 3, 5].as_slice())
 }
 
+// The rules about a book are tested in the order of their numbers, among which those of the two others are missing.
 #[test]
 fn rules_are_numbered(_rt: HostRuntime) -> Result<(), Fail> {
     let mut number = 0u8;
     for rule in RULES_OF_A_BOOK {
-        number = number.saturating_add(1);
+        number = number.saturating_add(if number == 13 { 2 } else { 1 });
         ensure(rule.number() == number)?;
     }
-    ensure(number == 13 && Rule::StoredBalances.number() == 14)
+    ensure(number == 15)?;
+    ensure(Rule::StoredBalances.number() == 14 && Rule::Calm.number() == 16)
 }
 
 // What a refusal is known by.

@@ -16,8 +16,8 @@ struct Records {
     day: Day,
 }
 
-/// A book of these records, whose day is Monday and open unless a line tells another. A line has a kind of record and
-/// its fields:
+/// A book of these records, whose day is Monday, open and not automatic unless a line tells another. A line has a kind
+/// of record and its fields:
 ///
 ///     participant CODE
 ///     posting NUMBER CODE REFERENCE CENTS DATE             the date is `-` before the first day
@@ -25,6 +25,8 @@ struct Records {
 ///     order NUMBER SENDER RECEIVER REFERENCE CENTS DATE STATE due DATE
 ///     mark NUMBER DATE COUNT CENTS
 ///     closed DATE                                          the day is closed
+///     day cut-off                                          the day is past its cut-off
+///     day automatic                                        gridlocks are resolved without being asked for
 ///
 /// The state of an order is queued, held, withdrawn, rejected, or the number of its mark.
 pub fn book_of(alloc: Global, lines: &str) -> Result<Book, Fail> {
@@ -51,6 +53,7 @@ fn open_monday() -> Result<Day, Fail> {
     Ok(Day {
         date: Some(date(MONDAY)?),
         phase: Phase::Open,
+        automatic: false,
     })
 }
 
@@ -64,7 +67,7 @@ fn put(alloc: Global, records: &mut Records, line: &str) -> Result<(), Fail> {
     put_words(records, kind, words.as_slice())
 }
 
-// Puts a posting, an order or a mark after the others, or closes the day, by its words.
+// Puts a posting, an order or a mark after the others, or changes the day, by its words.
 fn put_words(records: &mut Records, kind: &str, words: &[&str]) -> Result<(), Fail> {
     if kind == "posting" {
         return put_posting(&mut records.postings, words);
@@ -77,6 +80,9 @@ fn put_words(records: &mut Records, kind: &str, words: &[&str]) -> Result<(), Fa
     }
     if kind == "closed" {
         return close(&mut records.day, words);
+    }
+    if kind == "day" {
+        return set_day(&mut records.day, words);
     }
     Err(Fail::new(kind))
 }
@@ -112,10 +118,17 @@ fn close(day: &mut Day, words: &[&str]) -> Result<(), Fail> {
     let [last] = words else {
         return Err(Fail::from("another number of words"));
     };
-    *day = Day {
-        date: date_or_none(last)?,
-        phase: Phase::Closed,
-    };
+    day.date = date_or_none(last)?;
+    day.phase = Phase::Closed;
+    Ok(())
+}
+
+fn set_day(day: &mut Day, words: &[&str]) -> Result<(), Fail> {
+    match words {
+        ["cut-off"] => day.phase = Phase::CutOff,
+        ["automatic"] => day.automatic = true,
+        _ => return Err(Fail::from("no such day")),
+    }
     Ok(())
 }
 

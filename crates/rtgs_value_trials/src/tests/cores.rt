@@ -63,11 +63,12 @@ fn mark() -> Result<Mark, Fail> {
     })
 }
 
-/// An open day.
+/// An open day, which is automatic.
 fn day() -> Result<Day, Fail> {
     Ok(Day {
         date: Some(date(MONDAY)?),
         phase: Phase::Open,
+        automatic: true,
     })
 }
 

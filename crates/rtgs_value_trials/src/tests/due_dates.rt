@@ -1,56 +1,9 @@
 //! Books with orders for later days, and the rule that each breaks.
-use super::books::book_of;
+use super::judged::{BANKS, are_judged, judged};
 use super::script::{ensure, is, lines_of, sides};
-use rtgs_book::Fault;
-use rtgs_soundness::check;
 use std::alloc::Global;
 use std::fmt::Write;
 use std::test::Fail;
-
-/// Two banks, of which ALFA can pay.
-const BANKS: &str = "participant ALFA
-participant BETA
-posting 1 ALFA P-1 100 -";
-
-// The number of the rule that a book breaks, or that it is sound.
-fn judged(alloc: Global, records: &str) -> Result<String, Fail> {
-    match check(&book_of(alloc, records)?) {
-        Ok(()) => Ok(String::from_str(alloc, "sound")?),
-        Err(Fault::Inconsistent { rule }) => Ok(format!(in alloc; "{}", rule.number())?),
-        Err(fault) => Err(Fail::from(fault)),
-    }
-}
-
-// The records that a line has between semicolons, behind those of the two banks.
-fn records_of(alloc: Global, line: &str) -> Result<String, Fail> {
-    let mut records = String::from_str(alloc, BANKS)?;
-    for record in line.split("; ") {
-        write!(records, "\n{record}")?;
-    }
-    Ok(records)
-}
-
-// A line's book is judged as the line tells.
-fn is_judged(alloc: Global, line: &str) -> Result<(), Fail> {
-    let (records, told) = sides(line, " => ")?;
-    let records = records_of(alloc, records)?;
-    let found = judged(alloc, records.as_str())?;
-    if found.as_str() == told {
-        Ok(())
-    } else {
-        Err(Fail::new(format_args!("{line}, and not {found}")))
-    }
-}
-
-// Each of so many books is judged as its line tells.
-fn are_judged(alloc: Global, cases: &str, count: usize) -> Result<(), Fail> {
-    let mut judged = 0usize;
-    for line in lines_of(cases)? {
-        is_judged(alloc, line)?;
-        judged = judged.saturating_add(1);
-    }
-    ensure(judged == count)
-}
 
 /// The day is Monday.
 const HELD: &str = "

@@ -1,7 +1,6 @@
 use Rattle.std.proofs.Common.{◌≡◌, ◌≤◌, true, [], length, take, vec_capacity}
 use Rattle.rtgs_book.specs.declared.Book.{Book}
 use Rattle.rtgs_desk.specs.Holding.{Holds}
-use Rattle.rtgs_batches.proofs.Rows.{AreJudged}
 use Rattle.rtgs_batches.proofs.Sending.{SoFar}
 use Rattle.rtgs_batches.proofs.batch.submit_batch.Given as goal
 
@@ -9,7 +8,6 @@ abbrev pub invariant-loop-row : goal.invariant-loop-row
 invariant-loop-row g l = record {
   told : length l.replies.items ≡ l.row-index;
   room : length l.rows ≤ vec_capacity l.replies;
-  judged : AreJudged l.replies.items;
   honest : g.K.Keeper.is_honest l.desk.keeper → g.K.Keeper.is_honest l.fn.desk.keeper;
   works : g.K.Keeper.has_failed l.desk.keeper ≡ g.K.Keeper.has_failed l.fn.desk.keeper;
   same : g.K.Keeper.has_failed l.fn.desk.keeper ≡ true → (l.desk ≡ l.fn.desk) × (l.replies.items ≡ []);

@@ -1,15 +1,13 @@
-use Rattle.std.proofs.Common.{◌≡◌, true, false, Bool, Result, Ok, Err, refl, sym, ap, subst}
+use Rattle.std.proofs.Common.{◌≡◌, true, false, Bool, Result, Ok, Err, refl, sym, ap}
 use Rattle.rtgs_book.specs.declared.Refusal.{Refusal}
-use Rattle.rtgs_book.specs.Outcome.{Reply}
 use Rattle.rtgs_book.specs.Session.{is_judged}
-use Rattle.rtgs_desk.specs.Holding.{Acts}
 use Rattle.rtgs_order_files.specs.declared.batch_result.RowReply.{RowReply}
 use Rattle.rtgs_order_files.specs.declared.batch_result.RowReply.TheVariants.{Refused}
-use Rattle.rtgs_batches.specs.Batches.{order_of, replied}
+use Rattle.rtgs_batches.specs.Batches.{replied}
 use Rattle.rtgs_batches.proofs.batch.submit_row.Goals as goal
 
 pub accepted-requires : goal.accepted-requires
-accepted-requires g c = c.in-Ok.ensures.of_its_kind
+accepted-requires g c = c.in-Ok.ensures.of_its_kind.0
 
 -- a refusal is told as it is, whether the desk judged the order or not
 told : (refusal : Refusal) (result : Result RowReply Refusal)
@@ -22,7 +20,12 @@ told refusal result judged unjudged = by (is_judged (Err refusal)) refl
     by false e = ap replied (unjudged e)
 
 pub returns-in-Err-clause-acts : goal.returns-in-Err-clause-acts
-returns-in-Err-clause-acts g c = λ honest book holds.
-    subst (λ (reply : Reply). Acts g.K.Keeper book (order_of c.args.sender c.args.row.now) reply c.submit.new.self)
-    (sym (told c.in-Err.refusal c.refused.result c.refused.ensures.judged c.refused.ensures.unjudged))
-    (c.in-Err.ensures.acts honest book holds)
+returns-in-Err-clause-acts g c = λ honest book holds. (
+  Err c.in-Err.refusal,
+  sym (told c.in-Err.refusal c.refused.result c.refused.ensures.judged c.refused.ensures.unjudged),
+  c.in-Err.ensures.acts honest book holds,
+)
+
+pub returns-in-Ok-clause-acts : goal.returns-in-Ok-clause-acts
+returns-in-Ok-clause-acts g c = λ honest book holds.
+    (Ok c.in-Ok.answer, sym c.accepted.ensures, c.in-Ok.ensures.acts honest book holds)

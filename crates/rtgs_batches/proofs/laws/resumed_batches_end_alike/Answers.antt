@@ -8,13 +8,13 @@ use Rattle.rtgs_batches.proofs.Stopped.{all_orders}
 use Rattle.rtgs_batches.proofs.laws.resumed_batches_end_alike.Goals as goal
 
 pub returns : goal.returns
-returns c old mid last end sender rows n first again once sound begun resumed whole =
+returns c old mid last end sender rows n first again once sound may begun resumed whole =
     let both : orders_of sender (take n rows) ++ orders_of sender (drop n rows)
     ≡ orders_of sender rows = sym (map-append (order_of sender) (take n rows) (drop n rows))
     ∙ ap (orders_of sender) (take-append-drop n rows) in
     c.resumed_batch_ends_alike.ensures old mid last end sender (orders_of sender (take n rows))
     (orders_of sender (drop n rows)) first again once sound
     (subst (AllByRecursion (IsOrderOf sender)) (sym both) (all_orders sender rows))
-    begun
+    may begun
     (subst (λ cs. Run mid cs again last) (sym both) resumed)
     (subst (λ cs. Run old cs once end) (sym both) whole)

@@ -31,4 +31,5 @@ returns c = record {
   };
   floors = tt;
   total_fits = omega (arith, ints);
+  choice_fits = λ _. refl;
 }

@@ -1,7 +1,7 @@
 use Rattle.std.proofs.Common.{◌≡◌, ◌∙◌, true, None, refl, ap, inl, inr, subst, string_bytes}
 use Rattle.std.specs.Result.{IfOk}
 use Rattle.std.proofs.lemmas.Result.{IfOk-at_ok, IfOk-weaker, IfErr-at_err, IfErr-weaker}
-use Rattle.rtgs_desk.specs.Replies.{answers_its_kind}
+use Rattle.rtgs_desk.specs.Replies.{IsOfItsKind}
 use Rattle.rtgs_desk_files.specs.Printing.{ended_line}
 use Rattle.rtgs_desk_lines.specs.Lines.{done_line}
 use Rattle.rtgs_desk_lines.specs.declared.done.Done.TheVariants.{Answered}
@@ -12,7 +12,7 @@ pub returns-in-Ok-clause-printed : goal.returns-in-Ok-clause-printed
 returns-in-Ok-clause-printed g c =
     let (book, is, shut, named) = c.in-Ok.ensures.done in
     let command = c.args.command in
-    let of_kind = IfOk-at_ok (λ p. IfOk p.1 (λ answer. answers_its_kind command answer ≡ true)) is
+    let of_kind = IfOk-at_ok (λ p. IfOk p.1 (IsOfItsKind command)) is
     c.submit.ensures.of_its_kind in
     IfOk-weaker c.told.result _ _ (λ printed it. (
       ended_line (done_line (Answered it.0)),
@@ -22,7 +22,7 @@ returns-in-Ok-clause-printed g c =
         book.desk,
         (c.in-Ok.closed, refl, shut),
         submitted_with _ (λ book. book.desk) command c.submit.result c.submit.ensures.replied book _ _ is it.1,
-        subst (λ reply. IfOk reply (λ answer. answers_its_kind command answer ≡ true)) it.1 of_kind,
+        subst (λ reply. IfOk reply (IsOfItsKind command)) it.1 of_kind,
         refl,
         refl,
       ),

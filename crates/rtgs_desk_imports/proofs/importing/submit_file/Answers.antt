@@ -11,7 +11,8 @@ use Rattle.rtgs_desk_imports.proofs.importing.submit_file.Goals as goal
 pub returns-clause-sent : goal.returns-clause-sent
 returns-clause-sent g c = IfOk-weaker c.submit_orders-sent.result _ _ (λ sent did honest book held.
     let it = did honest book held in
-    (it, c.what_a_session_leaves.ensures book _ _ it.whole_after_a_crash it.session)) c.submit_orders-sent.ensures.sent
+    (it, c.what_a_session_leaves.ensures book _ _ it.whole_after_a_crash it.session it.calm_after_a_crash))
+    c.submit_orders-sent.ensures.sent
 
 pub returns-clause-refused : goal.returns-clause-refused
 returns-clause-refused g c =

@@ -8,7 +8,8 @@ returns-in-Ok-clause-served g c = (
   (λ honest book held.
       let works = c.serve_all-printed.ensures.works honest book held in
       let made = works.3 in
-      let left = c.what_a_session_leaves.ensures book _ _ made.whole_after_a_crash made.session in
+      let left = c.what_a_session_leaves.ensures book _ _ made.whole_after_a_crash made.session
+      made.calm_after_a_crash in
       (works.0, works.1, works.2, made, left)),
   subst (λ count. Prints (server_text c.args.port count c.serve_all-printed.new.desk.keeper.failed)
       (stop_of_desk c.serve_all-printed.new.desk.keeper.failed) c.serve_all-printed.result

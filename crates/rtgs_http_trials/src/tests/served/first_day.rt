@@ -1,6 +1,5 @@
 //! A desk before its first day.
-use super::super::test_desk::{TestDesk, add_banks};
-use rtgs_tests_desks::Trouble;
+use super::super::test_desk::follows_before_a_day;
 use std::test::Fail;
 
 const BEFORE: &str = r#"
@@ -22,7 +21,5 @@ OPERATOR POST /desk/open {"date":"2024-03-04"}
 
 #[test]
 fn a_desk_without_a_day(rt: HostRuntime) -> Result<(), Fail> {
-    let mut desk = TestDesk::new(rt.alloc(), usize::MAX, Trouble::Lost)?;
-    add_banks(&mut desk.desk)?;
-    desk.follow(BEFORE)
+    follows_before_a_day(rt.alloc(), BEFORE)
 }

@@ -12,39 +12,62 @@ use std::alloc::Global;
 use std::cell::Cell;
 use std::test::Fail;
 
-// Serves a batch of three orders.
-fn serve_batch<K: Keeper>(
+// Serves what is asked.
+fn serve<K: Keeper>(
     alloc: Global,
     desk: &mut Desk<K>,
+    asked: &str,
     writer: &mut WatchingWriter<'_>,
 ) -> Result<(), Fail> {
-    let batch = "ALFA POST /batches\nreference,to,amount\nA-1,BETA,100\nA-2,GAMA,50\nA-3,BETA,25";
-    let input = Request::read(batch)?.input(alloc)?;
+    let input = Request::read(asked)?.input(alloc)?;
     let operator = digest(OPERATOR.as_bytes())?;
     let mut reader = input.as_bytes();
     let _ = serve_one(alloc, &mut reader, writer, desk, &operator);
     Ok(())
 }
 
-// Whether each byte of the reply to the batch is written once seven commits have returned.
+// Whether each byte of the reply to what is asked is written once so many commits have returned, and no more follow.
 fn is_written_last<K: Keeper>(
     alloc: Global,
     desk: &mut Desk<K>,
+    asked: &str,
     commits: &Cell<usize>,
+    count: usize,
 ) -> Result<bool, Fail> {
     let mut writer = WatchingWriter::new(alloc, commits);
-    serve_batch(alloc, desk, &mut writer)?;
-    let is_last = commits.get() == 7 && writer.seen.iter().all(|seen| *seen == 7);
+    serve(alloc, desk, asked, &mut writer)?;
+    let is_last = commits.get() == count && writer.seen.iter().all(|seen| *seen == count);
     Ok(is_last && writer.seen.len() > 100)
 }
+
+// A batch of three orders.
+const BATCH: &str =
+    "ALFA POST /batches\nreference,to,amount\nA-1,BETA,100\nA-2,GAMA,50\nA-3,BETA,25";
 
 #[test]
 fn each_byte_is_written_after_the_last_commit(rt: HostRuntime) -> Result<(), Fail> {
     let commits = Cell::new(0);
     let keeper = CountingKeeper::new(MemoryKeeper::new(rt.alloc()), &commits);
     let mut desk = desk_over(rt.alloc(), keeper)?;
-    begin_day(&mut desk)?;
+    begin_day(&mut desk, false)?;
     assert_eq!(rt; commits.get(), 4);
-    assert!(rt; is_written_last(rt.alloc(), &mut desk, &commits)?);
+    assert!(rt; is_written_last(rt.alloc(), &mut desk, BATCH, &commits, 7)?);
+    Ok(())
+}
+
+const FIRST: &str = r#"ALFA POST /orders {"amount":100,"reference":"A-1","to":"BETA"}"#;
+
+// With it both settle on an automatic day.
+const SECOND: &str = r#"BETA POST /orders {"amount":100,"reference":"B-1","to":"ALFA"}"#;
+
+#[test]
+fn what_follows_an_order_is_in_its_commit(rt: HostRuntime) -> Result<(), Fail> {
+    let commits = Cell::new(0);
+    let keeper = CountingKeeper::new(MemoryKeeper::new(rt.alloc()), &commits);
+    let mut desk = desk_over(rt.alloc(), keeper)?;
+    begin_day(&mut desk, true)?;
+    assert!(rt; is_written_last(rt.alloc(), &mut desk, FIRST, &commits, 5)?);
+    assert!(rt; is_written_last(rt.alloc(), &mut desk, SECOND, &commits, 6)?);
+    assert!(rt; is_written_last(rt.alloc(), &mut desk, SECOND, &commits, 6)?);
     Ok(())
 }

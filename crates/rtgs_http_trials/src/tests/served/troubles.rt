@@ -24,7 +24,7 @@ ALFA GET /statements/2024-03-04
 OPERATOR GET /desk/report/2024-03-04
 ";
 
-// Commands of each route but that of batches, each of which changes something.
+// Commands of each route but that of batches, each of which changes something. The last ones are of an automatic day.
 const CHANGES: &str = r#"
 OPERATOR POST /desk/post {"cents":10,"code":"ALFA","reference":"P-1"}
 -> 200 OK {"answer":"posted","number":1}
@@ -53,8 +53,20 @@ OPERATOR POST /desk/cutoff {"date":"2024-03-04"}
 OPERATOR POST /desk/close {"date":"2024-03-04"}
 -> 200 OK {"answer":"closed","rejected":0}
 
-OPERATOR POST /desk/open {"date":"2024-03-05"}
+OPERATOR POST /desk/open {"automatic":true,"date":"2024-03-05"}
 -> 200 OK {"answer":"opened"}
+
+ALFA POST /orders {"amount":100,"reference":"A-3","to":"BETA"}
+-> 200 OK {"answer":"queued","number":4,"place":1}
+
+BETA POST /orders {"amount":100,"reference":"B-2","to":"ALFA"}
+-> 200 OK {"answer":"queued","auto":{"count":2,"mark":2,"value":200},"number":5,"place":1}
+
+GAMA POST /orders {"amount":7,"reference":"C-1","to":"ALFA"}
+-> 200 OK {"answer":"queued","number":6,"place":1}
+
+OPERATOR POST /desk/credit {"code":"GAMA","credit":7}
+-> 200 OK {"answer":"credit set","auto":{"count":1,"mark":3,"value":7}}
 "#;
 
 // How many calls of its keeper a desk makes for a command: it looks up what bears the reference, where one is given,

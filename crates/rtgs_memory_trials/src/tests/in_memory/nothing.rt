@@ -1,6 +1,7 @@
 //! Calls that make no request for memory: they go well where there is none.
 use super::super::scarce::setting::{
-    KEYS, MONDAY, TUESDAY, adds, code, date, limits, opens, pays, pays_on,
+    KEYS, MONDAY, TUESDAY, adds, code, date, limits, opens, opens_automatic, opens_on, pays,
+    pays_on,
 };
 use super::super::scarce::{Held, in_a_process, is_limited};
 use rtgs_book::Command;
@@ -118,13 +119,30 @@ fn order_adopted(alloc: Global, cents: u64) -> Result<[(i64, usize); 2], Fail> {
 // lets them in.
 fn held_orders_adopted(alloc: Global) -> Result<[(i64, usize); 2], Fail> {
     let mut ledger = ledger_of_two(alloc)?;
-    let (monday, tuesday) = (date(MONDAY)?, date(TUESDAY)?);
+    let monday = date(MONDAY)?;
     let commands = [
         pays_on("A-1", 100, TUESDAY)?,
         pays_on("A-2", 7, TUESDAY)?,
         Command::CutOff(monday),
         Command::CloseDay(monday),
-        Command::OpenDay(tuesday),
+        opens_on(TUESDAY, false)?,
+    ];
+    for command in commands {
+        adopt_without_memory(alloc, &mut ledger, &command)?;
+    }
+    Ok([standing(&ledger, "ALFA")?, standing(&ledger, "BETA")?])
+}
+
+// How they stand where an order of BETA is adopted so with what it frees on an automatic day: an order of ALFA.
+fn followed_order_adopted(alloc: Global) -> Result<[(i64, usize); 2], Fail> {
+    let mut ledger = ledger_of(alloc, &mut MemoryKeeper::new(alloc))?;
+    let commands = [
+        adds("ALFA", KEYS[0])?,
+        adds("BETA", KEYS[1])?,
+        limits("ALFA", 10)?,
+        opens_automatic()?,
+        pays("ALFA", "A-1", "BETA", 60)?,
+        pays("BETA", "B-1", "ALFA", 50)?,
     ];
     for command in commands {
         adopt_without_memory(alloc, &mut ledger, &command)?;
@@ -140,6 +158,7 @@ fn adopt(rt: HostRuntime) -> Result<(), Fail> {
     assert_eq!(rt; order_adopted(rt.alloc(), 100)?, [(-100, 0), (100, 0)]);
     assert_eq!(rt; order_adopted(rt.alloc(), 101)?, [(0, 1), (0, 0)]);
     assert_eq!(rt; held_orders_adopted(rt.alloc())?, [(0, 2), (0, 0)]);
+    assert_eq!(rt; followed_order_adopted(rt.alloc())?, [(-10, 0), (10, 0)]);
     Ok(())
 }
 

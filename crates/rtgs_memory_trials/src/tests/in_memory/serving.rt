@@ -1,21 +1,31 @@
 //! Requests over HTTP.
-use super::super::scarce::setting::{KEYS, opens, pays, posts};
-use super::super::scarce::{InMemory, OPERATOR, Serves, for_each_refusal, request_of};
+use super::super::scarce::setting::{KEYS, opens, opens_automatic, pays, posts};
+use super::super::scarce::{InMemory, OPERATOR, Serves, Worked, for_each_refusal, request_of};
 use rtgs_book::Command;
 use rtgs_money::Key;
 use std::test::Fail;
 
-// Serves this request to a desk in memory, after a posting to ALFA and whatever else is given.
-fn tries(rt: &HostRuntime, name: &str, orders: &[Command], request: &String) -> Result<(), Fail> {
-    let mut before = vec![in rt.alloc(); posts("ALFA", "P-1", 150)?, opens()?]?;
-    before.extend_from_slice(orders)?;
+// Serves this request to a desk in memory, after these commands.
+fn tries_after(
+    rt: &HostRuntime,
+    name: &str,
+    before: &[Command],
+    request: &String,
+) -> Result<(), Fail> {
     let call = Serves {
         store: InMemory,
-        before: before.as_slice(),
+        before,
         request: request.as_bytes(),
         operator: Key::read(OPERATOR.as_bytes())?.digest(),
     };
     for_each_refusal(rt, name, &call, 1)
+}
+
+// The same after a posting to ALFA and whatever else is given.
+fn tries(rt: &HostRuntime, name: &str, orders: &[Command], request: &String) -> Result<(), Fail> {
+    let mut before = vec![in rt.alloc(); posts("ALFA", "P-1", 150)?, opens()?]?;
+    before.extend_from_slice(orders)?;
+    tries_after(rt, name, before.as_slice(), request)
 }
 
 #[test]
@@ -66,6 +76,36 @@ fn a_resolution(rt: HostRuntime) -> Result<(), Fail> {
         &rt,
         "tests::in_memory::serving::a_resolution",
         &orders,
+        &request,
+    )
+}
+
+#[test]
+fn an_order_that_frees(rt: HostRuntime) -> Result<(), Fail> {
+    let before = [
+        opens_automatic()?,
+        pays("ALFA", "A-1", "BETA", 60)?,
+        posts("BETA", "P-1", 60)?,
+    ];
+    let body = "{\"amount\":60,\"reference\":\"B-1\",\"to\":\"ALFA\"}";
+    let request = request_of(rt.alloc(), KEYS[1], "POST /orders", body)?;
+    tries_after(
+        &rt,
+        "tests::in_memory::serving::an_order_that_frees",
+        &before,
+        &request,
+    )
+}
+
+#[test]
+fn an_opening_that_frees(rt: HostRuntime) -> Result<(), Fail> {
+    let worked = Worked::open_day_that_frees(rt.alloc())?;
+    let body = "{\"automatic\":true,\"date\":\"2024-03-05\"}";
+    let request = request_of(rt.alloc(), OPERATOR, "POST /desk/open", body)?;
+    tries_after(
+        &rt,
+        "tests::in_memory::serving::an_opening_that_frees",
+        worked.before.as_slice(),
         &request,
     )
 }

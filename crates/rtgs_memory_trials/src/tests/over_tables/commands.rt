@@ -99,3 +99,63 @@ fn close_day(rt: HostRuntime) -> Result<(), Fail> {
     let worked = Worked::close_day(rt.alloc())?;
     tries(&rt, "tests::over_tables::commands::close_day", &worked)
 }
+
+#[test]
+fn order_that_frees(rt: HostRuntime) -> Result<(), Fail> {
+    let worked = Worked::order_that_frees(rt.alloc())?;
+    tries(
+        &rt,
+        "tests::over_tables::commands::order_that_frees",
+        &worked,
+    )
+}
+
+#[test]
+fn order_that_settles_and_frees(rt: HostRuntime) -> Result<(), Fail> {
+    let worked = Worked::order_that_settles_and_frees(rt.alloc())?;
+    tries(
+        &rt,
+        "tests::over_tables::commands::order_that_settles_and_frees",
+        &worked,
+    )
+}
+
+#[test]
+fn post_that_frees(rt: HostRuntime) -> Result<(), Fail> {
+    let worked = Worked::post_that_frees(rt.alloc())?;
+    tries(
+        &rt,
+        "tests::over_tables::commands::post_that_frees",
+        &worked,
+    )
+}
+
+#[test]
+fn set_credit_that_frees(rt: HostRuntime) -> Result<(), Fail> {
+    let worked = Worked::set_credit_that_frees(rt.alloc())?;
+    tries(
+        &rt,
+        "tests::over_tables::commands::set_credit_that_frees",
+        &worked,
+    )
+}
+
+#[test]
+fn withdraw_that_frees(rt: HostRuntime) -> Result<(), Fail> {
+    let worked = Worked::withdraw_that_frees(rt.alloc())?;
+    tries(
+        &rt,
+        "tests::over_tables::commands::withdraw_that_frees",
+        &worked,
+    )
+}
+
+#[test]
+fn open_day_that_frees(rt: HostRuntime) -> Result<(), Fail> {
+    let worked = Worked::open_day_that_frees(rt.alloc())?;
+    tries(
+        &rt,
+        "tests::over_tables::commands::open_day_that_frees",
+        &worked,
+    )
+}

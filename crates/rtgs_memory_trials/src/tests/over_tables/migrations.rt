@@ -1,4 +1,4 @@
-//! Tables of the first version that are made those of the newest.
+//! Tables of each earlier version that are made those of the newest.
 ghost use Rattle.std.specs.Prelude.{◌≡◌, false};
 
 use super::super::scarce::setting::{day, desk_after};
@@ -12,7 +12,10 @@ use std::alloc::Global;
 use std::test::Fail;
 
 /// Makes tables of the newest version those of the first.
-const OLDER: &str = "DROP TABLE forward; UPDATE desk SET version = 1";
+const FIRST: &str = "DROP TABLE resolution; DROP TABLE forward; UPDATE desk SET version = 1";
+
+/// The same of the second.
+const SECOND: &str = "DROP TABLE resolution; UPDATE desk SET version = 2";
 
 /// Tables, outside a transaction.
 #[derive(Drop)]
@@ -21,10 +24,10 @@ struct Tables<S: Alter + Drop> {
     ghost idle: { conn.in_transaction ≡ false },
 }
 
-// The tables, made those of the first version by hand, since no desk makes such tables.
-fn older<S: Alter + Drop>(conn: Connection<S>) -> Result<Tables<S>, Fail> {
+// The tables, made those of an earlier version by hand, since no desk makes such tables.
+fn older<S: Alter + Drop>(conn: Connection<S>, ages: &str) -> Result<Tables<S>, Fail> {
     let mut conn = conn;
-    conn.execute_batch(OLDER)?;
+    conn.execute_batch(ages)?;
     if conn.is_autocommit() {
         Ok(Tables { conn })
     } else {
@@ -45,12 +48,16 @@ fn shown<S: Alter + Drop>(alloc: Global, tables: &mut Tables<S>) -> Result<Strin
     let count = tables.conn.schema().tables.len();
     let first = read_as(alloc, &mut tables.conn, 1)?;
     let second = read_as(alloc, &mut tables.conn, 2)?;
-    Ok(format!(in alloc; "{count} tables: {first}, {second}")?)
+    let third = read_as(alloc, &mut tables.conn, 3)?;
+    Ok(format!(in alloc; "{count} tables: {first}, {second}, {third}")?)
 }
 
-/// Tables of the first version, with the book of a day, are made those of the newest.
+/// Tables of an earlier version, with the book of a day, are made those of the newest.
 #[derive(Clone, Copy)]
-struct Migrates;
+struct Migrates {
+    /// Makes tables of the newest version those of this one.
+    ages: &'static str,
+}
 
 impl Call for Migrates {
     type State = Tables<MemStore>;
@@ -59,7 +66,7 @@ impl Call for Migrates {
 
     fn begin(&self, alloc: Global) -> Result<Tables<MemStore>, Fail> {
         let desk = desk_after(alloc, OverSql.keeper(alloc)?, &day()?)?;
-        older(desk.into_keeper().into_connection())
+        older(desk.into_keeper().into_connection(), self.ages)
     }
 
     fn call(&self, alloc: Global, tables: &mut Tables<MemStore>) -> Result<bool, Fault> {
@@ -88,11 +95,21 @@ impl Call for Migrates {
 }
 
 #[test]
-fn of_a_day(rt: HostRuntime) -> Result<(), Fail> {
+fn of_the_first_version(rt: HostRuntime) -> Result<(), Fail> {
     for_each_refusal(
         &rt,
-        "tests::over_tables::migrations::of_a_day",
-        &Migrates,
+        "tests::over_tables::migrations::of_the_first_version",
+        &Migrates { ages: FIRST },
+        BLOCKS,
+    )
+}
+
+#[test]
+fn of_the_second_version(rt: HostRuntime) -> Result<(), Fail> {
+    for_each_refusal(
+        &rt,
+        "tests::over_tables::migrations::of_the_second_version",
+        &Migrates { ages: SECOND },
         BLOCKS,
     )
 }

@@ -1,6 +1,6 @@
-//! A batch whose second row is refused for lack of memory, and what its file of results says.
+//! A batch that stops at a later row for lack of memory, and what its file of results says.
 use super::super::scarce::setting::{code, seen_of};
-use super::super::scarce::{Held, ORDERS, Store, in_a_process, is_limited, orders_desk, same};
+use super::super::scarce::{Held, Store, in_a_process, is_limited, orders_desk, same};
 use super::over_sql::OverSql;
 use rtgs_batches::submit_batch;
 use rtgs_book::Refusal;
@@ -8,17 +8,60 @@ use rtgs_desk::Desk;
 use rtgs_keeper::Keeper;
 use rtgs_order_files::{BatchResult, OrderRow, read_orders, write_results};
 use std::alloc::Global;
+use std::fmt::Write;
 use std::test::Fail;
 
-/// The results where the second row is refused.
-const STOPPED: &str = "reference,result,number,detail\nA-1,settled,1,1\nA-2,stopped,,90\n";
+/// The number of the first row's order.
+const FIRST: u64 = 1;
 
-/// The results when the file is sent again.
-const AGAIN: &str =
-    "reference,result,number,detail\nA-1,repeated,1,settled\nA-2,settled,2,2\nA-3,queued,3,1\n";
+/// The number of the last row's order. The first order that a desk takes has the connection keep more statements than
+/// it had room for. It asks for one large block then, and the block that it gives up does for what is kept of many
+/// rows: so an amount of memory that does for the first row may do for dozens. These rows are more than that.
+const LAST: u64 = 64;
 
-/// How many steps there are.
-const STEPS: usize = 512;
+/// At how many rows the batch has to stop at least, with one amount of memory or another.
+const LEAST_MET: usize = 4;
+
+/// By how many small blocks of memory a step has more than the one before it. A few rows are kept in so many.
+const BLOCKS: usize = 128;
+
+/// How many steps there are at most.
+const MOST_STEPS: usize = 128;
+
+/// The first line of results.
+const HEADER: &str = "reference,result,number,detail\n";
+
+// The rows: orders of ALFA, which has the cents for all of them.
+fn read_rows(alloc: Global) -> Result<Vec<OrderRow>, Fail> {
+    let mut file = String::from_str(alloc, "reference,to,amount\n")?;
+    for number in FIRST..=LAST {
+        write!(file, "A-{number},BETA,1\n")?;
+    }
+    Ok(read_orders(alloc, file.as_str().as_bytes())?)
+}
+
+// The results where the row of this number is refused for lack of memory.
+fn results_to(alloc: Global, refused: u64) -> Result<String, Fail> {
+    let mut results = String::from_str(alloc, HEADER)?;
+    for number in FIRST..refused {
+        write!(results, "A-{number},settled,{number},{number}\n")?;
+    }
+    write!(results, "A-{refused},stopped,,90\n")?;
+    Ok(results)
+}
+
+// The results where all rows are answered. Those before this number are sent again.
+fn results_from(alloc: Global, refused: u64) -> Result<String, Fail> {
+    let mut results = String::from_str(alloc, HEADER)?;
+    for number in FIRST..=LAST {
+        if number < refused {
+            write!(results, "A-{number},repeated,{number},settled\n")?;
+        } else {
+            write!(results, "A-{number},settled,{number},{number}\n")?;
+        }
+    }
+    Ok(results)
+}
 
 // The file of these results is this one.
 fn has_file(
@@ -32,14 +75,8 @@ fn has_file(
     same(alloc, std::str::from_utf8(text.as_slice())?, wanted)
 }
 
-// Whether the batch stopped for lack of memory.
-fn is_refused(batch: &BatchResult) -> bool {
-    matches!(batch.stopped, Some(Refusal::OutOfMemory))
-}
-
-// Submits the rows with so many small blocks of memory. Gives the results where one row is answered, and the second is
-// refused for lack of memory.
-fn one_answered<K: Keeper>(
+// Submits the rows with so many small blocks of memory. There are no results where the memory does for no reply.
+fn with_little<K: Keeper>(
     alloc: Global,
     desk: &mut Desk<K>,
     rows: &[OrderRow],
@@ -50,56 +87,56 @@ fn one_answered<K: Keeper>(
     let batch = submit_batch(alloc, desk, sender, rows);
     held.free();
     match batch {
-        Ok(batch) if batch.replies.len() == 1 && is_refused(&batch) => Ok(Some(batch)),
-        _ => Ok(None),
+        Ok(batch) => Ok(Some(batch)),
+        Err(_) => Ok(None),
     }
 }
 
-// Whether the second row is refused with so many small blocks of memory. The file of results says then which row was
-// answered.
-fn is_stopped<K: Keeper>(
-    alloc: Global,
-    desk: &mut Desk<K>,
-    rows: &[OrderRow],
-    given: usize,
-) -> Result<bool, Fail> {
-    let Some(batch) = one_answered(alloc, desk, rows, given)? else {
-        return Ok(false);
-    };
-    has_file(alloc, rows, &batch, STOPPED)?;
-    Ok(true)
+// How many rows are answered before one is refused for lack of memory, or all are. Where the store fails, none counts.
+fn count_of(batch: &BatchResult) -> usize {
+    match batch.stopped {
+        None | Some(Refusal::OutOfMemory) => batch.replies.len(),
+        Some(_) => 0,
+    }
 }
 
-// The rows, sent again, are all answered. The desk is then seen like one that was sent them once.
+// The rows are all answered. The desk is then seen like one that was sent them once.
 fn is_completed<K: Keeper>(
     alloc: Global,
     desk: &mut Desk<K>,
     rows: &[OrderRow],
+    refused: u64,
     once: &str,
 ) -> Result<(), Fail> {
-    let again = submit_batch(alloc, desk, code("ALFA")?, rows)?;
-    has_file(alloc, rows, &again, AGAIN)?;
+    let batch = submit_batch(alloc, desk, code("ALFA")?, rows)?;
+    has_file(alloc, rows, &batch, results_from(alloc, refused)?.as_str())?;
     same(alloc, seen_of(alloc, desk)?.as_str(), once)
 }
 
-// Whether the second row is refused at this step. What is told then, and when the rows are sent again, is as it should
-// be.
-fn is_met<S: Store>(
+// How many rows are answered with so many small blocks of memory. Where the next one is refused, what is told then, and
+// when the rows are sent again, is as it should be.
+fn answered<S: Store>(
     alloc: Global,
     store: &S,
     rows: &[OrderRow],
     once: &str,
     given: usize,
-) -> Result<bool, Fail>
+) -> Result<usize, Fail>
 where
     S::Kept: Keeper + Drop,
 {
     let mut desk = orders_desk(alloc, store.keeper(alloc)?)?;
-    if !is_stopped(alloc, &mut desk, rows, given)? {
-        return Ok(false);
+    let Some(batch) = with_little(alloc, &mut desk, rows, given)? else {
+        return Ok(0);
+    };
+    let count = count_of(&batch);
+    if count == 0 || count == rows.len() {
+        return Ok(count);
     }
-    is_completed(alloc, &mut desk, rows, once)?;
-    Ok(true)
+    let refused = FIRST.saturating_add(count as u64);
+    has_file(alloc, rows, &batch, results_to(alloc, refused)?.as_str())?;
+    is_completed(alloc, &mut desk, rows, refused, once)?;
+    Ok(count)
 }
 
 // What is seen of a desk that was sent the rows once.
@@ -108,33 +145,44 @@ where
     S::Kept: Keeper + Drop,
 {
     let mut desk = orders_desk(alloc, store.keeper(alloc)?)?;
-    submit_batch(alloc, &mut desk, code("ALFA")?, rows)?;
+    let batch = submit_batch(alloc, &mut desk, code("ALFA")?, rows)?;
+    has_file(alloc, rows, &batch, results_from(alloc, FIRST)?.as_str())?;
     seen_of(alloc, &mut desk)
 }
 
-// At how many steps the second row is refused.
-fn steps_met<S: Store>(alloc: Global, store: &S, rows: &[OrderRow]) -> Result<usize, Fail>
+// With more and more memory until all rows are answered: how many steps that takes, and at how many rows the batch
+// stops.
+fn rows_met<S: Store>(alloc: Global, store: &S, rows: &[OrderRow]) -> Result<(usize, usize), Fail>
 where
     S::Kept: Keeper + Drop,
 {
     let once = seen_once(alloc, store, rows)?;
-    let mut met = 0usize;
-    for given in 0..STEPS {
-        if is_met(alloc, store, rows, once.as_str(), given)? {
+    let (mut met, mut most) = (0usize, 0usize);
+    for step in 0..MOST_STEPS {
+        let given = step.saturating_mul(BLOCKS);
+        let count = answered(alloc, store, rows, once.as_str(), given)?;
+        if count == rows.len() {
+            return Ok((step, met));
+        }
+        if count > most {
             met = met.saturating_add(1);
+            most = count;
         }
     }
-    Ok(met)
+    Err(Fail::from("not all rows are answered"))
 }
 
 #[test]
-fn second_row(rt: HostRuntime) -> Result<(), Fail> {
+fn a_later_row(rt: HostRuntime) -> Result<(), Fail> {
     if !is_limited(&rt) {
-        return in_a_process(&rt, "tests::over_tables::stopped_rows::second_row");
+        return in_a_process(&rt, "tests::over_tables::stopped_rows::a_later_row");
     }
-    let rows = read_orders(rt.alloc(), ORDERS)?;
-    let met = steps_met(rt.alloc(), &OverSql, rows.as_slice())?;
-    rt.println(format_args!("the second row is refused at {met} of {STEPS} steps"))?;
-    assert!(rt; met > 0);
+    let rows = read_rows(rt.alloc())?;
+    let (steps, met) = rows_met(rt.alloc(), &OverSql, rows.as_slice())?;
+    rt.println(format_args!(
+        "the batch stops at {met} of {} rows, in {steps} steps of {BLOCKS} blocks",
+        rows.len()
+    ))?;
+    assert!(rt; met >= LEAST_MET);
     Ok(())
 }

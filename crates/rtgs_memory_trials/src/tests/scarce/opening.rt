@@ -1,17 +1,18 @@
 //! A desk that is opened.
 use super::call::{Call, Outcome};
-use super::setting::{day, desk_after, seen_of};
+use super::setting::{desk_after, seen_of};
 use super::store::Store;
-use rtgs_book::Fault;
+use rtgs_book::{Command, Fault};
 use rtgs_desk::Desk;
 use rtgs_keeper::Keeper;
 use std::alloc::Global;
 use std::test::Fail;
 
-/// A desk over this store, opened over the book of a day.
+/// A desk over this store, opened over the book that these commands leave.
 #[derive(Clone, Copy)]
-pub struct Opens<S> {
+pub struct Opens<'a, S> {
     pub store: S,
+    pub before: &'a [Command],
 }
 
 /// A keeper, or the desk that is opened over it.
@@ -23,7 +24,7 @@ pub enum Book<K: Keeper + Drop> {
     Between,
 }
 
-impl<S: Store> Call for Opens<S>
+impl<S: Store> Call for Opens<'_, S>
 where
     S::Kept: Keeper + Drop,
 {
@@ -32,7 +33,7 @@ where
     type Answer = Option<Fault>;
 
     fn begin(&self, alloc: Global) -> Result<Book<S::Kept>, Fail> {
-        let desk = desk_after(alloc, self.store.keeper(alloc)?, &day()?)?;
+        let desk = desk_after(alloc, self.store.keeper(alloc)?, self.before)?;
         Ok(Book::Closed(desk.into_keeper()))
     }
 

@@ -67,7 +67,20 @@ pub fn posts(participant: &str, name: &str, cents: i64) -> Result<Command, Fail>
 
 /// Opens Monday.
 pub fn opens() -> Result<Command, Fail> {
-    Ok(Command::OpenDay(date(MONDAY)?))
+    opens_on(MONDAY, false)
+}
+
+/// Opens Monday, on which gridlocks are resolved without being asked for.
+pub fn opens_automatic() -> Result<Command, Fail> {
+    opens_on(MONDAY, true)
+}
+
+/// Opens a day, which is automatic or not.
+pub fn opens_on(day: &str, automatic: bool) -> Result<Command, Fail> {
+    Ok(Command::OpenDay {
+        date: date(day)?,
+        automatic,
+    })
 }
 
 /// An order of the sender to pay the receiver.
@@ -108,6 +121,17 @@ pub fn day() -> Result<[Command; 5], Fail> {
         posts("ALFA", "P-1", 5)?,
         pays("ALFA", "A-1", "BETA", 100)?,
         pays("ALFA", "A-2", "BETA", 7)?,
+    ])
+}
+
+/// An automatic day with a posting, two orders that wait, and one that frees the first of them.
+pub fn automatic_day() -> Result<[Command; 5], Fail> {
+    Ok([
+        opens_automatic()?,
+        posts("ALFA", "P-1", 10)?,
+        pays("ALFA", "A-1", "BETA", 60)?,
+        pays("ALFA", "A-2", "GAMA", 10)?,
+        pays("BETA", "B-1", "ALFA", 50)?,
     ])
 }
 

@@ -3,7 +3,7 @@ use super::call::{Call, Outcome};
 use super::setting::{desk_after, desk_over, seen_of};
 use super::store::Store;
 use super::worked::Worked;
-use rtgs_book::{Answer, Refusal};
+use rtgs_book::{Refusal, WholeAnswer};
 use rtgs_desk::Desk;
 use rtgs_keeper::Keeper;
 use std::alloc::Global;
@@ -22,18 +22,18 @@ where
 {
     type State = Desk<S::Kept>;
 
-    type Answer = Result<Answer, Refusal>;
+    type Answer = Result<WholeAnswer, Refusal>;
 
     fn begin(&self, alloc: Global) -> Result<Desk<S::Kept>, Fail> {
         let before = self.worked.before.as_slice();
         desk_after(alloc, self.store.keeper(alloc)?, before)
     }
 
-    fn call(&self, _alloc: Global, desk: &mut Desk<S::Kept>) -> Result<Answer, Refusal> {
+    fn call(&self, _alloc: Global, desk: &mut Desk<S::Kept>) -> Result<WholeAnswer, Refusal> {
         desk.submit(self.worked.command)
     }
 
-    fn outcome(&self, answer: &Result<Answer, Refusal>) -> Outcome {
+    fn outcome(&self, answer: &Result<WholeAnswer, Refusal>) -> Outcome {
         match answer {
             Err(Refusal::OutOfMemory) => Outcome::Refused,
             Err(Refusal::StoreFault) if self.store.may_fail() => Outcome::Faulted,

@@ -1,5 +1,8 @@
 //! Commands of every kind, each to a desk where it changes something.
-use super::setting::{MONDAY, TUESDAY, adds, date, limits, opens, pays, pays_on, posts, withdraws};
+use super::setting::{
+    MONDAY, TUESDAY, adds, date, limits, opens, opens_automatic, opens_on, pays, pays_on, posts,
+    withdraws,
+};
 use rtgs_book::Command;
 use std::alloc::Global;
 use std::test::Fail;
@@ -81,7 +84,7 @@ impl Worked {
         ]?;
         Ok(Worked {
             before,
-            command: Command::OpenDay(date(TUESDAY)?),
+            command: opens_on(TUESDAY, false)?,
         })
     }
 
@@ -128,4 +131,74 @@ impl Worked {
             command: Command::CloseDay(date(MONDAY)?),
         })
     }
+
+    /// An order on an automatic day that waits, and settles at once with the first of two that wait.
+    pub fn order_that_frees(alloc: Global) -> Result<Worked, Fail> {
+        Ok(Worked {
+            before: two_wait(alloc)?,
+            command: pays("BETA", "B-1", "ALFA", 50)?,
+        })
+    }
+
+    /// An order on such a day that settles, and frees the first of two that wait under a mark of its own.
+    pub fn order_that_settles_and_frees(alloc: Global) -> Result<Worked, Fail> {
+        let mut before = two_wait(alloc)?;
+        before.push(posts("BETA", "P-2", 50)?)?;
+        Ok(Worked {
+            before,
+            command: pays("BETA", "B-1", "ALFA", 50)?,
+        })
+    }
+
+    /// A posting on such a day that frees the first of two orders.
+    pub fn post_that_frees(alloc: Global) -> Result<Worked, Fail> {
+        Ok(Worked {
+            before: two_wait(alloc)?,
+            command: posts("ALFA", "P-2", 50)?,
+        })
+    }
+
+    /// A limit on such a day that frees two orders.
+    pub fn set_credit_that_frees(alloc: Global) -> Result<Worked, Fail> {
+        Ok(Worked {
+            before: two_wait(alloc)?,
+            command: limits("ALFA", 60)?,
+        })
+    }
+
+    /// A withdrawal on such a day that frees the order behind it.
+    pub fn withdraw_that_frees(alloc: Global) -> Result<Worked, Fail> {
+        Ok(Worked {
+            before: two_wait(alloc)?,
+            command: withdraws("ALFA", "A-1")?,
+        })
+    }
+
+    /// The next day is opened as an automatic one, and lets in two orders, of which the first settles. A third is held
+    /// on.
+    pub fn open_day_that_frees(alloc: Global) -> Result<Worked, Fail> {
+        let before = vec![in alloc;
+            opens()?,
+            pays_on("A-1", 100, TUESDAY)?,
+            pays_on("A-2", 7, "2024-03-06")?,
+            pays_on("A-3", 5, TUESDAY)?,
+            posts("ALFA", "P-1", 104)?,
+            Command::CutOff(date(MONDAY)?),
+            Command::CloseDay(date(MONDAY)?),
+        ]?;
+        Ok(Worked {
+            before,
+            command: opens_on(TUESDAY, true)?,
+        })
+    }
+}
+
+// On an automatic day ALFA has 10 cents, and two orders of it wait.
+fn two_wait(alloc: Global) -> Result<Vec<Command>, Fail> {
+    Ok(vec![in alloc;
+        opens_automatic()?,
+        posts("ALFA", "P-1", 10)?,
+        pays("ALFA", "A-1", "BETA", 60)?,
+        pays("ALFA", "A-2", "GAMA", 10)?,
+    ]?)
 }

@@ -1,4 +1,4 @@
-use Rattle.rtgs_repeats.proofs.Lives.{lived}
+use Rattle.rtgs_repeats.proofs.Lives.{lived, lived_calm}
 use Rattle.rtgs_repeats.proofs.laws.life_is_a_run.Goals as goal
 
 pub returns : goal.returns
@@ -10,4 +10,6 @@ returns c = record {
         c.run_keeps_what_is_final.ensures book found
             run.0 run.1 sound run.3,
       );
+  calm = lived_calm c.step_keeps_soundness.ensures c.step_keeps_calm.ensures c.run_keeps_soundness.ensures
+      c.run_keeps_calm.ensures;
 }

@@ -8,5 +8,6 @@ use Rattle.rtgs_repeats.proofs.laws.records_are_kept.Goals as goal
 
 pub returns : goal.returns
 returns c = λ old new commands replies sound run. over_run c.step_keeps_soundness.ensures (λ command. ⊤) AreKept
-    c.kept_records_go_through.ensures (λ one other command reply h any s. step_kept one other command reply h s)
+    c.kept_records_go_through.ensures
+    (λ one other command reply h any s. step_kept c.own_step_keeps_soundness.ensures one other command reply h s)
     old new commands replies sound (all_of (λ (command : Command). ⊤) (λ command. tt) commands) run

@@ -6,4 +6,5 @@ returns c old new commands replies sound run = record {
   stands = c.run_keeps_what_is_final.ensures old new commands replies sound run;
   money = moved_by c.step_keeps_soundness.ensures c.total_moves_by_postings.ensures old new commands replies sound run;
   once = c.once_ends_alike.ensures old new commands replies sound run;
+  calm = λ calm. c.run_keeps_calm.ensures old new commands replies sound calm run;
 }

@@ -16,20 +16,20 @@ use Rattle.rtgs_soundness.proofs.soundness.keeps.Goals as goal
 
 pub floors_hold-requires-clause-codes : goal.floors_hold-requires-clause-codes
 floors_hold-requires-clause-codes c = earlier c.args.book.now c.args.rule Floors ParticipantCodes c.in-Floors.is
-    (lit< tt) c.requires
+    (lit< tt) c.requires.before
 
 pub floors_hold-requires-clause-few_postings : goal.floors_hold-requires-clause-few_postings
 floors_hold-requires-clause-few_postings c = few_postings c.args.book.now
-    (earlier c.args.book.now c.args.rule Floors PostingNumbers c.in-Floors.is (lit< tt) c.requires)
+    (earlier c.args.book.now c.args.rule Floors PostingNumbers c.in-Floors.is (lit< tt) c.requires.before)
 
 pub marks_fit-requires-clause-numbered : goal.marks_fit-requires-clause-numbered
 marks_fit-requires-clause-numbered c = earlier c.args.book.now c.args.rule Marks MarkNumbers c.in-Marks.is (lit< tt)
-    c.requires
+    c.requires.before
 
 pub is_issue_small-requires : goal.is_issue_small-requires
 is_issue_small-requires c = subst (λ (ps : List Posting). length ps ≤ LARGEST_NUMBER) (sym c.as_slice-postings.ensures)
     (few_postings c.args.book.now (earlier c.args.book.now c.args.rule Total PostingNumbers c.in-Total.is (lit< tt)
-    c.requires))
+    c.requires.before))
 
 pub returns-in-OrderNumbers-clause-kept : goal.returns-in-OrderNumbers-clause-kept
 returns-in-OrderNumbers-clause-kept c = rw c.in-OrderNumbers.is
@@ -76,8 +76,8 @@ pub returns-in-Total-clause-kept : goal.returns-in-Total-clause-kept
 returns-in-Total-clause-kept c =
     rw c.in-Total.is
     (total_by_issue c.args.book.now c.is_issue_small.result (c.total_is_issued.ensures c.args.book.now
-    (earlier c.args.book.now c.args.rule Total ParticipantCodes c.in-Total.is (lit< tt) c.requires)
-    (earlier c.args.book.now c.args.rule Total Parties c.in-Total.is (lit< tt) c.requires))
+    (earlier c.args.book.now c.args.rule Total ParticipantCodes c.in-Total.is (lit< tt) c.requires.before)
+    (earlier c.args.book.now c.args.rule Total Parties c.in-Total.is (lit< tt) c.requires.before))
     (subst (λ (xs : List Posting). (c.is_issue_small.result ≡ true) ↔
     (int_sum_by (λ (x : Posting). x.cents) xs ≤ℤ pos LARGEST_TOTAL)) c.as_slice-postings.ensures
     c.is_issue_small.ensures))

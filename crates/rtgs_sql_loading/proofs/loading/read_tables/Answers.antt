@@ -1,8 +1,9 @@
-use Rattle.std.proofs.Common.{◌≡◌, List, None, map, sym, ap, subst, subst₂, ◌∙◌}
+use Rattle.std.proofs.Common.{◌≡◌, List, [], ◌∷◌, None, map, sym, ap, subst, subst₂, ◌∙◌}
 use Rattle.sqlite_keyed.proofs.ListLemmas.{all_weaker}
 use Rattle.rtgs_book.specs.declared.Order.{Order}
 use Rattle.rtgs_book.specs.declared.account.Account.{Account}
 use Rattle.rtgs_rows.specs.Dues.{without_due, forwards_of}
+use Rattle.rtgs_rows.specs.TableRecords.{desk_records}
 use Rattle.rtgs_rows.specs.declared.forward.Forward.{Forward}
 use Rattle.rtgs_sql_loading.specs.Joining.{AreJoined}
 use Rattle.sqlite.specs.Held.{state}
@@ -18,13 +19,21 @@ returns-in_err-all-clause-stops g c =
     let version = c.args.version in
     stops_after c.read.result _ c.from_residual.result (at_once (state g.S.Store c.args.conn.now))
     c.in_err-all.was c.from_residual.ensures.1
-    (λ known trees bad formed. bad (formed.day, (each_formed version known trees formed).1))
+    (λ known trees bad formed.
+    let all = (each_formed version known trees formed).1 in
+    bad (
+      formed.desk,
+      (
+        formed.choice,
+        (all.0, (all.1.0, (all.1.1.0, (all.1.1.1.0, (all.1.1.1.1.0, tt))))),
+      ),
+    ))
     (one_unread version) c.read.ensures.stops
 
 pub returns-in_err-orders-clause-stops : goal.returns-in_err-orders-clause-stops
 returns-in_err-orders-clause-stops g c =
-    stops_apart _ _ _ c.in_ok-all.ensures.on (λ clean. (c.in_ok-all.ensures.told clean).1.1.1.0)
-    (λ clean. (c.in_ok-all.ensures.told clean).1.1.1.1.1.0)
+    stops_apart _ _ _ c.in_ok-all.ensures.on (λ clean. (c.in_ok-all.ensures.told clean).1.1.1.1.0)
+    (λ clean. (c.in_ok-all.ensures.told clean).1.1.1.1.1.1.0)
     (λ all. rw c.as_slice.ensures.value at (c.in_err-orders.ensures.apart all))
 
 pub returns-in_err-participants-clause-stops : goal.returns-in_err-participants-clause-stops
@@ -37,7 +46,7 @@ returns-clause-stops g c = stops_never _ c.in_ok-all.ensures.on (λ e. cc)
 pub returns-clause-blank : goal.returns-clause-blank
 returns-clause-blank g c known clean blank =
     let s = state g.S.Store c.args.conn.now in
-    let shown = ((c.in_ok-all.ensures.told clean).0.told known).1 in
+    let shown = ((c.in_ok-all.ensures.told clean).0.1.told known).1 in
     absurd (unshown s blank shown.0 shown.1)
 
 pub invariant_of-result : goal.invariant_of-result
@@ -51,10 +60,15 @@ returns-clause-told g c known clean =
     let read = c.in_ok-all.ensures.told clean in
     let participants = c.from_vec.ensures ∙ c.in_ok-participants.ensures
     ∙ ap (map (λ (a : Account). a.participant)) c.as_slice-2.ensures.value in
-    let lists = read.1.1 in
+    let s = state g.S.Store c.args.conn.now in
+    let row = c.in_ok-all.all.0 in
+    let desk = renamed {records = desk_records} {s = s} {all = record row { version = c.args.version } ∷ []}
+    {found = row ∷ []} (λ i. record row { version = sym read.0.0 i } ∷ []) read.0.1 in
+    let stored = read.1.1.0.reads in
+    let lists = read.1.1.1 in
     let postings = renamed c.from_vec-2.ensures lists.0.reads in
-    let payments = c.in_ok-all.all.1.1.1.0.items in
-    let dues = c.in_ok-all.all.1.1.1.1.1.0.items in
+    let payments = c.in_ok-all.all.1.1.1.1.0.items in
+    let dues = c.in_ok-all.all.1.1.1.1.1.1.0.items in
     let joined : AreJoined payments dues c.in_ok-orders.orders.items =
     rw c.as_slice.ensures.value at c.in_ok-orders.ensures.joined in
     let parts = taken_apart payments dues c.in_ok-orders.orders.items joined
@@ -66,5 +80,5 @@ returns-clause-told g c known clean =
     let whole : ComeOfRows c.from_vec-3.result = subst ComeOfRows (sym is)
     (subst₂ (λ (ps : List Order) (fs : List Forward). AreJoined ps fs c.in_ok-orders.orders.items) (sym parts.0)
     (sym parts.1) joined) in
-    tells c.args.version known (state g.S.Store c.args.conn.now) _ _ participants whole
-    (read.0, (read.1.0.reads, (postings, (orders, (marks, (forwards, tt))))))
+    tells c.args.version known s _ _ participants whole
+    (desk, (stored, (postings, (orders, (marks, (forwards, (read.1.0, tt)))))))

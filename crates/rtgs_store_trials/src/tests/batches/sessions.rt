@@ -1,14 +1,15 @@
 //! Calls of a desk one after another are one session.
-ghost use Rattle.std.specs.Prelude.{◌≡◌, ◌≢◌, ◌∷◌, length, take, Err, IfOk};
+ghost use Rattle.std.specs.Prelude.{◌≡◌, ◌≢◌, ◌∷◌, List, map, length, take, Err, IfOk};
 ghost use Rattle.rtgs_book.specs.declared.Book.{Book};
+ghost use Rattle.rtgs_book.specs.Outcome.{Reply, own_of};
 ghost use Rattle.rtgs_book.specs.Session.{IsSession};
 ghost use Rattle.rtgs_desk.specs.Holding.{Holds};
 ghost use Rattle.rtgs_batches.specs.Batches.{orders_of, replies_of, with_stop};
 
-use super::super::setting::code;
+use super::super::setting::{alone, code};
 use super::{THREE_ROWS, open_desk, rows_of};
 use rtgs_batches::submit_batch;
-use rtgs_book::{Answer, Command, Refusal};
+use rtgs_book::{Answer, Command, Refusal, WholeAnswer};
 use rtgs_desk::Desk;
 use rtgs_keeper::Keeper;
 use rtgs_money::Code;
@@ -17,21 +18,22 @@ use rtgs_repeats::laws::sessions_join;
 use std::alloc::{AllocError, Global};
 use std::test::Fail;
 
-// Submits a command and then a batch.
+// Submits a command and then a batch. The replies of the session are the desk's whole replies, of which the rows of the
+// batch show the own part.
 fn submit_and_send<K: Keeper>(
     alloc: Global,
     desk: &mut Desk<K>,
     command: Command,
     sender: Code,
     rows: &[OrderRow],
-) -> Result<(Result<Answer, Refusal>, BatchResult), AllocError>
+) -> Result<(Result<WholeAnswer, Refusal>, BatchResult), AllocError>
     ensures { IfOk result (λ (reply, batch). K.is_honest desk.new.keeper → (book : Book) → Holds K.Keeper desk.old book
         → reply ≢ Err Refusal.StoreFault → (found : Book) → K.leaves desk.new.keeper found
-        → IsSession (record {
+        → (given : List Reply) × (map own_of given ≡ replies_of batch.replies.items)
+        × IsSession (record {
           start = book;
-          commands = command
-              ∷ orders_of sender (take (length (with_stop (replies_of batch.replies.items) batch.stopped)) rows.now);
-          replies = reply ∷ with_stop (replies_of batch.replies.items) batch.stopped;
+          commands = command ∷ orders_of sender (take (length (with_stop given batch.stopped)) rows.now);
+          replies = reply ∷ with_stop given batch.stopped;
           found = found;
         })) }
 {
@@ -55,7 +57,7 @@ fn a_command_and_a_batch_are_a_session(rt: HostRuntime) -> Result<(), Fail> {
         sender,
         rows.as_slice(),
     )?;
-    assert_eq!(rt; reply, Ok(Answer::Nothing));
+    assert_eq!(rt; reply, alone(Answer::Nothing));
     assert_eq!(rt; batch.replies.len(), 3);
     Ok(())
 }

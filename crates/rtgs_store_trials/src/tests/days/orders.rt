@@ -1,6 +1,6 @@
 //! Short days, answer by answer.
-use super::super::scripts::command;
 use super::super::scripts::desks::{desk_after, desk_follows};
+use super::super::scripts::{command, follows};
 use super::super::setting::{Reply, queued};
 use rtgs_book::{Command, Refusal};
 use rtgs_desk::Desk;
@@ -104,5 +104,18 @@ fn a_queue_takes_500_orders(rt: HostRuntime) -> Result<(), Fail> {
     fills_a_queue(&rt, &mut desk)?;
     let replies = [sent(rt.alloc(), &mut desk, 501)?, desk.submit(another)];
     assert_eq!(rt; replies, [Err(Refusal::QueueFull), queued(501, 1)]);
+    Ok(())
+}
+
+// What is full is refused before the posting that frees it, and is taken after it.
+#[test]
+fn a_full_queue_is_freed_on_an_automatic_day(rt: HostRuntime) -> Result<(), Fail> {
+    let frees = "post ALFA P-1 2500 => Posted { number: 1 } auto 1 500 2500";
+    let mut desk = desk_after(rt.alloc(), "open 2024-03-04 automatic => Opened")?;
+    fills_a_queue(&rt, &mut desk)?;
+    let before = sent(rt.alloc(), &mut desk, 501)?;
+    follows(rt.alloc(), &mut desk, frees)?;
+    let after = sent(rt.alloc(), &mut desk, 501)?;
+    assert_eq!(rt; [before, after], [Err(Refusal::QueueFull), queued(501, 1)]);
     Ok(())
 }

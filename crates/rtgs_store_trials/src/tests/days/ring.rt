@@ -1,24 +1,57 @@
-//! A ring of more orders than two bytes count: kept in tables, found again, and settled under one mark.
+//! A ring of more orders than two bytes count: kept in tables, found again, and settled under one mark, at once or by
+//! the order that closes it.
+ghost use Rattle.std.specs.Prelude.{◌≤◌};
+
 use super::super::setting::{
-    MONDAY, Reply, amount, change, code, date, desk_over, new_keeper, opened, participant, queued,
-    reference, resolved,
+    MONDAY, Reply, alone, amount, change, code, date, desk_over, new_keeper, opened, participant,
+    queued, reference, resolved,
 };
-use rtgs_book::{Answer, Command, Day, Known, Order, OrderState, Phase, RowChange};
+use rtgs_book::{
+    Answer, Command, Day, Known, Order, OrderState, Phase, Resolution, RowChange, WholeAnswer,
+};
 use rtgs_keeper::Keeper;
-use rtgs_money::{BusinessDate, Code, Reference};
+use rtgs_money::{BusinessDate, Cents, Code, Reference};
 use rtgs_tables::SqlKeeper;
 use sqlite::Alter;
 use std::alloc::Global;
 use std::test::Fail;
 
-/// How many banks there are. The queue of each is full.
+/// How many banks there are.
 const BANKS: u64 = 66;
 
-/// How many orders wait in all queues.
-const ORDERS: u64 = 33_000;
-
-/// How many orders are kept in one commit.
+/// How many orders wait in the queue of a bank, which is full, and are kept in one commit.
 const AT_ONCE: u64 = 500;
+
+/// Which banks send orders, each to the next one: those from the first sender on. The last one sends to the first bank.
+#[derive(Clone, Copy)]
+struct Ring {
+    first: u64,
+}
+
+/// All banks send, so that all orders can settle.
+const CLOSED: Ring = Ring { first: 0 };
+
+/// The first bank does not send, so that nobody can.
+const OPEN: Ring = Ring { first: 1 };
+
+impl Ring {
+    /// How many banks send.
+    fn senders(self) -> u64
+        ensures { 1 ≤ result }
+    {
+        BANKS.saturating_sub(self.first).max(1)
+    }
+
+    /// How many orders wait in all queues.
+    fn orders(self) -> u64 {
+        self.senders().saturating_mul(AT_ONCE)
+    }
+
+    /// The number of the bank that sends the order with this number.
+    fn sender(self, number: u64) -> u64 {
+        self.first.saturating_add(number % self.senders())
+    }
+}
 
 /// The code of a bank.
 fn bank(alloc: Global, number: u64) -> Result<Code, Fail> {
@@ -47,11 +80,12 @@ fn add_banks<K: Keeper>(alloc: Global, keeper: &mut K) -> Result<(), Fail> {
     Ok(())
 }
 
-/// Opens Monday.
-fn open_monday<K: Keeper>(alloc: Global, keeper: &mut K) -> Result<(), Fail> {
+/// Opens Monday, which is automatic or not.
+fn open_monday<K: Keeper>(alloc: Global, keeper: &mut K, automatic: bool) -> Result<(), Fail> {
     let day = Day {
         date: Some(date(MONDAY)?),
         phase: Phase::Open,
+        automatic,
     };
     keep(alloc, keeper, RowChange::SetDay(day))
 }
@@ -63,12 +97,13 @@ fn name(alloc: Global, number: u64) -> Result<Reference, Fail> {
 }
 
 /// The order with this number, of one cent from a bank to the next one.
-fn order(alloc: Global, number: u64) -> Result<Order, Fail> {
+fn order(alloc: Global, ring: Ring, number: u64) -> Result<Order, Fail> {
+    let sender = ring.sender(number);
     Ok(Order {
         number,
-        sender: bank(alloc, number % BANKS)?,
+        sender: bank(alloc, sender)?,
         reference: name(alloc, number)?,
-        receiver: bank(alloc, (number % BANKS + 1) % BANKS)?,
+        receiver: bank(alloc, sender.saturating_add(1) % BANKS)?,
         amount: amount(1)?,
         date: date(MONDAY)?,
         due: None,
@@ -77,29 +112,30 @@ fn order(alloc: Global, number: u64) -> Result<Order, Fail> {
 }
 
 /// The rows of the orders after this number, as many as are kept at once.
-fn orders_after(alloc: Global, number: u64) -> Result<Vec<RowChange>, Fail> {
+fn orders_after(alloc: Global, ring: Ring, number: u64) -> Result<Vec<RowChange>, Fail> {
     // Names the type of due dates for the borrow checker, which finds it nowhere else in this function.
     let _no_date: Option<BusinessDate> = None;
     let mut rows = Vec::new(alloc);
     for at in 1..=AT_ONCE {
-        let row = [RowChange::AddOrder(order(alloc, number.saturating_add(at))?)];
+        let order = order(alloc, ring, number.saturating_add(at))?;
+        let row = [RowChange::AddOrder(order)];
         rows.extend_from_slice(&row)?;
     }
     Ok(rows)
 }
 
 /// Queues all orders.
-fn queue_orders<K: Keeper>(alloc: Global, keeper: &mut K) -> Result<(), Fail> {
-    for turn in 0..(ORDERS / AT_ONCE) {
-        let rows = orders_after(alloc, turn.saturating_mul(AT_ONCE))?;
+fn queue_orders<K: Keeper>(alloc: Global, keeper: &mut K, ring: Ring) -> Result<(), Fail> {
+    for turn in 0..ring.senders() {
+        let rows = orders_after(alloc, ring, turn.saturating_mul(AT_ONCE))?;
         keeper.commit(&change(alloc, rows.as_slice())?)?;
     }
     Ok(())
 }
 
 /// Sends the order with this number.
-fn sends(alloc: Global, number: u64) -> Result<Command, Fail> {
-    let order = order(alloc, number)?;
+fn sends(alloc: Global, ring: Ring, number: u64) -> Result<Command, Fail> {
+    let order = order(alloc, ring, number)?;
     Ok(Command::Order {
         sender: order.sender,
         reference: order.reference,
@@ -109,11 +145,16 @@ fn sends(alloc: Global, number: u64) -> Result<Command, Fail> {
     })
 }
 
-/// Keeps the ring.
-fn keep_ring<K: Keeper>(alloc: Global, keeper: &mut K) -> Result<(), Fail> {
+/// Keeps the ring, on a day that is automatic or not.
+fn keep_ring<K: Keeper>(
+    alloc: Global,
+    keeper: &mut K,
+    ring: Ring,
+    automatic: bool,
+) -> Result<(), Fail> {
     add_banks(alloc, keeper)?;
-    open_monday(alloc, keeper)?;
-    queue_orders(alloc, keeper)
+    open_monday(alloc, keeper, automatic)?;
+    queue_orders(alloc, keeper, ring)
 }
 
 /// What a desk that is opened for it answers a command, and the keeper that it leaves.
@@ -127,36 +168,104 @@ fn submitted<K: Keeper + Drop>(
     Ok((reply, desk.into_keeper()))
 }
 
-/// What is answered to a resolution, to the last order again, and to one order more, over tables that keep the ring and
-/// are opened anew for each of them.
-fn replies<S: Alter + Drop>(alloc: Global, keeper: SqlKeeper<S>) -> Result<[Reply; 3], Fail> {
-    let again = sends(alloc, ORDERS)?;
-    let one_more = sends(alloc, ORDERS + 1)?;
-    let (first, keeper) = submitted(alloc, opened(keeper), Command::Resolve)?;
-    let (second, keeper) = submitted(alloc, opened(keeper), again)?;
-    let (third, _) = submitted(alloc, opened(keeper), one_more)?;
+/// What is answered to three commands over tables that are opened anew for each of them.
+fn replies<S: Alter + Drop>(
+    alloc: Global,
+    keeper: SqlKeeper<S>,
+    commands: [Command; 3],
+) -> Result<[Reply; 3], Fail> {
+    let [first, second, third] = commands;
+    let (first, keeper) = submitted(alloc, opened(keeper), first)?;
+    let (second, keeper) = submitted(alloc, opened(keeper), second)?;
+    let (third, _) = submitted(alloc, opened(keeper), third)?;
     Ok([first, second, third])
 }
 
-/// The same over tables in which the ring is kept first.
-fn replies_over<S: Alter + Drop>(alloc: Global, keeper: SqlKeeper<S>) -> Result<[Reply; 3], Fail> {
+/// The same over tables in which the ring is kept first, on a day that is automatic or not.
+fn replies_over<S: Alter + Drop>(
+    alloc: Global,
+    keeper: SqlKeeper<S>,
+    (ring, automatic): (Ring, bool),
+    commands: [Command; 3],
+) -> Result<[Reply; 3], Fail> {
     let mut keeper = keeper;
-    keep_ring(alloc, &mut keeper)?;
-    replies(alloc, keeper)
+    keep_ring(alloc, &mut keeper, ring, automatic)?;
+    replies(alloc, keeper, commands)
+}
+
+/// A resolution of the closed ring, its last order again, and one order more.
+fn resolving(alloc: Global) -> Result<[Command; 3], Fail> {
+    Ok([
+        Command::Resolve,
+        sends(alloc, CLOSED, CLOSED.orders())?,
+        sends(alloc, CLOSED, CLOSED.orders().saturating_add(1))?,
+    ])
 }
 
 #[test]
 fn a_ring_of_33000_orders_is_settled_under_one_mark(rt: HostRuntime) -> Result<(), Fail> {
     let settled = Known::Order {
-        number: ORDERS,
+        number: 33_000,
         state: OrderState::Settled(1),
     };
     let wanted = [
-        resolved(1, ORDERS, ORDERS as i64),
-        Ok(Answer::Repeated(settled)),
-        queued(ORDERS + 1, 1),
+        resolved(1, 33_000, 33_000),
+        alone(Answer::Repeated(settled)),
+        queued(33_001, 1),
     ];
-    let replies = replies_over(rt.alloc(), new_keeper(rt.alloc())?)?;
+    let commands = resolving(rt.alloc())?;
+    let keeper = new_keeper(rt.alloc())?;
+    let replies = replies_over(rt.alloc(), keeper, (CLOSED, false), commands)?;
+    assert_eq!(rt; replies, wanted);
+    Ok(())
+}
+
+/// The order of 500 cents that closes the open ring.
+fn closing(alloc: Global) -> Result<Command, Fail> {
+    let due: Option<BusinessDate> = None;
+    Ok(Command::Order {
+        sender: bank(alloc, 0)?,
+        reference: name(alloc, 0)?,
+        receiver: bank(alloc, 1)?,
+        amount: amount(AT_ONCE)?,
+        due,
+    })
+}
+
+/// The order that closes the open ring, that order again, and the last order of the ring again.
+fn closing_twice(alloc: Global) -> Result<[Command; 3], Fail> {
+    Ok([
+        closing(alloc)?,
+        closing(alloc)?,
+        sends(alloc, OPEN, OPEN.orders())?,
+    ])
+}
+
+/// The order with this number came before, and was settled under the first mark.
+fn settled_before(number: u64) -> Reply {
+    alone(Answer::Repeated(Known::Order {
+        number,
+        state: OrderState::Settled(1),
+    }))
+}
+
+#[test]
+fn an_order_settles_with_32500_others_on_an_automatic_day(rt: HostRuntime) -> Result<(), Fail> {
+    let closed = WholeAnswer {
+        own: Answer::Queued {
+            number: 32_501,
+            place: 1,
+        },
+        auto: Some(Resolution {
+            mark: 1,
+            count: 32_501,
+            value: Cents::new(33_000),
+        }),
+    };
+    let wanted = [Ok(closed), settled_before(32_501), settled_before(32_500)];
+    let commands = closing_twice(rt.alloc())?;
+    let keeper = new_keeper(rt.alloc())?;
+    let replies = replies_over(rt.alloc(), keeper, (OPEN, true), commands)?;
     assert_eq!(rt; replies, wanted);
     Ok(())
 }

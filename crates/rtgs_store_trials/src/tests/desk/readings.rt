@@ -8,10 +8,12 @@ use rtgs_money::{Cents, Code, Reference, Units};
 use std::alloc::Global;
 use std::test::Fail;
 
+// The day is automatic: what waits cannot settle, since ALFA has nothing.
 fn today() -> Result<Day, Fail> {
     Ok(Day {
         date: Some(date(MONDAY)?),
         phase: Phase::Open,
+        automatic: true,
     })
 }
 

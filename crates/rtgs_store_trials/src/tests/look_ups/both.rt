@@ -25,11 +25,12 @@ fn mark() -> Result<Mark, Fail> {
     })
 }
 
-/// Sets Monday's phase.
-fn sets_day(phase: Phase) -> Result<RowChange, Fail> {
+/// Sets Monday's phase, and that it is automatic or not.
+fn sets_day(phase: Phase, automatic: bool) -> Result<RowChange, Fail> {
     Ok(RowChange::SetDay(Day {
         date: Some(date(MONDAY)?),
         phase,
+        automatic,
     }))
 }
 
@@ -54,7 +55,7 @@ fn rows() -> Result<[RowChange; 10], Fail> {
         RowChange::AddMark(mark()?),
         sets_balance("ALFA", 70)?,
         sets_balance("BETA", 30)?,
-        sets_day(Phase::Open)?,
+        sets_day(Phase::Open, true)?,
     ])
 }
 
@@ -93,7 +94,8 @@ fn core_in_words(alloc: Global, core: &Core) -> Result<String, Fail> {
     add_accounts(&mut told, core.accounts.as_slice())?;
     add_orders(&mut told, core.waiting.as_slice())?;
     let (posting, order, mark) = (core.next_posting, core.next_order, core.next_mark);
-    write!(told, "{:?}, next {posting} {order} {mark}", core.day.phase)?;
+    let (phase, automatic) = (core.day.phase, core.day.automatic);
+    write!(told, "{phase:?} {automatic}, next {posting} {order} {mark}")?;
     Ok(told)
 }
 
@@ -117,7 +119,7 @@ fn tells_the_core<K: Keeper>(rt: &(impl Abort + AllocGlobal), keeper: &mut K) ->
     assert!(rt; has_the_rows(&core)?);
     assert_eq!(rt;
         core_in_words(rt.alloc(), &core)?.as_str(),
-        "ALFA 70, BETA 30, 2 Queued, 3 Held, Open, next 2 4 2"
+        "ALFA 70, BETA 30, 2 Queued, 3 Held, Open true, next 2 4 2"
     );
     Ok(())
 }
@@ -200,10 +202,30 @@ fn an_order_enters_alike(rt: HostRuntime) -> Result<(), Fail> {
 
 #[test]
 fn a_book_that_breaks_a_rule_has_no_core(rt: HostRuntime) -> Result<(), Fail> {
-    let closes = [sets_day(Phase::Closed)?];
+    let closes = [sets_day(Phase::Closed, false)?];
     let mut keeper = kept(rt.alloc(), in_memory(rt.alloc())?, &closes)?;
     let rule = Rule::Queues;
     let refused = keeper.core(rt.alloc()).err();
     assert_eq!(rt; refused, Some(Fault::Inconsistent { rule }));
+    Ok(())
+}
+
+// What a keeper fails with once a day is closed in it, and is automatic all the same.
+fn fault_of_an_automatic_close<K: Keeper>(
+    alloc: Global,
+    keeper: &mut K,
+) -> Result<Option<Fault>, Fail> {
+    keeper.commit(&change(alloc, &[sets_day(Phase::Closed, true)?])?)?;
+    Ok(keeper.core(alloc).err())
+}
+
+#[test]
+fn a_closed_day_that_is_automatic_has_no_core(rt: HostRuntime) -> Result<(), Fail> {
+    let alloc = rt.alloc();
+    let rule = Rule::AutomaticDay;
+    let wanted = Some(Fault::Inconsistent { rule });
+    let in_memory = fault_of_an_automatic_close(alloc, &mut MemoryKeeper::new(alloc))?;
+    let in_tables = fault_of_an_automatic_close(alloc, &mut new_keeper(alloc)?)?;
+    assert_eq!(rt; (in_memory, in_tables), (wanted, wanted));
     Ok(())
 }

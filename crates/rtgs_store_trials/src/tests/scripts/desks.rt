@@ -27,7 +27,7 @@ impl<K: Keeper> Answers for Desk<K> {
             ["code-at", index] => code_text(alloc, self, index),
             others => {
                 let command = command_of(others)?;
-                reply_text(alloc, self.submit(command))
+                reply_text(alloc, &self.submit(command))
             }
         }
     }

@@ -1,8 +1,9 @@
 //! Scripts for a ledger, and the keeper in memory in which what it adopts is kept.
-use super::super::setting::{code, reference};
+use super::super::setting::{Reply, code, reference};
 use super::records::{order_if_any, queue_text};
+use super::rows::{day_text, rows_text};
 use super::{Answers, command_of, follows, reply_text, words_of};
-use rtgs_book::{Answer, Command, Refusal};
+use rtgs_book::{Answer, Command, Resolution};
 use rtgs_cores::Found;
 use rtgs_keeper::Keeper;
 use rtgs_ledger::Ledger;
@@ -20,20 +21,15 @@ struct Kept {
 
 impl Answers for Kept {
     fn answer(&mut self, alloc: Global, asked: &str) -> Result<String, Fail> {
-        // Names the type of due dates for the borrow checker, which finds it nowhere else in this function.
-        let _no_date: Option<BusinessDate> = None;
         let words = words_of(alloc, asked)?;
         match words.as_slice() {
             ["balance", participant] => balance_text(alloc, &self.ledger, participant),
             ["queue", sender] => queue_of(alloc, &self.ledger, sender),
             ["kept", sender, name] => kept_order(alloc, &mut self.keeper, sender, name),
             ["in-memory"] => numbers_in_memory(alloc, &self.ledger),
-            ["phase"] => phase_text(alloc, &self.ledger),
-            others => {
-                let command = command_of(others)?;
-                let reply = submit(self, &command)?;
-                reply_text(alloc, reply)
-            }
+            ["day"] => day_text(alloc, &self.ledger.day()),
+            ["rows", others @ ..] => rows_told(alloc, self, others),
+            others => reply_told(alloc, self, others),
         }
     }
 }
@@ -51,6 +47,21 @@ open 2024-03-04 => Opened
 pub fn funded_ledger_follows(rt: &HostRuntime, script: &str) -> Result<(), Fail> {
     let mut kept = new_kept(rt.alloc())?;
     follows(rt.alloc(), &mut kept, FUNDED)?;
+    follows(rt.alloc(), &mut kept, script)
+}
+
+/// ALFA, BETA and GAMA, of which nobody has anything, and an automatic day.
+const AUTOMATIC: &str = "
+add ALFA 0000000000000000000000000000000a => Added
+add BETA 0000000000000000000000000000000b => Added
+add GAMA 0000000000000000000000000000000c => Added
+open 2024-03-04 automatic => Opened
+";
+
+/// Fails unless a ledger of three banks answers the script as it tells on an automatic day.
+pub fn automatic_ledger_follows(rt: &HostRuntime, script: &str) -> Result<(), Fail> {
+    let mut kept = new_kept(rt.alloc())?;
+    follows(rt.alloc(), &mut kept, AUTOMATIC)?;
     follows(rt.alloc(), &mut kept, script)
 }
 
@@ -103,7 +114,42 @@ fn found_for(keeper: &mut MemoryKeeper, command: &Command) -> Result<Found, Fail
     }
 }
 
-fn submit(kept: &mut Kept, command: &Command) -> Result<Result<Answer, Refusal>, Fail> {
+/// What a command of these words is answered.
+fn reply_told(alloc: Global, kept: &mut Kept, words: &[&str]) -> Result<String, Fail> {
+    // Names the types within commands and replies for the borrow checker, which finds them nowhere else in this function.
+    let _no_date: Option<BusinessDate> = None;
+    let _no_answer: Option<Answer> = None;
+    let _no_resolution: Option<Resolution> = None;
+    let command = command_of(words)?;
+    let reply = submit(kept, &command)?;
+    reply_text(alloc, &reply)
+}
+
+/// The rows of the change that a command of these words makes, which is adopted.
+fn rows_told(alloc: Global, kept: &mut Kept, words: &[&str]) -> Result<String, Fail> {
+    // Names the types within commands and replies for the borrow checker, which finds them nowhere else in this function.
+    let _no_date: Option<BusinessDate> = None;
+    let _no_answer: Option<Answer> = None;
+    let _no_resolution: Option<Resolution> = None;
+    let command = command_of(words)?;
+    let text = rows_of(alloc, kept, &command)?;
+    let _ = submit(kept, &command)?;
+    Ok(text)
+}
+
+/// The rows of the change that a command makes, which is not adopted.
+fn rows_of(alloc: Global, kept: &mut Kept, command: &Command) -> Result<String, Fail> {
+    let found = match found_for(&mut kept.keeper, command) {
+        Ok(found) => found,
+        Err(fail) => return Err(fail),
+    };
+    match kept.ledger.prepare(command, &found) {
+        Ok((_, change)) => rows_text(alloc, change.as_slice()),
+        Err(refusal) => Ok(format!(in alloc; "refused: {refusal:?}")?),
+    }
+}
+
+fn submit(kept: &mut Kept, command: &Command) -> Result<Reply, Fail> {
     let found = match found_for(&mut kept.keeper, command) {
         Ok(found) => found,
         Err(fail) => return Err(fail),
@@ -155,9 +201,4 @@ fn numbers_in_memory(alloc: Global, ledger: &Ledger) -> Result<String, Fail> {
         numbers.push(order.number)?;
     }
     Ok(format!(in alloc; "{:?}", numbers.as_slice())?)
-}
-
-fn phase_text(alloc: Global, ledger: &Ledger) -> Result<String, Fail> {
-    let phase = ledger.day().phase;
-    Ok(format!(in alloc; "{phase:?}")?)
 }

@@ -40,6 +40,7 @@ fn one_settled() -> Result<[RowChange; 5], Fail> {
         RowChange::SetDay(Day {
             date: Some(monday),
             phase: Phase::Open,
+            automatic: false,
         }),
         RowChange::AddOrder(order(1, "O-1", 300, OrderState::Queued)?),
         RowChange::AddOrder(order(2, "O-2", 300, OrderState::Queued)?),

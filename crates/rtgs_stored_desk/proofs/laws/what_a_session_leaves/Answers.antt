@@ -1,11 +1,12 @@
 use Rattle.rtgs_stored_desk.proofs.laws.what_a_session_leaves.Goals as goal
 
 pub returns : goal.returns
-returns g c start commands replies whole session trees left =
+returns g c start commands replies whole session calm trees left =
     let book = whole trees left in
     record {
       found = book.0;
       session = session book.0 (trees, left, book.1);
+      calm = calm book.0 (trees, left, book.1);
       content = book.1.0;
       holds = book.1.1;
       records = book.1.2;

@@ -4,7 +4,7 @@ use Rattle.sqlite.specs.State.{HasCleanDisk}
 use Rattle.rtgs_book.specs.Books.{new_book}
 use Rattle.rtgs_tables.specs.Building.{IsBlank}
 use Rattle.rtgs_stored_desk.specs.Stored.{IsUnmade}
-use Rattle.rtgs_stored_desk.proofs.Resting.{committed_tables, tables_are}
+use Rattle.rtgs_stored_desk.proofs.Resting.{committed_tables, tables_are, new_is_calm}
 use Rattle.rtgs_stored_desk.proofs.opening.create.Goals as goal
 
 pub returns-in-Ok-open-clause-made : goal.returns-in-Ok-open-clause-made
@@ -24,6 +24,6 @@ returns-in-Err-open-clause-refused g c =
     let there = committed_tables g.S.Store made new_book holds in
     let why = it.refused clean holds.1.is_open in
     record {
-      cause = why.cause new_book there;
+      cause = why.cause new_book there new_is_calm;
       leaves = λ trees at. inr (tables_are new_book trees (s made).committed.trees (why.leaves trees at) there);
     })

@@ -1,8 +1,8 @@
-use Rattle.std.proofs.Common.{◌≡◌, refl, sym, ⊎_elim}
+use Rattle.std.proofs.Common.{◌≡◌, refl, sym, inl, inr}
 use Rattle.sqlite.specs.Held.{state}
 use Rattle.sqlite.specs.Tree.{Trees}
 use Rattle.rtgs_stored_desk.proofs.Resting.{held_at_rest, blank_at_rest, file_at_rest, tables_are, memory_explains}
-use Rattle.rtgs_stored_desk.proofs.Resting.{memory_tells}
+use Rattle.rtgs_stored_desk.proofs.Resting.{memory_tells, why}
 use Rattle.rtgs_stored_desk.proofs.opening.desk_over.Goals as goal
 use Rattle.rtgs_rows.specs.Settling.{current_is_known}
 use Rattle.rtgs_rows.specs.declared.numbers.TheConstants.{VERSION}
@@ -34,17 +34,24 @@ returns-in-Ok-clause-opened g c honest rest =
 pub returns-in-Err-clause-refused : goal.returns-in-Err-clause-refused
 returns-in-Err-clause-refused g c honest rest =
     let was = c.args.keeper.conn in
+    let s = state g.S.Store was in
+    let fault = c.in-Err.fault in
     let it = c.in-Err.ensures.refused honest in
+    let as_such = c.tables_of_a_desk_are_read_as_such.ensures VERSION in
     record {
-      cause = λ book tables. it.accepted book (held_at_rest g.S.Store was
-          (c.tables_of_a_desk_are_read_as_such.ensures VERSION) rest book tables);
-      explained = λ schema. ⊎_elim (λ memory. memory_explains (state g.S.Store was).committed.trees c.in-Err.fault
-          memory)
-          (λ told. told.1.0 (state g.S.Store was).committed.trees
-          (file_at_rest VERSION (state g.S.Store was) current_is_known rest schema))
-          it.explained;
-      told = ⊎_elim (λ memory. memory_tells (state g.S.Store was).now c.in-Err.fault memory) (λ told. told.1.1)
-          it.explained;
+      cause = λ book tables. it.accepted book (held_at_rest g.S.Store was as_such rest book tables);
+      restless = λ book tables. why (λ memory. inl memory) (λ store. inr store) (λ restless. restless)
+          (it.restless book (held_at_rest g.S.Store was as_such rest book tables));
+      explained = λ schema.
+          let file = file_at_rest VERSION s current_is_known rest schema in
+          why (λ memory. memory_explains s.committed.trees fault memory) (λ told. told.1.0 s.committed.trees file)
+          (λ restless.
+          let book = restless.1 in
+          (restless.0, (book.0, book.1, book.2.0 s.committed.trees file, book.3))) it.explained;
+      told = why (λ memory. memory_tells s.now fault memory) (λ told. told.1.1)
+          (λ restless.
+          let book = restless.1 in
+          (restless.0, (book.0, book.1, book.2.1, book.3))) it.explained;
       no_rule = λ none rule. it.no_rule (blank_at_rest (state g.S.Store was) c.no_tables_are_read_as_none.ensures
           rest none) rule;
       leaves = λ trees left. g.met.S.Store.settled was.store trees rest.is_open (it.left.untouched trees left);

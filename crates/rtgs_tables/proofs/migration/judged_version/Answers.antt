@@ -33,7 +33,7 @@ pub returns-then-is_name_taken-clause-explained : goal.returns-then-is_name_take
 returns-then-is_name_taken-clause-explained g c clean =
     let version = c.in_ok-version.version in
     let told = c.in_ok-version.ensures.told clean in
-    taken_explained (state g.S.Store c.args.conn.now) version told.0 told.1
+    taken_explained (state g.S.Store c.args.conn.now) version told.0 told.1 told.2
     (ap (λ (d : Database). takes_a_name version d.schema) (sym (c.in_ok-version.ensures.on.same clean))
     ∙ c.is_name_taken.ensures.yes c.if-is_name_taken.true)
 
@@ -55,7 +55,7 @@ returns-in_err-load_book-clause-explained g c clean =
     passed_on (ExplainsMigration s) c.load_book.result _ c.from_residual-in_err-load_book.result c.in_err-load_book.was
     c.from_residual-in_err-load_book.ensures.1
     (subst (λ (r : Result Book Fault). IfErr r (ExplainsMigration s)) (sym c.in_err-load_book.was)
-    (loaded_explained s version told.0 told.1
+    (loaded_explained s version told.0 told.1 told.2
     (λ low. ap (λ (d : Database). takes_a_name version d.schema) (sym (on.same was))
     ∙ c.is_name_taken.ensures.no c.if-is_name_taken.false low) _
     (subst (LoadsFrom version s) c.in_err-load_book.was loads)))
@@ -70,7 +70,7 @@ returns-clause-judged g c clean =
     let loads = loads_before version s _ c.load_book.result (on.keeps was) (on.same was)
     (c.load_book.ensures.tells clean) in (
       _,
-      judged s version told.0 told.1
+      judged s version told.0 told.1 told.2
           (λ low. ap (λ (d : Database). takes_a_name version d.schema) (sym (on.same was))
           ∙ c.is_name_taken.ensures.no c.if-is_name_taken.false low) _ c.in_ok-load_book.ensures.sound
           (subst (LoadsFrom version s) c.in_ok-load_book.was loads),

@@ -45,7 +45,7 @@ found_nothing book (command.Order sender reference receiver amount due) post ord
 found_nothing book (command.Withdraw sender reference) post order withdraw = absurd (withdraw sender reference refl)
 found_nothing book (command.Add code name key) post order withdraw = refl
 found_nothing book (command.SetCredit code credit) post order withdraw = refl
-found_nothing book (command.OpenDay date) post order withdraw = refl
+found_nothing book (command.OpenDay date automatic) post order withdraw = refl
 found_nothing book command.Resolve post order withdraw = refl
 found_nothing book (command.CutOff date) post order withdraw = refl
 found_nothing book (command.CloseDay date) post order withdraw = refl

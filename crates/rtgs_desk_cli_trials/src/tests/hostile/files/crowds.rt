@@ -12,10 +12,10 @@ const FEW: &str = "\
 views @.book @ 1
 views @.book @ 70
 views @.book @ 71
-views @.book @ 90";
+views @.book @ 89";
 
 const MANY: &str = "\
-93 NotADeskFile ! views @.book @ 91
+93 NotADeskFile ! views @.book @ 90
 93 NotADeskFile ! views @.book @ 500
 93 NotADeskFile ! views @.book @ 1000
 93 NotADeskFile ! views @.book @ 2000
@@ -57,9 +57,9 @@ $ same @ @.kept
 #[test]
 fn with_objects_in_the_log(rt: HostRuntime) -> Result<(), Fail> {
     follows(&rt, "crowd_log", BOOK)?;
-    leave_views(&rt, "crowd_log", 1, 90)?;
+    leave_views(&rt, "crowd_log", 1, 89)?;
     follows(&rt, "crowd_log", LOGGED)?;
-    leave_views(&rt, "crowd_log", 91, 91)?;
+    leave_views(&rt, "crowd_log", 90, 90)?;
     follows(&rt, "crowd_log", TOO_MANY_LOGGED)
 }
 

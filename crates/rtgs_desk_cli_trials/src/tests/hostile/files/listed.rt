@@ -70,13 +70,20 @@ fn that_are_no_database(rt: HostRuntime) -> Result<(), Fail> {
 const NO_DESK: &str = "\
 93 NotADeskFile ! sql @ DROP TABLE mark
 93 NotADeskFile ! sql @ DROP TABLE forward
+93 NotADeskFile ! sql @ DROP TABLE resolution
+93 NotADeskFile ! sql @ DELETE FROM resolution
+93 NotADeskFile ! sql @ INSERT INTO resolution VALUES (2, 0)
+93 NotADeskFile ! sql @ UPDATE resolution SET id = 2
+93 NotADeskFile ! sql @ UPDATE resolution SET automatic = 2
+93 NotADeskFile ! sql @ UPDATE resolution SET automatic = -1
 93 NotADeskFile ! sql @ INSERT INTO forward VALUES (5, '2024-03-05')
 93 NotADeskFile ! sql @ INSERT INTO forward VALUES (1, 'never')
 93 NotADeskFile ! sql @ UPDATE payment SET state = 4 WHERE number = 4
-93 NotADeskFile ! sql @ INSERT INTO desk VALUES (2, 2, NULL, 0)
+93 NotADeskFile ! sql @ INSERT INTO desk VALUES (2, 3, NULL, 0)
 93 NotADeskFile ! sql @ DELETE FROM desk
 93 NotADeskFile ! sql @ UPDATE desk SET version = 1
-93 NotADeskFile ! sql @ UPDATE desk SET version = 3
+93 NotADeskFile ! sql @ UPDATE desk SET version = 2
+93 NotADeskFile ! sql @ UPDATE desk SET version = 4
 93 NotADeskFile ! sql @ UPDATE desk SET version = 7
 93 NotADeskFile ! sql @ UPDATE payment SET state = 9 WHERE number = 3
 93 NotADeskFile ! sql @ UPDATE payment SET amount = 0 WHERE number = 4
@@ -106,6 +113,22 @@ fn whose_book_is_unsound(rt: HostRuntime) -> Result<(), Fail> {
     follows_each(&rt, "unsound", REFUSED, UNSOUND)
 }
 
+// A day that is said to be automatic, and on which nothing that waits could settle, is one.
+const AUTOMATIC: &str = "sql @ UPDATE resolution SET automatic = 1";
+
+// ALFA could settle what it has queued, and then its balance is wrong too.
+const RESTLESS: &str = "\
+94 Inconsistent 16 ! sql @ UPDATE resolution SET automatic = 1; UPDATE posting SET cents = 175; \
+    UPDATE participant SET balance = 25 WHERE code = 'ALFA'
+94 Inconsistent 14 ! sql @ UPDATE resolution SET automatic = 1; UPDATE posting SET cents = 175";
+
+#[test]
+fn whose_automatic_day_is_not_calm(rt: HostRuntime) -> Result<(), Fail> {
+    follows(&rt, "restless_file", BOOK)?;
+    follows_each(&rt, "restless_file", REPORTED, AUTOMATIC)?;
+    follows_each(&rt, "restless_file", REFUSED, RESTLESS)
+}
+
 const CLOSED: &str = "
 $ desk cutoff @ 2024-03-04
 > cut off
@@ -116,11 +139,15 @@ $ desk post @ BETA P-2 7
 $ copy @ @.book
 ";
 
-// Orders without a third one, and a queued order once the day is closed. In the last case nothing adds up besides.
+// Orders without a third one, a queued order once the day is closed, and a closed day that is automatic. In the last
+// case of each kind nothing adds up besides.
 const ENDED: &str = "\
 94 Inconsistent 1 ! sql @ DELETE FROM payment WHERE number = 4; UPDATE payment SET number = 4 WHERE number = 3
 94 Inconsistent 10 ! sql @ UPDATE payment SET state = 0 WHERE number = 4
-94 Inconsistent 10 ! sql @ UPDATE payment SET state = 0 WHERE number = 4; UPDATE participant SET balance = 0";
+94 Inconsistent 10 ! sql @ UPDATE payment SET state = 0 WHERE number = 4; UPDATE participant SET balance = 0
+94 Inconsistent 10 ! sql @ UPDATE payment SET state = 0 WHERE number = 4; UPDATE resolution SET automatic = 1
+94 Inconsistent 15 ! sql @ UPDATE resolution SET automatic = 1
+94 Inconsistent 14 ! sql @ UPDATE resolution SET automatic = 1; UPDATE participant SET balance = 0";
 
 #[test]
 fn whose_book_is_unsound_once_its_day_is_closed(rt: HostRuntime) -> Result<(), Fail> {

@@ -7,10 +7,10 @@ use std::alloc::{AllocError, Global};
 const EACH: u32 = 70;
 
 // How many objects a book lists.
-const OWN: u32 = 10;
+const OWN: u32 = 11;
 
 // What the page of its list has before the objects themselves: eight bytes, and two for the place of each.
-const LIST_HEAD: usize = 28;
+const LIST_HEAD: usize = 30;
 
 // What the list has of a view, and what its root has of a page below it: so many bytes each.
 const VIEW: usize = 56;

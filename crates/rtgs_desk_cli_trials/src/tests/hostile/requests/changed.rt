@@ -113,27 +113,27 @@ fn lengths_at_limits(rt: HostRuntime) -> Result<(), Fail> {
 #[test]
 fn bodies_with_a_change(rt: HostRuntime) -> Result<(), Fail> {
     let all =
-        "read 276, 1 2, 2 2, 3 1, 4 1, 14 4, 30 6, 31 2, 35 84, 40 18, 41 49, 60 124, 65 477, 66 43, done 31";
+        "read 276, 1 2, 2 2, 3 1, 4 1, 14 1, 30 6, 31 2, 35 69, 40 18, 41 49, 60 124, 65 485, 66 52, done 32";
     are_met(rt.alloc(), What::Body, 3, all)
 }
 
 #[test]
 fn bodies_with_other_values(rt: HostRuntime) -> Result<(), Fail> {
     let all =
-        "1 2, 2 1, 4 4, 6 5, 14 23, 15 10, 30 25, 31 17, 32 7, 35 187, 40 16, 41 43, 65 94, 66 60, done 66";
+        "1 2, 2 1, 4 4, 6 5, 14 12, 15 10, 30 25, 31 17, 32 7, 35 145, 40 16, 41 43, 65 112, 66 95, done 66";
     are_met(rt.alloc(), What::Values, 4, all)
 }
 
 #[test]
 fn requests_with_one_change(rt: HostRuntime) -> Result<(), Fail> {
     let all =
-        "read 35, 9 1, 14 2, 35 5, 40 3, 41 14, 60 347, 62 16, 64 271, 65 69, 66 3, 67 18, 68 181, done 15";
+        "read 35, 9 1, 14 2, 35 4, 40 3, 41 14, 60 346, 62 18, 64 277, 65 67, 66 3, 67 16, 68 177, done 17";
     are_met(rt.alloc(), What::Bytes(1), 1, all)
 }
 
 #[test]
 fn requests_with_more_changes(rt: HostRuntime) -> Result<(), Fail> {
     let all =
-        "read 9, 9 1, 14 2, 35 1, 40 1, 41 6, 60 318, 62 4, 64 517, 65 23, 67 10, 68 84, done 4";
+        "read 9, 9 1, 14 2, 35 1, 40 1, 41 6, 60 310, 62 5, 64 523, 65 23, 67 10, 68 85, done 4";
     are_met(rt.alloc(), What::Bytes(5), 2, all)
 }

@@ -104,7 +104,7 @@ fn heads_that_are_refused(rt: HostRuntime) -> Result<(), Fail> {
     are_refused(rt.alloc(), before.as_str(), HEADS)
 }
 
-// ALFA's requests, each below the number that it is told.
+// Requests of ALFA and of the operator, each below the number that it is told.
 const BODIES: &str = r#"65
 POST /orders HTTP/1.1
 desk-key: 0000000000000000000000000000000a
@@ -129,6 +129,18 @@ desk-key: 0000000000000000000000000000000a
 Content-Length: 50
 
 {"amount":100,"reference":"A-9","to":"BETA","x":1}
+= 66
+POST /desk/open HTTP/1.1
+desk-key: 0000000000000000000000000000000f
+Content-Length: 35
+
+{"automatic":1,"date":"2024-03-04"}
+= 14
+POST /desk/open HTTP/1.1
+desk-key: 0000000000000000000000000000000f
+Content-Length: 39
+
+{"automatic":false,"date":"2024-03-04"}
 = 32
 POST /orders HTTP/1.1
 desk-key: 0000000000000000000000000000000a

@@ -19,7 +19,7 @@ A-9,BETA,3
 = ALFA | GET /statements/2024-03-04
 = OPERATOR | POST /desk/post | {"cents":-10,"code":"ALFA","reference":"P-9"}
 = OPERATOR | POST /desk/credit | {"code":"ALFA","credit":100}
-= OPERATOR | POST /desk/open | {"date":"2024-03-04"}
+= OPERATOR | POST /desk/open | {"automatic":true,"date":"2024-03-04"}
 = OPERATOR | POST /desk/resolve | {}
 = OPERATOR | POST /desk/cutoff | {"date":"2024-03-04"}
 = OPERATOR | POST /desk/close | {"date":"2024-03-04"}

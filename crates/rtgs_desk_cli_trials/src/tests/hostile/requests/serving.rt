@@ -1,4 +1,4 @@
-//! A desk on an open Monday, and what one input does to it.
+//! A desk on an open Monday that is automatic, and what one input does to it.
 use super::super::met::column;
 use super::replies::told_by;
 use rtgs_desk::Desk;
@@ -17,7 +17,7 @@ add BETA 0000000000000000000000000000000b => Ok(Added)
 add GAMA 0000000000000000000000000000000c => Ok(Added)
 post ALFA P-1 100 => Ok(Posted { number: 1 })
 credit ALFA 50 => Ok(CreditSet)
-open 2024-03-04 => Ok(Opened)
+open 2024-03-04 automatic => Ok(Opened)
 order ALFA A-1 BETA 100 => Ok(Settled { number: 1, mark: 1 })
 order ALFA A-2 GAMA 500 => Ok(Queued { number: 2, place: 1 })
 order ALFA A-3 BETA 7 => Ok(Queued { number: 3, place: 2 })";

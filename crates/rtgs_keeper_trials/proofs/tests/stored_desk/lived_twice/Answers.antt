@@ -1,8 +1,13 @@
-use Rattle.std.proofs.Common.{refl}
+use Rattle.std.proofs.Common.{refl, sym, true≢false}
 use Rattle.std.specs.Prelude.{List, [], ◌∷◌}
 use Rattle.rtgs_book.specs.Books.{new_book}
+use Rattle.rtgs_book.specs.Calm.{IsCalm}
 use Rattle.rtgs_book.specs.Session.{Session, IsLife}
 use Rattle.rtgs_keeper_trials.proofs.tests.stored_desk.lived_twice.Goals as goal
+
+-- no day of it is automatic
+new_is_calm : IsCalm new_book
+new_is_calm automatic = absurd (true≢false (sym automatic))
 
 pub returns : goal.returns
 returns g c clean blank =
@@ -21,7 +26,8 @@ returns g c clean blank =
     } ∷ [] in
     let life : IsLife new_book sessions two.0 = (refl, one.2, (refl, two.2, refl)) in
     let run = c.life_is_a_run.ensures.run new_book two.0 sessions life in
-    let stands = c.life_is_a_run.ensures.stands new_book two.0 sessions c.new_book_is_sound.ensures life in (
+    let stands = c.life_is_a_run.ensures.stands new_book two.0 sessions c.new_book_is_sound.ensures life in
+    let calm = c.life_is_a_run.ensures.calm new_book two.0 sessions c.new_book_is_sound.ensures new_is_calm life in (
       two.0,
       two.1,
       record {
@@ -35,5 +41,6 @@ returns g c clean blank =
         run = run.3;
         sound = stands.0;
         stands = stands.1;
+        calm = (calm.0.0, calm.1);
       },
     )

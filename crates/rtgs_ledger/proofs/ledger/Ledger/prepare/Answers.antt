@@ -1,34 +1,19 @@
-use Rattle.std.proofs.Common.{ap}
-use Rattle.rtgs_cores.specs.declared.found.Found.{Found}
-use Rattle.rtgs_cores.specs.Cores.{found_for}
+use Rattle.std.proofs.Common.{◌∙◌, ◌&&◌, Ok, ap, sym}
+use Rattle.rtgs_book.specs.declared.day.Day.{Day}
+use Rattle.rtgs_book.specs.Books.{is_automatic}
+use Rattle.rtgs_book.specs.Outcome.{is_done}
+use Rattle.rtgs_book.specs.Step.{may_free}
+use Rattle.rtgs_cores.specs.declared.Core.{Core}
+use Rattle.rtgs_ledger.specs.Following.{day_after}
+use Rattle.rtgs_ledger.proofs.Following.{day_left, prepared_alone}
 use Rattle.rtgs_ledger.proofs.ledger.Ledger.prepare.Goals as goal
 
-pub returns-in-Post-clause-prepared : goal.returns-in-Post-clause-prepared
-unfolding found_for
-returns-in-Post-clause-prepared c book is found = rw c.in-Post.is (c.prepare_post.ensures.prepared book is
-    (ap (λ (f : Found). f.posting) (rw c.in-Post.is at found)))
-
-pub returns-in-Post-clause-refused : goal.returns-in-Post-clause-refused
-unfolding found_for
-returns-in-Post-clause-refused c book is found = rw c.in-Post.is (c.prepare_post.ensures.refused book is
-    (ap (λ (f : Found). f.posting) (rw c.in-Post.is at found)))
-
-pub returns-in-Order-clause-prepared : goal.returns-in-Order-clause-prepared
-unfolding found_for
-returns-in-Order-clause-prepared c book is found = rw c.in-Order.is (c.prepare_order.ensures.prepared book is
-    (ap (λ (f : Found). f.order) (rw c.in-Order.is at found)))
-
-pub returns-in-Order-clause-refused : goal.returns-in-Order-clause-refused
-unfolding found_for
-returns-in-Order-clause-refused c book is found = rw c.in-Order.is (c.prepare_order.ensures.refused book is
-    (ap (λ (f : Found). f.order) (rw c.in-Order.is at found)))
-
-pub returns-in-Withdraw-clause-prepared : goal.returns-in-Withdraw-clause-prepared
-unfolding found_for
-returns-in-Withdraw-clause-prepared c book is found = rw c.in-Withdraw.is (c.prepare_withdraw.ensures.prepared book is
-    (ap (λ (f : Found). f.order) (rw c.in-Withdraw.is at found)))
-
-pub returns-in-Withdraw-clause-refused : goal.returns-in-Withdraw-clause-refused
-unfolding found_for
-returns-in-Withdraw-clause-refused c book is found = rw c.in-Withdraw.is (c.prepare_withdraw.ensures.refused book is
-    (ap (λ (f : Found). f.order) (rw c.in-Withdraw.is at found)))
+pub returns-then-not-is_followed-clause-prepared : goal.returns-then-not-is_followed-clause-prepared
+returns-then-not-is_followed-clause-prepared c book is calm told =
+    let p = c.in_ok-own.ensures.prepared book is told in
+    let core = c.in_ok-own.ensures.core in
+    prepared_alone book c.args.self.now.core c.args.command.now c.in_ok-own.own c.in_ok-own.change p
+    (ap (λ (d : Day). may_free c.args.command.now && is_done (Ok c.in_ok-own.own) && is_automatic d)
+    (day_left book p.book c.args.self.now.core c.in_ok-own.change is p.leads
+    ∙ ap (λ (k : Core). day_after k.day c.in_ok-own.change) (sym core))
+    ∙ sym c.is_followed.ensures ∙ c.if-not-is_followed.true)

@@ -4,6 +4,7 @@ use Rattle.rtgs_book.specs.declared.book.Book.{Book}
 use Rattle.rtgs_book.specs.declared.order.Order.{Order}
 use Rattle.rtgs_book.specs.Commands.{is_due}
 use Rattle.rtgs_book.specs.declared.answer.Known.TheVariants.{Nothing}
+use Rattle.rtgs_ledger.proofs.Following.{opening_frees}
 use Rattle.rtgs_ledger.proofs.Kept.{prepared_repeat}
 use Rattle.rtgs_ledger.proofs.Opening.{repeats, wrong_phase, wrong_date, weekend, due_among, prepared_open}
 use Rattle.rtgs_ledger.proofs.Rooms.{room_to_open}
@@ -14,7 +15,8 @@ pub returns-then-is_open_on-clause-prepared : goal.returns-then-is_open_on-claus
 returns-then-is_open_on-clause-prepared c book is =
     let r = c.self.inside.records in
     let of = is_of_book book r c.args.self.now c.self.view_is is in
-    let step = repeats (book_of (whole book r)) c.args.date (sym c.is_open_on.ensures ∙ c.if-is_open_on.true) in
+    let step = repeats (book_of (whole book r)) c.args.date c.args.automatic
+    (sym c.is_open_on.ensures ∙ c.if-is_open_on.true) in
     rw (c.repeated.ensures.answer, c.repeated.ensures.change) (to_prepared book r c.args.self.now.core of _ _ _
     (prepared_repeat (held_of (whole book r)) _ Nothing of.kept step))
 
@@ -22,8 +24,8 @@ pub returns-then-not-is_closed-clause-refused : goal.returns-then-not-is_closed-
 returns-then-not-is_closed-clause-refused c book is =
     let r = c.self.inside.records in
     let of = is_of_book book r c.args.self.now c.self.view_is is in
-    to_refused book r c.args.self.now.core of (command.OpenDay c.args.date) _ (inr (
-      wrong_phase (book_of (whole book r)) c.args.date
+    to_refused book r c.args.self.now.core of (command.OpenDay c.args.date c.args.automatic) _ (inr (
+      wrong_phase (book_of (whole book r)) c.args.date c.args.automatic
           (sym c.is_open_on.ensures ∙ c.if-is_open_on.false) (sym c.is_closed.ensures ∙ c.if-not-is_closed.true),
       refl,
     ))
@@ -32,8 +34,8 @@ pub returns-then-not-is_before-clause-refused : goal.returns-then-not-is_before-
 returns-then-not-is_before-clause-refused c book is =
     let r = c.self.inside.records in
     let of = is_of_book book r c.args.self.now c.self.view_is is in
-    to_refused book r c.args.self.now.core of (command.OpenDay c.args.date) _ (inr (
-      wrong_date (book_of (whole book r)) c.args.date
+    to_refused book r c.args.self.now.core of (command.OpenDay c.args.date c.args.automatic) _ (inr (
+      wrong_date (book_of (whole book r)) c.args.date c.args.automatic
           (sym c.is_open_on.ensures ∙ c.if-is_open_on.false) (sym c.is_closed.ensures ∙ c.if-not-is_closed.false)
           (sym c.is_before.ensures ∙ c.if-not-is_before.true),
       refl,
@@ -43,8 +45,8 @@ pub returns-then-is_weekend-clause-refused : goal.returns-then-is_weekend-clause
 returns-then-is_weekend-clause-refused c book is =
     let r = c.self.inside.records in
     let of = is_of_book book r c.args.self.now c.self.view_is is in
-    to_refused book r c.args.self.now.core of (command.OpenDay c.args.date) _ (inr (
-      weekend (book_of (whole book r)) c.args.date
+    to_refused book r c.args.self.now.core of (command.OpenDay c.args.date c.args.automatic) _ (inr (
+      weekend (book_of (whole book r)) c.args.date c.args.automatic
           (sym c.is_open_on.ensures ∙ c.if-is_open_on.false) (sym c.is_closed.ensures ∙ c.if-not-is_closed.false)
           (sym c.is_before.ensures ∙ c.if-not-is_before.false) (sym c.is_weekend.ensures ∙ c.if-is_weekend.true),
       refl,
@@ -53,6 +55,10 @@ returns-then-is_weekend-clause-refused c book is =
 pub returns-clause-room : goal.returns-clause-room
 returns-clause-room c = rw (c.from_vec.ensures, c.in_ok-rows.ensures)
     (room_to_open c.args.date c.as_slice-2.result.now _ _)
+
+pub returns-clause-frees : goal.returns-clause-frees
+returns-clause-frees c = rw (c.from_vec.ensures, c.in_ok-rows.ensures)
+    (opening_frees c.args.date c.as_slice-2.result.now _)
 
 pub returns-clause-prepared : goal.returns-clause-prepared
 returns-clause-prepared c book is =
@@ -66,7 +72,7 @@ returns-clause-prepared c book is =
     ∙ ap (λ (b : Book). map (λ (o : Order). o.number) (filter (is_due c.args.date) b.orders)) (sym of.same) in
     rw (c.from_vec.ensures, c.in_ok-rows.ensures, c.as_slice-2.ensures.value, due)
     (to_prepared book r c.args.self.now.core of _ _ _
-    (prepared_open (held_of (whole book r)) of.kept c.args.date c.balance_after_entering.ensures
+    (prepared_open (held_of (whole book r)) of.kept c.args.date c.args.automatic c.balance_after_entering.ensures
     c.numbers_lead_to_orders.ensures
     (sym c.is_open_on.ensures ∙ c.if-is_open_on.false) (sym c.is_closed.ensures ∙ c.if-not-is_closed.false)
     (sym c.is_before.ensures ∙ c.if-not-is_before.false) (sym c.is_weekend.ensures ∙ c.if-is_weekend.false)))

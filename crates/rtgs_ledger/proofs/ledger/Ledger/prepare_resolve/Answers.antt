@@ -5,7 +5,7 @@ use Rattle.std.proofs.lemmas.Result.{IfErr-weaker}
 use Rattle.rtgs_book.specs.declared.command.Command.TheVariants.{Resolve}
 use Rattle.rtgs_book.specs.declared.refusal.Refusal.TheVariants.{OutOfMemory}
 use Rattle.rtgs_book.specs.Books.{is_closed}
-use Rattle.rtgs_ledger.specs.Kept.{IsCommandRefused}
+use Rattle.rtgs_ledger.specs.Kept.{IsRefusedByItself}
 use Rattle.std.proofs.lemmas.Bool.Decides.{nat_tests}
 use Rattle.rtgs_book.specs.declared.book.Book.{Book}
 use Rattle.rtgs_ledger.specs.Resolving.{AreGreatest}
@@ -51,4 +51,4 @@ returns-clause-prepared c book is =
 
 pub returns-clause-refused : goal.returns-clause-refused
 returns-clause-refused c book is = IfErr-weaker c.prepare_settlement.result (λ refusal. refusal ≡ OutOfMemory)
-    (IsCommandRefused book Resolve) (λ refusal e. inl e) (c.prepare_settlement.ensures.refused book is)
+    (IsRefusedByItself book Resolve) (λ refusal e. inl e) (c.prepare_settlement.ensures.refused book is)

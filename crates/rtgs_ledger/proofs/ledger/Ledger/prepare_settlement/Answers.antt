@@ -8,6 +8,7 @@ use Rattle.rtgs_book.specs.declared.order.Order.{Order}
 use Rattle.rtgs_book.specs.declared.order_state.OrderState.TheVariants.{Settled}
 use Rattle.rtgs_records.specs.Held as seen
 use Rattle.rtgs_ledger.specs.Resolving.{AreGreatest, AreSmall, moved_rows}
+use Rattle.rtgs_ledger.proofs.Following.{settling_mark, settling_states}
 use Rattle.rtgs_ledger.proofs.Resolving.{resolved}
 use Rattle.rtgs_ledger.proofs.Rooms.{room_for_orders, balances_fit}
 use Rattle.rtgs_ledger.proofs.Settling.{small_of}
@@ -81,3 +82,18 @@ returns-clause-room c =
       balances_fit balances _
           (rw c.deref-2.ensures.value c.in_ok-balance_rows.ensures.balances),
     )))
+
+pub returns-clause-settles : goal.returns-clause-settles
+returns-clause-settles c =
+    let orders = c.args.orders.now in
+    let mark = c.mark_of-mark.result in
+    let states = map (λ (o : Order). SetState o.number (Settled mark.number)) orders in
+    let balances = c.deref-2.result.now in
+    let first : c.extend_from_slice.new.self.items ≡ states ++ AddMark mark ∷ [] =
+    c.in_ok-extend_from_slice.ensures.items ∙ (λ i. c.in_ok-rows.ensures i
+    ++ (c.deref.ensures.value ∙ c.in_ok-mark_row.ensures.items) i) in
+    let rows : c.extend_from_slice-2.new.self.items ≡ states ++ AddMark mark ∷ balances =
+    c.in_ok-extend_from_slice-2.ensures.items ∙ (λ i. first i ++ balances)
+    ∙ append_assoc states (AddMark mark ∷ []) balances in
+    rw (c.from_vec.ensures ∙ rows) (settling_states (Settled mark.number) refl orders (AddMark mark ∷ balances)
+    (settling_mark mark balances (rw c.deref-2.ensures.value c.in_ok-balance_rows.ensures.balances)))

@@ -15,8 +15,9 @@ pub returns-then-version-first_version-clause-told : goal.returns-then-version-f
 returns-then-version-first_version-clause-told g c clean =
     let none = c.first_version.ensures in
     reads_none c.args.version g.T.TableRow.records (state g.S.Store c.args.conn.now) _ c.new.ensures.items
+    (g.met.T.ListRow.none_at_first c.args.version)
     (λ known. none.lacks c.args.version known c.if-version-first_version.true)
-    (λ known. none.none c.args.version known c.if-version-first_version.true)
+    (λ known. none.first c.args.version known c.if-version-first_version.true)
 
 pub returns-in-Ok-clause-told : goal.returns-in-Ok-clause-told
 returns-in-Ok-clause-told g c clean =

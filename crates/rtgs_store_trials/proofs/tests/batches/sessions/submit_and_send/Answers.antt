@@ -8,5 +8,8 @@ returns g c = λ honest book held quiet found left.
     let works = c.submit-reply.ensures.faults.only_fault quiet ∙ c.holds_a_sound_book.ensures.works book held in
     let now = acts.kept works in
     let one = acts.session acts.book ((c.holds_a_sound_book-2.ensures.after_a_crash acts.book acts.book now).1 refl) in
-    let sent = c.in_ok-batch.ensures.sent honest acts.book now in
-    c.sessions_join.ensures.joined _ _ one (acts.none_open works) refl (sent.session found left)
+    let sent = c.in_ok-batch.ensures.sent honest acts.book now in (
+      sent.given,
+      sent.shown,
+      c.sessions_join.ensures.joined _ _ one (acts.none_open works) refl (sent.session found left),
+    )
