@@ -1,0 +1,9 @@
+mod Batches
+mod Crashes
+mod Determined
+mod Headlines
+mod InMemory
+mod LetGo
+mod Lives
+mod Requests
+mod Resolving

@@ -1,0 +1,4 @@
+pub mod Headline
+pub mod Keys
+pub mod Openings
+pub mod Stops

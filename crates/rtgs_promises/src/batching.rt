@@ -1,0 +1,61 @@
+//! A batch that is sent, and a desk that is stopped after it.
+ghost use Rattle.std.specs.Prelude.{◌≡◌, ◌≢◌, Some, length, IfOk};
+ghost use Rattle.sqlite.specs.Held.{state};
+ghost use Rattle.sqlite.specs.State.{HasCleanDisk};
+ghost use Rattle.sqlite.specs.Tree.{Trees};
+ghost use Rattle.rtgs_book.specs.declared.Book.{Book};
+ghost use Rattle.rtgs_batches.specs.Batches.{StopsAfter};
+ghost use Rattle.rtgs_batches.specs.Sent.{Sent};
+ghost use Rattle.rtgs_desk.specs.Holding.{Holds};
+ghost use Rattle.rtgs_stored_desk.specs.Stored.{AreTablesOf};
+
+use crate::sessions::{Cause, Stop};
+use crate::stopping::found_again;
+use rtgs_batches::submit_batch;
+use rtgs_book::Refusal;
+use rtgs_desk::Desk;
+use rtgs_keeper::Keeper;
+use rtgs_money::Code;
+use rtgs_order_files::{BatchResult, OrderRow};
+use rtgs_tables::SqlKeeper;
+use sqlite::Alter;
+use sqlite_trees::store::Reopen;
+use std::alloc::Global;
+
+/// Sends a batch.
+pub(crate) fn send<K: Keeper>(
+    alloc: Global,
+    desk: &mut Desk<K>,
+    sender: Code,
+    rows: &[OrderRow],
+) -> Result<BatchResult, Cause>
+    ensures stopped { IfOk result (λ batch. StopsAfter (length batch.replies.items) (length rows.now) batch.stopped) }
+    ensures sent { IfOk result (λ batch. K.is_honest desk.new.keeper → (book : Book) → Holds K.Keeper desk.old book
+        → Sent K.Keeper book sender rows.now batch.replies.items batch.stopped desk.new) }
+    ensures honest { K.is_honest desk.new.keeper → K.is_honest desk.old.keeper }
+    ensures only_fault { IfOk result (λ batch. batch.stopped ≢ Some Refusal.StoreFault
+        → K.has_failed desk.new.keeper ≡ K.has_failed desk.old.keeper) }
+{
+    match submit_batch(alloc, desk, sender, rows) {
+        Ok(batch) => Ok(batch),
+        Err(_) => Err(Cause::NoRoom),
+    }
+}
+
+/// Stops a desk, and opens it again over what the stop left.
+pub(crate) fn resumed<S: Alter + Reopen + Drop>(
+    alloc: Global,
+    desk: Desk<SqlKeeper<S>>,
+    stop: Stop,
+) -> Result<Desk<SqlKeeper<S>>, Cause>
+    ensures found { IfOk result (λ next. HasCleanDisk (state S.Store next.keeper.conn)
+        → (trees : Trees) × (state S.Store desk.keeper.conn).may_leave trees
+        × ((book : Book) → AreTablesOf book trees → Holds ⟦<SqlKeeper<S> as Keeper>⟧ next book)) }
+    ensures honest { IfOk result (λ next. HasCleanDisk (state S.Store next.keeper.conn)
+        → HasCleanDisk (state S.Store desk.keeper.conn)) }
+{
+    match found_again(alloc, desk, stop) {
+        Ok(next) => Ok(next),
+        Err((cause, _)) => Err(cause),
+    }
+}

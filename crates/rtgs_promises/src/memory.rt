@@ -1,0 +1,35 @@
+//! A database in memory with the tables of a new book.
+ghost use Rattle.std.specs.Prelude.{◌≡◌, false, IfOk, IsTrue};
+ghost use Rattle.sqlite.specs.Held.{state};
+ghost use Rattle.sqlite.specs.Steps.{over_memory, IsEmpty};
+ghost use Rattle.rtgs_book.specs.Books.{new_book};
+ghost use Rattle.rtgs_stored_desk.specs.Stored.{AreTablesOf};
+
+use crate::sessions::Cause;
+use rtgs_stored_desk::make;
+use sqlite::{Connection, MemStore};
+use std::alloc::Global;
+
+// An empty database in memory.
+fn empty_in_memory(alloc: Global) -> Result<Connection<MemStore>, Cause>
+    ensures empty { IfOk result (λ conn. IsEmpty (state over_memory conn)) }
+    ensures idle { IfOk result (λ conn. conn.in_transaction ≡ false) }
+{
+    match Connection::open_in_memory(alloc) {
+        Ok(conn) => Ok(conn),
+        Err(_) => Err(Cause::NoRoom),
+    }
+}
+
+/// A database in memory with the tables of a new book.
+pub(crate) fn made_in_memory(alloc: Global) -> Result<Connection<MemStore>, Cause>
+    ensures held { IfOk result (λ made. IsTrue (state over_memory made).is_open
+        × AreTablesOf new_book (state over_memory made).committed.trees) }
+    ensures idle { IfOk result (λ made. made.in_transaction ≡ false) }
+{
+    let conn = empty_in_memory(alloc)?;
+    match make(conn) {
+        Ok(made) => Ok(made),
+        Err((fault, _)) => Err(Cause::NoDesk(fault)),
+    }
+}
