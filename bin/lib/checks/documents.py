@@ -136,7 +136,7 @@ def same_promises(text, sees):
         link, _, said = folded(it).partition(": ")
         entries[link] = said
     wanted = promises()
-    sees("links of the promises", list(entries), list(wanted))
+    sees("links of the promises", sorted(entries), sorted(wanted))
     for link, first in wanted.items():
         said = entries.get(link, "")
         sees(f"the sentences of {link}", said[:len(first)], first)
