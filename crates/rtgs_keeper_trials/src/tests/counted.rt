@@ -104,7 +104,7 @@ impl Job for Counted {
 }
 
 // Counts over a new store of this kind.
-fn counted<S: Store>(alloc: Global) -> Result<(usize, usize), Fail> {
+fn counts_over<S: Store>(alloc: Global) -> Result<(usize, usize), Fail> {
     let mut counted = Counted {
         acted: 0,
         others: 0,
@@ -118,12 +118,12 @@ fn counted<S: Store>(alloc: Global) -> Result<(usize, usize), Fail> {
 
 #[test]
 fn in_memory_each_command_that_acts_is_one_commit(rt: HostRuntime) -> Result<(), Fail> {
-    assert_eq!(rt; counted::<InMemory>(rt.alloc())?, (18, 10));
+    assert_eq!(rt; counts_over::<InMemory>(rt.alloc())?, (18, 10));
     Ok(())
 }
 
 #[test]
 fn over_tables_each_command_that_acts_is_one_commit(rt: HostRuntime) -> Result<(), Fail> {
-    assert_eq!(rt; counted::<OnDisks>(rt.alloc())?, (18, 10));
+    assert_eq!(rt; counts_over::<OnDisks>(rt.alloc())?, (18, 10));
     Ok(())
 }
