@@ -54,10 +54,14 @@ impl Counts {
         counts
     }
 
-    // The call was refused for lack of memory. Without this a test could pass in which no memory is held back.
+    // The call was refused for lack of memory, and never reported as a fault of the store instead. Without this a test
+    // could pass in which no memory is held back.
     fn are_refusals(self) -> Result<(), Fail> {
         if self.refused == 0 {
             return Err(Fail::from("no request was refused"));
+        }
+        if self.faulted > 0 {
+            return Err(Fail::from("a fault of the store, where memory was refused"));
         }
         Ok(())
     }
