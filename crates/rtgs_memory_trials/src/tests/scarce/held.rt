@@ -37,12 +37,12 @@ impl Held {
 
     /// Takes all memory, but for so many small blocks that lie side by side.
     pub fn all_but(alloc: Global, given: usize) -> Result<Held, Fail> {
-        let mut held = Held::all(alloc).ok_or("memory is left")?;
-        if given > held.small.len() {
+        let Held { mut small, others } = Held::all(alloc).ok_or("memory is left")?;
+        if given > small.len() {
             return Err(Fail::from("too little is held"));
         }
-        held.small.truncate(held.small.len() - given);
-        Ok(held)
+        small.truncate(small.len() - given);
+        Ok(Held { small, others })
     }
 
     /// Gives all of it back.
