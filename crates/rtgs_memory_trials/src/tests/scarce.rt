@@ -13,7 +13,7 @@ mod submitting;
 mod worked;
 
 pub use call::{Call, Outcome};
-pub use held::Held;
+pub use held::{Held, had_none, is_none_left};
 pub use judged::same;
 pub use limit::{for_each_refusal, in_a_process, is_limited};
 pub use opening::Opens;
