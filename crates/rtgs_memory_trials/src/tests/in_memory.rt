@@ -3,6 +3,5 @@ mod batches;
 mod commands;
 mod nothing;
 mod openings;
-mod page;
 mod readings;
 mod serving;

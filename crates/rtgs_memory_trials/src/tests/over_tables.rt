@@ -4,5 +4,6 @@ mod commands;
 mod migrations;
 mod openings;
 mod over_sql;
+mod readings;
 mod serving;
 mod stopped_rows;

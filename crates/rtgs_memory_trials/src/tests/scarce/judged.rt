@@ -23,7 +23,11 @@ impl Ample {
     // From the state where it begins.
     fn from_state<C: Call>(alloc: Global, call: &C, state: &mut C::State) -> Result<Ample, Fail> {
         let before = call.seen(alloc, state)?;
-        let answer = answered(alloc, call, state)?;
+        let answer = call.call(alloc, state);
+        if call.outcome(&answer) != Outcome::Other {
+            return Err(Fail::from("it is refused with ample memory"));
+        }
+        let answer = format!(in alloc; "{answer:?}")?;
         let after = call.seen(alloc, state)?;
         let again = answered(alloc, call, state)?;
         Ok(Ample {
