@@ -1,6 +1,7 @@
 //! Calls to desks in memory, and calls to none.
 mod batches;
 mod commands;
+mod feeds;
 mod nothing;
 mod openings;
 mod readings;
