@@ -2,6 +2,7 @@
 mod batches;
 mod commands;
 mod feeds;
+mod lost;
 mod nothing;
 mod openings;
 mod readings;

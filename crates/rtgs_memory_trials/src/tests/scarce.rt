@@ -12,6 +12,7 @@ mod serving;
 pub mod setting;
 mod store;
 mod submitting;
+mod taking_keeper;
 mod worked;
 
 pub use asking::{Asks, Question};
@@ -21,7 +22,8 @@ pub use judged::same;
 pub use limit::{for_each_refusal, for_no_request, in_a_process, is_limited};
 pub use opening::Opens;
 pub use sending::{ORDERS, Sends, orders_desk};
-pub use serving::{OPERATOR, Serves, request_of};
+pub use serving::{ANSWER_LOST, OPERATOR, Serves, request_of};
 pub use store::{InMemory, Store};
 pub use submitting::Submits;
+pub use taking_keeper::TakingKeeper;
 pub use worked::Worked;
