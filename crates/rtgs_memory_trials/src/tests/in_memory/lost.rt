@@ -17,8 +17,8 @@ use std::test::Fail;
 const LONGEST: usize = 4096;
 
 /// The reply to the order when it is sent again.
-const REPEATED: &str = "HTTP/1.1 200 OK\r\nContent-Type: application/json\r\nContent-Length: 59\r\n\
-    Connection: close\r\n\r\n{\"answer\":\"repeated\",\"mark\":1,\"number\":1,\"state\":\"settled\"}";
+const REPEATED: &str = "HTTP/1.1 200 OK\r\nContent-Type: application/json\r\nContent-Length: 49\r\n\
+    Connection: close\r\n\r\n{\"answer\":\"repeated\",\"number\":1,\"state\":\"queued\"}";
 
 /// Where a keeper holds the memory that it takes.
 type Holding = Cell<Option<Held>>;
@@ -44,8 +44,9 @@ fn served<K: Keeper>(alloc: Global, desk: &mut Desk<K>, request: &String) -> Res
 }
 
 // The answer to an order is lost while what its commit took is held. Once that is let go of, it is told to be repeated.
+// The order waits, since its one row gives back less memory, once it is adopted, than a reply needs.
 fn is_lost<K: Keeper>(alloc: Global, desk: &mut Desk<K>, held: &Holding) -> Result<(), Fail> {
-    let body = "{\"amount\":100,\"reference\":\"A-1\",\"to\":\"BETA\"}";
+    let body = "{\"amount\":200,\"reference\":\"A-1\",\"to\":\"BETA\"}";
     let request = request_of(alloc, KEYS[0], "POST /orders", body)?;
     let lost = served(alloc, desk, &request)?;
     free(held)?;
