@@ -1,6 +1,6 @@
 use Rattle.rtgs_cores.specs.Nexts.{order_after, is_order_after}
 use Rattle.rtgs_sql_look_ups.proofs.FindingLemmas.{look_then, was_clean, holds_after}
-use Rattle.rtgs_sql_look_ups.proofs.orders.next_order.Goals as goal
+use Rattle.rtgs_sql_look_ups.proofs.orders.order_by_pass.Goals as goal
 
 pub returns-in-Ok-clause-looks : goal.returns-in-Ok-clause-looks
 returns-in-Ok-clause-looks g c = look_then g.S.Store c.args.conn.now c.payment_after.new.conn c.with_due.new.conn _
