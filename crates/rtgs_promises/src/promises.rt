@@ -526,7 +526,7 @@ pub fn the_greatest_choice_takes_few_steps(
 )
     requires resolvable { AreResolvable positions.now queues.now }
     requires room { HasRoomFor workspace.old queues.now }
-    ensures steps { steps_of workspace.new ≤ length queues.now + 3 * payment_count queues.now }
+    ensures steps { steps_of workspace.new ≤ steps_of workspace.old + length queues.now + 3 * payment_count queues.now }
     ensures greatest { (book : Book) → IsSound book → positions.now ≡ positions_of book → queues.now ≡ queues_of book
         → IsGreatest book (by_code book (slice_index (lengths_of workspace.new))) }
 {
