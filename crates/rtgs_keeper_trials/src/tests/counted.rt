@@ -78,11 +78,7 @@ impl Counted {
 }
 
 // Asks for an order, the accounts, the queues, the statements and the report, and fails if a commit is made.
-fn reads<K: Keeper>(
-    alloc: Global,
-    desk: &mut Desk<K>,
-    commits: &Cell<usize>,
-) -> Result<(), Fail> {
+fn reads<K: Keeper>(alloc: Global, desk: &mut Desk<K>, commits: &Cell<usize>) -> Result<(), Fail> {
     let before = commits.get();
     desk.order_of(&Code::read(b"ALFA")?, &Reference::read(b"A-1")?)?;
     seen_of(alloc, desk, "2024-03-01")?;

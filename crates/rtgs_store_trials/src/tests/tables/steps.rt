@@ -9,7 +9,8 @@ use std::test::Fail;
 
 // Deletes nothing, once it has counted the choices of one of two participants, eighteen times: 262,144 of them, each of
 // which is a step.
-const COUNT: &str = "DELETE FROM posting WHERE (SELECT count(*) FROM participant a, participant b, participant c, \
+const COUNT: &str =
+    "DELETE FROM posting WHERE (SELECT count(*) FROM participant a, participant b, participant c, \
     participant d, participant e, participant f, participant g, participant h, participant i, participant j, \
     participant k, participant l, participant m, participant n, participant o, participant p, participant q, \
     participant r) < 262144";
