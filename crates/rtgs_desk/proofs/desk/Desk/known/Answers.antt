@@ -1,4 +1,4 @@
-use Rattle.std.proofs.Common.{◌≡◌, ◌∙◌, List, ℕ, Option, Some, None, Ok, Err, refl, sym, subst, option_map}
+use Rattle.std.proofs.Common.{◌≡◌, ◌∙◌, List, ℕ, Option, Some, None, Ok, Err, refl, subst, option_map}
 use Rattle.std.specs.Prelude.{IfSome, ok_or}
 use Rattle.rtgs_book.specs.declared.Account.{Account}
 use Rattle.rtgs_book.specs.declared.Book.{Book}
