@@ -7,6 +7,7 @@ from lib import completions, desks, helps, manual
 
 DEPLOY = f"{kit.TOP}/deploy"
 HANDBOOKS = ("OPERATORS.md", "BANKS.md", "AUDITORS.md", "SPECIFICATION.md", "openapi.yaml")
+CLIENTS = f"{kit.TOP}/bin/lib/clients"
 DOC, SHARED = "share/doc/desk", "share/desk"
 UNIT, PROGRAM, PAGE = "lib/systemd/system/desk.service", "bin/desk", "share/man/man1/desk.1"
 # a file for each shell, and what makes it
@@ -30,6 +31,11 @@ def read(path):
     return desks.content(path).decode()
 
 
+def copied(folder, names, below):
+    """Returns the texts of files of a folder, by the paths that they get below the prefix."""
+    return {f"{below}/{it}": read(f"{folder}/{it}") for it in names}
+
+
 def files(prefix, run):
     """Returns what is installed: for each path below the prefix its bytes and its mode. The call runs the program."""
     program = helps.program(run)
@@ -37,9 +43,10 @@ def files(prefix, run):
         PAGE: manual.made(program, f"{prefix}/{DOC}"),
         UNIT: with_prefix(read(f"{DEPLOY}/desk.service"), prefix),
         **{path: make("desk", program) for path, make in SHELLS.items()},
-        **{f"{SHARED}/{it}": read(f"{DEPLOY}/{it}") for it in ("nginx.conf", "Caddyfile")},
-        **{f"{DOC}/{it}": read(f"{kit.TOP}/docs/{it}") for it in HANDBOOKS},
-        f"{DOC}/CHANGELOG.md": read(f"{kit.TOP}/CHANGELOG.md"),
+        **copied(DEPLOY, ("nginx.conf", "Caddyfile"), SHARED),
+        **copied(f"{kit.TOP}/docs", HANDBOOKS, DOC),
+        **copied(kit.TOP, ("CHANGELOG.md",), DOC),
+        **copied(CLIENTS, os.listdir(CLIENTS), f"{DOC}/clients"),
     }
     found = {PROGRAM: (desks.content(desks.DESK), AS_PROGRAM)}
     return found | {path: (text.encode(), AS_TEXT) for path, text in texts.items()}
