@@ -84,16 +84,9 @@ def bash(name, program):
     return BASH.format(name=name, names=names, commands=commands, cases="\n".join(cases), files=" | ".join(FILES))
 
 
-def quoted(text):
-    """Returns a text between single quotes, for zsh and fish alike: it must have none of these signs."""
-    if set(text) & set("'\\\n"):
-        raise ValueError(f"a text that would have to be quoted: {text!r}")
-    return f"'{text}'"
-
-
 def zsh_text(text):
-    """Returns a text as it may stand within what describes an argument to zsh."""
-    return text.replace("'", "’").translate({ord(it): f"\\{it}" for it in ":[]"})
+    """Returns a text as it stands between single quotes in what describes an argument to zsh."""
+    return text.translate({**{ord(it): f"\\{it}" for it in ":[]\\"}, ord("'"): "'\\''"})
 
 
 def zsh_option(it):
@@ -120,12 +113,16 @@ def zsh(name, program):
     return ZSH.format(name=name, commands=commands, options=options, cases="\n".join(cases))
 
 
+def fish_text(text):
+    """Returns a text between single quotes, for fish."""
+    return "'" + text.replace("\\", "\\\\").replace("'", "\\'") + "'"
+
+
 def fish_option(name, when, it):
     """Returns the line of fish for an option."""
     short = f" -s {it.short[1:]}" if it.short else ""
     value = " -x" if it.value else ""
-    said = quoted(it.help.replace("'", "’"))
-    return f"complete -c {name} -n {quoted(when)}{short} -l {it.name[2:]}{value} -d {said}"
+    return f"complete -c {name} -n {fish_text(when)}{short} -l {it.name[2:]}{value} -d {fish_text(it.help)}"
 
 
 def fish(name, program):
@@ -133,13 +130,13 @@ def fish(name, program):
     first = "__fish_use_subcommand"
     lines = [f"# fish completion of {name}, made from its help texts", f"complete -c {name} -f"]
     for it in program.whole.commands:
-        lines.append(f"complete -c {name} -n {first} -a {it.shown} -d {quoted(it.help.replace(chr(39), '’'))}")
+        lines.append(f"complete -c {name} -n {first} -a {it.shown} -d {fish_text(it.help)}")
     lines += [fish_option(name, first, it) for it in program.whole.options]
     for command, said in program.each.items():
         when = f"__fish_seen_subcommand_from {command}"
         if any(it.shown in FILES for it in said.arguments):
-            lines.append(f"complete -c {name} -n {quoted(when)} -F")
+            lines.append(f"complete -c {name} -n {fish_text(when)} -F")
         lines += [fish_option(name, when, it) for it in said.options]
     names = " ".join(program.each)
-    lines.append(f"complete -c {name} -n '__fish_seen_subcommand_from help' -a {quoted(names)}")
+    lines.append(f"complete -c {name} -n '__fish_seen_subcommand_from help' -a {fish_text(names)}")
     return "\n".join(lines) + "\n"

@@ -39,8 +39,8 @@ def man_page(prefix, program, sees):
     sees("warnings of groff", run_tool("groff", "-man", "-Tutf8", "-ww", "-z", page), (0, ""))
     if shutil.which("man"):
         env = {**os.environ, "MANWIDTH": "100", "LC_ALL": "C.UTF-8"}
-        sees("man -l", run_tool("man", "--warnings", "-l", page, env=env, stdout=subprocess.DEVNULL,
-                                stderr=subprocess.PIPE)[0], 0)
+        shown = run_tool("sh", "-c", 'man --warnings -l "$0" > /dev/null', page, env=env)
+        sees("warnings of man -l", shown, (0, ""))
     _, text = run_tool("groff", "-man", "-Tascii", "-P-cbou", page)
     names = {*program.each, *(it.name for said in program.each.values() for it in said.options)}
     missing = [it for it in sorted(names) if it not in text]

@@ -44,7 +44,11 @@ class Behind:
         self.nginx = proxies.Nginx(folder, self.server.port, SECONDS)
 
     def __enter__(self):
-        self.nginx.__enter__()
+        try:
+            self.nginx.__enter__()
+        except BaseException:
+            self.server.kill()
+            raise
         return self
 
     def __exit__(self, *_):

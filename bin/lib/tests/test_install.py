@@ -153,11 +153,10 @@ class Completions(unittest.TestCase):
             text = make("desk", helps.program(run))
             for word in ("import", "serve", "help", "all", "port", "version"):
                 self.assertIn(word, text)
-            self.assertNotIn("participant's file", text)
 
     def test_descriptions_are_quoted(self):
-        self.assertIn("(s\\]\\:", completions.zsh_text("(s]:"))
-        self.assertRaises(ValueError, completions.quoted, "a'b")
+        self.assertEqual(completions.zsh_text("a's]: b"), "a'\\''s\\]\\: b")
+        self.assertEqual(completions.fish_text("a's \\b"), "'a\\'s \\\\b'")
 
 
 class Installing(unittest.TestCase):
