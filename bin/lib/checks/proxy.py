@@ -2,15 +2,19 @@
 
 All requests of BANKS.md go through it, with the replies that the handbook shows. The operator's routes must be closed,
 also to the operator's key. Heads of HTTP/1.0, bodies in chunks, and bodies of the greatest length and one byte more are
-sent. The desk is ended, killed in the middle of a request, and held still: the bank must get 502 and 504, and the same
-order again must be answered and act once. Ends with 1 where nginx is not installed. Needs `curl` and `openssl` too.
+sent. A bank that sends slowly must hold up no other. The desk is ended, killed in the middle of a request, and held
+still: the bank must get 502 and 504, and the same order again must be answered and act once. Ends with 1 where nginx is
+not installed. Needs `curl` and `openssl` too.
 """
 import os
 import signal
+import socket
+import ssl
 import subprocess
 import threading
+import time
 
-from lib import desks, proxies
+from lib import desks, proxies, stated
 from lib.checks import copies, handbooks
 
 MANY = 1000
@@ -67,6 +71,12 @@ class Behind:
         status, _, kind = ran.stderr.partition(" ")
         return int(status or 0), kind, ran.stdout
 
+    def linked(self):
+        """Returns a connection to nginx."""
+        trusted = ssl.create_default_context(cafile=self.nginx.certificate)
+        link = socket.create_connection(("127.0.0.1", self.nginx.port), timeout=desks.SECONDS)
+        return trusted.wrap_socket(link, server_hostname="127.0.0.1")
+
     def order(self, number, *words):
         """Returns the status of the reply to an order, and what its answer is."""
         body = f'{{"amount":1,"reference":"A-{number}","to":"BETA"}}'
@@ -95,6 +105,17 @@ def forms(it):
     longest, longer = (it.asked("/batches", "--data-binary", f"@{it.folder}/{of}.csv") for of in ("longest", "longer"))
     it.sees("the longest body", longest, (400, JSON, '{"code":40,"name":"BadHeader"}'))
     it.sees("a longer body", longer, (413, JSON, TOO_LONG))
+
+
+def slow(it):
+    """A bank sends an order for longer than the desk waits for one. It is answered, and so are others meanwhile."""
+    sent = desks.order(desks.KEYS["ALFA"], "BETA", 5)
+    with it.linked() as link:
+        link.sendall(sent[:-1])
+        it.sends("an order while another bank sends slowly", 6, (200, "settled"))
+        time.sleep(stated.constants()["request"] + 1)
+        link.sendall(sent[-1:])
+        it.sees("an order that is sent slowly", link.recv(65536)[:15], b"HTTP/1.1 200 OK")
 
 
 def restarts(it):
@@ -130,6 +151,7 @@ def run(_given, report):
         handbook(folder, report)
     report.finds(f"BANKS.md through nginx: {report.right} as it says, {report.wrong} not")
     with desks.room() as folder, Behind(folder, report) as it:
-        for part in (closed, forms, restarts, waits):
+        for part in (closed, forms, slow, restarts, waits):
             part(it)
-    report.finds(f"with closed routes, other forms, 502 and 504: {report.right} as they must be, {report.wrong} not")
+    report.finds(f"with closed routes, other forms, a slow bank, 502 and 504: {report.right} as they must be, "
+                 f"{report.wrong} not")
