@@ -107,11 +107,11 @@ def free_port():
 
 
 class Server:
-    """A desk that serves a book, as many connections as are said, and listens. With a library, that one is loaded
-    first. At the end of its `with` it must have had them all."""
+    """A desk that serves a book, as many connections as are said, and listens, at a port that is free or at this one.
+    With a library, that one is loaded first. At the end of its `with` it must have had them all."""
 
-    def __init__(self, book, connections, library=None, operator=OPERATOR):
-        self.port = free_port()
+    def __init__(self, book, connections, library=None, operator=OPERATOR, port=None):
+        self.port = port or free_port()
         words = ["--port", str(self.port), "--count", str(connections), "--operator-key", operator]
         env = {**os.environ, "LD_PRELOAD": library} if library else None
         pipes = {"stdout": subprocess.PIPE, "stderr": subprocess.PIPE}

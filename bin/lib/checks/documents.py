@@ -67,7 +67,7 @@ def decisions(text, sees):
 def all_files():
     """Returns the paths of the files of the tree, each with a slash before it."""
     found = []
-    for top in ("bin", "crates", "docs", "evidence", "."):
+    for top in ("bin", "crates", "deploy", "docs", "evidence", "."):
         for folder, folders, files in os.walk(f"{kit.TOP}/{top}"):
             folders[:] = [] if top == "." else [it for it in folders if it not in ("out", "__pycache__")]
             found += [f"/{os.path.relpath(folder, kit.TOP)}/{it}" for it in files]
@@ -83,7 +83,7 @@ def is_there(path):
 
 def named_files(text):
     """Yields the paths of files that a text names."""
-    for it in re.findall(r"(?<![\w/.])((?:docs|evidence|bin|crates|\.ci)/[\w./-]*\w)", text):
+    for it in re.findall(r"(?<![\w/.])((?:docs|evidence|bin|crates|deploy|\.ci)/[\w./-]*\w)", text):
         yield it
     for it in re.findall(r"(?<![\w/])[A-Z]+\.md\b", text):
         yield it
@@ -227,6 +227,8 @@ UNIT = " (?:more )?(?:" + "|".join((
     "seconds?", "minutes?", "milliseconds", "ms", "µs", "cents?", "bytes", "KiB", "KB", "MB", "GB", "rows?", "orders?",
     "participants", "banks", "characters?", "(?:header )?fields?", "digits?", "tables", "levels", "files", "views",
     "times", "lines", "columns", "lane-minutes", "functions", "processors", "connections?", "postings")) + r")\b"
+# the statuses of a proxy's own replies, which bin/checks proxy and bin/checks clients meet
+OF_PROXIES = {502, 504}
 NAMED = " [A-Z][a-z]+[A-Z]\\w+"
 NUMBER = re.compile(
     rf"(?<![\w.,^-])(\d[\d,]*\d|\d)(?:\.\d+)?(?:\^\d+)?(?: (?:to|and) \d+)*({UNIT}|{NAMED})?(?![\w^])")
@@ -257,7 +259,7 @@ def is_known(found, refusals):
     number, behind = int(found[1].replace(",", "")), (found[2] or "").strip()
     if re.fullmatch(r"[A-Z]\w+", behind):
         return number in refusals and refusals[number][0] == behind
-    replies = {reply for _, reply, _ in refusals.values()} | {200}
+    replies = {reply for _, reply, _ in refusals.values()} | {200} | OF_PROXIES
     ends = {end for _, _, end in refusals.values()} | {0, 2}
     return not behind and (number in refusals or number in replies or number in ends)
 
