@@ -5,7 +5,8 @@ else on standard output, and the exit status must be the one that goes with that
 
 OPERATORS.md is one session in a folder that has a book of an earlier version of the program. AUDITORS.md goes on with
 the book that this makes before its section on HTTP: each query over a copy, and each fault of the last table in a copy
-of its own. BANKS.md has a book and a server made for it. Needs the stock `sqlite3` and `curl`.
+of its own. BANKS.md has a book and a server made for it. The examples of the man page are a session too. Needs the
+stock `sqlite3` and `curl`.
 """
 import contextlib
 import os
@@ -16,7 +17,7 @@ import subprocess
 import typing
 
 import kit
-from lib import desks, runs
+from lib import desks, manual, runs
 
 OLD = f"{kit.TOP}/crates/kept_books/data/closed.desk"
 END = "-- end of a command --"
@@ -179,21 +180,35 @@ def auditors(session, report):
         audit.of_a_fault(good, row)
 
 
-def banks(session, report):
+def requests_of_banks():
+    """Returns the banks' handbook, and how many requests it shows."""
     text = handbook("BANKS")
-    many = len([it for it, _ in commands(text, SHOWN_TO_BANKS) if it.startswith("curl")])
+    return text, len([it for it, _ in commands(text, SHOWN_TO_BANKS) if it.startswith("curl")])
+
+
+def book_of_banks(book):
+    """Makes the book of the banks' handbook."""
     keys = {code: f"{10 + at:032x}" for at, code in enumerate(desks.KEYS)}
-    desks.new_book(f"{session.folder}/bank.desk", keys, 150, "{} Bank", "--automatic")
+    desks.new_book(book, keys, 150, "{} Bank", "--automatic")
+
+
+def banks(session, report):
+    text, many = requests_of_banks()
+    book_of_banks(f"{session.folder}/bank.desk")
     session.run(f"desk serve bank.desk --port 8080 --count {many} --operator-key {255:032x} > server.txt &")
     session.follow(text, SHOWN_TO_BANKS, report)
     served = session.run("wait $! && cat server.txt")
     report.sees("server.txt", served, ended(["listening 8080", f"served {many}"]))
 
 
+def man_page(session, report):
+    session.follow(manual.examples(manual.page()), SHOWN, report)
+
+
 def run(_given, report):
-    for follow in (operators, auditors, banks):
+    shown = {"OPERATORS.md": operators, "AUDITORS.md": auditors, "BANKS.md": banks, "desk(1)": man_page}
+    for name, follow in shown.items():
         right, wrong = report.right, report.wrong
         with desks.room() as folder, Session(folder) as session:
             follow(session, report)
-        told = f"{report.right - right} as they say, {report.wrong - wrong} not"
-        report.finds(f"{follow.__name__.upper()}.md: {told}")
+        report.finds(f"{name}: {report.right - right} as they say, {report.wrong - wrong} not")

@@ -4,8 +4,8 @@ import re
 import unittest
 from unittest import mock
 
-from lib import desks, hostile, runs
-from lib.checks import copies, edges, handbooks, hostile_files, kills, migrations, refusals
+from lib import desks, hostile, runs, stated
+from lib.checks import copies, documents, edges, handbooks, hostile_files, kills, migrations, refusals
 from lib.report import Report
 
 
@@ -41,6 +41,72 @@ class Kills(unittest.TestCase):
         with mock.patch.object(kills, "kill_again_and_again") as called:
             copies.run(mock.Mock(rounds=5), None)
         called.assert_called_once_with(5, None, "copies and kills", copies.copy, ".copy")
+
+
+class Documents(unittest.TestCase):
+    """Texts stand in for documents."""
+
+    def found(self, look, *words, read=None):
+        report = quiet()
+        with mock.patch.object(documents, "read", read or documents.read):
+            look(*words, report.sees)
+        return [it.splitlines()[0] for it in report.found]
+
+    def numbers(self, text, name="docs/NONE.md"):
+        return self.found(documents.numbers, name, text)
+
+    def test_a_number_is_that_of_a_refusal_or_stated(self):
+        for text in ("refused with 93, or 94 Inconsistent 9", "the status is 503", "`--count 1000`", "RFC 9112",
+                     "    $ desk post 1500", "on 2024-03-04", "rule 16", "version 2"):
+            self.assertEqual(self.numbers(text), [], text)
+        for text, told in (("it takes 5 seconds", "5 seconds"), ("93 BadKey", "93 BadKey"), ("some 1,234", "1,234"),
+                           ("a\nb 21", "21"), ("| 99 |", "99")):
+            (found,) = self.numbers(text)
+            self.assertIn(told, found)
+
+    def test_a_text_that_states_a_number_must_have_that_of_the_code(self):
+        texts = {"docs/NONE.md": ["at most {queue} orders", "{tables:w} tables", "up to {total:p}", "{lingered:K} KiB"]}
+        with mock.patch.object(stated, "TEXTS", texts):
+            self.assertEqual(self.numbers("at most\n500 orders, seven tables, up to 10^15, 256 KiB"), [])
+            said = self.numbers("at most 501 orders, seven tables, up to 10^15, 256 KiB", "docs/NONE.md")
+        self.assertEqual(said[0], "docs/NONE.md says: at most 500 orders")
+        self.assertIn("501 orders", said[1])
+
+    def test_each_constant_is_found_in_the_code(self):
+        self.assertEqual(stated.constants()["number"], 999999999)
+        self.assertEqual(stated.refusals()[94], ("Inconsistent", None, 3))
+        self.assertRaises(ValueError, stated.constant, "rtgs_book/src/limits.rt", "NONE")
+
+    def test_an_entry_has_a_number_of_its_own_and_four_parts(self):
+        entry = "## {}. A\n\n**Chosen:** a\n\n**Because:** b\n\n**Instead of:** c\n\n**Price:** d\n\n"
+        good = entry.format(1) + "# Part\n\n" + entry.format(2)
+        self.assertEqual(self.found(documents.decisions, good), [])
+        self.assertEqual(self.found(documents.decisions, good + entry.format(1)), ["entries with one number"])
+        bad = good.replace("**Price:** d\n\n# Part", "# Part")
+        self.assertEqual(self.found(documents.decisions, bad), ["docs/DECISIONS.md, the parts of entry 1"])
+
+    def test_files_and_headings_that_are_named_must_be_there(self):
+        good = "docs/COSTS.md, COSTS.md, `rtgs_book/src/book.rt`, bin/tour, [it](#a-part), [it](README.md)\n## A part\n"
+        self.assertEqual(self.found(documents.files, "README.md", good, read=lambda _: good), [])
+        for bad in ("docs/NONE.md", "NONE.md", "`none.rt`", "bin/none", "[it](none.md)", "[it](#none)"):
+            self.assertEqual(len(self.found(documents.files, "README.md", bad, read=lambda _, bad=bad: bad)), 1, bad)
+
+    def test_the_promises_are_those_of_the_crate(self):
+        good = "## The promises\n\n- [`a`](b): A long\n  promise. *So* it is. *Premises:* none.\n\n## Else\n"
+        with mock.patch.object(documents, "promises", lambda: {"[`a`](b)": "A long promise."}):
+            self.assertEqual(self.found(documents.same_promises, good), [])
+            self.assertEqual(self.found(documents.same_promises, good.replace("long", "short")),
+                             ["the sentences of [`a`](b)"])
+            self.assertEqual(self.found(documents.same_promises, good.replace("\n## Else", "- [`b`](b): B\n\n## Else")),
+                             ["links of the promises"])
+
+    def test_clauses_and_names_must_be_those_of_the_code(self):
+        good = "`Desk::submit` (`acts`, which is `Acts`: `judged`; `faults`), `make` of `rtgs_stored_desk` (`stops`)"
+        self.assertEqual(self.found(documents.cited_clauses, good), [])
+        self.assertEqual(self.found(documents.cited_clauses, "`Desk::submit` (`actions`)"), ["clauses of Desk::submit"])
+        text = "## Beside the main promises\n\n`numbers_are_distinct` `Desk::none` `no_such_name` `SqlKeeper` `clap`\n"
+        self.assertEqual(self.found(documents.names, "README.md", text),
+                         [f"README.md names `{it}`" for it in ("Desk::none", "no_such_name")])
 
 
 class Handbooks(unittest.TestCase):

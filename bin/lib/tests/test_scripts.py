@@ -1,4 +1,5 @@
 """The scripts as they are called, in a tree that has them, two crates and no program, with a stand-in for the kit."""
+import ast
 import os
 import re
 import shutil
@@ -66,8 +67,9 @@ class Help(Scripts):
 
     def test_each_check_has_help_that_starts_nothing(self):
         listed = [it.split()[0] for it in self.run_script("checks", "--list").stdout.splitlines()]
-        wanted = ["copies", "edges", "handbooks", "hostile-files", "kills", "migrations", "refusals"]
-        self.assertEqual(sorted(listed), wanted)
+        wanted = ("clients copies documents edges handbooks hostile-files install kills migrations openapi "
+                  "plants proxy refusals")
+        self.assertEqual(sorted(listed), wanted.split())
         for name in listed:
             self.assertIn("--no-evidence", self.run_script("checks", name, "--help").stdout)
         self.assertEqual(self.called(), [])
@@ -75,6 +77,26 @@ class Help(Scripts):
     def test_no_name_prints_the_help_and_a_wrong_one_is_an_error(self):
         self.assertIn("usage: bin/checks NAME", self.run_script("checks").stdout)
         self.assertEqual(self.run_script("checks", "skills").returncode, 2)
+
+
+class Style(unittest.TestCase):
+    def files(self):
+        for folder, folders, names in os.walk(f"{kit.TOP}/bin"):
+            folders[:] = [it for it in folders if it != "__pycache__"]
+            for name in names:
+                with open(f"{folder}/{name}", encoding="utf-8") as it:
+                    yield name, it.read()
+
+    def test_lines_fit_into_120_columns(self):
+        for name, text in self.files():
+            self.assertEqual([it for it in text.splitlines() if len(it) > 120], [], name)
+
+    def test_functions_have_fewer_than_40_lines(self):
+        for name, text in self.files():
+            if "python3" in text[:30] or name.endswith(".py"):
+                long = [it.name for it in ast.walk(ast.parse(text))
+                        if isinstance(it, ast.FunctionDef) and it.end_lineno - it.lineno >= 39]
+                self.assertEqual(long, [], name)
 
 
 class Kit(Scripts):

@@ -59,12 +59,14 @@ fn resolve<R: Print + Clock + Alloc<A = Global>>(rt: &R, each: usize, timed: boo
     ensure!(queues.are_in_range(), "receivers");
     ensure!(queues.payment_count() == Some(count), "payments");
     let mut shortest = Duration::MAX;
+    let mut steps = 0;
     for _ in 0..TIMES {
+        let before = workspace.steps();
         let start = Instant::now(rt)?;
         greatest(&positions, &queues, &mut workspace);
         shortest = shortest.min(start.elapsed(rt)?);
+        steps = workspace.steps() - before;
     }
-    let steps = workspace.steps();
     let settled: usize = workspace
         .lengths()
         .iter()

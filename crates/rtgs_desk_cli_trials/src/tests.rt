@@ -13,6 +13,7 @@ mod hostile;
 mod imports;
 mod migrations;
 mod openings;
+mod order_bytes;
 mod paper;
 mod readings;
 mod refusals;

@@ -7,4 +7,4 @@ mod importing;
 mod order_file;
 
 pub use crate::importing::import;
-pub use crate::order_file::OrderFile;
+pub use crate::order_file::{OrderFile, read_bytes};

@@ -1,10 +1,12 @@
 //! The bytes of a file of orders.
-ghost use Rattle.std.specs.Prelude.{◌≡◌};
+ghost use Rattle.std.specs.Prelude.{◌≡◌, ◌+◌, IfOk, IfSome, take};
+ghost use Rattle.rtgs_order_files.specs.declared.limits.TheConstants.{MOST_BYTES};
 ghost use Rattle.rtgs_desk_imports.specs.Causes.{failure_of_reading, IsFileTaken};
 
 use rtgs_book::Refusal;
 use rtgs_desk_lines::Failure;
 use rtgs_order_files::MOST_BYTES;
+use std::alloc::Global;
 use std::fs::File;
 use std::io;
 use std::io::{ErrorKind, Read};
@@ -19,7 +21,7 @@ impl OrderFile {
     /// Reads the file at this path.
     pub(crate) fn read(rt: &HostRuntime, path: &str) -> OrderFile {
         OrderFile {
-            answer: read_bytes(rt, path),
+            answer: read_file(rt, path),
         }
     }
 
@@ -35,12 +37,18 @@ impl OrderFile {
     }
 }
 
-// The bytes of a file, and no more than one above the most that a file of orders may have.
-fn read_bytes(rt: &HostRuntime, path: &str) -> io::Result<Vec<u8>> {
-    let mut bytes = Vec::new(rt.alloc());
-    File::open(rt, path)?
-        .take(MOST_BYTES as u64 + 1)
-        .read_to_end(&mut bytes)?;
+// The bytes of the file at this path.
+fn read_file(rt: &HostRuntime, path: &str) -> io::Result<Vec<u8>> {
+    read_bytes(rt.alloc(), File::open(rt, path)?)
+}
+
+/// The bytes that a reader gives until its end, and no more than one above the most that a file of orders may have.
+/// Where a read fails, its error is the answer, whatever was read before.
+pub fn read_bytes<R: Read + Drop>(alloc: Global, reader: R) -> io::Result<Vec<u8>>
+    ensures { IfOk result (λ bytes. IfSome (R.remaining reader) (λ left. bytes.items ≡ take (MOST_BYTES + 1) left)) }
+{
+    let mut bytes = Vec::new(alloc);
+    reader.take(MOST_BYTES as u64 + 1).read_to_end(&mut bytes)?;
     Ok(bytes)
 }
 

@@ -34,10 +34,10 @@ pub record IsTesting (positions : List Position) (queues : List (List Payment)) 
     pub floored : (p : ℕ) → p < length queues → (position_of positions p).floor ≤ℤ (position_of positions p).balance
     pub within : IsWithin queues (choice_of workspace)
     pub largest : IsAboveFeasible positions queues (choice_of workspace)
-    pub standings : AreStandings positions queues (choice_of workspace) workspace.standings
+    pub standings : AreStandings positions queues (choice_of workspace) workspace.standings.list
     pub inside : (p : ℕ) → IsWaiting workspace p → p < length queues
     pub tested : (p : ℕ) → p < length queues → (IsWaiting workspace p → ⊥) → (p ≡ s → ⊥)
-        → HasEnough workspace.standings p
+        → HasEnough workspace.standings.list p
 
 -- what is said of a choice and its standings holds of equal ones
 same_choice : (positions : List Position) (queues : List (List Payment)) (old new : Workspace)
@@ -48,11 +48,11 @@ same_choice positions queues old new e is =
     × IsAboveFeasible positions queues (slice_index x.items)) (sym e) is
 
 same_standings : (positions : List Position) (queues : List (List Payment)) (old new : Workspace)
-    → new.lengths ≡ old.lengths → new.standings ≡ old.standings
-    → AreStandings positions queues (choice_of old) old.standings
-    → AreStandings positions queues (choice_of new) new.standings
+    → new.lengths ≡ old.lengths → new.standings.list ≡ old.standings.list
+    → AreStandings positions queues (choice_of old) old.standings.list
+    → AreStandings positions queues (choice_of new) new.standings.list
 same_standings positions queues old new d e are =
-    subst (λ (x : Vec ℕ Global). AreStandings positions queues (slice_index x.items) new.standings) (sym d)
+    subst (λ (x : Vec ℕ Global). AreStandings positions queues (slice_index x.items) new.standings.list) (sym d)
     (subst (λ (y : List Standing). AreStandings positions queues (choice_of old) y) (sym e) are)
 
 -- with all payments chosen and all participants on the list
@@ -80,20 +80,20 @@ IsResolving-filled positions queues old filled listed floored fill same all only
         → other p ≤ choice_of filled p
     above other feasible p b = omega (arith, fill.choice p b, feasible.within p b)
 
-    stands : AreStandings positions queues (choice_of filled) filled.standings
-    stands = AreStandings-same positions queues (everything queues) (choice_of filled) filled.standings
+    stands : AreStandings positions queues (choice_of filled) filled.standings.list
+    stands = AreStandings-same positions queues (everything queues) (choice_of filled) filled.standings.list
         (λ p b. sym (fill.choice p b)) fill.standings
 
 -- the bound: a test of each participant, and for each payment its removal and two more tests
-pub steps_filled : (positions : List Position) (queues : List (List Payment)) (old filled listed : Workspace)
+pub steps_left-filled : (positions : List Position) (queues : List (List Payment)) (old filled listed : Workspace)
     → IsFilled positions queues old filled → SameButWaiting filled listed
-    → waiting_count listed ≤ participants_of filled → steps_of listed + steps_left queues listed
-    ≤ length queues + 3 * payment_count queues
+    → waiting_count listed ≤ participants_of filled
+    → steps_left queues listed ≤ length queues + 3 * payment_count queues
 unfolding payment_count
-steps_filled positions queues old filled listed fill same few =
+steps_left-filled positions queues old filled listed fill same few =
     let all = sum_below-same (length queues) (choice_of listed) (everything queues)
     (λ p b. ap (λ (v : Vec ℕ Global). slice_index v.items p) same.choice ∙ fill.choice p b) in
-    omega (arith, few, all, fill.participants, fill.steps, same.steps)
+    omega (arith, few, all, fill.participants)
 
 -- the list without a participant
 taken_off : (s : ℕ) (before taken : Workspace) → IsTaken s before taken → (p : ℕ) → (p ≡ s → ⊥)
@@ -131,14 +131,14 @@ IsTesting-tested positions queues s before taken tested is same take test =
           | inr ne ↦ is.inside p ((taken_off s before taken take p ne).0 (sym (on_of p) ∙ on))
         ]
 
-    rest : (p : ℕ) → p < length queues → (IsWaiting tested p → ⊥) → (p ≡ s → ⊥) → HasEnough tested.standings p
+    rest : (p : ℕ) → p < length queues → (IsWaiting tested p → ⊥) → (p ≡ s → ⊥) → HasEnough tested.standings.list p
     rest p b off ne =
         subst (λ (xs : List Standing). HasEnough xs p) (sym (test.standings ∙ same.standings))
         (is.tested p b (λ on. off (on_of p ∙ (taken_off s before taken take p ne).1 on)))
 
 -- a participant that was tested and is short: its newest chosen payment is taken back
 pub IsResolving-taken : (positions : List Position) (queues : List (List Payment)) (s : ℕ)
-    (tested back after : Workspace) → IsTesting positions queues tested s → (HasEnough tested.standings s → ⊥)
+    (tested back after : Workspace) → IsTesting positions queues tested s → (HasEnough tested.standings.list s → ⊥)
     → IsTakenBack queues s tested back → SameButWaiting back after → IsWaiting after s
     → IsWaiting after (newest queues (choice_of tested) s).receiver → ((p : ℕ) → IsWaiting back p → IsWaiting after p)
     → ((p : ℕ) → IsWaiting after p → p < participants_of back) → IsResolving positions queues after
@@ -147,8 +147,8 @@ IsResolving-taken positions queues s tested back after is short taken same sende
   floored = is.floored;
   within = within;
   largest = record { above = above };
-  standings = AreStandings-taken positions queues (choice_of tested) (choice_of after) tested.standings after.standings
-      s is.is_one fewer (is.within s is.is_one) unchanged funds owed is.standings;
+  standings = AreStandings-taken positions queues (choice_of tested) (choice_of after) tested.standings.list
+      after.standings.list s is.is_one fewer (is.within s is.is_one) unchanged funds owed is.standings;
   inside = λ p on. omega (arith, only p on, taken.participants, is.participants);
   tested = enough;
 }
@@ -162,12 +162,12 @@ IsResolving-taken positions queues s tested back after is short taken same sende
     unchanged : (p : ℕ) → (p ≡ s → ⊥) → choice_of after p ≡ choice_of tested p
     unchanged p ne = choice_is p ∙ taken.others p ne
 
-    funds : (p : ℕ) → funds_of after.standings p + amount_to p (newest queues (choice_of tested) s)
-        ≡ funds_of tested.standings p
+    funds : (p : ℕ) → funds_of after.standings.list p + amount_to p (newest queues (choice_of tested) s)
+        ≡ funds_of tested.standings.list p
     funds p = omega (arith, taken.funds p, ap (λ (xs : List Standing). funds_of xs p) same.standings)
 
-    owed : (p : ℕ) → owed_of after.standings p + cond (eqb p s) (newest queues (choice_of tested) s).amount 0
-        ≡ owed_of tested.standings p
+    owed : (p : ℕ) → owed_of after.standings.list p + cond (eqb p s) (newest queues (choice_of tested) s).amount 0
+        ≡ owed_of tested.standings.list p
     owed p = omega (arith, taken.owed p, ap (λ (xs : List Standing). owed_of xs p) same.standings)
 
     within : IsWithin queues (choice_of after)
@@ -185,13 +185,13 @@ IsResolving-taken positions queues s tested back after is short taken same sende
           | inl at ↦
               let less = short_has_fewer positions queues other (choice_of tested) s feasible
               (λ q c. is.largest.above other feasible q c) is.is_one
-              (λ covered. short (enough_from_IsCovered positions queues (choice_of tested) tested.standings s
+              (λ covered. short (enough_from_IsCovered positions queues (choice_of tested) tested.standings.list s
               is.is_one is.standings covered)) in
               subst (λ (q : ℕ). other q ≤ choice_of after q) (sym at) (omega (arith, less, fewer))
           | inr ne ↦ omega (arith, unchanged p ne, is.largest.above other feasible p b)
         ]
 
-    enough : (p : ℕ) → p < length queues → (IsWaiting after p → ⊥) → HasEnough after.standings p
+    enough : (p : ℕ) → p < length queues → (IsWaiting after p → ⊥) → HasEnough after.standings.list p
     enough p b off =
         let not_sender : p ≡ s → ⊥ = λ at. off (subst (λ (q : ℕ). IsWaiting after q) (sym at) sender) in
         let not_receiver : (newest queues (choice_of tested) s).receiver ≡ p
@@ -249,7 +249,7 @@ IsGreatest-resolved positions queues workspace none is =
     (omega (arith, b, is.participants)))) (record {
       feasible = record {
         within = is.within;
-        covered = λ p b. IsCovered-from_standings positions queues (choice_of workspace) workspace.standings p b
+        covered = λ p b. IsCovered-from_standings positions queues (choice_of workspace) workspace.standings.list p b
             is.standings (is.tested p b (λ on. false≢true (sym (none_is_on workspace.waiting none p) ∙ on)));
       };
       largest = is.largest.above;
@@ -290,15 +290,15 @@ newest_is_within positions queues choice standings s inside some within receives
 
 -- a participant that is short has a payment to take back
 pub CanTakeBack-short : (positions : List Position) (queues : List (List Payment)) (s : ℕ) (tested : Workspace)
-    → AreInRange queues → IsTesting positions queues tested s → (HasEnough tested.standings s → ⊥)
+    → AreInRange queues → IsTesting positions queues tested s → (HasEnough tested.standings.list s → ⊥)
     → CanTakeBack queues s tested
 CanTakeBack-short positions queues s tested in_range is short =
     let choice = choice_of tested in
     let some = short_has_one positions queues choice s (is.floored s is.is_one)
-    (λ covered. short (enough_from_IsCovered positions queues choice tested.standings s is.is_one is.standings
+    (λ covered. short (enough_from_IsCovered positions queues choice tested.standings.list s is.is_one is.standings
     covered)) in
     let receives = in_range s [] is.is_one (choice s - 1) (record { receiver = 0; amount = 0 })
     (omega (arith, some, is.within s is.is_one)) in
-    let parts = newest_is_within positions queues choice tested.standings s is.is_one some (is.within s is.is_one)
+    let parts = newest_is_within positions queues choice tested.standings.list s is.is_one some (is.within s is.is_one)
     receives (is.floored _ receives) is.standings in
     record { some = some; within = is.within s is.is_one; receiver = receives; owed = parts.0; funds = parts.1 }

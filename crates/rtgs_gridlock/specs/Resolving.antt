@@ -18,6 +18,6 @@ pub record IsResolving (positions : List Position) (queues : List (List Payment)
   pub floored : (p : ℕ) → p < length queues → (position_of positions p).floor ≤ℤ (position_of positions p).balance
   pub within : IsWithin queues (choice_of workspace)
   pub largest : IsAboveFeasible positions queues (choice_of workspace)
-  pub standings : AreStandings positions queues (choice_of workspace) workspace.standings
+  pub standings : AreStandings positions queues (choice_of workspace) workspace.standings.list
   pub inside : (p : ℕ) → IsWaiting workspace p → p < length queues
-  pub tested : (p : ℕ) → p < length queues → (IsWaiting workspace p → ⊥) → HasEnough workspace.standings p
+  pub tested : (p : ℕ) → p < length queues → (IsWaiting workspace p → ⊥) → HasEnough workspace.standings.list p

@@ -5,6 +5,11 @@ use Rattle.rtgs_gridlock.specs.declared.positions.Position.{Position}
 use Rattle.rtgs_gridlock.specs.declared.standings.Standing.{Standing}
 use Rattle.rtgs_gridlock.specs.Choices.{position_of, queue_of, sent, received}
 
+-- the participants' standings, and how many cover tests and removals were taken from them
+pub record CountedStandings : Type 0 where
+  pub list : List Standing
+  pub steps : ℕ
+
 -- the standing of a participant
 abbrev pub standing_at : List Standing → ℕ → Standing
 standing_at standings p = slice_index_or standings p (record { funds = 0; owed = 0 })

@@ -1,6 +1,6 @@
 -- What a workspace holds, and what its steps do.
-use Rattle.std.specs.Prelude.{◌≡◌, ℕ, List, length, take, ◌+◌, ◌-◌, ◌*◌, ◌<◌, ◌≤◌, ◌==◌, slice_index, slice_index_or}
-use Rattle.std.specs.Prelude.{vec_len, if◌then◌else◌}
+use Rattle.std.specs.Prelude.{◌≡◌, ℕ, List, length, take, ◌+◌, ◌-◌, ◌*◌, ◌^◌, ◌<◌, ◌≤◌, ◌==◌, slice_index}
+use Rattle.std.specs.Prelude.{slice_index_or, vec_len, if◌then◌else◌}
 use Rattle.rtgs_gridlock.specs.declared.positions.Position.{Position}
 use Rattle.rtgs_gridlock.specs.declared.queues.Payment.{Payment}
 use Rattle.rtgs_gridlock.specs.declared.workspace.Workspace.{Workspace}
@@ -24,9 +24,9 @@ participants_of workspace = workspace.participants
 abbrev pub lengths_of : Workspace → List ℕ
 lengths_of workspace = take workspace.participants workspace.lengths.items
 
--- how many cover tests and removals the last resolution took
+-- how many cover tests and removals were taken since the workspace was made
 abbrev pub steps_of : Workspace → ℕ
-steps_of workspace = workspace.steps
+steps_of workspace = workspace.standings.steps
 
 -- the present choice
 abbrev pub choice_of : Workspace → ℕ → ℕ
@@ -55,33 +55,34 @@ pub record CanTakeBack (queues : List (List Payment)) (index : ℕ) (workspace :
   pub some : 0 < choice_of workspace index
   pub within : choice_of workspace index ≤ length (queue_of queues index)
   pub receiver : (newest queues (choice_of workspace) index).receiver < length queues
-  pub owed : (newest queues (choice_of workspace) index).amount ≤ owed_of workspace.standings index
+  pub owed : (newest queues (choice_of workspace) index).amount ≤ owed_of workspace.standings.list index
   pub funds : (newest queues (choice_of workspace) index).amount
-      ≤ funds_of workspace.standings (newest queues (choice_of workspace) index).receiver
+      ≤ funds_of workspace.standings.list (newest queues (choice_of workspace) index).receiver
 
--- there is room for the participants and payments of the queues
+-- there is room for the participants and payments of the queues, and for counting their steps
 pub record HasRoomFor (workspace : Workspace) (queues : List (List Payment)) : Type 0 where
   pub participants : length queues ≤ reserved_participants workspace
   pub payments : payment_count queues ≤ reserved_payments workspace
+  pub steps : steps_of workspace < 2 ^ 98
 
 -- what was reserved stays
 pub record KeepsRoom (old new : Workspace) : Type 0 where
   pub participants : reserved_participants new ≡ reserved_participants old
   pub payments : reserved_payments new ≡ reserved_payments old
 
--- all payments are chosen, and no step has been counted
+-- all payments are chosen, which is no step
 pub record IsFilled (positions : List Position) (queues : List (List Payment)) (old new : Workspace) : Type 0 where
   pub participants : participants_of new ≡ length queues
   pub choice : (p : ℕ) → p < length queues → choice_of new p ≡ everything queues p
-  pub standings : AreStandings positions queues (everything queues) new.standings
-  pub steps : steps_of new ≡ 0
+  pub standings : AreStandings positions queues (everything queues) new.standings.list
+  pub steps : steps_of new ≡ steps_of old
   pub room : KeepsRoom old new
 
 -- only the list of those still to be tested may differ
 pub record SameButWaiting (old new : Workspace) : Type 0 where
   pub participants : participants_of new ≡ participants_of old
   pub choice : new.lengths ≡ old.lengths
-  pub standings : new.standings ≡ old.standings
+  pub standings : new.standings.list ≡ old.standings.list
   pub steps : steps_of new ≡ steps_of old
   pub payments : reserved_payments new ≡ reserved_payments old
 
@@ -95,7 +96,7 @@ pub record ListsParties (sender receiver : ℕ) (old new : Workspace) : Type 0 w
 pub record IsTested (old new : Workspace) : Type 0 where
   pub participants : participants_of new ≡ participants_of old
   pub choice : new.lengths ≡ old.lengths
-  pub standings : new.standings ≡ old.standings
+  pub standings : new.standings.list ≡ old.standings.list
   pub waiting : new.waiting ≡ old.waiting
   pub steps : steps_of new ≡ steps_of old + 1
   pub payments : reserved_payments new ≡ reserved_payments old
@@ -105,11 +106,11 @@ pub record IsTakenBack (queues : List (List Payment)) (index : ℕ) (old new : W
   pub participants : participants_of new ≡ participants_of old
   pub fewer : choice_of new index + 1 ≡ choice_of old index
   pub others : (p : ℕ) → (p ≡ index → ⊥) → choice_of new p ≡ choice_of old p
-  pub funds : (p : ℕ) → funds_of new.standings p + amount_to p (newest queues (choice_of old) index)
-      ≡ funds_of old.standings p
+  pub funds : (p : ℕ) → funds_of new.standings.list p + amount_to p (newest queues (choice_of old) index)
+      ≡ funds_of old.standings.list p
   pub owed : (p : ℕ) →
-      owed_of new.standings p + (if p == index then (newest queues (choice_of old) index).amount else 0)
-      ≡ owed_of old.standings p
+      owed_of new.standings.list p + (if p == index then (newest queues (choice_of old) index).amount else 0)
+      ≡ owed_of old.standings.list p
   pub waiting : new.waiting ≡ old.waiting
   pub steps : steps_of new ≡ steps_of old + 1
   pub room : KeepsRoom old new

@@ -18,64 +18,83 @@ pub struct Standing {
     owed: u128,
 }
 
-/// Each participant's standing by the present choice, by its index.
+/// Each participant's standing by the present choice, by its index, and how many steps were taken.
+/// A step is one cover test (`covers`) or one removal (`take_back`), and each counts itself. Only
+/// `reserve` begins at 0.
 #[derive(Drop)]
 pub struct Standings {
     list: Vec<Standing>,
+    steps: u128,
 }
 
 impl Model for Standings {
-    ghost use Rattle.std.specs.Prelude.{List};
-    ghost use Rattle.rtgs_gridlock.specs.declared.standings.Standing.{Standing};
+    ghost use Rattle.rtgs_gridlock.specs.Standings.{CountedStandings};
 
-    ghost Value = { List Standing };
+    ghost Value = { CountedStandings };
 
-    ghost view = { λ standings. standings.list.items };
+    ghost view = { λ standings. record { list = standings.list.items; steps = standings.steps } };
 }
 
 impl Standings {
-    /// Room for so many participants.
+    /// Room for so many participants. No step has been taken.
     pub fn reserve(alloc: Global, participants: usize) -> Result<Standings, AllocError>
-        ensures { IfOk result (λ standings. length standings ≡ participants) }
+        ensures room { IfOk result (λ standings. length standings.list ≡ participants) }
+        ensures fresh { IfOk result (λ standings. standings.steps ≡ 0) }
     {
         let list = vec![in alloc; Standing { funds: 0, owed: 0 }; participants]?;
-        Ok(Standings { list })
+        Ok(Standings { list, steps: 0 })
     }
 
-    /// Makes the standings those of the choice of all payments.
+    /// How many cover tests and removals were taken since room was reserved.
+    pub fn steps(&self) -> u128
+        ensures { result ≡ self.now.steps }
+    {
+        self.steps
+    }
+
+    /// Makes the standings those of the choice of all payments. The count of steps goes on.
     pub fn fill(&mut self, positions: &Positions, queues: &Queues)
         requires positions { length positions.now ≡ length queues.now }
         requires floored { AreFloored positions.now }
         requires receivers { AreInRange queues.now }
         requires few { payment_count queues.now < 2 ^ 64 }
-        requires room { length queues.now ≤ length self.old }
-        ensures standings { AreStandings positions.now queues.now (everything queues.now) self.new }
-        ensures room { length self.new ≡ length self.old }
+        requires room { length queues.now ≤ length self.old.list }
+        ensures standings { AreStandings positions.now queues.now (everything queues.now) self.new.list }
+        ensures room { length self.new.list ≡ length self.old.list }
+        ensures steps { self.new.steps ≡ self.old.steps }
     {
         open(&mut self.list, positions, queues);
         credit_all(&mut self.list, queues);
     }
 
-    /// Whether a participant has enough for what it sends: its position is at least its floor.
-    pub fn covers(&self, index: usize) -> bool
-        requires { index < length self.now }
-        ensures { IsTrue result ↔ HasEnough self.now index }
+    /// Whether a participant has enough for what it sends: its position is at least its floor. It
+    /// counts as a step.
+    pub fn covers(&mut self, index: usize) -> bool
+        requires index { index < length self.old.list }
+        requires steps { self.old.steps + 1 < 2 ^ 128 }
+        ensures answer { IsTrue result ↔ HasEnough self.new.list index }
+        ensures same { self.new.list ≡ self.old.list }
+        ensures steps { self.new.steps ≡ self.old.steps + 1 }
     {
+        self.steps += 1;
         let Standing { funds, owed } = self.list[index];
         owed <= funds
     }
 
-    /// Takes a payment back: its sender owes less, and its receiver has fewer funds.
+    /// Takes a payment back: its sender owes less, and its receiver has fewer funds. It counts as a
+    /// step.
     pub fn take_back(&mut self, sender: usize, payment: Payment)
-        requires sender { sender < length self.old }
-        requires receiver { payment.receiver < length self.old }
-        requires owed { payment.amount ≤ owed_of self.old sender }
-        requires funds { payment.amount ≤ funds_of self.old payment.receiver }
-        ensures funds { (p : ℕ) → funds_of self.new p + amount_to p payment ≡ funds_of self.old p }
+        requires parties { (sender < length self.old.list) × (payment.receiver < length self.old.list) }
+        requires owed { payment.amount ≤ owed_of self.old.list sender }
+        requires funds { payment.amount ≤ funds_of self.old.list payment.receiver }
+        requires steps { self.old.steps + 1 < 2 ^ 128 }
+        ensures funds { (p : ℕ) → funds_of self.new.list p + amount_to p payment ≡ funds_of self.old.list p }
         ensures owed { (p : ℕ) →
-            owed_of self.new p + (if p == sender then payment.amount else 0) ≡ owed_of self.old p }
-        ensures room { length self.new ≡ length self.old }
+            owed_of self.new.list p + (if p == sender then payment.amount else 0) ≡ owed_of self.old.list p }
+        ensures room { length self.new.list ≡ length self.old.list }
+        ensures steps { self.new.steps ≡ self.old.steps + 1 }
     {
+        self.steps += 1;
         let amount = u128::from(payment.amount);
         let from = &mut self.list[sender];
         from.owed -= amount;

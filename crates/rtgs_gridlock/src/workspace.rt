@@ -12,7 +12,8 @@ use std::alloc::Global;
 
 /// The room that a resolution needs: the present choice, each participant's standing by it, and
 /// the participants that are still to be tested. After filling, a cover test (`covered`) and a
-/// removal (`take_back`) are the only ways to the standings, and each is a step.
+/// removal (`take_back`) are the only ways to the standings, and the standings count each as a
+/// step.
 #[derive(Drop)]
 pub struct Workspace {
     participants: usize,
@@ -20,16 +21,15 @@ pub struct Workspace {
     lengths: Vec<usize>,
     standings: Standings,
     waiting: Worklist,
-    steps: u128,
     ghost lengths_sized: { participants ≤ vec_len lengths },
-    ghost standings_sized: { length standings ≡ vec_len lengths },
+    ghost standings_sized: { length standings.list ≡ vec_len lengths },
     ghost waiting_sized: { length waiting ≡ vec_len lengths },
 }
 
 impl Workspace {
     ghost use Rattle.rtgs_gridlock.specs.Workspaces.{reserved_participants, reserved_payments, participants_of};
     ghost use Rattle.rtgs_gridlock.specs.Workspaces.{lengths_of, choice_of, steps_of, waiting_count, newest, IsWaiting};
-    ghost use Rattle.rtgs_gridlock.specs.Workspaces.{HasRoomFor, IsFilled, IsTested, CanTakeBack, IsTakenBack};
+    ghost use Rattle.rtgs_gridlock.specs.Workspaces.{IsFilled, IsTested, CanTakeBack, IsTakenBack};
     ghost use Rattle.rtgs_gridlock.specs.Workspaces.{SameButWaiting, ListsParties};
 
     /// Room for so many participants. A resolution may then have so many queued payments, which
@@ -42,6 +42,7 @@ impl Workspace {
         ensures participants { IfOk result (λ workspace. reserved_participants workspace ≡ participants) }
         ensures payments { IfOk result (λ workspace. reserved_payments workspace ≡ payments) }
         ensures empty { IfOk result (λ workspace. lengths_of workspace ≡ []) }
+        ensures fresh { IfOk result (λ workspace. steps_of workspace ≡ 0) }
     {
         let lengths = vec![in alloc; 0; participants]?;
         let standings = Standings::reserve(alloc, participants)?;
@@ -52,7 +53,6 @@ impl Workspace {
             lengths,
             standings,
             waiting,
-            steps: 0,
         })
     }
 
@@ -63,22 +63,25 @@ impl Workspace {
         &self.lengths[..self.participants]
     }
 
-    /// How many cover tests and removals the last resolution took.
+    /// How many cover tests and removals were taken since this workspace was made, in all
+    /// resolutions together. The difference of two counts says what the resolutions between them
+    /// took: for each at most n + 3q, as `greatest` says.
     pub fn steps(&self) -> u128
         ensures { result ≡ steps_of self.now }
     {
-        self.steps
+        self.standings.steps()
     }
 
-    /// Chooses all payments, and fills in each participant's standing by them.
+    /// Chooses all payments, and fills in each participant's standing by them. The count of steps
+    /// goes on.
     pub(crate) fn fill(&mut self, positions: &Positions, queues: &Queues)
         requires resolvable { AreResolvable positions.now queues.now }
-        requires room { HasRoomFor self.old queues.now }
+        requires participants { length queues.now ≤ reserved_participants self.old }
+        requires payments { payment_count queues.now ≤ reserved_payments self.old }
         ensures filled { IsFilled positions.now queues.now self.old self.new }
         ensures few { payment_count queues.now < 2 ^ 64 }
     {
         let _payments = self.payments;
-        self.steps = 0;
         self.participants = queues.len();
         choose_all(&mut self.lengths, queues);
         self.standings.fill(positions, queues);
@@ -88,10 +91,9 @@ impl Workspace {
     pub(crate) fn covered(&mut self, index: usize) -> bool
         requires index { index < reserved_participants self.old }
         requires steps { steps_of self.old < 2 ^ 100 }
-        ensures answer { IsTrue result ↔ HasEnough self.new.standings index }
+        ensures answer { IsTrue result ↔ HasEnough self.new.standings.list index }
         ensures tested { IsTested self.old self.new }
     {
-        self.steps += 1;
         self.standings.covers(index)
     }
 
@@ -105,7 +107,6 @@ impl Workspace {
         ensures payment { result ≡ newest queues.now (choice_of self.old) index }
         ensures taken_back { IsTakenBack queues.now index self.old self.new }
     {
-        self.steps += 1;
         let place = self.lengths[index] - 1;
         let payment = queues.payment(index, place);
         self.lengths[index] = place;

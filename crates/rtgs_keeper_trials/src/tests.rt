@@ -4,6 +4,7 @@ mod automatic_days;
 mod automatic_faults;
 mod boundaries;
 mod business;
+mod counted;
 mod creation;
 mod disks;
 mod faults;

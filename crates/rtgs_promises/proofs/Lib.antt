@@ -1,3 +1,4 @@
+mod Anew
 mod Batches
 mod Crashes
 mod Determined
@@ -5,5 +6,5 @@ mod Headlines
 mod InMemory
 mod LetGo
 mod Lives
-mod Requests
+mod OneRequest
 mod Resolving

@@ -1,12 +1,14 @@
 -- The headline: what a desk answered, kept and lost over any number of sessions, in the words of the definitions.
-use Rattle.std.specs.Prelude.{◌≡◌, true, false, List, ◌∷◌, ◌++◌, length, map, take, ⊤}
+use Rattle.std.specs.Prelude.{◌≡◌, ◌⊎◌, true, false, List, [], ◌∷◌, ◌++◌, length, map, take, ⊤}
 use Rattle.std.specs.List.{AllByRecursion}
 use Rattle.sqlite.specs.State.{State}
 use Rattle.sqlite.specs.Tree.{Trees}
 use Rattle.rtgs_book.specs.declared.book.Book.{Book}
 use Rattle.rtgs_book.specs.declared.command.Command.{Command}
 use Rattle.rtgs_book.specs.declared.command.Command.TheVariants.{Resolve}
-use Rattle.rtgs_book.specs.Books.{is_closed}
+use Rattle.rtgs_book.specs.declared.fault.Fault.TheVariants.{OutOfMemory, StoreFault}
+use Rattle.rtgs_book.specs.Balance.{balance}
+use Rattle.rtgs_book.specs.Books.{is_closed, new_book}
 use Rattle.rtgs_book.specs.Calm.{IsCalm}
 use Rattle.rtgs_book.specs.Choice.{Choice, is_chosen, IsGreatest}
 use Rattle.rtgs_book.specs.Laws.{KeepsWhatIsFinal, NothingSettlesEarly}
@@ -17,9 +19,8 @@ use Rattle.rtgs_book.specs.Settle.{settle}
 use Rattle.rtgs_book.specs.Soundness.{IsSound}
 use Rattle.rtgs_book.specs.Step.{Step, is_followed}
 use Rattle.rtgs_repeats.specs.Lives.{AreLived}
-use Rattle.rtgs_rows.specs.Content.{Content, Holds}
-use Rattle.rtgs_rows.specs.Keeping.{IsBookOf, AddsUp}
-use Rattle.rtgs_stored_desk.specs.Stored.{IsMemoryOrStore}
+use Rattle.rtgs_rows.specs.Content.{Content, HasNoTables, Holding, Holds}
+use Rattle.rtgs_rows.specs.Keeping.{AddsUp, AreOf, IsBookOf}
 use Rattle.rtgs_promises.specs.declared.sessions.Cause.{Cause}
 use Rattle.rtgs_promises.specs.declared.sessions.Cause.TheVariants.{NoDesk}
 
@@ -71,21 +72,34 @@ pub record IsHeadline (start : Book) (given : List (List Command)) (said : List 
   pub in_time : NothingSettlesEarly found
   pub sound : IsSound found
 
--- The tables hold the book and nothing else, each stored balance is the sum from scratch, and together these balances
--- are what was posted.
+-- The tables hold the records of the book and nothing else. Each stored balance is the sum from scratch, and together
+-- these balances are what was posted.
+pub record AreRowsOf (book : Book) (trees : Trees) : Type 0 where
+  pub content : Content
+  pub rows : Holds content trees
+  pub records : AreOf book content
+  pub balances : AllByRecursion (λ (h : Holding). h.balance ≡ balance book h.participant.code) content.holdings
+  pub money : AddsUp content
+
+-- So it is, the book is sound, each of its values is in its form and range, and the participants' row numbers rise.
 pub record AreExactly (book : Book) (trees : Trees) : Type 0 where
   pub content : Content
   pub rows : Holds content trees
   pub records : IsBookOf book content
   pub money : AddsUp content
 
--- whatever a crash leaves at this moment are the tables of this book
+-- a crash at this moment leaves some tables, and whichever it leaves have the rows of this book and no others
+pub record LeavesRows (book : Book) (s : State) : Type 0 where
+  pub some : (trees : Trees) × s.may_leave trees
+  pub each : (trees : Trees) → s.may_leave trees → AreRowsOf book trees
+
+-- whatever a crash leaves at this moment are exactly the tables of this book
 abbrev pub LeavesExactly : Book → State → Type 0
 LeavesExactly book s = (trees : Trees) → s.may_leave trees → AreExactly book trees
 
 -- where no desk opened, memory was wanting, or the store failed
 abbrev pub IsForced : Cause → Type 0
-IsForced (NoDesk fault) = IsMemoryOrStore fault
+IsForced (NoDesk fault) = (fault ≡ OutOfMemory) ⊎ (fault ≡ StoreFault)
 IsForced cause = ⊤
 
 -- Sessions that ended early: of those that have replies it is the headline, whatever a crash leaves. `given` are the
@@ -94,4 +108,13 @@ pub record EndsEarly (start : Book) (given : List (List Command)) (said : List (
     (may_leave : Trees → Type 0) : Type 0 where
   pub left : (trees : Trees) → may_leave trees
       → (found : Book) × AreExactly found trees × IsHeadline start (take (length said) given) said found
+  pub forced : IsForced cause
+
+-- Sessions from the new book that ended early. Whatever a crash leaves has no tables, and no session was had; or of
+-- those that have replies it is the headline.
+pub record EndsEarlyAnew (given : List (List Command)) (said : List (List Reply)) (cause : Cause)
+    (may_leave : Trees → Type 0) : Type 0 where
+  pub left : (trees : Trees) → may_leave trees
+      → (HasNoTables trees × (said ≡ []))
+      ⊎ ((found : Book) × AreRowsOf found trees × IsHeadline new_book (take (length said) given) said found)
   pub forced : IsForced cause

@@ -1,4 +1,5 @@
 pub mod Headline
 pub mod Keys
+pub mod Numbers
 pub mod Openings
 pub mod Stops

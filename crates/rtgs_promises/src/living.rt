@@ -11,9 +11,8 @@ ghost use Rattle.rtgs_promises.specs.Headline.{EndsEarly};
 ghost use Rattle.rtgs_promises.specs.Stops.{LeavesTables};
 ghost use Rattle.rtgs_stored_desk.specs.Stored.{AreTablesOf};
 
-use crate::promises::{
-    each_resolution_settles_the_greatest_choice, nothing_settles_early, tables_are_exactly_the_book,
-};
+use crate::books::{each_resolution_settles_the_greatest_choice, nothing_settles_early};
+use crate::desks::tables_are_exactly_the_book;
 use crate::sessions::{Cause, Unfinished};
 use crate::stopping::{opened, store_of};
 use rtgs_book::{Refusal, WholeAnswer};
@@ -43,6 +42,7 @@ pub(crate) fn begun<S: Alter + Drop>(
         → (start : Book) → AreTablesOf start (state S.Store conn).committed.trees → IsCalm start
         → (given : List (List Command))
         → EndsEarly start given (map (λ replies. replies.items) it.said.items) it.cause (S.Store.recovers it.store)) }
+    ensures back { IfErr result (λ it. IsClean (S.Store.view it.store) → HasCleanDisk (state S.Store conn)) }
 {
     life_is_a_run();
     each_resolution_settles_the_greatest_choice();

@@ -5,8 +5,8 @@ ghost use Rattle.sqlite.specs.Steps.{over_memory, IsEmpty};
 ghost use Rattle.rtgs_book.specs.Books.{new_book};
 ghost use Rattle.rtgs_stored_desk.specs.Stored.{AreTablesOf};
 
-use crate::sessions::Cause;
-use rtgs_stored_desk::make;
+use crate::making::tables_made;
+use crate::sessions::{Cause, Unfinished};
 use sqlite::{Connection, MemStore};
 use std::alloc::Global;
 
@@ -28,8 +28,14 @@ pub(crate) fn made_in_memory(alloc: Global) -> Result<Connection<MemStore>, Caus
     ensures idle { IfOk result (λ made. made.in_transaction ≡ false) }
 {
     let conn = empty_in_memory(alloc)?;
-    match make(conn) {
+    match tables_made(alloc, conn) {
         Ok(made) => Ok(made),
-        Err((fault, _)) => Err(Cause::NoDesk(fault)),
+        Err(
+            Unfinished {
+                said: _,
+                cause,
+                store: _,
+            },
+        ) => Err(cause),
     }
 }

@@ -8,7 +8,7 @@ ghost use Rattle.rtgs_desk.specs.Holding.{Holds};
 ghost use Rattle.rtgs_promises.specs.Headline.{AreExactly};
 ghost use Rattle.rtgs_promises.specs.Keys.{IsServed};
 
-use crate::promises::{each_resolution_settles_the_greatest_choice, nothing_settles_early};
+use crate::books::{each_resolution_settles_the_greatest_choice, nothing_settles_early};
 use rtgs_desk::Desk;
 use rtgs_http_banks::{Served, serve_one};
 use rtgs_keeper::Keeper;

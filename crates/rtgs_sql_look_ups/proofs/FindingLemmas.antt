@@ -315,6 +315,16 @@ pub mark_is_after : (number : ℕ) (m : Mark)
 unfolding binary
 mark_is_after number m = truth_of _ ∙ is_above m.number number
 
+pub order_is_above : (number : ℕ) (o : Order)
+    → passes after_tests (Int (pos number) ∷ []) (payment_row o) ≡ nat_lt number o.number
+unfolding binary
+order_is_above number o = truth_of _ ∙ is_above o.number number
+
+pub forward_is_above : (number : ℕ) (f : Forward)
+    → passes after_tests (Int (pos number) ∷ []) (forward_row f) ≡ nat_lt number f.number
+unfolding binary
+forward_is_above number f = truth_of _ ∙ is_above f.number number
+
 pub forward_is_under : (number : ℕ) (f : Forward)
     → passes under_tests (Int (pos number) ∷ []) (forward_row f) ≡ (f.number == number)
 unfolding binary

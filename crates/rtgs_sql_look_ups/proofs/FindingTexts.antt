@@ -101,6 +101,33 @@ mark_after_asks = record {
   reads = λ schema base. refl;
 }
 
+abbrev pub order_above_text : List ℕ
+order_above_text = codes "SELECT number, sender, reference, receiver, amount, date, state, mark FROM payment "
+    ++ codes "WHERE number > ?1 ORDER BY number LIMIT 1"
+
+pub order_above_asks : IsFirstQuery payment_table after_tests order_above_text 1
+unfolding understood everything schema_in
+order_above_asks = record {
+  seeks = record {
+    asks = record { command = refl; plain = (refl, refl); whole = refl; given = refl };
+    unlisted = refl;
+  };
+  reads = λ schema base. refl;
+}
+
+abbrev pub due_above_text : List ℕ
+due_above_text = codes "SELECT number, due FROM forward WHERE number > ?1 ORDER BY number LIMIT 1"
+
+pub due_above_asks : IsFirstQuery forward_table after_tests due_above_text 1
+unfolding understood everything schema_in
+due_above_asks = record {
+  seeks = record {
+    asks = record { command = refl; plain = (refl, refl); whole = refl; given = refl };
+    unlisted = refl;
+  };
+  reads = λ schema base. refl;
+}
+
 -- ---- the due date of a number
 
 abbrev pub due_text : List ℕ

@@ -4,3 +4,4 @@ pub mod FindingLemmas
 pub mod SeekingLemmas
 pub mod DueLemmas
 pub mod ListingLemmas
+pub mod SkippingLemmas

@@ -35,8 +35,9 @@ use Rattle.rtgs_sql_columns.specs.OneTable.{passes, OneTableAnswers}
 use Rattle.rtgs_sql_queries.specs.Laws.{RecordsAreRead}
 use Rattle.rtgs_sql_look_ups.specs.Finding.{first_query, after_tests, order_after_tests, under_tests, ShowsFirst}
 use Rattle.rtgs_sql_look_ups.specs.Seeking.{first_above}
+use Rattle.rtgs_sql_look_ups.specs.Skipping.{first_order_above, first_due_above}
 use Rattle.rtgs_sql_look_ups.proofs.FindingLemmas.{first_rows, posting_is_after, order_is_after, mark_is_after}
-use Rattle.rtgs_sql_look_ups.proofs.FindingLemmas.{forward_is_under}
+use Rattle.rtgs_sql_look_ups.proofs.FindingLemmas.{order_is_above, forward_is_above, forward_is_under}
 use Rattle.rtgs_sql_look_ups.proofs.DueLemmas.{shown_plain}
 use Rattle.rtgs_lists.proofs.Lists.{all_of, all_weaker}
 
@@ -105,6 +106,30 @@ order_first in_order answers read tell date number is book s content rests of ro
     (held_in content s rests payment_table ∙ ap (rows_in payment_table) rests.holds.rows)
     of.records.lists.orders (in_order book content of).orders rows answer
     ∙ sym (shown_plain (order_after book date number))
+
+pub order_above_first : RecordsStandInOrder → OneTableAnswers → RecordsAreRead order_records → (number : ℕ)
+    (book : Book) (s : State) (content : Content) → Rests content s → IsBookOf book content
+    → ShowsFirst order_records after_tests s.now.trees (Int (pos number) ∷ [])
+    (option_map without_due (first_order_above number book.orders))
+order_above_first in_order answers read number book s content rests of rows answer =
+    first_in_table order_records after_tests payment_row (λ o. o.number) (λ o. nat_lt number o.number)
+    (Int (pos number) ∷ []) answers read
+    (λ a b low. then-Equal _ ∙ value_cmp-Int (pos a.number) (pos b.number) ∙ low) (λ _. refl) s.now.trees
+    book.orders content.orders (all_of _ (order_is_above number) book.orders)
+    (held_in content s rests payment_table ∙ ap (rows_in payment_table) rests.holds.rows)
+    of.records.lists.orders (in_order book content of).orders rows answer
+    ∙ sym (shown_plain (first_order_above number book.orders))
+
+pub due_above_first : RecordsStandInOrder → OneTableAnswers → RecordsAreRead forward_records → (number : ℕ)
+    (book : Book) (s : State) (content : Content) → Rests content s → IsBookOf book content
+    → ShowsFirst forward_records after_tests s.now.trees (Int (pos number) ∷ []) (first_due_above number book.orders)
+due_above_first in_order answers read number book s content rests of =
+    first_in_table forward_records after_tests forward_row (λ f. f.number) (λ f. nat_lt number f.number)
+    (Int (pos number) ∷ []) answers read
+    (λ a b low. then-Equal _ ∙ value_cmp-Int (pos a.number) (pos b.number) ∙ low) (λ _. refl) s.now.trees
+    (forwards_of book.orders) content.forwards (all_of _ (forward_is_above number) (forwards_of book.orders))
+    (held_in content s rests forward_table ∙ ap (rows_in forward_table) rests.holds.rows)
+    of.records.lists.forwards (in_order book content of).forwards
 
 pub forward_first : RecordsStandInOrder → OneTableAnswers → RecordsAreRead forward_records → (number : ℕ) (book : Book)
     (s : State) (content : Content) → Rests content s → IsBookOf book content

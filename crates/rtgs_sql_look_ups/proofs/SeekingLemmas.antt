@@ -9,7 +9,7 @@ use Rattle.rtgs_sql_look_ups.specs.Seeking.{first_above, first_of_date, is_early
 use Rattle.rtgs_lists.proofs.Bools.{and_right_false}
 use Rattle.rtgs_lists.proofs.Finds.{find_nothing}
 
-clash : (b : Bool) → b ≡ true → b ≡ false → ⊥
+pub clash : (b : Bool) → b ≡ true → b ≡ false → ⊥
 clash b one other = let e : ◌≡◌ {A = Bool} true false = sym one ∙ other in cc
 
 not_below : (m n : ℕ) → nat_lt m n ≡ false → n ≤ m

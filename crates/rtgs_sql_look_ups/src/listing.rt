@@ -1,4 +1,4 @@
-//! The first record above a number: of all postings or marks, and of the orders of a date.
+//! The first record above a number: of all postings, marks, orders or due dates, and of the orders of a date.
 ghost use Rattle.std.specs.Prelude.{◌≡◌, ◌<◌, ◌^◌, List, Option, IfOk, length, option_map};
 ghost use Rattle.std.specs.List.{AllByRecursion};
 ghost use Rattle.rtgs_book.specs.declared.Book.{Book};
@@ -7,6 +7,7 @@ ghost use Rattle.rtgs_rows.specs.Content.{Content, Rests};
 ghost use Rattle.rtgs_rows.specs.Dues.{without_due};
 ghost use Rattle.rtgs_rows.specs.Keeping.{HoldsBook};
 ghost use Rattle.rtgs_sql_look_ups.specs.Finding.{one_of, IsLook, IsFirstQuery, ShowsFirst};
+ghost use Rattle.rtgs_sql_look_ups.specs.Skipping.{first_order_above, first_due_above};
 ghost use Rattle.sqlite.specs.State.{HasCleanDisk};
 ghost use Rattle.sqlite.specs.Held.{state};
 ghost use Rattle.sqlite.specs.Term.{Term};
@@ -18,6 +19,7 @@ use rtgs_book::{Fault, LARGEST_NUMBER, Mark, Order, Posting};
 use rtgs_cores::laws::records_are_listed;
 use rtgs_money::BusinessDate;
 use rtgs_money::laws::dates_have_distinct_texts;
+use rtgs_rows::Forward;
 use rtgs_rows::laws::records_stand_in_order;
 use rtgs_sql_columns::columns::{number_value, text_of, text_or_null};
 use rtgs_sql_columns::laws::one_table_answers;
@@ -129,5 +131,50 @@ pub(crate) fn payment_after<S: Alter>(
         "SELECT number, sender, reference, receiver, amount, date, state, mark FROM payment \
          WHERE date = ?1 AND number > ?2 ORDER BY number LIMIT 1",
         &[text_or_null(&day), number_value(number)],
+    )
+}
+
+/// The order with the least number above this one, whatever its date, without its due date.
+pub(crate) fn payment_above<S: Alter>(
+    conn: &mut Connection<S>,
+    number: u64,
+) -> Result<Option<Order>, Fault>
+    ensures looks { IsLook S.Store conn.old conn.new result }
+    ensures found { HasCleanDisk (state S.Store conn.new) → (book : Book) → HoldsBook S.Store conn.old book
+        → IfOk result (λ found. found ≡ option_map without_due (first_order_above number book.orders)) }
+{
+    if number > LARGEST_NUMBER as u64 {
+        return Err(Fault::StoreFault);
+    }
+    records_stand_in_order();
+    one_table_answers();
+    records_are_read::<Order>();
+    first_record::<Order, S>(
+        conn,
+        "SELECT number, sender, reference, receiver, amount, date, state, mark FROM payment \
+         WHERE number > ?1 ORDER BY number LIMIT 1",
+        &[number_value(number)],
+    )
+}
+
+/// The due date with the least number above this one.
+pub(crate) fn forward_above<S: Alter>(
+    conn: &mut Connection<S>,
+    number: u64,
+) -> Result<Option<Forward>, Fault>
+    ensures looks { IsLook S.Store conn.old conn.new result }
+    ensures found { HasCleanDisk (state S.Store conn.new) → (book : Book) → HoldsBook S.Store conn.old book
+        → IfOk result (λ found. found ≡ first_due_above number book.orders) }
+{
+    if number > LARGEST_NUMBER as u64 {
+        return Err(Fault::StoreFault);
+    }
+    records_stand_in_order();
+    one_table_answers();
+    records_are_read::<Forward>();
+    first_record::<Forward, S>(
+        conn,
+        "SELECT number, due FROM forward WHERE number > ?1 ORDER BY number LIMIT 1",
+        &[number_value(number)],
     )
 }

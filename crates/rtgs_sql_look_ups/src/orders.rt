@@ -9,11 +9,12 @@ ghost use Rattle.rtgs_cores.specs.Nexts.{order_after};
 ghost use Rattle.rtgs_rows.specs.Dues.{without_due, forwards_of, IsHeldByDue};
 ghost use Rattle.rtgs_rows.specs.Keeping.{HoldsBook};
 ghost use Rattle.rtgs_sql_look_ups.specs.Finding.{IsLook, due_under};
+ghost use Rattle.rtgs_sql_look_ups.specs.Skipping.{first_order_above};
 ghost use Rattle.sqlite.specs.State.{HasCleanDisk};
 ghost use Rattle.sqlite.specs.Held.{state};
 
 use crate::finding::named_payment;
-use crate::listing::{first_record, payment_after};
+use crate::listing::{first_record, payment_above, payment_after};
 use rtgs_book::{Fault, LARGEST_NUMBER, Order};
 use rtgs_cores::laws::records_are_listed;
 use rtgs_money::{BusinessDate, Code, Reference};
@@ -102,8 +103,25 @@ pub fn find_order<S: Alter>(
     }
 }
 
-/// The order of the date with the least number above this one. None that is given is held without a due date.
-pub fn next_order<S: Alter>(
+/// The order with the least number above this one, whatever its date. None that is given is held without a due date.
+pub(crate) fn order_above<S: Alter>(
+    conn: &mut Connection<S>,
+    number: u64,
+) -> Result<Option<Order>, Fault>
+    ensures looks { IsLook S.Store conn.old conn.new result }
+    ensures found { HasCleanDisk (state S.Store conn.new) → (book : Book) → HoldsBook S.Store conn.old book
+        → IfOk result (λ found. found ≡ first_order_above number book.orders) }
+    ensures dues { IfOk result (λ found. IfSome found IsHeldByDue) }
+{
+    match payment_above(conn, number) {
+        Ok(payment) => with_due(conn, payment),
+        Err(fault) => Err(fault),
+    }
+}
+
+/// The order of the date with the least number above this one, by a pass over all orders above it. None that is given
+/// is held without a due date.
+pub(crate) fn order_by_pass<S: Alter>(
     conn: &mut Connection<S>,
     date: BusinessDate,
     number: u64,

@@ -66,7 +66,7 @@ pub fn open<S: Alter + Drop>(
     desk_over(alloc, SqlKeeper::open(conn))
 }
 
-// Outside a transaction a store that is open shows what it has committed, and reads it by its own schema.
+/// Outside a transaction a store that is open shows what it has committed, and reads it by its own schema.
 pub(crate) fn rests<S: Alter>(conn: &Connection<S>)
     requires { conn.now.in_transaction ≡ false }
     ensures { IsTrue (state S.Store conn.now).is_open → IsAtRest (state S.Store conn.now) }

@@ -20,7 +20,7 @@ pub enum Trouble {
 }
 
 impl Trouble {
-    // The fault that a look-up answers, which changes nothing either way.
+    // The fault that a look-up answers.
     fn fault(self) -> Fault
         ensures { (result ≡ Fault.OutOfMemory) ⊎ (result ≡ Fault.StoreFault) }
     {
@@ -131,6 +131,11 @@ impl<K: Keeper> Keeper for FailingKeeper<K> {
         }
         let found = match self.trouble() {
             None => self.kept.find_order(sender, reference),
+            Some(Trouble::Kept) => {
+                // the answer is lost, whatever it was
+                let _ = self.kept.find_order(sender, reference);
+                Err(Fault::StoreFault)
+            }
             Some(trouble) => Err(trouble.fault()),
         };
         self.failed = matches!(found, Err(Fault::StoreFault));
@@ -143,6 +148,11 @@ impl<K: Keeper> Keeper for FailingKeeper<K> {
         }
         let found = match self.trouble() {
             None => self.kept.find_posting(reference),
+            Some(Trouble::Kept) => {
+                // the answer is lost, whatever it was
+                let _ = self.kept.find_posting(reference);
+                Err(Fault::StoreFault)
+            }
             Some(trouble) => Err(trouble.fault()),
         };
         self.failed = matches!(found, Err(Fault::StoreFault));
@@ -155,6 +165,11 @@ impl<K: Keeper> Keeper for FailingKeeper<K> {
         }
         let found = match self.trouble() {
             None => self.kept.next_posting(date, number),
+            Some(Trouble::Kept) => {
+                // the answer is lost, whatever it was
+                let _ = self.kept.next_posting(date, number);
+                Err(Fault::StoreFault)
+            }
             Some(trouble) => Err(trouble.fault()),
         };
         self.failed = matches!(found, Err(Fault::StoreFault));
@@ -167,6 +182,11 @@ impl<K: Keeper> Keeper for FailingKeeper<K> {
         }
         let found = match self.trouble() {
             None => self.kept.next_order(date, number),
+            Some(Trouble::Kept) => {
+                // the answer is lost, whatever it was
+                let _ = self.kept.next_order(date, number);
+                Err(Fault::StoreFault)
+            }
             Some(trouble) => Err(trouble.fault()),
         };
         self.failed = matches!(found, Err(Fault::StoreFault));
@@ -179,6 +199,11 @@ impl<K: Keeper> Keeper for FailingKeeper<K> {
         }
         let found = match self.trouble() {
             None => self.kept.next_mark(date, number),
+            Some(Trouble::Kept) => {
+                // the answer is lost, whatever it was
+                let _ = self.kept.next_mark(date, number);
+                Err(Fault::StoreFault)
+            }
             Some(trouble) => Err(trouble.fault()),
         };
         self.failed = matches!(found, Err(Fault::StoreFault));

@@ -8,16 +8,19 @@ $ names --help
 > Brings the tables of a book to the newest version
 status 0 helped
 $ names add --help
+= Adds a participant
 > 3 to 8 capitals and digits, a capital first
 > 1 to 40 printable characters
 > 32 characters of 0-9 and a-f
 status 0 helped
 $ names post --help
+= Posts an amount to a participant's account
 > 1 to 16 capitals, digits and dashes
 > The amount in cents, without a sign
 > --debit
 status 0 helped
 $ names open --help
+= Opens a business day
 > --automatic
 > Resolves gridlock after each command that may free orders
 status 0 helped
@@ -26,6 +29,74 @@ status 0 helped
 #[test]
 fn helps_name_the_commands_and_the_forms_of_their_words(rt: HostRuntime) -> Result<(), Fail> {
     follows(&rt, "helps", HELPS)
+}
+
+/// The help of the other subcommands: what each does, and its words in their order.
+const EACH: &str = "
+$ names init --help
+= Makes a new book, without participants
+= Usage: desk init <FILE>
+status 0 helped
+$ names migrate --help
+= Brings the tables of a book to the newest version
+= Usage: desk migrate <FILE>
+status 0 helped
+$ names credit --help
+= Sets the credit limit of a participant
+= Usage: desk credit <FILE> <CODE> <CENTS>
+status 0 helped
+$ names import --help
+= Submits a participant's file of orders
+= Usage: desk import <FILE> <CODE> <ORDERS>
+status 0 helped
+$ names resolve --help
+= Settles as many queued orders together as there is cover for
+= Usage: desk resolve <FILE>
+status 0 helped
+$ names cutoff --help
+= Ends the taking of orders
+= Usage: desk cutoff <FILE> <DATE>
+status 0 helped
+$ names close --help
+= Closes the day and rejects what is queued
+= Usage: desk close <FILE> <DATE>
+status 0 helped
+$ names withdraw --help
+= Takes back an order that is queued or held
+= Usage: desk withdraw <FILE> <CODE> <REFERENCE>
+status 0 helped
+$ names account --help
+= Shows a participant's account, as JSON
+= Usage: desk account <FILE> <CODE>
+status 0 helped
+$ names queue --help
+= Shows a participant's queued orders, as JSON
+= Usage: desk queue <FILE> <CODE>
+status 0 helped
+$ names order --help
+= Shows an order of a participant, as JSON
+= Usage: desk order <FILE> <CODE> <REFERENCE>
+status 0 helped
+$ names statement --help
+= Shows a participant's business day
+= Usage: desk statement <FILE> <CODE> <DATE>
+status 0 helped
+$ names report --help
+= Shows the business day of all participants
+= Usage: desk report <FILE> <DATE>
+status 0 helped
+$ names serve --help
+= Serves connections over HTTP, one after the other
+= Usage: desk serve --port <P> --count <N> --operator-key <KEY> <FILE>
+status 0 helped
+$ names help serve
+= Serves connections over HTTP, one after the other
+status 0 helped
+";
+
+#[test]
+fn each_subcommand_has_its_own_help(rt: HostRuntime) -> Result<(), Fail> {
+    follows(&rt, "each_help", EACH)
 }
 
 /// The version of the tables is that of a new book, or else what is inserted has no value, which is refused.

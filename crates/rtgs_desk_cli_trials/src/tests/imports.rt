@@ -1,5 +1,7 @@
 //! Files of orders, taken whole or not at all, and sent again.
-use super::script::follows_both;
+use super::script::{follows, follows_both};
+use std::alloc::{AllocError, Global};
+use std::fmt::Write;
 use std::test::Fail;
 
 /// An open day on which ALFA has 150 cents.
@@ -137,4 +139,53 @@ $ desk import @ ALFA lost.csv
 #[test]
 fn orders_stand_where_their_results_are_lost(rt: HostRuntime) -> Result<(), Fail> {
     follows_both(&rt, "lost", DAY, LOST)
+}
+
+/// A step that writes a file of so many orders of one cent, and the line that imports it.
+fn many_of(alloc: Global, count: u32) -> Result<String, Fail> {
+    let mut many = String::from_str(alloc, "\n$ orders many.csv")?;
+    for number in 1..=count {
+        write!(many, " A-{number},BETA,1")?;
+    }
+    many.push_str("\n$ desk import @ ALFA many.csv\n> reference,result,number,detail\n")?;
+    Ok(many)
+}
+
+/// What a row is answered where ALFA has 150 cents: that order settles under its own mark, or is queued behind those
+/// before it that have no cover.
+fn answer_to(alloc: Global, number: u32) -> Result<String, AllocError> {
+    match number.checked_sub(150) {
+        None | Some(0) => format!(in alloc; "> A-{number},settled,{number},{number}\n"),
+        Some(place) => format!(in alloc; "> A-{number},queued,{number},{place}\n"),
+    }
+}
+
+/// What the same row is answered then.
+fn answer_again(alloc: Global, number: u32) -> Result<String, AllocError> {
+    let state = if number <= 150 { "settled" } else { "queued" };
+    format!(in alloc; "> A-{number},repeated,{number},{state}\n")
+}
+
+/// The import of so many orders, with the whole of its result file.
+fn import_of(alloc: Global, count: u32, again: bool) -> Result<String, Fail> {
+    let mut script = many_of(alloc, count)?;
+    for number in 1..=count {
+        let answer = if again {
+            answer_again(alloc, number)?
+        } else {
+            answer_to(alloc, number)?
+        };
+        script.push_str(answer.as_str())?;
+    }
+    Ok(script)
+}
+
+#[test]
+fn a_file_of_500_orders_is_answered_row_by_row(rt: HostRuntime) -> Result<(), Fail> {
+    let first = import_of(rt.alloc(), 500, false)?;
+    let again = import_of(rt.alloc(), 500, true)?;
+    // all orders and all answers are in them
+    assert_eq!(rt; (first.len(), again.len()), (17692, 20408));
+    follows(&rt, "many", DAY)?;
+    follows_both(&rt, "many", first.as_str(), again.as_str())
 }

@@ -1,5 +1,6 @@
-//! Ten thousand commands over both keepers: in memory, and on disks that are closed and opened again every hundred. One
-//! day in two is automatic. After each fifty both tell the same of their books.
+//! Ten thousand commands in one book, and five thousand in another, over both keepers: in memory, and on disks that are
+//! closed and opened again every hundred. One day in two is automatic. After each five hundred, or each hundred, both
+//! tell the same of their books.
 use super::business::Business;
 use super::disks::OnDisks;
 use super::memory::InMemory;
@@ -18,22 +19,25 @@ use std::test::Fail;
 #[derive(Drop)]
 struct Run {
     business: Business,
-    // how many times fifty commands were given
+    // how many times fifty commands were given, and after how many of these the keeper tells of its book
     fifties: u64,
+    pause: u64,
     told: Told,
 }
 
 impl Run {
-    /// The commands of this seed.
-    fn new(alloc: Global, seed: u64) -> Run {
+    /// The commands of this seed, where a keeper tells of its book after so many times fifty commands.
+    fn new(alloc: Global, seed: u64, pause: u64) -> Run {
         Run {
             business: Business::new(alloc, seed),
             fifties: 0,
+            pause,
             told: Told::new(alloc),
         }
     }
 
-    /// Gives a desk over this keeper fifty commands, each of which it judges, and then the keeper tells of its book.
+    /// Gives a desk over this keeper fifty commands, each of which it judges. Then the keeper tells of its book, if it is
+    /// time.
     fn fifty<K: Booked>(&mut self, alloc: Global, keeper: K) -> Result<K, Fail> {
         let mut desk = desk_over(alloc, keeper)?;
         for _ in 0..50 {
@@ -49,7 +53,9 @@ impl Run {
         }
         let mut keeper = desk.into_keeper();
         self.fifties = self.fifties.wrapping_add(1);
-        self.told.asks(alloc, &mut keeper, self.fifties)?;
+        if self.fifties.is_multiple_of(self.pause) {
+            self.told.asks(alloc, &mut keeper, self.fifties)?;
+        }
         Ok(keeper)
     }
 
@@ -94,19 +100,20 @@ pub fn end_in_one_book<M: Store, S: Store>(
     }
 }
 
-/// Five thousand commands, of all kinds and with all kinds of answers, which both stores answer alike. Behind each kind
-/// that can free orders something is resolved at least once. Orders with due dates come to stand wherever they may, and
-/// one enters its queue late, since its day was not opened.
+/// So many hundred commands, of all kinds and with all kinds of answers, which both stores answer alike. Behind each
+/// kind that can free orders something is resolved at least once. Orders with due dates come to stand wherever they may,
+/// and one enters its queue late, since its day was not opened.
 fn answer_alike<M: Store, S: Store>(
     alloc: Global,
     memory: &mut M,
     store: &mut S,
-    seed: u64,
+    runs: (Run, Run),
+    hundreds: usize,
 ) -> Result<(), Fail> {
-    let (mut one, mut other) = (Run::new(alloc, seed), Run::new(alloc, seed));
+    let (mut one, mut other) = runs;
     let mut seen = [false; KINDS];
     let (mut stand, mut is_late) = ([false; PLACES], false);
-    for _ in 0..50 {
+    for _ in 0..hundreds {
         let told = one.hundred(alloc, memory)?;
         if !told.is_like(&other.hundred(alloc, store)?) {
             return Err(Fail::new("another answer, or another record"));
@@ -125,20 +132,26 @@ fn answer_alike<M: Store, S: Store>(
     }
 }
 
-// Five thousand commands of this seed, that end in one book.
-fn five_thousand<M: Store, S: Store>(alloc: Global, seed: u64) -> Result<(), Fail> {
+// So many hundred commands of this seed, that end in one book. A keeper tells of it after so many times fifty.
+fn commands_of<M: Store, S: Store>(
+    alloc: Global,
+    seed: u64,
+    hundreds: usize,
+    pause: u64,
+) -> Result<(), Fail> {
     let (mut memory, mut store) = (M::blank(alloc), S::blank(alloc));
     make(alloc, &mut store)?;
-    answer_alike(alloc, &mut memory, &mut store, seed)?;
+    let runs = (Run::new(alloc, seed, pause), Run::new(alloc, seed, pause));
+    answer_alike(alloc, &mut memory, &mut store, runs, hundreds)?;
     end_in_one_book(alloc, &mut memory, &mut store)
 }
 
 #[test]
-fn the_first_five_thousand_commands_end_in_one_book(rt: HostRuntime) -> Result<(), Fail> {
-    five_thousand::<InMemory, OnDisks>(rt.alloc(), 2031)
+fn ten_thousand_commands_end_in_one_book(rt: HostRuntime) -> Result<(), Fail> {
+    commands_of::<InMemory, OnDisks>(rt.alloc(), 2031, 100, 10)
 }
 
 #[test]
-fn another_five_thousand_commands_end_in_one_book(rt: HostRuntime) -> Result<(), Fail> {
-    five_thousand::<InMemory, OnDisks>(rt.alloc(), 2057)
+fn five_thousand_other_commands_end_in_one_book(rt: HostRuntime) -> Result<(), Fail> {
+    commands_of::<InMemory, OnDisks>(rt.alloc(), 2057, 50, 2)
 }

@@ -146,7 +146,7 @@ fn others_than_balances(alloc: Global, rows: &[RowChange]) -> Result<Vec<RowChan
     Ok(others)
 }
 
-// Whether a resolution follows commands on the day.
+/// Whether a resolution follows commands on the day.
 pub(super) fn is_automatic(day: Day) -> bool
     ensures { result ≡ is_automatic day }
 {

@@ -143,7 +143,7 @@ impl Ledger {
     }
 }
 
-// The rows that set these balances.
+/// The rows that set these balances.
 pub(super) fn rows_of(alloc: Global, accounts: &[Account]) -> Result<Vec<RowChange>, AllocError>
     ensures { IfOk result (λ rows. rows.items ≡ map (λ (a : AccountSpec). RowChange.SetBalance (code_of a) a.balance)
         accounts.now) }

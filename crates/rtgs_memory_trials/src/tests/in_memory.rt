@@ -1,8 +1,9 @@
 //! Calls to desks in memory, and calls to none.
 mod batches;
 mod commands;
+mod feeds;
+mod lost;
 mod nothing;
 mod openings;
-mod page;
 mod readings;
 mod serving;

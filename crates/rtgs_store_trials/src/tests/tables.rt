@@ -4,6 +4,7 @@ mod due_dates;
 mod memory_keeper;
 mod migrations;
 mod no_memory;
+mod steps;
 mod stored_numbers;
 mod versions;
 

@@ -9,7 +9,7 @@ use Rattle.rtgs_gridlock.proofs.resolver.turn.Goals as goal
 
 pub take_back-payment-requires-clause-payment : goal.take_back-payment-requires-clause-payment
 take_back-payment-requires-clause-payment c =
-    let short : HasEnough c.covered.new.self.standings c.in-Some.index
+    let short : HasEnough c.covered.new.self.standings.list c.in-Some.index
     → ⊥ = λ enough. false≢true (c.if-not-covered.ensures.answer.1 enough) in
     let testing = IsTesting-tested c.requires.resolving.0 c.args.queues.now c.in-Some.index c.args.workspace.now
     c.next_waiting.new.self c.covered.new.self c.requires.resolving.1 c.in-Some.ensures.same c.in-Some.ensures.taken
@@ -19,7 +19,7 @@ take_back-payment-requires-clause-payment c =
 
 pub returns-then-not-covered-clause-resolving : goal.returns-then-not-covered-clause-resolving
 returns-then-not-covered-clause-resolving c = λ positions is.
-    let short : HasEnough c.covered.new.self.standings c.in-Some.index
+    let short : HasEnough c.covered.new.self.standings.list c.in-Some.index
     → ⊥ = λ enough. false≢true (c.if-not-covered.ensures.answer.1 enough) in
     let testing = IsTesting-tested positions c.args.queues.now c.in-Some.index c.args.workspace.now
     c.next_waiting.new.self c.covered.new.self is c.in-Some.ensures.same c.in-Some.ensures.taken

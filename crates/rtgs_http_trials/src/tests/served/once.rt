@@ -120,18 +120,22 @@ fn a_read_that_failed_is_not_tried_again(rt: HostRuntime) -> Result<(), Fail> {
     is_not_read_again(rt.alloc(), &mut desk, GOOD.len().saturating_sub(1))
 }
 
-// Takes sixteen bytes a write, fails once, after so many writes, and goes on.
+// Takes sixteen bytes a write. After so many writes it fails once, or takes no byte once, and goes on.
 #[derive(Drop)]
 struct Halting {
     taken: Vec<u8>,
     writes: usize,
+    fails: bool,
 }
 
 impl Write for Halting {
     fn write(&mut self, bytes: &[u8]) -> io::Result<usize> {
         if self.writes == 0 {
             self.writes = usize::MAX;
-            return Err(io::Error::from(ErrorKind::Interrupted));
+            if self.fails {
+                return Err(io::Error::from(ErrorKind::Interrupted));
+            }
+            return Ok(0);
         }
         self.writes -= 1;
         let count = bytes.len().min(16);
@@ -152,13 +156,14 @@ fn cut_off(served: &Served) -> Option<u16> {
     }
 }
 
-// A writer that fails after so many writes has sixteen bytes of each of them and no more.
-fn is_not_written_again(alloc: Global, writes: usize) -> Result<(), Fail> {
+// A writer that fails after so many writes, or takes no byte, has sixteen bytes of each of them and no more.
+fn is_not_written_again(alloc: Global, writes: usize, fails: bool) -> Result<(), Fail> {
     let mut desk = TestDesk::open(alloc)?;
     let mut reader = GOOD.as_bytes();
     let mut writer = Halting {
         taken: Vec::new(alloc),
         writes,
+        fails,
     };
     let served = desk.serve(&mut reader, &mut writer);
     let taken = writer.taken.len();
@@ -172,7 +177,15 @@ fn is_not_written_again(alloc: Global, writes: usize) -> Result<(), Fail> {
 #[test]
 fn a_write_that_failed_is_not_tried_again(rt: HostRuntime) -> Result<(), Fail> {
     for writes in 0..3 {
-        is_not_written_again(rt.alloc(), writes)?;
+        is_not_written_again(rt.alloc(), writes, true)?;
+    }
+    Ok(())
+}
+
+#[test]
+fn a_write_of_no_byte_is_not_tried_again(rt: HostRuntime) -> Result<(), Fail> {
+    for writes in 0..3 {
+        is_not_written_again(rt.alloc(), writes, false)?;
     }
     Ok(())
 }

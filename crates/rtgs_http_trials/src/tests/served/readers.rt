@@ -1,7 +1,9 @@
 //! Readers that fail, and how often a reader is asked.
 use super::super::GOOD;
+use super::super::requests::Request;
 use super::super::test_desk::{TestDesk, follows};
 use super::counted_reader::CountedReader;
+use super::lengths::spaced;
 use rtgs_http_banks::Served;
 use std::alloc::Global;
 use std::io::Read;
@@ -48,17 +50,30 @@ fn a_reader_that_fails_gives_no_command(rt: HostRuntime) -> Result<(), Fail> {
     Ok(())
 }
 
-// So many reads at most, of so many bytes each, are enough for the whole request, and none is made after them.
-fn is_enough(alloc: Global, most: usize, reads: usize) -> Result<(), Fail> {
+// The input has this reply after so many reads, of so many bytes each at most, and none is made after them.
+fn is_told_after(
+    alloc: Global,
+    input: &str,
+    most: usize,
+    reads: usize,
+    reply: &str,
+) -> Result<(), Fail> {
     let mut desk = TestDesk::open(alloc)?;
-    let mut reader = CountedReader::new(GOOD.as_bytes(), most, usize::MAX);
-    let replied = is_replied(alloc, &mut desk, &mut reader, QUEUED);
+    let mut reader = CountedReader::new(input.as_bytes(), most, usize::MAX);
+    let replied = is_replied(alloc, &mut desk, &mut reader, reply);
     if replied == Some(true) && reader.made == reads {
         return Ok(());
     }
-    let made = reader.made;
-    let said = format!(in alloc; "{made} reads of {most} bytes: {replied:?}")?;
+    let (made, length) = (reader.made, input.len());
+    let said = format!(in alloc;
+        "{length} bytes: {made} reads of {most}, not {reads}: {replied:?}"
+    )?;
     Err(Fail::from(said))
+}
+
+// So many reads are enough for the whole of the good request.
+fn is_enough(alloc: Global, most: usize, reads: usize) -> Result<(), Fail> {
+    is_told_after(alloc, GOOD, most, reads, QUEUED)
 }
 
 #[test]
@@ -122,4 +137,43 @@ fn no_read_follows_a_fault(rt: HostRuntime) -> Result<(), Fail> {
     let replied = is_replied(rt.alloc(), &mut desk, &mut reader, reply);
     assert!(rt; replied == Some(true), "{replied:?}");
     Ok(())
+}
+
+const TOO_LONG: &str =
+    "HTTP/1.1 413 Content Too Large\r\nContent-Type: application/json\r\nContent-Length: 32\r\n\
+     Connection: close\r\n\r\n{\"code\":61,\"name\":\"HeadTooLong\"}";
+
+// A head is too long once 8192 bytes of it have come, and 4096 at most are asked for at once.
+#[test]
+fn no_read_follows_a_head_that_is_too_long(rt: HostRuntime) -> Result<(), Fail> {
+    let head = "A".repeat(rt.alloc(), 10000)?;
+    is_told_after(rt.alloc(), head.as_str(), usize::MAX, 2, TOO_LONG)?;
+    is_told_after(rt.alloc(), head.as_str(), 3000, 3, TOO_LONG)?;
+    is_told_after(rt.alloc(), head.as_str(), 1, 8192, TOO_LONG)
+}
+
+// The good request with spaces behind its order, so many that it has this length.
+fn good_of(alloc: Global, length: usize) -> Result<String, Fail> {
+    // the length of the body has four digits in place of two
+    let shortest = GOOD.len().saturating_add(2);
+    let asked = spaced(alloc, length.saturating_sub(shortest))?;
+    let input = Request::read(asked.as_str())?.input(alloc)?;
+    if input.len() == length {
+        return Ok(input);
+    }
+    Err(Fail::from("another length"))
+}
+
+// The good request of this length is read in so many reads.
+fn is_read_in(alloc: Global, length: usize, reads: usize) -> Result<(), Fail> {
+    let input = good_of(alloc, length)?;
+    is_told_after(alloc, input.as_str(), usize::MAX, reads, QUEUED)
+}
+
+#[test]
+fn a_request_is_read_in_pieces_of_4096_bytes(rt: HostRuntime) -> Result<(), Fail> {
+    is_read_in(rt.alloc(), 4096, 1)?;
+    is_read_in(rt.alloc(), 4097, 2)?;
+    is_read_in(rt.alloc(), 8192, 2)?;
+    is_read_in(rt.alloc(), 8193, 3)
 }

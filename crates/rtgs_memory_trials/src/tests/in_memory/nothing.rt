@@ -3,7 +3,7 @@ use super::super::scarce::setting::{
     KEYS, MONDAY, TUESDAY, adds, code, date, limits, opens, opens_automatic, opens_on, pays,
     pays_on,
 };
-use super::super::scarce::{Held, in_a_process, is_limited};
+use super::super::scarce::{Held, had_none, in_a_process, is_limited, is_none_left};
 use rtgs_book::Command;
 use rtgs_cores::Found;
 use rtgs_gridlock::{Payment, Position, Positions, Queues, Workspace, greatest};
@@ -46,8 +46,10 @@ fn chosen(
     assert!(rt; queues.payment_count() == Some(3));
     let mut workspace = Workspace::reserve(alloc, 2, 3)?;
     let held = Held::all_but(alloc, 0)?;
+    let is_none = is_none_left(alloc);
     greatest(positions, queues, &mut workspace);
     held.free();
+    had_none(is_none)?;
     Ok(workspace)
 }
 
@@ -102,9 +104,10 @@ fn standing(ledger: &Ledger, bank: &str) -> Result<(i64, usize), Fail> {
 fn adopt_without_memory(alloc: Global, ledger: &mut Ledger, command: &Command) -> Result<(), Fail> {
     let (_, change) = ledger.prepare(command, &Found::NOTHING)?;
     let held = Held::all_but(alloc, 0)?;
+    let is_none = is_none_left(alloc);
     ledger.adopt(change);
     held.free();
-    Ok(())
+    had_none(is_none)
 }
 
 // How ALFA and BETA stand once an order of so many cents is adopted so.
@@ -178,8 +181,10 @@ fn send_fixed(written: &mut Vec<u8>) -> Result<(), WriterFailed> {
 fn fixed_without_memory(alloc: Global) -> Result<Vec<u8>, Fail> {
     let mut written = Vec::with_capacity(alloc, 1024)?;
     let held = Held::all_but(alloc, 0)?;
+    let is_none = is_none_left(alloc);
     let sent = send_fixed(&mut written);
     held.free();
+    had_none(is_none)?;
     sent?;
     Ok(written)
 }

@@ -1,24 +1,39 @@
 //! Requests over HTTP.
 use super::super::scarce::setting::{KEYS, opens, opens_automatic, pays, posts};
-use super::super::scarce::{InMemory, OPERATOR, Serves, Worked, for_each_refusal, request_of};
+use super::super::scarce::{
+    InMemory, OPERATOR, ORDERS, Serves, Worked, for_each_refusal, request_of,
+};
 use rtgs_book::Command;
 use rtgs_money::Key;
+use rtgs_order_files::{OrderRow, read_orders};
 use std::test::Fail;
 
-// Serves this request to a desk in memory, after these commands.
-fn tries_after(
+// Serves this request to a desk in memory, after these commands. It has these rows where it is a batch.
+fn tries_rows(
     rt: &HostRuntime,
     name: &str,
     before: &[Command],
     request: &String,
+    rows: &[OrderRow],
 ) -> Result<(), Fail> {
     let call = Serves {
         store: InMemory,
         before,
         request: request.as_bytes(),
         operator: Key::read(OPERATOR.as_bytes())?.digest(),
+        rows,
     };
     for_each_refusal(rt, name, &call, 1)
+}
+
+// The same of a request that is no batch.
+fn tries_after(
+    rt: &HostRuntime,
+    name: &str,
+    before: &[Command],
+    request: &String,
+) -> Result<(), Fail> {
+    tries_rows(rt, name, before, request, &[])
 }
 
 // The same after a posting to ALFA and whatever else is given.
@@ -54,9 +69,16 @@ fn an_order_that_waits(rt: HostRuntime) -> Result<(), Fail> {
 
 #[test]
 fn a_batch(rt: HostRuntime) -> Result<(), Fail> {
-    let body = "reference,to,amount\nA-1,BETA,100\nA-2,GAMA,50\nA-3,BETA,25\n";
+    let rows = read_orders(rt.alloc(), ORDERS)?;
+    let body = std::str::from_utf8(ORDERS)?;
     let request = request_of(rt.alloc(), KEYS[0], "POST /batches", body)?;
-    tries(&rt, "tests::in_memory::serving::a_batch", &[], &request)
+    tries_rows(
+        &rt,
+        "tests::in_memory::serving::a_batch",
+        &[posts("ALFA", "P-1", 150)?, opens()?],
+        &request,
+        rows.as_slice(),
+    )
 }
 
 #[test]

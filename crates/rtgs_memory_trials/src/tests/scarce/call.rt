@@ -10,8 +10,8 @@ pub enum Outcome {
     Ample,
     /// It is refused for lack of memory (90), and nothing has changed.
     Refused,
-    /// The store has failed (91), since it found no memory where it commits or rolls back. Its state is the one before
-    /// or the one after.
+    /// The store has failed (91). Its state is the one before or the one after. Each call over tables may be told so,
+    /// and not only where it commits or rolls back.
     Faulted,
     /// All is done, and the answer is lost for lack of memory (69).
     Lost,
@@ -41,4 +41,10 @@ pub trait Call {
 
     /// All that can be seen of the state.
     fn seen(&self, alloc: Global, state: &mut Self::State) -> Result<String, Fail>;
+
+    /// What may be seen of the state after a call that stopped with this answer, one text for each part of the work
+    /// that may be done. There are none where all is done or nothing. It fails where the answer tells of no such part.
+    fn parts(&self, alloc: Global, _answer: &Self::Answer) -> Result<Vec<String>, Fail> {
+        Ok(Vec::new(alloc))
+    }
 }

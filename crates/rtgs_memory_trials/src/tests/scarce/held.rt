@@ -19,16 +19,27 @@ pub struct Held {
 }
 
 impl Held {
+    /// Takes all memory. There is none where some is left, or there was no room to begin with.
+    pub fn all(alloc: Global) -> Option<Held> {
+        let Ok(mut small) = Vec::with_capacity(alloc, SMALL_BLOCKS) else {
+            return None;
+        };
+        let Ok(mut others) = Vec::with_capacity(alloc, BLOCKS) else {
+            return None;
+        };
+        let is_held = fill(alloc, &mut small, SMALL_BLOCKS, SMALL).is_ok()
+            && fill_sizes(alloc, &mut others).is_ok();
+        if !is_held || others.len() >= BLOCKS {
+            return None;
+        }
+        Some(Held { small, others })
+    }
+
     /// Takes all memory, but for so many small blocks that lie side by side.
     pub fn all_but(alloc: Global, given: usize) -> Result<Held, Fail> {
-        let mut small = Vec::with_capacity(alloc, SMALL_BLOCKS)?;
-        let mut others = Vec::with_capacity(alloc, BLOCKS)?;
-        fill(alloc, &mut small, SMALL_BLOCKS, SMALL)?;
-        for size in [1 << 20, 1 << 14, 1 << 8, SMALL] {
-            fill(alloc, &mut others, BLOCKS, size)?;
-        }
-        if others.len() >= BLOCKS || given > small.len() {
-            return Err(Fail::from("memory is left, or too little is held"));
+        let Held { mut small, others } = Held::all(alloc).ok_or("memory is left")?;
+        if given > small.len() {
+            return Err(Fail::from("too little is held"));
         }
         small.truncate(small.len() - given);
         Ok(Held { small, others })
@@ -40,6 +51,27 @@ impl Held {
         drop(small);
         drop(others);
     }
+}
+
+/// Whether a request for one byte is refused.
+pub fn is_none_left(alloc: Global) -> bool {
+    Vec::<u8>::with_capacity(alloc, 1).is_err()
+}
+
+/// There was no memory. Without this a test could pass while memory is not held.
+pub fn had_none(is_none: bool) -> Result<(), Fail> {
+    if is_none {
+        return Ok(());
+    }
+    Err(Fail::from("memory was left"))
+}
+
+// Takes blocks of all sizes, from large to small.
+fn fill_sizes(alloc: Global, blocks: &mut Vec<Vec<u8>>) -> Result<(), AllocError> {
+    for size in [1 << 20, 1 << 14, 1 << 8, SMALL] {
+        fill(alloc, blocks, BLOCKS, size)?;
+    }
+    Ok(())
 }
 
 // Takes blocks of this size until there is no room, or that many are taken.

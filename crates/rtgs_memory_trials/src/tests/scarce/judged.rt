@@ -23,7 +23,11 @@ impl Ample {
     // From the state where it begins.
     fn from_state<C: Call>(alloc: Global, call: &C, state: &mut C::State) -> Result<Ample, Fail> {
         let before = call.seen(alloc, state)?;
-        let answer = answered(alloc, call, state)?;
+        let answer = call.call(alloc, state);
+        if call.outcome(&answer) != Outcome::Other {
+            return Err(Fail::from("it is refused with ample memory"));
+        }
+        let answer = format!(in alloc; "{answer:?}")?;
         let after = call.seen(alloc, state)?;
         let again = answered(alloc, call, state)?;
         Ok(Ample {
@@ -153,14 +157,43 @@ fn judge_lost<C: Call>(
     is_answered_again(alloc, call, state, ample, ample.again.as_str())
 }
 
-// A part is done, and the same call does the rest.
+// What is seen is one of these.
+fn is_one_of(alloc: Global, seen: &str, wanted: &[String]) -> Result<(), Fail> {
+    for text in wanted {
+        if text.as_str() == seen {
+            return Ok(());
+        }
+    }
+    let said = format!(in alloc; "{seen:.200}, and no part of the work")?;
+    Err(Fail::from(said))
+}
+
+// What is seen of the state is what there may be after an answer of a call that stopped.
+fn is_partly_done<C: Call>(
+    alloc: Global,
+    call: &C,
+    state: &mut C::State,
+    answer: &C::Answer,
+    ample: &Ample,
+) -> Result<(), Fail> {
+    let parts = call.parts(alloc, answer)?;
+    if parts.is_empty() {
+        return is_before_or_after(alloc, call, state, ample);
+    }
+    let seen = call.seen(alloc, state)?;
+    is_one_of(alloc, seen.as_str(), parts.as_slice())
+}
+
+// The part is done that the answer tells, and the same call does the rest.
 fn judge_stopped<C: Call>(
     alloc: Global,
     call: &C,
     state: C::State,
+    answer: &C::Answer,
     ample: &Ample,
 ) -> Result<(), Fail> {
-    let found = call.reopened(alloc, state)?;
+    let mut found = call.reopened(alloc, state)?;
+    is_partly_done(alloc, call, &mut found, answer, ample)?;
     answered_again(alloc, call, found, ample)?;
     Ok(())
 }
@@ -183,11 +216,12 @@ fn outcome_of<C: Call>(
     Ok(outcome)
 }
 
-// Judges the state that a call left whose answer came to this.
+// Judges the state that a call left with this answer, which came to this.
 fn judge_state<C: Call>(
     alloc: Global,
     call: &C,
     state: C::State,
+    answer: &C::Answer,
     outcome: Outcome,
     reopens: bool,
     ample: &Ample,
@@ -197,7 +231,7 @@ fn judge_state<C: Call>(
         Outcome::Refused => judge_refused(alloc, call, state, reopens, ample),
         Outcome::Faulted => judge_faulted(alloc, call, state, ample),
         Outcome::Lost => judge_lost(alloc, call, state, ample),
-        Outcome::Stopped => judge_stopped(alloc, call, state, ample),
+        Outcome::Stopped => judge_stopped(alloc, call, state, answer, ample),
         Outcome::Other => Err(Fail::from("another answer")),
     }
 }
@@ -212,6 +246,6 @@ pub fn judge<C: Call>(
     ample: &Ample,
 ) -> Result<Outcome, Fail> {
     let outcome = outcome_of(alloc, call, answer, ample)?;
-    judge_state(alloc, call, state, outcome, reopens, ample)?;
+    judge_state(alloc, call, state, answer, outcome, reopens, ample)?;
     Ok(outcome)
 }

@@ -53,6 +53,27 @@ impl Counts {
         }
         counts
     }
+
+    // The call was refused for lack of memory, and never reported as a fault of the store instead. Without this a test
+    // could pass in which no memory is held back.
+    fn are_refusals(self) -> Result<(), Fail> {
+        if self.refused == 0 {
+            return Err(Fail::from("no request was refused"));
+        }
+        if self.faulted > 0 {
+            return Err(Fail::from("a fault of the store, where memory was refused"));
+        }
+        Ok(())
+    }
+
+    // The call always went well.
+    fn are_ample(self) -> Result<(), Fail> {
+        let others = [self.refused, self.faulted, self.stopped, self.lost];
+        if others != [0; 4] {
+            return Err(Fail::from("memory was asked for"));
+        }
+        Ok(())
+    }
 }
 
 // Calls with so many small blocks of memory and no more, and judges what comes of it.
@@ -71,13 +92,13 @@ fn try_with<C: Call>(
 }
 
 // There is memory for no request, and then for more and more, by so many blocks a step: so each is refused that finds
-// less than all before it have taken, and each after it that finds no room either.
+// less than all before it have taken, and each after it that finds no room either. Gives how many steps came to what.
 fn refuse_in_turn<C: Call>(
     rt: &HostRuntime,
     name: &str,
     call: &C,
     blocks: usize,
-) -> Result<(), Fail> {
+) -> Result<Counts, Fail> {
     let ample = Ample::of(rt.alloc(), call)?;
     let mut counts = Counts::default();
     for step in 0..MOST_STEPS {
@@ -86,7 +107,7 @@ fn refuse_in_turn<C: Call>(
         counts = counts.and(outcome);
         if counts.ample >= STEPS_THAT_GO_WELL {
             rt.println(format_args!("{name}: {step} steps of {blocks} blocks, {counts:?}"))?;
-            return Ok(());
+            return Ok(counts);
         }
     }
     Err(Fail::from("it never goes well"))
@@ -163,8 +184,8 @@ pub fn in_a_process(rt: &HostRuntime, name: &str) -> Result<(), Fail> {
 }
 
 /// Calls once, and then, in a process of its own whose memory is limited, refuses each request for memory that the call
-/// makes in turn, by so many blocks a step, until the call is answered as with ample memory. The name is that of the
-/// test.
+/// makes in turn, by so many blocks a step, until the call is answered as with ample memory. Some request has to be
+/// refused. The name is that of the test.
 pub fn for_each_refusal<C: Call>(
     rt: &HostRuntime,
     name: &str,
@@ -172,7 +193,16 @@ pub fn for_each_refusal<C: Call>(
     blocks: usize,
 ) -> Result<(), Fail> {
     if is_limited(rt) {
-        return refuse_in_turn(rt, name, call, blocks);
+        return refuse_in_turn(rt, name, call, blocks)?.are_refusals();
+    }
+    call_once(rt, name, call)?;
+    in_a_process(rt, name)
+}
+
+/// The same of a call that asks for no memory: it goes well though there is none.
+pub fn for_no_request<C: Call>(rt: &HostRuntime, name: &str, call: &C) -> Result<(), Fail> {
+    if is_limited(rt) {
+        return refuse_in_turn(rt, name, call, 1)?.are_ample();
     }
     call_once(rt, name, call)?;
     in_a_process(rt, name)

@@ -68,6 +68,46 @@ where
     fn seen(&self, alloc: Global, desk: &mut Desk<S::Kept>) -> Result<String, Fail> {
         seen_of(alloc, desk)
     }
+
+    fn parts(
+        &self,
+        alloc: Global,
+        answer: &Result<BatchResult, AllocError>,
+    ) -> Result<Vec<String>, Fail> {
+        match answer {
+            Ok(batch) => parts_of(alloc, self, batch),
+            Err(_) => Err(Fail::from("no row is answered")),
+        }
+    }
+}
+
+// What is seen of the desk after so many of the rows.
+fn seen_after<S: Store>(alloc: Global, sends: &Sends<'_, S>, count: usize) -> Result<String, Fail>
+where
+    S::Kept: Keeper + Drop,
+{
+    let mut desk = orders_desk(alloc, sends.store.keeper(alloc)?)?;
+    let rows = sends.rows.get(..count).ok_or("so many rows")?;
+    submit_batch(alloc, &mut desk, sends.sender, rows)?;
+    seen_of(alloc, &mut desk)
+}
+
+// What may be seen after a batch that stopped: the rows that are answered are done, and where the store failed the next
+// one may be too.
+fn parts_of<S: Store>(
+    alloc: Global,
+    sends: &Sends<'_, S>,
+    batch: &BatchResult,
+) -> Result<Vec<String>, Fail>
+where
+    S::Kept: Keeper + Drop,
+{
+    let count = batch.replies.len();
+    let mut parts = vec![in alloc; seen_after(alloc, sends, count)?]?;
+    if matches!(batch.stopped, Some(Refusal::StoreFault)) {
+        parts.push(seen_after(alloc, sends, count.saturating_add(1))?)?;
+    }
+    Ok(parts)
 }
 
 // What a batch came to that stopped.

@@ -1,13 +1,16 @@
 //! One request over HTTP.
 use super::call::{Call, Outcome};
-use super::setting::{desk_after, desk_over, seen_of};
+use super::setting::{code, desk_after, desk_over, seen_of};
 use super::store::Store;
+use rtgs_batches::submit_batch;
 use rtgs_book::Command;
 use rtgs_desk::Desk;
 use rtgs_http_banks::{Served, serve_one};
 use rtgs_keeper::Keeper;
 use rtgs_money::KeyDigest;
+use rtgs_order_files::OrderRow;
 use std::alloc::Global;
+use std::fmt::Write;
 use std::test::Fail;
 
 /// The operator's key.
@@ -22,7 +25,7 @@ const OUT_OF_MEMORY: &[u8] =
       Connection: close\r\n\r\n{\"code\":90,\"name\":\"OutOfMemory\"}";
 
 /// The reply that an answer is lost.
-const ANSWER_LOST: &[u8] =
+pub const ANSWER_LOST: &[u8] =
     b"HTTP/1.1 503 Service Unavailable\r\nContent-Type: application/json\r\nContent-Length: 31\r\n\
       Connection: close\r\n\r\n{\"code\":69,\"name\":\"AnswerLost\"}";
 
@@ -31,8 +34,15 @@ const STORE_FAULT: &[u8] =
     b"HTTP/1.1 503 Service Unavailable\r\nContent-Type: application/json\r\nContent-Length: 31\r\n\
       Connection: close\r\n\r\n{\"code\":91,\"name\":\"StoreFault\"}";
 
-/// The beginning of the reply of a batch that stopped.
-const STOPPED: &[u8] = b"HTTP/1.1 503 Service Unavailable\r\nContent-Type: text/csv\r\n";
+/// The beginning of the reply of a batch that stopped, up to the length of its results.
+const STOPPED: &str =
+    "HTTP/1.1 503 Service Unavailable\r\nContent-Type: text/csv\r\nContent-Length: ";
+
+/// The first line of results.
+const HEADER: &str = "reference,result,number,detail\n";
+
+/// The results of the three orders that each batch here has.
+const RESULTS: [&str; 3] = ["A-1,settled,1,1\n", "A-2,settled,2,2\n", "A-3,queued,3,1\n"];
 
 /// One request to a desk over this store, which has three banks, after other commands.
 #[derive(Clone, Copy)]
@@ -41,13 +51,64 @@ pub struct Serves<'a, S> {
     pub before: &'a [Command],
     pub request: &'a [u8],
     pub operator: KeyDigest,
+    /// The rows of the request where it is a batch of ALFA, and else none.
+    pub rows: &'a [OrderRow],
 }
 
 impl<S: Store> Serves<'_, S> {
     // Whether a lost answer may be that a part is done: a batch that stopped, or a store that failed.
     fn may_stop(&self) -> bool {
-        self.store.may_fail() || self.request.starts_with(b"POST /batches".as_slice())
+        self.store.may_fail() || !self.rows.is_empty()
     }
+}
+
+// The reply of a batch of the three orders that has so many answered, and stops for lack of memory at the next one.
+fn stopped_reply(alloc: Global, count: usize) -> Result<String, Fail> {
+    let mut results = String::from_str(alloc, HEADER)?;
+    let lines = RESULTS;
+    for line in lines.get(..count).ok_or("so many lines")? {
+        results.push_str(*line)?;
+    }
+    let number = count.saturating_add(1);
+    write!(results, "A-{number},stopped,,90\n")?;
+    let length = results.len();
+    let mut reply = String::from_str(alloc, STOPPED)?;
+    write!(reply, "{length}\r\nConnection: close\r\n\r\n{results}")?;
+    Ok(reply)
+}
+
+// How many orders such a reply has answered. It fails where some byte of it is another one.
+fn answered_in(alloc: Global, written: &[u8]) -> Result<usize, Fail> {
+    for count in 0..RESULTS.len() {
+        let reply = stopped_reply(alloc, count)?;
+        if reply.as_bytes() == written {
+            return Ok(count);
+        }
+    }
+    Err(Fail::from("no reply of a batch that stopped"))
+}
+
+// What is seen of the desk after so many rows of a batch.
+fn seen_after<S: Store>(alloc: Global, serves: &Serves<'_, S>, count: usize) -> Result<String, Fail>
+where
+    S::Kept: Keeper + Drop,
+{
+    let mut desk = desk_after(alloc, serves.store.keeper(alloc)?, serves.before)?;
+    let rows = serves.rows.get(..count).ok_or("so many rows")?;
+    submit_batch(alloc, &mut desk, code("ALFA")?, rows)?;
+    seen_of(alloc, &mut desk)
+}
+
+// What is seen of it after each number of rows, and after none.
+fn seen_after_each<S: Store>(alloc: Global, serves: &Serves<'_, S>) -> Result<Vec<String>, Fail>
+where
+    S::Kept: Keeper + Drop,
+{
+    let mut parts = Vec::new(alloc);
+    for count in 0..=serves.rows.len() {
+        parts.push(seen_after(alloc, serves, count)?)?;
+    }
+    Ok(parts)
 }
 
 /// The bytes of a request with this key, line and body.
@@ -107,7 +168,7 @@ where
             Some(503) if written == ANSWER_LOST && self.may_stop() => Outcome::Stopped,
             Some(503) if written == ANSWER_LOST => Outcome::Lost,
             Some(503) if written == STORE_FAULT && self.store.may_fail() => Outcome::Faulted,
-            Some(503) if written.starts_with(STOPPED) => Outcome::Stopped,
+            Some(503) if written.starts_with(STOPPED.as_bytes()) => Outcome::Stopped,
             _ => Outcome::Other,
         }
     }
@@ -123,5 +184,17 @@ where
 
     fn seen(&self, alloc: Global, server: &mut Server<S::Kept>) -> Result<String, Fail> {
         seen_of(alloc, &mut server.desk)
+    }
+
+    fn parts(&self, alloc: Global, told: &Told) -> Result<Vec<String>, Fail> {
+        let written = told.written.as_slice();
+        if self.rows.is_empty() {
+            return Ok(Vec::new(alloc));
+        }
+        if written == ANSWER_LOST {
+            return seen_after_each(alloc, self);
+        }
+        let count = answered_in(alloc, written)?;
+        Ok(vec![in alloc; seen_after(alloc, self, count)?]?)
     }
 }

@@ -35,3 +35,9 @@ returns-in-Err-with_capacity-clause-ended g c clean is_open start tables calm gi
       in_time = c.nothing_settles_early.ensures.sound;
     }) start given [] _ (g.S.Store.recovers c.given_up.result) tables.2.sound calm tt
     (λ trees may. (start, c.given_up.ensures.tables clean start held trees may, no_life start)))
+
+pub returns-in-Err-clause-back : goal.returns-in-Err-clause-back
+returns-in-Err-clause-back g c clean = c.in-Err.ensures.back clean
+
+pub returns-in-Err-with_capacity-clause-back : goal.returns-in-Err-with_capacity-clause-back
+returns-in-Err-with_capacity-clause-back g c clean = c.in-Ok.ensures.honest (c.given_up.ensures.honest clean)

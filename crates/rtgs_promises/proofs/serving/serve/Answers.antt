@@ -1,7 +1,7 @@
 use Rattle.std.proofs.Common.{length, subst}
 use Rattle.rtgs_rows.specs.Keeping.{MayLeave}
 use Rattle.rtgs_promises.proofs.Headlines.{headline}
-use Rattle.rtgs_promises.proofs.Requests.{given_are_allowed, one_life, serves_more}
+use Rattle.rtgs_promises.proofs.OneRequest.{given_are_allowed, one_life, serves_more}
 use Rattle.rtgs_promises.proofs.serving.serve.Goals as goal
 
 pub returns-clause-comes : goal.returns-clause-comes

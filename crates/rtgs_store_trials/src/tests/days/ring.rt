@@ -1,5 +1,5 @@
-//! A ring of more orders than two bytes count: kept in tables, found again, and settled under one mark, at once or by
-//! the order that closes it.
+//! A book at its limits: a ring of a hundred banks, the queue of each of which is full. It is kept in tables, found
+//! again, and settled under one mark, at once or by the order that closes it.
 ghost use Rattle.std.specs.Prelude.{◌≤◌};
 
 use super::super::setting::{
@@ -7,7 +7,8 @@ use super::super::setting::{
     queued, reference, resolved,
 };
 use rtgs_book::{
-    Answer, Command, Day, Known, Order, OrderState, Phase, Resolution, RowChange, WholeAnswer,
+    Answer, Command, Day, Known, Order, OrderState, Phase, Refusal, Resolution, RowChange,
+    WholeAnswer,
 };
 use rtgs_keeper::Keeper;
 use rtgs_money::{BusinessDate, Cents, Code, Reference};
@@ -17,7 +18,7 @@ use std::alloc::Global;
 use std::test::Fail;
 
 /// How many banks there are.
-const BANKS: u64 = 66;
+const BANKS: u64 = 100;
 
 /// How many orders wait in the queue of a bank, which is full, and are kept in one commit.
 const AT_ONCE: u64 = 500;
@@ -168,17 +169,22 @@ fn submitted<K: Keeper + Drop>(
     Ok((reply, desk.into_keeper()))
 }
 
-/// What is answered to three commands over tables that are opened anew for each of them.
+/// What is answered to commands over tables that are opened anew for each of them.
 fn replies<S: Alter + Drop>(
     alloc: Global,
     keeper: SqlKeeper<S>,
-    commands: [Command; 3],
-) -> Result<[Reply; 3], Fail> {
-    let [first, second, third] = commands;
-    let (first, keeper) = submitted(alloc, opened(keeper), first)?;
-    let (second, keeper) = submitted(alloc, opened(keeper), second)?;
-    let (third, _) = submitted(alloc, opened(keeper), third)?;
-    Ok([first, second, third])
+    commands: &[Command],
+) -> Result<Vec<Reply>, Fail> {
+    // Names the type of due dates for the borrow checker, which finds it nowhere else in this function.
+    let _no_date: Option<BusinessDate> = None;
+    let mut keeper = keeper;
+    let mut replies = Vec::new(alloc);
+    for command in commands {
+        let (reply, left) = submitted(alloc, opened(keeper), *command)?;
+        replies.push(reply)?;
+        keeper = left;
+    }
+    Ok(replies)
 }
 
 /// The same over tables in which the ring is kept first, on a day that is automatic or not.
@@ -186,37 +192,41 @@ fn replies_over<S: Alter + Drop>(
     alloc: Global,
     keeper: SqlKeeper<S>,
     (ring, automatic): (Ring, bool),
-    commands: [Command; 3],
-) -> Result<[Reply; 3], Fail> {
+    commands: &[Command],
+) -> Result<Vec<Reply>, Fail> {
     let mut keeper = keeper;
     keep_ring(alloc, &mut keeper, ring, automatic)?;
     replies(alloc, keeper, commands)
 }
 
-/// A resolution of the closed ring, its last order again, and one order more.
-fn resolving(alloc: Global) -> Result<[Command; 3], Fail> {
+/// One order more than a queue holds, a resolution of the closed ring, its last order again, the one more again, and
+/// the end of the day.
+fn resolving(alloc: Global) -> Result<[Command; 6], Fail> {
+    let one_more = sends(alloc, CLOSED, CLOSED.orders().saturating_add(1))?;
     Ok([
+        one_more,
         Command::Resolve,
         sends(alloc, CLOSED, CLOSED.orders())?,
-        sends(alloc, CLOSED, CLOSED.orders().saturating_add(1))?,
+        one_more,
+        Command::CutOff(date(MONDAY)?),
+        Command::CloseDay(date(MONDAY)?),
     ])
 }
 
 #[test]
-fn a_ring_of_33000_orders_is_settled_under_one_mark(rt: HostRuntime) -> Result<(), Fail> {
-    let settled = Known::Order {
-        number: 33_000,
-        state: OrderState::Settled(1),
-    };
+fn a_book_at_its_limits_is_resolved_and_closed(rt: HostRuntime) -> Result<(), Fail> {
     let wanted = [
-        resolved(1, 33_000, 33_000),
-        alone(Answer::Repeated(settled)),
-        queued(33_001, 1),
+        Err(Refusal::QueueFull),
+        resolved(1, 50_000, 50_000),
+        settled_before(50_000),
+        queued(50_001, 1),
+        alone(Answer::CutOffDone),
+        alone(Answer::Closed { rejected: 1 }),
     ];
     let commands = resolving(rt.alloc())?;
     let keeper = new_keeper(rt.alloc())?;
-    let replies = replies_over(rt.alloc(), keeper, (CLOSED, false), commands)?;
-    assert_eq!(rt; replies, wanted);
+    let replies = replies_over(rt.alloc(), keeper, (CLOSED, false), &commands)?;
+    assert_eq!(rt; replies.as_slice(), wanted.as_slice());
     Ok(())
 }
 
@@ -250,22 +260,22 @@ fn settled_before(number: u64) -> Reply {
 }
 
 #[test]
-fn an_order_settles_with_32500_others_on_an_automatic_day(rt: HostRuntime) -> Result<(), Fail> {
+fn an_order_settles_with_49500_others_on_an_automatic_day(rt: HostRuntime) -> Result<(), Fail> {
     let closed = WholeAnswer {
         own: Answer::Queued {
-            number: 32_501,
+            number: 49_501,
             place: 1,
         },
         auto: Some(Resolution {
             mark: 1,
-            count: 32_501,
-            value: Cents::new(33_000),
+            count: 49_501,
+            value: Cents::new(50_000),
         }),
     };
-    let wanted = [Ok(closed), settled_before(32_501), settled_before(32_500)];
+    let wanted = [Ok(closed), settled_before(49_501), settled_before(49_500)];
     let commands = closing_twice(rt.alloc())?;
     let keeper = new_keeper(rt.alloc())?;
-    let replies = replies_over(rt.alloc(), keeper, (OPEN, true), commands)?;
-    assert_eq!(rt; replies, wanted);
+    let replies = replies_over(rt.alloc(), keeper, (OPEN, true), &commands)?;
+    assert_eq!(rt; replies.as_slice(), wanted.as_slice());
     Ok(())
 }

@@ -1,4 +1,4 @@
-use Rattle.std.proofs.Common.{◌≡◌, ◌∙◌, List, ℕ, Option, Some, None, Ok, Err, refl, sym, subst, option_map}
+use Rattle.std.proofs.Common.{◌≡◌, ◌∙◌, List, ℕ, Option, Some, None, Ok, Err, refl, subst, option_map}
 use Rattle.std.specs.Prelude.{IfSome, ok_or}
 use Rattle.rtgs_book.specs.declared.Account.{Account}
 use Rattle.rtgs_book.specs.declared.Book.{Book}
@@ -6,11 +6,9 @@ use Rattle.rtgs_book.specs.declared.Participant.{Participant}
 use Rattle.rtgs_book.specs.declared.Refusal.TheVariants.{UnknownParticipant}
 use Rattle.rtgs_book.specs.Balance.{balance}
 use Rattle.rtgs_book.specs.Lookup as lookup
-use Rattle.rtgs_cores.specs.Cores.{IsCoreOf}
 use Rattle.rtgs_cores.specs.Following.{participant_of}
 use Rattle.rtgs_desk.specs.Readings.{account_known, if_known}
-use Rattle.rtgs_desk.specs.Seen.{Seen}
-use Rattle.rtgs_desk.proofs.HoldingLemmas.{remembered}
+use Rattle.rtgs_desk.proofs.HoldingLemmas.{core_remembered}
 use Rattle.rtgs_desk.proofs.desk.Desk.known.Goals as goal
 
 -- an account with its participant and balance is what is known of the code
@@ -26,8 +24,8 @@ known_account book code (Some a) e is = subst (λ (o : Option Participant). Ok a
 
 pub returns-clause-told : goal.returns-clause-told
 returns-clause-told g c book memory works =
-    let core = subst (λ (s : Seen g.row.K.Denot). IsCoreOf book s.core) (sym c.self.view_is)
-    (remembered c.args.self.now book memory) in
+    let core = core_remembered c.self.inside.keeper c.self.inside.ledger.core c.args.self.now book c.self.view_is memory
+    in
     c.ok_or.ensures.value ∙ known_account book c.args.code.now c.account.result (c.account.ensures.participant book
     core)
     (c.account.ensures.balance book core)

@@ -1,0 +1,317 @@
+"""Compares the documents with the tree: how long they are, what they name and link to, and the numbers they state.
+
+README.md has at most 900 words, docs/GUARANTEES.md at most 6,000, and docs/DECISIONS.md at most 60 entries, all of one
+form. Each file that a document names must be there, and each heading to which it links. GUARANTEES.md must have each
+promise of the crate `rtgs_promises` with its first sentences, and no other; the functions, clauses and types that it
+names must stand in docs/CONTRACTS.md, or else in the code. SPECIFICATION.md must have the refusals as the code has
+them. Each number must be one of a constant, of a refusal, or of another script or test (bin/lib/stated.py); measures
+stand in COSTS.md alone, in sections that name what measured them. Builds and runs nothing.
+"""
+import functools
+import glob
+import os
+import re
+
+import kit
+from lib import stated
+
+NEEDS_THE_PROGRAM = False
+WORDS = {"README.md": 900, "docs/GUARANTEES.md": 6000}
+ENTRIES = 60
+DECISIONS, GUARANTEES, COSTS = "docs/DECISIONS.md", "docs/GUARANTEES.md", "docs/COSTS.md"
+SPECIFICATION, CONTRACTS = "docs/SPECIFICATION.md", "docs/CONTRACTS.md"
+FORM = ["Chosen", "Because", "Instead of", "Price"]
+PROMISE = re.compile(r"((?:^///[^\n]*\n)+)// To judge it, read (?:[^\n]*\n)(?:// [^\n]*\n)*^pub fn (\w+)", re.M)
+# what stands for a name, or is made by a run
+NO_FILES = re.compile(r"crates/(?:CRATE|desk/out)\b|evidence/NAME|CRATE/|NAME\.")
+
+
+def names_of(folder, pattern="*.md"):
+    return sorted(os.path.relpath(it, kit.TOP) for it in glob.glob(f"{kit.TOP}/{folder}{pattern}"))
+
+
+def read(name):
+    return stated.content(f"{kit.TOP}/{name}")
+
+
+def folded(text):
+    return " ".join(text.split())
+
+
+def documents():
+    """Returns the names of the documents that are written by hand."""
+    return [it for it in names_of("") + names_of("docs/") + names_of("evidence/") if it != CONTRACTS]
+
+
+def lengths(sees):
+    for name, most in WORDS.items():
+        words = len(read(name).split())
+        sees(f"{name} has {words} words, at most {most}", words <= most, True)
+
+
+def decisions(text, sees):
+    """Each entry has a number of its own, and the four parts."""
+    entries = re.findall(r"^## (\d+)\. [^\n]+\n(.*?)(?=^#|\Z)", text, re.M | re.S)
+    numbers = [number for number, _ in entries]
+    sees(f"{DECISIONS} has {len(entries)} entries, at most {ENTRIES}", len(entries) <= ENTRIES, True)
+    sees("entries with one number", sorted({it for it in numbers if numbers.count(it) > 1}), [])
+    for number, entry in entries:
+        found = re.findall(r"^\*\*([\w ]+):\*\* ", entry, re.M)
+        sees(f"{DECISIONS}, the parts of entry {number}", (found, len(entry.strip().split("\n\n"))), (FORM, 4))
+
+
+# Files
+
+
+@functools.lru_cache(maxsize=None)
+def all_files():
+    """Returns the paths of the files of the tree, each with a slash before it."""
+    found = []
+    for top in ("bin", "crates", "deploy", "docs", "evidence", "."):
+        for folder, folders, files in os.walk(f"{kit.TOP}/{top}"):
+            folders[:] = [] if top == "." else [it for it in folders if it not in ("out", "__pycache__")]
+            found += [f"/{os.path.relpath(folder, kit.TOP)}/{it}" for it in files]
+    return found
+
+
+def is_there(path):
+    """Returns whether there is a file, or a folder, whose path ends with this."""
+    path = path.rstrip("/")
+    found = os.path.exists(f"{kit.TOP}/{path}") or os.path.exists(f"{kit.TOP}/crates/{path}")
+    return found or any(it.endswith(f"/{path}") for it in all_files())
+
+
+def named_files(text):
+    """Yields the paths of files that a text names."""
+    for it in re.findall(r"(?<![\w/.])((?:docs|evidence|bin|crates|deploy|\.ci)/[\w./-]*\w)", text):
+        yield it
+    for it in re.findall(r"(?<![\w/])[A-Z]+\.md\b", text):
+        yield it
+    for it in re.findall(r"`([\w./-]+\.(?:rt|antt|py|edit|c))`", text):
+        yield it
+
+
+def anchors(text):
+    """Returns what leads to the headings of a text."""
+    heads = re.findall(r"^#+ (.*)$", text, re.M)
+    return {re.sub(r"[^\w -]", "", it.lower()).replace(" ", "-") for it in heads}
+
+
+def files(name, text, sees):
+    """Each file that a document names is there, and each place to which it links."""
+    bare = re.sub(r"```.*?```|^    [^\n]*$", "", text, flags=re.S | re.M)
+    for it in sorted(set(named_files(bare))):
+        if not NO_FILES.search(it):
+            sees(f"{name} names {it}", is_there(it), True)
+    for link in sorted(set(re.findall(r"\]\(([^)\s]+)\)", bare))):
+        path, _, anchor = link.partition("#")
+        found = os.path.normpath(f"{os.path.dirname(name)}/{path}" if path else name)
+        is_good = os.path.exists(f"{kit.TOP}/{found}") and (not anchor or anchor in anchors(read(found)))
+        sees(f"{name} links to {link}", is_good, True)
+
+
+# Promises and contracts
+
+
+def promises():
+    """Returns the promises of the crate: the name and the first sentences of each, by its file."""
+    found = {}
+    for path in names_of("crates/rtgs_promises/src/", "*.rt"):
+        for said, name in PROMISE.findall(read(path)):
+            first = re.split(r"^///\n", said, flags=re.M)[0]
+            found[f"[`{name}`](../{path})"] = folded(re.sub(r"^///", "", first, flags=re.M))
+    return found
+
+
+def section(text, *heads):
+    """Returns the sections of a text that have these headings."""
+    parts = re.split(r"^## ", text, flags=re.M)
+    return "\n".join(it.partition("\n")[2] for it in parts if it.partition("\n")[0] in heads)
+
+
+def same_promises(text, sees):
+    """The list of promises has each promise of the crate, as it says it, and no other."""
+    entries = {}
+    for it in re.split(r"^- ", section(text, "The promises"), flags=re.M)[1:]:
+        link, _, said = folded(it).partition(": ")
+        entries[link] = said
+    wanted = promises()
+    sees("links of the promises", sorted(entries), sorted(wanted))
+    for link, first in wanted.items():
+        said = entries.get(link, "")
+        sees(f"the sentences of {link}", said[:len(first)], first)
+        sees(f"premises of {link}", said.count("*Premises:*"), 1)
+
+
+@functools.lru_cache(maxsize=None)
+def contracts():
+    """Returns the names of the clauses of each function, by its path."""
+    found = {}
+    for part in re.split(r"^### ", read(CONTRACTS), flags=re.M)[1:]:
+        path = part.partition("\n")[0].strip("`")
+        found[path] = set(re.findall(r"^- (?:ensures\*?|requires|ghost) (\w+):", part, re.M))
+    return found
+
+
+@functools.lru_cache(maxsize=None)
+def words_of_code():
+    """Returns all words of the code and of its definitions."""
+    paths = [it for it in all_files() if it.startswith("/crates/") and it.endswith((".rt", ".antt"))
+             and "/proofs/" not in it]
+    return {word for it in paths for word in re.findall(r"\w+", stated.content(f"{kit.TOP}{it}"))}
+
+
+def clauses_of(function, crate):
+    """Returns the clauses of the functions whose path ends so, or nothing where there is no such function."""
+    ends = [path for path in contracts() if f"::{path}".endswith(f"::{function}") and path.startswith(crate or "")]
+    return set().union(*(contracts()[it] for it in ends)) if ends else None
+
+
+CITED = re.compile(r"`([\w:]+)`(?: and `([\w:]+)`)?(?: of `(\w+)`)? \(([^()]*`[^()]*)\)")
+
+
+def cited_clauses(text, sees):
+    """Each clause that stands in parentheses behind a function is one of its clauses."""
+    for first, second, crate, inner in CITED.findall(text):
+        for function in filter(None, (first, second)):
+            clauses = clauses_of(function, crate)
+            if clauses is None:
+                continue
+            for part in inner.split(";"):
+                # (those that stand first in a part are clauses; behind a colon, fields of their records)
+                named = re.findall(r"`(\w+)`", re.match(r"\s*((?:`\w+`(?:, )?)*)", part)[1])
+                missing = [it for it in named if it not in clauses and it.islower()]
+                sees(f"clauses of {function}", missing, [])
+
+
+def names(name, text, sees):
+    """Each name of a function or a type stands in the code. Those that stand among the promises must be public."""
+    listed = set(re.findall(r"\w+", read(CONTRACTS))) | words_of_definitions()
+    promised = section(text, "The promises", "Beside the main promises")
+    for it in sorted(set(re.findall(r"`([A-Za-z]\w*(?:::\w+)*)`", text))):
+        parts = it.split("::")
+        if len(parts) == 1 and not re.search(r"_|[a-z][A-Z]", it):
+            continue
+        is_named = all(part in words_of_code() or is_crate(part) for part in parts)
+        if f"`{it}`" in promised:
+            is_public = all(part in listed or is_crate(part) for part in parts)
+            is_named = (is_public or is_told_private(it)) and (len(parts) == 1 or clauses_of(it, "") is not None)
+        sees(f"{name} names `{it}`", is_named, True)
+
+
+def is_crate(word):
+    return os.path.isdir(f"{kit.TOP}/crates/{word}") or word in ("serde_json",)
+
+
+def is_told_private(name):
+    # (the promises' own functions, whose crate is no part of the program's lists)
+    return any(f"`{name}`" in link for link in promises())
+
+
+@functools.lru_cache(maxsize=None)
+def words_of_definitions():
+    """Returns the names of records, of their fields and of other definitions."""
+    paths = [it for it in all_files() if "/specs/" in it]
+    return {word for it in paths for word in re.findall(r"\w+", stated.content(f"{kit.TOP}{it}"))}
+
+
+# Numbers
+
+# what has digits and is no number of a document's own: code, links, names, texts of others, and numbers of parts
+OTHER = re.compile("|".join((
+    r"```.*?```", r"^    [^\n]*$", r"`[^`]*`", r"\]\([^)]*\)", r"^#+ \d+\.", r"^\d+\. ", r"^\|? ?\*\*Q\d+",
+    r"\b\w*[A-Za-z_-]\d[\w.-]*", r"RFC \d+(?:, section [\d.]+)?", r"HTTP/1\.[01]", r"\d{4}-\d\d-\d\d", r"127\.0\.0\.1",
+    r"\b0\.\d+\.\d+", r"\b(?:entry|entries|steps?|[Rr]ules?) \d+(?:(?:,| and| to) \d+)*",
+    r"\bversions? \d(?:(?:,| and| or) \d)*", r"Soramäki \d{4}", r"2\^\d+", r"\b0-9\b")), re.S | re.M)
+UNIT = " (?:more )?(?:" + "|".join((
+    "seconds?", "minutes?", "milliseconds", "ms", "µs", "cents?", "bytes", "KiB", "KB", "MB", "GB", "rows?", "orders?",
+    "participants", "banks", "characters?", "(?:header )?fields?", "digits?", "tables", "levels", "files", "views",
+    "times", "lines", "columns", "lane-minutes", "functions", "processors", "connections?", "postings")) + r")\b"
+# the statuses of a proxy's own replies, which bin/checks proxy and bin/checks clients meet
+OF_PROXIES = {502, 504}
+NAMED = " [A-Z][a-z]+[A-Z]\\w+"
+NUMBER = re.compile(
+    rf"(?<![\w.,^-])(\d[\d,]*\d|\d)(?:\.\d+)?(?:\^\d+)?(?: (?:to|and) \d+)*({UNIT}|{NAMED})?(?![\w^])")
+
+
+def blanked(text, spans):
+    """Returns a text with blanks in the place of these."""
+    for start, end in spans:
+        text = text[:start] + re.sub(r"[^\n]", " ", text[start:end]) + text[end:]
+    return text
+
+
+def without_stated(name, text, sees):
+    """Returns a document without the texts that state a number of the code. Each of them must be in it."""
+    for it in map(stated.told, stated.TEXTS.get(name, [])):
+        found = [m.span() for m in re.finditer(r"\s+".join(map(re.escape, it.split())), text)]
+        sees(f"{name} says: {it}", bool(found), True)
+        text = blanked(text, found)
+    for it, where in stated.ELSEWHERE.get(name, {}).items():
+        found = [m.span() for m in re.finditer(r"\s+".join(map(re.escape, it.split())), text)]
+        sees(f"{name} says: {it} ({where})", bool(found), True)
+        text = blanked(text, found)
+    return text
+
+
+def is_known(found, refusals):
+    """Returns whether a number that no text states is that of a refusal, with its name if one follows, or a status."""
+    number, behind = int(found[1].replace(",", "")), (found[2] or "").strip()
+    if re.fullmatch(r"[A-Z]\w+", behind):
+        return number in refusals and refusals[number][0] == behind
+    replies = {reply for _, reply, _ in refusals.values()} | {200} | OF_PROXIES
+    ends = {end for _, _, end in refusals.values()} | {0, 2}
+    return not behind and (number in refusals or number in replies or number in ends)
+
+
+def numbers(name, text, sees):
+    """Each number of a document is stated by the code, or is that of a refusal or a status."""
+    text, refusals = without_stated(name, text, sees), stated.refusals()
+    text = blanked(text, [it.span() for it in OTHER.finditer(text)])
+    for found in NUMBER.finditer(text):
+        line = text.count("\n", 0, found.start()) + 1
+        sees(f"{name}, line {line}: {folded(found[0])} is stated by nothing", is_known(found, refusals), True)
+
+
+def refusals_as_specified(text, sees):
+    """The specification has each refusal of a run with its name and status, and the status of each reply."""
+    refusals = stated.refusals()
+    rows = re.findall(r"^\| (\d+) \| (\w+) \| .* \| (\d) \|$", text, re.M)
+    forms = re.findall(r"^\| \w+ \| .* \| (3\d) (\w+) \|$", text, re.M)
+    of_forms = re.search(r"^\| 30 to 35 \| .* \| (\d) \|$", text, re.M)
+    found = {int(number): (name, int(end)) for number, name, end in rows}
+    found |= {int(number): (name, int(of_forms[1])) for number, name in forms}
+    sees("refusals of runs", found, {it: (of[0], of[2]) for it, of in sorted(refusals.items()) if of[2] is not None})
+    told = re.search(r"^\| a refusal \| (.*?); all others: (\d+) \|", text, re.M)
+    replies = {}
+    for group in told[1].split("; "):
+        which, _, status = group.partition(": ")
+        for first, last in re.findall(r"(\d+)(?: to (\d+))?", which):
+            replies |= {it: int(status) for it in range(int(first), int(last or first) + 1)}
+    wanted = {it: of[1] for it, of in refusals.items() if of[1] is not None}
+    sees("statuses of replies", {it: replies.get(it, int(told[2])) for it in wanted}, wanted)
+
+
+def measures(text, sees):
+    """Each section of the costs that has a number names what measured it."""
+    for part in re.split(r"^## ", text, flags=re.M)[1:]:
+        head, _, body = part.partition("\n")
+        if re.search(r"\d", body):
+            sees(f"{COSTS}, what measured {head}", bool(re.search(r"`(?:bin/\w|\w+_bench )|tests in `", body)), True)
+
+
+def run(_given, report):
+    lengths(report.sees)
+    decisions(read(DECISIONS), report.sees)
+    for name in documents():
+        files(name, read(name), report.sees)
+        if name != COSTS and not name.startswith("evidence/"):
+            numbers(name, read(name), report.sees)
+    guarantees = read(GUARANTEES)
+    same_promises(guarantees, report.sees)
+    cited_clauses(folded(guarantees), report.sees)
+    for name in ("README.md", GUARANTEES):
+        names(name, read(name), report.sees)
+    refusals_as_specified(read(SPECIFICATION), report.sees)
+    measures(read(COSTS), report.sees)
+    report.finds(f"{report.right} things as they must be, {report.wrong} not")

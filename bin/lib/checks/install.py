@@ -1,0 +1,90 @@
+"""Installs the program below a folder of its own, and looks at all that stands there.
+
+The installed program must run. groff must read the man page without a warning, and the page must name each command and
+option. The completion of bash must complete commands, options and files; those of zsh and fish are read by their shells
+where these are installed. systemd must find no fault with the unit, where it stands. Needs `groff`, `bash` and
+`systemd-analyze`.
+"""
+import os
+import shutil
+import subprocess
+
+from lib import desks, helps, installing
+
+COMPLETED = 'source "$1"; COMP_WORDS=("${@:2}"); COMP_CWORD=$(($# - 2)); _desk; printf "%s\\n" "${COMPREPLY[@]}"'
+# words before the place where something is to be completed, which is the last, and what that is completed to
+WORDS = {
+    ("desk", "res"): ["resolve"],
+    ("desk", "--v"): ["--version"],
+    ("desk", "open", "--a"): ["--automatic"],
+    ("desk", "init", "ba"): ["bank.desk"],
+    ("desk", "open", "bank.desk", "ba"): [],
+    ("desk", "import", "bank.desk", "ALFA", "or"): ["orders.csv"],
+    ("desk", "serve", "--port", "8080", "ba"): ["bank.desk"],
+    ("desk", "serve", "--port", "ba"): [],
+    ("desk", "help", "wi"): ["withdraw"],
+}
+
+
+def run_tool(*words, **how):
+    """Returns how a tool ended, and what it said on either stream."""
+    how = {"stdout": subprocess.PIPE, "stderr": subprocess.STDOUT, "text": True, "check": False, **how}
+    ran = subprocess.run(words, **how)
+    return ran.returncode, ran.stdout
+
+
+def man_page(prefix, program, sees):
+    """groff warns of nothing, and the page names each command and option, each exit status and file."""
+    page = f"{prefix}/{installing.PAGE}"
+    sees("warnings of groff", run_tool("groff", "-man", "-Tutf8", "-ww", "-z", page), (0, ""))
+    if shutil.which("man"):
+        env = {**os.environ, "MANWIDTH": "100", "LC_ALL": "C.UTF-8"}
+        shown = run_tool("sh", "-c", 'man --warnings -l "$0" > /dev/null', page, env=env)
+        sees("warnings of man -l", shown, (0, ""))
+    _, text = run_tool("groff", "-man", "-Tascii", "-P-cbou", page)
+    names = {*program.each, *(it.name for said in program.each.values() for it in said.options)}
+    missing = [it for it in sorted(names) if it not in text]
+    sees("words that the man page lacks", missing, [])
+    sees("places that are left", "@" in text, False)
+
+
+def completions(prefix, folder, sees):
+    """bash completes each of some words as it must, and the other shells read their files."""
+    bash, zsh, fish = (f"{prefix}/{it}" for it in installing.SHELLS)
+    for name in ("bank.desk", "orders.csv"):
+        with open(f"{folder}/{name}", "wb"):
+            pass
+    for words, wanted in WORDS.items():
+        status, said = run_tool("bash", "-c", COMPLETED, "bash", bash, *words, cwd=folder)
+        sees(f"completed: {' '.join(words)}", (status, said.split()), (0, wanted))
+    for shell, path in (("bash", bash), ("zsh", zsh), ("fish", fish)):
+        if shutil.which(shell):
+            sees(f"{shell} -n", run_tool(shell, "-n", path), (0, ""))
+
+
+def unit(prefix, sees):
+    """systemd finds no fault with the unit, whose program and man page are the installed ones."""
+    env = {**os.environ, "MANPATH": f"{prefix}/share/man"}
+    verified = run_tool("systemd-analyze", "verify", f"{prefix}/{installing.UNIT}", env=env)
+    sees("systemd-analyze verify", verified, (0, ""))
+
+
+def run(_given, report):
+    missing = [it for it in ("groff", "bash", "systemd-analyze") if not shutil.which(it)]
+    if missing:
+        raise desks.Broken(f"not installed: {', '.join(missing)}")
+    with desks.room() as folder:
+        prefix, paths = f"{folder}/usr", []
+        installing.install(prefix, paths.append)
+        sees = report.sees
+        sees("files", sorted(paths), sorted(f"{at}/{it}" for at, _, names in os.walk(prefix) for it in names))
+        sees("the version", run_tool(f"{prefix}/{installing.PROGRAM}", "--version"), (0, desks.desk("--version")))
+        man_page(prefix, helps.program(desks.desk), sees)
+        completions(prefix, folder, sees)
+        unit(prefix, sees)
+        again = []
+        installing.install(prefix, again.append)
+        sees("a second installation", again, paths)
+    shells = [it for it in ("bash", "zsh", "fish") if shutil.which(it)]
+    report.finds(f"{len(paths)} files, shells: {', '.join(shells)}; "
+                 f"{report.right} things as they must be, {report.wrong} not")

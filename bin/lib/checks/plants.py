@@ -1,0 +1,29 @@
+"""Plants wrong bodies under the contracts of crates, by `rt plant`, and tells which of them are proved.
+
+A wrong body is one that gives up, or that calls the real function wrongly. One that is proved shows what a contract
+leaves open, or that the body is not wrong: which of both, a reader has to judge. So none of them is a failure here.
+What is proved first is the crate itself, and the libraries below it, where they are not kept.
+"""
+import re
+
+import kit
+
+NEEDS_THE_PROGRAM = False
+# the last line of rt plant, which counts
+COUNTS = re.compile(r"^.*\bproves=\d+.*$", re.M)
+PROVED = re.compile(r"^.*\bproves\b(?!=).*$", re.M)
+
+
+def options(words):
+    words.add_argument("crates", nargs="+", metavar="CRATE")
+    words.add_argument("--minutes", type=int, default=10, help="how long each crate may take: 10 minutes if not given")
+
+
+def run(given, report):
+    for crate in given.crates:
+        said = kit.planted(crate, given.minutes)
+        counts = COUNTS.findall(said)
+        report.counts(bool(counts))
+        report.finds(f"{crate}: {counts[-1].strip() if counts else 'it was not judged: ' + said[-300:].strip()}")
+        for line in PROVED.findall(said):
+            report.finds(f"    {line.strip()}")

@@ -1,0 +1,83 @@
+"""What bin/install puts where: the program, and all that goes with it."""
+import os
+import tempfile
+
+import kit
+from lib import completions, desks, helps, manual
+
+DEPLOY = f"{kit.TOP}/deploy"
+HANDBOOKS = ("OPERATORS.md", "BANKS.md", "AUDITORS.md", "SPECIFICATION.md", "openapi.yaml")
+CLIENTS = f"{kit.TOP}/bin/lib/clients"
+DOC, SHARED = "share/doc/desk", "share/desk"
+UNIT, PROGRAM, PAGE = "lib/systemd/system/desk.service", "bin/desk", "share/man/man1/desk.1"
+# a file for each shell, and what makes it
+SHELLS = {
+    "share/bash-completion/completions/desk": completions.bash,
+    "share/zsh/site-functions/_desk": completions.zsh,
+    "share/fish/vendor_completions.d/desk.fish": completions.fish,
+}
+AS_PROGRAM, AS_TEXT = 0o755, 0o644
+
+
+def with_prefix(text, prefix):
+    """Returns a unit with the prefix in its places. systemd reads some signs of a path as something else."""
+    if set(prefix) & set(" \t\n\"'\\$%;"):
+        raise desks.Broken(f"{prefix!r} has a sign that a unit of systemd cannot have in a path")
+    return text.replace("@PREFIX@", prefix)
+
+
+def read(path):
+    """Returns the text of a file."""
+    return desks.content(path).decode()
+
+
+def copied(folder, names, below):
+    """Returns the texts of files of a folder, by the paths that they get below the prefix."""
+    return {f"{below}/{it}": read(f"{folder}/{it}") for it in names}
+
+
+def files(prefix, run):
+    """Returns what is installed: for each path below the prefix its bytes and its mode. The call runs the program."""
+    program = helps.program(run)
+    texts = {
+        PAGE: manual.made(program, f"{prefix}/{DOC}"),
+        UNIT: with_prefix(read(f"{DEPLOY}/desk.service"), prefix),
+        **{path: make("desk", program) for path, make in SHELLS.items()},
+        **copied(DEPLOY, ("nginx.conf", "Caddyfile"), SHARED),
+        **copied(f"{kit.TOP}/docs", HANDBOOKS, DOC),
+        **copied(kit.TOP, ("CHANGELOG.md",), DOC),
+        **copied(CLIENTS, os.listdir(CLIENTS), f"{DOC}/clients"),
+    }
+    found = {PROGRAM: (desks.content(desks.DESK), AS_PROGRAM)}
+    return found | {path: (text.encode(), AS_TEXT) for path, text in texts.items()}
+
+
+def put(path, content, mode):
+    """Makes a file whole, in the place of one that is there, which a run that goes on keeps as it was."""
+    folder = os.path.dirname(path)
+    make_folder(folder)
+    at, made = tempfile.mkstemp(dir=folder)
+    try:
+        with os.fdopen(at, "wb") as it:
+            it.write(content)
+        os.chmod(made, mode)
+        os.replace(made, path)
+    except OSError:
+        os.remove(made)
+        raise
+
+
+def make_folder(path):
+    """Makes a folder and those above it that are missing, for all to read, whatever the umask."""
+    if not os.path.isdir(path):
+        make_folder(os.path.dirname(path))
+        os.mkdir(path)
+        os.chmod(path, AS_PROGRAM)
+
+
+def install(prefix, told):
+    """Installs all below a prefix, and tells each path."""
+    prefix = os.path.abspath(prefix)
+    for path, (content, mode) in sorted(files(prefix, desks.desk).items()):
+        put(f"{prefix}/{path}", content, mode)
+        told(f"{prefix}/{path}")

@@ -1,0 +1,245 @@
+"""What is installed beside the program, made from help texts that stand in for the program's own."""
+import os
+import re
+import shutil
+import stat
+import subprocess
+import unittest
+from unittest import mock
+
+import kit
+from lib import completions, desks, helps, installing, manual, stated
+from lib.checks import install
+
+WHOLE = """\
+The settlement desk of a central bank
+
+Usage: desk <COMMAND>
+
+Commands:
+  import  Submits a participant's file of orders
+  serve   Serves connections
+  help    Print this message or the help of the given subcommand(s)
+
+Options:
+  -h, --help     Print help
+  -V, --version  Print version
+"""
+IMPORT = """\
+Submits a participant's file of orders
+
+Usage: desk import [OPTIONS] <FILE> <CODE> <ORDERS>
+
+Arguments:
+  <FILE>    The file of the book
+  <CODE>    The participant
+  <ORDERS>  The file of orders, as CSV
+
+Options:
+      --all   Takes all
+  -h, --help  Print help
+"""
+# (as clap prints what would be too wide)
+SERVE = """\
+Serves connections, one after the other
+
+Usage: desk serve --port <P> <FILE>
+
+Arguments:
+  <FILE>
+          The file of the book
+
+Options:
+      --port <P>
+          The port,
+          1 to 65535
+  -h, --help
+          Print help
+"""
+TEXTS = {
+    ("--help",): WHOLE,
+    ("import", "--help"): IMPORT,
+    ("serve", "--help"): SERVE,
+    ("--version",): "desk 1.2, more\n",
+}
+
+
+def run(*words):
+    return TEXTS[words]
+
+
+def needs(tool):
+    return unittest.skipUnless(shutil.which(tool), f"needs {tool}")
+
+
+class Helps(unittest.TestCase):
+    def test_a_help_text_is_read_into_its_parts(self):
+        program = helps.program(run)
+        self.assertEqual(list(program.each), ["import", "serve"])
+        said = program.each["import"]
+        self.assertEqual(said.about, "Submits a participant's file of orders")
+        self.assertEqual(said.usage, "desk import [OPTIONS] <FILE> <CODE> <ORDERS>")
+        self.assertEqual([it.shown for it in said.arguments], ["FILE", "CODE", "ORDERS"])
+        self.assertEqual(said.options, [("--all", "", "", "Takes all"), ("--help", "-h", "", "Print help")])
+
+    def test_a_help_that_stands_in_lines_of_its_own_is_read_too(self):
+        said = helps.program(run).each["serve"]
+        self.assertEqual(said.arguments, [("FILE", "The file of the book")])
+        self.assertEqual(said.options[0], ("--port", "", "P", "The port, 1 to 65535"))
+
+    def test_what_is_no_help_text_is_refused(self):
+        for text in ("refused 93 NotADeskFile\n", WHOLE.replace("Options:", "Settings:")):
+            self.assertRaises(ValueError, helps.read, text)
+
+
+class Manual(unittest.TestCase):
+    def test_no_place_is_left_and_the_commands_stand_in_it(self):
+        page = manual.made(helps.program(run), "/usr/share/doc/desk")
+        self.assertEqual(re.findall(r"@\w+@", page), [])
+        self.assertIn("\n.SS import\n", page)
+        self.assertIn("\\fB\\-\\-port\\fR \\fIP\\fR\nThe port, 1 to 65535\n", page)
+
+    def test_signs_of_groff_are_escaped_and_come_back(self):
+        for text in ("a-b\\c", "\\-", ".TH", "'x", "\\e"):
+            self.assertEqual(manual.unescaped(manual.escaped(text)), text)
+        self.assertEqual(manual.escaped(".TH"), "\\&.TH")
+
+    def test_the_examples_are_commands_and_what_they_print(self):
+        shown = manual.examples(manual.page())
+        self.assertIn("    $ desk open bank.desk 2024-03-04\n    opened\n", shown)
+        self.assertIn("A-1,BETA,100\\nA-2", shown)
+
+    def test_the_exit_statuses_are_those_of_the_code(self):
+        part = manual.page().split(".SH EXIT STATUS")[1].split(".SH ")[0]
+        known = {int(stated.constants()[it]) for it in ("done", "refused", "misused", "failed")}
+        self.assertEqual({int(it) for it in re.findall(r"^\.B (\d)$", part, re.M)}, known)
+
+    @needs("groff")
+    def test_groff_warns_of_nothing(self):
+        with desks.room() as folder:
+            with open(f"{folder}/desk.1", "w", encoding="utf-8") as it:
+                it.write(manual.made(helps.program(run), "/usr/share/doc/desk"))
+            self.assertEqual(install.run_tool("groff", "-man", "-Tutf8", "-ww", "-z", it.name), (0, ""))
+
+
+class Completions(unittest.TestCase):
+    def completed(self, *words):
+        """Returns what bash completes the last of the words to, in a folder with a book and a file of orders."""
+        files = {"bank.desk": "", "orders.csv": "", "c": completions.bash("desk", helps.program(run))}
+        with desks.room() as folder:
+            for name, text in files.items():
+                with open(f"{folder}/{name}", "w", encoding="utf-8") as it:
+                    it.write(text)
+            status, said = install.run_tool("bash", "-c", install.COMPLETED, "bash", f"{folder}/c", *words, cwd=folder)
+            self.assertEqual(status, 0, said)
+            return said.split()
+
+    def test_bash_completes_commands_options_and_files(self):
+        for words, wanted in (
+                (("desk", "i"), ["import"]),
+                (("desk", "--v"), ["--version"]),
+                (("desk", "import", "--"), ["--all", "--help"]),
+                (("desk", "import", "ban"), ["bank.desk"]),
+                (("desk", "import", "bank.desk", "o"), []),
+                (("desk", "import", "bank.desk", "ALFA", "o"), ["orders.csv"]),
+                (("desk", "serve", "--port", "b"), []),
+                (("desk", "serve", "--port", "80", "b"), ["bank.desk"]),
+                (("desk", "help", "s"), ["serve"]),
+        ):
+            self.assertEqual(self.completed(*words), wanted, words)
+
+    def test_each_shell_has_each_command_and_option(self):
+        for make in (completions.bash, completions.zsh, completions.fish):
+            text = make("desk", helps.program(run))
+            for word in ("import", "serve", "help", "all", "port", "version"):
+                self.assertIn(word, text)
+
+    def test_descriptions_are_quoted(self):
+        self.assertEqual(completions.zsh_text("a's]: b"), "a'\\''s\\]\\: b")
+        self.assertEqual(completions.fish_text("a's \\b"), "'a\\'s \\\\b'")
+
+
+class Installing(unittest.TestCase):
+    def setUp(self):
+        folder = desks.room()
+        self.addCleanup(folder.cleanup)
+        self.prefix = f"{folder.name}/usr"
+        program = mock.patch.object(desks, "DESK", f"{folder.name}/desk")
+        program.start()
+        self.addCleanup(program.stop)
+        with open(desks.DESK, "w", encoding="utf-8") as it:
+            it.write("the program")
+
+    def installed(self):
+        told = []
+        with mock.patch.object(desks, "desk", run):
+            installing.install(self.prefix, told.append)
+        return told
+
+    def test_each_file_is_told_and_can_be_read_whatever_the_umask(self):
+        before = os.umask(0o077)
+        self.addCleanup(os.umask, before)
+        told = self.installed()
+        self.assertEqual(sorted(told), sorted(f"{at}/{it}" for at, _, names in os.walk(self.prefix) for it in names))
+        for path in told:
+            is_program = path.endswith("bin/desk")
+            self.assertEqual(stat.S_IMODE(os.stat(path).st_mode), 0o755 if is_program else 0o644, path)
+            self.assertEqual(stat.S_IMODE(os.stat(os.path.dirname(path)).st_mode), 0o755, path)
+
+    def test_a_file_that_is_there_is_replaced_and_not_written_over(self):
+        self.installed()
+        with open(f"{self.prefix}/bin/desk", encoding="utf-8") as kept:
+            with open(desks.DESK, "w", encoding="utf-8") as it:
+                it.write("a new one")
+            self.installed()
+            self.assertEqual(kept.read(), "the program")
+        self.assertEqual(desks.content(f"{self.prefix}/bin/desk"), b"a new one")
+
+    def test_the_unit_has_the_prefix_and_one_that_it_cannot_have_is_refused(self):
+        self.installed()
+        unit = desks.content(f"{self.prefix}/{installing.UNIT}").decode()
+        self.assertIn(f"\nExecStart={self.prefix}/bin/desk serve bank.desk ", unit)
+        self.assertNotIn("@PREFIX@", unit)
+        self.assertRaises(desks.Broken, installing.with_prefix, "@PREFIX@", "/a b")
+
+    @needs("systemd-analyze")
+    def test_systemd_finds_no_fault_with_the_unit(self):
+        self.installed()
+        os.chmod(f"{self.prefix}/bin/desk", 0o755)
+        path = f"{self.prefix}/{installing.UNIT}"
+        self.assertEqual(install.run_tool("systemd-analyze", "verify", "--man=no", path), (0, ""))
+
+
+class Deployed(unittest.TestCase):
+    """The files of deploy/."""
+
+    def reasons(self, name, ends):
+        """Returns the lines that have no reason above them: a comment, or a line that has one."""
+        with open(f"{kit.TOP}/deploy/{name}", encoding="utf-8") as it:
+            lines = [line.strip() for line in it]
+        bare, is_told = [], False
+        for line in lines:
+            if line.startswith("#"):
+                is_told = True
+            elif not line or re.fullmatch(ends, line):
+                is_told = False
+            elif not is_told:
+                bare.append(line)
+        return bare
+
+    def test_each_line_has_its_reason(self):
+        # (what only opens or closes a part, and what says again what stands in the line that opens it)
+        self.assertEqual(self.reasons("desk.service", r"\[\w+\]|(Description|Documentation)=.*"), [])
+        self.assertEqual(self.reasons("nginx.conf", r"\}|(server|location) .*\{|default_type .*|return .*"), [])
+        self.assertEqual(self.reasons("Caddyfile", r"\}|.*\{|max_size .*|header .*|respond .*"), [])
+
+    def test_braces_are_balanced(self):
+        for name in ("nginx.conf", "Caddyfile"):
+            whole = desks.content(f"{kit.TOP}/deploy/{name}").decode()
+            text = re.sub(r"^\s*#.*$|'[^']*'|`[^`]*`", "", whole, flags=re.M)
+            self.assertEqual(text.count("{"), text.count("}"), name)
+            self.assertGreater(text.count("{"), 2)
+
+
+if __name__ == "__main__":
+    unittest.main()

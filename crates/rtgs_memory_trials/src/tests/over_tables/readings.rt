@@ -1,0 +1,41 @@
+//! Readings that look into the tables.
+use super::super::scarce::setting::{MONDAY, code, date, reference};
+use super::super::scarce::{Asks, Question, for_each_refusal};
+use super::over_sql::{BLOCKS, OverSql};
+use rtgs_book::Reading;
+use std::test::Fail;
+
+// Tries a reading of a desk over tables. The name is that of the test.
+fn tries(rt: &HostRuntime, name: &str, reading: Reading) -> Result<(), Fail> {
+    let asks = Asks {
+        store: OverSql,
+        question: Question::Reading(reading),
+    };
+    for_each_refusal(rt, name, &asks, BLOCKS)
+}
+
+#[test]
+fn order_of(rt: HostRuntime) -> Result<(), Fail> {
+    let reading = Reading::Order {
+        sender: code("ALFA")?,
+        reference: reference("A-2")?,
+    };
+    tries(&rt, "tests::over_tables::readings::order_of", reading)
+}
+
+#[test]
+fn statement(rt: HostRuntime) -> Result<(), Fail> {
+    let reading = Reading::Statement {
+        code: code("ALFA")?,
+        date: date(MONDAY)?,
+    };
+    tries(&rt, "tests::over_tables::readings::statement", reading)
+}
+
+#[test]
+fn report(rt: HostRuntime) -> Result<(), Fail> {
+    let reading = Reading::Report {
+        date: date(MONDAY)?,
+    };
+    tries(&rt, "tests::over_tables::readings::report", reading)
+}

@@ -1,0 +1,85 @@
+//! A keeper behind whose commit there is no memory.
+use super::held::Held;
+use rtgs_book::{Change, Fault, Mark, Order, Posting};
+use rtgs_cores::Core;
+use rtgs_keeper::{CommitFault, Keeper};
+use rtgs_money::{BusinessDate, Code, Reference};
+use std::alloc::Global;
+use std::cell::Cell;
+
+/// Passes calls on to another keeper, and takes all memory once a commit has returned.
+#[derive(Drop)]
+pub struct TakingKeeper<'a, K> {
+    kept: K,
+    alloc: Global,
+    held: &'a Cell<Option<Held>>,
+}
+
+impl<'a, K: Keeper> TakingKeeper<'a, K> {
+    /// Over this keeper. What it takes is held there, until others take it from there.
+    pub fn new(alloc: Global, kept: K, held: &'a Cell<Option<Held>>) -> TakingKeeper<'a, K> {
+        TakingKeeper { kept, alloc, held }
+    }
+}
+
+impl<K: Keeper> Keeper for TakingKeeper<'_, K> {
+    ghost content = { λ keeper. K.content keeper.kept };
+
+    ghost leaves = { λ keeper. K.leaves keeper.kept };
+
+    ghost has_failed = { λ keeper. K.has_failed keeper.kept };
+
+    ghost is_honest = { λ keeper. K.is_honest keeper.kept };
+
+    ghost has_tables = { λ keeper. K.has_tables keeper.kept };
+
+    ghost is_empty = { λ keeper. K.is_empty keeper.kept };
+
+    ghost is_whole = { λ keeper. K.is_whole keeper.kept };
+
+    ghost shows = { λ keeper. K.shows keeper.kept };
+
+    ghost leaves_no_more = { λ keeper other. K.leaves_no_more keeper.kept other.kept };
+
+    ghost explains = { λ keeper. K.explains keeper.kept };
+
+    ghost settled = { λ keeper. K.settled keeper.kept };
+
+    ghost stays = { λ keeper. K.stays keeper.kept };
+
+    ghost tabled = { λ keeper. K.tabled keeper.kept };
+
+    ghost whole = { λ keeper. K.whole keeper.kept };
+
+    ghost unmoved = { λ keeper. K.unmoved keeper.kept };
+
+    fn core(&mut self, alloc: Global) -> Result<Core, Fault> {
+        self.kept.core(alloc)
+    }
+
+    fn find_order(&mut self, sender: &Code, reference: &Reference) -> Result<Option<Order>, Fault> {
+        self.kept.find_order(sender, reference)
+    }
+
+    fn find_posting(&mut self, reference: &Reference) -> Result<Option<Posting>, Fault> {
+        self.kept.find_posting(reference)
+    }
+
+    fn next_posting(&mut self, date: BusinessDate, number: u64) -> Result<Option<Posting>, Fault> {
+        self.kept.next_posting(date, number)
+    }
+
+    fn next_order(&mut self, date: BusinessDate, number: u64) -> Result<Option<Order>, Fault> {
+        self.kept.next_order(date, number)
+    }
+
+    fn next_mark(&mut self, date: BusinessDate, number: u64) -> Result<Option<Mark>, Fault> {
+        self.kept.next_mark(date, number)
+    }
+
+    fn commit(&mut self, change: &Change) -> Result<(), CommitFault> {
+        let kept = self.kept.commit(change);
+        self.held.set(Held::all(self.alloc));
+        kept
+    }
+}

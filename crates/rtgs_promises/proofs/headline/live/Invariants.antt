@@ -1,0 +1,21 @@
+use Rattle.std.proofs.Common.{◌≡◌, ◌≤◌, length, map, take, vec_capacity, IsTrue}
+use Rattle.sqlite.specs.Held.{state}
+use Rattle.sqlite.specs.State.{HasCleanDisk}
+use Rattle.rtgs_desk.specs.Holding.{Holds}
+use Rattle.rtgs_stored_desk.specs.Stored.{AreTablesOf}
+use Rattle.rtgs_tables.specs.contracts.sql_keeper.SqlKeeperKeeper.TheImpl as keeper
+use Rattle.rtgs_promises.proofs.Lives.{SoFar}
+use Rattle.rtgs_promises.proofs.headline.live.Given as goal
+
+abbrev pub invariant-loop-visit : goal.invariant-loop-visit
+invariant-loop-visit g l =
+    let first = state g.S.Store l.fn.conn in
+    let k = keeper.ghosts g.row.S g.S.Alter g.S.Alter-dict g.S.Store g.S.Store-dict g.S.Destruct-dict in
+    record {
+      told : length l.said.items ≡ l.visit-index;
+      room : length l.sessions ≤ vec_capacity l.said;
+      so_far : SoFar (HasCleanDisk first) (HasCleanDisk (state g.S.Store l.desk.keeper.conn))
+          (λ start. IsTrue first.is_open × AreTablesOf start first.committed.trees) (Holds k l.desk)
+          (map (λ visit. visit.commands.items) (take l.visit-index l.sessions))
+          (map (λ replies. replies.items) l.said.items);
+    }

@@ -1,0 +1,168 @@
+//! The headline: what a desk answers and keeps over any number of sessions and stops.
+//!
+//! Each promise of this crate has a sentence, then its contract, and between them the definitions that a reader has to
+//! judge, in reading order: the files in the `specs/` of each crate, as far as the contract reaches them.
+//!
+//! "The ten of a command" are those that say what a command does to a book: of `rtgs_book` Books, Lookup, Balance,
+//! Queue, Choice, Settle, Outcome, Commands and Step, and of `rtgs_money` Date. What the `sqlite` crate calls a
+//! database, and what it may leave after a crash (`may_leave`), is that crate's.
+ghost use Rattle.std.specs.Prelude.{◌≡◌, false, map, IfOk, IsTrue, IfErr};
+ghost use Rattle.sqlite.specs.Held.{state};
+ghost use Rattle.sqlite.specs.State.{HasCleanDisk};
+ghost use Rattle.sqlite.specs.Steps.{IsEmpty};
+ghost use Rattle.sqlite_trees.specs.View.{IsClean};
+ghost use Rattle.rtgs_book.specs.Books.{new_book};
+ghost use Rattle.rtgs_book.specs.Calm.{IsCalm};
+ghost use Rattle.rtgs_book.specs.declared.Book.{Book};
+ghost use Rattle.rtgs_desk.specs.Holding.{Holds};
+ghost use Rattle.rtgs_promises.specs.Headline.{IsHeadline, EndsEarly, LeavesExactly, EndsEarlyAnew, LeavesRows};
+ghost use Rattle.rtgs_stored_desk.specs.Stored.{AreTablesOf};
+
+use crate::books::{each_resolution_settles_the_greatest_choice, nothing_settles_early};
+use crate::desks::tables_are_exactly_the_book;
+use crate::living::{begun, given_up};
+use crate::making::tables_made;
+use crate::memory::made_in_memory;
+use crate::sessions::{Cause, Unfinished, Visit};
+use crate::stopping::found_again;
+use rtgs_book::{Refusal, WholeAnswer};
+use rtgs_desk::Desk;
+use rtgs_keeper::Keeper;
+use rtgs_repeats::laws::life_is_a_run;
+use rtgs_stored_desk::run;
+use rtgs_tables::SqlKeeper;
+use sqlite::{Alter, Connection, MemStore};
+use sqlite_trees::store::Reopen;
+use std::alloc::Global;
+
+/// **Promise 1, the headline.** A desk begins with an empty database. Whatever commands it is then given, and wherever
+/// it is stopped, it answers and keeps what the definitions say:
+///
+/// - The answers of each session are those of the definitions' run over the commands that were answered.
+/// - A stop, also a crash in the middle of a write, loses no answered command. It leaves the book to which they lead,
+///   or, where the store had failed, perhaps that book after the one command in doubt, whole. So over any number of
+///   sessions one list of commands leads from the new book to the last.
+/// - In it each resolution, asked for or not, settled the greatest choice of queue beginnings that leaves nobody below
+///   its floor, or there was nothing to settle. What was final stands, nothing settled before its due date, and on an
+///   automatic day nothing was left that could settle.
+/// - The tables have the rows of the last book and no others. Each stored balance is the sum from scratch, and
+///   together these balances are what was posted.
+/// - Where a session could not be had, memory was wanting or the store failed. All this then holds of the sessions
+///   before it, in whatever a crash leaves.
+///
+/// The function makes the tables, and goes on as `live`, over any store. Premises: nobody else writes the file, and
+/// the disk gives back what was written to it (`HasCleanDisk`, `IsClean`); and the database was just opened and has
+/// nothing in it (`IsEmpty`).
+// To judge it, read these 24 files, 216 definitions: rtgs_promises Headline; the ten of a command; rtgs_book Session,
+// Run, Calm, Laws, Soundness, Procedure; rtgs_repeats Lives; rtgs_rows Content, Keeping, Tables, Dues, Rows; rtgs_money
+// Digits.
+pub fn make_and_live<S: Alter + Reopen + Drop>(
+    alloc: Global,
+    conn: Connection<S>,
+    sessions: &[Visit],
+) -> Result<(Vec<Vec<Result<WholeAnswer, Refusal>>>, Desk<SqlKeeper<S>>), Unfinished<S>>
+    requires { conn.in_transaction ≡ false }
+    ensures lived { IfOk result (λ (said, desk). HasCleanDisk (state S.Store desk.keeper.conn)
+        → IsEmpty (state S.Store conn) → (desk.keeper.failed ≡ false)
+        × ((found : Book) × LeavesRows found (state S.Store desk.keeper.conn)
+        × IsHeadline new_book (map (λ visit. visit.commands.items) sessions.now)
+        (map (λ replies. replies.items) said.items) found)) }
+    ensures ended { IfErr result (λ it. IsClean (S.Store.view it.store) → IsEmpty (state S.Store conn)
+        → EndsEarlyAnew (map (λ visit. visit.commands.items) sessions.now)
+        (map (λ replies. replies.items) it.said.items) it.cause (S.Store.recovers it.store)) }
+{
+    let made = tables_made(alloc, conn)?;
+    match live(alloc, made, sessions) {
+        Ok((said, desk)) => {
+            desk.holds_a_sound_book();
+            Ok((said, desk))
+        }
+        Err(unfinished) => Err(unfinished),
+    }
+}
+
+/// **Promise 1, from any book.** The same where the tables hold a book already, whichever it is: the sessions lead from
+/// it to the book that the desk holds in the end. The tables hold that book exactly.
+///
+/// The function opens a desk, gives it the commands of a session, ends that in order, or by a crash wherever its store
+/// then is (a store may fail from any call on, and so inside any write), opens it again over what this left, and so on.
+// To judge it, read these 32 files, 247 definitions: rtgs_promises Headline; rtgs_stored_desk Stored; rtgs_desk
+// Holding, Seen; rtgs_book Calm, Session, Run, Laws, Soundness, Procedure, Ranges; the ten of a command; rtgs_repeats
+// Lives; rtgs_rows Content, Keeping, Fitting, Tables, Dues, Rows; rtgs_cores Cores; rtgs_money Forms, Amounts, Digits.
+pub fn live<S: Alter + Reopen + Drop>(
+    alloc: Global,
+    conn: Connection<S>,
+    sessions: &[Visit],
+) -> Result<(Vec<Vec<Result<WholeAnswer, Refusal>>>, Desk<SqlKeeper<S>>), Unfinished<S>>
+    requires { conn.in_transaction ≡ false }
+    ensures lived { IfOk result (λ (said, desk). HasCleanDisk (state S.Store desk.keeper.conn)
+        → IsTrue (state S.Store conn).is_open
+        → (start : Book) → AreTablesOf start (state S.Store conn).committed.trees
+        → (found : Book) × Holds ⟦<SqlKeeper<S> as Keeper>⟧ desk found
+        × LeavesExactly found (state S.Store desk.keeper.conn)
+        × IsHeadline start (map (λ visit. visit.commands.items) sessions.now)
+        (map (λ replies. replies.items) said.items) found) }
+    ensures honest { IfOk result (λ (_, desk). HasCleanDisk (state S.Store desk.keeper.conn)
+        → HasCleanDisk (state S.Store conn)) }
+    ensures ended { IfErr result (λ it. IsClean (S.Store.view it.store) → IsTrue (state S.Store conn).is_open
+        → (start : Book) → AreTablesOf start (state S.Store conn).committed.trees → IsCalm start
+        → EndsEarly start (map (λ visit. visit.commands.items) sessions.now)
+        (map (λ replies. replies.items) it.said.items) it.cause (S.Store.recovers it.store)) }
+    ensures back { IfErr result (λ it. IsClean (S.Store.view it.store) → HasCleanDisk (state S.Store conn)) }
+{
+    life_is_a_run();
+    each_resolution_settles_the_greatest_choice();
+    nothing_settles_early();
+    let (mut said, mut desk) = begun(alloc, conn, sessions.len())?;
+    for visit in sessions {
+        let replies = match run(&mut desk, visit.commands.as_slice()) {
+            Ok(replies) => replies,
+            Err(_) => {
+                return Err(Unfinished {
+                    said,
+                    cause: Cause::NoRoom,
+                    store: given_up(desk),
+                });
+            }
+        };
+        said.push_reserved(replies);
+        let next = match found_again(alloc, desk, visit.stop) {
+            Ok(next) => next,
+            Err((cause, store)) => return Err(Unfinished { said, cause, store }),
+        };
+        desk = next;
+    }
+    tables_are_exactly_the_book(&desk);
+    Ok((said, desk))
+}
+
+/// **Promise 1, in memory.** The headline over a database in memory, from the empty one: no premise is left.
+// To judge it, read these 23 files, 169 definitions: rtgs_promises Headline; rtgs_desk Holding, Seen; the ten of a
+// command; rtgs_book Session, Run, Calm, Laws, Soundness, Procedure, Ranges; rtgs_repeats Lives; rtgs_cores Cores;
+// rtgs_money Amounts.
+pub fn live_in_memory(
+    alloc: Global,
+    sessions: &[Visit],
+) -> Result<
+    (
+        Vec<Vec<Result<WholeAnswer, Refusal>>>,
+        Desk<SqlKeeper<MemStore>>,
+    ),
+    Cause,
+>
+    ensures { IfOk result (λ (said, desk). (found : Book) × Holds ⟦<SqlKeeper<MemStore> as Keeper>⟧ desk found
+        × IsHeadline new_book (map (λ visit. visit.commands.items) sessions.now)
+        (map (λ replies. replies.items) said.items) found) }
+{
+    let made = made_in_memory(alloc)?;
+    match live(alloc, made, sessions) {
+        Ok((said, desk)) => Ok((said, desk)),
+        Err(
+            Unfinished {
+                said: _,
+                cause,
+                store: _,
+            },
+        ) => Err(cause),
+    }
+}

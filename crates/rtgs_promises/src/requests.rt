@@ -1,0 +1,149 @@
+//! What a request over HTTP comes to, who acts by it, and what its reply tells.
+//!
+//! "The ten of a command" are those that say what a command does to a book: of `rtgs_book` Books, Lookup, Balance,
+//! Queue, Choice, Settle, Outcome, Commands and Step, and of `rtgs_money` Date.
+ghost use Rattle.std.specs.Prelude.{◌≡◌, List, IfOk, length, IfErr, ◌≢◌, ℕ, Ok, Err, ◌⊎◌};
+ghost use Rattle.sqlite.specs.Held.{state};
+ghost use Rattle.sqlite.specs.State.{HasCleanDisk};
+ghost use Rattle.sqlite.specs.Tree.{Trees};
+ghost use Rattle.sqlite_trees.specs.View.{IsClean};
+ghost use Rattle.rtgs_book.specs.declared.Book.{Book};
+ghost use Rattle.rtgs_book.specs.declared.reading.Reading.{Reading};
+ghost use Rattle.rtgs_desk.specs.Holding.{Holds};
+ghost use Rattle.rtgs_desk.specs.Seen.{Seen};
+ghost use Rattle.rtgs_http_banks.specs.Dealings.{given};
+ghost use Rattle.rtgs_http_banks.specs.Exchange.{Deals, Exchanges, IsAskedByBearer};
+ghost use Rattle.rtgs_http_laws.specs.Alike.{EndAlike};
+ghost use Rattle.rtgs_http_laws.specs.Own.{AgreeFor, IsSentBy};
+ghost use Rattle.rtgs_http_replies.specs.Messages.{Message};
+ghost use Rattle.rtgs_http_requests.specs.Exchange.{AsksFor};
+ghost use Rattle.rtgs_http_requests.specs.Same.{AreTheSame};
+ghost use Rattle.rtgs_http_requests.specs.declared.asked.Asked.{Asked};
+ghost use Rattle.rtgs_http_requests.specs.declared.http_fault.HttpFault.{HttpFault};
+ghost use Rattle.rtgs_ledger.specs.Keys.{code_under};
+ghost use Rattle.rtgs_promises.specs.Headline.{AreExactly, LeavesExactly};
+ghost use Rattle.rtgs_promises.specs.Keys.{IsServed, AreAllowed};
+
+use crate::desks::tables_are_exactly_the_book;
+use crate::serving::serve;
+use crate::sessions::{Cause, Stop};
+use crate::stopping::found_again;
+use rtgs_desk::Desk;
+use rtgs_http_banks::Served;
+use rtgs_http_laws::laws::{participants_are_told_of_their_own_rows, replies_are_determined};
+use rtgs_http_requests::laws::answers_are_determined;
+use rtgs_keeper::Keeper;
+use rtgs_money::KeyDigest;
+use rtgs_tables::SqlKeeper;
+use sqlite::Alter;
+use sqlite_trees::store::Reopen;
+use std::alloc::Global;
+use std::io::{Read, Write};
+
+/// **Promise 2, the headline of a request.** What is written for a request is the reply that the definitions give to
+/// the book and the request's bytes, whole or a beginning of it; the commands that were given are those that these
+/// bytes ask for, and the bearer of the key may give them; and the stop that comes then leaves what promise 1 says.
+/// Where the reader fails, nothing was done. So it is with whatever a crash leaves where no desk opens again.
+// To judge it, read these 83 files, 523 definitions: rtgs_promises Headline, Keys; rtgs_desk Holding, Seen, Readings;
+// rtgs_http_banks Serving, Exchange, Dealings, Sayings; rtgs_rows Content, Keeping, Fitting, Tables, Dues, Rows;
+// rtgs_book Calm, Soundness, Session, Run, Laws, Ranges, Procedure, Refusals, Standings; rtgs_http_replies Messages,
+// Kinds, Texts, Bodies; rtgs_output Sent; the ten of a command; rtgs_cores Cores; rtgs_http_input Input;
+// rtgs_http_requests Exchange, Access, Callers, Meaning, Steps, Bodies, Faults, Contents; rtgs_ledger Keys;
+// rtgs_batches Batches, Sent; rtgs_repeats Lives, Lasting, Batch, Repeats, Once; rtgs_http_heads Targets, Heads,
+// Fields, Tables; rtgs_desk_texts Written, Accounts; rtgs_http_feeds Region; rtgs_money Forms, Amounts, Lexical,
+// Digits, Units; rtgs_http_bodies Refusals, Statuses, Answers, Readings; rtgs_order_files Results, BatchFaults,
+// OrderFile; rtgs_refusals Table; rtgs_statements Texts, Records, Lines, Sums, Tallies, Columns.
+pub fn serve_and_stop<R: Read, W: Write, S: Alter + Reopen + Drop>(
+    alloc: Global,
+    desk: Desk<SqlKeeper<S>>,
+    reader: &mut R,
+    writer: &mut W,
+    operator: &KeyDigest,
+    stop: Stop,
+) -> (Served, Result<Desk<SqlKeeper<S>>, (Cause, S)>)
+    ensures found { IfOk result.1 (λ next. HasCleanDisk (state S.Store next.keeper.conn) → (start : Book)
+        → Holds ⟦<SqlKeeper<S> as Keeper>⟧ desk start
+        → (found : Book) × Holds ⟦<SqlKeeper<S> as Keeper>⟧ next found
+        × LeavesExactly found (state S.Store next.keeper.conn)
+        × IsServed ⟦<SqlKeeper<S> as Keeper>⟧ operator.now start (R.remaining reader.old) (W.contents writer.old)
+        (W.contents writer.new) result.0 found) }
+    ensures lost { IfErr result.1 (λ (_, left). IsClean (S.Store.view left) → (start : Book)
+        → Holds ⟦<SqlKeeper<S> as Keeper>⟧ desk start → (trees : Trees) → S.Store.recovers left trees
+        → (found : Book) × AreExactly found trees
+        × IsServed ⟦<SqlKeeper<S> as Keeper>⟧ operator.now start (R.remaining reader.old) (W.contents writer.old)
+        (W.contents writer.new) result.0 found) }
+{
+    let mut desk = desk;
+    let served = serve(alloc, &mut desk, reader, writer, operator);
+    match found_again(alloc, desk, stop) {
+        Ok(next) => {
+            tables_are_exactly_the_book(&next);
+            (served, Ok(next))
+        }
+        Err((cause, left)) => (served, Err((cause, left))),
+    }
+}
+
+/// **Promise 12. A request has one meaning.** What it asks for and its reply are a function of the book and the
+/// request's bytes. Set aside is lack of memory, and for the reply a fault of the store: the status is then 503.
+// To judge it, read these 73 files, 447 definitions: rtgs_desk Seen, Holding, Readings; rtgs_http_replies Messages,
+// Kinds, Texts, Bodies; rtgs_http_banks Exchange, Dealings, Sayings; rtgs_http_requests Same, Exchange, Meaning,
+// Callers, Steps, Bodies, Access, Faults, Contents; rtgs_http_laws Alike; rtgs_ledger Keys; rtgs_http_heads Targets,
+// Heads, Fields, Tables; rtgs_desk_texts Written, Accounts; the ten of a command; rtgs_book Calm, Session, Run,
+// Soundness, Ranges, Laws, Refusals, Procedure, Standings; rtgs_http_feeds Region; rtgs_http_bodies Refusals, Statuses,
+// Answers, Readings; rtgs_batches Batches, Sent; rtgs_order_files Results, BatchFaults, OrderFile; rtgs_cores Cores;
+// rtgs_money Forms, Lexical, Amounts, Digits, Units; rtgs_repeats Lasting, Batch, Repeats, Once; rtgs_refusals Table;
+// rtgs_statements Texts, Records, Lines, Sums, Tallies, Columns.
+pub fn a_book_and_an_input_have_one_reply<K: Keeper>()
+    ensures asked { (operator input : List ℕ) (old : Book) (one other : Seen K) (sent told : Message)
+        (first : Deals K.Keeper operator old input one sent) (second : Deals K.Keeper operator old input other told)
+        → first.answer ≢ Err HttpFault.OutOfMemory → second.answer ≢ Err HttpFault.OutOfMemory
+        → AreTheSame first.answer second.answer }
+    ensures replied { (operator input : List ℕ) (old : Book) (one other : Seen K) (sent told : Message)
+        → Deals K.Keeper operator old input one sent → Deals K.Keeper operator old input other told
+        → sent.status ≢ 503 → told.status ≢ 503 → EndAlike K.Keeper one other sent told }
+{
+    answers_are_determined();
+    replies_are_determined::<K>();
+}
+
+/// **Promise 13. Nobody acts but with his own key.** The commands of a request are those of the operator's key, or
+/// orders and withdrawals of the participant whose key the input bears. Whatever a desk holds, a request changes it
+/// only for what the bearer of a key may ask.
+// To judge it, read these 74 files, 452 definitions: rtgs_promises Keys; rtgs_desk Seen, Holding, Readings;
+// rtgs_http_replies Messages, Kinds, Texts, Bodies; rtgs_http_banks Exchange, Dealings, Sayings; rtgs_http_requests
+// Access, Exchange, Callers, Meaning, Steps, Bodies, Faults, Plans, Contents; rtgs_ledger Keys; rtgs_batches Batches,
+// Sent; rtgs_http_feeds Region; rtgs_http_heads Heads, Fields, Targets, Tables; rtgs_desk_texts Written, Accounts; the
+// ten of a command; rtgs_book Calm, Session, Refusals, Run, Soundness, Ranges, Laws, Procedure, Standings;
+// rtgs_http_bodies Refusals, Statuses, Answers, Readings; rtgs_cores Following, Cores; rtgs_money Forms, Lexical,
+// Amounts, Digits, Units; rtgs_order_files Results, BatchFaults, OrderFile; rtgs_repeats Lasting, Batch, Repeats, Once;
+// rtgs_refusals Table; rtgs_statements Texts, Records, Lines, Sums, Tallies, Columns.
+pub fn nobody_acts_with_the_key_of_another<K: Keeper>()
+    ensures commands { (operator input : List ℕ) (book : Book) (desk : Seen K) (sent : Message)
+        (request : Deals K.Keeper operator book input desk sent)
+        → AreAllowed operator book input (given request.answer (length request.works.0)) }
+    ensures changes { (operator input : List ℕ) (old new : Seen K) (sent : Message)
+        → Exchanges K.Keeper operator old input new sent
+        → (new ≡ old) ⊎ IsAskedByBearer operator old input }
+{}
+
+/// **Promise 13. And nobody reads the rows of others.** Two books that agree in a participant's own rows give the same
+/// reply to each reading that bears its key. Set aside are replies with the status 503.
+// To judge it, read these 72 files, 448 definitions: rtgs_desk Seen, Holding, Readings; rtgs_http_replies Messages,
+// Kinds, Texts, Bodies; rtgs_http_laws Own; rtgs_http_requests Exchange, Access, Callers, Meaning, Steps, Bodies,
+// Faults, Contents; rtgs_ledger Keys; rtgs_http_banks Exchange, Dealings, Sayings; the ten of a command;
+// rtgs_http_heads Targets, Heads, Fields, Tables; rtgs_http_feeds Region; rtgs_desk_texts Written, Accounts; rtgs_money
+// Forms, Lexical, Amounts, Digits, Units; rtgs_http_bodies Refusals, Statuses, Answers, Readings; rtgs_batches Batches,
+// Sent; rtgs_order_files Results, OrderFile, BatchFaults; rtgs_book Calm, Session, Run, Laws, Refusals, Soundness,
+// Ranges, Procedure, Standings; rtgs_repeats Lasting, Batch, Repeats, Once; rtgs_cores Cores; rtgs_refusals Table;
+// rtgs_statements Texts, Records, Lines, Sums, Tallies, Columns.
+pub fn nobody_reads_the_rows_of_others<K: Keeper>()
+    ensures { (operator input code : List ℕ) (one other : Book) (first second : Seen K) (sent told : Message)
+        (reading : Reading) → AgreeFor code one other
+        → IsSentBy operator one code input → IsSentBy operator other code input
+        → AsksFor operator (code_under one) input (Ok (Asked.Read reading))
+        → Deals K.Keeper operator one input first sent → Deals K.Keeper operator other input second told
+        → sent.status ≢ 503 → told.status ≢ 503 → told ≡ sent }
+{
+    participants_are_told_of_their_own_rows::<K>();
+}
