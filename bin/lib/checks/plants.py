@@ -2,9 +2,10 @@
 
 A wrong body is one that gives up, or that calls the real function wrongly. One that is proved shows what a contract
 leaves open, or that the body is not wrong: which of both, a reader has to judge. So none of them is a failure here.
-What is proved first is the crate itself, and the libraries below it, where they are not kept.
+First each crate is proved, and the libraries below it, where they are not kept. The crates are tried side by side.
 """
 import re
+from concurrent.futures import ThreadPoolExecutor
 
 import kit
 
@@ -20,8 +21,9 @@ def options(words):
 
 
 def run(given, report):
-    for crate in given.crates:
-        said = kit.planted(crate, given.minutes)
+    with ThreadPoolExecutor() as side_by_side:
+        told = [*side_by_side.map(lambda crate: kit.planted(crate, given.minutes), given.crates)]
+    for crate, said in zip(given.crates, told):
         counts = COUNTS.findall(said)
         report.counts(bool(counts))
         report.finds(f"{crate}: {counts[-1].strip() if counts else 'it was not judged: ' + said[-300:].strip()}")
