@@ -3,6 +3,8 @@ stock sqlite3, and libraries of C."""
 import argparse
 import json
 import os
+import re
+import shutil
 import socket
 import statistics
 import subprocess
@@ -11,6 +13,7 @@ import tempfile
 
 import kit
 
+HERE = os.path.dirname(os.path.realpath(__file__))
 PROGRAMS = f"{kit.TOP}/crates/desk/out"
 DESK = f"{PROGRAMS}/desk"
 KEYS = {"ALFA": "a" * 32, "BETA": "b" * 32, "GAMA": "c" * 32}
@@ -106,17 +109,16 @@ def free_port():
         return it.getsockname()[1]
 
 
-class Server:
-    """A desk that serves a book, as many connections as are said, and listens. With a library, that one is loaded
-    first. At the end of its `with` it must have had them all."""
+class Listening:
+    """A server that was started by these words, and first says at which port it listens. It takes a number of
+    connections, and at the end of its `with` it must have had them all."""
 
-    def __init__(self, book, connections, library=None, operator=OPERATOR):
-        self.port = free_port()
-        words = ["--port", str(self.port), "--count", str(connections), "--operator-key", operator]
-        env = {**os.environ, "LD_PRELOAD": library} if library else None
+    def __init__(self, words, env=None):
         pipes = {"stdout": subprocess.PIPE, "stderr": subprocess.PIPE}
-        self.process = subprocess.Popen([DESK, "serve", book, *words], env=env, **pipes)
-        if self.process.stdout.readline() != b"listening %d\n" % self.port:
+        self.process = subprocess.Popen(words, env=env, **pipes)
+        listens = re.fullmatch(rb"listening (\d+)\n", self.process.stdout.readline())
+        self.port = int(listens[1]) if listens else None
+        if not listens:
             self.process.kill()
             said = self.process.stderr.read().decode().strip()
             self.wait()
@@ -159,6 +161,19 @@ class Server:
         with open(f"/proc/{self.process.pid}/status", encoding="utf-8") as status:
             return int(next(line.split()[1] for line in status if line.startswith(what)))
 
+    def processor_time(self):
+        """Returns how many seconds of a processor the server has had. It is of one thread."""
+        with open(f"/proc/{self.process.pid}/schedstat", encoding="utf-8") as stat:
+            return int(stat.read().split()[0]) / 1e9
+
+
+class Server(Listening):
+    """A desk that serves a book, as many connections as are said. With a library, that one is loaded first."""
+
+    def __init__(self, book, connections, library=None, operator=OPERATOR):
+        words = ["--port", str(free_port()), "--count", str(connections), "--operator-key", operator]
+        super().__init__([DESK, "serve", book, *words], {**os.environ, "LD_PRELOAD": library} if library else None)
+
 
 def request(method, path, key, body=None):
     """Returns the bytes of a request."""
@@ -198,11 +213,26 @@ def stock(book, *commands, words=()):
 
 def library(name, folder):
     """Compiles the file of C of this name, which stands beside this one, to a library in the folder."""
-    made, source = f"{folder}/{name}.so", f"{os.path.dirname(os.path.realpath(__file__))}/{name}.c"
+    made, source = f"{folder}/{name}.so", f"{HERE}/{name}.c"
     subprocess.run(["cc", "-shared", "-fPIC", "-O2", "-o", made, source], check=True)
     return made
 
 
-def told(measures):
-    """Returns the median and the range of what was measured, in words."""
-    return f"{statistics.median(measures):8.1f} ({min(measures):.1f} to {max(measures):.1f})"
+def program(name, folder, *libraries):
+    """Compiles the file of C of this name, which stands beside this one, with gcc to a program in the folder, over
+    these libraries. It is told plainly where gcc or a header is missing."""
+    made, source = f"{folder}/{name}", f"{HERE}/{name}.c"
+    if not shutil.which("gcc"):
+        raise Broken("gcc is missing")
+    words = ["gcc", "-O2", "-o", made, source, *(f"-l{it}" for it in libraries)]
+    ran = subprocess.run(words, capture_output=True, text=True, check=False)
+    missing = re.search(r"fatal error: (\S+): No such file", ran.stderr)
+    if ran.returncode:
+        raise Broken(f"the header {missing[1]} is missing" if missing else f"gcc said: {ran.stderr.strip()}")
+    return made
+
+
+def told(measures, digits=1):
+    """Returns the median and the range of what was measured, in words, with so many digits behind the point."""
+    middle, least, most = (f"{it:.{digits}f}" for it in (statistics.median(measures), min(measures), max(measures)))
+    return f"{middle:>8} ({least} to {most})"

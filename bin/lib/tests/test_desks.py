@@ -90,6 +90,7 @@ class Servers(Desks):
         with desks.Server(self.book, 2) as server:
             self.assertIn(b'"reference": "A-7"', server.asked(desks.order("1" * 32, "BETA", 7)))
             self.assertGreater(server.memory("VmHWM"), 0)
+            self.assertGreater(server.processor_time(), 0)
             with self.assertRaisesRegex(desks.Broken, "404"):
                 server.asked(desks.request("POST", "/x", "1" * 32, "{}"))
             self.assertEqual(server.ended(), (0, "served 2\n", ""))
@@ -140,6 +141,7 @@ class Tools(Desks):
 
     def test_measures_are_told_by_median_and_range(self):
         self.assertEqual(desks.told([3, 1, 2.5]), "     2.5 (1.0 to 3.0)")
+        self.assertEqual(desks.told([0.5, 1], 2), "    0.75 (0.50 to 1.00)")
 
 
 del Desks
