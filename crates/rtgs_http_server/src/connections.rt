@@ -23,7 +23,8 @@ pub trait Connections {
         requires { 0 < to_come self.old }
         ensures { to_come self.new + 1 ≡ to_come self.old };
 
-    /// Ends a connection to which the whole reply was written, so that its peer gets the reply.
-    fn close(&mut self, reader: Self::Reader, writer: Self::Writer)
+    /// Ends a connection to which the whole reply was written, so that its peer gets the reply. Where that may wait, it
+    /// may be done as late as when another one is ended.
+    fn close(&mut self, reader: Self::Reader, writer: Self::Writer, may_wait: bool)
         ensures { to_come self.new ≡ to_come self.old };
 }

@@ -5,8 +5,9 @@ use crate::connections::Connections;
 use crate::reply_writer::ReplyWriter;
 use crate::request_reader::RequestReader;
 use std::io;
-use std::io::Read;
+use std::io::{ErrorKind, Read};
 use std::net::{Ipv4Addr, TcpListener};
+use std::rc::Rc;
 
 /// How many pieces are read and dropped after a reply, at most.
 const MOST_PIECES_DROPPED: usize = 64;
@@ -20,6 +21,8 @@ pub struct Port {
     rt: HostRuntime,
     listener: TcpListener,
     left: u32,
+    // a connection whose reply was sent, and which its peer has not yet been seen to end
+    ending: Option<RequestReader>,
 }
 
 impl Port {
@@ -32,14 +35,27 @@ impl Port {
             rt: *rt,
             listener: TcpListener::bind(rt, (Ipv4Addr::LOCALHOST, number))?,
             left: count,
+            ending: None,
         })
     }
 
     // The next connection: what its request is read from, and what its reply is written to.
     fn next(&self) -> io::Result<(RequestReader, ReplyWriter)> {
         let (stream, _) = self.listener.accept()?;
-        let writer = ReplyWriter::new(&self.rt, stream.try_clone()?);
+        let Ok(stream) = Rc::new(self.rt.alloc(), stream) else {
+            return Err(io::Error::from(ErrorKind::OutOfMemory));
+        };
+        let writer = ReplyWriter::new(&self.rt, stream.clone()?);
         Ok((RequestReader::new(&self.rt, stream)?, writer))
+    }
+
+    // Ends the connection that was left to be ended, if there is one.
+    fn end_last(&mut self)
+        ensures { self.new.left ≡ self.old.left }
+    {
+        if let Some(mut reader) = self.ending.take() {
+            drop_rest(&mut reader);
+        }
     }
 }
 
@@ -60,9 +76,18 @@ impl Connections for Port {
     }
 
     // The writing side is ended first, which tells the peer that the reply is whole. What the peer still sends is read
-    // and dropped: a connection that is closed with bytes unread may lose the reply (RFC 9112, section 9.6).
-    fn close(&mut self, mut reader: RequestReader, writer: ReplyWriter) {
-        if writer.end().is_ok() && reader.linger().is_ok() {
+    // and dropped: a connection that is closed with bytes unread may lose the reply (RFC 9112, section 9.6). Where that
+    // may wait it is done once the next connection has its reply, so that no time is lost until the peer has seen its
+    // own.
+    fn close(&mut self, mut reader: RequestReader, writer: ReplyWriter, may_wait: bool) {
+        let is_told = writer.end().is_ok() && reader.linger().is_ok();
+        self.end_last();
+        if !is_told {
+            return;
+        }
+        if may_wait && self.left > 0 {
+            self.ending = Some(reader);
+        } else {
             drop_rest(&mut reader);
         }
     }

@@ -6,6 +6,7 @@ ghost use Rattle.rtgs_http_server.specs.Requests.{WorksForAll};
 
 use crate::connections::Connections;
 use crate::laws::a_desk_at_rest_works_for_all;
+use http::StatusCode;
 use rtgs_desk::Desk;
 use rtgs_http_banks::laws::requests_join;
 use rtgs_http_banks::{Served, serve_one};
@@ -61,7 +62,9 @@ fn serve_next<C: Connections, K: Keeper>(
         return;
     };
     let served = serve_one(alloc, &mut reader, &mut writer, desk, operator);
-    if let Served::Answered(_) = served {
-        connections.close(reader, writer);
+    // A request that was not understood may not have been sent whole yet, and a desk that has failed serves no more.
+    if let Served::Answered(status) = served {
+        let may_wait = status == StatusCode::OK && !desk.failed();
+        connections.close(reader, writer, may_wait);
     }
 }

@@ -58,7 +58,7 @@ impl<'a> Connections for Scripted<'a> {
         Some((input?, Vec::new(self.alloc)))
     }
 
-    fn close(&mut self, _reader: &'a [u8], writer: Vec<u8>) {
+    fn close(&mut self, _reader: &'a [u8], writer: Vec<u8>, _may_wait: bool) {
         let _ = self.replies.push(writer);
     }
 }
