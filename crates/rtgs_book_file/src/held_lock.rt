@@ -10,14 +10,12 @@ pub(crate) struct HeldLock {
 }
 
 impl HeldLock {
-    /// This lock, held.
     pub(crate) fn of(locked: Locked) -> HeldLock
         ensures { result.locked ≡ locked }
     {
         HeldLock { locked }
     }
 
-    /// The lock.
     pub(crate) fn into_locked(self) -> Locked
         ensures { result ≡ self.locked }
     {

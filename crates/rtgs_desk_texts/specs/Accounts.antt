@@ -29,6 +29,6 @@ account_with value reading = object (member (codes "balance") (signed reading.ba
     (member (codes "code") (string reading.participant.code) (member (codes "credit") (whole reading.participant.credit)
     (with_date reading.day.date (account_members value reading)))))
 
--- what a participant is told of its account
+-- what a participant is shown of its account
 abbrev pub account_data : AccountReading → Data
 account_data reading = account_with reading.queued_value reading

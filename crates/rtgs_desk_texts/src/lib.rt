@@ -1,5 +1,5 @@
 //! The texts of a desk's book, from the book to the bytes: a participant's statement and the day report, and what is
-//! told of an account, a queue and an order.
+//! shown of an account, a queue and an order.
 #![tactic(auto)]
 
 mod account;

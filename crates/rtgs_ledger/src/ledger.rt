@@ -10,18 +10,18 @@ ghost use Rattle.rtgs_ledger.specs.Following.{FreesOrders};
 ghost use Rattle.rtgs_ledger.specs.Kept.{IsPrepared, IsPreparedByItself, IsCommandRefused, IsRefusedByItself};
 ghost use Rattle.rtgs_ledger.specs.Kinds.{CanAnswer, CanAnswerByItself, is_of_the_store};
 
-mod adding;
-mod choosing;
-mod closing;
-mod crediting;
-mod cutting_off;
-mod following;
+mod close;
+mod credit;
+mod cut_off;
+mod follow_up;
 mod opening;
-mod ordering;
+mod order;
+mod participant;
 mod posting;
-mod reading;
-mod resolving;
-mod withdrawing;
+mod readings;
+mod resolution;
+mod resolver_input;
+mod withdrawal;
 
 use rtgs_accounts::Accounts;
 use rtgs_book::{Answer, Change, Command, Fault, Known, Refusal, Rows, Rule, WholeAnswer};

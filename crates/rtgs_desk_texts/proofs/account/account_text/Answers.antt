@@ -14,8 +14,8 @@ returns c fits =
     let small : FitsSigned w64 c.cents.result = subst (FitsSigned w64) (sym cents) fits in
     let passed = to_z-of_z w128 c.cents.result (omega (arith, ints, small)) in
     let same = c.in_64_bits-queued_value.ensures (subst (FitsSigned w64) (sym passed) small) ∙ passed ∙ cents in
-    let told = to_z-of_z w64 c.in_64_bits-queued_value.result (subst (FitsSigned w64) (sym same) fits) ∙ same in
-    let value = c.in_ok-value.ensures ∙ ap (λ v. account_with v c.args.reading.now) told in
+    let same_value = to_z-of_z w64 c.in_64_bits-queued_value.result (subst (FitsSigned w64) (sym same) fits) ∙ same in
+    let value = c.in_ok-value.ensures ∙ ap (λ v. account_with v c.args.reading.now) same_value in
     IfOk-weaker c.to_vec.result _ _
     (λ text h. h (rw value (account_has_no_float c.args.reading.now.queued_value c.args.reading.now))
     ∙ ap compact_text value)

@@ -113,8 +113,8 @@ fn is_completed<K: Keeper>(
     same(alloc, seen_of(alloc, desk)?.as_str(), once)
 }
 
-// How many rows are answered with so many small blocks of memory. Where the next one is refused, what is told then, and
-// when the rows are sent again, is as it should be.
+// How many rows are answered with so many small blocks of memory. Where the next one is refused, what is answered then,
+// and when the rows are sent again, is as it should be.
 fn answered<S: Store>(
     alloc: Global,
     store: &S,

@@ -9,8 +9,8 @@ use Rattle.rtgs_ledger.proofs.Following.{day_left, prepared_alone}
 use Rattle.rtgs_ledger.proofs.ledger.Ledger.prepare.Goals as goal
 
 pub returns-then-not-is_followed-clause-prepared : goal.returns-then-not-is_followed-clause-prepared
-returns-then-not-is_followed-clause-prepared c book is calm told =
-    let p = c.in_ok-own.ensures.prepared book is told in
+returns-then-not-is_followed-clause-prepared c book is calm found =
+    let p = c.in_ok-own.ensures.prepared book is found in
     let core = c.in_ok-own.ensures.core in
     prepared_alone book c.args.self.now.core c.args.command.now c.in_ok-own.own c.in_ok-own.change p
     (ap (λ (d : Day). may_free c.args.command.now && is_done (Ok c.in_ok-own.own) && is_automatic d)

@@ -41,7 +41,7 @@ returns-then-is_same_order-clause-prepared c book is found =
     let found_here : c.args.found ≡ order_named (book_of r) c.args.sender c.args.reference = found
     ∙ ap (λ (b : Book). order_named b c.args.sender c.args.reference) (sym of.same) in
     let o = c.in-Some-found.found in
-    let there = is_known r of.kept c.args.sender c.in-Some.debtor (sym c.get.ensures ∙ c.in-Some.is) in
+    let there = is_known r of.kept c.args.sender c.in-Some.sending (sym c.get.ensures ∙ c.in-Some.is) in
     let same = sym c.is_same_order.ensures ∙ c.if-is_same_order.true in
     let step = repeats (book_of r) c.args.sender c.args.reference c.args.receiver c.args.amount c.args.due there o
     (sym found_here ∙ c.in-Some-found.is) same in
@@ -56,7 +56,7 @@ returns-in-Some-found-clause-refused c book is found =
     let found_here : c.args.found ≡ order_named (book_of r) c.args.sender c.args.reference = found
     ∙ ap (λ (b : Book). order_named b c.args.sender c.args.reference) (sym of.same) in
     let o = c.in-Some-found.found in
-    let there = is_known r of.kept c.args.sender c.in-Some.debtor (sym c.get.ensures ∙ c.in-Some.is) in
+    let there = is_known r of.kept c.args.sender c.in-Some.sending (sym c.get.ensures ∙ c.in-Some.is) in
     let other = sym c.is_same_order.ensures ∙ c.if-is_same_order.false in
     to_refused book c.self.inside.records c.args.self.now.core of
     (command.Order c.args.sender c.args.reference c.args.receiver c.args.amount c.args.due) _ (inr (
@@ -72,7 +72,7 @@ returns-in_default-open_date-clause-refused c book is found =
     let r = whole book c.self.inside.records in
     let found_here : c.args.found ≡ order_named (book_of r) c.args.sender c.args.reference = found
     ∙ ap (λ (b : Book). order_named b c.args.sender c.args.reference) (sym of.same) in
-    let there = is_known r of.kept c.args.sender c.in-Some.debtor (sym c.get.ensures ∙ c.in-Some.is) in
+    let there = is_known r of.kept c.args.sender c.in-Some.sending (sym c.get.ensures ∙ c.in-Some.is) in
     to_refused book c.self.inside.records c.args.self.now.core of
     (command.Order c.args.sender c.args.reference c.args.receiver c.args.amount c.args.due) _ (inr (
       not_open (book_of r) c.args.sender c.args.reference c.args.receiver c.args.amount c.args.due there
@@ -88,7 +88,7 @@ returns-in_default-get-clause-refused c book is found =
     let r = whole book c.self.inside.records in
     let found_here : c.args.found ≡ order_named (book_of r) c.args.sender c.args.reference = found
     ∙ ap (λ (b : Book). order_named b c.args.sender c.args.reference) (sym of.same) in
-    let there = is_known r of.kept c.args.sender c.in-Some.debtor (sym c.get.ensures ∙ c.in-Some.is) in
+    let there = is_known r of.kept c.args.sender c.in-Some.sending (sym c.get.ensures ∙ c.in-Some.is) in
     let opened = open_now r of.kept c.in-Some-open_date.date (sym c.open_date.ensures ∙ c.in-Some-open_date.is)
     in
     to_refused book c.self.inside.records c.args.self.now.core of
@@ -106,10 +106,10 @@ returns-then-eq-clause-refused c book is found =
     let r = whole book c.self.inside.records in
     let found_here : c.args.found ≡ order_named (book_of r) c.args.sender c.args.reference = found
     ∙ ap (λ (b : Book). order_named b c.args.sender c.args.reference) (sym of.same) in
-    let there = is_known r of.kept c.args.sender c.in-Some.debtor (sym c.get.ensures ∙ c.in-Some.is) in
+    let there = is_known r of.kept c.args.sender c.in-Some.sending (sym c.get.ensures ∙ c.in-Some.is) in
     let opened = open_now r of.kept c.in-Some-open_date.date (sym c.open_date.ensures ∙ c.in-Some-open_date.is)
     in
-    let receiver = is_known r of.kept c.args.receiver c.in-Some-get.creditor
+    let receiver = is_known r of.kept c.args.receiver c.in-Some-get.receiving
     (sym c.get-2.ensures ∙ c.in-Some-get.is) in
     to_refused book c.self.inside.records c.args.self.now.core of
     (command.Order c.args.sender c.args.reference c.args.receiver c.args.amount c.args.due) _ (inr (
@@ -125,10 +125,10 @@ returns-in_err-check_due-clause-refused c book is found =
     let r = whole book c.self.inside.records in
     let found_here : c.args.found ≡ order_named (book_of r) c.args.sender c.args.reference = found
     ∙ ap (λ (b : Book). order_named b c.args.sender c.args.reference) (sym of.same) in
-    let there = is_known r of.kept c.args.sender c.in-Some.debtor (sym c.get.ensures ∙ c.in-Some.is) in
+    let there = is_known r of.kept c.args.sender c.in-Some.sending (sym c.get.ensures ∙ c.in-Some.is) in
     let opened = open_now r of.kept c.in-Some-open_date.date (sym c.open_date.ensures ∙ c.in-Some-open_date.is)
     in
-    let receiver = is_known r of.kept c.args.receiver c.in-Some-get.creditor
+    let receiver = is_known r of.kept c.args.receiver c.in-Some-get.receiving
     (sym c.get-2.ensures ∙ c.in-Some-get.is) in
     let given = err_from_is_err_and c.from_residual.result c.from_residual.ensures.1 in
     rw (given.1, given.2) (to_refused book c.self.inside.records c.args.self.now.core of
@@ -145,10 +145,10 @@ returns-then-next-clause-refused c book is found =
     let r = whole book c.self.inside.records in
     let found_here : c.args.found ≡ order_named (book_of r) c.args.sender c.args.reference = found
     ∙ ap (λ (b : Book). order_named b c.args.sender c.args.reference) (sym of.same) in
-    let there = is_known r of.kept c.args.sender c.in-Some.debtor (sym c.get.ensures ∙ c.in-Some.is) in
+    let there = is_known r of.kept c.args.sender c.in-Some.sending (sym c.get.ensures ∙ c.in-Some.is) in
     let opened = open_now r of.kept c.in-Some-open_date.date (sym c.open_date.ensures ∙ c.in-Some-open_date.is)
     in
-    let receiver = is_known r of.kept c.args.receiver c.in-Some-get.creditor
+    let receiver = is_known r of.kept c.args.receiver c.in-Some-get.receiving
     (sym c.get-2.ensures ∙ c.in-Some-get.is) in
     let many : nat_le LARGEST_NUMBER (length r.orders)
     ≡ true = (let next = c.next.ensures ∙ of.orders in let test = c.if-next.true in grind
@@ -175,13 +175,13 @@ returns-then-settles_now-clause-prepared c book is found =
     ≡ false = (let next = c.next.ensures ∙ of.orders in let test = c.if-next.false in
     grind (arith, nat_tests, next, test)) in
     let numbers = numbers_are c.queues_are_of_the_waiting.ensures book.orders c.self.inside.records.orders.orders
-    (code_of c.in-Some.debtor) of.waiting in
+    (code_of c.in-Some.sending) of.waiting in
     let both = and_parts (is_none c.args.due) _ (sym c.settles_now.ensures.value ∙ c.if-settles_now.true) in
-    let settles = settles_is r of.kept c.args.sender c.in-Some.debtor c.args.amount from ∙ (rw numbers at both.1) in
+    let settles = settles_is r of.kept c.args.sender c.in-Some.sending c.args.amount from ∙ (rw numbers at both.1) in
     let direct = none_is c.args.due both.0 in
     let o = c.next_order-order.result in
     let taken = order_taken book c.self.inside.records c.args.self.now.core of c.args.sender c.args.reference
-    c.args.receiver c.args.amount c.in-Some-open_date.date c.args.due c.in-Some.debtor c.in-Some-get.creditor o
+    c.args.receiver c.args.amount c.in-Some-open_date.date c.args.due c.in-Some.sending c.in-Some-get.receiving o
     (rw c.date_of-order_date.ensures at c.next_order-order.ensures) from (sym found_here ∙ c.in_default-found.is)
     (sym c.open_date.ensures ∙ c.in-Some-open_date.is) to (sym c.eq.ensures ∙ c.if-eq.false)
     (too_early_is (book_of r) c.args.due _ c.in_ok-check_due.ensures.passed.0)
@@ -191,9 +191,9 @@ returns-then-settles_now-clause-prepared c book is found =
     rw c.next_order-order.ensures (subst (λ (b : Book). settles_at_once b c.args.sender c.args.amount
     ≡ true) of.same settles)
     in
-    let from_it : find (is_of o.sender) c.args.self.now.core.accounts ≡ Some c.in-Some.debtor =
+    let from_it : find (is_of o.sender) c.args.self.now.core.accounts ≡ Some c.in-Some.sending =
     rw (c.next_order-order.ensures, ← of.accounts) from in
-    let to_it : find (is_of o.receiver) c.args.self.now.core.accounts ≡ Some c.in-Some-get.creditor =
+    let to_it : find (is_of o.receiver) c.args.self.now.core.accounts ≡ Some c.in-Some-get.receiving =
     rw (c.next_order-order.ensures, ← of.accounts) to in
     let direct_it : o.due ≡ None = rw c.next_order-order.ensures direct in
     rw c.next_order-order.ensures at (c.prepare_settled.ensures.prepared book is taken direct_it settles_it from_it
@@ -209,14 +209,14 @@ returns-then-count-ge-LONGEST_QUEUE-clause-refused c book is found =
     let from = sym c.get.ensures ∙ c.in-Some.is in
     let opened = open_now r of.kept c.in-Some-open_date.date (sym c.open_date.ensures ∙ c.in-Some-open_date.is)
     in
-    let receiver = is_known r of.kept c.args.receiver c.in-Some-get.creditor
+    let receiver = is_known r of.kept c.args.receiver c.in-Some-get.receiving
     (sym c.get-2.ensures ∙ c.in-Some-get.is) in
     let few : nat_le LARGEST_NUMBER (length r.orders)
     ≡ false = (let next = c.next.ensures ∙ of.orders in let test = c.if-next.false in grind
     (arith, nat_tests, next, test)) in
     let numbers = numbers_are c.queues_are_of_the_waiting.ensures book.orders c.self.inside.records.orders.orders
-    (code_of c.in-Some.debtor) of.waiting in
-    let waits = ap (λ b. is_none c.args.due && b) (settles_is r of.kept c.args.sender c.in-Some.debtor c.args.amount
+    (code_of c.in-Some.sending) of.waiting in
+    let waits = ap (λ b. is_none c.args.due && b) (settles_is r of.kept c.args.sender c.in-Some.sending c.args.amount
     from)
     ∙ (rw numbers at (sym c.settles_now.ensures.value ∙ c.if-settles_now.false)) in
     let long : c.count.result ≡ length (waiting (book_of r) c.args.sender) = c.count.ensures
@@ -226,7 +226,7 @@ returns-then-count-ge-LONGEST_QUEUE-clause-refused c book is found =
     to_refused book c.self.inside.records c.args.self.now.core of
     (command.Order c.args.sender c.args.reference c.args.receiver c.args.amount c.args.due) _ (inr (
       queue_full (book_of r) c.args.sender c.args.reference c.args.receiver c.args.amount c.args.due
-          (is_known r of.kept c.args.sender c.in-Some.debtor from) (sym found_here ∙ c.in_default-found.is)
+          (is_known r of.kept c.args.sender c.in-Some.sending from) (sym found_here ∙ c.in_default-found.is)
           opened receiver (sym c.eq.ensures ∙ c.if-eq.false)
           (too_early_is (book_of r) c.args.due _ c.in_ok-check_due.ensures.passed.0)
           c.in_ok-check_due.ensures.passed.1 few waits full,
@@ -246,8 +246,8 @@ returns-clause-prepared c book is found =
     ≡ false = (let next = c.next.ensures ∙ of.orders in let test = c.if-next.false in
     grind (arith, nat_tests, next, test)) in
     let numbers = numbers_are c.queues_are_of_the_waiting.ensures book.orders c.self.inside.records.orders.orders
-    (code_of c.in-Some.debtor) of.waiting in
-    let waits = ap (λ b. is_none c.args.due && b) (settles_is r of.kept c.args.sender c.in-Some.debtor c.args.amount
+    (code_of c.in-Some.sending) of.waiting in
+    let waits = ap (λ b. is_none c.args.due && b) (settles_is r of.kept c.args.sender c.in-Some.sending c.args.amount
     from)
     ∙ (rw numbers at (sym c.settles_now.ensures.value ∙ c.if-settles_now.false)) in
     let long : c.count.result ≡ length (waiting (book_of r) c.args.sender) = c.count.ensures
@@ -256,7 +256,7 @@ returns-clause-prepared c book is found =
     ≡ false = grind (arith, nat_tests, long, c.if-count-ge-LONGEST_QUEUE.false) in
     let o = c.next_order-order.result in
     let taken = order_taken book c.self.inside.records c.args.self.now.core of c.args.sender c.args.reference
-    c.args.receiver c.args.amount c.in-Some-open_date.date c.args.due c.in-Some.debtor c.in-Some-get.creditor o
+    c.args.receiver c.args.amount c.in-Some-open_date.date c.args.due c.in-Some.sending c.in-Some-get.receiving o
     (rw c.date_of-order_date.ensures at c.next_order-order.ensures) from (sym found_here ∙ c.in_default-found.is)
     (sym c.open_date.ensures ∙ c.in-Some-open_date.is) to (sym c.eq.ensures ∙ c.if-eq.false)
     (too_early_is (book_of r) c.args.due _ c.in_ok-check_due.ensures.passed.0)

@@ -1,0 +1,6 @@
+use Rattle.std.proofs.Common.{sym, subst}
+use Rattle.rtgs_book_file.specs.Closed.{LeavesNoMore}
+use Rattle.rtgs_book_file.proofs.abandoned_book.AbandonedBook.of.Goals as goal
+
+pub returns : goal.returns
+returns g c = subst (LeavesNoMore c.args.conn) (sym c.of-files.ensures) c.abandoned_files-left.ensures

@@ -1,6 +1,0 @@
-use Rattle.std.proofs.Common.{sym, subst}
-use Rattle.rtgs_book_file.specs.Closed.{LeavesNoMore}
-use Rattle.rtgs_book_file.proofs.given_up_book.GivenUpBook.of.Goals as goal
-
-pub returns : goal.returns
-returns g c = subst (LeavesNoMore c.args.conn) (sym c.of-files.ensures) c.files_given_up-left.ensures
