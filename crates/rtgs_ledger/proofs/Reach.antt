@@ -44,6 +44,7 @@ use Rattle.rtgs_lists.proofs.Finds.{all_found}
 use Rattle.rtgs_lists.proofs.Lists.{all_filter, all_of, all_weaker}
 use Rattle.rtgs_lists.proofs.Numbers.{same_from_int_eq}
 use Rattle.rtgs_lists.proofs.Sums.{int_sum_by-append}
+use Rattle.rtgs_queues.specs.Incoming.{brought_to}
 use Rattle.rtgs_queues.specs.Laws.{NumbersLeadToOrders, QueuesAreOfTheWaiting, QueuesRise}
 use Rattle.rtgs_queues.specs.Orders.{AreRising}
 
@@ -65,15 +66,19 @@ stays_unqueued (Settled mark) e = refl
 stays_unqueued Withdrawn e = refl
 stays_unqueued Rejected e = refl
 
--- orders that do not wait bring nothing
+-- what the orders that wait bring is what all orders do
 pub brought_by_waiting : (code : List ℕ) (os : List Order)
-    → queued_to (filter is_waiting os) code ≡ queued_to os code
+    → queued_to os code ≡ pos (brought_to (filter is_waiting os) code)
 brought_by_waiting code [] = refl
 brought_by_waiting code (o ∷ os) = by (is_waiting o) refl (brought_by_waiting code os)
   where
-    by : (b : Bool) → is_waiting o ≡ b → queued_to (filter is_waiting os) code ≡ queued_to os code
-        → queued_to (cond b (o ∷ filter is_waiting os) (filter is_waiting os)) code ≡ queued_to (o ∷ os) code
-    by true e rest = ap (λ z. brings code o +ℤ z) rest
+    same : (b : Bool) → cond b (pos o.amount) (pos 0) ≡ pos (cond b o.amount 0)
+    same true = refl
+    same false = refl
+
+    by : (b : Bool) → is_waiting o ≡ b → queued_to os code ≡ pos (brought_to (filter is_waiting os) code)
+        → queued_to (o ∷ os) code ≡ pos (brought_to (cond b (o ∷ filter is_waiting os) (filter is_waiting os)) code)
+    by true e rest = let own = same (is_queued o && bytes_eq o.receiver code) in omega (arith, ints)
     by false e rest =
         let none : brings code o ≡ pos 0 = rw (stays_unqueued o.state e) refl in
         omega (arith, ints)

@@ -1,4 +1,5 @@
 pub mod Among
+pub mod IncomingLemmas
 pub mod Numbering
 pub mod OrderLemmas
 pub mod QueueLemmas

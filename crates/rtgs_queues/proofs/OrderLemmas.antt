@@ -293,7 +293,7 @@ others_wait_not Rejected e f = refl
 -- orders that are queued or held wait, and no others
 pub ruleset which_states_wait = (queued_waits, held_waits, others_wait_not)
 
-queued_out : (state : OrderState) → is_waiting_state state ≡ false → is_queued_state state ≡ false
+pub queued_out : (state : OrderState) → is_waiting_state state ≡ false → is_queued_state state ≡ false
 queued_out Queued e = e
 queued_out Held e = refl
 queued_out (Settled mark) e = e

@@ -1,3 +1,4 @@
+pub mod Incoming
 pub mod Laws
 pub mod Orders
 pub mod Queues

@@ -1,6 +1,6 @@
 //! Orders that are queued or held, by their numbers and under their senders.
 ghost use Rattle.std.specs.Prelude.{◌≡◌, ◌≤◌, ◌<◌, ◌+◌, ◌-◌, ◌++◌, ◌∷◌, [], ℕ, List, length, filter, not, true};
-ghost use Rattle.std.specs.Prelude.{false};
+ghost use Rattle.std.specs.Prelude.{false, MatchOption, ◌^◌};
 ghost use Rattle.std.specs.Prelude.{map, slice_index_or, Some, None, OnOk, IfOk, IfErr, if◌then◌else◌};
 ghost use Rattle.std.specs.List.{find, AllByRecursion};
 ghost use Rattle.rtgs_book.specs.declared.order.Order.{Order};
@@ -9,9 +9,11 @@ ghost use Rattle.rtgs_book.specs.Books.{is_waiting, is_queued_state, is_held_sta
 ghost use Rattle.rtgs_book.specs.Commands.{entered, has_number, is_held_with};
 ghost use Rattle.rtgs_book.specs.Settle.{altered};
 ghost use Rattle.rtgs_book.specs.Queue.{queued_among, queued_numbers};
+ghost use Rattle.rtgs_queues.specs.Incoming.{brought, brought_to};
 ghost use Rattle.rtgs_queues.specs.Orders.{AreRising, AreWaiting, AwaitsOrder, HasNumberAt, numbers_among};
 ghost use Rattle.rtgs_queues.specs.Queues.{numbers_of, room_of};
 
+use crate::incoming::Incoming;
 use crate::queues::Queues;
 use rtgs_book::{Order, OrderState, Rows};
 use rtgs_money::{BusinessDate, Code};
@@ -28,6 +30,7 @@ pub struct Orders {
     queues: Queues,
     // Each queue has room for its sender's held orders.
     held: Queues,
+    incoming: Incoming,
     next: u64,
     awaited: Option<Code>,
     // Whether the awaited order has room among the held ones.
@@ -37,6 +40,7 @@ pub struct Orders {
 }
 
 impl Model for Orders {
+    ghost use Rattle.rtgs_queues.specs.Incoming.{AreSums};
     ghost use Rattle.rtgs_queues.specs.Orders.{OrderList, IsKept};
     ghost use Rattle.std.specs.Prelude.{◌-◌, vec_len, filter};
     ghost use Rattle.std.specs.Vec.{vec_capacity};
@@ -53,7 +57,8 @@ impl Model for Orders {
       holds = o.holds;
     } };
 
-    ghost invariant = { λ o. IsKept o.orders.items o.queues o.held o.next o.awaited o.holds o.tidy };
+    ghost invariant = { λ o. IsKept o.orders.items o.queues o.held o.next o.awaited o.holds o.tidy
+        × AreSums o.incoming o.orders.items };
 }
 
 impl Orders {
@@ -68,10 +73,12 @@ impl Orders {
     {
         let orders = orders.into_vec();
         let (queues, held) = places_of(alloc, orders.as_slice())?;
+        let incoming = Incoming::of(alloc, orders.as_slice())?;
         Ok(Orders {
             orders,
             queues,
             held,
+            incoming,
             next,
             awaited: None,
             holds: false,
@@ -88,10 +95,12 @@ impl Orders {
     {
         let orders = Vec::from_slice(alloc, self.orders.as_slice())?;
         let (queued, held) = places_of(alloc, orders.as_slice())?;
+        let incoming = Incoming::of(alloc, orders.as_slice())?;
         Ok(Orders {
             orders,
             queues: queued,
             held,
+            incoming,
             next: self.next,
             awaited: None,
             holds: false,
@@ -148,9 +157,25 @@ impl Orders {
         queued.len() + held.len()
     }
 
-    /// Makes room for one order more of this sender, in this state: in its queue, beside its held orders, and among
-    /// those only if the order is held.
-    pub fn reserve(&mut self, sender: Code, state: OrderState) -> Result<(), AllocError>
+    /// What the account would get by all queued orders together, if 64 bits hold it.
+    pub fn queued_to(&self, code: &Code) -> Option<u64>
+        ensures { MatchOption result (2 ^ 64 ≤ brought_to self.now.orders code.now)
+            (λ sum. sum ≡ brought_to self.now.orders code.now) }
+    {
+        match self.incoming.get(code) {
+            Some(sum) => Some(sum),
+            None => brought_to(self.orders.as_slice(), code),
+        }
+    }
+
+    /// Makes room for one order more of this sender to this receiver, in this state: in its queue, beside its held
+    /// orders, and among those only if the order is held.
+    pub fn reserve(
+        &mut self,
+        sender: Code,
+        receiver: Code,
+        state: OrderState,
+    ) -> Result<(), AllocError>
         ensures orders { self.new.orders ≡ self.old.orders }
         ensures tidy { self.new.tidy ≡ self.old.tidy }
         ensures next { self.new.next ≡ self.old.next }
@@ -165,6 +190,7 @@ impl Orders {
             self.held.reserve(sender, 1)?;
         }
         self.queues.reserve(sender, held + 1)?;
+        self.incoming.make_place(receiver)?;
         self.awaited = Some(sender);
         self.holds = state.is_held();
         Ok(())
@@ -185,6 +211,7 @@ impl Orders {
         ensures holds { self.new.holds ≡ self.old.holds }
     {
         self.next += 1;
+        self.incoming.count_in(&order);
         if order.state.is_held() {
             self.awaited = None;
             self.held.push(&order.sender, order.number);
@@ -213,6 +240,7 @@ impl Orders {
         };
         let order = self.orders[at];
         self.orders[at] = Order { state, ..order };
+        self.incoming.count_out(&order);
         self.queues.remove(&order.sender, number);
         self.held.remove(&order.sender, number);
         self.tidy = false;
@@ -233,11 +261,13 @@ impl Orders {
         };
         let order = self.orders[at];
         if order.state.is_held() {
-            self.orders[at] = Order {
+            let queued = Order {
                 state: OrderState::Queued,
                 date,
                 ..order
             };
+            self.orders[at] = queued;
+            self.incoming.count_in(&queued);
             self.held.remove(&order.sender, number);
             self.queues.insert(&order.sender, number);
         }
@@ -270,6 +300,32 @@ fn keep_waiting(orders: &mut Vec<Order>)
     ensures { orders.new.items ≡ filter is_waiting orders.old.items }
 {
     orders.retain(|order| order.state.is_waiting());
+}
+
+// The amounts of the orders that are queued to this receiver, together, if 64 bits hold them.
+fn brought_to(orders: &[Order], code: &Code) -> Option<u64>
+    ensures { MatchOption result (2 ^ 64 ≤ brought_to orders.now code.now)
+        (λ sum. sum ≡ brought_to orders.now code.now) }
+{
+    let mut sum = 0u64;
+    for order in orders {
+        let Some(more) = sum.checked_add(brought(order, code)) else {
+            return None;
+        };
+        sum = more;
+    }
+    Some(sum)
+}
+
+// What this receiver would get by the order, where that is queued.
+fn brought(order: &Order, code: &Code) -> u64
+    ensures { result ≡ brought code.now order.now }
+{
+    if order.state.is_queued() && order.receiver == *code {
+        order.amount.cents()
+    } else {
+        0
+    }
 }
 
 // The queue of each sender, with room for its held orders, and these.

@@ -1,7 +1,6 @@
 //! Whether orders may settle after a command that could not before.
 ghost use Rattle.std.specs.Prelude.{◌≡◌, ◌⊎◌, ◌≤◌, ◌^◌, ◌+ℤ◌, ◌≤ℤ◌, [], ◌∷◌, pos, false, true, None, IfSome, take};
 ghost use Rattle.std.specs.List.{AllByRecursion};
-ghost use Rattle.rtgs_money.specs.declared.amount.TheConstants.Amount as Amount;
 ghost use Rattle.rtgs_book.specs.declared.book.Book.{Book};
 ghost use Rattle.rtgs_book.specs.Balance.{balance};
 ghost use Rattle.rtgs_book.specs.Books.{is_empty};
@@ -10,7 +9,7 @@ ghost use Rattle.rtgs_book.specs.Lookup.{credit_of};
 ghost use Rattle.rtgs_book.specs.Queue.{queue};
 ghost use Rattle.rtgs_book.specs.Soundness.{IsSound};
 ghost use Rattle.rtgs_cores.specs.Cores.{IsCoreOf};
-ghost use Rattle.rtgs_laws.specs.Quiet.{FreesNothing, brings, queued_to, value_of};
+ghost use Rattle.rtgs_laws.specs.Quiet.{FreesNothing, value_of};
 ghost use Rattle.rtgs_ledger.specs.Freeing.{GivesNothing, IsLast, IsShort};
 
 use super::Ledger;
@@ -139,7 +138,10 @@ impl Ledger {
         let Some(account) = self.records.accounts.get(code) else {
             return false;
         };
-        let most = i128::from(money.cents()) + self.queued_to(code);
+        let Some(brought) = self.records.orders.queued_to(code) else {
+            return false;
+        };
+        let most = i128::from(money.cents()) + i128::from(brought);
         let least = i128::from(self.records.floor(&account));
         if most - cents >= least {
             return false;
@@ -174,32 +176,6 @@ impl Ledger {
             return None;
         }
         self.records.orders.numbered(queue[0])
-    }
-
-    // What the account would get by all queued orders together.
-    fn queued_to(&self, code: &Code) -> i128
-        ensures value { (book : Book) → IsCoreOf book self.now.core → result ≡ queued_to book.orders code.now }
-        ensures low { pos 0 ≤ℤ result }
-        ensures high { result ≤ℤ pos (2 ^ 104) }
-    {
-        let mut sum = 0i128;
-        for order in self.records.orders.as_slice() {
-            sum += brought(order, code);
-        }
-        sum
-    }
-}
-
-// What the account would get by the order, where that is queued.
-fn brought(order: &Order, code: &Code) -> i128
-    ensures value { result ≡ brings code.now order.now }
-    ensures low { pos 0 ≤ℤ result }
-    ensures high { result ≤ℤ pos Amount.MAX }
-{
-    if order.state.is_queued() && order.receiver == *code {
-        i128::from(order.amount.cents())
-    } else {
-        0
     }
 }
 

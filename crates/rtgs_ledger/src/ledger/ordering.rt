@@ -152,7 +152,9 @@ impl Ledger {
         queues_are_of_the_waiting();
         let place = self.records.orders.queue(&order.sender).len() as u64 + 1;
         let rows = vec![in self.alloc; RowChange::AddOrder(order)]?;
-        self.records.orders.reserve(order.sender, order.state)?;
+        self.records
+            .orders
+            .reserve(order.sender, order.receiver, order.state)?;
         Ok((waiting_answer(&order, place), Rows::from_vec(rows)))
     }
 }

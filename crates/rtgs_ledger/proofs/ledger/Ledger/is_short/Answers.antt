@@ -1,8 +1,12 @@
-use Rattle.std.proofs.Common.{◌≡◌, ◌∙◌, ap, sym, arith}
+use Rattle.std.proofs.Common.{◌≡◌, ◌∙◌, List, pos, ap, sym, arith}
 use Rattle.std.proofs.lemmas.Int.{ints}
 use Rattle.rtgs_book.specs.declared.book.Book.{Book}
+use Rattle.rtgs_book.specs.declared.order.Order.{Order}
 use Rattle.rtgs_book.specs.Balance.{floor}
+use Rattle.rtgs_laws.specs.Quiet.{queued_to}
+use Rattle.rtgs_queues.specs.Incoming.{brought_to}
 use Rattle.rtgs_ledger.proofs.Kept.{floor_at}
+use Rattle.rtgs_ledger.proofs.Reach.{brought_by_waiting}
 use Rattle.rtgs_ledger.proofs.Whole.{is_of_book, whole}
 use Rattle.rtgs_ledger.proofs.ledger.Ledger.is_short.Goals as goal
 
@@ -14,5 +18,8 @@ returns c book is told =
     let lowest : floor book c.args.code.now ≡ c.floor.result =
     sym (ap (λ (b : Book). floor b c.args.code.now) of.same)
     ∙ floor_at (whole book r) of.kept c.args.code.now c.in-Some.account found ∙ sym c.floor.ensures in
-    let brought = c.queued_to.ensures.value book is in
+    let brought : queued_to book.orders c.args.code.now ≡ pos c.in-Some-queued_to.brought =
+    brought_by_waiting c.args.code.now book.orders
+    ∙ ap (λ (os : List Order). pos (brought_to os c.args.code.now)) (sym of.waiting)
+    ∙ ap (λ n. pos n) (sym c.in-Some-queued_to.ensures) in
     omega (arith, ints, lowest, brought)

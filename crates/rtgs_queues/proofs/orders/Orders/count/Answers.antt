@@ -9,9 +9,9 @@ pub returns : goal.returns
 returns c =
     let sender = c.args.sender.now in
     let queued : length c.get-queued.result.now ≡ length (numbers_among is_queued_state c.args.self.now.orders sender) =
-    ap length (c.get-queued.ensures ∙ c.self.invariant.queued sender ∙ same_numbers sender c.self.inside.orders.items
+    ap length (c.get-queued.ensures ∙ c.self.invariant.0.queued sender ∙ same_numbers sender c.self.inside.orders.items
     ∙ ap (λ (os : List Order). numbers_among is_queued_state os sender) (λ i. (c.self.view_is i).orders)) in
     let held : length c.get-held.result.now ≡ length (numbers_among is_held_state c.args.self.now.orders sender) =
-    ap length (c.get-held.ensures ∙ c.self.invariant.held sender ∙ same_held sender c.self.inside.orders.items
+    ap length (c.get-held.ensures ∙ c.self.invariant.0.held sender ∙ same_held sender c.self.inside.orders.items
     ∙ ap (λ (os : List Order). numbers_among is_held_state os sender) (λ i. (c.self.view_is i).orders)) in
     search (rules, queued, held)

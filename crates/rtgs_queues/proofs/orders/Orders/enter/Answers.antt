@@ -9,8 +9,9 @@ use Rattle.rtgs_book.specs.Settle.{altered}
 use Rattle.rtgs_queues.specs.Orders.{IsKept, HasNumberAt}
 use Rattle.rtgs_queues.specs.Queues.{AreInOrder, numbers_of}
 use Rattle.rtgs_queues.proofs.OrderLemmas.{kept_entered, kept_roomy, none_entered, numbers_rise, one_altered}
-use Rattle.rtgs_queues.proofs.OrderLemmas.{only_one, recursion_from, waiting_entered}
+use Rattle.rtgs_queues.proofs.OrderLemmas.{held_is_not_queued, only_one, recursion_from, waiting_entered}
 use Rattle.rtgs_lists.proofs.Lists.{all_at_place, all_filter}
+use Rattle.rtgs_queues.proofs.IncomingLemmas.{sums_more}
 use Rattle.rtgs_queues.proofs.orders.Orders.enter.Goals as goal
 
 -- no order in memory with the number is held, so none enters
@@ -40,7 +41,7 @@ insert-requires c =
     ∙ get_or_default orders c.in-Ok.at o d there.in_range in
     let held : is_held o ≡ true = sym c.is_held.ensures ∙ c.if-is_held.true in
     kept_roomy orders c.self.inside.queues c.self.inside.held c.self.inside.next c.self.inside.awaited
-    c.self.inside.holds c.self.inside.tidy c.self.invariant c.args.number c.in-Ok.at o held there is
+    c.self.inside.holds c.self.inside.tidy c.self.invariant.0 c.args.number c.in-Ok.at o held there is
 
 pub invariant_of-self : goal.invariant_of-self
 invariant_of-self c =
@@ -50,17 +51,20 @@ invariant_of-self c =
     let is : (d : Order) → o ≡ get_or orders c.in-Ok.at d = λ d. c.index.ensures
     ∙ get_or_default orders c.in-Ok.at o d there.in_range in
     let held : is_held o ≡ true = sym c.is_held.ensures ∙ c.if-is_held.true in
-    let is_entered = one_altered c.args.number (entered c.args.date) (λ o. refl) orders c.self.invariant.rising
+    let is_entered = one_altered c.args.number (entered c.args.date) (λ o. refl) orders c.self.invariant.0.rising
     c.in-Ok.at
     there o is in
     let rising : AreInOrder (numbers_of c.self.inside.queues o.sender) = subst AreInOrder
-    (sym (c.self.invariant.queued o.sender)) (numbers_rise is_queued_state o.sender orders c.self.invariant.rising) in
-    subst (λ (os : List Order). IsKept os c.insert.new.self c.remove.new.self c.self.inside.next c.self.inside.awaited
-    c.self.inside.holds c.self.inside.tidy) (sym is_entered)
-    (kept_entered orders c.self.inside.queues c.self.inside.held c.self.inside.next c.self.inside.awaited
-    c.self.inside.holds c.self.inside.tidy c.self.invariant c.args.number c.args.date c.in-Ok.at o c.insert.new.self
-    c.remove.new.self held there is (λ other. c.insert.ensures.queues other rising) c.insert.ensures.room
-    c.remove.ensures.queues c.remove.ensures.room)
+    (sym (c.self.invariant.0.queued o.sender)) (numbers_rise is_queued_state o.sender orders c.self.invariant.0.rising) in (
+      subst (λ (os : List Order). IsKept os c.insert.new.self c.remove.new.self c.self.inside.next c.self.inside.awaited
+          c.self.inside.holds c.self.inside.tidy) (sym is_entered)
+          (kept_entered orders c.self.inside.queues c.self.inside.held c.self.inside.next c.self.inside.awaited
+          c.self.inside.holds c.self.inside.tidy c.self.invariant.0 c.args.number c.args.date c.in-Ok.at o c.insert.new.self
+          c.remove.new.self held there is (λ other. c.insert.ensures.queues other rising) c.insert.ensures.room
+          c.remove.ensures.queues c.remove.ensures.room),
+      sums_more orders c.self.inside.incoming c.count_in.new.self c.self.invariant.1 c.count_in.ensures.known c.in-Ok.at o
+          (entered c.args.date o) there.in_range is (held_is_not_queued o.state held) c.count_in.ensures.sums,
+    )
 
 pub returns-then-is_held-clause-orders : goal.returns-then-is_held-clause-orders
 returns-then-is_held-clause-orders c =
@@ -70,10 +74,10 @@ returns-then-is_held-clause-orders c =
     let is : (d : Order) → o ≡ get_or orders c.in-Ok.at d = λ d. c.index.ensures
     ∙ get_or_default orders c.in-Ok.at o d there.in_range in
     let held : is_held o ≡ true = sym c.is_held.ensures ∙ c.if-is_held.true in
-    ap (filter is_waiting) (one_altered c.args.number (entered c.args.date) (λ o. refl) orders c.self.invariant.rising
+    ap (filter is_waiting) (one_altered c.args.number (entered c.args.date) (λ o. refl) orders c.self.invariant.0.rising
     c.in-Ok.at there o is)
     ∙ waiting_entered c.args.number c.args.date orders (λ k d lt g. ap is_held (only_one c.args.number o orders
-    c.self.invariant.rising c.in-Ok.at there is k d lt g) ∙ held)
+    c.self.invariant.0.rising c.in-Ok.at there is k d lt g) ∙ held)
     ∙ ap (map (altered (is_held_with c.args.number) (entered c.args.date))) (λ i. (c.self.view_is i).orders)
 
 pub returns-else-is_held-clause-orders : goal.returns-else-is_held-clause-orders
@@ -87,4 +91,4 @@ returns-else-is_held-clause-orders c =
     subst (λ (os : List Order). os ≡ map (altered (is_held_with c.args.number) (entered c.args.date)) os)
     (λ i. (c.self.view_is i).orders) (sym (none c.args.number c.args.date orders (recursion_from
     (λ (o : Order). has_number c.args.number o ≡ true → is_held o ≡ false) orders (λ k d lt e. ap is_held (only_one
-    c.args.number o orders c.self.invariant.rising c.in-Ok.at there is k d lt e) ∙ out))))
+    c.args.number o orders c.self.invariant.0.rising c.in-Ok.at there is k d lt e) ∙ out))))

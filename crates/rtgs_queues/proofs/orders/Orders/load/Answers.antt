@@ -4,21 +4,25 @@ use Rattle.rtgs_book.specs.declared.order.Order.{Order}
 use Rattle.rtgs_book.specs.Books.{is_waiting, is_queued_state, is_held_state}
 use Rattle.rtgs_queues.specs.Orders.{AreRising, AreWaiting, numbers_among}
 use Rattle.rtgs_queues.proofs.OrderLemmas.{all_stay}
+use Rattle.rtgs_queues.specs.Incoming.{brought_to}
 use Rattle.rtgs_queues.proofs.orders.Orders.load.Goals as goal
 
 pub invariant_of-result : goal.invariant_of-result
-invariant_of-result c = record {
-  rising = subst AreRising (sym c.into_vec-orders.ensures) c.requires.rising;
-  before = subst (AllByRecursion (λ (o : Order). o.number < c.args.next)) (sym c.into_vec-orders.ensures)
-      c.requires.before;
-  queued = λ sender. c.in_ok-queues.ensures.queued sender ∙ ap (λ orders. numbers_among is_queued_state orders sender)
-      c.as_slice.ensures.value;
-  held = λ sender. c.in_ok-queues.ensures.held sender ∙ ap (λ orders. numbers_among is_held_state orders sender)
-      c.as_slice.ensures.value;
-  roomy = c.in_ok-queues.ensures.roomy;
-  ready = λ name e. absurd (cc);
-  waiting = λ _. subst AreWaiting (sym c.into_vec-orders.ensures) c.requires.waiting;
-}
+invariant_of-result c = (
+  record {
+    rising = subst AreRising (sym c.into_vec-orders.ensures) c.requires.rising;
+    before = subst (AllByRecursion (λ (o : Order). o.number < c.args.next)) (sym c.into_vec-orders.ensures)
+        c.requires.before;
+    queued = λ sender. c.in_ok-queues.ensures.queued sender ∙ ap (λ orders. numbers_among is_queued_state orders sender)
+        c.as_slice.ensures.value;
+    held = λ sender. c.in_ok-queues.ensures.held sender ∙ ap (λ orders. numbers_among is_held_state orders sender)
+        c.as_slice.ensures.value;
+    roomy = c.in_ok-queues.ensures.roomy;
+    ready = λ name e. absurd (cc);
+    waiting = λ _. subst AreWaiting (sym c.into_vec-orders.ensures) c.requires.waiting;
+  },
+  λ known code. c.in_ok-incoming.ensures known code ∙ ap (λ orders. brought_to orders code) c.as_slice-2.ensures.value,
+)
 
 pub returns-clause-orders : goal.returns-clause-orders
 returns-clause-orders c = ap (filter is_waiting) c.into_vec-orders.ensures ∙ all_stay c.args.orders c.requires.waiting

@@ -22,7 +22,7 @@ returns-then-is_waiting c =
     let is : o ≡ get_or orders c.in-Ok.at o = c.index-order.ensures in
     let queued : is_waiting (get_or orders c.in-Ok.at o) ≡ true = ap is_waiting (sym is) ∙ sym c.is_waiting.ensures
     ∙ c.if-is_waiting.true in
-    ap Some is ∙ sym (found_waiting c.args.number orders c.self.invariant.rising c.in-Ok.at there o
+    ap Some is ∙ sym (found_waiting c.args.number orders c.self.invariant.0.rising c.in-Ok.at there o
     ∙ ap (λ b. cond b (Some (get_or orders c.in-Ok.at o)) None) queued)
     ∙ ap (find (has_number c.args.number)) (λ i. (c.self.view_is i).orders)
 
@@ -34,6 +34,6 @@ returns-else-is_waiting c =
     let is : o ≡ get_or orders c.in-Ok.at o = c.index-order.ensures in
     let queued : is_waiting (get_or orders c.in-Ok.at o) ≡ false = ap is_waiting (sym is) ∙ sym c.is_waiting.ensures
     ∙ c.if-is_waiting.false in
-    sym (found_waiting c.args.number orders c.self.invariant.rising c.in-Ok.at there o
+    sym (found_waiting c.args.number orders c.self.invariant.0.rising c.in-Ok.at there o
     ∙ ap (λ b. cond b (Some (get_or orders c.in-Ok.at o)) None) queued)
     ∙ ap (find (has_number c.args.number)) (λ i. (c.self.view_is i).orders)

@@ -10,7 +10,7 @@ use Rattle.rtgs_queues.proofs.Reading.{queued_at}
 use Rattle.rtgs_queues.proofs.orders.Orders.queue.Goals as goal
 
 pub returns-clause-numbers : goal.returns-clause-numbers
-returns-clause-numbers c = c.get.ensures ∙ c.self.invariant.queued c.args.sender.now
+returns-clause-numbers c = c.get.ensures ∙ c.self.invariant.0.queued c.args.sender.now
     ∙ same_numbers c.args.sender.now c.self.inside.orders.items
     ∙ ap (λ (os : List Order). queued_numbers os c.args.sender.now) (λ i. (c.self.view_is i).orders)
 
@@ -18,11 +18,11 @@ pub returns-clause-found : goal.returns-clause-found
 returns-clause-found c k d lt =
     let sender = c.args.sender.now in
     let orders = c.args.self.now.orders in
-    let is : c.get.result.now ≡ queued_numbers orders sender = c.get.ensures ∙ c.self.invariant.queued sender
+    let is : c.get.result.now ≡ queued_numbers orders sender = c.get.ensures ∙ c.self.invariant.0.queued sender
     ∙ same_numbers sender c.self.inside.orders.items
     ∙ ap (λ (os : List Order). queued_numbers os sender) (λ i. (c.self.view_is i).orders) in
     let rise : AreRising orders = subst AreRising (λ i. (c.self.view_is i).orders)
-    (rising_filter is_waiting c.self.inside.orders.items c.self.invariant.rising) in
+    (rising_filter is_waiting c.self.inside.orders.items c.self.invariant.0.rising) in
     let long : length c.get.result.now ≡ length (queued_among orders sender) = ap length is
     ∙ length-map (queued_among orders sender) (λ (o : Order). o.number) in
     ap (λ (ns : List ℕ). find (has_number (get_or ns k 0)) orders) is

@@ -7,7 +7,8 @@ use Rattle.rtgs_book.specs.Books.{is_waiting}
 use Rattle.rtgs_book.specs.Commands.{has_number}
 use Rattle.rtgs_book.specs.Settle.{restated}
 use Rattle.rtgs_queues.specs.Orders.{IsKept, HasNumberAt}
-use Rattle.rtgs_queues.proofs.OrderLemmas.{kept_restated, none_altered, one_altered, waiting_rest}
+use Rattle.rtgs_queues.proofs.IncomingLemmas.{sums_less}
+use Rattle.rtgs_queues.proofs.OrderLemmas.{kept_restated, none_altered, one_altered, queued_out, waiting_rest}
 use Rattle.rtgs_queues.proofs.orders.Orders.set_state.Goals as goal
 use Rattle.rtgs_queues.proofs.orders.Orders.set_state.Goals.{After-self-2-1}
 
@@ -19,7 +20,7 @@ is_restated : (c : After-self-2-1) → set c.self.inside.orders.items c.in-Ok.at
     (record c.index.result.now { state = c.args.state }) ≡ map (restated (has_number c.args.number) c.args.state)
     c.self.inside.orders.items
 is_restated c = one_altered c.args.number (λ o. record o { state = c.args.state }) (λ o. refl)
-    c.self.inside.orders.items c.self.invariant.rising c.in-Ok.at
+    c.self.inside.orders.items c.self.invariant.0.rising c.in-Ok.at
     (there c) c.index.result.now
     (λ d. c.index.ensures ∙ get_or_default c.self.inside.orders.items c.in-Ok.at c.index.result.now d
     (let t = there c in t.in_range))
@@ -36,15 +37,21 @@ returns-in_default-clause-orders c =
     stays
 
 pub invariant_of-self : goal.invariant_of-self
-invariant_of-self c =
-    subst (λ orders. IsKept orders c.remove.new.self c.remove-2.new.self c.self.inside.next c.self.inside.awaited
-    c.self.inside.holds false) (sym (is_restated c))
-    (kept_restated c.self.inside.orders.items c.self.inside.queues c.self.inside.held c.self.inside.next
-    c.self.inside.awaited c.self.inside.holds c.self.inside.tidy c.self.invariant c.args.number c.args.state c.in-Ok.at
-    c.index.result.now c.remove.new.self c.remove-2.new.self c.requires (there c)
-    (λ d. c.index.ensures ∙ get_or_default c.self.inside.orders.items c.in-Ok.at c.index.result.now d
-    (let t = there c in t.in_range)) c.remove.ensures.queues c.remove.ensures.room
-    c.remove-2.ensures.queues c.remove-2.ensures.room)
+invariant_of-self c = (
+  subst (λ orders. IsKept orders c.remove.new.self c.remove-2.new.self c.self.inside.next c.self.inside.awaited
+      c.self.inside.holds false) (sym (is_restated c))
+      (kept_restated c.self.inside.orders.items c.self.inside.queues c.self.inside.held c.self.inside.next
+      c.self.inside.awaited c.self.inside.holds c.self.inside.tidy c.self.invariant.0 c.args.number c.args.state c.in-Ok.at
+      c.index.result.now c.remove.new.self c.remove-2.new.self c.requires (there c)
+      (λ d. c.index.ensures ∙ get_or_default c.self.inside.orders.items c.in-Ok.at c.index.result.now d
+      (let t = there c in t.in_range)) c.remove.ensures.queues c.remove.ensures.room
+      c.remove-2.ensures.queues c.remove-2.ensures.room),
+  sums_less c.self.inside.orders.items c.self.inside.incoming c.count_out.new.self c.self.invariant.1
+      c.count_out.ensures.known c.in-Ok.at c.index.result.now (record c.index.result.now { state = c.args.state })
+      (let t = there c in t.in_range)
+      (λ d. c.index.ensures ∙ get_or_default c.self.inside.orders.items c.in-Ok.at c.index.result.now d
+      (let t = there c in t.in_range)) (queued_out c.args.state c.requires) c.count_out.ensures.sums,
+)
 
 pub returns-clause-orders : goal.returns-clause-orders
 returns-clause-orders c = ap (filter is_waiting) (is_restated c)
