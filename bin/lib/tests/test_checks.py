@@ -5,7 +5,7 @@ import unittest
 from unittest import mock
 
 from lib import desks, hostile, runs, stated
-from lib.checks import copies, documents, edges, handbooks, hostile_files, kills, migrations, refusals
+from lib.checks import copies, documents, edges, handbooks, hostile_files, kills, migrations, plants, refusals
 from lib.report import Report
 
 
@@ -284,6 +284,25 @@ class Refusals(unittest.TestCase):
             self.assertEqual((report.right, report.wrong), (2, 0))
             refusals.by_rt_try(2, 2, "crate", report)
             self.assertEqual((report.right, report.wrong), (2, 1))
+
+
+class Plants(unittest.TestCase):
+    """What rt plant prints is stood in for by these lines."""
+
+    def found(self, said):
+        report, given = quiet(), mock.Mock(crates=["low"], minutes=1)
+        with mock.patch.object(plants.kit, "planted", return_value=said):
+            plants.run(given, report)
+        return report
+
+    def test_what_is_proved_is_listed_below_the_counts(self):
+        report = self.found("    proves      src/a.rt:3 f: { None }\nplants crate=low proves=1 refused=2\n")
+        self.assertEqual((report.right, report.wrong), (1, 0))
+        proved = "    proves      src/a.rt:3 f: { None }"
+        self.assertEqual(report.found, ["low: plants crate=low proves=1 refused=2", proved])
+
+    def test_a_crate_that_is_not_judged_is_wrong(self):
+        self.assertEqual(self.found("rt: low is not proved\n").wrong, 1)
 
 
 if __name__ == "__main__":
