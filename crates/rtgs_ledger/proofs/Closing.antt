@@ -1,6 +1,6 @@
 -- What closing a day comes to, test by test, and its change.
 use Rattle.std.proofs.Common.{◌≡◌, ℕ, pos, Bool, true, false, ◌&&◌, cond, if◌then◌else◌, List, [], ◌∷◌, ◌++◌, map}
-use Rattle.std.proofs.Common.{filter, length, find, Ok, Err, Some, None, refl, sym, ap, subst, ◌∙◌}
+use Rattle.std.proofs.Common.{filter, length, find, Ok, Err, Some, None, refl, sym, ap, subst, ◌∙◌, inl, true≢false}
 use Rattle.std.specs.Prelude.{int_lt}
 use Rattle.std.proofs.lemmas.List.{length-map}
 use Rattle.std.specs.List.{AllByRecursion, flat_map}
@@ -8,6 +8,7 @@ use Rattle.rtgs_book.specs.declared.command.Command.TheVariants as command
 use Rattle.rtgs_book.specs.declared.answer.Answer.TheVariants as answer
 use Rattle.rtgs_book.specs.declared.answer.Known.TheVariants.{Nothing}
 use Rattle.rtgs_book.specs.declared.refusal.Refusal.TheVariants.{WrongPhase, WrongDate, Resolvable, Overdrawn}
+use Rattle.rtgs_book.specs.declared.refusal.Refusal.TheVariants.{OutOfMemory}
 use Rattle.rtgs_book.specs.declared.change.RowChange.TheVariants.{SetDay}
 use Rattle.rtgs_book.specs.declared.book.Book.{Book}
 use Rattle.rtgs_book.specs.declared.order.Order.{Order}
@@ -33,6 +34,7 @@ use Rattle.rtgs_ledger.proofs.Balances.{all_same}
 use Rattle.rtgs_ledger.proofs.Ordering.{is_shut, is_opened, is_day}
 use Rattle.rtgs_ledger.proofs.Rooms.{after-append, accounts_after-states}
 use Rattle.rtgs_ledger.specs.Closing.{IsClosable}
+use Rattle.rtgs_ledger.specs.Kept.{IsRefusedByItself}
 use Rattle.rtgs_queues.specs.Laws.{QueuesAreOfTheWaiting}
 use Rattle.rtgs_ledger.proofs.Reading.{numbers_are}
 use Rattle.rtgs_cores.specs.Following.{AreBalanced}
@@ -42,6 +44,10 @@ not_closed : (p : Phase) → is_cut_off p ≡ true → is_closed p ≡ false
 not_closed Closed e = absurd (cc)
 not_closed Open e = refl
 not_closed CutOff e = refl
+
+-- a close may lack memory before its last tests
+pub may_lack : (book : Book) (date : ℕ) → IsRefusedByItself book (command.CloseDay date) OutOfMemory
+may_lack book date = inl (refl, λ e. absurd (true≢false e))
 
 module _ (book : Book) (date : ℕ) (choice : Choice) (greatest : IsGreatest book choice) where
   pub repeats : (is_closed book.day.phase && is_date book.day.date date) ≡ true

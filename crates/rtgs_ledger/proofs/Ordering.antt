@@ -48,6 +48,7 @@ use Rattle.rtgs_book.specs.Step.{OwnStep}
 use Rattle.rtgs_book.specs.declared.account.Account.{Account}
 use Rattle.rtgs_book.specs.declared.limits.TheConstants.{LONGEST_QUEUE, LARGEST_NUMBER}
 use Rattle.rtgs_accounts.specs.Accounts.{code_of, is_of, with_balance}
+use Rattle.rtgs_ledger.specs.Kept.{WouldAct}
 use Rattle.rtgs_ledger.specs.Kinds.{answers_an_order}
 use Rattle.rtgs_ledger.specs.Ordering.{IsTaken, IsDueRefused, is_too_early, waiting_answer}
 use Rattle.rtgs_ledger.proofs.Balances.{other_int, moved, all_moved, all_same, balance-with_order}
@@ -149,6 +150,37 @@ module _ (book : Book) (sender reference receiver : List ℕ) (amount : ℕ) (du
                 apart = apart;
                 taken = taken few room;
               }
+
+module _ (book : Book) (o : Order) (taken : IsTaken book o) where
+  taken_at : (settles : Bool) → settles_at_once book o.sender o.amount ≡ settles → o.due ≡ None
+      → WouldAct book (command.Order o.sender o.reference o.receiver o.amount o.due)
+  unfolding takes
+  taken_at true settles direct = (
+    answer.Settled o.number (next_mark book),
+    settle (with_order book o) (has_number o.number),
+    sym (taken.taken ∙ ap (takes_due book o) direct ∙ rw settles refl),
+    refl,
+  )
+  taken_at false waits direct = (
+    answer.Queued o.number (length (queue (with_order book o) o.sender)),
+    with_order book o,
+    sym (taken.taken ∙ ap (takes_due book o) direct ∙ rw waits refl),
+    refl,
+  )
+
+  -- an order that is taken would act
+  pub taken_acts : WouldAct book (command.Order o.sender o.reference o.receiver o.amount o.due)
+  taken_acts = by o.due refl
+    where
+      by : (due : Option ℕ) → o.due ≡ due
+          → WouldAct book (command.Order o.sender o.reference o.receiver o.amount o.due)
+      by None direct = taken_at (settles_at_once book o.sender o.amount) refl direct
+      by (Some due) later = (
+        answer.Held o.number due,
+        with_order book o,
+        sym (taken.taken ∙ ap (takes_due book o) later),
+        refl,
+      )
 
 -- ---- its sender's queue, and all of its sender's orders that wait
 

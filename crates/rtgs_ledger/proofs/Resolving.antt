@@ -34,6 +34,7 @@ use Rattle.rtgs_choices.specs.Settling.{orders_taken, numbers_taken, state_rows,
 use Rattle.rtgs_choices.specs.Settling.{settling_rows}
 use Rattle.rtgs_book.specs.declared.account.Account.{Account}
 use Rattle.rtgs_accounts.specs.Accounts.{code_of, participant_of, is_of, with_balance, with_limit}
+use Rattle.rtgs_ledger.specs.Kept.{WouldAct}
 use Rattle.rtgs_ledger.specs.Resolving.{AreGreatest, after_orders, moved_rows}
 use Rattle.rtgs_ledger.proofs.Balances.{moved, all_moved}
 use Rattle.rtgs_ledger.proofs.Kept.{codes-participants, no_balance_set}
@@ -266,6 +267,27 @@ module _ (book : Book) (choice : Choice) (greatest : IsGreatest book choice) whe
       → OwnStep book Resolve (Ok answer.Nothing) book
   unfolding resolve first_of
   nothing opened none = (choice, greatest, rw (opened, none) refl)
+
+  settles : is_closed book.day.phase ≡ false → is_empty (chosen book choice) ≡ false
+      → OwnStep book Resolve (Ok (answer.Resolved (mark_of book (chosen book choice)).number
+      (mark_of book (chosen book choice)).count (mark_of book (chosen book choice)).value))
+      (settle book (is_chosen book choice))
+  unfolding resolve first_of
+  settles opened some = (choice, greatest, rw (opened, some) refl)
+
+  -- on a day that is not closed a resolution would act
+  pub would_act : is_closed book.day.phase ≡ false → WouldAct book Resolve
+  would_act opened = by (is_empty (chosen book choice)) refl
+    where
+      by : (none : Bool) → is_empty (chosen book choice) ≡ none → WouldAct book Resolve
+      by true none = (answer.Nothing, book, nothing opened none, refl)
+      by false some = (
+        answer.Resolved (mark_of book (chosen book choice)).number (mark_of book (chosen book choice)).count
+            (mark_of book (chosen book choice)).value,
+        settle book (is_chosen book choice),
+        settles opened some,
+        refl,
+      )
 
 no_elements : {X : Type 0} (xs : List X) → length xs ≡ 0 → is_empty xs ≡ true
 no_elements [] e = refl

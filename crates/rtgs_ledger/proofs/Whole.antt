@@ -1,6 +1,6 @@
 -- A book as its records and running balances, and a change of it, row by row: what the preparations are proved of.
 use Rattle.std.proofs.Common.{◌≡◌, ◌≢◌, List, [], ◌∷◌, map, filter, length, ◌+◌, pos, Ok, refl, sym, ap, subst, ◌∙◌}
-use Rattle.std.proofs.Common.{◌≤◌, arith}
+use Rattle.std.proofs.Common.{◌≤◌, true, inl, arith}
 use Rattle.std.specs.List.{AllByRecursion}
 use Rattle.std.proofs.lemmas.List.{length-map}
 use Rattle.rtgs_book.specs.declared.limits.TheConstants.{LARGEST_NUMBER}
@@ -19,9 +19,11 @@ use Rattle.rtgs_book.specs.declared.answer.Answer.{Answer}
 use Rattle.rtgs_book.specs.declared.answer.Answer.TheVariants.{Nothing, Repeated}
 use Rattle.rtgs_book.specs.declared.answer.Known.{Known}
 use Rattle.rtgs_book.specs.declared.refusal.Refusal.{Refusal}
+use Rattle.rtgs_book.specs.declared.refusal.Refusal.TheVariants.{OutOfMemory}
 use Rattle.rtgs_book.specs.Books.{is_waiting}
 use Rattle.rtgs_book.specs.Changes.{Leads, StartsEmpty, with_row}
 use Rattle.rtgs_book.specs.Laws.{CommandFits}
+use Rattle.rtgs_book.specs.Outcome.{is_done}
 use Rattle.rtgs_book.specs.Ranges.{Fits}
 use Rattle.rtgs_book.specs.Soundness.{IsSound}
 use Rattle.rtgs_book.specs.Step.{OwnStep}
@@ -168,6 +170,13 @@ module _ (book : Book) (r : Records) (core : Core) (of : IsOf book r core) where
       refusal
       → kept.IsRefusedByItself book command refusal
   to_refused command refusal refused = subst (λ b. kept.IsRefusedByItself b command refusal) of.same refused
+
+  -- memory is lacking for a change that would be prepared
+  pub to_lacking : (command : Command) (answer : Answer) (rows : List RowChange)
+      → IsPrepared (held_of (whole book r)) command answer rows → is_done (Ok answer) ≡ true
+      → kept.IsRefusedByItself book command OutOfMemory
+  to_lacking command answer rows p done =
+      to_refused command OutOfMemory (inl (refl, λ _. (answer, p.book, p.step, done)))
 
   pub to_prepared : (command : Command) (answer : Answer) (rows : List RowChange)
       → IsPrepared (held_of (whole book r)) command answer rows → kept.IsPreparedByItself book core command answer rows

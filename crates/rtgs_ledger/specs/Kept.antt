@@ -1,9 +1,10 @@
 -- What a command comes to in a ledger that has the core of a book.
-use Rattle.std.specs.Prelude.{true, ◌≡◌, ◌≢◌, ◌⊎◌, List, [], Ok, Err}
+use Rattle.std.specs.Prelude.{Bool, true, false, ◌≡◌, ◌≢◌, ◌⊎◌, List, [], Ok, Err}
 use Rattle.std.specs.List.{AllByRecursion}
 use Rattle.rtgs_book.specs.declared.book.Book.{Book}
 use Rattle.rtgs_book.specs.declared.change.RowChange.{RowChange}
 use Rattle.rtgs_book.specs.declared.command.Command.{Command}
+use Rattle.rtgs_book.specs.declared.command.Command.TheVariants.{CloseDay}
 use Rattle.rtgs_book.specs.declared.answer.Answer.{Answer}
 use Rattle.rtgs_book.specs.declared.answer.WholeAnswer.{WholeAnswer}
 use Rattle.rtgs_book.specs.declared.answer.Answer.TheVariants.{Nothing, Repeated}
@@ -12,6 +13,7 @@ use Rattle.rtgs_book.specs.declared.refusal.Refusal.{Refusal}
 use Rattle.rtgs_book.specs.declared.refusal.Refusal.TheVariants.{OutOfMemory}
 use Rattle.rtgs_book.specs.Changes.{Leads, StartsEmpty}
 use Rattle.rtgs_book.specs.Laws.{CommandFits}
+use Rattle.rtgs_book.specs.Outcome.{is_done}
 use Rattle.rtgs_book.specs.Session.{is_judged}
 use Rattle.rtgs_book.specs.Step.{OwnStep, Step}
 use Rattle.rtgs_cores.specs.declared.Core.{Core}
@@ -45,12 +47,26 @@ pub record IsPrepared (old : Book) (core : Core) (command : Command) (answer : W
   pub repeated : (known : Known) → answer.own ≡ Repeated known → rows ≡ []
   pub nothing : answer.own ≡ Nothing → rows ≡ []
 
--- the same of a command by itself
+-- by itself the command would act: it is neither refused nor was it done before
+abbrev pub WouldAct : Book → Command → Type 0
+WouldAct book command = (answer : Answer) × (new : Book) × OwnStep book command (Ok answer) new
+    × (is_done (Ok answer) ≡ true)
+
+abbrev pub closes_a_day : Command → Bool
+closes_a_day (CloseDay date) = true
+closes_a_day command = false
+
+-- Lack of memory hides no refusal: the command would act. The one exception closes a day, since it takes memory to find
+-- whether orders that are queued could be settled together, and further tests come after that.
+abbrev pub LacksMemory : Book → Command → Refusal → Type 0
+LacksMemory book command refusal = (refusal ≡ OutOfMemory) × (closes_a_day command ≡ false → WouldAct book command)
+
+-- by itself the command is refused by the first of its tests that holds, or for lack of memory
 abbrev pub IsRefusedByItself : Book → Command → Refusal → Type 0
-IsRefusedByItself book command refusal = (refusal ≡ OutOfMemory)
+IsRefusedByItself book command refusal = LacksMemory book command refusal
     ⊎ (OwnStep book command (Err refusal) book × (is_judged (Err refusal) ≡ true))
 
--- the refusal is that of the command's first test that holds, or lack of memory
+-- the same of the whole step, where what follows the command may lack memory too
 abbrev pub IsCommandRefused : Book → Command → Refusal → Type 0
-IsCommandRefused book command refusal = (refusal ≡ OutOfMemory)
+IsCommandRefused book command refusal = LacksMemory book command refusal
     ⊎ (Step book command (Err refusal) book × (is_judged (Err refusal) ≡ true))

@@ -98,7 +98,8 @@ impl Ledger {
 
     /// What the command is answered, and the row changes that it makes with what follows it, where this was found for
     /// it in a calm book. The core stays as it is, and every growth that the change needs is made here. A refusal is
-    /// that of the command's first test that holds, or lack of memory.
+    /// that of the command's first test that holds, or lack of memory. Memory is asked for behind the last test, but to
+    /// close a day: so its lack hides no other refusal.
     pub fn prepare(
         &mut self,
         command: &Command,
@@ -123,7 +124,7 @@ impl Ledger {
 
     // What the command by itself is answered, and the row changes that it makes. The core stays as it is, and every
     // growth that the change needs is made here. A refusal is that of the command's first test that holds, or lack of
-    // memory.
+    // memory, of which the same is true as of `prepare`.
     fn prepare_own(&mut self, command: &Command, found: &Found) -> Result<(Answer, Change), Refusal>
         ensures core { self.new.core ≡ self.old.core }
         ensures room { IfOk result (λ (answer, change). HasRoom self.new change) }

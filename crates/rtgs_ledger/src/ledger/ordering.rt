@@ -116,8 +116,9 @@ impl Ledger {
             → IfOk result (λ (answer, change). IsPreparedByItself book self.old.core
             (Command.Order order.now.sender order.now.reference order.now.receiver order.now.amount order.now.due)
             answer change) }
-        ensures refused { (book : Book) → IsCoreOf book self.old.core
-            → IfErr result (λ refusal. refusal ≡ Refusal.OutOfMemory) }
+        ensures refused { (book : Book) → IsCoreOf book self.old.core → IsTaken book order.now
+            → IfErr result (IsRefusedByItself book (Command.Order order.now.sender order.now.reference
+            order.now.receiver order.now.amount order.now.due)) }
     {
         laws::balances_are_small();
         if !self.records.counts_marks() {
@@ -143,11 +144,13 @@ impl Ledger {
         ensures frees { IfOk result (λ (answer, change). FreesOrders change) }
         ensures answered { IfOk result (λ (answer, change). CanAnswerByItself
             (Command.Order order.sender order.reference order.receiver order.amount order.due) answer change) }
+        ensures of_the_command { IfErr result (λ refusal. is_of_the_store refusal ≡ false) }
         ensures prepared { (book : Book) → IsCoreOf book self.old.core → IsTaken book order
             → settles_now book order.sender order.amount order.due ≡ false
             → IfOk result (λ (answer, change). IsPreparedByItself book self.old.core
             (Command.Order order.sender order.reference order.receiver order.amount order.due) answer change) }
-        ensures refused { IfErr result (λ refusal. refusal ≡ Refusal.OutOfMemory) }
+        ensures refused { (book : Book) → IsTaken book order → IfErr result (IsRefusedByItself book
+            (Command.Order order.sender order.reference order.receiver order.amount order.due)) }
     {
         queues_are_of_the_waiting();
         let place = self.records.orders.queue(&order.sender).len() as u64 + 1;

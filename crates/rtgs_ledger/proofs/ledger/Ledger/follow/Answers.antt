@@ -28,6 +28,12 @@ returns-clause-follows c book is told =
           (sym same) (c.in_ok-settled.ensures.prepared p.book now);
     }
 
+pub returns-in_err-own-clause-refused : goal.returns-in_err-own-clause-refused
+returns-in_err-own-clause-refused c book is told =
+    let here = subst (IsCoreOf book) (sym c.in_ok-between.ensures) is in
+    let told_on = err_from_is_err_and c.from_residual-in_err-own.result c.from_residual-in_err-own.ensures.1 in
+    rw (told_on.1, told_on.2) (⊎_elim (λ e. inl e.0) (λ r. inr (inl r.0)) (c.in_err-own.ensures.refused book here told))
+
 pub returns-in_err-settled-clause-refused : goal.returns-in_err-settled-clause-refused
 returns-in_err-settled-clause-refused c book is told =
     let here = subst (IsCoreOf book) (sym c.in_ok-between.ensures) is in
@@ -39,5 +45,5 @@ returns-in_err-settled-clause-refused c book is told =
     let now = subst (IsCoreOf p.book) (sym (c.adopt.ensures
     ∙ ap (λ (k : Core). core_after k c.in_ok-own.own) c.in_ok-own.ensures.core)) after in
     let told_on = err_from_is_err_and c.from_residual-in_err-settled.result c.from_residual-in_err-settled.ensures.1 in
-    rw (told_on.1, told_on.2) (⊎_elim (λ e. inl e)
+    rw (told_on.1, told_on.2) (⊎_elim (λ e. inl e.0)
     (λ r. inr (inr (p.book, c.in_ok-own.field-0-0, p.step, r.0))) (c.in_err-settled.ensures.refused p.book now))

@@ -1,17 +1,23 @@
 use Rattle.rtgs_book.specs.declared.command.Command.TheVariants as command
 use Rattle.std.proofs.Common.{◌≡◌, ◌∙◌, sym, nat_le, length, true, false, ◌&&◌, inr, refl, arith}
 use Rattle.std.proofs.lemmas.Bool.Decides.{nat_tests}
+use Rattle.std.proofs.lemmas.Result.{err_from_is_err_and}
 use Rattle.std.specs.Str.{bytes_eq}
 use Rattle.std.specs.List.{list_any}
 use Rattle.rtgs_book.specs.declared.answer.Known.TheVariants.{Nothing}
 use Rattle.rtgs_book.specs.declared.limits.TheConstants.{MOST_PARTICIPANTS}
+use Rattle.rtgs_book.specs.declared.book.Book.{Book}
+use Rattle.rtgs_book.specs.declared.refusal.Refusal.TheVariants.{OutOfMemory}
 use Rattle.rtgs_accounts.specs.Accounts.{has_key}
+use Rattle.rtgs_cores.specs.Cores.{IsCoreOf}
+use Rattle.rtgs_ledger.specs.Kept.{IsRefusedByItself}
 use Rattle.rtgs_ledger.proofs.Adding.{repeats, code_taken, key_taken, too_many, prepared_add}
 use Rattle.rtgs_ledger.proofs.Kept.{participant_at, participant_none, prepared_repeat, any-participants}
 use Rattle.rtgs_ledger.proofs.Kept.{length-participants}
-use Rattle.rtgs_ledger.proofs.Whole.{held_of, whole, is_of_book, to_refused, to_prepared}
+use Rattle.rtgs_ledger.proofs.Whole.{held_of, whole, is_of_book, to_lacking, to_refused, to_prepared}
 use Rattle.rtgs_ledger.proofs.ledger.Ledger.prepare_add.Goals as goal
 use Rattle.rtgs_ledger.proofs.ledger.Ledger.prepare_add.Goals.{else-eq-via-then-eq+else-eq-2, else-eq-via-else-eq}
+use Rattle.rtgs_ledger.proofs.ledger.Ledger.prepare_add.Goals.{After-len}
 use Rattle.rtgs_lists.proofs.Bools.{and_left_false, and_right_false, and_true}
 
 pub returns-then-eq-2-clause-prepared : goal.returns-then-eq-2-clause-prepared
@@ -74,6 +80,30 @@ returns-then-len-ge-MOST_PARTICIPANTS-clause-refused c book is =
           (rw (length-participants r.accounts.accounts) many),
       refl,
     ))
+
+-- a participant that passed the tests would be added
+lacking : (c : After-len) (book : Book) → IsCoreOf book c.args.self.now.core
+    → nat_le MOST_PARTICIPANTS (length c.self.inside.records.accounts.accounts) ≡ false
+    → IsRefusedByItself book (command.Add c.args.code c.args.name c.args.key) OutOfMemory
+lacking c book is few =
+    let of = is_of_book book c.self.inside.records c.args.self.now c.self.view_is is in
+    let r = whole book c.self.inside.records in
+    let absent = sym c.get.ensures ∙ c.in_default.is in
+    let free : list_any (has_key c.args.key) r.accounts.accounts ≡ false = sym c.has_key.ensures ∙ c.if-has_key.false in
+    to_lacking book c.self.inside.records c.args.self.now.core of _ _ _
+    (prepared_add r of.kept c.args.code c.args.name c.args.key absent free few) refl
+
+pub returns-in_err-rows-clause-refused : goal.returns-in_err-rows-clause-refused
+returns-in_err-rows-clause-refused c book is =
+    let told = err_from_is_err_and c.from_residual.result c.from_residual.ensures.1 in
+    rw (told.1, told.2) (lacking (goal.at.returns-in_err-rows-clause-refused c).After-len book is
+    (grind (arith, nat_tests, c.len.ensures, c.if-len-ge-MOST_PARTICIPANTS.false)))
+
+pub returns-in_err-reserve-clause-refused : goal.returns-in_err-reserve-clause-refused
+returns-in_err-reserve-clause-refused c book is =
+    let told = err_from_is_err_and c.from_residual-in_err-reserve.result c.from_residual-in_err-reserve.ensures.1 in
+    rw (told.1, told.2) (lacking (goal.at.returns-in_err-reserve-clause-refused c).After-len book is
+    (grind (arith, nat_tests, c.len.ensures, c.if-len-ge-MOST_PARTICIPANTS.false)))
 
 pub returns-clause-prepared : goal.returns-clause-prepared
 returns-clause-prepared c book is =

@@ -6,7 +6,7 @@ use Rattle.rtgs_book.specs.Commands.{is_date}
 use Rattle.rtgs_book.specs.declared.book.Book.{Book}
 use Rattle.rtgs_ledger.specs.Resolving.{AreGreatest}
 use Rattle.rtgs_ledger.proofs.Closing.{repeats, wrong_phase, wrong_date, resolvable, not_cut_off_now, cut_off_now}
-use Rattle.rtgs_ledger.proofs.Closing.{cut_off_today}
+use Rattle.rtgs_ledger.proofs.Closing.{cut_off_today, may_lack}
 use Rattle.rtgs_ledger.proofs.CuttingOff.{other_date, same_date}
 use Rattle.rtgs_ledger.proofs.Kept.{prepared_repeat}
 use Rattle.rtgs_ledger.proofs.Resolving.{none_chosen, some_chosen}
@@ -52,6 +52,9 @@ returns-then-ne-clause-refused c book is =
           (cut_off_now r of.kept c.in-Some.today day) other,
       refl,
     ))
+
+pub returns-in_default-chosen_orders-clause-refused : goal.returns-in_default-chosen_orders-clause-refused
+returns-in_default-chosen_orders-clause-refused c book is = may_lack book c.args.date
 
 pub returns-then-not-is_empty-clause-refused : goal.returns-then-not-is_empty-clause-refused
 returns-then-not-is_empty-clause-refused c book is =

@@ -1,5 +1,6 @@
 use Rattle.rtgs_book.specs.declared.command.Command.TheVariants as command
 use Rattle.std.proofs.Common.{◌≡◌, ◌∙◌, ◌∷◌, [], sym, ap, subst, filter, length, inr, refl}
+use Rattle.std.proofs.lemmas.Result.{err_from_is_err_and}
 use Rattle.std.specs.List.{flat_map}
 use Rattle.rtgs_book.specs.declared.account.Account.{Account}
 use Rattle.rtgs_book.specs.declared.book.Book.{Book}
@@ -13,6 +14,7 @@ use Rattle.rtgs_accounts.specs.Accounts.{code_of}
 use Rattle.rtgs_ledger.specs.Closing.{IsClosable}
 use Rattle.rtgs_records.specs.Held as seen
 use Rattle.rtgs_ledger.proofs.Closing.{overdraws, nobody_below, prepared_closing, all_queued, numbers_queued}
+use Rattle.rtgs_ledger.proofs.Closing.{may_lack}
 use Rattle.rtgs_ledger.proofs.Rooms.{room_for_states}
 use Rattle.rtgs_ledger.proofs.Whole.{held_of, book_of, whole, is_of_book, to_refused, to_prepared}
 use Rattle.rtgs_ledger.proofs.ledger.Ledger.prepare_closing.Goals as goal
@@ -28,6 +30,16 @@ returns-in-Some-clause-refused c book is can =
           (sym c.first_overdrawn.ensures ∙ c.in-Some.is),
       refl,
     )))
+
+pub returns-in_err-numbers-clause-refused : goal.returns-in_err-numbers-clause-refused
+returns-in_err-numbers-clause-refused c book is can =
+    let told = err_from_is_err_and c.from_residual.result c.from_residual.ensures.1 in
+    rw (told.1, told.2) (may_lack book c.args.date)
+
+pub returns-in_err-rows-clause-refused : goal.returns-in_err-rows-clause-refused
+returns-in_err-rows-clause-refused c book is can =
+    let told = err_from_is_err_and c.from_residual-in_err-rows.result c.from_residual-in_err-rows.ensures.1 in
+    rw (told.1, told.2) (may_lack book c.args.date)
 
 pub returns-clause-room : goal.returns-clause-room
 returns-clause-room c = rw (c.from_vec.ensures, c.in_ok-rows.ensures)

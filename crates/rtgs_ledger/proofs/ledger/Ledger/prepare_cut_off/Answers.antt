@@ -1,11 +1,12 @@
 use Rattle.rtgs_book.specs.declared.command.Command.TheVariants as command
 use Rattle.std.proofs.Common.{◌≡◌, ◌∙◌, false, sym, ap, inr, refl}
+use Rattle.std.proofs.lemmas.Result.{err_from_is_err_and}
 use Rattle.rtgs_book.specs.declared.answer.Known.TheVariants.{Nothing}
 use Rattle.rtgs_book.specs.Commands.{is_date}
 use Rattle.rtgs_ledger.proofs.Kept.{prepared_repeat}
 use Rattle.rtgs_ledger.proofs.Ordering.{shut_now, open_now, is_today}
 use Rattle.rtgs_ledger.proofs.CuttingOff.{other_date, same_date, repeats, wrong_phase, wrong_date, prepared_cut_off}
-use Rattle.rtgs_ledger.proofs.Whole.{held_of, book_of, whole, is_of_book, to_refused, to_prepared}
+use Rattle.rtgs_ledger.proofs.Whole.{held_of, book_of, whole, is_of_book, to_lacking, to_refused, to_prepared}
 use Rattle.rtgs_ledger.proofs.ledger.Ledger.prepare_cut_off.Goals as goal
 
 pub returns-then-is_cut_off_on-clause-prepared : goal.returns-then-is_cut_off_on-clause-prepared
@@ -41,6 +42,18 @@ returns-then-ne-clause-refused c book is =
           (open_now (whole book r) of.kept c.in-Some.today day) other,
       refl,
     ))
+
+pub returns-in_err-rows-clause-refused : goal.returns-in_err-rows-clause-refused
+returns-in_err-rows-clause-refused c book is =
+    let r = c.self.inside.records in
+    let of = is_of_book book r c.args.self.now c.self.view_is is in
+    let day = sym c.open_date.ensures ∙ c.in-Some.is in
+    let told = err_from_is_err_and c.from_residual.result c.from_residual.ensures.1 in
+    rw (told.1, told.2) (to_lacking book r c.args.self.now.core of _ _ _
+    (prepared_cut_off (held_of (whole book r)) of.kept c.args.date
+    (sym c.is_cut_off_on.ensures ∙ c.if-is_cut_off_on.false) (open_now (whole book r) of.kept c.in-Some.today day)
+    (ap (λ d. is_date d c.args.date) (is_today (whole book r) of.kept c.in-Some.today day)
+    ∙ same_date c.in-Some.today c.args.date (sym c.ne.ensures ∙ c.if-ne.false))) refl)
 
 pub returns-clause-prepared : goal.returns-clause-prepared
 returns-clause-prepared c book is =

@@ -1,15 +1,20 @@
 use Rattle.rtgs_book.specs.declared.command.Command.TheVariants as command
 use Rattle.std.proofs.Common.{◌≡◌, ◌∙◌, sym, ap, map, filter, inr, refl}
+use Rattle.std.proofs.lemmas.Result.{err_from_is_err_and}
 use Rattle.rtgs_book.specs.declared.book.Book.{Book}
 use Rattle.rtgs_book.specs.declared.order.Order.{Order}
 use Rattle.rtgs_book.specs.Commands.{is_due}
 use Rattle.rtgs_book.specs.declared.answer.Known.TheVariants.{Nothing}
+use Rattle.rtgs_book.specs.declared.refusal.Refusal.TheVariants.{OutOfMemory}
+use Rattle.rtgs_cores.specs.Cores.{IsCoreOf}
+use Rattle.rtgs_ledger.specs.Kept.{IsRefusedByItself}
 use Rattle.rtgs_ledger.proofs.Following.{opening_frees}
 use Rattle.rtgs_ledger.proofs.Kept.{prepared_repeat}
 use Rattle.rtgs_ledger.proofs.Opening.{repeats, wrong_phase, wrong_date, weekend, due_among, prepared_open}
 use Rattle.rtgs_ledger.proofs.Rooms.{room_to_open}
-use Rattle.rtgs_ledger.proofs.Whole.{held_of, book_of, whole, is_of_book, to_refused, to_prepared}
+use Rattle.rtgs_ledger.proofs.Whole.{held_of, book_of, whole, is_of_book, to_lacking, to_refused, to_prepared}
 use Rattle.rtgs_ledger.proofs.ledger.Ledger.prepare_open_day.Goals as goal
+use Rattle.rtgs_ledger.proofs.ledger.Ledger.prepare_open_day.Goals.{After-balance_after_entering}
 
 pub returns-then-is_open_on-clause-prepared : goal.returns-then-is_open_on-clause-prepared
 returns-then-is_open_on-clause-prepared c book is =
@@ -51,6 +56,28 @@ returns-then-is_weekend-clause-refused c book is =
           (sym c.is_before.ensures ∙ c.if-not-is_before.false) (sym c.is_weekend.ensures ∙ c.if-is_weekend.true),
       refl,
     ))
+
+-- where the tests are passed, the day would be opened
+lacking : (c : After-balance_after_entering) (book : Book) → IsCoreOf book c.args.self.now.core
+    → IsRefusedByItself book (command.OpenDay c.args.date c.args.automatic) OutOfMemory
+lacking c book is =
+    let r = c.self.inside.records in
+    let of = is_of_book book r c.args.self.now c.self.view_is is in
+    to_lacking book r c.args.self.now.core of _ _ _
+    (prepared_open (held_of (whole book r)) of.kept c.args.date c.args.automatic c.balance_after_entering.ensures
+    c.numbers_lead_to_orders.ensures
+    (sym c.is_open_on.ensures ∙ c.if-is_open_on.false) (sym c.is_closed.ensures ∙ c.if-not-is_closed.false)
+    (sym c.is_before.ensures ∙ c.if-not-is_before.false) (sym c.is_weekend.ensures ∙ c.if-is_weekend.false)) refl
+
+pub returns-in_err-numbers-clause-refused : goal.returns-in_err-numbers-clause-refused
+returns-in_err-numbers-clause-refused c book is =
+    let told = err_from_is_err_and c.from_residual.result c.from_residual.ensures.1 in
+    rw (told.1, told.2) (lacking (goal.at.returns-in_err-numbers-clause-refused c).After-balance_after_entering book is)
+
+pub returns-in_err-rows-clause-refused : goal.returns-in_err-rows-clause-refused
+returns-in_err-rows-clause-refused c book is =
+    let told = err_from_is_err_and c.from_residual-in_err-rows.result c.from_residual-in_err-rows.ensures.1 in
+    rw (told.1, told.2) (lacking (goal.at.returns-in_err-rows-clause-refused c).After-balance_after_entering book is)
 
 pub returns-clause-room : goal.returns-clause-room
 returns-clause-room c = rw (c.from_vec.ensures, c.in_ok-rows.ensures)

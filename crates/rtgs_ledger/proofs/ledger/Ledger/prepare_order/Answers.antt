@@ -9,6 +9,8 @@ use Rattle.rtgs_book.specs.Commands.{settles_at_once, settles_now}
 use Rattle.rtgs_book.specs.Lookup.{order_named}
 use Rattle.rtgs_book.specs.Queue.{waiting}
 use Rattle.rtgs_accounts.specs.Accounts.{code_of, is_of}
+use Rattle.rtgs_cores.specs.Cores.{IsCoreOf}
+use Rattle.rtgs_ledger.specs.Ordering.{IsTaken}
 use Rattle.rtgs_ledger.proofs.Reading.{numbers_are}
 use Rattle.rtgs_ledger.proofs.Kept.{is_known, is_unknown, prepared_repeat}
 use Rattle.rtgs_ledger.proofs.Ordering.{unknown, repeats, reference_used, not_open, unknown_receiver, same_party}
@@ -17,6 +19,7 @@ use Rattle.rtgs_ledger.proofs.Ordering.{due_refused, too_early_is, none_is, wait
 use Rattle.rtgs_book.specs.declared.book.Book.{Book}
 use Rattle.rtgs_ledger.proofs.Whole.{held_of, book_of, whole, is_of_book, to_refused, to_prepared}
 use Rattle.rtgs_ledger.proofs.ledger.Ledger.prepare_order.Goals as goal
+use Rattle.rtgs_ledger.proofs.ledger.Ledger.prepare_order.Goals.{After-count, After-settles_now}
 use Rattle.rtgs_lists.proofs.Bools.{and_right_false}
 use Rattle.std.proofs.lemmas.Bool.{and_parts}
 use Rattle.std.proofs.Common.{is_none, None}
@@ -162,42 +165,79 @@ returns-then-next-clause-refused c book is found =
       refl,
     ))
 
-pub returns-then-settles_now-clause-prepared : goal.returns-then-settles_now-clause-prepared
+-- whether it settles at once, as the definition says
+settles_is_told : (c : After-settles_now) (book : Book) → IsCoreOf book c.args.self.now.core
+    → settles_now (book_of (whole book c.self.inside.records)) c.args.sender c.args.amount c.args.due
+    ≡ c.settles_now.result
+settles_is_told c book is =
+    let of = is_of_book book c.self.inside.records c.args.self.now c.self.view_is is in
+    let r = whole book c.self.inside.records in
+    let numbers = numbers_are c.queues_are_of_the_waiting.ensures book.orders c.self.inside.records.orders.orders
+    (code_of c.in-Some.debtor) of.waiting in
+    ap (λ b. is_none c.args.due && b) (settles_is r of.kept c.args.sender c.in-Some.debtor c.args.amount
+    (sym c.get.ensures ∙ c.in-Some.is))
+    ∙ (rw numbers at (sym c.settles_now.ensures.value))
+
+-- the order that passed the tests, where it settles at once or its sender may have one more that waits
+taken : (c : After-settles_now) (book : Book) → IsCoreOf book c.args.self.now.core
+    → c.args.found ≡ order_named book c.args.sender c.args.reference
+    → (not (settles_now (book_of (whole book c.self.inside.records)) c.args.sender c.args.amount c.args.due)
+    && nat_le LONGEST_QUEUE (length (waiting (book_of (whole book c.self.inside.records)) c.args.sender))) ≡ false
+    → IsTaken book c.next_order-order.result
 unfolding order_named
-returns-then-settles_now-clause-prepared c book is found =
+taken c book is found room =
     let of = is_of_book book c.self.inside.records c.args.self.now c.self.view_is is in
     let r = whole book c.self.inside.records in
     let found_here : c.args.found ≡ order_named (book_of r) c.args.sender c.args.reference = found
     ∙ ap (λ (b : Book). order_named b c.args.sender c.args.reference) (sym of.same) in
-    let from = sym c.get.ensures ∙ c.in-Some.is in
-    let to = sym c.get-2.ensures ∙ c.in-Some-get.is in
     let few : nat_le LARGEST_NUMBER (length book.orders)
     ≡ false = (let next = c.next.ensures ∙ of.orders in let test = c.if-next.false in
     grind (arith, nat_tests, next, test)) in
-    let numbers = numbers_are c.queues_are_of_the_waiting.ensures book.orders c.self.inside.records.orders.orders
-    (code_of c.in-Some.debtor) of.waiting in
-    let both = and_parts (is_none c.args.due) _ (sym c.settles_now.ensures.value ∙ c.if-settles_now.true) in
-    let settles = settles_is r of.kept c.args.sender c.in-Some.debtor c.args.amount from ∙ (rw numbers at both.1) in
+    order_taken book c.self.inside.records c.args.self.now.core of c.args.sender c.args.reference
+    c.args.receiver c.args.amount c.in-Some-open_date.date c.args.due c.in-Some.debtor c.in-Some-get.creditor
+    c.next_order-order.result
+    (rw c.date_of-order_date.ensures at c.next_order-order.ensures) (sym c.get.ensures ∙ c.in-Some.is)
+    (sym found_here ∙ c.in_default-found.is)
+    (sym c.open_date.ensures ∙ c.in-Some-open_date.is) (sym c.get-2.ensures ∙ c.in-Some-get.is)
+    (sym c.eq.ensures ∙ c.if-eq.false)
+    (too_early_is (book_of r) c.args.due _ c.in_ok-check_due.ensures.passed.0)
+    c.in_ok-check_due.ensures.passed.1 few c.settles_now.ensures.fits room
+
+pub returns-then-settles_now-clause-prepared : goal.returns-then-settles_now-clause-prepared
+returns-then-settles_now-clause-prepared c book is found =
+    let of = is_of_book book c.self.inside.records c.args.self.now c.self.view_is is in
+    let here = (goal.at.returns-then-settles_now-clause-prepared c).After-settles_now in
+    let settles = settles_is_told here book is ∙ c.if-settles_now.true in
+    let both = and_parts (is_none c.args.due) _ settles in
     let direct = none_is c.args.due both.0 in
     let o = c.next_order-order.result in
-    let taken = order_taken book c.self.inside.records c.args.self.now.core of c.args.sender c.args.reference
-    c.args.receiver c.args.amount c.in-Some-open_date.date c.args.due c.in-Some.debtor c.in-Some-get.creditor o
-    (rw c.date_of-order_date.ensures at c.next_order-order.ensures) from (sym found_here ∙ c.in_default-found.is)
-    (sym c.open_date.ensures ∙ c.in-Some-open_date.is) to (sym c.eq.ensures ∙ c.if-eq.false)
-    (too_early_is (book_of r) c.args.due _ c.in_ok-check_due.ensures.passed.0)
-    c.in_ok-check_due.ensures.passed.1 few
-    c.settles_now.ensures.fits (rw (both.0, settles) refl) in
     let settles_it : settles_at_once book o.sender o.amount ≡ true =
     rw c.next_order-order.ensures (subst (λ (b : Book). settles_at_once b c.args.sender c.args.amount
-    ≡ true) of.same settles)
+    ≡ true) of.same both.1)
     in
     let from_it : find (is_of o.sender) c.args.self.now.core.accounts ≡ Some c.in-Some.debtor =
-    rw (c.next_order-order.ensures, ← of.accounts) from in
+    rw (c.next_order-order.ensures, ← of.accounts) (sym c.get.ensures ∙ c.in-Some.is) in
     let to_it : find (is_of o.receiver) c.args.self.now.core.accounts ≡ Some c.in-Some-get.creditor =
-    rw (c.next_order-order.ensures, ← of.accounts) to in
+    rw (c.next_order-order.ensures, ← of.accounts) (sym c.get-2.ensures ∙ c.in-Some-get.is) in
     let direct_it : o.due ≡ None = rw c.next_order-order.ensures direct in
-    rw c.next_order-order.ensures at (c.prepare_settled.ensures.prepared book is taken direct_it settles_it from_it
-    to_it)
+    rw c.next_order-order.ensures at (c.prepare_settled.ensures.prepared book is
+    (taken here book is found (rw settles refl)) direct_it settles_it from_it to_it)
+
+pub returns-then-settles_now-clause-refused : goal.returns-then-settles_now-clause-refused
+returns-then-settles_now-clause-refused c book is found =
+    let here = (goal.at.returns-then-settles_now-clause-refused c).After-settles_now in
+    let settles = settles_is_told here book is ∙ c.if-settles_now.true in
+    rw c.next_order-order.ensures at (c.prepare_settled.ensures.refused book is
+    (taken here book is found (rw settles refl)))
+
+-- all of its sender's orders that wait are counted
+count_is_told : (c : After-count) (book : Book) → IsCoreOf book c.args.self.now.core
+    → c.count.result ≡ length (waiting (book_of (whole book c.self.inside.records)) c.args.sender)
+count_is_told c book is =
+    let of = is_of_book book c.self.inside.records c.args.self.now c.self.view_is is in
+    c.count.ensures
+    ∙ waiting_all (book_of (whole book c.self.inside.records)) c.self.inside.records.orders.orders c.args.sender
+    of.waiting
 
 pub returns-then-count-ge-LONGEST_QUEUE-clause-refused : goal.returns-then-count-ge-LONGEST_QUEUE-clause-refused
 unfolding order_named
@@ -214,13 +254,9 @@ returns-then-count-ge-LONGEST_QUEUE-clause-refused c book is found =
     let few : nat_le LARGEST_NUMBER (length r.orders)
     ≡ false = (let next = c.next.ensures ∙ of.orders in let test = c.if-next.false in grind
     (arith, nat_tests, next, test)) in
-    let numbers = numbers_are c.queues_are_of_the_waiting.ensures book.orders c.self.inside.records.orders.orders
-    (code_of c.in-Some.debtor) of.waiting in
-    let waits = ap (λ b. is_none c.args.due && b) (settles_is r of.kept c.args.sender c.in-Some.debtor c.args.amount
-    from)
-    ∙ (rw numbers at (sym c.settles_now.ensures.value ∙ c.if-settles_now.false)) in
-    let long : c.count.result ≡ length (waiting (book_of r) c.args.sender) = c.count.ensures
-    ∙ waiting_all (book_of r) c.self.inside.records.orders.orders c.args.sender of.waiting in
+    let here = goal.at.returns-then-count-ge-LONGEST_QUEUE-clause-refused c in
+    let waits = settles_is_told here.After-settles_now book is ∙ c.if-settles_now.false in
+    let long = count_is_told here.After-count book is in
     let full : nat_le LONGEST_QUEUE (length (waiting (book_of r) c.args.sender))
     ≡ true = grind (arith, nat_tests, long, c.if-count-ge-LONGEST_QUEUE.true) in
     to_refused book c.self.inside.records c.args.self.now.core of
@@ -234,37 +270,28 @@ returns-then-count-ge-LONGEST_QUEUE-clause-refused c book is found =
     ))
 
 pub returns-clause-prepared : goal.returns-clause-prepared
-unfolding order_named
 returns-clause-prepared c book is found =
     let of = is_of_book book c.self.inside.records c.args.self.now c.self.view_is is in
     let r = whole book c.self.inside.records in
-    let found_here : c.args.found ≡ order_named (book_of r) c.args.sender c.args.reference = found
-    ∙ ap (λ (b : Book). order_named b c.args.sender c.args.reference) (sym of.same) in
-    let from = sym c.get.ensures ∙ c.in-Some.is in
-    let to = sym c.get-2.ensures ∙ c.in-Some-get.is in
-    let few : nat_le LARGEST_NUMBER (length book.orders)
-    ≡ false = (let next = c.next.ensures ∙ of.orders in let test = c.if-next.false in
-    grind (arith, nat_tests, next, test)) in
-    let numbers = numbers_are c.queues_are_of_the_waiting.ensures book.orders c.self.inside.records.orders.orders
-    (code_of c.in-Some.debtor) of.waiting in
-    let waits = ap (λ b. is_none c.args.due && b) (settles_is r of.kept c.args.sender c.in-Some.debtor c.args.amount
-    from)
-    ∙ (rw numbers at (sym c.settles_now.ensures.value ∙ c.if-settles_now.false)) in
-    let long : c.count.result ≡ length (waiting (book_of r) c.args.sender) = c.count.ensures
-    ∙ waiting_all (book_of r) c.self.inside.records.orders.orders c.args.sender of.waiting in
+    let here = goal.at.returns-clause-prepared c in
+    let waits = settles_is_told here.After-settles_now book is ∙ c.if-settles_now.false in
+    let long = count_is_told here.After-count book is in
     let short : nat_le LONGEST_QUEUE (length (waiting (book_of r) c.args.sender))
     ≡ false = grind (arith, nat_tests, long, c.if-count-ge-LONGEST_QUEUE.false) in
     let o = c.next_order-order.result in
-    let taken = order_taken book c.self.inside.records c.args.self.now.core of c.args.sender c.args.reference
-    c.args.receiver c.args.amount c.in-Some-open_date.date c.args.due c.in-Some.debtor c.in-Some-get.creditor o
-    (rw c.date_of-order_date.ensures at c.next_order-order.ensures) from (sym found_here ∙ c.in_default-found.is)
-    (sym c.open_date.ensures ∙ c.in-Some-open_date.is) to (sym c.eq.ensures ∙ c.if-eq.false)
-    (too_early_is (book_of r) c.args.due _ c.in_ok-check_due.ensures.passed.0)
-    c.in_ok-check_due.ensures.passed.1 few
-    c.settles_now.ensures.fits (and_right_false (not (settles_now (book_of r) c.args.sender c.args.amount c.args.due))
-    (nat_le LONGEST_QUEUE (length (waiting (book_of r) c.args.sender))) short) in
     let waits_it : settles_now book o.sender o.amount o.due ≡ false =
     rw c.next_order-order.ensures (subst (λ (b : Book). settles_now b c.args.sender c.args.amount c.args.due
     ≡ false) of.same waits)
     in
-    rw c.next_order-order.ensures at (c.prepare_waiting.ensures.prepared book is taken waits_it)
+    rw c.next_order-order.ensures at (c.prepare_waiting.ensures.prepared book is
+    (taken here.After-settles_now book is found (and_right_false _ _ short)) waits_it)
+
+pub returns-clause-refused : goal.returns-clause-refused
+returns-clause-refused c book is found =
+    let r = whole book c.self.inside.records in
+    let here = goal.at.returns-clause-refused c in
+    let long = count_is_told here.After-count book is in
+    let short : nat_le LONGEST_QUEUE (length (waiting (book_of r) c.args.sender))
+    ≡ false = grind (arith, nat_tests, long, c.if-count-ge-LONGEST_QUEUE.false) in
+    rw c.next_order-order.ensures at (c.prepare_waiting.ensures.refused book
+    (taken here.After-settles_now book is found (and_right_false _ _ short)))

@@ -1,19 +1,26 @@
 use Rattle.rtgs_book.specs.declared.command.Command.TheVariants as command
-use Rattle.std.proofs.Common.{◌≡◌, ◌∙◌, ◌+ℤ◌, sym, ap, nat_le, length, true, false, ◌&&◌, inr, refl, arith}
+use Rattle.std.proofs.Common.{◌≡◌, ◌∙◌, ◌+◌, ◌+ℤ◌, sym, ap, nat_le, [], ◌∷◌, length, true, false, ◌&&◌}
+use Rattle.std.proofs.Common.{inr, refl, arith}
 use Rattle.std.proofs.lemmas.Int.{ints}
 use Rattle.std.proofs.lemmas.Bool.Decides.{nat_tests}
+use Rattle.std.proofs.lemmas.Result.{err_from_is_err_and}
 use Rattle.std.specs.Str.{bytes_eq}
 use Rattle.std.specs.Ordering.{int_eq}
+use Rattle.rtgs_book.specs.declared.answer.Answer.TheVariants.{Posted}
 use Rattle.rtgs_book.specs.declared.answer.Known.TheVariants as known
+use Rattle.rtgs_book.specs.declared.change.RowChange.TheVariants.{AddPosting, SetBalance}
 use Rattle.rtgs_book.specs.declared.limits.TheConstants.{LARGEST_NUMBER}
 use Rattle.rtgs_book.specs.Lookup.{posting_named}
 use Rattle.rtgs_ledger.proofs.Posting.{unknown, repeats, reference_used, numbers_used_up, total_too_large, no_cover}
-use Rattle.rtgs_ledger.proofs.Posting.{prepared_post}
+use Rattle.rtgs_ledger.proofs.Posting.{next_posting, prepared_post}
 use Rattle.rtgs_ledger.proofs.Kept.{is_known, is_unknown, balance_at, balance_fits, floor_at, total_at, prepared_repeat}
 use Rattle.rtgs_book.specs.declared.book.Book.{Book}
-use Rattle.rtgs_ledger.proofs.Whole.{held_of, book_of, whole, is_of_book, to_refused, to_prepared}
+use Rattle.rtgs_cores.specs.Cores.{IsCoreOf}
+use Rattle.rtgs_ledger.proofs.Whole.{IsPrepared, held_of, book_of, whole, is_of_book}
+use Rattle.rtgs_ledger.proofs.Whole.{to_lacking, to_refused, to_prepared}
 use Rattle.rtgs_ledger.proofs.ledger.Ledger.prepare_post.Goals as goal
 use Rattle.rtgs_ledger.proofs.ledger.Ledger.prepare_post.Goals.{else-eq-via-then-eq+else-eq-2, else-eq-via-else-eq}
+use Rattle.rtgs_ledger.proofs.ledger.Ledger.prepare_post.Goals.{After-is_uncovered}
 use Rattle.rtgs_lists.proofs.Bools.{and_left_false, and_right_false, and_true}
 
 pub returns-in_default-clause-refused : goal.returns-in_default-clause-refused
@@ -132,9 +139,15 @@ returns-then-is_uncovered-clause-refused c book is found =
       refl,
     ))
 
-pub returns-clause-prepared : goal.returns-clause-prepared
+-- what is prepared for a posting that passed the tests
+posted : (c : After-is_uncovered) (book : Book) → IsCoreOf book c.args.self.now.core
+    → c.args.found ≡ posting_named book c.args.reference → c.is_uncovered.result ≡ false
+    → IsPrepared (held_of (whole book c.self.inside.records))
+    (command.Post c.args.code c.args.reference c.args.cents) (Posted (length book.postings + 1))
+    (AddPosting (next_posting (book_of (whole book c.self.inside.records)) c.args.code c.args.reference c.args.cents)
+    ∷ SetBalance c.args.code c.moved-balance.result ∷ [])
 unfolding posting_named
-returns-clause-prepared c book is found =
+posted c book is found enough =
     let of = is_of_book book c.self.inside.records c.args.self.now c.self.view_is is in
     let r = whole book c.self.inside.records in
     let found_here : c.args.found ≡ posting_named (book_of r) c.args.reference = found
@@ -153,9 +166,23 @@ returns-clause-prepared c book is found =
       balance_at r of.kept c.args.code c.in-Some.account account_found,
       ← floor_at r of.kept c.args.code c.in-Some.account account_found,
     ) at
-    (sym c.is_uncovered.ensures ∙ c.if-is_uncovered.false) in
-    rw (c.from_vec.ensures, c.in_ok-rows.ensures.items, of.postings) (to_prepared book c.self.inside.records
-    c.args.self.now.core of _ _ _ (prepared_post r of.kept c.args.code c.args.reference c.args.cents
+    (sym c.is_uncovered.ensures ∙ enough) in
+    prepared_post r of.kept c.args.code c.args.reference c.args.cents
     c.in-Some.account account_found c.moved-balance.result sum
     (c.cents.ensures.not_zero, c.cents.ensures.in_range)
-    (sym found_here ∙ c.in_default-found.is) few small covered))
+    (sym found_here ∙ c.in_default-found.is) few small covered
+
+pub returns-in_err-rows-clause-refused : goal.returns-in_err-rows-clause-refused
+returns-in_err-rows-clause-refused c book is found =
+    let of = is_of_book book c.self.inside.records c.args.self.now c.self.view_is is in
+    let told = err_from_is_err_and c.from_residual.result c.from_residual.ensures.1 in
+    rw (told.1, told.2) (to_lacking book c.self.inside.records c.args.self.now.core of _ _ _
+    (posted (goal.at.returns-in_err-rows-clause-refused c).After-is_uncovered book is found c.if-is_uncovered.false)
+    refl)
+
+pub returns-clause-prepared : goal.returns-clause-prepared
+returns-clause-prepared c book is found =
+    let of = is_of_book book c.self.inside.records c.args.self.now c.self.view_is is in
+    rw (c.from_vec.ensures, c.in_ok-rows.ensures.items, of.postings) (to_prepared book c.self.inside.records
+    c.args.self.now.core of _ _ _
+    (posted (goal.at.returns-clause-prepared c).After-is_uncovered book is found c.if-is_uncovered.false))

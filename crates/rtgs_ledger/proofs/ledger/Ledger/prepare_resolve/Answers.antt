@@ -5,13 +5,15 @@ use Rattle.std.proofs.lemmas.Result.{IfErr-weaker}
 use Rattle.rtgs_book.specs.declared.command.Command.TheVariants.{Resolve}
 use Rattle.rtgs_book.specs.declared.refusal.Refusal.TheVariants.{OutOfMemory}
 use Rattle.rtgs_book.specs.Books.{is_closed}
-use Rattle.rtgs_ledger.specs.Kept.{IsRefusedByItself}
+use Rattle.rtgs_cores.specs.Cores.{IsCoreOf}
+use Rattle.rtgs_ledger.specs.Kept.{IsRefusedByItself, WouldAct}
 use Rattle.std.proofs.lemmas.Bool.Decides.{nat_tests}
 use Rattle.rtgs_book.specs.declared.book.Book.{Book}
 use Rattle.rtgs_ledger.specs.Resolving.{AreGreatest}
-use Rattle.rtgs_ledger.proofs.Resolving.{closed_now, open_now, wrong_phase, nothing_chosen}
+use Rattle.rtgs_ledger.proofs.Resolving.{closed_now, open_now, wrong_phase, nothing_chosen, would_act}
 use Rattle.rtgs_ledger.proofs.Whole.{held_of, book_of, whole, is_of_book, to_refused, to_prepared}
 use Rattle.rtgs_ledger.proofs.ledger.Ledger.prepare_resolve.Goals as goal
+use Rattle.rtgs_ledger.proofs.ledger.Ledger.prepare_resolve.Goals.{In-Some}
 
 pub returns-in_default-clause-refused : goal.returns-in_default-clause-refused
 returns-in_default-clause-refused c book is =
@@ -49,6 +51,21 @@ returns-clause-prepared c book is =
     c.prepare_settlement.ensures.prepared book is (rw c.deref.ensures.value (c.in-Ok.ensures book is))
     (subst (λ (b : Book). b.day.date ≡ Some c.in-Some.date) of.same day)
 
+-- on a business day a resolution would act
+acts : (c : In-Some) (book : Book) → IsCoreOf book c.args.self.now.core → WouldAct book Resolve
+acts c book is =
+    let of = is_of_book book c.self.inside.records c.args.self.now c.self.view_is is in
+    let r = whole book c.self.inside.records in
+    let greatest = c.greatest_exists.ensures (book_of r) of.kept.sound.floors in
+    subst (λ (b : Book). WouldAct b Resolve) of.same (would_act (book_of r) greatest.0 greatest.1
+    (open_now r of.kept c.in-Some.date (sym c.business_date.ensures ∙ c.in-Some.is)))
+
+pub returns-in_default-chosen_orders-clause-refused : goal.returns-in_default-chosen_orders-clause-refused
+returns-in_default-chosen_orders-clause-refused c book is =
+    inl (refl, λ _. acts (goal.at.returns-in_default-chosen_orders-clause-refused c).In-Some book is)
+
 pub returns-clause-refused : goal.returns-clause-refused
 returns-clause-refused c book is = IfErr-weaker c.prepare_settlement.result (λ refusal. refusal ≡ OutOfMemory)
-    (IsRefusedByItself book Resolve) (λ refusal e. inl e) (c.prepare_settlement.ensures.refused book is)
+    (IsRefusedByItself book Resolve)
+    (λ refusal e. inl (e, λ _. acts (goal.at.returns-clause-refused c).In-Some book is))
+    (c.prepare_settlement.ensures.refused book is)

@@ -1,8 +1,9 @@
 use Rattle.rtgs_book.specs.declared.command.Command.TheVariants as command
 use Rattle.std.proofs.Common.{◌∙◌, sym, inr, refl}
+use Rattle.std.proofs.lemmas.Result.{err_from_is_err_and}
 use Rattle.rtgs_ledger.proofs.Kept.{is_known, is_unknown, balance_at}
 use Rattle.rtgs_ledger.proofs.Crediting.{unknown, no_cover, prepared_credit}
-use Rattle.rtgs_ledger.proofs.Whole.{held_of, book_of, whole, is_of_book, to_refused, to_prepared}
+use Rattle.rtgs_ledger.proofs.Whole.{held_of, book_of, whole, is_of_book, to_lacking, to_refused, to_prepared}
 use Rattle.rtgs_ledger.proofs.ledger.Ledger.prepare_set_credit.Goals as goal
 
 pub returns-in_default-clause-refused : goal.returns-in_default-clause-refused
@@ -27,6 +28,18 @@ returns-then-is_past_limit-clause-refused c book is =
           (is_known (whole book r) of.kept c.args.code c.in-Some.account found) past,
       refl,
     ))
+
+pub returns-in_err-rows-clause-refused : goal.returns-in_err-rows-clause-refused
+returns-in_err-rows-clause-refused c book is =
+    let r = c.self.inside.records in
+    let of = is_of_book book r c.args.self.now c.self.view_is is in
+    let found = sym c.get.ensures ∙ c.in-Some.is in
+    let within = rw (balance_at (whole book r) of.kept c.args.code c.in-Some.account found) at
+    (sym c.is_past_limit.ensures.value ∙ c.if-is_past_limit.false) in
+    let told = err_from_is_err_and c.from_residual.result c.from_residual.ensures.1 in
+    rw (told.1, told.2) (to_lacking book r c.args.self.now.core of _ _ _
+    (prepared_credit (held_of (whole book r)) of.kept c.args.code c.args.credit c.is_past_limit.ensures.fits
+    (is_known (whole book r) of.kept c.args.code c.in-Some.account found) within) refl)
 
 pub returns-clause-prepared : goal.returns-clause-prepared
 returns-clause-prepared c book is =

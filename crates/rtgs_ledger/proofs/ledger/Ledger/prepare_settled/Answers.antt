@@ -1,7 +1,8 @@
 use Rattle.std.proofs.Common.{◌≡◌, ◌∙◌, ◌<◌, ◌^◌, [], ◌∷◌, sym, ap, subst, true, pos, ◌+ℤ◌, ◌-ℤ◌, find, Some, refl}
-use Rattle.std.proofs.Common.{arith}
+use Rattle.std.proofs.Common.{arith, inl}
 use Rattle.std.proofs.lemmas.Int.{ints}
 use Rattle.std.proofs.lemmas.Bool.Decides.{nat_tests}
+use Rattle.std.proofs.lemmas.Result.{err_from_is_err_and}
 use Rattle.rtgs_book.specs.declared.book.Book.{Book}
 use Rattle.rtgs_book.specs.Commands.{settles_at_once}
 use Rattle.rtgs_book.specs.Settle.{mark_of}
@@ -9,16 +10,21 @@ use Rattle.rtgs_records.specs.Held.{Held}
 use Rattle.rtgs_accounts.specs.Accounts.{is_of}
 use Rattle.rtgs_ledger.specs.Ordering.{IsTaken}
 use Rattle.rtgs_ledger.proofs.Kept.{balance_fits}
-use Rattle.rtgs_ledger.proofs.Ordering.{prepared_settled, one_mark}
+use Rattle.rtgs_ledger.proofs.Ordering.{prepared_settled, one_mark, taken_acts}
 use Rattle.rtgs_ledger.proofs.Whole.{held_of, book_of, whole, is_of_book, to_prepared, marks_are_counted}
 use Rattle.rtgs_ledger.proofs.ledger.Ledger.prepare_settled.Goals as goal
 
 pub returns-then-not-counts_marks-clause-refused : goal.returns-then-not-counts_marks-clause-refused
-returns-then-not-counts_marks-clause-refused c book is =
+returns-then-not-counts_marks-clause-refused c book is taken =
     let of = is_of_book book c.self.inside.records c.args.self.now c.self.view_is is in
     let counted = c.counts_marks.ensures.1 (marks_are_counted book c.self.inside.records c.args.self.now.core of) in
     let test = c.if-not-counts_marks.true in
     absurd (grind (arith, nat_tests, counted, test))
+
+pub returns-in_err-rows-clause-refused : goal.returns-in_err-rows-clause-refused
+returns-in_err-rows-clause-refused c book is taken =
+    let told = err_from_is_err_and c.from_residual.result c.from_residual.ensures.1 in
+    rw (told.1, told.2) (inl (refl, λ _. taken_acts book c.args.order.now taken))
 
 pub returns-clause-prepared : goal.returns-clause-prepared
 unfolding mark_of

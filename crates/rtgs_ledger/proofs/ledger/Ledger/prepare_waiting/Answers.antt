@@ -1,11 +1,12 @@
-use Rattle.std.proofs.Common.{◌≡◌, ◌∙◌, sym, ap, subst, length, false}
+use Rattle.std.proofs.Common.{◌≡◌, ◌∙◌, sym, ap, subst, length, false, inl, refl}
+use Rattle.std.proofs.lemmas.Result.{err_from_is_err_and}
 use Rattle.std.proofs.lemmas.List.{length-map}
 use Rattle.rtgs_book.specs.declared.book.Book.{Book}
 use Rattle.rtgs_book.specs.declared.order.Order.{Order}
 use Rattle.rtgs_book.specs.Commands.{settles_now}
 use Rattle.rtgs_book.specs.Queue.{queue, queued_among}
 use Rattle.rtgs_ledger.specs.Ordering.{IsTaken}
-use Rattle.rtgs_ledger.proofs.Ordering.{prepared_waiting}
+use Rattle.rtgs_ledger.proofs.Ordering.{prepared_waiting, taken_acts}
 use Rattle.rtgs_ledger.proofs.Reading.{queue_is}
 use Rattle.rtgs_ledger.proofs.Whole.{held_of, book_of, whole, is_of_book, to_prepared}
 use Rattle.rtgs_ledger.proofs.ledger.Ledger.prepare_waiting.Goals as goal
@@ -24,3 +25,13 @@ returns-clause-prepared c book is taken waits =
     rw (c.from_vec.ensures, c.in_ok-rows.ensures.items, c.waiting_answer.ensures, place) (to_prepared book r
     c.args.self.now.core of _ _ _
     (prepared_waiting (held_of w) of.kept o taken_here waits_here))
+
+pub returns-in_err-rows-clause-refused : goal.returns-in_err-rows-clause-refused
+returns-in_err-rows-clause-refused c book taken =
+    let told = err_from_is_err_and c.from_residual.result c.from_residual.ensures.1 in
+    rw (told.1, told.2) (inl (refl, λ _. taken_acts book c.args.order taken))
+
+pub returns-in_err-reserve-clause-refused : goal.returns-in_err-reserve-clause-refused
+returns-in_err-reserve-clause-refused c book taken =
+    let told = err_from_is_err_and c.from_residual-in_err-reserve.result c.from_residual-in_err-reserve.ensures.1 in
+    rw (told.1, told.2) (inl (refl, λ _. taken_acts book c.args.order taken))

@@ -1,5 +1,6 @@
 use Rattle.rtgs_book.specs.declared.command.Command.TheVariants as command
 use Rattle.std.proofs.Common.{◌≡◌, ◌∙◌, sym, ap, inr, refl}
+use Rattle.std.proofs.lemmas.Result.{err_from_is_err_and}
 use Rattle.rtgs_book.specs.declared.answer.Known.TheVariants as known
 use Rattle.rtgs_book.specs.Books.{is_withdrawn_state}
 use Rattle.rtgs_book.specs.Lookup.{order_named}
@@ -7,7 +8,7 @@ use Rattle.rtgs_ledger.proofs.Kept.{is_known, is_unknown, prepared_repeat}
 use Rattle.rtgs_ledger.proofs.Withdrawing.{unknown, unknown_order, repeats, is_done, is_waited, not_queued}
 use Rattle.rtgs_ledger.proofs.Withdrawing.{prepared_withdraw}
 use Rattle.rtgs_book.specs.declared.book.Book.{Book}
-use Rattle.rtgs_ledger.proofs.Whole.{held_of, book_of, whole, is_of_book, to_refused, to_prepared}
+use Rattle.rtgs_ledger.proofs.Whole.{held_of, book_of, whole, is_of_book, to_lacking, to_refused, to_prepared}
 use Rattle.rtgs_ledger.proofs.ledger.Ledger.prepare_withdraw.Goals as goal
 
 pub returns-in_default-clause-refused : goal.returns-in_default-clause-refused
@@ -66,6 +67,22 @@ returns-in-Settled-clause-refused c book is found =
           (sym found_here ∙ c.in-Some-found.is) done.0 done.1,
       refl,
     ))
+
+pub returns-in_err-rows-clause-refused : goal.returns-in_err-rows-clause-refused
+unfolding order_named
+returns-in_err-rows-clause-refused c book is found =
+    let of = is_of_book book c.self.inside.records c.args.self.now c.self.view_is is in
+    let r = whole book c.self.inside.records in
+    let found_here : c.args.found ≡ order_named (book_of r) c.args.sender c.args.reference = found
+    ∙ ap (λ (b : Book). order_named b c.args.sender c.args.reference) (sym of.same) in
+    let o = c.in-Some-found.found in
+    let there = is_known r of.kept c.args.sender c.in-Some.field-0 (sym c.get.ensures ∙ c.in-Some.is) in
+    let told = err_from_is_err_and c.from_residual.result c.from_residual.ensures.1 in
+    rw (told.1, told.2) (to_lacking book c.self.inside.records c.args.self.now.core of
+    _ _ _ (prepared_withdraw (held_of r) of.kept c.balance_after_restating.ensures
+    c.numbers_lead_to_orders.ensures c.args.sender c.args.reference o
+    (sym found_here ∙ c.in-Some-found.is) (is_waited o.state c.in-Queued.is).1
+    there (is_waited o.state c.in-Queued.is).0) refl)
 
 pub returns-clause-prepared : goal.returns-clause-prepared
 unfolding order_named
