@@ -1,5 +1,5 @@
 //! What the desk looks up in its store.
-ghost use Rattle.std.specs.Prelude.{◌≡◌, true, false, IfOk};
+ghost use Rattle.std.specs.Prelude.{◌≡◌, true, false, IfOk, IfErr};
 ghost use Rattle.rtgs_book.specs.declared.Book.{Book};
 ghost use Rattle.rtgs_book.specs.Lookup.{order_named, posting_named};
 ghost use Rattle.rtgs_cores.specs.Cores.{found_for};
@@ -22,6 +22,7 @@ impl<K: Keeper> Desk<K> {
         ensures found { K.is_honest self.new.keeper → (book : Book) → Holds K.Keeper self.old book
             → IfOk result (λ found. found ≡ found_for book command.now) }
         ensures nothing { is_looked_up command.now ≡ false → self.new ≡ self.old }
+        ensures freely { is_looked_up command.now ≡ false → IfErr result (λ refusal. refusal ≡ Refusal.Failed) }
     {
         if self.failed {
             return Err(Refusal::Failed);
