@@ -1,10 +1,11 @@
 -- Where nobody with a queue gains anything, each feasible choice was feasible before.
-use Rattle.std.proofs.Common.{◌≡◌, ℕ, zero, suc, ◌≤◌, ◌+◌, ℤ, pos, ◌+ℤ◌, ◌-ℤ◌, ◌≤ℤ◌, nat_le, nat_lt, Bool, true, false}
-use Rattle.std.proofs.Common.{cond, ◌&&◌, ◌||◌}
+use Rattle.std.proofs.Common.{◌≡◌, ℕ, zero, suc, ◌≤◌, ◌<◌, ℤ, pos, ◌+ℤ◌, ◌-ℤ◌, ◌≤ℤ◌, nat_le, nat_lt, Bool, true}
+use Rattle.std.proofs.Common.{false, cond, ◌&&◌, ◌||◌, inl, inr}
 use Rattle.std.proofs.Common.{List, [], ◌∷◌, ◌++◌, filter, length, length-append, take, refl, sym, ap, ◌∙◌, subst}
 use Rattle.std.proofs.Common.{true≢false, arith}
 use Rattle.std.proofs.lemmas.Int.{ints}
 use Rattle.std.proofs.lemmas.Bool.Decides.{nat_tests}
+use Rattle.std.proofs.lemmas.List.{take_all}
 use Rattle.std.specs.List.{AllByRecursion, list_any}
 use Rattle.std.specs.Str.{bytes_eq}
 use Rattle.std.specs.Cmp.Lexicographic.{bytes_decides}
@@ -16,14 +17,14 @@ use Rattle.rtgs_book.specs.Calm.{IsCalm}
 use Rattle.rtgs_book.specs.Choice.{Choice, is_chosen, chosen, balance_after, IsFeasible}
 use Rattle.rtgs_book.specs.IntSum.{int_sum_by}
 use Rattle.rtgs_book.specs.Lookup.{accounts, is_participant}
-use Rattle.rtgs_book.specs.Procedure.{everything}
-use Rattle.rtgs_book.specs.Queue.{queued_among, queue, orders_before}
+use Rattle.rtgs_book.specs.Queue.{queue, orders_before}
 use Rattle.rtgs_book.specs.Soundness.{IsSound}
-use Rattle.rtgs_laws.specs.Quiet.{GainsNothing, NewestIsOutOfReach}
+use Rattle.rtgs_laws.specs.Quiet.{AreOutOfReach, FreesNothing, GainsNothing, KeepsQueue, queued_to, value_of}
 use Rattle.rtgs_laws.proofs.Calm.{ChosenAreBeginnings, by_queues, calm_from}
 use Rattle.rtgs_laws.proofs.Steps.{GreatestExists}
-use Rattle.rtgs_lists.proofs.Lists.{all_both, all_weaker}
-use Rattle.rtgs_lists.proofs.Bools.{and_right}
+use Rattle.rtgs_laws.proofs.Sums.{sent_by}
+use Rattle.rtgs_lists.proofs.Lists.{all_both}
+use Rattle.rtgs_lists.proofs.Bools.{and_left, and_right}
 use Rattle.rtgs_lists.proofs.Numbers.{lt_zero}
 use Rattle.rtgs_lists.proofs.Sums.{int_sum_by-same}
 
@@ -64,91 +65,6 @@ no_loss book choice code none (o ∷ os) = by (is_chosen book choice o) refl (no
     by true e rest = let own = gain_of_others code o (another e) in omega (arith, ints)
     by false e rest = rest
 
-module _ (beginnings : ChosenAreBeginnings) (old new : Book) (sound : IsSound old) (sound_new : IsSound new)
-    (gains : GainsNothing old new) where
-  module _ (choice : Choice) (f : IsFeasible new choice) where
-    same_beginnings : (code : List ℕ) → take (choice code) (queue old code) ≡ take (choice code) (queue new code)
-    same_beginnings code = ap (take (choice code)) (gains.queues code).1
-        ∙ take_left (choice code) (queue new code) (gains.queues code).0 (f.within code)
-
-    sums : (g : Order → ℤ) → int_sum_by g (chosen old choice) ≡ int_sum_by g (chosen new choice)
-    sums g =
-        by_queues beginnings old choice g sound
-        ∙ int_sum_by-same _ _ (λ code. ap (int_sum_by g) (same_beginnings code)) (accounts old)
-        ∙ ap (int_sum_by (λ code. int_sum_by g (take (choice code) (queue new code)))) (sym gains.accounts_stay)
-        ∙ sym (by_queues beginnings new choice g sound_new)
-
-    covered_at : (code : List ℕ) → floor old code ≤ℤ balance old code → floor new code ≤ℤ balance_after new choice code
-        → floor old code ≤ℤ balance_after old choice code
-    unfolding balance_after chosen
-    covered_at code before after = by (is_empty (queue new code)) refl
-      where
-        none : (xs : List Order) → is_empty xs ≡ true → choice code ≤ length xs → choice code ≡ 0
-        none [] e le = omega arith
-        none (x ∷ xs) e le = absurd (true≢false (sym e))
-
-        by : (b : Bool) → is_empty (queue new code) ≡ b
-            → floor old code ≤ℤ (balance old code +ℤ int_sum_by (gain code) (filter (is_chosen old choice) old.orders))
-        by true e =
-            let gained = no_loss old choice code (none (queue new code) e (f.within code)) old.orders in
-            omega (arith, ints)
-        by false e =
-            let room = gains.room code e in
-            let same = sums (gain code) in
-            omega (arith, ints)
-
-    feasible : IsFeasible old choice
-    feasible = record {
-      within = λ code.
-          let le = f.within code in
-          let long = ap length (gains.queues code).1 ∙ length-append (queue new code) (gains.queues code).0 in
-          omega arith;
-      covered = all_both (λ code. floor old code ≤ℤ balance old code)
-          (λ code. floor new code ≤ℤ balance_after new choice code)
-          (λ code. floor old code ≤ℤ balance_after old choice code)
-          (λ code b a. covered_at code b a) (accounts old) sound.floors
-          (subst (AllByRecursion (λ code. floor new code ≤ℤ balance_after new choice code)) gains.accounts_stay
-          f.covered);
-    }
-
-pub quiet_calm : ChosenAreBeginnings → GreatestExists → (old new : Book) → IsSound old → IsSound new
-    → GainsNothing old new → is_automatic old.day ≡ true → IsCalm old → IsCalm new
-quiet_calm beginnings exists old new sound sound_new gains automatic calm =
-    calm_from beginnings exists old new sound (λ _. automatic)
-    (feasible beginnings old new sound sound_new gains) calm
-
--- ---- one order more, out of its sender's reach
-
-sum_at_most : {X : Type 0} (f g : X → ℤ) → ((x : X) → f x ≤ℤ g x) → (xs : List X)
-    → int_sum_by f xs ≤ℤ int_sum_by g xs
-sum_at_most f g le [] = omega (arith, ints)
-sum_at_most f g le (x ∷ xs) = let one = le x in let rest = sum_at_most f g le xs in omega (arith, ints)
-
-sum_of_part : (f : Order → ℤ) (n : ℕ) (xs : List Order) → AllByRecursion (λ o. pos 0 ≤ℤ f o) xs
-    → int_sum_by f (take n xs) ≤ℤ int_sum_by f (take (length xs) xs)
-sum_of_part f zero [] h = omega (arith, ints)
-sum_of_part f zero (x ∷ xs) h =
-    let one = h.0 in let rest = sum_of_part f zero xs h.1 in omega (arith, ints)
-sum_of_part f (suc n) [] h = omega (arith, ints)
-sum_of_part f (suc n) (x ∷ xs) h = let rest = sum_of_part f n xs h.1 in omega (arith, ints)
-
--- the queue of another sender brings nothing but gains
-queue_gains : (code sender : List ℕ) → bytes_eq sender code ≡ false → (os : List Order)
-    → AllByRecursion (λ o. pos 0 ≤ℤ gain code o) (queued_among os sender)
-queue_gains code sender apart [] = tt
-queue_gains code sender apart (o ∷ os) = by (is_queued o && bytes_eq o.sender sender) refl
-    (queue_gains code sender apart os)
-  where
-    by : (b : Bool) → (is_queued o && bytes_eq o.sender sender) ≡ b
-        → AllByRecursion (λ o. pos 0 ≤ℤ gain code o) (queued_among os sender)
-        → AllByRecursion (λ o. pos 0 ≤ℤ gain code o) (cond b (o ∷ queued_among os sender) (queued_among os sender))
-    by true e rest = (
-      gain_of_others code o (ap (λ c. bytes_eq c code)
-          ((bytes_decides o.sender sender).0 (and_right (is_queued o) _ e)) ∙ apart),
-      rest,
-    )
-    by false e rest = rest
-
 at_of : (P : List ℕ → Type 0) (code : List ℕ) (codes : List (List ℕ)) → list_any (bytes_eq code) codes ≡ true
     → AllByRecursion P codes → P code
 at_of P code [] e h = absurd (true≢false (sym e))
@@ -159,101 +75,154 @@ at_of P code (c ∷ codes) e h = by (bytes_eq code c) refl e (λ k. at_of P code
     by true f k rest = subst P (sym ((bytes_decides code c).0 f)) h.0
     by false f k rest = rest k
 
-module _ (beginnings : ChosenAreBeginnings) (old new : Book) (sender : List ℕ) (sound : IsSound old)
-    (sound_new : IsSound new) (out : NewestIsOutOfReach old new sender) where
+-- ---- who cannot pay so much of its queue
+
+-- what an account gains by some of the queued orders, and what it pays for them
+gain_at_most : (code : List ℕ) (p : Order → Bool) → ((o : Order) → p o ≡ true → is_queued o ≡ true)
+    → (os : List Order) → (int_sum_by (gain code) (filter p os) +ℤ value_of (sent_by code (filter p os)))
+    ≤ℤ queued_to os code
+unfolding gain
+gain_at_most code p queued [] = omega (arith, ints)
+gain_at_most code p queued (o ∷ os) = by (p o) refl (gain_at_most code p queued os)
+  where
+    taken : (q r s : Bool) (xs : List Order) (g n : ℤ) → q ≡ true → (g +ℤ value_of xs) ≤ℤ n
+        → (((cond r (pos o.amount) (pos 0) -ℤ cond s (pos o.amount) (pos 0)) +ℤ g)
+        +ℤ value_of (cond s (o ∷ xs) xs)) ≤ℤ (cond (q && r) (pos o.amount) (pos 0) +ℤ n)
+    taken true true true xs g n e le = omega (arith, ints)
+    taken true true false xs g n e le = omega (arith, ints)
+    taken true false true xs g n e le = omega (arith, ints)
+    taken true false false xs g n e le = omega (arith, ints)
+    taken false r s xs g n e le = absurd (true≢false (sym e))
+
+    left : (b : Bool) (z n : ℤ) → z ≤ℤ n → z ≤ℤ (cond b (pos o.amount) (pos 0) +ℤ n)
+    left true z n le = omega (arith, ints)
+    left false z n le = omega (arith, ints)
+
+    by : (b : Bool) → p o ≡ b
+        → (int_sum_by (gain code) (filter p os) +ℤ value_of (sent_by code (filter p os))) ≤ℤ queued_to os code
+        → (int_sum_by (gain code) (cond b (o ∷ filter p os) (filter p os))
+        +ℤ value_of (sent_by code (cond b (o ∷ filter p os) (filter p os)))) ≤ℤ queued_to (o ∷ os) code
+    by true e le = taken (is_queued o) (bytes_eq o.receiver code) (bytes_eq o.sender code) (sent_by code (filter p os))
+        (int_sum_by (gain code) (filter p os)) (queued_to os code) (queued o e) le
+    by false e le = left (is_queued o && bytes_eq o.receiver code)
+        (int_sum_by (gain code) (filter p os) +ℤ value_of (sent_by code (filter p os))) (queued_to os code) le
+
+some_value : (xs : List Order) → pos 0 ≤ℤ value_of xs
+some_value [] = omega (arith, ints)
+some_value (x ∷ xs) = let rest = some_value xs in omega (arith, ints)
+
+value_of_part : (k n : ℕ) (xs : List Order) → k ≤ n → value_of (take k xs) ≤ℤ value_of (take n xs)
+value_of_part zero n xs le = some_value (take n xs)
+value_of_part (suc k) zero xs le = absurd (omega arith)
+value_of_part (suc k) (suc n) [] le = omega (arith, ints)
+value_of_part (suc k) (suc n) (x ∷ xs) le = let rest = value_of_part k n xs (omega arith) in omega (arith, ints)
+
+module _ (beginnings : ChosenAreBeginnings) (book : Book) (sound : IsSound book) (choice : Choice) where
+  -- whose first orders stay out of reach has fewer of them chosen
+  fewer_than : (code : List ℕ) (k : ℕ) → floor book code ≤ℤ balance_after book choice code
+      → AreOutOfReach book code (take k (queue book code)) → choice code < k
+  unfolding balance_after chosen is_chosen
+  fewer_than code k covered out = by (nat_le k (choice code)) refl
+    where
+      by : (b : Bool) → nat_le k (choice code) ≡ b → choice code < k
+      by false e = grind (arith, nat_tests)
+      by true e =
+          let le : k ≤ choice code = grind (arith, nat_tests) in
+          let less = value_of_part k (choice code) (queue book code) le in
+          let paid = ap value_of (beginnings book choice code sound.orders_numbered) in
+          let most = gain_at_most code (is_chosen book choice) (λ o h. and_left (is_queued o) _ h) book.orders in
+          absurd (omega (arith, ints))
+
+-- ---- changes after which no choice is feasible that was not before
+
+module _ (beginnings : ChosenAreBeginnings) (old new : Book) (sound : IsSound old) (sound_new : IsSound new)
+    (frees : FreesNothing old new) where
   module _ (choice : Choice) (f : IsFeasible new choice) where
-    -- where the whole queue of the sender is chosen, it gets no more than by everything
-    at_most : choice sender ≡ length (queue new sender)
-        → int_sum_by (gain sender) (chosen new choice) ≤ℤ int_sum_by (gain sender) (chosen new (everything new))
-    unfolding queue
-    at_most all =
-        let one = by_queues beginnings new choice (gain sender) sound_new in
-        let every = by_queues beginnings new (everything new) (gain sender) sound_new in
-        let le = sum_at_most (λ code. int_sum_by (gain sender) (take (choice code) (queue new code)))
-        (λ code. int_sum_by (gain sender) (take (everything new code) (queue new code))) part (accounts new) in
-        omega (arith, ints)
+    covered_there : (code : List ℕ) → is_participant new code ≡ true
+        → floor new code ≤ℤ balance_after new choice code
+    unfolding is_participant
+    covered_there code known =
+        at_of (λ c. floor new c ≤ℤ balance_after new choice c) code (accounts new) known f.covered
+
+    -- what is chosen of a queue was at its beginning before
+    starts : (code : List ℕ) → (choice code ≤ length (queue old code))
+        × (take (choice code) (queue old code) ≡ take (choice code) (queue new code))
+    starts code = by (frees.queues code)
       where
-        part : (code : List ℕ) → int_sum_by (gain sender) (take (choice code) (queue new code))
-            ≤ℤ int_sum_by (gain sender) (take (length (queue new code)) (queue new code))
-        part code = by (bytes_eq code sender) refl
-          where
-            by : (b : Bool) → bytes_eq code sender ≡ b
-                → int_sum_by (gain sender) (take (choice code) (queued_among new.orders code))
-                ≤ℤ int_sum_by (gain sender) (take (length (queued_among new.orders code))
-                (queued_among new.orders code))
-            by true e =
-                let same = (bytes_decides code sender).0 e in
-                let long = ap choice same ∙ all
-                ∙ ap (λ c. length (queued_among new.orders c)) (sym same) in
-                subst (λ n. int_sum_by (gain sender) (take n (queued_among new.orders code))
-                ≤ℤ int_sum_by (gain sender) (take (length (queued_among new.orders code))
-                (queued_among new.orders code))) (sym long) (omega (arith, ints))
-            by false e = sum_of_part (gain sender) (choice code) (queued_among new.orders code)
-                (queue_gains sender code e new.orders)
+        by : KeepsQueue old new code → (choice code ≤ length (queue old code))
+            × (take (choice code) (queue old code) ≡ take (choice code) (queue new code))
+        by (inl part) =
+            let le = f.within code in
+            let long = ap length part.1 ∙ length-append (queue new code) part.0 in (
+              omega arith,
+              ap (take (choice code)) part.1 ∙ take_left (choice code) (queue new code) part.0 le,
+            )
+        by (inr behind) =
+            let long = ap length behind.newest.1 ∙ length-append (queue old code) (behind.newest.0 ∷ []) in
+            let less = fewer_than beginnings new sound_new choice code (length (queue new code))
+            (covered_there code behind.known)
+            (subst (AreOutOfReach new code) (sym (take_all (length (queue new code)) (queue new code) (omega arith)))
+            behind.unpaid) in
+            let le : choice code ≤ length (queue old code) = omega (arith, less, long) in (
+              le,
+              sym (ap (take (choice code)) behind.newest.1
+                  ∙ take_left (choice code) (queue old code) (behind.newest.0 ∷ []) le),
+            )
 
-    fewer : choice sender ≤ length (queue old sender)
-    unfolding balance_after is_participant
-    fewer = by (nat_le (choice sender) (length (queue old sender))) refl
-      where
-        long : length (queue new sender) ≡ length (queue old sender) + 1
-        long = ap length out.newest.1 ∙ length-append (queue old sender) (out.newest.0 ∷ [])
-
-        by : (b : Bool) → nat_le (choice sender) (length (queue old sender)) ≡ b
-            → choice sender ≤ length (queue old sender)
-        by true e = grind (arith, nat_tests)
-        by false e =
-            let within = f.within sender in
-            let more = above (choice sender) (length (queue old sender)) e in
-            let all : choice sender ≡ length (queue new sender) = omega (arith, within, more, long) in
-            let le = at_most all in
-            let here = at_of (λ code. floor new code ≤ℤ balance_after new choice code) sender (accounts new) out.known
-            f.covered in
-            let short = out.short in
-            absurd (omega (arith, ints))
-          where
-            above : (a b : ℕ) → nat_le a b ≡ false → b + 1 ≤ a
-            above a b e = grind (arith, nat_tests)
-
-    starts : (code : List ℕ) → take (choice code) (queue old code) ≡ take (choice code) (queue new code)
-    starts code = by (bytes_eq code sender) refl
-      where
-        by : (b : Bool) → bytes_eq code sender ≡ b
-            → take (choice code) (queue old code) ≡ take (choice code) (queue new code)
-        by true e =
-            let same = (bytes_decides code sender).0 e in
-            subst (λ c. take (choice c) (queue old c) ≡ take (choice c) (queue new c)) (sym same)
-            (sym (ap (take (choice sender)) out.newest.1
-            ∙ take_left (choice sender) (queue old sender) (out.newest.0 ∷ []) fewer))
-        by false e = ap (take (choice code)) (sym (out.others code e))
-
-    same_sums : (g : Order → ℤ) → int_sum_by g (chosen old choice) ≡ int_sum_by g (chosen new choice)
-    same_sums g =
+    sums : (g : Order → ℤ) → int_sum_by g (chosen old choice) ≡ int_sum_by g (chosen new choice)
+    sums g =
         by_queues beginnings old choice g sound
-        ∙ int_sum_by-same _ _ (λ code. ap (int_sum_by g) (starts code)) (accounts old)
-        ∙ ap (int_sum_by (λ code. int_sum_by g (take (choice code) (queue new code)))) (sym out.accounts_stay)
+        ∙ int_sum_by-same _ _ (λ code. ap (int_sum_by g) (starts code).1) (accounts old)
+        ∙ ap (int_sum_by (λ code. int_sum_by g (take (choice code) (queue new code)))) (sym frees.accounts_stay)
         ∙ sym (by_queues beginnings new choice g sound_new)
 
-    was_feasible : IsFeasible old choice
-    unfolding balance_after
-    was_feasible = record {
-      within = within_old;
-      covered = subst (AllByRecursion (λ code. floor old code ≤ℤ balance_after old choice code)) out.accounts_stay
-          (all_weaker (λ code. floor new code ≤ℤ balance_after new choice code)
-          (λ code. floor old code ≤ℤ balance_after old choice code)
-          (λ code x.
-          let b = out.balances code in let fl = out.floors code in let s = same_sums (gain code) in
-          omega (arith, ints)) (accounts new) f.covered);
-    }
+    covered_at : (code : List ℕ) → floor old code ≤ℤ balance old code
+        → ((is_empty (queue new code) ≡ false → GainsNothing old new code)
+        × (floor new code ≤ℤ balance_after new choice code))
+        → floor old code ≤ℤ balance_after old choice code
+    unfolding balance_after chosen
+    covered_at code before after = by (is_empty (queue new code)) refl
       where
-        within_old : (code : List ℕ) → choice code ≤ length (queue old code)
-        within_old code = by (bytes_eq code sender) refl
-          where
-            by : (b : Bool) → bytes_eq code sender ≡ b → choice code ≤ length (queue old code)
-            by true e = subst (λ c. choice c ≤ length (queue old c)) (sym ((bytes_decides code sender).0 e)) fewer
-            by false e = subst (λ q. choice code ≤ length q) (out.others code e) (f.within code)
+        none : (xs : List Order) → is_empty xs ≡ true → choice code ≤ length xs → choice code ≡ 0
+        none [] e le = omega arith
+        none (x ∷ xs) e le = absurd (true≢false (sym e))
 
-pub out_of_reach_calm : ChosenAreBeginnings → GreatestExists → (old new : Book) (sender : List ℕ) → IsSound old
-    → IsSound new → NewestIsOutOfReach old new sender → is_automatic old.day ≡ true → IsCalm old → IsCalm new
-out_of_reach_calm beginnings exists old new sender sound sound_new out automatic calm =
-    calm_from beginnings exists old new sound (λ _. automatic)
-    (was_feasible beginnings old new sender sound sound_new out) calm
+        idle : choice code ≡ 0
+            → floor old code ≤ℤ (balance old code +ℤ int_sum_by (gain code) (filter (is_chosen old choice) old.orders))
+        idle e = let gained = no_loss old choice code e old.orders in omega (arith, ints)
+
+        gaining : GainsNothing old new code
+            → floor old code ≤ℤ (balance old code +ℤ int_sum_by (gain code) (filter (is_chosen old choice) old.orders))
+        gaining (inl room) =
+            let same = sums (gain code) in
+            let covered = after.1 in
+            omega (arith, ints)
+        gaining (inr out) =
+            idle (let less = fewer_than beginnings new sound_new choice code 1 after.1 out in omega arith)
+
+        by : (b : Bool) → is_empty (queue new code) ≡ b
+            → floor old code ≤ℤ (balance old code +ℤ int_sum_by (gain code) (filter (is_chosen old choice) old.orders))
+        by true e = idle (none (queue new code) e (f.within code))
+        by false e = gaining (after.0 e)
+
+    feasible : IsFeasible old choice
+    feasible = record {
+      within = λ code. (starts code).0;
+      covered = all_both (λ code. floor old code ≤ℤ balance old code)
+          (λ code. (is_empty (queue new code) ≡ false → GainsNothing old new code)
+          × (floor new code ≤ℤ balance_after new choice code))
+          (λ code. floor old code ≤ℤ balance_after old choice code) covered_at (accounts old) sound.floors
+          (subst (AllByRecursion (λ code. (is_empty (queue new code) ≡ false → GainsNothing old new code)
+          × (floor new code ≤ℤ balance_after new choice code))) frees.accounts_stay
+          (all_both (λ code. is_empty (queue new code) ≡ false → GainsNothing old new code)
+          (λ code. floor new code ≤ℤ balance_after new choice code)
+          (λ code. (is_empty (queue new code) ≡ false → GainsNothing old new code)
+          × (floor new code ≤ℤ balance_after new choice code)) (λ code x y. (x, y)) (accounts new) frees.gains
+          f.covered));
+    }
+
+pub quiet_calm : ChosenAreBeginnings → GreatestExists → (old new : Book) → IsSound old → IsSound new
+    → FreesNothing old new → IsCalm old → IsCalm new
+quiet_calm beginnings exists old new sound sound_new frees calm =
+    calm_from beginnings exists old new sound (subst (λ day. is_automatic day ≡ true) frees.day_stays)
+    (feasible beginnings old new sound sound_new frees) calm

@@ -5,10 +5,10 @@ ghost use Rattle.std.specs.List.{AllByRecursion};
 ghost use Rattle.rtgs_book.specs.declared.book.Book.{Book};
 ghost use Rattle.rtgs_book.specs.declared.command.Command.{Command};
 ghost use Rattle.rtgs_book.specs.declared.order.Order.{Order};
-ghost use Rattle.rtgs_book.specs.Books.{is_automatic, is_queued};
+ghost use Rattle.rtgs_book.specs.Books.{is_queued};
 ghost use Rattle.rtgs_book.specs.Commands.{with_credit};
 ghost use Rattle.rtgs_book.specs.Lookup.{accounts};
-ghost use Rattle.rtgs_laws.specs.Quiet.{GainsNothing, NewestIsOutOfReach};
+ghost use Rattle.rtgs_laws.specs.Quiet.{FreesNothing};
 ghost use Rattle.rtgs_book.specs.Laws.{posted, KeepsWhatIsFinal, CommandFits};
 ghost use Rattle.rtgs_book.specs.Outcome.{OwnReply, Reply, is_done};
 ghost use Rattle.rtgs_book.specs.Balance.{total};
@@ -92,19 +92,10 @@ pub fn followed_books_are_calm()
     own_step_keeps_soundness();
 }
 
-/// Where nobody with a queue gains anything, a calm book is calm afterwards, without a resolution.
+/// Where nobody with a queue gains what it could pay with, and no queue has more that is within reach, a calm book is
+/// calm afterwards, without a resolution.
 pub fn quiet_changes_leave_calm()
-    ensures { (old new : Book) → IsSound old → IsSound new → GainsNothing old new → is_automatic old.day ≡ true
-        → IsCalm old → IsCalm new }
-{
-    chosen_are_beginnings();
-    greatest_exists();
-}
-
-/// So it is where one order more is queued that is out of its sender's reach whatever settles.
-pub fn orders_out_of_reach_leave_calm()
-    ensures { (old new : Book) (sender : List ℕ) → IsSound old → IsSound new → NewestIsOutOfReach old new sender
-        → is_automatic old.day ≡ true → IsCalm old → IsCalm new }
+    ensures { (old new : Book) → IsSound old → IsSound new → FreesNothing old new → IsCalm old → IsCalm new }
 {
     chosen_are_beginnings();
     greatest_exists();
