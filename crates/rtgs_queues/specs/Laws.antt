@@ -7,6 +7,7 @@ use Rattle.rtgs_book.specs.Books.{is_waiting}
 use Rattle.rtgs_book.specs.Commands.{has_number}
 use Rattle.rtgs_book.specs.Queue.{queued_among}
 use Rattle.rtgs_book.specs.Soundness.{OrdersAreNumbered}
+use Rattle.rtgs_queues.specs.Orders.{AreRising}
 
 -- where the orders are numbered from one, each is the first with its number
 abbrev pub NumbersLeadToOrders : Type 0
@@ -17,3 +18,7 @@ NumbersLeadToOrders = (book : Book) → OrdersAreNumbered book
 abbrev pub QueuesAreOfTheWaiting : Type 0
 QueuesAreOfTheWaiting = (orders : List Order) (sender : List ℕ)
     → queued_among (filter is_waiting orders) sender ≡ queued_among orders sender
+
+-- where the orders are numbered from one, the numbers of each queue rise
+abbrev pub QueuesRise : Type 0
+QueuesRise = (book : Book) (sender : List ℕ) → OrdersAreNumbered book → AreRising (queued_among book.orders sender)

@@ -5,7 +5,7 @@ ghost use Rattle.rtgs_book.specs.declared.book.Book.{Book};
 ghost use Rattle.rtgs_book.specs.declared.order.Order.{Order};
 ghost use Rattle.rtgs_book.specs.Books.{is_waiting};
 ghost use Rattle.rtgs_book.specs.Soundness.{OrdersAreNumbered};
-ghost use Rattle.rtgs_queues.specs.Laws.{NumbersLeadToOrders, QueuesAreOfTheWaiting};
+ghost use Rattle.rtgs_queues.specs.Laws.{NumbersLeadToOrders, QueuesAreOfTheWaiting, QueuesRise};
 ghost use Rattle.rtgs_queues.specs.Orders.{AreRising, AreWaiting};
 
 /// Where orders are numbered from one, as in a sound book, each is the first with its number.
@@ -16,6 +16,11 @@ pub fn numbers_lead_to_orders()
 /// A sender's queue among the orders that wait is its queue among all.
 pub fn queues_are_of_the_waiting()
     ensures { QueuesAreOfTheWaiting }
+{}
+
+/// Where orders are numbered from one, the numbers of each queue rise.
+pub fn queues_rise()
+    ensures { QueuesRise }
 {}
 
 /// Where orders are numbered from one, those that wait are what `Orders::load` takes.
