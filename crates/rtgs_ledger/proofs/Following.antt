@@ -27,11 +27,13 @@ use Rattle.rtgs_book.specs.declared.refusal.Refusal.TheVariants.{OutOfMemory}
 use Rattle.rtgs_book.specs.Balance.{balance}
 use Rattle.rtgs_book.specs.Books.{is_automatic, is_closed, is_empty, is_waiting_state}
 use Rattle.rtgs_book.specs.Changes.{Leads, StartsEmpty, changed, with_row}
-use Rattle.rtgs_book.specs.Choice.{Choice, chosen}
+use Rattle.rtgs_book.specs.Calm.{IsCalm}
+use Rattle.rtgs_book.specs.Choice.{Choice, chosen, IsGreatest}
 use Rattle.rtgs_book.specs.Commands.{let_in, resolve, with_credit, with_participant, with_state}
 use Rattle.rtgs_book.specs.Laws.{CommandFits}
 use Rattle.rtgs_book.specs.Lookup.{accounts}
 use Rattle.rtgs_book.specs.Outcome.{OwnReply, Outcome, is_done, resolution_of, first_of}
+use Rattle.rtgs_book.specs.Soundness.{FloorsHold, IsSound}
 use Rattle.rtgs_book.specs.Step.{OwnStep, Step, Ends, is_followed, may_free}
 use Rattle.rtgs_choices.specs.Settling.{IsOfBalance}
 use Rattle.rtgs_choices.specs.Joining.{without_balances, balances_between, joined_rows}
@@ -480,6 +482,12 @@ unfolding resolve first_of
 never_refused book choice refusal opened e =
     neither refusal (is_empty (chosen book choice)) _ _ _ _ refl refl (rw opened at e)
 
+-- where the greatest choice is empty, a resolution settles nothing
+resolves_nothing : (book : Book) (choice : Choice) → IsGreatest book choice → is_closed book.day.phase ≡ false
+    → is_empty (chosen book choice) ≡ true → OwnStep book Resolve (Ok answer.Nothing) book
+unfolding resolve first_of
+resolves_nothing book choice greatest opened none = (choice, greatest, rw (opened, none) refl)
+
 abbrev pub Determined : Type 0
 Determined = (old new last : Book) (command : Command) (reply other : OwnReply) → OwnStep old command reply new
     → OwnStep old command other last → (reply ≡ other) × (new ≡ last)
@@ -522,6 +530,24 @@ module _ (determined : Determined) (book : Book) (core : Core) (command : Comman
         book = p.book;
         step = subst (λ auto. Step book command (Ok (record { own = own; auto = auto })) p.book) none
             (whole_step settled p.book step);
+        leads = p.leads;
+        added = p.added;
+        in_range = p.in_range;
+        balanced = p.balanced;
+        repeated = p.repeated;
+        nothing = p.nothing;
+      }
+
+  -- the book in between is calm, so that nothing of the queues settles
+  pub prepared_calm : ((book : Book) → FloorsHold book → (choice : Choice) × IsGreatest book choice) → IsSound p.book
+      → IsCalm p.book → IsPrepared book core command (record { own = own; auto = None }) rows
+  prepared_calm exists sound calm =
+      let greatest = exists p.book sound.floors in
+      let opened = not_closed p.book.day.automatic (is_closed p.book.day.phase) automatic_between in
+      record {
+        book = p.book;
+        step = whole_step answer.Nothing p.book
+            (resolves_nothing p.book greatest.0 greatest.1 opened (calm automatic_between greatest.0 greatest.1));
         leads = p.leads;
         added = p.added;
         in_range = p.in_range;

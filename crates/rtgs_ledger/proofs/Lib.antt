@@ -7,11 +7,13 @@ pub mod CuttingOff
 pub mod Kept
 pub mod Entering
 pub mod Following
+pub mod Freeing
 pub mod Keys
 pub mod Loading
 pub mod Opening
 pub mod Ordering
 pub mod Posting
+pub mod Reach
 pub mod Reading
 pub mod RecordLemmas
 pub mod Resolving

@@ -2,6 +2,7 @@ pub mod Alone
 pub mod Choosing
 pub mod Closing
 pub mod Following
+pub mod Freeing
 pub mod Keys
 pub mod Kept
 pub mod Kinds

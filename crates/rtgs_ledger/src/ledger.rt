@@ -16,6 +16,7 @@ mod closing;
 mod crediting;
 mod cutting_off;
 mod following;
+mod freeing;
 mod opening;
 mod ordering;
 mod posting;

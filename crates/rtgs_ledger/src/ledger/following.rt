@@ -2,6 +2,7 @@
 ghost use Rattle.std.specs.Prelude.{◌≡◌, IfOk, IfErr, Ok, true, false, filter};
 ghost use Rattle.rtgs_book.specs.declared.book.Book.{Book};
 ghost use Rattle.rtgs_book.specs.Books.{is_automatic};
+ghost use Rattle.rtgs_book.specs.Calm.{IsCalm};
 ghost use Rattle.rtgs_book.specs.Laws.{CommandFits};
 ghost use Rattle.rtgs_book.specs.Outcome.{is_done, resolution_of};
 ghost use Rattle.rtgs_book.specs.Step.{may_free};
@@ -16,6 +17,7 @@ ghost use Rattle.rtgs_ledger.specs.Kinds.{CanAnswer, CanAnswerByItself, is_of_th
 use super::Ledger;
 use super::resolving::rows_of;
 use rtgs_accounts::Accounts;
+use rtgs_book::laws::greatest_exists;
 use rtgs_book::{
     Account, Answer, Change, Command, Day, Phase, Refusal, Resolution, RowChange, Rows, WholeAnswer,
 };
@@ -24,12 +26,13 @@ use rtgs_cores::Found;
 use rtgs_cores::laws::cores_follow_changes;
 use rtgs_laws::laws::{
     new_credit_leaves_the_accounts, own_step_is_determined, own_step_keeps_ranges,
-    own_step_keeps_soundness,
+    own_step_keeps_soundness, quiet_changes_leave_calm,
 };
 use std::alloc::{AllocError, Global};
 
 impl Ledger {
-    /// The whole change, where a resolution follows this change of the command by itself.
+    /// The whole change, where a resolution follows this change of the command by itself. Where nothing can settle that
+    /// could not before the command, nothing is asked of the resolver: the book was calm, and so it is.
     pub(super) fn prepare_following(
         &self,
         command: &Command,
@@ -44,17 +47,23 @@ impl Ledger {
         ensures room { IfOk result (λ (answer, change). HasRoom self.now change) }
         ensures answered { IfOk result (λ (answer, change). CanAnswer command.now answer change) }
         ensures of_the_command { IfErr result (λ refusal. is_of_the_store refusal ≡ false) }
-        ensures prepared { (book : Book) → IsCoreOf book self.now.core → found.now ≡ found_for book command.now
-            → IsPreparedByItself book self.now.core command.now own change
+        ensures prepared { (book : Book) → IsCoreOf book self.now.core → IsCalm book
+            → found.now ≡ found_for book command.now → IsPreparedByItself book self.now.core command.now own change
             → IfOk result (λ (answer, change). IsPrepared book self.now.core command.now answer change) }
         ensures refused { (book : Book) → IsCoreOf book self.now.core → found.now ≡ found_for book command.now
             → IsPreparedByItself book self.now.core command.now own change
             → IfErr result (λ refusal. refusal ≡ Refusal.OutOfMemory) }
     {
         changes_join();
+        greatest_exists();
         new_credit_leaves_the_accounts();
         own_step_is_determined();
+        own_step_keeps_soundness();
+        quiet_changes_leave_calm();
         judge(command);
+        if !self.can_free(&change) {
+            return Ok((WholeAnswer { own, auto: None }, change));
+        }
         if !self.records.counts_marks() {
             return Err(Refusal::NumbersUsedUp);
         }

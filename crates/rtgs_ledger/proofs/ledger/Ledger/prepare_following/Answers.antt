@@ -7,9 +7,20 @@ use Rattle.rtgs_book.specs.Outcome.{is_done}
 use Rattle.rtgs_book.specs.Step.{may_free}
 use Rattle.rtgs_records.specs.Held.{Held}
 use Rattle.rtgs_ledger.specs.Following.{day_after}
-use Rattle.rtgs_ledger.proofs.Following.{all_parts, loud, not_refused, prepared_still, prepared_joined, room_joined}
+use Rattle.rtgs_ledger.proofs.Following.{all_parts, loud, not_refused, prepared_calm, prepared_still}
+use Rattle.rtgs_ledger.proofs.Following.{prepared_joined, room_joined}
 use Rattle.rtgs_ledger.proofs.Whole.{is_of_book, marks_are_counted}
 use Rattle.rtgs_ledger.proofs.ledger.Ledger.prepare_following.Goals as goal
+
+pub returns-then-not-can_free-clause-prepared : goal.returns-then-not-can_free-clause-prepared
+returns-then-not-can_free-clause-prepared c book is calm told p =
+    let k = all_parts (may_free c.args.command.now) (is_done (Ok c.args.own))
+    (is_automatic (day_after c.args.self.now.core.day c.args.change)) c.requires.followed in
+    let sound = c.own_step_keeps_soundness.ensures book p.book c.args.command.now (Ok c.args.own) is.sound p.step in
+    let frees = c.can_free.ensures book p.book is p.leads sound c.if-not-can_free.true in
+    prepared_calm c.own_step_is_determined.ensures book c.args.self.now.core c.args.command.now c.args.own
+    c.args.change is p k.0 c.requires.answered.0 k.1 k.2 c.greatest_exists.ensures sound
+    (c.quiet_changes_leave_calm.ensures book p.book is.sound sound frees calm)
 
 pub returns-then-not-counts_marks-clause-refused : goal.returns-then-not-counts_marks-clause-refused
 returns-then-not-counts_marks-clause-refused c book is told p =
@@ -28,7 +39,7 @@ returns-in_err-settled-clause-refused c book is told p =
     (c.in_err-settled.ensures.refused book is told))
 
 pub returns-in_default-clause-prepared : goal.returns-in_default-clause-prepared
-returns-in_default-clause-prepared c book is told p =
+returns-in_default-clause-prepared c book is calm told p =
     let k = all_parts (may_free c.args.command.now) (is_done (Ok c.args.own))
     (is_automatic (day_after c.args.self.now.core.day c.args.change)) c.requires.followed in
     prepared_still c.own_step_is_determined.ensures book c.args.self.now.core c.args.command.now c.args.own
@@ -53,7 +64,7 @@ returns-clause-answered c =
     ((c.requires.answered.0, λ _. acted), loud c.args.command.now c.args.own _ k.0 c.requires.answered.0 k.1)
 
 pub returns-clause-prepared : goal.returns-clause-prepared
-returns-clause-prepared c book is told p =
+returns-clause-prepared c book is calm told p =
     let k = all_parts (may_free c.args.command.now) (is_done (Ok c.args.own))
     (is_automatic (day_after c.args.self.now.core.day c.args.change)) c.requires.followed in
     rw c.in_ok-whole.ensures (prepared_joined c.own_step_is_determined.ensures book c.args.self.now.core
