@@ -1,4 +1,5 @@
 use Rattle.std.proofs.Common.{◌≡◌, ◌∙◌, ◌&&◌, Ok, ap, sym, subst, inl}
+use Rattle.std.specs.Prelude.{IfOk}
 use Rattle.std.proofs.lemmas.Result.{IfErr-weaker, err_from_is_err_and}
 use Rattle.rtgs_book.specs.declared.refusal.Refusal.TheVariants.{OutOfMemory}
 use Rattle.rtgs_book.specs.declared.day.Day.{Day}
@@ -8,7 +9,7 @@ use Rattle.rtgs_book.specs.Step.{may_free}
 use Rattle.rtgs_cores.specs.declared.Core.{Core}
 use Rattle.rtgs_cores.specs.Cores.{IsCoreOf}
 use Rattle.rtgs_ledger.specs.Following.{day_after}
-use Rattle.rtgs_ledger.specs.Kept.{IsCommandRefused, IsPreparedByItself}
+use Rattle.rtgs_ledger.specs.Kept.{IsCommandRefused, IsPrepared, IsPreparedByItself}
 use Rattle.rtgs_ledger.proofs.Following.{all_parts, day_left, prepared_alone, refused_alone}
 use Rattle.rtgs_ledger.proofs.ledger.Ledger.prepare.Goals as goal
 
@@ -26,6 +27,16 @@ pub returns-in_err-own-clause-refused : goal.returns-in_err-own-clause-refused
 returns-in_err-own-clause-refused c book is calm told =
     let told_on = err_from_is_err_and c.from_residual.result c.from_residual.ensures.1 in
     rw (told_on.1, told_on.2) (refused_alone book c.args.command.now _ (c.in_err-own.ensures.refused book is told))
+
+pub returns-clause-prepared : goal.returns-clause-prepared
+returns-clause-prepared c book is calm told =
+    let core = c.in_ok-own.ensures.core in
+    let p = c.in_ok-own.ensures.prepared book is told in
+    subst (λ (k : Core). IfOk c.prepare_following.result
+    (λ (answer, change). IsPrepared book k c.args.command.now answer change)) core
+    (c.prepare_following.ensures.prepared book (subst (IsCoreOf book) (sym core) is) calm told
+    (subst (λ (k : Core). IsPreparedByItself book k c.args.command.now c.in_ok-own.own c.in_ok-own.change) (sym core)
+    p))
 
 -- what follows lacks memory after a command that would act
 pub returns-clause-refused : goal.returns-clause-refused
