@@ -220,7 +220,7 @@ pub steps_taken : (queues : List (List Payment)) (s : ℕ) (before taken tested 
     → s < length queues → SameButWaiting before taken → IsTaken s before taken → IsTested taken tested
     → IsTakenBack queues s tested back → SameButWaiting back after
     → steps_of after + waiting_count after ≤ steps_of back + waiting_count back + 2
-    → steps_of after + steps_left queues after ≤ steps_of before + steps_left queues before
+    → steps_left queues after + 2 ≤ steps_left queues before
 steps_taken queues s before taken tested back after is_one same take test removed listed two =
     let fell = sum_below_changed (length queues) (choice_of tested) (choice_of back) s 1 is_one (sym removed.fewer)
     (λ p ne. sym (removed.others p ne)) in
@@ -228,15 +228,13 @@ steps_taken queues s before taken tested back after is_one same take test remove
     omega (
       arith,
       two,
+      listed.steps,
       fell,
       waits,
-      removed.steps,
       kept_count queues back after listed.choice,
       taken_count s before
           taken tested take test,
       kept_count queues before tested (test.choice ∙ same.choice),
-      same.steps,
-      test.steps,
     )
 
 -- when nobody is waiting, the lengths are those of the greatest choice

@@ -1,5 +1,5 @@
 -- Standings by index, and the sums that they hold.
-use Rattle.std.specs.Prelude.{◌≡◌, ℕ, ◌<◌, ◌≤◌, List, length, ◌+ℤ◌, pos, slice_index_or}
+use Rattle.std.specs.Prelude.{◌≡◌, ℕ, ◌+◌, ◌^◌, ◌<◌, ◌≤◌, List, length, ◌+ℤ◌, pos, slice_index_or}
 use Rattle.rtgs_gridlock.specs.declared.queues.Payment.{Payment}
 use Rattle.rtgs_gridlock.specs.declared.positions.Position.{Position}
 use Rattle.rtgs_gridlock.specs.declared.standings.Standing.{Standing}
@@ -9,6 +9,12 @@ use Rattle.rtgs_gridlock.specs.Choices.{position_of, queue_of, sent, received}
 pub record CountedStandings : Type 0 where
   pub list : List Standing
   pub steps : ℕ
+
+-- a step more is counted, but that the count stays below 2^64
+pub record IsCounted (old new : ℕ) : Type 0 where
+  pub counted : old + 1 < 2 ^ 64 → new ≡ old + 1
+  pub rises : old ≤ new
+  pub most : new ≤ old + 1
 
 -- the standing of a participant
 abbrev pub standing_at : List Standing → ℕ → Standing

@@ -1,11 +1,11 @@
 -- What a workspace holds, and what its steps do.
-use Rattle.std.specs.Prelude.{◌≡◌, ℕ, List, length, take, ◌+◌, ◌-◌, ◌*◌, ◌^◌, ◌<◌, ◌≤◌, ◌==◌, slice_index}
+use Rattle.std.specs.Prelude.{◌≡◌, ℕ, List, length, take, ◌+◌, ◌-◌, ◌*◌, ◌<◌, ◌≤◌, ◌==◌, slice_index}
 use Rattle.std.specs.Prelude.{slice_index_or, vec_len, if◌then◌else◌}
 use Rattle.rtgs_gridlock.specs.declared.positions.Position.{Position}
 use Rattle.rtgs_gridlock.specs.declared.queues.Payment.{Payment}
 use Rattle.rtgs_gridlock.specs.declared.workspace.Workspace.{Workspace}
 use Rattle.rtgs_gridlock.specs.Choices.{sum_below, queue_of, payment_count, amount_to}
-use Rattle.rtgs_gridlock.specs.Standings.{funds_of, owed_of, everything, AreStandings}
+use Rattle.rtgs_gridlock.specs.Standings.{funds_of, owed_of, everything, AreStandings, IsCounted}
 use Rattle.rtgs_gridlock.specs.Listed.{IsOn, on_count}
 
 -- for how many participants there is room
@@ -59,11 +59,10 @@ pub record CanTakeBack (queues : List (List Payment)) (index : ℕ) (workspace :
   pub funds : (newest queues (choice_of workspace) index).amount
       ≤ funds_of workspace.standings.list (newest queues (choice_of workspace) index).receiver
 
--- there is room for the participants and payments of the queues, and for counting their steps
+-- there is room for the participants and payments of the queues
 pub record HasRoomFor (workspace : Workspace) (queues : List (List Payment)) : Type 0 where
   pub participants : length queues ≤ reserved_participants workspace
   pub payments : payment_count queues ≤ reserved_payments workspace
-  pub steps : steps_of workspace < 2 ^ 98
 
 -- what was reserved stays
 pub record KeepsRoom (old new : Workspace) : Type 0 where
@@ -98,7 +97,7 @@ pub record IsTested (old new : Workspace) : Type 0 where
   pub choice : new.lengths ≡ old.lengths
   pub standings : new.standings.list ≡ old.standings.list
   pub waiting : new.waiting ≡ old.waiting
-  pub steps : steps_of new ≡ steps_of old + 1
+  pub steps : IsCounted (steps_of old) (steps_of new)
   pub payments : reserved_payments new ≡ reserved_payments old
 
 -- a participant's newest chosen payment is taken back, which counts
@@ -112,5 +111,5 @@ pub record IsTakenBack (queues : List (List Payment)) (index : ℕ) (old new : W
       owed_of new.standings.list p + (if p == index then (newest queues (choice_of old) index).amount else 0)
       ≡ owed_of old.standings.list p
   pub waiting : new.waiting ≡ old.waiting
-  pub steps : steps_of new ≡ steps_of old + 1
+  pub steps : IsCounted (steps_of old) (steps_of new)
   pub room : KeepsRoom old new

@@ -50,7 +50,6 @@ fn begin(positions: &Positions, queues: &Queues, workspace: &mut Workspace)
 fn take_turns(queues: &Queues, workspace: &mut Workspace)
     requires receivers { AreInRange queues.now }
     requires resolving { (positions : List Position) × IsResolving positions queues.now workspace.old }
-    requires few { steps_of workspace.old + steps_left queues.now workspace.old < 2 ^ 99 }
     ensures length { length (lengths_of workspace.new) ≡ length queues.now }
     ensures greatest { (positions : List Position) → IsResolving positions queues.now workspace.old →
         IsGreatest positions queues.now (slice_index (lengths_of workspace.new)) }
@@ -67,12 +66,12 @@ fn take_turns(queues: &Queues, workspace: &mut Workspace)
 fn turn(queues: &Queues, workspace: &mut Workspace) -> bool
     requires receivers { AreInRange queues.now }
     requires resolving { (positions : List Position) × IsResolving positions queues.now workspace.old }
-    requires few { steps_of workspace.old < 2 ^ 99 }
     ensures resolving { (positions : List Position) → IsResolving positions queues.now workspace.old →
         IsResolving positions queues.now workspace.new }
     ensures ended { IsFalse result →
         (waiting_count workspace.new ≡ 0) × (steps_of workspace.new ≡ steps_of workspace.old) }
-    ensures counted { IsTrue result → steps_of workspace.old < steps_of workspace.new }
+    ensures fewer { IsTrue result → steps_left queues.now workspace.new < steps_left queues.now workspace.old }
+    ensures counted { steps_of workspace.old ≤ steps_of workspace.new }
 
     // The steps that were taken and those that may still come are no more than before.
     ensures steps { steps_of workspace.new + steps_left queues.now workspace.new

@@ -3,7 +3,7 @@ ghost use Rattle.std.specs.Prelude.{sum_by, if◌then◌else◌};
 ghost use Rattle.rtgs_gridlock.specs.declared.queues.TheConstants.{LARGEST_AMOUNT};
 ghost use Rattle.rtgs_gridlock.specs.Choices.{amount_to, position_of, queue_of, payment_count, received, AreFloored};
 ghost use Rattle.rtgs_gridlock.specs.Choices.{AreInRange};
-ghost use Rattle.rtgs_gridlock.specs.Standings.{funds_of, owed_of, everything, HasEnough, AreStandings};
+ghost use Rattle.rtgs_gridlock.specs.Standings.{funds_of, owed_of, everything, HasEnough, AreStandings, IsCounted};
 
 use crate::positions::Positions;
 use crate::queues::{Payment, Queues};
@@ -20,11 +20,11 @@ pub struct Standing {
 
 /// Each participant's standing by the present choice, by its index, and how many steps were taken.
 /// A step is one cover test (`covers`) or one removal (`take_back`), and each counts itself. Only
-/// `reserve` begins at 0.
+/// `reserve` begins at 0, and a count of 2^64 - 1 stays.
 #[derive(Drop)]
 pub struct Standings {
     list: Vec<Standing>,
-    steps: u128,
+    steps: u64,
 }
 
 impl Model for Standings {
@@ -46,7 +46,7 @@ impl Standings {
     }
 
     /// How many cover tests and removals were taken since room was reserved.
-    pub fn steps(&self) -> u128
+    pub fn steps(&self) -> u64
         ensures { result ≡ self.now.steps }
     {
         self.steps
@@ -71,12 +71,11 @@ impl Standings {
     /// counts as a step.
     pub fn covers(&mut self, index: usize) -> bool
         requires index { index < length self.old.list }
-        requires steps { self.old.steps + 1 < 2 ^ 128 }
         ensures answer { IsTrue result ↔ HasEnough self.new.list index }
         ensures same { self.new.list ≡ self.old.list }
-        ensures steps { self.new.steps ≡ self.old.steps + 1 }
+        ensures steps { IsCounted self.old.steps self.new.steps }
     {
-        self.steps += 1;
+        self.steps = self.steps.saturating_add(1);
         let Standing { funds, owed } = self.list[index];
         owed <= funds
     }
@@ -87,14 +86,13 @@ impl Standings {
         requires parties { (sender < length self.old.list) × (payment.receiver < length self.old.list) }
         requires owed { payment.amount ≤ owed_of self.old.list sender }
         requires funds { payment.amount ≤ funds_of self.old.list payment.receiver }
-        requires steps { self.old.steps + 1 < 2 ^ 128 }
         ensures funds { (p : ℕ) → funds_of self.new.list p + amount_to p payment ≡ funds_of self.old.list p }
         ensures owed { (p : ℕ) →
             owed_of self.new.list p + (if p == sender then payment.amount else 0) ≡ owed_of self.old.list p }
         ensures room { length self.new.list ≡ length self.old.list }
-        ensures steps { self.new.steps ≡ self.old.steps + 1 }
+        ensures steps { IsCounted self.old.steps self.new.steps }
     {
-        self.steps += 1;
+        self.steps = self.steps.saturating_add(1);
         let amount = u128::from(payment.amount);
         let from = &mut self.list[sender];
         from.owed -= amount;

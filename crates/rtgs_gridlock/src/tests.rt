@@ -42,7 +42,7 @@ fn lengths(rt: &impl Abort, alloc: Global, book: &Book) -> Result<Vec<usize>, Fa
     assert!(rt; queues.payment_count() == Some(payments));
     greatest(positions, queues, &mut workspace);
     let bound = participants as u128 + 3 * payments as u128;
-    assert!(rt; workspace.steps() <= bound);
+    assert!(rt; u128::from(workspace.steps()) <= bound);
     Ok(workspace.lengths().to_vec(alloc)?)
 }
 

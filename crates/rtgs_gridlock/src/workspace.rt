@@ -65,8 +65,8 @@ impl Workspace {
 
     /// How many cover tests and removals were taken since this workspace was made, in all
     /// resolutions together. The difference of two counts says what the resolutions between them
-    /// took: for each at most n + 3q, as `greatest` says.
-    pub fn steps(&self) -> u128
+    /// took: for each at most n + 3q, as `greatest` says. The count stays at 2^64 - 1.
+    pub fn steps(&self) -> u64
         ensures { result ≡ steps_of self.now }
     {
         self.standings.steps()
@@ -90,7 +90,6 @@ impl Workspace {
     /// Whether a participant's position is at least its floor. It counts as a step.
     pub(crate) fn covered(&mut self, index: usize) -> bool
         requires index { index < reserved_participants self.old }
-        requires steps { steps_of self.old < 2 ^ 100 }
         ensures answer { IsTrue result ↔ HasEnough self.new.standings.list index }
         ensures tested { IsTested self.old self.new }
     {
@@ -103,7 +102,6 @@ impl Workspace {
         requires index { index < length queues.now }
         requires room { length queues.now ≤ reserved_participants self.old }
         requires payment { CanTakeBack queues.now index self.old }
-        requires steps { steps_of self.old < 2 ^ 100 }
         ensures payment { result ≡ newest queues.now (choice_of self.old) index }
         ensures taken_back { IsTakenBack queues.now index self.old self.new }
     {

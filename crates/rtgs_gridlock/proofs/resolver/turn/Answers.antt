@@ -33,6 +33,15 @@ returns-then-not-covered-clause-resolving c = λ positions is.
     listed.sender_waits receiver listed.others_wait c.list_parties.ensures.inside in
     search rules
 
+pub returns-then-not-covered-clause-fewer : goal.returns-then-not-covered-clause-fewer
+returns-then-not-covered-clause-fewer c = λ _.
+    let spent = steps_taken c.args.queues.now c.in-Some.index c.args.workspace.now c.next_waiting.new.self
+    c.covered.new.self c.take_back-payment.new.self c.list_parties.new.self
+    (c.requires.resolving.1.inside c.in-Some.index c.in-Some.ensures.taken.1) c.in-Some.ensures.same
+    c.in-Some.ensures.taken c.covered.ensures.tested c.take_back-payment.ensures.taken_back
+    c.list_parties.ensures.same c.list_parties.ensures.steps in
+    omega (arith, spent)
+
 pub returns-then-not-covered-clause-steps : goal.returns-then-not-covered-clause-steps
 returns-then-not-covered-clause-steps c =
     let spent = steps_taken c.args.queues.now c.in-Some.index c.args.workspace.now c.next_waiting.new.self
@@ -40,4 +49,11 @@ returns-then-not-covered-clause-steps c =
     (c.requires.resolving.1.inside c.in-Some.index c.in-Some.ensures.taken.1) c.in-Some.ensures.same
     c.in-Some.ensures.taken c.covered.ensures.tested c.take_back-payment.ensures.taken_back
     c.list_parties.ensures.same c.list_parties.ensures.steps in
-    omega (arith, spent)
+    omega (
+      arith,
+      spent,
+      c.in-Some.ensures.same.steps,
+      c.covered.ensures.tested.steps.most,
+      c.take_back-payment.ensures.taken_back.steps.most,
+      c.list_parties.ensures.same.steps,
+    )
