@@ -1,5 +1,5 @@
 //! The region of a request's head, from pieces of the input.
-ghost use Rattle.std.specs.Prelude.{◌≡◌, ◌≤◌, ℕ, List, [], true, false, vec_capacity, IfOk, OnOk, OnErr};
+ghost use Rattle.std.specs.Prelude.{◌≡◌, ◌≤◌, ◌++◌, ◌∷◌, ℕ, List, [], true, false, vec_capacity, IfOk, OnOk, OnErr};
 ghost use Rattle.rtgs_http_feeds.specs.Region.{ends_region, IsOpen, TakesHead};
 
 use crate::head_step::HeadStep;
@@ -74,7 +74,7 @@ fn take_head(seen: &mut Vec<u8>, piece: &[u8]) -> HeadStep
         let Ok(()) = seen.push(*byte) else {
             unreachable!();
         };
-        if ends_region(seen) {
+        if is_end(*byte, seen) {
             return HeadStep::Region { taken: index + 1 };
         }
         if seen.len() == LONGEST_HEAD {
@@ -82,6 +82,15 @@ fn take_head(seen: &mut Vec<u8>, piece: &[u8]) -> HeadStep
         }
     }
     HeadStep::More
+}
+
+// Whether these bytes, of which this is the last, end a region. All but line feeds tell at once that they do not.
+#[tactic(auto, using(crate::proofs::LastByte::line_feed_ends))]
+fn is_end(last: u8, seen: &[u8]) -> bool
+    requires { (front : List ℕ) × (seen.now ≡ front ++ last ∷ []) }
+    ensures { result ≡ ends_region seen.now }
+{
+    last == b'\n' && ends_region(seen)
 }
 
 // Whether these bytes end a region.

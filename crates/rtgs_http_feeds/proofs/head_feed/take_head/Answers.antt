@@ -1,9 +1,17 @@
-use Rattle.std.proofs.Common.{rules, ◌≡◌, true, ◌+◌, ◌∷◌, [], ◌++◌, get_or, arith}
+use Rattle.std.proofs.Common.{rules, ◌≡◌, true, ◌+◌, ◌∷◌, [], ◌++◌, ◌∙◌, get_or, arith}
 use Rattle.std.specs.Result.{is_ok}
 use Rattle.rtgs_http_feeds.specs.declared.limits.TheConstants.{LONGEST_HEAD}
 use Rattle.rtgs_http_feeds.specs.Region.{HasNoEnd}
 use Rattle.rtgs_http_feeds.proofs.Growth.{taken_more, no_end_more, front_of}
 use Rattle.rtgs_http_feeds.proofs.head_feed.take_head.Goals as goal
+
+pub is_end-requires : goal.is_end-requires
+is_end-requires c =
+    let good : is_ok c.push.result ≡ true = search rules in
+    let pushed : c.push.new.self.items ≡ c.loop-index.seen.items ++ get_or c.args.piece.now c.loop-index.index 0 ∷ [] =
+    rw good at c.push.ensures.items in
+    let lent : c.deref.result.now ≡ c.push.new.self.items = search rules in
+    (c.loop-index.seen.items, lent ∙ pushed)
 
 pub returns-then-len-eq-LONGEST_HEAD-clause-step : goal.returns-then-len-eq-LONGEST_HEAD-clause-step
 returns-then-len-eq-LONGEST_HEAD-clause-step c =
