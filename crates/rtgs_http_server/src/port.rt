@@ -5,8 +5,9 @@ use crate::connections::Connections;
 use crate::reply_writer::ReplyWriter;
 use crate::request_reader::RequestReader;
 use std::io;
-use std::io::Read;
+use std::io::{ErrorKind, Read};
 use std::net::{Ipv4Addr, TcpListener};
+use std::rc::Rc;
 
 /// How many pieces are read and dropped after a reply, at most.
 const MOST_PIECES_DROPPED: usize = 64;
@@ -38,7 +39,10 @@ impl Port {
     // The next connection: what its request is read from, and what its reply is written to.
     fn next(&self) -> io::Result<(RequestReader, ReplyWriter)> {
         let (stream, _) = self.listener.accept()?;
-        let writer = ReplyWriter::new(&self.rt, stream.try_clone()?);
+        let Ok(stream) = Rc::new(self.rt.alloc(), stream) else {
+            return Err(io::Error::from(ErrorKind::OutOfMemory));
+        };
+        let writer = ReplyWriter::new(&self.rt, stream.clone()?);
         Ok((RequestReader::new(&self.rt, stream)?, writer))
     }
 }

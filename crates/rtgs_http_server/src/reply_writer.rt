@@ -3,6 +3,7 @@ use crate::deadline::Deadline;
 use std::io;
 use std::io::Write;
 use std::net::{Shutdown, TcpStream};
+use std::rc::Rc;
 use std::time::Duration;
 
 /// How many seconds all writes of one reply may take together.
@@ -13,13 +14,13 @@ const SECONDS_FOR_A_REPLY: u64 = 5;
 #[derive(Drop)]
 pub struct ReplyWriter {
     rt: HostRuntime,
-    stream: TcpStream,
+    stream: Rc<TcpStream>,
     deadline: Option<Deadline>,
 }
 
 impl ReplyWriter {
     /// Writes to this connection.
-    pub fn new(rt: &HostRuntime, stream: TcpStream) -> ReplyWriter {
+    pub fn new(rt: &HostRuntime, stream: Rc<TcpStream>) -> ReplyWriter {
         ReplyWriter {
             rt: *rt,
             stream,
@@ -46,11 +47,13 @@ impl ReplyWriter {
 impl Write for ReplyWriter {
     fn write(&mut self, bytes: &[u8]) -> io::Result<usize> {
         let left = self.time_left()?;
-        self.stream.set_write_timeout(Some(left))?;
-        self.stream.write(bytes)
+        let mut stream = &*self.stream;
+        stream.set_write_timeout(Some(left))?;
+        stream.write(bytes)
     }
 
+    // Each write hands its bytes to the system.
     fn flush(&mut self) -> io::Result<()> {
-        self.stream.flush()
+        Ok(())
     }
 }

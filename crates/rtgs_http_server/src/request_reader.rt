@@ -3,6 +3,7 @@ use crate::deadline::Deadline;
 use std::io;
 use std::io::Read;
 use std::net::TcpStream;
+use std::rc::Rc;
 
 /// How many seconds all reads of one request may take together.
 const SECONDS_FOR_A_REQUEST: u64 = 5;
@@ -15,13 +16,13 @@ const SECONDS_AFTER_A_REPLY: u64 = 1;
 #[derive(Drop)]
 pub struct RequestReader {
     rt: HostRuntime,
-    stream: TcpStream,
+    stream: Rc<TcpStream>,
     deadline: Deadline,
 }
 
 impl RequestReader {
     /// Reads from this connection, from now on. The error is the system's, which did not tell the time.
-    pub fn new(rt: &HostRuntime, stream: TcpStream) -> io::Result<RequestReader> {
+    pub fn new(rt: &HostRuntime, stream: Rc<TcpStream>) -> io::Result<RequestReader> {
         Ok(RequestReader {
             rt: *rt,
             stream,
@@ -39,7 +40,8 @@ impl RequestReader {
 
 impl Read for RequestReader {
     fn read(&mut self, room: &mut [u8]) -> io::Result<usize> {
-        self.stream.set_read_timeout(Some(self.deadline.left()?))?;
-        self.stream.read(room)
+        let mut stream = &*self.stream;
+        stream.set_read_timeout(Some(self.deadline.left()?))?;
+        stream.read(room)
     }
 }

@@ -2,6 +2,7 @@
 use rtgs_http_server::ReplyWriter;
 use std::io::{ErrorKind, Write};
 use std::net::{Ipv4Addr, TcpListener, TcpStream};
+use std::rc::Rc;
 use std::test::Fail;
 use std::time::Instant;
 
@@ -23,7 +24,7 @@ fn writes_to_a_peer_that_never_reads_come_to_an_end(rt: HostRuntime) -> Result<(
     let port = listener.local_addr()?.port();
     let peer = TcpStream::connect(&rt, (Ipv4Addr::LOCALHOST, port))?;
     let (stream, _) = listener.accept()?;
-    let mut writer = ReplyWriter::new(&rt, stream);
+    let mut writer = ReplyWriter::new(&rt, Rc::new(rt.alloc(), stream)?);
     let piece = "x".repeat(rt.alloc(), 1000000)?;
     let begun = Instant::now(&rt)?;
     let first = failure(&mut writer, piece.as_bytes(), 1000)?;
