@@ -9,6 +9,7 @@ ghost use Rattle.rtgs_http_heads.specs.Targets.{is_plain_byte, is_plain_target, 
 use crate::head_fault::HeadFault;
 use crate::route::Route;
 use crate::tables::{command_routes, read_routes};
+use crate::whole_paths::whole_route;
 use matchit::{Params, Router};
 use std::alloc::Global;
 
@@ -23,6 +24,9 @@ pub fn route_of<'a>(
 ) -> Result<(Route, &'a str), HeadFault>
     ensures { GivesRoute method.now target.now result }
 {
+    if let Some(route) = whole_route(method, target) {
+        return Ok((route, ""));
+    }
     let Some(path) = plain_target(target) else {
         return Err(HeadFault::NoSuchRoute);
     };
