@@ -13,6 +13,8 @@ pub enum Reading {
     Order { sender: Code, reference: Reference },
     /// The account of a participant.
     Account { code: Code },
+    /// The accounts of all participants.
+    Accounts,
     /// The queue of a participant.
     Queue { code: Code },
     /// The statement of a participant for a date.
