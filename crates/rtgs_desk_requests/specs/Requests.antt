@@ -10,8 +10,8 @@ use Rattle.rtgs_desk_requests.specs.declared.command_words.CommandWords.{Command
 use Rattle.rtgs_desk_requests.specs.declared.command_words.CommandWords.TheVariants.{Add, Credit, Post, Open, Resolve}
 use Rattle.rtgs_desk_requests.specs.declared.command_words.CommandWords.TheVariants.{CutOff, Close, Withdraw}
 use Rattle.rtgs_desk_requests.specs.declared.reading_words.ReadingWords.{ReadingWords}
-use Rattle.rtgs_desk_requests.specs.declared.reading_words.ReadingWords.TheVariants.{Order, Account, Queue, Statement}
-use Rattle.rtgs_desk_requests.specs.declared.reading_words.ReadingWords.TheVariants.{Report}
+use Rattle.rtgs_desk_requests.specs.declared.reading_words.ReadingWords.TheVariants.{Order, Account, Accounts}
+use Rattle.rtgs_desk_requests.specs.declared.reading_words.ReadingWords.TheVariants.{Queue, Statement, Report}
 use Rattle.rtgs_desk_requests.specs.declared.words.Words.{Words}
 use Rattle.rtgs_desk_requests.specs.declared.words.Words.TheVariants as words
 use Rattle.rtgs_desk_requests.specs.declared.request.Request.{Request}
@@ -42,6 +42,7 @@ abbrev pub ReadsReading : ReadingWords → Result Reading Lexical → Type 0
 ReadsReading (Order code reference) result = IsMadeOf (ReadsOrderName code.now reference.now)
     (λ order. reading.Order order.0 order.1) result
 ReadsReading (Account code) result = IsMadeOf (ReadsCode code.now) (λ code. reading.Account code) result
+ReadsReading Accounts result = result ≡ Ok reading.Accounts
 ReadsReading (Queue code) result = IsMadeOf (ReadsCode code.now) (λ code. reading.Queue code) result
 ReadsReading (Statement code date) result = IsMadeOf (ReadsStatement code.now date.now)
     (λ read. reading.Statement read.0 read.1) result

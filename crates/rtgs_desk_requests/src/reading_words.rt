@@ -10,6 +10,7 @@ use rtgs_money::Lexical;
 pub enum ReadingWords<'a> {
     Order { code: &'a str, reference: &'a str },
     Account { code: &'a str },
+    Accounts,
     Queue { code: &'a str },
     Statement { code: &'a str, date: &'a str },
     Report { date: &'a str },
@@ -29,6 +30,7 @@ impl ReadingWords<'_> {
                 let code = read_code(code)?;
                 Ok(Reading::Account { code })
             }
+            ReadingWords::Accounts => Ok(Reading::Accounts),
             ReadingWords::Queue { code } => {
                 let code = read_code(code)?;
                 Ok(Reading::Queue { code })
