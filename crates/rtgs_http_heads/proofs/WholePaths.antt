@@ -10,6 +10,7 @@ use Rattle.rtgs_http_heads.specs.declared.route.Route.TheVariants.{Bank, Operato
 use Rattle.rtgs_http_heads.specs.declared.bank_route.BankRoute.TheVariants.{SendOrder, SendBatch, ReadAccount, ReadQueue}
 use Rattle.rtgs_http_heads.specs.declared.operator_route.OperatorRoute.TheVariants.{Post, SetCredit, OpenDay}
 use Rattle.rtgs_http_heads.specs.declared.operator_route.OperatorRoute.TheVariants.{Resolve, CutOff, CloseDay}
+use Rattle.rtgs_http_heads.specs.declared.operator_route.OperatorRoute.TheVariants.{ReadAccounts}
 
 -- The target is plain, and the whole path of this row.
 abbrev IsWhole : Paths → List ℕ → Route → Type 0
@@ -30,6 +31,12 @@ pub queue_is_whole : (target : List ℕ) → bytes_eq target (codes "/queue") �
     → IsWhole read_paths target (Bank ReadQueue)
 unfolding matchit_on_literals
 queue_is_whole target e = by_text read_paths target (codes "/queue") (Bank ReadQueue) e (refl, refl)
+
+pub accounts_is_whole : (target : List ℕ) → bytes_eq target (codes "/desk/accounts") ≡ true
+    → IsWhole read_paths target (Operator ReadAccounts)
+unfolding matchit_on_literals
+accounts_is_whole target e =
+    by_text read_paths target (codes "/desk/accounts") (Operator ReadAccounts) e (refl, refl)
 
 pub orders_is_whole : (target : List ℕ) → bytes_eq target (codes "/orders") ≡ true
     → IsWhole command_paths target (Bank SendOrder)

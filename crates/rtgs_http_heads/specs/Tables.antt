@@ -14,7 +14,7 @@ use Rattle.rtgs_http_heads.specs.declared.bank_route.BankRoute.TheVariants.{Read
 use Rattle.rtgs_http_heads.specs.declared.bank_route.BankRoute.TheVariants.{ReadStatement}
 use Rattle.rtgs_http_heads.specs.declared.operator_route.OperatorRoute.TheVariants.{Post, SetCredit, OpenDay}
 use Rattle.rtgs_http_heads.specs.declared.operator_route.OperatorRoute.TheVariants.{Resolve, CutOff, CloseDay}
-use Rattle.rtgs_http_heads.specs.declared.operator_route.OperatorRoute.TheVariants.{ReadReport}
+use Rattle.rtgs_http_heads.specs.declared.operator_route.OperatorRoute.TheVariants.{ReadReport, ReadAccounts}
 
 -- a path, with a name in braces where a parameter stands, and its route
 abbrev pub Paths : Type 0
@@ -27,6 +27,7 @@ read_paths =
     ∷ (codes "/queue", Bank ReadQueue)
     ∷ (codes "/statements/{date}", Bank ReadStatement)
     ∷ (codes "/desk/report/{date}", Operator ReadReport)
+    ∷ (codes "/desk/accounts", Operator ReadAccounts)
     ∷ []
 
 abbrev pub command_paths : Paths

@@ -19,6 +19,7 @@ pub fn read_routes(alloc: Global) -> Result<Router<Route>, AllocError>
     ensures { IfOk result (λ router. router ≡ holding read_paths) }
 {
     let mut router = Router::new(alloc);
+    add_operator(&mut router, "/desk/accounts", OperatorRoute::ReadAccounts)?;
     add_operator(
         &mut router,
         "/desk/report/{date}",

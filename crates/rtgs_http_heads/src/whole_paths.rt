@@ -35,6 +35,9 @@ fn whole_reading(target: &[u8]) -> Option<Route>
     if target == b"/queue".as_slice() {
         return Some(Route::Bank(BankRoute::ReadQueue));
     }
+    if target == b"/desk/accounts".as_slice() {
+        return Some(Route::Operator(OperatorRoute::ReadAccounts));
+    }
     None
 }
 
