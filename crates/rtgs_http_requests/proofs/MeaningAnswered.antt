@@ -15,6 +15,7 @@ use Rattle.rtgs_http_heads.specs.declared.bank_route.BankRoute.TheVariants.{Read
 use Rattle.rtgs_http_heads.specs.declared.operator_route.OperatorRoute.{OperatorRoute}
 use Rattle.rtgs_http_heads.specs.declared.operator_route.OperatorRoute.TheVariants.{Post, SetCredit, OpenDay, Resolve}
 use Rattle.rtgs_http_heads.specs.declared.operator_route.OperatorRoute.TheVariants.{CutOff, CloseDay, ReadReport}
+use Rattle.rtgs_http_heads.specs.declared.operator_route.OperatorRoute.TheVariants.{ReadAccounts}
 use Rattle.rtgs_http_requests.specs.Bodies.{ReadsJson}
 use Rattle.rtgs_http_requests.specs.Contents.{FindsContent, OrderValues, HasOrder, HasPosting, HasCredit, HasDate}
 use Rattle.rtgs_http_requests.specs.Contents.{HasOpening, HasNothing}
@@ -247,6 +248,7 @@ operator_answered Resolve parameter body = plainly_answered body (Submit command
 operator_answered CutOff parameter body = day_answered body (λ date. Submit (command.CutOff date))
 operator_answered CloseDay parameter body = day_answered body (λ date. Submit (command.CloseDay date))
 operator_answered ReadReport parameter body = dated_answered parameter (λ date. Read (reading.Report date))
+operator_answered ReadAccounts parameter body = value_answered (Read reading.Accounts)
 
 pub meaning_answered : Global → (caller : Admitted) (parameter body : List ℕ) → HasAnswer (Means caller parameter body)
 meaning_answered alloc (admitted.Bank route caller) parameter body = bank_answered alloc route caller parameter body

@@ -9,6 +9,7 @@ use Rattle.rtgs_http_heads.specs.declared.bank_route.BankRoute.TheVariants.{Read
 use Rattle.rtgs_http_heads.specs.declared.operator_route.OperatorRoute.{OperatorRoute}
 use Rattle.rtgs_http_heads.specs.declared.operator_route.OperatorRoute.TheVariants.{Post, SetCredit, OpenDay, Resolve}
 use Rattle.rtgs_http_heads.specs.declared.operator_route.OperatorRoute.TheVariants.{CutOff, CloseDay, ReadReport}
+use Rattle.rtgs_http_heads.specs.declared.operator_route.OperatorRoute.TheVariants.{ReadAccounts}
 use Rattle.rtgs_http_requests.specs.Bodies.{ReadsJson}
 use Rattle.rtgs_http_requests.specs.Contents.{FindsContent, HasOrder, HasPosting, HasCredit, HasDate, HasOpening}
 use Rattle.rtgs_http_requests.specs.Contents.{HasNothing}
@@ -134,6 +135,7 @@ operator_once laws Resolve parameter body = plainly_once body (Submit command.Re
 operator_once laws CutOff parameter body = day_once laws body (λ date. Ok (Submit (command.CutOff date)))
 operator_once laws CloseDay parameter body = day_once laws body (λ date. Ok (Submit (command.CloseDay date)))
 operator_once laws ReadReport parameter body = dated_once laws parameter (λ date. Ok (Read (reading.Report date)))
+operator_once laws ReadAccounts parameter body = told_equal (Ok (Read reading.Accounts))
 
 pub meant_once : LowerLaws → (caller : Admitted) (parameter body : List ℕ) (one other : Answer)
     → Means caller parameter body one → Means caller parameter body other → Agree AreTheSame one other

@@ -32,6 +32,7 @@ IsReadingOf code (reading.Account other) = other ≡ code
 IsReadingOf code (reading.Queue other) = other ≡ code
 IsReadingOf code (reading.Statement other date) = other ≡ code
 IsReadingOf code (reading.Report date) = ⊥
+IsReadingOf code reading.Accounts = ⊥
 
 -- What is asked is this participant's own.
 abbrev pub IsOwn : List ℕ → Asked → Type 0

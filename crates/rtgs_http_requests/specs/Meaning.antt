@@ -14,7 +14,7 @@ use Rattle.rtgs_http_heads.specs.declared.bank_route.BankRoute.TheVariants.{Read
 use Rattle.rtgs_http_heads.specs.declared.operator_route.OperatorRoute.{OperatorRoute}
 use Rattle.rtgs_http_heads.specs.declared.operator_route.OperatorRoute.TheVariants.{Post, SetCredit, OpenDay}
 use Rattle.rtgs_http_heads.specs.declared.operator_route.OperatorRoute.TheVariants.{Resolve, CutOff, CloseDay}
-use Rattle.rtgs_http_heads.specs.declared.operator_route.OperatorRoute.TheVariants.{ReadReport}
+use Rattle.rtgs_http_heads.specs.declared.operator_route.OperatorRoute.TheVariants.{ReadReport, ReadAccounts}
 use Rattle.rtgs_http_requests.specs.declared.admitted.Admitted.{Admitted}
 use Rattle.rtgs_http_requests.specs.declared.admitted.Admitted.TheVariants as admitted
 use Rattle.rtgs_http_requests.specs.declared.asked.Asked.{Asked}
@@ -146,6 +146,7 @@ MeansOperator CutOff parameter body answer =
 MeansOperator CloseDay parameter body answer =
     Then (AsksDay body) (λ date given. given ≡ Ok (Submit (command.CloseDay date))) answer
 MeansOperator ReadReport parameter body answer = AsksReport parameter answer
+MeansOperator ReadAccounts parameter body answer = answer ≡ Ok (Read reading.Accounts)
 
 -- what an admitted caller asks for
 abbrev pub Means : Admitted → List ℕ → List ℕ → Answer → Type 0

@@ -30,6 +30,7 @@ pub fn read_operator(
         OperatorRoute::CutOff => Ok(Asked::Submit(Command::CutOff(read_day(alloc, body)?))),
         OperatorRoute::CloseDay => Ok(Asked::Submit(Command::CloseDay(read_day(alloc, body)?))),
         OperatorRoute::ReadReport => read_report(parameter),
+        OperatorRoute::ReadAccounts => Ok(Asked::Read(Reading::Accounts)),
     }
 }
 
