@@ -7,8 +7,8 @@ use Rattle.rtgs_desk_requests.specs.declared.command_words.CommandWords.{Command
 use Rattle.rtgs_desk_requests.specs.declared.command_words.CommandWords.TheVariants.{Add, Credit, Post, Open, Resolve}
 use Rattle.rtgs_desk_requests.specs.declared.command_words.CommandWords.TheVariants.{CutOff, Close, Withdraw}
 use Rattle.rtgs_desk_requests.specs.declared.reading_words.ReadingWords.{ReadingWords}
-use Rattle.rtgs_desk_requests.specs.declared.reading_words.ReadingWords.TheVariants.{Order, Account, Queue, Statement}
-use Rattle.rtgs_desk_requests.specs.declared.reading_words.ReadingWords.TheVariants.{Report}
+use Rattle.rtgs_desk_requests.specs.declared.reading_words.ReadingWords.TheVariants.{Order, Account, Accounts}
+use Rattle.rtgs_desk_requests.specs.declared.reading_words.ReadingWords.TheVariants.{Queue, Statement, Report}
 use Rattle.rtgs_desk_requests.specs.declared.words.Words.{Words}
 use Rattle.rtgs_desk_requests.specs.declared.words.Words.TheVariants.{Init, Migrate, Submit, Import, Read, Serve}
 use Rattle.rtgs_desk_arguments.specs.Asked.{AreWordsOfRun, IsCommand, IsNumber, AreWordsOfReading}
@@ -29,6 +29,7 @@ no_command given (Close date) asked = differ _ (codes "close") refl asked.0
 
 no_reading : (given : List Row) (reading : ReadingWords) → ¬ AreWordsOfReading (codes "serve") given reading
 no_reading given (Account code) asked = differ _ (codes "account") refl asked.0
+no_reading given Accounts asked = differ _ (codes "accounts") refl asked
 no_reading given (Queue code) asked = differ _ (codes "queue") refl asked.0
 no_reading given (Order code reference) asked = differ _ (codes "order") refl asked.0
 no_reading given (Statement code date) asked = differ _ (codes "statement") refl asked.0

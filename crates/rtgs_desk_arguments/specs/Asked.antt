@@ -7,8 +7,8 @@ use Rattle.rtgs_desk_requests.specs.declared.command_words.CommandWords.{Command
 use Rattle.rtgs_desk_requests.specs.declared.command_words.CommandWords.TheVariants.{Add, Credit, Post, Open, Resolve}
 use Rattle.rtgs_desk_requests.specs.declared.command_words.CommandWords.TheVariants.{CutOff, Close, Withdraw}
 use Rattle.rtgs_desk_requests.specs.declared.reading_words.ReadingWords.{ReadingWords}
-use Rattle.rtgs_desk_requests.specs.declared.reading_words.ReadingWords.TheVariants.{Order, Account, Queue, Statement}
-use Rattle.rtgs_desk_requests.specs.declared.reading_words.ReadingWords.TheVariants.{Report}
+use Rattle.rtgs_desk_requests.specs.declared.reading_words.ReadingWords.TheVariants.{Order, Account, Accounts}
+use Rattle.rtgs_desk_requests.specs.declared.reading_words.ReadingWords.TheVariants.{Queue, Statement, Report}
 use Rattle.rtgs_desk_requests.specs.declared.words.Words.{Words}
 use Rattle.rtgs_desk_requests.specs.declared.words.Words.TheVariants.{Init, Migrate, Submit, Import, Read, Serve}
 
@@ -48,6 +48,7 @@ IsCommand called given (Close date) = (called ≡ codes "close") × IsWord given
 -- the words of a reading, by the name of its subcommand
 abbrev pub AreWordsOfReading : Text → List Row → ReadingWords → Type 0
 AreWordsOfReading called given (Account code) = (called ≡ codes "account") × IsWord given (codes "code") code
+AreWordsOfReading called given Accounts = called ≡ codes "accounts"
 AreWordsOfReading called given (Queue code) = (called ≡ codes "queue") × IsWord given (codes "code") code
 AreWordsOfReading called given (Order code reference) = (called ≡ codes "order") × IsWord given (codes "code") code
     × IsWord given (codes "reference") reference

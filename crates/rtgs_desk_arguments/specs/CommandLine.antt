@@ -78,6 +78,9 @@ close_day = subcommand (codes "close") (word (codes "date") ∷ [])
 abbrev pub account : Shape
 account = subcommand (codes "account") (word (codes "code") ∷ [])
 
+abbrev pub accounts : Shape
+accounts = subcommand (codes "accounts") []
+
 abbrev pub queue : Shape
 queue = subcommand (codes "queue") (word (codes "code") ∷ [])
 
@@ -101,7 +104,7 @@ abbrev pub of_days : List Shape
 of_days = open_day ∷ import_orders ∷ withdraw ∷ resolve ∷ cut_off ∷ close_day ∷ []
 
 abbrev pub of_readings : List Shape
-of_readings = account ∷ queue ∷ order ∷ statement ∷ report ∷ serve ∷ []
+of_readings = account ∷ accounts ∷ queue ∷ order ∷ statement ∷ report ∷ serve ∷ []
 
 -- the program itself: it has a version, one of its subcommands has to be given, and its own name is none of its words
 abbrev pub program : Shape

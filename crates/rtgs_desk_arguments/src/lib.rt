@@ -146,6 +146,7 @@ fn desk_command<'a>(alloc: Global) -> Result<Command<'a>, AllocError>
 {
     let desk = with_days(alloc)?;
     let desk = joined(desk, readings::account_command(alloc))?;
+    let desk = joined(desk, readings::accounts_command(alloc))?;
     let desk = joined(desk, readings::queue_command(alloc))?;
     let desk = joined(desk, readings::order_command(alloc))?;
     let desk = joined(desk, readings::statement_command(alloc))?;
@@ -197,6 +198,7 @@ fn reading_words<'a>(name: &str, given: &ArgMatches<'a>) -> Option<ReadingWords<
 {
     match name {
         "account" => Some(readings::account_words(given)),
+        "accounts" => Some(ReadingWords::Accounts),
         "queue" => Some(readings::queue_words(given)),
         "order" => Some(readings::order_words(given)),
         "statement" => Some(readings::statement_words(given)),

@@ -39,6 +39,15 @@ pub fn account_words<'a>(given: &ArgMatches<'a>) -> ReadingWords<'a>
     }
 }
 
+/// The subcommand that shows all accounts: a book's file alone.
+pub fn accounts_command<'a>(alloc: Global) -> Result<Command<'a>, AllocError>
+    ensures { IfOk result (line.IsSubcommand line.accounts) }
+{
+    Command::new(alloc, "accounts")
+        .about("Shows the accounts of all participants, as JSON")
+        .arg(file_argument(alloc))
+}
+
 /// The subcommand that shows a queue: a book's file and a participant.
 pub fn queue_command<'a>(alloc: Global) -> Result<Command<'a>, AllocError>
     ensures { IfOk result (line.IsSubcommand line.queue) }
