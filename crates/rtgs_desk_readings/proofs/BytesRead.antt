@@ -34,6 +34,7 @@ fails_unread g book (reading.Order sender reference) desk text (known, inr fails
     let fault = fails.1 in
     cc
 fails_unread g book (reading.Account code) desk text fails = fails
+fails_unread g book reading.Accounts desk text fails = fails
 fails_unread g book (reading.Queue code) desk text fails = fails
 fails_unread g book (reading.Statement code date) desk text (known, fails) =
     let fault = fails.1 in
@@ -52,6 +53,7 @@ fails_alike V g book (reading.Order sender reference) desk why (known, inr fails
     let same : why ≡ StoreFault = cc in
     (known, inr (fails.0, ap Err same))
 fails_alike V g book (reading.Account code) desk why fails = fails
+fails_alike V g book reading.Accounts desk why fails = fails
 fails_alike V g book (reading.Queue code) desk why fails = fails
 fails_alike V g book (reading.Statement code date) desk why (known, fails) =
     let fault = fails.1 in

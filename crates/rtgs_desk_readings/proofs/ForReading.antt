@@ -15,6 +15,7 @@ pub gathered : (asked : Reading) → ((code : List ℕ) (date : ℕ) → asked �
     → is_gathered asked ≡ true
 gathered (reading.Order sender reference) other = refl
 gathered (reading.Account code) other = refl
+gathered reading.Accounts other = refl
 gathered (reading.Queue code) other = refl
 gathered (reading.Statement code date) other = absurd (other code date refl)
 gathered (reading.Report date) other = refl
